@@ -1,0 +1,2 @@
+//! Plans of sector writes, and their application to a disk that may stop or fail.
+#![tactic(auto)]

@@ -1,0 +1,2 @@
+//! BSD labels in both forms of their offsets.
+#![tactic(auto)]

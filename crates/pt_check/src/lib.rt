@@ -1,0 +1,2 @@
+//! The checker of plans.
+#![tactic(auto)]

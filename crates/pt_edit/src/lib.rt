@@ -1,0 +1,2 @@
+//! Edit words and what they make of a layout.
+#![tactic(auto)]

@@ -1,0 +1,2 @@
+//! Layouts: health, soundness, and the places of partitions and tables.
+#![tactic(auto)]

@@ -1,0 +1,2 @@
+//! Master boot records: partition records, the protective record and chains of extended boot records.
+#![tactic(auto)]

@@ -1,0 +1,2 @@
+//! The planner, and commits of edits to a disk.
+#![tactic(auto)]

@@ -1,0 +1,2 @@
+//! What a disk denotes: layouts, their recovery, and the sectors that decide them.
+#![tactic(auto)]

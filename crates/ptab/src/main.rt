@@ -1,0 +1,4 @@
+//! The command.
+#![tactic(auto)]
+
+fn main() {}
