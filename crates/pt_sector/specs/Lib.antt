@@ -2,6 +2,7 @@ pub mod Sectors
 pub mod Spans
 pub mod Extents
 pub mod Writes
+pub mod Written
 pub mod Device
 pub mod Past
 pub mod Since
