@@ -1,5 +1,9 @@
 pub mod Sectors
+pub mod Spans
+pub mod Extents
 pub mod Writes
+pub mod Written
 pub mod Device
 pub mod Past
 pub mod Since
+pub mod Memory
