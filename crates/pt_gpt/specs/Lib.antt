@@ -6,3 +6,4 @@ pub mod Entry
 pub mod Array
 pub mod Copy
 pub mod Answers
+pub mod Laws
