@@ -1,0 +1,6 @@
+pub mod Bytes
+pub mod Label
+pub mod Form
+pub mod Reading
+pub mod Empty
+pub mod Laws
