@@ -1,6 +1,6 @@
 -- What is written is the label.
 use Rattle.std.proofs.Common.{◌≡◌, ◌⊎◌, ℕ, zero, suc, ◌+◌, ◌<◌, ◌≤◌, List, [], ◌∷◌, Option, Some, None, take, sym, ap, subst, ◌∙◌, arith, lit≤, inl, inr}
-use Rattle.std.specs.Prelude.{⊤, slice_range, slice_index_or}
+use Rattle.std.specs.Prelude.{slice_range, slice_index_or}
 use Rattle.std.proofs.lemmas.Bool.{cases_lt}
 use Rattle.byteorder.specs.Endian.{little_number}
 use Rattle.pt_sum.specs.Words.{xor_of}

@@ -1,10 +1,12 @@
 -- Laws of labels, as terms that definitions and proofs above can cite.
-use Rattle.std.specs.Prelude.{◌≡◌, ◌≢◌, ◌<◌, ◌≤◌, ℕ, zero, suc, List, [], ◌∷◌, Option, Some, None, length, slice_set, slice_index_or}
-use Rattle.std.proofs.Common.{refl, sym, ap, subst, ◌∙◌, arith, lit≤, inl, inr}
+use Rattle.std.specs.Prelude.{Bool, false, ◌==◌, if◌then◌else◌, ◌≡◌, ◌≢◌, ◌<◌, ◌≤◌, ◌⊎◌, ℕ, zero, suc, List, [], ◌∷◌, Option, Some, None, length, slice_set, slice_index_or}
+use Rattle.std.proofs.Common.{refl, sym, ap, subst, ◌∙◌, arith, lit≤, rules, inl, inr}
 use Rattle.std.proofs.lemmas.List.{ext_get_or, length-set, get_or-set_other}
 use Rattle.pt_bsd.specs.Label.{HasEntry, HasEntries, HasRaw, IsEntry, counted_in, entry_of, place_of, LabelBytes, IsLabelFault}
 use Rattle.pt_bsd.specs.Counted.{count_of, IsThere, IsCounted, IsRaw, FitsSlice, with_entry}
 use Rattle.pt_bsd.specs.Empty.{empty_of}
+use Rattle.pt_bsd.specs.Form.{raw_offset_in, raw_offset, form_at, sector_by, HasForm}
+use Rattle.pt_bsd.specs.declared.form.Form.TheVariants.{Relative, Absolute}
 use Rattle.pt_bsd.specs.declared.label.Label.{Label}
 use Rattle.pt_bsd.specs.declared.label.LabelEntry.{LabelEntry}
 use Rattle.pt_bsd.specs.declared.label.LabelError.{LabelError}
@@ -80,8 +82,8 @@ label_count l first len bytes is =
     let places = is.entries.places in
     let most = is.count.most in
     count_at l.entries (counted_in bytes) (omega (arith, places, most))
-      (λ k lt. slot_there (entry_of l k) k bytes (is.entries.each k (omega (arith, lt, most))) lt)
-      (λ lt. slot_none (entry_of l (counted_in bytes)) (counted_in bytes) bytes (is.entries.each (counted_in bytes) (omega (arith, lt, places))) (omega arith))
+    (λ k lt. slot_there (entry_of l k) k bytes (is.entries.each k (omega (arith, lt, most))) lt)
+    (λ lt. slot_none (entry_of l (counted_in bytes)) (counted_in bytes) bytes (is.entries.each (counted_in bytes) (omega (arith, lt, places))) (omega arith))
 
 -- what is read can be written
 pub label_counted : (l : Label) (first len : ℕ) (bytes : List ℕ) → LabelBytes l first len bytes → IsCounted l
@@ -133,3 +135,24 @@ pub with_entry_fits : (l : Label) (k first len : ℕ) (e : LabelEntry) → k ≢
 with_entry_fits l k first len e other fits =
     let same : entry_of (with_entry l k e) 2 ≡ entry_of l 2 = get_or-set_other l.entries k 2 (Some e) None (omega (arith, other)) in
     rw same fits
+
+start_of : (o : Option LabelEntry) (first len : ℕ) → IsRaw o first len → (raw_offset_in o ≡ 0) ⊎ (raw_offset_in o ≡ first)
+start_of None first len raw = absurd raw
+start_of (Some e) first len raw = raw.1
+
+nat_eq-suc : (n : ℕ) → (suc n == 0) ≡ false
+nat_eq-suc n = search rules
+
+form_by : (offset first : ℕ) → (offset ≡ 0) ⊎ (offset ≡ first)
+    → (((offset ≡ 0) × (form_at offset ≡ Relative)) ⊎ ((offset ≢ 0) × (offset ≡ first) × (form_at offset ≡ Absolute))) × (sector_by (form_at offset) first offset ≡ first)
+form_by zero first start = (inl (refl, refl), omega arith)
+form_by (suc n) first (inl none) = absurd (omega arith)
+form_by (suc n) first (inr same) =
+    let form : form_at (suc n) ≡ Absolute = ap (λ (b : Bool). if b then Relative else Absolute) (nat_eq-suc n) in
+    (inr (omega arith, same, form), rw form same)
+
+-- a label that fits a slice has a form
+pub label_form : (l : Label) (first len : ℕ) → FitsSlice l first len → HasForm l first
+label_form l first len fits =
+    let both = form_by (raw_offset l) first (start_of (entry_of l 2) first len fits) in
+    record { form = both.0; start = both.1 }

@@ -188,6 +188,7 @@ fn write_label(bytes: &mut [u8], label: &Label)
 pub fn encode_label<const B: usize>(label: &Label, under: &Sector<B>) -> Sector<B>
     requires { IsSectorSize B }
     ensures label { IsCounted label.now → (first len : ℕ) → FitsSlice label.now first len → LabelBytes label.now first len result }
+    ensures again { (first len : ℕ) (bytes : List ℕ) → LabelBytes label.now first len bytes → LabelBytes label.now first len result }
     ensures rest { drop (place_of (count_of label.now.entries)) result ≡ drop (place_of (count_of label.now.entries)) under.now }
 {
     let mut sector = *under;
