@@ -5,7 +5,7 @@ use Rattle.std.proofs.lemmas.List.{ext_get_or, length-set, get_or-set_other}
 use Rattle.pt_bsd.specs.Label.{HasEntry, HasEntries, HasRaw, IsEntry, counted_in, entry_of, place_of, LabelBytes, IsLabelFault}
 use Rattle.pt_bsd.specs.Counted.{count_of, IsThere, IsCounted, IsRaw, FitsSlice, with_entry}
 use Rattle.pt_bsd.specs.Empty.{empty_of}
-use Rattle.pt_bsd.specs.Form.{raw_offset_in, raw_offset, form_at, sector_by, HasForm}
+use Rattle.pt_bsd.specs.Form.{form_of, raw_offset_in, raw_offset, form_at, sector_by, HasForm}
 use Rattle.pt_bsd.specs.declared.form.Form.TheVariants.{Relative, Absolute}
 use Rattle.pt_bsd.specs.declared.label.Label.{Label}
 use Rattle.pt_bsd.specs.declared.label.LabelEntry.{LabelEntry}
@@ -41,7 +41,7 @@ label_one l m first len start count bytes p q =
       subtype = (sym x.subtype ∙ y.subtype) i;
       type_name = (sym x.type_name ∙ y.type_name) i;
       pack_name = (sym x.pack_name ∙ y.pack_name) i;
-      geometry = (x.geometry ∙ sym y.geometry) i;
+      geometry = (sym x.geometry ∙ y.geometry) i;
       unit = (sym x.unit ∙ y.unit) i;
       kept = (sym x.kept ∙ y.kept) i;
       bbsize = (sym x.bbsize ∙ y.bbsize) i;
@@ -130,11 +130,16 @@ with_entry_counted l k e counted lt =
       others = λ i above small. get_or-set_other l.entries k i (Some e) None (omega (arith, above, count, lt)) ∙ counted.others i (omega (arith, above, count)) small;
     }
 
+other_entry : (l : Label) (k : ℕ) (e : LabelEntry) → k ≢ 2 → entry_of (with_entry l k e) 2 ≡ entry_of l 2
+other_entry l k e other = get_or-set_other l.entries k 2 (Some e) None (omega (arith, other))
+
 -- and, where it isn't c, the slices that the label fits
 pub with_entry_fits : (l : Label) (k first len : ℕ) (e : LabelEntry) → k ≢ 2 → FitsSlice l first len → FitsSlice (with_entry l k e) first len
-with_entry_fits l k first len e other fits =
-    let same : entry_of (with_entry l k e) 2 ≡ entry_of l 2 = get_or-set_other l.entries k 2 (Some e) None (omega (arith, other)) in
-    rw same fits
+with_entry_fits l k first len e other fits = rw (other_entry l k e other) fits
+
+-- and the form
+pub with_entry_form : (l : Label) (k : ℕ) (e : LabelEntry) → k ≢ 2 → form_of (with_entry l k e) ≡ form_of l
+with_entry_form l k e other = ap (λ (o : Option LabelEntry). form_at (raw_offset_in o)) (other_entry l k e other)
 
 start_of : (o : Option LabelEntry) (first len : ℕ) → IsRaw o first len → (raw_offset_in o ≡ 0) ⊎ (raw_offset_in o ≡ first)
 start_of None first len raw = absurd raw
