@@ -36,14 +36,17 @@ fn moved_word(k: usize, word: u32) -> u32
         ^ entry_at(k, (word >> 24) as u8)
 }
 
-// The register after eight more bytes.
+// The register after eight more bytes. The last four come first, since their look-ups needn't wait for the register.
 fn after_eight(register: u32, bytes: &[u8]) -> u32
     requires { length bytes.now ≡ 8 }
     ensures { result ≡ after_bytes register bytes.now }
 {
-    let low = register ^ u32::from_le_bytes([bytes[0], bytes[1], bytes[2], bytes[3]]);
-    let high = u32::from_le_bytes([bytes[4], bytes[5], bytes[6], bytes[7]]);
-    moved_word(4, low) ^ moved_word(0, high)
+    let last = moved_word(
+        0,
+        u32::from_le_bytes([bytes[4], bytes[5], bytes[6], bytes[7]]),
+    );
+    let first = register ^ u32::from_le_bytes([bytes[0], bytes[1], bytes[2], bytes[3]]);
+    last ^ moved_word(4, first)
 }
 
 // The register after these bytes.
