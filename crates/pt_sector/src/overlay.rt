@@ -43,7 +43,7 @@ impl<'a, D: Disk<B>, const B: usize> Overlay<'a, D, B> {
     pub fn new(disk: &'a mut D, room: Room<B>) -> Overlay<'a, D, B>
         ensures same_reference { result.disk.ghost_name ≡ disk.entry.ghost_name }
         ensures disk { result.disk.now ≡ disk.old }
-        ensures seen { D.tells → (⟦<Overlay<'a, D, B> as Disk<B>>⟧.told result).seen ≡ (D.told disk.old).seen }
+        ensures seen { (⟦<Overlay<'a, D, B> as Disk<B>>⟧.told result).seen ≡ (D.told disk.old).seen }
         ensures failures { ⟦<Overlay<'a, D, B> as Disk<B>>⟧.failures result ≡ D.failures disk.old }
         ensures room { room_left result.own ≡ room.entry.own.room }
     {
