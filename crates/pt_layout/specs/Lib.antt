@@ -1,0 +1,7 @@
+pub mod Paths
+pub mod Members
+pub mod Overlaps
+pub mod Tables
+pub mod Owned
+pub mod Counts
+pub mod Search
