@@ -12,7 +12,6 @@ use Rattle.pt_layout.specs.Overlaps.{IsOrdered}
 use Rattle.pt_layout.specs.declared.member.Member.{Member}
 use Rattle.pt_layout.specs.declared.overlap.Overlap.{Overlap}
 
-
 -- each begins past the end of the one before it
 abbrev Rising : ℕ → List Member → Type 0
 Rising low [] = Unit {0}

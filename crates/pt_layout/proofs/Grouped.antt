@@ -1,13 +1,12 @@
 -- The members by groups are the members by place.
-use Rattle.std.proofs.Common.{◌≡◌, ◌<◌, ◌≤◌, ◌+◌, ℕ, zero, suc, List, [], ◌∷◌, ◌++◌, length, get_or, Option, Some, None, refl, sym, ap, ◌∙◌, subst, arith, inl, inr, true, false, length-append}
-use Rattle.std.specs.Prelude.{◌⊎◌, option_map, option_to_list, if◌then◌else◌, Bool, flat_map, Contains, slice_index_or}
-use Rattle.std.proofs.lemmas.List.{get_or_append_left, get_or-append_right, get_or-append-add}
+use Rattle.std.proofs.Common.{◌≡◌, ◌+◌, ℕ, zero, suc, List, [], ◌∷◌, ◌++◌, length, Option, Some, None, refl, sym, ap, ◌∙◌, subst, arith, inl, inr, true, false, length-append}
+use Rattle.std.specs.Prelude.{◌⊎◌, option_map, Bool, flat_map, Contains}
+use Rattle.std.proofs.lemmas.List.{get_or_append_left, get_or-append-add}
 use Rattle.std.proofs.lemmas.List.Elements.{Contains-append_left, Contains-append_right, Contains-append_cases}
 use Rattle.pt_recover.specs.Mbr.{extended_of, is_extended}
 use Rattle.std.specs.Prelude.{nat_eq, ◌&&◌}
 use Rattle.pt_mbr.specs.declared.record.Record.{Record}
 use Rattle.pt_recover.specs.declared.layout.Labelled.{Labelled}
-use Rattle.pt_mbr.specs.declared.ebr.Ebr.{Ebr}
 use Rattle.pt_recover.specs.declared.layout.Layout.{Layout}
 use Rattle.pt_recover.specs.declared.layout.Body.{Body}
 use Rattle.pt_recover.specs.declared.layout.Body.TheVariants.{Mbr, Gpt}
@@ -15,7 +14,7 @@ use Rattle.pt_layout.specs.declared.member.Kind.{Kind}
 use Rattle.pt_layout.specs.declared.member.Kind.TheVariants.{Leaf, Slice, Extended}
 use Rattle.pt_layout.specs.declared.member.Member.{Member}
 use Rattle.pt_layout.specs.Members.{Group, IsMember, groups_of, group_in, top_group, strays, present, slots, tops, logicals, logicals_as, parts, record_kind, records_as, record_member}
-use Rattle.pt_layout.specs.Search.{AtPlace, IsNear, InLayout}
+use Rattle.pt_layout.specs.Search.{AtPlace, InLayout}
 
 -- membership, by cases on the list
 contains_head : {X : Type 0} (x : X) (xs : List X) → Contains (x ∷ xs) x
@@ -178,11 +177,12 @@ IsHeld b o x = (g : Group) × Contains (flat_map (group_in b o) (present (slots 
 
 held_by : (b : ℕ) (o : Layout) (m x : Member) → AtPlace (slots b o.body) m → m.kind ≡ Extended → Contains (present (logicals b o.body)) x → IsHeld b o x
 unfolding extended_group
-held_by b o m x at is in_logicals =
-    (extended_group b o m,
-    Contains-append_left (flat_map (group_in b o) (present (slots b o.body))) (strays b o.body) (extended_group b o m)
-        (to_flat (group_in b o) (present (slots b o.body)) m (extended_group b o m) (to_present (slots b o.body) m at) (subst (λ (l : List Group). Contains l (extended_group b o m)) (sym (held_by_extended b o m is)) (contains_head (extended_group b o m) []))),
-    in_logicals)
+held_by b o m x at is in_logicals = (
+  extended_group b o m,
+  Contains-append_left (flat_map (group_in b o) (present (slots b o.body))) (strays b o.body) (extended_group b o m)
+      (to_flat (group_in b o) (present (slots b o.body)) m (extended_group b o m) (to_present (slots b o.body) m at) (subst (λ (l : List Group). Contains l (extended_group b o m)) (sym (held_by_extended b o m is)) (contains_head (extended_group b o m) []))),
+  in_logicals,
+)
 
 logical_held : (b n : ℕ) (y : Body) (ls : List Labelled) (x : Member) → Contains (present (logicals b y)) x → IsHeld b (layout_of n y ls) x
 unfolding logicals strays tops
@@ -222,11 +222,12 @@ in_slot b o x at = elim (present_split (tops b o.body) (logicals b o.body) x at)
 
 in_label : (b : ℕ) (o : Layout) (m x : Member) → AtPlace (slots b o.body) m → m.kind ≡ Slice → AtPlace (parts o m) x → IsMember b o x
 unfolding slice_group
-in_label b o m x at is part = in_held b o x
-    (slice_group o m,
-    Contains-append_left (flat_map (group_in b o) (present (slots b o.body))) (strays b o.body) (slice_group o m)
-        (to_flat (group_in b o) (present (slots b o.body)) m (slice_group o m) (to_present (slots b o.body) m at) (subst (λ (l : List Group). Contains l (slice_group o m)) (sym (held_by_slice b o m is)) (contains_head (slice_group o m) []))),
-    to_present (parts o m) x part)
+in_label b o m x at is part = in_held b o x (
+  slice_group o m,
+  Contains-append_left (flat_map (group_in b o) (present (slots b o.body))) (strays b o.body) (slice_group o m)
+      (to_flat (group_in b o) (present (slots b o.body)) m (slice_group o m) (to_present (slots b o.body) m at) (subst (λ (l : List Group). Contains l (slice_group o m)) (sym (held_by_slice b o m is)) (contains_head (slice_group o m) []))),
+  to_present (parts o m) x part,
+)
 
 pub place_member : (b : ℕ) (o : Layout) (x : Member) → InLayout b o x → IsMember b o x
 place_member b o x (m, at, inl same) = subst (λ (w : Member). IsMember b o w) (sym same) (in_slot b o m at)

@@ -1,6 +1,5 @@
 -- Logical partitions by the place of their extended boot records.
 use Rattle.std.specs.Prelude.{ℕ, ◌+◌, List, take, count_by, is_some, Option, None, option_map, slice_index_or}
-use Rattle.pt_sector.specs.declared.address.Lba.{Lba}
 use Rattle.pt_mbr.specs.declared.ebr.Ebr.{Ebr}
 use Rattle.pt_layout.specs.declared.member.Member.{Member}
 use Rattle.pt_layout.specs.Members.{logical_member}

@@ -5,3 +5,7 @@ pub mod Tables
 pub mod Owned
 pub mod Counts
 pub mod Search
+pub mod Next
+pub mod Sound
+pub mod Healthy
+pub mod Findings

@@ -2,7 +2,7 @@
 --
 -- Members are the used entries and records, the logical partitions, and the partitions of labels but c. Sectors are
 -- the disk's own numbers. With sectors of 4096 bytes there are no slices.
-use Rattle.std.specs.Prelude.{if◌then◌else◌, ◌≡◌, ◌<◌, ◌≤◌, ◌+◌, ◌-◌, ◌^◌, ℕ, Bool, List, [], ◌∷◌, ◌++◌, flat_map, option_map, option_to_list, is_some, Contains, Option, Some, None, nat_eq, ◌&&◌}
+use Rattle.std.specs.Prelude.{if◌then◌else◌, ◌<◌, ◌≤◌, ◌+◌, ◌-◌, ◌^◌, ℕ, List, [], ◌∷◌, ◌++◌, flat_map, option_map, option_to_list, is_some, Contains, Option, Some, None, nat_eq, ◌&&◌}
 use Rattle.pt_bsd.specs.Form.{entry_first_of}
 use Rattle.pt_recover.specs.Mbr.{is_extended, extended_of}
 use Rattle.pt_recover.specs.Labels.{is_slice_kind}

@@ -7,8 +7,8 @@ ghost use Rattle.pt_layout.specs.Search.{Answers, FoundAt, FoundIn, FoundNear, F
 use crate::member::{Kind, Member};
 use crate::path::Path;
 use crate::slots::{find_label, part_slot, slot, slot_count};
-use pt_recover::Layout;
 use pt_bsd::Label;
+use pt_recover::Layout;
 use pt_sector::Lba;
 
 /// What a search looks for.

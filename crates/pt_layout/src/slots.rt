@@ -9,11 +9,11 @@ ghost use Rattle.pt_layout.specs.Counts.{used_before, logical_at};
 use crate::member::{Kind, Member};
 use crate::path::Path;
 use pt_bsd::{Form, Label, LabelEntry};
-use pt_sector::Lba;
 use pt_gpt::Entry;
 use pt_guid::Guid;
 use pt_mbr::{Ebr, Record};
 use pt_recover::{Body, Labelled, Labels, is_slice_type};
+use pt_sector::Lba;
 
 /// The type of a slice in an MBR.
 const SLICE: u8 = 0xA5;

@@ -1,4 +1,4 @@
-use Rattle.std.proofs.Common.{◌≡◌, ◌<◌, ℕ, length, get_or, Some, None}
+use Rattle.std.proofs.Common.{◌≡◌, ◌<◌, ℕ, get_or, Some, None}
 use Rattle.pt_layout.specs.Members.{slots}
 use Rattle.pt_layout.specs.Search.{IsNear, Answers}
 use Rattle.pt_layout.specs.declared.member.Member.{Member}
