@@ -1,10 +1,12 @@
 //! GUIDs, their texts, and fresh ones.
 
 ghost use Rattle.std.specs.Prelude.{◌≡◌, ◌<◌, ◌↔◌, ℕ, List, All, IsTrue, IfOk, IfErr, Some, None, length, replicate};
+ghost use Rattle.uuid.specs.Text.{hyphenated_text, lower};
 ghost use Rattle.pt_guid.specs.Mixed.{mixed, stored_of, text_of};
 ghost use Rattle.pt_guid.specs.Fresh.{fresh_of};
 
 use uuid::Uuid;
+use uuid::fmt::Hyphenated;
 
 /// A GUID, by its sixteen bytes as a disk stores them: those of the first three fields of its text are turned round, field by field
 /// (UEFI 2.10, Appendix A).
@@ -35,11 +37,19 @@ pub fn parse(text: &str) -> Result<Guid, GuidError>
 }
 
 // The bytes in the order of the text.
-fn id_of(stored: &[u8; 16]) -> Uuid
+fn in_text_order(stored: &[u8; 16]) -> Hyphenated
     ensures value { result ≡ mixed stored.now }
     ensures whole { length stored.now ≡ 16 }
+    ensures bytes { All (λ byte. byte < 256) stored.now }
 {
-    Uuid::from_bytes_le(*stored)
+    Uuid::from_bytes_le(*stored).hyphenated()
+}
+
+// The text of bytes in its order.
+fn write_text<'b>(bytes: &Hyphenated, buffer: &'b mut [u8; 36]) -> &'b str
+    ensures { result.now ≡ hyphenated_text lower bytes.now }
+{
+    bytes.encode_lower(buffer)
 }
 
 impl Guid {
@@ -48,8 +58,8 @@ impl Guid {
         ensures text { result.now ≡ text_of self.now.0 }
         ensures read { stored_of result.now ≡ Some self.now.0 }
     {
-        let id = id_of(&self.0);
-        id.hyphenated().encode_lower(buffer)
+        let bytes = in_text_order(&self.0);
+        write_text(&bytes, buffer)
     }
 
     /// Whether all its bytes are zero, as those of the type of an unused entry.

@@ -7,3 +7,6 @@ pub mod Device
 pub mod Past
 pub mod Since
 pub mod Memory
+pub mod Ascending
+pub mod Puts
+pub mod Overlays

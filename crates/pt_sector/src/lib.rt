@@ -7,9 +7,17 @@ mod address;
 mod disk;
 mod memory;
 mod moments;
+mod overlay;
+mod own;
+mod put;
+mod room;
 
 pub use address::{Extent, Lba, Sector};
 pub use disk::{Disk, Fault};
 pub use memory::MemDisk;
 #[doc(hidden)]
 pub use moments::Moments;
+pub use overlay::Overlay;
+#[doc(hidden)]
+pub use own::Own;
+pub use room::Room;

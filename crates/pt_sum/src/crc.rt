@@ -4,9 +4,8 @@ ghost use Rattle.std.specs.Prelude.{◌≡◌, ◌<◌, ◌+◌, ◌*◌, ◌++�
 ghost use Rattle.pt_sum.specs.Crc.{bits, after_bit, after_bytes, crc_of};
 ghost use Rattle.pt_sum.specs.Moves.{moved};
 
-use std::marker::Model;
-
 use crate::tables::TABLES;
+use std::marker::Model;
 
 const INITIAL: u32 = 0xFFFF_FFFF;
 
@@ -82,7 +81,7 @@ impl Model for Crc {
 
     ghost view = { λ c. c.register };
 
-    ghost inverse = { λ register. record { register = register; } };
+    ghost inverse = { λ register. record { register = register } };
 }
 
 impl Crc {
@@ -111,5 +110,4 @@ impl Crc {
 /// The register after two parts is that after the second, begun where the first ended.
 pub fn sum_by_parts()
     ensures { (register : ℕ) (first second : List ℕ) → after_bytes register (first ++ second) ≡ after_bytes (after_bytes register first) second }
-{
-}
+{}

@@ -1,4 +1,4 @@
-use Rattle.std.proofs.Common.{◌≡◌, ◌+◌, ◌*◌, ◌/◌, ◌%◌, get_or, refl, sym, ap, ◌∙◌, arith}
+use Rattle.std.proofs.Common.{◌/◌, sym, arith}
 use Rattle.std.proofs.lemmas.Nat.{and_mask}
 use Rattle.pt_sum.proofs.Eight.{moved_four}
 use Rattle.pt_sum.proofs.crc.moved_word.Goals as goal

@@ -1,0 +1,3 @@
+pub mod HeaderEncoding
+pub mod EntryEncoding
+pub mod Heads
