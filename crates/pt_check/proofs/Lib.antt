@@ -1,1 +1,2 @@
 pub mod Heart
+pub mod Firsts
