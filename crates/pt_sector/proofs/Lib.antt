@@ -1,3 +1,4 @@
 pub mod Walks
 pub mod InMemory
 pub mod InOrder
+pub mod Picked

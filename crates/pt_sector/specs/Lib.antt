@@ -10,3 +10,6 @@ pub mod Memory
 pub mod Ascending
 pub mod Puts
 pub mod Overlays
+pub mod Pending
+pub mod Reading
+pub mod Stop

@@ -4,13 +4,16 @@
 #![tactic(auto)]
 
 mod address;
+mod cache;
 mod disk;
 mod memory;
 mod moments;
 mod overlay;
 mod own;
+mod pending;
 mod put;
 mod room;
+mod stop;
 
 pub use address::{Extent, Lba, Sector};
 pub use disk::{Disk, Fault};
