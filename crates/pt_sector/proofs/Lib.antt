@@ -2,3 +2,4 @@ pub mod Walks
 pub mod InMemory
 pub mod InOrder
 pub mod Picked
+pub mod Crashes

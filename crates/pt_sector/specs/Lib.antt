@@ -13,3 +13,5 @@ pub mod Overlays
 pub mod Pending
 pub mod Reading
 pub mod Stop
+pub mod Crash
+pub mod Schedule

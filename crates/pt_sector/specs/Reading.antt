@@ -1,12 +1,11 @@
 -- What a read gives while writes are pending.
-use Rattle.std.proofs.Common.{◌≡◌, ◌∙◌, ◌<◌, ◌+◌, ◌≤◌, ℕ, List, [], ◌∷◌, length, map, Bool, true, false, cond, ◌&&◌, ◌==◌, get_or, drop, slice_set, refl, sym, ap, arith, get_or-set_other, get_or-set_same, length-set, suc, add-one, drop-cons}
+use Rattle.std.proofs.Common.{◌≡◌, ◌∙◌, ◌<◌, ℕ, List, [], ◌∷◌, length, Bool, true, false, cond, ◌&&◌, ◌==◌, slice_set, refl, sym, ap, arith, length-set}
 use Rattle.std.proofs.lemmas.Bool.{cases_eq}
 use Rattle.std.proofs.lemmas.Bool.Decides.{nat_tests}
 use Rattle.std.proofs.lemmas.Grind.{common_steps}
 use Rattle.std.proofs.Common.{inl, inr, ◌⊎◌, ◌++◌, ⊎_elim}
-use Rattle.std.proofs.lemmas.List.{map-append}
 use Rattle.pt_sector.specs.Sectors.{Sectors, sector}
-use Rattle.pt_sector.specs.Writes.{Writes, Stopped, Puts}
+use Rattle.pt_sector.specs.Writes.{Stopped, Puts}
 use Rattle.pt_sector.specs.Pending.{reading, pending_writes}
 use Rattle.pt_sector.specs.declared.pending.Pending.{Pending}
 

@@ -5,6 +5,7 @@
 
 mod address;
 mod cache;
+mod crash;
 mod disk;
 mod memory;
 mod moments;
@@ -16,6 +17,7 @@ mod room;
 mod stop;
 
 pub use address::{Extent, Lba, Sector};
+pub use crash::CrashDisk;
 pub use disk::{Disk, Fault};
 pub use memory::MemDisk;
 #[doc(hidden)]

@@ -5,7 +5,11 @@ ghost use Rattle.pt_sector.specs.Stop.{values, is_pending, chosen, picked};
 use crate::pending::Pending;
 
 /// Leaves of each sector what was chosen.
-pub(crate) fn pick_all<const B: usize>(durable: &mut [[u8; B]], pending: &[Pending<B>], choices: &[usize])
+pub(crate) fn pick_all<const B: usize>(
+    durable: &mut [[u8; B]],
+    pending: &[Pending<B>],
+    choices: &[usize],
+)
     requires { B ≤ 4096 }
     ensures { durable.new ≡ picked (pending_writes pending.now) 0 choices.now durable.old }
 {
