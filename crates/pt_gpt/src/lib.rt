@@ -5,6 +5,7 @@
 
 mod bytes;
 mod copy;
+mod entries;
 mod entry;
 mod error;
 mod header;
