@@ -132,3 +132,8 @@ pair_at (x ∷ ws) zero w v is at = ap (λ (y : Write _). y.lba.0) is ∙ ap (λ
     some_same : {Y : Type 0} {y z : Y} → Some y ≡ Some z → y ≡ z
     some_same same = cc
 pair_at (x ∷ ws) (suc k) w v is at = pair_at ws k w v is at
+
+pub drop-writes : {b : _} (ws : List (Write b)) (i : ℕ) (w : Write b) → i < length ws → w ≡ get_or ws i w → drop i (writes_of ws) ≡ (w.lba.0, w.bytes) ∷ drop (i + 1) (writes_of ws)
+drop-writes [] i w lt is = absurd (omega (arith, lt))
+drop-writes (x ∷ ws) zero w lt is = ap (λ (y : Write _). (y.lba.0, y.bytes) ∷ writes_of ws) (sym is)
+drop-writes (x ∷ ws) (suc i) w lt is = rw add-one (rw add-one at (drop-writes ws i w (omega (arith, lt)) is))
