@@ -6,3 +6,5 @@ pub mod Entry
 pub mod Array
 pub mod Copy
 pub mod Answers
+pub mod Laws
+pub mod Written

@@ -1,9 +1,9 @@
 -- Laws of written disks: their length, their sectors, and which sectors stay.
-use Rattle.std.proofs.Common.{◌≡◌, ◌∙◌, ◌⊎◌, ◌<◌, ◌≤◌, ◌+◌, ◌==◌, ℕ, List, [], ◌∷◌, ◌++◌, length, cond, take, slice_set, get_or, refl, sym, ap, inl, inr, ⊎_elim, arith, length-set}
+use Rattle.std.proofs.Common.{◌≡◌, ◌∙◌, ◌⊎◌, ◌<◌, ◌≤◌, ◌+◌, ◌==◌, ℕ, List, [], ◌∷◌, ◌++◌, length, cond, take, slice_set, get_or, refl, sym, ap, inl, inr, ⊎_elim, arith, length-set, map}
 use Rattle.std.proofs.lemmas.Bool.{cases_eq}
 use Rattle.std.proofs.lemmas.Bool.Decides.{nat_tests}
 use Rattle.std.proofs.lemmas.Grind.{common_steps}
-use Rattle.std.proofs.lemmas.List.{ext_get_or, take_more}
+use Rattle.std.proofs.lemmas.List.{ext_get_or, take_more, map-append}
 use Rattle.pt_sector.specs.Sectors.{Sectors, sector, Agrees}
 use Rattle.pt_sector.specs.Writes.{Writes, written, after, Puts, Stopped}
 
@@ -49,6 +49,19 @@ written-take_more ws i w d lt is =
 pub after-take_more : (ps : List Writes) (i : ℕ) (p : Writes) (d : Sectors) → i < length ps → p ≡ get_or ps i p → after (take (i + 1) ps) d ≡ written p (after (take i ps) d)
 after-take_more ps i p d lt is =
     ap (λ (l : List Writes). after l d) (take_more ps i p lt ∙ ap (λ (x : Writes). take i ps ++ x ∷ []) (sym is)) ∙ after-one_more (take i ps) p d
+
+-- the same for items that stand for writes, and for phases
+pub written-map_take_more : {A : Type 0} (f : A → ℕ × List ℕ) (xs : List A) (i : ℕ) (x : A) (d : Sectors) → i < length xs → x ≡ get_or xs i x → written (map f (take (i + 1) xs)) d ≡ slice_set (written (map f (take i xs)) d) (f x).0 (f x).1
+written-map_take_more f xs i x d lt is =
+    ap (λ (l : List _). written (map f l) d) (take_more xs i x lt ∙ ap (λ (y : _). take i xs ++ y ∷ []) (sym is))
+    ∙ ap (λ (l : Writes). written l d) (map-append f (take i xs) (x ∷ []))
+    ∙ written-one_more (map f (take i xs)) (f x) d
+
+pub after-map_take_more : {A : Type 0} (f : A → Writes) (xs : List A) (i : ℕ) (x : A) (d : Sectors) → i < length xs → x ≡ get_or xs i x → after (map f (take (i + 1) xs)) d ≡ written (f x) (after (map f (take i xs)) d)
+after-map_take_more f xs i x d lt is =
+    ap (λ (l : List _). after (map f l) d) (take_more xs i x lt ∙ ap (λ (y : _). take i xs ++ y ∷ []) (sym is))
+    ∙ ap (λ (l : List Writes). after l d) (map-append f (take i xs) (x ∷ []))
+    ∙ after-one_more (map f (take i xs)) (f x) d
 
 -- sector by sector
 
