@@ -6,7 +6,7 @@ use Rattle.byteorder.specs.Endian.{little_number}
 use Rattle.pt_sum.specs.Words.{xor_of}
 use Rattle.pt_bsd.specs.Bytes.{number_at}
 use Rattle.pt_bsd.specs.Label.{HasSum, HasRaw, HasFields, IsEntry, LabelBytes, entry_of, place_of, counted_in}
-use Rattle.pt_bsd.specs.Counted.{count_of, IsCounted, IsRaw, FitsSlice}
+use Rattle.pt_bsd.specs.Counted.{count_of, IsThere, IsCounted, IsRaw, FitsSlice}
 use Rattle.pt_bsd.specs.Writing.{ChangesOnly, HasFront, IsPut, PutSoFar}
 use Rattle.pt_bsd.specs.declared.label.Label.{Label}
 use Rattle.pt_bsd.specs.declared.label.LabelEntry.{LabelEntry}
@@ -40,11 +40,6 @@ fields_kept l a b keeps f =
       bbsize = high 140 4 (lit≤ tt) (lit≤ tt) ∙ f.bbsize;
       sbsize = high 144 4 (lit≤ tt) (lit≤ tt) ∙ f.sbsize;
     }
-
--- an entry that isn't none
-abbrev IsThere : Option LabelEntry → Type 0
-IsThere None = ⊥
-IsThere (Some e) = ⊤
 
 there_below : (entries : List (Option LabelEntry)) (k : ℕ) → k < count_of entries → IsThere (slice_index_or entries k None)
 there_below [] k lt = absurd (omega arith)

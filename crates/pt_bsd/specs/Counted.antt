@@ -1,5 +1,5 @@
 -- Which labels can be written for a slice.
-use Rattle.std.specs.Prelude.{◌≡◌, ◌<◌, ◌≤◌, ◌⊎◌, ℕ, suc, List, [], ◌∷◌, Option, Some, None, length}
+use Rattle.std.specs.Prelude.{◌≡◌, ◌<◌, ◌≤◌, ◌⊎◌, ⊤, ℕ, suc, List, [], ◌∷◌, Option, Some, None, length, slice_set}
 use Rattle.pt_bsd.specs.Label.{entry_of}
 use Rattle.pt_bsd.specs.declared.label.Label.{Label}
 use Rattle.pt_bsd.specs.declared.label.LabelEntry.{LabelEntry}
@@ -9,6 +9,11 @@ abbrev pub count_of : List (Option LabelEntry) → ℕ
 count_of [] = 0
 count_of (None ∷ entries) = 0
 count_of (Some e ∷ entries) = suc (count_of entries)
+
+-- an entry is there
+abbrev pub IsThere : Option LabelEntry → Type 0
+IsThere None = ⊥
+IsThere (Some e) = ⊤
 
 -- three to eight entries are there, and none behind them
 pub record IsCounted (l : Label) : Type 0 where
@@ -24,3 +29,7 @@ IsRaw (Some e) first len = (e.size ≡ len) × ((e.offset ≡ 0) ⊎ (e.offset �
 -- the label's entry c is that of a slice with this first sector and this length
 abbrev pub FitsSlice : Label → ℕ → ℕ → Type 0
 FitsSlice l first len = IsRaw (entry_of l 2) first len
+
+-- the label with another entry in place k
+abbrev pub with_entry : Label → ℕ → LabelEntry → Label
+with_entry l k e = record l { entries = slice_set l.entries k (Some e) }

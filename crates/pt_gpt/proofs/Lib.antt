@@ -2,3 +2,4 @@ pub mod HeaderEncoding
 pub mod EntryEncoding
 pub mod Heads
 pub mod Parts
+pub mod ArraySteps
