@@ -29,10 +29,11 @@ pub record HasCount (bytes : List ℕ) : Type 0 where
   pub least : 3 ≤ counted_in bytes
   pub most : counted_in bytes ≤ 8
 
--- the words from the magic through the last counted entry have no sum
+-- the exclusive or of the words from the magic through the last counted entry is 0
 unfoldable pub HasSum : List ℕ → Type 0
 HasSum bytes = xor_of (take (place_of (counted_in bytes)) bytes) ≡ 0
 
+-- sectors of 512 bytes
 abbrev pub HasSectorSize : List ℕ → Type 0
 HasSectorSize bytes = number_at 40 4 bytes ≡ 512
 

@@ -2,7 +2,7 @@
 use Rattle.std.specs.Prelude.{Bool, false, ◌==◌, if◌then◌else◌, ◌≡◌, ◌≢◌, ◌<◌, ◌≤◌, ◌⊎◌, ℕ, zero, suc, List, [], ◌∷◌, Option, Some, None, length, slice_set, slice_index_or}
 use Rattle.std.proofs.Common.{refl, sym, ap, subst, ◌∙◌, arith, lit≤, rules, inl, inr}
 use Rattle.std.proofs.lemmas.List.{ext_get_or, length-set, get_or-set_other}
-use Rattle.pt_bsd.specs.Label.{HasEntry, HasEntries, HasRaw, IsEntry, counted_in, entry_of, place_of, LabelBytes, IsLabelFault}
+use Rattle.pt_bsd.specs.Label.{HasEntry, HasEntries, HasRaw, IsEntry, counted_in, entry_of, place_of, LabelBytes, HasLabel, IsLabelFault}
 use Rattle.pt_bsd.specs.Counted.{count_of, IsThere, IsCounted, IsRaw, FitsSlice, with_entry}
 use Rattle.pt_bsd.specs.Empty.{empty_of}
 use Rattle.pt_bsd.specs.Form.{form_of, raw_offset_in, raw_offset, form_at, sector_by, HasForm}
@@ -56,6 +56,10 @@ label_none Count l first len bytes (magics, broken) is = broken is.count
 label_none Checksum l first len bytes (magics, count, broken) is = broken is.sum
 label_none SectorSize l first len bytes (magics, count, sum, broken) is = broken is.sector_size
 label_none RawPartition l first len bytes (magics, count, sum, size, broken) is = broken is.raw
+
+-- so they have none
+pub no_label : (e : LabelError) (first len : ℕ) (bytes : List ℕ) → IsLabelFault e first len bytes → ¬ HasLabel first len bytes
+no_label e first len bytes fault has = label_none e has.0 first len bytes fault has.1
 
 none_there : (o : Option LabelEntry) → o ≡ None → ¬ IsThere o
 none_there o none there = subst IsThere none there

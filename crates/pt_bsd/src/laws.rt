@@ -1,7 +1,7 @@
 //! What holds of labels whatever the bytes are.
 
 ghost use Rattle.std.specs.Prelude.{◌≡◌, ◌≢◌, ◌<◌, ℕ, List};
-ghost use Rattle.pt_bsd.specs.Label.{LabelBytes, IsLabelFault, counted_in};
+ghost use Rattle.pt_bsd.specs.Label.{LabelBytes, HasLabel, IsLabelFault, counted_in};
 ghost use Rattle.pt_bsd.specs.Counted.{count_of, IsCounted, FitsSlice, with_entry};
 ghost use Rattle.pt_bsd.specs.Empty.{empty_of};
 ghost use Rattle.pt_bsd.specs.Form.{form_of, HasForm};
@@ -17,8 +17,8 @@ pub fn label_is_one()
 
 /// Bytes that break a rule of labels are no label.
 pub fn fault_is_no_label()
-    ensures { (e : LabelError) (l : Label) (first len : ℕ) (bytes : List ℕ)
-        → IsLabelFault e first len bytes → ¬ LabelBytes l first len bytes }
+    ensures { (e : LabelError) (first len : ℕ) (bytes : List ℕ)
+        → IsLabelFault e first len bytes → ¬ HasLabel first len bytes }
 {}
 
 /// A label that was read can be written again: it has as many entries as its bytes count, and its entry c fits the
