@@ -1,1 +1,5 @@
 pub mod Places
+pub mod Steps
+pub mod Traces
+pub mod Chains
+pub mod Nothing

@@ -2,10 +2,12 @@
 #![tactic(auto)]
 
 mod error;
+mod extended;
 mod laws;
 mod layout;
 mod recovery;
 mod slices;
+mod tables;
 mod trace;
 
 pub use error::NoTable;
