@@ -4,3 +4,5 @@ pub mod Form
 pub mod Reading
 pub mod Empty
 pub mod Laws
+pub mod Counted
+pub mod Writing

@@ -5,12 +5,14 @@
 
 mod decode;
 mod empty;
+mod encode;
 mod form;
 mod label;
 mod laws;
 
 pub use decode::{bears_magic, decode_label};
 pub use empty::empty_label;
+pub use encode::encode_label;
 pub use form::Form;
 pub use label::{Label, LabelEntry, LabelError};
-pub use laws::{fault_is_no_label, label_is_one};
+pub use laws::{changed_label_fits, empty_label_fits, fault_is_no_label, label_is_one, read_label_fits};

@@ -14,6 +14,7 @@ use pt_sector::{Disk, Lba};
 
 use crate::error::CopyError;
 use crate::header::{Header, decode_header};
+use crate::entries::read_entries;
 use crate::place::{check_place, header_at};
 use crate::table::{Side, Table};
 
@@ -88,7 +89,20 @@ pub fn read_table<const B: usize, D: Disk<B>>(alloc: Global, disk: &mut D, side:
     ensures err { D.tells → IfErr result (λ e. TellsFault B (D.told disk.old).seen side e) }
     ensures place { D.tells → IfErr result (FailedIn (SideReads B (D.told disk.old).seen side)) }
 {
-    Err(CopyError::Memory)
+    let _sectors = disk.sectors();
+    let (crc, entries) = match read_entries(alloc, disk, header.array, header.count) {
+        Ok(read) => read,
+        Err(e) => return Err(e),
+    };
+    if crc != header.array_crc {
+        return Err(CopyError::ArrayCrc);
+    }
+    Ok(Table {
+        disk: header.disk,
+        first: header.first,
+        last: header.last,
+        entries,
+    })
 }
 
 /// The table of a side's copy, on a disk with room for two.

@@ -3,11 +3,11 @@
 //! The terms that they stand on are in specs/Laws.antt, for contracts above to cite.
 
 ghost use Rattle.std.specs.Prelude.{◌≡◌, ◌≤◌, ◌⊎◌, ◌↔◌, ℕ, List, Option, length};
-ghost use Rattle.pt_sector.specs.Sectors.{Sectors, Agrees};
+ghost use Rattle.pt_sector.specs.Sectors.{Sectors, Agrees, IsSectorSize};
 ghost use Rattle.pt_gpt.specs.Header.{HeaderBytes, IsHeaderFault};
 ghost use Rattle.pt_gpt.specs.Entry.{EntryBytes};
-ghost use Rattle.pt_gpt.specs.Array.{AreEntries, AllTyped};
-ghost use Rattle.pt_gpt.specs.Copy.{header_place, IsHead, IsHeadFault, Copy, HasCopy, IsCopyFault, InArray, SideReads, SameSide};
+ghost use Rattle.pt_gpt.specs.Array.{AreEntries, AllFit, AllTyped, array_bytes};
+ghost use Rattle.pt_gpt.specs.Copy.{header_place, IsHead, IsHeadFault, Copy, HasCopy, IsCopyFault, InArray, SideReads, SameSide, CopyWith, IsWritten};
 ghost use Rattle.pt_gpt.specs.declared.header.Header.{Header};
 ghost use Rattle.pt_gpt.specs.declared.entry.Entry.{Entry};
 ghost use Rattle.pt_gpt.specs.declared.error.CopyError.{CopyError};
@@ -63,5 +63,17 @@ pub fn side_reads_are()
 pub fn copy_is_shaped()
     ensures count { (b : ℕ) (d : Sectors) (side : Side) (t : Table) → Copy b d side t → (1 ≤ length t.entries) × (length t.entries ≤ 128) }
     ensures typed { (b : ℕ) (d : Sectors) (side : Side) (t : Table) → Copy b d side t → AllTyped t.entries }
+{
+}
+
+/// What entries are written as is those entries, where they have types and their numbers fit.
+pub fn entries_read_back()
+    ensures { (es : List (Option Entry)) → AllFit es → AllTyped es → AreEntries es (array_bytes es) }
+{
+}
+
+/// A header, and an array that is written as a table's entries, are that table's copy.
+pub fn written_is_copy()
+    ensures { (b : ℕ) (d : Sectors) (side : Side) (h : Header) (t : Table) → IsSectorSize b → AllFit t.entries → AllTyped t.entries → IsWritten b d side h t → CopyWith b d side h t }
 {
 }

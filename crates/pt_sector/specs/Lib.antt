@@ -10,3 +10,8 @@ pub mod Memory
 pub mod Ascending
 pub mod Puts
 pub mod Overlays
+pub mod Pending
+pub mod Reading
+pub mod Stop
+pub mod Crash
+pub mod Schedule

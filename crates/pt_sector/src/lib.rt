@@ -4,15 +4,22 @@
 #![tactic(auto)]
 
 mod address;
+mod cache;
+mod crash;
 mod disk;
 mod memory;
 mod moments;
 mod overlay;
 mod own;
+mod pending;
 mod put;
 mod room;
+mod stop;
+#[cfg(test)]
+mod tests;
 
 pub use address::{Extent, Lba, Sector};
+pub use crash::CrashDisk;
 pub use disk::{Disk, Fault};
 pub use memory::MemDisk;
 #[doc(hidden)]

@@ -1,12 +1,12 @@
-ghost use Rattle.std.specs.Prelude.{◌≡◌, ◌≤◌, ◌<◌, ◌+◌, ℕ, List, [], ◌∷◌, ◌++◌, length, slice_set, IfErr, OnOk, OnErr};
+ghost use Rattle.std.specs.Prelude.{◌≡◌, ◌≤◌, ◌<◌, ◌+◌, ◌↔◌, ℕ, List, [], ◌∷◌, ◌++◌, length, slice_set, IfErr, IsErr, OnOk, OnErr};
 ghost use Rattle.std.proofs.Common.{refl, ◌∙◌};
 ghost use Rattle.pt_sector.specs.declared.disk.Fault.TheVariants.{Read, Write, Flush};
-ghost use Rattle.pt_sector.specs.Device.{Wrote};
+ghost use Rattle.pt_sector.specs.Device.{Wrote, FailedWrite, Counted};
 ghost use Rattle.pt_sector.specs.Past.{stopped_same};
 ghost use Rattle.pt_sector.specs.Since.{Below, below_same, below_on};
 ghost use Rattle.pt_sector.specs.Ascending.{Has};
 ghost use Rattle.pt_sector.specs.Puts.{puts_as_writes};
-ghost use Rattle.pt_sector.specs.Overlays.{overlay_told, length-shown, shown, room_left};
+ghost use Rattle.pt_sector.specs.Overlays.{overlay_told, length-shown, shown, room_left, room_for};
 
 use crate::address::Lba;
 use crate::disk::{Disk, Fault};
@@ -45,7 +45,7 @@ impl<'a, D: Disk<B>, const B: usize> Overlay<'a, D, B> {
         ensures disk { result.disk.now ≡ disk.old }
         ensures seen { (⟦<Overlay<'a, D, B> as Disk<B>>⟧.told result).seen ≡ (D.told disk.old).seen }
         ensures failures { ⟦<Overlay<'a, D, B> as Disk<B>>⟧.failures result ≡ D.failures disk.old }
-        ensures room { room_left result.own ≡ room.entry.own.room }
+        ensures room { room_left result.own ≡ room_for room.entry }
     {
         let Room { own } = room;
         Overlay {
@@ -102,7 +102,17 @@ impl<'a, D: Disk<B>, const B: usize> Disk<B> for Overlay<'a, D, B> {
         self.disk.read(lba, into)
     }
 
-    fn write(&mut self, lba: Lba, bytes: &[u8; B]) -> Result<(), Fault> {
+    /// Fails for a sector that isn't its own where it has no room left for one, and only there.
+    fn write(&mut self, lba: Lba, bytes: &[u8; B]) -> Result<(), Fault>
+        ensures count { D.count self.new.disk.now ≡ D.count self.old.disk.now }
+        ensures name { self.new.disk.ghost_name ≡ self.old.disk.ghost_name }
+        ensures counted { Counted (⟦<Overlay<'a, D, B> as Disk<B>>⟧.failures self.old) (⟦<Overlay<'a, D, B> as Disk<B>>⟧.failures self.new) result }
+        ensures fault { IfErr result (λ e. e ≡ Write lba) }
+        ensures done { OnOk result (Wrote (⟦<Overlay<'a, D, B> as Disk<B>>⟧.told self.old) (⟦<Overlay<'a, D, B> as Disk<B>>⟧.told self.new) lba.0 bytes.now) }
+        ensures failed { OnErr result (FailedWrite (⟦<Overlay<'a, D, B> as Disk<B>>⟧.told self.old) (⟦<Overlay<'a, D, B> as Disk<B>>⟧.told self.new) lba.0 bytes.now) }
+        ensures refused { IsErr result ↔ ((room_left self.old.own ≡ 0) × (Has (puts_as_writes self.old.own.puts.items) lba.0 → ⊥)) }
+        ensures kept { OnErr result (self.new.own ≡ self.old.own) }
+    {
         self.past = self.past.and(&self.own);
         if self.own.put(lba, bytes) {
             return Ok(());
