@@ -1,5 +1,5 @@
 -- What is read of a chain.
-use Rattle.std.proofs.Common.{◌≡◌, ℕ, List, refl, sym, ap, ◌∙◌, subst, inl, inr}
+use Rattle.std.proofs.Common.{◌≡◌, ℕ, List, sym, subst, inl, inr}
 use Rattle.std.specs.Prelude.{◌⊎◌, ◌↔◌}
 use Rattle.pt_sector.specs.Sectors.{Sectors, Span}
 use Rattle.pt_mbr.specs.Chain.{ChainReads, StandsAt, IsReadBy, ReadsAre}

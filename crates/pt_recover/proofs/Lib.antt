@@ -3,3 +3,7 @@ pub mod Steps
 pub mod Traces
 pub mod Chains
 pub mod Nothing
+pub mod Sides
+pub mod LabelSteps
+pub mod Bodies
+pub mod Whole

@@ -1,32 +1,25 @@
 -- Why a disk denotes nothing.
-use Rattle.std.proofs.Common.{◌≡◌, ◌<◌, ◌≤◌, ℕ, List, [], ◌∷◌, length, Option, Some, None, refl, sym, ap, ◌∙◌, subst, arith, inl, inr}
-use Rattle.std.specs.Prelude.{◌⊎◌, ◌↔◌}
-use Rattle.pt_sector.specs.Sectors.{Sectors, Span, sector}
+use Rattle.std.proofs.Common.{◌≡◌, ◌<◌, ℕ, List, [], ◌∷◌, Option, None, refl, sym, subst, arith, inl, inr}
+use Rattle.std.specs.Prelude.{◌⊎◌}
+use Rattle.pt_sector.specs.Sectors.{Sectors, Span}
 use Rattle.pt_mbr.specs.Chain.{lba, Chain, ChainFault, ChainReads, IsDevice}
 use Rattle.pt_mbr.specs.declared.record.Record.{Record}
 use Rattle.pt_mbr.specs.declared.ebr.Ebr.{Ebr}
 use Rattle.pt_mbr.specs.declared.chain.ChainError.{ChainError}
 use Rattle.pt_mbr.specs.declared.chain.ChainError.TheVariants.{OutsideExtended}
 use Rattle.pt_mbr.proofs.Ones.{no_chain}
-use Rattle.pt_gpt.specs.Copy.{Copy, HasCopy, IsCopyFault}
-use Rattle.pt_gpt.specs.Laws.{no_copy_lem}
-use Rattle.pt_gpt.specs.declared.error.CopyError.{CopyError}
-use Rattle.pt_gpt.specs.declared.table.Table.{Table}
-use Rattle.pt_gpt.specs.declared.table.Side.TheVariants.{Primary, Backup}
-use Rattle.pt_recover.specs.Mbr.{IsMbrDisk, IsMbr, extended_of, extent_of, HasChain, ExtendedReads}
-use Rattle.pt_recover.specs.Gpt.{HasRoom, TableIs}
-use Rattle.pt_recover.specs.Denotes.{BodyIs, Denotes}
+use Rattle.pt_recover.specs.Mbr.{IsMbr, extended_of, extent_of, HasChain, ExtendedReads}
+use Rattle.pt_recover.specs.Denotes.{Denotes}
 use Rattle.pt_recover.specs.One.{mbr_one}
-use Rattle.pt_recover.specs.Answers.{TellsNothing, IsOutside, LacksChain, HasTwoExtended, LacksCopies}
-use Rattle.pt_recover.specs.Steps.{ExtendedIs, IsChainFault, AreCopyFaults}
+use Rattle.pt_recover.specs.Answers.{TellsNothing, IsOutside}
+use Rattle.pt_recover.specs.Steps.{ExtendedIs, IsChainFault}
 use Rattle.pt_recover.specs.Spans.{Adds}
 use Rattle.pt_recover.specs.declared.extended.Extended.TheVariants as found
 use Rattle.pt_recover.specs.declared.error.NoTable.{NoTable}
-use Rattle.pt_recover.specs.declared.error.NoTable.TheVariants.{NoCopy, Chain as BadChain, TwoExtended, TooSmall, Device, Memory}
-use Rattle.pt_recover.specs.declared.layout.Body.{Body}
+use Rattle.pt_recover.specs.declared.error.NoTable.TheVariants.{Chain as BadChain, TwoExtended}
 use Rattle.pt_recover.specs.declared.layout.Body.TheVariants.{Mbr, Gpt}
 use Rattle.pt_recover.specs.declared.trace.Run.{Run}
-use Rattle.pt_recover.proofs.Traces.{adds_none, adds_same}
+use Rattle.pt_recover.proofs.Traces.{adds_none}
 
 -- an MBR disk denotes nothing where its records have no chain
 no_body : (b : ℕ) (d : Sectors) (m : List (Option Record)) → IsMbr d m → ((list : List Ebr) → ¬ HasChain d (extended_of m) list) → Denotes b d None
@@ -55,13 +48,13 @@ bad_chain b d m r x _ is lone same (inr fault) = absurd fault
 pub no_extent : (b : ℕ) (d : Sectors) (m : List (Option Record)) (r : Record) → IsMbr d m → extended_of m ≡ r ∷ [] → (extent_of r).last < (extent_of r).first → TellsNothing b d (BadChain (OutsideExtended (lba (extent_of r).first)))
 no_extent b d m r is lone none =
     lone_chain b d m r (OutsideExtended (lba (extent_of r).first)) is lone
-      (record { before = []; at = lba (extent_of r).first; few = omega arith; reached = refl; here = (refl, λ inside. absurd (omega (arith, inside.0.0, inside.0.1, none))) }) (λ f. f)
+    (record { before = []; at = lba (extent_of r).first; few = omega arith; reached = refl; here = (refl, λ inside. absurd (omega (arith, inside.0.0, inside.0.1, none))) }) (λ f. f)
 
 pub none_read : (d : Sectors) (m : List (Option Record)) (r : Record) (old new : List Run) → extended_of m ≡ r ∷ [] → (extent_of r).last < (extent_of r).first → new ≡ old → Adds old new (ExtendedReads d (extended_of m))
 none_read d m r old new lone none same =
     adds_none old new (ExtendedReads d (extended_of m)) same (λ s reads.
-      let read : ChainReads d (extent_of r) s = subst (λ (rs : List Record). ExtendedReads d rs s) lone reads in
-      absurd (omega (arith, read.inside.0.0, read.inside.0.1, none)))
+    let read : ChainReads d (extent_of r) s = subst (λ (rs : List Record). ExtendedReads d rs s) lone reads in
+    absurd (omega (arith, read.inside.0.0, read.inside.0.1, none)))
 
 pub lone_read : (d : Sectors) (m : List (Option Record)) (r : Record) (x : Span) (old new : List Run) → extended_of m ≡ r ∷ [] → x ≡ extent_of r → Adds old new (ChainReads d x) → Adds old new (ExtendedReads d (extended_of m))
 lone_read d m r x old new lone same adds =

@@ -1,5 +1,5 @@
 -- One step of recovery's loops.
-use Rattle.std.proofs.Common.{◌≡◌, ◌<◌, ◌≤◌, ◌+◌, ℕ, suc, List, [], ◌∷◌, ◌++◌, length, get_or, drop, Option, Some, None, refl, sym, ap, ◌∙◌, subst, arith, inl, inr, true, false, append_assoc, append-nil}
+use Rattle.std.proofs.Common.{◌≡◌, ◌<◌, ◌≤◌, ◌+◌, ℕ, List, ◌∷◌, ◌++◌, length, get_or, drop, Option, Some, None, refl, ap, ◌∙◌, arith, true, false, append-nil}
 use Rattle.std.proofs.lemmas.List.{drop_all}
 use Rattle.pt_mbr.specs.Record.{IsExtendedKind}
 use Rattle.pt_mbr.specs.declared.record.Record.{Record}

@@ -107,8 +107,9 @@ pub(crate) fn read_either<const B: usize, D: Disk<B>>(
         Ok(table) => return Ok(table),
         Err(e) => e,
     };
-    if let Some(e) = outside(primary) {
-        return Err(e);
+    match outside(primary) {
+        Some(e) => return Err(e),
+        None => {}
     }
     let backup = match traced_copy(alloc, disk, Side::Backup, trace) {
         Ok(table) => return Ok(table),

@@ -1,6 +1,6 @@
-use Rattle.std.proofs.Common.{subst, sym, List, ℕ, ◌≤◌, ◌++◌, ◌∷◌, [], ap, ◌∙◌}
+use Rattle.std.proofs.Common.{subst, sym, List, ◌≤◌, ◌++◌, ◌∷◌, [], ap, ◌∙◌}
 use Rattle.std.specs.Prelude.{◌⊎◌, ◌↔◌}
-use Rattle.pt_recover.specs.Spans.{IsIn, Adds}
+use Rattle.pt_recover.specs.Spans.{IsIn}
 use Rattle.pt_recover.specs.declared.trace.Run.{Run}
 use Rattle.pt_recover.proofs.Traces.{in_push}
 use Rattle.pt_recover.proofs.trace.Trace.add.Goals as goal

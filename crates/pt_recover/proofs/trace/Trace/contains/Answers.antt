@@ -1,4 +1,4 @@
-use Rattle.std.proofs.Common.{◌≡◌, subst, sym, List, arith, refl, rules}
+use Rattle.std.proofs.Common.{subst, sym, List, arith, refl, rules}
 use Rattle.pt_recover.specs.Spans.{InRun, IsIn}
 use Rattle.pt_recover.specs.declared.trace.Run.{Run}
 use Rattle.pt_recover.proofs.Traces.{in_here, in_later, in_past}
