@@ -66,6 +66,12 @@ pub fn no_copy()
 {
 }
 
+/// A side has one fault at most, the first rule that fails.
+pub fn fault_is_one()
+    ensures { (b : ℕ) (d : Sectors) (side : Side) (e f : CopyError) → IsCopyFault b d side e → IsCopyFault b d side f → e ≡ f }
+{
+}
+
 /// A disk that agrees with another on the sectors that decide a side has the same there.
 pub fn side_reads_decide()
     ensures { (b : ℕ) (side : Side) (c d : Sectors) → Agrees (SideReads b d side) c d → SameSide b side c d }
