@@ -9,6 +9,7 @@ use Rattle.pt_sector.specs.Device.{Told, Moment, Elapses}
 use Rattle.pt_sector.specs.Past.{told_of}
 use Rattle.pt_sector.specs.Puts.{puts_as_writes}
 use Rattle.pt_sector.specs.declared.own.Own.{Own}
+use Rattle.pt_sector.specs.declared.room.Room.{Room}
 
 -- the borrowed disk with the overlay's own sectors written
 abbrev pub shown : {b : _} → Sectors → Own b → Sectors
@@ -24,6 +25,10 @@ overlay_told seen own past = told_of (shown seen own) (shown seen own) [] (momen
 -- how many more sectors it can keep
 abbrev pub room_left : {b : _} → Own b → ℕ
 room_left own = own.room - vec_len own.puts
+
+-- for how many there is room
+abbrev pub room_for : {b : _} → Room b → ℕ
+room_for room = room.own.room
 
 pub length-shown : {b : _} (seen : Sectors) (own : Own b) → length (shown seen own) ≡ length seen
 length-shown seen own = length-written (puts_as_writes own.puts.items) seen

@@ -73,6 +73,7 @@ impl<const B: usize> CrashDisk<B> {
         ensures picked { (⟦<MemDisk<B> as Disk<B>>⟧.told result).seen ≡ picked (⟦<CrashDisk<B> as Disk<B>>⟧.told self.entry).pending 0 choices.now (⟦<CrashDisk<B> as Disk<B>>⟧.told self.entry).durable }
         ensures may_leave { MayLeave (⟦<CrashDisk<B> as Disk<B>>⟧.told self.entry) (⟦<MemDisk<B> as Disk<B>>⟧.told result).seen }
         ensures past { (⟦<MemDisk<B> as Disk<B>>⟧.told result).past ≡ [] }
+        ensures count { ⟦<MemDisk<B> as Disk<B>>⟧.count result ≡ ⟦<CrashDisk<B> as Disk<B>>⟧.count self.entry }
     {
         let CrashDisk {
             cache,

@@ -6,7 +6,7 @@ ghost use Rattle.pt_sector.specs.Past.{stopped_same};
 ghost use Rattle.pt_sector.specs.Since.{Below, below_same, below_on};
 ghost use Rattle.pt_sector.specs.Ascending.{Has};
 ghost use Rattle.pt_sector.specs.Puts.{puts_as_writes};
-ghost use Rattle.pt_sector.specs.Overlays.{overlay_told, length-shown, shown, room_left};
+ghost use Rattle.pt_sector.specs.Overlays.{overlay_told, length-shown, shown, room_left, room_for};
 
 use crate::address::Lba;
 use crate::disk::{Disk, Fault};
@@ -45,7 +45,7 @@ impl<'a, D: Disk<B>, const B: usize> Overlay<'a, D, B> {
         ensures disk { result.disk.now ≡ disk.old }
         ensures seen { (⟦<Overlay<'a, D, B> as Disk<B>>⟧.told result).seen ≡ (D.told disk.old).seen }
         ensures failures { ⟦<Overlay<'a, D, B> as Disk<B>>⟧.failures result ≡ D.failures disk.old }
-        ensures room { room_left result.own ≡ room.entry.own.room }
+        ensures room { room_left result.own ≡ room_for room.entry }
     {
         let Room { own } = room;
         Overlay {
