@@ -24,3 +24,6 @@ pub use laws::{copy_is_one, copy_is_shaped, entries_read_back, entry_is_one, ent
 pub use place::{array_at, array_sectors, counted_sectors, header_at};
 pub use table::{Entries, Side, Table};
 pub use view::EntryView;
+
+#[cfg(test)]
+mod tests;
