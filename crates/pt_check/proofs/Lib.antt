@@ -1,3 +1,4 @@
 pub mod Heart
 pub mod Firsts
 pub mod Outside
+pub mod Trying
