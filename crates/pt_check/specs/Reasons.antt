@@ -3,12 +3,13 @@ use Rattle.std.specs.Prelude.{◌≡◌, ◌⊎◌, ℕ, ◌+◌, ◌*◌, ◌<�
 use Rattle.pt_sector.specs.Sectors.{Sectors}
 use Rattle.pt_sector.specs.Writes.{Writes, after}
 use Rattle.pt_apply.specs.Promises.{boot_code}
+use Rattle.pt_layout.specs.declared.finding.Finding.{Finding}
 use Rattle.pt_check.specs.Course.{phase_at, disk_after}
 use Rattle.pt_check.specs.First.{writes_in, IsFirst}
 use Rattle.pt_check.specs.declared.answer.Answer.{Answer}
 use Rattle.pt_check.specs.declared.answer.Answer.TheVariants.{No, Yes}
 use Rattle.pt_check.specs.declared.answer.Why.{Why}
-use Rattle.pt_check.specs.declared.answer.Why.TheVariants.{TooManyWrites, OutOfRange, BootCode, ReadSector, Neither, NotATable, Owned}
+use Rattle.pt_check.specs.declared.answer.Why.TheVariants.{TooManyWrites, OutOfRange, BootCode, ReadSector, Neither, NotATable, Owned, Final}
 
 -- how many writes a plan may have
 abbrev pub most_writes : ℕ
@@ -23,6 +24,7 @@ stage (ReadSector p lba) = 3
 stage (Neither p) = 3
 stage (NotATable lba) = 4
 stage (Owned lba) = 5
+stage (Final f) = 6
 
 -- phase by phase, and in each phase first the sectors that are read
 abbrev pub turn : Why → ℕ
@@ -102,7 +104,7 @@ module _ {L : Type 0} (denotes : Sectors → Option L → Type 0) (d : Sectors) 
           × ((j : ℕ) → 0 < j → j < switch → ¬ denotes (disk_after phases d j) new))
 
 module _ {L : Type 0} (denotes : Sectors → Option L → Type 0) (reads : Sectors → ℕ → Type 0) (table owned : Option L → ℕ → Type 0)
-    (d : Sectors) (phases : List Writes) where
+    (finds : Sectors → Finding → Type 0) (d : Sectors) (phases : List Writes) where
   -- a write of a sector in the tables of neither
   abbrev pub IsStray : Option L → Option L → ℕ × List ℕ → Type 0
   IsStray old new w = (¬ table old w.0) × (¬ table new w.0)
@@ -120,6 +122,7 @@ module _ {L : Type 0} (denotes : Sectors → Option L → Type 0) (reads : Secto
   Holds (Neither p) = GivesNeither denotes d phases p
   Holds (NotATable lba) = (old : Option L) × (new : Option L) × Leads denotes d phases old new × FirstSector phases (IsStray old new) lba.0
   Holds (Owned lba) = (old : Option L) × (new : Option L) × Leads denotes d phases old new × FirstSector phases (IsOwned old new) lba.0
+  Holds (Final f) = finds (after phases d) f
 
   -- a no with the first reason that holds, and a yes where none holds
   abbrev pub IsAnswer : Answer → Type 0

@@ -1,5 +1,6 @@
 //! What the checker answers.
 
+use pt_layout::Finding;
 use pt_sector::Lba;
 
 /// Why a plan is refused: the first of these that holds. Phases and writes are counted from 1, writes over the whole
@@ -22,6 +23,8 @@ pub enum Why {
     NotATable(Lba),
     /// A write is of this sector, which a partition of the old or the new layout owns.
     Owned(Lba),
+    /// The disk with the whole plan written isn't healthy: the first finding.
+    Final(Finding),
 }
 
 /// The answer to a plan.
