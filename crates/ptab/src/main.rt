@@ -1,4 +1,6 @@
-//! The command.
+//! The command `ptab`.
 #![tactic(auto)]
+
+mod line;
 
 fn main() {}
