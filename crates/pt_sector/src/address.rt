@@ -1,4 +1,6 @@
-ghost use Rattle.std.specs.Prelude.{◌≡◌, ◌<◌, ◌≤◌, ◌^◌, ◌↔◌, IfSome, IsSome};
+ghost use Rattle.std.specs.Prelude.{◌≡◌, ◌<◌, ◌≤◌, ◌+◌, ◌^◌, ◌↔◌, IfSome, IsSome, IsTrue};
+ghost use Rattle.pt_sector.specs.Sectors.{InSpan};
+ghost use Rattle.pt_sector.specs.Spans.{span, Share, IsWithin};
 
 /// The number of a sector, counted from 0.
 #[derive(Clone, Copy, Debug, Default, PartialEq, Eq, PartialOrd, Ord)]
@@ -44,5 +46,33 @@ impl Extent {
         ensures { result.0 ≡ self.now.last }
     {
         Lba(self.last)
+    }
+
+    /// The number of its sectors.
+    pub fn len(&self) -> u64
+        ensures { self.now.first + result ≡ self.now.last + 1 }
+    {
+        self.last - self.first + 1
+    }
+
+    /// Whether this sector is one of its own.
+    pub fn contains(&self, lba: Lba) -> bool
+        ensures { IsTrue result ↔ InSpan (span self.now.first self.now.last) lba.0 }
+    {
+        self.first <= lba.0 && lba.0 <= self.last
+    }
+
+    /// Whether the two have a sector in common.
+    pub fn meets(&self, other: &Extent) -> bool
+        ensures { IsTrue result ↔ Share (span self.now.first self.now.last) (span other.now.first other.now.last) }
+    {
+        self.first <= other.last && other.first <= self.last
+    }
+
+    /// Whether all its sectors are sectors of the other.
+    pub fn inside(&self, other: &Extent) -> bool
+        ensures { IsTrue result ↔ IsWithin (span self.now.first self.now.last) (span other.now.first other.now.last) }
+    {
+        other.first <= self.first && self.last <= other.last
     }
 }

@@ -5,6 +5,11 @@
 
 mod address;
 mod disk;
+mod memory;
+mod moments;
 
 pub use address::{Extent, Lba, Sector};
 pub use disk::{Disk, Fault};
+pub use memory::MemDisk;
+#[doc(hidden)]
+pub use moments::Moments;
