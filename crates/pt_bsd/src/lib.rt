@@ -1,2 +1,18 @@
-//! BSD labels in both forms of their offsets.
+//! BSD labels, whose entries' offsets are relative to the slice or absolute.
+//!
+//! The layout of a label and both forms are this project's choice (docs/format.md, "The BSD label"). Nothing here takes memory.
 #![tactic(auto)]
+
+mod decode;
+mod empty;
+mod encode;
+mod form;
+mod label;
+mod laws;
+
+pub use decode::{bears_magic, decode_label};
+pub use empty::empty_label;
+pub use encode::encode_label;
+pub use form::Form;
+pub use label::{Label, LabelEntry, LabelError};
+pub use laws::{changed_label_fits, empty_label_fits, fault_is_no_label, label_is_one, read_label_fits};

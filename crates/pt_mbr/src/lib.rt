@@ -1,2 +1,21 @@
 //! Master boot records: partition records, the protective record and chains of extended boot records.
+//!
+//! The layouts stand in docs/format.md. A boot record stands in the first 512 bytes of its sector, whatever the
+//! sector's size; no call looks at the bytes past them, and those that write keep them.
 #![tactic(auto)]
+
+mod bytes;
+mod chain;
+mod ebr;
+mod laws;
+mod mbr;
+mod protection;
+mod record;
+
+pub use chain::{ChainError, read_chain, walk_chain};
+pub use ebr::{Ebr, EbrFault, decode_ebr};
+pub use laws::{
+    chain_reads_are, chain_reads_decide, chains_are_one, ebr_is_one, mbr_is_one, record_is_one,
+};
+pub use mbr::{Mbr, bears_protective, decode_mbr};
+pub use record::{Record, is_extended_kind};

@@ -2,7 +2,16 @@ pub mod Sectors
 pub mod Spans
 pub mod Extents
 pub mod Writes
+pub mod Written
 pub mod Device
 pub mod Past
 pub mod Since
 pub mod Memory
+pub mod Ascending
+pub mod Puts
+pub mod Overlays
+pub mod Pending
+pub mod Reading
+pub mod Stop
+pub mod Crash
+pub mod Schedule

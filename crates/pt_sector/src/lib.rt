@@ -4,12 +4,25 @@
 #![tactic(auto)]
 
 mod address;
+mod cache;
+mod crash;
 mod disk;
 mod memory;
 mod moments;
+mod overlay;
+mod own;
+mod pending;
+mod put;
+mod room;
+mod stop;
 
 pub use address::{Extent, Lba, Sector};
+pub use crash::CrashDisk;
 pub use disk::{Disk, Fault};
 pub use memory::MemDisk;
 #[doc(hidden)]
 pub use moments::Moments;
+pub use overlay::Overlay;
+#[doc(hidden)]
+pub use own::Own;
+pub use room::Room;

@@ -30,7 +30,7 @@ impl<const B: usize> MemDisk<B> {
         Ok(MemDisk::from_sectors(zeroed(alloc, sectors)?))
     }
 
-    /// The law that none of its calls fails: its count of failures is always 0.
+    /// The law that none of its calls fails: its count of failures, which a failed call would move, is always 0.
     pub fn never_fails(&self)
         ensures { ⟦<MemDisk<B> as Disk<B>>⟧.failures self.now ≡ 0 }
     {}

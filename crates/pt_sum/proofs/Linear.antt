@@ -1,7 +1,7 @@
 -- The register moves linearly, so the bits of a byte may be added at once.
-use Rattle.std.proofs.Common.{◌≡◌, ℕ, zero, suc, ◌+◌, ◌*◌, ◌/◌, ◌%◌, ◌^◌, ◌<◌, ◌≤◌, List, [], ◌∷◌, eqb, cond, true, false, refl, sym, ap, ◌∙◌, arith, inl, inr, ◌⊎◌}
+use Rattle.std.proofs.Common.{◌≡◌, ℕ, zero, suc, ◌+◌, ◌*◌, ◌/◌, ◌%◌, ◌^◌, ◌<◌, List, ◌∷◌, refl, sym, ap, ◌∙◌, arith, inl, inr, ◌⊎◌}
 use Rattle.std.specs.Prelude.{bit_xor, fold}
-use Rattle.std.specs.Int.Bits.{xor_assoc, xor_self, xor_zero_l, xor_zero_r}
+use Rattle.std.specs.Int.Bits.{xor_assoc, xor_self, xor_zero_r}
 use Rattle.std.specs.List.{flat_map}
 use Rattle.std.proofs.lemmas.List.Sums.{fold-append}
 use Rattle.std.proofs.Math.Nat.{div-one, pow-suc, div-eq_of_lt}
@@ -17,7 +17,7 @@ pub xor_odd : (a b : ℕ) → bit_xor a b % 2 ≡ bit_xor (a % 2) (b % 2)
 xor_odd a b = xor_mod a b 1
 
 parity : (a : ℕ) → (a % 2 ≡ 0) ⊎ (a % 2 ≡ 1)
-parity a = elim (even_or (a % 2) (omega arith)) [ | inl e ↦ inl e | inr e ↦ inr e ] where
+parity a = elim (even_or (a % 2) (omega arith)) [ inl e ↦ inl e | inr e ↦ inr e ] where
   even_or : (n : ℕ) → n < 2 → (n ≡ 0) ⊎ (n ≡ 1)
   even_or zero h = inl refl
   even_or (suc zero) h = inr refl

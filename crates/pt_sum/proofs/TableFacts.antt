@@ -1,9 +1,9 @@
 -- What the tables have at each byte.
-use Rattle.std.proofs.Common.{◌≡◌, ℕ, zero, suc, ◌+◌, ◌*◌, ◌/◌, ◌%◌, ◌^◌, ◌<◌, ◌≤◌, List, [], ◌∷◌, get_or, refl, sym, ap, ◌∙◌, arith, subst}
-use Rattle.std.specs.Prelude.{bit_xor, bit_and, slice_index, map, fold}
+use Rattle.std.proofs.Common.{◌≡◌, ℕ, ◌+◌, ◌*◌, ◌/◌, ◌%◌, ◌^◌, ◌<◌, List, [], get_or, refl, sym, ap, ◌∙◌, arith}
+use Rattle.std.specs.Prelude.{bit_xor, bit_and, map, fold}
 use Rattle.std.specs.List.{range_with_len}
 use Rattle.std.proofs.lemmas.List.FromFn.{get_or-map-range_with_len}
-use Rattle.std.proofs.lemmas.Nat.{xor_shr, xor_mod, and_mask}
+use Rattle.std.proofs.lemmas.Nat.{xor_shr, and_mask}
 use Rattle.std.specs.Int.Bits.{xor_zero_r}
 use Rattle.pt_sum.specs.Crc.{bits, shifted, after_bit}
 use Rattle.pt_sum.specs.Moves.{moved}

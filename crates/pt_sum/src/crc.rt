@@ -4,11 +4,11 @@ ghost use Rattle.std.specs.Prelude.{◌≡◌, ◌<◌, ◌+◌, ◌*◌, ◌++�
 ghost use Rattle.pt_sum.specs.Crc.{bits, after_bit, after_bytes, crc_of};
 ghost use Rattle.pt_sum.specs.Moves.{moved};
 
+use crate::tables::TABLES;
 use std::marker::Model;
 
-use crate::tables::TABLES;
-
-const INITIAL: u32 = 0xFFFF_FFFF;
+// A register begins with all ones, and is complemented at the end.
+const ALL_ONES: u32 = 0xFFFF_FFFF;
 
 // What a byte in an otherwise empty register becomes after `8 * k + 8` moves.
 fn entry_at(k: usize, byte: u8) -> u32
@@ -31,20 +31,23 @@ fn moved_word(k: usize, word: u32) -> u32
     requires { k < 5 }
     ensures { result ≡ moved (8 * k + 32) word }
 {
-    entry_at(k + 3, (word & 0xFF) as u8)
+    entry_at(k, (word >> 24) as u8)
+        ^ entry_at(k + 3, (word & 0xFF) as u8)
         ^ entry_at(k + 2, ((word >> 8) & 0xFF) as u8)
         ^ entry_at(k + 1, ((word >> 16) & 0xFF) as u8)
-        ^ entry_at(k, (word >> 24) as u8)
 }
 
-// The register after eight more bytes.
+// The register after eight more bytes. The last four come first, since their look-ups needn't wait for the register.
 fn after_eight(register: u32, bytes: &[u8]) -> u32
     requires { length bytes.now ≡ 8 }
     ensures { result ≡ after_bytes register bytes.now }
 {
-    let low = register ^ u32::from_le_bytes([bytes[0], bytes[1], bytes[2], bytes[3]]);
-    let high = u32::from_le_bytes([bytes[4], bytes[5], bytes[6], bytes[7]]);
-    moved_word(4, low) ^ moved_word(0, high)
+    let last = moved_word(
+        0,
+        u32::from_le_bytes([bytes[4], bytes[5], bytes[6], bytes[7]]),
+    );
+    let first = register ^ u32::from_le_bytes([bytes[0], bytes[1], bytes[2], bytes[3]]);
+    last ^ moved_word(4, first)
 }
 
 // The register after these bytes.
@@ -68,7 +71,7 @@ fn after(register: u32, bytes: &[u8]) -> u32
 pub fn crc32(bytes: &[u8]) -> u32
     ensures { result ≡ crc_of bytes.now }
 {
-    after(INITIAL, bytes) ^ 0xFFFF_FFFF
+    after(ALL_ONES, bytes) ^ ALL_ONES
 }
 
 /// The CRC-32 of bytes that come in parts. A contract sees it as its register.
@@ -82,7 +85,7 @@ impl Model for Crc {
 
     ghost view = { λ c. c.register };
 
-    ghost inverse = { λ register. record { register = register; } };
+    ghost inverse = { λ register. record { register = register } };
 }
 
 impl Crc {
@@ -90,7 +93,7 @@ impl Crc {
     pub fn new() -> Crc
         ensures { result ≡ 0xFFFFFFFF }
     {
-        Crc { register: INITIAL }
+        Crc { register: ALL_ONES }
     }
 
     /// Takes the next bytes, as many as there are.
@@ -104,12 +107,11 @@ impl Crc {
     pub fn value(&self) -> u32
         ensures { result ≡ bit_xor self.now 0xFFFFFFFF }
     {
-        self.register ^ 0xFFFF_FFFF
+        self.register ^ ALL_ONES
     }
 }
 
 /// The register after two parts is that after the second, begun where the first ended.
 pub fn sum_by_parts()
     ensures { (register : ℕ) (first second : List ℕ) → after_bytes register (first ++ second) ≡ after_bytes (after_bytes register first) second }
-{
-}
+{}

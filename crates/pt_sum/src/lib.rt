@@ -10,3 +10,6 @@ mod words;
 
 pub use crc::{Crc, crc32, sum_by_parts};
 pub use words::xor16;
+
+#[cfg(test)]
+mod tests;

@@ -1,4 +1,4 @@
-use Rattle.std.proofs.Common.{◌≡◌, get_or, refl, sym, ap, ◌∙◌, arith}
+use Rattle.std.proofs.Common.{arith}
 use Rattle.pt_sum.proofs.TableFacts.{entry_at_is}
 use Rattle.pt_sum.proofs.crc.entry_at.Goals as goal
 

@@ -1,0 +1,3 @@
+pub mod Moments
+pub mod Plans
+pub mod Runs

@@ -1,0 +1,5 @@
+use Rattle.pt_bsd.specs.Writing.{PutSoFar}
+use Rattle.pt_bsd.proofs.encode.put_entries.Given as goal
+
+abbrev pub invariant-loop-k : goal.invariant-loop-k
+invariant-loop-k l = PutSoFar l.entries l.k l.initial.bytes l.bytes

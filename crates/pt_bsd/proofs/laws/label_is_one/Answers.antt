@@ -1,0 +1,5 @@
+use Rattle.pt_bsd.specs.Laws.{label_one}
+use Rattle.pt_bsd.proofs.laws.label_is_one.Goals as goal
+
+pub returns : goal.returns
+returns c = label_one

@@ -1,0 +1,135 @@
+-- Laws of labels, as terms that definitions and proofs above can cite.
+use Rattle.std.specs.Prelude.{◌≡◌, ◌≢◌, ◌<◌, ◌≤◌, ℕ, zero, suc, List, [], ◌∷◌, Option, Some, None, length, slice_set, slice_index_or}
+use Rattle.std.proofs.Common.{refl, sym, ap, subst, ◌∙◌, arith, lit≤, inl, inr}
+use Rattle.std.proofs.lemmas.List.{ext_get_or, length-set, get_or-set_other}
+use Rattle.pt_bsd.specs.Label.{HasEntry, HasEntries, HasRaw, IsEntry, counted_in, entry_of, place_of, LabelBytes, IsLabelFault}
+use Rattle.pt_bsd.specs.Counted.{count_of, IsThere, IsCounted, IsRaw, FitsSlice, with_entry}
+use Rattle.pt_bsd.specs.Empty.{empty_of}
+use Rattle.pt_bsd.specs.declared.label.Label.{Label}
+use Rattle.pt_bsd.specs.declared.label.LabelEntry.{LabelEntry}
+use Rattle.pt_bsd.specs.declared.label.LabelError.{LabelError}
+use Rattle.pt_bsd.specs.declared.label.LabelError.TheVariants.{Magic, Count, Checksum, SectorSize, RawPartition}
+
+entry_ext : (e f : LabelEntry) → e.size ≡ f.size → e.offset ≡ f.offset → e.fragment ≡ f.fragment → e.fstype ≡ f.fstype → e.frag ≡ f.frag → e.cpg ≡ f.cpg → e ≡ f
+entry_ext e f a b c d g h = λ i. record { size = a i; offset = b i; fragment = c i; fstype = d i; frag = g i; cpg = h i }
+
+-- the bytes at a place are one entry at most
+pub entry_one : (e f : LabelEntry) (place : ℕ) (bytes : List ℕ) → HasEntry e place bytes → HasEntry f place bytes → e ≡ f
+entry_one e f place bytes p q = entry_ext e f (sym p.size ∙ q.size) (sym p.offset ∙ q.offset) (sym p.fragment ∙ q.fragment) (sym p.fstype ∙ q.fstype) (sym p.frag ∙ q.frag) (sym p.cpg ∙ q.cpg)
+
+slot_one : (o p : Option LabelEntry) (k : ℕ) (bytes : List ℕ) → IsEntry o k bytes → IsEntry p k bytes → o ≡ p
+slot_one None None k bytes u v = refl
+slot_one None (Some f) k bytes u v = absurd (omega (arith, u, v.0))
+slot_one (Some e) None k bytes u v = absurd (omega (arith, u.0, v))
+slot_one (Some e) (Some f) k bytes u v = ap (λ (x : LabelEntry). Some x) (entry_one e f (place_of k) bytes u.1 v.1)
+
+entries_one : (l m : Label) (bytes : List ℕ) → HasEntries l bytes → HasEntries m bytes → l.entries ≡ m.entries
+entries_one l m bytes p q = ext_get_or None l.entries m.entries (p.places ∙ sym q.places) (λ k lt.
+    let small : k < 8 = omega (arith, p.places) in
+    slot_one (entry_of l k) (entry_of m k) k bytes (p.each k small) (q.each k small))
+
+-- bytes are one label at most, whatever the slice
+pub label_one : (l m : Label) (first len start count : ℕ) (bytes : List ℕ) → LabelBytes l first len bytes → LabelBytes m start count bytes → l ≡ m
+label_one l m first len start count bytes p q =
+    let x = p.fields in
+    let y = q.fields in
+    let entries = entries_one l m bytes p.entries q.entries in
+    λ i. record {
+      kind = (sym x.kind ∙ y.kind) i;
+      subtype = (sym x.subtype ∙ y.subtype) i;
+      type_name = (sym x.type_name ∙ y.type_name) i;
+      pack_name = (sym x.pack_name ∙ y.pack_name) i;
+      geometry = (x.geometry ∙ sym y.geometry) i;
+      unit = (sym x.unit ∙ y.unit) i;
+      kept = (sym x.kept ∙ y.kept) i;
+      bbsize = (sym x.bbsize ∙ y.bbsize) i;
+      sbsize = (sym x.sbsize ∙ y.sbsize) i;
+      entries = entries i;
+    }
+
+-- bytes that break a rule are no label
+pub label_none : (e : LabelError) (l : Label) (first len : ℕ) (bytes : List ℕ) → IsLabelFault e first len bytes → LabelBytes l first len bytes → ⊥
+label_none Magic l first len bytes broken is = broken is.magics
+label_none Count l first len bytes (magics, broken) is = broken is.count
+label_none Checksum l first len bytes (magics, count, broken) is = broken is.sum
+label_none SectorSize l first len bytes (magics, count, sum, broken) is = broken is.sector_size
+label_none RawPartition l first len bytes (magics, count, sum, size, broken) is = broken is.raw
+
+none_there : (o : Option LabelEntry) → o ≡ None → ¬ IsThere o
+none_there o none there = subst IsThere none there
+
+-- the entries before the first that isn't there are counted
+count_at : (entries : List (Option LabelEntry)) (n : ℕ) → n ≤ length entries → ((k : ℕ) → k < n → IsThere (slice_index_or entries k None)) → (n < length entries → slice_index_or entries n None ≡ None) → count_of entries ≡ n
+count_at [] n le there none = omega arith
+count_at (None ∷ entries) zero le there none = refl
+count_at (None ∷ entries) (suc n) le there none = absurd (there 0 (omega arith))
+count_at (Some e ∷ entries) zero le there none = absurd (none_there (Some e) (none (omega arith)) tt)
+count_at (Some e ∷ entries) (suc n) le there none = ap suc (count_at entries n (omega arith) (λ k lt. there (suc k) (omega arith)) (λ lt. none (omega arith)))
+
+slot_there : (o : Option LabelEntry) (k : ℕ) (bytes : List ℕ) → IsEntry o k bytes → k < counted_in bytes → IsThere o
+slot_there None k bytes is lt = absurd (omega (arith, is, lt))
+slot_there (Some e) k bytes is lt = tt
+
+slot_none : (o : Option LabelEntry) (k : ℕ) (bytes : List ℕ) → IsEntry o k bytes → counted_in bytes ≤ k → o ≡ None
+slot_none None k bytes is le = refl
+slot_none (Some e) k bytes is le = absurd (omega (arith, is.0, le))
+
+-- as many entries are there as the bytes count
+pub label_count : (l : Label) (first len : ℕ) (bytes : List ℕ) → LabelBytes l first len bytes → count_of l.entries ≡ counted_in bytes
+label_count l first len bytes is =
+    let places = is.entries.places in
+    let most = is.count.most in
+    count_at l.entries (counted_in bytes) (omega (arith, places, most))
+      (λ k lt. slot_there (entry_of l k) k bytes (is.entries.each k (omega (arith, lt, most))) lt)
+      (λ lt. slot_none (entry_of l (counted_in bytes)) (counted_in bytes) bytes (is.entries.each (counted_in bytes) (omega (arith, lt, places))) (omega arith))
+
+-- what is read can be written
+pub label_counted : (l : Label) (first len : ℕ) (bytes : List ℕ) → LabelBytes l first len bytes → IsCounted l
+label_counted l first len bytes is =
+    let count = label_count l first len bytes is in
+    record {
+      places = is.entries.places;
+      least = omega (arith, count, is.count.least);
+      others = λ k above lt. slot_none (entry_of l k) k bytes (is.entries.each k lt) (omega (arith, count, above));
+    }
+
+raw_fits : (o : Option LabelEntry) (first len : ℕ) (bytes : List ℕ) → IsEntry o 2 bytes → IsThere o → HasRaw first len bytes → IsRaw o first len
+raw_fits None first len bytes is there raw = there
+raw_fits (Some e) first len bytes (counts, here) there raw =
+    (sym here.size ∙ raw.size, elim raw.start [ inl relative ↦ inl (sym here.offset ∙ relative) | inr absolute ↦ inr (sym here.offset ∙ absolute) ])
+
+-- what is read fits its slice
+pub label_fits : (l : Label) (first len : ℕ) (bytes : List ℕ) → LabelBytes l first len bytes → FitsSlice l first len
+label_fits l first len bytes is =
+    let slot = is.entries.each 2 (lit≤ tt) in
+    raw_fits (entry_of l 2) first len bytes slot (slot_there (entry_of l 2) 2 bytes slot (omega (arith, is.count.least))) is.raw
+
+-- the empty label can be written
+pub empty_counted : (n : ℕ) → IsCounted (empty_of n)
+empty_counted n = record { places = refl; least = lit≤ tt; others = λ k above lt. absurd (omega (arith, above, lt)) }
+
+-- and fits each slice of its length
+pub empty_fits : (n first : ℕ) → FitsSlice (empty_of n) first n
+empty_fits n first = (refl, inl refl)
+
+count-set : (entries : List (Option LabelEntry)) (k : ℕ) (e : LabelEntry) → k < count_of entries → count_of (slice_set entries k (Some e)) ≡ count_of entries
+count-set [] k e lt = absurd (omega arith)
+count-set (None ∷ entries) k e lt = absurd (omega arith)
+count-set (Some f ∷ entries) zero e lt = refl
+count-set (Some f ∷ entries) (suc k) e lt = ap suc (count-set entries k e (omega arith))
+
+-- another entry in a counted place leaves the count
+pub with_entry_counted : (l : Label) (k : ℕ) (e : LabelEntry) → IsCounted l → k < count_of l.entries → IsCounted (with_entry l k e)
+with_entry_counted l k e counted lt =
+    let count = count-set l.entries k e lt in
+    record {
+      places = length-set l.entries k (Some e) ∙ counted.places;
+      least = omega (arith, count, counted.least);
+      others = λ i above small. get_or-set_other l.entries k i (Some e) None (omega (arith, above, count, lt)) ∙ counted.others i (omega (arith, above, count)) small;
+    }
+
+-- and, where it isn't c, the slices that the label fits
+pub with_entry_fits : (l : Label) (k first len : ℕ) (e : LabelEntry) → k ≢ 2 → FitsSlice l first len → FitsSlice (with_entry l k e) first len
+with_entry_fits l k first len e other fits =
+    let same : entry_of (with_entry l k e) 2 ≡ entry_of l 2 = get_or-set_other l.entries k 2 (Some e) None (omega (arith, other)) in
+    rw same fits

@@ -1,0 +1,49 @@
+//! Labels as values.
+
+/// The label of a slice. Numbers are kept as read, also those that nothing here interprets.
+#[derive(Clone, Copy, Debug, PartialEq, Eq)]
+pub struct Label {
+    pub kind: u16,
+    pub subtype: u16,
+    pub type_name: [u8; 16],
+    pub pack_name: [u8; 16],
+    /// Sectors per track, tracks, cylinders, and sectors per cylinder.
+    pub geometry: [u32; 4],
+    /// How many sectors the unit has.
+    pub unit: u32,
+    /// Bytes 64 to 131.
+    pub kept: [u8; 68],
+    pub bbsize: u32,
+    pub sbsize: u32,
+    /// The entries from a to h; `Some` exactly where the label counts the entry.
+    pub entries: [Option<LabelEntry>; 8],
+}
+
+/// An entry of a label. It is a partition where its size isn't 0, whatever its type, except for c, the raw entry.
+#[derive(Clone, Copy, Debug, PartialEq, Eq)]
+pub struct LabelEntry {
+    /// How many sectors it has.
+    pub size: u32,
+    /// Where it starts: counted from the slice's first sector, or on the disk, by the label's form.
+    pub offset: u32,
+    pub fragment: u32,
+    /// 0 is unused, 1 swap, 7 a fast file system.
+    pub fstype: u8,
+    pub frag: u8,
+    pub cpg: u16,
+}
+
+/// Why a sector has no label for a slice: the first of these rules, in this order, that it breaks.
+#[derive(Clone, Copy, Debug, PartialEq, Eq)]
+pub enum LabelError {
+    /// One of the two magic numbers isn't 82564557 (hexadecimal).
+    Magic,
+    /// It doesn't count 3 to 8 entries.
+    Count,
+    /// The exclusive or of the words up to the last counted entry isn't 0.
+    Checksum,
+    /// Its sectors don't have 512 bytes.
+    SectorSize,
+    /// Entry c doesn't have the slice's length, or starts neither at 0 nor at the slice's first sector.
+    RawPartition,
+}

@@ -1,0 +1,4 @@
+pub mod HeaderEncoding
+pub mod EntryEncoding
+pub mod Heads
+pub mod Parts

@@ -1,0 +1,105 @@
+-- Entries that come in parts.
+use Rattle.std.proofs.Common.{◌≡◌, ℕ, suc, ◌/◌, zero-le, min, add-one, ◌∷◌, ◌+◌, ◌*◌, ◌-◌, ◌<◌, ◌≤◌, List, [], ◌++◌, length, get_or, take, drop, Option, None, refl, sym, ap, ◌∙◌, subst, arith, inl, inr, length-append}
+use Rattle.std.specs.Prelude.{slice_range}
+use Rattle.std.proofs.lemmas.Bool.{cases_lt}
+use Rattle.std.proofs.lemmas.List.{get_or_append_left, get_or-append_right, drop-append-le, take-append-le, length-drop, take_all, take_min, get_or_push}
+use Rattle.std.proofs.Math.Seq.{drop-append-add, take-append-add}
+use Rattle.std.proofs.Math.Nat.{add-mul, one-mul}
+use Rattle.pt_sum.specs.Crc.{after_bytes}
+use Rattle.pt_sum.specs.Laws.{after_bytes-append}
+use Rattle.pt_gpt.specs.declared.entry.Entry.{Entry}
+use Rattle.pt_sector.specs.Sectors.{Sectors, sector, IsSectorSize}
+use Rattle.pt_gpt.specs.Array.{AreEntries}
+use Rattle.pt_gpt.specs.Entry.{EntryIs}
+use Rattle.pt_gpt.specs.Copy.{bytes_from}
+
+pub are_append : (es fs : List (Option Entry)) (x y : List ℕ) → AreEntries es x → AreEntries fs y → AreEntries (es ++ fs) (x ++ y)
+are_append es fs x y p q =
+    let long = length-append es fs in
+    let bytes = length-append x y in
+    let px = p.count in
+    let qy = q.count in
+    record {
+      count = omega arith;
+      each = λ k lt. elim (cases_lt k (length es)) [
+        | inl below ↦
+            let e = get_or_append_left es fs None k below in
+            let d = drop-append-le (k * 128) x y (omega arith) in
+            let t = take-append-le (k * 128 + 128 - k * 128) (drop (k * 128) x) y (omega (arith, length-drop (k * 128) x)) in
+            rw (e, d, t) (p.each k below)
+        | inr above ↦
+            let e = get_or-append_right es fs (length es) k None refl above in
+            let at : k * 128 ≡ length x + (k - length es) * 128 = omega arith in
+            let d = ap (λ (n : ℕ). drop n (x ++ y)) at ∙ drop-append-add x y ((k - length es) * 128) in
+            let n : k * 128 + 128 - k * 128 ≡ (k - length es) * 128 + 128 - (k - length es) * 128 = omega arith in
+            rw (e, d, n) (q.each (k - length es) (omega arith))
+      ];
+    }
+
+-- the counted bytes of one sector more
+pub take_sector : (m i b : ℕ) (x s : List ℕ) → length x ≡ i * b → i * b ≤ m → take m (x ++ s) ≡ x ++ take (m - i * b) s
+take_sector m i b x s long within =
+    let e : m ≡ length x + (m - i * b) = omega arith in
+    ap (λ (n : ℕ). take n (x ++ s)) e ∙ take-append-add x s (m - i * b)
+
+-- one entry more
+pub one_more : (es : List (Option Entry)) (x : Option Entry) (n : ℕ) (part : List ℕ) → length es ≡ n → ((j : ℕ) → j < n → EntryIs (get_or es j None) (slice_range part (j * 128) (j * 128 + 128)))
+    → EntryIs x (slice_range part (n * 128) (n * 128 + 128))
+    → (j : ℕ) → j < n + 1 → EntryIs (get_or (es ++ x ∷ []) j None) (slice_range part (j * 128) (j * 128 + 128))
+one_more es x n part long before here j lt = elim (cases_lt j n) [
+  | inl below ↦ let e = get_or_append_left es (x ∷ []) None j (omega arith) in rw e (before j below)
+  | inr above ↦
+      let at : n ≡ j = omega arith in
+      let e = get_or_push es x None j (long ∙ at) in
+      rw (e, ← at) here
+]
+
+-- what stands after some sectors
+pub record Streamed (b m at i : ℕ) (d : Sectors) (register rest : ℕ) (items : List (Option Entry)) : Type 0 where
+  pub sum : register ≡ after_bytes 0xFFFFFFFF (take m (bytes_from d at i))
+  pub entries : AreEntries items (take m (bytes_from d at i))
+  pub left : rest ≡ m - i * b
+  pub long : length (bytes_from d at i) ≡ i * b
+
+pub streamed_none : (b m at : ℕ) (d : Sectors) → Streamed b m at 0 d 0xFFFFFFFF m []
+unfolding bytes_from
+streamed_none b m at d =
+    let none : take {A = ℕ} m [] ≡ [] = take_all m [] zero-le in
+    record {
+      sum = rw none refl;
+      entries = rw none (record { count = refl; each = λ k lt. absurd (omega arith) });
+      left = omega arith;
+      long = omega arith;
+    }
+
+pub streamed_more : (b m at i : ℕ) (d : Sectors) (register left : ℕ) (items es : List (Option Entry)) (s : List ℕ) → Streamed b m at i d register left items → i * b ≤ m
+    → s ≡ sector d (at + i) → length s ≡ b → AreEntries es (take (min left b) s)
+    → Streamed b m at (i + 1) d (after_bytes register (take (min left b) s)) (left - min left b) (items ++ es)
+unfolding bytes_from
+streamed_more b m at i d register left items es s before within read long part =
+    let x = bytes_from d at i in
+    let whole : take m x ≡ x = take_all m x (omega (arith, before.long)) in
+    let cut : take (min left b) s ≡ take (m - i * b) s = ap (λ (n : ℕ). take (min left n) s) (sym long) ∙ take_min left s ∙ ap (λ (n : ℕ). take n s) before.left in
+    let next : take m (bytes_from d at (i + 1)) ≡ x ++ take (min left b) s =
+      rw (add-one, ← read) (take_sector m i b x s before.long within ∙ ap (λ (t : List ℕ). x ++ t) (sym cut)) in
+    let product : (i + 1) * b ≡ i * b + b = add-mul i 1 b ∙ ap (λ (n : ℕ). i * b + n) (one-mul b) in
+    record {
+      sum = rw (next, after_bytes-append 0xFFFFFFFF x (take (min left b) s)) (ap (λ (r : ℕ). after_bytes r (take (min left b) s)) (before.sum ∙ ap (after_bytes 0xFFFFFFFF) whole));
+      entries = rw next (are_append items es x (take (min left b) s) (subst (λ (t : List ℕ). AreEntries items t) whole before.entries) part);
+      left = omega (arith, product, before.left);
+      long = rw add-one (omega (arith, length-append x (sector d (at + i)), ap length read, product, before.long));
+    }
+
+pub sector_within : (b m i : ℕ) → IsSectorSize b → i < (m + (b - 1)) / b → i * b ≤ m
+sector_within b m i (inl e) lt = let h = rw e at lt in rw e (omega arith)
+sector_within b m i (inr e) lt = let h = rw e at lt in rw e (omega arith)
+
+-- how many entries are there, and how many bytes are left, after one sector more
+pub pushed_more : (b n m left : ℕ) → IsSectorSize b → n * 128 + left ≡ m * 128 → (n + min left b / 128) * 128 + (left - min left b) ≡ m * 128
+pushed_more b n m left (inl e) before = rw e (omega arith)
+pushed_more b n m left (inr e) before = rw e (omega arith)
+
+pub left_less : (b m i left : ℕ) → left ≡ m - i * b → left - min left b ≡ m - (i + 1) * b
+left_less b m i left before =
+    let product : (i + 1) * b ≡ i * b + b = add-mul i 1 b ∙ ap (λ (n : ℕ). i * b + n) (one-mul b) in
+    omega (arith, product, before)

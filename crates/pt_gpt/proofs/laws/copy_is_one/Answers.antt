@@ -1,0 +1,5 @@
+use Rattle.pt_gpt.specs.Laws.{copy_is_one_lem}
+use Rattle.pt_gpt.proofs.laws.copy_is_one.Goals as goal
+
+pub returns : goal.returns
+returns c = copy_is_one_lem

@@ -1,0 +1,5 @@
+use Rattle.pt_gpt.specs.Laws.{header_is_one_lem}
+use Rattle.pt_gpt.proofs.laws.header_is_one.Goals as goal
+
+pub returns : goal.returns
+returns c = header_is_one_lem

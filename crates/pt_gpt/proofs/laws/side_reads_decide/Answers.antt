@@ -1,0 +1,5 @@
+use Rattle.pt_gpt.specs.Laws.{side_reads_decide_lem}
+use Rattle.pt_gpt.proofs.laws.side_reads_decide.Goals as goal
+
+pub returns : goal.returns
+returns c = side_reads_decide_lem

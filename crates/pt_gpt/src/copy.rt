@@ -1,0 +1,129 @@
+//! Reading a copy of the table from a disk.
+
+ghost use Rattle.std.specs.Prelude.{◌≡◌, ◌⊎◌, ◌+◌, ◌*◌, ◌<◌, ◌≤◌, IfOk, IfErr, OnOk, length};
+ghost use Rattle.pt_sector.specs.Sectors.{IsSectorSize, sector};
+ghost use Rattle.pt_gpt.specs.Errors.{IsOutside, FailedAs, FailedIn};
+ghost use Rattle.pt_gpt.specs.Header.{HeaderBytes, IsHeaderFault};
+ghost use Rattle.pt_gpt.specs.Array.{array_len};
+ghost use Rattle.pt_gpt.specs.Copy.{header_place, IsPlaced, IsHead, CopyWith, Copy, SideReads};
+ghost use Rattle.pt_gpt.specs.Answers.{TellsHeadFault, TellsFault};
+
+use std::alloc::Global;
+
+use pt_sector::{Disk, Lba};
+
+use crate::error::CopyError;
+use crate::header::{Header, decode_header};
+use crate::entries::read_entries;
+use crate::place::{check_place, header_at};
+use crate::table::{Side, Table};
+
+// The header that a sector is.
+fn read_header<const B: usize, D: Disk<B>>(disk: &mut D, at: u64) -> Result<Header, CopyError>
+    requires size { IsSectorSize B }
+    requires within { at < D.count disk.old }
+    ensures count { D.count disk.new ≡ D.count disk.old }
+    ensures name { D.name disk.new ≡ D.name disk.old }
+    ensures reads { D.reads disk.old disk.new }
+    ensures quiet { OnOk result (D.failures disk.new ≡ D.failures disk.old) }
+    ensures failed { IfErr result (λ e. FailedAs e (D.failures disk.old) (D.failures disk.new)) }
+    ensures place { IfErr result (FailedIn (λ s. s ≡ at)) }
+    ensures same { D.tells → D.told disk.new ≡ D.told disk.old }
+    ensures ok { D.tells → IfOk result (λ h. HeaderBytes B h (sector (D.told disk.old).seen at)) }
+    ensures err { D.tells → IfErr result (λ e. IsOutside e ⊎ IsHeaderFault B e (sector (D.told disk.old).seen at)) }
+{
+    let mut bytes = [0; B];
+    match disk.read(Lba(at), &mut bytes) {
+        Ok(()) => decode_header(&bytes),
+        Err(_) => Err(CopyError::Device(Lba(at))),
+    }
+}
+
+/// The header of a side's copy, where the fields of the one that stands there are those of a table.
+///
+/// Of errors 1 to 8 the first that holds, or `Device` where the read failed. It reads one sector and takes no memory;
+/// the array's CRC is for `read_table`.
+pub fn read_head<const B: usize, D: Disk<B>>(disk: &mut D, side: Side) -> Result<Header, CopyError>
+    requires size { IsSectorSize B }
+    requires room { 2 * array_len B + 4 ≤ D.count disk.old }
+    ensures count { D.count disk.new ≡ D.count disk.old }
+    ensures name { D.name disk.new ≡ D.name disk.old }
+    ensures reads { D.reads disk.old disk.new }
+    ensures quiet { OnOk result (D.failures disk.new ≡ D.failures disk.old) }
+    ensures failed { IfErr result (λ e. FailedAs e (D.failures disk.old) (D.failures disk.new)) }
+    ensures place { IfErr result (FailedIn (λ s. s ≡ header_place side (D.count disk.old))) }
+    ensures same { D.tells → D.told disk.new ≡ D.told disk.old }
+    ensures placed { IfOk result (λ h. IsPlaced B side (D.count disk.old) h) }
+    ensures ok { D.tells → IfOk result (λ h. IsHead B (D.told disk.old).seen side h) }
+    ensures err { D.tells → IfErr result (λ e. TellsHeadFault B (D.told disk.old).seen side e) }
+{
+    let sectors = disk.sectors();
+    let header = match read_header(disk, header_at(side, sectors)) {
+        Ok(header) => header,
+        Err(e) => return Err(e),
+    };
+    match check_place::<B>(&header, side, sectors) {
+        Ok(()) => Ok(header),
+        Err(e) => Err(e),
+    }
+}
+
+/// The table of the copy whose header stands on this side.
+///
+/// `ArrayCrc` where the array has another CRC, `Device` where a read failed. The memory for the entries is taken at
+/// once, before the first read; `Memory` where there is none. The counted sectors of the array are read in order,
+/// through one sector's buffer.
+pub fn read_table<const B: usize, D: Disk<B>>(alloc: Global, disk: &mut D, side: Side, header: &Header) -> Result<Table, CopyError>
+    requires size { IsSectorSize B }
+    requires room { 2 * array_len B + 4 ≤ D.count disk.old }
+    requires placed { IsPlaced B side (D.count disk.old) header.now }
+    requires head { D.tells → IsHead B (D.told disk.old).seen side header.now }
+    ensures count { D.count disk.new ≡ D.count disk.old }
+    ensures name { D.name disk.new ≡ D.name disk.old }
+    ensures reads { D.reads disk.old disk.new }
+    ensures quiet { OnOk result (D.failures disk.new ≡ D.failures disk.old) }
+    ensures failed { IfErr result (λ e. FailedAs e (D.failures disk.old) (D.failures disk.new)) }
+    ensures same { D.tells → D.told disk.new ≡ D.told disk.old }
+    ensures ok { D.tells → IfOk result (λ t. Copy B (D.told disk.old).seen side t) }
+    ensures with { D.tells → IfOk result (λ t. CopyWith B (D.told disk.old).seen side header.now t) }
+    ensures err { D.tells → IfErr result (λ e. TellsFault B (D.told disk.old).seen side e) }
+    ensures place { D.tells → IfErr result (FailedIn (SideReads B (D.told disk.old).seen side)) }
+{
+    let _sectors = disk.sectors();
+    let (crc, entries) = match read_entries(alloc, disk, header.array, header.count) {
+        Ok(read) => read,
+        Err(e) => return Err(e),
+    };
+    if crc != header.array_crc {
+        return Err(CopyError::ArrayCrc);
+    }
+    Ok(Table {
+        disk: header.disk,
+        first: header.first,
+        last: header.last,
+        entries,
+    })
+}
+
+/// The table of a side's copy, on a disk with room for two.
+///
+/// Of errors 1 to 9 the first that holds; `Device` where a read failed, and `Memory` where there was none for the
+/// entries. AlternateLBA isn't looked at.
+pub fn read_copy<const B: usize, D: Disk<B>>(alloc: Global, disk: &mut D, side: Side) -> Result<Table, CopyError>
+    requires size { IsSectorSize B }
+    requires room { 2 * array_len B + 4 ≤ D.count disk.old }
+    ensures count { D.count disk.new ≡ D.count disk.old }
+    ensures name { D.name disk.new ≡ D.name disk.old }
+    ensures reads { D.reads disk.old disk.new }
+    ensures quiet { OnOk result (D.failures disk.new ≡ D.failures disk.old) }
+    ensures failed { IfErr result (λ e. FailedAs e (D.failures disk.old) (D.failures disk.new)) }
+    ensures same { D.tells → D.told disk.new ≡ D.told disk.old }
+    ensures ok { D.tells → IfOk result (λ t. Copy B (D.told disk.old).seen side t) }
+    ensures err { D.tells → IfErr result (λ e. TellsFault B (D.told disk.old).seen side e) }
+    ensures place { D.tells → IfErr result (FailedIn (SideReads B (D.told disk.old).seen side)) }
+{
+    match read_head(disk, side) {
+        Ok(header) => read_table(alloc, disk, side, &header),
+        Err(e) => Err(e),
+    }
+}

@@ -1,0 +1,73 @@
+//! Reading the entries of an array, sector by sector.
+
+ghost use Rattle.std.specs.Prelude.{◌≡◌, ◌+◌, ◌*◌, ◌/◌, ◌<◌, ◌≤◌, ◌^◌, ◌++◌, IfOk, IfErr, OnOk, List, Option, length, take, vec_len, vec_capacity};
+ghost use Rattle.pt_sum.specs.Crc.{crc_of};
+ghost use Rattle.pt_sector.specs.Sectors.{IsSectorSize};
+ghost use Rattle.pt_gpt.specs.Errors.{IsOutside, FailedAs, FailedIn};
+ghost use Rattle.pt_gpt.specs.Array.{counted, AreEntries};
+ghost use Rattle.pt_gpt.specs.Copy.{bytes_from};
+ghost use Rattle.pt_gpt.specs.declared.entry.Entry.{Entry};
+
+use std::alloc::Global;
+
+use pt_sector::{Disk, Lba};
+use pt_sum::Crc;
+
+use crate::entry::Entry;
+use crate::error::CopyError;
+use crate::place::counted_sectors;
+use crate::table::Entries;
+use crate::view::{ENTRY_SIZE, EntryView};
+
+// Adds the entries of a part of the array. There is room for them.
+fn push_entries(items: &mut Vec<Option<Entry>>, part: &[u8])
+    requires whole { length part.now ≡ length part.now / 128 * 128 }
+    requires room { vec_len items.old + length part.now / 128 ≤ vec_capacity items.old }
+    ensures entries { (es : List (Option Entry)) × AreEntries es part.now × (items.new.items ≡ items.old.items ++ es) }
+    ensures len { vec_len items.new ≡ vec_len items.old + length part.now / 128 }
+    ensures capacity { vec_capacity items.new ≡ vec_capacity items.old }
+{
+    for k in 0..part.len() / ENTRY_SIZE {
+        items.push_reserved(EntryView::in_part(part, k).entry());
+    }
+}
+
+// The CRC and the entries of the array from sector `at` on. All memory is taken before the first read.
+pub(crate) fn read_entries<const B: usize, D: Disk<B>>(alloc: Global, disk: &mut D, at: u64, count: u32) -> Result<(u32, Entries), CopyError>
+    requires size { IsSectorSize B }
+    requires most { count ≤ 128 }
+    requires fits { at + counted B count < 2 ^ 64 }
+    requires within { at + counted B count ≤ D.count disk.old }
+    ensures count { D.count disk.new ≡ D.count disk.old }
+    ensures name { D.name disk.new ≡ D.name disk.old }
+    ensures reads { D.reads disk.old disk.new }
+    ensures quiet { OnOk result (D.failures disk.new ≡ D.failures disk.old) }
+    ensures failed { IfErr result (λ e. FailedAs e (D.failures disk.old) (D.failures disk.new)) }
+    ensures outside { IfErr result IsOutside }
+    ensures place { IfErr result (FailedIn (λ s. (at ≤ s) × (s < at + counted B count))) }
+    ensures number { IfOk result (λ r. length r.1 ≡ count) }
+    ensures same { D.tells → D.told disk.new ≡ D.told disk.old }
+    ensures crc { D.tells → IfOk result (λ r. r.0 ≡ crc_of (take (count * 128) (bytes_from (D.told disk.old).seen at (counted B count)))) }
+    ensures entries { D.tells → IfOk result (λ r. AreEntries r.1 (take (count * 128) (bytes_from (D.told disk.old).seen at (counted B count)))) }
+{
+    let mut items = match Vec::with_capacity(alloc, count as usize) {
+        Ok(items) => items,
+        Err(_) => return Err(CopyError::Memory),
+    };
+    let mut sum = Crc::new();
+    let mut left = count as usize * ENTRY_SIZE;
+    let mut sector = [0; B];
+    for i in 0..counted_sectors::<B>(count) {
+        match disk.read(Lba(at + i), &mut sector) {
+            Ok(()) => {}
+            Err(_) => return Err(CopyError::Device(Lba(at + i))),
+        }
+        let whole = &sector[..];
+        let taken = left.min(B);
+        let part = &whole[..taken];
+        sum.update(part);
+        push_entries(&mut items, part);
+        left -= taken;
+    }
+    Ok((sum.value(), Entries::new(items)))
+}

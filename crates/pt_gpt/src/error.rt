@@ -1,0 +1,57 @@
+//! Why a copy of the table can't be read.
+
+ghost use Rattle.std.specs.Prelude.{◌≡◌, ◌↔◌, IsTrue};
+ghost use Rattle.pt_gpt.specs.Errors.{error_number, IsOutside};
+
+use pt_sector::Lba;
+
+/// Why a copy of the table can't be read: of the first nine the first that holds, in this order.
+///
+/// A header's fields are those of UEFI 2.10, 5.3.2. `B` is the number of bytes of a sector, N the number of sectors
+/// and A the number of sectors of 128 entries, 16384 / `B`.
+#[derive(Clone, Copy, Debug, PartialEq, Eq)]
+pub enum CopyError {
+    /// The header's sector doesn't begin with "EFI PART".
+    Signature,
+    /// The revision isn't 1.0.
+    Revision,
+    /// The header's size isn't from 92 to `B`.
+    HeaderSize,
+    /// The header has another CRC-32 than it says.
+    HeaderCrc,
+    /// MyLBA isn't the sector where the header stands.
+    MyLba,
+    /// The array doesn't begin beside the header: in sector 2, or in sector N - A - 1.
+    ArrayPlace,
+    /// The number of entries isn't from 1 to 128, or their size isn't 128.
+    EntryShape,
+    /// Not A + 2 <= first usable <= last usable <= N - A - 2.
+    UsableRange,
+    /// The array has another CRC-32 than the header says.
+    ArrayCrc,
+    /// The device failed at this sector.
+    Device(Lba),
+    /// There was no memory for the entries.
+    Memory,
+}
+
+impl CopyError {
+    /// The number that stands for it in what is printed, from 1 to 11 in the order of the variants.
+    pub fn number(self) -> u8
+        ensures { result ≡ error_number self }
+    {
+        match self {
+            CopyError::Signature => 1,
+            CopyError::Revision => 2,
+            CopyError::HeaderSize => 3,
+            CopyError::HeaderCrc => 4,
+            CopyError::MyLba => 5,
+            CopyError::ArrayPlace => 6,
+            CopyError::EntryShape => 7,
+            CopyError::UsableRange => 8,
+            CopyError::ArrayCrc => 9,
+            CopyError::Device(_) => 10,
+            CopyError::Memory => 11,
+        }
+    }
+}

@@ -1,0 +1,67 @@
+//! What is true of every disk and all bytes: empty functions whose contracts are the laws.
+//!
+//! The terms that they stand on are in specs/Laws.antt, for contracts above to cite.
+
+ghost use Rattle.std.specs.Prelude.{◌≡◌, ◌≤◌, ◌⊎◌, ◌↔◌, ℕ, List, Option, length};
+ghost use Rattle.pt_sector.specs.Sectors.{Sectors, Agrees};
+ghost use Rattle.pt_gpt.specs.Header.{HeaderBytes, IsHeaderFault};
+ghost use Rattle.pt_gpt.specs.Entry.{EntryBytes};
+ghost use Rattle.pt_gpt.specs.Array.{AreEntries, AllTyped};
+ghost use Rattle.pt_gpt.specs.Copy.{header_place, IsHead, IsHeadFault, Copy, HasCopy, IsCopyFault, InArray, SideReads, SameSide};
+ghost use Rattle.pt_gpt.specs.declared.header.Header.{Header};
+ghost use Rattle.pt_gpt.specs.declared.entry.Entry.{Entry};
+ghost use Rattle.pt_gpt.specs.declared.error.CopyError.{CopyError};
+ghost use Rattle.pt_gpt.specs.declared.table.Side.{Side};
+ghost use Rattle.pt_gpt.specs.declared.table.Table.{Table};
+
+/// Bytes are one header at most.
+pub fn header_is_one()
+    ensures { (b : ℕ) (h k : Header) (bytes : List ℕ) → HeaderBytes b h bytes → HeaderBytes b k bytes → h ≡ k }
+{
+}
+
+/// Bytes with a header's fault are no header.
+pub fn no_header()
+    ensures { (b : ℕ) (e : CopyError) (h : Header) (bytes : List ℕ) → IsHeaderFault b e bytes → ¬ HeaderBytes b h bytes }
+{
+}
+
+/// Bytes are one entry at most, and one list of entries at most.
+pub fn entry_is_one()
+    ensures one { (e f : Entry) (bytes : List ℕ) → EntryBytes e bytes → EntryBytes f bytes → e ≡ f }
+    ensures all { (es fs : List (Option Entry)) (bytes : List ℕ) → AreEntries es bytes → AreEntries fs bytes → es ≡ fs }
+{
+}
+
+/// A side has one copy at most.
+pub fn copy_is_one()
+    ensures { (b : ℕ) (d : Sectors) (side : Side) (t u : Table) → Copy b d side t → Copy b d side u → t ≡ u }
+{
+}
+
+/// A side with a fault has no copy, and with a header's fault no header of a table.
+pub fn no_copy()
+    ensures copy { (b : ℕ) (d : Sectors) (side : Side) (e : CopyError) → IsCopyFault b d side e → ¬ HasCopy b d side }
+    ensures head { (b : ℕ) (d : Sectors) (side : Side) (e : CopyError) (h : Header) → IsHeadFault b d side e → ¬ IsHead b d side h }
+{
+}
+
+/// A disk that agrees with another on the sectors that decide a side has the same there.
+pub fn side_reads_decide()
+    ensures { (b : ℕ) (side : Side) (c d : Sectors) → Agrees (SideReads b d side) c d → SameSide b side c d }
+{
+}
+
+/// Which sectors decide a side: where its header stands, that one and the counted ones of its array; else that one.
+pub fn side_reads_are()
+    ensures head { (b : ℕ) (d : Sectors) (side : Side) (h : Header) → IsHead b d side h → (s : ℕ) → SideReads b d side s ↔ ((s ≡ header_place side (length d)) ⊎ InArray b h s) }
+    ensures fault { (b : ℕ) (d : Sectors) (side : Side) (e : CopyError) → IsHeadFault b d side e → (s : ℕ) → SideReads b d side s ↔ (s ≡ header_place side (length d)) }
+{
+}
+
+/// A copy has from 1 to 128 entries, and each that is used has a type.
+pub fn copy_is_shaped()
+    ensures count { (b : ℕ) (d : Sectors) (side : Side) (t : Table) → Copy b d side t → (1 ≤ length t.entries) × (length t.entries ≤ 128) }
+    ensures typed { (b : ℕ) (d : Sectors) (side : Side) (t : Table) → Copy b d side t → AllTyped t.entries }
+{
+}

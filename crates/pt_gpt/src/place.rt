@@ -1,0 +1,84 @@
+//! Where the parts of a copy stand.
+
+ghost use Rattle.std.specs.Prelude.{◌≡◌, ◌+◌, ◌*◌, ◌≤◌, OnOk, IfErr};
+ghost use Rattle.pt_sector.specs.Sectors.{IsSectorSize};
+ghost use Rattle.pt_gpt.specs.Array.{array_len, counted};
+ghost use Rattle.pt_gpt.specs.Copy.{header_place, array_place, IsPlaced, IsPlaceFault};
+
+use crate::error::CopyError;
+use crate::header::Header;
+use crate::table::Side;
+use crate::view::ENTRY_SIZE;
+
+/// The most entries that a table has, and the number that this project makes.
+pub(crate) const MOST_ENTRIES: u32 = 128;
+
+/// How many bytes an array of that many entries takes.
+const ARRAY_SIZE: u64 = 16384;
+
+/// How many sectors an array of 128 entries takes: 32 of 512 bytes, or 4 of 4096.
+pub fn array_sectors<const B: usize>() -> u64
+    requires { IsSectorSize B }
+    ensures value { result ≡ array_len B }
+    ensures few { result ≤ 32 }
+{
+    ARRAY_SIZE / B as u64
+}
+
+/// How many sectors an array of `count` entries takes.
+pub fn counted_sectors<const B: usize>(count: u32) -> u64
+    requires size { IsSectorSize B }
+    requires most { count ≤ 128 }
+    ensures value { result ≡ counted B count }
+    ensures enough { count * 128 ≤ result * B }
+    ensures few { result ≤ array_len B }
+    ensures some { 1 ≤ count → 1 ≤ result }
+{
+    (u64::from(count) * ENTRY_SIZE as u64 + (B as u64 - 1)) / B as u64
+}
+
+/// The sector of a side's header on a disk of so many sectors.
+pub fn header_at(side: Side, sectors: u64) -> u64
+    requires { 2 ≤ sectors }
+    ensures { result ≡ header_place side sectors }
+{
+    match side {
+        Side::Primary => 1,
+        Side::Backup => sectors - 1,
+    }
+}
+
+/// The first sector of a side's array on a disk of so many sectors.
+pub fn array_at<const B: usize>(side: Side, sectors: u64) -> u64
+    requires size { IsSectorSize B }
+    requires room { 2 * array_len B + 4 ≤ sectors }
+    ensures { result ≡ array_place B side sectors }
+{
+    match side {
+        Side::Primary => 2,
+        Side::Backup => sectors - (array_sectors::<B>() + 1),
+    }
+}
+
+// Whether a header's fields are those of a table on this side, or the first rule that they break.
+pub(crate) fn check_place<const B: usize>(header: &Header, side: Side, sectors: u64) -> Result<(), CopyError>
+    requires size { IsSectorSize B }
+    requires room { 2 * array_len B + 4 ≤ sectors }
+    ensures ok { OnOk result (IsPlaced B side sectors header.now) }
+    ensures err { IfErr result (λ e. IsPlaceFault B side sectors header.now e) }
+{
+    if header.my != header_at(side, sectors) {
+        return Err(CopyError::MyLba);
+    }
+    if header.array != array_at::<B>(side, sectors) {
+        return Err(CopyError::ArrayPlace);
+    }
+    if header.count < 1 || header.count > MOST_ENTRIES || header.entry_size != ENTRY_SIZE as u32 {
+        return Err(CopyError::EntryShape);
+    }
+    let edge = array_sectors::<B>() + 2;
+    if header.first < edge || header.first > header.last || header.last > sectors - edge {
+        return Err(CopyError::UsableRange);
+    }
+    Ok(())
+}

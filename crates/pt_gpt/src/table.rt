@@ -1,0 +1,99 @@
+//! Tables and their entries.
+
+ghost use Rattle.std.specs.Prelude.{◌≡◌, ◌<◌, List, Option, IfOk, length, slice_index_or, slice_set, None};
+ghost use Rattle.pt_gpt.specs.declared.entry.Entry.{Entry};
+
+use std::alloc::{AllocError, Global};
+use std::marker::Model;
+use std::slice::Iter;
+
+use pt_guid::Guid;
+
+use crate::entry::Entry;
+
+/// Which of the two copies: the one at the disk's first sectors, or the one at its last.
+#[derive(Clone, Copy, Debug, PartialEq, Eq)]
+pub enum Side {
+    Primary,
+    Backup,
+}
+
+/// The entries of a table in order, none where one is unused. A clause sees them as a list.
+#[derive(Drop)]
+pub struct Entries {
+    items: Vec<Option<Entry>>,
+}
+
+impl Model for Entries {
+    ghost Value = { List (Option Entry) };
+
+    ghost view = { λ e. e.items.items };
+}
+
+impl Entries {
+    /// The entries of a list.
+    pub fn new(items: Vec<Option<Entry>>) -> Entries
+        ensures { result ≡ items.items }
+    {
+        Entries { items }
+    }
+
+    /// The list of the entries.
+    pub fn into_vec(self) -> Vec<Option<Entry>>
+        ensures { result.items ≡ self }
+    {
+        self.items
+    }
+
+    /// How many there are.
+    pub fn len(&self) -> usize
+        ensures { result ≡ length self.now }
+    {
+        self.items.len()
+    }
+
+    /// All of them.
+    pub fn as_slice(&self) -> &[Option<Entry>]
+        ensures { result.now ≡ self.now }
+    {
+        self.items.as_slice()
+    }
+
+    /// Entry `index`, from 0 on.
+    pub fn get(&self, index: usize) -> Option<Entry>
+        requires { index < length self.now }
+        ensures { result ≡ slice_index_or self.now index None }
+    {
+        self.items[index]
+    }
+
+    /// Puts another in the place of entry `index`.
+    pub fn set(&mut self, index: usize, entry: Option<Entry>)
+        requires { index < length self.old }
+        ensures { self.new ≡ slice_set self.old index entry }
+    {
+        self.items[index] = entry;
+    }
+
+    /// An equal list in memory of its own; an error only where there is none.
+    pub fn copy(&self, alloc: Global) -> Result<Entries, AllocError>
+        ensures { IfOk result (λ entries. entries ≡ self.now) }
+    {
+        let mut items = Vec::with_capacity(alloc, self.items.len())?;
+        items.extend_from_slice(self.items.as_slice())?;
+        Ok(Entries { items })
+    }
+}
+
+/// A GUID partition table, without the places of its copies.
+#[derive(Drop)]
+pub struct Table {
+    /// The disk's GUID.
+    pub disk: Guid,
+    /// The first usable sector.
+    pub first: u64,
+    /// The last usable sector.
+    pub last: u64,
+    /// The entries, numbered from 1 in what is printed.
+    pub entries: Entries,
+}

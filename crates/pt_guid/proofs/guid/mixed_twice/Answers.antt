@@ -1,0 +1,5 @@
+use Rattle.pt_guid.specs.Laws.{mixed_twice}
+use Rattle.pt_guid.proofs.guid.mixed_twice.Goals as goal
+
+pub returns : goal.returns
+returns c = mixed_twice

@@ -1,0 +1,4 @@
+pub mod Mixed
+pub mod Codes
+pub mod Fresh
+pub mod Laws

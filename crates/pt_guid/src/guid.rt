@@ -1,0 +1,96 @@
+//! GUIDs, their texts, and fresh ones.
+
+ghost use Rattle.std.specs.Prelude.{◌≡◌, ◌<◌, ◌↔◌, ℕ, List, All, IsTrue, IfOk, IfErr, Some, None, length, replicate};
+ghost use Rattle.uuid.specs.Text.{hyphenated_text, lower};
+ghost use Rattle.pt_guid.specs.Mixed.{mixed, stored_of, text_of};
+ghost use Rattle.pt_guid.specs.Fresh.{fresh_of};
+
+use uuid::Uuid;
+use uuid::fmt::Hyphenated;
+
+/// A GUID, by its sixteen bytes as a disk stores them: those of the first three fields of its text are turned round, field by field
+/// (UEFI 2.10, Appendix A).
+#[derive(Clone, Copy, Debug, PartialEq, Eq)]
+pub struct Guid(pub [u8; 16]);
+
+/// Why a text is no GUID.
+#[derive(Clone, Copy, Debug, PartialEq, Eq)]
+pub enum GuidError {
+    /// The text isn't 32 hexadecimal digits in groups of 8, 4, 4, 4 and 12 with hyphens between.
+    NotAGuid,
+}
+
+/// The GUID of a text such as `c12a7328-f81f-11d2-ba4b-00a0c93ec93b`. Digits may be of either case; there are no braces, and no hyphen
+/// is left out.
+pub fn parse(text: &str) -> Result<Guid, GuidError>
+    ensures ok { IfOk result (λ guid. stored_of text.now ≡ Some guid.0) }
+    ensures err { IfErr result (λ _. stored_of text.now ≡ None) }
+{
+    // The parser knows three more forms, each of another length.
+    if text.len() != 36 {
+        return Err(GuidError::NotAGuid);
+    }
+    match Uuid::parse_str(text) {
+        Ok(id) => Ok(Guid(id.to_bytes_le())),
+        Err(_) => Err(GuidError::NotAGuid),
+    }
+}
+
+// The bytes in the order of the text.
+fn in_text_order(stored: &[u8; 16]) -> Hyphenated
+    ensures value { result ≡ mixed stored.now }
+    ensures whole { length stored.now ≡ 16 }
+    ensures bytes { All (λ byte. byte < 256) stored.now }
+{
+    Uuid::from_bytes_le(*stored).hyphenated()
+}
+
+// The text of bytes in its order.
+fn write_text<'b>(bytes: &Hyphenated, buffer: &'b mut [u8; 36]) -> &'b str
+    ensures { result.now ≡ hyphenated_text lower bytes.now }
+{
+    bytes.encode_lower(buffer)
+}
+
+impl Guid {
+    /// The text in lower case, written into the buffer.
+    pub fn to_text<'b>(&self, buffer: &'b mut [u8; 36]) -> &'b str
+        ensures text { result.now ≡ text_of self.now.0 }
+        ensures read { stored_of result.now ≡ Some self.now.0 }
+    {
+        let bytes = in_text_order(&self.0);
+        write_text(&bytes, buffer)
+    }
+
+    /// Whether all its bytes are zero, as those of the type of an unused entry.
+    pub fn is_zero(&self) -> bool
+        ensures { IsTrue result ↔ (self.now.0 ≡ replicate 16 0) }
+    {
+        self.0 == [0; 16]
+    }
+}
+
+/// The GUID of version 4 that is made of 16 drawn bytes, given in the order of the text: the upper half of byte 6 becomes 4, and the
+/// two upper bits of byte 8 become 10.
+pub fn fresh(mut drawn: [u8; 16]) -> Guid
+    ensures { result.0 ≡ fresh_of drawn }
+{
+    drawn[6] = (drawn[6] & 0x0F) | 0x40;
+    drawn[8] = (drawn[8] & 0x3F) | 0x80;
+    Guid(Uuid::from_bytes(drawn).to_bytes_le())
+}
+
+/// Sixteen bytes that are rearranged twice are as before.
+pub fn mixed_twice()
+    ensures { (bytes : List ℕ) → length bytes ≡ 16 → mixed (mixed bytes) ≡ bytes }
+{}
+
+/// A text stands for one GUID.
+pub fn one_value()
+    ensures { (text a b : List ℕ) → stored_of text ≡ Some a → stored_of text ≡ Some b → a ≡ b }
+{}
+
+/// The text of a GUID stands for it.
+pub fn text_reads_back()
+    ensures { (stored : List ℕ) → length stored ≡ 16 → All (λ byte. byte < 256) stored → stored_of (text_of stored) ≡ Some stored }
+{}

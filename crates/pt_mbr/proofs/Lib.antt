@@ -1,0 +1,4 @@
+pub mod Walks
+pub mod Ones
+pub mod Frame
+pub mod Reading

@@ -1,0 +1,26 @@
+use Rattle.std.proofs.Common.{subst, List, ℕ}
+use Rattle.pt_mbr.specs.Ebr.{IsEbrFault}
+use Rattle.pt_mbr.specs.Chain.{span_of}
+use Rattle.pt_mbr.specs.declared.ebr.EbrFault.{EbrFault}
+use Rattle.pt_mbr.specs.declared.ebr.EbrFault.TheVariants as ebr
+use Rattle.pt_mbr.proofs.Walks.{no_signature, bad_record, device, inside_same}
+use Rattle.pt_mbr.proofs.chain.read_ebr.Goals as goal
+
+pub returns-in-Err-clause-err : goal.returns-in-Err-clause-err
+returns-in-Err-clause-err g c tells list few walk =
+    device (g.D.Disk.told c.args.disk.now).seen (span_of c.args.extent.now) list c.args.at walk few
+    (inside_same _ _ _ c.args.at (g.met.D.Disk.sized c.args.disk.now tells) c.requires.inside)
+
+pub returns-in-Err-NoSignature-clause-err : goal.returns-in-Err-NoSignature-clause-err
+returns-in-Err-NoSignature-clause-err g c tells list few walk =
+    no_signature (g.D.Disk.told c.args.disk.now).seen (span_of c.args.extent.now) list c.args.at walk few
+    (inside_same _ _ _ c.args.at (g.met.D.Disk.sized c.args.disk.now tells) c.requires.inside)
+    (subst (λ (b : List ℕ). IsEbrFault ebr.NoSignature b) (c.in-Ok.ensures.bytes tells)
+    (subst (λ (f : EbrFault). IsEbrFault f c.read.new.into) c.in-Err-NoSignature.field-0-is c.in-Err-NoSignature.ensures.err))
+
+pub returns-in-Err-BadRecord-clause-err : goal.returns-in-Err-BadRecord-clause-err
+returns-in-Err-BadRecord-clause-err g c tells list few walk =
+    bad_record (g.D.Disk.told c.args.disk.now).seen (span_of c.args.extent.now) list c.args.at walk few
+    (inside_same _ _ _ c.args.at (g.met.D.Disk.sized c.args.disk.now tells) c.requires.inside)
+    (subst (λ (b : List ℕ). IsEbrFault ebr.BadRecord b) (c.in-Ok.ensures.bytes tells)
+    (subst (λ (f : EbrFault). IsEbrFault f c.read.new.into) c.in-Err-BadRecord.field-0-is c.in-Err-BadRecord.ensures.err))

@@ -1,0 +1,5 @@
+use Rattle.pt_mbr.proofs.Ones.{mbr_one}
+use Rattle.pt_mbr.proofs.laws.mbr_is_one.Goals as goal
+
+pub returns : goal.returns
+returns c = mbr_one

@@ -1,0 +1,36 @@
+-- Partition records, byte by byte.
+use Rattle.std.specs.Prelude.{◌≡◌, ◌≢◌, ◌⊎◌, ◌+◌, ◌*◌, ◌++◌, ◌∷◌, ℕ, List, slice_index, slice_range, replicate, Option, Some, None}
+use Rattle.byteorder.specs.Endian.{little_bytes}
+use Rattle.pt_mbr.specs.Bytes.{number_at}
+use Rattle.pt_mbr.specs.declared.record.Record.{Record}
+
+-- where record k stands, k from 0 to 3
+abbrev pub place_of : ℕ → ℕ
+place_of k = 446 + 16 * k
+
+-- a record is used where neither its type nor its size is 0
+abbrev pub IsUsed : ℕ → List ℕ → Type 0
+IsUsed at b = (slice_index b (at + 4) ≢ 0) × (number_at (at + 12) 4 b ≢ 0)
+
+-- the fields that stand from a place on
+pub record HasFields (r : Record) (at : ℕ) (b : List ℕ) : Type 0 where
+  pub boot : slice_index b at ≡ r.boot
+  pub start_chs : slice_range b (at + 1) (at + 4) ≡ r.start_chs
+  pub kind : slice_index b (at + 4) ≡ r.kind
+  pub end_chs : slice_range b (at + 5) (at + 8) ≡ r.end_chs
+  pub start : number_at (at + 8) 4 b ≡ r.start
+  pub size : number_at (at + 12) 4 b ≡ r.size
+
+-- the record that stands there, none where it is unused
+abbrev pub RecordIs : Option Record → ℕ → List ℕ → Type 0
+RecordIs None at b = ¬ IsUsed at b
+RecordIs (Some r) at b = IsUsed at b × HasFields r at b
+
+-- the types of an extended partition
+abbrev pub IsExtendedKind : ℕ → Type 0
+IsExtendedKind kind = (kind ≡ 0x05) ⊎ (kind ≡ 0x0F)
+
+-- the 16 bytes of a record, its fields in order, and of none
+unfoldable pub record_bytes : Option Record → List ℕ
+record_bytes None = replicate 16 0
+record_bytes (Some r) = (r.boot ∷ r.start_chs) ++ (r.kind ∷ r.end_chs) ++ little_bytes 4 r.start ++ little_bytes 4 r.size

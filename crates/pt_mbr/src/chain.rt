@@ -1,0 +1,201 @@
+ghost use Rattle.std.specs.Prelude.{◌≡◌, ◌+◌, ◌<◌, ◌≤◌, ◌^◌, ◌↔◌, ◌⊎◌, [], List, Some, IfSome, IfOk, IfErr, OnOk, OnErr, ℕ, length, IsTrue};
+ghost use Rattle.arrayvec.specs.ArrayVec.{array_vec_len};
+ghost use Rattle.pt_sector.specs.Sectors.{IsSectorSize, Span};
+ghost use Rattle.pt_mbr.specs.declared.ebr.Ebr.{Ebr};
+ghost use Rattle.pt_mbr.specs.Chain.{lba, span_of, IsInside, EbrAt, FaultAt, Walk, Chain, ChainFault, ChainReads, StandsAt, ReadsAre, FailedAs};
+ghost use Rattle.pt_mbr.specs.Decoded.{EndsIn, StepsTo, StepsOut};
+
+use crate::ebr::{Ebr, EbrFault, decode_ebr};
+use arrayvec::ArrayVec;
+use pt_sector::{Disk, Extent, Lba, Sector};
+
+/// Why an extended partition has no chain. The first fault on the way is told; the place is that of the extended boot
+/// record at fault.
+#[derive(Clone, Copy, Debug, PartialEq, Eq)]
+pub enum ChainError {
+    /// Its bytes 510 and 511 aren't 55 AA.
+    NoSignature(Lba),
+    /// One of its records may not stand in an extended boot record: [`EbrFault::BadRecord`].
+    BadRecord(Lba),
+    /// It links to itself or to a sector below.
+    NotUpward(Lba),
+    /// The place of an extended boot record that isn't in the extended partition or isn't on the disk.
+    OutsideExtended(Lba),
+    /// The 128th extended boot record links to one more.
+    TooLong,
+    /// The device failed to read this sector.
+    Device(Lba),
+}
+
+fn first_of(extent: &Extent) -> Lba
+    ensures start { result ≡ lba (span_of extent.now).first }
+    ensures small { result.0 < 2 ^ 63 }
+{
+    extent.first()
+}
+
+fn is_inside(extent: &Extent, sectors: u64, at: Lba) -> bool
+    ensures { IsTrue result ↔ IsInside (span_of extent.now) sectors at }
+{
+    extent.first().0 <= at.0 && at.0 <= extent.last().0 && at.0 < sectors
+}
+
+// The extended boot record at a place that some others lead to.
+fn read_ebr<const B: usize, D: Disk<B>>(
+    disk: &mut D,
+    extent: &Extent,
+    at: Lba,
+) -> Result<Ebr, ChainError>
+    requires size { IsSectorSize B }
+    requires inside { IsInside (span_of extent.now) (D.count disk.old) at }
+    ensures count { D.count disk.new ≡ D.count disk.old }
+    ensures name { D.name disk.new ≡ D.name disk.old }
+    ensures reads { D.reads disk.old disk.new }
+    ensures quiet { OnOk result (D.failures disk.new ≡ D.failures disk.old) }
+    ensures failed { IfErr result (λ e. FailedAs e (D.failures disk.old) (D.failures disk.new)) }
+    ensures same { D.tells → D.told disk.new ≡ D.told disk.old }
+    ensures ok { D.tells → IfOk result (λ e. EbrAt (D.told disk.old).seen (span_of extent.now) at e) }
+    ensures err { D.tells → IfErr result (λ e. (list : List Ebr) → length list < 128 → Walk (D.told disk.old).seen (span_of extent.now) (Some (lba (span_of extent.now).first)) list (Some at) → EndsIn (D.told disk.old).seen (span_of extent.now) list e) }
+{
+    let mut sector = [0; B];
+    match disk.read(at, &mut sector) {
+        Ok(()) => {}
+        Err(_) => return Err(ChainError::Device(at)),
+    }
+    match decode_ebr(&sector, first_of(extent), at) {
+        Ok(ebr) => Ok(ebr),
+        Err(EbrFault::NoSignature) => Err(ChainError::NoSignature(at)),
+        Err(EbrFault::BadRecord) => Err(ChainError::BadRecord(at)),
+    }
+}
+
+// One more extended boot record: where the next one stands, none at the chain's end.
+fn step<const B: usize, D: Disk<B>>(
+    disk: &mut D,
+    extent: &Extent,
+    at: Lba,
+    list: &mut ArrayVec<Ebr, 128>,
+) -> Result<Option<Lba>, ChainError>
+    requires size { IsSectorSize B }
+    requires inside { IsInside (span_of extent.now) (D.count disk.old) at }
+    requires room { array_vec_len list.old < 128 }
+    ensures count { D.count disk.new ≡ D.count disk.old }
+    ensures name { D.name disk.new ≡ D.name disk.old }
+    ensures reads { D.reads disk.old disk.new }
+    ensures quiet { OnOk result (D.failures disk.new ≡ D.failures disk.old) }
+    ensures failed { IfErr result (λ e. FailedAs e (D.failures disk.old) (D.failures disk.new)) }
+    ensures same { D.tells → D.told disk.new ≡ D.told disk.old }
+    ensures one_more { OnOk result (array_vec_len list.new ≡ array_vec_len list.old + 1) }
+    ensures next { IfOk result (λ o. IfSome o (λ next. IsInside (span_of extent.now) (D.count disk.old) next)) }
+    ensures ok { D.tells → IfOk result (λ o. StepsTo (D.told disk.old).seen (span_of extent.now) list.old.items at list.new.items o) }
+    ensures err { D.tells → IfErr result (λ e. StepsOut (D.told disk.old).seen (span_of extent.now) list.old.items at list.new.items e) }
+{
+    let sectors = disk.sectors();
+    let ebr = match read_ebr(disk, extent, at) {
+        Ok(ebr) => ebr,
+        Err(e) => return Err(e),
+    };
+    list.push(ebr);
+    let next = match ebr.next {
+        Some(next) => next,
+        None => return Ok(None),
+    };
+    if next.0 <= at.0 {
+        return Err(ChainError::NotUpward(at));
+    }
+    if !is_inside(extent, sectors, next) {
+        return Err(ChainError::OutsideExtended(next));
+    }
+    Ok(Some(next))
+}
+
+// The chain, or the fault that ends the way, with what was decoded up to there.
+fn follow<const B: usize, D: Disk<B>>(
+    disk: &mut D,
+    extent: &Extent,
+    list: &mut ArrayVec<Ebr, 128>,
+) -> Result<(), ChainError>
+    requires size { IsSectorSize B }
+    requires empty { list.old.items ≡ [] }
+    ensures count { D.count disk.new ≡ D.count disk.old }
+    ensures name { D.name disk.new ≡ D.name disk.old }
+    ensures reads { D.reads disk.old disk.new }
+    ensures quiet { OnOk result (D.failures disk.new ≡ D.failures disk.old) }
+    ensures failed { IfErr result (λ e. FailedAs e (D.failures disk.old) (D.failures disk.new)) }
+    ensures same { D.tells → D.told disk.new ≡ D.told disk.old }
+    ensures ok { D.tells → OnOk result (Chain (D.told disk.old).seen (span_of extent.now) list.new.items) }
+    ensures err { D.tells → IfErr result (λ e. EndsIn (D.told disk.old).seen (span_of extent.now) list.new.items e) }
+{
+    let sectors = disk.sectors();
+    let mut at = first_of(extent);
+    if !is_inside(extent, sectors, at) {
+        return Err(ChainError::OutsideExtended(at));
+    }
+    for _ in 0..128u32 {
+        match step(disk, extent, at, list) {
+            Ok(Some(next)) => at = next,
+            Ok(None) => return Ok(()),
+            Err(e) => return Err(e),
+        }
+    }
+    Err(ChainError::TooLong)
+}
+
+/// Reads the chain of the extended partition `extent` into `list`, which is empty: in order, each extended boot record
+/// once.
+///
+/// After an `Err` the list holds those that were decoded up to the fault, that of `NotUpward` and the 128th of
+/// `TooLong` among them. The sectors read are those of the list and, of `NoSignature` and `BadRecord`, the one at
+/// fault; none that `OutsideExtended` names is read.
+#[tactic(auto, using(crate::proofs::Reading::reads_are))]
+pub fn walk_chain<const B: usize, D: Disk<B>>(
+    disk: &mut D,
+    extent: &Extent,
+    list: &mut ArrayVec<Ebr, 128>,
+) -> Result<(), ChainError>
+    requires size { IsSectorSize B }
+    requires empty { list.old.items ≡ [] }
+    ensures count { D.count disk.new ≡ D.count disk.old }
+    ensures name { D.name disk.new ≡ D.name disk.old }
+    ensures reads { D.reads disk.old disk.new }
+    ensures quiet { OnOk result (D.failures disk.new ≡ D.failures disk.old) }
+    ensures failed { IfErr result (λ e. FailedAs e (D.failures disk.old) (D.failures disk.new)) }
+    ensures same { D.tells → D.told disk.new ≡ D.told disk.old }
+    ensures ok { D.tells → OnOk result (Chain (D.told disk.old).seen (span_of extent.now) list.new.items) }
+    ensures err { D.tells → IfErr result (λ e. ChainFault (D.told disk.old).seen (span_of extent.now) e) }
+    ensures decoded { D.tells → IfErr result (λ e. EndsIn (D.told disk.old).seen (span_of extent.now) list.new.items e) }
+    ensures read_ok { D.tells → OnOk result ((s : ℕ) → ChainReads (D.told disk.old).seen (span_of extent.now) s ↔ StandsAt s list.new.items) }
+    ensures read_err { D.tells → IfErr result (λ e. ReadsAre (D.told disk.old).seen (span_of extent.now) list.new.items e) }
+{
+    match follow(disk, extent, list) {
+        Ok(()) => Ok(()),
+        Err(e) => Err(e),
+    }
+}
+
+/// Reads the chain of an extended partition: its extended boot records in order, each read once, the empty ones too.
+///
+/// The first stands in the extent's first sector; links lead upward, within the extent; there are at most 128. It
+/// takes no memory. An `Err` is the first fault on the way: at each place first whether it is inside the extent and on
+/// the disk, then what the device says, the signature, the records, and of its link whether it leads upward, inside,
+/// and to a 129th.
+pub fn read_chain<const B: usize, D: Disk<B>>(
+    disk: &mut D,
+    extent: Extent,
+) -> Result<ArrayVec<Ebr, 128>, ChainError>
+    requires size { IsSectorSize B }
+    ensures count { D.count disk.new ≡ D.count disk.old }
+    ensures name { D.name disk.new ≡ D.name disk.old }
+    ensures reads { D.reads disk.old disk.new }
+    ensures quiet { OnOk result (D.failures disk.new ≡ D.failures disk.old) }
+    ensures failed { IfErr result (λ e. FailedAs e (D.failures disk.old) (D.failures disk.new)) }
+    ensures same { D.tells → D.told disk.new ≡ D.told disk.old }
+    ensures ok { D.tells → IfOk result (λ list. Chain (D.told disk.old).seen (span_of extent) list.items) }
+    ensures err { D.tells → IfErr result (λ e. ChainFault (D.told disk.old).seen (span_of extent) e) }
+{
+    let mut list = ArrayVec::new();
+    match walk_chain(disk, &extent, &mut list) {
+        Ok(()) => Ok(list),
+        Err(e) => Err(e),
+    }
+}

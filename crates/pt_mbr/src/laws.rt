@@ -1,0 +1,47 @@
+ghost use Rattle.std.specs.Prelude.{◌≡◌, ◌≤◌, ◌⊎◌, ◌↔◌, ℕ, List, Option};
+ghost use Rattle.pt_sector.specs.Sectors.{Sectors, Span, Agrees};
+ghost use Rattle.pt_sector.specs.declared.address.Lba.{Lba};
+ghost use Rattle.pt_mbr.specs.Record.{RecordIs};
+ghost use Rattle.pt_mbr.specs.Mbr.{MbrBytes};
+ghost use Rattle.pt_mbr.specs.Ebr.{EbrBytes, IsEbrFault};
+ghost use Rattle.pt_mbr.specs.Chain.{Chain, ChainFault, ChainReads, IsDevice, StandsAt, SameChains};
+ghost use Rattle.pt_mbr.specs.declared.record.Record.{Record};
+ghost use Rattle.pt_mbr.specs.declared.mbr.Mbr.{Mbr};
+ghost use Rattle.pt_mbr.specs.declared.ebr.Ebr.{Ebr};
+ghost use Rattle.pt_mbr.specs.declared.ebr.EbrFault.{EbrFault};
+ghost use Rattle.pt_mbr.specs.declared.chain.ChainError.{ChainError};
+
+/// A law: the bytes at a place are one record at most, or none.
+pub fn record_is_one()
+    ensures { (o p : Option Record) (at : ℕ) (b : List ℕ) → RecordIs o at b → RecordIs p at b → o ≡ p }
+{}
+
+/// A law: the bytes of a sector are one master boot record at most.
+pub fn mbr_is_one()
+    ensures { (m n : Mbr) (b : List ℕ) → MbrBytes m b → MbrBytes n b → m ≡ n }
+{}
+
+/// Laws: the bytes of a sector are one extended boot record at most, and none where a rule fails.
+pub fn ebr_is_one()
+    ensures one { (first : ℕ) (at : Lba) (e f : Ebr) (b : List ℕ) → EbrBytes first at e b → EbrBytes first at f b → e ≡ f }
+    ensures none { (first : ℕ) (at : Lba) (e : Ebr) (fault : EbrFault) (b : List ℕ) → IsEbrFault fault b → ¬ EbrBytes first at e b }
+{}
+
+/// Laws: an extended partition has one chain at most, and none where the disk has a fault.
+pub fn chains_are_one()
+    ensures one { (d : Sectors) (x : Span) (list other : List Ebr) → Chain d x list → Chain d x other → list ≡ other }
+    ensures none { (d : Sectors) (x : Span) (e : ChainError) (list : List Ebr) → ChainFault d x e → Chain d x list → IsDevice e }
+{}
+
+/// A law: a disk that agrees with another on the sectors that decide its chain has the same chain, or the same fault,
+/// by the same sectors.
+pub fn chain_reads_decide()
+    ensures { (x : Span) (c d : Sectors) → Agrees (ChainReads d x) c d → SameChains x c d }
+{}
+
+/// Laws: the sectors that decide a chain are those of its extended boot records; those that decide a fault are among
+/// the ones that lead to it and its own.
+pub fn chain_reads_are()
+    ensures chain { (d : Sectors) (x : Span) (list : List Ebr) → Chain d x list → (s : ℕ) → ChainReads d x s ↔ StandsAt s list }
+    ensures fault { (d : Sectors) (x : Span) (e : ChainError) (s : ℕ) (f : ChainFault d x e) → ChainReads d x s → StandsAt s f.before ⊎ (s ≡ f.at.0) ⊎ IsDevice e }
+{}

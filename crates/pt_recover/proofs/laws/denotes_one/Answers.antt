@@ -1,0 +1,5 @@
+use Rattle.pt_recover.specs.Laws.{denotes_one_lem}
+use Rattle.pt_recover.proofs.laws.denotes_one.Goals as goal
+
+pub returns : goal.returns
+returns c = denotes_one_lem

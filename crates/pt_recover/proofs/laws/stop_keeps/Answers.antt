@@ -1,0 +1,5 @@
+use Rattle.pt_recover.specs.Laws.{stop_keeps_lem}
+use Rattle.pt_recover.proofs.laws.stop_keeps.Goals as goal
+
+pub returns : goal.returns
+returns c = stop_keeps_lem

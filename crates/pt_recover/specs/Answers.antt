@@ -1,0 +1,72 @@
+-- What recovery answers where there is no layout.
+use Rattle.std.specs.Prelude.{◌≡◌, ◌⊎◌, ◌+◌, ◌↔◌, ℕ, List, [], ◌∷◌, length, Option, Some, None}
+use Rattle.pt_sector.specs.Sectors.{Sectors}
+use Rattle.pt_mbr.specs.Mbr.{AreRecords}
+use Rattle.pt_mbr.specs.Chain.{ChainFault, IsDevice}
+use Rattle.pt_mbr.specs.declared.record.Record.{Record}
+use Rattle.pt_gpt.specs.Copy.{IsCopyFault}
+use Rattle.pt_gpt.specs.declared.table.Side.TheVariants.{Primary, Backup}
+use Rattle.pt_recover.specs.Mbr.{IsMbrSector, IsMbrDisk, IsMbr, extended_of, extent_of}
+use Rattle.pt_recover.specs.Gpt.{HasRoom}
+use Rattle.pt_recover.specs.Denotes.{Denotes, Reads}
+use Rattle.pt_recover.specs.Spans.{IsIn}
+use Rattle.pt_recover.specs.declared.error.NoTable.{NoTable}
+use Rattle.pt_recover.specs.declared.error.NoTable.TheVariants.{NoCopy, Chain, TwoExtended, TooSmall, Device, Memory}
+use Rattle.pt_recover.specs.declared.trace.Run.{Run}
+
+-- an MBR disk with a lone extended record, whose chain has this first fault
+pub record LacksChain (d : Sectors) (e : _) : Type 0 where
+  pub records : List (Option Record)
+  pub extended : Record
+  pub is_mbr : IsMbr d records
+  pub lone : extended_of records ≡ extended ∷ []
+  pub fault : ChainFault d (extent_of extended) e
+  pub told : ¬ IsDevice e
+
+-- an MBR disk with two or more extended records
+pub record HasTwoExtended (d : Sectors) : Type 0 where
+  pub records : List (Option Record)
+  pub first : Record
+  pub second : Record
+  pub more : List Record
+  pub is_mbr : IsMbr d records
+  pub two : extended_of records ≡ first ∷ second ∷ more
+
+-- another disk, large enough, each of whose copies has its first fault
+pub record LacksCopies (b : ℕ) (d : Sectors) (e f : _) : Type 0 where
+  pub no_mbr : ¬ IsMbrDisk d
+  pub room : HasRoom b (length d)
+  pub primary : IsCopyFault b d Primary e
+  pub backup : IsCopyFault b d Backup f
+
+-- why the disk denotes nothing
+abbrev pub IsReason : ℕ → Sectors → NoTable → Type 0
+IsReason b d (NoCopy e f) = LacksCopies b d e f
+IsReason b d (Chain e) = LacksChain d e
+IsReason b d TwoExtended = HasTwoExtended d
+IsReason b d TooSmall = (¬ IsMbrDisk d) × (¬ HasRoom b (length d))
+IsReason b d _ = ⊥
+
+-- an answer that the disk's content doesn't explain
+abbrev pub IsOutside : NoTable → Type 0
+IsOutside (Device at) = Unit {0}
+IsOutside Memory = Unit {0}
+IsOutside _ = ⊥
+
+-- an answer that is no layout: the disk denotes nothing for this reason, or the device or memory failed
+abbrev pub TellsNothing : ℕ → Sectors → NoTable → Type 0
+TellsNothing b d e = IsOutside e ⊎ (Denotes b d None × IsReason b d e)
+
+-- a device's fault goes with one failure more, every other answer with none
+abbrev pub FailedAs : NoTable → ℕ → ℕ → Type 0
+FailedAs (Device at) before now = now ≡ before + 1
+FailedAs _ before now = now ≡ before
+
+-- the sectors of the trace are those that recovery reads, and no others
+abbrev pub IsTraceOf : ℕ → Sectors → List Run → Type 0
+IsTraceOf b d runs = (s : ℕ) → IsIn runs s ↔ Reads b d s
+
+-- the records of sector 0, none where it isn't that of an MBR disk
+abbrev pub HeadIs : List ℕ → Option (List (Option Record)) → Type 0
+HeadIs bytes None = ¬ IsMbrSector bytes
+HeadIs bytes (Some m) = IsMbrSector bytes × AreRecords m bytes

@@ -1,0 +1,9 @@
+pub mod Mbr
+pub mod Gpt
+pub mod Labels
+pub mod Denotes
+pub mod Spans
+pub mod Answers
+pub mod Same
+pub mod One
+pub mod Laws

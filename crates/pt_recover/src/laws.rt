@@ -1,0 +1,24 @@
+//! What holds of the meaning of disks, whatever they hold.
+
+ghost use Rattle.std.specs.Prelude.{◌≡◌, ℕ, List, Option};
+ghost use Rattle.pt_sector.specs.Sectors.{Sectors, Agrees};
+ghost use Rattle.pt_sector.specs.Writes.{Writes, Stopped};
+ghost use Rattle.pt_recover.specs.Denotes.{Denotes, Reads, SameMeaning};
+ghost use Rattle.pt_recover.specs.Laws.{LeavesReads};
+ghost use Rattle.pt_recover.specs.declared.layout.Layout.{Layout};
+
+/// The sectors that recovery reads decide what a disk denotes: who agrees with it on them denotes the same, by the
+/// same sectors.
+pub fn reads_decide()
+    ensures { (b : ℕ) (c d : Sectors) → Agrees (Reads b d) c d → SameMeaning b c d }
+{}
+
+/// A disk denotes one layout at most, and none where it denotes nothing.
+pub fn denotes_one()
+    ensures { (b : ℕ) (d : Sectors) (o p : Option Layout) → Denotes b d o → Denotes b d p → o ≡ p }
+{}
+
+/// A stop within writes to sectors that recovery doesn't read leaves a disk of the same meaning.
+pub fn stop_keeps()
+    ensures { (b : ℕ) (d c : Sectors) (phase : Writes) → LeavesReads b d phase → Stopped d phase c → SameMeaning b c d }
+{}

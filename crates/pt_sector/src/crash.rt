@@ -1,0 +1,201 @@
+ghost use Rattle.std.specs.Prelude.{◌≡◌, ◌≤◌, ◌<◌, ◌-◌, ◌*◌, ◌^◌, ◌↔◌, ◌⊎◌, ℕ, List, [], ◌∷◌, ◌++◌, length, slice_set, if◌then◌else◌, true, IsTrue, IfOk, IfErr, OnOk, OnErr, IsErr, false};
+ghost use Rattle.pt_sector.specs.declared.disk.Fault.TheVariants.{Read, Write, Flush};
+ghost use Rattle.pt_sector.specs.Sectors.{IsSectorSize, sector};
+ghost use Rattle.pt_sector.specs.Device.{MayLeave, Counted, Wrote, FailedWrite, Flushed, FailedFlush};
+ghost use Rattle.pt_sector.specs.Past.{told_of};
+ghost use Rattle.pt_sector.specs.Memory.{zero_sectors};
+ghost use Rattle.pt_sector.specs.Reading.{length-reading, stopped_reading};
+ghost use Rattle.pt_sector.specs.Stop.{picked};
+ghost use Rattle.pt_sector.specs.Crash.{crash_told};
+ghost use Rattle.pt_sector.specs.Schedule.{pending_room, IsFull, fails_in, reads_failed, CallPasses, SameContent};
+
+use crate::address::Lba;
+use crate::cache::WriteCache;
+use crate::disk::{Disk, Fault};
+use crate::memory::{MemDisk, zeroed};
+use crate::moments::Moments;
+use crate::pending::Pending;
+use crate::stop::pick_all;
+use std::alloc::{AllocError, Global};
+
+/// A disk in memory with a write cache, that fails in a call of one's choice and stops where one likes.
+///
+/// A write stays pending until a flush, in room taken when the disk is made: none of its calls takes memory.
+#[derive(Drop)]
+pub struct CrashDisk<const B: usize> {
+    cache: WriteCache<B>,
+    past: Moments<WriteCache<B>>,
+    failures: Moments<Fault>,
+    fail_in: u64,
+    kept: bool,
+}
+
+impl<const B: usize> CrashDisk<B> {
+    /// A disk with this many sectors, all durable and zero (at most 2^55 of 512 bytes, or 2^52 of 4096), and room for
+    /// this many pending writes. No call is set to fail.
+    pub fn new(alloc: Global, sectors: u64, room: usize) -> Result<CrashDisk<B>, AllocError>
+        requires size { IsSectorSize B }
+        requires count { sectors * B ≤ 2 ^ 64 }
+        ensures told { IfOk result (λ d. ⟦<CrashDisk<B> as Disk<B>>⟧.told d ≡ told_of (zero_sectors B sectors) (zero_sectors B sectors) [] []) }
+        ensures count { IfOk result (λ d. ⟦<CrashDisk<B> as Disk<B>>⟧.count d ≡ sectors) }
+        ensures failures { IfOk result (λ d. ⟦<CrashDisk<B> as Disk<B>>⟧.failures d ≡ 0) }
+        ensures room { IfOk result (λ d. pending_room d ≡ room) }
+        ensures never_fails { IfOk result (λ d. fails_in d ≡ 0) }
+    {
+        let durable = zeroed(alloc, sectors)?;
+        Ok(CrashDisk {
+            cache: WriteCache::new(alloc, durable, room)?,
+            past: Moments::new(),
+            failures: Moments::new(),
+            fail_in: 0,
+            kept: false,
+        })
+    }
+
+    /// Sets the `k`-th read, write or flush from now on to fail, counted together from 1, and no other; 0 sets none.
+    ///
+    /// `kept` says whether a write that fails reads as written. Its value is pending either way, if there is room.
+    pub fn fail_at(&mut self, k: u64, kept: bool)
+        ensures fails { fails_in self.new ≡ k }
+        ensures kept { reads_failed self.new ≡ kept }
+        ensures told { ⟦<CrashDisk<B> as Disk<B>>⟧.told self.new ≡ ⟦<CrashDisk<B> as Disk<B>>⟧.told self.old }
+        ensures count { ⟦<CrashDisk<B> as Disk<B>>⟧.count self.new ≡ ⟦<CrashDisk<B> as Disk<B>>⟧.count self.old }
+        ensures failures { ⟦<CrashDisk<B> as Disk<B>>⟧.failures self.new ≡ ⟦<CrashDisk<B> as Disk<B>>⟧.failures self.old }
+        ensures room { pending_room self.new ≡ pending_room self.old }
+    {
+        self.fail_in = k;
+        self.kept = kept;
+    }
+
+    /// The disk that a crash leaves, by one choice for each sector with pending writes, in ascending order: 0 is the
+    /// durable value, and j the j-th pending one in the order of writing. A missing choice is 0, a greater one the last.
+    pub fn stop(self, choices: &[usize]) -> MemDisk<B>
+        ensures picked { (⟦<MemDisk<B> as Disk<B>>⟧.told result).seen ≡ picked (⟦<CrashDisk<B> as Disk<B>>⟧.told self.entry).pending 0 choices.now (⟦<CrashDisk<B> as Disk<B>>⟧.told self.entry).durable }
+        ensures may_leave { MayLeave (⟦<CrashDisk<B> as Disk<B>>⟧.told self.entry) (⟦<MemDisk<B> as Disk<B>>⟧.told result).seen }
+        ensures past { (⟦<MemDisk<B> as Disk<B>>⟧.told result).past ≡ [] }
+    {
+        let CrashDisk {
+            cache,
+            past: _,
+            failures: _,
+            fail_in: _,
+            kept: _,
+        } = self;
+        let WriteCache {
+            mut durable,
+            pending,
+            room: _,
+        } = cache;
+        pick_all(&mut durable, &pending, choices);
+        MemDisk::from_sectors(durable)
+    }
+}
+
+impl<const B: usize> Disk<B> for CrashDisk<B> {
+    ghost tells = { Unit {0} };
+
+    ghost told = { λ d. crash_told d.cache d.past.items };
+
+    ghost count = { λ d. length d.cache.durable.items };
+
+    ghost failures = { λ d. length d.failures.items };
+
+    ghost name = { λ d. 0 };
+
+    ghost reads = { λ a b. Unit {0} };
+
+    ghost reads_same = { λ a. tt };
+
+    ghost reads_on = { λ a b c ab bc. tt };
+
+    ghost sized = { λ d tells. length-reading d.cache.pending.items d.cache.durable.items };
+
+    ghost may_be_seen = { λ d tells. stopped_reading d.cache.pending.items d.cache.durable.items };
+
+    fn sectors(&self) -> u64 {
+        self.cache.durable.len() as u64
+    }
+
+    fn read(&mut self, lba: Lba, into: &mut [u8; B]) -> Result<(), Fault>
+        requires { lba.0 < ⟦<CrashDisk<B> as Disk<B>>⟧.count self.old }
+        ensures count { ⟦<CrashDisk<B> as Disk<B>>⟧.count self.new ≡ ⟦<CrashDisk<B> as Disk<B>>⟧.count self.old }
+        ensures counted { Counted (⟦<CrashDisk<B> as Disk<B>>⟧.failures self.old) (⟦<CrashDisk<B> as Disk<B>>⟧.failures self.new) result }
+        ensures fault { IfErr result (λ e. e ≡ Read lba) }
+        ensures bytes { OnOk result (into.new ≡ sector (⟦<CrashDisk<B> as Disk<B>>⟧.told self.old).seen lba.0) }
+        ensures same { ⟦<CrashDisk<B> as Disk<B>>⟧.told self.new ≡ ⟦<CrashDisk<B> as Disk<B>>⟧.told self.old }
+        ensures fails { IsErr result ↔ (fails_in self.old ≡ 1) }
+        ensures call { CallPasses self.old self.new }
+    {
+        if counts_down(&mut self.fail_in) {
+            self.failures = self.failures.and(&Fault::Read(lba));
+            return Err(Fault::Read(lba));
+        }
+        self.cache.read(lba, into);
+        Ok(())
+    }
+
+    /// Fails where it is set to, and past the room, where it changes nothing.
+    fn write(&mut self, lba: Lba, bytes: &[u8; B]) -> Result<(), Fault>
+        requires { lba.0 < ⟦<CrashDisk<B> as Disk<B>>⟧.count self.old }
+        ensures count { ⟦<CrashDisk<B> as Disk<B>>⟧.count self.new ≡ ⟦<CrashDisk<B> as Disk<B>>⟧.count self.old }
+        ensures counted { Counted (⟦<CrashDisk<B> as Disk<B>>⟧.failures self.old) (⟦<CrashDisk<B> as Disk<B>>⟧.failures self.new) result }
+        ensures fault { IfErr result (λ e. e ≡ Write lba) }
+        ensures done { OnOk result (Wrote (⟦<CrashDisk<B> as Disk<B>>⟧.told self.old) (⟦<CrashDisk<B> as Disk<B>>⟧.told self.new) lba.0 bytes.now) }
+        ensures failed { OnErr result (FailedWrite (⟦<CrashDisk<B> as Disk<B>>⟧.told self.old) (⟦<CrashDisk<B> as Disk<B>>⟧.told self.new) lba.0 bytes.now) }
+        ensures fails { IsErr result ↔ ((fails_in self.old ≡ 1) ⊎ IsFull self.old) }
+        ensures past_room { IsFull self.old → SameContent (⟦<CrashDisk<B> as Disk<B>>⟧.told self.old) (⟦<CrashDisk<B> as Disk<B>>⟧.told self.new) }
+        ensures pending { (IsFull self.old → ⊥) → (⟦<CrashDisk<B> as Disk<B>>⟧.told self.new).pending ≡ (⟦<CrashDisk<B> as Disk<B>>⟧.told self.old).pending ++ (lba.0, bytes.now) ∷ [] }
+        ensures kept { (IsFull self.old → ⊥) → OnErr result ((⟦<CrashDisk<B> as Disk<B>>⟧.told self.new).seen ≡ (if reads_failed self.old then slice_set (⟦<CrashDisk<B> as Disk<B>>⟧.told self.old).seen lba.0 bytes.now else (⟦<CrashDisk<B> as Disk<B>>⟧.told self.old).seen)) }
+        ensures call { CallPasses self.old self.new }
+    {
+        self.past = self.past.and(&self.cache);
+        let fails = counts_down(&mut self.fail_in);
+        if self.cache.is_full() {
+            self.failures = self.failures.and(&Fault::Write(lba));
+            return Err(Fault::Write(lba));
+        }
+        let write = Pending {
+            lba,
+            bytes: *bytes,
+            reads: !fails || self.kept,
+        };
+        self.cache.add(write);
+        if fails {
+            self.failures = self.failures.and(&Fault::Write(lba));
+            return Err(Fault::Write(lba));
+        }
+        Ok(())
+    }
+
+    /// Fails where it is set to; then all stays pending.
+    fn flush(&mut self) -> Result<(), Fault>
+        ensures count { ⟦<CrashDisk<B> as Disk<B>>⟧.count self.new ≡ ⟦<CrashDisk<B> as Disk<B>>⟧.count self.old }
+        ensures counted { Counted (⟦<CrashDisk<B> as Disk<B>>⟧.failures self.old) (⟦<CrashDisk<B> as Disk<B>>⟧.failures self.new) result }
+        ensures fault { IfErr result (λ e. e ≡ Flush) }
+        ensures done { OnOk result (Flushed (⟦<CrashDisk<B> as Disk<B>>⟧.told self.old) (⟦<CrashDisk<B> as Disk<B>>⟧.told self.new)) }
+        ensures failed { OnErr result (FailedFlush (⟦<CrashDisk<B> as Disk<B>>⟧.told self.old) (⟦<CrashDisk<B> as Disk<B>>⟧.told self.new)) }
+        ensures fails { IsErr result ↔ (fails_in self.old ≡ 1) }
+        ensures kept { OnErr result (SameContent (⟦<CrashDisk<B> as Disk<B>>⟧.told self.old) (⟦<CrashDisk<B> as Disk<B>>⟧.told self.new)) }
+        ensures call { CallPasses self.old self.new }
+    {
+        self.past = self.past.and(&self.cache);
+        if counts_down(&mut self.fail_in) {
+            self.failures = self.failures.and(&Fault::Flush);
+            return Err(Fault::Flush);
+        }
+        self.cache.flush();
+        Ok(())
+    }
+}
+
+/// Counts a call, and says whether it is the one that fails.
+fn counts_down(fail_in: &mut u64) -> bool
+    ensures fails { IsTrue result ↔ (fail_in.old ≡ 1) }
+    ensures sooner { fail_in.new ≡ fail_in.old - 1 }
+{
+    if *fail_in == 0 {
+        return false;
+    }
+    *fail_in -= 1;
+    *fail_in == 0
+}

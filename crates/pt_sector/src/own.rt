@@ -1,0 +1,83 @@
+ghost use Rattle.std.specs.Prelude.{◌≡◌, ◌≤◌, ◌<◌, ◌+◌, ◌↔◌, ℕ, List, [], slice_set, vec_len, vec_capacity, IfOk, IfErr, IsTrue, IsFalse, true, false, if◌then◌else◌};
+ghost use Rattle.pt_sector.specs.Sectors.{Sectors, IsSectorSize};
+ghost use Rattle.pt_sector.specs.Writes.{written};
+ghost use Rattle.pt_sector.specs.Written.{value_after};
+ghost use Rattle.pt_sector.specs.Ascending.{IsAscending, IsAt, IsGapFor, Has};
+ghost use Rattle.pt_sector.specs.Puts.{puts_as_writes};
+
+use crate::address::Lba;
+use crate::put::Put;
+use std::alloc::{AllocError, Global};
+
+/// The sectors of an overlay's own, each once and in order, in room for a fixed number of them.
+#[derive(Drop)]
+pub struct Own<const B: usize> {
+    pub(crate) puts: Vec<Put<B>>,
+    pub(crate) room: usize,
+    ghost small: { B ≤ 4096 },
+    ghost within: { vec_len puts ≤ room },
+    ghost reserved: { room ≤ vec_capacity puts },
+    ghost sorted: { IsAscending (puts_as_writes puts.items) },
+}
+
+impl<const B: usize> Own<B> {
+    pub(crate) fn new(alloc: Global, room: usize) -> Result<Own<B>, AllocError>
+        requires { IsSectorSize B }
+        ensures puts { IfOk result (λ own. own.puts.items ≡ []) }
+        ensures room { IfOk result (λ own. own.room ≡ room) }
+    {
+        let puts = Vec::with_capacity(alloc, room)?;
+        Ok(Own { puts, room })
+    }
+
+    /// The bytes of a sector, if it has some.
+    pub(crate) fn get(&self, lba: Lba, into: &mut [u8; B]) -> bool
+        ensures { (v : List ℕ) → value_after (puts_as_writes self.now.puts.items) lba.0 v ≡ (if result then into.new else v) }
+    {
+        match place(&self.puts, lba) {
+            Ok(at) => {
+                *into = self.puts[at].bytes;
+                true
+            }
+            Err(_) => false,
+        }
+    }
+
+    /// Puts bytes into a sector; false where that is a new one and no room is left for it.
+    pub(crate) fn put(&mut self, lba: Lba, bytes: &[u8; B]) -> bool
+        ensures put { IsTrue result → (d : Sectors) → written (puts_as_writes self.new.puts.items) d ≡ slice_set (written (puts_as_writes self.old.puts.items) d) lba.0 bytes.now }
+        ensures refused { IsFalse result ↔ ((self.old.room ≤ vec_len self.old.puts) × (Has (puts_as_writes self.old.puts.items) lba.0 → ⊥)) }
+        ensures kept { IsFalse result → self.new ≡ self.old }
+        ensures room { self.new.room ≡ self.old.room }
+        ensures grows { vec_len self.new.puts ≤ vec_len self.old.puts + 1 }
+    {
+        match place(&self.puts, lba) {
+            Ok(at) => {
+                self.puts[at] = Put { lba, bytes: *bytes };
+                true
+            }
+            Err(at) => {
+                if self.puts.len() >= self.room {
+                    return false;
+                }
+                let _ = self.puts.insert(at, Put { lba, bytes: *bytes });
+                true
+            }
+        }
+    }
+}
+
+/// Where a sector is, or where it would go.
+fn place<const B: usize>(puts: &[Put<B>], lba: Lba) -> Result<usize, usize>
+    requires small { B ≤ 4096 }
+    requires sorted { IsAscending (puts_as_writes puts.now) }
+    ensures found { IfOk result (IsAt (puts_as_writes puts.now) lba.0) }
+    ensures absent { IfErr result (IsGapFor (puts_as_writes puts.now) lba.0) }
+{
+    puts.binary_search_by_key(
+        &lba.0,
+        |put| -> u64
+            ensures { result ≡ put.now.lba.0 }
+        { put.lba.0 },
+    )
+}
