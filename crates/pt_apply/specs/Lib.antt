@@ -1,3 +1,4 @@
 pub mod Moments
 pub mod Plans
 pub mod Runs
+pub mod Promises

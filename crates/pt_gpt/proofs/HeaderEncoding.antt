@@ -1,17 +1,12 @@
 -- What is written is a header.
 use Rattle.std.proofs.Common.{◌≡◌, ℕ, ◌+◌, ◌*◌, ◌/◌, ◌%◌, ◌^◌, ◌<◌, ◌≤◌, List, [], ◌∷◌, ◌++◌, length, take, drop, replicate, refl, sym, ap, ◌∙◌, arith, lit≤}
 use Rattle.std.specs.Prelude.{slice_range}
-use Rattle.std.proofs.lemmas.List.{append-nil}
-use Rattle.byteorder.specs.Endian.{little_number, little_bytes}
-use Rattle.byteorder.specs.Numbers.{little_number-reads_back}
 use Rattle.pt_sum.specs.Crc.{crc_of}
 use Rattle.pt_gpt.specs.Bytes.{number_at, put_at}
 use Rattle.pt_gpt.specs.Header.{HeaderFields, HeaderBytes, header_size}
 use Rattle.pt_gpt.specs.HeaderSector.{unsummed_from, summed_from, HeaderFits}
+use Rattle.pt_gpt.specs.Written.{number_back}
 use Rattle.pt_gpt.specs.declared.header.Header.{Header}
-
-pub read_back : (n x : ℕ) → x < 256 ^ n → little_number n (little_bytes n x) ≡ x
-read_back n x small = ap (little_number n) (sym (append-nil (little_bytes n x))) ∙ little_number-reads_back n x [] small
 
 -- a header with a rest behind it
 pub is_header : (b : ℕ) (h : Header) (d rest : List ℕ) → 92 ≤ b → length d ≡ 16 → d ≡ h.disk.0 → HeaderFits h → crc_of (unsummed_from h d) < 2 ^ 32
@@ -21,17 +16,17 @@ is_header b h (x0 ∷ x1 ∷ x2 ∷ x3 ∷ x4 ∷ x5 ∷ x6 ∷ x7 ∷ x8 ∷ x9
   signature = refl;
   revision = refl;
   size = (lit≤ tt, room);
-  crc = read_back 4 _ crc;
+  crc = number_back 4 _ crc;
   fields = record {
-    my = read_back 8 h.my fits.my;
-    alternate = read_back 8 h.alternate fits.alternate;
-    first = read_back 8 h.first fits.first;
-    last = read_back 8 h.last fits.last;
+    my = number_back 8 h.my fits.my;
+    alternate = number_back 8 h.alternate fits.alternate;
+    first = number_back 8 h.first fits.first;
+    last = number_back 8 h.last fits.last;
     disk = same;
-    array = read_back 8 h.array fits.array;
-    count = read_back 4 h.count fits.count;
-    entry_size = read_back 4 h.entry_size fits.entry_size;
-    array_crc = read_back 4 h.array_crc fits.array_crc;
+    array = number_back 8 h.array fits.array;
+    count = number_back 4 h.count fits.count;
+    entry_size = number_back 4 h.entry_size fits.entry_size;
+    array_crc = number_back 4 h.array_crc fits.array_crc;
   };
 }
 is_header b h d rest room len same fits crc = absurd (omega arith)

@@ -1,6 +1,5 @@
 -- An array of entries, in its bytes and in its sectors.
-use Rattle.std.specs.Prelude.{◌≡◌, ◌<◌, ℕ, ◌+◌, ◌-◌, ◌*◌, ◌/◌, List, ◌++◌, length, replicate, slice_range, slice_index_or, Option, Some, None, IfSome}
-use Rattle.std.specs.List.{flat_map}
+use Rattle.std.specs.Prelude.{◌≡◌, ◌<◌, ℕ, zero, suc, ◌+◌, ◌-◌, ◌*◌, ◌/◌, List, [], ◌++◌, length, slice_range, slice_index_or, Option, Some, None, IfSome}
 use Rattle.pt_gpt.specs.Entry.{EntryIs, EntryFits, IsTyped, entry_bytes}
 use Rattle.pt_gpt.specs.declared.entry.Entry.{Entry}
 
@@ -17,13 +16,18 @@ pub record AreEntries (entries : List (Option Entry)) (bytes : List ℕ) : Type 
   pub count : length bytes ≡ length entries * 128
   pub each : (k : ℕ) → k < length entries → EntryIs (slice_index_or entries k None) (slice_range bytes (k * 128) (k * 128 + 128))
 
--- the bytes that entries are written as
-unfoldable pub entries_bytes : List (Option Entry) → List ℕ
-entries_bytes entries = flat_map entry_bytes entries
+-- the bytes that n entries from place i on are written as; past the last one there is none
+unfoldable pub entries_bytes : List (Option Entry) → ℕ → ℕ → List ℕ
+entries_bytes entries i zero = []
+entries_bytes entries i (suc n) = entries_bytes entries i n ++ entry_bytes (slice_index_or entries (i + n) None)
+
+-- the bytes that an array is written as, as far as its CRC goes
+abbrev pub array_bytes : List (Option Entry) → List ℕ
+array_bytes entries = entries_bytes entries 0 (length entries)
 
 -- sector k of the array that they are written as, with zeros past the last entry
-unfoldable pub array_sector : ℕ → List (Option Entry) → ℕ → List ℕ
-array_sector b entries k = slice_range (entries_bytes entries ++ replicate (16384 - length entries * 128) 0) (k * b) (k * b + b)
+abbrev pub array_sector : ℕ → List (Option Entry) → ℕ → List ℕ
+array_sector b entries k = entries_bytes entries (k * (b / 128)) (b / 128)
 
 -- every used entry has a type
 abbrev pub AllTyped : List (Option Entry) → Type 0

@@ -3,7 +3,7 @@ use Rattle.std.specs.Prelude.{◌≡◌, ◌<◌, ◌≤◌, ◌⊎◌, ◌↔�
 use Rattle.pt_sector.specs.Sectors.{Sectors, sector}
 use Rattle.pt_sum.specs.Crc.{crc_of}
 use Rattle.pt_gpt.specs.Header.{HeaderBytes, IsHeaderFault}
-use Rattle.pt_gpt.specs.Array.{array_len, counted, AreEntries}
+use Rattle.pt_gpt.specs.Array.{array_len, counted, AreEntries, array_bytes, array_sector}
 use Rattle.pt_gpt.specs.declared.header.Header.{Header}
 use Rattle.pt_gpt.specs.declared.error.CopyError.{CopyError}
 use Rattle.pt_gpt.specs.declared.error.CopyError.TheVariants.{MyLba, ArrayPlace, EntryShape, UsableRange, ArrayCrc}
@@ -92,6 +92,16 @@ pub record Copy (b : ℕ) (d : Sectors) (side : Side) (t : Table) : Type 0 where
 
 abbrev pub HasCopy : ℕ → Sectors → Side → Type 0
 HasCopy b d side = (t : Table) × Copy b d side t
+
+-- the side's header is h, and the array that it tells of is written as t's entries
+pub record IsWritten (b : ℕ) (d : Sectors) (side : Side) (h : Header) (t : Table) : Type 0 where
+  pub is_head : IsHead b d side h
+  pub disk : t.disk ≡ h.disk
+  pub first : t.first ≡ h.first
+  pub last : t.last ≡ h.last
+  pub count : length t.entries ≡ h.count
+  pub crc : h.array_crc ≡ crc_of (array_bytes t.entries)
+  pub array : (k : ℕ) → k < counted b h.count → sector d (h.array + k) ≡ array_sector b t.entries k
 
 -- why the side's copy doesn't exist: the first rule that fails, those of the header before the array's CRC
 pub data IsCopyFault (b : ℕ) (d : Sectors) (side : Side) : CopyError → Type 0 where

@@ -7,3 +7,5 @@ pub mod Array
 pub mod Copy
 pub mod Answers
 pub mod Laws
+pub mod Written
+pub mod Faults

@@ -3,21 +3,41 @@
 //! The terms that they stand on are in specs/Laws.antt, for contracts above to cite.
 
 ghost use Rattle.std.specs.Prelude.{◌≡◌, ◌≤◌, ◌⊎◌, ◌↔◌, ℕ, List, Option, length};
-ghost use Rattle.pt_sector.specs.Sectors.{Sectors, Agrees};
+ghost use Rattle.pt_sector.specs.Sectors.{Sectors, Agrees, IsSectorSize};
 ghost use Rattle.pt_gpt.specs.Header.{HeaderBytes, IsHeaderFault};
-ghost use Rattle.pt_gpt.specs.Entry.{EntryBytes};
-ghost use Rattle.pt_gpt.specs.Array.{AreEntries, AllTyped};
-ghost use Rattle.pt_gpt.specs.Copy.{header_place, IsHead, IsHeadFault, Copy, HasCopy, IsCopyFault, InArray, SideReads, SameSide};
+ghost use Rattle.pt_gpt.specs.Entry.{EntryBytes, IsTyped};
+ghost use Rattle.pt_gpt.specs.Array.{AreEntries, AllFit, AllTyped, array_bytes};
+ghost use Rattle.pt_gpt.specs.Copy.{header_place, IsHead, IsHeadFault, Copy, HasCopy, IsCopyFault, InArray, SideReads, SameSide, CopyWith, IsWritten};
 ghost use Rattle.pt_gpt.specs.declared.header.Header.{Header};
 ghost use Rattle.pt_gpt.specs.declared.entry.Entry.{Entry};
 ghost use Rattle.pt_gpt.specs.declared.error.CopyError.{CopyError};
 ghost use Rattle.pt_gpt.specs.declared.table.Side.{Side};
 ghost use Rattle.pt_gpt.specs.declared.table.Table.{Table};
 
+use crate::entry::{Entry, decode_entry, encode_entry};
+use crate::error::CopyError;
+use crate::header::{Header, decode_header, encode_header};
+
 /// Bytes are one header at most.
 pub fn header_is_one()
     ensures { (b : ℕ) (h k : Header) (bytes : List ℕ) → HeaderBytes b h bytes → HeaderBytes b k bytes → h ≡ k }
 {
+}
+
+/// A header is read back from its sector.
+pub fn header_reads_back<const B: usize>(header: &Header) -> Result<Header, CopyError>
+    requires { IsSectorSize B }
+    ensures { result ≡ Ok header.now }
+{
+    decode_header::<B>(&encode_header::<B>(header))
+}
+
+/// An entry is read back from its bytes, where its type isn't zero.
+pub fn entry_reads_back(entry: &Entry) -> Option<Entry>
+    requires { IsTyped entry.now }
+    ensures { result ≡ Some entry.now }
+{
+    decode_entry(&encode_entry(Some(entry)))
 }
 
 /// Bytes with a header's fault are no header.
@@ -46,6 +66,12 @@ pub fn no_copy()
 {
 }
 
+/// A side has one fault at most, the first rule that fails.
+pub fn fault_is_one()
+    ensures { (b : ℕ) (d : Sectors) (side : Side) (e f : CopyError) → IsCopyFault b d side e → IsCopyFault b d side f → e ≡ f }
+{
+}
+
 /// A disk that agrees with another on the sectors that decide a side has the same there.
 pub fn side_reads_decide()
     ensures { (b : ℕ) (side : Side) (c d : Sectors) → Agrees (SideReads b d side) c d → SameSide b side c d }
@@ -63,5 +89,17 @@ pub fn side_reads_are()
 pub fn copy_is_shaped()
     ensures count { (b : ℕ) (d : Sectors) (side : Side) (t : Table) → Copy b d side t → (1 ≤ length t.entries) × (length t.entries ≤ 128) }
     ensures typed { (b : ℕ) (d : Sectors) (side : Side) (t : Table) → Copy b d side t → AllTyped t.entries }
+{
+}
+
+/// What entries are written as is those entries, where they have types and their numbers fit.
+pub fn entries_read_back()
+    ensures { (es : List (Option Entry)) → AllFit es → AllTyped es → AreEntries es (array_bytes es) }
+{
+}
+
+/// A header, and an array that is written as a table's entries, are that table's copy.
+pub fn written_is_copy()
+    ensures { (b : ℕ) (d : Sectors) (side : Side) (h : Header) (t : Table) → IsSectorSize b → AllFit t.entries → AllTyped t.entries → IsWritten b d side h t → CopyWith b d side h t }
 {
 }

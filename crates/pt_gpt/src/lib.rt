@@ -3,6 +3,7 @@
 //! docs/format.md has the layout of the bytes, docs/model.md what a copy of a table is.
 #![tactic(auto)]
 
+mod array;
 mod bytes;
 mod copy;
 mod entries;
@@ -14,11 +15,15 @@ mod place;
 mod table;
 mod view;
 
+pub use array::{array_crc, encode_array_sector};
 pub use copy::{read_copy, read_head, read_table};
 pub use entry::{Entry, decode_entry, encode_entry};
 pub use error::CopyError;
 pub use header::{Header, decode_header, encode_header};
-pub use laws::{copy_is_one, copy_is_shaped, entry_is_one, header_is_one, no_copy, no_header, side_reads_are, side_reads_decide};
+pub use laws::{copy_is_one, copy_is_shaped, entries_read_back, entry_is_one, entry_reads_back, fault_is_one, header_is_one, header_reads_back, no_copy, no_header, side_reads_are, side_reads_decide, written_is_copy};
 pub use place::{array_at, array_sectors, counted_sectors, header_at};
 pub use table::{Entries, Side, Table};
 pub use view::EntryView;
+
+#[cfg(test)]
+mod tests;

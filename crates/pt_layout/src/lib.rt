@@ -1,2 +1,24 @@
 //! Layouts: health, soundness, and the places of partitions and tables.
 #![tactic(auto)]
+
+mod finding;
+mod health;
+mod member;
+mod overlap;
+mod owned;
+mod path;
+mod search;
+mod slots;
+mod soundness;
+mod tables;
+
+pub use finding::{Finding, Verdict, VerifyError};
+pub use health::verify;
+pub use owned::is_owned;
+pub use path::Path;
+pub use pt_recover::{
+    Body, Ebrs, Labelled, Labels, Layout, NoTable, Slice, Trace, denotes_one, entry_place,
+    is_slice_type, label_places, reads_decide, record_place, recover, recover_traced, stop_keeps,
+};
+pub use soundness::unsound;
+pub use tables::is_table;

@@ -1,7 +1,7 @@
 -- Partition records, byte by byte.
-use Rattle.std.specs.Prelude.{◌≡◌, ◌≢◌, ◌⊎◌, ◌+◌, ◌*◌, ◌++◌, ◌∷◌, ℕ, List, slice_index, slice_range, replicate, Option, Some, None}
+use Rattle.std.specs.Prelude.{◌≡◌, ◌≢◌, ◌<◌, ◌^◌, ◌⊎◌, ◌+◌, ◌*◌, ◌++◌, ◌∷◌, ℕ, List, length, slice_index, slice_range, replicate, Option, Some, None}
 use Rattle.byteorder.specs.Endian.{little_bytes}
-use Rattle.pt_mbr.specs.Bytes.{number_at}
+use Rattle.pt_mbr.specs.Bytes.{number_at, put_at}
 use Rattle.pt_mbr.specs.declared.record.Record.{Record}
 
 -- where record k stands, k from 0 to 3
@@ -34,3 +34,19 @@ IsExtendedKind kind = (kind ≡ 0x05) ⊎ (kind ≡ 0x0F)
 unfoldable pub record_bytes : Option Record → List ℕ
 record_bytes None = replicate 16 0
 record_bytes (Some r) = (r.boot ∷ r.start_chs) ++ (r.kind ∷ r.end_chs) ++ little_bytes 4 r.start ++ little_bytes 4 r.size
+
+-- c is b with record k written anew: its 16 bytes, and no other
+abbrev pub IsPut : Option Record → ℕ → List ℕ → List ℕ → Type 0
+IsPut o k b c = c ≡ put_at (place_of k) (record_bytes o) b
+
+-- a record that is used reads as one
+abbrev pub IsUsable : Option Record → Type 0
+IsUsable None = Unit {0}
+IsUsable (Some r) = (r.kind ≢ 0) × (r.size ≢ 0)
+
+-- a record's numbers and places fit their fields
+pub record RecordFits (r : Record) : Type 0 where
+  pub start_chs : length r.start_chs ≡ 3
+  pub end_chs : length r.end_chs ≡ 3
+  pub start : r.start < 2 ^ 32
+  pub size : r.size < 2 ^ 32

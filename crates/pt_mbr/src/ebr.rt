@@ -4,6 +4,7 @@ ghost use Rattle.pt_mbr.specs.Ebr.{EbrBytes, IsEbrFault, HasZeros, HasBadLogical
 
 use crate::bytes::has_signature;
 use crate::mbr::has_boot_indicators;
+use crate::protection::PROTECTIVE;
 use crate::record::{Record, is_extended_kind, is_used, record_at};
 use pt_sector::{Lba, Sector};
 
@@ -39,7 +40,7 @@ fn has_bad_logical(bytes: &[u8]) -> bool
     requires { 512 ≤ length bytes.now }
     ensures { IsTrue result ↔ HasBadLogical bytes.now }
 {
-    is_used(bytes, 446) && (is_extended_kind(bytes[450]) || bytes[450] == 0xEE)
+    is_used(bytes, 446) && (is_extended_kind(bytes[450]) || bytes[450] == PROTECTIVE)
 }
 
 #[tactic(auto, unfolding(crate::specs::Ebr::HasBadLink))]

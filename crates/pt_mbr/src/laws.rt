@@ -1,8 +1,9 @@
-ghost use Rattle.std.specs.Prelude.{◌≡◌, ◌≤◌, ◌⊎◌, ◌↔◌, ℕ, List, Option};
+ghost use Rattle.std.specs.Prelude.{◌≡◌, ◌<◌, ◌≤◌, ◌+◌, ◌⊎◌, ◌↔◌, ℕ, List, length, slice_index, Option};
 ghost use Rattle.pt_sector.specs.Sectors.{Sectors, Span, Agrees};
 ghost use Rattle.pt_sector.specs.declared.address.Lba.{Lba};
 ghost use Rattle.pt_mbr.specs.Record.{RecordIs};
-ghost use Rattle.pt_mbr.specs.Mbr.{MbrBytes};
+ghost use Rattle.pt_mbr.specs.Mbr.{MbrBytes, BearsProtective};
+ghost use Rattle.pt_mbr.specs.Protective.{IsProtective};
 ghost use Rattle.pt_mbr.specs.Ebr.{EbrBytes, IsEbrFault};
 ghost use Rattle.pt_mbr.specs.Chain.{Chain, ChainFault, ChainReads, IsDevice, StandsAt, SameChains};
 ghost use Rattle.pt_mbr.specs.declared.record.Record.{Record};
@@ -44,4 +45,14 @@ pub fn chain_reads_decide()
 pub fn chain_reads_are()
     ensures chain { (d : Sectors) (x : Span) (list : List Ebr) → Chain d x list → (s : ℕ) → ChainReads d x s ↔ StandsAt s list }
     ensures fault { (d : Sectors) (x : Span) (e : ChainError) (s : ℕ) (f : ChainFault d x e) → ChainReads d x s → StandsAt s f.before ⊎ (s ≡ f.at.0) ⊎ IsDevice e }
+{}
+
+/// A law: a record depends on its sixteen bytes alone.
+pub fn record_is_its_bytes()
+    ensures { (o : Option Record) (at : ℕ) (b c : List ℕ) → at + 16 ≤ length b → length c ≡ length b → ((i : ℕ) → at ≤ i → i < at + 16 → slice_index c i ≡ slice_index b i) → RecordIs o at b → RecordIs o at c }
+{}
+
+/// A law: a sector that protects its disk bears a protective record, so its disk is no MBR disk.
+pub fn protective_is_borne()
+    ensures { (n : ℕ) (b : List ℕ) → IsProtective n b → BearsProtective b }
 {}

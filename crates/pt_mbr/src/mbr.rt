@@ -1,9 +1,14 @@
-ghost use Rattle.std.specs.Prelude.{◌≡◌, ◌<◌, ◌≤◌, ◌+◌, ◌↔◌, IsTrue, IfSome, IfNone, length, get_or};
+ghost use Rattle.std.specs.Prelude.{◌≡◌, ◌<◌, ◌≤◌, ◌≢◌, ◌⊎◌, ◌+◌, ◌↔◌, IsTrue, IfSome, IfNone, MatchOption, ⊤, ℕ, Option, length, slice_index, slice_range, replicate};
 ghost use Rattle.pt_sector.specs.Sectors.{IsSectorSize};
+ghost use Rattle.std.specs.Option.{option_map};
+ghost use Rattle.pt_mbr.specs.Bytes.{put_at};
+ghost use Rattle.pt_mbr.specs.Record.{RecordIs, RecordFits, HasFields, IsUsable, IsPut, place_of, record_bytes};
+ghost use Rattle.pt_mbr.specs.declared.record.Record.{Record};
 ghost use Rattle.pt_mbr.specs.Mbr.{IsMbrFormed, MbrBytes, AreRecords, BearsProtective, HasBootIndicators, IsBootIndicator};
 
-use crate::bytes::has_signature;
-use crate::record::{Record, record_at};
+use crate::bytes::{has_signature, put_bytes};
+use crate::protection::PROTECTIVE;
+use crate::record::{Record, encode_record, record_at};
 use pt_sector::Sector;
 
 /// A master boot record's four partition records, none where one is unused: its type or its size is 0.
@@ -72,9 +77,44 @@ pub fn bears_protective<const B: usize>(sector: &Sector<B>) -> bool
     requires size { IsSectorSize B }
     ensures { IsTrue result ↔ BearsProtective sector.now }
 {
-    const PROTECTIVE: u8 = 0xEE;
     sector[450] == PROTECTIVE
         || sector[466] == PROTECTIVE
         || sector[482] == PROTECTIVE
         || sector[498] == PROTECTIVE
+}
+
+// The 16 bytes of a record, or of none.
+fn encoded(value: Option<&Record>) -> [u8; 16]
+    ensures bytes { result ≡ record_bytes (option_map (λ r. r.now) value.entry) }
+    ensures fits { MatchOption value.entry ⊤ (λ r. RecordFits r.now) }
+{
+    match value {
+        Some(value) => encode_record(value),
+        None => [0; 16],
+    }
+}
+
+pub(crate) fn put_part<const B: usize>(sector: &Sector<B>, at: usize, part: &[u8]) -> Sector<B>
+    requires { at + length part.now ≤ B }
+    ensures put { result ≡ put_at at part.now sector.now }
+    ensures fits { (i : ℕ) → slice_index sector.now i < 256 }
+{
+    let mut changed = *sector;
+    put_bytes(&mut changed[..], at, part);
+    changed
+}
+
+/// The sector with its record `k`, from 0 to 3, written as `value`: its 16 bytes, all zero for none, and no other.
+///
+/// The sector is that of a master or an extended boot record.
+pub fn put_record<const B: usize>(sector: &Sector<B>, k: usize, value: Option<&Record>) -> Sector<B>
+    requires size { IsSectorSize B }
+    requires place { k < 4 }
+    ensures put { IsPut (option_map (λ r. r.now) value.entry) k sector.now result }
+    ensures other { (i : ℕ) → (i < place_of k) ⊎ (place_of k + 16 ≤ i) → slice_index result i ≡ slice_index sector.now i }
+    ensures fields { MatchOption value.entry (slice_range result (place_of k) (place_of k + 16) ≡ replicate 16 0) (λ r. HasFields r.now (place_of k) result) }
+    ensures kept { (j : ℕ) (p : Option Record) → j < 4 → j ≢ k → RecordIs p (place_of j) sector.now → RecordIs p (place_of j) result }
+    ensures read { IsUsable (option_map (λ r. r.now) value.entry) → RecordIs (option_map (λ r. r.now) value.entry) (place_of k) result }
+{
+    put_part(sector, 446 + 16 * k, &encoded(value))
 }

@@ -1,6 +1,8 @@
-ghost use Rattle.std.specs.Prelude.{◌≡◌, ◌≤◌, ◌+◌, ◌↔◌, IsTrue, length, slice_range};
-ghost use Rattle.pt_mbr.specs.Record.{IsUsed, RecordIs, IsExtendedKind};
+ghost use Rattle.std.specs.Prelude.{◌≡◌, ◌≤◌, ◌+◌, ◌↔◌, IsTrue, Some, length, slice_range};
+ghost use Rattle.pt_mbr.specs.Bytes.{put_at};
+ghost use Rattle.pt_mbr.specs.Record.{IsUsed, HasFields, RecordIs, IsExtendedKind, RecordFits, record_bytes};
 
+use crate::bytes::{put_bytes, put_u32};
 use byteorder::{ByteOrder, LittleEndian};
 
 /// A used partition record: 16 bytes of a boot record.
@@ -41,20 +43,52 @@ pub(crate) fn is_used(bytes: &[u8], at: usize) -> bool
     bytes[at + 4] != 0 && LittleEndian::read_u32(&bytes[at + 12..at + 16]) != 0
 }
 
-// The record at a place, where it is used.
-pub(crate) fn record_at(bytes: &[u8], at: usize) -> Option<Record>
+// The fields of the record at a place, used or not.
+pub(crate) fn fields_at(bytes: &[u8], at: usize) -> Record
     requires { at + 16 ≤ length bytes.now }
-    ensures { RecordIs result at bytes.now }
+    ensures { HasFields result at bytes.now }
 {
-    if !is_used(bytes, at) {
-        return None;
-    }
-    Some(Record {
+    Record {
         boot: bytes[at],
         start_chs: chs_at(bytes, at + 1),
         kind: bytes[at + 4],
         end_chs: chs_at(bytes, at + 5),
         start: LittleEndian::read_u32(&bytes[at + 8..at + 12]),
         size: LittleEndian::read_u32(&bytes[at + 12..at + 16]),
-    })
+    }
+}
+
+// The record at a place, where it is used.
+pub(crate) fn record_at(bytes: &[u8], at: usize) -> Option<Record>
+    requires { at + 16 ≤ length bytes.now }
+    ensures { RecordIs result at bytes.now }
+{
+    if is_used(bytes, at) {
+        Some(fields_at(bytes, at))
+    } else {
+        None
+    }
+}
+
+fn put_chs(bytes: &mut [u8], at: usize, chs: &[u8; 3])
+    requires { at + 3 ≤ length bytes.old }
+    ensures put { bytes.new ≡ put_at at chs.now bytes.old }
+    ensures fits { length chs.now ≡ 3 }
+{
+    put_bytes(bytes, at, &chs[..]);
+}
+
+// The 16 bytes of a record.
+pub(crate) fn encode_record(value: &Record) -> [u8; 16]
+    ensures bytes { result ≡ record_bytes (Some value.now) }
+    ensures fits { RecordFits value.now }
+{
+    let mut bytes = [0; 16];
+    bytes[0] = value.boot;
+    bytes[4] = value.kind;
+    put_chs(&mut bytes, 1, &value.start_chs);
+    put_chs(&mut bytes, 5, &value.end_chs);
+    put_u32(&mut bytes, 8, value.start);
+    put_u32(&mut bytes, 12, value.size);
+    bytes
 }

@@ -1,11 +1,15 @@
 //! What a disk denotes: layouts, their recovery, and the sectors that decide them.
 #![tactic(auto)]
 
+mod body;
 mod error;
+mod extended;
+mod labels;
 mod laws;
 mod layout;
 mod recovery;
 mod slices;
+mod tables;
 mod trace;
 
 pub use error::NoTable;

@@ -15,6 +15,8 @@ mod pending;
 mod put;
 mod room;
 mod stop;
+#[cfg(test)]
+mod tests;
 
 pub use address::{Extent, Lba, Sector};
 pub use crash::CrashDisk;

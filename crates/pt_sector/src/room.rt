@@ -12,10 +12,12 @@ pub struct Room<const B: usize> {
 }
 
 impl<const B: usize> Room<B> {
+    ghost use Rattle.pt_sector.specs.Overlays.{room_for};
+
     /// Room for this many sectors.
     pub fn new(alloc: Global, room: usize) -> Result<Room<B>, AllocError>
         requires { IsSectorSize B }
-        ensures { IfOk result (λ r. r.own.room ≡ room) }
+        ensures { IfOk result (λ r. room_for r ≡ room) }
     {
         Ok(Room {
             own: Own::new(alloc, room)?,

@@ -1,0 +1,3 @@
+pub mod Heart
+pub mod Firsts
+pub mod Outside

@@ -1,0 +1,4 @@
+pub mod Course
+pub mod Failed
+pub mod First
+pub mod Recovered

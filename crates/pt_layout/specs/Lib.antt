@@ -1,0 +1,11 @@
+pub mod Paths
+pub mod Members
+pub mod Overlaps
+pub mod Tables
+pub mod Owned
+pub mod Counts
+pub mod Search
+pub mod Next
+pub mod Sound
+pub mod Healthy
+pub mod Findings

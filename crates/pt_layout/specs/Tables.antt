@@ -1,0 +1,26 @@
+-- The sectors that hold a layout's tables.
+use Rattle.std.specs.Prelude.{◌≡◌, ◌<◌, ◌≤◌, ◌⊎◌, ◌+◌, ℕ}
+use Rattle.pt_mbr.specs.Chain.{StandsAt}
+use Rattle.pt_gpt.specs.Array.{array_len}
+use Rattle.pt_recover.specs.Labels.{places_of, IsPlace}
+use Rattle.pt_recover.specs.declared.layout.Layout.{Layout}
+use Rattle.pt_recover.specs.declared.layout.Body.{Body}
+use Rattle.pt_recover.specs.declared.layout.Body.TheVariants.{Mbr, Gpt}
+
+-- sector 0, a header and an array at the start of n sectors, and an array and a header at their end
+abbrev pub IsGptTable : ℕ → ℕ → ℕ → Type 0
+IsGptTable b n s = (s < array_len b + 2) ⊎ ((n ≤ s + (array_len b + 1)) × (s < n))
+
+-- sector 0 and the extended boot records, or those of a GPT
+abbrev pub IsBodyTable : ℕ → ℕ → Body → ℕ → Type 0
+IsBodyTable b n (Mbr records chain) s = (s ≡ 0) ⊎ StandsAt s chain
+IsBodyTable b n (Gpt t) s = IsGptTable b n s
+
+-- those, and the label places
+abbrev pub IsTable : ℕ → Layout → ℕ → Type 0
+IsTable b o s = IsBodyTable b o.sectors o.body s ⊎ IsPlace (places_of b o.sectors o.body) s
+
+-- the sector is an extended boot record
+abbrev pub IsEbr : Body → ℕ → Type 0
+IsEbr (Mbr records chain) s = StandsAt s chain
+IsEbr (Gpt t) s = ⊥

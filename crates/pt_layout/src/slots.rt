@@ -1,0 +1,281 @@
+//! The members of a layout in place: its records or entries, its logical partitions, and the entries of its labels.
+
+ghost use Rattle.std.specs.Prelude.{◌≡◌, ◌+◌, ◌<◌, ◌≤◌, ◌^◌, ◌↔◌, ℕ, IsTrue, length, get_or, take, count_by, is_some, Some, None, option_map, IfSome, slice_index_or};
+ghost use Rattle.pt_layout.specs.Members.{records_as, entries_as, logicals_as, slots, record_kind, logical_kind, entry_kind, label_of, part_of, parts_in, sized_member, number_path, record_member, logical_member, entry_member};
+ghost use Rattle.pt_recover.specs.declared.layout.Body.TheVariants.{Mbr};
+ghost use Rattle.pt_bsd.specs.Form.{entry_first_of};
+ghost use Rattle.pt_layout.specs.Counts.{used_before, logical_at};
+
+use crate::member::{Kind, Member};
+use crate::path::Path;
+use pt_bsd::{Form, Label, LabelEntry};
+use pt_gpt::Entry;
+use pt_guid::Guid;
+use pt_mbr::{Ebr, Record};
+use pt_recover::{Body, Labelled, Labels, is_slice_type};
+use pt_sector::Lba;
+
+/// The type of a slice in an MBR.
+const SLICE: u8 = 0xA5;
+
+/// The number of the first logical partition.
+const FIRST_LOGICAL: u64 = 5;
+
+fn record_kind_of<const B: usize>(kind: u8) -> Kind
+    ensures { result ≡ record_kind B kind }
+{
+    if B == 512 && kind == SLICE {
+        Kind::Slice
+    } else if kind == 0x05 || kind == 0x0F {
+        Kind::Extended
+    } else {
+        Kind::Leaf
+    }
+}
+
+fn logical_kind_of<const B: usize>(kind: u8) -> Kind
+    ensures { result ≡ logical_kind B kind }
+{
+    if B == 512 && kind == SLICE {
+        Kind::Slice
+    } else {
+        Kind::Leaf
+    }
+}
+
+// Of a start and a size that count from a sector.
+fn sized(path: Path, kind: Kind, at: u64, start: u32, size: u32) -> Member
+    ensures value { result ≡ sized_member path kind (at + start) size }
+    ensures small { result.first < 2 ^ 66 }
+{
+    let first = u128::from(at) + u128::from(start);
+    Member {
+        path,
+        kind,
+        first,
+        last: (first + u128::from(size)).saturating_sub(1),
+    }
+}
+
+// The path of a partition without a letter.
+fn numbered(number: u64) -> Path
+    ensures { result ≡ number_path number }
+{
+    Path {
+        number,
+        letter: None,
+    }
+}
+
+fn record_of<const B: usize>(number: u64, r: &Record) -> Member
+    ensures value { result ≡ record_member B number r.now }
+    ensures small { result.first < 2 ^ 66 }
+{
+    sized(
+        numbered(number),
+        record_kind_of::<B>(r.kind),
+        0,
+        r.start,
+        r.size,
+    )
+}
+
+fn logical_of<const B: usize>(number: u64, at: Lba, r: &Record) -> Member
+    ensures value { result ≡ logical_member B number at.0 r.now }
+    ensures small { result.first < 2 ^ 66 }
+{
+    sized(
+        numbered(number),
+        logical_kind_of::<B>(r.kind),
+        at.0,
+        r.start,
+        r.size,
+    )
+}
+
+fn entry_kind_of<const B: usize>(kind: &Guid) -> Kind
+    ensures { result ≡ entry_kind B kind.now.0 }
+{
+    if B == 512 && is_slice_type(kind) {
+        Kind::Slice
+    } else {
+        Kind::Leaf
+    }
+}
+
+fn entry_of<const B: usize>(number: u64, e: &Entry) -> Member
+    ensures value { result ≡ entry_member B number e.now }
+    ensures small { result.first < 2 ^ 66 }
+{
+    Member {
+        path: numbered(number),
+        kind: entry_kind_of::<B>(&e.kind),
+        first: u128::from(e.first),
+        last: u128::from(e.last),
+    }
+}
+
+fn record_slot<const B: usize>(records: &[Option<Record>; 4], k: usize) -> Option<Member>
+    requires { k < 4 }
+    ensures value { result ≡ option_map (record_member B (1 + k)) (slice_index_or records.now k None) }
+    ensures small { IfSome result (λ m. m.first < 2 ^ 66) }
+{
+    match &records[k] {
+        Some(r) => Some(record_of::<B>(1 + k as u64, r)),
+        None => None,
+    }
+}
+
+fn entry_slot<const B: usize>(entries: &[Option<Entry>], k: usize) -> Option<Member>
+    requires { k < length entries.now }
+    ensures value { result ≡ option_map (entry_member B (1 + k)) (slice_index_or entries.now k None) }
+    ensures small { IfSome result (λ m. m.first < 2 ^ 66) }
+{
+    match &entries[k] {
+        Some(e) => Some(entry_of::<B>(1 + k as u64, e)),
+        None => None,
+    }
+}
+
+// The number of the logical partition in the extended boot record at a place.
+fn logical_number(chain: &[Ebr], k: usize) -> u64
+    requires { k < length chain.now }
+    ensures { result ≡ 5 + used_before k chain.now }
+{
+    let mut number = FIRST_LOGICAL;
+    for i in 0..k {
+        if chain[i].logical.is_some() {
+            number += 1;
+        }
+    }
+    number
+}
+
+fn logical_slot<const B: usize>(chain: &[Ebr], k: usize) -> Option<Member>
+    requires { k < length chain.now }
+    ensures value { result ≡ logical_at B k chain.now }
+    ensures small { IfSome result (λ m. m.first < 2 ^ 66) }
+{
+    let ebr = chain[k];
+    match &ebr.logical {
+        Some(r) => Some(logical_of::<B>(logical_number(chain, k), ebr.at, r)),
+        None => None,
+    }
+}
+
+#[tactic(auto, using(crate::proofs::ByPlace::mbr_len))]
+fn mbr_count<const B: usize>(records: &[Option<Record>; 4], chain: &[Ebr]) -> usize
+    ensures { result ≡ length (slots B (Mbr «records».now chain.now)) }
+{
+    4 + chain.len()
+}
+
+#[tactic(auto, using(crate::proofs::ByPlace::mbr_len, crate::proofs::ByPlace::mbr_low, crate::proofs::ByPlace::mbr_high))]
+fn mbr_slot<const B: usize>(
+    records: &[Option<Record>; 4],
+    chain: &[Ebr],
+    k: usize,
+) -> Option<Member>
+    requires { k < length (slots B (Mbr «records».now chain.now)) }
+    ensures value { result ≡ slice_index_or (slots B (Mbr «records».now chain.now)) k None }
+    ensures small { IfSome result (λ m. m.first < 2 ^ 66) }
+{
+    if k < 4 {
+        record_slot::<B>(records, k)
+    } else {
+        logical_slot::<B>(chain, k - 4)
+    }
+}
+
+// How many places for members a table has.
+#[tactic(auto, using(crate::proofs::ByPlace::gpt_len))]
+pub(crate) fn slot_count<const B: usize>(body: &Body) -> usize
+    ensures { result ≡ length (slots B body.now) }
+{
+    match body {
+        Body::Mbr { records, chain } => mbr_count::<B>(records, chain.as_slice()),
+        Body::Gpt(table) => table.entries.as_slice().len(),
+    }
+}
+
+// The member in a place: the records or entries first, then the chain's.
+#[tactic(auto, using(crate::proofs::ByPlace::gpt_at, crate::proofs::ByPlace::gpt_len))]
+pub(crate) fn slot<const B: usize>(body: &Body, k: usize) -> Option<Member>
+    requires { k < length (slots B body.now) }
+    ensures value { result ≡ slice_index_or (slots B body.now) k None }
+    ensures small { IfSome result (λ m. m.first < 2 ^ 66) }
+{
+    match body {
+        Body::Mbr { records, chain } => mbr_slot::<B>(records, chain.as_slice(), k),
+        Body::Gpt(table) => entry_slot::<B>(table.entries.as_slice(), k),
+    }
+}
+
+#[tactic(auto, using(crate::proofs::ByPlace::label_here, crate::proofs::ByPlace::label_next, crate::proofs::ByPlace::label_end))]
+fn label_in(labels: &[Labelled], number: u64) -> Option<Label>
+    ensures { result ≡ label_of labels.now number }
+{
+    for k in 0..labels.len() {
+        if labels[k].number == number {
+            return Some(labels[k].label);
+        }
+    }
+    None
+}
+
+// The label of the slice of a number.
+pub(crate) fn find_label(labels: &Labels, number: u64) -> Option<Label>
+    ensures { result ≡ label_of labels.now number }
+{
+    label_in(labels.as_slice(), number)
+}
+
+/// The letter of the raw partition, which is the whole slice: c.
+const RAW: usize = 2;
+
+// The first sector of a label's entry.
+fn entry_first(label: &Label, slice: &Member, e: &LabelEntry) -> u128
+    requires { slice.now.first < 2 ^ 66 }
+    ensures value { result ≡ entry_first_of label.now slice.now.first e.now }
+    ensures small { result < 2 ^ 67 }
+{
+    match label.form() {
+        Form::Relative => slice.first + u128::from(e.offset),
+        Form::Absolute => u128::from(e.offset),
+    }
+}
+
+// The partition of an entry of a slice's label.
+fn part(label: &Label, slice: &Member, k: usize, e: &LabelEntry) -> Option<Member>
+    requires small { slice.now.first < 2 ^ 66 }
+    requires within { k < 8 }
+    ensures { result ≡ part_of label.now slice.now k (Some e.now) }
+{
+    if k == RAW || e.size == 0 {
+        return None;
+    }
+    let first = entry_first(label, slice, e);
+    Some(Member {
+        path: Path {
+            number: slice.path.number,
+            letter: Some(k as u8),
+        },
+        kind: Kind::Leaf,
+        first,
+        last: (first + u128::from(e.size)).saturating_sub(1),
+    })
+}
+
+// The partition of entry k of a slice's label.
+#[tactic(auto, using(crate::proofs::ByPlace::part_at))]
+pub(crate) fn part_slot(label: &Label, slice: &Member, k: usize) -> Option<Member>
+    requires small { slice.now.first < 2 ^ 66 }
+    requires within { k < 8 }
+    requires counted { length label.now.entries ≡ 8 }
+    ensures { result ≡ slice_index_or (parts_in (Some label.now) slice.now) k None }
+{
+    match &label.entries[k] {
+        Some(e) => part(label, slice, k, e),
+        None => None,
+    }
+}

@@ -1,0 +1,132 @@
+//! The sectors that hold tables.
+
+ghost use Rattle.std.specs.Prelude.{◌≡◌, ◌<◌, ◌≤◌, ◌+◌, ◌↔◌, ◌⊎◌, IsTrue, length, slice_index_or, None};
+ghost use Rattle.pt_sector.specs.Sectors.{IsSectorSize};
+ghost use Rattle.pt_mbr.specs.Chain.{StandsAt};
+ghost use Rattle.pt_gpt.specs.Array.{array_len};
+ghost use Rattle.pt_recover.specs.Labels.{places_of, IsPlace};
+ghost use Rattle.pt_layout.specs.Members.{slots};
+ghost use Rattle.pt_layout.specs.Tables.{IsTable, IsEbr, IsBodyTable, IsGptTable};
+ghost use Rattle.pt_layout.specs.Next.{NextIs, least_of, place_in, PlacedIn};
+
+use crate::member::{Kind, Member};
+use crate::slots::{slot, slot_count};
+use pt_gpt::array_sectors;
+use pt_mbr::Ebr;
+use pt_recover::{Body, Layout};
+use pt_sector::Lba;
+
+// The lesser of two sectors.
+fn least(a: Option<u64>, b: Option<u64>) -> Option<u64>
+    ensures { result ≡ least_of a b }
+{
+    match (a, b) {
+        (Some(x), Some(y)) => { if y < x { Some(y) } else { Some(x) } }
+        (Some(x), None) => Some(x),
+        (None, y) => y,
+    }
+}
+
+// The sector, where it isn't below the other.
+fn not_below(lba: u64, from: u64) -> Option<u64>
+    ensures { NextIs (λ s. s ≡ lba) from result }
+{
+    if from <= lba { Some(lba) } else { None }
+}
+
+fn next_ebr(chain: &[Ebr], from: u64) -> Option<u64>
+    ensures { NextIs (λ s. StandsAt s chain.now) from result }
+{
+    let mut next = None;
+    for k in 0..chain.len() {
+        next = least(next, not_below(chain[k].at.0, from));
+    }
+    next
+}
+
+fn next_of_gpt<const B: usize>(sectors: u64, from: u64) -> Option<u64>
+    requires { IsSectorSize B }
+    ensures { NextIs (IsGptTable B sectors) from result }
+{
+    let array = array_sectors::<B>();
+    if from < array + 2 {
+        return Some(from);
+    }
+    if from >= sectors {
+        return None;
+    }
+    let end = sectors.saturating_sub(array + 1);
+    if from < end { Some(end) } else { Some(from) }
+}
+
+fn next_of_body<const B: usize>(sectors: u64, body: &Body, from: u64) -> Option<u64>
+    requires { IsSectorSize B }
+    ensures { NextIs (IsBodyTable B sectors body.now) from result }
+{
+    match body {
+        Body::Mbr { chain, .. } => least(not_below(0, from), next_ebr(chain.as_slice(), from)),
+        Body::Gpt(_) => next_of_gpt::<B>(sectors, from),
+    }
+}
+
+// The label place of a member, where it is a slice that has one.
+fn label_place(sectors: u64, m: &Member) -> Option<u64>
+    ensures { result ≡ place_in sectors m.now }
+{
+    if m.kind != Kind::Slice || m.last >= 1 << 63 || m.last <= m.first {
+        return None;
+    }
+    let place = m.first as u64 + 1;
+    if place < sectors { Some(place) } else { None }
+}
+
+// The label place of the member in a place.
+fn place_from<const B: usize>(sectors: u64, body: &Body, k: usize, from: u64) -> Option<u64>
+    requires { k < length (slots B body.now) }
+    ensures { NextIs (PlacedIn sectors (slice_index_or (slots B body.now) k None)) from result }
+{
+    let m = slot::<B>(body, k)?;
+    let place = label_place(sectors, &m)?;
+    not_below(place, from)
+}
+
+fn next_label<const B: usize>(sectors: u64, body: &Body, from: u64) -> Option<u64>
+    ensures { NextIs (IsPlace (places_of B sectors body.now)) from result }
+{
+    let mut next = None;
+    for k in 0..slot_count::<B>(body) {
+        next = least(next, place_from::<B>(sectors, body, k, from));
+    }
+    next
+}
+
+// The lowest table sector from one on.
+pub(crate) fn next_table<const B: usize>(layout: &Layout, from: u64) -> Option<u64>
+    requires { IsSectorSize B }
+    ensures { NextIs (IsTable B layout.now) from result }
+{
+    let body = next_of_body::<B>(layout.sectors, &layout.body, from);
+    let label = next_label::<B>(layout.sectors, &layout.body, from);
+    least(body, label)
+}
+
+/// Whether a sector is one of the layout's tables.
+///
+/// Of a GPT these are sector 0, both headers and both arrays, counted or not; of an MBR sector 0 and the extended
+/// boot records; of both the label places.
+pub fn is_table<const B: usize>(layout: &Layout, lba: Lba) -> bool
+    requires { IsSectorSize B }
+    ensures { IsTrue result ↔ IsTable B layout.now lba.0 }
+{
+    next_table::<B>(layout, lba.0) == Some(lba.0)
+}
+
+// Whether a sector is an extended boot record.
+pub(crate) fn is_ebr(body: &Body, lba: u64) -> bool
+    ensures { IsTrue result ↔ IsEbr body.now lba }
+{
+    match body {
+        Body::Mbr { chain, .. } => next_ebr(chain.as_slice(), lba) == Some(lba),
+        Body::Gpt(_) => false,
+    }
+}
