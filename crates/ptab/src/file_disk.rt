@@ -4,15 +4,15 @@ ghost use Rattle.std.specs.Prelude.{◌≡◌, ◌≤◌, ◌<◌, ◌*◌, ◌+
 ghost use Rattle.ptab.specs.Untold.{untold};
 
 use pt_sector::{Disk, Fault, Lba, Moments};
-use std::fs::{Files, OpenFile, OpenOptions};
+use std::fs::{File, Files, OpenFile, OpenOptions};
 use std::io::{Read, Seek, SeekFrom, Write};
 
 /// A plain file as a disk with sectors of `B` bytes; a tail shorter than a sector is never touched.
 ///
 /// It tells nothing of its content: that a file keeps the model of a device is a premise.
 #[derive(Drop)]
-pub struct FileDisk<F: Drop, const B: usize> {
-    file: F,
+pub struct FileDisk<const B: usize> {
+    file: File,
     sectors: u64,
     failed: Moments<Fault>,
     ghost fits: { sectors * B < 2 ^ 63 },
@@ -30,11 +30,11 @@ pub enum Access {
 pub struct NoImage;
 
 /// Opens a plain file.
-pub fn open<R: Files, const B: usize>(
+pub fn open<R: Files<File = File>, const B: usize>(
     rt: &R,
     path: &str,
     access: Access,
-) -> Result<FileDisk<R::File, B>, NoImage>
+) -> Result<FileDisk<B>, NoImage>
     requires { 0 < B }
 {
     match rt.metadata(path) {
@@ -65,7 +65,7 @@ pub fn open<R: Files, const B: usize>(
     })
 }
 
-impl<F: Read + Write + Seek + OpenFile + Drop, const B: usize> Disk<B> for FileDisk<F, B> {
+impl<const B: usize> Disk<B> for FileDisk<B> {
     ghost tells = { ⊥ };
 
     ghost told = { λ d. untold };
@@ -115,10 +115,10 @@ impl<F: Read + Write + Seek + OpenFile + Drop, const B: usize> Disk<B> for FileD
     }
 }
 
-fn read_at<F: Read + Seek>(file: &mut F, at: u64, into: &mut [u8]) -> bool {
+fn read_at(file: &mut File, at: u64, into: &mut [u8]) -> bool {
     file.seek(SeekFrom::Start(at)).is_ok() && file.read_exact(into).is_ok()
 }
 
-fn write_at<F: Write + Seek>(file: &mut F, at: u64, bytes: &[u8]) -> bool {
+fn write_at(file: &mut File, at: u64, bytes: &[u8]) -> bool {
     file.seek(SeekFrom::Start(at)).is_ok() && file.write_all(bytes).is_ok()
 }

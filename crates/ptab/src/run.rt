@@ -2,13 +2,12 @@
 
 ghost use Rattle.std.specs.Prelude.{◌≡◌};
 
-use crate::edit::edit;
 use crate::file_disk::{Access, open};
 use crate::line::{Job, LineError, read_line};
 use crate::show::print_layout;
 use crate::texts::{Failure, Status, print_finding};
 use pt_layout::{Finding, Verdict, VerifyError, recover, verify};
-use std::fs::Files;
+use std::fs::{File, Files};
 use std::io;
 use std::io::Write;
 
@@ -26,7 +25,7 @@ pub fn printed(done: io::Result<()>, status: Status) -> Answer {
     }
 }
 
-fn show<R: Files + AllocGlobal, O: Write>(rt: &R, image: &str, out: &mut O) -> Answer {
+fn show<R: Files<File = File> + AllocGlobal, O: Write>(rt: &R, image: &str, out: &mut O) -> Answer {
     let mut disk = match open::<R, SECTOR>(rt, image, Access::Read) {
         Ok(disk) => disk,
         Err(_) => return Err(Failure::Device),
@@ -37,7 +36,7 @@ fn show<R: Files + AllocGlobal, O: Write>(rt: &R, image: &str, out: &mut O) -> A
     }
 }
 
-fn verify_image<R: Files + AllocGlobal, O: Write>(rt: &R, image: &str, out: &mut O) -> Answer {
+fn verify_image<R: Files<File = File> + AllocGlobal, O: Write>(rt: &R, image: &str, out: &mut O) -> Answer {
     let mut disk = match open::<R, SECTOR>(rt, image, Access::Read) {
         Ok(disk) => disk,
         Err(_) => return Err(Failure::Device),
@@ -50,20 +49,20 @@ fn verify_image<R: Files + AllocGlobal, O: Write>(rt: &R, image: &str, out: &mut
     }
 }
 
-fn answer<R: Files + AllocGlobal, O: Write>(rt: &R, job: &Job, out: &mut O) -> Answer {
+fn answer<R: Files<File = File> + AllocGlobal, O: Write>(rt: &R, job: &Job, out: &mut O) -> Answer {
     match job {
         Job::Help(text) => printed(write!(out, "{text}"), Status::Done),
         Job::Show { image } => show(rt, image.as_str(), out),
         Job::Verify { image } => verify_image(rt, image.as_str(), out),
         Job::Edit {
-            image,
-            fresh,
-            words,
-        } => edit(rt, image.as_str(), fresh.as_ref(), words.as_slice(), out),
+            image: _,
+            fresh: _,
+            words: _,
+        } => Err(Failure::NotYet),
     }
 }
 
-fn line_answer<R: Files + AllocGlobal, O: Write>(rt: &R, words: &[&str], out: &mut O) -> Answer {
+fn line_answer<R: Files<File = File> + AllocGlobal, O: Write>(rt: &R, words: &[&str], out: &mut O) -> Answer {
     match read_line(rt.alloc(), words) {
         Ok(job) => answer(rt, &job, out),
         Err(LineError::Usage(text)) => Err(Failure::Usage(text)),
@@ -73,7 +72,7 @@ fn line_answer<R: Files + AllocGlobal, O: Write>(rt: &R, words: &[&str], out: &m
 
 /// Runs the command on the words after its name: answers on `out`, refusals and faults on `err`, and the exit status.
 /// Where a stream fails the status is that of a device's fault, and what was done stands.
-pub fn run<R: Files + AllocGlobal, O: Write, E: Write>(
+pub fn run<R: Files<File = File> + AllocGlobal, O: Write, E: Write>(
     rt: &R,
     words: &[&str],
     out: &mut O,
