@@ -8,4 +8,5 @@ tests/install.sh
 ptab=$(./build.sh)
 python3 tests/real_images.py "$ptab"
 python3 tests/bad_input.py "$ptab"
+python3 tests/rows.py "$ptab"
 exec rt ci
