@@ -5,6 +5,20 @@ use clap::{Arg, ArgAction, ArgMatches, Command};
 use std::alloc::{AllocError, Global};
 use thiserror::Error;
 
+/// How many bytes the sectors of the image have.
+#[derive(Clone, Copy, Debug, PartialEq, Eq)]
+pub enum SectorSize {
+    Bytes512,
+    Bytes4096,
+}
+
+/// A command line that was read.
+#[derive(Debug, Drop)]
+pub struct Line {
+    pub job: Job,
+    pub size: SectorSize,
+}
+
 /// What a command line asks for, with its texts as they were given.
 #[derive(Debug, Drop)]
 pub enum Job {
@@ -54,18 +68,30 @@ fn image<'a>(alloc: Global) -> Arg<'a> {
         .help("The disk image, a plain file")
 }
 
+fn sector_size<'a>(alloc: Global) -> Arg<'a> {
+    Arg::new(alloc, "sector-size")
+        .long("sector-size")
+        .value_name("BYTES")
+        .value_parser(["512", "4096"].as_slice())
+        .default_value("512")
+        .action(ArgAction::Set)
+        .help("How many bytes a sector has")
+}
+
 fn show_command<'a>(alloc: Global) -> Result<Command<'a>, AllocError> {
     Command::new(alloc, "show")
         .about("Prints the layout that the image denotes, a line a partition")
         .after_help(STATUSES)
-        .arg(image(alloc))
+        .arg(image(alloc))?
+        .arg(sector_size(alloc))
 }
 
 fn verify_command<'a>(alloc: Global) -> Result<Command<'a>, AllocError> {
     Command::new(alloc, "verify")
         .about("Prints `yes` where the image is healthy, else the first finding")
         .after_help(STATUSES)
-        .arg(image(alloc))
+        .arg(image(alloc))?
+        .arg(sector_size(alloc))
 }
 
 fn edit_command<'a>(alloc: Global) -> Result<Command<'a>, AllocError> {
@@ -84,6 +110,7 @@ fn edit_command<'a>(alloc: Global) -> Result<Command<'a>, AllocError> {
         .after_help(WORDS)
         .arg(image(alloc))?
         .arg(fresh)?
+        .arg(sector_size(alloc))?
         .arg(words)
 }
 
@@ -121,23 +148,43 @@ fn edit_job(alloc: Global, matches: &ArgMatches<'_>) -> Result<Job, AllocError> 
     })
 }
 
-fn job_of(alloc: Global, matches: &ArgMatches<'_>) -> Result<Job, LineError> {
-    match matches.subcommand() {
-        Some(("show", inner)) => Ok(Job::Show {
+fn size_of(matches: &ArgMatches<'_>) -> SectorSize {
+    match matches.get_str("sector-size") {
+        Some("4096") => SectorSize::Bytes4096,
+        _ => SectorSize::Bytes512,
+    }
+}
+
+fn job_of(alloc: Global, name: &str, inner: &ArgMatches<'_>) -> Result<Job, LineError> {
+    match name {
+        "show" => Ok(Job::Show {
             image: text_of(alloc, inner, "IMAGE")?,
         }),
-        Some(("verify", inner)) => Ok(Job::Verify {
+        "verify" => Ok(Job::Verify {
             image: text_of(alloc, inner, "IMAGE")?,
         }),
-        Some(("edit", inner)) => Ok(edit_job(alloc, inner)?),
+        "edit" => Ok(edit_job(alloc, inner)?),
         _ => Err(LineError::Usage(String::new(alloc))),
     }
 }
 
-fn failed(alloc: Global, error: &clap::Error) -> Result<Job, LineError> {
+fn line_of(alloc: Global, matches: &ArgMatches<'_>) -> Result<Line, LineError> {
+    match matches.subcommand() {
+        Some((name, inner)) => Ok(Line {
+            job: job_of(alloc, name, inner)?,
+            size: size_of(inner),
+        }),
+        None => Err(LineError::Usage(String::new(alloc))),
+    }
+}
+
+fn failed(alloc: Global, error: &clap::Error) -> Result<Line, LineError> {
     match error.kind() {
         ErrorKind::OutOfMemory => Err(LineError::Memory),
-        ErrorKind::DisplayHelp => Ok(Job::Help(format!(in alloc; "{error}")?)),
+        ErrorKind::DisplayHelp => Ok(Line {
+            job: Job::Help(format!(in alloc; "{error}")?),
+            size: SectorSize::Bytes512,
+        }),
         _ => Err(LineError::Usage(format!(in alloc; "{error}")?)),
     }
 }
@@ -154,10 +201,10 @@ fn with_name<'a>(alloc: Global, words: &[&'a str]) -> Result<Vec<&'a str>, Alloc
 /// Reads the words after the program's name.
 ///
 /// `Usage` has `clap`'s text for words that are no command; `Memory` is want of memory.
-pub fn read_line(alloc: Global, words: &[&str]) -> Result<Job, LineError> {
+pub fn read_line(alloc: Global, words: &[&str]) -> Result<Line, LineError> {
     let line = with_name(alloc, words)?;
     match command(alloc)?.try_get_matches_from(line.as_slice()) {
-        Ok(matches) => job_of(alloc, &matches),
+        Ok(matches) => line_of(alloc, &matches),
         Err(error) => failed(alloc, &error),
     }
 }

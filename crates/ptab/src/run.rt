@@ -1,18 +1,15 @@
 //! A run of the command: a line of words, two streams, and an exit status.
 
-ghost use Rattle.std.specs.Prelude.{◌≡◌};
+ghost use Rattle.pt_sector.specs.Sectors.{IsSectorSize};
 
 use crate::file_disk::{Access, open};
-use crate::line::{Job, LineError, read_line};
+use crate::line::{Job, Line, LineError, SectorSize, read_line};
 use crate::show::print_layout;
 use crate::texts::{Failure, Status, print_finding};
 use pt_layout::{Finding, Verdict, VerifyError, recover, verify};
 use std::fs::{File, Files};
 use std::io;
 use std::io::Write;
-
-/// Sectors of an image have 512 bytes.
-pub const SECTOR: usize = 512;
 
 /// An answer on standard output, or why there is none.
 pub type Answer = Result<Status, Failure>;
@@ -25,23 +22,35 @@ pub fn printed(done: io::Result<()>, status: Status) -> Answer {
     }
 }
 
-fn show<R: Files<File = File> + AllocGlobal, O: Write>(rt: &R, image: &str, out: &mut O) -> Answer {
-    let mut disk = match open::<R, SECTOR>(rt, image, Access::Read) {
+fn show<const B: usize, R: Files<File = File> + AllocGlobal, O: Write>(
+    rt: &R,
+    image: &str,
+    out: &mut O,
+) -> Answer
+    requires { IsSectorSize B }
+{
+    let mut disk = match open::<R, B>(rt, image, Access::Read) {
         Ok(disk) => disk,
         Err(_) => return Err(Failure::Device),
     };
-    match recover::<SECTOR, _>(rt.alloc(), &mut disk) {
+    match recover::<B, _>(rt.alloc(), &mut disk) {
         Ok(layout) => printed(print_layout(out, &layout), Status::Done),
         Err(why) => Err(Failure::NoTable(why)),
     }
 }
 
-fn verify_image<R: Files<File = File> + AllocGlobal, O: Write>(rt: &R, image: &str, out: &mut O) -> Answer {
-    let mut disk = match open::<R, SECTOR>(rt, image, Access::Read) {
+fn verify_image<const B: usize, R: Files<File = File> + AllocGlobal, O: Write>(
+    rt: &R,
+    image: &str,
+    out: &mut O,
+) -> Answer
+    requires { IsSectorSize B }
+{
+    let mut disk = match open::<R, B>(rt, image, Access::Read) {
         Ok(disk) => disk,
         Err(_) => return Err(Failure::Device),
     };
-    match verify::<SECTOR, _>(rt.alloc(), &mut disk) {
+    match verify::<B, _>(rt.alloc(), &mut disk) {
         Ok(Verdict::Yes(_)) => printed(writeln!(out, "yes"), Status::Done),
         Ok(Verdict::No(finding)) => printed(print_finding(out, &finding), Status::No),
         Err(VerifyError::Device(_)) => Err(Failure::Device),
@@ -49,11 +58,17 @@ fn verify_image<R: Files<File = File> + AllocGlobal, O: Write>(rt: &R, image: &s
     }
 }
 
-fn answer<R: Files<File = File> + AllocGlobal, O: Write>(rt: &R, job: &Job, out: &mut O) -> Answer {
+fn answer<const B: usize, R: Files<File = File> + AllocGlobal, O: Write>(
+    rt: &R,
+    job: &Job,
+    out: &mut O,
+) -> Answer
+    requires { IsSectorSize B }
+{
     match job {
         Job::Help(text) => printed(write!(out, "{text}"), Status::Done),
-        Job::Show { image } => show(rt, image.as_str(), out),
-        Job::Verify { image } => verify_image(rt, image.as_str(), out),
+        Job::Show { image } => show::<B, R, O>(rt, image.as_str(), out),
+        Job::Verify { image } => verify_image::<B, R, O>(rt, image.as_str(), out),
         Job::Edit {
             image: _,
             fresh: _,
@@ -64,7 +79,10 @@ fn answer<R: Files<File = File> + AllocGlobal, O: Write>(rt: &R, job: &Job, out:
 
 fn line_answer<R: Files<File = File> + AllocGlobal, O: Write>(rt: &R, words: &[&str], out: &mut O) -> Answer {
     match read_line(rt.alloc(), words) {
-        Ok(job) => answer(rt, &job, out),
+        Ok(Line { job, size }) => match size {
+            SectorSize::Bytes512 => answer::<512, R, O>(rt, &job, out),
+            SectorSize::Bytes4096 => answer::<4096, R, O>(rt, &job, out),
+        },
         Err(LineError::Usage(text)) => Err(Failure::Usage(text)),
         Err(LineError::Memory) => Err(Failure::Memory),
     }
