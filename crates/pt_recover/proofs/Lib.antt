@@ -7,3 +7,4 @@ pub mod Sides
 pub mod LabelSteps
 pub mod Bodies
 pub mod Whole
+pub mod Equal

@@ -7,7 +7,7 @@ use Rattle.pt_recover.specs.declared.layout.Slice.{Slice}
 use Rattle.pt_recover.specs.declared.layout.Labelled.{Labelled}
 use Rattle.pt_recover.proofs.LabelSteps.{label_more, labels_end}
 use Rattle.pt_recover.proofs.Traces.{place_more}
-use Rattle.pt_recover.proofs.labels.read_labels.Goals as goal
+use Rattle.pt_recover.proofs.labels.traced_labels.Goals as goal
 
 pub loop-k-preserved : goal.loop-k-preserved
 loop-k-preserved g c =

@@ -2,7 +2,7 @@ use Rattle.std.specs.Prelude.{◌≡◌, drop}
 use Rattle.pt_recover.specs.Labels.{IsPlace}
 use Rattle.pt_recover.proofs.Traces.{Left}
 use Rattle.pt_recover.proofs.LabelSteps.{Continues}
-use Rattle.pt_recover.proofs.labels.read_labels.Given as goal
+use Rattle.pt_recover.proofs.labels.traced_labels.Given as goal
 
 abbrev pub invariant-loop-k : goal.invariant-loop-k
 invariant-loop-k g l = record {
