@@ -1,11 +1,11 @@
 -- What was read at a side's place is its header, or its fault.
-use Rattle.std.proofs.Common.{◌≡◌, ℕ, List, refl, sym, ap, ◌∙◌, subst, inl, inr}
+use Rattle.std.proofs.Common.{◌≡◌, ℕ, List, refl, ap, ◌∙◌, subst, inl, inr}
 use Rattle.std.specs.Prelude.{◌⊎◌, length, Option}
 use Rattle.pt_sector.specs.Sectors.{Sectors, sector}
 use Rattle.pt_sum.specs.Crc.{crc_of}
 use Rattle.pt_gpt.specs.Errors.{IsOutside, FailedIn}
 use Rattle.pt_gpt.specs.Header.{HeaderBytes, IsHeaderFault}
-use Rattle.pt_gpt.specs.Copy.{header_place, header_sector, IsPlaced, IsPlaceFault, IsHead, no_header, misplaced, no_head, other_crc, array_of, HasArrayCrc, CopyWith}
+use Rattle.pt_gpt.specs.Copy.{header_place, IsPlaced, IsPlaceFault, IsHead, no_header, misplaced, no_head, other_crc, array_of, HasArrayCrc, CopyWith}
 use Rattle.pt_gpt.specs.Array.{AreEntries}
 use Rattle.pt_gpt.specs.Answers.{TellsHeadFault, TellsFault}
 use Rattle.pt_gpt.specs.declared.header.Header.{Header}

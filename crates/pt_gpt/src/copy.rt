@@ -8,15 +8,13 @@ ghost use Rattle.pt_gpt.specs.Array.{array_len};
 ghost use Rattle.pt_gpt.specs.Copy.{header_place, IsPlaced, IsHead, CopyWith, Copy, SideReads};
 ghost use Rattle.pt_gpt.specs.Answers.{TellsHeadFault, TellsFault};
 
-use std::alloc::Global;
-
-use pt_sector::{Disk, Lba};
-
+use crate::entries::read_entries;
 use crate::error::CopyError;
 use crate::header::{Header, decode_header};
-use crate::entries::read_entries;
 use crate::place::{check_place, header_at};
 use crate::table::{Side, Table};
+use pt_sector::{Disk, Lba};
+use std::alloc::Global;
 
 // The header that a sector is.
 fn read_header<const B: usize, D: Disk<B>>(disk: &mut D, at: u64) -> Result<Header, CopyError>
@@ -73,7 +71,12 @@ pub fn read_head<const B: usize, D: Disk<B>>(disk: &mut D, side: Side) -> Result
 /// `ArrayCrc` where the array has another CRC, `Device` where a read failed. The memory for the entries is taken at
 /// once, before the first read; `Memory` where there is none. The counted sectors of the array are read in order,
 /// through one sector's buffer.
-pub fn read_table<const B: usize, D: Disk<B>>(alloc: Global, disk: &mut D, side: Side, header: &Header) -> Result<Table, CopyError>
+pub fn read_table<const B: usize, D: Disk<B>>(
+    alloc: Global,
+    disk: &mut D,
+    side: Side,
+    header: &Header,
+) -> Result<Table, CopyError>
     requires size { IsSectorSize B }
     requires room { 2 * array_len B + 4 ≤ D.count disk.old }
     requires placed { IsPlaced B side (D.count disk.old) header.now }
@@ -109,7 +112,11 @@ pub fn read_table<const B: usize, D: Disk<B>>(alloc: Global, disk: &mut D, side:
 ///
 /// Of errors 1 to 9 the first that holds; `Device` where a read failed, and `Memory` where there was none for the
 /// entries. AlternateLBA isn't looked at.
-pub fn read_copy<const B: usize, D: Disk<B>>(alloc: Global, disk: &mut D, side: Side) -> Result<Table, CopyError>
+pub fn read_copy<const B: usize, D: Disk<B>>(
+    alloc: Global,
+    disk: &mut D,
+    side: Side,
+) -> Result<Table, CopyError>
     requires size { IsSectorSize B }
     requires room { 2 * array_len B + 4 ≤ D.count disk.old }
     ensures count { D.count disk.new ≡ D.count disk.old }
