@@ -2,7 +2,7 @@
 
 ghost use Rattle.std.specs.Prelude.{◌≡◌, ◌⊎◌, ◌+◌, ◌*◌, ◌<◌, ◌≤◌, IfOk, IfErr, OnOk, length};
 ghost use Rattle.pt_sector.specs.Sectors.{IsSectorSize, sector};
-ghost use Rattle.pt_gpt.specs.Errors.{IsOutside, FailedAs, FailedIn};
+ghost use Rattle.pt_gpt.specs.Errors.{IsOutside, NeedsNoMemory, FailedAs, FailedIn};
 ghost use Rattle.pt_gpt.specs.Header.{HeaderBytes, IsHeaderFault};
 ghost use Rattle.pt_gpt.specs.Array.{array_len};
 ghost use Rattle.pt_gpt.specs.Copy.{header_place, IsPlaced, IsHead, CopyWith, Copy, SideReads};
@@ -17,6 +17,7 @@ use pt_sector::{Disk, Lba};
 use std::alloc::Global;
 
 // The header that a sector is.
+#[tactic(auto, using(crate::proofs::Heads::header_needs_none))]
 fn read_header<const B: usize, D: Disk<B>>(disk: &mut D, at: u64) -> Result<Header, CopyError>
     requires size { IsSectorSize B }
     requires within { at < D.count disk.old }
@@ -26,6 +27,7 @@ fn read_header<const B: usize, D: Disk<B>>(disk: &mut D, at: u64) -> Result<Head
     ensures quiet { OnOk result (D.failures disk.new ≡ D.failures disk.old) }
     ensures failed { IfErr result (λ e. FailedAs e (D.failures disk.old) (D.failures disk.new)) }
     ensures place { IfErr result (FailedIn (λ s. s ≡ at)) }
+    ensures memory { IfErr result NeedsNoMemory }
     ensures same { D.tells → D.told disk.new ≡ D.told disk.old }
     ensures ok { D.tells → IfOk result (λ h. HeaderBytes B h (sector (D.told disk.old).seen at)) }
     ensures err { D.tells → IfErr result (λ e. IsOutside e ⊎ IsHeaderFault B e (sector (D.told disk.old).seen at)) }
@@ -41,6 +43,7 @@ fn read_header<const B: usize, D: Disk<B>>(disk: &mut D, at: u64) -> Result<Head
 ///
 /// Of errors 1 to 8 the first that holds, or `Device` where the read failed. It reads one sector and takes no memory;
 /// the array's CRC is for `read_table`.
+#[tactic(auto, using(crate::proofs::Heads::place_needs_none))]
 pub fn read_head<const B: usize, D: Disk<B>>(disk: &mut D, side: Side) -> Result<Header, CopyError>
     requires size { IsSectorSize B }
     requires room { 2 * array_len B + 4 ≤ D.count disk.old }
@@ -50,6 +53,7 @@ pub fn read_head<const B: usize, D: Disk<B>>(disk: &mut D, side: Side) -> Result
     ensures quiet { OnOk result (D.failures disk.new ≡ D.failures disk.old) }
     ensures failed { IfErr result (λ e. FailedAs e (D.failures disk.old) (D.failures disk.new)) }
     ensures place { IfErr result (FailedIn (λ s. s ≡ header_place side (D.count disk.old))) }
+    ensures memory { IfErr result NeedsNoMemory }
     ensures same { D.tells → D.told disk.new ≡ D.told disk.old }
     ensures placed { IfOk result (λ h. IsPlaced B side (D.count disk.old) h) }
     ensures ok { D.tells → IfOk result (λ h. IsHead B (D.told disk.old).seen side h) }
