@@ -9,3 +9,4 @@ pub mod Next
 pub mod Sound
 pub mod Healthy
 pub mod Findings
+pub mod Held

@@ -2,6 +2,7 @@
 #![tactic(auto)]
 
 mod finding;
+mod groups;
 mod health;
 mod member;
 mod overlap;
