@@ -10,3 +10,6 @@ pub mod Sound
 pub mod Healthy
 pub mod Findings
 pub mod Held
+pub mod Spots
+pub mod Row
+pub mod Twins

@@ -1,12 +1,80 @@
 //! Whether a layout is sound.
 
-ghost use Rattle.std.specs.Prelude.{IfOk};
+ghost use Rattle.std.specs.Prelude.{◌≡◌, ◌+◌, ◌<◌, ◌↔◌, ℕ, IfOk, IsTrue, All, length, slice_index_or};
 ghost use Rattle.pt_sector.specs.Sectors.{IsSectorSize};
-ghost use Rattle.pt_layout.specs.Sound.{UnsoundIs};
+ghost use Rattle.pt_layout.specs.Members.{groups_of};
+ghost use Rattle.pt_layout.specs.Overlaps.{IsOrdered, FirstOverlapIs};
+ghost use Rattle.pt_layout.specs.Row.{AllOrdered, SharedIs};
+ghost use Rattle.pt_layout.specs.Twins.{HasSameUnique, SameAt, TwinIs, TwinsAre};
+ghost use Rattle.pt_layout.specs.Sound.{AllInside, AllApart, OffTables, Distinct, UnsoundIs};
 
+use crate::faults::{Fault, first_fault};
 use crate::finding::Finding;
-use pt_recover::Layout;
+use crate::groups::{Siblings, groups};
+use crate::overlap::{Overlap, first_overlap};
+use pt_gpt::Entry;
+use pt_recover::{Body, Layout};
+use pt_sector::Lba;
 use std::alloc::{AllocError, Global};
+
+fn shared_in(alloc: Global, group: &Siblings) -> Result<Option<Overlap>, AllocError>
+    requires { All IsOrdered group.now.members }
+    ensures found { IfOk result (λ o. FirstOverlapIs group.now.members o) }
+{
+    let members = match Vec::from_slice(alloc, group.as_slice()) {
+        Ok(members) => members,
+        Err(e) => return Err(e),
+    };
+    first_overlap(members)
+}
+
+// The first overlap of the first group that has one.
+fn first_shared(alloc: Global, groups: &[Siblings]) -> Result<Option<Overlap>, AllocError>
+    requires { AllOrdered groups.now }
+    ensures found { IfOk result (λ o. SharedIs groups.now o) }
+{
+    for k in 0..groups.len() {
+        match shared_in(alloc, &groups[k]) {
+            Ok(Some(overlap)) => return Ok(Some(overlap)),
+            Ok(None) => {}
+            Err(e) => return Err(e),
+        }
+    }
+    Ok(None)
+}
+
+fn has_same_unique(a: &Option<Entry>, b: &Option<Entry>) -> bool
+    ensures { IsTrue result ↔ HasSameUnique a.now b.now }
+{
+    match (a, b) {
+        (Some(a), Some(b)) => a.unique == b.unique,
+        _ => false,
+    }
+}
+
+// The first entry before one that has its unique GUID.
+fn twin_of(entries: &[Option<Entry>], k: usize) -> Option<usize>
+    requires { k < length entries.now }
+    ensures { TwinIs entries.now k result }
+{
+    for i in 0..k {
+        if has_same_unique(&entries[i], &entries[k]) {
+            return Some(i);
+        }
+    }
+    None
+}
+
+fn first_twins(entries: &[Option<Entry>]) -> Option<(usize, usize)>
+    ensures { TwinsAre entries.now result }
+{
+    for k in 0..entries.len() {
+        if let Some(i) = twin_of(entries, k) {
+            return Some((i, k));
+        }
+    }
+    None
+}
 
 /// The first of findings 7 to 10 that holds of a layout, none exactly where it is sound.
 pub fn unsound<const B: usize>(
