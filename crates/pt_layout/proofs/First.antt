@@ -1,5 +1,5 @@
 -- The first of some members and sectors.
-use Rattle.std.proofs.Common.{◌≡◌, ◌<◌, ◌≤◌, ◌+◌, ℕ, zero, suc, List, [], ◌∷◌, length, get_or, Option, Some, None, refl, sym, ap, ◌∙◌, subst, arith, inl, inr}
+use Rattle.std.proofs.Common.{◌≡◌, ◌<◌, ◌+◌, ℕ, Option, Some, None, sym, subst, arith, inl, inr}
 use Rattle.std.specs.Prelude.{◌⊎◌}
 use Rattle.std.proofs.lemmas.Bool.{cases_lt}
 use Rattle.pt_layout.specs.declared.path.Path.{Path}
@@ -60,6 +60,7 @@ below_more F k a b r p q is = least_same (λ u t. Below F k u t ⊎ F k u t) (Be
   there : (u : Path) (t : ℕ) → Below F k u t ⊎ F k u t → Below F (k + 1) u t
   there u t (inl (j, lt, x)) = (j, omega arith, x)
   there u t (inr x) = (k, omega arith, x)
+
   back : (u : Path) (t : ℕ) → Below F (k + 1) u t → Below F k u t ⊎ F k u t
   back u t (j, lt, x) = elim (cases_lt j k) as (λ _. Below F k u t ⊎ F k u t) [
     | inl low ↦ inl (j, low, x)

@@ -13,3 +13,4 @@ pub mod Held
 pub mod Spots
 pub mod Row
 pub mod Twins
+pub mod Steps

@@ -1,5 +1,5 @@
 -- Entries with one unique GUID.
-use Rattle.std.specs.Prelude.{◌≡◌, ◌<◌, ◌≤◌, ◌⊎◌, ◌+◌, ℕ, List, length, slice_index_or, Option, Some, None}
+use Rattle.std.specs.Prelude.{◌≡◌, ◌<◌, ◌≤◌, ◌⊎◌, ℕ, List, length, slice_index_or, Option, Some, None}
 use Rattle.pt_gpt.specs.declared.entry.Entry.{Entry}
 
 -- both are used, with one unique GUID

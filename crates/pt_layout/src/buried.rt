@@ -23,10 +23,7 @@ fn table_within<const B: usize>(layout: &Layout, first: u64, last: u64) -> Optio
 fn is_own_place(layout: &Layout, m: &Member, lba: u64) -> bool
     ensures { IsTrue result ↔ IsOwnPlace layout.now m.now lba }
 {
-    m.kind == Kind::Slice
-        && lba > 0
-        && u128::from(lba - 1) == m.first
-        && !is_ebr(&layout.body, lba)
+    m.kind == Kind::Slice && lba > 0 && u128::from(lba - 1) == m.first && !is_ebr(&layout.body, lba)
 }
 
 // The lowest sector of a table in a leaf or slice that isn't the slice's own second one.

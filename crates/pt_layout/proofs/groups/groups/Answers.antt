@@ -1,6 +1,5 @@
-use Rattle.std.proofs.Common.{◌≡◌, ◌++◌, List, arith}
+use Rattle.std.proofs.Common.{arith}
 use Rattle.std.specs.Prelude.{option_to_list}
-use Rattle.pt_layout.specs.Members.{Group}
 use Rattle.pt_layout.proofs.Extended.{groups_end}
 use Rattle.pt_layout.proofs.groups.groups.Goals as goal
 
