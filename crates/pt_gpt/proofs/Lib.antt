@@ -3,3 +3,4 @@ pub mod EntryEncoding
 pub mod Heads
 pub mod Parts
 pub mod ArraySteps
+pub mod Same

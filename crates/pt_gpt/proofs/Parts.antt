@@ -1,8 +1,8 @@
 -- Entries that come in parts.
-use Rattle.std.proofs.Common.{◌≡◌, ℕ, suc, ◌/◌, zero-le, min, add-one, ◌∷◌, ◌+◌, ◌*◌, ◌-◌, ◌<◌, ◌≤◌, List, [], ◌++◌, length, get_or, take, drop, Option, None, refl, sym, ap, ◌∙◌, subst, arith, inl, inr, length-append}
+use Rattle.std.proofs.Common.{◌≡◌, ℕ, suc, ◌/◌, zero-le, min, add-one, ◌∷◌, ◌+◌, ◌*◌, ◌-◌, ◌<◌, ◌≤◌, List, [], ◌++◌, length, get_or, take, drop, Option, None, refl, sym, ap, ◌∙◌, subst, arith, inl, inr, length-append, append_assoc}
 use Rattle.std.specs.Prelude.{slice_range}
 use Rattle.std.proofs.lemmas.Bool.{cases_lt}
-use Rattle.std.proofs.lemmas.List.{get_or_append_left, get_or-append_right, drop-append-le, take-append-le, length-drop, take_all, take_min, get_or_push}
+use Rattle.std.proofs.lemmas.List.{get_or_append_left, get_or-append_right, drop-append-le, take-append-le, length-drop, take_all, take_min, get_or_push, length_push, append-nil}
 use Rattle.std.proofs.Math.Seq.{drop-append-add, take-append-add}
 use Rattle.std.proofs.Math.Nat.{add-mul, one-mul}
 use Rattle.pt_sum.specs.Crc.{after_bytes}
@@ -43,7 +43,7 @@ take_sector m i b x s long within =
     ap (λ (n : ℕ). take n (x ++ s)) e ∙ take-append-add x s (m - i * b)
 
 -- one entry more
-pub one_more : (es : List (Option Entry)) (x : Option Entry) (n : ℕ) (part : List ℕ) → length es ≡ n → ((j : ℕ) → j < n → EntryIs (get_or es j None) (slice_range part (j * 128) (j * 128 + 128)))
+one_more : (es : List (Option Entry)) (x : Option Entry) (n : ℕ) (part : List ℕ) → length es ≡ n → ((j : ℕ) → j < n → EntryIs (get_or es j None) (slice_range part (j * 128) (j * 128 + 128)))
     → EntryIs x (slice_range part (n * 128) (n * 128 + 128))
     → (j : ℕ) → j < n + 1 → EntryIs (get_or (es ++ x ∷ []) j None) (slice_range part (j * 128) (j * 128 + 128))
 one_more es x n part long before here j lt = elim (cases_lt j n) [
@@ -53,6 +53,25 @@ one_more es x n part long before here j lt = elim (cases_lt j n) [
       let e = get_or_push es x None j (long ∙ at) in
       rw (e, ← at) here
 ]
+
+-- the list of n entries so far, behind what was there before
+pub record Pushed (part : List ℕ) (before now : List (Option Entry)) (n : ℕ) : Type 0 where
+  pub entries : List (Option Entry)
+  pub long : length entries ≡ n
+  pub each : (j : ℕ) → j < n → EntryIs (get_or entries j None) (slice_range part (j * 128) (j * 128 + 128))
+  pub behind : now ≡ before ++ entries
+
+pub pushed_none : (part : List ℕ) (before : List (Option Entry)) → Pushed part before before 0
+pushed_none part before = record { entries = []; long = refl; each = λ j lt. absurd (omega arith); behind = sym (append-nil before) }
+
+pub pushed_one : (part : List ℕ) (before now next : List (Option Entry)) (n : ℕ) (x : Option Entry) → Pushed part before now n
+    → EntryIs x (slice_range part (n * 128) (n * 128 + 128)) → next ≡ now ++ x ∷ [] → Pushed part before next (n + 1)
+pushed_one part before now next n x so_far here push = record {
+  entries = so_far.entries ++ x ∷ [];
+  long = omega (arith, length_push so_far.entries x, so_far.long);
+  each = one_more so_far.entries x n part so_far.long so_far.each here;
+  behind = push ∙ ap (λ (t : List (Option Entry)). t ++ x ∷ []) so_far.behind ∙ append_assoc before so_far.entries (x ∷ []);
+}
 
 -- what stands after some sectors
 pub record Streamed (b m at i : ℕ) (d : Sectors) (register rest : ℕ) (items : List (Option Entry)) : Type 0 where

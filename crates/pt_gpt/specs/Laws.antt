@@ -27,7 +27,7 @@ header_is_one_lem b h k bytes p q =
     let y = q.fields in
     header_ext h k (sym x.my ∙ y.my) (sym x.alternate ∙ y.alternate) (sym x.first ∙ y.first) (sym x.last ∙ y.last) (sym x.disk ∙ y.disk) (sym x.array ∙ y.array) (sym x.count ∙ y.count) (sym x.entry_size ∙ y.entry_size) (sym x.array_crc ∙ y.array_crc)
 
-entry_ext : (e f : Entry) → e.kind.0 ≡ f.kind.0 → e.unique.0 ≡ f.unique.0 → e.first ≡ f.first → e.last ≡ f.last → e.attributes ≡ f.attributes → e.name ≡ f.name → e ≡ f
+pub entry_ext : (e f : Entry) → e.kind.0 ≡ f.kind.0 → e.unique.0 ≡ f.unique.0 → e.first ≡ f.first → e.last ≡ f.last → e.attributes ≡ f.attributes → e.name ≡ f.name → e ≡ f
 entry_ext e f a b c d g i = λ x. record { kind = record { 0 = a x }; unique = record { 0 = b x }; first = c x; last = d x; attributes = g x; name = i x }
 
 -- the bytes are one entry at most
@@ -38,7 +38,7 @@ entry_is_one_lem e f bytes x y =
     let name : e.name ≡ f.name = ext_get_or 0 e.name f.name (p.name.0 ∙ sym q.name.0) (λ i lt. let small : i < 36 = omega arith in p.name.1 i small ∙ sym (q.name.1 i small)) in
     entry_ext e f (sym p.kind ∙ q.kind) (sym p.unique ∙ q.unique) (sym p.first ∙ q.first) (sym p.last ∙ q.last) (sym p.attributes ∙ q.attributes) name
 
-entry_same : (e f : Option Entry) (bytes : List ℕ) → EntryIs e bytes → EntryIs f bytes → e ≡ f
+pub entry_same : (e f : Option Entry) (bytes : List ℕ) → EntryIs e bytes → EntryIs f bytes → e ≡ f
 entry_same None None bytes p q = refl
 entry_same None (Some f) bytes p q = absurd (q.used p)
 entry_same (Some e) None bytes p q = absurd (p.used q)

@@ -8,3 +8,4 @@ pub mod Copy
 pub mod Answers
 pub mod Laws
 pub mod Written
+pub mod Faults

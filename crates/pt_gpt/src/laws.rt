@@ -5,7 +5,7 @@
 ghost use Rattle.std.specs.Prelude.{◌≡◌, ◌≤◌, ◌⊎◌, ◌↔◌, ℕ, List, Option, length};
 ghost use Rattle.pt_sector.specs.Sectors.{Sectors, Agrees, IsSectorSize};
 ghost use Rattle.pt_gpt.specs.Header.{HeaderBytes, IsHeaderFault};
-ghost use Rattle.pt_gpt.specs.Entry.{EntryBytes};
+ghost use Rattle.pt_gpt.specs.Entry.{EntryBytes, IsTyped};
 ghost use Rattle.pt_gpt.specs.Array.{AreEntries, AllFit, AllTyped, array_bytes};
 ghost use Rattle.pt_gpt.specs.Copy.{header_place, IsHead, IsHeadFault, Copy, HasCopy, IsCopyFault, InArray, SideReads, SameSide, CopyWith, IsWritten};
 ghost use Rattle.pt_gpt.specs.declared.header.Header.{Header};
@@ -14,10 +14,30 @@ ghost use Rattle.pt_gpt.specs.declared.error.CopyError.{CopyError};
 ghost use Rattle.pt_gpt.specs.declared.table.Side.{Side};
 ghost use Rattle.pt_gpt.specs.declared.table.Table.{Table};
 
+use crate::entry::{Entry, decode_entry, encode_entry};
+use crate::error::CopyError;
+use crate::header::{Header, decode_header, encode_header};
+
 /// Bytes are one header at most.
 pub fn header_is_one()
     ensures { (b : ℕ) (h k : Header) (bytes : List ℕ) → HeaderBytes b h bytes → HeaderBytes b k bytes → h ≡ k }
 {
+}
+
+/// A header is read back from its sector.
+pub fn header_reads_back<const B: usize>(header: &Header) -> Result<Header, CopyError>
+    requires { IsSectorSize B }
+    ensures { result ≡ Ok header.now }
+{
+    decode_header::<B>(&encode_header::<B>(header))
+}
+
+/// An entry is read back from its bytes, where its type isn't zero.
+pub fn entry_reads_back(entry: &Entry) -> Option<Entry>
+    requires { IsTyped entry.now }
+    ensures { result ≡ Some entry.now }
+{
+    decode_entry(&encode_entry(Some(entry)))
 }
 
 /// Bytes with a header's fault are no header.
@@ -43,6 +63,12 @@ pub fn copy_is_one()
 pub fn no_copy()
     ensures copy { (b : ℕ) (d : Sectors) (side : Side) (e : CopyError) → IsCopyFault b d side e → ¬ HasCopy b d side }
     ensures head { (b : ℕ) (d : Sectors) (side : Side) (e : CopyError) (h : Header) → IsHeadFault b d side e → ¬ IsHead b d side h }
+{
+}
+
+/// A side has one fault at most, the first rule that fails.
+pub fn fault_is_one()
+    ensures { (b : ℕ) (d : Sectors) (side : Side) (e f : CopyError) → IsCopyFault b d side e → IsCopyFault b d side f → e ≡ f }
 {
 }
 

@@ -1,6 +1,7 @@
 //! Tables and their entries.
 
-ghost use Rattle.std.specs.Prelude.{◌≡◌, ◌<◌, List, Option, IfOk, length, slice_index_or, slice_set, None};
+ghost use Rattle.std.specs.Prelude.{◌≡◌, ◌<◌, List, Option, IfOk, length, slice_index_or, slice_set, None, IsTrue, ◌↔◌};
+ghost use Rattle.std.specs.Slice.Iter.{iter_rest};
 ghost use Rattle.pt_gpt.specs.declared.entry.Entry.{Entry};
 
 use std::alloc::{AllocError, Global};
@@ -75,6 +76,20 @@ impl Entries {
         self.items[index] = entry;
     }
 
+    /// Goes over all of them in order.
+    pub fn iter(&self) -> Iter<'_, Option<Entry>>
+        ensures { iter_rest result ≡ self.now }
+    {
+        self.items.iter()
+    }
+
+    /// Whether both have the same entries.
+    pub fn same(&self, other: &Entries) -> bool
+        ensures { IsTrue result ↔ (self.now ≡ other.now) }
+    {
+        self.items.as_slice() == other.items.as_slice()
+    }
+
     /// An equal list in memory of its own; an error only where there is none.
     pub fn copy(&self, alloc: Global) -> Result<Entries, AllocError>
         ensures { IfOk result (λ entries. entries ≡ self.now) }
@@ -96,4 +111,28 @@ pub struct Table {
     pub last: u64,
     /// The entries, numbered from 1 in what is printed.
     pub entries: Entries,
+}
+
+impl Table {
+    /// Whether both are the same table.
+    pub fn same(&self, other: &Table) -> bool
+        ensures { IsTrue result ↔ (self.now ≡ other.now) }
+    {
+        self.disk == other.disk
+            && self.first == other.first
+            && self.last == other.last
+            && self.entries.same(&other.entries)
+    }
+
+    /// An equal table in memory of its own; an error only where there is none.
+    pub fn copy(&self, alloc: Global) -> Result<Table, AllocError>
+        ensures { IfOk result (λ table. table ≡ self.now) }
+    {
+        Ok(Table {
+            disk: self.disk,
+            first: self.first,
+            last: self.last,
+            entries: self.entries.copy(alloc)?,
+        })
+    }
 }

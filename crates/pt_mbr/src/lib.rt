@@ -11,6 +11,8 @@ mod laws;
 mod mbr;
 mod protection;
 mod record;
+#[cfg(test)]
+mod tests;
 
 pub use chain::{ChainError, read_chain, walk_chain};
 pub use ebr::{Ebr, EbrFault, decode_ebr};
