@@ -15,8 +15,8 @@ read_back n x small = ap (little_number n) (sym (append-nil (little_bytes n x)))
 behind_kept : (i : ℕ) (kept rest : List ℕ) → length kept ≡ 68 → drop (68 + i) (kept ++ rest) ≡ drop i rest
 behind_kept i kept rest long = rw long at (drop-append-add {A = ℕ} kept rest i)
 
-four : (a b c d w x y z : ℕ) → w ≡ a → x ≡ b → y ≡ c → z ≡ d → a ∷ b ∷ c ∷ d ∷ [] ≡ w ∷ x ∷ y ∷ z ∷ []
-four a b c d w x y z e f g h = λ i. sym e i ∷ sym f i ∷ sym g i ∷ sym h i ∷ []
+four : (a b c d w x y z : ℕ) → w ≡ a → x ≡ b → y ≡ c → z ≡ d → w ∷ x ∷ y ∷ z ∷ [] ≡ a ∷ b ∷ c ∷ d ∷ []
+four a b c d w x y z e f g h = λ i. e i ∷ f i ∷ g i ∷ h i ∷ []
 
 pub is_front : (l : Label) (n : ℕ) (a b g kept rest : List ℕ) → a ≡ l.type_name → b ≡ l.pack_name → g ≡ l.geometry → kept ≡ l.kept → length kept ≡ 68
     → ((i : ℕ) → slice_index g i < 2 ^ 32) → HeadFits l → TailFits l → n < 2 ^ 16
@@ -34,7 +34,7 @@ is_front l n (x0 ∷ x1 ∷ x2 ∷ x3 ∷ x4 ∷ x5 ∷ x6 ∷ x7 ∷ x8 ∷ x9 
         subtype = read_back 2 l.subtype fits.subtype;
         type_name = ea;
         pack_name = eb;
-        geometry = sym eg ∙ four g0 g1 g2 g3 _ _ _ _ (read_back 4 g0 (numbers 0)) (read_back 4 g1 (numbers 1)) (read_back 4 g2 (numbers 2)) (read_back 4 g3 (numbers 3));
+        geometry = four g0 g1 g2 g3 _ _ _ _ (read_back 4 g0 (numbers 0)) (read_back 4 g1 (numbers 1)) (read_back 4 g2 (numbers 2)) (read_back 4 g3 (numbers 3)) ∙ eg;
         unit = read_back 4 l.unit fits.unit;
         kept = take_at kept (tail ++ rest) 68 long ∙ ek;
         bbsize = ap (λ (t : List ℕ). little_number 4 (take 4 t)) (behind_kept 8 kept (tail ++ rest) long) ∙ read_back 4 l.bbsize ends.bbsize;

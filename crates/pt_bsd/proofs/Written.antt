@@ -1,6 +1,6 @@
 -- What is written is the label.
-use Rattle.std.proofs.Common.{◌≡◌, ◌⊎◌, ℕ, zero, suc, ◌+◌, ◌<◌, ◌≤◌, List, [], ◌∷◌, Option, Some, None, take, sym, ap, subst, ◌∙◌, arith, lit≤, inl, inr}
-use Rattle.std.specs.Prelude.{⊤, slice_range, slice_index_or}
+use Rattle.std.proofs.Common.{◌≡◌, ◌⊎◌, ℕ, zero, suc, ◌+◌, ◌<◌, ◌≤◌, List, [], ◌∷◌, Option, Some, None, take, ap, subst, ◌∙◌, arith, lit≤, inl, inr}
+use Rattle.std.specs.Prelude.{slice_range, slice_index_or}
 use Rattle.std.proofs.lemmas.Bool.{cases_lt}
 use Rattle.byteorder.specs.Endian.{little_number}
 use Rattle.pt_sum.specs.Words.{xor_of}
@@ -34,7 +34,7 @@ fields_kept l a b keeps f =
       subtype = low 6 2 (lit≤ tt) ∙ f.subtype;
       type_name = keeps 8 24 (lit≤ tt) (inl (lit≤ tt)) ∙ f.type_name;
       pack_name = keeps 24 40 (lit≤ tt) (inl (lit≤ tt)) ∙ f.pack_name;
-      geometry = f.geometry ∙ (λ i. sym g0 i ∷ sym g1 i ∷ sym g2 i ∷ sym g3 i ∷ []);
+      geometry = (λ i. g0 i ∷ g1 i ∷ g2 i ∷ g3 i ∷ []) ∙ f.geometry;
       unit = low 60 4 (lit≤ tt) ∙ f.unit;
       kept = keeps 64 132 (lit≤ tt) (inl (lit≤ tt)) ∙ f.kept;
       bbsize = high 140 4 (lit≤ tt) (lit≤ tt) ∙ f.bbsize;

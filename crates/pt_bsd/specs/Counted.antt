@@ -1,6 +1,6 @@
 -- Which labels can be written for a slice.
 use Rattle.std.specs.Prelude.{◌≡◌, ◌<◌, ◌≤◌, ◌⊎◌, ⊤, ℕ, suc, List, [], ◌∷◌, Option, Some, None, length, slice_set}
-use Rattle.pt_bsd.specs.Label.{entry_of}
+use Rattle.pt_bsd.specs.Label.{entry_of, place_of}
 use Rattle.pt_bsd.specs.declared.label.Label.{Label}
 use Rattle.pt_bsd.specs.declared.label.LabelEntry.{LabelEntry}
 
@@ -14,6 +14,10 @@ count_of (Some e ∷ entries) = suc (count_of entries)
 abbrev pub IsThere : Option LabelEntry → Type 0
 IsThere None = ⊥
 IsThere (Some e) = ⊤
+
+-- where the last of them ends
+abbrev pub end_of : Label → ℕ
+end_of l = place_of (count_of l.entries)
 
 -- three to eight entries are there, and none behind them
 pub record IsCounted (l : Label) : Type 0 where

@@ -1,5 +1,5 @@
 -- The two forms of a label: offsets from the slice's first sector, or from the disk's.
-use Rattle.std.specs.Prelude.{◌≢◌, ◌==◌, ◌+◌, ℕ, Option, Some, None, if◌then◌else◌}
+use Rattle.std.specs.Prelude.{◌≡◌, ◌≢◌, ◌⊎◌, ◌==◌, ◌+◌, ℕ, Option, Some, None, if◌then◌else◌}
 use Rattle.pt_bsd.specs.Label.{entry_of}
 use Rattle.pt_bsd.specs.declared.label.Label.{Label}
 use Rattle.pt_bsd.specs.declared.label.LabelEntry.{LabelEntry}
@@ -33,3 +33,8 @@ sector_by Absolute first offset = offset
 -- the first sector of an entry of this label
 abbrev pub entry_first_of : Label → ℕ → LabelEntry → ℕ
 entry_first_of l first e = sector_by (form_of l) first e.offset
+
+-- relative where entry c starts at 0, absolute where it starts at another first sector; in either entry c starts there
+pub record HasForm (l : Label) (first : ℕ) : Type 0 where
+  pub form : ((raw_offset l ≡ 0) × (form_of l ≡ Relative)) ⊎ (IsAbsolute l × (raw_offset l ≡ first) × (form_of l ≡ Absolute))
+  pub start : sector_by (form_of l) first (raw_offset l) ≡ first

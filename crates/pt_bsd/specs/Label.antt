@@ -29,10 +29,11 @@ pub record HasCount (bytes : List ℕ) : Type 0 where
   pub least : 3 ≤ counted_in bytes
   pub most : counted_in bytes ≤ 8
 
--- the words from the magic through the last counted entry have no sum
+-- the exclusive or of the words from the magic through the last counted entry is 0
 unfoldable pub HasSum : List ℕ → Type 0
 HasSum bytes = xor_of (take (place_of (counted_in bytes)) bytes) ≡ 0
 
+-- sectors of 512 bytes
 abbrev pub HasSectorSize : List ℕ → Type 0
 HasSectorSize bytes = number_at 40 4 bytes ≡ 512
 
@@ -41,13 +42,17 @@ pub record HasRaw (first len : ℕ) (bytes : List ℕ) : Type 0 where
   pub size : number_at 180 4 bytes ≡ len
   pub start : (number_at 184 4 bytes ≡ 0) ⊎ (number_at 184 4 bytes ≡ first)
 
+-- sectors per track, tracks, cylinders, sectors per cylinder
+abbrev pub geometry_at : List ℕ → List ℕ
+geometry_at bytes = number_at 44 4 bytes ∷ number_at 48 4 bytes ∷ number_at 52 4 bytes ∷ number_at 56 4 bytes ∷ []
+
 -- the numbers and names of the label stand in their places
 pub record HasFields (l : Label) (bytes : List ℕ) : Type 0 where
   pub kind : number_at 4 2 bytes ≡ l.kind
   pub subtype : number_at 6 2 bytes ≡ l.subtype
   pub type_name : slice_range bytes 8 24 ≡ l.type_name
   pub pack_name : slice_range bytes 24 40 ≡ l.pack_name
-  pub geometry : l.geometry ≡ number_at 44 4 bytes ∷ number_at 48 4 bytes ∷ number_at 52 4 bytes ∷ number_at 56 4 bytes ∷ []
+  pub geometry : geometry_at bytes ≡ l.geometry
   pub unit : number_at 60 4 bytes ≡ l.unit
   pub kept : slice_range bytes 64 132 ≡ l.kept
   pub bbsize : number_at 140 4 bytes ≡ l.bbsize

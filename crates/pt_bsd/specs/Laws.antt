@@ -1,10 +1,12 @@
 -- Laws of labels, as terms that definitions and proofs above can cite.
-use Rattle.std.specs.Prelude.{◌≡◌, ◌≢◌, ◌<◌, ◌≤◌, ℕ, zero, suc, List, [], ◌∷◌, Option, Some, None, length, slice_set, slice_index_or}
-use Rattle.std.proofs.Common.{refl, sym, ap, subst, ◌∙◌, arith, lit≤, inl, inr}
+use Rattle.std.specs.Prelude.{Bool, false, ◌==◌, if◌then◌else◌, ◌≡◌, ◌≢◌, ◌<◌, ◌≤◌, ◌⊎◌, ℕ, zero, suc, List, [], ◌∷◌, Option, Some, None, length, slice_set, slice_index_or}
+use Rattle.std.proofs.Common.{refl, sym, ap, subst, ◌∙◌, arith, lit≤, rules, inl, inr}
 use Rattle.std.proofs.lemmas.List.{ext_get_or, length-set, get_or-set_other}
-use Rattle.pt_bsd.specs.Label.{HasEntry, HasEntries, HasRaw, IsEntry, counted_in, entry_of, place_of, LabelBytes, IsLabelFault}
+use Rattle.pt_bsd.specs.Label.{HasEntry, HasEntries, HasRaw, IsEntry, counted_in, entry_of, place_of, LabelBytes, HasLabel, IsLabelFault}
 use Rattle.pt_bsd.specs.Counted.{count_of, IsThere, IsCounted, IsRaw, FitsSlice, with_entry}
 use Rattle.pt_bsd.specs.Empty.{empty_of}
+use Rattle.pt_bsd.specs.Form.{form_of, raw_offset_in, raw_offset, form_at, sector_by, HasForm}
+use Rattle.pt_bsd.specs.declared.form.Form.TheVariants.{Relative, Absolute}
 use Rattle.pt_bsd.specs.declared.label.Label.{Label}
 use Rattle.pt_bsd.specs.declared.label.LabelEntry.{LabelEntry}
 use Rattle.pt_bsd.specs.declared.label.LabelError.{LabelError}
@@ -39,7 +41,7 @@ label_one l m first len start count bytes p q =
       subtype = (sym x.subtype ∙ y.subtype) i;
       type_name = (sym x.type_name ∙ y.type_name) i;
       pack_name = (sym x.pack_name ∙ y.pack_name) i;
-      geometry = (x.geometry ∙ sym y.geometry) i;
+      geometry = (sym x.geometry ∙ y.geometry) i;
       unit = (sym x.unit ∙ y.unit) i;
       kept = (sym x.kept ∙ y.kept) i;
       bbsize = (sym x.bbsize ∙ y.bbsize) i;
@@ -54,6 +56,10 @@ label_none Count l first len bytes (magics, broken) is = broken is.count
 label_none Checksum l first len bytes (magics, count, broken) is = broken is.sum
 label_none SectorSize l first len bytes (magics, count, sum, broken) is = broken is.sector_size
 label_none RawPartition l first len bytes (magics, count, sum, size, broken) is = broken is.raw
+
+-- so they have none
+pub no_label : (e : LabelError) (first len : ℕ) (bytes : List ℕ) → IsLabelFault e first len bytes → ¬ HasLabel first len bytes
+no_label e first len bytes fault has = label_none e has.0 first len bytes fault has.1
 
 none_there : (o : Option LabelEntry) → o ≡ None → ¬ IsThere o
 none_there o none there = subst IsThere none there
@@ -80,8 +86,8 @@ label_count l first len bytes is =
     let places = is.entries.places in
     let most = is.count.most in
     count_at l.entries (counted_in bytes) (omega (arith, places, most))
-      (λ k lt. slot_there (entry_of l k) k bytes (is.entries.each k (omega (arith, lt, most))) lt)
-      (λ lt. slot_none (entry_of l (counted_in bytes)) (counted_in bytes) bytes (is.entries.each (counted_in bytes) (omega (arith, lt, places))) (omega arith))
+    (λ k lt. slot_there (entry_of l k) k bytes (is.entries.each k (omega (arith, lt, most))) lt)
+    (λ lt. slot_none (entry_of l (counted_in bytes)) (counted_in bytes) bytes (is.entries.each (counted_in bytes) (omega (arith, lt, places))) (omega arith))
 
 -- what is read can be written
 pub label_counted : (l : Label) (first len : ℕ) (bytes : List ℕ) → LabelBytes l first len bytes → IsCounted l
@@ -128,8 +134,34 @@ with_entry_counted l k e counted lt =
       others = λ i above small. get_or-set_other l.entries k i (Some e) None (omega (arith, above, count, lt)) ∙ counted.others i (omega (arith, above, count)) small;
     }
 
+other_entry : (l : Label) (k : ℕ) (e : LabelEntry) → k ≢ 2 → entry_of (with_entry l k e) 2 ≡ entry_of l 2
+other_entry l k e other = get_or-set_other l.entries k 2 (Some e) None (omega (arith, other))
+
 -- and, where it isn't c, the slices that the label fits
 pub with_entry_fits : (l : Label) (k first len : ℕ) (e : LabelEntry) → k ≢ 2 → FitsSlice l first len → FitsSlice (with_entry l k e) first len
-with_entry_fits l k first len e other fits =
-    let same : entry_of (with_entry l k e) 2 ≡ entry_of l 2 = get_or-set_other l.entries k 2 (Some e) None (omega (arith, other)) in
-    rw same fits
+with_entry_fits l k first len e other fits = rw (other_entry l k e other) fits
+
+-- and the form
+pub with_entry_form : (l : Label) (k : ℕ) (e : LabelEntry) → k ≢ 2 → form_of (with_entry l k e) ≡ form_of l
+with_entry_form l k e other = ap (λ (o : Option LabelEntry). form_at (raw_offset_in o)) (other_entry l k e other)
+
+start_of : (o : Option LabelEntry) (first len : ℕ) → IsRaw o first len → (raw_offset_in o ≡ 0) ⊎ (raw_offset_in o ≡ first)
+start_of None first len raw = absurd raw
+start_of (Some e) first len raw = raw.1
+
+nat_eq-suc : (n : ℕ) → (suc n == 0) ≡ false
+nat_eq-suc n = search rules
+
+form_by : (offset first : ℕ) → (offset ≡ 0) ⊎ (offset ≡ first)
+    → (((offset ≡ 0) × (form_at offset ≡ Relative)) ⊎ ((offset ≢ 0) × (offset ≡ first) × (form_at offset ≡ Absolute))) × (sector_by (form_at offset) first offset ≡ first)
+form_by zero first start = (inl (refl, refl), omega arith)
+form_by (suc n) first (inl none) = absurd (omega arith)
+form_by (suc n) first (inr same) =
+    let form : form_at (suc n) ≡ Absolute = ap (λ (b : Bool). if b then Relative else Absolute) (nat_eq-suc n) in
+    (inr (omega arith, same, form), rw form same)
+
+-- a label that fits a slice has a form
+pub label_form : (l : Label) (first len : ℕ) → FitsSlice l first len → HasForm l first
+label_form l first len fits =
+    let both = form_by (raw_offset l) first (start_of (entry_of l 2) first len fits) in
+    record { form = both.0; start = both.1 }

@@ -3,7 +3,7 @@
 ghost use Rattle.std.specs.Prelude.{◌≡◌, ◌<◌, ◌≤◌, ◌+◌, ◌↔◌, ℕ, [], ◌∷◌, None, IfOk, IfErr, IsTrue, length, slice_range, slice_index_or};
 ghost use Rattle.pt_sector.specs.Sectors.{IsSectorSize};
 ghost use Rattle.pt_bsd.specs.Bytes.{number_at};
-ghost use Rattle.pt_bsd.specs.Label.{counted_in, HasMagic, HasMagics, HasCount, HasSum, HasSectorSize, HasRaw, HasFields, HasEntry, HasEntries, IsEntry, LabelBytes, IsLabelFault};
+ghost use Rattle.pt_bsd.specs.Label.{geometry_at, counted_in, HasMagic, HasMagics, HasCount, HasSum, HasSectorSize, HasRaw, HasFields, HasEntry, HasEntries, IsEntry, LabelBytes, IsLabelFault};
 
 use crate::label::{Label, LabelEntry, LabelError};
 use byteorder::{ByteOrder, LittleEndian};
@@ -108,7 +108,7 @@ fn kept_in(bytes: &[u8]) -> [u8; 68]
 
 fn geometry_in(bytes: &[u8]) -> [u32; 4]
     requires { 512 ≤ length bytes.now }
-    ensures { result ≡ number_at 44 4 bytes.now ∷ number_at 48 4 bytes.now ∷ number_at 52 4 bytes.now ∷ number_at 56 4 bytes.now ∷ [] }
+    ensures { result ≡ geometry_at bytes.now }
 {
     [
         LittleEndian::read_u32(&bytes[44..48]),
@@ -183,7 +183,7 @@ pub fn decode_label<const B: usize>(
     slice_first: u64,
     slice_len: u64,
 ) -> Result<Label, LabelError>
-    requires { IsSectorSize B }
+    requires size { IsSectorSize B }
     ensures ok { IfOk result (λ l. LabelBytes l slice_first slice_len sector.now) }
     ensures err { IfErr result (λ e. IsLabelFault e slice_first slice_len sector.now) }
 {
@@ -192,7 +192,7 @@ pub fn decode_label<const B: usize>(
 
 /// Whether a sector begins with the magic, as a label does and as the rest of a broken one may.
 pub fn bears_magic<const B: usize>(sector: &Sector<B>) -> bool
-    requires { IsSectorSize B }
+    requires size { IsSectorSize B }
     ensures { IsTrue result ↔ HasMagic sector.now }
 {
     starts_with_magic(&sector[..])

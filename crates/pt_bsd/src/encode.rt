@@ -7,7 +7,7 @@ ghost use Rattle.pt_sector.specs.Sectors.{IsSectorSize};
 ghost use Rattle.pt_sum.specs.Words.{xor_of};
 ghost use Rattle.pt_bsd.specs.Bytes.{number_at};
 ghost use Rattle.pt_bsd.specs.Label.{LabelBytes, HasEntry, place_of};
-ghost use Rattle.pt_bsd.specs.Counted.{count_of, IsCounted, FitsSlice};
+ghost use Rattle.pt_bsd.specs.Counted.{end_of, count_of, IsCounted, FitsSlice};
 ghost use Rattle.pt_bsd.specs.Writing.{put_at, ChangesOnly, head_from, HeadFits, tail_from, TailFits, entry_from, EntryFits, HasFront, IsPut, PutSoFar};
 
 use crate::decode::{ENTRIES, ENTRY, MAGIC};
@@ -171,8 +171,9 @@ fn put_sum(bytes: &mut [u8], count: usize)
 
 fn write_label(bytes: &mut [u8], label: &Label)
     requires { 512 ≤ length bytes.old }
-    ensures label { IsCounted label.now → (first len : ℕ) → FitsSlice label.now first len → LabelBytes label.now first len bytes.new }
-    ensures rest { drop (place_of (count_of label.now.entries)) bytes.new ≡ drop (place_of (count_of label.now.entries)) bytes.old }
+    ensures label { IsCounted label.now → (first len : ℕ) → FitsSlice label.now first len
+        → LabelBytes label.now first len bytes.new }
+    ensures rest { drop (end_of label.now) bytes.new ≡ drop (end_of label.now) bytes.old }
 {
     let count = count_in(&label.entries);
     put_front(bytes, label, count as u16);
@@ -186,9 +187,12 @@ fn write_label(bytes: &mut [u8], label: &Label)
 /// Entries behind the first `None` are not written. A label of three to eight entries is read again, in each slice
 /// that its entry c fits.
 pub fn encode_label<const B: usize>(label: &Label, under: &Sector<B>) -> Sector<B>
-    requires { IsSectorSize B }
-    ensures label { IsCounted label.now → (first len : ℕ) → FitsSlice label.now first len → LabelBytes label.now first len result }
-    ensures rest { drop (place_of (count_of label.now.entries)) result ≡ drop (place_of (count_of label.now.entries)) under.now }
+    requires size { IsSectorSize B }
+    ensures label { IsCounted label.now → (first len : ℕ) → FitsSlice label.now first len
+        → LabelBytes label.now first len result }
+    ensures again { (first len : ℕ) (bytes : List ℕ) → LabelBytes label.now first len bytes
+        → LabelBytes label.now first len result }
+    ensures rest { drop (end_of label.now) result ≡ drop (end_of label.now) under.now }
 {
     let mut sector = *under;
     write_label(&mut sector[..], label);

@@ -15,4 +15,10 @@ pub use empty::empty_label;
 pub use encode::encode_label;
 pub use form::Form;
 pub use label::{Label, LabelEntry, LabelError};
-pub use laws::{changed_label_fits, empty_label_fits, fault_is_no_label, label_is_one, read_label_fits};
+pub use laws::{
+    changed_label_fits, empty_label_fits, fault_is_no_label, fitting_label_has_form, label_is_one,
+    read_label_fits,
+};
+
+#[cfg(test)]
+mod tests;

@@ -1,1 +1,10 @@
 pub mod Places
+pub mod Steps
+pub mod Traces
+pub mod Chains
+pub mod Nothing
+pub mod Sides
+pub mod LabelSteps
+pub mod Bodies
+pub mod Whole
+pub mod Equal

@@ -4,6 +4,7 @@ use Rattle.pt_sector.specs.Sectors.{Sectors}
 use Rattle.pt_mbr.specs.Mbr.{AreRecords}
 use Rattle.pt_mbr.specs.Chain.{ChainFault, IsDevice}
 use Rattle.pt_mbr.specs.declared.record.Record.{Record}
+use Rattle.pt_mbr.specs.declared.mbr.Mbr.{Mbr}
 use Rattle.pt_gpt.specs.Copy.{IsCopyFault}
 use Rattle.pt_gpt.specs.declared.table.Side.TheVariants.{Primary, Backup}
 use Rattle.pt_recover.specs.Mbr.{IsMbrSector, IsMbrDisk, IsMbr, extended_of, extent_of}
@@ -67,6 +68,6 @@ abbrev pub IsTraceOf : ℕ → Sectors → List Run → Type 0
 IsTraceOf b d runs = (s : ℕ) → IsIn runs s ↔ Reads b d s
 
 -- the records of sector 0, none where it isn't that of an MBR disk
-abbrev pub HeadIs : List ℕ → Option (List (Option Record)) → Type 0
+abbrev pub HeadIs : List ℕ → Option Mbr → Type 0
 HeadIs bytes None = ¬ IsMbrSector bytes
-HeadIs bytes (Some m) = IsMbrSector bytes × AreRecords m bytes
+HeadIs bytes (Some m) = IsMbrSector bytes × AreRecords m.records bytes

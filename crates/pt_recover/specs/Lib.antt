@@ -4,6 +4,7 @@ pub mod Labels
 pub mod Denotes
 pub mod Spans
 pub mod Answers
+pub mod Steps
 pub mod Same
 pub mod One
 pub mod Laws

@@ -1,10 +1,14 @@
 -- The sectors of a trace.
-use Rattle.std.specs.Prelude.{ℕ, ◌≤◌, ◌⊎◌, ◌↔◌, List, Any}
+use Rattle.std.specs.Prelude.{ℕ, ◌≤◌, ◌⊎◌, ◌↔◌, List, [], ◌∷◌}
 use Rattle.pt_recover.specs.declared.trace.Run.{Run}
 
+abbrev pub InRun : Run → ℕ → Type 0
+InRun r s = (r.first ≤ s) × (s ≤ r.last)
+
 -- the sector is in one of these runs
-abbrev pub IsIn : List Run → ℕ → Type 0
-IsIn runs s = Any (λ (r : Run). (r.first ≤ s) × (s ≤ r.last)) runs
+unfoldable pub IsIn : List Run → ℕ → Type 0
+IsIn [] s = ⊥
+IsIn (r ∷ rs) s = InRun r s ⊎ IsIn rs s
 
 -- new has the sectors of old, and those of S
 abbrev pub Adds : List Run → List Run → (ℕ → Type 0) → Type 0

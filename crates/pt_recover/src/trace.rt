@@ -1,7 +1,7 @@
 //! The sectors that a recovery read.
 
-ghost use Rattle.std.specs.Prelude.{◌≡◌, ◌≤◌, ◌⊎◌, ◌↔◌, ℕ, List, IsTrue, OnOk};
-ghost use Rattle.pt_recover.specs.Spans.{IsIn};
+ghost use Rattle.std.specs.Prelude.{◌≡◌, ◌≤◌, ◌↔◌, ℕ, List, IsTrue, OnOk};
+ghost use Rattle.pt_recover.specs.Spans.{InRun, IsIn, Adds};
 ghost use Rattle.pt_recover.specs.declared.trace.Run.{Run};
 
 use pt_sector::Lba;
@@ -10,9 +10,17 @@ use std::marker::Model;
 
 /// Consecutive sectors.
 #[derive(Clone, Copy, Debug, PartialEq, Eq)]
-pub struct Run {
-    pub first: u64,
-    pub last: u64,
+pub(crate) struct Run {
+    first: u64,
+    last: u64,
+}
+
+impl Run {
+    fn holds(&self, lba: Lba) -> bool
+        ensures { IsTrue result ↔ InRun self.now lba.0 }
+    {
+        self.first <= lba.0 && lba.0 <= self.last
+    }
 }
 
 /// Sectors that were read.
@@ -29,6 +37,7 @@ impl Model for Trace {
 
 impl Trace {
     /// No sectors.
+    #[tactic(auto, using(crate::proofs::Traces::in_none))]
     pub(crate) fn new(alloc: Global) -> Trace
         ensures { (s : ℕ) → ¬ IsIn result s }
     {
@@ -41,16 +50,27 @@ impl Trace {
     pub fn contains(&self, lba: Lba) -> bool
         ensures { IsTrue result ↔ IsIn self.now lba.0 }
     {
-        self.runs
-            .iter()
-            .any(|run| run.first <= lba.0 && lba.0 <= run.last)
+        for k in 0..self.runs.len() {
+            if self.runs[k].holds(lba) {
+                return true;
+            }
+        }
+        false
     }
 
-    // Adds the sectors from a first to a last.
+    /// Adds the sectors from a first to a last.
     pub(crate) fn add(&mut self, first: u64, last: u64) -> Result<(), AllocError>
-        ensures { OnOk result ((s : ℕ) → IsIn self.new s ↔ (IsIn self.old s ⊎ ((first ≤ s) × (s ≤ last)))) }
+        ensures { OnOk result (Adds self.old self.new (λ s. (first ≤ s) × (s ≤ last))) }
     {
         self.runs.push(Run { first, last })?;
         Ok(())
+    }
+
+    /// Adds one sector.
+    #[tactic(auto, using(crate::proofs::Traces::adds_one))]
+    pub(crate) fn add_one(&mut self, lba: u64) -> Result<(), AllocError>
+        ensures { OnOk result (Adds self.old self.new (λ s. s ≡ lba)) }
+    {
+        self.add(lba, lba)
     }
 }

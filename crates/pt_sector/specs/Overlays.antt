@@ -1,5 +1,5 @@
 -- What an overlay tells.
-use Rattle.std.specs.Prelude.{◌≡◌, ℕ, ◌-◌, List, [], ◌∷◌, ◌++◌, map, length, vec_len}
+use Rattle.std.specs.Prelude.{◌≡◌, ℕ, ◌-◌, ◌+◌, List, [], ◌∷◌, ◌++◌, map, length, vec_len}
 use Rattle.std.proofs.Common.{ap, ◌∙◌}
 use Rattle.std.proofs.lemmas.List.{map-append}
 use Rattle.pt_sector.specs.Sectors.{Sectors}
@@ -8,6 +8,8 @@ use Rattle.pt_sector.specs.Written.{length-written}
 use Rattle.pt_sector.specs.Device.{Told, Moment, Elapses}
 use Rattle.pt_sector.specs.Past.{told_of}
 use Rattle.pt_sector.specs.Puts.{puts_as_writes}
+use Rattle.pt_sector.specs.Ascending.{Has}
+use Rattle.pt_sector.specs.declared.overlay.Overlay.{Overlay}
 use Rattle.pt_sector.specs.declared.own.Own.{Own}
 use Rattle.pt_sector.specs.declared.room.Room.{Room}
 
@@ -21,6 +23,17 @@ moments seen past = map (λ (own : Own _). (shown seen own, [])) past
 -- all is durable, and nothing pending
 abbrev pub overlay_told : {b : _} → Sectors → Own b → List (Own b) → Told
 overlay_told seen own past = told_of (shown seen own) (shown seen own) [] (moments seen past)
+
+abbrev pub content : {D : Type 0} {b : _} → (D → Told) → Overlay D b (Own b) → Told
+content told_below o = overlay_told (told_below o.disk.now).seen o.own o.past.items
+
+-- the failed calls of the borrowed disk, and the writes that it refused itself
+abbrev pub failed_calls : {D : Type 0} {b : _} → (D → ℕ) → Overlay D b (Own b) → ℕ
+failed_calls failed_below o = failed_below o.disk.now + length o.refused.items
+
+-- sector k is one of its own
+abbrev pub Keeps : {D : Type 0} {b : _} → Overlay D b (Own b) → ℕ → Type 0
+Keeps o k = Has (puts_as_writes o.own.puts.items) k
 
 -- how many more sectors it can keep
 abbrev pub room_left : {b : _} → Own b → ℕ

@@ -5,9 +5,9 @@ ghost use Rattle.pt_sector.specs.Device.{MayLeave, Counted, Wrote, FailedWrite, 
 ghost use Rattle.pt_sector.specs.Past.{told_of};
 ghost use Rattle.pt_sector.specs.Memory.{zero_sectors};
 ghost use Rattle.pt_sector.specs.Reading.{length-reading, stopped_reading};
-ghost use Rattle.pt_sector.specs.Stop.{picked};
+ghost use Rattle.pt_sector.specs.Stop.{IsPicked};
 ghost use Rattle.pt_sector.specs.Crash.{crash_told};
-ghost use Rattle.pt_sector.specs.Schedule.{pending_room, IsFull, fails_in, reads_failed, CallPasses, SameContent};
+ghost use Rattle.pt_sector.specs.Schedule.{content, sector_count, failed_calls, pending_room, IsFull, fails_in, reads_failed, CallPasses, SameContent};
 
 use crate::address::Lba;
 use crate::cache::WriteCache;
@@ -36,9 +36,9 @@ impl<const B: usize> CrashDisk<B> {
     pub fn new(alloc: Global, sectors: u64, room: usize) -> Result<CrashDisk<B>, AllocError>
         requires size { IsSectorSize B }
         requires count { sectors * B ≤ 2 ^ 64 }
-        ensures told { IfOk result (λ d. ⟦<CrashDisk<B> as Disk<B>>⟧.told d ≡ told_of (zero_sectors B sectors) (zero_sectors B sectors) [] []) }
-        ensures count { IfOk result (λ d. ⟦<CrashDisk<B> as Disk<B>>⟧.count d ≡ sectors) }
-        ensures failures { IfOk result (λ d. ⟦<CrashDisk<B> as Disk<B>>⟧.failures d ≡ 0) }
+        ensures told { IfOk result (λ d. content d ≡ told_of (zero_sectors B sectors) (zero_sectors B sectors) [] []) }
+        ensures count { IfOk result (λ d. sector_count d ≡ sectors) }
+        ensures failures { IfOk result (λ d. failed_calls d ≡ 0) }
         ensures room { IfOk result (λ d. pending_room d ≡ room) }
         ensures never_fails { IfOk result (λ d. fails_in d ≡ 0) }
     {
@@ -58,9 +58,9 @@ impl<const B: usize> CrashDisk<B> {
     pub fn fail_at(&mut self, k: u64, kept: bool)
         ensures fails { fails_in self.new ≡ k }
         ensures kept { reads_failed self.new ≡ kept }
-        ensures told { ⟦<CrashDisk<B> as Disk<B>>⟧.told self.new ≡ ⟦<CrashDisk<B> as Disk<B>>⟧.told self.old }
-        ensures count { ⟦<CrashDisk<B> as Disk<B>>⟧.count self.new ≡ ⟦<CrashDisk<B> as Disk<B>>⟧.count self.old }
-        ensures failures { ⟦<CrashDisk<B> as Disk<B>>⟧.failures self.new ≡ ⟦<CrashDisk<B> as Disk<B>>⟧.failures self.old }
+        ensures told { content self.new ≡ content self.old }
+        ensures count { sector_count self.new ≡ sector_count self.old }
+        ensures failures { failed_calls self.new ≡ failed_calls self.old }
         ensures room { pending_room self.new ≡ pending_room self.old }
     {
         self.fail_in = k;
@@ -70,10 +70,10 @@ impl<const B: usize> CrashDisk<B> {
     /// The disk that a crash leaves, by one choice for each sector with pending writes, in ascending order: 0 is the
     /// durable value, and j the j-th pending one in the order of writing. A missing choice is 0, a greater one the last.
     pub fn stop(self, choices: &[usize]) -> MemDisk<B>
-        ensures picked { (⟦<MemDisk<B> as Disk<B>>⟧.told result).seen ≡ picked (⟦<CrashDisk<B> as Disk<B>>⟧.told self.entry).pending 0 choices.now (⟦<CrashDisk<B> as Disk<B>>⟧.told self.entry).durable }
-        ensures may_leave { MayLeave (⟦<CrashDisk<B> as Disk<B>>⟧.told self.entry) (⟦<MemDisk<B> as Disk<B>>⟧.told result).seen }
+        ensures picked { IsPicked (content self.entry).durable (content self.entry).pending choices.now (⟦<MemDisk<B> as Disk<B>>⟧.told result).seen }
+        ensures may_leave { MayLeave (content self.entry) (⟦<MemDisk<B> as Disk<B>>⟧.told result).seen }
         ensures past { (⟦<MemDisk<B> as Disk<B>>⟧.told result).past ≡ [] }
-        ensures count { ⟦<MemDisk<B> as Disk<B>>⟧.count result ≡ ⟦<CrashDisk<B> as Disk<B>>⟧.count self.entry }
+        ensures count { ⟦<MemDisk<B> as Disk<B>>⟧.count result ≡ sector_count self.entry }
     {
         let CrashDisk {
             cache,
@@ -95,11 +95,11 @@ impl<const B: usize> CrashDisk<B> {
 impl<const B: usize> Disk<B> for CrashDisk<B> {
     ghost tells = { Unit {0} };
 
-    ghost told = { λ d. crash_told d.cache d.past.items };
+    ghost told = { content };
 
-    ghost count = { λ d. length d.cache.durable.items };
+    ghost count = { sector_count };
 
-    ghost failures = { λ d. length d.failures.items };
+    ghost failures = { failed_calls };
 
     ghost name = { λ d. 0 };
 
@@ -118,12 +118,12 @@ impl<const B: usize> Disk<B> for CrashDisk<B> {
     }
 
     fn read(&mut self, lba: Lba, into: &mut [u8; B]) -> Result<(), Fault>
-        requires { lba.0 < ⟦<CrashDisk<B> as Disk<B>>⟧.count self.old }
-        ensures count { ⟦<CrashDisk<B> as Disk<B>>⟧.count self.new ≡ ⟦<CrashDisk<B> as Disk<B>>⟧.count self.old }
-        ensures counted { Counted (⟦<CrashDisk<B> as Disk<B>>⟧.failures self.old) (⟦<CrashDisk<B> as Disk<B>>⟧.failures self.new) result }
+        requires { lba.0 < sector_count self.old }
+        ensures count { sector_count self.new ≡ sector_count self.old }
+        ensures counted { Counted (failed_calls self.old) (failed_calls self.new) result }
         ensures fault { IfErr result (λ e. e ≡ Read lba) }
-        ensures bytes { OnOk result (into.new ≡ sector (⟦<CrashDisk<B> as Disk<B>>⟧.told self.old).seen lba.0) }
-        ensures same { ⟦<CrashDisk<B> as Disk<B>>⟧.told self.new ≡ ⟦<CrashDisk<B> as Disk<B>>⟧.told self.old }
+        ensures bytes { OnOk result (into.new ≡ sector (content self.old).seen lba.0) }
+        ensures same { content self.new ≡ content self.old }
         ensures fails { IsErr result ↔ (fails_in self.old ≡ 1) }
         ensures call { CallPasses self.old self.new }
     {
@@ -137,16 +137,17 @@ impl<const B: usize> Disk<B> for CrashDisk<B> {
 
     /// Fails where it is set to, and past the room, where it changes nothing.
     fn write(&mut self, lba: Lba, bytes: &[u8; B]) -> Result<(), Fault>
-        requires { lba.0 < ⟦<CrashDisk<B> as Disk<B>>⟧.count self.old }
-        ensures count { ⟦<CrashDisk<B> as Disk<B>>⟧.count self.new ≡ ⟦<CrashDisk<B> as Disk<B>>⟧.count self.old }
-        ensures counted { Counted (⟦<CrashDisk<B> as Disk<B>>⟧.failures self.old) (⟦<CrashDisk<B> as Disk<B>>⟧.failures self.new) result }
+        requires { lba.0 < sector_count self.old }
+        ensures count { sector_count self.new ≡ sector_count self.old }
+        ensures counted { Counted (failed_calls self.old) (failed_calls self.new) result }
         ensures fault { IfErr result (λ e. e ≡ Write lba) }
-        ensures done { OnOk result (Wrote (⟦<CrashDisk<B> as Disk<B>>⟧.told self.old) (⟦<CrashDisk<B> as Disk<B>>⟧.told self.new) lba.0 bytes.now) }
-        ensures failed { OnErr result (FailedWrite (⟦<CrashDisk<B> as Disk<B>>⟧.told self.old) (⟦<CrashDisk<B> as Disk<B>>⟧.told self.new) lba.0 bytes.now) }
+        ensures done { OnOk result (Wrote (content self.old) (content self.new) lba.0 bytes.now) }
+        ensures failed { OnErr result (FailedWrite (content self.old) (content self.new) lba.0 bytes.now) }
         ensures fails { IsErr result ↔ ((fails_in self.old ≡ 1) ⊎ IsFull self.old) }
-        ensures past_room { IsFull self.old → SameContent (⟦<CrashDisk<B> as Disk<B>>⟧.told self.old) (⟦<CrashDisk<B> as Disk<B>>⟧.told self.new) }
-        ensures pending { (IsFull self.old → ⊥) → (⟦<CrashDisk<B> as Disk<B>>⟧.told self.new).pending ≡ (⟦<CrashDisk<B> as Disk<B>>⟧.told self.old).pending ++ (lba.0, bytes.now) ∷ [] }
-        ensures kept { (IsFull self.old → ⊥) → OnErr result ((⟦<CrashDisk<B> as Disk<B>>⟧.told self.new).seen ≡ (if reads_failed self.old then slice_set (⟦<CrashDisk<B> as Disk<B>>⟧.told self.old).seen lba.0 bytes.now else (⟦<CrashDisk<B> as Disk<B>>⟧.told self.old).seen)) }
+        ensures past_room { IsFull self.old → SameContent (content self.old) (content self.new) }
+        ensures pending { (IsFull self.old → ⊥) → (content self.new).pending ≡ (content self.old).pending ++ (lba.0, bytes.now) ∷ [] }
+        ensures kept { (IsFull self.old → ⊥) → OnErr result ((content self.new).seen
+            ≡ (if reads_failed self.old then slice_set (content self.old).seen lba.0 bytes.now else (content self.old).seen)) }
         ensures call { CallPasses self.old self.new }
     {
         self.past = self.past.and(&self.cache);
@@ -170,13 +171,13 @@ impl<const B: usize> Disk<B> for CrashDisk<B> {
 
     /// Fails where it is set to; then all stays pending.
     fn flush(&mut self) -> Result<(), Fault>
-        ensures count { ⟦<CrashDisk<B> as Disk<B>>⟧.count self.new ≡ ⟦<CrashDisk<B> as Disk<B>>⟧.count self.old }
-        ensures counted { Counted (⟦<CrashDisk<B> as Disk<B>>⟧.failures self.old) (⟦<CrashDisk<B> as Disk<B>>⟧.failures self.new) result }
+        ensures count { sector_count self.new ≡ sector_count self.old }
+        ensures counted { Counted (failed_calls self.old) (failed_calls self.new) result }
         ensures fault { IfErr result (λ e. e ≡ Flush) }
-        ensures done { OnOk result (Flushed (⟦<CrashDisk<B> as Disk<B>>⟧.told self.old) (⟦<CrashDisk<B> as Disk<B>>⟧.told self.new)) }
-        ensures failed { OnErr result (FailedFlush (⟦<CrashDisk<B> as Disk<B>>⟧.told self.old) (⟦<CrashDisk<B> as Disk<B>>⟧.told self.new)) }
+        ensures done { OnOk result (Flushed (content self.old) (content self.new)) }
+        ensures failed { OnErr result (FailedFlush (content self.old) (content self.new)) }
         ensures fails { IsErr result ↔ (fails_in self.old ≡ 1) }
-        ensures kept { OnErr result (SameContent (⟦<CrashDisk<B> as Disk<B>>⟧.told self.old) (⟦<CrashDisk<B> as Disk<B>>⟧.told self.new)) }
+        ensures kept { OnErr result (SameContent (content self.old) (content self.new)) }
         ensures call { CallPasses self.old self.new }
     {
         self.past = self.past.and(&self.cache);

@@ -4,9 +4,7 @@ ghost use Rattle.pt_sector.specs.declared.disk.Fault.TheVariants.{Read, Write, F
 ghost use Rattle.pt_sector.specs.Device.{Wrote, FailedWrite, Counted};
 ghost use Rattle.pt_sector.specs.Past.{stopped_same};
 ghost use Rattle.pt_sector.specs.Since.{Below, below_same, below_on};
-ghost use Rattle.pt_sector.specs.Ascending.{Has};
-ghost use Rattle.pt_sector.specs.Puts.{puts_as_writes};
-ghost use Rattle.pt_sector.specs.Overlays.{overlay_told, length-shown, shown, room_left, room_for};
+ghost use Rattle.pt_sector.specs.Overlays.{content, failed_calls, Keeps, length-shown, shown, room_left, room_for};
 
 use crate::address::Lba;
 use crate::disk::{Disk, Fault};
@@ -43,8 +41,8 @@ impl<'a, D: Disk<B>, const B: usize> Overlay<'a, D, B> {
     pub fn new(disk: &'a mut D, room: Room<B>) -> Overlay<'a, D, B>
         ensures same_reference { result.disk.ghost_name ≡ disk.entry.ghost_name }
         ensures disk { result.disk.now ≡ disk.old }
-        ensures seen { (⟦<Overlay<'a, D, B> as Disk<B>>⟧.told result).seen ≡ (D.told disk.old).seen }
-        ensures failures { ⟦<Overlay<'a, D, B> as Disk<B>>⟧.failures result ≡ D.failures disk.old }
+        ensures seen { (content D.told result).seen ≡ (D.told disk.old).seen }
+        ensures failures { failed_calls D.failures result ≡ D.failures disk.old }
         ensures room { room_left result.own ≡ room_for room.entry }
     {
         let Room { own } = room;
@@ -62,7 +60,7 @@ impl<'a, D: Disk<B>, const B: usize> Overlay<'a, D, B> {
         ensures same_reference { self.new.disk.ghost_name ≡ self.old.disk.ghost_name }
         ensures disk { self.new.disk.now ≡ self.old.disk.now }
         ensures refused { self.new.refused ≡ self.old.refused }
-        ensures wrote { Wrote (⟦<Overlay<'a, D, B> as Disk<B>>⟧.told self.old) (⟦<Overlay<'a, D, B> as Disk<B>>⟧.told self.new) lba.0 bytes.now }
+        ensures wrote { Wrote (content D.told self.old) (content D.told self.new) lba.0 bytes.now }
         ensures room { room_left self.old.own ≤ room_left self.new.own + 1 }
     {
         self.past = self.past.and(&self.own);
@@ -73,19 +71,25 @@ impl<'a, D: Disk<B>, const B: usize> Overlay<'a, D, B> {
 impl<'a, D: Disk<B>, const B: usize> Disk<B> for Overlay<'a, D, B> {
     ghost tells = { D.tells };
 
-    ghost told = { λ o. overlay_told (D.told o.disk.now).seen o.own o.past.items };
+    ghost told = { content D.told };
 
     ghost count = { λ o. D.count o.disk.now };
 
-    ghost failures = { λ o. D.failures o.disk.now + length o.refused.items };
+    ghost failures = { failed_calls D.failures };
 
     ghost name = { λ o. o.disk.ghost_name };
 
-    ghost reads = { λ o p. Below D.name D.reads D.count D.tells D.told o.disk.now p.disk.now × (p.own ≡ o.own) × (p.refused ≡ o.refused) };
+    ghost reads = { λ o p. Below D.name D.reads D.count D.tells D.told o.disk.now p.disk.now
+        × (p.own ≡ o.own)
+        × (p.refused ≡ o.refused) };
 
     ghost reads_same = { λ o. (below_same D.name D.reads D.count D.tells D.told D.reads_same o.disk.now, refl, refl) };
 
-    ghost reads_on = { λ a b c ab bc. (below_on D.name D.reads D.count D.tells D.told D.reads_on a.disk.now b.disk.now c.disk.now ab.0 bc.0, bc.1 ∙ ab.1, bc.2 ∙ ab.2) };
+    ghost reads_on = { λ a b c ab bc. (
+      below_on D.name D.reads D.count D.tells D.told D.reads_on a.disk.now b.disk.now c.disk.now ab.0 bc.0,
+      bc.1 ∙ ab.1,
+      bc.2 ∙ ab.2,
+    ) };
 
     ghost sized = { λ o tells. length-shown (D.told o.disk.now).seen o.own ∙ D.sized o.disk.now tells };
 
@@ -106,11 +110,11 @@ impl<'a, D: Disk<B>, const B: usize> Disk<B> for Overlay<'a, D, B> {
     fn write(&mut self, lba: Lba, bytes: &[u8; B]) -> Result<(), Fault>
         ensures count { D.count self.new.disk.now ≡ D.count self.old.disk.now }
         ensures name { self.new.disk.ghost_name ≡ self.old.disk.ghost_name }
-        ensures counted { Counted (⟦<Overlay<'a, D, B> as Disk<B>>⟧.failures self.old) (⟦<Overlay<'a, D, B> as Disk<B>>⟧.failures self.new) result }
+        ensures counted { Counted (failed_calls D.failures self.old) (failed_calls D.failures self.new) result }
         ensures fault { IfErr result (λ e. e ≡ Write lba) }
-        ensures done { OnOk result (Wrote (⟦<Overlay<'a, D, B> as Disk<B>>⟧.told self.old) (⟦<Overlay<'a, D, B> as Disk<B>>⟧.told self.new) lba.0 bytes.now) }
-        ensures failed { OnErr result (FailedWrite (⟦<Overlay<'a, D, B> as Disk<B>>⟧.told self.old) (⟦<Overlay<'a, D, B> as Disk<B>>⟧.told self.new) lba.0 bytes.now) }
-        ensures refused { IsErr result ↔ ((room_left self.old.own ≡ 0) × (Has (puts_as_writes self.old.own.puts.items) lba.0 → ⊥)) }
+        ensures done { OnOk result (Wrote (content D.told self.old) (content D.told self.new) lba.0 bytes.now) }
+        ensures failed { OnErr result (FailedWrite (content D.told self.old) (content D.told self.new) lba.0 bytes.now) }
+        ensures refused { IsErr result ↔ ((room_left self.old.own ≡ 0) × (Keeps self.old lba.0 → ⊥)) }
         ensures kept { OnErr result (self.new.own ≡ self.old.own) }
     {
         self.past = self.past.and(&self.own);

@@ -45,8 +45,10 @@ impl<const B: usize> Own<B> {
 
     /// Puts bytes into a sector; false where that is a new one and no room is left for it.
     pub(crate) fn put(&mut self, lba: Lba, bytes: &[u8; B]) -> bool
-        ensures put { IsTrue result → (d : Sectors) → written (puts_as_writes self.new.puts.items) d ≡ slice_set (written (puts_as_writes self.old.puts.items) d) lba.0 bytes.now }
-        ensures refused { IsFalse result ↔ ((self.old.room ≤ vec_len self.old.puts) × (Has (puts_as_writes self.old.puts.items) lba.0 → ⊥)) }
+        ensures put { IsTrue result → (d : Sectors) → written (puts_as_writes self.new.puts.items) d
+            ≡ slice_set (written (puts_as_writes self.old.puts.items) d) lba.0 bytes.now }
+        ensures refused { IsFalse result ↔ ((self.old.room ≤ vec_len self.old.puts)
+            × (Has (puts_as_writes self.old.puts.items) lba.0 → ⊥)) }
         ensures kept { IsFalse result → self.new ≡ self.old }
         ensures room { self.new.room ≡ self.old.room }
         ensures grows { vec_len self.new.puts ≤ vec_len self.old.puts + 1 }

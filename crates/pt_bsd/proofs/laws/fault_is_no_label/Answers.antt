@@ -1,5 +1,5 @@
-use Rattle.pt_bsd.specs.Laws.{label_none}
+use Rattle.pt_bsd.specs.Laws.{no_label}
 use Rattle.pt_bsd.proofs.laws.fault_is_no_label.Goals as goal
 
 pub returns : goal.returns
-returns c = label_none
+returns c = no_label

@@ -1,0 +1,47 @@
+use Rattle.std.proofs.Common.{length, subst}
+use Rattle.std.specs.Prelude.{◌⊎◌, ◌<◌}
+use Rattle.std.proofs.lemmas.Result.{on_ok_weaker, IfErr-weaker}
+use Rattle.pt_sector.specs.Sectors.{Sectors}
+use Rattle.pt_sector.specs.Device.{Told}
+use Rattle.pt_recover.specs.Answers.{IsOutside}
+use Rattle.pt_recover.specs.Steps.{RestReads}
+use Rattle.pt_recover.specs.Denotes.{BodyReads}
+use Rattle.pt_recover.specs.Spans.{Adds}
+use Rattle.pt_recover.proofs.Bodies.{some_sector, body_read, body_read_or}
+use Rattle.pt_recover.proofs.body.read_body.Goals as goal
+
+pub returns-in-Ok-Some-clause-traced : goal.returns-in-Ok-Some-clause-traced
+returns-in-Ok-Some-clause-traced g c = λ tells.
+    let d : Sectors = (g.D.Disk.told c.args.disk.now).seen in
+    let some : 0 < length d = some_sector c.sectors.result (g.D.Disk.count c.args.disk.now) (length d) c.if-sectors-eq0.false c.sectors.ensures (g.met.D.Disk.sized c.args.disk.now tells) in
+    let same = c.in-Ok-Some.ensures.same tells in
+    on_ok_weaker c.read_mbr.result
+    (λ adds. body_read g.row.B d c.args.trace.now c.add_one.new.self c.read_mbr.new.trace some c.in-Ok.ensures (subst (λ (t : Told). Adds c.add_one.new.self c.read_mbr.new.trace (RestReads g.row.B t.seen)) same adds))
+    (c.read_mbr.ensures.traced tells)
+
+pub returns-in-Ok-Some-clause-traced_err : goal.returns-in-Ok-Some-clause-traced_err
+returns-in-Ok-Some-clause-traced_err g c = λ tells.
+    let d : Sectors = (g.D.Disk.told c.args.disk.now).seen in
+    let some : 0 < length d = some_sector c.sectors.result (g.D.Disk.count c.args.disk.now) (length d) c.if-sectors-eq0.false c.sectors.ensures (g.met.D.Disk.sized c.args.disk.now tells) in
+    let same = c.in-Ok-Some.ensures.same tells in
+    IfErr-weaker c.read_mbr.result (λ e. IsOutside e ⊎ Adds c.add_one.new.self c.read_mbr.new.trace (RestReads g.row.B (g.D.Disk.told c.read_records.new.disk).seen)) (λ e. IsOutside e ⊎ Adds c.args.trace.now c.read_mbr.new.trace (BodyReads g.row.B d))
+    (λ e adds. body_read_or (IsOutside e) g.row.B d c.args.trace.now c.add_one.new.self c.read_mbr.new.trace some c.in-Ok.ensures (subst (λ (t : Told). IsOutside e ⊎ Adds c.add_one.new.self c.read_mbr.new.trace (RestReads g.row.B t.seen)) same adds))
+    (c.read_mbr.ensures.traced_err tells)
+
+pub returns-in-Ok-None-clause-traced : goal.returns-in-Ok-None-clause-traced
+returns-in-Ok-None-clause-traced g c = λ tells.
+    let d : Sectors = (g.D.Disk.told c.args.disk.now).seen in
+    let some : 0 < length d = some_sector c.sectors.result (g.D.Disk.count c.args.disk.now) (length d) c.if-sectors-eq0.false c.sectors.ensures (g.met.D.Disk.sized c.args.disk.now tells) in
+    let same = c.in-Ok-None.ensures.same tells in
+    on_ok_weaker c.read_gpt.result
+    (λ adds. body_read g.row.B d c.args.trace.now c.add_one.new.self c.read_gpt.new.trace some c.in-Ok.ensures (subst (λ (t : Told). Adds c.add_one.new.self c.read_gpt.new.trace (RestReads g.row.B t.seen)) same adds))
+    (c.read_gpt.ensures.traced tells)
+
+pub returns-in-Ok-None-clause-traced_err : goal.returns-in-Ok-None-clause-traced_err
+returns-in-Ok-None-clause-traced_err g c = λ tells.
+    let d : Sectors = (g.D.Disk.told c.args.disk.now).seen in
+    let some : 0 < length d = some_sector c.sectors.result (g.D.Disk.count c.args.disk.now) (length d) c.if-sectors-eq0.false c.sectors.ensures (g.met.D.Disk.sized c.args.disk.now tells) in
+    let same = c.in-Ok-None.ensures.same tells in
+    IfErr-weaker c.read_gpt.result (λ e. IsOutside e ⊎ Adds c.add_one.new.self c.read_gpt.new.trace (RestReads g.row.B (g.D.Disk.told c.read_records.new.disk).seen)) (λ e. IsOutside e ⊎ Adds c.args.trace.now c.read_gpt.new.trace (BodyReads g.row.B d))
+    (λ e adds. body_read_or (IsOutside e) g.row.B d c.args.trace.now c.add_one.new.self c.read_gpt.new.trace some c.in-Ok.ensures (subst (λ (t : Told). IsOutside e ⊎ Adds c.add_one.new.self c.read_gpt.new.trace (RestReads g.row.B t.seen)) same adds))
+    (c.read_gpt.ensures.traced_err tells)

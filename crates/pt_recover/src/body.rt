@@ -1,0 +1,143 @@
+//! What stands in a table: the records and the chain of an MBR disk, or the table of a GPT disk.
+
+ghost use Rattle.std.specs.Prelude.{◌≡◌, ◌<◌, ◌⊎◌, IfOk, IfErr, OnOk};
+ghost use Rattle.pt_sector.specs.Sectors.{IsSectorSize, sector};
+ghost use Rattle.pt_recover.specs.Mbr.{IsMbrDisk, IsMbr};
+ghost use Rattle.pt_recover.specs.Denotes.{BodyIs, BodyReads};
+ghost use Rattle.pt_recover.specs.Steps.{RestReads};
+ghost use Rattle.pt_recover.specs.Spans.{Adds};
+ghost use Rattle.pt_recover.specs.Answers.{IsOutside, TellsNothing, FailedAs, HeadIs};
+
+use crate::error::NoTable;
+use crate::extended::read_lone;
+use crate::layout::Body;
+use crate::tables::read_either;
+use crate::trace::Trace;
+use pt_gpt::array_sectors;
+use pt_mbr::{Mbr, bears_protective, decode_mbr};
+use pt_sector::{Disk, Lba, Sector};
+use std::alloc::Global;
+
+fn head_of<const B: usize>(sector: &Sector<B>) -> Option<Mbr>
+    requires { IsSectorSize B }
+    ensures { HeadIs sector.now result }
+{
+    let mbr = match decode_mbr(sector) {
+        Some(mbr) => mbr,
+        None => return None,
+    };
+    if bears_protective(sector) {
+        return None;
+    }
+    Some(mbr)
+}
+
+/// The records of sector 0 of an MBR disk; none of a disk that isn't one.
+pub fn read_records<const B: usize, D: Disk<B>>(disk: &mut D) -> Result<Option<Mbr>, NoTable>
+    requires size { IsSectorSize B }
+    requires some { 0 < D.count disk.old }
+    ensures count { D.count disk.new ≡ D.count disk.old }
+    ensures name { D.name disk.new ≡ D.name disk.old }
+    ensures reads { D.reads disk.old disk.new }
+    ensures quiet { OnOk result (D.failures disk.new ≡ D.failures disk.old) }
+    ensures failed { IfErr result (λ e. FailedAs e (D.failures disk.old) (D.failures disk.new)) }
+    ensures outside { IfErr result IsOutside }
+    ensures same { D.tells → D.told disk.new ≡ D.told disk.old }
+    ensures ok { D.tells → IfOk result (HeadIs (sector (D.told disk.old).seen 0)) }
+{
+    let mut sector = [0; B];
+    match disk.read(Lba(0), &mut sector) {
+        Ok(()) => Ok(head_of(&sector)),
+        Err(_) => Err(NoTable::Device(Lba(0))),
+    }
+}
+
+// The table of a disk that isn't an MBR disk.
+fn read_gpt<const B: usize, D: Disk<B>>(
+    alloc: Global,
+    disk: &mut D,
+    trace: &mut Trace,
+) -> Result<Body, NoTable>
+    requires size { IsSectorSize B }
+    requires no_mbr { D.tells → ¬ IsMbrDisk (D.told disk.old).seen }
+    ensures count { D.count disk.new ≡ D.count disk.old }
+    ensures name { D.name disk.new ≡ D.name disk.old }
+    ensures reads { D.reads disk.old disk.new }
+    ensures quiet { OnOk result (D.failures disk.new ≡ D.failures disk.old) }
+    ensures failed { IfErr result (λ e. FailedAs e (D.failures disk.old) (D.failures disk.new)) }
+    ensures same { D.tells → D.told disk.new ≡ D.told disk.old }
+    ensures ok { D.tells → IfOk result (λ y. BodyIs B (D.told disk.old).seen y) }
+    ensures err { D.tells → IfErr result (λ e. TellsNothing B (D.told disk.old).seen e) }
+    ensures traced { D.tells → OnOk result (Adds trace.old trace.new (RestReads B (D.told disk.old).seen)) }
+    ensures traced_err { D.tells → IfErr result (λ e. IsOutside e ⊎ Adds trace.old trace.new (RestReads B (D.told disk.old).seen)) }
+{
+    let sectors = disk.sectors();
+    if sectors < 2 * array_sectors::<B>() + 4 {
+        return Err(NoTable::TooSmall);
+    }
+    match read_either(alloc, disk, trace) {
+        Ok(table) => Ok(Body::Gpt(table)),
+        Err(e) => Err(e),
+    }
+}
+
+// The records and the chain of an MBR disk.
+fn read_mbr<const B: usize, D: Disk<B>>(
+    alloc: Global,
+    disk: &mut D,
+    mbr: &Mbr,
+    trace: &mut Trace,
+) -> Result<Body, NoTable>
+    requires size { IsSectorSize B }
+    requires is_mbr { D.tells → IsMbr (D.told disk.old).seen mbr.now.records }
+    ensures count { D.count disk.new ≡ D.count disk.old }
+    ensures name { D.name disk.new ≡ D.name disk.old }
+    ensures reads { D.reads disk.old disk.new }
+    ensures quiet { OnOk result (D.failures disk.new ≡ D.failures disk.old) }
+    ensures failed { IfErr result (λ e. FailedAs e (D.failures disk.old) (D.failures disk.new)) }
+    ensures same { D.tells → D.told disk.new ≡ D.told disk.old }
+    ensures ok { D.tells → IfOk result (λ y. BodyIs B (D.told disk.old).seen y) }
+    ensures err { D.tells → IfErr result (λ e. TellsNothing B (D.told disk.old).seen e) }
+    ensures traced { D.tells → OnOk result (Adds trace.old trace.new (RestReads B (D.told disk.old).seen)) }
+    ensures traced_err { D.tells → IfErr result (λ e. IsOutside e ⊎ Adds trace.old trace.new (RestReads B (D.told disk.old).seen)) }
+{
+    match read_lone(alloc, disk, mbr, trace) {
+        Ok(chain) => Ok(Body::Mbr {
+            records: mbr.records,
+            chain,
+        }),
+        Err(e) => Err(e),
+    }
+}
+
+/// The body that the disk denotes, with the sectors that decide it added to the trace.
+pub(crate) fn read_body<const B: usize, D: Disk<B>>(
+    alloc: Global,
+    disk: &mut D,
+    trace: &mut Trace,
+) -> Result<Body, NoTable>
+    requires size { IsSectorSize B }
+    ensures count { D.count disk.new ≡ D.count disk.old }
+    ensures name { D.name disk.new ≡ D.name disk.old }
+    ensures reads { D.reads disk.old disk.new }
+    ensures quiet { OnOk result (D.failures disk.new ≡ D.failures disk.old) }
+    ensures failed { IfErr result (λ e. FailedAs e (D.failures disk.old) (D.failures disk.new)) }
+    ensures same { D.tells → D.told disk.new ≡ D.told disk.old }
+    ensures ok { D.tells → IfOk result (λ y. BodyIs B (D.told disk.old).seen y) }
+    ensures err { D.tells → IfErr result (λ e. TellsNothing B (D.told disk.old).seen e) }
+    ensures traced { D.tells → OnOk result (Adds trace.old trace.new (BodyReads B (D.told disk.old).seen)) }
+    ensures traced_err { D.tells → IfErr result (λ e. IsOutside e ⊎ Adds trace.old trace.new (BodyReads B (D.told disk.old).seen)) }
+{
+    if disk.sectors() == 0 {
+        return Err(NoTable::TooSmall);
+    }
+    match trace.add_one(0) {
+        Ok(()) => {}
+        Err(_) => return Err(NoTable::Memory),
+    }
+    match read_records(disk) {
+        Ok(Some(mbr)) => read_mbr(alloc, disk, &mbr, trace),
+        Ok(None) => read_gpt(alloc, disk, trace),
+        Err(e) => Err(e),
+    }
+}
