@@ -5,7 +5,11 @@ use Rattle.std.specs.declared.alloc.Global.{Global}
 use Rattle.std.proofs.lemmas.Bool.{cases_order, cases_lt}
 use Rattle.std.proofs.lemmas.List.{append_assoc, append-nil, length-map}
 use Rattle.std.proofs.lemmas.Option.{slice_get_within}
-use Rattle.pt_sector.specs.Writes.{Writes}
+use Rattle.std.proofs.lemmas.List.{get_or_default}
+use Rattle.pt_sector.specs.Sectors.{Sectors}
+use Rattle.pt_sector.specs.Writes.{Writes, written}
+use Rattle.pt_sector.specs.Written.{after-take_more}
+use Rattle.pt_check.specs.Course.{phase_at, disk_after}
 use Rattle.pt_apply.specs.Plans.{writes_of, phases_in}
 use Rattle.pt_apply.specs.declared.plan.Write.{Write}
 use Rattle.pt_check.specs.First.{writes_in, NoneIs, IsFirst}
@@ -137,3 +141,14 @@ pub drop-writes : {b : _} (ws : List (Write b)) (i : ℕ) (w : Write b) → i < 
 drop-writes [] i w lt is = absurd (omega (arith, lt))
 drop-writes (x ∷ ws) zero w lt is = ap (λ (y : Write _). (y.lba.0, y.bytes) ∷ writes_of ws) (sym is)
 drop-writes (x ∷ ws) (suc i) w lt is = rw add-one (rw add-one at (drop-writes ws i w (omega (arith, lt)) is))
+
+-- a phase as it was lent
+pub lent_phase : {b : _} (ps : List (Vec (Write b) Global)) (i : ℕ) (p : Vec (Write b) Global) → i < length ps → p ≡ get_or ps i p → (ws : List (Write b)) → ws ≡ p.items → writes_of ws ≡ phase_at (phases_in ps) i
+lent_phase ps i p lt is ws items = ap writes_of items ∙ sym (phase-at ps i p lt is)
+
+pub index_within : {b : _} (ps : List (Vec (Write b) Global)) (i : ℕ) → i < length ps → i < length (phases_in ps)
+index_within ps i lt = omega (arith, lt, length-phases ps)
+
+pub seen_on : (phases : List Writes) (d : Sectors) (i : ℕ) (ws : Writes) (before after_it : Sectors) → i < length phases → ws ≡ phase_at phases i → before ≡ disk_after phases d i → after_it ≡ written ws before → after_it ≡ disk_after phases d (i + 1)
+seen_on phases d i ws before after_it lt is here put =
+    put ∙ ap (λ (w : Writes). written w before) is ∙ ap (written (phase_at phases i)) here ∙ sym (after-take_more phases i (phase_at phases i) d lt (get_or_default phases i [] (phase_at phases i) lt))

@@ -1,4 +1,6 @@
+pub mod Answers
 pub mod Course
 pub mod Failed
 pub mod First
+pub mod Reasons
 pub mod Recovered

@@ -12,6 +12,7 @@ pub(crate) trait Objection<const B: usize> {
     ghost against: { Self → ℕ × List ℕ → Type 0 };
 
     fn objects(&self, write: &Write<B>) -> bool
+        requires { IsSectorSize B }
         ensures { IsTrue result ↔ against self.now (write.now.lba.0, write.now.bytes) };
 }
 

@@ -7,3 +7,5 @@ pub mod Sides
 pub mod LabelSteps
 pub mod Bodies
 pub mod Whole
+pub mod Equal
+pub mod Joined

@@ -32,8 +32,8 @@ fn head_of<const B: usize>(sector: &Sector<B>) -> Option<Mbr>
     Some(mbr)
 }
 
-// The records of sector 0; none where it isn't that of an MBR disk.
-fn read_zeroth<const B: usize, D: Disk<B>>(disk: &mut D) -> Result<Option<Mbr>, NoTable>
+/// The records of sector 0 of an MBR disk; none of a disk that isn't one.
+pub fn read_records<const B: usize, D: Disk<B>>(disk: &mut D) -> Result<Option<Mbr>, NoTable>
     requires size { IsSectorSize B }
     requires some { 0 < D.count disk.old }
     ensures count { D.count disk.new ≡ D.count disk.old }
@@ -135,7 +135,7 @@ pub(crate) fn read_body<const B: usize, D: Disk<B>>(
         Ok(()) => {}
         Err(_) => return Err(NoTable::Memory),
     }
-    match read_zeroth(disk) {
+    match read_records(disk) {
         Ok(Some(mbr)) => read_mbr(alloc, disk, &mbr, trace),
         Ok(None) => read_gpt(alloc, disk, trace),
         Err(e) => Err(e),

@@ -69,8 +69,8 @@ fn push_label(
     Ok(())
 }
 
-/// The labels at some slices' label places.
-pub(crate) fn read_labels<const B: usize, D: Disk<B>>(
+// The labels at some slices' label places, with those added to the trace.
+pub(crate) fn traced_labels<const B: usize, D: Disk<B>>(
     alloc: Global,
     disk: &mut D,
     slices: &[Slice],
@@ -101,4 +101,25 @@ pub(crate) fn read_labels<const B: usize, D: Disk<B>>(
         }
     }
     Ok(Labels::new(labels))
+}
+
+/// The labels at some slices' label places, in the slices' order; a place without a label for its slice gives none.
+pub fn read_labels<const B: usize, D: Disk<B>>(
+    alloc: Global,
+    disk: &mut D,
+    slices: &[Slice],
+) -> Result<Labels, NoTable>
+    requires size { IsSectorSize B }
+    requires within { All (λ p. place_of p < D.count disk.old) slices.now }
+    ensures count { D.count disk.new ≡ D.count disk.old }
+    ensures name { D.name disk.new ≡ D.name disk.old }
+    ensures reads { D.reads disk.old disk.new }
+    ensures quiet { OnOk result (D.failures disk.new ≡ D.failures disk.old) }
+    ensures failed { IfErr result (λ e. FailedAs e (D.failures disk.old) (D.failures disk.new)) }
+    ensures outside { IfErr result IsOutside }
+    ensures same { D.tells → D.told disk.new ≡ D.told disk.old }
+    ensures ok { D.tells → IfOk result (λ ls. LabelsAre (D.told disk.old).seen slices.now ls) }
+{
+    let mut trace = Trace::new(alloc);
+    traced_labels(alloc, disk, slices, &mut trace)
 }

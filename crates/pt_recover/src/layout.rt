@@ -1,11 +1,12 @@
 //! Layouts: what a disk may denote.
 
-ghost use Rattle.std.specs.Prelude.{◌≡◌, IfOk, List};
+ghost use Rattle.std.specs.Prelude.{◌≡◌, ◌↔◌, IfOk, IsTrue, List};
 ghost use Rattle.pt_mbr.specs.declared.ebr.Ebr.{Ebr};
 ghost use Rattle.pt_recover.specs.declared.layout.Labelled.{Labelled};
 
 use pt_bsd::Label;
-use pt_gpt::Table;
+use pt_gpt::{Entries, Table};
+use pt_guid::Guid;
 use pt_mbr::{Ebr, Record};
 use std::alloc::{AllocError, Global};
 use std::marker::Model;
@@ -51,6 +52,13 @@ impl Ebrs {
         let mut items = Vec::new(alloc);
         items.extend_from_slice(&self.items)?;
         Ok(Ebrs { items })
+    }
+
+    /// Whether the two are equal.
+    pub fn same(&self, other: &Ebrs) -> bool
+        ensures { IsTrue result ↔ (self.now ≡ other.now) }
+    {
+        self.items.as_slice() == other.items.as_slice()
     }
 }
 
@@ -104,6 +112,13 @@ impl Labels {
         items.extend_from_slice(&self.items)?;
         Ok(Labels { items })
     }
+
+    /// Whether the two are equal.
+    pub fn same(&self, other: &Labels) -> bool
+        ensures { IsTrue result ↔ (self.now ≡ other.now) }
+    {
+        self.items.as_slice() == other.items.as_slice()
+    }
 }
 
 /// The kind of a table, with what stands in it.
@@ -142,6 +157,61 @@ impl Body {
             }
         }
     }
+
+    /// Whether the two are equal.
+    pub fn same(&self, other: &Body) -> bool
+        ensures { IsTrue result ↔ (self.now ≡ other.now) }
+    {
+        match (self, other) {
+            (
+                Body::Mbr { records, chain },
+                Body::Mbr {
+                    records: others,
+                    chain: with,
+                },
+            ) => {
+                if !same_records(records, others) {
+                    return false;
+                }
+                chain.same(with)
+            }
+            (Body::Gpt(table), Body::Gpt(with)) => same_table(table, with),
+            _ => false,
+        }
+    }
+}
+
+fn same_records(records: &[Option<Record>; 4], others: &[Option<Record>; 4]) -> bool
+    ensures { IsTrue result ↔ (records.now ≡ others.now) }
+{
+    records == others
+}
+
+fn same_entries(entries: &Entries, others: &Entries) -> bool
+    ensures { IsTrue result ↔ (entries.now ≡ others.now) }
+{
+    entries.as_slice() == others.as_slice()
+}
+
+fn same_guid(guid: &Guid, other: &Guid) -> bool
+    ensures { IsTrue result ↔ (guid.now ≡ other.now) }
+{
+    guid == other
+}
+
+fn same_table(table: &Table, other: &Table) -> bool
+    ensures { IsTrue result ↔ (table.now ≡ other.now) }
+{
+    if table.first != other.first {
+        return false;
+    }
+    if table.last != other.last {
+        return false;
+    }
+    if !same_guid(&table.disk, &other.disk) {
+        return false;
+    }
+    same_entries(&table.entries, &other.entries)
 }
 
 /// What a disk denotes.
@@ -165,6 +235,19 @@ impl Layout {
             body,
             labels,
         })
+    }
+
+    /// Whether the two are equal. It takes no memory.
+    pub fn same(&self, other: &Layout) -> bool
+        ensures { IsTrue result ↔ (self.now ≡ other.now) }
+    {
+        if self.sectors != other.sectors {
+            return false;
+        }
+        if !self.body.same(&other.body) {
+            return false;
+        }
+        self.labels.same(&other.labels)
     }
 }
 

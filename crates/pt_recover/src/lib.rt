@@ -12,7 +12,9 @@ mod slices;
 mod tables;
 mod trace;
 
+pub use body::read_records;
 pub use error::NoTable;
+pub use labels::read_labels;
 pub use laws::{denotes_one, reads_decide, stop_keeps};
 pub use layout::{Body, Ebrs, Labelled, Labels, Layout, Slice};
 pub use recovery::{recover, recover_traced};

@@ -8,7 +8,7 @@ ghost use Rattle.pt_recover.specs.Answers.{IsOutside, TellsNothing, FailedAs, Is
 
 use crate::body::read_body;
 use crate::error::NoTable;
-use crate::labels::read_labels;
+use crate::labels::traced_labels;
 use crate::layout::Layout;
 use crate::slices::label_places;
 use crate::trace::Trace;
@@ -42,7 +42,7 @@ fn recover_into<const B: usize, D: Disk<B>>(
         Ok(places) => places,
         Err(_) => return Err(NoTable::Memory),
     };
-    match read_labels(alloc, disk, &places, trace) {
+    match traced_labels(alloc, disk, &places, trace) {
         Ok(labels) => Ok(Layout {
             sectors,
             body,

@@ -24,7 +24,7 @@ returns-in-Ok-Some-clause-traced_err g c = λ tells.
     let d : Sectors = (g.D.Disk.told c.args.disk.now).seen in
     let some : 0 < length d = some_sector c.sectors.result (g.D.Disk.count c.args.disk.now) (length d) c.if-sectors-eq0.false c.sectors.ensures (g.met.D.Disk.sized c.args.disk.now tells) in
     let same = c.in-Ok-Some.ensures.same tells in
-    IfErr-weaker c.read_mbr.result (λ e. IsOutside e ⊎ Adds c.add_one.new.self c.read_mbr.new.trace (RestReads g.row.B (g.D.Disk.told c.read_zeroth.new.disk).seen)) (λ e. IsOutside e ⊎ Adds c.args.trace.now c.read_mbr.new.trace (BodyReads g.row.B d))
+    IfErr-weaker c.read_mbr.result (λ e. IsOutside e ⊎ Adds c.add_one.new.self c.read_mbr.new.trace (RestReads g.row.B (g.D.Disk.told c.read_records.new.disk).seen)) (λ e. IsOutside e ⊎ Adds c.args.trace.now c.read_mbr.new.trace (BodyReads g.row.B d))
     (λ e adds. body_read_or (IsOutside e) g.row.B d c.args.trace.now c.add_one.new.self c.read_mbr.new.trace some c.in-Ok.ensures (subst (λ (t : Told). IsOutside e ⊎ Adds c.add_one.new.self c.read_mbr.new.trace (RestReads g.row.B t.seen)) same adds))
     (c.read_mbr.ensures.traced_err tells)
 
@@ -42,6 +42,6 @@ returns-in-Ok-None-clause-traced_err g c = λ tells.
     let d : Sectors = (g.D.Disk.told c.args.disk.now).seen in
     let some : 0 < length d = some_sector c.sectors.result (g.D.Disk.count c.args.disk.now) (length d) c.if-sectors-eq0.false c.sectors.ensures (g.met.D.Disk.sized c.args.disk.now tells) in
     let same = c.in-Ok-None.ensures.same tells in
-    IfErr-weaker c.read_gpt.result (λ e. IsOutside e ⊎ Adds c.add_one.new.self c.read_gpt.new.trace (RestReads g.row.B (g.D.Disk.told c.read_zeroth.new.disk).seen)) (λ e. IsOutside e ⊎ Adds c.args.trace.now c.read_gpt.new.trace (BodyReads g.row.B d))
+    IfErr-weaker c.read_gpt.result (λ e. IsOutside e ⊎ Adds c.add_one.new.self c.read_gpt.new.trace (RestReads g.row.B (g.D.Disk.told c.read_records.new.disk).seen)) (λ e. IsOutside e ⊎ Adds c.args.trace.now c.read_gpt.new.trace (BodyReads g.row.B d))
     (λ e adds. body_read_or (IsOutside e) g.row.B d c.args.trace.now c.add_one.new.self c.read_gpt.new.trace some c.in-Ok.ensures (subst (λ (t : Told). IsOutside e ⊎ Adds c.add_one.new.self c.read_gpt.new.trace (RestReads g.row.B t.seen)) same adds))
     (c.read_gpt.ensures.traced_err tells)

@@ -1,0 +1,40 @@
+-- What the checker's answer says of a disk with sectors of b bytes and the phases of a plan.
+use Rattle.std.specs.Prelude.{ℕ, List, Option, Some, None}
+use Rattle.pt_sector.specs.Sectors.{Sectors}
+use Rattle.pt_sector.specs.Writes.{Writes}
+use Rattle.pt_apply.specs.Plans.{InRange}
+use Rattle.pt_apply.specs.Promises.{Safe}
+use Rattle.pt_apply.specs.declared.plan.Plan.{Plan}
+use Rattle.pt_recover.specs.Denotes.{Denotes, Reads}
+use Rattle.pt_recover.specs.declared.layout.Layout.{Layout}
+use Rattle.pt_layout.specs.Findings.{IsFinding}
+use Rattle.pt_layout.specs.Healthy.{Healthy}
+use Rattle.pt_layout.specs.Owned.{Owns}
+use Rattle.pt_layout.specs.Tables.{IsTable}
+use Rattle.pt_check.specs.Reasons.{IsAnswer}
+use Rattle.pt_check.specs.declared.answer.Answer.{Answer}
+use Rattle.pt_check.specs.declared.answer.Answer.TheVariants.{No, Yes}
+
+-- a sector of the tables of what is denoted; nothing has none
+abbrev pub TableOf : ℕ → Option Layout → ℕ → Type 0
+TableOf b None s = ⊥
+TableOf b (Some o) s = IsTable b o s
+
+-- a sector that is owned in it; nothing owns none
+abbrev pub OwnedOf : ℕ → Option Layout → ℕ → Type 0
+OwnedOf b None s = ⊥
+OwnedOf b (Some o) s = Owns b o s
+
+-- a no with the first reason that holds, a yes where none holds
+abbrev pub Answers : ℕ → Sectors → List Writes → Answer → Type 0
+Answers b d phases answer = IsAnswer (Denotes b) (Reads b) (TableOf b) (OwnedOf b) (IsFinding b) d phases answer
+
+-- after a yes: each disk that a stop within the phases may leave has what is promised
+abbrev pub Promises : ℕ → Sectors → List Writes → Answer → Type 0
+Promises b d phases (No why) = Unit {0}
+Promises b d phases (Yes switch) = Safe (Denotes b) (Healthy b) (TableOf b) (OwnedOf b) phases d switch
+
+-- after a yes: each write is of a sector below n
+abbrev pub Fits : {b : _} → ℕ → Plan b → Answer → Type 0
+Fits n plan (No why) = Unit {0}
+Fits n plan (Yes switch) = InRange n plan
