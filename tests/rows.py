@@ -137,6 +137,8 @@ def small(command):
         command.on(bytes(size)).gives(["show"], "", "no table: too small\n", 4)
     command.on(bytes(510) + b"\x55\xaa").gives(["show"], "mbr 1\n").gives(["verify"], "yes\n")
     command.on(zeros(68)).gives(["show"], "", "no table: copies 1 1\n", 4)
+    least = f"gpt 68 34 34 {images.DISK}\n"
+    command.on(gpt(68, {})).gives(["show"], least).gives(["verify"], "yes\n")
 
 
 def logicals(link_start=2047, link_size=1001, empty=False):
