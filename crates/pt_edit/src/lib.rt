@@ -21,3 +21,6 @@ pub use laws::edited_one;
 pub use number::parse_path;
 pub use parse::parse_edit;
 pub use word::{Code, Edit, End};
+
+#[cfg(test)]
+mod tests;
