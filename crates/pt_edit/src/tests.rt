@@ -380,6 +380,151 @@ fn refusals_of_names(rt: HostRuntime) -> Result<(), Fail> {
     Ok(())
 }
 
+/// The layout with partitions 1 and 3 after a change of its disk's GUID, of its last usable sector, and of the first entry.
+fn changed(alloc: Global, disk: Guid, last: u64, entry: Entry) -> Result<Layout, Fail> {
+    let entries = [Some(entry), None, Some(partition(3, [0x41; 36]))];
+    Ok(Layout {
+        sectors: 4096,
+        body: Body::Gpt(Table {
+            disk,
+            first: 34,
+            last,
+            entries: Entries::new(Vec::from_slice(alloc, &entries)?),
+        }),
+        labels: Labels::new(Vec::new(alloc)),
+    })
+}
+
+fn changes_alone<const B: usize>(alloc: Global, last: u64) -> Result<bool, Fail>
+    requires { IsSectorSize B }
+{
+    let entry = partition(1, units(&DATA));
+    let old = changed(alloc, FRESH, 4000, entry)?;
+    let guid = changed(
+        alloc,
+        FRESH,
+        4000,
+        Entry {
+            unique: FRESH,
+            ..entry
+        },
+    )?;
+    let set = changed(
+        alloc,
+        FRESH,
+        4000,
+        Entry {
+            attributes: 0x8000_0000_0000_0005,
+            ..entry
+        },
+    )?;
+    let cleared = changed(
+        alloc,
+        FRESH,
+        4000,
+        Entry {
+            attributes: 0,
+            ..entry
+        },
+    )?;
+    let disk = changed(alloc, Guid([3; 16]), 4000, entry)?;
+    let extended = changed(alloc, FRESH, last, entry)?;
+    Ok(
+        makes::<B>(
+            alloc,
+            &old,
+            &["u:1:00010203-0405-4607-8809-0a0b0c0d0e0f"],
+            &guid,
+        )? && makes::<B>(
+            alloc,
+            &guid,
+            &["u:1:00010203-0405-4607-8809-0a0b0c0d0e0f"],
+            &guid,
+        )? && makes::<B>(alloc, &old, &["A:1:63:1", "A:1:0:1", "A:1:2:1"], &set)?
+            && makes::<B>(alloc, &old, &["A:1:2:0"], &cleared)?
+            && makes::<B>(
+                alloc,
+                &old,
+                &["U:03030303-0303-0303-0303-030303030303"],
+                &disk,
+            )?
+            && makes::<B>(alloc, &old, &["e"], &extended)?,
+    )
+}
+
+#[test]
+fn one_change_in_sectors_of_512_bytes(rt: HostRuntime) -> Result<(), Fail> {
+    assert!(rt; changes_alone::<512>(rt.alloc(), 4062)?);
+    Ok(())
+}
+
+#[test]
+fn one_change_in_sectors_of_4096_bytes(rt: HostRuntime) -> Result<(), Fail> {
+    assert!(rt; changes_alone::<4096>(rt.alloc(), 4090)?);
+    Ok(())
+}
+
+#[test]
+fn guids_of_others(rt: HostRuntime) -> Result<(), Fail> {
+    let old = named(rt.alloc(), units(&DATA))?;
+    let third = "u:1:03030303-0303-0303-0303-030303030303";
+    assert_eq!(rt; refused::<512>(rt.alloc(), Some(&old), &[third])?, 11);
+    let second = "u:2:03030303-0303-0303-0303-030303030303";
+    assert_eq!(rt; refused::<512>(rt.alloc(), Some(&old), &[second])?, 1);
+    Ok(())
+}
+
+/// The number of the refusal of `o` on a disk of so many sectors that denotes nothing, or 0, and the usable sectors.
+fn emptied<const B: usize>(alloc: Global, sectors: u64, guids: &[Guid]) -> (u8, u64, u64)
+    requires { IsSectorSize B }
+{
+    match edit::<B>(alloc, None, sectors, &[Edit::Empty], guids) {
+        Ok(made) => match made.body {
+            Body::Gpt(table) => (0, table.first, table.last),
+            Body::Mbr { .. } => (99, 0, 0),
+        },
+        Err(refusal) => (refusal.number(), 0, 0),
+    }
+}
+
+#[test]
+fn empty_tables(rt: HostRuntime) -> Result<(), Fail> {
+    let two = [FRESH, Guid([9; 16])];
+    assert_eq!(rt; emptied::<512>(rt.alloc(), 2048, &two), (0, 34, 2014));
+    assert_eq!(rt; emptied::<512>(rt.alloc(), 68, &two), (0, 34, 34));
+    assert_eq!(rt; emptied::<512>(rt.alloc(), 67, &two), (12, 0, 0));
+    assert_eq!(rt; emptied::<512>(rt.alloc(), 67, &[]), (12, 0, 0));
+    assert_eq!(rt; emptied::<512>(rt.alloc(), 2048, &[]), (10, 0, 0));
+    assert_eq!(rt; emptied::<4096>(rt.alloc(), 256, &two), (0, 6, 250));
+    assert_eq!(rt; emptied::<4096>(rt.alloc(), 12, &two), (0, 6, 6));
+    assert_eq!(rt; emptied::<4096>(rt.alloc(), 11, &two), (12, 0, 0));
+
+    // Each `o` takes a GUID of its own, and has 128 unused entries.
+    let old = named(rt.alloc(), units(&DATA))?;
+    let twice = edit::<512>(
+        rt.alloc(),
+        Some(&old),
+        4096,
+        &[Edit::Empty, Edit::Align(8), Edit::Empty],
+        &two,
+    );
+    let wanted = Layout {
+        sectors: 4096,
+        body: Body::Gpt(Table {
+            disk: Guid([9; 16]),
+            first: 34,
+            last: 4062,
+            entries: Entries::new(Vec::from_slice(rt.alloc(), &[None; 128])?),
+        }),
+        labels: Labels::new(Vec::new(rt.alloc())),
+    };
+    match twice {
+        Ok(made) => assert!(rt; made.same(&wanted)),
+        Err(_) => assert!(rt; false),
+    }
+    Ok(())
+}
+
 #[test]
 fn words_on_nothing(rt: HostRuntime) -> Result<(), Fail> {
     for text in [
