@@ -7,4 +7,6 @@ pub mod Pairs
 pub mod Extended
 pub mod Grouped
 pub mod Lowest
+pub mod Foreignness
+pub mod Verdicts
 pub mod LabelPlaces

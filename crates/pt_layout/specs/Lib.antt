@@ -14,3 +14,6 @@ pub mod Spots
 pub mod Row
 pub mod Twins
 pub mod Steps
+pub mod Halves
+pub mod Foreign
+pub mod Verdicts

@@ -4,7 +4,9 @@
 mod buried;
 mod faults;
 mod finding;
+mod foreign;
 mod groups;
+mod halves;
 mod health;
 mod member;
 mod overlap;
