@@ -1,4 +1,3 @@
-pub mod Apart
 pub mod ByPlace
 pub mod Presence
 pub mod First

@@ -1,11 +1,9 @@
 -- The first finding of a disk, step by step.
-use Rattle.std.proofs.Common.{◌≡◌, ◌<◌, ◌≤◌, ◌+◌, ℕ, List, length, Option, Some, None, Bool, true, false, refl, sym, ap, ◌∙◌, subst, inl, inr}
-use Rattle.std.specs.Prelude.{◌⊎◌, ◌≢◌, ◌-◌}
+use Rattle.std.proofs.Common.{◌≡◌, ℕ, length, Some, None, Bool, true, false, sym, subst, inl, inr}
 use Rattle.pt_sector.specs.Sectors.{Sectors, sector}
-use Rattle.pt_gpt.specs.Copy.{CopyWith, Copy, HasCopy, IsCopyFault}
+use Rattle.pt_gpt.specs.Copy.{CopyWith, IsCopyFault}
 use Rattle.pt_gpt.specs.Laws.{no_copy_lem}
 use Rattle.pt_gpt.specs.declared.error.CopyError.{CopyError}
-use Rattle.pt_gpt.specs.declared.table.Side.{Side}
 use Rattle.pt_gpt.specs.declared.table.Side.TheVariants.{Primary, Backup}
 use Rattle.pt_gpt.specs.declared.table.Table.{Table}
 use Rattle.pt_recover.specs.Mbr.{IsMbrDisk}
@@ -14,7 +12,6 @@ use Rattle.pt_gpt.specs.declared.header.Header.{Header}
 use Rattle.pt_recover.specs.Labels.{places_of, LabelsAre}
 use Rattle.pt_recover.specs.Gpt.{HasRoom, TableIs}
 use Rattle.pt_recover.specs.Denotes.{BodyIs, Denotes}
-use Rattle.pt_recover.specs.Answers.{IsReason, LacksCopies}
 use Rattle.pt_recover.specs.declared.error.NoTable.TheVariants as no
 use Rattle.pt_recover.specs.declared.layout.Layout.{Layout}
 use Rattle.pt_recover.specs.declared.layout.Body.{Body}
@@ -22,7 +19,7 @@ use Rattle.pt_recover.specs.declared.layout.Body.TheVariants.{Mbr, Gpt}
 use Rattle.pt_layout.specs.declared.path.Path.{Path}
 use Rattle.pt_layout.specs.declared.finding.Finding.{Finding}
 use Rattle.pt_layout.specs.declared.finding.Finding.TheVariants.{NoTable, PrimaryCopy, BackupCopy, CopiesDiffer, Alternate, Protective, OutsideUsable, Overlap, OnTable, SameGuid, ForeignLabel}
-use Rattle.pt_layout.specs.Sound.{Sound, IsUnsound, UnsoundIs}
+use Rattle.pt_layout.specs.Sound.{Sound, UnsoundIs}
 use Rattle.pt_layout.specs.Healthy.{IsBodyWhole, IsHealthy, HasCopies}
 use Rattle.pt_layout.specs.Foreign.{ForeignIs}
 use Rattle.pt_layout.specs.Findings.{IsFinding, IsBodyBroken}
@@ -105,18 +102,30 @@ pair_whole b d c p q o is x y pair of = subst (λ (z : Body). IsBodyWhole b d z)
 })
 
 pub pair_finding : (b : ℕ) (d : Sectors) (c : Bool) (p q : Half) (o : Layout) (f : Finding) → IsOpen d c → HasRoom b (length d) → HalfIs b d Primary p → HalfIs b d Backup q → PairIs (length d) c p q (Some f) → LayoutOf b d p.table o → IsFinding b d f
-pair_finding b d c p q o CopiesDiffer is room x y pair of =
-    (o, gpt_denotes b d p.table o (primary_body b d p.header p.table (open_plain d c is) room x) of, subst (λ (z : Body). IsBodyBroken b d z CopiesDiffer) (sym of.1)
-    (record { primary = p.table; backup = q.table; first = record { room = room; head = p.header; stands = x }; second = record { room = room; head = q.header; stands = y }; differ = pair }))
-pair_finding b d c p q o (Alternate Primary) is room x y pair of =
-    (o, gpt_denotes b d p.table o (primary_body b d p.header p.table (open_plain d c is) room x) of, subst (λ (z : Body). IsBodyBroken b d z (Alternate Primary)) (sym of.1)
-    (record { primary = p.header; backup = q.header; copies = copies_of b d p q x y pair.0; other = pair.1 }))
-pair_finding b d c p q o (Alternate Backup) is room x y pair of =
-    (o, gpt_denotes b d p.table o (primary_body b d p.header p.table (open_plain d c is) room x) of, subst (λ (z : Body). IsBodyBroken b d z (Alternate Backup)) (sym of.1)
-    (record { primary = p.header; backup = q.header; copies = copies_of b d p q x y pair.0; other = (pair.1, pair.2) }))
-pair_finding b d c p q o Protective is room x y pair of =
-    (o, gpt_denotes b d p.table o (primary_body b d p.header p.table (open_plain d c is) room x) of, subst (λ (z : Body). IsBodyBroken b d z Protective) (sym of.1)
-    (record { primary = p.header; backup = q.header; copies = copies_of b d p q x y pair.0; alternates = record { first = pair.1; second = pair.2 }; other = unprotected d c is pair.3 }))
+pair_finding b d c p q o CopiesDiffer is room x y pair of = (
+  o,
+  gpt_denotes b d p.table o (primary_body b d p.header p.table (open_plain d c is) room x) of,
+  subst (λ (z : Body). IsBodyBroken b d z CopiesDiffer) (sym of.1)
+      (record { primary = p.table; backup = q.table; first = record { room = room; head = p.header; stands = x }; second = record { room = room; head = q.header; stands = y }; differ = pair }),
+)
+pair_finding b d c p q o (Alternate Primary) is room x y pair of = (
+  o,
+  gpt_denotes b d p.table o (primary_body b d p.header p.table (open_plain d c is) room x) of,
+  subst (λ (z : Body). IsBodyBroken b d z (Alternate Primary)) (sym of.1)
+      (record { primary = p.header; backup = q.header; copies = copies_of b d p q x y pair.0; other = pair.1 }),
+)
+pair_finding b d c p q o (Alternate Backup) is room x y pair of = (
+  o,
+  gpt_denotes b d p.table o (primary_body b d p.header p.table (open_plain d c is) room x) of,
+  subst (λ (z : Body). IsBodyBroken b d z (Alternate Backup)) (sym of.1)
+      (record { primary = p.header; backup = q.header; copies = copies_of b d p q x y pair.0; other = (pair.1, pair.2) }),
+)
+pair_finding b d c p q o Protective is room x y pair of = (
+  o,
+  gpt_denotes b d p.table o (primary_body b d p.header p.table (open_plain d c is) room x) of,
+  subst (λ (z : Body). IsBodyBroken b d z Protective) (sym of.1)
+      (record { primary = p.header; backup = q.header; copies = copies_of b d p q x y pair.0; alternates = record { first = pair.1; second = pair.2 }; other = unprotected d c is pair.3 }),
+)
 pair_finding b d c p q o (NoTable e) is room x y pair of = absurd pair
 pair_finding b d c p q o (PrimaryCopy e) is room x y pair of = absurd pair
 pair_finding b d c p q o (BackupCopy e) is room x y pair of = absurd pair

@@ -17,3 +17,5 @@ pub mod Steps
 pub mod Halves
 pub mod Foreign
 pub mod Verdicts
+pub mod Apart
+pub mod Laws

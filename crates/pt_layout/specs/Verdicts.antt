@@ -1,5 +1,5 @@
 -- The steps to a verdict.
-use Rattle.std.specs.Prelude.{◌≡◌, ◌≢◌, ◌-◌, ◌<◌, ℕ, List, Bool, true, false, length, Option, Some, None}
+use Rattle.std.specs.Prelude.{◌≡◌, ◌≢◌, ◌-◌, ℕ, List, Bool, true, false, length, Option, Some, None}
 use Rattle.pt_sector.specs.Sectors.{Sectors, sector}
 use Rattle.pt_mbr.specs.Protective.{IsProtective}
 use Rattle.pt_gpt.specs.Copy.{HasCopy, IsCopyFault}

@@ -14,8 +14,8 @@ ghost use Rattle.pt_layout.specs.Findings.{VerdictIs, FailedAs};
 
 use crate::finding::{Finding, Verdict, VerifyError};
 use crate::foreign::first_foreign;
-use crate::path::Path;
 use crate::halves::{Half, Halves, read_halves};
+use crate::path::Path;
 use crate::soundness::unsound;
 use pt_gpt::{Entries, Side, Table, array_sectors};
 use pt_guid::Guid;
@@ -177,12 +177,7 @@ fn same_table(table: &Table, other: &Table) -> bool
 }
 
 // The first thing that is wrong with the two copies, and with sector 0.
-fn broken_pair(
-    sectors: u64,
-    protected: bool,
-    primary: &Half,
-    backup: &Half,
-) -> Option<Finding>
+fn broken_pair(sectors: u64, protected: bool, primary: &Half, backup: &Half) -> Option<Finding>
     requires { 1 ≤ sectors }
     ensures { PairIs sectors protected primary.now backup.now result }
 {

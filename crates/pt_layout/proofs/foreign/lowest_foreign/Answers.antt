@@ -16,7 +16,7 @@ loop-k-preserved g c = record {
   lowest = λ tells.
       (let d : Sectors = (g.D.Disk.told c.args.disk.now).seen in
       let here : NextIs (ForeignOf d (get_or c.args.slices.now c.loop-k.k no_slice)) 0 c.in-Ok.number =
-          subst (λ (t : Told). NextIs (ForeignOf t.seen (get_or c.args.slices.now c.loop-k.k no_slice)) 0 c.in-Ok.number) (c.loop-k.invariant.same tells) (c.in-Ok.ensures.ok tells) in
+      subst (λ (t : Told). NextIs (ForeignOf t.seen (get_or c.args.slices.now c.loop-k.k no_slice)) 0 c.in-Ok.number) (c.loop-k.invariant.same tells) (c.in-Ok.ensures.ok tells) in
       subst (λ (r : Option ℕ). NextIs (Under (λ j. ForeignOf d (get_or c.args.slices.now j no_slice)) (c.loop-k.k + 1)) 0 r) (sym c.least-lowest.ensures)
       (next_more (λ j. ForeignOf d (get_or c.args.slices.now j no_slice)) c.loop-k.k 0 c.loop-k.lowest c.in-Ok.number (c.loop-k.invariant.lowest tells) here));
 }

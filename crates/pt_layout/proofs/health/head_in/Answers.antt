@@ -1,5 +1,4 @@
-use Rattle.std.proofs.Common.{◌≡◌, Bool, true, false, sym, ◌∙◌}
-use Rattle.pt_recover.specs.Mbr.{IsMbrSector}
+use Rattle.std.proofs.Common.{◌≡◌, true, false, sym, ◌∙◌}
 use Rattle.pt_layout.proofs.health.head_in.Goals as goal
 
 pub returns-then-is_protective : goal.returns-then-is_protective

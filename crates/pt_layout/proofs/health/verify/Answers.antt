@@ -1,4 +1,4 @@
-use Rattle.std.proofs.Common.{◌≡◌, length, true, false, sym, subst}
+use Rattle.std.proofs.Common.{true, false, sym, subst}
 use Rattle.pt_sector.specs.Sectors.{Sectors}
 use Rattle.pt_sector.specs.Device.{Told}
 use Rattle.pt_layout.specs.Verdicts.{IsOpen}

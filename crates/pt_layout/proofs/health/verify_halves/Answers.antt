@@ -1,8 +1,8 @@
-use Rattle.std.proofs.Common.{◌≡◌, ◌∙◌, ℕ, length, sym, subst}
+use Rattle.std.proofs.Common.{ℕ, length, sym, subst}
 use Rattle.pt_sector.specs.Sectors.{Sectors}
 use Rattle.pt_recover.specs.Gpt.{HasRoom}
 use Rattle.pt_layout.specs.declared.halves.Halves.{Halves}
-use Rattle.pt_layout.specs.declared.halves.Halves.TheVariants.{Both, OnlyPrimary, OnlyBackup, Neither}
+use Rattle.pt_layout.specs.declared.halves.Halves.TheVariants.{OnlyPrimary, OnlyBackup, Neither}
 use Rattle.pt_layout.specs.Halves.{HalvesAre}
 use Rattle.pt_layout.proofs.Verdicts.{primary_body, backup_body, neither_finding, open_plain}
 use Rattle.pt_layout.proofs.health.verify_halves.Goals as goal
