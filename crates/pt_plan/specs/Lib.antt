@@ -1,0 +1,5 @@
+pub mod Batches
+pub mod Commits
+pub mod Failed
+pub mod History
+pub mod Plans
