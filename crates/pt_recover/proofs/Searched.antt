@@ -1,11 +1,11 @@
 -- Searching runs that ascend.
-use Rattle.std.proofs.Common.{◌≡◌, ◌<◌, ◌≤◌, ◌+◌, ℕ, zero, suc, List, [], ◌∷◌, length, get_or, true, false, leb, ltb, refl, ap, arith, inl, inr}
-use Rattle.std.specs.Prelude.{◌⊎◌, ◌↔◌}
+use Rattle.std.proofs.Common.{◌≡◌, ◌<◌, ◌≤◌, ℕ, zero, suc, List, [], ◌∷◌, length, get_or, true, false, leb, ltb, ap, arith, inl, inr}
+use Rattle.std.specs.Prelude.{◌↔◌}
 use Rattle.std.specs.Bool.{Decides}
 use Rattle.std.specs.List.Sorted.{IsNonDecreasingBy, IsPartitionPoint}
 use Rattle.std.proofs.lemmas.Bool.{leb-true, ltb-true, ltb-false}
 use Rattle.std.proofs.lemmas.Bool.Decides.{nat_tests}
-use Rattle.pt_recover.specs.Spans.{InRun, IsIn, Follows, Apart}
+use Rattle.pt_recover.specs.Spans.{IsIn, Apart}
 use Rattle.pt_recover.specs.declared.trace.Run.{Run}
 
 above_all : (r : Run) (rs : List Run) (k : ℕ) (z : Run) → Apart (r ∷ rs) → k < length rs → (r.last < (get_or rs k z).first) × ((get_or rs k z).first ≤ (get_or rs k z).last)

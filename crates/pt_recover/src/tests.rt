@@ -2,7 +2,7 @@ ghost use Rattle.std.specs.Prelude.{◌≡◌, ◌≤◌, ◌<◌, ◌^◌, ◌+
 ghost use Rattle.pt_sector.specs.Sectors.{IsSectorSize};
 ghost use Rattle.pt_gpt.specs.Array.{array_len};
 
-use crate::{Body, Layout, NoTable, recover, recover_traced};
+use crate::{Body, Ebrs, Labels, Layout, NoTable, recover, recover_traced};
 use pt_bsd::{empty_label, encode_label};
 use pt_gpt::{
     CopyError, Entry, Header, Side, array_at, array_crc, array_sectors, encode_array_sector,
@@ -53,6 +53,27 @@ fn labels_of(layout: &Layout) -> (u64, usize) {
     }
 }
 
+/// The same layout in other memory, taken apart and put together again.
+fn again(alloc: Global, layout: &Layout) -> Result<Layout, Fail> {
+    let Layout {
+        sectors,
+        body,
+        labels,
+    } = layout.copy(alloc)?;
+    let body = match body {
+        Body::Mbr { records, chain } => Body::Mbr {
+            records,
+            chain: Ebrs::new(chain.into_vec()),
+        },
+        Body::Gpt(table) => Body::Gpt(table),
+    };
+    Ok(Layout {
+        sectors,
+        body,
+        labels: Labels::new(labels.into_vec()),
+    })
+}
+
 /// An MBR disk whose partition 1 is a slice from 2048 on, with a label in 2049 for 4096 sectors. With sectors of 4096
 /// bytes there are no labels.
 fn slice_is_read<const B: usize>(alloc: Global, len: u32) -> Result<(u64, usize), Fail>
@@ -71,7 +92,12 @@ fn slice_is_read<const B: usize>(alloc: Global, len: u32) -> Result<(u64, usize)
     if trace.contains(Lba(2049)) != (B == 512) {
         return Ok((9, 9));
     }
-    Ok(labels_of(&layout))
+    let other = again(alloc, &layout)?;
+    Ok(if layout.same(&other) {
+        labels_of(&other)
+    } else {
+        (9, 9)
+    })
 }
 
 #[test]

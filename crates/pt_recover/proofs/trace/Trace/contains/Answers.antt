@@ -1,4 +1,4 @@
-use Rattle.std.proofs.Common.{◌≡◌, ◌∙◌, sym, subst, List, ltb, leb, arith, rules}
+use Rattle.std.proofs.Common.{◌≡◌, ◌∙◌, sym, subst, List, ltb, leb, rules}
 use Rattle.std.specs.Bool.{Decides}
 use Rattle.std.proofs.lemmas.List.Sorted.{IsPartitionPoint-from_clause, IsPartitionedBy-ltb}
 use Rattle.pt_recover.specs.Spans.{IsIn, Apart}
