@@ -3,3 +3,4 @@ pub mod Commits
 pub mod Failed
 pub mod History
 pub mod Plans
+pub mod Steps

@@ -3,6 +3,7 @@
 
 mod commits;
 mod error;
+mod finished;
 mod planner;
 mod prepare;
 

@@ -1,6 +1,7 @@
 //! The command `ptab`: shows, verifies and edits the partition table of a disk image.
 #![tactic(auto)]
 
+mod edit;
 mod file_disk;
 mod line;
 mod run;

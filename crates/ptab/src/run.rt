@@ -2,6 +2,7 @@
 
 ghost use Rattle.pt_sector.specs.Sectors.{IsSectorSize};
 
+use crate::edit::edit;
 use crate::file_disk::{Access, open};
 use crate::line::{Job, Line, LineError, SectorSize, read_line};
 use crate::show::print_layout;
@@ -70,10 +71,10 @@ fn answer<const B: usize, R: Files<File = File> + AllocGlobal, O: Write>(
         Job::Show { image } => show::<B, R, O>(rt, image.as_str(), out),
         Job::Verify { image } => verify_image::<B, R, O>(rt, image.as_str(), out),
         Job::Edit {
-            image: _,
-            fresh: _,
-            words: _,
-        } => Err(Failure::NotYet),
+            image,
+            fresh,
+            words,
+        } => edit::<B, R, O>(rt, image.as_str(), fresh.as_ref(), words.as_slice(), out),
     }
 }
 
