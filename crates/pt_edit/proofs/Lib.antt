@@ -5,3 +5,4 @@ pub mod Cuts
 pub mod Ends
 pub mod Faults
 pub mod Folding
+pub mod LabelLists

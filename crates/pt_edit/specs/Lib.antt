@@ -1,6 +1,7 @@
 pub mod Numbers
 pub mod Names
 pub mod Changes
+pub mod Spots
 pub mod Edited
 pub mod Fold
 pub mod Whole
