@@ -1,6 +1,5 @@
 pub mod Units
 pub mod Numbers
-pub mod Paths
 pub mod Cuts
 pub mod Ends
 pub mod Faults

@@ -6,5 +6,4 @@ pub mod Edited
 pub mod Fold
 pub mod Whole
 pub mod Laws
-pub mod Texts
 pub mod Words

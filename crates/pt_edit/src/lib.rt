@@ -11,7 +11,6 @@ mod gpt;
 mod labels;
 mod laws;
 mod name;
-mod number;
 mod parse;
 mod spots;
 mod state;
@@ -22,7 +21,6 @@ mod words;
 pub use error::{EditError, Refusal};
 pub use fold::edit;
 pub use laws::edited_one;
-pub use number::parse_path;
 pub use parse::parse_edit;
 pub use word::{Code, Edit, End};
 

@@ -2,7 +2,7 @@
 
 ghost use Rattle.pt_sector.specs.Sectors.{IsSectorSize};
 
-use crate::{Code, Edit, EditError, End, edit, parse_edit, parse_path};
+use crate::{Code, Edit, EditError, End, edit, parse_edit};
 use pt_gpt::{Entries, Entry, Table};
 use pt_guid::Guid;
 use pt_layout::{Body, Ebrs, Labels, Layout, Path};
@@ -200,18 +200,6 @@ fn each_error(rt: HostRuntime) {
         assert_eq!(rt; error_of(rt.alloc(), text), 5, "at {text}");
     }
     assert_eq!(rt; EditError::Memory.number(), 6);
-}
-
-#[test]
-fn paths(rt: HostRuntime) {
-    let path = Path {
-        number: 5,
-        letter: Some(7),
-    };
-    assert_eq!(rt; parse_path("5.h"), Some(path));
-    for text in ["", "0", "05", "5.", "5.i", ".a", "5.ab", "5 "] {
-        assert_eq!(rt; parse_path(text), None, "at {text}");
-    }
 }
 
 /// A partition of this number and name.
