@@ -1,7 +1,6 @@
 -- What a path names in a GPT: an entry, or an entry of a slice's label.
-use Rattle.std.specs.Prelude.{◌≡◌, ◌≢◌, ◌⊎◌, ◌-◌, ℕ, Bool, true, false, List, [], ◌∷◌, map, filter, length, replicate, slice_index_or, slice_set, Option, Some, None, if◌then◌else◌, nat_eq, ◌&&◌}
+use Rattle.std.specs.Prelude.{◌≡◌, ◌≢◌, ◌⊎◌, ◌-◌, ℕ, Bool, true, false, List, map, filter, slice_index_or, slice_set, Option, Some, None, if◌then◌else◌, nat_eq, ◌&&◌}
 use Rattle.pt_guid.specs.Codes.{type_of}
-use Rattle.pt_guid.specs.declared.guid.Guid.{Guid}
 use Rattle.pt_gpt.specs.declared.entry.Entry.{Entry}
 use Rattle.pt_gpt.specs.declared.table.Table.{Table}
 use Rattle.pt_bsd.specs.Empty.{entry_of_size}
@@ -13,7 +12,6 @@ use Rattle.pt_recover.specs.declared.layout.Layout.{Layout}
 use Rattle.pt_recover.specs.declared.layout.Body.{Body}
 use Rattle.pt_recover.specs.declared.layout.Body.TheVariants.{Mbr, Gpt}
 use Rattle.pt_layout.specs.Members.{label_of}
-use Rattle.pt_layout.specs.declared.path.Path.{Path}
 use Rattle.pt_edit.specs.Changes.{HasEntry, with_entry, with_body}
 use Rattle.pt_edit.specs.declared.error.Refusal.{Refusal}
 use Rattle.pt_edit.specs.declared.error.Refusal.TheVariants.{NoSuchPartition, UnknownCode, ContainerType, ForeignLabel, NotYet}
@@ -47,9 +45,13 @@ pub data NoPart (b : ℕ) (t : Table) (labels : List Labelled) (number letter : 
   is_raw : (l : Label) → HasSlice b t number → label_of labels number ≡ Some l → letter ≡ raw → r ≡ ContainerType → NoPart b t labels number letter r
   unused : (l : Label) → HasSlice b t number → label_of labels number ≡ Some l → letter ≢ raw → ((e : LabelEntry) → slice_index_or l.entries letter None ≡ Some e → e.size ≡ 0) → r ≡ NoSuchPartition → NoPart b t labels number letter r
 
+-- a label, or another where it is that of a number
+abbrev pub relabelled_as : ℕ → Label → Labelled → Labelled
+relabelled_as number l x = if nat_eq x.number number then record { number = x.number; label = l } else x
+
 -- the labels with that of a number changed
 abbrev pub with_label : ℕ → Label → List Labelled → List Labelled
-with_label number l labels = map (λ x. if nat_eq x.number number then record { number = x.number; label = l } else x) labels
+with_label number l labels = map (relabelled_as number l) labels
 
 -- the labels without that of a number
 abbrev pub without_label : ℕ → List Labelled → List Labelled
@@ -83,9 +85,9 @@ pub record EntryTyped (b number : ℕ) (code : Code) (o p : Layout) : Type 0 whe
 
 -- why it hasn't
 pub data EntryNotTyped (b : ℕ) (t : Table) (number : ℕ) (code : Code) (r : Refusal) : Type 0 where
-  absent : ((e : Entry) → ¬ HasEntry t number e) → r ≡ NoSuchPartition → EntryNotTyped b t number code r
-  unknown : (e : Entry) → HasEntry t number e → entry_type code ≡ None → r ≡ UnknownCode → EntryNotTyped b t number code r
-  container : (e : Entry) (kind : List ℕ) → HasEntry t number e → entry_type code ≡ Some kind → (is_slice b e.kind.0 ≡ true) ⊎ (is_slice b kind ≡ true) → r ≡ ContainerType → EntryNotTyped b t number code r
+  no_such_entry : ((e : Entry) → ¬ HasEntry t number e) → r ≡ NoSuchPartition → EntryNotTyped b t number code r
+  unknown_code : (e : Entry) → HasEntry t number e → entry_type code ≡ None → r ≡ UnknownCode → EntryNotTyped b t number code r
+  is_container : (e : Entry) (kind : List ℕ) → HasEntry t number e → entry_type code ≡ Some kind → (is_slice b e.kind.0 ≡ true) ⊎ (is_slice b kind ≡ true) → r ≡ ContainerType → EntryNotTyped b t number code r
 
 -- `d` of an entry: it goes, with the label that it has as a slice
 pub record EntryDeleted (number : ℕ) (o p : Layout) : Type 0 where
@@ -121,8 +123,8 @@ TypedAs code old new = (kind : ℕ) × (part_type code ≡ Some kind) × (new �
 
 -- why it hasn't
 pub data PartNotTyped (b : ℕ) (t : Table) (labels : List Labelled) (number letter : ℕ) (code : Code) (r : Refusal) : Type 0 where
-  none : NoPart b t labels number letter r → PartNotTyped b t labels number letter code r
-  other : (l : Label) (e : LabelEntry) → HasPart b t labels number letter l e → part_type code ≡ None → r ≡ UnknownCode → PartNotTyped b t labels number letter code r
+  no_part : NoPart b t labels number letter r → PartNotTyped b t labels number letter code r
+  strange_code : (l : Label) (e : LabelEntry) → HasPart b t labels number letter l e → part_type code ≡ None → r ≡ UnknownCode → PartNotTyped b t labels number letter code r
 
 -- `d` of a partition of a label: its entry is all zero
 abbrev pub Zeroed : LabelEntry → LabelEntry → Type 0

@@ -2,8 +2,8 @@
 
 ghost use Rattle.std.specs.Prelude.{◌≡◌, ◌≢◌, ◌↔◌, ◌<◌, IsTrue, IfOk, IfErr, length, slice_index_or, None};
 ghost use Rattle.pt_layout.specs.Members.{label_of};
-ghost use Rattle.pt_recover.specs.declared.layout.Body.TheVariants.{Gpt};
-ghost use Rattle.pt_edit.specs.Spots.{is_slice, HasSlice, HasPart, NoPart, with_label, without_label, with_part};
+ghost use Rattle.pt_edit.specs.Whole.{with_part_spot};
+ghost use Rattle.pt_edit.specs.Spots.{is_slice, relabelled_as, HasSlice, HasPart, NoPart, with_label, without_label, with_part};
 
 use pt_bsd::{Label, LabelEntry};
 use pt_gpt::{Entry, Table};
@@ -73,10 +73,9 @@ pub(crate) fn part_of<const B: usize>(gpt: &Gpt, number: u64, letter: u8) -> Res
 fn counted(label: &Label, letter: u8) -> Option<LabelEntry>
     ensures { result ≡ slice_index_or label.now.entries letter None }
 {
-    if letter < 8 {
-        label.entries[letter as usize]
-    } else {
-        None
+    match label.entries.get(letter as usize) {
+        Some(entry) => *entry,
+        None => None,
     }
 }
 
@@ -89,15 +88,27 @@ fn put_part(mut label: Label, letter: u8, entry: LabelEntry) -> Label
     label
 }
 
+// A label, or another where it is that of a number.
+fn relabelled(old: Labelled, number: u64, label: &Label) -> Labelled
+    ensures { result ≡ relabelled_as number label.now old }
+{
+    if old.number == number {
+        Labelled {
+            number,
+            label: *label,
+        }
+    } else {
+        old
+    }
+}
+
 // The labels with that of a number changed.
 fn put_label(labels: Labels, number: u64, label: &Label) -> Labels
     ensures { result ≡ with_label number label.now labels }
 {
     let mut items = labels.into_vec();
-    for labelled in items.iter_mut() {
-        if labelled.number == number {
-            labelled.label = *label;
-        }
+    for k in 0..items.len() {
+        items[k] = relabelled(items[k], number, label);
     }
     Labels::new(items)
 }
@@ -114,7 +125,7 @@ pub(crate) fn drop_label(labels: Labels, number: u64) -> Labels
 // The layout with another entry in the place of a partition of a label.
 pub(crate) fn with_part_of(gpt: Gpt, number: u64, letter: u8, label: &Label, entry: LabelEntry) -> Layout
     requires { letter < 8 }
-    ensures { result ≡ record { sectors = gpt.sectors; body = Gpt gpt.table; labels = with_label number (with_part label.now letter entry) gpt.labels } }
+    ensures { result ≡ with_part_spot number label.now letter entry gpt }
 {
     let label = put_part(*label, letter, entry);
     let Gpt {
