@@ -5,12 +5,11 @@ ghost use Rattle.pt_layout.specs.Members.{label_of};
 ghost use Rattle.pt_edit.specs.Whole.{with_part_spot};
 ghost use Rattle.pt_edit.specs.Spots.{is_slice, relabelled_as, HasSlice, HasPart, NoPart, with_label, without_label, with_part};
 
+use crate::error::Refusal;
+use crate::gpt::{Gpt, used_entry};
 use pt_bsd::{Label, LabelEntry};
 use pt_gpt::{Entry, Table};
 use pt_recover::{Body, Labelled, Labels, Layout, is_slice_type};
-
-use crate::error::Refusal;
-use crate::gpt::{Gpt, used_entry};
 
 /// The letter of the raw entry, c.
 const RAW: u8 = 2;
@@ -45,7 +44,11 @@ fn label_in(labels: &[Labelled], number: u64) -> Option<Label>
 }
 
 // The label of a slice and the entry of a letter in it, where that is a partition.
-pub(crate) fn part_of<const B: usize>(gpt: &Gpt, number: u64, letter: u8) -> Result<(Label, LabelEntry), Refusal>
+pub(crate) fn part_of<const B: usize>(
+    gpt: &Gpt,
+    number: u64,
+    letter: u8,
+) -> Result<(Label, LabelEntry), Refusal>
     ensures ok { IfOk result (λ r. HasPart B gpt.now.table gpt.now.labels number letter r.0 r.1) }
     ensures err { IfErr result (NoPart B gpt.now.table gpt.now.labels number letter) }
 {
@@ -123,7 +126,13 @@ pub(crate) fn drop_label(labels: Labels, number: u64) -> Labels
 }
 
 // The layout with another entry in the place of a partition of a label.
-pub(crate) fn with_part_of(gpt: Gpt, number: u64, letter: u8, label: &Label, entry: LabelEntry) -> Layout
+pub(crate) fn with_part_of(
+    gpt: Gpt,
+    number: u64,
+    letter: u8,
+    label: &Label,
+    entry: LabelEntry,
+) -> Layout
     requires { letter < 8 }
     ensures { result ≡ with_part_spot number label.now letter entry gpt }
 {

@@ -4,15 +4,14 @@ ghost use Rattle.std.specs.Prelude.{◌≡◌, IfOk, IfErr, IfSome, IfNone, Some
 ghost use Rattle.pt_edit.specs.Spots.{entry_type, part_type, EntryTyped, EntryNotTyped, EntryDeleted, EntryNotDeleted, PartMade, TypedAs, Zeroed, PartNotTyped, NoPart, Typed, NotTyped, Deleted, NotDeleted, RefusedIn};
 ghost use Rattle.pt_edit.specs.Whole.{whole_of};
 
-use pt_bsd::LabelEntry;
-use pt_guid::{Guid, type_of_code};
-use pt_layout::Path;
-use pt_recover::Layout;
-
 use crate::error::Refusal;
 use crate::gpt::{Gpt, used_entry};
 use crate::labels::{drop_label, is_slice_entry, part_of, with_part_of};
 use crate::word::Code;
+use pt_bsd::LabelEntry;
+use pt_guid::{Guid, type_of_code};
+use pt_layout::Path;
+use pt_recover::Layout;
 
 // The type of an entry by its code.
 fn entry_type_of(code: &Code) -> Option<Guid>
@@ -59,7 +58,12 @@ fn set_entry_kind<const B: usize>(gpt: Gpt, number: u64, code: &Code) -> Result<
 }
 
 // `t` of a partition of a label.
-fn set_part_kind<const B: usize>(gpt: Gpt, number: u64, letter: u8, code: &Code) -> Result<Layout, Refusal>
+fn set_part_kind<const B: usize>(
+    gpt: Gpt,
+    number: u64,
+    letter: u8,
+    code: &Code,
+) -> Result<Layout, Refusal>
     ensures ok { IfOk result (λ made. PartMade B number letter (TypedAs code.now) (whole_of gpt) made) }
     ensures err { IfErr result (PartNotTyped B gpt.table gpt.labels number letter code.now) }
 {
@@ -75,7 +79,11 @@ fn set_part_kind<const B: usize>(gpt: Gpt, number: u64, letter: u8, code: &Code)
 }
 
 // The layout with another type of what a path names.
-pub(crate) fn set_kind<const B: usize>(layout: Layout, path: &Path, code: &Code) -> Result<Layout, Refusal>
+pub(crate) fn set_kind<const B: usize>(
+    layout: Layout,
+    path: &Path,
+    code: &Code,
+) -> Result<Layout, Refusal>
     ensures ok { IfOk result (λ made. Typed B path.now.number path.now.letter code.now layout made) }
     ensures err { IfErr result (λ refusal. RefusedIn layout.body (λ t. NotTyped B t layout.labels path.now.number path.now.letter code.now refusal) refusal) }
 {
