@@ -1,3 +1,6 @@
 pub mod Heart
 pub mod Firsts
 pub mod Outside
+pub mod Trying
+pub mod Keeping
+pub mod Answering

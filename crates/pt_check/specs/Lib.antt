@@ -4,3 +4,4 @@ pub mod Failed
 pub mod First
 pub mod Reasons
 pub mod Recovered
+pub mod Trials

@@ -6,6 +6,8 @@ mod checker;
 mod error;
 mod objection;
 mod recovered;
+mod same;
+mod trial;
 mod writes;
 
 pub use answer::{Answer, Why};
