@@ -9,3 +9,8 @@ pub mod Next
 pub mod Sound
 pub mod Healthy
 pub mod Findings
+pub mod Held
+pub mod Spots
+pub mod Row
+pub mod Twins
+pub mod Steps

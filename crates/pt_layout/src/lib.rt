@@ -1,7 +1,10 @@
 //! Layouts: health, soundness, and the places of partitions and tables.
 #![tactic(auto)]
 
+mod buried;
+mod faults;
 mod finding;
+mod groups;
 mod health;
 mod member;
 mod overlap;
@@ -10,6 +13,7 @@ mod path;
 mod search;
 mod slots;
 mod soundness;
+mod spot;
 mod tables;
 
 pub use finding::{Finding, Verdict, VerifyError};

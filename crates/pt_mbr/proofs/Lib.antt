@@ -5,3 +5,4 @@ pub mod Reading
 pub mod Encoding
 pub mod Guarding
 pub mod Terms
+pub mod Written

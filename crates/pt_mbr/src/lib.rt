@@ -7,6 +7,7 @@
 mod bytes;
 mod chain;
 mod ebr;
+mod encode;
 mod laws;
 mod mbr;
 mod protection;
@@ -16,6 +17,7 @@ mod tests;
 
 pub use chain::{ChainError, read_chain, walk_chain};
 pub use ebr::{Ebr, EbrFault, decode_ebr};
+pub use encode::encode_mbr;
 pub use laws::{
     chain_reads_are, chain_reads_decide, chains_are_one, ebr_is_one, mbr_is_one, record_is_one,
 };

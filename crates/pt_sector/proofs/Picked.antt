@@ -1,11 +1,12 @@
 -- What was picked is a disk that a stop may leave.
-use Rattle.std.proofs.Common.{◌≡◌, ◌⊎◌, inl, inr, ℕ, zero, suc, ◌+◌, ◌<◌, ◌≤◌, List, [], ◌∷◌, length, get_or, cond, drop, min, refl, sym, ap, arith, subst}
+use Rattle.std.proofs.Common.{◌≡◌, ◌∙◌, ◌⊎◌, inl, inr, ℕ, zero, suc, ◌+◌, ◌<◌, ◌≤◌, List, [], ◌∷◌, length, get_or, cond, Bool, true, false, drop, min, refl, sym, ap, arith, subst}
 use Rattle.std.specs.Prelude.{slice_index}
 use Rattle.std.proofs.lemmas.Bool.{cases_eq}
 use Rattle.std.proofs.lemmas.Bool.Decides.{nat_tests}
+use Rattle.std.proofs.lemmas.List.{drop-drop, get_or-drop}
 use Rattle.pt_sector.specs.Sectors.{Sectors, sector}
 use Rattle.pt_sector.specs.Writes.{Writes, Stopped, Puts}
-use Rattle.pt_sector.specs.Stop.{values, is_pending, chosen, picked}
+use Rattle.pt_sector.specs.Stop.{values, is_pending, chosen, picked, pending_below, IsPicked}
 
 on_same : (w : ℕ × List ℕ) (ws : Writes) (k : ℕ) → w.0 ≡ k → values (w ∷ ws) k ≡ w.1 ∷ values ws k
 on_same w ws k same = grind (arith, nat_tests)
@@ -51,4 +52,32 @@ pub stopped_picked : (ws : Writes) (cs : List ℕ) (d : Sectors) → Stopped d w
 stopped_picked ws cs d = record {
   same_count = length-picked ws 0 cs d;
   each = λ k lt. let same : 0 + k ≡ k = omega arith in rw same at (each ws 0 cs d k lt);
+}
+
+-- each sector takes its choice
+
+next_choices : (ws : Writes) (k : ℕ) (cs : List ℕ) → cond (is_pending ws k) (drop 1 (drop (pending_below ws k) cs)) (drop (pending_below ws k) cs) ≡ drop (pending_below ws (suc k)) cs
+next_choices ws k cs = by_case (is_pending ws k)
+  where
+    by_case : (b : Bool) → cond b (drop 1 (drop (pending_below ws k) cs)) (drop (pending_below ws k) cs) ≡ drop (cond b (pending_below ws k + 1) (pending_below ws k)) cs
+    by_case true = drop-drop 1 (pending_below ws k) cs
+    by_case false = refl
+
+takes_choice : (ws : Writes) (k : ℕ) (cs : List ℕ) (d : Sectors) (i : ℕ) → i < length d
+    → sector (picked ws k (drop (pending_below ws k) cs) d) i ≡ chosen (sector d i) (values ws (k + i)) (slice_index cs (pending_below ws (k + i)))
+takes_choice ws k cs [] i lt = absurd (omega (arith, lt))
+takes_choice ws k cs (s ∷ d) zero lt =
+    let same : k + 0 ≡ k = omega arith in
+    let none_more : pending_below ws k + 0 ≡ pending_below ws k = omega arith in
+    let first : slice_index (drop (pending_below ws k) cs) 0 ≡ slice_index cs (pending_below ws k) = get_or-drop (pending_below ws k) cs 0 0 ∙ ap (λ (j : ℕ). slice_index cs j) none_more in
+    rw same (ap (λ (j : ℕ). chosen s (values ws k) j) first)
+takes_choice ws k cs (s ∷ d) (suc i) lt =
+    let same : k + suc i ≡ suc k + i = omega arith in
+    let next : k + 1 ≡ suc k = omega arith in
+    rw same (ap (λ (l : List ℕ). sector (picked ws (k + 1) l d) i) (next_choices ws k cs) ∙ rw next (takes_choice ws (suc k) cs d i (omega (arith, lt))))
+
+pub is_picked : (ws : Writes) (cs : List ℕ) (d : Sectors) → IsPicked d ws cs (picked ws 0 cs d)
+is_picked ws cs d = record {
+  same_count = length-picked ws 0 cs d;
+  each = λ k lt. let same : 0 + k ≡ k = omega arith in rw same at (takes_choice ws 0 cs d k lt);
 }

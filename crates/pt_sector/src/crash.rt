@@ -5,7 +5,7 @@ ghost use Rattle.pt_sector.specs.Device.{MayLeave, Counted, Wrote, FailedWrite, 
 ghost use Rattle.pt_sector.specs.Past.{told_of};
 ghost use Rattle.pt_sector.specs.Memory.{zero_sectors};
 ghost use Rattle.pt_sector.specs.Reading.{length-reading, stopped_reading};
-ghost use Rattle.pt_sector.specs.Stop.{picked};
+ghost use Rattle.pt_sector.specs.Stop.{IsPicked};
 ghost use Rattle.pt_sector.specs.Crash.{crash_told};
 ghost use Rattle.pt_sector.specs.Schedule.{content, sector_count, failed_calls, pending_room, IsFull, fails_in, reads_failed, CallPasses, SameContent};
 
@@ -70,8 +70,7 @@ impl<const B: usize> CrashDisk<B> {
     /// The disk that a crash leaves, by one choice for each sector with pending writes, in ascending order: 0 is the
     /// durable value, and j the j-th pending one in the order of writing. A missing choice is 0, a greater one the last.
     pub fn stop(self, choices: &[usize]) -> MemDisk<B>
-        ensures picked { (⟦<MemDisk<B> as Disk<B>>⟧.told result).seen
-            ≡ picked (content self.entry).pending 0 choices.now (content self.entry).durable }
+        ensures picked { IsPicked (content self.entry).durable (content self.entry).pending choices.now (⟦<MemDisk<B> as Disk<B>>⟧.told result).seen }
         ensures may_leave { MayLeave (content self.entry) (⟦<MemDisk<B> as Disk<B>>⟧.told result).seen }
         ensures past { (⟦<MemDisk<B> as Disk<B>>⟧.told result).past ≡ [] }
         ensures count { ⟦<MemDisk<B> as Disk<B>>⟧.count result ≡ sector_count self.entry }

@@ -96,7 +96,7 @@ pub(crate) fn zeroed<const B: usize>(
     requires { IsSectorSize B }
     ensures { IfOk result (λ v. v.items ≡ zero_sectors B sectors) }
 {
-    let mut all = Vec::new(alloc);
+    let mut all = Vec::with_capacity(alloc, sectors as usize)?;
     for made in 0..sectors {
         all.push([0; B])?;
     }

@@ -1,0 +1,13 @@
+-- What the words that are left make of the state is what all of them make.
+use Rattle.std.proofs.Common.{drop, Result}
+use Rattle.std.specs.Option.{option_map}
+use Rattle.pt_recover.specs.declared.layout.Layout.{Layout}
+use Rattle.pt_edit.specs.Edited.{Edited, EditedFrom}
+use Rattle.pt_edit.specs.Fold.{state_of}
+use Rattle.pt_edit.specs.declared.error.Refusal.{Refusal}
+use Rattle.pt_edit.proofs.fold.edit.Given as goal
+
+abbrev pub invariant-loop-word : goal.invariant-loop-word
+invariant-loop-word g l =
+    (r : Result Layout Refusal) → EditedFrom (drop l.word-index l.edits) (state_of l.guids l.state) r
+    → Edited g.row.B l.sectors (option_map (λ o. o.now) l.old) l.edits l.guids r

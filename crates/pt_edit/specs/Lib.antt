@@ -1,0 +1,5 @@
+pub mod Numbers
+pub mod Names
+pub mod Edited
+pub mod Fold
+pub mod Laws

@@ -1,0 +1,50 @@
+//! Words in order.
+
+ghost use Rattle.std.specs.Prelude.{◌≡◌, ◌≢◌, IfOk, IfErr, IfSome, Ok, Err};
+ghost use Rattle.std.specs.Option.{option_map};
+ghost use Rattle.pt_sector.specs.Sectors.{IsSectorSize};
+ghost use Rattle.pt_edit.specs.Edited.{Edited};
+
+use crate::error::Refusal;
+use crate::state::{FIRST_ALIGNMENT, State, take_word};
+use crate::word::Edit;
+use pt_guid::Guid;
+use pt_recover::Layout;
+use std::alloc::Global;
+
+/// What the words make, in order, of the layout of a disk of so many sectors, or of nothing where the disk denotes nothing. The first
+/// refusal ends the call, and `old` stays as it is.
+///
+/// Each new GUID is the next of `guids`. Memory is taken for the new layout.
+pub fn edit<const B: usize>(
+    alloc: Global,
+    old: Option<&Layout>,
+    sectors: u64,
+    edits: &[Edit],
+    guids: &[Guid],
+) -> Result<Layout, Refusal>
+    requires size { IsSectorSize B }
+    requires same { IfSome old (λ o. o.now.sectors ≡ sectors) }
+    ensures ok { IfOk result (λ made. Edited B sectors (option_map (λ o. o.now) old.entry) edits.now guids.now (Ok made)) }
+    ensures err { IfErr result (λ refusal. refusal ≢ Refusal.Memory → Edited B sectors (option_map (λ o. o.now) old.entry) edits.now guids.now (Err refusal)) }
+{
+    let layout = match old {
+        Some(layout) => match layout.copy(alloc) {
+            Ok(copy) => Some(copy),
+            Err(_) => return Err(Refusal::Memory),
+        },
+        None => None,
+    };
+    let mut state = State {
+        layout,
+        alignment: FIRST_ALIGNMENT,
+        taken: 0,
+    };
+    for word in edits {
+        state = take_word(state, word)?;
+    }
+    match state.layout {
+        Some(layout) => Ok(layout),
+        None => Err(Refusal::NotForThisTable),
+    }
+}
