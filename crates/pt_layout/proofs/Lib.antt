@@ -1,4 +1,3 @@
-pub mod Apart
 pub mod ByPlace
 pub mod Presence
 pub mod First
@@ -7,4 +6,6 @@ pub mod Pairs
 pub mod Extended
 pub mod Grouped
 pub mod Lowest
+pub mod Foreignness
+pub mod Verdicts
 pub mod LabelPlaces

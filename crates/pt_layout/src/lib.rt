@@ -4,8 +4,11 @@
 mod buried;
 mod faults;
 mod finding;
+mod foreign;
 mod groups;
+mod halves;
 mod health;
+mod laws;
 mod member;
 mod overlap;
 mod owned;
@@ -18,6 +21,7 @@ mod tables;
 
 pub use finding::{Finding, Verdict, VerifyError};
 pub use health::verify;
+pub use laws::{finding_excludes, healthy_is_one, sound_frees_tables, unsound_excludes};
 pub use owned::is_owned;
 pub use path::Path;
 pub use pt_recover::{

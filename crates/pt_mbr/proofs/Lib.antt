@@ -6,3 +6,4 @@ pub mod Encoding
 pub mod Guarding
 pub mod Terms
 pub mod Written
+pub mod Faults

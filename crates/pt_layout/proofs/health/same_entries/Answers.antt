@@ -1,7 +1,7 @@
 use Rattle.std.proofs.Common.{sym, subst, Bool, ◌≡◌}
 use Rattle.std.specs.Bool.{Decides}
 use Rattle.pt_recover.proofs.Equal.{entries_decide, shown}
-use Rattle.pt_recover.proofs.layout.same_entries.Goals as goal
+use Rattle.pt_layout.proofs.health.same_entries.Goals as goal
 
 pub returns : goal.returns
 returns c =

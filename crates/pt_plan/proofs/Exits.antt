@@ -1,0 +1,140 @@
+-- The exits of a commit.
+use Rattle.std.proofs.Common.{◌≡◌, ◌∙◌, ◌⊎◌, inl, inr, ⊎_elim, ℕ, ◌+◌, ◌<◌, ◌≤◌, List, [], ◌∷◌, ◌++◌, length, take, refl, sym, ap, subst, arith, Option, Some, Result, Ok, Err}
+use Rattle.pt_sector.specs.Sectors.{Sectors, sector}
+use Rattle.pt_sector.specs.Writes.{Writes, after}
+use Rattle.pt_sector.specs.Device.{Told, MayLeave, Flushed, FailedFlush}
+use Rattle.pt_sector.specs.declared.disk.Fault.{Fault}
+use Rattle.pt_sector.specs.Since.{LeavesOnly, leaves_none, leaves_once, leaves_through, leaves_weaker}
+use Rattle.pt_apply.specs.Runs.{Settled, StoppedSomewhere}
+use Rattle.pt_apply.specs.Promises.{Keeps}
+use Rattle.pt_recover.specs.declared.error.NoTable.{NoTable as Reason}
+use Rattle.pt_recover.specs.declared.layout.Layout.{Layout}
+use Rattle.pt_edit.specs.declared.error.Refusal.{Refusal}
+use Rattle.pt_check.specs.declared.answer.Answer.{Answer}
+use Rattle.pt_plan.specs.declared.error.PlanError.{PlanError}
+use Rattle.pt_plan.specs.declared.error.CommitError.{CommitError}
+use Rattle.pt_plan.specs.declared.error.CommitError.TheVariants.{NoTable, Edit, Plan, Check, Device, Memory}
+use Rattle.pt_plan.specs.History.{Past, Done, Unchanged, Either, History, Has, Carries}
+use Rattle.pt_plan.specs.Commits.{Leads, Refuses, Bounded, Ready, Ends, past, refused, Committed}
+use Rattle.pt_plan.proofs.Histories.{one_of, has_either, has_unchanged, has_done, has_new, has_old, flush_leaves, failed_flush_leaves, settled_leaves}
+
+module _ {W : Type 0} (denotes : Sectors → Option Layout → Type 0) (reason : Sectors → Reason → Type 0) (makes : W → Type 0)
+    (edited : Option Layout → W → Result Layout Refusal → Type 0) (plans : Sectors → Layout → List Writes → Type 0)
+    (unplanned : Sectors → Layout → PlanError → Type 0) (answers : Sectors → List Writes → Answer → Type 0)
+    (healthy : Sectors → Type 0) (table owned : Option Layout → ℕ → Type 0) (words : W) where
+  Says : Result Unit (CommitError) → Told → Told → Type 0
+  Says result old new = Committed denotes reason makes edited plans unplanned answers healthy table owned words result old new
+
+  pub at_failed_flush : (fault : Fault) (old new : Told) → FailedFlush old new → Committed denotes reason makes edited plans unplanned answers healthy table owned words (Err (Device fault)) old new
+  at_failed_flush fault old new failed = record {
+    history = record {
+      any_moment = λ o calls start. leaves_once old new _ failed.time (λ c may. inl (failed_flush_leaves old new failed c may));
+      at_return = λ o calls start c may. has_either denotes edited words calls o c (start c (failed_flush_leaves old new failed c may));
+    };
+    ends = tt;
+    bounds = leaves_once old new _ failed.time (λ c may. inl (failed_flush_leaves old new failed c may));
+  }
+
+  has_refused : (e : CommitError) (calls : List (Past W)) (o : Option Layout) (c : Sectors) → Has denotes edited o calls c → Has denotes edited o (calls ++ refused words e ∷ []) c
+  has_refused (NoTable e) calls o c has = has_unchanged denotes edited calls o c has
+  has_refused (Edit r) calls o c has = has_unchanged denotes edited calls o c has
+  has_refused (Plan e) calls o c has = has_unchanged denotes edited calls o c has
+  has_refused (Check why) calls o c has = has_unchanged denotes edited calls o c has
+  has_refused (Device fault) calls o c has = has_either denotes edited words calls o c has
+  has_refused Memory calls o c has = has_unchanged denotes edited calls o c has
+
+  ends_refused : (e : CommitError) (old mid new : Told) → mid.seen ≡ old.seen → new.seen ≡ old.seen → Refuses denotes reason makes edited plans unplanned answers healthy table owned words mid.seen e → Ends denotes reason makes edited plans unplanned answers healthy table owned words (Err e) old new
+  ends_refused (NoTable e) old mid new a is why = (is, rw a at why)
+  ends_refused (Edit r) old mid new a is why = (is, rw a at why)
+  ends_refused (Plan e) old mid new a is why = (is, rw a at why)
+  ends_refused (Check w) old mid new a is why = (is, rw a at why)
+  ends_refused (Device fault) old mid new a is why = tt
+  ends_refused Memory old mid new a is why = (is, tt)
+
+  module _ (old mid now : Told) (seen : MayLeave old old.seen) (flush : Flushed old mid) (same : now ≡ mid) where
+    pub still : (c : Sectors) → MayLeave now c → MayLeave old c
+    still c may = flush_leaves old mid seen flush c (subst (λ (x : Told). MayLeave x c) same may)
+
+    pub so_far : (P : Sectors → Type 0) → LeavesOnly old now P
+    so_far P = rw same (leaves_once old mid P flush.time (λ c may. inl (flush_leaves old mid seen flush c may)))
+
+    pub at_refused : (e : CommitError) → Refuses denotes reason makes edited plans unplanned answers healthy table owned words mid.seen e → Committed denotes reason makes edited plans unplanned answers healthy table owned words (Err e) old now
+    at_refused e why = record {
+      history = record {
+        any_moment = λ o calls start. so_far _;
+        at_return = λ o calls start c may. has_refused e calls o c (start c (still c may));
+      };
+      ends = ends_refused e old mid now flush.seen ((ap (λ (x : Told). x.seen) same) ∙ flush.seen) why;
+      bounds = so_far _;
+    }
+
+    module _ (one : (d : Sectors) (o p : Option Layout) → denotes d o → denotes d p → o ≡ p)
+        (phases : List Writes) (ready : Ready denotes reason makes edited plans unplanned answers healthy table owned words mid.seen phases) (new : Told)
+        (run : LeavesOnly now new (StoppedSomewhere phases now.seen)) where
+      at_seen : now.seen ≡ old.seen
+      at_seen = (ap (λ (x : Told). x.seen) same) ∙ flush.seen
+
+      leads : Leads denotes reason makes edited plans unplanned answers healthy table owned words old.seen ready.old ready.new
+      leads = subst (λ (d : Sectors). Leads denotes reason makes edited plans unplanned answers healthy table owned words d ready.old ready.new) flush.seen ready.leads
+
+      stopped_at : (c : Sectors) → StoppedSomewhere phases now.seen c → StoppedSomewhere phases mid.seen c
+      stopped_at c stopped = subst (λ (d : Sectors). StoppedSomewhere phases d c) (ap (λ (x : Told). x.seen) same) stopped
+
+      stopped_means : (c : Sectors) → StoppedSomewhere phases now.seen c → denotes c ready.old ⊎ denotes c (Some ready.new)
+      stopped_means c stopped =
+          let at : StoppedSomewhere phases mid.seen c = stopped_at c stopped in
+          one_of (denotes c) ready.old (Some ready.new) ready.switch (at.phase + 1)
+          (ready.safe.which ready.old (Some ready.new) ready.leads.from ready.finished at.phase at.within c at.stopped)
+
+      stopped_has : (o : Option Layout) (calls : List (Past W)) → ((c : Sectors) → MayLeave old c → Has denotes edited o calls c)
+          → (c : Sectors) → StoppedSomewhere phases now.seen c → Has denotes edited o (calls ++ Either words ∷ []) c
+      stopped_has o calls start c stopped = ⊎_elim
+          (has_old denotes edited one words calls o ready.old ready.new old.seen c leads.from leads.to (start old.seen seen))
+          (has_new denotes edited one words calls o ready.old ready.new old.seen c leads.from leads.to (start old.seen seen))
+          (stopped_means c stopped)
+
+      stopped_bounded : (c : Sectors) → StoppedSomewhere phases now.seen c → Bounded denotes reason makes edited plans unplanned answers healthy table owned words old.seen c
+      stopped_bounded c stopped =
+          let at : StoppedSomewhere phases mid.seen c = stopped_at c stopped in
+          (ready.old, ready.new, leads, subst (λ (d : Sectors). Keeps denotes healthy table owned ready.old (Some ready.new) d c) flush.seen
+            (ready.safe.stays ready.old (Some ready.new) ready.leads.from ready.finished at.phase at.within c at.stopped))
+
+      moments : (o : Option Layout) (calls : List (Past W)) → ((c : Sectors) → MayLeave old c → Has denotes edited o calls c)
+          → LeavesOnly old new (Has denotes edited o (calls ++ Either words ∷ []))
+      moments o calls start = leaves_through old now new _
+          (so_far _)
+          (leaves_weaker now new _ _ (stopped_has o calls start) run)
+
+      bounded : LeavesOnly old new (Bounded denotes reason makes edited plans unplanned answers healthy table owned words old.seen)
+      bounded = leaves_through old now new _ (so_far _) (leaves_weaker now new _ _ stopped_bounded run)
+
+      pub at_failed : (fault : Fault)
+          → Committed denotes reason makes edited plans unplanned answers healthy table owned words (Err (Device fault)) old new
+      at_failed fault = record {
+        history = record {
+          any_moment = moments;
+          at_return = λ o calls start c may. ⊎_elim
+              (λ before. has_either denotes edited words calls o c (start c (still c before)))
+              (λ stopped. stopped_has o calls start c stopped)
+              (run.at_end c may);
+        };
+        ends = tt;
+        bounds = bounded;
+      }
+
+      pub at_done : Settled new (after phases now.seen) → Committed denotes reason makes edited plans unplanned answers healthy table owned words (Ok tt) old new
+      at_done settled =
+          let finished : Settled new (after phases mid.seen) = subst (λ (d : Sectors). Settled new (after phases d)) (ap (λ (x : Told). x.seen) same) settled in
+          record {
+            history = record {
+              any_moment = moments;
+              at_return = λ o calls start c may. has_done denotes edited one words calls o ready.old ready.new old.seen c leads.from leads.to (start old.seen seen)
+                  (subst (λ (d : Sectors). denotes d (Some ready.new)) (sym (settled_leaves new _ finished c may)) ready.finished);
+            };
+            ends = (
+              record { seen = refl; durable = finished.durable ∙ sym finished.seen; pending = finished.pending },
+              subst healthy (sym finished.seen) ready.safe.well,
+              (ready.old, ready.new, leads, subst (λ (d : Sectors). denotes d (Some ready.new)) (sym finished.seen) ready.finished),
+            );
+            bounds = bounded;
+          }

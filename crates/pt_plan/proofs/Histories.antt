@@ -1,0 +1,65 @@
+-- Histories that go on, and what a crash may leave over several calls.
+use Rattle.std.proofs.Common.{◌≡◌, ◌∙◌, ◌⊎◌, inl, inr, ⊎_elim, ℕ, ◌+◌, ◌<◌, ◌≤◌, List, [], ◌∷◌, ◌++◌, length, refl, sym, ap, subst, arith, Option, Some, Result, Ok}
+use Rattle.std.proofs.lemmas.Bool.{cases_order}
+use Rattle.std.proofs.lemmas.List.{ext_get_or}
+use Rattle.pt_sector.specs.Sectors.{Sectors, sector}
+use Rattle.pt_sector.specs.Writes.{Writes, Stopped, Puts, MayHold}
+use Rattle.pt_sector.specs.Device.{Told, MayLeave, Elapses, Flushed, FailedFlush}
+use Rattle.pt_apply.specs.Runs.{Settled}
+use Rattle.pt_plan.specs.History.{Past, Done, Unchanged, Either, Steps, History, Has}
+use Rattle.pt_apply.specs.Promises.{Switches}
+
+pub one_of : {L : Type 0} (means : Option L → Type 0) (old new : Option L) (switch phase : ℕ) → Switches means old new switch phase → means old ⊎ means new
+one_of means old new switch phase is =
+    ⊎_elim (λ same. is.inside same) (λ rest. ⊎_elim (λ below. inl (is.before below)) (λ above. inr (is.past above)) rest) (cases_order phase switch)
+
+module _ {L W R : Type 0} (denotes : Sectors → Option L → Type 0) (edited : Option L → W → Result L R → Type 0) where
+  pub push : (call : Past W) (calls : List (Past W)) (o p q : Option L) → History denotes edited calls o p → Steps denotes edited call p q → History denotes edited (calls ++ call ∷ []) o q
+  push call [] o p q so_far step = (q, subst (λ (x : Option L). Steps denotes edited call x q) so_far step, refl)
+  push call (c ∷ calls) o p q (m, first, rest) step = (m, first, push call calls m p q rest step)
+
+  pub has_either : (words : W) (calls : List (Past W)) (o : Option L) (c : Sectors) → Has denotes edited o calls c → Has denotes edited o (calls ++ Either words ∷ []) c
+  has_either words calls o c (p, is, so_far) = (p, is, push (Either words) calls o p p so_far (inl refl))
+
+  pub has_unchanged : (calls : List (Past W)) (o : Option L) (c : Sectors) → Has denotes edited o calls c → Has denotes edited o (calls ++ Unchanged ∷ []) c
+  has_unchanged calls o c (p, is, so_far) = (p, is, push Unchanged calls o p p so_far refl)
+
+  module _ (one : (d : Sectors) (o p : Option L) → denotes d o → denotes d p → o ≡ p)
+      (words : W) (calls : List (Past W)) (o old : Option L) (l : L) (d c : Sectors) (from : denotes d old) (to : edited old words (Ok l)) (has : Has denotes edited o calls d) where
+    here : History denotes edited calls o old
+    here = subst (λ (x : Option L). History denotes edited calls o x) (one d has.0 old has.1 from) has.2
+
+    pub has_done : denotes c (Some l) → Has denotes edited o (calls ++ Done words ∷ []) c
+    has_done is = (Some l, is, push (Done words) calls o old (Some l) here (l, refl, to))
+
+    pub has_new : denotes c (Some l) → Has denotes edited o (calls ++ Either words ∷ []) c
+    has_new is = (Some l, is, push (Either words) calls o old (Some l) here (inr (l, refl, to)))
+
+    pub has_old : denotes c old → Has denotes edited o (calls ++ Either words ∷ []) c
+    has_old is = (old, is, push (Either words) calls o old old here (inl refl))
+
+-- after a flush a crash leaves what a read gave
+pub flush_leaves : (old new : Told) → MayLeave old old.seen → Flushed old new → (c : Sectors) → MayLeave new c → MayLeave old c
+flush_leaves old new seen flush c left =
+    let len : length c ≡ length old.seen = left.same_count ∙ ap length flush.durable in
+    record {
+      same_count = len ∙ seen.same_count;
+      each = λ k lt. subst (λ (v : List ℕ). MayHold old.durable old.pending k v)
+          (sym (⊎_elim (λ is. rw flush.durable at is) (λ puts. absurd (subst (λ (p : Writes). Puts p k (sector c k)) flush.pending puts)) (left.each k (omega (arith, lt, len, left.same_count, seen.same_count)))))
+          (seen.each k lt);
+    }
+
+pub failed_flush_leaves : (old new : Told) → FailedFlush old new → (c : Sectors) → MayLeave new c → MayLeave old c
+failed_flush_leaves old new failed c left = record {
+  same_count = left.same_count ∙ failed.same_count;
+  each = λ k lt. failed.no_more k (sector c k) lt (left.each k (omega (arith, lt, failed.same_count)));
+}
+
+-- where nothing is pending a crash leaves one disk
+pub settled_leaves : (now : Told) (d : Sectors) → Settled now d → (c : Sectors) → MayLeave now c → c ≡ d
+settled_leaves now d settled c left =
+    let len : length c ≡ length d = left.same_count ∙ ap length settled.durable in
+    ext_get_or [] c d len (λ k lt. ⊎_elim
+        (λ is. rw settled.durable at is)
+        (λ puts. absurd (subst (λ (p : Writes). Puts p k (sector c k)) settled.pending puts))
+        (left.each k (omega (arith, lt, left.same_count))))

@@ -1,0 +1,84 @@
+-- What a commit of words does to a disk, over what a disk denotes, what words make of it, and what planner and checker say.
+use Rattle.std.specs.Prelude.{◌≡◌, ◌⊎◌, ℕ, List, length, Option, Some, None, Result, Ok, Err}
+use Rattle.pt_sector.specs.Sectors.{Sectors}
+use Rattle.pt_sector.specs.Writes.{Writes, after}
+use Rattle.pt_sector.specs.Device.{Told}
+use Rattle.pt_sector.specs.Since.{LeavesOnly}
+use Rattle.pt_apply.specs.Runs.{Settled}
+use Rattle.pt_apply.specs.Promises.{Keeps, Safe}
+use Rattle.pt_recover.specs.declared.error.NoTable.{NoTable as Reason}
+use Rattle.pt_recover.specs.declared.layout.Layout.{Layout}
+use Rattle.pt_edit.specs.declared.error.Refusal.{Refusal}
+use Rattle.pt_check.specs.declared.answer.Answer.{Answer}
+use Rattle.pt_check.specs.declared.answer.Answer.TheVariants.{No}
+use Rattle.pt_check.specs.declared.answer.Why.{Why}
+use Rattle.pt_check.specs.declared.answer.Why.TheVariants.{Neither}
+use Rattle.pt_plan.specs.declared.error.PlanError.{PlanError}
+use Rattle.pt_plan.specs.declared.error.CommitError.{CommitError}
+use Rattle.pt_plan.specs.declared.error.CommitError.TheVariants.{NoTable, Edit, Plan, Check, Device, Memory}
+use Rattle.pt_plan.specs.History.{Past, Done, Unchanged, Either, Carries}
+
+-- what is known of a commit that answered an error
+abbrev pub refused : {W : Type 0} → W → CommitError → Past W
+refused words (NoTable e) = Unchanged
+refused words (Edit r) = Unchanged
+refused words (Plan e) = Unchanged
+refused words (Check why) = Unchanged
+refused words (Device fault) = Either words
+refused words Memory = Unchanged
+
+-- what is known of a commit by its answer
+abbrev pub past : {W : Type 0} → W → Result Unit CommitError → Past W
+past words (Ok x) = Done words
+past words (Err e) = refused words e
+
+module _ {W : Type 0} (denotes : Sectors → Option Layout → Type 0) (reason : Sectors → Reason → Type 0) (makes : W → Type 0)
+    (edited : Option Layout → W → Result Layout Refusal → Type 0) (plans : Sectors → Layout → List Writes → Type 0)
+    (unplanned : Sectors → Layout → PlanError → Type 0) (answers : Sectors → List Writes → Answer → Type 0)
+    (healthy : Sectors → Type 0) (table owned : Option Layout → ℕ → Type 0) where
+  -- the words lead from what d denotes to the layout l
+  pub record Leads (words : W) (d : Sectors) (o : Option Layout) (l : Layout) : Type 0 where
+    pub from : denotes d o
+    pub may : o ≡ None → makes words
+    pub to : edited o words (Ok l)
+
+  -- the plan isn't safe for this reason, or it is of so many phases and the finished disk denotes another layout
+  pub record Unsafe (d : Sectors) (l : Layout) (why : Why) : Type 0 where
+    pub phases : List Writes
+    pub planned : plans d l phases
+    pub because : answers d phases (No why) ⊎ ((why ≡ Neither (length phases)) × ¬ denotes (after phases d) (Some l))
+
+  -- why the words are refused on d
+  abbrev pub Refuses : W → Sectors → CommitError → Type 0
+  Refuses words d (NoTable e) = denotes d None × reason d e × (makes words → ⊥)
+  Refuses words d (Edit r) = (o : Option Layout) × denotes d o × (o ≡ None → makes words) × edited o words (Err r)
+  Refuses words d (Plan e) = (o : Option Layout) × (l : Layout) × Leads words d o l × unplanned d l e
+  Refuses words d (Check why) = (o : Option Layout) × (l : Layout) × Leads words d o l × Unsafe d l why
+  Refuses words d (Device fault) = Unit {0}
+  Refuses words d Memory = Unit {0}
+
+  -- c has of d what a change from its layout to the one of the words must leave alone
+  abbrev pub Bounded : W → Sectors → Sectors → Type 0
+  Bounded words d c = (o : Option Layout) × (l : Layout) × Leads words d o l × Keeps denotes healthy table owned o (Some l) d c
+
+  -- a checked plan for the words
+  pub record Ready (words : W) (d : Sectors) (phases : List Writes) : Type 0 where
+    pub old : Option Layout
+    pub new : Layout
+    pub leads : Leads words d old new
+    pub finished : denotes (after phases d) (Some new)
+    pub switch : ℕ
+    pub safe : Safe denotes healthy table owned phases d switch
+
+  -- at the return: the words are done, durable, and the disk is healthy; or the disk reads as before, and why
+  abbrev pub Ends : W → Result Unit CommitError → Told → Told → Type 0
+  Ends words (Ok x) old new = Settled new new.seen × healthy new.seen
+      × ((o : Option Layout) × (l : Layout) × Leads words old.seen o l × denotes new.seen (Some l))
+  Ends words (Err (Device fault)) old new = Unit {0}
+  Ends words (Err e) old new = (new.seen ≡ old.seen) × Refuses words old.seen e
+
+  -- a commit of the words that answered so, whatever was on the disk and whatever calls went before
+  pub record Committed (words : W) (result : Result Unit CommitError) (old new : Told) : Type 0 where
+    pub history : Carries denotes edited (Either words) (past words result) old new
+    pub ends : Ends words result old new
+    pub bounds : LeavesOnly old new (Bounded words old.seen)

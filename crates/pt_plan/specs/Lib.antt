@@ -1,0 +1,6 @@
+pub mod Batches
+pub mod Commits
+pub mod Failed
+pub mod History
+pub mod Plans
+pub mod Steps

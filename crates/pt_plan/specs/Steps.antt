@@ -1,0 +1,61 @@
+-- What the steps of a commit answer.
+use Rattle.std.specs.Prelude.{◌≡◌, ◌⊎◌, ◌≢◌, ℕ, List, length, Option, Some, None, Ok, Err}
+use Rattle.pt_sector.specs.Sectors.{Sectors}
+use Rattle.pt_sector.specs.Writes.{Writes, after}
+use Rattle.pt_apply.specs.Promises.{Safe}
+use Rattle.pt_recover.specs.Answers.{IsReason, IsOutside}
+use Rattle.pt_recover.specs.Denotes.{Denotes}
+use Rattle.pt_recover.specs.declared.layout.Layout.{Layout}
+use Rattle.pt_layout.specs.Healthy.{Healthy}
+use Rattle.pt_edit.specs.declared.error.Refusal.TheVariants as refusal
+use Rattle.pt_check.specs.Answers.{Answers, TableOf, OwnedOf}
+use Rattle.pt_check.specs.declared.answer.Answer.TheVariants.{No}
+use Rattle.pt_check.specs.declared.answer.Why.TheVariants.{Neither}
+use Rattle.pt_plan.specs.Batches.{Batch, Makes, EditedBy}
+use Rattle.pt_plan.specs.Failed.{IsFailure}
+use Rattle.pt_plan.specs.Plans.{Unplanned}
+use Rattle.pt_plan.specs.declared.error.CommitError.{CommitError}
+use Rattle.pt_plan.specs.declared.error.CommitError.TheVariants.{NoTable, Edit, Plan, Check, Device, Memory}
+
+-- a failure of the device or of memory
+abbrev pub IsCommitFailure : CommitError → Type 0
+IsCommitFailure (Device fault) = Unit {0}
+IsCommitFailure Memory = Unit {0}
+IsCommitFailure _ = ⊥
+
+-- the number of sectors that a layout says; of nothing that of the disk
+abbrev pub sectors_in : Option Layout → ℕ → ℕ
+sectors_in None n = n
+sectors_in (Some o) n = o.sectors
+
+-- what the disk denotes, from which the batch may start
+pub record StartsFrom (b : ℕ) (batch : Batch) (d : Sectors) (o : Option Layout) : Type 0 where
+  pub from : Denotes b d o
+  pub may : o ≡ None → Makes batch
+
+-- why it may not start
+abbrev pub NoStart : ℕ → Batch → Sectors → CommitError → Type 0
+NoStart b batch d (NoTable e) = Denotes b d None × IsReason b d e × (Makes batch → ⊥)
+NoStart b batch d e = IsCommitFailure e
+
+-- why the words make no layout
+abbrev pub NotEdited : ℕ → ℕ → Option Layout → Batch → CommitError → Type 0
+NotEdited b n o batch (Edit r) = (r ≢ refusal.Memory) × EditedBy b n o batch (Err r)
+NotEdited b n o batch Memory = Unit {0}
+NotEdited b n o batch _ = ⊥
+
+-- why there is no plan
+abbrev pub NotPlanned : ℕ → Sectors → Layout → CommitError → Type 0
+NotPlanned b d l (Plan e) = Unplanned b d l e
+NotPlanned b d l e = IsCommitFailure e
+
+-- the plan leads to the layout, and is safe
+pub record IsConfirmed (b : ℕ) (d : Sectors) (l : Layout) (phases : List Writes) : Type 0 where
+  pub finished : Denotes b (after phases d) (Some l)
+  pub switch : ℕ
+  pub safe : Safe (Denotes b) (Healthy b) (TableOf b) (OwnedOf b) phases d switch
+
+-- why it isn't
+abbrev pub NotConfirmed : ℕ → Sectors → Layout → List Writes → CommitError → Type 0
+NotConfirmed b d l phases (Check why) = Answers b d phases (No why) ⊎ ((why ≡ Neither (length phases)) × ¬ Denotes b (after phases d) (Some l))
+NotConfirmed b d l phases e = IsCommitFailure e

@@ -1,0 +1,48 @@
+//! Edits of a disk, from its layout to its sectors.
+
+ghost use Rattle.std.specs.Prelude.{◌≡◌, OnOk, IfErr};
+ghost use Rattle.pt_sector.specs.Sectors.{IsSectorSize};
+ghost use Rattle.pt_plan.specs.Batches.{Commits};
+ghost use Rattle.pt_plan.specs.Failed.{FailedAs};
+
+use crate::error::CommitError;
+use crate::prepare::prepare;
+use pt_apply::apply;
+use pt_edit::Edit;
+use pt_guid::Guid;
+use pt_sector::Disk;
+use std::alloc::Global;
+
+/// Changes the disk's layout as the words say, each new GUID being the next of `guids`.
+///
+/// The disk is flushed first, so that what a read gives is durable; then a plan is made for the layout that the words
+/// make of the disk's present one, checked, and applied phase by phase. Whatever was on the disk and whatever calls
+/// went before: each disk that a crash within the call may leave denotes the layout before or the one that the words
+/// make of it; after `Ok` it is the latter, nothing is pending, and the disk is healthy; after every error but
+/// `Device` nothing was written. Outside the tables of both layouts, in the sectors that partitions of either own and
+/// in the boot code (bytes 0 to 439 of sector 0) nothing changes.
+pub fn commit<const B: usize, D: Disk<B>>(
+    alloc: Global,
+    disk: &mut D,
+    edits: &[Edit],
+    guids: &[Guid],
+) -> Result<(), CommitError>
+    requires size { IsSectorSize B }
+    ensures count { D.count disk.new ≡ D.count disk.old }
+    ensures name { D.name disk.new ≡ D.name disk.old }
+    ensures quiet { OnOk result (D.failures disk.new ≡ D.failures disk.old) }
+    ensures failed { IfErr result (λ e. FailedAs e (D.failures disk.old) (D.failures disk.new)) }
+    ensures commits { D.tells → Commits B (D.count disk.old) (record { edits = edits.now; guids = guids.now }) result (D.told disk.old) (D.told disk.new) }
+{
+    if let Err(fault) = disk.flush() {
+        return Err(CommitError::Device(fault));
+    }
+    let plan = match prepare(alloc, disk, edits, guids) {
+        Ok(plan) => plan,
+        Err(error) => return Err(error),
+    };
+    match apply(disk, &plan) {
+        Ok(()) => Ok(()),
+        Err(fault) => Err(CommitError::Device(fault)),
+    }
+}

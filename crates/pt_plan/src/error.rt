@@ -1,0 +1,81 @@
+//! Why there is no plan, and why a commit did nothing.
+
+ghost use Rattle.std.specs.Prelude.{◌≡◌};
+ghost use Rattle.pt_plan.specs.Failed.{plan_error_number, commit_error_number};
+
+use pt_check::Why;
+use pt_edit::Refusal;
+use pt_layout::{Finding, NoTable};
+use pt_sector::Fault;
+
+/// Why there is no plan for a layout.
+#[derive(Clone, Copy, Debug, PartialEq, Eq)]
+pub enum PlanError {
+    /// No plan leads there by one switch: more sectors that decide what the disk denotes would have to change than
+    /// the one that switches; or the layout is none of a disk of this size.
+    NotOneSwitch,
+    /// A sector that would be written is owned by a partition of the disk's present layout.
+    ReusedInOneBatch,
+    /// Only a label changes, and the disk isn't healthy.
+    NeedsRepair,
+    /// The layout isn't sound: the first thing that is wrong with it.
+    Unsound(Finding),
+    /// The device failed.
+    Device(Fault),
+    /// Memory was refused.
+    Memory,
+    /// Such plans are to come: for an MBR, on an MBR disk, or where a label changes or is new.
+    NotYet,
+}
+
+impl PlanError {
+    /// The number that stands for it, from 1 to 6 in the order of the variants; 0 for `NotYet`.
+    pub fn number(self) -> u8
+        ensures { result ≡ plan_error_number self }
+    {
+        match self {
+            PlanError::NotOneSwitch => 1,
+            PlanError::ReusedInOneBatch => 2,
+            PlanError::NeedsRepair => 3,
+            PlanError::Unsound(_) => 4,
+            PlanError::Device(_) => 5,
+            PlanError::Memory => 6,
+            PlanError::NotYet => 0,
+        }
+    }
+}
+
+/// Why a commit isn't done. A fault of the device in any step is `Device`, and want of memory in any step is `Memory`,
+/// never within another error. After all but `Device` nothing was written.
+#[derive(Clone, Copy, Debug, PartialEq, Eq)]
+pub enum CommitError {
+    /// The disk denotes nothing, for this reason, and the first word but `a` isn't `o`.
+    NoTable(NoTable),
+    /// The words are refused.
+    Edit(Refusal),
+    /// There is no plan for what the words make.
+    Plan(PlanError),
+    /// The plan is refused.
+    Check(Why),
+    /// The device failed. The words may have been done or not: each disk that a crash may leave denotes the layout
+    /// before or the one after.
+    Device(Fault),
+    /// Memory was refused.
+    Memory,
+}
+
+impl CommitError {
+    /// The number that stands for it, from 1 to 6 in the order of the variants.
+    pub fn number(self) -> u8
+        ensures { result ≡ commit_error_number self }
+    {
+        match self {
+            CommitError::NoTable(_) => 1,
+            CommitError::Edit(_) => 2,
+            CommitError::Plan(_) => 3,
+            CommitError::Check(_) => 4,
+            CommitError::Device(_) => 5,
+            CommitError::Memory => 6,
+        }
+    }
+}
