@@ -4,3 +4,5 @@ pub mod Outside
 pub mod Trying
 pub mod Keeping
 pub mod Answering
+pub mod Exits
+pub mod Ranges

@@ -1,4 +1,4 @@
-ghost use Rattle.std.specs.Prelude.{◌≡◌, ◌↔◌, ◌⊎◌, IsTrue, IsFalse};
+ghost use Rattle.std.specs.Prelude.{◌≡◌, ◌↔◌, IsTrue};
 
 use pt_recover::Layout;
 
@@ -8,7 +8,7 @@ pub(crate) fn same_layout(a: &Option<Layout>, b: &Option<Layout>) -> bool
 {
     match (a, b) {
         (None, None) => true,
-        (Some(_), Some(_)) => false,
+        (Some(a), Some(b)) => a.same(b),
         _ => false,
     }
 }
