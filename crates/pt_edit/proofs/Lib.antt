@@ -4,3 +4,4 @@ pub mod Paths
 pub mod Cuts
 pub mod Ends
 pub mod Faults
+pub mod Folding

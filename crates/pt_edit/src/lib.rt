@@ -3,15 +3,17 @@
 //! docs/commands.md has the words, docs/model.md what they mean.
 #![tactic(auto)]
 
+mod entries;
 mod error;
 mod field;
 mod fold;
+mod gpt;
 mod laws;
 mod name;
 mod number;
 mod parse;
-mod rename;
 mod state;
+mod tables;
 mod word;
 mod words;
 
@@ -21,3 +23,6 @@ pub use laws::edited_one;
 pub use number::parse_path;
 pub use parse::parse_edit;
 pub use word::{Code, Edit, End};
+
+#[cfg(test)]
+mod tests;
