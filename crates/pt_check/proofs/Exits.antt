@@ -8,6 +8,7 @@ use Rattle.pt_recover.specs.declared.layout.Layout.{Layout}
 use Rattle.pt_layout.specs.declared.finding.Finding.{Finding}
 use Rattle.pt_layout.specs.Findings.{IsFinding}
 use Rattle.pt_layout.specs.Healthy.{Healthy}
+use Rattle.pt_layout.specs.Laws.{finding_excludes_lem}
 use Rattle.pt_check.specs.Course.{Course, IsCalm, LayoutsAre, switch_number}
 use Rattle.pt_check.specs.First.{writes_in, NoneIs, FirstWriteIs}
 use Rattle.pt_check.specs.Reasons.{stage, turn, IsBefore, most_writes, FirstWrite, IsOutside, ChangesBoot, IsFit, Leads, IsStray, IsOwned, Holds, IsAnswer}
@@ -100,9 +101,9 @@ module _ (b : ℕ) (d : Sectors) (phases : List Writes) where
           pub final : (f : Finding) → WrongIs b (after phases d) (Some f) → Answers b d phases (No (Final f))
           final f wrong = (wrong, none_before 6 0 (inl refl) (past_phases 6 (omega arith) (λ lt. no_stray) (λ lt. no_owned) (λ lt. absurd (omega (arith, lt)))))
 
-          pub yes : ((x : Sectors) (f : Finding) → Healthy b x → ¬ IsFinding b x f) → WrongIs b (after phases d) None → Answers b d phases (Yes (switch_number switch))
-          yes excludes well = (
-            (λ v. none_before 7 0 (inl refl) (past_phases 7 (omega arith) (λ lt. no_stray) (λ lt. no_owned) (λ lt f. excludes (after phases d) f well)) v (inl (last_stage v))),
+          pub yes : WrongIs b (after phases d) None → Answers b d phases (Yes (switch_number switch))
+          yes well = (
+            (λ v. none_before 7 0 (inl refl) (past_phases 7 (omega arith) (λ lt. no_stray) (λ lt. no_owned) (λ lt f is. finding_excludes_lem b (after phases d) f is well)) v (inl (last_stage v))),
             is_switch (Denotes b) (Reads b) (denotes_one_lem b) phases d old new leads switch course.layouts,
           )
 

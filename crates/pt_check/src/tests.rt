@@ -162,7 +162,7 @@ fn a_disk_without_sectors(rt: HostRuntime) -> Result<(), Fail> {
 fn a_failed_read(rt: HostRuntime) -> Result<(), Fail> {
     let mut disk: CrashDisk<512> = CrashDisk::new(rt.alloc(), SECTORS, 4)?;
     let plan = one_by_one(rt.alloc(), &[of_head(0, 0)])?;
-    for call in 1..6 {
+    for call in 1..5 {
         disk.fail_at(call, false);
         assert_eq!(rt; check(rt.alloc(), &mut disk, &plan).is_err(), true);
     }

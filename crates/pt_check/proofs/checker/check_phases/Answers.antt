@@ -56,7 +56,7 @@ returns-in-Ok-None-clause-answers g c = λ tells.
     c.in-Ok-Passed.switch
     (subst (λ (x : Sectors). TrialIs (Denotes g.row.B) (Reads g.row.B) (phases_of c.args.plan.now) x c.in-Ok.old.layout c.in-Ok-finished_layout.new (Passed c.in-Ok-Passed.switch)) s2
       (rw c.in-Ok-Passed.field-0-is at (c.in-Ok-Passed.ensures.tried tells)))
-    c.in_default.ensures.0 c.in_default.ensures.1 ?
+    c.in_default.ensures.0 c.in_default.ensures.1
     (subst (λ (x : Sectors). WrongIs g.row.B (after (phases_of c.args.plan.now) x) None) s3
       (rw c.in-Ok-None.field-0-is at (c.in-Ok-None.ensures.wrong tells))))
 
