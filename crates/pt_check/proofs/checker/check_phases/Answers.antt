@@ -1,11 +1,11 @@
-use Rattle.std.proofs.Common.{◌≡◌, ◌∙◌, ap, sym, subst, List, ℕ, Option, Some, None}
+use Rattle.std.proofs.Common.{rules, ◌≡◌, ◌∙◌, ap, sym, subst, List, ℕ, Option, Some, None}
 use Rattle.pt_sector.specs.Sectors.{Sectors}
 use Rattle.pt_sector.specs.Writes.{after}
 use Rattle.pt_sector.specs.Device.{Told}
 use Rattle.pt_apply.specs.Plans.{phases_of}
 use Rattle.pt_recover.specs.Denotes.{Denotes, Reads}
 use Rattle.pt_check.specs.Answers.{WrongIs}
-use Rattle.pt_check.specs.Reasons.{Leads}
+use Rattle.pt_check.specs.Recovered.{IsOf}
 use Rattle.pt_check.specs.Trials.{TrialIs}
 use Rattle.pt_check.specs.declared.trial.Trial.TheVariants.{Refused, Passed}
 use Rattle.pt_check.proofs.Exits.{refused, misplaced_no, final, yes, promised}
@@ -73,3 +73,9 @@ returns-in-Ok-None-clause-promises g c = λ tells.
     c.in_default.ensures.0 c.in_default.ensures.1
     (subst (λ (x : Sectors). WrongIs g.row.B (after (phases_of c.args.plan.now) x) None) s3
       (rw c.in-Ok-None.field-0-is at (c.in-Ok-None.ensures.wrong tells))))
+
+pub try_phases-requires : goal.try_phases-requires
+try_phases-requires g c = (search rules, (c.requires.size, (c.requires.room, λ tells.
+    subst (λ (x : Sectors). IsOf g.row.B x c.in-Ok.old)
+    (sym (ap (λ (t : Told). t.seen) (c.finished_layout.ensures.same tells) ∙ ap (λ (t : Told). t.seen) (c.read_layout.ensures.same tells)))
+    (c.in-Ok.ensures.recovered tells))))
