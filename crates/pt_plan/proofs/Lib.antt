@@ -1,3 +1,5 @@
 pub mod Histories
 pub mod Exits
 pub mod Starting
+pub mod Assembling
+pub mod Surveying

@@ -4,7 +4,7 @@ use Rattle.pt_sector.specs.Sectors.{Sectors, sector}
 use Rattle.pt_sector.specs.Writes.{Writes}
 use Rattle.pt_sum.specs.Crc.{crc_of}
 use Rattle.pt_mbr.specs.Protective.{IsProtective}
-use Rattle.pt_gpt.specs.Array.{array_len, array_bytes, array_sector, AllTyped}
+use Rattle.pt_gpt.specs.Array.{array_len, array_bytes, array_sector, AllTyped, AllFit}
 use Rattle.pt_gpt.specs.Copy.{header_place, array_place, HasCopy}
 use Rattle.pt_gpt.specs.Header.{HeaderBytes}
 use Rattle.pt_gpt.specs.declared.entry.Entry.{Entry}
@@ -76,6 +76,7 @@ pub record WritesCopies (b : ℕ) (d : Sectors) (t : Table) (phases : List Write
   pub is_primary : HeaderBytes b (header_of b (length d) t Primary) primary
   pub is_backup : HeaderBytes b (header_of b (length d) t Backup) backup
   pub last : List Writes
+  pub fit : AllFit t.entries
   pub protects : Protects (length d) (sector d 0) last
   pub order : (HasCopy b d Primary × (phases ≡ backup_phase b (length d) t backup ∷ (primary_phases b (length d) t primary ++ last)))
       ⊎ ((¬ HasCopy b d Primary) × (phases ≡ primary_phases b (length d) t primary ++ backup_phase b (length d) t backup ∷ last))
