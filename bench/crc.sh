@@ -10,7 +10,7 @@ mkdir -p "$work/crates/bench_crc/src" "$work/crates/pt_sum"
 for part in src specs proofs; do
     cp -r "$here/../crates/pt_sum/$part" "$work/crates/pt_sum/"
 done
-cp "$here/crc/main.rt" "$work/crates/bench_crc/src/"
+cp "$here/crc/main.rt.in" "$work/crates/bench_crc/src/main.rt"
 printf 'pt_sum:\nbench_crc: pt_sum\n' > "$work/crates.txt"
 printf 'Handles allowed: none.\n' > "$work/HANDLES"
 head -c 67108864 /dev/urandom > "$work/bytes"

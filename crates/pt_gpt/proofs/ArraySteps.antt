@@ -1,5 +1,5 @@
 -- An array's bytes, entry by entry.
-use Rattle.std.proofs.Common.{◌≡◌, ℕ, suc, ◌+◌, ◌*◌, ◌-◌, ◌<◌, ◌≤◌, add-one, List, [], ◌++◌, length, take, drop, refl, sym, ap, ◌∙◌, arith, inl, inr}
+use Rattle.std.proofs.Common.{◌≡◌, ℕ, ◌+◌, ◌*◌, ◌<◌, ◌≤◌, add-one, List, [], ◌++◌, length, take, drop, refl, ap, ◌∙◌, arith, inl, inr}
 use Rattle.std.specs.Prelude.{slice_index_or, Option, None, IfSome}
 use Rattle.std.proofs.lemmas.Bool.{cases_lt}
 use Rattle.std.proofs.lemmas.List.{take_at, length-take-le}
@@ -28,4 +28,4 @@ put_next k new x long room =
 
 pub fits_next : (es : List (Option Entry)) (n : ℕ) → ((j : ℕ) → j < n → IfSome (slice_index_or es j None) EntryFits) → IfSome (slice_index_or es n None) EntryFits
     → (j : ℕ) → j < n + 1 → IfSome (slice_index_or es j None) EntryFits
-fits_next es n before here j lt = elim (cases_lt j n) [ | inl below ↦ before j below | inr above ↦ let e : j ≡ n = omega arith in rw e here ]
+fits_next es n before here j lt = elim (cases_lt j n) [ inl below ↦ before j below | inr above ↦ let e : j ≡ n = omega arith in rw e here ]

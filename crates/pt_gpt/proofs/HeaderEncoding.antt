@@ -1,9 +1,9 @@
 -- What is written is a header.
-use Rattle.std.proofs.Common.{◌≡◌, ℕ, ◌+◌, ◌*◌, ◌/◌, ◌%◌, ◌^◌, ◌<◌, ◌≤◌, List, [], ◌∷◌, ◌++◌, length, take, drop, replicate, refl, sym, ap, ◌∙◌, arith, lit≤}
+use Rattle.std.proofs.Common.{◌≡◌, ℕ, ◌^◌, ◌<◌, ◌≤◌, List, [], ◌∷◌, ◌++◌, length, drop, replicate, refl, arith, lit≤}
 use Rattle.std.specs.Prelude.{slice_range}
 use Rattle.pt_sum.specs.Crc.{crc_of}
-use Rattle.pt_gpt.specs.Bytes.{number_at, put_at}
-use Rattle.pt_gpt.specs.Header.{HeaderFields, HeaderBytes, header_size}
+use Rattle.pt_gpt.specs.Bytes.{put_at}
+use Rattle.pt_gpt.specs.Header.{HeaderBytes, header_size}
 use Rattle.pt_gpt.specs.HeaderSector.{unsummed_from, summed_from, HeaderFits}
 use Rattle.pt_gpt.specs.Written.{number_back}
 use Rattle.pt_gpt.specs.declared.header.Header.{Header}

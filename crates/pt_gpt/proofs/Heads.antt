@@ -1,17 +1,17 @@
 -- What was read at a side's place is its header, or its fault.
-use Rattle.std.proofs.Common.{◌≡◌, ℕ, List, refl, sym, ap, ◌∙◌, subst, inl, inr}
+use Rattle.std.proofs.Common.{◌≡◌, ℕ, List, refl, ap, ◌∙◌, subst, inl, inr}
 use Rattle.std.specs.Prelude.{◌⊎◌, length, Option}
 use Rattle.pt_sector.specs.Sectors.{Sectors, sector}
 use Rattle.pt_sum.specs.Crc.{crc_of}
-use Rattle.pt_gpt.specs.Errors.{IsOutside, FailedIn}
+use Rattle.pt_gpt.specs.Errors.{IsOutside, NeedsNoMemory, FailedIn}
 use Rattle.pt_gpt.specs.Header.{HeaderBytes, IsHeaderFault}
-use Rattle.pt_gpt.specs.Copy.{header_place, header_sector, IsPlaced, IsPlaceFault, IsHead, no_header, misplaced, no_head, other_crc, array_of, HasArrayCrc, CopyWith}
+use Rattle.pt_gpt.specs.Copy.{header_place, IsPlaced, IsPlaceFault, IsHead, no_header, misplaced, no_head, other_crc, array_of, HasArrayCrc, CopyWith}
 use Rattle.pt_gpt.specs.Array.{AreEntries}
 use Rattle.pt_gpt.specs.Answers.{TellsHeadFault, TellsFault}
 use Rattle.pt_gpt.specs.declared.header.Header.{Header}
 use Rattle.pt_gpt.specs.declared.entry.Entry.{Entry}
 use Rattle.pt_gpt.specs.declared.error.CopyError.{CopyError}
-use Rattle.pt_gpt.specs.declared.error.CopyError.TheVariants.{ArrayCrc, Device}
+use Rattle.pt_gpt.specs.declared.error.CopyError.TheVariants.{ArrayCrc, Device, Memory}
 use Rattle.pt_gpt.specs.declared.table.Side.{Side}
 
 -- n is the count of sectors that the reader asked for
@@ -46,3 +46,11 @@ other_crc_of b d side h head other = inr (other_crc h head other)
 pub table_of : (b : ℕ) (d : Sectors) (side : Side) (h : Header) (entries : List (Option Entry)) → IsHead b d side h → h.array_crc ≡ crc_of (array_of b d h) → length entries ≡ h.count → AreEntries entries (array_of b d h)
     → CopyWith b d side h (record { disk = h.disk; first = h.first; last = h.last; entries = entries })
 table_of b d side h entries head crc count are = record { is_head = head; crc = crc; disk = refl; first = refl; last = refl; count = count; entries = are }
+
+pub header_needs_none : (b : ℕ) (e : CopyError) (bytes : List ℕ) → IsHeaderFault b e bytes → NeedsNoMemory e
+header_needs_none b Memory bytes fault = fault
+header_needs_none b _ bytes fault = tt
+
+pub place_needs_none : (b : ℕ) (side : Side) (n : ℕ) (h : Header) (e : CopyError) → IsPlaceFault b side n h e → NeedsNoMemory e
+place_needs_none b side n h Memory fault = fault
+place_needs_none b side n h _ fault = tt

@@ -1,5 +1,5 @@
 -- Entries that come in parts.
-use Rattle.std.proofs.Common.{◌≡◌, ℕ, suc, ◌/◌, zero-le, min, add-one, ◌∷◌, ◌+◌, ◌*◌, ◌-◌, ◌<◌, ◌≤◌, List, [], ◌++◌, length, get_or, take, drop, Option, None, refl, sym, ap, ◌∙◌, subst, arith, inl, inr, length-append, append_assoc}
+use Rattle.std.proofs.Common.{◌≡◌, ℕ, ◌/◌, zero-le, min, add-one, ◌∷◌, ◌+◌, ◌*◌, ◌-◌, ◌<◌, ◌≤◌, List, [], ◌++◌, length, get_or, take, drop, Option, None, refl, sym, ap, ◌∙◌, subst, arith, inl, inr, length-append, append_assoc}
 use Rattle.std.specs.Prelude.{slice_range}
 use Rattle.std.proofs.lemmas.Bool.{cases_lt}
 use Rattle.std.proofs.lemmas.List.{get_or_append_left, get_or-append_right, drop-append-le, take-append-le, length-drop, take_all, take_min, get_or_push, length_push, append-nil}
@@ -100,7 +100,7 @@ streamed_more b m at i d register left items es s before within read long part =
     let whole : take m x ≡ x = take_all m x (omega (arith, before.long)) in
     let cut : take (min left b) s ≡ take (m - i * b) s = ap (λ (n : ℕ). take (min left n) s) (sym long) ∙ take_min left s ∙ ap (λ (n : ℕ). take n s) before.left in
     let next : take m (bytes_from d at (i + 1)) ≡ x ++ take (min left b) s =
-      rw (add-one, ← read) (take_sector m i b x s before.long within ∙ ap (λ (t : List ℕ). x ++ t) (sym cut)) in
+    rw (add-one, ← read) (take_sector m i b x s before.long within ∙ ap (λ (t : List ℕ). x ++ t) (sym cut)) in
     let product : (i + 1) * b ≡ i * b + b = add-mul i 1 b ∙ ap (λ (n : ℕ). i * b + n) (one-mul b) in
     record {
       sum = rw (next, after_bytes-append 0xFFFFFFFF x (take (min left b) s)) (ap (λ (r : ℕ). after_bytes r (take (min left b) s)) (before.sum ∙ ap (after_bytes 0xFFFFFFFF) whole));

@@ -1,5 +1,5 @@
 -- What `==` says of entries that may be none.
-use Rattle.std.proofs.Common.{◌≡◌, refl, ap, ◌∙◌, sym, rules}
+use Rattle.std.proofs.Common.{◌≡◌, refl, ap, rules}
 use Rattle.std.specs.Prelude.{Option, Some, None, Bool, ◌&&◌, ◌==◌}
 use Rattle.std.specs.Bool.{Decides}
 use Rattle.std.specs.Option.{option_eq}
@@ -22,7 +22,16 @@ options_decide each (Some a) (Some b) = (λ t. ap (λ (x : Entry). just x) ((eac
 pub entries_decide : (e f : Entry) → Decides (bytes_eq e.kind.0 f.kind.0 && (bytes_eq e.unique.0 f.unique.0 && ((e.first == f.first) && ((e.last == f.last) && ((e.attributes == f.attributes) && bytes_eq e.name f.name))))) (e ≡ f)
 entries_decide e f =
     let d = Decides-and _ _ (bytes_eq-Decides e.kind.0 f.kind.0) (Decides-and _ _ (bytes_eq-Decides e.unique.0 f.unique.0) (Decides-and _ _ (Decides-eqb e.first f.first)
-      (Decides-and _ _ (Decides-eqb e.last f.last) (Decides-and _ _ (Decides-eqb e.attributes f.attributes) (bytes_eq-Decides e.name f.name))))) in
-    (λ t. let p = d.0 t in entry_ext e f p.0 p.1.0 p.1.1.0 p.1.1.1.0 p.1.1.1.1.0 p.1.1.1.1.1,
-      λ same. d.1 (ap (λ (x : Entry). x.kind.0) same, (ap (λ (x : Entry). x.unique.0) same, (ap (λ (x : Entry). x.first) same,
-        (ap (λ (x : Entry). x.last) same, (ap (λ (x : Entry). x.attributes) same, ap (λ (x : Entry). x.name) same))))))
+    (Decides-and _ _ (Decides-eqb e.last f.last) (Decides-and _ _ (Decides-eqb e.attributes f.attributes) (bytes_eq-Decides e.name f.name))))) in (
+      λ t. let p = d.0 t in entry_ext e f p.0 p.1.0 p.1.1.0 p.1.1.1.0 p.1.1.1.1.0 p.1.1.1.1.1,
+      λ same. d.1 (
+        ap (λ (x : Entry). x.kind.0) same,
+        (
+          ap (λ (x : Entry). x.unique.0) same,
+          (
+            ap (λ (x : Entry). x.first) same,
+            (ap (λ (x : Entry). x.last) same, (ap (λ (x : Entry). x.attributes) same, ap (λ (x : Entry). x.name) same)),
+          ),
+        ),
+      ),
+    )

@@ -1,5 +1,5 @@
 -- An array of entries, in its bytes and in its sectors.
-use Rattle.std.specs.Prelude.{◌≡◌, ◌<◌, ℕ, zero, suc, ◌+◌, ◌-◌, ◌*◌, ◌/◌, List, [], ◌++◌, length, slice_range, slice_index_or, Option, Some, None, IfSome}
+use Rattle.std.specs.Prelude.{◌≡◌, ◌<◌, ℕ, zero, suc, ◌+◌, ◌-◌, ◌*◌, ◌/◌, List, [], ◌++◌, length, slice_range, slice_index_or, Option, None, IfSome}
 use Rattle.pt_gpt.specs.Entry.{EntryIs, EntryFits, IsTyped, entry_bytes}
 use Rattle.pt_gpt.specs.declared.entry.Entry.{Entry}
 

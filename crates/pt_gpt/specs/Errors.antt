@@ -23,6 +23,11 @@ IsOutside (Device at) = Unit {0}
 IsOutside Memory = Unit {0}
 IsOutside _ = ⊥
 
+-- an error of a call that takes no memory
+abbrev pub NeedsNoMemory : CopyError → Type 0
+NeedsNoMemory Memory = ⊥
+NeedsNoMemory _ = Unit {0}
+
 -- a device's fault goes with one failure more, every other error with none
 abbrev pub FailedAs : CopyError → ℕ → ℕ → Type 0
 FailedAs (Device at) before now = now ≡ before + 1

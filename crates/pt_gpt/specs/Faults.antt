@@ -2,12 +2,12 @@
 use Rattle.std.specs.Prelude.{◌≡◌, ℕ, List, length}
 use Rattle.std.proofs.Common.{refl, subst}
 use Rattle.pt_sector.specs.Sectors.{Sectors}
-use Rattle.pt_gpt.specs.Header.{HeaderBytes, IsHeaderFault}
+use Rattle.pt_gpt.specs.Header.{IsHeaderFault}
 use Rattle.pt_gpt.specs.Copy.{header_sector, IsPlaceFault, IsHeadFault, no_header, misplaced, IsCopyFault, no_head, other_crc}
 use Rattle.pt_gpt.specs.Laws.{header_is_one_lem, no_header_lem, no_head_lem}
 use Rattle.pt_gpt.specs.declared.header.Header.{Header}
 use Rattle.pt_gpt.specs.declared.error.CopyError.{CopyError}
-use Rattle.pt_gpt.specs.declared.error.CopyError.TheVariants.{Signature, Revision, HeaderSize, HeaderCrc, MyLba, ArrayPlace, EntryShape, UsableRange, ArrayCrc}
+use Rattle.pt_gpt.specs.declared.error.CopyError.TheVariants.{Signature, Revision, HeaderSize, HeaderCrc, MyLba, ArrayPlace, EntryShape, UsableRange}
 use Rattle.pt_gpt.specs.declared.table.Side.{Side}
 
 header_fault_one : (b : ℕ) (bytes : List ℕ) (e f : CopyError) → IsHeaderFault b e bytes → IsHeaderFault b f bytes → e ≡ f

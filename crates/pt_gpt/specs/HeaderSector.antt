@@ -9,17 +9,17 @@ use Rattle.pt_gpt.specs.declared.header.Header.{Header}
 unfoldable pub unsummed_from : Header → List ℕ → List ℕ
 unsummed_from h disk =
     put_at 88 (little_bytes 4 h.array_crc)
-      (put_at 84 (little_bytes 4 h.entry_size)
-        (put_at 80 (little_bytes 4 h.count)
-          (put_at 72 (little_bytes 8 h.array)
-            (put_at 56 disk
-              (put_at 48 (little_bytes 8 h.last)
-                (put_at 40 (little_bytes 8 h.first)
-                  (put_at 32 (little_bytes 8 h.alternate)
-                    (put_at 24 (little_bytes 8 h.my)
-                      (put_at 12 (little_bytes 4 92)
-                        (put_at 8 (little_bytes 4 0x00010000)
-                          (put_at 0 (little_bytes 8 0x5452415020494645) (replicate 92 0))))))))))))
+    (put_at 84 (little_bytes 4 h.entry_size)
+    (put_at 80 (little_bytes 4 h.count)
+    (put_at 72 (little_bytes 8 h.array)
+    (put_at 56 disk
+    (put_at 48 (little_bytes 8 h.last)
+    (put_at 40 (little_bytes 8 h.first)
+    (put_at 32 (little_bytes 8 h.alternate)
+    (put_at 24 (little_bytes 8 h.my)
+    (put_at 12 (little_bytes 4 92)
+    (put_at 8 (little_bytes 4 0x00010000)
+    (put_at 0 (little_bytes 8 0x5452415020494645) (replicate 92 0))))))))))))
 
 unfoldable pub summed_from : Header → List ℕ → List ℕ
 summed_from h disk = put_at 16 (little_bytes 4 (crc_of (unsummed_from h disk))) (unsummed_from h disk)

@@ -1,18 +1,18 @@
 -- Bytes are one header or entry at most; a side has one copy at most, and none where it has a fault;
 -- and the sectors that decide a side do decide it.
-use Rattle.std.specs.Prelude.{◌≡◌, ◌<◌, ◌≤◌, ◌⊎◌, ◌↔◌, ℕ, zero, suc, ◌+◌, ◌*◌, List, ◌++◌, length, take, slice_range, slice_index_or, Option, Some, None, IfSome}
+use Rattle.std.specs.Prelude.{◌≡◌, ◌<◌, ◌≤◌, ◌⊎◌, ◌↔◌, ℕ, zero, suc, ◌+◌, ◌*◌, List, length, take, slice_range, slice_index_or, Option, Some, None, IfSome}
 use Rattle.std.proofs.Common.{refl, sym, ap, ◌∙◌, subst, arith, inl, inr}
 use Rattle.std.proofs.lemmas.List.{ext_get_or}
 use Rattle.pt_sector.specs.Sectors.{Sectors, sector, Agrees}
 use Rattle.pt_sum.specs.Crc.{crc_of}
-use Rattle.pt_gpt.specs.Header.{HeaderBytes, HeaderFields, IsHeaderFault}
+use Rattle.pt_gpt.specs.Header.{HeaderBytes, IsHeaderFault}
 use Rattle.pt_gpt.specs.Entry.{EntryBytes, EntryIs, IsTyped}
 use Rattle.pt_gpt.specs.Array.{counted, AreEntries, AllTyped}
 use Rattle.pt_gpt.specs.Copy.{header_place, header_sector, IsPlaced, IsPlaceFault, IsHead, IsHeadFault, no_header, misplaced, bytes_from, array_of, HasArrayCrc, CopyWith, Copy, HasCopy, IsCopyFault, no_head, other_crc, InArray, SideReads, SameSide}
 use Rattle.pt_gpt.specs.declared.header.Header.{Header}
 use Rattle.pt_gpt.specs.declared.entry.Entry.{Entry}
 use Rattle.pt_gpt.specs.declared.error.CopyError.{CopyError}
-use Rattle.pt_gpt.specs.declared.error.CopyError.TheVariants.{Signature, Revision, HeaderSize, HeaderCrc, MyLba, ArrayPlace, EntryShape, UsableRange, ArrayCrc, Device, Memory}
+use Rattle.pt_gpt.specs.declared.error.CopyError.TheVariants.{Signature, Revision, HeaderSize, HeaderCrc, MyLba, ArrayPlace, EntryShape, UsableRange}
 use Rattle.pt_gpt.specs.declared.table.Side.{Side}
 use Rattle.pt_gpt.specs.declared.table.Table.{Table}
 
@@ -100,18 +100,19 @@ copy_is_one_lem b d side t u x y =
 -- what decides a side once its header stands
 pub side_reads_head_lem : (b : ℕ) (d : Sectors) (side : Side) (h : Header) → IsHead b d side h
     → (s : ℕ) → SideReads b d side s ↔ ((s ≡ header_place side (length d)) ⊎ InArray b h s)
-side_reads_head_lem b d side h head s =
-    (λ r. elim r [
-        | inl here ↦ inl here
-        | inr within ↦ inr (subst (λ (k : Header). InArray b k s) (head_is_one_lem b d side within.0 h within.1 head) within.2)
-      ],
-      λ r. elim r [ | inl here ↦ inl here | inr within ↦ inr (h, head, within) ])
+side_reads_head_lem b d side h head s = (
+  λ r. elim r [
+    | inl here ↦ inl here
+    | inr within ↦ inr (subst (λ (k : Header). InArray b k s) (head_is_one_lem b d side within.0 h within.1 head) within.2)
+  ],
+  λ r. elim r [ inl here ↦ inl here | inr within ↦ inr (h, head, within) ],
+)
 
 -- and where it doesn't
 pub side_reads_fault_lem : (b : ℕ) (d : Sectors) (side : Side) (e : CopyError) → IsHeadFault b d side e
     → (s : ℕ) → SideReads b d side s ↔ (s ≡ header_place side (length d))
 side_reads_fault_lem b d side e fault s =
-    (λ r. elim r [ | inl here ↦ here | inr within ↦ absurd (no_head_lem b d side e within.0 fault within.1) ], λ here. inl here)
+    (λ r. elim r [ inl here ↦ here | inr within ↦ absurd (no_head_lem b d side e within.0 fault within.1) ], λ here. inl here)
 
 bytes_same : (c d : Sectors) (at n : ℕ) → ((s : ℕ) → at ≤ s → s < at + n → sector c s ≡ sector d s) → bytes_from c at n ≡ bytes_from d at n
 unfolding bytes_from

@@ -1,7 +1,7 @@
 -- What is written is read back: entries, arrays, and so whole copies.
-use Rattle.std.specs.Prelude.{◌≡◌, ◌≢◌, ◌<◌, ◌≤◌, ◌^◌, ◌⊎◌, ℕ, zero, suc, ◌+◌, ◌-◌, ◌*◌, ◌/◌, List, [], ◌∷◌, ◌++◌, length, take, drop, slice_range, slice_index_or, Option, Some, None, IfSome}
+use Rattle.std.specs.Prelude.{◌≡◌, ◌<◌, ◌≤◌, ◌^◌, ℕ, zero, suc, ◌+◌, ◌-◌, ◌*◌, ◌/◌, List, [], ◌∷◌, ◌++◌, length, take, drop, slice_range, slice_index_or, Option, Some, None, IfSome}
 use Rattle.std.specs.List.{flat_map}
-use Rattle.std.proofs.Common.{get_or, refl, sym, ap, ◌∙◌, subst, arith, inl, inr, append_assoc, length-append, zero-add}
+use Rattle.std.proofs.Common.{get_or, refl, sym, ap, ◌∙◌, arith, inl, inr, append_assoc, length-append, zero-add}
 use Rattle.std.proofs.lemmas.Bool.{cases_lt}
 use Rattle.std.proofs.lemmas.List.{append-nil, drop-drop, drop-append-le, take-append-le, length-drop, take_all, take_at, drop_at}
 use Rattle.byteorder.specs.Endian.{little_number, little_bytes}
@@ -9,8 +9,8 @@ use Rattle.byteorder.specs.Numbers.{little_number-reads_back}
 use Rattle.pt_sector.specs.Sectors.{Sectors, sector, IsSectorSize}
 use Rattle.pt_sum.specs.Crc.{crc_of}
 use Rattle.pt_gpt.specs.Entry.{EntryFields, EntryBytes, EntryIs, EntryFits, IsTyped, UnitsAt, used_bytes, entry_bytes}
-use Rattle.pt_gpt.specs.Array.{array_len, counted, AreEntries, entries_bytes, array_bytes, AllFit, AllTyped}
-use Rattle.pt_gpt.specs.Copy.{bytes_from, array_of, CopyWith, Copy, IsWritten}
+use Rattle.pt_gpt.specs.Array.{counted, AreEntries, entries_bytes, array_bytes, AllFit, AllTyped}
+use Rattle.pt_gpt.specs.Copy.{bytes_from, array_of, CopyWith, IsWritten}
 use Rattle.pt_gpt.specs.declared.header.Header.{Header}
 use Rattle.pt_gpt.specs.declared.entry.Entry.{Entry}
 use Rattle.pt_gpt.specs.declared.table.Side.{Side}
@@ -29,12 +29,15 @@ unit_at (u ∷ units) rest (suc k) lt fits =
     rw e (unit_at units rest k (omega arith) (λ i. fits (suc i)))
 
 units_in : (s units rest : List ℕ) → drop 56 s ≡ flat_map (little_bytes 2) units ++ rest → length units ≡ 36 → ((i : ℕ) → get_or units i 0 < 2 ^ 16) → UnitsAt s units
-units_in s units rest at long fits = (long, λ k lt.
-    let two : 56 + 2 * k + 2 - (56 + 2 * k) ≡ 2 = omega arith in
-    unit_at units rest k (omega arith) fits
-    ∙ ap (λ (t : List ℕ). little_number 2 (take 2 (drop (2 * k) t))) (sym at)
-    ∙ ap (λ (t : List ℕ). little_number 2 (take 2 t)) (drop-drop (2 * k) 56 s)
-    ∙ ap (λ (n : ℕ). little_number 2 (take n (drop (56 + 2 * k) s))) (sym two))
+units_in s units rest at long fits = (
+  long,
+  λ k lt.
+      let two : 56 + 2 * k + 2 - (56 + 2 * k) ≡ 2 = omega arith in
+      unit_at units rest k (omega arith) fits
+      ∙ ap (λ (t : List ℕ). little_number 2 (take 2 (drop (2 * k) t))) (sym at)
+      ∙ ap (λ (t : List ℕ). little_number 2 (take 2 t)) (drop-drop (2 * k) 56 s)
+      ∙ ap (λ (n : ℕ). little_number 2 (take n (drop (56 + 2 * k) s))) (sym two),
+)
 
 -- two bytes a unit
 pub length_units : (units : List ℕ) → length (flat_map (little_bytes 2) units) ≡ 2 * length units
@@ -79,9 +82,8 @@ entry_back : (o : Option Entry) → IfSome o EntryFits → IfSome o IsTyped → 
 entry_back None fits typed = refl
 entry_back (Some e) fits typed = used_entry e fits typed
 
-
 fits_past : (es : List (Option Entry)) → AllFit es → (j : ℕ) → IfSome (slice_index_or es j None) EntryFits
-fits_past es fits j = elim (cases_lt j (length es)) [ | inl below ↦ fits j below | inr past ↦ none es j past ] where
+fits_past es fits j = elim (cases_lt j (length es)) [ inl below ↦ fits j below | inr past ↦ none es j past ] where
   none : (es : List (Option Entry)) (j : ℕ) → length es ≤ j → IfSome (slice_index_or es j None) EntryFits
   none [] j past = tt
   none (e ∷ es) zero past = absurd (omega arith)
@@ -132,8 +134,8 @@ pub entries_back_lem : (es : List (Option Entry)) → AllFit es → AllTyped es 
 entries_back_lem es fits typed = record {
   count = length_entries es 0 (length es) (fits_past es fits);
   each = λ k lt.
-    let same = entries_part es 0 (length es) k (fits_past es fits) lt ∙ ap (λ (j : ℕ). entry_bytes (slice_index_or es j None)) (zero-add k) in
-    rw same (entry_back (slice_index_or es k None) (fits k lt) (typed k lt));
+      let same = entries_part es 0 (length es) k (fits_past es fits) lt ∙ ap (λ (j : ℕ). entry_bytes (slice_index_or es j None)) (zero-add k) in
+      rw same (entry_back (slice_index_or es k None) (fits k lt) (typed k lt));
 }
 
 sectors_of : (d : Sectors) (es : List (Option Entry)) (at n q : ℕ) → ((k : ℕ) → k < n → sector d (at + k) ≡ entries_bytes es (k * q) q) → bytes_from d at n ≡ entries_bytes es 0 (n * q)

@@ -7,11 +7,10 @@ ghost use Rattle.pt_gpt.specs.Bytes.{put_at};
 ghost use Rattle.pt_gpt.specs.Entry.{EntryFits, entry_bytes};
 ghost use Rattle.pt_gpt.specs.Array.{array_len, entries_bytes, array_bytes, array_sector, AllFit};
 
-use pt_sector::Sector;
-use pt_sum::Crc;
-
 use crate::entry::{Entry, encode_entry};
 use crate::view::ENTRY_SIZE;
+use pt_sector::Sector;
+use pt_sum::Crc;
 
 fn bytes_of(entry: &Option<Entry>) -> [u8; 128]
     ensures bytes { result ≡ entry_bytes entry.now }

@@ -2,23 +2,22 @@
 
 ghost use Rattle.std.specs.Prelude.{◌≡◌, ◌⊎◌, ◌+◌, ◌*◌, ◌<◌, ◌≤◌, IfOk, IfErr, OnOk, length};
 ghost use Rattle.pt_sector.specs.Sectors.{IsSectorSize, sector};
-ghost use Rattle.pt_gpt.specs.Errors.{IsOutside, FailedAs, FailedIn};
+ghost use Rattle.pt_gpt.specs.Errors.{IsOutside, NeedsNoMemory, FailedAs, FailedIn};
 ghost use Rattle.pt_gpt.specs.Header.{HeaderBytes, IsHeaderFault};
 ghost use Rattle.pt_gpt.specs.Array.{array_len};
 ghost use Rattle.pt_gpt.specs.Copy.{header_place, IsPlaced, IsHead, CopyWith, Copy, SideReads};
 ghost use Rattle.pt_gpt.specs.Answers.{TellsHeadFault, TellsFault};
 
-use std::alloc::Global;
-
-use pt_sector::{Disk, Lba};
-
+use crate::entries::read_entries;
 use crate::error::CopyError;
 use crate::header::{Header, decode_header};
-use crate::entries::read_entries;
 use crate::place::{check_place, header_at};
 use crate::table::{Side, Table};
+use pt_sector::{Disk, Lba};
+use std::alloc::Global;
 
 // The header that a sector is.
+#[tactic(auto, using(crate::proofs::Heads::header_needs_none))]
 fn read_header<const B: usize, D: Disk<B>>(disk: &mut D, at: u64) -> Result<Header, CopyError>
     requires size { IsSectorSize B }
     requires within { at < D.count disk.old }
@@ -28,6 +27,7 @@ fn read_header<const B: usize, D: Disk<B>>(disk: &mut D, at: u64) -> Result<Head
     ensures quiet { OnOk result (D.failures disk.new ≡ D.failures disk.old) }
     ensures failed { IfErr result (λ e. FailedAs e (D.failures disk.old) (D.failures disk.new)) }
     ensures place { IfErr result (FailedIn (λ s. s ≡ at)) }
+    ensures memory { IfErr result NeedsNoMemory }
     ensures same { D.tells → D.told disk.new ≡ D.told disk.old }
     ensures ok { D.tells → IfOk result (λ h. HeaderBytes B h (sector (D.told disk.old).seen at)) }
     ensures err { D.tells → IfErr result (λ e. IsOutside e ⊎ IsHeaderFault B e (sector (D.told disk.old).seen at)) }
@@ -43,6 +43,7 @@ fn read_header<const B: usize, D: Disk<B>>(disk: &mut D, at: u64) -> Result<Head
 ///
 /// Of errors 1 to 8 the first that holds, or `Device` where the read failed. It reads one sector and takes no memory;
 /// the array's CRC is for `read_table`.
+#[tactic(auto, using(crate::proofs::Heads::place_needs_none))]
 pub fn read_head<const B: usize, D: Disk<B>>(disk: &mut D, side: Side) -> Result<Header, CopyError>
     requires size { IsSectorSize B }
     requires room { 2 * array_len B + 4 ≤ D.count disk.old }
@@ -52,6 +53,7 @@ pub fn read_head<const B: usize, D: Disk<B>>(disk: &mut D, side: Side) -> Result
     ensures quiet { OnOk result (D.failures disk.new ≡ D.failures disk.old) }
     ensures failed { IfErr result (λ e. FailedAs e (D.failures disk.old) (D.failures disk.new)) }
     ensures place { IfErr result (FailedIn (λ s. s ≡ header_place side (D.count disk.old))) }
+    ensures memory { IfErr result NeedsNoMemory }
     ensures same { D.tells → D.told disk.new ≡ D.told disk.old }
     ensures placed { IfOk result (λ h. IsPlaced B side (D.count disk.old) h) }
     ensures ok { D.tells → IfOk result (λ h. IsHead B (D.told disk.old).seen side h) }
@@ -73,7 +75,12 @@ pub fn read_head<const B: usize, D: Disk<B>>(disk: &mut D, side: Side) -> Result
 /// `ArrayCrc` where the array has another CRC, `Device` where a read failed. The memory for the entries is taken at
 /// once, before the first read; `Memory` where there is none. The counted sectors of the array are read in order,
 /// through one sector's buffer.
-pub fn read_table<const B: usize, D: Disk<B>>(alloc: Global, disk: &mut D, side: Side, header: &Header) -> Result<Table, CopyError>
+pub fn read_table<const B: usize, D: Disk<B>>(
+    alloc: Global,
+    disk: &mut D,
+    side: Side,
+    header: &Header,
+) -> Result<Table, CopyError>
     requires size { IsSectorSize B }
     requires room { 2 * array_len B + 4 ≤ D.count disk.old }
     requires placed { IsPlaced B side (D.count disk.old) header.now }
@@ -105,11 +112,15 @@ pub fn read_table<const B: usize, D: Disk<B>>(alloc: Global, disk: &mut D, side:
     })
 }
 
-/// The table of a side's copy, on a disk with room for two.
+/// The table of a side's copy, on a disk of at least 2A + 4 sectors, where an array of 128 entries takes A.
 ///
 /// Of errors 1 to 9 the first that holds; `Device` where a read failed, and `Memory` where there was none for the
 /// entries. AlternateLBA isn't looked at.
-pub fn read_copy<const B: usize, D: Disk<B>>(alloc: Global, disk: &mut D, side: Side) -> Result<Table, CopyError>
+pub fn read_copy<const B: usize, D: Disk<B>>(
+    alloc: Global,
+    disk: &mut D,
+    side: Side,
+) -> Result<Table, CopyError>
     requires size { IsSectorSize B }
     requires room { 2 * array_len B + 4 ≤ D.count disk.old }
     ensures count { D.count disk.new ≡ D.count disk.old }

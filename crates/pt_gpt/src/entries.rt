@@ -8,16 +8,14 @@ ghost use Rattle.pt_gpt.specs.Array.{counted, AreEntries};
 ghost use Rattle.pt_gpt.specs.Copy.{bytes_from};
 ghost use Rattle.pt_gpt.specs.declared.entry.Entry.{Entry};
 
-use std::alloc::Global;
-
-use pt_sector::{Disk, Lba};
-use pt_sum::Crc;
-
 use crate::entry::Entry;
 use crate::error::CopyError;
 use crate::place::counted_sectors;
 use crate::table::Entries;
 use crate::view::{ENTRY_SIZE, EntryView};
+use pt_sector::{Disk, Lba};
+use pt_sum::Crc;
+use std::alloc::Global;
 
 // Adds the entries of a part of the array. There is room for them.
 fn push_entries(items: &mut Vec<Option<Entry>>, part: &[u8])
@@ -33,7 +31,12 @@ fn push_entries(items: &mut Vec<Option<Entry>>, part: &[u8])
 }
 
 // The CRC and the entries of the array from sector `at` on. All memory is taken before the first read.
-pub(crate) fn read_entries<const B: usize, D: Disk<B>>(alloc: Global, disk: &mut D, at: u64, count: u32) -> Result<(u32, Entries), CopyError>
+pub(crate) fn read_entries<const B: usize, D: Disk<B>>(
+    alloc: Global,
+    disk: &mut D,
+    at: u64,
+    count: u32,
+) -> Result<(u32, Entries), CopyError>
     requires size { IsSectorSize B }
     requires most { count ≤ 128 }
     requires fits { at + counted B count < 2 ^ 64 }

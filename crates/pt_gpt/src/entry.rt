@@ -5,11 +5,10 @@ ghost use Rattle.byteorder.specs.Endian.{little_bytes};
 ghost use Rattle.pt_gpt.specs.Bytes.{put_at};
 ghost use Rattle.pt_gpt.specs.Entry.{EntryFields, EntryBytes, EntryIs, EntryFits, IsTyped, used_bytes};
 
-use byteorder::{ByteOrder, LittleEndian};
-use pt_guid::Guid;
-
 use crate::bytes::{put_guid, put_u64};
 use crate::view::EntryView;
+use byteorder::{ByteOrder, LittleEndian};
+use pt_guid::Guid;
 
 /// A used entry (UEFI 2.10, 5.3.3). One whose type GUID is zero reads back as none.
 #[derive(Clone, Copy, Debug, PartialEq, Eq)]

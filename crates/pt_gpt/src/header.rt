@@ -6,13 +6,12 @@ ghost use Rattle.pt_sector.specs.Sectors.{IsSectorSize};
 ghost use Rattle.pt_gpt.specs.Header.{HeaderFields, HeaderBytes, IsHeaderFault, HasSignature, HasCrc, header_size};
 ghost use Rattle.pt_gpt.specs.HeaderSector.{unsummed_from, summed_from, HeaderFits};
 
+use crate::bytes::{guid_at, put_guid, put_u32, put_u64};
+use crate::error::CopyError;
 use byteorder::{ByteOrder, LittleEndian};
 use pt_guid::Guid;
 use pt_sector::Sector;
 use pt_sum::{Crc, crc32};
-
-use crate::bytes::{guid_at, put_guid, put_u32, put_u64};
-use crate::error::CopyError;
 
 /// "EFI PART" as a little-endian number.
 const SIGNATURE: u64 = 0x5452_4150_2049_4645;

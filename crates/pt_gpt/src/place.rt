@@ -61,7 +61,11 @@ pub fn array_at<const B: usize>(side: Side, sectors: u64) -> u64
 }
 
 // Whether a header's fields are those of a table on this side, or the first rule that they break.
-pub(crate) fn check_place<const B: usize>(header: &Header, side: Side, sectors: u64) -> Result<(), CopyError>
+pub(crate) fn check_place<const B: usize>(
+    header: &Header,
+    side: Side,
+    sectors: u64,
+) -> Result<(), CopyError>
     requires size { IsSectorSize B }
     requires room { 2 * array_len B + 4 ≤ sectors }
     ensures ok { OnOk result (IsPlaced B side sectors header.now) }

@@ -4,13 +4,11 @@ ghost use Rattle.std.specs.Prelude.{◌≡◌, ◌<◌, List, Option, IfOk, leng
 ghost use Rattle.std.specs.Slice.Iter.{iter_rest};
 ghost use Rattle.pt_gpt.specs.declared.entry.Entry.{Entry};
 
+use crate::entry::Entry;
+use pt_guid::Guid;
 use std::alloc::{AllocError, Global};
 use std::marker::Model;
 use std::slice::Iter;
-
-use pt_guid::Guid;
-
-use crate::entry::Entry;
 
 /// Which of the two copies: the one at the disk's first sectors, or the one at its last.
 #[derive(Clone, Copy, Debug, PartialEq, Eq)]

@@ -33,11 +33,20 @@ fn partition(number: u8, first: u64, last: u64) -> Entry {
 }
 
 /// The header of a side's copy with these entries, of which there are `count`.
-fn header_of<const B: usize>(side: Side, sectors: u64, entries: &[Option<Entry>], count: u32) -> Header
+fn header_of<const B: usize>(
+    side: Side,
+    sectors: u64,
+    entries: &[Option<Entry>],
+    count: u32,
+) -> Header
     requires size { IsSectorSize B }
     requires room { 2 * array_len B + 4 ≤ sectors }
 {
-    let other = if side == Side::Primary { Side::Backup } else { Side::Primary };
+    let other = if side == Side::Primary {
+        Side::Backup
+    } else {
+        Side::Primary
+    };
     let edge = array_sectors::<B>() + 2;
     Header {
         my: header_at(side, sectors),
@@ -58,18 +67,30 @@ fn put<const B: usize, D: Disk<B>>(disk: &mut D, at: u64, bytes: &Sector<B>) -> 
 }
 
 /// Writes a header and its array.
-fn put_copy<const B: usize, D: Disk<B>>(disk: &mut D, header: &Header, entries: &[Option<Entry>]) -> bool
+fn put_copy<const B: usize, D: Disk<B>>(
+    disk: &mut D,
+    header: &Header,
+    entries: &[Option<Entry>],
+) -> bool
     requires { IsSectorSize B }
 {
     let mut done = put(disk, header.my, &encode_header(header));
     for k in 0..array_sectors::<B>() {
-        done = put(disk, header.array.saturating_add(k), &encode_array_sector(entries, k)) && done;
+        done = put(
+            disk,
+            header.array.saturating_add(k),
+            &encode_array_sector(entries, k),
+        ) && done;
     }
     done
 }
 
 /// A side's copy; `Memory` too where there is no room for two.
-fn copy_of<const B: usize, D: Disk<B>>(alloc: Global, disk: &mut D, side: Side) -> Result<Table, CopyError>
+fn copy_of<const B: usize, D: Disk<B>>(
+    alloc: Global,
+    disk: &mut D,
+    side: Side,
+) -> Result<Table, CopyError>
     requires { IsSectorSize B }
 {
     if disk.sectors() < 2 * array_sectors::<B>() + 4 {
@@ -107,10 +128,12 @@ fn copies_are_read<const B: usize>(alloc: Global) -> Result<bool, Fail>
     }
     let primary = copy_of(alloc, &mut disk, Side::Primary)?;
     let backup = copy_of(alloc, &mut disk, Side::Backup)?;
-    Ok(primary.same(&backup)
-        && primary.disk == DISK
-        && primary.entries.len() == 3
-        && primary.entries.as_slice() == entries.as_slice())
+    Ok(
+        primary.same(&backup)
+            && primary.disk == DISK
+            && primary.entries.len() == 3
+            && primary.entries.as_slice() == entries.as_slice(),
+    )
 }
 
 #[test]
@@ -126,7 +149,8 @@ fn copies_in_sectors_of_4096_bytes(rt: HostRuntime) -> Result<(), Fail> {
 }
 
 /// Disk of 4,096 sectors of 512 bytes with one partition, from 2048 to 4062: its header, by Python's zlib and struct.
-const G_HEADER: &[u8; 92] = b"EFI PART\x00\x00\x01\x00\x5c\x00\x00\x00\x4b\xc0\x6c\xc1\x00\x00\x00\x00\
+const G_HEADER: &[u8; 92] =
+    b"EFI PART\x00\x00\x01\x00\x5c\x00\x00\x00\x4b\xc0\x6c\xc1\x00\x00\x00\x00\
 \x01\x00\x00\x00\x00\x00\x00\x00\xff\x0f\x00\x00\x00\x00\x00\x00\x22\x00\x00\x00\x00\x00\x00\x00\xde\x0f\x00\x00\x00\x00\x00\x00\
 \x03\x02\x01\x00\x05\x04\x07\x46\x88\x09\x0a\x0b\x0c\x0d\x0e\x0f\x02\x00\x00\x00\x00\x00\x00\x00\x80\x00\x00\x00\x80\x00\x00\x00\
 \x7f\x7f\x04\xc6";
@@ -197,25 +221,63 @@ fn headers_that_no_copy_has(rt: HostRuntime) -> Result<(), Fail> {
     let rows = [
         (Header { my: 2, ..good }, 5),
         (Header { array: 3, ..good }, 6),
-        (Header { array: u64::MAX, ..good }, 6),
+        (
+            Header {
+                array: u64::MAX,
+                ..good
+            },
+            6,
+        ),
         (Header { count: 0, ..good }, 7),
         (Header { count: 129, ..good }, 7),
-        (Header { count: u32::MAX, ..good }, 7),
-        (Header { entry_size: 256, ..good }, 7),
+        (
+            Header {
+                count: u32::MAX,
+                ..good
+            },
+            7,
+        ),
+        (
+            Header {
+                entry_size: 256,
+                ..good
+            },
+            7,
+        ),
         (Header { first: 33, ..good }, 8),
         (Header { last: 4063, ..good }, 8),
-        (Header { alternate: 7, ..good }, 0),
-        (Header { array_crc: 0, ..good }, 9),
+        (
+            Header {
+                alternate: 7,
+                ..good
+            },
+            0,
+        ),
+        (
+            Header {
+                array_crc: 0,
+                ..good
+            },
+            9,
+        ),
     ];
     for (header, want) in rows {
-        assert_eq!(rt; primary_number(rt.alloc(), &header, None)?, want, "{header:?}");
+        assert_eq!(rt;
+            primary_number(rt.alloc(), &header, None)?,
+            want,
+            "{header:?}"
+        );
     }
     Ok(())
 }
 
 #[test]
 fn only_counted_bytes_count(rt: HostRuntime) -> Result<(), Fail> {
-    let entries = [Some(partition(1, 2048, 2050)), None, Some(partition(3, 34, 40))];
+    let entries = [
+        Some(partition(1, 2048, 2050)),
+        None,
+        Some(partition(3, 34, 40)),
+    ];
     let mut disk: MemDisk<512> = MemDisk::new(rt.alloc(), 4096)?;
     let header = header_of::<512>(Side::Primary, 4096, &entries, 3);
     assert!(rt; put_copy(&mut disk, &header, &entries));
@@ -248,10 +310,22 @@ fn failing_read<const B: usize>(alloc: Global, k: u64) -> Result<Option<CopyErro
 #[test]
 fn a_failed_read_is_the_device_s(rt: HostRuntime) -> Result<(), Fail> {
     assert_eq!(rt; failing_read::<512>(rt.alloc(), 0)?, None);
-    assert_eq!(rt; failing_read::<512>(rt.alloc(), 1)?, Some(CopyError::Device(Lba(127))));
-    assert_eq!(rt; failing_read::<512>(rt.alloc(), 2)?, Some(CopyError::Device(Lba(95))));
-    assert_eq!(rt; failing_read::<512>(rt.alloc(), 33)?, Some(CopyError::Device(Lba(126))));
-    assert_eq!(rt; failing_read::<4096>(rt.alloc(), 2)?, Some(CopyError::Device(Lba(123))));
+    assert_eq!(rt;
+        failing_read::<512>(rt.alloc(), 1)?,
+        Some(CopyError::Device(Lba(127)))
+    );
+    assert_eq!(rt;
+        failing_read::<512>(rt.alloc(), 2)?,
+        Some(CopyError::Device(Lba(95)))
+    );
+    assert_eq!(rt;
+        failing_read::<512>(rt.alloc(), 33)?,
+        Some(CopyError::Device(Lba(126)))
+    );
+    assert_eq!(rt;
+        failing_read::<4096>(rt.alloc(), 2)?,
+        Some(CopyError::Device(Lba(123)))
+    );
     assert_eq!(rt; failing_read::<4096>(rt.alloc(), 6)?, None);
     Ok(())
 }

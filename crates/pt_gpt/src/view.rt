@@ -4,13 +4,11 @@ ghost use Rattle.std.specs.Prelude.{◌≡◌, ◌+◌, ◌*◌, ◌≤◌, ◌�
 ghost use Rattle.pt_gpt.specs.Bytes.{number_at};
 ghost use Rattle.pt_gpt.specs.Entry.{IsUnused, UnitsAt, EntryIs};
 
-use std::marker::Model;
-
-use byteorder::{ByteOrder, LittleEndian};
-use pt_guid::Guid;
-
 use crate::bytes::guid_at;
 use crate::entry::Entry;
+use byteorder::{ByteOrder, LittleEndian};
+use pt_guid::Guid;
+use std::marker::Model;
 
 /// The size of an entry in bytes.
 pub(crate) const ENTRY_SIZE: usize = 128;

@@ -15,6 +15,7 @@ use Rattle.pt_bsd.specs.declared.label.Label.{Label}
 use Rattle.pt_bsd.specs.declared.label.LabelEntry.{LabelEntry}
 use Rattle.pt_mbr.specs.declared.ebr.Ebr.{Ebr}
 use Rattle.pt_gpt.specs.declared.table.Table.{Table}
+use Rattle.pt_recover.specs.declared.layout.Body.{Body}
 use Rattle.pt_recover.specs.declared.layout.Body.TheVariants.{Mbr, Gpt}
 use Rattle.pt_mbr.specs.declared.record.Record.{Record}
 use Rattle.pt_gpt.specs.declared.entry.Entry.{Entry}
@@ -133,3 +134,14 @@ part_at l m k lt =
 pub parts_none : (l : Option Label) (m : Member) → l ≡ None → length (parts_in l m) ≡ 0
 unfolding parts_in
 parts_none l m none = ap (λ (o : Option Label). length (parts_in o m)) none
+
+pub mbr_tops : (b : ℕ) (rs : List (Option Record)) (chain : List Ebr) → length (tops b (Mbr rs chain)) ≡ length rs
+unfolding tops
+mbr_tops b rs chain = records_len b 1 rs
+
+pub gpt_tops : (b : ℕ) (t : Table) → length (tops b (Gpt t)) ≡ length t.entries
+unfolding tops
+gpt_tops b t = entries_len b 1 t.entries
+
+pub tops_first : (b : ℕ) (y : Body) → length (tops b y) ≤ length (slots b y)
+tops_first b y = omega (arith, length-append (tops b y) (logicals b y))

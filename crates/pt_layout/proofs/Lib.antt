@@ -1,5 +1,11 @@
-pub mod Apart
 pub mod ByPlace
+pub mod Presence
+pub mod First
+pub mod Faulty
+pub mod Pairs
+pub mod Extended
 pub mod Grouped
 pub mod Lowest
+pub mod Foreignness
+pub mod Verdicts
 pub mod LabelPlaces

@@ -9,3 +9,13 @@ pub mod Next
 pub mod Sound
 pub mod Healthy
 pub mod Findings
+pub mod Held
+pub mod Spots
+pub mod Row
+pub mod Twins
+pub mod Steps
+pub mod Halves
+pub mod Foreign
+pub mod Verdicts
+pub mod Apart
+pub mod Laws

@@ -118,6 +118,9 @@ pub record Group : Type 0 where
   pub high : ℕ
   pub members : List Member
 
+abbrev pub group_of : ℕ → ℕ → List Member → Group
+group_of low high members = record { low = low; high = high; members = members }
+
 -- the records or entries, in the sectors that are usable on the disk
 unfoldable pub top_group : ℕ → ℕ → Body → Group
 top_group b n (Mbr records chain) = record { low = 1; high = n - 1; members = present (tops b (Mbr records chain)) }

@@ -1,8 +1,14 @@
 //! Layouts: health, soundness, and the places of partitions and tables.
 #![tactic(auto)]
 
+mod buried;
+mod faults;
 mod finding;
+mod foreign;
+mod groups;
+mod halves;
 mod health;
+mod laws;
 mod member;
 mod overlap;
 mod owned;
@@ -10,10 +16,12 @@ mod path;
 mod search;
 mod slots;
 mod soundness;
+mod spot;
 mod tables;
 
 pub use finding::{Finding, Verdict, VerifyError};
 pub use health::verify;
+pub use laws::{finding_excludes, healthy_is_one, sound_frees_tables, unsound_excludes};
 pub use owned::is_owned;
 pub use path::Path;
 pub use pt_recover::{

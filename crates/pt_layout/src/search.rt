@@ -22,7 +22,7 @@ pub enum Wanted {
     SliceWith(Lba),
 }
 
-fn exists(m: &Member) -> bool
+pub(crate) fn exists(m: &Member) -> bool
     ensures { IsTrue result ↔ Exists m.now }
 {
     m.first <= m.last && m.last < 1 << 63

@@ -1,7 +1,7 @@
 //! The members of a layout in place: its records or entries, its logical partitions, and the entries of its labels.
 
 ghost use Rattle.std.specs.Prelude.{◌≡◌, ◌+◌, ◌<◌, ◌≤◌, ◌^◌, ◌↔◌, ℕ, IsTrue, length, get_or, take, count_by, is_some, Some, None, option_map, IfSome, slice_index_or};
-ghost use Rattle.pt_layout.specs.Members.{records_as, entries_as, logicals_as, slots, record_kind, logical_kind, entry_kind, label_of, part_of, parts_in, sized_member, number_path, record_member, logical_member, entry_member};
+ghost use Rattle.pt_layout.specs.Members.{records_as, entries_as, logicals_as, slots, tops, record_kind, logical_kind, entry_kind, label_of, part_of, parts_in, sized_member, number_path, record_member, logical_member, entry_member};
 ghost use Rattle.pt_recover.specs.declared.layout.Body.TheVariants.{Mbr};
 ghost use Rattle.pt_bsd.specs.Form.{entry_first_of};
 ghost use Rattle.pt_layout.specs.Counts.{used_before, logical_at};
@@ -277,5 +277,25 @@ pub(crate) fn part_slot(label: &Label, slice: &Member, k: usize) -> Option<Membe
     match &label.entries[k] {
         Some(e) => part(label, slice, k, e),
         None => None,
+    }
+}
+
+#[tactic(auto, using(crate::proofs::ByPlace::mbr_tops))]
+fn mbr_top_count<const B: usize>(records: &[Option<Record>; 4], chain: &[Ebr]) -> usize
+    ensures { result ≡ length (tops B (Mbr «records».now chain.now)) }
+{
+    let _chain = chain.len();
+    4
+}
+
+// How many places the records or entries have.
+#[tactic(auto, using(crate::proofs::ByPlace::gpt_tops, crate::proofs::ByPlace::tops_first))]
+pub(crate) fn top_count<const B: usize>(body: &Body) -> usize
+    ensures value { result ≡ length (tops B body.now) }
+    ensures within { result ≤ length (slots B body.now) }
+{
+    match body {
+        Body::Mbr { records, chain } => mbr_top_count::<B>(records, chain.as_slice()),
+        Body::Gpt(table) => table.entries.as_slice().len(),
     }
 }

@@ -5,3 +5,5 @@ pub mod Reading
 pub mod Encoding
 pub mod Guarding
 pub mod Terms
+pub mod Written
+pub mod Faults

@@ -65,7 +65,7 @@ ebr_one first at e f b p q =
     let next = next_one first e.next f.next b p.next q.next in
     λ i. record { at = place i; logical = logical i; next = next i }
 
-bad_record : (first : ℕ) (at : Lba) (e : Ebr) (b : List ℕ) → IsBadRecord b → ¬ EbrBytes first at e b
+pub bad_record : (first : ℕ) (at : Lba) (e : Ebr) (b : List ℕ) → IsBadRecord b → ¬ EbrBytes first at e b
 bad_record first at e b (boots no_boots) bytes = no_boots bytes.boots
 bad_record first at e b (zeros no_zeros) bytes = no_zeros bytes.zeros
 bad_record first at e b (logical bad) bytes = bytes.logical_kind bad

@@ -1,5 +1,5 @@
 -- The laws of this crate as terms, for the crates above. Their statements are those of the public functions in src/laws.rt.
-use Rattle.std.specs.Prelude.{◌≡◌, ◌<◌, ◌≤◌, ◌+◌, ◌↔◌, ℕ, List, length, slice_index, Option}
+use Rattle.std.specs.Prelude.{◌≡◌, ◌<◌, ◌≤◌, ◌+◌, ◌↔◌, ◌⊎◌, ℕ, List, length, slice_index, Option}
 use Rattle.pt_sector.specs.Sectors.{Sectors, Span, Agrees}
 use Rattle.pt_sector.specs.declared.address.Lba.{Lba}
 use Rattle.pt_mbr.specs.Record.{RecordIs}
@@ -13,6 +13,7 @@ use Rattle.pt_mbr.specs.declared.chain.ChainError.{ChainError}
 use Rattle.pt_mbr.proofs.Ones as ones
 use Rattle.pt_mbr.proofs.Encoding as encoding
 use Rattle.pt_mbr.proofs.Guarding as guarding
+use Rattle.pt_mbr.proofs.Faults as faults
 use Rattle.pt_mbr.proofs.Frame as frame
 use Rattle.pt_mbr.proofs.Reading as reading
 
@@ -36,6 +37,9 @@ chain_is_one = ones.chain_one
 
 pub fault_has_no_chain : (d : Sectors) (x : Span) (e : ChainError) (list : List Ebr) → ChainFault d x e → Chain d x list → IsDevice e
 fault_has_no_chain = ones.no_chain
+
+pub fault_is_one : (d : Sectors) (x : Span) (e f : ChainError) → ChainFault d x e → ChainFault d x f → (e ≡ f) ⊎ IsDevice e ⊎ IsDevice f
+fault_is_one = faults.fault_one
 
 pub chain_reads_decide : (x : Span) (c d : Sectors) → Agrees (ChainReads d x) c d → SameChains x c d
 chain_reads_decide = frame.same_chains

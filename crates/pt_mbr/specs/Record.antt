@@ -1,5 +1,5 @@
 -- Partition records, byte by byte.
-use Rattle.std.specs.Prelude.{◌≡◌, ◌≢◌, ◌<◌, ◌^◌, ◌⊎◌, ◌+◌, ◌*◌, ◌++◌, ◌∷◌, ℕ, List, length, slice_index, slice_range, replicate, Option, Some, None}
+use Rattle.std.specs.Prelude.{◌≡◌, ◌≢◌, ◌<◌, ◌≤◌, ◌^◌, ◌⊎◌, ◌+◌, ◌*◌, ◌++◌, ◌∷◌, ℕ, List, length, slice_index, slice_range, replicate, Option, Some, None}
 use Rattle.byteorder.specs.Endian.{little_bytes}
 use Rattle.pt_mbr.specs.Bytes.{number_at, put_at}
 use Rattle.pt_mbr.specs.declared.record.Record.{Record}
@@ -50,3 +50,15 @@ pub record RecordFits (r : Record) : Type 0 where
   pub end_chs : length r.end_chs ≡ 3
   pub start : r.start < 2 ^ 32
   pub size : r.size < 2 ^ 32
+
+-- the boot indicator of a record, 0 of none
+abbrev pub boot_of : Option Record → ℕ
+boot_of None = 0
+boot_of (Some r) = r.boot
+
+-- c is b with record k written as this one: what reads so
+pub record IsWritten (o : Option Record) (k : ℕ) (b c : List ℕ) : Type 0 where
+  pub other : (i : ℕ) → (i < place_of k) ⊎ (place_of k + 16 ≤ i) → slice_index c i ≡ slice_index b i
+  pub boot : slice_index c (place_of k) ≡ boot_of o
+  pub kept : (j : ℕ) (p : Option Record) → j < 4 → j ≢ k → RecordIs p (place_of j) b → RecordIs p (place_of j) c
+  pub read : IsUsable o → RecordIs o (place_of k) c

@@ -56,3 +56,8 @@ pub fn record_is_its_bytes()
 pub fn protective_is_borne()
     ensures { (n : ℕ) (b : List ℕ) → IsProtective n b → BearsProtective b }
 {}
+
+/// A law: a disk has one fault at most, but for the device's own.
+pub fn faults_are_one()
+    ensures { (d : Sectors) (x : Span) (e f : ChainError) → ChainFault d x e → ChainFault d x f → (e ≡ f) ⊎ IsDevice e ⊎ IsDevice f }
+{}

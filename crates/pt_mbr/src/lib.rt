@@ -7,6 +7,7 @@
 mod bytes;
 mod chain;
 mod ebr;
+mod encode;
 mod laws;
 mod mbr;
 mod protection;
@@ -16,8 +17,10 @@ mod tests;
 
 pub use chain::{ChainError, read_chain, walk_chain};
 pub use ebr::{Ebr, EbrFault, decode_ebr};
+pub use encode::encode_mbr;
 pub use laws::{
-    chain_reads_are, chain_reads_decide, chains_are_one, ebr_is_one, mbr_is_one, record_is_one,
+    chain_reads_are, chain_reads_decide, chains_are_one, ebr_is_one, faults_are_one, mbr_is_one,
+    record_is_one,
 };
 pub use mbr::{Mbr, bears_protective, decode_mbr, put_record};
 pub use protection::{is_protective, protective};

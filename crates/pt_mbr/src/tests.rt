@@ -2,8 +2,8 @@ ghost use Rattle.std.specs.Prelude.{◌≡◌, ◌<◌, ◌≤◌, ◌*◌, ◌^
 ghost use Rattle.pt_sector.specs.Sectors.{IsSectorSize};
 
 use crate::{
-    ChainError, Ebr, Record, bears_protective, decode_mbr, is_protective, protective, put_record,
-    read_chain, walk_chain,
+    ChainError, Ebr, Mbr, Record, bears_protective, decode_mbr, encode_mbr, is_protective,
+    protective, put_record, read_chain, walk_chain,
 };
 use arrayvec::ArrayVec;
 use pt_sector::{CrashDisk, Disk, Extent, Fault, Lba, MemDisk, Sector};
@@ -203,6 +203,42 @@ fn records_are_sixteen_bytes(rt: HostRuntime) -> Result<(), Fail> {
     assert_eq!(rt; records, Some([Some(logical), Some(next), None, None]));
     sector[494] = 1;
     assert_eq!(rt; decode_mbr(&sector), None);
+    Ok(())
+}
+
+/// What these records decode to once they are written over bytes of 7.
+fn written<const B: usize>(records: [Option<Record>; 4]) -> Option<[Option<Record>; 4]>
+    requires { IsSectorSize B }
+{
+    let sector: Sector<B> = encode_mbr(&Mbr { records }, &[7; B]);
+    if sector[445] != 7 || (B > 512 && sector[B - 1] != 7) {
+        return None;
+    }
+    match decode_mbr(&sector) {
+        Some(mbr) => Some(mbr.records),
+        None => None,
+    }
+}
+
+#[test]
+fn what_is_written_is_read(rt: HostRuntime) -> Result<(), Fail> {
+    let mut bootable = record_of(0xA5, 2048, 4096);
+    bootable.boot = 0x80;
+    let records = [
+        None,
+        Some(bootable),
+        Some(record_of(0x0F, u32::MAX, 1)),
+        None,
+    ];
+    assert_eq!(rt; written::<512>(records), Some(records));
+    assert_eq!(rt; written::<4096>(records), Some(records));
+    bootable.boot = 0x81;
+    assert_eq!(rt; written::<512>([Some(bootable), None, None, None]), None);
+    let unused = record_of(0x83, 7, 0);
+    assert_eq!(rt;
+        written::<512>([Some(unused), None, None, None]),
+        Some([None; 4])
+    );
     Ok(())
 }
 

@@ -8,3 +8,5 @@ pub mod LabelSteps
 pub mod Bodies
 pub mod Whole
 pub mod Equal
+pub mod Joined
+pub mod Searched

@@ -10,6 +10,8 @@ mod layout;
 mod recovery;
 mod slices;
 mod tables;
+#[cfg(test)]
+mod tests;
 mod trace;
 
 pub use body::read_records;

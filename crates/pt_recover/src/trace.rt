@@ -1,7 +1,7 @@
 //! The sectors that a recovery read.
 
 ghost use Rattle.std.specs.Prelude.{◌≡◌, ◌≤◌, ◌↔◌, ℕ, List, IsTrue, OnOk};
-ghost use Rattle.pt_recover.specs.Spans.{InRun, IsIn, Adds};
+ghost use Rattle.pt_recover.specs.Spans.{IsIn, Apart, hull, joined, StandsAs, Adds};
 ghost use Rattle.pt_recover.specs.declared.trace.Run.{Run};
 
 use pt_sector::Lba;
@@ -15,15 +15,67 @@ pub(crate) struct Run {
     last: u64,
 }
 
+/// Where a run stands to another: all below it or all above it with a gap, or touching it.
+#[derive(Clone, Copy, Debug, PartialEq, Eq)]
+enum Order {
+    Below,
+    Above,
+    Touching,
+}
+
 impl Run {
-    fn holds(&self, lba: Lba) -> bool
-        ensures { IsTrue result ↔ InRun self.now lba.0 }
+    fn order(&self, other: &Run) -> Order
+        ensures { StandsAs self.now other.now result }
     {
-        self.first <= lba.0 && lba.0 <= self.last
+        if self.last < other.first && other.first - self.last > 1 {
+            return Order::Below;
+        }
+        if other.last < self.first && self.first - other.last > 1 {
+            return Order::Above;
+        }
+        Order::Touching
+    }
+
+    fn hull(&self, other: &Run) -> Run
+        ensures { result ≡ hull self.now other.now }
+    {
+        Run {
+            first: self.first.min(other.first),
+            last: self.last.max(other.last),
+        }
     }
 }
 
-/// Sectors that were read.
+// Puts a run among others, which ascend, and joins it with those that it touches. They are emptied where memory is
+// wanted.
+fn join(runs: &mut Vec<Run>, new: Run) -> Result<(), AllocError>
+    requires { new.first ≤ new.last }
+    ensures ok { OnOk result (runs.new.items ≡ joined new runs.old.items) }
+    ensures apart { Apart runs.old.items → Apart runs.new.items }
+{
+    let mut run = new;
+    let mut at = 0;
+    while at < runs.len() {
+        let here = runs[at];
+        match here.order(&run) {
+            Order::Below => at += 1,
+            Order::Above => break,
+            Order::Touching => {
+                runs.remove(at);
+                run = run.hull(&here);
+            }
+        }
+    }
+    match runs.insert(at, run) {
+        Ok(()) => Ok(()),
+        Err(e) => {
+            runs.clear();
+            Err(e.into())
+        }
+    }
+}
+
+/// Sectors that were read: runs in order that don't touch.
 #[derive(Drop)]
 pub struct Trace {
     runs: Vec<Run>,
@@ -33,6 +85,8 @@ impl Model for Trace {
     ghost Value = { List Run };
 
     ghost view = { λ t. t.runs.items };
+
+    ghost invariant = { λ t. Apart t.runs.items };
 }
 
 impl Trace {
@@ -50,19 +104,19 @@ impl Trace {
     pub fn contains(&self, lba: Lba) -> bool
         ensures { IsTrue result ↔ IsIn self.now lba.0 }
     {
-        for k in 0..self.runs.len() {
-            if self.runs[k].holds(lba) {
-                return true;
-            }
+        let at = self.runs.partition_point(|run| run.last < lba.0);
+        match self.runs.get(at) {
+            Some(run) => run.first <= lba.0,
+            None => false,
         }
-        false
     }
 
     /// Adds the sectors from a first to a last.
     pub(crate) fn add(&mut self, first: u64, last: u64) -> Result<(), AllocError>
+        requires { first ≤ last }
         ensures { OnOk result (Adds self.old self.new (λ s. (first ≤ s) × (s ≤ last))) }
     {
-        self.runs.push(Run { first, last })?;
+        join(&mut self.runs, Run { first, last })?;
         Ok(())
     }
 

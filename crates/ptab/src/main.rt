@@ -1,4 +1,38 @@
-//! The command.
+//! The command `ptab`: shows, verifies and edits the partition table of a disk image.
 #![tactic(auto)]
 
-fn main() {}
+mod edit;
+mod file_disk;
+mod line;
+mod run;
+mod show;
+mod texts;
+
+use run::run;
+use std::env;
+use std::io;
+use std::io::BufWriter;
+use std::process::ExitCode;
+use texts::Status;
+
+/// Runs the words after the program's name on its two output streams.
+fn on_streams(rt: &HostRuntime, words: &[String]) -> io::Result<u8> {
+    let mut texts = Vec::new(rt.alloc());
+    for word in words {
+        texts.push(word.as_str())?;
+    }
+    let mut out = BufWriter::new(rt.alloc(), rt.stdout())?;
+    Ok(run(rt, texts.as_slice(), &mut out, &mut rt.stderr()))
+}
+
+fn status_of(rt: &HostRuntime) -> io::Result<u8> {
+    let words: Vec<String> = env::args(rt)?.skip(1).collect(rt.alloc())?;
+    on_streams(rt, words.as_slice())
+}
+
+fn main(rt: HostRuntime) -> ExitCode {
+    match status_of(&rt) {
+        Ok(code) => ExitCode::from(code),
+        Err(_) => ExitCode::from(Status::Memory.code()),
+    }
+}

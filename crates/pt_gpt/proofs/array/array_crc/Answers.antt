@@ -1,4 +1,4 @@
-use Rattle.std.proofs.Common.{◌≡◌, ◌∙◌, ◌+◌, ◌++◌, List, ℕ, sym, ap, refl, arith, zero-add}
+use Rattle.std.proofs.Common.{◌≡◌, ◌∙◌, ◌+◌, ◌++◌, List, ℕ, sym, ap, arith, zero-add}
 use Rattle.std.specs.Prelude.{slice_index_or, None}
 use Rattle.pt_sum.specs.Crc.{after_bytes}
 use Rattle.pt_sum.specs.Laws.{after_bytes-append}
@@ -20,6 +20,6 @@ loop-entry-preserved c =
     let next : entries_bytes es 0 (n + 1) ≡ entries_bytes es 0 n ++ here = next_entry es 0 n ∙ ap (λ (i : ℕ). entries_bytes es 0 n ++ entry_bytes (slice_index_or es i None)) (zero-add n) in
     record {
       sum = rw (next, after_bytes-append 0xFFFFFFFF (entries_bytes es 0 n) here)
-        (c.update.ensures ∙ ap (λ (bytes : List ℕ). after_bytes c.loop-entry.sum bytes) one.bytes ∙ ap (λ (r : ℕ). after_bytes r here) before.sum);
+          (c.update.ensures ∙ ap (λ (bytes : List ℕ). after_bytes c.loop-entry.sum bytes) one.bytes ∙ ap (λ (r : ℕ). after_bytes r here) before.sum);
       fits = fits_next es n before.fits one.fits;
     }

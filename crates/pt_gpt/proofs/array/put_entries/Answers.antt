@@ -1,5 +1,5 @@
-use Rattle.std.proofs.Common.{◌≡◌, ◌∙◌, ◌+◌, ◌*◌, ◌≤◌, ◌++◌, List, ℕ, length, take, sym, ap, refl, arith}
-use Rattle.std.specs.Prelude.{slice_index_or, Option, None}
+use Rattle.std.proofs.Common.{◌∙◌, ◌+◌, ◌*◌, ◌++◌, List, ℕ, take, sym, ap, refl, arith}
+use Rattle.std.specs.Prelude.{Option}
 use Rattle.pt_gpt.specs.Entry.{entry_bytes}
 use Rattle.pt_gpt.specs.Array.{entries_bytes}
 use Rattle.pt_gpt.specs.declared.entry.Entry.{Entry}
@@ -21,5 +21,5 @@ loop-k-preserved c =
     record {
       long = omega (arith, before.long);
       done = ap (take ((k + 1) * 128)) put.put ∙ put_next k new x put.long (omega arith) ∙ ap (λ (t : List ℕ). t ++ new) before.done
-        ∙ ap (λ (t : List ℕ). entries_bytes es c.args.first k ++ t) same ∙ sym (next_entry es c.args.first k);
+          ∙ ap (λ (t : List ℕ). entries_bytes es c.args.first k ++ t) same ∙ sym (next_entry es c.args.first k);
     }

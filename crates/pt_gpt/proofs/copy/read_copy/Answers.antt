@@ -1,4 +1,4 @@
-use Rattle.std.proofs.Common.{◌≡◌, ◌∙◌, subst, sym}
+use Rattle.std.proofs.Common.{◌∙◌, subst, sym}
 use Rattle.std.specs.Prelude.{IfOk, IfErr}
 use Rattle.pt_sector.specs.Device.{Told}
 use Rattle.pt_gpt.specs.Errors.{FailedIn}

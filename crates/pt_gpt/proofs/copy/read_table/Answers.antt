@@ -1,5 +1,4 @@
-use Rattle.std.proofs.Common.{◌≡◌, ◌∙◌, ◌+◌, ◌*◌, ◌<◌, ◌≤◌, sym, inr, arith}
-use Rattle.pt_gpt.specs.Array.{array_len, counted}
+use Rattle.std.proofs.Common.{◌∙◌, sym, inr}
 use Rattle.pt_gpt.specs.Copy.{SideReads, InArray}
 use Rattle.pt_gpt.proofs.Heads.{failed_in, other_crc_of, table_of}
 use Rattle.pt_gpt.proofs.copy.read_table.Goals as goal
@@ -12,12 +11,12 @@ returns-in-Err-clause-place g c tells =
 pub returns-then-crc-header-clause-err : goal.returns-then-crc-header-clause-err
 returns-then-crc-header-clause-err g c tells =
     other_crc_of g.row.B (g.D.Disk.told c.args.disk.now).seen c.args.side c.args.header.now (c.requires.head tells)
-      (λ crc. c.if-crc-header.true (c.in-Ok.ensures.crc tells ∙ sym crc))
+    (λ crc. c.if-crc-header.true (c.in-Ok.ensures.crc tells ∙ sym crc))
 
 pub returns-clause-with : goal.returns-clause-with
 returns-clause-with g c tells =
     table_of g.row.B (g.D.Disk.told c.args.disk.now).seen c.args.side c.args.header.now c.in-Ok.read.1 (c.requires.head tells)
-      (sym c.if-crc-header.false ∙ c.in-Ok.ensures.crc tells) c.in-Ok.ensures.number (c.in-Ok.ensures.entries tells)
+    (sym c.if-crc-header.false ∙ c.in-Ok.ensures.crc tells) c.in-Ok.ensures.number (c.in-Ok.ensures.entries tells)
 
 pub returns-clause-ok : goal.returns-clause-ok
 returns-clause-ok g c tells =

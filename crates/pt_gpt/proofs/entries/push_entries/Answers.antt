@@ -1,4 +1,4 @@
-use Rattle.std.proofs.Common.{◌≡◌, ◌∙◌, ◌+◌, ◌*◌, ℕ, refl, arith}
+use Rattle.std.proofs.Common.{◌∙◌, ◌+◌, ◌*◌, refl, arith}
 use Rattle.std.specs.Prelude.{slice_range}
 use Rattle.pt_gpt.specs.Entry.{EntryIs}
 use Rattle.pt_gpt.proofs.Parts.{pushed_none, pushed_one}

@@ -1,10 +1,10 @@
-use Rattle.std.proofs.Common.{◌≡◌, ◌*◌, ◌<◌, ◌≤◌, ◌+◌, ◌-◌, ◌/◌, ◌∙◌, ap, ℕ, refl, arith, List, Option, take, min}
+use Rattle.std.proofs.Common.{◌≡◌, ◌*◌, ◌+◌, ◌∙◌, ap, refl, arith, take, min}
 use Rattle.std.specs.Prelude.{length, vec_len}
 use Rattle.std.proofs.lemmas.List.{length-take-le}
 use Rattle.pt_sector.specs.Sectors.{sector}
 use Rattle.pt_sector.specs.Device.{Told}
 use Rattle.pt_gpt.specs.Array.{AreEntries}
-use Rattle.pt_gpt.proofs.Parts.{Streamed, streamed_none, streamed_more, sector_within, pushed_more, left_less}
+use Rattle.pt_gpt.proofs.Parts.{streamed_none, streamed_more, sector_within, pushed_more, left_less}
 use Rattle.pt_gpt.proofs.entries.read_entries.Goals as goal
 
 pub loop-i-init : goal.loop-i-init
@@ -42,10 +42,10 @@ loop-i-preserved g c =
       capacity = pushed.capacity ∙ before.capacity;
       same = λ tells. now.same tells ∙ before.same tells;
       streamed = λ tells.
-        let d = (g.D.Disk.told c.args.disk.now).seen in
-        let within = sector_within b m i c.requires.size (rw c.counted_sectors-i-end.ensures.value at c.loop-i-test.true) in
-        let read : c.read.new.into ≡ sector d (c.args.at + i) = now.bytes tells ∙ ap (λ (s : Told). sector s.seen (c.args.at + i)) (before.same tells) in
-        let part : AreEntries pushed.entries.0 (take (min c.loop-i.left b) c.read.new.into) = rw (← c.min-taken.ensures) pushed.entries.1 in
-        rw (c.update.ensures, pushed.entries.2, c.min-taken.ensures)
+          let d = (g.D.Disk.told c.args.disk.now).seen in
+          let within = sector_within b m i c.requires.size (rw c.counted_sectors-i-end.ensures.value at c.loop-i-test.true) in
+          let read : c.read.new.into ≡ sector d (c.args.at + i) = now.bytes tells ∙ ap (λ (s : Told). sector s.seen (c.args.at + i)) (before.same tells) in
+          let part : AreEntries pushed.entries.0 (take (min c.loop-i.left b) c.read.new.into) = rw (← c.min-taken.ensures) pushed.entries.1 in
+          rw (c.update.ensures, pushed.entries.2, c.min-taken.ensures)
           (streamed_more b m c.args.at i d c.loop-i.sum c.loop-i.left c.loop-i.items.items pushed.entries.0 c.read.new.into (before.streamed tells) within read (omega arith) part);
     }

@@ -1,4 +1,4 @@
-use Rattle.std.proofs.Common.{◌≡◌, ◌∙◌, ◌-◌, ◌++◌, ℕ, List, replicate, drop, refl, length, arith}
+use Rattle.std.proofs.Common.{◌∙◌, replicate, drop, refl, arith}
 use Rattle.std.proofs.lemmas.List.{drop-replicate}
 use Rattle.pt_gpt.proofs.HeaderEncoding.{is_header, is_plain}
 use Rattle.pt_gpt.proofs.header.encode_header.Goals as goal

@@ -1,8 +1,5 @@
-use Rattle.std.proofs.Common.{◌≡◌, refl, ap}
-use Rattle.std.specs.Prelude.{Option, Some, None, List, ℕ}
-use Rattle.pt_gpt.specs.Entry.{EntryBytes, EntryIs}
+use Rattle.std.specs.Prelude.{Some}
 use Rattle.pt_gpt.specs.Laws.{entry_same}
-use Rattle.pt_gpt.specs.declared.entry.Entry.{Entry}
 use Rattle.pt_gpt.proofs.laws.entry_reads_back.Goals as goal
 
 pub returns : goal.returns

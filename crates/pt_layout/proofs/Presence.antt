@@ -1,0 +1,64 @@
+-- Members that are present, place by place.
+use Rattle.std.proofs.Common.{◌≡◌, ◌<◌, ◌≤◌, ◌+◌, ℕ, suc, List, [], ◌∷◌, ◌++◌, length, get_or, take, drop, Option, None, refl, sym, ap, ◌∙◌, arith, append-nil, length-append, length-drop, get_or-drop}
+use Rattle.std.specs.Prelude.{◌-◌, option_to_list, slice_range}
+use Rattle.std.proofs.Math.Seq.{take-suc}
+use Rattle.std.proofs.lemmas.List.{take_all}
+use Rattle.std.proofs.lemmas.Grind.{flat_map-append}
+use Rattle.pt_bsd.specs.declared.label.Label.{Label}
+use Rattle.pt_recover.specs.declared.layout.Body.{Body}
+use Rattle.pt_layout.specs.declared.member.Member.{Member}
+use Rattle.pt_layout.specs.Members.{present, slots, tops, logicals, parts_in}
+use Rattle.pt_layout.proofs.ByPlace.{parts_none}
+
+present-one : (o : Option Member) → present (o ∷ []) ≡ option_to_list o
+present-one o = append-nil (option_to_list o)
+
+present-more : (xs : List (Option Member)) (o : Option Member) → present (xs ++ o ∷ []) ≡ present xs ++ option_to_list o
+present-more xs o = flat_map-append option_to_list xs (o ∷ []) ∙ ap (λ (l : List Member). present xs ++ l) (present-one o)
+
+pub take_more : (xs : List (Option Member)) (k : ℕ) (ms : List Member) → k < length xs → ms ≡ present (take k xs) ++ option_to_list (get_or xs k None) → ms ≡ present (take (k + 1) xs)
+take_more xs k ms lt is =
+    let e : suc k ≡ k + 1 = omega arith in
+    is ∙ sym (present-more (take k xs) (get_or xs k None)) ∙ ap present (sym (take-suc xs k None lt)) ∙ ap (λ (n : ℕ). present (take n xs)) e
+
+pub take_start : (xs : List (Option Member)) → present (take 0 xs) ≡ []
+take_start xs = refl
+
+pub take_end : (xs : List (Option Member)) (k : ℕ) → length xs ≤ k → present (take k xs) ≡ present xs
+take_end xs k past = ap present (take_all k xs past)
+
+pub range_start : (xs : List (Option Member)) (i : ℕ) → present (slice_range xs i i) ≡ []
+range_start xs i = let e : i - i ≡ 0 = omega arith in ap (λ (n : ℕ). present (take n (drop i xs))) e
+
+pub range_more : (xs : List (Option Member)) (i k : ℕ) (ms : List Member) → i ≤ k → k < length xs → ms ≡ present (slice_range xs i k) ++ option_to_list (get_or xs k None) → ms ≡ present (slice_range xs i (k + 1))
+range_more xs i k ms low lt is =
+    let e : (k - i) + 1 ≡ (k + 1) - i = omega arith in
+    let f : i + (k - i) ≡ k = omega arith in
+    let at : get_or (drop i xs) (k - i) None ≡ get_or xs k None = get_or-drop i xs (k - i) None ∙ ap (λ (n : ℕ). get_or xs n None) f in
+    take_more (drop i xs) (k - i) ms (omega (arith, length-drop i xs)) (is ∙ ap (λ (o : Option Member). present (take (k - i) (drop i xs)) ++ option_to_list o) (sym at)) ∙ ap (λ (n : ℕ). present (take n (drop i xs))) e
+
+drop-append : {X : Type 0} (xs ys : List X) → drop (length xs) (xs ++ ys) ≡ ys
+drop-append [] ys = refl
+drop-append (x ∷ xs) ys = drop-append xs ys
+
+take-append : {X : Type 0} (xs ys : List X) → take (length xs) (xs ++ ys) ≡ xs
+take-append [] ys = refl
+take-append (x ∷ xs) ys = ap (λ (l : _). x ∷ l) (take-append xs ys)
+
+pub range_tops : (b : ℕ) (y : Body) (n : ℕ) → n ≡ length (tops b y) → present (slice_range (slots b y) 0 n) ≡ present (tops b y)
+range_tops b y n is =
+    let e : n - 0 ≡ length (tops b y) = omega (arith, is) in
+    ap (λ (k : ℕ). present (take k (slots b y))) e ∙ ap present (take-append (tops b y) (logicals b y))
+
+pub range_logicals : (b : ℕ) (y : Body) (n m : ℕ) → n ≡ length (tops b y) → m ≡ length (slots b y) → present (slice_range (slots b y) n m) ≡ present (logicals b y)
+range_logicals b y n m is all =
+    let rest : drop n (slots b y) ≡ logicals b y = ap (λ (k : ℕ). drop k (slots b y)) is ∙ drop-append (tops b y) (logicals b y) in
+    let e : length (logicals b y) ≤ m - n = omega (arith, is, all, length-append (tops b y) (logicals b y)) in
+    ap (λ (l : List (Option Member)). present (take (m - n) l)) rest ∙ ap present (take_all (m - n) (logicals b y) e)
+
+empty : {X : Type 0} (xs : List X) → length xs ≡ 0 → xs ≡ []
+empty [] is = refl
+empty (x ∷ xs) is = absurd (omega arith)
+
+pub no_parts : (l : Option Label) (m : Member) → l ≡ None → present (parts_in l m) ≡ []
+no_parts l m none = ap present (empty (parts_in l m) (parts_none l m none))

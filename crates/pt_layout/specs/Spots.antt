@@ -1,0 +1,22 @@
+-- The first of some members and sectors, by path and then by sector.
+use Rattle.std.specs.Prelude.{◌≡◌, ◌<◌, ◌⊎◌, ℕ, Option, Some, None}
+use Rattle.pt_layout.specs.declared.path.Path.{Path}
+use Rattle.pt_layout.specs.declared.spot.Spot.{Spot}
+use Rattle.pt_layout.specs.Paths.{rank}
+
+abbrev pub IsBefore : Spot → Spot → Type 0
+IsBefore a b = (rank a.path < rank b.path) ⊎ ((rank a.path ≡ rank b.path) × (a.lba < b.lba))
+
+abbrev pub spot : Path → ℕ → Spot
+spot path lba = record { path = path; lba = lba }
+
+-- the first of P, none where there is none
+abbrev pub LeastIs : (Path → ℕ → Type 0) → Option Spot → Type 0
+LeastIs P None = (q : Path) (t : ℕ) → ¬ P q t
+LeastIs P (Some s) = P s.path s.lba × ((q : Path) (t : ℕ) → P q t → ¬ IsBefore (spot q t) s)
+
+-- the first of two
+abbrev pub FirstIs : Option Spot → Option Spot → Option Spot → Type 0
+FirstIs None y r = r ≡ y
+FirstIs (Some x) None r = r ≡ Some x
+FirstIs (Some x) (Some y) r = (IsBefore y x × (r ≡ Some y)) ⊎ ((¬ IsBefore y x) × (r ≡ Some x))

@@ -1,0 +1,39 @@
+//! Members and sectors in path order.
+
+ghost use Rattle.std.specs.Prelude.{◌↔◌, IsTrue};
+ghost use Rattle.pt_layout.specs.Spots.{IsBefore, FirstIs};
+
+use crate::path::{Path, is_before};
+
+/// A member by its path, and a sector.
+#[derive(Clone, Copy, Debug, PartialEq, Eq)]
+pub struct Spot {
+    pub path: Path,
+    pub lba: u64,
+}
+
+fn spot_before(a: &Spot, b: &Spot) -> bool
+    ensures { IsTrue result ↔ IsBefore a.now b.now }
+{
+    if is_before(&a.path, &b.path) {
+        return true;
+    }
+    !is_before(&b.path, &a.path) && a.lba < b.lba
+}
+
+// The one that comes first, by path and then by sector.
+pub(crate) fn first_of(a: Option<Spot>, b: Option<Spot>) -> Option<Spot>
+    ensures { FirstIs a b result }
+{
+    match (a, b) {
+        (Some(x), Some(y)) => {
+            if spot_before(&y, &x) {
+                Some(y)
+            } else {
+                Some(x)
+            }
+        }
+        (Some(x), None) => Some(x),
+        (None, y) => y,
+    }
+}

@@ -1,0 +1,33 @@
+ghost use Rattle.std.specs.Prelude.{◌≡◌, ◌<◌, ◌≤◌, ◌⊎◌, ℕ, List, slice_index};
+ghost use Rattle.pt_sector.specs.Sectors.{IsSectorSize};
+ghost use Rattle.pt_mbr.specs.Record.{IsWritten};
+ghost use Rattle.pt_mbr.specs.Mbr.{MbrBytes};
+
+use crate::mbr::{Mbr, put_part, put_record};
+use crate::record::Record;
+use pt_sector::Sector;
+
+// Record k as a value, and not by reference.
+fn put_value<const B: usize>(sector: &Sector<B>, k: usize, value: Option<Record>) -> Sector<B>
+    requires size { IsSectorSize B }
+    requires place { k < 4 }
+    ensures { IsWritten value k sector.now result }
+{
+    match value {
+        Some(r) => put_record(sector, k, Some(&r)),
+        None => put_record(sector, k, None),
+    }
+}
+
+/// The sector with the four records of `mbr` and the signature: bytes 446 to 511. What decodes is read again.
+pub fn encode_mbr<const B: usize>(mbr: &Mbr, under: &Sector<B>) -> Sector<B>
+    requires size { IsSectorSize B }
+    ensures other { (i : ℕ) → (i < 446) ⊎ (512 ≤ i) → slice_index result i ≡ slice_index under.now i }
+    ensures read { (b : List ℕ) → MbrBytes mbr.now b → MbrBytes mbr.now result }
+{
+    let sector = put_value(under, 0, mbr.records[0]);
+    let sector = put_value(&sector, 1, mbr.records[1]);
+    let sector = put_value(&sector, 2, mbr.records[2]);
+    let sector = put_value(&sector, 3, mbr.records[3]);
+    put_part(&sector, 510, &[0x55, 0xAA])
+}

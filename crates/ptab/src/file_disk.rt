@@ -1,0 +1,124 @@
+//! A disk in a file.
+
+ghost use Rattle.std.specs.Prelude.{◌≡◌, ◌≤◌, ◌<◌, ◌*◌, ◌+◌, ◌^◌, ◌∷◌, [], ◌++◌, length};
+ghost use Rattle.ptab.specs.Untold.{untold};
+
+use pt_sector::{Disk, Fault, Lba, Moments};
+use std::fs::{File, Files, OpenFile, OpenOptions};
+use std::io::{Read, Seek, SeekFrom, Write};
+
+/// A plain file as a disk with sectors of `B` bytes; a tail shorter than a sector is never touched.
+///
+/// It tells nothing of its content: that a file keeps the model of a device is a premise.
+#[derive(Drop)]
+pub struct FileDisk<const B: usize> {
+    file: File,
+    sectors: u64,
+    failed: Moments<Fault>,
+    ghost fits: { sectors * B < 2 ^ 63 },
+}
+
+/// What a file is opened for.
+#[derive(Clone, Copy, Debug, PartialEq, Eq)]
+pub enum Access {
+    Read,
+    Write,
+}
+
+/// An image that can't be opened, or isn't a plain file.
+#[derive(Clone, Copy, Debug, PartialEq, Eq)]
+pub struct NoImage;
+
+/// Opens a plain file.
+pub fn open<R: Files<File = File>, const B: usize>(
+    rt: &R,
+    path: &str,
+    access: Access,
+) -> Result<FileDisk<B>, NoImage>
+    requires { 0 < B }
+{
+    match rt.metadata(path) {
+        Ok(found) => {
+            if !found.is_file() {
+                return Err(NoImage);
+            }
+        }
+        Err(_) => return Err(NoImage),
+    }
+    let mut how = OpenOptions::new();
+    how.read(true).write(access == Access::Write);
+    let file = match rt.open_file(&how, path) {
+        Ok(file) => file,
+        Err(_) => return Err(NoImage),
+    };
+    let bytes = match file.metadata() {
+        Ok(found) => found.len(),
+        Err(_) => return Err(NoImage),
+    };
+    if bytes >= 1 << 63 {
+        return Err(NoImage);
+    }
+    Ok(FileDisk {
+        file,
+        sectors: bytes / B as u64,
+        failed: Moments::new(),
+    })
+}
+
+impl<const B: usize> Disk<B> for FileDisk<B> {
+    ghost tells = { ⊥ };
+
+    ghost told = { λ d. untold };
+
+    ghost count = { λ d. d.sectors };
+
+    ghost failures = { λ d. length d.failed.items };
+
+    ghost name = { λ d. 0 };
+
+    ghost reads = { λ a b. Unit {0} };
+
+    ghost reads_same = { λ a. tt };
+
+    ghost reads_on = { λ a b c ab bc. tt };
+
+    ghost sized = { λ d tells. absurd tells };
+
+    ghost may_be_seen = { λ d tells. absurd tells };
+
+    fn sectors(&self) -> u64 {
+        self.sectors
+    }
+
+    fn read(&mut self, lba: Lba, into: &mut [u8; B]) -> Result<(), Fault> {
+        if read_at(&mut self.file, lba.0 * B as u64, into) {
+            return Ok(());
+        }
+        self.failed = self.failed.and(&Fault::Read(lba));
+        Err(Fault::Read(lba))
+    }
+
+    fn write(&mut self, lba: Lba, bytes: &[u8; B]) -> Result<(), Fault> {
+        if write_at(&mut self.file, lba.0 * B as u64, bytes) {
+            return Ok(());
+        }
+        self.failed = self.failed.and(&Fault::Write(lba));
+        Err(Fault::Write(lba))
+    }
+
+    fn flush(&mut self) -> Result<(), Fault> {
+        if self.file.sync_all().is_ok() {
+            return Ok(());
+        }
+        self.failed = self.failed.and(&Fault::Flush);
+        Err(Fault::Flush)
+    }
+}
+
+fn read_at(file: &mut File, at: u64, into: &mut [u8]) -> bool {
+    file.seek(SeekFrom::Start(at)).is_ok() && file.read_exact(into).is_ok()
+}
+
+fn write_at(file: &mut File, at: u64, bytes: &[u8]) -> bool {
+    file.seek(SeekFrom::Start(at)).is_ok() && file.write_all(bytes).is_ok()
+}

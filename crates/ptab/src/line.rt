@@ -1,0 +1,210 @@
+//! The command line.
+
+use clap::error::ErrorKind;
+use clap::{Arg, ArgAction, ArgMatches, Command};
+use std::alloc::{AllocError, Global};
+use thiserror::Error;
+
+/// How many bytes the sectors of the image have.
+#[derive(Clone, Copy, Debug, PartialEq, Eq)]
+pub enum SectorSize {
+    Bytes512,
+    Bytes4096,
+}
+
+/// A command line that was read.
+#[derive(Debug, Drop)]
+pub struct Line {
+    pub job: Job,
+    pub size: SectorSize,
+}
+
+/// What a command line asks for, with its texts as they were given.
+#[derive(Debug, Drop)]
+pub enum Job {
+    /// A help text, which is to be printed.
+    Help(String),
+    Show {
+        image: String,
+    },
+    Verify {
+        image: String,
+    },
+    Edit {
+        image: String,
+        fresh: Option<String>,
+        words: Vec<String>,
+    },
+}
+
+/// Why a command line is no job.
+#[derive(Debug, Drop, Error)]
+pub enum LineError {
+    /// The words are not those of a command; the text is `clap`'s.
+    #[error("{0}")]
+    Usage(String),
+    #[error("memory")]
+    Memory,
+}
+
+impl From<AllocError> for LineError {
+    fn from(_error: AllocError) -> LineError {
+        LineError::Memory
+    }
+}
+
+const ABOUT: &str = "Shows and edits partition tables (GPT, MBR with extended partitions, BSD labels) in a disk image. \
+An edit leaves the old table or the new one whenever the power goes.";
+
+const STATUSES: &str = "Exit status: 0 done or yes, 1 the answer is no, 2 usage or an unreadable word, \
+3 refused, 4 no table, 5 device, 6 memory.";
+
+const WORDS: &str = "Words, in the manner of sgdisk(8): c:NUM:NAME sets a partition's name; a:K sets the alignment of later words.";
+
+fn image<'a>(alloc: Global) -> Arg<'a> {
+    Arg::new(alloc, "IMAGE")
+        .required(true)
+        .action(ArgAction::Set)
+        .help("The disk image, a plain file")
+}
+
+fn sector_size<'a>(alloc: Global) -> Arg<'a> {
+    Arg::new(alloc, "sector-size")
+        .long("sector-size")
+        .value_name("BYTES")
+        .value_parser(["512", "4096"].as_slice())
+        .default_value("512")
+        .action(ArgAction::Set)
+        .help("How many bytes a sector has")
+}
+
+fn show_command<'a>(alloc: Global) -> Result<Command<'a>, AllocError> {
+    Command::new(alloc, "show")
+        .about("Prints the layout that the image denotes, a line a partition")
+        .after_help(STATUSES)
+        .arg(image(alloc))?
+        .arg(sector_size(alloc))
+}
+
+fn verify_command<'a>(alloc: Global) -> Result<Command<'a>, AllocError> {
+    Command::new(alloc, "verify")
+        .about("Prints `yes` where the image is healthy, else the first finding")
+        .after_help(STATUSES)
+        .arg(image(alloc))?
+        .arg(sector_size(alloc))
+}
+
+fn edit_command<'a>(alloc: Global) -> Result<Command<'a>, AllocError> {
+    let fresh = Arg::new(alloc, "fresh")
+        .long("fresh")
+        .value_name("HEX")
+        .action(ArgAction::Set)
+        .help("Fresh GUIDs, 32 hexadecimal digits each");
+    let words = Arg::new(alloc, "WORD")
+        .required(true)
+        .num_args(1..)
+        .action(ArgAction::Append)
+        .help("Edit words, applied in order as one change");
+    Command::new(alloc, "edit")
+        .about("Edits the table by words, in one change that a stop leaves done or undone")
+        .after_help(WORDS)
+        .arg(image(alloc))?
+        .arg(fresh)?
+        .arg(sector_size(alloc))?
+        .arg(words)
+}
+
+fn command<'a>(alloc: Global) -> Result<Command<'a>, AllocError> {
+    Command::new(alloc, "ptab")
+        .about(ABOUT)
+        .after_help(STATUSES)
+        .subcommand_required(true)
+        .subcommand(show_command(alloc)?)?
+        .subcommand(verify_command(alloc)?)?
+        .subcommand(edit_command(alloc)?)
+}
+
+fn text_of(alloc: Global, matches: &ArgMatches<'_>, id: &str) -> Result<String, AllocError> {
+    String::from_str(alloc, matches.get_str(id).unwrap_or(""))
+}
+
+fn texts_of(alloc: Global, matches: &ArgMatches<'_>, id: &str) -> Result<Vec<String>, AllocError> {
+    let mut texts = Vec::new(alloc);
+    for text in matches.get_strs(id).unwrap_or(&[]) {
+        texts.push(String::from_str(alloc, text)?)?;
+    }
+    Ok(texts)
+}
+
+fn edit_job(alloc: Global, matches: &ArgMatches<'_>) -> Result<Job, AllocError> {
+    let fresh = match matches.get_str("fresh") {
+        Some(text) => Some(String::from_str(alloc, text)?),
+        None => None,
+    };
+    Ok(Job::Edit {
+        image: text_of(alloc, matches, "IMAGE")?,
+        fresh,
+        words: texts_of(alloc, matches, "WORD")?,
+    })
+}
+
+fn size_of(matches: &ArgMatches<'_>) -> SectorSize {
+    match matches.get_str("sector-size") {
+        Some("4096") => SectorSize::Bytes4096,
+        _ => SectorSize::Bytes512,
+    }
+}
+
+fn job_of(alloc: Global, name: &str, inner: &ArgMatches<'_>) -> Result<Job, LineError> {
+    match name {
+        "show" => Ok(Job::Show {
+            image: text_of(alloc, inner, "IMAGE")?,
+        }),
+        "verify" => Ok(Job::Verify {
+            image: text_of(alloc, inner, "IMAGE")?,
+        }),
+        "edit" => Ok(edit_job(alloc, inner)?),
+        _ => Err(LineError::Usage(String::new(alloc))),
+    }
+}
+
+fn line_of(alloc: Global, matches: &ArgMatches<'_>) -> Result<Line, LineError> {
+    match matches.subcommand() {
+        Some((name, inner)) => Ok(Line {
+            job: job_of(alloc, name, inner)?,
+            size: size_of(inner),
+        }),
+        None => Err(LineError::Usage(String::new(alloc))),
+    }
+}
+
+fn failed(alloc: Global, error: &clap::Error) -> Result<Line, LineError> {
+    match error.kind() {
+        ErrorKind::OutOfMemory => Err(LineError::Memory),
+        ErrorKind::DisplayHelp => Ok(Line {
+            job: Job::Help(format!(in alloc; "{error}")?),
+            size: SectorSize::Bytes512,
+        }),
+        _ => Err(LineError::Usage(format!(in alloc; "{error}")?)),
+    }
+}
+
+fn with_name<'a>(alloc: Global, words: &[&'a str]) -> Result<Vec<&'a str>, AllocError> {
+    let mut line = Vec::new(alloc);
+    line.push("ptab")?;
+    for word in words {
+        line.push(*word)?;
+    }
+    Ok(line)
+}
+
+/// Reads the words after the program's name.
+///
+/// `Usage` has `clap`'s text for words that are no command; `Memory` is want of memory.
+pub fn read_line(alloc: Global, words: &[&str]) -> Result<Line, LineError> {
+    let line = with_name(alloc, words)?;
+    match command(alloc)?.try_get_matches_from(line.as_slice()) {
+        Ok(matches) => line_of(alloc, &matches),
+        Err(error) => failed(alloc, &error),
+    }
+}

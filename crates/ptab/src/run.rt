@@ -1,0 +1,111 @@
+//! A run of the command: a line of words, two streams, and an exit status.
+
+ghost use Rattle.pt_sector.specs.Sectors.{IsSectorSize};
+
+use crate::edit::edit;
+use crate::file_disk::{Access, open};
+use crate::line::{Job, Line, LineError, SectorSize, read_line};
+use crate::show::print_layout;
+use crate::texts::{Failure, Status, print_finding};
+use pt_layout::{Finding, Verdict, VerifyError, recover, verify};
+use std::fs::{File, Files};
+use std::io;
+use std::io::Write;
+
+/// An answer on standard output, or why there is none.
+pub type Answer = Result<Status, Failure>;
+
+/// The status that a stream's own failure leaves.
+pub fn printed(done: io::Result<()>, status: Status) -> Answer {
+    match done {
+        Ok(()) => Ok(status),
+        Err(_) => Err(Failure::Device),
+    }
+}
+
+fn show<const B: usize, R: Files<File = File> + AllocGlobal, O: Write>(
+    rt: &R,
+    image: &str,
+    out: &mut O,
+) -> Answer
+    requires { IsSectorSize B }
+{
+    let mut disk = match open::<R, B>(rt, image, Access::Read) {
+        Ok(disk) => disk,
+        Err(_) => return Err(Failure::Device),
+    };
+    match recover::<B, _>(rt.alloc(), &mut disk) {
+        Ok(layout) => printed(print_layout(out, &layout), Status::Done),
+        Err(why) => Err(Failure::NoTable(why)),
+    }
+}
+
+fn verify_image<const B: usize, R: Files<File = File> + AllocGlobal, O: Write>(
+    rt: &R,
+    image: &str,
+    out: &mut O,
+) -> Answer
+    requires { IsSectorSize B }
+{
+    let mut disk = match open::<R, B>(rt, image, Access::Read) {
+        Ok(disk) => disk,
+        Err(_) => return Err(Failure::Device),
+    };
+    match verify::<B, _>(rt.alloc(), &mut disk) {
+        Ok(Verdict::Yes(_)) => printed(writeln!(out, "yes"), Status::Done),
+        Ok(Verdict::No(finding)) => printed(print_finding(out, &finding), Status::No),
+        Err(VerifyError::Device(_)) => Err(Failure::Device),
+        Err(VerifyError::Memory) => Err(Failure::Memory),
+    }
+}
+
+fn answer<const B: usize, R: Files<File = File> + AllocGlobal, O: Write>(
+    rt: &R,
+    job: &Job,
+    out: &mut O,
+) -> Answer
+    requires { IsSectorSize B }
+{
+    match job {
+        Job::Help(text) => printed(write!(out, "{text}"), Status::Done),
+        Job::Show { image } => show::<B, R, O>(rt, image.as_str(), out),
+        Job::Verify { image } => verify_image::<B, R, O>(rt, image.as_str(), out),
+        Job::Edit {
+            image,
+            fresh,
+            words,
+        } => edit::<B, R, O>(rt, image.as_str(), fresh.as_ref(), words.as_slice(), out),
+    }
+}
+
+fn line_answer<R: Files<File = File> + AllocGlobal, O: Write>(rt: &R, words: &[&str], out: &mut O) -> Answer {
+    match read_line(rt.alloc(), words) {
+        Ok(Line { job, size }) => match size {
+            SectorSize::Bytes512 => answer::<512, R, O>(rt, &job, out),
+            SectorSize::Bytes4096 => answer::<4096, R, O>(rt, &job, out),
+        },
+        Err(LineError::Usage(text)) => Err(Failure::Usage(text)),
+        Err(LineError::Memory) => Err(Failure::Memory),
+    }
+}
+
+/// Runs the command on the words after its name: answers on `out`, refusals and faults on `err`, and the exit status.
+/// Where a stream fails the status is that of a device's fault, and what was done stands.
+pub fn run<R: Files<File = File> + AllocGlobal, O: Write, E: Write>(
+    rt: &R,
+    words: &[&str],
+    out: &mut O,
+    err: &mut E,
+) -> u8 {
+    let status = match line_answer(rt, words, out) {
+        Ok(status) => status,
+        Err(failure) => match failure.print(err) {
+            Ok(()) => failure.status(),
+            Err(_) => Status::Device,
+        },
+    };
+    match out.flush() {
+        Ok(()) => status.code(),
+        Err(_) => Status::Device.code(),
+    }
+}

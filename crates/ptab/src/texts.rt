@@ -1,0 +1,171 @@
+//! What the command answers: its texts and its exit statuses (docs/commands.md).
+
+use pt_layout::{Finding, NoTable, Path};
+use pt_gpt::Side;
+use pt_mbr::ChainError;
+use std::io;
+use std::io::Write;
+
+/// How a run of the command ends, as its exit status says.
+#[derive(Clone, Copy, Debug, PartialEq, Eq)]
+pub enum Status {
+    /// Done, or yes.
+    Done,
+    /// The answer is no.
+    No,
+    /// Usage, or a word that can't be read.
+    Usage,
+    /// An edit or a plan was refused.
+    Refused,
+    /// The image denotes nothing.
+    NoTable,
+    /// The image can't be opened, read, written or synced, or an output stream failed.
+    Device,
+    /// Memory was refused.
+    Memory,
+}
+
+impl Status {
+    /// The exit status.
+    pub fn code(self) -> u8 {
+        match self {
+            Status::Done => 0,
+            Status::No => 1,
+            Status::Usage => 2,
+            Status::Refused => 3,
+            Status::NoTable => 4,
+            Status::Device => 5,
+            Status::Memory => 6,
+        }
+    }
+}
+
+/// Why the command ends without an answer: a line on standard error, and a status.
+#[derive(Debug, Drop)]
+pub enum Failure {
+    /// `clap`'s text.
+    Usage(String),
+    BadWord(String),
+    BadFresh,
+    /// What the current version doesn't do.
+    NotYet,
+    /// An edit was refused with this number.
+    Edit(u8),
+    /// A plan was refused with this number.
+    Plan(u8),
+    /// A plan was refused by the checker, with this number.
+    Check(u8),
+    NoTable(NoTable),
+    Device,
+    Memory,
+}
+
+impl Failure {
+    /// The status that goes with it.
+    pub fn status(&self) -> Status {
+        match self {
+            Failure::Usage(_) | Failure::BadWord(_) | Failure::BadFresh => Status::Usage,
+            Failure::NotYet | Failure::Edit(_) | Failure::Plan(_) | Failure::Check(_) => {
+                Status::Refused
+            }
+            Failure::NoTable(NoTable::Device(_)) | Failure::Device => Status::Device,
+            Failure::NoTable(NoTable::Memory) | Failure::Memory => Status::Memory,
+            Failure::NoTable(_) => Status::NoTable,
+        }
+    }
+
+    /// Prints its line.
+    pub fn print<E: Write>(&self, err: &mut E) -> io::Result<()> {
+        match self {
+            Failure::Usage(text) => write!(err, "{text}"),
+            Failure::BadWord(word) => writeln!(err, "bad word {word}"),
+            Failure::BadFresh => writeln!(err, "bad fresh"),
+            Failure::NotYet => writeln!(err, "refused: not yet"),
+            Failure::Edit(number) => writeln!(err, "refused: edit {number}"),
+            Failure::Plan(number) => writeln!(err, "refused: plan {number}"),
+            Failure::Check(number) => writeln!(err, "refused: check {number}"),
+            Failure::NoTable(why) => print_no_table(err, *why),
+            Failure::Device => writeln!(err, "device"),
+            Failure::Memory => writeln!(err, "memory"),
+        }
+    }
+}
+
+fn print_no_table<E: Write>(err: &mut E, why: NoTable) -> io::Result<()> {
+    match why {
+        NoTable::NoCopy(primary, backup) => {
+            writeln!(
+                err,
+                "no table: copies {} {}",
+                primary.number(),
+                backup.number()
+            )
+        }
+        NoTable::Chain(error) => print_chain(err, error),
+        NoTable::TwoExtended => writeln!(err, "no table: two extended"),
+        NoTable::TooSmall => writeln!(err, "no table: too small"),
+        NoTable::Device(_) => writeln!(err, "device"),
+        NoTable::Memory => writeln!(err, "memory"),
+    }
+}
+
+fn print_chain<E: Write>(err: &mut E, error: ChainError) -> io::Result<()> {
+    match error {
+        ChainError::NoSignature(at) => writeln!(err, "no table: chain 1 {}", at.0),
+        ChainError::BadRecord(at) => writeln!(err, "no table: chain 2 {}", at.0),
+        ChainError::NotUpward(at) => writeln!(err, "no table: chain 3 {}", at.0),
+        ChainError::OutsideExtended(at) => writeln!(err, "no table: chain 4 {}", at.0),
+        ChainError::TooLong => writeln!(err, "no table: chain 5"),
+        ChainError::Device(_) => writeln!(err, "device"),
+    }
+}
+
+/// Prints a path, as `3` or `2.a`.
+pub fn print_path<O: Write>(out: &mut O, path: &Path) -> io::Result<()> {
+    match path.letter {
+        Some(index) => write!(out, "{}.{}", path.number, crate::show::letter(index)),
+        None => write!(out, "{}", path.number),
+    }
+}
+
+/// Prints a finding after its `no `.
+pub fn print_finding<O: Write>(out: &mut O, finding: &Finding) -> io::Result<()> {
+    write!(out, "no {} ", finding.number())?;
+    match finding {
+        Finding::NoTable(_) => write!(out, "no table")?,
+        Finding::PrimaryCopy(error) => write!(out, "primary copy {}", error.number())?,
+        Finding::BackupCopy(error) => write!(out, "backup copy {}", error.number())?,
+        Finding::CopiesDiffer => write!(out, "copies differ")?,
+        Finding::Alternate(Side::Primary) => write!(out, "alternate primary")?,
+        Finding::Alternate(Side::Backup) => write!(out, "alternate backup")?,
+        Finding::Protective => write!(out, "protective record")?,
+        _ => print_place(out, finding)?,
+    }
+    writeln!(out)
+}
+
+fn print_place<O: Write>(out: &mut O, finding: &Finding) -> io::Result<()> {
+    match finding {
+        Finding::OutsideUsable(path) => {
+            write!(out, "outside ")?;
+            print_path(out, path)
+        }
+        Finding::Overlap(before, it) => {
+            write!(out, "overlap ")?;
+            print_path(out, before)?;
+            write!(out, " ")?;
+            print_path(out, it)
+        }
+        Finding::OnTable(path, at) => {
+            write!(out, "on table ")?;
+            print_path(out, path)?;
+            write!(out, " {}", at.0)
+        }
+        Finding::SameGuid(lower, higher) => write!(out, "same guid {lower} {higher}"),
+        Finding::ForeignLabel(path) => {
+            write!(out, "foreign label ")?;
+            print_path(out, path)
+        }
+        _ => Ok(()),
+    }
+}

@@ -1,0 +1,94 @@
+#!/usr/bin/env python3
+"""Gives the command what it can't take: each answer and status by its name, and no byte of any file changed.
+
+usage: tests/bad_input.py PTAB
+"""
+import hashlib
+import os
+import subprocess
+import sys
+import tempfile
+
+checked = 0
+
+
+def digest(path):
+    if not os.path.isfile(path):
+        return None
+    with open(path, "rb") as it:
+        return hashlib.sha256(it.read()).hexdigest()
+
+
+def expect(ptab, words, image, out, err, status):
+    global checked
+    before = digest(image)
+    done = subprocess.run([ptab, *words], capture_output=True, text=True)
+    found = (done.stdout, done.stderr if err is not None else None, done.returncode)
+    if found != (out, err, status):
+        sys.exit(f"ptab {' '.join(words)}:\n  found  {found}\n  wanted {(out, err, status)}\n{done.stderr}")
+    if digest(image) != before:
+        sys.exit(f"ptab {' '.join(words)} changed {image}")
+    checked += 1
+
+
+def file_of(folder, name, content):
+    path = f"{folder}/{name}"
+    with open(path, "wb") as it:
+        it.write(content)
+    return path
+
+
+def gpt(folder):
+    path = file_of(folder, "gpt.img", bytes(4096 * 512))
+    subprocess.run(["sgdisk", "-n", "1:2048:4000", "-c", "1:data", path], check=True, capture_output=True)
+    return path
+
+
+def not_images(ptab, folder):
+    missing = f"{folder}/missing"
+    for command in (["show", missing], ["verify", missing], ["edit", missing, "c:1:x"]):
+        expect(ptab, command, missing, "", "device\n", 5)
+    for command in (["show", folder], ["verify", folder], ["edit", folder, "c:1:x"]):
+        expect(ptab, command, folder, "", "device\n", 5)
+    for name, content in (("empty", b""), ("short", bytes(511)), ("zeros", bytes(512)), ("text", b"no table here\n" * 40)):
+        path = file_of(folder, name, content)
+        expect(ptab, ["show", path], path, "", "no table: too small\n", 4)
+        expect(ptab, ["verify", path], path, "no 1 no table\n", "", 1)
+        expect(ptab, ["edit", path, "c:1:x"], path, "", "no table: too small\n", 4)
+    text = file_of(folder, "long_text", b"no table here either, but more of it\n" * 4000)
+    expect(ptab, ["show", text], text, "", "no table: copies 1 1\n", 4)
+    expect(ptab, ["edit", text, "c:1:x"], text, "", "no table: copies 1 1\n", 4)
+
+
+def bad_words(ptab, image):
+    for word in ("x", "c:1", "c", "c:0:x", "c:01:x", "c:-1:x", "c:1a:x", "c:18446744073709551616:x", "z:1:x", "", "cc:1:x"):
+        expect(ptab, ["edit", image, "c:1:fine", word], image, "", f"bad word {word}\n", 2)
+    expect(ptab, ["edit", image, "--fresh", "0", "c:1:x"], image, "", "bad fresh\n", 2)
+    expect(ptab, ["edit", image, "--fresh", "g" * 32, "c:1:x"], image, "", "bad fresh\n", 2)
+
+
+def refusals(ptab, image):
+    expect(ptab, ["edit", image, "c:2:x"], image, "", "refused: edit 1\n", 3)
+    expect(ptab, ["edit", image, "c:129:x"], image, "", "refused: edit 1\n", 3)
+    expect(ptab, ["edit", image, "c:1:" + "x" * 37], image, "", "refused: edit 7\n", 3)
+    expect(ptab, ["edit", image, "c:1:" + "x" * 35 + "\U0001F4BE"], image, "", "refused: edit 7\n", 3)
+    expect(ptab, ["edit", image, "c:1:fine", "c:9:x"], image, "", "refused: edit 1\n", 3)
+
+
+def usage(ptab, image):
+    for words in ([], ["show"], ["edit", image], ["nothing"], ["show", image, image], ["show", "--depth", image]):
+        expect(ptab, words, image, "", None, 2)
+
+
+def main():
+    ptab = os.path.abspath(sys.argv[1])
+    with tempfile.TemporaryDirectory() as folder:
+        not_images(ptab, folder)
+        image = gpt(folder)
+        bad_words(ptab, image)
+        refusals(ptab, image)
+        usage(ptab, image)
+    print(f"bad input: {checked} passed, 0 failed")
+
+
+main()

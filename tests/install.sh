@@ -1,0 +1,20 @@
+#!/usr/bin/env bash
+# Installs what the tests, the example and the benchmark call of Debian's packages, where it is missing.
+set -euo pipefail
+missing=()
+need() { command -v "$1" >/dev/null 2>&1 || [ -x "/usr/sbin/$1" ] || [ -x "/sbin/$1" ] || missing+=("$2"); }
+need python3 python3
+need sgdisk gdisk
+need sfdisk fdisk
+need parted parted
+for word in "$@"; do
+  case "$word" in
+    bench) need valgrind valgrind; need strace strace; need gcc gcc; [ -e /usr/include/zlib.h ] || missing+=(zlib1g-dev) ;;
+    *) echo "usage: tests/install.sh [bench]" >&2; exit 2 ;;
+  esac
+done
+[ ${#missing[@]} = 0 ] && exit 0
+as_root=()
+[ "$(id -u)" = 0 ] || as_root=(sudo)
+"${as_root[@]}" apt-get update -qq
+"${as_root[@]}" env DEBIAN_FRONTEND=noninteractive apt-get install -y -qq "${missing[@]}" >/dev/null
