@@ -3,7 +3,8 @@ use Rattle.std.proofs.Common.{◌≡◌, ◌∙◌, ◌↔◌, ◌⊎◌, inl, i
 use Rattle.pt_sector.specs.Sectors.{Sectors, sector}
 use Rattle.pt_bsd.specs.Laws.{label_one}
 use Rattle.pt_gpt.specs.Answers.{TellsFault}
-use Rattle.pt_gpt.specs.Copy.{HasCopy}
+use Rattle.pt_gpt.specs.Copy.{Copy, HasCopy}
+use Rattle.pt_gpt.specs.declared.table.Table.{Table}
 use Rattle.pt_gpt.specs.Errors.{IsOutside, FailedAs}
 use Rattle.pt_gpt.specs.Laws.{no_copy_lem}
 use Rattle.pt_gpt.specs.declared.error.CopyError.{CopyError}
@@ -15,6 +16,9 @@ use Rattle.pt_recover.specs.declared.layout.Labelled.{Labelled}
 use Rattle.pt_recover.specs.declared.layout.Layout.{Layout}
 use Rattle.pt_recover.specs.declared.layout.Slice.{Slice}
 use Rattle.pt_layout.specs.Healthy.{IsHealthy}
+use Rattle.pt_layout.specs.Findings.{IsFinding}
+use Rattle.pt_layout.specs.Laws.{finding_excludes_lem}
+use Rattle.pt_layout.specs.declared.finding.Finding.{Finding}
 use Rattle.pt_plan.specs.Failed.{PlanFailedAs, IsFailure, no_copy_of}
 
 some_same : {X : Type 0} {x y : X} → Some x ≡ Some y → x ≡ y
@@ -56,3 +60,10 @@ no_primary b d UsableRange is = none_there b d UsableRange (λ x. x) is
 no_primary b d ArrayCrc is = none_there b d ArrayCrc (λ x. x) is
 no_primary b d (Device at) is = tt
 no_primary b d Memory is = tt
+
+pub primary_there : (b : ℕ) (d : Sectors) (t : Table) → Copy b d Primary t → IsTrue true ↔ HasCopy b d Primary
+primary_there b d t is = (λ yes_it_is. (t, is), λ has. refl)
+
+-- a disk with a finding isn't healthy
+pub not_done : (b : ℕ) (d : Sectors) (o : Layout) (f : Finding) → IsFinding b d f → IsTrue false ↔ IsHealthy b d o
+not_done b d o f finding = (λ impossible. absurd cc, λ is. absurd (finding_excludes_lem b d f finding (o, is)))

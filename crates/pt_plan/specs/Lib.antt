@@ -3,5 +3,6 @@ pub mod Commits
 pub mod Copies
 pub mod Failed
 pub mod History
+pub mod Planning
 pub mod Plans
 pub mod Steps

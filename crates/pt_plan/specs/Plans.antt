@@ -99,9 +99,13 @@ FitsDisk b n o = (o.sectors ≡ n) × ((t : Table) → o.body ≡ Gpt t → Fits
 abbrev pub HasLabels : ℕ → Sectors → Layout → Type 0
 HasLabels b d o = LabelsAre d (places_of b (length d) o.body) o.labels
 
--- plans of other kinds are to come
+-- an MBR disk, or one with other labels
+abbrev pub IsOtherState : ℕ → Sectors → Layout → Type 0
+IsOtherState b d o = IsMbrDisk d ⊎ ¬ HasLabels b d o
+
+-- plans of other kinds are to come: for an MBR, and on these disks
 abbrev pub IsOtherKind : ℕ → Sectors → Layout → Type 0
-IsOtherKind b d o = ((t : Table) → ¬ (o.body ≡ Gpt t)) ⊎ (IsMbrDisk d ⊎ ¬ HasLabels b d o)
+IsOtherKind b d o = ((t : Table) → ¬ (o.body ≡ Gpt t)) ⊎ IsOtherState b d o
 
 -- a plan that makes the disk healthy, with this layout: none of a disk that is so
 pub data IsPlan (b : ℕ) (d : Sectors) (o : Layout) (phases : List Writes) : Type 0 where
