@@ -19,3 +19,5 @@ pub mod Foreign
 pub mod Verdicts
 pub mod Apart
 pub mod Laws
+pub mod Places
+pub mod Texts

@@ -17,8 +17,7 @@ use crate::foreign::first_foreign;
 use crate::halves::{Half, Halves, read_halves};
 use crate::path::Path;
 use crate::soundness::unsound;
-use pt_gpt::{Entries, Side, Table, array_sectors};
-use pt_guid::Guid;
+use pt_gpt::{Side, array_sectors};
 use pt_mbr::{bears_protective, decode_mbr, is_protective};
 use pt_recover::{Body, Layout, NoTable, label_places, read_labels, recover};
 use pt_sector::{Disk, Lba, Sector};
@@ -149,39 +148,12 @@ fn outside(e: NoTable) -> VerifyError
     }
 }
 
-fn same_entries(entries: &Entries, others: &Entries) -> bool
-    ensures { IsTrue result ↔ (entries.now ≡ others.now) }
-{
-    entries.as_slice() == others.as_slice()
-}
-
-fn same_guid(guid: &Guid, other: &Guid) -> bool
-    ensures { IsTrue result ↔ (guid.now ≡ other.now) }
-{
-    guid == other
-}
-
-fn same_table(table: &Table, other: &Table) -> bool
-    ensures { IsTrue result ↔ (table.now ≡ other.now) }
-{
-    if table.first != other.first {
-        return false;
-    }
-    if table.last != other.last {
-        return false;
-    }
-    if !same_guid(&table.disk, &other.disk) {
-        return false;
-    }
-    same_entries(&table.entries, &other.entries)
-}
-
 // The first thing that is wrong with the two copies, and with sector 0.
 fn broken_pair(sectors: u64, protected: bool, primary: &Half, backup: &Half) -> Option<Finding>
     requires { 1 ≤ sectors }
     ensures { PairIs sectors protected primary.now backup.now result }
 {
-    if !same_table(&primary.table, &backup.table) {
+    if !primary.table.same(&backup.table) {
         return Some(Finding::CopiesDiffer);
     }
     if primary.header.alternate != sectors - 1 {
