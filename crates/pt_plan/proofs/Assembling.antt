@@ -1,6 +1,6 @@
 -- Phases, put together write by write.
-use Rattle.std.proofs.Common.{◌≡◌, ◌∙◌, ℕ, ◌+◌, List, [], ◌∷◌, ◌++◌, Bool, true, false, Option, inl, inr, refl, sym, ap, subst, add-one, Vec}
-use Rattle.std.proofs.lemmas.List.{map-append}
+use Rattle.std.proofs.Common.{◌≡◌, ◌∙◌, ℕ, suc, ◌+◌, List, [], ◌∷◌, ◌++◌, length, Bool, true, false, Option, inl, inr, refl, sym, ap, subst, add-one, Vec}
+use Rattle.std.proofs.lemmas.List.{map-append, length-map}
 use Rattle.std.specs.declared.alloc.Global.{Global}
 use Rattle.pt_apply.specs.Plans.{writes_of, phases_in}
 use Rattle.pt_apply.specs.declared.plan.Write.{Write}
@@ -18,13 +18,22 @@ writes_more ws w = map-append (λ (x : Write _). (x.lba.0, x.bytes)) ws (w ∷ [
 pub phases_more : {b : _} (ps : List (Vec (Write b) Global)) (p : Vec (Write b) Global) → phases_in (ps ++ p ∷ []) ≡ phases_in ps ++ writes_of p.items ∷ []
 phases_more ps p = map-append (λ (x : Vec (Write _) Global). writes_of x.items) ps (p ∷ [])
 
+pub length_writes : {b : _} (ws : List (Write b)) → length (writes_of ws) ≡ length ws
+length_writes ws = length-map ws (λ (x : Write _). (x.lba.0, x.bytes))
+
+pub length_phases : {b : _} (ps : List (Vec (Write b) Global)) → length (phases_in ps) ≡ length ps
+length_phases ps = length-map ps (λ (x : Vec (Write _) Global). writes_of x.items)
+
 pub array_none : (b : ℕ) (es : List (Option Entry)) (at : ℕ) → array_writes b es at 0 ≡ []
 unfolding array_writes
 array_none b es at = refl
 
-pub array_more : (b : ℕ) (es : List (Option Entry)) (at k : ℕ) → array_writes b es at (k + 1) ≡ array_writes b es at k ++ (at + k, array_sector b es k) ∷ []
+pub array_suc : (b : ℕ) (es : List (Option Entry)) (at k : ℕ) → array_writes b es at (suc k) ≡ array_writes b es at k ++ (at + k, array_sector b es k) ∷ []
 unfolding array_writes
-array_more b es at k = rw add-one refl
+array_suc b es at k = refl
+
+pub array_more : (b : ℕ) (es : List (Option Entry)) (at k : ℕ) → array_writes b es at (k + 1) ≡ array_writes b es at k ++ (at + k, array_sector b es k) ∷ []
+array_more b es at k = rw add-one (array_suc b es at k)
 
 pub array_on : {b : _} (n : ℕ) (es : List (Option Entry)) (at k : ℕ) (ws : List (Write b)) (w : Write b) → writes_of ws ≡ array_writes n es at k → w.lba.0 ≡ at + k → w.bytes ≡ array_sector n es k
     → writes_of (ws ++ w ∷ []) ≡ array_writes n es at (k + 1)

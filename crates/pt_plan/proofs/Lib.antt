@@ -3,3 +3,4 @@ pub mod Exits
 pub mod Starting
 pub mod Assembling
 pub mod Surveying
+pub mod Planned

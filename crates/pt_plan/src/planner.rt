@@ -1,6 +1,6 @@
 //! Plans that lead from what a disk denotes to another layout.
 
-ghost use Rattle.std.specs.Prelude.{◌≡◌, ◌+◌, ◌*◌, ◌<◌, ◌≤◌, [], All, Some, length, OnOk, IfOk, IfErr, IsTrue, ◌↔◌};
+ghost use Rattle.std.specs.Prelude.{◌≡◌, ◌+◌, ◌*◌, ◌<◌, ◌≤◌, [], All, Some, length, OnOk, IfOk, IfErr};
 ghost use Rattle.pt_sector.specs.Sectors.{IsSectorSize};
 ghost use Rattle.pt_apply.specs.Plans.{phases_of, InRange};
 ghost use Rattle.pt_gpt.specs.Array.{array_len};
@@ -9,8 +9,8 @@ ghost use Rattle.pt_layout.specs.Healthy.{Healthy};
 ghost use Rattle.pt_layout.specs.Sound.{Sound};
 ghost use Rattle.pt_check.specs.First.{writes_in};
 ghost use Rattle.pt_plan.specs.Failed.{PlanFailedAs, IsFailure};
-ghost use Rattle.pt_plan.specs.Plans.{FitsGpt, IsOtherState, WritesCopies, IsPlan, Unplanned};
-ghost use Rattle.pt_plan.specs.Planning.{IsUnsoundBy};
+ghost use Rattle.pt_plan.specs.Plans.{FitsGpt, WritesCopies, IsPlan, Unplanned};
+ghost use Rattle.pt_plan.specs.Planning.{IsUnsoundBy, StateIs};
 
 use crate::copies::copies;
 use crate::error::PlanError;
@@ -50,7 +50,7 @@ fn is_other_kind<const B: usize, D: Disk<B>>(
     ensures failed { IfErr result (λ e. PlanFailedAs e (D.failures disk.old) (D.failures disk.new)) }
     ensures failure { IfErr result IsFailure }
     ensures same { D.tells → D.told disk.new ≡ D.told disk.old }
-    ensures ok { D.tells → IfOk result (λ yes. IsTrue yes ↔ IsOtherState B (D.told disk.old).seen wanted.now) }
+    ensures ok { D.tells → IfOk result (StateIs B (D.told disk.old).seen wanted.now) }
 {
     match is_mbr(disk) {
         Ok(true) => return Ok(true),
