@@ -17,7 +17,7 @@ use crate::foreign::first_foreign;
 use crate::halves::{Half, Halves, read_halves};
 use crate::path::Path;
 use crate::soundness::unsound;
-use pt_gpt::{Side, array_sectors};
+use pt_gpt::{Side, Table, array_sectors};
 use pt_mbr::{bears_protective, decode_mbr, is_protective};
 use pt_recover::{Body, Layout, NoTable, label_places, read_labels, recover};
 use pt_sector::{Disk, Lba, Sector};
