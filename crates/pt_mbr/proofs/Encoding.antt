@@ -2,9 +2,9 @@
 use Rattle.std.proofs.Common.{◌≡◌, ◌≢◌, ℕ, ◌+◌, ◌-◌, ◌*◌, ◌/◌, ◌%◌, ◌^◌, ◌<◌, ◌≤◌, List, [], ◌∷◌, ◌++◌, length, take, drop, replicate, get_or, Option, Some, None, refl, sym, ap, ◌∙◌, arith, inl, inr, Bor}
 use Rattle.std.specs.Prelude.{◌⊎◌, slice_range, slice_index, MatchOption, ⊤}
 use Rattle.std.specs.Option.{option_map}
-use Rattle.std.proofs.lemmas.List.{append-nil, append_assoc, drop-drop, length-append, length-take-le, get_or-drop, get_or-take, get_or_append_left, length-drop}
+use Rattle.std.proofs.lemmas.List.{append-nil, append_assoc, drop-drop, length-append, length-take-le, ext_get_or, get_or-drop, get_or-take, get_or_append_left, length-drop}
 use Rattle.std.proofs.lemmas.Bool.{cases_lt}
-use Rattle.std.proofs.Math.Seq.{drop-append_seam}
+use Rattle.std.proofs.Math.Seq.{drop-append_seam, take-append_seam}
 use Rattle.std.proofs.lemmas.Slice.{drop-append-drop}
 use Rattle.byteorder.specs.Endian.{little_number, little_bytes}
 use Rattle.byteorder.specs.Numbers.{little_number-reads_back}
@@ -107,6 +107,23 @@ put_below p i new b fits below =
 pub put_other : (p i n : ℕ) (new b : List ℕ) → p ≤ length b → length new ≡ n → (i < p) ⊎ (p + n ≤ i) → slice_index (put_at p new b) i ≡ slice_index b i
 put_other p i n new b fits count (inl below) = put_below p i new b fits below
 put_other p i n new b fits count (inr above) = first_at i (put_at p new b) (drop i b) (put_above p i new b fits (omega (arith, count))) ∙ sym (first_at i b (drop i b) refl)
+
+-- the sixteen bytes that were put
+pub range_put : (at : ℕ) (new c rest : List ℕ) → length new ≡ 16 → drop at c ≡ new ++ rest → slice_range c at (at + 16) ≡ new
+range_put at new c rest count same =
+    let whole : 16 ≡ length new = sym count in
+    range_from at 0 16 c (new ++ rest) at (at + 16) same (omega arith) refl ∙ ap (λ (n : ℕ). take n (new ++ rest)) whole ∙ take-append_seam new rest
+
+-- bytes that are the same one by one are the same
+pub range_same : (at : ℕ) (b c : List ℕ) → at + 16 ≤ length b → length c ≡ length b → ((i : ℕ) → at ≤ i → i < at + 16 → slice_index c i ≡ slice_index b i) → slice_range c at (at + 16) ≡ slice_range b at (at + 16)
+range_same at b c long count same =
+    let n : at + 16 - at ≡ 16 = omega arith in
+    rw n (ext_get_or 0 (take 16 (drop at c)) (take 16 (drop at b)) (sixteen c (omega (arith, long, count)) ∙ sym (sixteen b long)) (λ i lt. each i (let e = sixteen c (omega (arith, long, count)) in omega (arith, lt, e)))) where
+      sixteen : (x : List ℕ) → at + 16 ≤ length x → length (take 16 (drop at x)) ≡ 16
+      sixteen x fits = length-take-le 16 (drop at x) (let e = length-drop at x in omega (arith, fits, e))
+
+      each : (i : ℕ) → i < 16 → get_or (take 16 (drop at c)) i 0 ≡ get_or (take 16 (drop at b)) i 0
+      each i few = get_or-take 16 (drop at c) i 0 few ∙ get_or-drop at c i 0 ∙ same (at + i) (omega arith) (omega arith) ∙ sym (get_or-drop at b i 0) ∙ sym (get_or-take 16 (drop at b) i 0 few)
 
 pub none_bytes : replicate 16 0 ≡ record_bytes None
 unfolding record_bytes
