@@ -10,9 +10,6 @@ use Rattle.pt_mbr.specs.declared.ebr.Ebr.{Ebr}
 use Rattle.pt_mbr.specs.declared.ebr.EbrFault.TheVariants as ebr
 use Rattle.pt_mbr.specs.declared.chain.ChainError.TheVariants.{NoSignature, BadRecord, NotUpward, OutsideExtended, TooLong, Device}
 
-pub inside_same : (x : Span) (n m : ℕ) (at : Lba) → n ≡ m → IsInside x m at → IsInside x n at
-inside_same x n m at same inside = subst (λ (k : ℕ). IsInside x k at) (sym same) inside
-
 walk_more : (d : Sectors) (x : Span) (from : Option Lba) (done : List Ebr) (at : Lba) (e : Ebr) → Walk d x from done (Some at) → EbrAt d x at e → IsUpward at e.next → Walk d x from (done ++ e ∷ []) e.next
 walk_more d x None [] at e walk here up = absurd cc
 walk_more d x (Some y) [] at e walk here up =

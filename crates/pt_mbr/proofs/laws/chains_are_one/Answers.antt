@@ -1,4 +1,4 @@
-use Rattle.pt_mbr.proofs.Ones.{chain_one, no_chain}
+use Rattle.pt_mbr.specs.Laws.{chain_one, no_chain}
 use Rattle.pt_mbr.proofs.laws.chains_are_one.Goals as goal
 
 pub returns : goal.returns

@@ -1,4 +1,4 @@
-use Rattle.pt_mbr.proofs.Encoding.{record_kept}
+use Rattle.pt_mbr.specs.Laws.{record_kept}
 use Rattle.pt_mbr.proofs.laws.record_is_its_bytes.Goals as goal
 
 pub returns : goal.returns
