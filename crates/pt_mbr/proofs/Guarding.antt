@@ -4,7 +4,7 @@ use Rattle.std.specs.Prelude.{slice_range, slice_index, slice_set}
 use Rattle.std.proofs.lemmas.List.{take-append-drop, drop-drop, get_or-drop, length-drop}
 use Rattle.pt_mbr.specs.Bytes.{put_at, HasSignature}
 use Rattle.pt_mbr.specs.Record.{RecordFits, record_bytes}
-use Rattle.pt_mbr.specs.Mbr.{HasBootIndicators, BearsProtective}
+use Rattle.pt_mbr.specs.Mbr.{HasBootIndicators}
 use Rattle.pt_mbr.specs.Protective.{IsProtective, protective_record, protective_bytes}
 use Rattle.pt_mbr.proofs.Encoding.{has_fields, bytes_back, index_at, first_at}
 use Rattle.pt_mbr.specs.Kept.{range_at}

@@ -1,9 +1,9 @@
 -- What a walk has read when it ends.
-use Rattle.std.proofs.Common.{◌≡◌, ◌<◌, ◌≤◌, ℕ, zero, suc, List, [], ◌∷◌, ◌++◌, length, Option, Some, None, refl, sym, ap, ◌∙◌, subst, arith, inl, inr, ⊎_elim}
-use Rattle.std.specs.Prelude.{◌⊎◌, ◌↔◌}
-use Rattle.pt_sector.specs.Sectors.{Sectors, sector, Span}
+use Rattle.std.proofs.Common.{◌≡◌, ◌<◌, ℕ, List, [], ◌∷◌, ◌++◌, length, refl, sym, ap, ◌∙◌, subst, arith, inl, inr, ⊎_elim}
+use Rattle.std.specs.Prelude.{◌⊎◌}
+use Rattle.pt_sector.specs.Sectors.{Sectors, Span}
 use Rattle.pt_sector.specs.declared.address.Lba.{Lba}
-use Rattle.pt_mbr.specs.Chain.{lba, IsInside, IsUpward, EbrAt, Walk, Chain, ChainFault, ReadsFrom, ChainReads, IsDevice, StandsAt, ReadsAre}
+use Rattle.pt_mbr.specs.Chain.{lba, IsInside, ChainFault, ChainReads, IsDevice, StandsAt, ReadsAre}
 use Rattle.pt_mbr.specs.Decoded.{EndsIn}
 use Rattle.pt_mbr.specs.declared.ebr.Ebr.{Ebr}
 use Rattle.pt_mbr.specs.declared.chain.ChainError.{ChainError}

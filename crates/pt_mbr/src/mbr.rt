@@ -14,6 +14,7 @@ use pt_sector::Sector;
 /// A master boot record's four partition records, none where one is unused: its type or its size is 0.
 #[derive(Clone, Copy, Debug, Default, PartialEq, Eq)]
 pub struct Mbr {
+    /// In the order of the bytes; that at index `k` stands at offset 446 + 16 `k`.
     pub records: [Option<Record>; 4],
 }
 
