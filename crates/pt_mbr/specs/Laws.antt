@@ -20,47 +20,47 @@ use Rattle.pt_mbr.specs.Same as same
 use Rattle.pt_mbr.specs.Reading as reading
 
 -- bytes are one record, one master boot record, one extended boot record at most
-pub record_one : (o p : Option Record) (at : ℕ) (b : List ℕ) → RecordIs o at b → RecordIs p at b → o ≡ p
-record_one = one.record_one
+pub record_is_one : (o p : Option Record) (at : ℕ) (b : List ℕ) → RecordIs o at b → RecordIs p at b → o ≡ p
+record_is_one = one.record_one
 
-pub records_one : (m n : List (Option Record)) (b : List ℕ) → AreRecords m b → AreRecords n b → m ≡ n
-records_one = one.records_one
+pub records_are_one : (m n : List (Option Record)) (b : List ℕ) → AreRecords m b → AreRecords n b → m ≡ n
+records_are_one = one.records_one
 
-pub mbr_one : (m n : Mbr) (b : List ℕ) → MbrBytes m b → MbrBytes n b → m ≡ n
-mbr_one = one.mbr_one
+pub mbr_is_one : (m n : Mbr) (b : List ℕ) → MbrBytes m b → MbrBytes n b → m ≡ n
+mbr_is_one = one.mbr_one
 
-pub ebr_one : (first : ℕ) (at : Lba) (e f : Ebr) (b : List ℕ) → EbrBytes first at e b → EbrBytes first at f b → e ≡ f
-ebr_one = one.ebr_one
+pub ebr_is_one : (first : ℕ) (at : Lba) (e f : Ebr) (b : List ℕ) → EbrBytes first at e b → EbrBytes first at f b → e ≡ f
+ebr_is_one = one.ebr_one
 
-pub ebr_none : (first : ℕ) (at : Lba) (e : Ebr) (fault : EbrFault) (b : List ℕ) → IsEbrFault fault b → ¬ EbrBytes first at e b
-ebr_none = one.ebr_none
+pub fault_has_no_ebr : (first : ℕ) (at : Lba) (e : Ebr) (fault : EbrFault) (b : List ℕ) → IsEbrFault fault b → ¬ EbrBytes first at e b
+fault_has_no_ebr = one.ebr_none
 
 -- a record depends on its sixteen bytes alone
-pub record_kept : (o : Option Record) (at : ℕ) (b c : List ℕ) → at + 16 ≤ length b → length c ≡ length b → ((i : ℕ) → at ≤ i → i < at + 16 → slice_index c i ≡ slice_index b i) → RecordIs o at b → RecordIs o at c
-record_kept = kept.record_kept
+pub record_is_its_bytes : (o : Option Record) (at : ℕ) (b c : List ℕ) → at + 16 ≤ length b → length c ≡ length b → ((i : ℕ) → at ≤ i → i < at + 16 → slice_index c i ≡ slice_index b i) → RecordIs o at b → RecordIs o at c
+record_is_its_bytes = kept.record_kept
 
 -- a sector that protects its disk bears a protective record
-pub protective_borne : (n : ℕ) (b : List ℕ) → IsProtective n b → BearsProtective b
+pub protective_is_borne : (n : ℕ) (b : List ℕ) → IsProtective n b → BearsProtective b
 unfolding BearsProtective
-protective_borne n b is = inl is.first.kind
+protective_is_borne n b is = inl is.first.kind
 
 -- an extended partition has one chain at most, or one fault but for the device's own
-pub chain_one : (d : Sectors) (x : Span) (list other : List Ebr) → Chain d x list → Chain d x other → list ≡ other
-chain_one = one.chain_one
+pub chain_is_one : (d : Sectors) (x : Span) (list other : List Ebr) → Chain d x list → Chain d x other → list ≡ other
+chain_is_one = one.chain_one
 
-pub no_chain : (d : Sectors) (x : Span) (e : ChainError) (list : List Ebr) → ChainFault d x e → Chain d x list → IsDevice e
-no_chain = one.no_chain
+pub fault_has_no_chain : (d : Sectors) (x : Span) (e : ChainError) (list : List Ebr) → ChainFault d x e → Chain d x list → IsDevice e
+fault_has_no_chain = one.no_chain
 
-pub fault_one : (d : Sectors) (x : Span) (e f : ChainError) → ChainFault d x e → ChainFault d x f → (e ≡ f) ⊎ IsDevice e ⊎ IsDevice f
-fault_one = faults.fault_one
+pub fault_is_one : (d : Sectors) (x : Span) (e f : ChainError) → ChainFault d x e → ChainFault d x f → (e ≡ f) ⊎ IsDevice e ⊎ IsDevice f
+fault_is_one = faults.fault_one
 
 -- who agrees with a disk on the sectors that decide its chain has the same chain, or the same fault
-pub same_chains : (x : Span) (c d : Sectors) → Agrees (ChainReads d x) c d → SameChains x c d
-same_chains = same.same_chains
+pub chain_reads_decide : (x : Span) (c d : Sectors) → Agrees (ChainReads d x) c d → SameChains x c d
+chain_reads_decide = same.same_chains
 
 -- those sectors
-pub chain_reads : (d : Sectors) (x : Span) (list : List Ebr) → Chain d x list → (s : ℕ) → ChainReads d x s ↔ StandsAt s list
-chain_reads = reading.of_list
+pub chain_reads_are : (d : Sectors) (x : Span) (list : List Ebr) → Chain d x list → (s : ℕ) → ChainReads d x s ↔ StandsAt s list
+chain_reads_are = reading.of_list
 
-pub fault_reads : (d : Sectors) (x : Span) (e : ChainError) (f : ChainFault d x e) → ¬ IsDevice e → (s : ℕ) → ChainReads d x s ↔ (StandsAt s f.before ⊎ IsAtFault e s)
-fault_reads = reading.of_fault
+pub fault_reads_are : (d : Sectors) (x : Span) (e : ChainError) (f : ChainFault d x e) → ¬ IsDevice e → (s : ℕ) → ChainReads d x s ↔ (StandsAt s f.before ⊎ IsAtFault e s)
+fault_reads_are = reading.of_fault
