@@ -3,13 +3,12 @@
 ghost use Rattle.std.specs.Prelude.{◌≡◌, ◌≢◌, ℕ, List, IfSome, IfNone, [], ◌∷◌, length};
 ghost use Rattle.std.specs.Option.{option_map};
 ghost use Rattle.pt_guid.specs.Mixed.{stored_of};
-ghost use Rattle.pt_edit.specs.Texts.{IsPath};
-ghost use Rattle.pt_edit.specs.Words.{fields, fields_after, IsIn, IsNewPath, IsEnd, IsCode, Fits, number, path, new_path, end, code, guid};
+ghost use Rattle.pt_layout.specs.Texts.{IsPath};
+ghost use Rattle.pt_edit.specs.Words.{fields, fields_after, IsIn, IsNewPath, IsEnd, IsCode, Fits, greatest, number, path, new_path, end, code, guid};
 
-use crate::number::{parse_number, parse_path};
 use crate::word::{Code, End};
 use pt_guid::Guid;
-use pt_layout::Path;
+use pt_layout::{Path, parse_number, parse_path};
 
 // The text before the first colon and the text after it.
 pub(crate) fn cut(text: &str) -> Option<(&str, &str)>
@@ -91,6 +90,14 @@ pub(crate) fn number_in(text: &str, low: u64, high: u64) -> Option<u64>
         return None;
     }
     Some(found)
+}
+
+// The number of an entry.
+pub(crate) fn entry_number(text: &str) -> Option<u64>
+    ensures some { IfSome result (IsIn 1 greatest text.now) }
+    ensures none { IfNone result (¬ Fits (number 1 greatest) text.now) }
+{
+    number_in(text, 1, u64::MAX)
 }
 
 // A path.

@@ -37,11 +37,14 @@ pub fn edit<const B: usize>(
     };
     let mut state = State {
         layout,
-        alignment: FIRST_ALIGNMENT,
+        alignment: (FIRST_ALIGNMENT / B) as u64,
         taken: 0,
     };
     for word in edits {
-        state = take_word(state, word)?;
+        state = match take_word::<B>(alloc, state, word, sectors, guids) {
+            Ok(next) => next,
+            Err(refusal) => return Err(refusal),
+        };
     }
     match state.layout {
         Some(layout) => Ok(layout),

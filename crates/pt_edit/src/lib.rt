@@ -3,21 +3,26 @@
 //! docs/commands.md has the words, docs/model.md what they mean.
 #![tactic(auto)]
 
+mod entries;
 mod error;
 mod field;
 mod fold;
+mod gpt;
+mod labels;
 mod laws;
 mod name;
-mod number;
 mod parse;
-mod rename;
+mod spots;
 mod state;
+mod tables;
 mod word;
 mod words;
 
 pub use error::{EditError, Refusal};
 pub use fold::edit;
 pub use laws::edited_one;
-pub use number::parse_path;
 pub use parse::parse_edit;
 pub use word::{Code, Edit, End};
+
+#[cfg(test)]
+mod tests;

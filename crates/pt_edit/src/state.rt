@@ -1,17 +1,22 @@
 //! What the words are folded over.
 
-ghost use Rattle.std.specs.Prelude.{List, IfOk, IfErr};
-ghost use Rattle.pt_guid.specs.declared.guid.Guid.{Guid};
-ghost use Rattle.pt_edit.specs.Edited.{Takes, Refuses};
+ghost use Rattle.std.specs.Prelude.{◌≢◌, IfOk, IfErr};
+ghost use Rattle.pt_sector.specs.Sectors.{IsSectorSize};
+ghost use Rattle.pt_edit.specs.Edited.{Takes, Refuses, MakesOn, RefusesOn, Emptied, EmptyRefused};
 ghost use Rattle.pt_edit.specs.Fold.{state_of};
 
+use crate::entries::{rename, set_bit, set_unique};
 use crate::error::Refusal;
-use crate::rename::rename;
+use crate::spots::{delete, set_kind};
+use crate::tables::{empty, extend, set_disk};
 use crate::word::Edit;
+use pt_gpt::array_sectors;
+use pt_guid::Guid;
 use pt_recover::Layout;
+use std::alloc::Global;
 
-/// The alignment of starts before a word says another, in sectors.
-pub(crate) const FIRST_ALIGNMENT: u64 = 2048;
+/// The alignment of starts before a word says another, in bytes.
+pub(crate) const FIRST_ALIGNMENT: usize = 1 << 20;
 
 /// A layout or nothing, the alignment of starts in sectors, and how many of the fresh GUIDs are taken.
 #[derive(Drop)]
@@ -21,29 +26,81 @@ pub struct State {
     pub taken: usize,
 }
 
-// The state after a word.
-pub(crate) fn take_word(state: State, word: &Edit) -> Result<State, Refusal>
-    ensures ok { IfOk result (λ made. (guids : List Guid) → Takes word.now (state_of guids state) (state_of guids made)) }
-    ensures err { IfErr result (λ refusal. (guids : List Guid) → Refuses word.now (state_of guids state) refusal) }
+// The state after `o`.
+fn take_empty<const B: usize>(
+    alloc: Global,
+    state: State,
+    sectors: u64,
+    guids: &[Guid],
+) -> Result<State, Refusal>
+    requires size { IsSectorSize B }
+    ensures ok { IfOk result (λ made. Emptied B sectors (state_of guids.now state) (state_of guids.now made)) }
+    ensures err { IfErr result (λ refusal. refusal ≢ Refusal.Memory → EmptyRefused B sectors (state_of guids.now state) refusal) }
 {
-    let State {
-        layout,
-        alignment,
-        taken,
-    } = state;
-    match word {
-        Edit::Align(sectors) => Ok(State {
-            layout,
-            alignment: *sectors,
-            taken,
+    if sectors < 2 * array_sectors::<B>() + 4 {
+        return Err(Refusal::NoRoomForGpt);
+    }
+    if state.taken >= guids.len() {
+        return Err(Refusal::NoFreshGuid);
+    }
+    match empty::<B>(alloc, sectors, &guids[state.taken]) {
+        Ok(layout) => Ok(State {
+            layout: Some(layout),
+            alignment: state.alignment,
+            taken: state.taken + 1,
         }),
-        Edit::Empty => Err(Refusal::NotYet),
-        Edit::SetName(number, name) => {
+        Err(_) => Err(Refusal::Memory),
+    }
+}
+
+// The layout after a word that needs one.
+fn take_on<const B: usize>(layout: Layout, word: &Edit) -> Result<Layout, Refusal>
+    requires size { IsSectorSize B }
+    ensures ok { IfOk result (λ made. MakesOn B word.now layout made) }
+    ensures err { IfErr result (λ refusal. RefusesOn B word.now layout refusal) }
+{
+    match word {
+        Edit::SetName(number, name) => rename(layout, *number, name.as_str()),
+        Edit::SetUnique(number, guid) => set_unique(layout, *number, guid),
+        Edit::SetDisk(guid) => set_disk(layout, guid),
+        Edit::SetBit(number, bit, value) => set_bit(layout, *number, *bit, *value),
+        Edit::Extend => extend::<B>(layout),
+        Edit::SetKind(path, code) => set_kind::<B>(layout, path, code),
+        Edit::Delete(path) => delete::<B>(layout, path),
+        _ => Err(Refusal::NotYet),
+    }
+}
+
+// The state after a word.
+pub(crate) fn take_word<const B: usize>(
+    alloc: Global,
+    state: State,
+    word: &Edit,
+    sectors: u64,
+    guids: &[Guid],
+) -> Result<State, Refusal>
+    requires size { IsSectorSize B }
+    ensures ok { IfOk result (λ made. Takes B sectors word.now (state_of guids.now state) (state_of guids.now made)) }
+    ensures err { IfErr result (λ refusal. refusal ≢ Refusal.Memory → Refuses B sectors word.now (state_of guids.now state) refusal) }
+{
+    match word {
+        Edit::Align(k) => Ok(State {
+            layout: state.layout,
+            alignment: *k,
+            taken: state.taken,
+        }),
+        Edit::Empty => take_empty::<B>(alloc, state, sectors, guids),
+        _ => {
+            let State {
+                layout,
+                alignment,
+                taken,
+            } = state;
             let layout = match layout {
                 Some(layout) => layout,
                 None => return Err(Refusal::NotForThisTable),
             };
-            match rename(layout, *number, name.as_str()) {
+            match take_on::<B>(layout, word) {
                 Ok(layout) => Ok(State {
                     layout: Some(layout),
                     alignment,
@@ -52,9 +109,5 @@ pub(crate) fn take_word(state: State, word: &Edit) -> Result<State, Refusal>
                 Err(refusal) => Err(refusal),
             }
         }
-        _ => match layout {
-            Some(_) => Err(Refusal::NotYet),
-            None => Err(Refusal::NotForThisTable),
-        },
     }
 }

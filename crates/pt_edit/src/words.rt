@@ -6,8 +6,8 @@ ghost use Rattle.pt_edit.specs.Words.{fields_after, IsWord, IsFault};
 
 use crate::error::EditError;
 use crate::field::{
-    code_field, end_field, guid_field, new_path_field, next_field, number_in, one_field,
-    path_field, three_fields, two_fields,
+    code_field, end_field, entry_number, guid_field, new_path_field, next_field, number_in,
+    one_field, path_field, three_fields, two_fields,
 };
 use crate::word::Edit;
 use std::alloc::Global;
@@ -79,7 +79,7 @@ pub(crate) fn parse_set_unique(rest: Option<&str>) -> Result<Edit, EditError>
         Some((number, guid)) => (number, guid),
         None => return Err(EditError::FieldCount),
     };
-    let number = match number_in(number, 1, u64::MAX) {
+    let number = match entry_number(number) {
         Some(number) => number,
         None => return Err(EditError::NotANumber),
     };
@@ -115,7 +115,7 @@ pub(crate) fn parse_set_bit(rest: Option<&str>) -> Result<Edit, EditError>
         Some((number, bit, value)) => (number, bit, value),
         None => return Err(EditError::FieldCount),
     };
-    let number = match number_in(number, 1, u64::MAX) {
+    let number = match entry_number(number) {
         Some(number) => number,
         None => return Err(EditError::NotANumber),
     };
@@ -176,7 +176,7 @@ pub(crate) fn parse_set_name(alloc: Global, rest: Option<&str>) -> Result<Edit, 
         Some(name) => name,
         None => return Err(EditError::FieldCount),
     };
-    let number = match number_in(number, 1, u64::MAX) {
+    let number = match entry_number(number) {
         Some(number) => number,
         None => return Err(EditError::NotANumber),
     };

@@ -112,7 +112,7 @@ pub fn read_table<const B: usize, D: Disk<B>>(
     })
 }
 
-/// The table of a side's copy, on a disk with room for two.
+/// The table of a side's copy, on a disk of at least 2A + 4 sectors, where an array of 128 entries takes A.
 ///
 /// Of errors 1 to 9 the first that holds; `Device` where a read failed, and `Memory` where there was none for the
 /// entries. AlternateLBA isn't looked at.

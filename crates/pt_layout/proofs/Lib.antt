@@ -1,4 +1,3 @@
-pub mod Apart
 pub mod ByPlace
 pub mod Presence
 pub mod First
@@ -6,5 +5,10 @@ pub mod Faulty
 pub mod Pairs
 pub mod Extended
 pub mod Grouped
+pub mod Homes
 pub mod Lowest
+pub mod Foreignness
+pub mod Verdicts
 pub mod LabelPlaces
+pub mod Numbers
+pub mod Paths

@@ -66,20 +66,27 @@ ebr_more k from es z a b lt p q =
     subst (λ (n : ℕ). NextIs (λ (s : ℕ). StandsAt s (take n es)) from (least_of a b)) e
     (next_same (λ (s : ℕ). StandsAt s (take k es) ⊎ (s ≡ (get_or es k z).at.0)) (λ (s : ℕ). StandsAt s (take (suc k) es)) from (least_of a b) (λ u. stands_back u k es z lt) (λ u. stands_more u k es z lt) (next_or _ _ from a b p q))
 
--- one more member
-abbrev pub PlacedBelow : ℕ → List (Option Member) → ℕ → ℕ → Type 0
-PlacedBelow n os k s = (j : ℕ) × (j < k) × PlacedIn n (get_or os j None) s
+-- one more of a row
+abbrev pub Under : (ℕ → ℕ → Type 0) → ℕ → ℕ → Type 0
+Under F k s = (j : ℕ) × (j < k) × F j s
 
-placed_more : (n k s : ℕ) (os : List (Option Member)) → PlacedBelow n os (k + 1) s → PlacedBelow n os k s ⊎ PlacedIn n (get_or os k None) s
-placed_more n k s os (j, lt, is) = elim (cases_lt j k) as (λ _. PlacedBelow n os k s ⊎ PlacedIn n (get_or os k None) s) [
+under_more : (F : ℕ → ℕ → Type 0) (k s : ℕ) → Under F (k + 1) s → Under F k s ⊎ F k s
+under_more F k s (j, lt, is) = elim (cases_lt j k) as (λ _. Under F k s ⊎ F k s) [
   | inl below ↦ inl (j, below, is)
-  | inr up ↦ (let same : j ≡ k = omega arith in inr (subst (λ (i : ℕ). PlacedIn n (get_or os i None) s) same is))
+  | inr up ↦ (let same : j ≡ k = omega arith in inr (subst (λ (i : ℕ). F i s) same is))
 ]
 
-placed_back : (n k s : ℕ) (os : List (Option Member)) → PlacedBelow n os k s ⊎ PlacedIn n (get_or os k None) s → PlacedBelow n os (k + 1) s
-placed_back n k s os (inl (j, lt, is)) = (j, omega arith, is)
-placed_back n k s os (inr here) = (k, omega arith, here)
+under_back : (F : ℕ → ℕ → Type 0) (k s : ℕ) → Under F k s ⊎ F k s → Under F (k + 1) s
+under_back F k s (inl (j, lt, is)) = (j, omega arith, is)
+under_back F k s (inr here) = (k, omega arith, here)
+
+pub next_more : (F : ℕ → ℕ → Type 0) (k from : ℕ) (a b : Option ℕ) → NextIs (Under F k) from a → NextIs (F k) from b → NextIs (Under F (k + 1)) from (least_of a b)
+next_more F k from a b p q =
+    next_same (λ (s : ℕ). Under F k s ⊎ F k s) (Under F (k + 1)) from (least_of a b) (λ u. under_back F k u) (λ u. under_more F k u) (next_or _ _ from a b p q)
+
+-- one more member
+abbrev pub PlacedBelow : ℕ → List (Option Member) → ℕ → ℕ → Type 0
+PlacedBelow n os k s = Under (λ j. PlacedIn n (get_or os j None)) k s
 
 pub place_more : (n k from : ℕ) (os : List (Option Member)) (a b : Option ℕ) → NextIs (PlacedBelow n os k) from a → NextIs (PlacedIn n (get_or os k None)) from b → NextIs (PlacedBelow n os (k + 1)) from (least_of a b)
-place_more n k from os a b p q =
-    next_same (λ (s : ℕ). PlacedBelow n os k s ⊎ PlacedIn n (get_or os k None) s) (PlacedBelow n os (k + 1)) from (least_of a b) (λ u. placed_back n k u os) (λ u. placed_more n k u os) (next_or _ _ from a b p q)
+place_more n k from os a b p q = next_more (λ j. PlacedIn n (get_or os j None)) k from a b p q

@@ -14,3 +14,10 @@ pub mod Spots
 pub mod Row
 pub mod Twins
 pub mod Steps
+pub mod Halves
+pub mod Foreign
+pub mod Verdicts
+pub mod Apart
+pub mod Laws
+pub mod Places
+pub mod Texts

@@ -4,12 +4,18 @@
 mod buried;
 mod faults;
 mod finding;
+mod foreign;
 mod groups;
+mod halves;
 mod health;
+mod laws;
 mod member;
+mod number;
 mod overlap;
 mod owned;
+mod ownership;
 mod path;
+mod places;
 mod search;
 mod slots;
 mod soundness;
@@ -18,8 +24,12 @@ mod tables;
 
 pub use finding::{Finding, Verdict, VerifyError};
 pub use health::verify;
+pub use laws::{finding_excludes, healthy_is_one, sound_frees_tables, unsound_excludes};
+pub use number::{parse_number, parse_path};
 pub use owned::is_owned;
+pub use ownership::Owner;
 pub use path::Path;
+pub use places::{locate, owner};
 pub use pt_recover::{
     Body, Ebrs, Labelled, Labels, Layout, NoTable, Slice, Trace, denotes_one, entry_place,
     is_slice_type, label_places, reads_decide, record_place, recover, recover_traced, stop_keeps,

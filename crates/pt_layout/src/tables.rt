@@ -17,7 +17,7 @@ use pt_recover::{Body, Layout};
 use pt_sector::Lba;
 
 // The lesser of two sectors.
-fn least(a: Option<u64>, b: Option<u64>) -> Option<u64>
+pub(crate) fn least(a: Option<u64>, b: Option<u64>) -> Option<u64>
     ensures { result ≡ least_of a b }
 {
     match (a, b) {

@@ -15,8 +15,6 @@ use Rattle.pt_bsd.specs.declared.label.Label.{Label}
 use Rattle.pt_bsd.specs.declared.label.LabelEntry.{LabelEntry}
 use Rattle.pt_bsd.specs.contracts.label.LabelPartialEq.TheImpl as label_eq
 use Rattle.pt_bsd.specs.contracts.label.LabelEntryPartialEq.TheImpl as label_entry_eq
-use Rattle.pt_gpt.specs.declared.entry.Entry.{Entry}
-use Rattle.pt_gpt.specs.contracts.entry.EntryPartialEq.TheImpl as entry_eq
 use Rattle.pt_recover.specs.declared.layout.Labelled.{Labelled}
 use Rattle.pt_recover.specs.contracts.layout.LabelledPartialEq.TheImpl as labelled_eq
 
@@ -73,13 +71,6 @@ labelled_decides a b =
     (λ h i. record { number = h.0 i; label = h.1 i })
     (λ e. (ap (λ (x : Labelled). x.number) e, ap (λ (x : Labelled). x.label) e))
 
-pub entry_decides : (a b : Entry) → Decides (entry_eq.eq-value.it a b) (a ≡ b)
-entry_decides a b =
-    decides_as (entry_eq.eq-value.it a b) ((a.kind.0 ≡ b.kind.0) × ((a.unique.0 ≡ b.unique.0) × ((a.first ≡ b.first) × ((a.last ≡ b.last) × ((a.attributes ≡ b.attributes) × (a.name ≡ b.name)))))) (a ≡ b)
-    (also (list_decides Decides-eqb a.kind.0 b.kind.0) (also (list_decides Decides-eqb a.unique.0 b.unique.0) (also (Decides-eqb a.first b.first) (also (Decides-eqb a.last b.last) (also (Decides-eqb a.attributes b.attributes) (list_decides Decides-eqb a.name b.name))))))
-    (λ h i. record { kind = record { 0 = h.0 i }; unique = record { 0 = h.1.0 i }; first = h.1.1.0 i; last = h.1.1.1.0 i; attributes = h.1.1.1.1.0 i; name = h.1.1.1.1.1 i })
-    (λ e. (ap (λ (x : Entry). x.kind.0) e, (ap (λ (x : Entry). x.unique.0) e, (ap (λ (x : Entry). x.first) e, (ap (λ (x : Entry). x.last) e, (ap (λ (x : Entry). x.attributes) e, ap (λ (x : Entry). x.name) e))))))
-
 pub ebrs_decide : (xs ys : List Ebr) → Decides (pointwise ebr_eq.eq-value.it xs ys) (xs ≡ ys)
 ebrs_decide = list_decides ebr_decides
 
@@ -88,9 +79,6 @@ labels_decide = list_decides labelled_decides
 
 pub records_decide : (xs ys : List (Option Record)) → Decides (pointwise (option_eq record_eq.eq-value.it) xs ys) (xs ≡ ys)
 records_decide = list_decides (option_decides record_decides)
-
-pub entries_decide : (xs ys : List (Option Entry)) → Decides (pointwise (option_eq entry_eq.eq-value.it) xs ys) (xs ≡ ys)
-entries_decide = list_decides (option_decides entry_decides)
 
 pub shown : {A : Type 0} (r : Bool) (x y p q : List A) → Decides r (x ≡ y) → x ≡ p → y ≡ q → Decides r (p ≡ q)
 shown r x y p q d e f = decides_as r (x ≡ y) (p ≡ q) d (λ h. sym e ∙ h ∙ f) (λ h. e ∙ h ∙ sym f)

@@ -9,3 +9,4 @@ pub mod Bodies
 pub mod Whole
 pub mod Equal
 pub mod Joined
+pub mod Searched

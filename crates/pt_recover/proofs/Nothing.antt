@@ -7,7 +7,7 @@ use Rattle.pt_mbr.specs.declared.record.Record.{Record}
 use Rattle.pt_mbr.specs.declared.ebr.Ebr.{Ebr}
 use Rattle.pt_mbr.specs.declared.chain.ChainError.{ChainError}
 use Rattle.pt_mbr.specs.declared.chain.ChainError.TheVariants.{OutsideExtended}
-use Rattle.pt_mbr.specs.Laws.{no_chain}
+use Rattle.pt_mbr.specs.Laws.{fault_has_no_chain}
 use Rattle.pt_recover.specs.Mbr.{IsMbr, extended_of, extent_of, HasChain, ExtendedReads}
 use Rattle.pt_recover.specs.Denotes.{Denotes}
 use Rattle.pt_recover.specs.One.{mbr_one}
@@ -35,7 +35,7 @@ two_extended b d m is two = inr (
 
 lone_chain : (b : ℕ) (d : Sectors) (m : List (Option Record)) (r : Record) (e : ChainError) → IsMbr d m → extended_of m ≡ r ∷ [] → ChainFault d (extent_of r) e → ¬ IsDevice e → TellsNothing b d (BadChain e)
 lone_chain b d m r e is lone fault disk = inr (
-  no_body b d m is (λ list has. disk (no_chain d (extent_of r) e list fault (subst (λ (rs : List Record). HasChain d rs list) lone has))),
+  no_body b d m is (λ list has. disk (fault_has_no_chain d (extent_of r) e list fault (subst (λ (rs : List Record). HasChain d rs list) lone has))),
   record { records = m; extended = r; is_mbr = is; lone = lone; fault = fault; told = disk },
 )
 

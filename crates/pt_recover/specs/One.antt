@@ -3,7 +3,7 @@ use Rattle.std.proofs.Common.{◌≡◌, ℕ, List, [], ◌∷◌, length, Optio
 use Rattle.pt_sector.specs.Sectors.{Sectors, sector}
 use Rattle.pt_mbr.specs.declared.record.Record.{Record}
 use Rattle.pt_mbr.specs.declared.ebr.Ebr.{Ebr}
-use Rattle.pt_mbr.specs.Laws.{records_one, chain_one}
+use Rattle.pt_mbr.specs.Laws.{records_are_one, chain_is_one}
 use Rattle.pt_bsd.specs.Laws.{label_one}
 use Rattle.pt_gpt.specs.Laws.{copy_is_one_lem}
 use Rattle.pt_gpt.specs.declared.table.Table.{Table}
@@ -19,11 +19,11 @@ use Rattle.pt_recover.specs.declared.layout.Body.{Body}
 use Rattle.pt_recover.specs.declared.layout.Body.TheVariants.{Mbr, Gpt}
 
 pub mbr_one : (d : Sectors) (m n : List (Option Record)) → IsMbr d m → IsMbr d n → m ≡ n
-mbr_one d m n p q = records_one m n (sector d 0) p.1 q.1
+mbr_one d m n p q = records_are_one m n (sector d 0) p.1 q.1
 
 chains_one : (d : Sectors) (rs : List Record) (list other : List Ebr) → HasChain d rs list → HasChain d rs other → list ≡ other
 chains_one d [] list other p q = p ∙ sym q
-chains_one d (r ∷ []) list other p q = chain_one d (extent_of r) list other p q
+chains_one d (r ∷ []) list other p q = chain_is_one d (extent_of r) list other p q
 chains_one d (r ∷ s ∷ rs) list other p q = absurd p
 
 pub table_one : (b : ℕ) (d : Sectors) (t u : Table) → TableIs b d t → TableIs b d u → t ≡ u

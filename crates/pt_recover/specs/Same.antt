@@ -5,7 +5,7 @@ use Rattle.pt_sector.specs.Sectors.{Sectors, sector, Agrees}
 use Rattle.pt_mbr.specs.Mbr.{AreRecords}
 use Rattle.pt_mbr.specs.declared.record.Record.{Record}
 use Rattle.pt_mbr.specs.declared.ebr.Ebr.{Ebr}
-use Rattle.pt_mbr.specs.Laws.{same_chains}
+use Rattle.pt_mbr.specs.Laws.{chain_reads_decide}
 use Rattle.pt_bsd.specs.Label.{LabelBytes}
 use Rattle.pt_gpt.specs.Copy.{HasCopy, SameSide}
 use Rattle.pt_gpt.specs.Laws.{side_reads_decide_lem}
@@ -46,7 +46,7 @@ record SameExtended (rs : List Record) (c d : Sectors) : Type 0 where
 extended_same : (rs : List Record) (c d : Sectors) → Agrees (ExtendedReads d rs) c d → SameExtended rs c d
 extended_same [] c d agrees = record { chain = λ list. (λ h. h, λ h. h); reads = λ s. (λ h. h, λ h. h) }
 extended_same (r ∷ []) c d agrees =
-    let same = same_chains (extent_of r) c d agrees in
+    let same = chain_reads_decide (extent_of r) c d agrees in
     record { chain = same.chain; reads = same.reads }
 extended_same (r ∷ t ∷ rs) c d agrees = record { chain = λ list. (λ h. h, λ h. h); reads = λ s. (λ h. h, λ h. h) }
 

@@ -5,8 +5,7 @@ ghost use Rattle.pt_mbr.specs.declared.ebr.Ebr.{Ebr};
 ghost use Rattle.pt_recover.specs.declared.layout.Labelled.{Labelled};
 
 use pt_bsd::Label;
-use pt_gpt::{Entries, Table};
-use pt_guid::Guid;
+use pt_gpt::Table;
 use pt_mbr::{Ebr, Record};
 use std::alloc::{AllocError, Global};
 use std::marker::Model;
@@ -147,13 +146,8 @@ impl Body {
                 })
             }
             Body::Gpt(table) => {
-                let entries = table.entries.copy(alloc)?;
-                Ok(Body::Gpt(Table {
-                    disk: table.disk,
-                    first: table.first,
-                    last: table.last,
-                    entries,
-                }))
+                let table = table.copy(alloc)?;
+                Ok(Body::Gpt(table))
             }
         }
     }
@@ -175,7 +169,7 @@ impl Body {
                 }
                 chain.same(with)
             }
-            (Body::Gpt(table), Body::Gpt(with)) => same_table(table, with),
+            (Body::Gpt(table), Body::Gpt(with)) => table.same(with),
             _ => false,
         }
     }
@@ -185,33 +179,6 @@ fn same_records(records: &[Option<Record>; 4], others: &[Option<Record>; 4]) -> 
     ensures { IsTrue result ↔ (records.now ≡ others.now) }
 {
     records == others
-}
-
-fn same_entries(entries: &Entries, others: &Entries) -> bool
-    ensures { IsTrue result ↔ (entries.now ≡ others.now) }
-{
-    entries.as_slice() == others.as_slice()
-}
-
-fn same_guid(guid: &Guid, other: &Guid) -> bool
-    ensures { IsTrue result ↔ (guid.now ≡ other.now) }
-{
-    guid == other
-}
-
-fn same_table(table: &Table, other: &Table) -> bool
-    ensures { IsTrue result ↔ (table.now ≡ other.now) }
-{
-    if table.first != other.first {
-        return false;
-    }
-    if table.last != other.last {
-        return false;
-    }
-    if !same_guid(&table.disk, &other.disk) {
-        return false;
-    }
-    same_entries(&table.entries, &other.entries)
 }
 
 /// What a disk denotes.

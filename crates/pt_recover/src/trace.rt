@@ -1,7 +1,7 @@
 //! The sectors that a recovery read.
 
 ghost use Rattle.std.specs.Prelude.{◌≡◌, ◌≤◌, ◌↔◌, ℕ, List, IsTrue, OnOk};
-ghost use Rattle.pt_recover.specs.Spans.{InRun, IsIn, Apart, hull, joined, StandsAs, Adds};
+ghost use Rattle.pt_recover.specs.Spans.{IsIn, Apart, hull, joined, StandsAs, Adds};
 ghost use Rattle.pt_recover.specs.declared.trace.Run.{Run};
 
 use pt_sector::Lba;
@@ -24,12 +24,6 @@ enum Order {
 }
 
 impl Run {
-    fn holds(&self, lba: Lba) -> bool
-        ensures { IsTrue result ↔ InRun self.now lba.0 }
-    {
-        self.first <= lba.0 && lba.0 <= self.last
-    }
-
     fn order(&self, other: &Run) -> Order
         ensures { StandsAs self.now other.now result }
     {
@@ -110,12 +104,11 @@ impl Trace {
     pub fn contains(&self, lba: Lba) -> bool
         ensures { IsTrue result ↔ IsIn self.now lba.0 }
     {
-        for k in 0..self.runs.len() {
-            if self.runs[k].holds(lba) {
-                return true;
-            }
+        let at = self.runs.partition_point(|run| run.last < lba.0);
+        match self.runs.get(at) {
+            Some(run) => run.first <= lba.0,
+            None => false,
         }
-        false
     }
 
     /// Adds the sectors from a first to a last.

@@ -9,5 +9,5 @@ use Rattle.pt_edit.proofs.fold.edit.Given as goal
 
 abbrev pub invariant-loop-word : goal.invariant-loop-word
 invariant-loop-word g l =
-    (r : Result Layout Refusal) → EditedFrom (drop l.word-index l.edits) (state_of l.guids l.state) r
+    (r : Result Layout Refusal) → EditedFrom g.row.B l.sectors (drop l.word-index l.edits) (state_of l.guids l.state) r
     → Edited g.row.B l.sectors (option_map (λ o. o.now) l.old) l.edits l.guids r

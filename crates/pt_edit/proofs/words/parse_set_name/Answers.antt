@@ -15,16 +15,16 @@ returns-in-None-rest-clause-err c = λ _.
     let all = c.in-Some.ensures.some ∙ ap (λ (r : Option (Bor (List ℕ))). c.in-Some.number.now ∷ fields_after (option_map (λ t. t.now) r)) c.in-None-rest.is in
     subst (λ (r : List (List ℕ)). IsFault (99 ∷ []) r FieldCount) (sym all) (bad_count 99 (c.in-Some.number.now ∷ []) refl refl)
 
-pub returns-in-None-number_in-clause-err : goal.returns-in-None-number_in-clause-err
-returns-in-None-number_in-clause-err c = λ _.
+pub returns-in-None-entry_number-clause-err : goal.returns-in-None-entry_number-clause-err
+returns-in-None-entry_number-clause-err c = λ _.
     let text = c.in-Some-rest.name.now in
     let more = some_field text in
     let all = c.in-Some.ensures.some ∙ ap (λ (r : Option (Bor (List ℕ))). c.in-Some.number.now ∷ fields_after (option_map (λ t. t.now) r)) c.in-Some-rest.is in
     bad_field 99 (number 1 greatest ∷ []) _ (c.in-Some.number.now ∷ fields text) _ refl (name_count (length (c.in-Some.number.now ∷ fields text)) (omega (arith, more))) all
-    (inl (c.in-None-number_in.ensures.none, refl))
+    (inl (c.in-None-entry_number.ensures.none, refl))
 
 pub returns-in-Ok-clause-ok : goal.returns-in-Ok-clause-ok
 returns-in-Ok-clause-ok c =
     let all = c.in-Some.ensures.some ∙ ap (λ (r : Option (Bor (List ℕ))). c.in-Some.number.now ∷ fields_after (option_map (λ t. t.now) r)) c.in-Some-rest.is in
     let (g, rest, whole, joined) = named_rest _ c.in-Some.number.now c.in-Some-rest.name.now all in
-    (c.in-Some.number.now, g, rest, whole, c.in-Some-number_in.ensures.some, c.in-Ok.ensures.ok ∙ joined)
+    (c.in-Some.number.now, g, rest, whole, c.in-Some-entry_number.ensures.some, c.in-Ok.ensures.ok ∙ joined)

@@ -1,0 +1,76 @@
+//! The words `U`, `e` and `o`, which change a GPT itself.
+
+ghost use Rattle.std.specs.Prelude.{◌≡◌, IfOk, IfErr};
+ghost use Rattle.pt_sector.specs.Sectors.{IsSectorSize};
+ghost use Rattle.pt_recover.specs.Gpt.{HasRoom};
+ghost use Rattle.pt_edit.specs.Changes.{DiskSet, Extended, NoTable, edge};
+ghost use Rattle.pt_edit.specs.Edited.{empty_gpt};
+
+use crate::error::Refusal;
+use crate::gpt::Gpt;
+use pt_gpt::{Entries, Table, array_sectors};
+use pt_guid::Guid;
+use pt_recover::{Body, Labels, Layout};
+use std::alloc::{AllocError, Global};
+
+/// How many entries a new GPT has.
+const ENTRIES: usize = 128;
+
+// The layout with another GUID of the disk.
+pub(crate) fn set_disk(layout: Layout, guid: &Guid) -> Result<Layout, Refusal>
+    ensures ok { IfOk result (λ made. DiskSet guid.now layout made) }
+    ensures err { IfErr result (NoTable layout) }
+{
+    let mut gpt = match Gpt::of(layout) {
+        Ok(gpt) => gpt,
+        Err(refusal) => return Err(refusal),
+    };
+    gpt.table.disk = *guid;
+    Ok(gpt.whole())
+}
+
+// The first usable sector of a new GPT.
+pub(crate) fn first_usable<const B: usize>() -> u64
+    requires size { IsSectorSize B }
+    ensures { result ≡ edge B }
+{
+    array_sectors::<B>() + 2
+}
+
+// The layout with its last usable sector where the present end of the disk allows it.
+pub(crate) fn extend<const B: usize>(layout: Layout) -> Result<Layout, Refusal>
+    requires size { IsSectorSize B }
+    ensures ok { IfOk result (λ made. Extended B layout made) }
+    ensures err { IfErr result (NoTable layout) }
+{
+    let mut gpt = match Gpt::of(layout) {
+        Ok(gpt) => gpt,
+        Err(refusal) => return Err(refusal),
+    };
+    gpt.table.last = gpt.sectors.saturating_sub(first_usable::<B>());
+    Ok(gpt.whole())
+}
+
+// An empty GPT on a disk that has room for one.
+pub(crate) fn empty<const B: usize>(
+    alloc: Global,
+    sectors: u64,
+    guid: &Guid,
+) -> Result<Layout, AllocError>
+    requires size { IsSectorSize B }
+    requires room { HasRoom B sectors }
+    ensures { IfOk result (λ made. made ≡ empty_gpt B sectors guid.now) }
+{
+    let entries = Vec::from_slice(alloc, &[None; ENTRIES])?;
+    let first = first_usable::<B>();
+    Ok(Layout {
+        sectors,
+        body: Body::Gpt(Table {
+            disk: *guid,
+            first,
+            last: sectors - first,
+            entries: Entries::new(entries),
+        }),
+        labels: Labels::new(Vec::new(alloc)),
+    })
+}

@@ -1,0 +1,44 @@
+use Rattle.std.proofs.Common.{◌≡◌, ◌∙◌, ℕ, length, Some, None, sym, subst}
+use Rattle.std.specs.Prelude.{IfOk}
+use Rattle.pt_sector.specs.Sectors.{Sectors}
+use Rattle.pt_sector.specs.Device.{Told}
+use Rattle.pt_recover.specs.Gpt.{HasRoom}
+use Rattle.pt_recover.specs.Denotes.{Denotes}
+use Rattle.pt_layout.specs.declared.finding.Verdict.{Verdict}
+use Rattle.pt_layout.specs.Healthy.{IsBodyWhole}
+use Rattle.pt_layout.specs.Verdicts.{PairIs}
+use Rattle.pt_layout.specs.Findings.{VerdictIs}
+use Rattle.pt_layout.proofs.Verdicts.{pair_finding, pair_whole, pair_denotes}
+use Rattle.pt_layout.proofs.health.verify_both.Goals as goal
+
+pub returns-in-Some-clause-ok : goal.returns-in-Some-clause-ok
+returns-in-Some-clause-ok g c = λ tells.
+    let d : Sectors = (g.D.Disk.told c.args.disk.now).seen in
+    let sized : length d ≡ g.D.Disk.count c.args.disk.now = g.met.D.Disk.sized c.args.disk.now tells in
+    let room : HasRoom g.row.B (length d) = subst (λ (n : ℕ). HasRoom g.row.B n) (sym sized) c.requires.room in
+    let pair : PairIs (length d) c.args.protected c.args.primary c.args.backup (Some c.in-Some.finding) =
+    subst (λ (n : ℕ). PairIs n c.args.protected c.args.primary c.args.backup (Some c.in-Some.finding)) (c.sectors-sectors.ensures ∙ sym sized) c.in-Some.ensures in
+    pair_finding g.row.B d c.args.protected c.args.primary c.args.backup c.in-Ok.layout c.in-Some.finding (c.requires.open tells) room (c.requires.primary tells) (c.requires.backup tells) pair (c.in-Ok.ensures.ok tells)
+
+pub judge-requires-clause-denotes : goal.judge-requires-clause-denotes
+judge-requires-clause-denotes g c = λ tells.
+    let d : Sectors = (g.D.Disk.told c.args.disk.now).seen in
+    let room : HasRoom g.row.B (length d) = subst (λ (n : ℕ). HasRoom g.row.B n) (sym (g.met.D.Disk.sized c.args.disk.now tells)) c.requires.room in
+    subst (λ (t : Told). Denotes g.row.B t.seen (Some c.in-Ok.layout)) (sym (c.in-Ok.ensures.same tells))
+    (pair_denotes g.row.B d c.args.protected c.args.primary c.in-Ok.layout (c.requires.open tells) room (c.requires.primary tells) (c.in-Ok.ensures.ok tells))
+
+pub judge-requires-clause-whole : goal.judge-requires-clause-whole
+judge-requires-clause-whole g c = λ tells.
+    let d : Sectors = (g.D.Disk.told c.args.disk.now).seen in
+    let sized : length d ≡ g.D.Disk.count c.args.disk.now = g.met.D.Disk.sized c.args.disk.now tells in
+    let pair : PairIs (length d) c.args.protected c.args.primary c.args.backup None =
+    subst (λ (n : ℕ). PairIs n c.args.protected c.args.primary c.args.backup None) (c.sectors-sectors.ensures ∙ sym sized) c.in-None.ensures in
+    subst (λ (t : Told). IsBodyWhole g.row.B t.seen c.in-Ok.layout.body) (sym (c.in-Ok.ensures.same tells))
+    (pair_whole g.row.B d c.args.protected c.args.primary c.args.backup c.in-Ok.layout (c.requires.open tells) (c.requires.primary tells) (c.requires.backup tells) pair (c.in-Ok.ensures.ok tells))
+
+pub returns-clause-same : goal.returns-clause-same
+returns-clause-same g c = λ tells. c.judge.ensures.same tells ∙ c.in-Ok.ensures.same tells
+
+pub returns-clause-ok : goal.returns-clause-ok
+returns-clause-ok g c = λ tells.
+    subst (λ (t : Told). IfOk c.judge.result (λ (v : Verdict). VerdictIs g.row.B t.seen v)) (c.in-Ok.ensures.same tells) (c.judge.ensures.ok tells)

@@ -1,0 +1,17 @@
+use Rattle.std.proofs.Common.{◌≡◌, ◌∙◌, length, sym, subst, arith}
+use Rattle.pt_sector.specs.Sectors.{Sectors}
+use Rattle.pt_sector.specs.Device.{Told}
+use Rattle.pt_recover.specs.Gpt.{HasRoom}
+use Rattle.pt_layout.specs.Verdicts.{IsOpen}
+use Rattle.pt_layout.proofs.Verdicts.{small_finding}
+use Rattle.pt_layout.proofs.health.verify_gpt.Goals as goal
+
+pub returns-then-sectors-array_sectors-clause-ok : goal.returns-then-sectors-array_sectors-clause-ok
+returns-then-sectors-array_sectors-clause-ok g c = λ tells.
+    let d : Sectors = (g.D.Disk.told c.args.disk.now).seen in
+    let sized : c.sectors-sectors.result ≡ length d = c.sectors-sectors.ensures ∙ sym (g.met.D.Disk.sized c.args.disk.now tells) in
+    let small : ¬ HasRoom g.row.B (length d) = λ room. omega arith in
+    small_finding g.row.B d c.args.protected (c.requires.open tells) small
+
+pub verify_halves-requires-clause-open : goal.verify_halves-requires-clause-open
+verify_halves-requires-clause-open g c = λ tells. subst (λ (t : Told). IsOpen t.seen c.args.protected) (sym (c.in-Ok.ensures.same tells)) (c.requires.open tells)

@@ -1,0 +1,47 @@
+-- The sectors of partitions, and the owners of sectors.
+use Rattle.std.specs.Prelude.{◌≡◌, ◌<◌, ◌≤◌, ◌⊎◌, ◌+◌, ℕ}
+use Rattle.pt_recover.specs.declared.layout.Layout.{Layout}
+use Rattle.pt_recover.specs.declared.layout.Body.{Body}
+use Rattle.pt_recover.specs.declared.layout.Body.TheVariants.{Mbr, Gpt}
+use Rattle.pt_layout.specs.declared.path.Path.{Path}
+use Rattle.pt_layout.specs.declared.member.Kind.TheVariants as kind
+use Rattle.pt_layout.specs.declared.member.Member.{Member}
+use Rattle.pt_layout.specs.declared.ownership.Owner.{Owner}
+use Rattle.pt_layout.specs.declared.ownership.Owner.TheVariants.{Partition, Table, Reserved, Free}
+use Rattle.pt_layout.specs.Members.{IsMember, Exists, Holds}
+use Rattle.pt_layout.specs.Tables.{IsTable}
+use Rattle.pt_layout.specs.Owned.{Owns}
+
+-- s is sector k, from 0 on, of the leaf of this path
+pub record IsPlaceOf (b : ℕ) (o : Layout) (p : Path) (k s : ℕ) : Type 0 where
+  pub leaf : Member
+  pub is_member : IsMember b o leaf
+  pub is_leaf : leaf.kind ≡ kind.Leaf
+  pub path : leaf.path ≡ p
+  pub exists : Exists leaf
+  pub within : leaf.first + k ≤ leaf.last
+  pub place : s ≡ leaf.first + k
+
+-- the sector lies in a slice
+pub record IsInSlice (b : ℕ) (o : Layout) (s : ℕ) : Type 0 where
+  pub slice : Member
+  pub is_member : IsMember b o slice
+  pub is_slice : slice.kind ≡ kind.Slice
+  pub exists : Exists slice
+  pub holds : Holds slice s
+
+-- the sector lies outside the usable ones of a GPT
+abbrev pub IsUnusable : Body → ℕ → Type 0
+IsUnusable (Mbr records chain) s = ⊥
+IsUnusable (Gpt t) s = (s < t.first) ⊎ (t.last < s)
+
+-- the sector lies in a slice, or outside the usable ones
+abbrev pub IsReserved : ℕ → Layout → ℕ → Type 0
+IsReserved b o s = IsInSlice b o s ⊎ IsUnusable o.body s
+
+-- the first of these that holds
+abbrev pub OwnerIs : ℕ → Layout → ℕ → Owner → Type 0
+OwnerIs b o s (Partition p) = (k : ℕ) × IsPlaceOf b o p k s
+OwnerIs b o s Table = (¬ Owns b o s) × IsTable b o s
+OwnerIs b o s Reserved = (¬ Owns b o s) × (¬ IsTable b o s) × IsReserved b o s
+OwnerIs b o s Free = (¬ Owns b o s) × (¬ IsTable b o s) × (¬ IsReserved b o s)

@@ -1,0 +1,134 @@
+//! The two copies of a GPT, with their headers.
+
+ghost use Rattle.std.specs.Prelude.{◌≡◌, ◌-◌, ◌<◌, ◌≤◌, ◌⊎◌, ◌↔◌, IsTrue, IfOk, IfErr, OnOk};
+ghost use Rattle.pt_sector.specs.Sectors.{IsSectorSize};
+ghost use Rattle.pt_gpt.specs.Errors.{FailedAs as FailedAsCopy};
+ghost use Rattle.pt_gpt.specs.Answers.{TellsFault};
+ghost use Rattle.pt_recover.specs.Gpt.{HasRoom};
+ghost use Rattle.pt_layout.specs.Findings.{FailedAs};
+ghost use Rattle.pt_layout.specs.Halves.{HalfIs, HalfOrFault, HalvesAre, OutsideAs, paired_as};
+
+use crate::finding::VerifyError;
+use pt_gpt::{CopyError, Header, Side, Table, read_head, read_table};
+use pt_sector::Disk;
+use std::alloc::Global;
+
+/// A copy of the table with its header.
+#[derive(Drop)]
+pub struct Half {
+    pub(crate) header: Header,
+    pub(crate) table: Table,
+}
+
+/// The two copies, or why one doesn't exist.
+#[derive(Drop)]
+pub enum Halves {
+    Both(Half, Half),
+    OnlyPrimary(Half, CopyError),
+    OnlyBackup(CopyError, Half),
+    Neither(CopyError, CopyError),
+}
+
+fn read_half<const B: usize, D: Disk<B>>(
+    alloc: Global,
+    disk: &mut D,
+    side: Side,
+) -> Result<Half, CopyError>
+    requires size { IsSectorSize B }
+    requires room { HasRoom B (D.count disk.old) }
+    ensures count { D.count disk.new ≡ D.count disk.old }
+    ensures name { D.name disk.new ≡ D.name disk.old }
+    ensures reads { D.reads disk.old disk.new }
+    ensures quiet { OnOk result (D.failures disk.new ≡ D.failures disk.old) }
+    ensures failed { IfErr result (λ e. FailedAsCopy e (D.failures disk.old) (D.failures disk.new)) }
+    ensures same { D.tells → D.told disk.new ≡ D.told disk.old }
+    ensures ok { D.tells → IfOk result (λ h. HalfIs B (D.told disk.old).seen side h) }
+    ensures err { D.tells → IfErr result (λ e. TellsFault B (D.told disk.old).seen side e) }
+{
+    let header = match read_head(disk, side) {
+        Ok(header) => header,
+        Err(e) => return Err(e),
+    };
+    match read_table(alloc, disk, side, &header) {
+        Ok(table) => Ok(Half { header, table }),
+        Err(e) => Err(e),
+    }
+}
+
+// What an error is told as that the disk's content doesn't explain.
+fn outside(e: CopyError) -> Option<VerifyError>
+    ensures { OutsideAs e result }
+{
+    match e {
+        CopyError::Device(at) => Some(VerifyError::Device(at)),
+        CopyError::Memory => Some(VerifyError::Memory),
+        _ => None,
+    }
+}
+
+// A copy, or the rule that it breaks.
+fn half_or_fault<const B: usize, D: Disk<B>>(
+    alloc: Global,
+    disk: &mut D,
+    side: Side,
+) -> Result<Result<Half, CopyError>, VerifyError>
+    requires size { IsSectorSize B }
+    requires room { HasRoom B (D.count disk.old) }
+    ensures count { D.count disk.new ≡ D.count disk.old }
+    ensures name { D.name disk.new ≡ D.name disk.old }
+    ensures reads { D.reads disk.old disk.new }
+    ensures quiet { OnOk result (D.failures disk.new ≡ D.failures disk.old) }
+    ensures failed { IfErr result (λ e. FailedAs e (D.failures disk.old) (D.failures disk.new)) }
+    ensures same { D.tells → D.told disk.new ≡ D.told disk.old }
+    ensures ok { D.tells → IfOk result (λ h. HalfOrFault B (D.told disk.old).seen side h) }
+{
+    let e = match read_half(alloc, disk, side) {
+        Ok(half) => return Ok(Ok(half)),
+        Err(e) => e,
+    };
+    match outside(e) {
+        Some(error) => Err(error),
+        None => Ok(Err(e)),
+    }
+}
+
+/// Both copies of a disk with room for them.
+pub(crate) fn read_halves<const B: usize, D: Disk<B>>(
+    alloc: Global,
+    disk: &mut D,
+) -> Result<Halves, VerifyError>
+    requires size { IsSectorSize B }
+    requires room { HasRoom B (D.count disk.old) }
+    ensures count { D.count disk.new ≡ D.count disk.old }
+    ensures name { D.name disk.new ≡ D.name disk.old }
+    ensures reads { D.reads disk.old disk.new }
+    ensures quiet { OnOk result (D.failures disk.new ≡ D.failures disk.old) }
+    ensures failed { IfErr result (λ e. FailedAs e (D.failures disk.old) (D.failures disk.new)) }
+    ensures same { D.tells → D.told disk.new ≡ D.told disk.old }
+    ensures ok { D.tells → IfOk result (λ h. HalvesAre B (D.told disk.old).seen h) }
+{
+    let primary = match half_or_fault(alloc, disk, Side::Primary) {
+        Ok(primary) => primary,
+        Err(e) => return Err(e),
+    };
+    let backup = match half_or_fault(alloc, disk, Side::Backup) {
+        Ok(backup) => backup,
+        Err(e) => return Err(e),
+    };
+    Ok(paired(primary, backup))
+}
+
+fn paired(primary: Result<Half, CopyError>, backup: Result<Half, CopyError>) -> Halves
+    ensures { result ≡ paired_as primary backup }
+{
+    match primary {
+        Ok(p) => match backup {
+            Ok(q) => Halves::Both(p, q),
+            Err(f) => Halves::OnlyPrimary(p, f),
+        },
+        Err(e) => match backup {
+            Ok(q) => Halves::OnlyBackup(e, q),
+            Err(f) => Halves::Neither(e, f),
+        },
+    }
+}

@@ -1,0 +1,35 @@
+//! Laws of layouts and disks. Each function does nothing: its contract is the law.
+
+ghost use Rattle.std.specs.Prelude.{◌≡◌, ℕ};
+ghost use Rattle.pt_sector.specs.Sectors.{Sectors};
+ghost use Rattle.pt_recover.specs.declared.layout.Layout.{Layout};
+ghost use Rattle.pt_layout.specs.declared.finding.Finding.{Finding as FindingValue};
+ghost use Rattle.pt_layout.specs.Tables.{IsTable};
+ghost use Rattle.pt_layout.specs.Owned.{Owns};
+ghost use Rattle.pt_layout.specs.Sound.{Sound, IsUnsound};
+ghost use Rattle.pt_layout.specs.Healthy.{IsHealthy, Healthy};
+ghost use Rattle.pt_layout.specs.Findings.{IsFinding};
+
+/// In a sound layout no partition owns a sector of a table.
+#[tactic(auto, using(crate::specs::Laws::sound_frees_tables_lem))]
+pub fn sound_frees_tables()
+    ensures { (b : ℕ) (o : Layout) (s : ℕ) → Sound b o → Owns b o s → ¬ IsTable b o s }
+{}
+
+/// A finding of `unsound` excludes soundness.
+#[tactic(auto, using(crate::specs::Laws::unsound_excludes_lem))]
+pub fn unsound_excludes()
+    ensures { (b : ℕ) (o : Layout) (f : FindingValue) → IsUnsound b o f → ¬ Sound b o }
+{}
+
+/// A finding of `verify` excludes health.
+#[tactic(auto, using(crate::specs::Laws::finding_excludes_lem))]
+pub fn finding_excludes()
+    ensures { (b : ℕ) (d : Sectors) (f : FindingValue) → IsFinding b d f → ¬ Healthy b d }
+{}
+
+/// A disk is healthy with one layout at most.
+#[tactic(auto, using(crate::specs::Laws::healthy_is_one_lem))]
+pub fn healthy_is_one()
+    ensures { (b : ℕ) (d : Sectors) (o p : Layout) → IsHealthy b d o → IsHealthy b d p → o ≡ p }
+{}
