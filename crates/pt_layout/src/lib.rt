@@ -21,6 +21,8 @@ mod slots;
 mod soundness;
 mod spot;
 mod tables;
+#[cfg(test)]
+mod tests;
 
 pub use finding::{Finding, Verdict, VerifyError};
 pub use health::verify;
