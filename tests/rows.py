@@ -52,6 +52,13 @@ def shown(name=""):
 def gpt_rows(command):
     whole = one_partition()
     command.on(whole).gives(["show"], shown()).gives(["verify"], "yes\n")
+    for place, wanted in (("0", "2048"), ("1", "2049"), ("2014", "4062")):
+        command.gives(["locate", "1", place], f"{wanted}\n")
+    for path, place in (("1", "2015"), ("2", "0"), ("1.a", "0"), ("1", "18446744073709551615")):
+        command.gives(["locate", path, place], "none\n", status=1)
+    for path, place, fault in (("0", "0", "path"), ("01", "0", "path"), ("1.i", "0", "path"), ("1.A", "x", "path"),
+                               ("1", "x", "number"), ("1", "01", "number"), ("1", "18446744073709551616", "number")):
+        command.gives(["locate", path, place], "", f"bad {fault}\n", 2)
     flipped = bytearray(whole)
     flipped[2 * 512 + 200] ^= 1
     command.on(flipped).gives(["show"], shown()).gives(["verify"], "no 2 primary copy 9\n", status=1)
@@ -182,6 +189,8 @@ def slices(command):
     command.on(image).gives(["show"], head).gives(["verify"], "yes\n")
     put(image, 2049, label(4096, {0: (2000, 16, 7)}))
     command.on(image).gives(["show"], head + "1.a 2064 4063 07\n").gives(["verify"], "yes\n")
+    command.gives(["locate", "1.a", "5"], "2069\n").gives(["locate", "1", "0"], "none\n", status=1)
+    command.gives(["locate", "1.c", "0"], "none\n", status=1)
     put(image, 2049, label(4096, {0: (2000, 0, 7)}))
     command.on(image).gives(["show"], head + "1.a 2048 4047 07\n").gives(["verify"], "no 7 outside 1.a\n", status=1)
     put(image, 2049, label(4096, {0: (2000, 0, 7)}, checksum=0x1234))

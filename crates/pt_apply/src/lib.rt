@@ -2,5 +2,7 @@
 #![tactic(auto)]
 
 mod plan;
+#[cfg(test)]
+mod tests;
 
 pub use plan::{Plan, Write, apply};

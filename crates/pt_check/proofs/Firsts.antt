@@ -12,7 +12,9 @@ use Rattle.pt_sector.specs.Written.{after-take_more}
 use Rattle.pt_check.specs.Course.{phase_at, disk_after}
 use Rattle.pt_apply.specs.Plans.{writes_of, phases_in}
 use Rattle.pt_apply.specs.declared.plan.Write.{Write}
-use Rattle.pt_check.specs.First.{writes_in, NoneIs, IsFirst}
+use Rattle.pt_check.specs.First.{writes_in, NoneIs, IsFirst, FirstWriteIs}
+use Rattle.pt_check.specs.Reasons.{FirstWrite, FirstSector}
+use Rattle.pt_check.specs.declared.objection.Found.{Found}
 
 -- phases of a plan
 
@@ -152,3 +154,11 @@ index_within ps i lt = omega (arith, lt, length-phases ps)
 pub seen_on : (phases : List Writes) (d : Sectors) (i : ℕ) (ws : Writes) (before after_it : Sectors) → i < length phases → ws ≡ phase_at phases i → before ≡ disk_after phases d i → after_it ≡ written ws before → after_it ≡ disk_after phases d (i + 1)
 seen_on phases d i ws before after_it lt is here put =
     put ∙ ap (λ (w : Writes). written w before) is ∙ ap (written (phase_at phases i)) here ∙ sym (after-take_more phases i (phase_at phases i) d lt (get_or_default phases i [] (phase_at phases i) lt))
+
+-- the number of a write that was found
+pub first_number : (phases : List Writes) (P : List ℕ → ℕ × List ℕ → Type 0) (x y : List ℕ) (f : Found) → x ≡ y → FirstWriteIs (P x) (writes_in phases) (Some f) → FirstWrite phases (P y) f.number
+first_number phases P x y f same (k, w, number, lba, first) = record { at = k; write = w; is = number; first = subst (λ (z : List ℕ). IsFirst (P z) (writes_in phases) k w) same first }
+
+-- the sector of a write that was found
+pub first_sector : (phases : List Writes) (P : ℕ × List ℕ → Type 0) (f : Found) → FirstWriteIs P (writes_in phases) (Some f) → FirstSector phases P f.lba.0
+first_sector phases P f (k, w, number, lba, first) = record { at = k; write = w; is = lba; first = first }

@@ -9,7 +9,7 @@ use Rattle.pt_sector.specs.Writes.{Writes, Puts, Stopped, written, after}
 use Rattle.pt_sector.specs.Written.{stopped_none, stopped_one, stopped_written, agrees_stopped, after-take_more}
 use Rattle.pt_apply.specs.Runs.{StoppedIn}
 use Rattle.pt_apply.specs.Promises.{Switches}
-use Rattle.pt_check.specs.Course.{phase_at, disk_after, IsCalm, LayoutsAre, Course}
+use Rattle.pt_check.specs.Course.{phase_at, disk_after, IsCalm, LayoutsAre, switch_number}
 
 module _ {L : Type 0} (denotes : Sectors → Option L → Type 0) (reads : Sectors → ℕ → Type 0)
     (decide : (c x : Sectors) → Agrees (reads x) c x → (o : Option L) → denotes x o → denotes c o) where
@@ -33,11 +33,6 @@ module _ {L : Type 0} (denotes : Sectors → Option L → Type 0) (reads : Secto
         (λ done. inr (λ o is. subst (λ (y : Sectors). denotes y o) (next i lt ∙ sym done) is))
         (calm_or (disk_after phases d i) (phase_at phases i) c calm stop)
 
-    -- the switch as a number, 0 where there was none
-    abbrev pub number : Option ℕ → ℕ
-    number None = 0
-    number (Some s) = s
-
     module _ (old new : Option L) (calm : (i : ℕ) → i < length phases → IsCalm denotes reads phases d i) (end : denotes (after phases d) new)
         (one : (x : Sectors) (o p : Option L) → denotes x o → denotes x p → o ≡ p) where
       end_new : denotes (disk_after phases d (length phases)) new
@@ -49,7 +44,7 @@ module _ {L : Type 0} (denotes : Sectors → Option L → Type 0) (reads : Secto
           subst (λ (y : Sectors). denotes y new) (sym (stopped_none (disk_after phases d (length phases)) c none)) end_new
 
       within : (switch : Option ℕ) → LayoutsAre denotes reads phases d old new (length phases) switch → (i : ℕ) → i < length phases → (c : Sectors) → StoppedIn phases d i c
-          → Switches (denotes c) old new (number switch) (i + 1)
+          → Switches (denotes c) old new (switch_number switch) (i + 1)
       within None olds i lt c stop =
           let same : old ≡ new = one (disk_after phases d (length phases)) old new (olds (length phases) (omega arith)) end_new in
           let is_old : denotes c old = ⊎_elim (λ on. on old (olds i (omega (arith, lt)))) (λ on. on old (olds (i + 1) (omega (arith, lt)))) (stop_or i lt (calm i lt) c stop) in
@@ -61,19 +56,19 @@ module _ {L : Type 0} (denotes : Sectors → Option L → Type 0) (reads : Secto
       }
 
       at_end : (switch : Option ℕ) → LayoutsAre denotes reads phases d old new (length phases) switch → (i : ℕ) → i ≡ length phases → (c : Sectors) → StoppedIn phases d i c
-          → Switches (denotes c) old new (number switch) (i + 1)
+          → Switches (denotes c) old new (switch_number switch) (i + 1)
       at_end switch layouts i is c stop =
           let is_new : denotes c new = past_end c (subst (λ (j : ℕ). StoppedIn phases d j c) is stop) in
-          let below : number switch ≤ length phases = most_number switch layouts in
+          let below : switch_number switch ≤ length phases = most_number switch layouts in
           record { before = λ at. absurd (omega (arith, at, below, is)); inside = λ at. inr is_new; past = λ at. is_new }
         where
-          most_number : (switch : Option ℕ) → LayoutsAre denotes reads phases d old new (length phases) switch → number switch ≤ length phases
+          most_number : (switch : Option ℕ) → LayoutsAre denotes reads phases d old new (length phases) switch → switch_number switch ≤ length phases
           most_number None olds = omega arith
           most_number (Some s) (pos, most, differ, olds, news) = most
 
       -- each disk stopped in a phase denotes the layout that the switch says
       pub stops : (switch : Option ℕ) → LayoutsAre denotes reads phases d old new (length phases) switch → (i : ℕ) → i ≤ length phases → (c : Sectors) → StoppedIn phases d i c
-          → Switches (denotes c) old new (number switch) (i + 1)
+          → Switches (denotes c) old new (switch_number switch) (i + 1)
       stops switch layouts i le c stop = ⊎_elim
           (λ lt. within switch layouts i lt c stop)
           (λ past. at_end switch layouts i (omega (arith, le, past)) c stop)

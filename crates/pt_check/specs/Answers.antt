@@ -7,6 +7,7 @@ use Rattle.pt_apply.specs.Promises.{Safe}
 use Rattle.pt_apply.specs.declared.plan.Plan.{Plan}
 use Rattle.pt_recover.specs.Denotes.{Denotes, Reads}
 use Rattle.pt_recover.specs.declared.layout.Layout.{Layout}
+use Rattle.pt_layout.specs.declared.finding.Finding.{Finding}
 use Rattle.pt_layout.specs.Findings.{IsFinding}
 use Rattle.pt_layout.specs.Healthy.{Healthy}
 use Rattle.pt_layout.specs.Owned.{Owns}
@@ -24,6 +25,11 @@ TableOf b (Some o) s = IsTable b o s
 abbrev pub OwnedOf : ℕ → Option Layout → ℕ → Type 0
 OwnedOf b None s = ⊥
 OwnedOf b (Some o) s = Owns b o s
+
+-- the first thing that is wrong with d, none where it is healthy
+abbrev pub WrongIs : ℕ → Sectors → Option Finding → Type 0
+WrongIs b d None = Healthy b d
+WrongIs b d (Some f) = IsFinding b d f
 
 -- a no with the first reason that holds, a yes where none holds
 abbrev pub Answers : ℕ → Sectors → List Writes → Answer → Type 0

@@ -11,6 +11,11 @@ phase_at phases i = slice_index_or phases i []
 abbrev pub disk_after : List Writes → Sectors → ℕ → Sectors
 disk_after phases d i = after (take i phases) d
 
+-- a switch as it is told, 0 where there was none
+abbrev pub switch_number : Option ℕ → ℕ
+switch_number None = 0
+switch_number (Some s) = s
+
 module _ {L : Type 0} (denotes : Sectors → Option L → Type 0) (reads : Sectors → ℕ → Type 0) (phases : List Writes) (d : Sectors) where
   -- phase i has at most one write, or none of its writes is of a sector that recovery reads on the disk before it
   abbrev pub IsCalm : ℕ → Type 0

@@ -1,11 +1,11 @@
 -- Why a plan is refused, and when it is accepted.
-use Rattle.std.specs.Prelude.{◌≡◌, ◌⊎◌, ℕ, ◌+◌, ◌*◌, ◌<◌, ◌≤◌, List, length, take, Option}
+use Rattle.std.specs.Prelude.{◌≡◌, ◌⊎◌, ℕ, ◌+◌, ◌*◌, ◌<◌, ◌≤◌, List, length, take, Option, Some, None}
 use Rattle.pt_sector.specs.Sectors.{Sectors}
 use Rattle.pt_sector.specs.Writes.{Writes, after}
 use Rattle.pt_apply.specs.Promises.{boot_code}
 use Rattle.pt_layout.specs.declared.finding.Finding.{Finding}
 use Rattle.pt_check.specs.Course.{phase_at, disk_after}
-use Rattle.pt_check.specs.First.{writes_in, IsFirst}
+use Rattle.pt_check.specs.First.{writes_in, NoneIs, IsFirst}
 use Rattle.pt_check.specs.declared.answer.Answer.{Answer}
 use Rattle.pt_check.specs.declared.answer.Answer.TheVariants.{No, Yes}
 use Rattle.pt_check.specs.declared.answer.Why.{Why}
@@ -42,6 +42,10 @@ pub record FirstWrite (phases : List Writes) (P : ℕ × List ℕ → Type 0) (n
   pub is : number ≡ at + 1
   pub first : IsFirst P (writes_in phases) at write
 
+abbrev pub NumberIs : List Writes → (ℕ × List ℕ → Type 0) → Option ℕ → Type 0
+NumberIs phases P None = NoneIs P (writes_in phases)
+NumberIs phases P (Some n) = FirstWrite phases P n
+
 -- the first write of which P holds is of this sector
 pub record FirstSector (phases : List Writes) (P : ℕ × List ℕ → Type 0) (lba : ℕ) : Type 0 where
   pub at : ℕ
@@ -56,6 +60,12 @@ IsOutside d w = ¬ (w.0 < length d)
 -- a write of sector 0 with another boot code
 abbrev pub ChangesBoot : Sectors → ℕ × List ℕ → Type 0
 ChangesBoot d w = (w.0 ≡ 0) × ¬ (take 440 w.1 ≡ boot_code d)
+
+-- not too many writes, each within the disk, and none that changes the boot code
+pub record IsFit (d : Sectors) (phases : List Writes) : Type 0 where
+  pub few : length (writes_in phases) ≤ most_writes
+  pub inside : NoneIs (IsOutside d) (writes_in phases)
+  pub boot : NoneIs (ChangesBoot d) (writes_in phases)
 
 -- this phase, counted from 1, has several writes, and the first of a sector that recovery reads on the disk before it is of this one
 pub record ReadsSector (reads : Sectors → ℕ → Type 0) (d : Sectors) (phases : List Writes) (phase lba : ℕ) : Type 0 where

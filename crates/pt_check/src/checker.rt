@@ -1,13 +1,24 @@
 //! Whether a plan may be applied.
 
-ghost use Rattle.std.specs.Prelude.{◌≡◌, OnOk, IfOk, IfErr};
+ghost use Rattle.std.specs.Prelude.{◌≡◌, ◌≤◌, length, OnOk, IfOk, IfErr};
 ghost use Rattle.pt_sector.specs.Sectors.{IsSectorSize};
 ghost use Rattle.pt_apply.specs.Plans.{phases_of};
 ghost use Rattle.pt_check.specs.Answers.{Answers, Promises, Fits};
+ghost use Rattle.pt_check.specs.Course.{switch_number};
 ghost use Rattle.pt_check.specs.Failed.{FailedAs};
+ghost use Rattle.pt_check.specs.First.{writes_in};
+ghost use Rattle.pt_check.specs.Misplaced.{MisplacedIs};
+ghost use Rattle.pt_check.specs.Reasons.{IsFit};
 
-use crate::answer::Answer;
+use crate::answer::{Answer, Why};
+use crate::boot::other_boot_code;
 use crate::error::CheckError;
+use crate::finished::{finished_finding, finished_layout};
+use crate::objection::first_in_plan;
+use crate::places::{NoTable, OutOfRange, OwnedByOne};
+use crate::recovered::{Recovered, read_layout};
+use crate::trial::{Layouts, Trial, try_phases};
+use crate::writes::count_writes;
 use pt_apply::Plan;
 use pt_sector::Disk;
 use std::alloc::Global;
@@ -37,5 +48,87 @@ pub fn check<const B: usize, D: Disk<B>>(
     ensures answers { D.tells → IfOk result (λ a. Answers B (D.told disk.old).seen (phases_of plan.now) a) }
     ensures promises { D.tells → IfOk result (λ a. Promises B (D.told disk.old).seen (phases_of plan.now) a) }
 {
-    Err(CheckError::Memory)
+    let count = match count_writes(plan) {
+        Some(count) => count,
+        None => return Ok(Answer::No(Why::TooManyWrites)),
+    };
+    let sectors = disk.sectors();
+    if let Some(found) = first_in_plan(&OutOfRange { sectors }, plan) {
+        return Ok(Answer::No(Why::OutOfRange(found.number)));
+    }
+    match other_boot_code(disk, plan) {
+        Ok(None) => check_phases(alloc, disk, plan, count),
+        Ok(Some(number)) => Ok(Answer::No(Why::BootCode(number))),
+        Err(error) => Err(error),
+    }
+}
+
+/// The answer to a plan whose writes are few, each of a sector of the disk, and none of another boot code.
+fn check_phases<const B: usize, D: Disk<B>>(
+    alloc: Global,
+    disk: &mut D,
+    plan: &Plan<B>,
+    count: usize,
+) -> Result<Answer, CheckError>
+    requires size { IsSectorSize B }
+    requires few { length (writes_in (phases_of plan.now)) ≤ 4096 }
+    requires room { count ≡ length (writes_in (phases_of plan.now)) }
+    requires fit { D.tells → IsFit (D.told disk.old).seen (phases_of plan.now) }
+    ensures count { D.count disk.new ≡ D.count disk.old }
+    ensures name { D.name disk.new ≡ D.name disk.old }
+    ensures reads { D.reads disk.old disk.new }
+    ensures quiet { OnOk result (D.failures disk.new ≡ D.failures disk.old) }
+    ensures failed { IfErr result (λ e. FailedAs e (D.failures disk.old) (D.failures disk.new)) }
+    ensures same { D.tells → D.told disk.new ≡ D.told disk.old }
+    ensures answers { D.tells → IfOk result (λ a. Answers B (D.told disk.old).seen (phases_of plan.now) a) }
+    ensures promises { D.tells → IfOk result (λ a. Promises B (D.told disk.old).seen (phases_of plan.now) a) }
+{
+    let old = match read_layout(alloc, disk) {
+        Ok(old) => old,
+        Err(error) => return Err(error),
+    };
+    let Recovered { layout: old, trace } = old;
+    let new = match finished_layout(alloc, disk, plan, count) {
+        Ok(new) => new,
+        Err(error) => return Err(error),
+    };
+    let layouts = Layouts { old, new };
+    let switch = match try_phases(alloc, disk, plan, count, &layouts, trace) {
+        Ok(Trial::Passed(switch)) => switch,
+        Ok(Trial::Refused(why)) => return Ok(Answer::No(why)),
+        Err(error) => return Err(error),
+    };
+    if let Some(why) = misplaced(plan, &layouts) {
+        return Ok(Answer::No(why));
+    }
+    match finished_finding(alloc, disk, plan, count) {
+        Ok(None) => Ok(Answer::Yes { switch: number(switch) }),
+        Ok(Some(finding)) => Ok(Answer::No(Why::Final(finding))),
+        Err(error) => Err(error),
+    }
+}
+
+/// The first write of a sector in the tables of neither layout, else the first of one that is owned in either.
+fn misplaced<const B: usize>(plan: &Plan<B>, layouts: &Layouts) -> Option<Why>
+    requires size { IsSectorSize B }
+    requires few { length (writes_in (phases_of plan.now)) ≤ 4096 }
+    ensures { MisplacedIs B (writes_in (phases_of plan.now)) layouts.now.old layouts.now.new result }
+{
+    if let Some(found) = first_in_plan(&NoTable { layouts }, plan) {
+        return Some(Why::NotATable(found.lba));
+    }
+    match first_in_plan(&OwnedByOne { layouts }, plan) {
+        Some(found) => Some(Why::Owned(found.lba)),
+        None => None,
+    }
+}
+
+/// The switch as it is told.
+fn number(switch: Option<u64>) -> u64
+    ensures { result ≡ switch_number switch }
+{
+    match switch {
+        Some(phase) => phase,
+        None => 0,
+    }
 }

@@ -2,10 +2,17 @@
 #![tactic(auto)]
 
 mod answer;
+mod boot;
 mod checker;
 mod error;
+mod finished;
 mod objection;
+mod places;
 mod recovered;
+mod same;
+#[cfg(test)]
+mod tests;
+mod trial;
 mod writes;
 
 pub use answer::{Answer, Why};

@@ -17,6 +17,7 @@ pub(crate) trait Objection<const B: usize> {
 }
 
 /// A write that was found: its number in the plan, from 1, and its sector.
+#[derive(Clone, Copy)]
 pub(crate) struct Found {
     pub number: u64,
     pub lba: Lba,

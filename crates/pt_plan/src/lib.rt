@@ -2,10 +2,13 @@
 #![tactic(auto)]
 
 mod commits;
+mod copies;
 mod error;
 mod finished;
+mod fits;
 mod planner;
 mod prepare;
+mod survey;
 
 pub use commits::commit;
 pub use error::{CommitError, PlanError};

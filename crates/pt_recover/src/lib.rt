@@ -1,4 +1,8 @@
 //! What a disk denotes: layouts, their recovery, and the sectors that decide them.
+//!
+//! An MBR disk denotes its records, the chain of its lone extended partition and its labels; every other disk the
+//! table of its primary copy, or else of its backup, and its labels. docs/model.md tells it in words, specs/Denotes.antt
+//! exactly. The laws of src/laws.rt stand as terms in specs/Laws.antt, for contracts above to cite.
 #![tactic(auto)]
 
 mod body;

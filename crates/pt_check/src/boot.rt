@@ -1,0 +1,75 @@
+//! The boot code: the first 440 bytes of sector 0.
+
+ghost use Rattle.std.specs.Prelude.{◌≡◌, ◌≤◌, ◌<◌, ◌↔◌, IsTrue, take, length, OnOk, IfOk, IfErr};
+ghost use Rattle.pt_sector.specs.Sectors.{IsSectorSize};
+ghost use Rattle.pt_apply.specs.Plans.{phases_of};
+ghost use Rattle.pt_check.specs.Failed.{FailedAs};
+ghost use Rattle.pt_check.specs.First.{writes_in, NoneIs};
+ghost use Rattle.pt_check.specs.Reasons.{ChangesBoot, NumberIs};
+
+use crate::error::CheckError;
+use crate::objection::{Objection, first_in_plan};
+use pt_apply::{Plan, Write};
+use pt_sector::{Disk, Lba};
+
+/// How many bytes of sector 0 are the boot code.
+const BOOT_CODE: usize = 440;
+
+fn boot_code(sector: &[u8]) -> &[u8]
+    requires { 440 ≤ length sector.now }
+    ensures { result.now ≡ take 440 sector.now }
+{
+    &sector[..BOOT_CODE]
+}
+
+fn same_bytes(bytes: &[u8], others: &[u8]) -> bool
+    ensures { IsTrue result ↔ (bytes.now ≡ others.now) }
+{
+    *bytes == *others
+}
+
+/// Against writes of sector 0 with another boot code.
+#[derive(Clone, Copy)]
+struct OtherBootCode<'a> {
+    kept: &'a [u8],
+}
+
+impl<const B: usize> Objection<B> for OtherBootCode<'_> {
+    ghost against = { λ o w. (w.0 ≡ 0) × ¬ (take 440 w.1 ≡ o.kept.now) };
+
+    fn objects(&self, write: &Write<B>) -> bool {
+        if write.lba.0 != 0 {
+            return false;
+        }
+        if same_bytes(boot_code(&write.bytes), self.kept) {
+            return false;
+        }
+        true
+    }
+}
+
+/// The number of the first write that changes the disk's boot code, from 1.
+pub(crate) fn other_boot_code<const B: usize, D: Disk<B>>(disk: &mut D, plan: &Plan<B>) -> Result<Option<u64>, CheckError>
+    requires size { IsSectorSize B }
+    requires few { length (writes_in (phases_of plan.now)) ≤ 4096 }
+    requires inside { NoneIs (λ w. ¬ (w.0 < D.count disk.old)) (writes_in (phases_of plan.now)) }
+    ensures count { D.count disk.new ≡ D.count disk.old }
+    ensures name { D.name disk.new ≡ D.name disk.old }
+    ensures reads { D.reads disk.old disk.new }
+    ensures quiet { OnOk result (D.failures disk.new ≡ D.failures disk.old) }
+    ensures failed { IfErr result (λ e. FailedAs e (D.failures disk.old) (D.failures disk.new)) }
+    ensures same { D.tells → D.told disk.new ≡ D.told disk.old }
+    ensures found { D.tells → IfOk result (λ n. NumberIs (phases_of plan.now) (ChangesBoot (D.told disk.old).seen) n) }
+{
+    if disk.sectors() == 0 {
+        return Ok(None);
+    }
+    let mut head = [0; B];
+    if let Err(fault) = disk.read(Lba(0), &mut head) {
+        return Err(CheckError::Device(fault));
+    }
+    match first_in_plan(&OtherBootCode { kept: boot_code(&head) }, plan) {
+        Some(found) => Ok(Some(found.number)),
+        None => Ok(None),
+    }
+}

@@ -1,0 +1,79 @@
+//! Where a plan may write.
+
+ghost use Rattle.std.specs.Prelude.{◌≡◌, ◌<◌, ◌⊎◌, ◌↔◌, IsTrue};
+ghost use Rattle.pt_sector.specs.Sectors.{IsSectorSize};
+ghost use Rattle.pt_check.specs.Answers.{TableOf, OwnedOf};
+
+use crate::objection::Objection;
+use crate::trial::Layouts;
+use pt_apply::Write;
+use pt_layout::{Layout, is_owned, is_table};
+use pt_sector::Lba;
+
+/// Against sectors past the disk's last.
+#[derive(Clone, Copy)]
+pub(crate) struct OutOfRange {
+    pub sectors: u64,
+}
+
+impl<const B: usize> Objection<B> for OutOfRange {
+    ghost against = { λ o w. ¬ (w.0 < o.sectors) };
+
+    fn objects(&self, write: &Write<B>) -> bool {
+        write.lba.0 >= self.sectors
+    }
+}
+
+fn has_table<const B: usize>(layout: &Option<Layout>, lba: Lba) -> bool
+    requires { IsSectorSize B }
+    ensures { IsTrue result ↔ TableOf B layout.now lba.0 }
+{
+    match layout {
+        Some(layout) => is_table::<B>(layout, lba),
+        None => false,
+    }
+}
+
+fn owns<const B: usize>(layout: &Option<Layout>, lba: Lba) -> bool
+    requires { IsSectorSize B }
+    ensures { IsTrue result ↔ OwnedOf B layout.now lba.0 }
+{
+    match layout {
+        Some(layout) => is_owned::<B>(layout, lba),
+        None => false,
+    }
+}
+
+/// Against sectors in the tables of neither layout.
+#[derive(Clone, Copy)]
+pub(crate) struct NoTable<'a> {
+    pub layouts: &'a Layouts,
+}
+
+impl<const B: usize> Objection<B> for NoTable<'_> {
+    ghost against = { λ o w. (¬ TableOf B o.layouts.now.old w.0) × (¬ TableOf B o.layouts.now.new w.0) };
+
+    fn objects(&self, write: &Write<B>) -> bool {
+        if has_table::<B>(&self.layouts.old, write.lba) {
+            return false;
+        }
+        !has_table::<B>(&self.layouts.new, write.lba)
+    }
+}
+
+/// Against sectors that a partition of either layout owns.
+#[derive(Clone, Copy)]
+pub(crate) struct OwnedByOne<'a> {
+    pub layouts: &'a Layouts,
+}
+
+impl<const B: usize> Objection<B> for OwnedByOne<'_> {
+    ghost against = { λ o w. OwnedOf B o.layouts.now.old w.0 ⊎ OwnedOf B o.layouts.now.new w.0 };
+
+    fn objects(&self, write: &Write<B>) -> bool {
+        if owns::<B>(&self.layouts.old, write.lba) {
+            return true;
+        }
+        owns::<B>(&self.layouts.new, write.lba)
+    }
+}

@@ -1,0 +1,155 @@
+//! The phases of a plan, tried one after the other over the disk.
+
+ghost use Rattle.std.specs.Prelude.{◌≡◌, ◌≤◌, ◌+◌, ℕ, Some, None, length, OnOk, IfOk, IfErr, IfSome, IsNone, ◌↔◌};
+ghost use Rattle.pt_sector.specs.Sectors.{IsSectorSize};
+ghost use Rattle.pt_sector.specs.Writes.{written};
+ghost use Rattle.pt_sector.specs.Overlays.{room_left};
+ghost use Rattle.pt_apply.specs.Plans.{writes_of, phases_of};
+ghost use Rattle.pt_recover.specs.Denotes.{Denotes, Reads};
+ghost use Rattle.pt_recover.specs.Spans.{IsIn};
+ghost use Rattle.pt_check.specs.Failed.{FailedAs};
+ghost use Rattle.pt_check.specs.First.{writes_in};
+ghost use Rattle.pt_check.specs.Recovered.{IsOf};
+ghost use Rattle.pt_check.specs.Trials.{TouchedIs, StepIs, TrialIs};
+
+use crate::answer::Why;
+use crate::error::CheckError;
+use crate::objection::{Objection, first_in_phase};
+use crate::recovered::{Recovered, read_layout};
+use crate::same::same_layout;
+use pt_apply::{Plan, Write};
+use pt_recover::{Layout, Trace};
+use pt_sector::{Disk, Lba, Overlay, Room};
+use std::alloc::Global;
+
+/// What the phases came to: a reason against the plan, or the phase that gave the new layout, if it isn't the old one.
+#[derive(Clone, Copy)]
+pub(crate) enum Trial {
+    Refused(Why),
+    Passed(Option<u64>),
+}
+
+/// What the disk denotes, and what it denotes with the whole plan written.
+#[derive(Drop)]
+pub(crate) struct Layouts {
+    pub old: Option<Layout>,
+    pub new: Option<Layout>,
+}
+
+/// Against writes of what recovery reads.
+#[derive(Clone, Copy)]
+struct IsRead<'a> {
+    trace: &'a Trace,
+}
+
+impl<const B: usize> Objection<B> for IsRead<'_> {
+    ghost against = { λ o w. IsIn o.trace.now w.0 };
+
+    fn objects(&self, write: &Write<B>) -> bool {
+        self.trace.contains(write.lba)
+    }
+}
+
+/// The first sector of a phase of several writes that recovery reads on the disk before it.
+fn touched<const B: usize>(phase: &[Write<B>], trace: &Trace) -> Option<Lba>
+    requires { IsSectorSize B }
+    ensures { TouchedIs (IsIn trace.now) (writes_of phase.now) result }
+{
+    if phase.len() <= 1 {
+        return None;
+    }
+    match first_in_phase(&IsRead { trace }, phase) {
+        Some(k) => Some(phase[k].lba),
+        None => None,
+    }
+}
+
+/// What a phase gave: the switch so far, or neither layout.
+#[derive(Clone, Copy)]
+enum Step {
+    Goes(Option<u64>),
+    Neither,
+}
+
+/// Whether the layout after the phase of this number is the old one, before any other, or the new one.
+fn compare(found: &Option<Layout>, layouts: &Layouts, switch: Option<u64>, number: u64) -> Step
+    ensures { StepIs found.now layouts.now.old layouts.now.new switch number result }
+{
+    if same_layout(found, &layouts.old) {
+        return match switch {
+            None => Step::Goes(None),
+            Some(_) => Step::Neither,
+        };
+    }
+    if !same_layout(found, &layouts.new) {
+        return Step::Neither;
+    }
+    match switch {
+        None => Step::Goes(Some(number)),
+        Some(_) => Step::Goes(switch),
+    }
+}
+
+/// Puts a phase into an overlay that has room for it.
+pub(crate) fn put_phase<'a, const B: usize, D: Disk<B>>(over: &mut Overlay<'a, D, B>, phase: &[Write<B>])
+    requires size { IsSectorSize B }
+    requires room { length phase.now ≤ room_left over.old.own }
+    ensures same_reference { over.new.disk.ghost_name ≡ over.old.disk.ghost_name }
+    ensures disk { over.new.disk.now ≡ over.old.disk.now }
+    ensures refused { over.new.refused ≡ over.old.refused }
+    ensures room { room_left over.old.own ≤ room_left over.new.own + length phase.now }
+    ensures seen { (⟦<Overlay<'a, D, B> as Disk<B>>⟧.told over.new).seen ≡ written (writes_of phase.now) (⟦<Overlay<'a, D, B> as Disk<B>>⟧.told over.old).seen }
+{
+    for write in phase {
+        over.put(write.lba, &write.bytes);
+    }
+}
+
+/// Tries the phases in an overlay: each may write what recovery reads only as its one write, and gives the old or the
+/// new layout.
+pub(crate) fn try_phases<const B: usize, D: Disk<B>>(
+    alloc: Global,
+    disk: &mut D,
+    plan: &Plan<B>,
+    count: usize,
+    layouts: &Layouts,
+    trace: Trace,
+) -> Result<Trial, CheckError>
+    requires size { IsSectorSize B }
+    requires room { count ≡ length (writes_in (phases_of plan.now)) }
+    requires old { D.tells → IsOf B (D.told disk.old).seen (record { layout = layouts.now.old; trace = trace }) }
+    ensures count { D.count disk.new ≡ D.count disk.old }
+    ensures name { D.name disk.new ≡ D.name disk.old }
+    ensures reads { D.reads disk.old disk.new }
+    ensures quiet { OnOk result (D.failures disk.new ≡ D.failures disk.old) }
+    ensures failed { IfErr result (λ e. FailedAs e (D.failures disk.old) (D.failures disk.new)) }
+    ensures same { D.tells → D.told disk.new ≡ D.told disk.old }
+    ensures tried { D.tells → IfOk result (λ t. TrialIs (Denotes B) (Reads B) (phases_of plan.now) (D.told disk.old).seen layouts.now.old layouts.now.new t) }
+{
+    let room = match Room::new(alloc, count) {
+        Ok(room) => room,
+        Err(_) => return Err(CheckError::Memory),
+    };
+    let mut over = Overlay::new(disk, room);
+    let mut before = trace;
+    let mut switch = None;
+    for i in 0..plan.phases.len() {
+        let phase = &plan.phases[i];
+        let number = i as u64 + 1;
+        if let Some(lba) = touched(phase, &before) {
+            return Ok(Trial::Refused(Why::ReadSector(number, lba)));
+        }
+        put_phase(&mut over, phase);
+        let after = match read_layout(alloc, &mut over) {
+            Ok(after) => after,
+            Err(error) => return Err(error),
+        };
+        let Recovered { layout, trace } = after;
+        switch = match compare(&layout, layouts, switch, number) {
+            Step::Goes(switch) => switch,
+            Step::Neither => return Ok(Trial::Refused(Why::Neither(number))),
+        };
+        before = trace;
+    }
+    Ok(Trial::Passed(switch))
+}
