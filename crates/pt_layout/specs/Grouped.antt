@@ -13,14 +13,14 @@ use Rattle.pt_recover.specs.declared.layout.Body.TheVariants.{Mbr, Gpt}
 use Rattle.pt_layout.specs.declared.member.Kind.{Kind}
 use Rattle.pt_layout.specs.declared.member.Kind.TheVariants.{Leaf, Slice, Extended}
 use Rattle.pt_layout.specs.declared.member.Member.{Member}
-use Rattle.pt_layout.specs.Members.{Group, IsMember, groups_of, group_in, top_group, strays, present, slots, tops, logicals, logicals_as, parts, record_kind, records_as, record_member}
+use Rattle.pt_layout.specs.Members.{Group, group_of, IsMember, groups_of, group_in, top_group, strays, present, slots, tops, logicals, logicals_as, parts, record_kind, records_as, record_member}
 use Rattle.pt_layout.specs.Search.{AtPlace, InLayout}
 
 -- membership, by cases on the list
-contains_head : {X : Type 0} (x : X) (xs : List X) → Contains (x ∷ xs) x
+pub contains_head : {X : Type 0} (x : X) (xs : List X) → Contains (x ∷ xs) x
 contains_head x xs = (0, omega arith, refl)
 
-contains_tail : {X : Type 0} (x : X) (xs : List X) (y : X) → Contains xs y → Contains (x ∷ xs) y
+pub contains_tail : {X : Type 0} (x : X) (xs : List X) (y : X) → Contains xs y → Contains (x ∷ xs) y
 contains_tail x xs y in_xs = (suc in_xs.0, omega (arith, in_xs.1), in_xs.2)
 
 contains_cases : {X : Type 0} (x : X) (xs : List X) (y : X) → Contains (x ∷ xs) y → (x ≡ y) ⊎ Contains xs y
@@ -37,7 +37,7 @@ from_flat f (x ∷ xs) y is = elim (Contains-append_cases (f x) (flat_map f xs) 
   | inr there ↦ (let r = from_flat f xs y there in (r.0, contains_tail x xs r.0 r.1, r.2))
 ]
 
-to_flat : {X Y : Type 0} (f : X → List Y) (xs : List X) (x : X) (y : Y) → Contains xs x → Contains (f x) y → Contains (flat_map f xs) y
+pub to_flat : {X Y : Type 0} (f : X → List Y) (xs : List X) (x : X) (y : Y) → Contains xs x → Contains (f x) y → Contains (flat_map f xs) y
 to_flat f [] x y in_xs in_f = absurd (contains_none x in_xs)
 to_flat f (z ∷ xs) x y in_xs in_f = elim (contains_cases z xs x in_xs) as (λ _. Contains (f z ++ flat_map f xs) y) [
   | inl here ↦ Contains-append_left (f z) (flat_map f xs) y (subst (λ (w : _). Contains (f w) y) (sym here) in_f)
@@ -63,13 +63,13 @@ to_present (None ∷ os) m (suc k, lt, at) = to_present os m (k, omega arith, at
 to_present (Some x ∷ os) m (zero, lt, at) = (let e : x ≡ m = cc in subst (λ (w : Member). Contains (x ∷ present os) w) e (contains_head x (present os)))
 to_present (Some x ∷ os) m (suc k, lt, at) = contains_tail x (present os) m (to_present os m (k, omega arith, at))
 
-place_left : (xs ys : List (Option Member)) (m : Member) → AtPlace xs m → AtPlace (xs ++ ys) m
+pub place_left : (xs ys : List (Option Member)) (m : Member) → AtPlace xs m → AtPlace (xs ++ ys) m
 place_left xs ys m at = (at.0, omega (arith, at.1, length-append xs ys), get_or_append_left xs ys None at.0 at.1 ∙ at.2)
 
-place_right : (xs ys : List (Option Member)) (m : Member) → AtPlace ys m → AtPlace (xs ++ ys) m
+pub place_right : (xs ys : List (Option Member)) (m : Member) → AtPlace ys m → AtPlace (xs ++ ys) m
 place_right xs ys m at = (length xs + at.0, omega (arith, at.1, length-append xs ys), get_or-append-add xs ys at.0 None ∙ at.2)
 
-present_split : (xs ys : List (Option Member)) (m : Member) → AtPlace (xs ++ ys) m → AtPlace xs m ⊎ AtPlace ys m
+pub present_split : (xs ys : List (Option Member)) (m : Member) → AtPlace (xs ++ ys) m → AtPlace xs m ⊎ AtPlace ys m
 present_split [] ys m at = inr at
 present_split (x ∷ xs) ys m (zero, lt, at) = inl (0, omega arith, at)
 present_split (x ∷ xs) ys m (suc k, lt, at) = elim (present_split xs ys m (k, omega arith, at)) as (λ _. AtPlace (x ∷ xs) m ⊎ AtPlace ys m) [
@@ -78,17 +78,17 @@ present_split (x ∷ xs) ys m (suc k, lt, at) = elim (present_split xs ys m (k, 
 ]
 
 -- what a container holds
-slice_group : (o : Layout) (m : Member) → Group
+pub slice_group : (o : Layout) (m : Member) → Group
 slice_group o m = record { low = m.first + 16; high = m.last; members = present (parts o m) }
 
-extended_group : (b : ℕ) (o : Layout) (m : Member) → Group
+pub extended_group : (b : ℕ) (o : Layout) (m : Member) → Group
 extended_group b o m = record { low = m.first; high = m.last; members = present (logicals b o.body) }
 
-held_by_slice : (b : ℕ) (o : Layout) (m : Member) → m.kind ≡ Slice → group_in b o m ≡ slice_group o m ∷ []
+pub held_by_slice : (b : ℕ) (o : Layout) (m : Member) → m.kind ≡ Slice → group_in b o m ≡ slice_group o m ∷ []
 unfolding group_in slice_group
 held_by_slice b o m is = rw is refl
 
-held_by_extended : (b : ℕ) (o : Layout) (m : Member) → m.kind ≡ Extended → group_in b o m ≡ extended_group b o m ∷ []
+pub held_by_extended : (b : ℕ) (o : Layout) (m : Member) → m.kind ≡ Extended → group_in b o m ≡ extended_group b o m ∷ []
 unfolding group_in extended_group
 held_by_extended b o m is = rw is refl
 
@@ -99,7 +99,7 @@ held_by_leaf b o m is = rw is refl
 only : {X : Type 0} (x y : X) → Contains (x ∷ []) y → x ≡ y
 only x y is = elim (contains_cases x [] y is) as (λ _. x ≡ y) [ inl here ↦ here | inr there ↦ absurd (contains_none y there) ]
 
-top_members : (b n : ℕ) (y : Body) → (top_group b n y).members ≡ present (tops b y)
+pub top_members : (b n : ℕ) (y : Body) → (top_group b n y).members ≡ present (tops b y)
 unfolding top_group
 top_members b n (Mbr rs chain) = refl
 top_members b n (Gpt t) = refl
@@ -156,7 +156,7 @@ kind_extended b k is =
     let no : (nat_eq b 512 && nat_eq k 0xA5) ≡ false = rw other (and_false (nat_eq b 512)) in
     rw no (rw is refl)
 
-extended_member : (b n : ℕ) (rs : List (Option Record)) (r : Record) (es : List Record) → extended_of rs ≡ r ∷ es → (m : Member) × AtPlace (records_as b n rs) m × (m.kind ≡ Extended)
+pub extended_member : (b n : ℕ) (rs : List (Option Record)) (r : Record) (es : List Record) → extended_of rs ≡ r ∷ es → (m : Member) × AtPlace (records_as b n rs) m × (m.kind ≡ Extended)
 unfolding extended_of records_as
 extended_member b n [] r es e = absurd cc
 extended_member b n (None ∷ rs) r es e = let h = extended_member b (n + 1) rs r es e in (h.0, place_tail None (records_as b (n + 1) rs) h.0 h.1, h.2)
@@ -232,3 +232,11 @@ in_label b o m x at is part = in_held b o x (
 pub place_member : (b : ℕ) (o : Layout) (x : Member) → InLayout b o x → IsMember b o x
 place_member b o x (m, at, inl same) = subst (λ (w : Member). IsMember b o w) (sym same) (in_slot b o m at)
 place_member b o x (m, at, inr (is, part)) = in_label b o m x at is part
+
+pub slice_group_is : (o : Layout) (m : Member) → slice_group o m ≡ group_of (m.first + 16) m.last (present (parts o m))
+unfolding slice_group
+slice_group_is o m = refl
+
+pub extended_group_is : (b : ℕ) (o : Layout) (m : Member) → extended_group b o m ≡ group_of m.first m.last (present (logicals b o.body))
+unfolding extended_group
+extended_group_is b o m = refl
