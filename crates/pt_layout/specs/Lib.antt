@@ -21,3 +21,5 @@ pub mod Apart
 pub mod Laws
 pub mod Places
 pub mod Texts
+pub mod Grouped
+pub mod OneHome

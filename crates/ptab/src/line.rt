@@ -30,6 +30,11 @@ pub enum Job {
     Verify {
         image: String,
     },
+    Locate {
+        image: String,
+        path: String,
+        place: String,
+    },
     Edit {
         image: String,
         fresh: Option<String>,
@@ -59,7 +64,9 @@ An edit leaves the old table or the new one whenever the power goes.";
 const STATUSES: &str = "Exit status: 0 done or yes, 1 the answer is no, 2 usage or an unreadable word, \
 3 refused, 4 no table, 5 device, 6 memory.";
 
-const WORDS: &str = "Words, in the manner of sgdisk(8): c:NUM:NAME sets a partition's name; a:K sets the alignment of later words.";
+const WORDS: &str = "Words, in the manner of sgdisk(8): c:NUM:NAME names a partition, t:NUM:CODE types it, d:NUM deletes it, \
+u:NUM:GUID and U:GUID set its GUID and the disk's, A:NUM:BIT:V an attribute, e extends the table to a grown disk, \
+o makes an empty GPT. Fresh GUIDs: --fresh $(head -c 16 /dev/urandom | od -An -tx1 | tr -d ' \\n').";
 
 fn image<'a>(alloc: Global) -> Arg<'a> {
     Arg::new(alloc, "IMAGE")
@@ -94,6 +101,24 @@ fn verify_command<'a>(alloc: Global) -> Result<Command<'a>, AllocError> {
         .arg(sector_size(alloc))
 }
 
+fn locate_command<'a>(alloc: Global) -> Result<Command<'a>, AllocError> {
+    let path = Arg::new(alloc, "PATH")
+        .required(true)
+        .action(ArgAction::Set)
+        .help("A partition, as 3, 5 or 2.a");
+    let place = Arg::new(alloc, "K")
+        .required(true)
+        .action(ArgAction::Set)
+        .help("A sector of the partition, from 0 on");
+    Command::new(alloc, "locate")
+        .about("Prints the disk's sector that is sector K of a partition, or `none`")
+        .after_help(STATUSES)
+        .arg(image(alloc))?
+        .arg(path)?
+        .arg(place)?
+        .arg(sector_size(alloc))
+}
+
 fn edit_command<'a>(alloc: Global) -> Result<Command<'a>, AllocError> {
     let fresh = Arg::new(alloc, "fresh")
         .long("fresh")
@@ -121,6 +146,7 @@ fn command<'a>(alloc: Global) -> Result<Command<'a>, AllocError> {
         .subcommand_required(true)
         .subcommand(show_command(alloc)?)?
         .subcommand(verify_command(alloc)?)?
+        .subcommand(locate_command(alloc)?)?
         .subcommand(edit_command(alloc)?)
 }
 
@@ -162,6 +188,11 @@ fn job_of(alloc: Global, name: &str, inner: &ArgMatches<'_>) -> Result<Job, Line
         }),
         "verify" => Ok(Job::Verify {
             image: text_of(alloc, inner, "IMAGE")?,
+        }),
+        "locate" => Ok(Job::Locate {
+            image: text_of(alloc, inner, "IMAGE")?,
+            path: text_of(alloc, inner, "PATH")?,
+            place: text_of(alloc, inner, "K")?,
         }),
         "edit" => Ok(edit_job(alloc, inner)?),
         _ => Err(LineError::Usage(String::new(alloc))),

@@ -7,7 +7,9 @@ use crate::file_disk::{Access, open};
 use crate::line::{Job, Line, LineError, SectorSize, read_line};
 use crate::show::print_layout;
 use crate::texts::{Failure, Status, print_finding};
-use pt_layout::{Finding, Verdict, VerifyError, recover, verify};
+use pt_layout::{
+    Path, Verdict, VerifyError, locate, parse_number, parse_path, recover, verify,
+};
 use std::fs::{File, Files};
 use std::io;
 use std::io::Write;
@@ -59,6 +61,39 @@ fn verify_image<const B: usize, R: Files<File = File> + AllocGlobal, O: Write>(
     }
 }
 
+fn place_of(path: &str, place: &str) -> Result<(Path, u64), Failure> {
+    let Some(path) = parse_path(path) else {
+        return Err(Failure::BadPath);
+    };
+    match parse_number(place) {
+        Some(k) => Ok((path, k)),
+        None => Err(Failure::BadNumber),
+    }
+}
+
+fn locate_in<const B: usize, R: Files<File = File> + AllocGlobal, O: Write>(
+    rt: &R,
+    image: &str,
+    path: &Path,
+    k: u64,
+    out: &mut O,
+) -> Answer
+    requires { IsSectorSize B }
+{
+    let mut disk = match open::<R, B>(rt, image, Access::Read) {
+        Ok(disk) => disk,
+        Err(_) => return Err(Failure::Device),
+    };
+    let layout = match recover::<B, _>(rt.alloc(), &mut disk) {
+        Ok(layout) => layout,
+        Err(why) => return Err(Failure::NoTable(why)),
+    };
+    match locate::<B>(&layout, path, k) {
+        Some(lba) => printed(writeln!(out, "{}", lba.0), Status::Done),
+        None => printed(writeln!(out, "none"), Status::No),
+    }
+}
+
 fn answer<const B: usize, R: Files<File = File> + AllocGlobal, O: Write>(
     rt: &R,
     job: &Job,
@@ -70,6 +105,10 @@ fn answer<const B: usize, R: Files<File = File> + AllocGlobal, O: Write>(
         Job::Help(text) => printed(write!(out, "{text}"), Status::Done),
         Job::Show { image } => show::<B, R, O>(rt, image.as_str(), out),
         Job::Verify { image } => verify_image::<B, R, O>(rt, image.as_str(), out),
+        Job::Locate { image, path, place } => {
+            let (path, k) = place_of(path.as_str(), place.as_str())?;
+            locate_in::<B, R, O>(rt, image.as_str(), &path, k, out)
+        }
         Job::Edit {
             image,
             fresh,

@@ -47,6 +47,8 @@ pub enum Failure {
     Usage(String),
     BadWord(String),
     BadFresh,
+    BadPath,
+    BadNumber,
     /// What the current version doesn't do.
     NotYet,
     /// An edit was refused with this number.
@@ -64,7 +66,11 @@ impl Failure {
     /// The status that goes with it.
     pub fn status(&self) -> Status {
         match self {
-            Failure::Usage(_) | Failure::BadWord(_) | Failure::BadFresh => Status::Usage,
+            Failure::Usage(_)
+            | Failure::BadWord(_)
+            | Failure::BadFresh
+            | Failure::BadPath
+            | Failure::BadNumber => Status::Usage,
             Failure::NotYet | Failure::Edit(_) | Failure::Plan(_) | Failure::Check(_) => {
                 Status::Refused
             }
@@ -80,6 +86,8 @@ impl Failure {
             Failure::Usage(text) => write!(err, "{text}"),
             Failure::BadWord(word) => writeln!(err, "bad word {word}"),
             Failure::BadFresh => writeln!(err, "bad fresh"),
+            Failure::BadPath => writeln!(err, "bad path"),
+            Failure::BadNumber => writeln!(err, "bad number"),
             Failure::NotYet => writeln!(err, "refused: not yet"),
             Failure::Edit(number) => writeln!(err, "refused: edit {number}"),
             Failure::Plan(number) => writeln!(err, "refused: plan {number}"),
