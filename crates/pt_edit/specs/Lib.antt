@@ -7,3 +7,4 @@ pub mod Fold
 pub mod Whole
 pub mod Laws
 pub mod Words
+pub mod WordLaws

@@ -20,7 +20,7 @@ mod words;
 
 pub use error::{EditError, Refusal};
 pub use fold::edit;
-pub use laws::edited_one;
+pub use laws::{edited_one, fault_is_no_word};
 pub use parse::parse_edit;
 pub use word::{Code, Edit, End};
 

@@ -9,6 +9,8 @@ mod fits;
 mod planner;
 mod prepare;
 mod survey;
+#[cfg(test)]
+mod tests;
 
 pub use commits::commit;
 pub use error::{CommitError, PlanError};

@@ -5,10 +5,12 @@ use Rattle.pt_sector.specs.declared.address.Lba.{Lba}
 use Rattle.pt_mbr.specs.Ebr.{EbrBytes, IsEbrFault}
 use Rattle.pt_mbr.specs.Chain.{lba, IsInside, IsUpward, EbrAt, Walk, Chain, FaultAt, ChainFault, ReadsFrom, ChainReads, SameChains}
 use Rattle.pt_mbr.specs.declared.ebr.Ebr.{Ebr}
-use Rattle.pt_mbr.proofs.Walks.{inside_same}
 use Rattle.pt_mbr.specs.declared.ebr.EbrFault.TheVariants as ebr
 use Rattle.pt_mbr.specs.declared.chain.ChainError.{ChainError}
 use Rattle.pt_mbr.specs.declared.chain.ChainError.TheVariants.{NoSignature, BadRecord, NotUpward, OutsideExtended, TooLong, Device}
+
+pub inside_same : (x : Span) (n m : ℕ) (at : Lba) → n ≡ m → IsInside x m at → IsInside x n at
+inside_same x n m at same inside = subst (λ (k : ℕ). IsInside x k at) (sym same) inside
 
 ebr_same : (c d : Sectors) (x : Span) (at : Lba) (e : Ebr) → length c ≡ length d → sector c at.0 ≡ sector d at.0 → EbrAt d x at e → EbrAt c x at e
 ebr_same c d x at e count same here = record {

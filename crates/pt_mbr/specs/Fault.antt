@@ -7,7 +7,7 @@ use Rattle.pt_mbr.specs.Chain.{lba, IsUpward, EbrAt, Walk, FaultAt, ChainFault, 
 use Rattle.pt_mbr.specs.declared.ebr.Ebr.{Ebr}
 use Rattle.pt_mbr.specs.declared.chain.ChainError.{ChainError}
 use Rattle.pt_mbr.specs.declared.chain.ChainError.TheVariants.{NoSignature, BadRecord, NotUpward, OutsideExtended, TooLong, Device}
-use Rattle.pt_mbr.proofs.Ones.{ebr_one, bad_record, stopped}
+use Rattle.pt_mbr.specs.One.{ebr_one, bad_record, stopped}
 
 abbrev One : ChainError → ChainError → Type 0
 One e f = (e ≡ f) ⊎ IsDevice e ⊎ IsDevice f
