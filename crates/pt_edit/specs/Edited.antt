@@ -6,10 +6,11 @@ use Rattle.pt_recover.specs.Gpt.{HasRoom}
 use Rattle.pt_recover.specs.declared.layout.Layout.{Layout}
 use Rattle.pt_recover.specs.declared.layout.Body.TheVariants.{Gpt}
 use Rattle.pt_edit.specs.Changes.{Named, NameRefused, UniqueSet, UniqueRefused, BitSet, BitRefused, DiskSet, Extended, NoTable, edge}
+use Rattle.pt_edit.specs.Spots.{Typed, NotTyped, Deleted, NotDeleted, RefusedIn}
 use Rattle.pt_edit.specs.declared.error.Refusal.{Refusal}
 use Rattle.pt_edit.specs.declared.error.Refusal.TheVariants.{NotForThisTable, NoFreshGuid, NoRoomForGpt, NotYet}
 use Rattle.pt_edit.specs.declared.word.Edit.{Edit}
-use Rattle.pt_edit.specs.declared.word.Edit.TheVariants.{Align, SetName, SetUnique, SetDisk, SetBit, Extend, Empty}
+use Rattle.pt_edit.specs.declared.word.Edit.TheVariants.{Align, Delete, SetKind, SetName, SetUnique, SetDisk, SetBit, Extend, Empty}
 
 -- what the words are folded over: the layout or nothing, the alignment of starts in sectors, the fresh GUIDs that are left
 pub record State : Type 0 where
@@ -59,16 +60,20 @@ MakesOn b (SetUnique number guid) o p = UniqueSet number guid o p
 MakesOn b (SetDisk guid) o p = DiskSet guid o p
 MakesOn b (SetBit number bit value) o p = BitSet number bit value o p
 MakesOn b Extend o p = Extended b o p
+MakesOn b (SetKind path code) o p = Typed b path.number path.letter code o p
+MakesOn b (Delete path) o p = Deleted b path.number path.letter o p
 MakesOn b _ o p = ⊥
 
 -- and why it is refused there
-abbrev pub RefusesOn : Edit → Layout → Refusal → Type 0
-RefusesOn (SetName number name) o r = NameRefused number (string_bytes name) o r
-RefusesOn (SetUnique number guid) o r = UniqueRefused number guid o r
-RefusesOn (SetDisk guid) o r = NoTable o r
-RefusesOn (SetBit number bit value) o r = BitRefused number o r
-RefusesOn Extend o r = NoTable o r
-RefusesOn _ o r = r ≡ NotYet
+abbrev pub RefusesOn : ℕ → Edit → Layout → Refusal → Type 0
+RefusesOn b (SetName number name) o r = NameRefused number (string_bytes name) o r
+RefusesOn b (SetUnique number guid) o r = UniqueRefused number guid o r
+RefusesOn b (SetDisk guid) o r = NoTable o r
+RefusesOn b (SetBit number bit value) o r = BitRefused number o r
+RefusesOn b Extend o r = NoTable o r
+RefusesOn b (SetKind path code) o r = RefusedIn o.body (λ t. NotTyped b t o.labels path.number path.letter code r) r
+RefusesOn b (Delete path) o r = RefusedIn o.body (λ t. NotDeleted b t o.labels path.number path.letter r) r
+RefusesOn b _ o r = r ≡ NotYet
 
 -- what a word makes of a state on a disk of n sectors of b bytes: `a` and `o` need no layout
 abbrev pub Takes : ℕ → ℕ → Edit → State → State → Type 0
@@ -80,7 +85,7 @@ Takes b n w s t = MakesOf s t (MakesOn b w)
 abbrev pub Refuses : ℕ → ℕ → Edit → State → Refusal → Type 0
 Refuses b n (Align k) s r = ⊥
 Refuses b n Empty s r = EmptyRefused b n s r
-Refuses b n w s r = RefusedOn s.layout (λ o. RefusesOn w o r) r
+Refuses b n w s r = RefusedOn s.layout (λ o. RefusesOn b w o r) r
 
 -- the end of the words: the layout, or a refusal where there still is none
 abbrev pub Ends : Option Layout → Result Layout Refusal → Type 0

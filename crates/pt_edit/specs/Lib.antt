@@ -1,9 +1,10 @@
 pub mod Numbers
 pub mod Names
 pub mod Changes
+pub mod Spots
 pub mod Edited
 pub mod Fold
 pub mod Whole
 pub mod Laws
-pub mod Texts
 pub mod Words
+pub mod WordLaws

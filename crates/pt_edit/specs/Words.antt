@@ -5,7 +5,7 @@ use Rattle.std.specs.Str.Parse.{AllDigits, digits_value}
 use Rattle.std.specs.String.{string_bytes}
 use Rattle.pt_guid.specs.Mixed.{stored_of}
 use Rattle.pt_layout.specs.declared.path.Path.{Path}
-use Rattle.pt_edit.specs.Texts.{IsNumber, IsPath}
+use Rattle.pt_layout.specs.Texts.{IsNumber, IsPath}
 use Rattle.pt_edit.specs.declared.error.EditError.{EditError}
 use Rattle.pt_edit.specs.declared.error.EditError.TheVariants.{UnknownLetter, FieldCount, NotANumber, NotAGuid, NotACode}
 use Rattle.pt_edit.specs.declared.word.Edit.{Edit}

@@ -69,7 +69,7 @@ pub enum Refusal {
     Memory,
     /// The label counts its offsets from another sector.
     LabelOffset,
-    /// The word has no meaning here yet: so are `n`, `d`, `t` and `g`. This answer goes as they come.
+    /// The word has no meaning here yet: `n` and `g`, and in an MBR `d` and `t`. This answer goes as they come.
     NotYet,
 }
 

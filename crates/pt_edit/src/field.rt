@@ -3,13 +3,12 @@
 ghost use Rattle.std.specs.Prelude.{◌≡◌, ◌≢◌, ℕ, List, IfSome, IfNone, [], ◌∷◌, length};
 ghost use Rattle.std.specs.Option.{option_map};
 ghost use Rattle.pt_guid.specs.Mixed.{stored_of};
-ghost use Rattle.pt_edit.specs.Texts.{IsPath};
+ghost use Rattle.pt_layout.specs.Texts.{IsPath};
 ghost use Rattle.pt_edit.specs.Words.{fields, fields_after, IsIn, IsNewPath, IsEnd, IsCode, Fits, greatest, number, path, new_path, end, code, guid};
 
-use crate::number::{parse_number, parse_path};
 use crate::word::{Code, End};
 use pt_guid::Guid;
-use pt_layout::Path;
+use pt_layout::{Path, parse_number, parse_path};
 
 // The text before the first colon and the text after it.
 pub(crate) fn cut(text: &str) -> Option<(&str, &str)>

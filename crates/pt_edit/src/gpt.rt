@@ -3,9 +3,10 @@
 ghost use Rattle.std.specs.Prelude.{◌≡◌, ◌≤◌, IfOk, IfErr, IfSome, IfNone, length};
 ghost use Rattle.pt_gpt.specs.declared.entry.Entry.{Entry};
 ghost use Rattle.pt_edit.specs.Changes.{HasEntry, Missing, NoTable, with_entry};
-ghost use Rattle.pt_edit.specs.Whole.{whole_of};
+ghost use Rattle.pt_edit.specs.Whole.{whole_of, without_spot};
 
 use crate::error::Refusal;
+use crate::labels::drop_label;
 use pt_gpt::{Entry, Table};
 use pt_recover::{Body, Labels, Layout};
 
@@ -18,7 +19,7 @@ pub struct Gpt {
 }
 
 // The table's used entry of a number, from 1 on.
-fn used_entry(table: &Table, number: u64) -> Option<Entry>
+pub(crate) fn used_entry(table: &Table, number: u64) -> Option<Entry>
     ensures some { IfSome result (λ e. HasEntry table.now number e) }
     ensures none { IfNone result ((e : Entry) → ¬ HasEntry table.now number e) }
 {
@@ -68,6 +69,25 @@ impl Gpt {
     {
         self.table.entries.set(number as usize - 1, Some(entry));
         self.whole()
+    }
+
+    // The layout without one entry and the label that it has as a slice.
+    pub(crate) fn without_entry(mut self, number: u64) -> Layout
+        requires first { 1 ≤ number }
+        requires last { number ≤ length self.table.entries }
+        ensures { result ≡ without_spot number self }
+    {
+        self.table.entries.set(number as usize - 1, None);
+        let Gpt {
+            sectors,
+            table,
+            labels,
+        } = self;
+        Layout {
+            sectors,
+            body: Body::Gpt(table),
+            labels: drop_label(labels, number),
+        }
     }
 }
 

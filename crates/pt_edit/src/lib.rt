@@ -8,10 +8,11 @@ mod error;
 mod field;
 mod fold;
 mod gpt;
+mod labels;
 mod laws;
 mod name;
-mod number;
 mod parse;
+mod spots;
 mod state;
 mod tables;
 mod word;
@@ -19,8 +20,7 @@ mod words;
 
 pub use error::{EditError, Refusal};
 pub use fold::edit;
-pub use laws::edited_one;
-pub use number::parse_path;
+pub use laws::{edited_one, fault_is_no_word};
 pub use parse::parse_edit;
 pub use word::{Code, Edit, End};
 

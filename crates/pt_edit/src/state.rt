@@ -7,6 +7,7 @@ ghost use Rattle.pt_edit.specs.Fold.{state_of};
 
 use crate::entries::{rename, set_bit, set_unique};
 use crate::error::Refusal;
+use crate::spots::{delete, set_kind};
 use crate::tables::{empty, extend, set_disk};
 use crate::word::Edit;
 use pt_gpt::array_sectors;
@@ -56,7 +57,7 @@ fn take_empty<const B: usize>(
 fn take_on<const B: usize>(layout: Layout, word: &Edit) -> Result<Layout, Refusal>
     requires size { IsSectorSize B }
     ensures ok { IfOk result (λ made. MakesOn B word.now layout made) }
-    ensures err { IfErr result (λ refusal. RefusesOn word.now layout refusal) }
+    ensures err { IfErr result (λ refusal. RefusesOn B word.now layout refusal) }
 {
     match word {
         Edit::SetName(number, name) => rename(layout, *number, name.as_str()),
@@ -64,6 +65,8 @@ fn take_on<const B: usize>(layout: Layout, word: &Edit) -> Result<Layout, Refusa
         Edit::SetDisk(guid) => set_disk(layout, guid),
         Edit::SetBit(number, bit, value) => set_bit(layout, *number, *bit, *value),
         Edit::Extend => extend::<B>(layout),
+        Edit::SetKind(path, code) => set_kind::<B>(layout, path, code),
+        Edit::Delete(path) => delete::<B>(layout, path),
         _ => Err(Refusal::NotYet),
     }
 }

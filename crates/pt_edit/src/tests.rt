@@ -2,10 +2,11 @@
 
 ghost use Rattle.pt_sector.specs.Sectors.{IsSectorSize};
 
-use crate::{Code, Edit, EditError, End, edit, parse_edit, parse_path};
+use crate::{Code, Edit, EditError, End, edit, parse_edit};
+use pt_bsd::{Label, LabelEntry, empty_label};
 use pt_gpt::{Entries, Entry, Table};
 use pt_guid::Guid;
-use pt_layout::{Body, Ebrs, Labels, Layout, Path};
+use pt_layout::{Body, Ebrs, Labelled, Labels, Layout, Path};
 use std::alloc::Global;
 use std::test::Fail;
 
@@ -200,18 +201,6 @@ fn each_error(rt: HostRuntime) {
         assert_eq!(rt; error_of(rt.alloc(), text), 5, "at {text}");
     }
     assert_eq!(rt; EditError::Memory.number(), 6);
-}
-
-#[test]
-fn paths(rt: HostRuntime) {
-    let path = Path {
-        number: 5,
-        letter: Some(7),
-    };
-    assert_eq!(rt; parse_path("5.h"), Some(path));
-    for text in ["", "0", "05", "5.", "5.i", ".a", "5.ab", "5 "] {
-        assert_eq!(rt; parse_path(text), None, "at {text}");
-    }
 }
 
 /// A partition of this number and name.
@@ -471,6 +460,149 @@ fn guids_of_others(rt: HostRuntime) -> Result<(), Fail> {
     assert_eq!(rt; refused::<512>(rt.alloc(), Some(&old), &[third])?, 11);
     let second = "u:2:03030303-0303-0303-0303-030303030303";
     assert_eq!(rt; refused::<512>(rt.alloc(), Some(&old), &[second])?, 1);
+    Ok(())
+}
+
+/// 516e7cb4-6ecf-11d6-8ff8-00022d09712b, the type of a slice, as it is stored.
+const SLICE: Guid = Guid([
+    0xb4, 0x7c, 0x6e, 0x51, 0xcf, 0x6e, 0xd6, 0x11, 0x8f, 0xf8, 0x00, 0x02, 0x2d, 0x09, 0x71, 0x2b,
+]);
+
+/// 0657fd6d-a4ab-43c4-84e5-0933c84b4f4f, the type of Linux swap, as it is stored.
+const SWAP: Guid = Guid([
+    0x6d, 0xfd, 0x57, 0x06, 0xab, 0xa4, 0xc4, 0x43, 0x84, 0xe5, 0x09, 0x33, 0xc8, 0x4b, 0x4f, 0x4f,
+]);
+
+/// The label of the slice, with this entry a.
+fn label_with(entry: LabelEntry) -> Label {
+    let mut label = empty_label(2015);
+    label.entries[0] = Some(entry);
+    label
+}
+
+/// Entry a: 1000 sectors from the 16th on, of this type.
+fn entry_of(fstype: u8) -> LabelEntry {
+    LabelEntry {
+        size: 1000,
+        offset: 16,
+        fragment: 0,
+        fstype,
+        frag: 0,
+        cpg: 0,
+    }
+}
+
+/// The layout of a first entry, a second one that is a slice without a label, and these labels.
+fn sliced(alloc: Global, first: Option<Entry>, label: Option<Label>) -> Result<Layout, Fail> {
+    let mut labels = Vec::new(alloc);
+    if let Some(label) = label {
+        labels.push(Labelled { number: 1, label })?;
+    }
+    let second = Entry {
+        kind: SLICE,
+        ..partition(2, [0; 36])
+    };
+    Ok(Layout {
+        sectors: 4096,
+        body: Body::Gpt(Table {
+            disk: FRESH,
+            first: 34,
+            last: 4062,
+            entries: Entries::new(Vec::from_slice(alloc, &[first, Some(second)])?),
+        }),
+        labels: Labels::new(labels),
+    })
+}
+
+#[test]
+fn types_and_deletions(rt: HostRuntime) -> Result<(), Fail> {
+    let slice = Entry {
+        kind: SLICE,
+        ..partition(1, units(&DATA))
+    };
+    let linux = Entry {
+        kind: LINUX,
+        ..slice
+    };
+    let swap = Entry {
+        kind: SWAP,
+        ..slice
+    };
+    let old = sliced(rt.alloc(), Some(slice), Some(label_with(entry_of(7))))?;
+    let other_part = sliced(rt.alloc(), Some(slice), Some(label_with(entry_of(1))))?;
+    let empty = LabelEntry {
+        size: 0,
+        offset: 0,
+        ..entry_of(0)
+    };
+    let no_part = sliced(rt.alloc(), Some(slice), Some(label_with(empty)))?;
+    let no_slice = sliced(rt.alloc(), None, None)?;
+    assert!(rt; makes::<512>(rt.alloc(), &old, &["t:1.a:01"], &other_part)?);
+    assert!(rt; makes::<512>(rt.alloc(), &old, &["d:1.a"], &no_part)?);
+    assert!(rt; makes::<512>(rt.alloc(), &old, &["d:1"], &no_slice)?);
+
+    let plain = sliced(rt.alloc(), Some(linux), None)?;
+    let swapped = sliced(rt.alloc(), Some(swap), None)?;
+    assert!(rt; makes::<512>(rt.alloc(), &plain, &["t:1:8200"], &swapped)?);
+    assert!(rt; makes::<4096>(rt.alloc(), &plain, &["t:1:A500", "t:1:8200"], &swapped)?);
+    assert!(rt; makes::<4096>(rt.alloc(), &plain, &["d:1"], &no_slice)?);
+    Ok(())
+}
+
+#[test]
+fn refusals_of_types_and_deletions(rt: HostRuntime) -> Result<(), Fail> {
+    let slice = Entry {
+        kind: SLICE,
+        ..partition(1, units(&DATA))
+    };
+    let old = sliced(rt.alloc(), Some(slice), Some(label_with(entry_of(7))))?;
+    let rows = [
+        ("d:9", 1),
+        ("d:3.a", 1),
+        ("d:2.a", 13),
+        ("d:2.c", 13),
+        ("d:1.c", 8),
+        ("d:1.b", 1),
+        ("t:9:8300", 1),
+        ("t:1:83", 6),
+        ("t:1:8301", 6),
+        ("t:1:8300", 8),
+        ("t:1:A500", 8),
+        ("t:1.c:07", 8),
+        ("t:1.c:00", 8),
+        ("t:1.b:07", 1),
+        ("t:1.a:00", 6),
+        ("t:1.a:0700", 6),
+        ("t:2.a:0700", 13),
+    ];
+    for (text, number) in rows {
+        assert_eq!(rt;
+            refused::<512>(rt.alloc(), Some(&old), &[text])?,
+            number,
+            "at {text}"
+        );
+    }
+    let plain = sliced(rt.alloc(), Some(partition(1, [0; 36])), None)?;
+    for (text, number) in [
+        ("t:1:A500", 8),
+        ("t:1:0700", 0),
+        ("d:1.a", 1),
+        ("t:1.a:07", 1),
+    ] {
+        assert_eq!(rt;
+            refused::<512>(rt.alloc(), Some(&plain), &[text])?,
+            number,
+            "at {text}"
+        );
+    }
+    // With sectors of 4096 bytes there is no slice.
+    for (text, number) in [("d:1.a", 1), ("t:1.a:07", 1), ("t:1:8300", 0)] {
+        assert_eq!(rt;
+            refused::<4096>(rt.alloc(), Some(&old), &[text])?,
+            number,
+            "at {text}"
+        );
+    }
     Ok(())
 }
 
