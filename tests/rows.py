@@ -81,10 +81,29 @@ def names(command):
     command.gives(["edit", "c:1:" + "\U0001F4BE" * 18 + "x"], "", "refused: edit 7\n", 3)
     command.gives(["edit", "c:9:x"], "", "refused: edit 1\n", 3)
     command.gives(["edit", "a:1", "c:1:one", "c:1:two"], "done\n").gives(["show"], shown("two"))
-    for word in ("d:1", "n:2:0:0", "t:1:8200", "e", "g", "o", "A:1:2:1"):
+    for word in ("n:2:0:0", "g"):
         command.gives(["edit", word], "", "refused: not yet\n", 3)
     wild = entry(2048, 4062)[:56] + b"a\x00\x01\x00\x7f\x00\x00\xd8b\x00\x00\xdc" + "\U0001F4BE\x80".encode("utf-16-le")
     command.on(gpt(4096, {1: wild + bytes(128 - len(wild))})).gives(["show"], shown("a???b?\U0001F4BE\x80"))
+
+
+def made(command):
+    """Tables made, and what the words without a place do to one."""
+    guids = ["--fresh", "000102030405060708090a0b0c0d0e0f" + "0" * 32]
+    command.on(zeros(2048)).gives(["edit", "o"], "", "refused: edit 10\n", 3)
+    command.gives(["edit", *guids, "o"], "done\n").gives(["verify"], "yes\n")
+    if command.image() != bytes(gpt(2048, {})):
+        sys.exit("a new table has other bytes than docs/format.md's")
+    command.on(zeros(67)).gives(["edit", *guids, "o"], "", "refused: edit 12\n", 3)
+    command.on(zeros(68)).gives(["edit", *guids, "o"], "done\n").gives(["show"], f"gpt 68 34 34 {images.DISK}\n")
+    command.on(one_partition() + zeros(1000)).gives(["edit", "e"], "done\n").gives(["verify"], "yes\n")
+    command.gives(["show"], shown().replace("gpt 4096 34 4062", "gpt 5096 34 5062"))
+    command.on(one_partition()).gives(["edit", "d:9"], "", "refused: edit 1\n", 3)
+    command.gives(["edit", "t:1:A500"], "", "refused: edit 8\n", 3).gives(["edit", "t:1:83"], "", "refused: edit 6\n", 3)
+    command.gives(["edit", "t:1:ef00", "A:1:2:1", f"u:1:{images.DISK}"], "done\n")
+    command.gives(["show"], GPT_LINES[0] + f"1 2048 4062 EF00 0000000000000004 {images.DISK}\n").gives(["verify"], "yes\n")
+    command.gives(["edit", f"U:{images.FIRST}", "d:1"], "done\n").gives(["verify"], "yes\n")
+    command.gives(["show"], f"gpt 4096 34 4062 {images.FIRST}\n")
 
 
 def renamed_from_backup(command):
@@ -214,7 +233,7 @@ def main():
     ptab = os.path.abspath(sys.argv[1])
     with tempfile.TemporaryDirectory() as folder:
         command = Command(ptab, folder)
-        for rows in (gpt_rows, headers, unsound, small, chains, slices, names, renamed_from_backup):
+        for rows in (gpt_rows, headers, unsound, small, chains, slices, names, made, renamed_from_backup):
             rows(command)
     print(f"rows: {checked} passed, 0 failed")
 

@@ -61,6 +61,34 @@ label_none RawPartition l first len bytes (magics, count, sum, size, broken) is 
 pub no_label : (e : LabelError) (first len : ℕ) (bytes : List ℕ) → IsLabelFault e first len bytes → ¬ HasLabel first len bytes
 no_label e first len bytes fault has = label_none e has.0 first len bytes fault has.1
 
+-- and they break one rule first
+pub fault_one : (e f : LabelError) (first len : ℕ) (bytes : List ℕ) → IsLabelFault e first len bytes → IsLabelFault f first len bytes → e ≡ f
+fault_one Magic Magic first len bytes p q = refl
+fault_one Magic Count first len bytes p q = absurd (p q.0)
+fault_one Magic Checksum first len bytes p q = absurd (p q.0)
+fault_one Magic SectorSize first len bytes p q = absurd (p q.0)
+fault_one Magic RawPartition first len bytes p q = absurd (p q.0)
+fault_one Count Magic first len bytes p q = absurd (q p.0)
+fault_one Count Count first len bytes p q = refl
+fault_one Count Checksum first len bytes p q = absurd (p.1 q.1)
+fault_one Count SectorSize first len bytes p q = absurd (p.1 q.1)
+fault_one Count RawPartition first len bytes p q = absurd (p.1 q.1)
+fault_one Checksum Magic first len bytes p q = absurd (q p.0)
+fault_one Checksum Count first len bytes p q = absurd (q.1 p.1)
+fault_one Checksum Checksum first len bytes p q = refl
+fault_one Checksum SectorSize first len bytes p q = absurd (p.2 q.2)
+fault_one Checksum RawPartition first len bytes p q = absurd (p.2 q.2)
+fault_one SectorSize Magic first len bytes p q = absurd (q p.0)
+fault_one SectorSize Count first len bytes p q = absurd (q.1 p.1)
+fault_one SectorSize Checksum first len bytes p q = absurd (q.2 p.2)
+fault_one SectorSize SectorSize first len bytes p q = refl
+fault_one SectorSize RawPartition first len bytes p q = absurd (p.3 q.3)
+fault_one RawPartition Magic first len bytes p q = absurd (q p.0)
+fault_one RawPartition Count first len bytes p q = absurd (q.1 p.1)
+fault_one RawPartition Checksum first len bytes p q = absurd (q.2 p.2)
+fault_one RawPartition SectorSize first len bytes p q = absurd (q.3 p.3)
+fault_one RawPartition RawPartition first len bytes p q = refl
+
 none_there : (o : Option LabelEntry) → o ≡ None → ¬ IsThere o
 none_there o none there = subst IsThere none there
 

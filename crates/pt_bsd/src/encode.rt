@@ -184,8 +184,9 @@ fn write_label(bytes: &mut [u8], label: &Label)
 /// The sector `under` with the label in its place: a right checksum, and behind the last counted entry the bytes of
 /// `under`.
 ///
-/// Entries behind the first `None` are not written. A label of three to eight entries is read again, in each slice
-/// that its entry c fits.
+/// Entries behind the first `None` are not written. A label of three to eight entries, with none behind the first
+/// `None`, is read again, in each slice that its entry c fits; of another label's bytes nothing is promised but those
+/// behind its last counted entry.
 pub fn encode_label<const B: usize>(label: &Label, under: &Sector<B>) -> Sector<B>
     requires size { IsSectorSize B }
     ensures label { IsCounted label.now → (first len : ℕ) → FitsSlice label.now first len

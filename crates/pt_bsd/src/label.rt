@@ -3,9 +3,13 @@
 /// The label of a slice. Numbers are kept as read, also those that nothing here interprets.
 #[derive(Clone, Copy, Debug, PartialEq, Eq)]
 pub struct Label {
+    /// The label's type: 0 in an empty label.
     pub kind: u16,
+    /// Its subtype: 0 in an empty label.
     pub subtype: u16,
+    /// The name of its type: bytes 8 to 23.
     pub type_name: [u8; 16],
+    /// The name of this pack: bytes 24 to 39.
     pub pack_name: [u8; 16],
     /// Sectors per track, tracks, cylinders, and sectors per cylinder.
     pub geometry: [u32; 4],
@@ -13,7 +17,9 @@ pub struct Label {
     pub unit: u32,
     /// Bytes 64 to 131.
     pub kept: [u8; 68],
+    /// The size of the boot area: 8192 in an empty label.
     pub bbsize: u32,
+    /// The size of a file system's super-block: 0 in an empty label.
     pub sbsize: u32,
     /// The entries from a to h; `Some` exactly where the label counts the entry.
     pub entries: [Option<LabelEntry>; 8],
@@ -26,10 +32,13 @@ pub struct LabelEntry {
     pub size: u32,
     /// Where it starts: counted from the slice's first sector, or on the disk, by the label's form.
     pub offset: u32,
+    /// The size of a file system's fragments, as read.
     pub fragment: u32,
     /// 0 is unused, 1 swap, 7 a fast file system.
     pub fstype: u8,
+    /// How many fragments a file system's block has, as read.
     pub frag: u8,
+    /// How many cylinders a file system's group has, as read.
     pub cpg: u16,
 }
 

@@ -21,6 +21,12 @@ pub fn fault_is_no_label()
         → IsLabelFault e first len bytes → ¬ HasLabel first len bytes }
 {}
 
+/// Bytes break one rule of labels first, and no other.
+pub fn label_fault_is_one()
+    ensures { (e f : LabelError) (first len : ℕ) (bytes : List ℕ)
+        → IsLabelFault e first len bytes → IsLabelFault f first len bytes → e ≡ f }
+{}
+
 /// A label that was read can be written again: it has as many entries as its bytes count, and its entry c fits the
 /// slice.
 pub fn read_label_fits()

@@ -1,6 +1,6 @@
 //! BSD labels, whose entries' offsets are relative to the slice or absolute.
 //!
-//! The layout of a label and both forms are this project's choice (docs/format.md, "The BSD label"). Nothing here takes memory.
+//! The layout of a label and both forms stand in docs/format.md, "BSD labels (our choice)". Nothing here takes memory.
 #![tactic(auto)]
 
 mod decode;
@@ -16,8 +16,8 @@ pub use encode::encode_label;
 pub use form::Form;
 pub use label::{Label, LabelEntry, LabelError};
 pub use laws::{
-    changed_label_fits, empty_label_fits, fault_is_no_label, fitting_label_has_form, label_is_one,
-    read_label_fits,
+    changed_label_fits, empty_label_fits, fault_is_no_label, fitting_label_has_form,
+    label_fault_is_one, label_is_one, read_label_fits,
 };
 
 #[cfg(test)]

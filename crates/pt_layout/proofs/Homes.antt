@@ -8,7 +8,7 @@ use Rattle.pt_layout.specs.declared.search.Wanted.TheVariants.{LeafWith, LeafNam
 use Rattle.pt_layout.specs.Owned.{Owns}
 use Rattle.pt_layout.specs.Search.{InLayout, Answers}
 use Rattle.pt_layout.specs.Places.{IsPlaceOf, IsInSlice}
-use Rattle.pt_layout.proofs.Grouped.{place_member, member_place}
+use Rattle.pt_layout.specs.Grouped.{place_member, member_place}
 
 pub place_found : (b : ℕ) (o : Layout) (p : Path) (k : ℕ) (m : Member) → InLayout b o m → Answers (LeafNamed p k) m → IsPlaceOf b o p k (m.first + k)
 place_found b o p k m at is = record { leaf = m; is_member = place_member b o m at; is_leaf = is.1; path = is.2; exists = is.0; within = is.3; place = refl }

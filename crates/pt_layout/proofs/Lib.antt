@@ -4,7 +4,6 @@ pub mod First
 pub mod Faulty
 pub mod Pairs
 pub mod Extended
-pub mod Grouped
 pub mod Homes
 pub mod Lowest
 pub mod Foreignness

@@ -9,6 +9,7 @@ use Rattle.std.specs.List.Sorted.{IsNonDecreasingBy, IsStableByKey}
 use Rattle.std.specs.List.{AllAdjacentBelow}
 use Rattle.pt_layout.specs.Overlaps.{Meets, member_at, nobody, FirstMeetingIs, FirstOverlapIs, holds, holders, IsApart, IsFirstOverlap}
 use Rattle.pt_layout.specs.Overlaps.{IsOrdered}
+use Rattle.pt_layout.specs.Members.{Holds}
 use Rattle.pt_layout.specs.declared.member.Member.{Member}
 use Rattle.pt_layout.specs.declared.overlap.Overlap.{Overlap}
 
@@ -100,3 +101,14 @@ pub found_apart : (members sorted : List Member) → IsPermutation members sorte
     → (o : Option Overlap) → FirstMeetingIs sorted o → FirstOverlapIs members o
 found_apart members sorted same up stable all None is = all_apart members sorted same up all is
 found_apart members sorted same up stable all (Some o) is = record { sorted = sorted; order = record { same = same; ascending = up; stable = stable }; first = is }
+
+pub one_in : (s : ℕ) (ms : List Member) (k : ℕ) (d : Member) → k < length ms → (get_or ms k d).first ≤ s → s ≤ (get_or ms k d).last → 1 ≤ holders s ms
+one_in s [] k d lt low high = absurd (omega arith)
+one_in s (m ∷ ms) zero d lt low high = omega (arith, step s m ms, inside_one s m low high)
+one_in s (m ∷ ms) (suc k) d lt low high = omega (arith, step s m ms, one_in s ms k d (omega arith) low high)
+
+pub two_in : (s : ℕ) (ms : List Member) (i j : ℕ) (d e : Member) → i < j → j < length ms → Holds (get_or ms i d) s → Holds (get_or ms j e) s → 2 ≤ holders s ms
+two_in s [] i j d e order lt p q = absurd (omega arith)
+two_in s (m ∷ ms) i zero d e order lt p q = absurd (omega arith)
+two_in s (m ∷ ms) zero (suc j) d e order lt p q = omega (arith, step s m ms, inside_one s m p.0 p.1, one_in s ms j e (omega arith) q.0 q.1)
+two_in s (m ∷ ms) (suc i) (suc j) d e order lt p q = omega (arith, step s m ms, two_in s ms i j d e (omega arith) (omega arith) p q)

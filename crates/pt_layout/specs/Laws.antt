@@ -23,6 +23,9 @@ use Rattle.pt_layout.specs.Members.{Group, groups_of}
 use Rattle.pt_layout.specs.Overlaps.{IsOrdered}
 use Rattle.pt_layout.specs.Apart.{not_apart}
 use Rattle.pt_layout.specs.Tables.{IsTable}
+use Rattle.pt_layout.specs.OneHome.{place_one}
+use Rattle.pt_layout.specs.OnePath.{HasFour, sector_one}
+use Rattle.pt_layout.specs.Places.{IsPlaceOf}
 use Rattle.pt_layout.specs.Owned.{Owns}
 use Rattle.pt_layout.specs.Sound.{AllInside, Sound, IsFirstShared, IsUnsound}
 use Rattle.pt_layout.specs.Healthy.{IsWhole, IsBodyWhole, IsHealthy, Healthy}
@@ -131,3 +134,11 @@ finding_excludes_lem b d (Overlap p q) is healthy = some_excludes b d (Overlap p
 finding_excludes_lem b d (OnTable p s) is healthy = some_excludes b d (OnTable p s) is healthy
 finding_excludes_lem b d (SameGuid i j) is healthy = some_excludes b d (SameGuid i j) is healthy
 finding_excludes_lem b d (ForeignLabel p) is healthy = some_excludes b d (ForeignLabel p) is healthy
+
+-- in a sound layout a sector is one partition's, at one place in it
+pub place_is_one_lem : (b : ℕ) (o : Layout) (p q : Path) (j k s : ℕ) → Sound b o → IsPlaceOf b o p j s → IsPlaceOf b o q k s → (p ≡ q) × (j ≡ k)
+place_is_one_lem = place_one
+
+-- sector k of the partition of a path is one sector
+pub sector_is_one_lem : (b : ℕ) (o : Layout) (p : Path) (k s t : ℕ) → HasFour o.body → IsPlaceOf b o p k s → IsPlaceOf b o p k t → s ≡ t
+sector_is_one_lem = sector_one

@@ -21,3 +21,6 @@ pub mod Apart
 pub mod Laws
 pub mod Places
 pub mod Texts
+pub mod Grouped
+pub mod OneHome
+pub mod OnePath

@@ -21,10 +21,15 @@ mod slots;
 mod soundness;
 mod spot;
 mod tables;
+#[cfg(test)]
+mod tests;
 
 pub use finding::{Finding, Verdict, VerifyError};
 pub use health::verify;
-pub use laws::{finding_excludes, healthy_is_one, sound_frees_tables, unsound_excludes};
+pub use laws::{
+    finding_excludes, healthy_is_one, place_is_one, sector_is_one, sound_frees_tables,
+    unsound_excludes,
+};
 pub use number::{parse_number, parse_path};
 pub use owned::is_owned;
 pub use ownership::Owner;

@@ -11,7 +11,7 @@ use crate::path::Path;
 use pt_bsd::{Form, Label, LabelEntry};
 use pt_gpt::Entry;
 use pt_guid::Guid;
-use pt_mbr::{Ebr, Record};
+use pt_mbr::{Ebr, Record, is_extended_kind};
 use pt_recover::{Body, Labelled, Labels, is_slice_type};
 use pt_sector::Lba;
 
@@ -26,7 +26,7 @@ fn record_kind_of<const B: usize>(kind: u8) -> Kind
 {
     if B == 512 && kind == SLICE {
         Kind::Slice
-    } else if kind == 0x05 || kind == 0x0F {
+    } else if is_extended_kind(kind) {
         Kind::Extended
     } else {
         Kind::Leaf

@@ -4,13 +4,14 @@ use Rattle.std.specs.Prelude.{◌⊎◌, slice_range, slice_index, MatchOption, 
 use Rattle.std.specs.Option.{option_map}
 use Rattle.std.proofs.lemmas.List.{append-nil, append_assoc, drop-drop, length-append, length-take-le, get_or-drop, get_or-take, get_or_append_left, length-drop}
 use Rattle.std.proofs.lemmas.Bool.{cases_lt}
-use Rattle.std.proofs.Math.Seq.{drop-append_seam}
+use Rattle.std.proofs.Math.Seq.{drop-append_seam, take-append_seam}
 use Rattle.std.proofs.lemmas.Slice.{drop-append-drop}
 use Rattle.byteorder.specs.Endian.{little_number, little_bytes}
 use Rattle.byteorder.specs.Numbers.{little_number-reads_back}
 use Rattle.pt_mbr.specs.Bytes.{put_at}
-use Rattle.pt_mbr.specs.Record.{IsUsed, HasFields, RecordIs, RecordFits, IsUsable, place_of, record_bytes}
+use Rattle.pt_mbr.specs.Record.{HasFields, RecordIs, RecordFits, IsUsable, place_of, record_bytes}
 use Rattle.pt_mbr.specs.declared.record.Record.{Record}
+use Rattle.pt_mbr.specs.Kept.{range_at}
 
 pub read_back : (n x : ℕ) → x < 256 ^ n → little_number n (little_bytes n x) ≡ x
 read_back n x small = ap (little_number n) (sym (append-nil (little_bytes n x))) ∙ little_number-reads_back n x [] small
@@ -27,12 +28,6 @@ pub laid_out : (r : Record) → length r.start_chs ≡ 3 → length r.end_chs �
     → put_at 12 (little_bytes 4 r.size) (put_at 8 (little_bytes 4 r.start) (put_at 5 r.end_chs (put_at 1 r.start_chs (r.boot ∷ 0 ∷ 0 ∷ 0 ∷ r.kind ∷ replicate 11 0)))) ≡ record_bytes (Some r)
 unfolding record_bytes
 laid_out r la lc = laid r.boot r.kind r.start r.size r.start_chs r.end_chs la lc
-
--- a part of the bytes from a place on
-pub range_at : (at i j : ℕ) (c tail : List ℕ) → drop at c ≡ tail → slice_range c (at + i) (at + j) ≡ take (j - i) (drop i tail)
-range_at at i j c tail same =
-    let count : at + j - (at + i) ≡ j - i = omega arith in
-    ap (λ (n : ℕ). take n (drop (at + i) c)) count ∙ ap (λ (t : List ℕ). take (j - i) t) (sym (drop-drop i at c) ∙ ap (drop i) same)
 
 pub range_from : (at i j : ℕ) (c tail : List ℕ) (low high : ℕ) → drop at c ≡ tail → low ≡ at + i → high ≡ at + j → slice_range c low high ≡ take (j - i) (drop i tail)
 range_from at i j c tail low high same lows highs = rw (lows, highs) (range_at at i j c tail same)
@@ -108,6 +103,12 @@ pub put_other : (p i n : ℕ) (new b : List ℕ) → p ≤ length b → length n
 put_other p i n new b fits count (inl below) = put_below p i new b fits below
 put_other p i n new b fits count (inr above) = first_at i (put_at p new b) (drop i b) (put_above p i new b fits (omega (arith, count))) ∙ sym (first_at i b (drop i b) refl)
 
+-- the sixteen bytes that were put
+pub range_put : (at : ℕ) (new c rest : List ℕ) → length new ≡ 16 → drop at c ≡ new ++ rest → slice_range c at (at + 16) ≡ new
+range_put at new c rest count same =
+    let whole : 16 ≡ length new = sym count in
+    range_from at 0 16 c (new ++ rest) at (at + 16) same (omega arith) refl ∙ ap (λ (n : ℕ). take n (new ++ rest)) whole ∙ take-append_seam new rest
+
 pub none_bytes : replicate 16 0 ≡ record_bytes None
 unfolding record_bytes
 none_bytes = refl
@@ -128,84 +129,6 @@ zero_at at i c zeros few none =
 pub record_put : (o : Option (Bor Record)) (at : ℕ) (c : List ℕ) → MatchOption o (slice_range c at (at + 16) ≡ replicate 16 0) (λ r. HasFields r.now at c) → IsUsable (option_map (λ r. r.now) o) → RecordIs (option_map (λ r. r.now) o) at c
 record_put None at c zeros usable = λ used. used.0 (zero_at at 4 c zeros (omega arith) refl)
 record_put (Some r) at c fields usable = ((λ none. usable.0 (sym fields.kind ∙ none), λ none. usable.1 (sym fields.size ∙ none)), fields)
-
--- a record is its sixteen bytes
-three : (xs : List ℕ) → 3 ≤ length xs → take 3 xs ≡ get_or xs 0 0 ∷ get_or xs 1 0 ∷ get_or xs 2 0 ∷ []
-three (a ∷ b ∷ c ∷ xs) long = refl
-three xs long = absurd (omega (arith, long))
-
-four : (xs : List ℕ) → 4 ≤ length xs → take 4 xs ≡ get_or xs 0 0 ∷ get_or xs 1 0 ∷ get_or xs 2 0 ∷ get_or xs 3 0 ∷ []
-four (a ∷ b ∷ c ∷ d ∷ xs) long = refl
-four xs long = absurd (omega (arith, long))
-
-SameFrom : ℕ → ℕ → List ℕ → List ℕ → Type 0
-SameFrom at n b c = (i : ℕ) → at ≤ i → i < at + n → slice_index c i ≡ slice_index b i
-
--- element i of what stands from a place on
-element : (at i n : ℕ) (b c : List ℕ) → SameFrom at n b c → i < n → get_or (drop at c) i 0 ≡ get_or (drop at b) i 0
-unfolding SameFrom
-element at i n b c same few = get_or-drop at c i 0 ∙ same (at + i) (omega arith) (omega arith) ∙ sym (get_or-drop at b i 0)
-
-three_at : (at i : ℕ) (x : List ℕ) → i + 3 ≤ 16 → at + 16 ≤ length x → slice_range x (at + i) (at + (i + 3)) ≡ get_or (drop at x) (i + 0) 0 ∷ get_or (drop at x) (i + 1) 0 ∷ get_or (drop at x) (i + 2) 0 ∷ []
-three_at at i x few long =
-    let count : i + 3 - i ≡ 3 = omega arith in
-    let rest : 3 ≤ length (drop i (drop at x)) = (let e = length-drop i (drop at x) in let f = length-drop at x in omega (arith, few, long, e, f)) in
-    range_at at i (i + 3) x (drop at x) refl ∙ ap (λ (n : ℕ). take n (drop i (drop at x))) count ∙ three (drop i (drop at x)) rest
-    ∙ (λ k. get_or-drop i (drop at x) 0 0 k ∷ get_or-drop i (drop at x) 1 0 k ∷ get_or-drop i (drop at x) 2 0 k ∷ [])
-
-four_at : (at i : ℕ) (x : List ℕ) → i + 4 ≤ 16 → at + 16 ≤ length x → slice_range x (at + i) (at + (i + 4)) ≡ get_or (drop at x) (i + 0) 0 ∷ get_or (drop at x) (i + 1) 0 ∷ get_or (drop at x) (i + 2) 0 ∷ get_or (drop at x) (i + 3) 0 ∷ []
-four_at at i x few long =
-    let count : i + 4 - i ≡ 4 = omega arith in
-    let rest : 4 ≤ length (drop i (drop at x)) = (let e = length-drop i (drop at x) in let f = length-drop at x in omega (arith, few, long, e, f)) in
-    range_at at i (i + 4) x (drop at x) refl ∙ ap (λ (n : ℕ). take n (drop i (drop at x))) count ∙ four (drop i (drop at x)) rest
-    ∙ (λ k. get_or-drop i (drop at x) 0 0 k ∷ get_or-drop i (drop at x) 1 0 k ∷ get_or-drop i (drop at x) 2 0 k ∷ get_or-drop i (drop at x) 3 0 k ∷ [])
-
-three_same : (at i low high : ℕ) (b c : List ℕ) → i + 3 ≤ 16 → at + 16 ≤ length b → length c ≡ length b → SameFrom at 16 b c → low ≡ at + i → high ≡ at + (i + 3) → slice_range c low high ≡ slice_range b low high
-three_same at i low high b c few long count same lows highs =
-    let fits : at + 16 ≤ length c = omega (arith, long, count) in
-    rw (lows, highs) (three_at at i c few fits
-    ∙ (λ k. element at (i + 0) 16 b c same (omega (arith, few)) k ∷ element at (i + 1) 16 b c same (omega (arith, few)) k ∷ element at (i + 2) 16 b c same (omega (arith, few)) k ∷ [])
-    ∙ sym (three_at at i b few long))
-
-four_same : (at i low high : ℕ) (b c : List ℕ) → i + 4 ≤ 16 → at + 16 ≤ length b → length c ≡ length b → SameFrom at 16 b c → low ≡ at + i → high ≡ at + (i + 4) → slice_range c low high ≡ slice_range b low high
-four_same at i low high b c few long count same lows highs =
-    let fits : at + 16 ≤ length c = omega (arith, long, count) in
-    rw (lows, highs) (four_at at i c few fits
-    ∙ (λ k. element at (i + 0) 16 b c same (omega (arith, few)) k ∷ element at (i + 1) 16 b c same (omega (arith, few)) k ∷ element at (i + 2) 16 b c same (omega (arith, few)) k ∷ element at (i + 3) 16 b c same (omega (arith, few)) k ∷ [])
-    ∙ sym (four_at at i b few long))
-
-one_same : (at i : ℕ) (b c : List ℕ) → i < 16 → SameFrom at 16 b c → slice_index c (at + i) ≡ slice_index b (at + i)
-unfolding SameFrom
-one_same at i b c few same = same (at + i) (omega arith) (omega arith)
-
-used_same : (at : ℕ) (b c : List ℕ) → at + 16 ≤ length b → length c ≡ length b → SameFrom at 16 b c → IsUsed at b → IsUsed at c
-used_same at b c long count same used = (
-  (λ none. used.0 (sym (one_same at 4 b c (omega arith) same) ∙ none)),
-  λ none. used.1 (ap (little_number 4) (sym (four_same at 12 (at + 12) (at + 12 + 4) b c (omega arith) long count same refl (omega arith))) ∙ none),
-)
-
-same_back : (at : ℕ) (b c : List ℕ) → SameFrom at 16 b c → SameFrom at 16 c b
-unfolding SameFrom
-same_back at b c same i low high = sym (same i low high)
-
-same_record : (o : Option Record) (at : ℕ) (b c : List ℕ) → at + 16 ≤ length b → length c ≡ length b → SameFrom at 16 b c → RecordIs o at b → RecordIs o at c
-unfolding SameFrom
-same_record None at b c long count same unused = λ used. unused (used_same at c b (omega (arith, long, count)) (sym count) (same_back at b c same) used)
-same_record (Some r) at b c long count same is = (
-  used_same at b c long count same is.0,
-  record {
-    boot = same at (omega arith) (omega arith) ∙ is.1.boot;
-    start_chs = three_same at 1 (at + 1) (at + 4) b c (omega arith) long count same refl refl ∙ is.1.start_chs;
-    kind = one_same at 4 b c (omega arith) same ∙ is.1.kind;
-    end_chs = three_same at 5 (at + 5) (at + 8) b c (omega arith) long count same refl refl ∙ is.1.end_chs;
-    start = ap (little_number 4) (four_same at 8 (at + 8) (at + 8 + 4) b c (omega arith) long count same refl (omega arith)) ∙ is.1.start;
-    size = ap (little_number 4) (four_same at 12 (at + 12) (at + 12 + 4) b c (omega arith) long count same refl (omega arith)) ∙ is.1.size;
-  },
-)
-
-pub record_kept : (o : Option Record) (at : ℕ) (b c : List ℕ) → at + 16 ≤ length b → length c ≡ length b → ((i : ℕ) → at ≤ i → i < at + 16 → slice_index c i ≡ slice_index b i) → RecordIs o at b → RecordIs o at c
-unfolding SameFrom
-record_kept = same_record
 
 pub places_apart : (j k i : ℕ) → j ≢ k → place_of j ≤ i → i < place_of j + 16 → (i < place_of k) ⊎ (place_of k + 16 ≤ i)
 places_apart j k i other low high = elim (cases_lt i (place_of k)) as (λ w. (i < place_of k) ⊎ (place_of k + 16 ≤ i)) [ inl below ↦ inl below | inr above ↦ inr (past above) ] where

@@ -4,9 +4,10 @@ use Rattle.std.specs.Prelude.{slice_range, slice_index, slice_set}
 use Rattle.std.proofs.lemmas.List.{take-append-drop, drop-drop, get_or-drop, length-drop}
 use Rattle.pt_mbr.specs.Bytes.{put_at, HasSignature}
 use Rattle.pt_mbr.specs.Record.{RecordFits, record_bytes}
-use Rattle.pt_mbr.specs.Mbr.{HasBootIndicators, BearsProtective}
+use Rattle.pt_mbr.specs.Mbr.{HasBootIndicators}
 use Rattle.pt_mbr.specs.Protective.{IsProtective, protective_record, protective_bytes}
-use Rattle.pt_mbr.proofs.Encoding.{has_fields, bytes_back, range_at, index_at, first_at}
+use Rattle.pt_mbr.proofs.Encoding.{has_fields, bytes_back, index_at, first_at}
+use Rattle.pt_mbr.specs.Kept.{range_at}
 
 -- the bytes of a protective sector
 pub protective_laid : (n : ℕ) (e b : List ℕ) → e ≡ record_bytes (Some (protective_record n)) → b ≡ put_at 0 e (replicate 66 0) → slice_set (slice_set b 64 0x55) 65 0xAA ≡ protective_bytes n
@@ -84,7 +85,3 @@ unfolding record_bytes protective_bytes
 has_bytes n b long small is = ap (take 66) (is_those n b long small is) ∙ first_of n (drop 512 b) where
   first_of : (m : ℕ) (rest : List ℕ) → take 66 (protective_bytes m ++ rest) ≡ protective_bytes m
   first_of m rest = refl
-
-pub bears : (n : ℕ) (b : List ℕ) → IsProtective n b → BearsProtective b
-unfolding BearsProtective
-bears n b is = inl is.first.kind

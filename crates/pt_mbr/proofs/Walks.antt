@@ -1,5 +1,5 @@
 -- A walk takes one more step, or ends.
-use Rattle.std.proofs.Common.{◌≡◌, ◌<◌, ◌≤◌, ℕ, List, [], ◌∷◌, ◌++◌, length, Option, Some, None, refl, sym, ap, subst, arith}
+use Rattle.std.proofs.Common.{◌≡◌, ◌<◌, ◌≤◌, List, [], ◌∷◌, ◌++◌, length, Option, Some, None, refl, sym, ap, subst, arith}
 use Rattle.std.proofs.lemmas.List.{length_push}
 use Rattle.pt_sector.specs.Sectors.{Sectors, sector, Span}
 use Rattle.pt_sector.specs.declared.address.Lba.{Lba}
@@ -9,9 +9,6 @@ use Rattle.pt_mbr.specs.Decoded.{EndsIn}
 use Rattle.pt_mbr.specs.declared.ebr.Ebr.{Ebr}
 use Rattle.pt_mbr.specs.declared.ebr.EbrFault.TheVariants as ebr
 use Rattle.pt_mbr.specs.declared.chain.ChainError.TheVariants.{NoSignature, BadRecord, NotUpward, OutsideExtended, TooLong, Device}
-
-pub inside_same : (x : Span) (n m : ℕ) (at : Lba) → n ≡ m → IsInside x m at → IsInside x n at
-inside_same x n m at same inside = subst (λ (k : ℕ). IsInside x k at) (sym same) inside
 
 walk_more : (d : Sectors) (x : Span) (from : Option Lba) (done : List Ebr) (at : Lba) (e : Ebr) → Walk d x from done (Some at) → EbrAt d x at e → IsUpward at e.next → Walk d x from (done ++ e ∷ []) e.next
 walk_more d x None [] at e walk here up = absurd cc

@@ -1,11 +1,12 @@
 -- A master boot record that is written is read again.
-use Rattle.std.proofs.Common.{◌≡◌, ℕ, ◌+◌, ◌<◌, ◌≤◌, List, [], ◌∷◌, ◌++◌, length, drop, get_or, Option, Some, None, refl, sym, ap, ◌∙◌, subst, arith, inl, inr}
-use Rattle.std.specs.Prelude.{◌⊎◌, slice_index}
+use Rattle.std.proofs.Common.{◌≡◌, ℕ, zero, suc, ◌+◌, ◌<◌, ◌≤◌, List, [], ◌∷◌, ◌++◌, length, drop, get_or, Option, Some, None, refl, sym, ap, ◌∙◌, subst, arith, inl, inr}
+use Rattle.std.specs.Prelude.{◌⊎◌, slice_index, slice_range}
 use Rattle.pt_mbr.specs.Bytes.{put_at, HasSignature}
-use Rattle.pt_mbr.specs.Record.{RecordIs, IsUsable, IsWritten, boot_of}
+use Rattle.pt_mbr.specs.Record.{RecordIs, IsUsable, IsWritten, boot_of, place_of, record_bytes}
 use Rattle.pt_mbr.specs.Mbr.{IsMbrFormed, IsBootIndicator, HasBootIndicators, AreRecords}
 use Rattle.pt_mbr.specs.declared.record.Record.{Record}
-use Rattle.pt_mbr.proofs.Encoding.{put_here, put_other, record_kept, index_at, first_at}
+use Rattle.pt_mbr.proofs.Encoding.{put_here, put_other, index_at, first_at}
+use Rattle.pt_mbr.specs.Kept.{range_same, record_kept}
 
 -- a record that some bytes are may be written
 pub usable_of : (o : Option Record) (at : ℕ) (b : List ℕ) → RecordIs o at b → IsUsable o
@@ -27,6 +28,28 @@ module _ (records : List (Option Record)) (u s0 s1 s2 s3 c : List ℕ)
   all_else i (inl low) = at_end i (inl (omega arith)) ∙ w3.other i (inl (omega arith)) ∙ w2.other i (inl (omega arith)) ∙ w1.other i (inl (omega arith)) ∙ w0.other i (inl (omega arith))
   all_else i (inr high) = at_end i (inr high) ∙ w3.other i (inr (omega arith)) ∙ w2.other i (inr (omega arith)) ∙ w1.other i (inr (omega arith)) ∙ w0.other i (inr (omega arith))
 
+  -- the bytes of a record that a later write does not touch
+  stands : (k : ℕ) (o : Option Record) (s : List ℕ) → k < 4 → length s ≡ length c → slice_range s (place_of k) (place_of k + 16) ≡ record_bytes o
+      → ((i : ℕ) → place_of k ≤ i → i < place_of k + 16 → slice_index c i ≡ slice_index s i) → slice_range c (place_of k) (place_of k + 16) ≡ record_bytes o
+  stands k o s few same bytes each = range_same (place_of k) s c (omega (arith, few, same, count, long)) (sym same) each ∙ bytes
+
+  pub records_stand : length s0 ≡ length c → length s1 ≡ length c → length s2 ≡ length c → (k : ℕ) → k < 4 → slice_range c (place_of k) (place_of k + 16) ≡ record_bytes (get_or records k None)
+  records_stand l0 l1 l2 zero few =
+      stands 0 _ s0 few l0 w0.bytes (λ i low high. at_end i (inl (omega arith)) ∙ w3.other i (inl (omega arith)) ∙ w2.other i (inl (omega arith)) ∙ w1.other i (inl (omega arith)))
+  records_stand l0 l1 l2 (suc zero) few =
+      stands 1 _ s1 few l1 w1.bytes (λ i low high. at_end i (inl (omega arith)) ∙ w3.other i (inl (omega arith)) ∙ w2.other i (inl (omega arith)))
+  records_stand l0 l1 l2 (suc (suc zero)) few =
+      stands 2 _ s2 few l2 w2.bytes (λ i low high. at_end i (inl (omega arith)) ∙ w3.other i (inl (omega arith)))
+  records_stand l0 l1 l2 (suc (suc (suc zero))) few = stands 3 _ s3 few (sym count) w3.bytes (λ i low high. at_end i (inl (omega arith)))
+  records_stand l0 l1 l2 (suc (suc (suc (suc k)))) few = absurd (omega arith)
+
+  signature_here : drop 510 c ≡ (0x55 ∷ 0xAA ∷ []) ++ drop 512 s3
+  signature_here = ap (λ (s : List ℕ). drop 510 s) end ∙ put_here 510 (0x55 ∷ 0xAA ∷ []) s3 (omega (arith, long))
+
+  pub signed : HasSignature c
+  unfolding HasSignature
+  signed = (first_at 510 c _ signature_here, index_at 510 1 c _ signature_here)
+
   stays_so : (o : Option Record) (at : ℕ) → at + 16 ≤ 510 → RecordIs o at s3 → RecordIs o at c
   stays_so o at low is = record_kept o at s3 c (omega (arith, long)) count (λ i a z. at_end i (inl (omega arith))) is
 
@@ -43,11 +66,10 @@ module _ (records : List (Option Record)) (u s0 s1 s2 s3 c : List ℕ)
   indicator o at b same is boot = subst (λ (n : ℕ). IsBootIndicator n) (sym same) (boot_in o at b is boot)
 
   pub formed_again : (b : List ℕ) → IsMbrFormed b → AreRecords records b → IsMbrFormed c
-  unfolding HasSignature HasBootIndicators
+  unfolding HasBootIndicators
   formed_again b formed are =
-      let here : drop 510 c ≡ (0x55 ∷ 0xAA ∷ []) ++ drop 512 s3 = ap (λ (s : List ℕ). drop 510 s) end ∙ put_here 510 (0x55 ∷ 0xAA ∷ []) s3 (omega (arith, long)) in
       record {
-        signature = (first_at 510 c _ here, index_at 510 1 c _ here);
+        signature = signed;
         boots = (
           indicator _ 446 b (at_end 446 (inl (omega arith)) ∙ w3.other 446 (inl (omega arith)) ∙ w2.other 446 (inl (omega arith)) ∙ w1.other 446 (inl (omega arith)) ∙ w0.boot) are.first formed.boots.0,
           indicator _ 462 b (at_end 462 (inl (omega arith)) ∙ w3.other 462 (inl (omega arith)) ∙ w2.other 462 (inl (omega arith)) ∙ w1.boot) are.second formed.boots.1,

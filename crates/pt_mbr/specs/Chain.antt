@@ -90,6 +90,13 @@ abbrev pub StandsAt : ℕ → List Ebr → Type 0
 StandsAt s [] = ⊥
 StandsAt s (e ∷ es) = (s ≡ e.at.0) ⊎ StandsAt s es
 
+-- s is the sector at fault, and was read
+abbrev pub IsAtFault : ChainError → ℕ → Type 0
+IsAtFault (NoSignature y) s = s ≡ y.0
+IsAtFault (BadRecord y) s = s ≡ y.0
+IsAtFault (NotUpward y) s = s ≡ y.0
+IsAtFault e s = ⊥
+
 -- s was read, and is no extended boot record
 abbrev pub IsReadBy : ChainError → ℕ → Type 0
 IsReadBy (NoSignature y) s = s ≡ y.0

@@ -5,3 +5,9 @@ pub mod Protective
 pub mod Ebr
 pub mod Chain
 pub mod Decoded
+pub mod One
+pub mod Fault
+pub mod Kept
+pub mod Same
+pub mod Reading
+pub mod Laws

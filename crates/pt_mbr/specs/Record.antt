@@ -56,9 +56,10 @@ abbrev pub boot_of : Option Record → ℕ
 boot_of None = 0
 boot_of (Some r) = r.boot
 
--- c is b with record k written as this one: what reads so
+-- c is b with record k written as this one: what stands there, and what reads so
 pub record IsWritten (o : Option Record) (k : ℕ) (b c : List ℕ) : Type 0 where
   pub other : (i : ℕ) → (i < place_of k) ⊎ (place_of k + 16 ≤ i) → slice_index c i ≡ slice_index b i
+  pub bytes : slice_range c (place_of k) (place_of k + 16) ≡ record_bytes o
   pub boot : slice_index c (place_of k) ≡ boot_of o
   pub kept : (j : ℕ) (p : Option Record) → j < 4 → j ≢ k → RecordIs p (place_of j) b → RecordIs p (place_of j) c
   pub read : IsUsable o → RecordIs o (place_of k) c

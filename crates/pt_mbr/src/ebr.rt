@@ -8,12 +8,14 @@ use crate::protection::PROTECTIVE;
 use crate::record::{Record, is_extended_kind, is_used, record_at};
 use pt_sector::{Lba, Sector};
 
-/// An extended boot record: where it stands, its logical partition, none where its first record is unused, and where
-/// the next one stands, if it links to one.
+/// An extended boot record: one link of an extended partition's chain.
 #[derive(Clone, Copy, Debug, Default, PartialEq, Eq)]
 pub struct Ebr {
+    /// Where it stands on the disk.
     pub at: Lba,
+    /// Its logical partition, whose start counts from `at`; none where its first record is unused.
     pub logical: Option<Record>,
+    /// Where the next one stands on the disk; none where its second record is unused and the chain ends.
     pub next: Option<Lba>,
 }
 

@@ -1,6 +1,7 @@
-ghost use Rattle.std.specs.Prelude.{◌≡◌, ◌<◌, ◌≤◌, ◌⊎◌, ℕ, List, slice_index};
+ghost use Rattle.std.specs.Prelude.{◌≡◌, ◌<◌, ◌≤◌, ◌⊎◌, ◌+◌, ℕ, List, None, get_or, slice_index, slice_range};
 ghost use Rattle.pt_sector.specs.Sectors.{IsSectorSize};
-ghost use Rattle.pt_mbr.specs.Record.{IsWritten};
+ghost use Rattle.pt_mbr.specs.Bytes.{HasSignature};
+ghost use Rattle.pt_mbr.specs.Record.{IsWritten, place_of, record_bytes};
 ghost use Rattle.pt_mbr.specs.Mbr.{MbrBytes};
 
 use crate::mbr::{Mbr, put_part, put_record};
@@ -19,10 +20,15 @@ fn put_value<const B: usize>(sector: &Sector<B>, k: usize, value: Option<Record>
     }
 }
 
-/// The sector with the four records of `mbr` and the signature: bytes 446 to 511. What decodes is read again.
+/// The sector with the four records of `mbr`, 16 zero bytes for one that is unused, and the signature: bytes 446 to 511.
+///
+/// What decodes is read again. An `Mbr` that no sector decodes to, as one with another boot indicator than 00 or 80, is
+/// written byte by byte all the same.
 pub fn encode_mbr<const B: usize>(mbr: &Mbr, under: &Sector<B>) -> Sector<B>
     requires size { IsSectorSize B }
     ensures other { (i : ℕ) → (i < 446) ⊎ (512 ≤ i) → slice_index result i ≡ slice_index under.now i }
+    ensures bytes { (k : ℕ) → k < 4 → slice_range result (place_of k) (place_of k + 16) ≡ record_bytes (get_or mbr.now.records k None) }
+    ensures signature { HasSignature result }
     ensures read { (b : List ℕ) → MbrBytes mbr.now b → MbrBytes mbr.now result }
 {
     let sector = put_value(under, 0, mbr.records[0]);

@@ -5,7 +5,7 @@ ghost use Rattle.pt_mbr.specs.Record.{RecordIs};
 ghost use Rattle.pt_mbr.specs.Mbr.{MbrBytes, BearsProtective};
 ghost use Rattle.pt_mbr.specs.Protective.{IsProtective};
 ghost use Rattle.pt_mbr.specs.Ebr.{EbrBytes, IsEbrFault};
-ghost use Rattle.pt_mbr.specs.Chain.{Chain, ChainFault, ChainReads, IsDevice, StandsAt, SameChains};
+ghost use Rattle.pt_mbr.specs.Chain.{Chain, ChainFault, ChainReads, IsDevice, StandsAt, IsAtFault, SameChains};
 ghost use Rattle.pt_mbr.specs.declared.record.Record.{Record};
 ghost use Rattle.pt_mbr.specs.declared.mbr.Mbr.{Mbr};
 ghost use Rattle.pt_mbr.specs.declared.ebr.Ebr.{Ebr};
@@ -40,11 +40,11 @@ pub fn chain_reads_decide()
     ensures { (x : Span) (c d : Sectors) → Agrees (ChainReads d x) c d → SameChains x c d }
 {}
 
-/// Laws: the sectors that decide a chain are those of its extended boot records; those that decide a fault are among
-/// the ones that lead to it and its own.
+/// Laws: the sectors that decide a chain are those of its extended boot records; those that decide a fault of the disk
+/// are the ones that lead to it and, but for `OutsideExtended` and `TooLong`, its own.
 pub fn chain_reads_are()
     ensures chain { (d : Sectors) (x : Span) (list : List Ebr) → Chain d x list → (s : ℕ) → ChainReads d x s ↔ StandsAt s list }
-    ensures fault { (d : Sectors) (x : Span) (e : ChainError) (s : ℕ) (f : ChainFault d x e) → ChainReads d x s → StandsAt s f.before ⊎ (s ≡ f.at.0) ⊎ IsDevice e }
+    ensures fault { (d : Sectors) (x : Span) (e : ChainError) (f : ChainFault d x e) → ¬ IsDevice e → (s : ℕ) → ChainReads d x s ↔ (StandsAt s f.before ⊎ IsAtFault e s) }
 {}
 
 /// A law: a record depends on its sixteen bytes alone.

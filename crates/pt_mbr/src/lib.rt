@@ -20,7 +20,7 @@ pub use ebr::{Ebr, EbrFault, decode_ebr};
 pub use encode::encode_mbr;
 pub use laws::{
     chain_reads_are, chain_reads_decide, chains_are_one, ebr_is_one, faults_are_one, mbr_is_one,
-    record_is_one,
+    protective_is_borne, record_is_its_bytes, record_is_one,
 };
 pub use mbr::{Mbr, bears_protective, decode_mbr, put_record};
 pub use protection::{is_protective, protective};

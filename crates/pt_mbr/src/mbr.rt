@@ -14,6 +14,7 @@ use pt_sector::Sector;
 /// A master boot record's four partition records, none where one is unused: its type or its size is 0.
 #[derive(Clone, Copy, Debug, Default, PartialEq, Eq)]
 pub struct Mbr {
+    /// In the order of the bytes; that at index `k` stands at offset 446 + 16 `k`.
     pub records: [Option<Record>; 4],
 }
 
@@ -112,6 +113,7 @@ pub fn put_record<const B: usize>(sector: &Sector<B>, k: usize, value: Option<&R
     requires place { k < 4 }
     ensures put { IsPut (option_map (λ r. r.now) value.entry) k sector.now result }
     ensures other { (i : ℕ) → (i < place_of k) ⊎ (place_of k + 16 ≤ i) → slice_index result i ≡ slice_index sector.now i }
+    ensures bytes { slice_range result (place_of k) (place_of k + 16) ≡ record_bytes (option_map (λ r. r.now) value.entry) }
     ensures fields { MatchOption value.entry (slice_range result (place_of k) (place_of k + 16) ≡ replicate 16 0) (λ r. HasFields r.now (place_of k) result) }
     ensures kept { (j : ℕ) (p : Option Record) → j < 4 → j ≢ k → RecordIs p (place_of j) sector.now → RecordIs p (place_of j) result }
     ensures read { IsUsable (option_map (λ r. r.now) value.entry) → RecordIs (option_map (λ r. r.now) value.entry) (place_of k) result }

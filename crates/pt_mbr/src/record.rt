@@ -12,11 +12,17 @@ use byteorder::{ByteOrder, LittleEndian};
 /// The CHS fields are kept as read and never interpreted. UEFI 2.10, 5.2.1.
 #[derive(Clone, Copy, Debug, Default, PartialEq, Eq)]
 pub struct Record {
+    /// The boot indicator: 80 for a partition to be booted, 00 otherwise.
     pub boot: u8,
+    /// The first sector as cylinder, head and sector.
     pub start_chs: [u8; 3],
+    /// The type (OSType).
     pub kind: u8,
+    /// The last sector as cylinder, head and sector.
     pub end_chs: [u8; 3],
+    /// The first sector.
     pub start: u32,
+    /// How many sectors it has.
     pub size: u32,
 }
 

@@ -100,7 +100,7 @@ fn links_are_judged(rt: HostRuntime) -> Result<(), Fail> {
 #[test]
 fn bytes_are_judged_in_order(rt: HostRuntime) -> Result<(), Fail> {
     let mut first: Sector<512> = boot_record(EMPTY);
-    first[478] = 1;
+    first[479] = 1;
     assert_eq!(rt;
         answer(rt.alloc(), &first)?,
         Err(ChainError::BadRecord(Lba(4096)))

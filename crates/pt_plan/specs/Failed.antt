@@ -1,7 +1,11 @@
 -- Errors of the planner and of a commit: their numbers, and the failures of the device that go with them.
-use Rattle.std.specs.Prelude.{◌≡◌, ◌≢◌, ℕ, ◌+◌}
+use Rattle.std.specs.Prelude.{◌≡◌, ◌≢◌, ℕ, ◌+◌, Bool, false, Result, Ok, Err}
+use Rattle.pt_sector.specs.declared.disk.Fault.TheVariants.{Read}
+use Rattle.pt_gpt.specs.declared.error.CopyError.{CopyError}
+use Rattle.pt_gpt.specs.declared.error.CopyError.TheVariants as copy
 use Rattle.pt_recover.specs.Answers.{IsOutside}
-use Rattle.pt_edit.specs.declared.error.Refusal.{Refusal}
+use Rattle.pt_recover.specs.declared.error.NoTable.{NoTable}
+use Rattle.pt_recover.specs.declared.error.NoTable.TheVariants as no_table
 use Rattle.pt_edit.specs.declared.error.Refusal.TheVariants as refusal
 use Rattle.pt_plan.specs.declared.error.PlanError.{PlanError}
 use Rattle.pt_plan.specs.declared.error.PlanError.TheVariants as plan
@@ -45,3 +49,14 @@ FailedAs (commit.Plan e) before now = (now ≡ before) × ¬ IsFailure e
 FailedAs (commit.Check why) before now = now ≡ before
 FailedAs (commit.Device fault) before now = now ≡ before + 1
 FailedAs commit.Memory before now = now ≡ before
+
+-- the planner's error for a failure that recovery told
+abbrev pub failure_of : NoTable → PlanError
+failure_of (no_table.Device at) = plan.Device (Read at)
+failure_of _ = plan.Memory
+
+-- no copy, unless the error is a failure
+abbrev pub no_copy_of : CopyError → Result Bool PlanError
+no_copy_of (copy.Device at) = Err (plan.Device (Read at))
+no_copy_of copy.Memory = Err plan.Memory
+no_copy_of _ = Ok false

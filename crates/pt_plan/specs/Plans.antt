@@ -4,7 +4,7 @@ use Rattle.pt_sector.specs.Sectors.{Sectors, sector}
 use Rattle.pt_sector.specs.Writes.{Writes}
 use Rattle.pt_sum.specs.Crc.{crc_of}
 use Rattle.pt_mbr.specs.Protective.{IsProtective}
-use Rattle.pt_gpt.specs.Array.{array_len, array_bytes, array_sector, AllTyped}
+use Rattle.pt_gpt.specs.Array.{array_len, array_bytes, array_sector, AllTyped, AllFit}
 use Rattle.pt_gpt.specs.Copy.{header_place, array_place, HasCopy}
 use Rattle.pt_gpt.specs.Header.{HeaderBytes}
 use Rattle.pt_gpt.specs.declared.entry.Entry.{Entry}
@@ -16,8 +16,7 @@ use Rattle.pt_recover.specs.Gpt.{HasRoom}
 use Rattle.pt_recover.specs.Mbr.{IsMbrDisk}
 use Rattle.pt_recover.specs.Labels.{places_of, LabelsAre}
 use Rattle.pt_recover.specs.declared.layout.Layout.{Layout}
-use Rattle.pt_recover.specs.declared.layout.Body.{Body}
-use Rattle.pt_recover.specs.declared.layout.Body.TheVariants.{Mbr, Gpt}
+use Rattle.pt_recover.specs.declared.layout.Body.TheVariants.{Gpt}
 use Rattle.pt_layout.specs.Healthy.{IsHealthy}
 use Rattle.pt_layout.specs.Sound.{Sound, IsUnsound}
 use Rattle.pt_plan.specs.declared.error.PlanError.{PlanError}
@@ -76,6 +75,7 @@ pub record WritesCopies (b : ℕ) (d : Sectors) (t : Table) (phases : List Write
   pub is_primary : HeaderBytes b (header_of b (length d) t Primary) primary
   pub is_backup : HeaderBytes b (header_of b (length d) t Backup) backup
   pub last : List Writes
+  pub fit : AllFit t.entries
   pub protects : Protects (length d) (sector d 0) last
   pub order : (HasCopy b d Primary × (phases ≡ backup_phase b (length d) t backup ∷ (primary_phases b (length d) t primary ++ last)))
       ⊎ ((¬ HasCopy b d Primary) × (phases ≡ primary_phases b (length d) t primary ++ backup_phase b (length d) t backup ∷ last))
@@ -98,9 +98,13 @@ FitsDisk b n o = (o.sectors ≡ n) × ((t : Table) → o.body ≡ Gpt t → Fits
 abbrev pub HasLabels : ℕ → Sectors → Layout → Type 0
 HasLabels b d o = LabelsAre d (places_of b (length d) o.body) o.labels
 
--- plans of other kinds are to come
+-- an MBR disk, or one with other labels
+abbrev pub IsOtherState : ℕ → Sectors → Layout → Type 0
+IsOtherState b d o = IsMbrDisk d ⊎ ¬ HasLabels b d o
+
+-- plans of other kinds are to come: for an MBR, and on these disks
 abbrev pub IsOtherKind : ℕ → Sectors → Layout → Type 0
-IsOtherKind b d o = ((t : Table) → ¬ (o.body ≡ Gpt t)) ⊎ (IsMbrDisk d ⊎ ¬ HasLabels b d o)
+IsOtherKind b d o = ((t : Table) → ¬ (o.body ≡ Gpt t)) ⊎ IsOtherState b d o
 
 -- a plan that makes the disk healthy, with this layout: none of a disk that is so
 pub data IsPlan (b : ℕ) (d : Sectors) (o : Layout) (phases : List Writes) : Type 0 where

@@ -2,10 +2,14 @@
 #![tactic(auto)]
 
 mod commits;
+mod copies;
 mod error;
-mod finished;
+mod fits;
 mod planner;
 mod prepare;
+mod survey;
+#[cfg(test)]
+mod tests;
 
 pub use commits::commit;
 pub use error::{CommitError, PlanError};

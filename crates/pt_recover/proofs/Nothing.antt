@@ -7,7 +7,7 @@ use Rattle.pt_mbr.specs.declared.record.Record.{Record}
 use Rattle.pt_mbr.specs.declared.ebr.Ebr.{Ebr}
 use Rattle.pt_mbr.specs.declared.chain.ChainError.{ChainError}
 use Rattle.pt_mbr.specs.declared.chain.ChainError.TheVariants.{OutsideExtended}
-use Rattle.pt_mbr.proofs.Terms.{fault_has_no_chain}
+use Rattle.pt_mbr.specs.Laws.{fault_has_no_chain}
 use Rattle.pt_recover.specs.Mbr.{IsMbr, extended_of, extent_of, HasChain, ExtendedReads}
 use Rattle.pt_recover.specs.Denotes.{Denotes}
 use Rattle.pt_recover.specs.One.{mbr_one}

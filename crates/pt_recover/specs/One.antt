@@ -3,7 +3,7 @@ use Rattle.std.proofs.Common.{◌≡◌, ℕ, List, [], ◌∷◌, length, Optio
 use Rattle.pt_sector.specs.Sectors.{Sectors, sector}
 use Rattle.pt_mbr.specs.declared.record.Record.{Record}
 use Rattle.pt_mbr.specs.declared.ebr.Ebr.{Ebr}
-use Rattle.pt_mbr.proofs.Terms.{records_are_one, chain_is_one}
+use Rattle.pt_mbr.specs.Laws.{records_are_one, chain_is_one}
 use Rattle.pt_bsd.specs.Laws.{label_one}
 use Rattle.pt_gpt.specs.Laws.{copy_is_one_lem}
 use Rattle.pt_gpt.specs.declared.table.Table.{Table}

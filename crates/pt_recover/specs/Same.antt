@@ -5,7 +5,7 @@ use Rattle.pt_sector.specs.Sectors.{Sectors, sector, Agrees}
 use Rattle.pt_mbr.specs.Mbr.{AreRecords}
 use Rattle.pt_mbr.specs.declared.record.Record.{Record}
 use Rattle.pt_mbr.specs.declared.ebr.Ebr.{Ebr}
-use Rattle.pt_mbr.proofs.Terms.{chain_reads_decide}
+use Rattle.pt_mbr.specs.Laws.{chain_reads_decide}
 use Rattle.pt_bsd.specs.Label.{LabelBytes}
 use Rattle.pt_gpt.specs.Copy.{HasCopy, SameSide}
 use Rattle.pt_gpt.specs.Laws.{side_reads_decide_lem}

@@ -1,7 +1,8 @@
 use Rattle.std.proofs.Common.{rules, sym, ◌∙◌}
 use Rattle.std.proofs.lemmas.Bool.{false≢true}
 use Rattle.pt_mbr.specs.Chain.{span_of}
-use Rattle.pt_mbr.proofs.Walks.{chain_ends, walk_on, links_down, links_outside, inside_same}
+use Rattle.pt_mbr.proofs.Walks.{chain_ends, walk_on, links_down, links_outside}
+use Rattle.pt_mbr.specs.Same.{inside_same}
 use Rattle.pt_mbr.proofs.chain.step.Goals as goal
 
 pub returns-in-Err-clause-err : goal.returns-in-Err-clause-err

@@ -1,5 +1,5 @@
-use Rattle.pt_mbr.proofs.Frame.{same_chains}
+use Rattle.pt_mbr.specs.Laws.{chain_reads_decide}
 use Rattle.pt_mbr.proofs.laws.chain_reads_decide.Goals as goal
 
 pub returns : goal.returns
-returns c = same_chains
+returns c = chain_reads_decide

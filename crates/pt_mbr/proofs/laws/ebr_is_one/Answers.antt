@@ -1,5 +1,5 @@
-use Rattle.pt_mbr.proofs.Ones.{ebr_one, ebr_none}
+use Rattle.pt_mbr.specs.Laws.{ebr_is_one, fault_has_no_ebr}
 use Rattle.pt_mbr.proofs.laws.ebr_is_one.Goals as goal
 
 pub returns : goal.returns
-returns c = record { one = ebr_one; none = ebr_none }
+returns c = record { one = ebr_is_one; none = fault_has_no_ebr }

@@ -1,5 +1,5 @@
-use Rattle.pt_mbr.proofs.Faults.{fault_one}
+use Rattle.pt_mbr.specs.Laws.{fault_is_one}
 use Rattle.pt_mbr.proofs.laws.faults_are_one.Goals as goal
 
 pub returns : goal.returns
-returns c = fault_one
+returns c = fault_is_one

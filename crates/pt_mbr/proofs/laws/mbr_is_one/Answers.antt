@@ -1,5 +1,5 @@
-use Rattle.pt_mbr.proofs.Ones.{mbr_one}
+use Rattle.pt_mbr.specs.Laws.{mbr_is_one}
 use Rattle.pt_mbr.proofs.laws.mbr_is_one.Goals as goal
 
 pub returns : goal.returns
-returns c = mbr_one
+returns c = mbr_is_one

@@ -1,5 +1,5 @@
-use Rattle.pt_mbr.proofs.Guarding.{bears}
+use Rattle.pt_mbr.specs.Laws.{protective_is_borne}
 use Rattle.pt_mbr.proofs.laws.protective_is_borne.Goals as goal
 
 pub returns : goal.returns
-returns c = bears
+returns c = protective_is_borne

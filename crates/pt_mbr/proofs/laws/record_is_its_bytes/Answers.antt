@@ -1,5 +1,5 @@
-use Rattle.pt_mbr.proofs.Encoding.{record_kept}
+use Rattle.pt_mbr.specs.Laws.{record_is_its_bytes}
 use Rattle.pt_mbr.proofs.laws.record_is_its_bytes.Goals as goal
 
 pub returns : goal.returns
-returns c = record_kept
+returns c = record_is_its_bytes

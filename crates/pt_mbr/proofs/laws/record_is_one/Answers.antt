@@ -1,5 +1,5 @@
-use Rattle.pt_mbr.proofs.Ones.{record_one}
+use Rattle.pt_mbr.specs.Laws.{record_is_one}
 use Rattle.pt_mbr.proofs.laws.record_is_one.Goals as goal
 
 pub returns : goal.returns
-returns c = record_one
+returns c = record_is_one

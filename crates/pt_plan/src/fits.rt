@@ -1,0 +1,58 @@
+//! Whether a disk of some size may have a layout.
+
+ghost use Rattle.std.specs.Prelude.{◌≡◌, ◌<◌, ◌≤◌, IsTrue, ◌↔◌, replicate};
+ghost use Rattle.pt_sector.specs.Sectors.{IsSectorSize};
+ghost use Rattle.pt_gpt.specs.Array.{AllTyped};
+ghost use Rattle.pt_plan.specs.Plans.{FitsGpt, FitsDisk};
+
+use pt_gpt::{Entry, Table, array_sectors};
+use pt_layout::{Body, Layout};
+
+/// The most entries that a table has.
+const MOST_ENTRIES: usize = 128;
+
+/// Whether each used entry has a type.
+fn all_typed(entries: &[Option<Entry>]) -> bool
+    ensures { IsTrue result ↔ AllTyped entries.now }
+{
+    for k in 0..entries.len() {
+        if let Some(entry) = entries[k] {
+            if entry.kind.0 == [0; 16] {
+                return false;
+            }
+        }
+    }
+    true
+}
+
+/// Whether a GPT of so many sectors may have the table.
+fn fits_gpt<const B: usize>(sectors: u64, table: &Table) -> bool
+    requires { IsSectorSize B }
+    ensures { IsTrue result ↔ FitsGpt B sectors table.now }
+{
+    let edge = array_sectors::<B>() + 2;
+    if sectors < 2 * edge {
+        return false;
+    }
+    if table.entries.len() < 1 || table.entries.len() > MOST_ENTRIES {
+        return false;
+    }
+    if table.first < edge || table.first > table.last || table.last > sectors - edge {
+        return false;
+    }
+    all_typed(table.entries.as_slice())
+}
+
+/// Whether a disk of so many sectors may have the layout, if that is one with a GPT.
+pub(crate) fn fits<const B: usize>(sectors: u64, layout: &Layout) -> bool
+    requires { IsSectorSize B }
+    ensures { IsTrue result ↔ FitsDisk B sectors layout.now }
+{
+    if layout.sectors != sectors {
+        return false;
+    }
+    match &layout.body {
+        Body::Gpt(table) => fits_gpt::<B>(sectors, table),
+        Body::Mbr { .. } => true,
+    }
+}

@@ -1,0 +1,405 @@
+ghost use Rattle.std.specs.Prelude.{◌≡◌, ◌≤◌};
+ghost use Rattle.pt_sector.specs.Sectors.{IsSectorSize};
+
+use crate::{CommitError, PlanError, commit, make_plan};
+use pt_apply::{Plan, Write};
+use pt_check::{Answer, Why, check};
+use pt_edit::{Edit, Refusal};
+use pt_gpt::{CopyError, Entries, Entry, Table, array_sectors};
+use pt_guid::Guid;
+use pt_layout::{Body, Finding, Labels, Layout, NoTable, Verdict, recover, verify};
+use pt_sector::{CrashDisk, Disk, Lba, MemDisk, Sector};
+use std::alloc::{AllocError, Global};
+use std::test::Fail;
+
+/// 0fc63daf-8483-4772-8e79-3d69d8477de4, the type of a Linux filesystem, as it is stored.
+const LINUX: Guid = Guid([
+    0xaf, 0x3d, 0xc6, 0x0f, 0x83, 0x84, 0x72, 0x47, 0x8e, 0x79, 0x3d, 0x69, 0xd8, 0x47, 0x7d, 0xe4,
+]);
+
+/// 00010203-0405-4607-8809-0a0b0c0d0e0f, as it is stored.
+const DISK: Guid = Guid([3, 2, 1, 0, 5, 4, 7, 0x46, 0x88, 9, 10, 11, 12, 13, 14, 15]);
+
+/// A name of one unit.
+fn name_of(unit: u16) -> [u16; 36] {
+    let mut name = [0; 36];
+    name[0] = unit;
+    name
+}
+
+/// A GPT of so many sectors with 128 entries, of which the first is a partition with this name.
+fn layout<const B: usize>(
+    alloc: Global,
+    sectors: u64,
+    first: u64,
+    unit: u16,
+) -> Result<Layout, AllocError>
+    requires { IsSectorSize B }
+{
+    let edge = array_sectors::<B>() + 2;
+    let last = sectors.saturating_sub(edge);
+    let mut entries = Vec::from_elem(alloc, None, 128)?;
+    entries[0] = Some(Entry {
+        kind: LINUX,
+        unique: Guid([1; 16]),
+        first,
+        last,
+        attributes: 0,
+        name: name_of(unit),
+    });
+    Ok(Layout {
+        sectors,
+        body: Body::Gpt(Table {
+            disk: DISK,
+            first: edge,
+            last,
+            entries: Entries::new(entries),
+        }),
+        labels: Labels::new(Vec::new(alloc)),
+    })
+}
+
+/// Writes all phases, each with a flush.
+fn write_all<const B: usize, D: Disk<B>>(disk: &mut D, plan: &Plan<B>) -> bool {
+    let mut done = true;
+    for phase in &plan.phases {
+        for write in phase {
+            done = write.lba.0 < disk.sectors()
+                && disk.write(write.lba, &write.bytes).is_ok()
+                && done;
+        }
+        done = disk.flush().is_ok() && done;
+    }
+    done
+}
+
+/// How many writes each phase has; at most five phases.
+fn counts<const B: usize>(plan: &Plan<B>) -> [usize; 5] {
+    let mut counts = [0; 5];
+    for i in 0..plan.phases.len() {
+        if i < 5 {
+            counts[i] = plan.phases[i].len();
+        }
+    }
+    counts
+}
+
+/// The counts of phases and the answer of the checker to the planner's plan, which is then written.
+fn plan_and_write<const B: usize, D: Disk<B>>(
+    alloc: Global,
+    disk: &mut D,
+    wanted: &Layout,
+) -> Result<Option<([usize; 5], Answer)>, Fail>
+    requires { IsSectorSize B }
+{
+    let plan = make_plan(alloc, disk, wanted)?;
+    let answer = check(alloc, disk, &plan)?;
+    let written = write_all(disk, &plan);
+    Ok(if written {
+        Some((counts(&plan), answer))
+    } else {
+        None
+    })
+}
+
+/// The first unit of the first partition's name; none where the disk isn't healthy.
+fn healthy_name<const B: usize, D: Disk<B>>(
+    alloc: Global,
+    disk: &mut D,
+) -> Result<Option<u16>, Fail>
+    requires { IsSectorSize B }
+{
+    match verify(alloc, disk)? {
+        Verdict::Yes(layout) => Ok(first_name(&layout)),
+        Verdict::No(_) => Ok(None),
+    }
+}
+
+fn first_name(layout: &Layout) -> Option<u16> {
+    match &layout.body {
+        Body::Gpt(table) => {
+            if table.entries.len() == 0 {
+                return None;
+            }
+            match table.entries.get(0) {
+                Some(entry) => Some(entry.name[0]),
+                None => None,
+            }
+        }
+        Body::Mbr { .. } => None,
+    }
+}
+
+/// Plans from nothing, for a new name, for the same layout again, and with a broken primary header.
+fn plans<const B: usize>(
+    alloc: Global,
+    sectors: u64,
+    first: u64,
+) -> Result<[Option<([usize; 5], Answer)>; 4], Fail>
+    requires size { IsSectorSize B }
+    requires few { sectors ≤ 4096 }
+{
+    let mut disk: MemDisk<B> = MemDisk::new(alloc, sectors)?;
+    let old = layout::<B>(alloc, sectors, first, 97)?;
+    let new = layout::<B>(alloc, sectors, first, 98)?;
+    let made = plan_and_write(alloc, &mut disk, &old)?;
+    let named = plan_and_write(alloc, &mut disk, &new)?;
+    let again = plan_and_write(alloc, &mut disk, &new)?;
+    let mut header = [0; B];
+    let broken = 1 < disk.sectors() && disk.read(Lba(1), &mut header).is_ok();
+    header[0] = 0;
+    let broken = broken && 1 < disk.sectors() && disk.write(Lba(1), &header).is_ok();
+    let mended = plan_and_write(alloc, &mut disk, &old)?;
+    let healthy = healthy_name(alloc, &mut disk)? == Some(97);
+    Ok([
+        made,
+        named,
+        again,
+        if broken && healthy { mended } else { None },
+    ])
+}
+
+#[test]
+fn phases_of_plans(rt: HostRuntime) -> Result<(), Fail> {
+    let small = plans::<512>(rt.alloc(), 4096, 2048)?;
+    assert!(rt;
+        small
+            == [
+                Some(([1, 32, 1, 33, 1], Answer::Yes { switch: 3 })),
+                Some(([33, 1, 32, 1, 0], Answer::Yes { switch: 2 })),
+                Some(([0; 5], Answer::Yes { switch: 0 })),
+                Some(([1, 32, 1, 33, 0], Answer::Yes { switch: 3 })),
+            ]
+    );
+    let large = plans::<4096>(rt.alloc(), 256, 6)?;
+    assert!(rt;
+        large
+            == [
+                Some(([1, 4, 1, 5, 1], Answer::Yes { switch: 3 })),
+                Some(([5, 1, 4, 1, 0], Answer::Yes { switch: 2 })),
+                Some(([0; 5], Answer::Yes { switch: 0 })),
+                Some(([1, 4, 1, 5, 0], Answer::Yes { switch: 3 })),
+            ]
+    );
+    Ok(())
+}
+
+/// A disk of 4096 sectors of 512 bytes with a partition from 2048 on.
+fn gpt_disk(alloc: Global) -> Result<MemDisk<512>, Fail> {
+    let mut disk: MemDisk<512> = MemDisk::new(alloc, 4096)?;
+    let table = layout::<512>(alloc, 4096, 2048, 97)?;
+    let plan = make_plan(alloc, &mut disk, &table)?;
+    let _written = write_all(&mut disk, &plan);
+    Ok(disk)
+}
+
+/// The answer to a plan of these writes, each a phase of its own.
+fn answer_to(alloc: Global, writes: &[Write<512>]) -> Result<Answer, Fail> {
+    let mut disk = gpt_disk(alloc)?;
+    let mut phases = Vec::new(alloc);
+    for write in writes {
+        let mut phase = Vec::new(alloc);
+        phase.push(*write)?;
+        phases.push(phase)?;
+    }
+    Ok(check(alloc, &mut disk, &Plan { phases })?)
+}
+
+/// A sector of the disk, with another first byte if one is given.
+fn sector_of(alloc: Global, lba: u64, byte: Option<u8>) -> Result<Write<512>, Fail> {
+    let mut disk = gpt_disk(alloc)?;
+    let mut bytes: Sector<512> = [0; 512];
+    let _read = lba < disk.sectors() && disk.read(Lba(lba), &mut bytes).is_ok();
+    if let Some(byte) = byte {
+        bytes[0] = byte;
+    }
+    Ok(Write {
+        lba: Lba(lba),
+        bytes,
+    })
+}
+
+fn zeros(lba: u64) -> Write<512> {
+    Write {
+        lba: Lba(lba),
+        bytes: [0; 512],
+    }
+}
+
+#[test]
+fn answers_to_other_plans(rt: HostRuntime) -> Result<(), Fail> {
+    let alloc = rt.alloc();
+    assert_eq!(rt;
+        answer_to(alloc, &[zeros(4096)])?,
+        Answer::No(Why::OutOfRange(1))
+    );
+    assert_eq!(rt;
+        answer_to(alloc, &[sector_of(alloc, 0, Some(1))?])?,
+        Answer::No(Why::BootCode(1))
+    );
+    let back = [zeros(1), zeros(4095), sector_of(alloc, 1, None)?];
+    assert_eq!(rt; answer_to(alloc, &back)?, Answer::No(Why::Neither(2)));
+    assert_eq!(rt;
+        answer_to(alloc, &[zeros(100)])?,
+        Answer::No(Why::NotATable(Lba(100)))
+    );
+    assert_eq!(rt;
+        answer_to(alloc, &[zeros(0)])?,
+        Answer::No(Why::Final(Finding::Protective))
+    );
+    let none = Finding::NoTable(NoTable::NoCopy(CopyError::Signature, CopyError::Signature));
+    assert_eq!(rt;
+        answer_to(alloc, &[zeros(4095), zeros(1)])?,
+        Answer::No(Why::Final(none))
+    );
+    Ok(())
+}
+
+#[test]
+fn primary_array_under_an_open_header(rt: HostRuntime) -> Result<(), Fail> {
+    let mut disk = gpt_disk(rt.alloc())?;
+    let new = layout::<512>(rt.alloc(), 4096, 2048, 98)?;
+    let mut plan = make_plan(rt.alloc(), &mut disk, &new)?;
+    if plan.phases.len() > 1 {
+        drop(plan.phases.remove(1));
+    }
+    assert_eq!(rt;
+        check(rt.alloc(), &mut disk, &plan)?,
+        Answer::No(Why::ReadSector(2, Lba(2)))
+    );
+    Ok(())
+}
+
+/// What the planner says of a layout whose partition lies on the tables, of one for another size, and of a GPT on an
+/// MBR disk.
+fn refusals<const B: usize>(alloc: Global) -> Result<[u8; 3], Fail>
+    requires { IsSectorSize B }
+{
+    let mut disk: MemDisk<B> = MemDisk::new(alloc, 256)?;
+    let outside = layout::<B>(alloc, 256, 1, 97)?;
+    let larger = layout::<B>(alloc, 512, 100, 97)?;
+    let sound = layout::<B>(alloc, 256, 100, 97)?;
+    let first = number_of(make_plan(alloc, &mut disk, &outside));
+    let second = number_of(make_plan(alloc, &mut disk, &larger));
+    let mut mbr = [0; B];
+    mbr[510] = 0x55;
+    mbr[511] = 0xAA;
+    disk.write(Lba(0), &mbr)?;
+    let third = number_of(make_plan(alloc, &mut disk, &sound));
+    Ok([first, second, third])
+}
+
+fn number_of<const B: usize>(plan: Result<Plan<B>, PlanError>) -> u8 {
+    match plan {
+        Ok(_) => 99,
+        Err(error) => error.number(),
+    }
+}
+
+#[test]
+fn layouts_without_a_plan(rt: HostRuntime) -> Result<(), Fail> {
+    assert_eq!(rt; refusals::<512>(rt.alloc())?, [4, 1, 0]);
+    assert_eq!(rt; refusals::<4096>(rt.alloc())?, [4, 1, 0]);
+    Ok(())
+}
+
+/// `c:1:NAME` for a name of one letter.
+fn rename(alloc: Global, number: u64, name: &str) -> Result<Vec<Edit>, AllocError> {
+    let mut edits = Vec::new(alloc);
+    edits.push(Edit::SetName(number, String::from_str(alloc, name)?))?;
+    Ok(edits)
+}
+
+/// An empty table, then commits that are refused, and one that isn't.
+fn commits<const B: usize>(alloc: Global) -> Result<([u8; 4], Option<u16>), Fail>
+    requires { IsSectorSize B }
+{
+    let mut disk: MemDisk<B> = MemDisk::new(alloc, 256)?;
+    let none = commit_number(commit(alloc, &mut disk, &rename(alloc, 1, "b")?, &[]));
+    let table = layout::<B>(alloc, 256, 100, 97)?;
+    let made = plan_and_write(alloc, &mut disk, &table)?.is_some();
+    let missing = commit_number(commit(alloc, &mut disk, &rename(alloc, 2, "b")?, &[]));
+    let named = commit_number(commit(alloc, &mut disk, &rename(alloc, 1, "b")?, &[]));
+    let name = healthy_name(alloc, &mut disk)?;
+    let again = commit_number(commit(alloc, &mut disk, &rename(alloc, 1, "b")?, &[]));
+    Ok((
+        [none, missing, named, again],
+        if made { name } else { None },
+    ))
+}
+
+fn commit_number(answer: Result<(), CommitError>) -> u8 {
+    match answer {
+        Ok(()) => 0,
+        Err(CommitError::Edit(Refusal::NoSuchPartition)) => 21,
+        Err(error) => error.number(),
+    }
+}
+
+#[test]
+fn commits_of_names(rt: HostRuntime) -> Result<(), Fail> {
+    assert_eq!(rt; commits::<512>(rt.alloc())?, ([1, 21, 0, 0], Some(98)));
+    assert_eq!(rt; commits::<4096>(rt.alloc())?, ([1, 21, 0, 0], Some(98)));
+    Ok(())
+}
+
+/// The name that a crash leaves after a commit of another whose call of this number fails, and whether it failed.
+fn after_failure<const B: usize>(
+    alloc: Global,
+    call: u64,
+    kept: bool,
+    choices: &[usize],
+) -> Result<(Option<u16>, bool), Fail>
+    requires { IsSectorSize B }
+{
+    let mut disk: CrashDisk<B> = CrashDisk::new(alloc, 80, 40)?;
+    let table = layout::<B>(alloc, 80, 40, 97)?;
+    let made = plan_and_write(alloc, &mut disk, &table)?.is_some();
+    disk.fail_at(call, kept);
+    let failed = match commit(alloc, &mut disk, &rename(alloc, 1, "b")?, &[]) {
+        Ok(()) => false,
+        Err(CommitError::Device(_)) => true,
+        Err(_) => return Ok((None, made)),
+    };
+    let mut stopped = disk.stop(choices);
+    match recover(alloc, &mut stopped) {
+        Ok(layout) => Ok((first_name(&layout), failed)),
+        Err(_) => Ok((None, failed)),
+    }
+}
+
+/// One call of a commit fails, and then one so many calls later, until none does: the name is the old one, and then the
+/// new one.
+fn failures<const B: usize>(
+    alloc: Global,
+    step: u64,
+    kept: bool,
+    choices: &[usize],
+) -> Result<bool, Fail>
+    requires { IsSectorSize B }
+{
+    let mut good = true;
+    let mut turned = false;
+    let mut call = 1;
+    for _ in 0..2000 {
+        let (name, failed) = after_failure::<B>(alloc, call, kept, choices)?;
+        if name == Some(98) {
+            turned = true;
+        } else {
+            good = good && !turned && name == Some(97);
+        }
+        if !failed {
+            return Ok(good && turned);
+        }
+        call = call.saturating_add(step);
+    }
+    Ok(false)
+}
+
+#[test]
+fn calls_fail_in_turn(rt: HostRuntime) -> Result<(), Fail> {
+    assert!(rt; failures::<4096>(rt.alloc(), 1, true, &[9, 0, 9, 0])?);
+    assert!(rt; failures::<4096>(rt.alloc(), 3, false, &[])?);
+    assert!(rt; failures::<512>(rt.alloc(), 11, true, &[9; 40])?);
+    Ok(())
+}
