@@ -1,5 +1,5 @@
 -- From what was found out to the answer and its promise.
-use Rattle.std.proofs.Common.{◌≡◌, ◌∙◌, ◌⊎◌, inl, inr, ⊎_elim, ℕ, zero, suc, ◌+◌, ◌*◌, ◌<◌, ◌≤◌, List, [], ◌∷◌, length, take, slice_get, refl, sym, ap, subst, arith, Option, Some, None}
+use Rattle.std.proofs.Common.{◌≡◌, ◌∙◌, ◌⊎◌, inl, inr, ⊎_elim, ℕ, zero, suc, ◌+◌, ◌*◌, ◌<◌, ◌≤◌, List, [], ◌∷◌, length, slice_get, refl, sym, ap, subst, arith, Option, Some, None}
 use Rattle.std.specs.Prelude.{◌↔◌}
 use Rattle.std.proofs.lemmas.Bool.{cases_lt}
 use Rattle.std.proofs.Math.Seq.{take-length}
@@ -8,8 +8,8 @@ use Rattle.pt_sector.specs.Writes.{Writes, Puts, after}
 use Rattle.pt_layout.specs.declared.finding.Finding.{Finding}
 use Rattle.pt_apply.specs.Promises.{Safe, Keeps, Switches}
 use Rattle.pt_check.specs.Course.{phase_at, disk_after, IsCalm, LayoutsAre, Course, switch_number}
-use Rattle.pt_check.specs.First.{writes_in, NoneIs, IsFirst}
-use Rattle.pt_check.specs.Reasons.{stage, turn, IsBefore, most_writes, FirstWrite, FirstSector, IsOutside, ChangesBoot, ReadsSector, Leads, WasGiven, IsNeither, GivesNeither, IsSwitch, IsStray, IsOwned, Holds, IsAnswer}
+use Rattle.pt_check.specs.First.{writes_in, NoneIs}
+use Rattle.pt_check.specs.Reasons.{stage, turn, most_writes, FirstWrite, FirstSector, IsOutside, ChangesBoot, ReadsSector, Leads, GivesNeither, IsSwitch, IsStray, IsOwned, Holds}
 use Rattle.pt_check.specs.declared.answer.Why.{Why}
 use Rattle.pt_check.specs.declared.answer.Why.TheVariants.{TooManyWrites, OutOfRange, BootCode, ReadSector, Neither, NotATable, Owned, Final}
 use Rattle.pt_check.proofs.Heart.{stops}
@@ -43,13 +43,13 @@ module _ {L : Type 0} (denotes : Sectors → Option L → Type 0) (reads : Secto
         let same_new : g.new ≡ new = one (after phases d) g.new new g.leads.to leads.to in
         ⊎_elim
         (λ low. ⊎_elim
-          (λ no. no.0 (subst (denotes (disk_after phases d (g.i + 1))) (sym same_old) (olds (g.i + 1) low)))
-          (λ back. back.0 (same_old ∙ sym (one (disk_after phases d back.2.0) g.new old back.2.3 (olds back.2.0 (omega (arith, low, back.2.2))))))
-          g.neither)
+        (λ no. no.0 (subst (denotes (disk_after phases d (g.i + 1))) (sym same_old) (olds (g.i + 1) low)))
+        (λ back. back.0 (same_old ∙ sym (one (disk_after phases d back.2.0) g.new old back.2.3 (olds back.2.0 (omega (arith, low, back.2.2))))))
+        g.neither)
         (λ high. ⊎_elim
-          (λ no. no.1 (subst (denotes (disk_after phases d (g.i + 1))) (sym same_new) (news (g.i + 1) high (omega (arith, lt)))))
-          (λ back. back.0 (one (disk_after phases d (g.i + 1)) g.old new back.1 (news (g.i + 1) high (omega (arith, lt))) ∙ sym same_new))
-          g.neither)
+        (λ no. no.1 (subst (denotes (disk_after phases d (g.i + 1))) (sym same_new) (news (g.i + 1) high (omega (arith, lt)))))
+        (λ back. back.0 (one (disk_after phases d (g.i + 1)) g.old new back.1 (news (g.i + 1) high (omega (arith, lt))) ∙ sym same_new))
+        g.neither)
         (cases_lt (g.i + 1) s)
 
     -- at the end
@@ -66,10 +66,18 @@ module _ {L : Type 0} (denotes : Sectors → Option L → Type 0) (reads : Secto
 
     pub is_switch : (switch : Option ℕ) → LayoutsAre denotes reads phases d old new (length phases) switch → IsSwitch denotes d phases (switch_number switch)
     is_switch None olds = record { old = old; new = new; leads = leads; first = inl ((same_or None olds).0 refl, refl) }
-    is_switch (Some s) (pos, most, differ, olds, news) = record { old = old; new = new; leads = leads; first = inr (
-      differ, pos, most, news s (omega arith) most,
-      (λ j j_pos less is_new. differ (one (disk_after phases d j) old new (olds j less) is_new)),
-    ) }
+    is_switch (Some s) (pos, most, differ, olds, news) = record {
+      old = old;
+      new = new;
+      leads = leads;
+      first = inr (
+        differ,
+        pos,
+        most,
+        news s (omega arith) most,
+        (λ j j_pos less is_new. differ (one (disk_after phases d j) old new (olds j less) is_new)),
+      );
+    }
 
 -- What is known of a plan when the reasons before a stage, or before a turn in the stage of the phases, were looked for.
 module _ {L : Type 0} (denotes : Sectors → Option L → Type 0) (reads : Sectors → ℕ → Type 0) (table owned : Option L → ℕ → Type 0)

@@ -1,5 +1,5 @@
 -- The exits of the checker.
-use Rattle.std.proofs.Common.{◌≡◌, ◌∙◌, ◌⊎◌, inl, inr, ⊎_elim, ℕ, ◌+◌, ◌*◌, ◌<◌, ◌≤◌, List, length, refl, sym, ap, subst, arith, Option, Some, None}
+use Rattle.std.proofs.Common.{◌≡◌, ◌⊎◌, inl, inr, ℕ, ◌+◌, ◌*◌, ◌<◌, ◌≤◌, List, length, refl, ap, subst, arith, Option, Some, None}
 use Rattle.pt_sector.specs.Sectors.{Sectors, Agrees}
 use Rattle.pt_sector.specs.Writes.{Writes, after}
 use Rattle.pt_recover.specs.Denotes.{Denotes, Reads}
@@ -9,10 +9,10 @@ use Rattle.pt_layout.specs.declared.finding.Finding.{Finding}
 use Rattle.pt_layout.specs.Findings.{IsFinding}
 use Rattle.pt_layout.specs.Healthy.{Healthy}
 use Rattle.pt_layout.specs.Laws.{finding_excludes_lem}
-use Rattle.pt_check.specs.Course.{Course, IsCalm, LayoutsAre, switch_number}
+use Rattle.pt_check.specs.Course.{Course, IsCalm, switch_number}
 use Rattle.pt_check.specs.First.{writes_in, NoneIs, FirstWriteIs}
-use Rattle.pt_check.specs.Reasons.{stage, turn, IsBefore, most_writes, FirstWrite, IsOutside, ChangesBoot, IsFit, Leads, IsStray, IsOwned, Holds, IsAnswer}
-use Rattle.pt_check.specs.Trials.{TrialIs, RefusedRead, RefusedNeither}
+use Rattle.pt_check.specs.Reasons.{stage, turn, most_writes, FirstWrite, IsOutside, ChangesBoot, IsFit, Leads, IsStray, IsOwned, Holds}
+use Rattle.pt_check.specs.Trials.{TrialIs}
 use Rattle.pt_sector.specs.declared.address.Lba.{Lba}
 use Rattle.pt_check.specs.Misplaced.{MisplacedIs}
 use Rattle.pt_check.specs.Answers.{TableOf, OwnedOf, WrongIs, Answers, Promises}
@@ -20,7 +20,7 @@ use Rattle.pt_check.specs.declared.answer.Why.{Why}
 use Rattle.pt_check.specs.declared.answer.Why.TheVariants.{TooManyWrites, OutOfRange, BootCode, ReadSector, Neither, NotATable, Owned, Final}
 use Rattle.pt_check.specs.declared.answer.Answer.TheVariants.{No, Yes}
 use Rattle.pt_check.specs.declared.objection.Found.{Found}
-use Rattle.pt_check.specs.declared.trial.Trial.TheVariants.{Refused, Passed}
+use Rattle.pt_check.specs.declared.trial.Trial.TheVariants.{Refused}
 use Rattle.pt_check.proofs.Answering.{Known, known_writes, known_phase, known_all, cleared, is_switch, safe}
 use Rattle.pt_check.proofs.Firsts.{first_sector}
 

@@ -1,6 +1,5 @@
 -- The first of some writes, found phase by phase.
-use Rattle.std.proofs.Common.{◌≡◌, ◌∙◌, ◌⊎◌, inl, inr, ⊎_elim, ℕ, zero, suc, ◌+◌, ◌-◌, ◌<◌, ◌≤◌, List, [], ◌∷◌, ◌++◌, length, take, drop, get_or, slice_get, Some, None, Option, refl, sym, ap, subst, arith, add-one, length-append, Vec}
-use Rattle.std.specs.Prelude.{flat_map}
+use Rattle.std.proofs.Common.{◌≡◌, ◌∙◌, ⊎_elim, ℕ, zero, suc, ◌+◌, ◌-◌, ◌<◌, ◌≤◌, List, [], ◌∷◌, ◌++◌, length, take, drop, get_or, slice_get, Some, refl, sym, ap, subst, arith, add-one, length-append, Vec}
 use Rattle.std.specs.declared.alloc.Global.{Global}
 use Rattle.std.proofs.lemmas.Bool.{cases_order, cases_lt}
 use Rattle.std.proofs.lemmas.List.{append_assoc, append-nil, length-map}
@@ -100,8 +99,8 @@ module _ {b : _} (ps : List (Vec (Write b) Global)) (i : ℕ) (p : Vec (Write b)
   pub count_within : length (writes_in (take i (phases_in ps))) + length p.items ≤ length (writes_in (phases_in ps))
   count_within =
       let whole : length (writes_in (phases_in ps)) ≡ length (writes_in (take i (phases_in ps))) + (length (writes_of p.items) + length (writes_in (drop (i + 1) (phases_in ps)))) =
-          ap length writes_split ∙ length-append (writes_in (take i (phases_in ps))) (writes_of p.items ++ writes_in (drop (i + 1) (phases_in ps)))
-          ∙ ap (λ (n : ℕ). length (writes_in (take i (phases_in ps))) + n) (length-append (writes_of p.items) (writes_in (drop (i + 1) (phases_in ps)))) in
+      ap length writes_split ∙ length-append (writes_in (take i (phases_in ps))) (writes_of p.items ++ writes_in (drop (i + 1) (phases_in ps)))
+      ∙ ap (λ (n : ℕ). length (writes_in (take i (phases_in ps))) + n) (length-append (writes_of p.items) (writes_in (drop (i + 1) (phases_in ps)))) in
       let len : length (writes_of p.items) ≡ length p.items = length-map p.items (λ (w : Write _). (w.lba.0, w.bytes)) in
       omega (arith, whole, len)
 
@@ -121,7 +120,7 @@ module _ {b : _} (ps : List (Vec (Write b) Global)) (i : ℕ) (p : Vec (Write b)
   first_of_all P k n w at low nothing first =
       subst (λ (l : Writes). IsFirst P l n w) (sym writes_split)
       (first_after P (writes_in (take i (phases_in ps))) (writes_of p.items) (writes_in (drop (i + 1) (phases_in ps))) k n w at
-        (let len : length (writes_of p.items) ≡ length p.items = length-map p.items (λ (v : Write _). (v.lba.0, v.bytes)) in omega (arith, low, len)) nothing first)
+      (let len : length (writes_of p.items) ≡ length p.items = length-map p.items (λ (v : Write _). (v.lba.0, v.bytes)) in omega (arith, low, len)) nothing first)
 
 -- what is found stands in the list
 pub first_within : {b : _} (P : ℕ × List ℕ → Type 0) (ws : List (Write b)) (k : ℕ) (w : ℕ × List ℕ) → IsFirst P (writes_of ws) k w → k < length ws

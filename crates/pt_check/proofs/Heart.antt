@@ -1,12 +1,12 @@
 -- One write, or no write in what recovery reads, makes a phase safe at every stop.
-use Rattle.std.proofs.Common.{◌≡◌, ◌∙◌, ◌⊎◌, inl, inr, ⊎_elim, ℕ, zero, suc, ◌+◌, ◌<◌, ◌≤◌, List, [], ◌∷◌, length, take, get_or, refl, sym, ap, subst, arith, Option, Some, None}
+use Rattle.std.proofs.Common.{◌≡◌, ◌∙◌, ◌⊎◌, inl, inr, ⊎_elim, ℕ, ◌+◌, ◌<◌, ◌≤◌, List, [], ◌∷◌, length, sym, ap, subst, arith, Option, Some, None}
 use Rattle.std.proofs.lemmas.Bool.{cases_lt}
 use Rattle.std.proofs.lemmas.List.{get_or_default}
 use Rattle.std.proofs.Math.ListN.{get_or-eq_default}
 use Rattle.std.proofs.Math.Seq.{take-length}
 use Rattle.pt_sector.specs.Sectors.{Sectors, Agrees}
 use Rattle.pt_sector.specs.Writes.{Writes, Puts, Stopped, written, after}
-use Rattle.pt_sector.specs.Written.{stopped_none, stopped_one, stopped_written, agrees_stopped, after-take_more}
+use Rattle.pt_sector.specs.Written.{stopped_none, stopped_one, agrees_stopped, after-take_more}
 use Rattle.pt_apply.specs.Runs.{StoppedIn}
 use Rattle.pt_apply.specs.Promises.{Switches}
 use Rattle.pt_check.specs.Course.{phase_at, disk_after, IsCalm, LayoutsAre, switch_number}

@@ -1,5 +1,5 @@
 -- What each disk stopped in a plan keeps, by the writes of the plan alone.
-use Rattle.std.proofs.Common.{◌≡◌, ◌∙◌, ◌⊎◌, inl, inr, ⊎_elim, ℕ, zero, suc, ◌+◌, ◌<◌, ◌≤◌, List, [], ◌∷◌, ◌++◌, length, take, get_or, slice_get, Some, refl, sym, ap, subst, arith, Bool, true, false, Option}
+use Rattle.std.proofs.Common.{◌≡◌, ◌∙◌, ◌⊎◌, inl, inr, ⊎_elim, ℕ, zero, suc, List, [], ◌∷◌, ◌++◌, length, take, refl, sym, subst, arith, Bool, true, false, Option}
 use Rattle.pt_layout.specs.declared.finding.Finding.{Finding}
 use Rattle.std.specs.Str.{bytes_eq}
 use Rattle.std.proofs.lemmas.Slice.Eq.{bytes_eq-Decides}
@@ -7,9 +7,9 @@ use Rattle.std.proofs.lemmas.Bool.{cases_lt}
 use Rattle.std.proofs.Math.ListN.{get_or-eq_default}
 use Rattle.pt_sector.specs.Sectors.{Sectors, sector}
 use Rattle.pt_sector.specs.Writes.{Writes, Puts, Stopped, written, after}
-use Rattle.pt_sector.specs.Written.{stopped_written, length-written, length-after}
+use Rattle.pt_sector.specs.Written.{stopped_written}
 use Rattle.pt_apply.specs.Runs.{StoppedIn}
-use Rattle.pt_apply.specs.Promises.{boot_code, MustStay, Keeps}
+use Rattle.pt_apply.specs.Promises.{boot_code, Keeps}
 use Rattle.pt_check.specs.Course.{phase_at, disk_after}
 use Rattle.pt_check.specs.First.{writes_in, NoneIs}
 use Rattle.pt_check.specs.Reasons.{ChangesBoot, IsStray, IsOwned}

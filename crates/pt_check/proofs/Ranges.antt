@@ -1,12 +1,12 @@
 -- Writes in range, of the flat list and of the plan.
-use Rattle.std.proofs.Common.{◌≡◌, ◌∙◌, ◌⊎◌, ⊎_elim, ℕ, ◌+◌, ◌<◌, ◌≤◌, List, [], ◌∷◌, ◌++◌, length, take, drop, get_or, slice_get, Some, refl, sym, ap, subst, arith, Vec}
+use Rattle.std.proofs.Common.{◌≡◌, ◌∙◌, ⊎_elim, ℕ, ◌+◌, ◌<◌, List, ◌++◌, length, take, drop, get_or, slice_get, Some, refl, ap, arith, Vec}
 use Rattle.std.specs.Prelude.{Result, IfOk}
 use Rattle.std.proofs.Common.{Ok, Err}
 use Rattle.std.specs.declared.alloc.Global.{Global}
 use Rattle.std.proofs.lemmas.Bool.{cases_lt}
 use Rattle.std.proofs.lemmas.List.{get_or_default, length-map}
 use Rattle.pt_sector.specs.Writes.{Writes}
-use Rattle.pt_apply.specs.Plans.{writes_of, phases_in, phases_of, InRange, PhasesInRange}
+use Rattle.pt_apply.specs.Plans.{writes_of, phases_in, phases_of, PhasesInRange}
 use Rattle.pt_apply.specs.declared.plan.Write.{Write}
 use Rattle.pt_apply.specs.declared.plan.Plan.{Plan}
 use Rattle.pt_check.specs.Answers.{Fits}
@@ -28,10 +28,10 @@ in_range n ps nothing = λ k d lt j e low. at k d lt j e low
         let len : length (writes_of p.items) ≡ length p.items = length-map p.items (λ (v : Write _). (v.lba.0, v.bytes)) in
         let whole : writes_in (phases_in ps) ≡ writes_in (take k (phases_in ps)) ++ (writes_of p.items ++ writes_in (drop (k + 1) (phases_in ps))) = writes_split ps k p lt (get_or_default ps k d p lt) in
         let here : slice_get (writes_in (phases_in ps)) (length (writes_in (take k (phases_in ps))) + j) ≡ Some (w.lba.0, w.bytes) =
-            ap (λ (l : Writes). slice_get l (length (writes_in (take k (phases_in ps))) + j)) whole
-            ∙ get_right (writes_in (take k (phases_in ps))) (writes_of p.items ++ writes_in (drop (k + 1) (phases_in ps))) _ j refl
-            ∙ get_left (writes_of p.items) (writes_in (drop (k + 1) (phases_in ps))) j (omega (arith, low, len))
-            ∙ write_at p.items j w low (get_or_default p.items j e w low) in
+        ap (λ (l : Writes). slice_get l (length (writes_in (take k (phases_in ps))) + j)) whole
+        ∙ get_right (writes_in (take k (phases_in ps))) (writes_of p.items ++ writes_in (drop (k + 1) (phases_in ps))) _ j refl
+        ∙ get_left (writes_of p.items) (writes_in (drop (k + 1) (phases_in ps))) j (omega (arith, low, len))
+        ∙ write_at p.items j w low (get_or_default p.items j e w low) in
         below_or w.lba.0 n (nothing _ (w.lba.0, w.bytes) here)
 
 pub fits : {b : _} (n : ℕ) (plan : Plan b) (answer : Answer) → NoneIs (λ (w : ℕ × List ℕ). ¬ (w.0 < n)) (writes_in (phases_of plan)) → Fits n plan answer

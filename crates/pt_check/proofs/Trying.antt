@@ -1,26 +1,21 @@
 -- One phase more that is tried.
-use Rattle.std.proofs.Common.{◌≡◌, ◌∙◌, ◌⊎◌, inl, inr, ⊎_elim, ℕ, zero, suc, ◌+◌, ◌<◌, ◌≤◌, List, [], ◌∷◌, length, take, get_or, slice_get, refl, sym, ap, subst, arith, Option, Some, None}
+use Rattle.std.proofs.Common.{◌≡◌, ◌∙◌, inl, inr, ⊎_elim, ℕ, ◌+◌, ◌<◌, ◌≤◌, List, length, refl, sym, subst, arith, Option, Some, None}
 use Rattle.std.specs.Prelude.{◌↔◌, IsSome}
 use Rattle.std.proofs.lemmas.Bool.{cases_lt}
 use Rattle.pt_sector.specs.Sectors.{Sectors}
-use Rattle.pt_sector.specs.Writes.{Writes, Puts}
+use Rattle.pt_sector.specs.Writes.{Writes}
 use Rattle.pt_sector.specs.declared.address.Lba.{Lba}
 use Rattle.pt_recover.specs.Spans.{IsIn}
 use Rattle.pt_recover.specs.declared.trace.Run.{Run}
 use Rattle.pt_check.specs.Course.{phase_at, disk_after, IsCalm, LayoutsAre, Course}
-use Rattle.pt_check.specs.First.{NoneIs, IsFirst}
+use Rattle.pt_check.specs.First.{IsFirst}
 use Rattle.pt_check.specs.Trials.{TouchedIs, StepIs, RefusedRead, RefusedNeither}
-use Rattle.pt_check.specs.declared.trial.Step.{Step}
 use Rattle.pt_check.specs.declared.trial.Step.TheVariants.{Goes, Neither}
+use Rattle.pt_check.proofs.Keeping.{none_puts}
 
 -- the trace has the sectors that recovery of d reads
 pub record Reading (reads : Sectors → ℕ → Type 0) (d : Sectors) (runs : List Run) : Type 0 where
   pub same : (s : ℕ) → IsIn runs s ↔ reads d s
-
-none_puts : (S : ℕ → Type 0) (ws : Writes) → NoneIs (λ (w : ℕ × List ℕ). S w.0) ws → (s : ℕ) (v : List ℕ) → Puts ws s v → ¬ S s
-none_puts S [] nothing s v puts = absurd puts
-none_puts S (w ∷ ws) nothing s v (inl here) = λ in_S. nothing zero w refl (subst S (sym here.0) in_S)
-none_puts S (w ∷ ws) nothing s v (inr there) = none_puts S ws (λ k x at. nothing (suc k) x at) s v there
 
 first_same : (S T : ℕ → Type 0) → ((s : ℕ) → S s ↔ T s) → (ws : Writes) (k : ℕ) (w : ℕ × List ℕ) → IsFirst (λ (v : ℕ × List ℕ). S v.0) ws k w → IsFirst (λ (v : ℕ × List ℕ). T v.0) ws k w
 first_same S T same ws k w first = record { at = first.at; is = (same w.0).0 first.is; none_before = λ j y lt at in_T. first.none_before j y lt at ((same y.0).1 in_T) }
@@ -42,13 +37,21 @@ module _ {L : Type 0} (denotes : Sectors → Option L → Type 0) (reads : Secto
 
     module _ (touched : TouchedIs (IsIn runs) (phase_at phases i) None) (found : Option L) (is : denotes (disk_after phases d (i + 1)) found) where
       calm_here : IsCalm denotes reads phases d i
-      calm_here = ⊎_elim (λ few. inl few) (λ nothing. inr (λ s v puts in_reads. none_puts (IsIn runs) (phase_at phases i) nothing s v puts ((reading.same s).1 in_reads))) touched
+      calm_here = ⊎_elim (λ few. inl few) (λ nothing. inr (λ s v puts in_reads. none_puts (λ (w : ℕ × List ℕ). IsIn runs w.0) (phase_at phases i) nothing s v puts ((reading.same s).1 in_reads))) touched
 
       pub refused_neither : ((x : Sectors) (o p : Option L) → denotes x o → denotes x p → o ≡ p) → StepIs found old new switch (i + 1) Neither → RefusedNeither denotes reads phases d old new (i + 1)
-      refused_neither one neither = record { i = i; number = refl; below = below; switch = switch; course = course; calm = calm_here; neither = ⊎_elim
-          (λ again. inr (back switch course.layouts again))
-          (λ other. inl ((λ is_old. other.0 (one (disk_after phases d (i + 1)) found old is is_old)), (λ is_new. other.1 (one (disk_after phases d (i + 1)) found new is is_new))))
-          neither }
+      refused_neither one neither = record {
+        i = i;
+        number = refl;
+        below = below;
+        switch = switch;
+        course = course;
+        calm = calm_here;
+        neither = ⊎_elim
+            (λ again. inr (back switch course.layouts again))
+            (λ other. inl ((λ is_old. other.0 (one (disk_after phases d (i + 1)) found old is is_old)), (λ is_new. other.1 (one (disk_after phases d (i + 1)) found new is is_new))))
+            neither;
+      }
         where
           back : (s : Option ℕ) → LayoutsAre denotes reads phases d old new i s → (found ≡ old) × IsSome s
               → (¬ (old ≡ new)) × denotes (disk_after phases d (i + 1)) old × ((j : ℕ) × (0 < j) × (j ≤ i) × denotes (disk_after phases d j) new)
@@ -71,8 +74,7 @@ module _ {L : Type 0} (denotes : Sectors → Option L → Type 0) (reads : Secto
         (λ j ge le. at_last j new same (omega (arith, ge, le, is_n))),
       )
       layouts_on (Some m) (Some n) (pos, most, unlike, olds, news) (differ, same, inl kept) =
-          let m_n : m ≡ n = cc in
-          (
+          let m_n : m ≡ n = cc in (
             omega (arith, m_n, pos),
             omega (arith, m_n, most),
             unlike,

@@ -1,5 +1,5 @@
 -- Writes in the wrong place.
-use Rattle.std.specs.Prelude.{◌≡◌, ◌⊎◌, ℕ, ◌+◌, List, Option, Some, None}
+use Rattle.std.specs.Prelude.{◌≡◌, ◌⊎◌, ℕ, List, Option, Some, None}
 use Rattle.pt_sector.specs.Writes.{Writes}
 use Rattle.pt_recover.specs.declared.layout.Layout.{Layout}
 use Rattle.pt_check.specs.Answers.{TableOf, OwnedOf}

@@ -111,7 +111,7 @@ module _ {L : Type 0} (denotes : Sectors → Option L → Type 0) (d : Sectors) 
     pub leads : Leads old new
     pub first : ((old ≡ new) × (switch ≡ 0))
         ⊎ ((¬ (old ≡ new)) × (0 < switch) × (switch ≤ length phases) × denotes (disk_after phases d switch) new
-          × ((j : ℕ) → 0 < j → j < switch → ¬ denotes (disk_after phases d j) new))
+        × ((j : ℕ) → 0 < j → j < switch → ¬ denotes (disk_after phases d j) new))
 
 module _ {L : Type 0} (denotes : Sectors → Option L → Type 0) (reads : Sectors → ℕ → Type 0) (table owned : Option L → ℕ → Type 0)
     (finds : Sectors → Finding → Type 0) (d : Sectors) (phases : List Writes) where

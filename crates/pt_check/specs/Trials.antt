@@ -1,12 +1,11 @@
 -- How the phases of a plan are tried.
 use Rattle.std.specs.Prelude.{◌≡◌, ◌⊎◌, ℕ, ◌+◌, ◌<◌, ◌≤◌, List, length, Option, Some, None, IsSome}
 use Rattle.pt_sector.specs.Sectors.{Sectors}
-use Rattle.pt_sector.specs.Writes.{Writes, Puts}
+use Rattle.pt_sector.specs.Writes.{Writes}
 use Rattle.pt_sector.specs.declared.address.Lba.{Lba}
-use Rattle.pt_check.specs.Course.{phase_at, disk_after, Course, IsCalm}
+use Rattle.pt_check.specs.Course.{Course, IsCalm}
 use Rattle.pt_check.specs.First.{NoneIs, IsFirst}
 use Rattle.pt_check.specs.Reasons.{IsNeither, ReadsSector}
-use Rattle.pt_check.specs.declared.answer.Why.{Why}
 use Rattle.pt_check.specs.declared.answer.Why.TheVariants.{ReadSector, Neither}
 use Rattle.pt_check.specs.declared.trial.Trial.{Trial}
 use Rattle.pt_check.specs.declared.trial.Trial.TheVariants.{Refused, Passed}

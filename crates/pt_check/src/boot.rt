@@ -49,7 +49,10 @@ impl<const B: usize> Objection<B> for OtherBootCode<'_> {
 }
 
 /// The number of the first write that changes the disk's boot code, from 1.
-pub(crate) fn other_boot_code<const B: usize, D: Disk<B>>(disk: &mut D, plan: &Plan<B>) -> Result<Option<u64>, CheckError>
+pub(crate) fn other_boot_code<const B: usize, D: Disk<B>>(
+    disk: &mut D,
+    plan: &Plan<B>,
+) -> Result<Option<u64>, CheckError>
     requires size { IsSectorSize B }
     requires few { length (writes_in (phases_of plan.now)) ≤ 4096 }
     requires inside { NoneIs (λ w. ¬ (w.0 < D.count disk.old)) (writes_in (phases_of plan.now)) }
@@ -68,7 +71,12 @@ pub(crate) fn other_boot_code<const B: usize, D: Disk<B>>(disk: &mut D, plan: &P
     if let Err(fault) = disk.read(Lba(0), &mut head) {
         return Err(CheckError::Device(fault));
     }
-    match first_in_plan(&OtherBootCode { kept: boot_code(&head) }, plan) {
+    match first_in_plan(
+        &OtherBootCode {
+            kept: boot_code(&head),
+        },
+        plan,
+    ) {
         Some(found) => Ok(Some(found.number)),
         None => Ok(None),
     }

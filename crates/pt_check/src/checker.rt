@@ -102,7 +102,9 @@ fn check_phases<const B: usize, D: Disk<B>>(
         return Ok(Answer::No(why));
     }
     match finished_finding(alloc, disk, plan, count) {
-        Ok(None) => Ok(Answer::Yes { switch: number(switch) }),
+        Ok(None) => Ok(Answer::Yes {
+            switch: number(switch),
+        }),
         Ok(Some(finding)) => Ok(Answer::No(Why::Final(finding))),
         Err(error) => Err(error),
     }

@@ -24,7 +24,10 @@ pub(crate) struct Found {
 }
 
 /// The first write of a phase that the objection is against, counted from 0.
-pub(crate) fn first_in_phase<const B: usize, T: Objection<B>>(objection: &T, phase: &[Write<B>]) -> Option<usize>
+pub(crate) fn first_in_phase<const B: usize, T: Objection<B>>(
+    objection: &T,
+    phase: &[Write<B>],
+) -> Option<usize>
     requires { IsSectorSize B }
     ensures { FirstIs (T.against objection.now) (writes_of phase.now) result }
 {
@@ -37,7 +40,10 @@ pub(crate) fn first_in_phase<const B: usize, T: Objection<B>>(objection: &T, pha
 }
 
 /// The first write of a plan that the objection is against.
-pub(crate) fn first_in_plan<const B: usize, T: Objection<B>>(objection: &T, plan: &Plan<B>) -> Option<Found>
+pub(crate) fn first_in_plan<const B: usize, T: Objection<B>>(
+    objection: &T,
+    plan: &Plan<B>,
+) -> Option<Found>
     requires size { IsSectorSize B }
     requires few { length (writes_in (phases_of plan.now)) ≤ 4096 }
     ensures { FirstWriteIs (T.against objection.now) (writes_in (phases_of plan.now)) result }

@@ -27,7 +27,10 @@ fn outside(error: NoTable) -> Option<CheckError>
 }
 
 /// What the disk denotes, with the sectors that decide it.
-pub(crate) fn read_layout<const B: usize, D: Disk<B>>(alloc: Global, disk: &mut D) -> Result<Recovered, CheckError>
+pub(crate) fn read_layout<const B: usize, D: Disk<B>>(
+    alloc: Global,
+    disk: &mut D,
+) -> Result<Recovered, CheckError>
     requires size { IsSectorSize B }
     ensures count { D.count disk.new ≡ D.count disk.old }
     ensures name { D.name disk.new ≡ D.name disk.old }

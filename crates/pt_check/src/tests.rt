@@ -122,7 +122,10 @@ const ANSWERS: [Answer; 11] = [
     Answer::No(Why::Neither(2)),
     Answer::No(Why::Neither(1)),
     Answer::No(Why::NotATable(Lba(100))),
-    Answer::No(Why::Final(Finding::NoTable(NoTable::NoCopy(CopyError::Signature, CopyError::Signature)))),
+    Answer::No(Why::Final(Finding::NoTable(NoTable::NoCopy(
+        CopyError::Signature,
+        CopyError::Signature,
+    )))),
 ];
 
 #[test]
@@ -145,7 +148,10 @@ fn to_many(alloc: Global, count: usize) -> Result<Answer, Fail> {
 
 #[test]
 fn more_than_4096_writes(rt: HostRuntime) -> Result<(), Fail> {
-    assert_eq!(rt; to_many(rt.alloc(), 4096)?, Answer::No(Why::NotATable(Lba(2))));
+    assert_eq!(rt;
+        to_many(rt.alloc(), 4096)?,
+        Answer::No(Why::NotATable(Lba(2)))
+    );
     assert_eq!(rt; to_many(rt.alloc(), 4097)?, Answer::No(Why::TooManyWrites));
     Ok(())
 }
@@ -154,7 +160,10 @@ fn more_than_4096_writes(rt: HostRuntime) -> Result<(), Fail> {
 fn a_disk_without_sectors(rt: HostRuntime) -> Result<(), Fail> {
     let mut disk: MemDisk<512> = MemDisk::new(rt.alloc(), 0)?;
     let plan = one_by_one(rt.alloc(), &[])?;
-    assert_eq!(rt; check(rt.alloc(), &mut disk, &plan)?, Answer::No(Why::Final(Finding::NoTable(NoTable::TooSmall))));
+    assert_eq!(rt;
+        check(rt.alloc(), &mut disk, &plan)?,
+        Answer::No(Why::Final(Finding::NoTable(NoTable::TooSmall)))
+    );
     Ok(())
 }
 
@@ -167,6 +176,9 @@ fn a_failed_read(rt: HostRuntime) -> Result<(), Fail> {
         assert_eq!(rt; check(rt.alloc(), &mut disk, &plan).is_err(), true);
     }
     disk.fail_at(1, false);
-    assert_eq!(rt; check(rt.alloc(), &mut disk, &plan), Err(CheckError::Device(Fault::Read(Lba(0)))));
+    assert_eq!(rt;
+        check(rt.alloc(), &mut disk, &plan),
+        Err(CheckError::Device(Fault::Read(Lba(0))))
+    );
     Ok(())
 }

@@ -91,7 +91,10 @@ fn compare(found: &Option<Layout>, layouts: &Layouts, switch: Option<u64>, numbe
 }
 
 /// Puts a phase into an overlay that has room for it.
-pub(crate) fn put_phase<'a, const B: usize, D: Disk<B>>(over: &mut Overlay<'a, D, B>, phase: &[Write<B>])
+pub(crate) fn put_phase<'a, const B: usize, D: Disk<B>>(
+    over: &mut Overlay<'a, D, B>,
+    phase: &[Write<B>],
+)
     requires size { IsSectorSize B }
     requires room { length phase.now ≤ room_left over.old.own }
     ensures same_reference { over.new.disk.ghost_name ≡ over.old.disk.ghost_name }

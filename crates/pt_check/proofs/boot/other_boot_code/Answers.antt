@@ -1,4 +1,4 @@
-use Rattle.std.proofs.Common.{◌≡◌, ◌∙◌, ap, take, ℕ, List}
+use Rattle.std.proofs.Common.{◌≡◌, ◌∙◌, ap, take}
 use Rattle.pt_apply.specs.Plans.{phases_of}
 use Rattle.pt_check.proofs.Firsts.{first_number}
 use Rattle.pt_check.proofs.boot.other_boot_code.Goals as goal

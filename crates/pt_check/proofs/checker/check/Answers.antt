@@ -1,4 +1,3 @@
-use Rattle.std.proofs.Common.{◌≡◌}
 use Rattle.pt_check.proofs.Ranges.{fits_all}
 use Rattle.pt_check.proofs.checker.check.Goals as goal
 

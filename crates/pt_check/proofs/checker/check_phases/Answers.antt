@@ -1,4 +1,4 @@
-use Rattle.std.proofs.Common.{rules, ◌≡◌, ◌∙◌, ap, sym, subst, List, ℕ, Option, Some, None}
+use Rattle.std.proofs.Common.{rules, ◌≡◌, ◌∙◌, ap, sym, subst, Some, None}
 use Rattle.pt_sector.specs.Sectors.{Sectors}
 use Rattle.pt_sector.specs.Writes.{after}
 use Rattle.pt_sector.specs.Device.{Told}
@@ -19,7 +19,7 @@ returns-in-Ok-Refused-clause-answers g c = λ tells.
     (record { from = (c.in-Ok.ensures.recovered tells).denotes; to = subst (λ (x : Sectors). Denotes g.row.B (after (phases_of c.args.plan.now) x) c.in-Ok-finished_layout.new) s1 (c.in-Ok-finished_layout.ensures.layout tells) })
     c.in-Ok-Refused.why
     (subst (λ (x : Sectors). TrialIs (Denotes g.row.B) (Reads g.row.B) (phases_of c.args.plan.now) x c.in-Ok.old.layout c.in-Ok-finished_layout.new (Refused c.in-Ok-Refused.why)) s2
-      (rw c.in-Ok-Refused.field-0-is at (c.in-Ok-Refused.ensures.tried tells)))
+    (rw c.in-Ok-Refused.field-0-is at (c.in-Ok-Refused.ensures.tried tells)))
 
 pub returns-in-Some-clause-answers : goal.returns-in-Some-clause-answers
 returns-in-Some-clause-answers g c = λ tells.
@@ -29,7 +29,7 @@ returns-in-Some-clause-answers g c = λ tells.
     (record { from = (c.in-Ok.ensures.recovered tells).denotes; to = subst (λ (x : Sectors). Denotes g.row.B (after (phases_of c.args.plan.now) x) c.in-Ok-finished_layout.new) s1 (c.in-Ok-finished_layout.ensures.layout tells) })
     c.in-Ok-Passed.switch
     (subst (λ (x : Sectors). TrialIs (Denotes g.row.B) (Reads g.row.B) (phases_of c.args.plan.now) x c.in-Ok.old.layout c.in-Ok-finished_layout.new (Passed c.in-Ok-Passed.switch)) s2
-      (rw c.in-Ok-Passed.field-0-is at (c.in-Ok-Passed.ensures.tried tells)))
+    (rw c.in-Ok-Passed.field-0-is at (c.in-Ok-Passed.ensures.tried tells)))
     c.in-Some.why c.in-Some.ensures
 
 pub returns-in-Ok-Some-clause-answers : goal.returns-in-Ok-Some-clause-answers
@@ -41,10 +41,10 @@ returns-in-Ok-Some-clause-answers g c = λ tells.
     (record { from = (c.in-Ok.ensures.recovered tells).denotes; to = subst (λ (x : Sectors). Denotes g.row.B (after (phases_of c.args.plan.now) x) c.in-Ok-finished_layout.new) s1 (c.in-Ok-finished_layout.ensures.layout tells) })
     c.in-Ok-Passed.switch
     (subst (λ (x : Sectors). TrialIs (Denotes g.row.B) (Reads g.row.B) (phases_of c.args.plan.now) x c.in-Ok.old.layout c.in-Ok-finished_layout.new (Passed c.in-Ok-Passed.switch)) s2
-      (rw c.in-Ok-Passed.field-0-is at (c.in-Ok-Passed.ensures.tried tells)))
+    (rw c.in-Ok-Passed.field-0-is at (c.in-Ok-Passed.ensures.tried tells)))
     c.in_default.ensures.0 c.in_default.ensures.1 c.in-Ok-Some.finding
     (subst (λ (x : Sectors). WrongIs g.row.B (after (phases_of c.args.plan.now) x) (Some c.in-Ok-Some.finding)) s3
-      (rw c.in-Ok-Some.field-0-is at (c.in-Ok-Some.ensures.wrong tells)))
+    (rw c.in-Ok-Some.field-0-is at (c.in-Ok-Some.ensures.wrong tells)))
 
 pub returns-in-Ok-None-clause-answers : goal.returns-in-Ok-None-clause-answers
 returns-in-Ok-None-clause-answers g c = λ tells.
@@ -55,10 +55,10 @@ returns-in-Ok-None-clause-answers g c = λ tells.
     (record { from = (c.in-Ok.ensures.recovered tells).denotes; to = subst (λ (x : Sectors). Denotes g.row.B (after (phases_of c.args.plan.now) x) c.in-Ok-finished_layout.new) s1 (c.in-Ok-finished_layout.ensures.layout tells) })
     c.in-Ok-Passed.switch
     (subst (λ (x : Sectors). TrialIs (Denotes g.row.B) (Reads g.row.B) (phases_of c.args.plan.now) x c.in-Ok.old.layout c.in-Ok-finished_layout.new (Passed c.in-Ok-Passed.switch)) s2
-      (rw c.in-Ok-Passed.field-0-is at (c.in-Ok-Passed.ensures.tried tells)))
+    (rw c.in-Ok-Passed.field-0-is at (c.in-Ok-Passed.ensures.tried tells)))
     c.in_default.ensures.0 c.in_default.ensures.1
     (subst (λ (x : Sectors). WrongIs g.row.B (after (phases_of c.args.plan.now) x) None) s3
-      (rw c.in-Ok-None.field-0-is at (c.in-Ok-None.ensures.wrong tells))))
+    (rw c.in-Ok-None.field-0-is at (c.in-Ok-None.ensures.wrong tells))))
 
 pub returns-in-Ok-None-clause-promises : goal.returns-in-Ok-None-clause-promises
 returns-in-Ok-None-clause-promises g c = λ tells.
@@ -69,13 +69,22 @@ returns-in-Ok-None-clause-promises g c = λ tells.
     (record { from = (c.in-Ok.ensures.recovered tells).denotes; to = subst (λ (x : Sectors). Denotes g.row.B (after (phases_of c.args.plan.now) x) c.in-Ok-finished_layout.new) s1 (c.in-Ok-finished_layout.ensures.layout tells) })
     c.in-Ok-Passed.switch
     (subst (λ (x : Sectors). TrialIs (Denotes g.row.B) (Reads g.row.B) (phases_of c.args.plan.now) x c.in-Ok.old.layout c.in-Ok-finished_layout.new (Passed c.in-Ok-Passed.switch)) s2
-      (rw c.in-Ok-Passed.field-0-is at (c.in-Ok-Passed.ensures.tried tells)))
+    (rw c.in-Ok-Passed.field-0-is at (c.in-Ok-Passed.ensures.tried tells)))
     c.in_default.ensures.0 c.in_default.ensures.1
     (subst (λ (x : Sectors). WrongIs g.row.B (after (phases_of c.args.plan.now) x) None) s3
-      (rw c.in-Ok-None.field-0-is at (c.in-Ok-None.ensures.wrong tells))))
+    (rw c.in-Ok-None.field-0-is at (c.in-Ok-None.ensures.wrong tells))))
 
 pub try_phases-requires : goal.try_phases-requires
-try_phases-requires g c = (search rules, (c.requires.size, (c.requires.room, λ tells.
-    subst (λ (x : Sectors). IsOf g.row.B x c.in-Ok.old)
-    (sym (ap (λ (t : Told). t.seen) (c.finished_layout.ensures.same tells) ∙ ap (λ (t : Told). t.seen) (c.read_layout.ensures.same tells)))
-    (c.in-Ok.ensures.recovered tells))))
+try_phases-requires g c = (
+  search rules,
+  (
+    c.requires.size,
+    (
+      c.requires.room,
+      λ tells.
+          subst (λ (x : Sectors). IsOf g.row.B x c.in-Ok.old)
+          (sym (ap (λ (t : Told). t.seen) (c.finished_layout.ensures.same tells) ∙ ap (λ (t : Told). t.seen) (c.read_layout.ensures.same tells)))
+          (c.in-Ok.ensures.recovered tells),
+    ),
+  ),
+)

@@ -1,4 +1,4 @@
-use Rattle.std.proofs.Common.{rules, ◌≡◌, ◌∙◌, ◌+◌, ◌≤◌, ap, arith, length}
+use Rattle.std.proofs.Common.{rules, ap, arith, length}
 use Rattle.pt_sector.specs.Overlays.{shown}
 use Rattle.pt_apply.specs.Plans.{phases_in, writes_of}
 use Rattle.pt_check.proofs.Firsts.{count_on, count_within, lent_phase, index_within, seen_on}

@@ -1,6 +1,5 @@
 use Rattle.std.proofs.Common.{◌≡◌, ◌≤◌, ◌+◌, length, take}
 use Rattle.pt_sector.specs.Overlays.{room_left, shown}
-use Rattle.pt_sector.specs.Writes.{after}
 use Rattle.pt_apply.specs.Plans.{phases_in}
 use Rattle.pt_check.specs.First.{writes_in}
 use Rattle.pt_check.specs.Course.{disk_after}

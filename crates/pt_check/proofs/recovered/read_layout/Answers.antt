@@ -1,5 +1,4 @@
-use Rattle.std.proofs.Common.{rules, ◌≡◌, ◌∙◌, sym, refl}
-use Rattle.pt_check.specs.Recovered.{IsOf}
+use Rattle.std.proofs.Common.{◌∙◌, sym}
 use Rattle.pt_check.proofs.Outside.{recovered_ok, recovered_none}
 use Rattle.pt_check.proofs.recovered.read_layout.Goals as goal
 

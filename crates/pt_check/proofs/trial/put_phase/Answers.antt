@@ -1,5 +1,4 @@
-use Rattle.std.proofs.Common.{rules, ◌≡◌, ◌∙◌, ap, sym, arith, drop, ◌+◌}
-use Rattle.pt_sector.specs.Sectors.{Sectors}
+use Rattle.std.proofs.Common.{rules, ◌∙◌, ap, arith, drop, ◌+◌}
 use Rattle.pt_sector.specs.Writes.{written}
 use Rattle.pt_apply.specs.Plans.{writes_of}
 use Rattle.pt_check.proofs.Firsts.{drop-writes}

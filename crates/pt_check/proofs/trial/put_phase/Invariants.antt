@@ -1,4 +1,4 @@
-use Rattle.std.proofs.Common.{◌≡◌, ◌≤◌, ◌+◌, ◌-◌, length, take, drop}
+use Rattle.std.proofs.Common.{◌≡◌, ◌≤◌, ◌+◌, drop}
 use Rattle.pt_sector.specs.Writes.{written}
 use Rattle.pt_sector.specs.Overlays.{room_left, shown}
 use Rattle.pt_apply.specs.Plans.{writes_of}

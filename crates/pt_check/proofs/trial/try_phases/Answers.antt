@@ -1,15 +1,15 @@
-use Rattle.std.proofs.Common.{rules, ◌≡◌, ◌∙◌, ap, sym, subst, arith, ◌≤◌, ◌<◌, ◌+◌, length, refl, Some, None}
+use Rattle.std.proofs.Common.{rules, ◌∙◌, ap, subst, arith, length, Some, None}
 use Rattle.pt_sector.specs.Writes.{Writes}
-use Rattle.pt_sector.specs.Since.{Below, below_same, below_on}
-use Rattle.pt_sector.specs.Overlays.{shown, room_left}
+use Rattle.pt_sector.specs.Since.{below_same, below_on}
+use Rattle.pt_sector.specs.Overlays.{room_left}
 use Rattle.pt_sector.specs.Device.{Told}
-use Rattle.pt_apply.specs.Plans.{phases_of, phases_in, writes_of}
+use Rattle.pt_apply.specs.Plans.{phases_of, writes_of}
 use Rattle.pt_recover.specs.Denotes.{Denotes, Reads}
 use Rattle.pt_recover.specs.Laws.{denotes_one_lem}
 use Rattle.pt_recover.specs.Spans.{IsIn}
 use Rattle.pt_check.specs.Trials.{TouchedIs}
 use Rattle.pt_check.proofs.Firsts.{count_on, lent_phase, index_within, seen_on, count_within}
-use Rattle.pt_check.proofs.Trying.{Reading, course_none, refused_read, refused_neither, course_on}
+use Rattle.pt_check.proofs.Trying.{course_none, refused_read, refused_neither, course_on}
 use Rattle.pt_check.proofs.trial.try_phases.Goals as goal
 
 pub loop-i-init : goal.loop-i-init
@@ -49,8 +49,8 @@ loop-i-preserved g c = record {
   seen = λ tells. ap (λ (t : Told). t.seen) (c.in-Ok-read_layout.ensures.same tells) ∙ (seen_on (phases_of c.args.plan.now) (g.D.Disk.told c.args.disk.now).seen c.loop-i.i (writes_of c.deref-in-loop-i.result.now) _ _ (index_within c.args.plan.now.phases.items c.loop-i.i (omega (arith, c.loop-i-test.true, c.len-i-end.ensures, c.args.plan.now.phases.ok))) (lent_phase c.args.plan.now.phases.items c.loop-i.i c.index-phase.result.now (omega (arith, c.loop-i-test.true, c.len-i-end.ensures, c.args.plan.now.phases.ok)) c.index-phase.ensures c.deref-in-loop-i.result.now c.deref-in-loop-i.ensures.value) (c.loop-i.invariant.seen tells) c.put_phase.ensures.seen);
   trace = λ tells. record { same = (rw (seen_on (phases_of c.args.plan.now) (g.D.Disk.told c.args.disk.now).seen c.loop-i.i (writes_of c.deref-in-loop-i.result.now) _ _ (index_within c.args.plan.now.phases.items c.loop-i.i (omega (arith, c.loop-i-test.true, c.len-i-end.ensures, c.args.plan.now.phases.ok))) (lent_phase c.args.plan.now.phases.items c.loop-i.i c.index-phase.result.now (omega (arith, c.loop-i-test.true, c.len-i-end.ensures, c.args.plan.now.phases.ok)) c.index-phase.ensures c.deref-in-loop-i.result.now c.deref-in-loop-i.ensures.value) (c.loop-i.invariant.seen tells) c.put_phase.ensures.seen) at (c.in-Ok-read_layout.ensures.recovered tells).reads) };
   course = λ tells. course_on (Denotes g.row.B) (Reads g.row.B) (phases_of c.args.plan.now) (g.D.Disk.told c.args.disk.now).seen c.args.layouts.now.old c.args.layouts.now.new
-    c.loop-i.i (index_within c.args.plan.now.phases.items c.loop-i.i (omega (arith, c.loop-i-test.true, c.len-i-end.ensures, c.args.plan.now.phases.ok))) c.loop-i.before (c.loop-i.invariant.trace tells) c.loop-i.switch (c.loop-i.invariant.course tells)
-    (subst (λ (w : Writes). TouchedIs (IsIn c.loop-i.before) w None) (lent_phase c.args.plan.now.phases.items c.loop-i.i c.index-phase.result.now (omega (arith, c.loop-i-test.true, c.len-i-end.ensures, c.args.plan.now.phases.ok)) c.index-phase.ensures c.deref.result.now c.deref.ensures.value) c.in_default.ensures)
-    c.in-Ok-read_layout.after.layout (rw (seen_on (phases_of c.args.plan.now) (g.D.Disk.told c.args.disk.now).seen c.loop-i.i (writes_of c.deref-in-loop-i.result.now) _ _ (index_within c.args.plan.now.phases.items c.loop-i.i (omega (arith, c.loop-i-test.true, c.len-i-end.ensures, c.args.plan.now.phases.ok))) (lent_phase c.args.plan.now.phases.items c.loop-i.i c.index-phase.result.now (omega (arith, c.loop-i-test.true, c.len-i-end.ensures, c.args.plan.now.phases.ok)) c.index-phase.ensures c.deref-in-loop-i.result.now c.deref-in-loop-i.ensures.value) (c.loop-i.invariant.seen tells) c.put_phase.ensures.seen) at (c.in-Ok-read_layout.ensures.recovered tells).denotes)
-    c.in-Goes.switch c.in-Goes.ensures;
+      c.loop-i.i (index_within c.args.plan.now.phases.items c.loop-i.i (omega (arith, c.loop-i-test.true, c.len-i-end.ensures, c.args.plan.now.phases.ok))) c.loop-i.before (c.loop-i.invariant.trace tells) c.loop-i.switch (c.loop-i.invariant.course tells)
+      (subst (λ (w : Writes). TouchedIs (IsIn c.loop-i.before) w None) (lent_phase c.args.plan.now.phases.items c.loop-i.i c.index-phase.result.now (omega (arith, c.loop-i-test.true, c.len-i-end.ensures, c.args.plan.now.phases.ok)) c.index-phase.ensures c.deref.result.now c.deref.ensures.value) c.in_default.ensures)
+      c.in-Ok-read_layout.after.layout (rw (seen_on (phases_of c.args.plan.now) (g.D.Disk.told c.args.disk.now).seen c.loop-i.i (writes_of c.deref-in-loop-i.result.now) _ _ (index_within c.args.plan.now.phases.items c.loop-i.i (omega (arith, c.loop-i-test.true, c.len-i-end.ensures, c.args.plan.now.phases.ok))) (lent_phase c.args.plan.now.phases.items c.loop-i.i c.index-phase.result.now (omega (arith, c.loop-i-test.true, c.len-i-end.ensures, c.args.plan.now.phases.ok)) c.index-phase.ensures c.deref-in-loop-i.result.now c.deref-in-loop-i.ensures.value) (c.loop-i.invariant.seen tells) c.put_phase.ensures.seen) at (c.in-Ok-read_layout.ensures.recovered tells).denotes)
+      c.in-Goes.switch c.in-Goes.ensures;
 }

@@ -1,4 +1,4 @@
-use Rattle.std.proofs.Common.{◌≡◌, ◌≤◌, ◌<◌, ◌+◌, length, take, ap, arith, subst, List}
+use Rattle.std.proofs.Common.{arith}
 use Rattle.pt_check.proofs.Firsts.{count_on, more_than}
 use Rattle.pt_check.proofs.writes.count_writes.Goals as goal
 
