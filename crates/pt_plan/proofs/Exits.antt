@@ -95,9 +95,13 @@ module _ {W : Type 0} (denotes : Sectors → Option Layout → Type 0) (reason :
 
       stopped_bounded : (c : Sectors) → StoppedSomewhere phases now.seen c → Bounded denotes reason makes edited plans unplanned answers healthy table owned words old.seen c
       stopped_bounded c stopped =
-          let at : StoppedSomewhere phases mid.seen c = stopped_at c stopped in
-          (ready.old, ready.new, leads, subst (λ (d : Sectors). Keeps denotes healthy table owned ready.old (Some ready.new) d c) flush.seen
-            (ready.safe.stays ready.old (Some ready.new) ready.leads.from ready.finished at.phase at.within c at.stopped))
+          let at : StoppedSomewhere phases mid.seen c = stopped_at c stopped in (
+            ready.old,
+            ready.new,
+            leads,
+            subst (λ (d : Sectors). Keeps denotes healthy table owned ready.old (Some ready.new) d c) flush.seen
+                (ready.safe.stays ready.old (Some ready.new) ready.leads.from ready.finished at.phase at.within c at.stopped),
+          )
 
       moments : (o : Option Layout) (calls : List (Past W)) → ((c : Sectors) → MayLeave old c → Has denotes edited o calls c)
           → LeavesOnly old new (Has denotes edited o (calls ++ Either words ∷ []))

@@ -60,6 +60,6 @@ pub settled_leaves : (now : Told) (d : Sectors) → Settled now d → (c : Secto
 settled_leaves now d settled c left =
     let len : length c ≡ length d = left.same_count ∙ ap length settled.durable in
     ext_get_or [] c d len (λ k lt. ⊎_elim
-        (λ is. rw settled.durable at is)
-        (λ puts. absurd (subst (λ (p : Writes). Puts p k (sector c k)) settled.pending puts))
-        (left.each k (omega (arith, lt, left.same_count))))
+    (λ is. rw settled.durable at is)
+    (λ puts. absurd (subst (λ (p : Writes). Puts p k (sector c k)) settled.pending puts))
+    (left.each k (omega (arith, lt, left.same_count))))

@@ -34,7 +34,7 @@ array_below : (b n : ℕ) (es : List (Option Entry)) (at k : ℕ) → at + k ≤
 array_below b n es at zero le = subst (All (Below n)) (sym (array_none b es at)) (λ i d lt. absurd (omega (arith, lt)))
 array_below b n es at (suc k) le = subst (All (Below n)) (sym (array_suc b es at k))
     (All-append (Below n) (array_writes b es at k) ((at + k, array_sector b es k) ∷ []) (array_below b n es at k (omega (arith, le)))
-      (All-cons (Below n) (at + k, array_sector b es k) [] (omega (arith, le)) (λ i d lt. absurd (omega (arith, lt)))))
+    (All-cons (Below n) (at + k, array_sector b es k) [] (omega (arith, le)) (λ i d lt. absurd (omega (arith, lt)))))
 
 one_below : (n : ℕ) (w : ℕ × List ℕ) → w.0 < n → All (Below n) (w ∷ [])
 one_below n w lt = All-cons (Below n) w [] lt (λ i d no. absurd (omega (arith, no)))
@@ -102,8 +102,11 @@ record IsSmall (n : ℕ) (last : List Writes) : Type 0 where
 
 small : (n : ℕ) (head : List ℕ) (last : List Writes) → 0 < n → Protects n head last → IsSmall n last
 small n head last some (inl (is, empty)) = rw empty (record { few = omega arith; short = omega arith; good = λ i d lt. absurd (omega (arith, lt)) })
-small n head last some (inr (isnt, (new, from, one))) = rw one (record { few = omega arith; short = omega arith;
-    good = All-cons (IsGood n) ((0, new) ∷ []) [] (record { some = omega arith; below = one_below n (0, new) some }) (λ i d lt. absurd (omega (arith, lt))) })
+small n head last some (inr (isnt, (new, from, one))) = rw one (record {
+  few = omega arith;
+  short = omega arith;
+  good = All-cons (IsGood n) ((0, new) ∷ []) [] (record { some = omega arith; below = one_below n (0, new) some }) (λ i d lt. absurd (omega (arith, lt)));
+})
 
 module _ {b : _} (n : ℕ) (t : Table) (p : Bool) (head : List ℕ) (plan : Plan b) (room : 2 * array_len b + 4 ≤ n) (long : 0 < array_len b) (is : Protected b n t p head (phases_of plan)) where
   last_small : IsSmall n is.last
@@ -128,16 +131,22 @@ module _ {b : _} (n : ℕ) (t : Table) (p : Bool) (head : List ℕ) (plan : Plan
 -- on a disk where the copy was looked for and sector 0 read
 pub copies_written : (b n : ℕ) (d : Sectors) (t : Table) (p : Bool) (head : List ℕ) (phases : List Writes) → length d ≡ n → (IsTrue p ↔ HasCopy b d Primary) → head ≡ sector d 0 → Protected b n t p head phases → WritesCopies b d t phases
 copies_written b n d t p head phases count has at it = record {
-    primary = is.copies.primary; backup = is.copies.backup; is_primary = is.copies.is_primary; is_backup = is.copies.is_backup; last = is.last; fit = is.copies.fit; protects = is.protects;
-    order = order p has is.copies.is;
-  }
+  primary = is.copies.primary;
+  backup = is.copies.backup;
+  is_primary = is.copies.is_primary;
+  is_backup = is.copies.is_backup;
+  last = is.last;
+  fit = is.copies.fit;
+  protects = is.protects;
+  order = order p has is.copies.is;
+}
   where
     is : Protected b (length d) t p (sector d 0) phases
     is = subst (λ (m : ℕ). Protected b m t p (sector d 0) phases) (sym count) (subst (λ (h : List ℕ). Protected b n t p h phases) at it)
 
     order : (q : Bool) → (IsTrue q ↔ HasCopy b d Primary) → phases ≡ in_order q (backup_phase b (length d) t is.copies.backup) (primary_phases b (length d) t is.copies.primary) is.last
         → (HasCopy b d Primary × (phases ≡ backup_phase b (length d) t is.copies.backup ∷ (primary_phases b (length d) t is.copies.primary ++ is.last)))
-          ⊎ ((¬ HasCopy b d Primary) × (phases ≡ primary_phases b (length d) t is.copies.primary ++ backup_phase b (length d) t is.copies.backup ∷ is.last))
+        ⊎ ((¬ HasCopy b d Primary) × (phases ≡ primary_phases b (length d) t is.copies.primary ++ backup_phase b (length d) t is.copies.backup ∷ is.last))
     order true yes_it_has same = inl (yes_it_has.0 refl, same)
     order false hasnt same = inr ((λ there. absurd (let no : false ≡ true = hasnt.1 there in cc)), same)
 

@@ -40,9 +40,10 @@ labels_one d (x ∷ ps) ls ms (inr p) (inl q) = absurd (p.0 (q.0, q.3))
 labels_one d (x ∷ ps) ls ms (inr p) (inr q) = labels_one d ps ls ms p.1 q.1
 
 pub same_labels : (d : Sectors) (ps qs : List Slice) (ls ms : List Labelled) (Y : Type 0) → ps ≡ qs → Y ↔ (ls ≡ ms) → LabelsAre d ps ls → Y ↔ LabelsAre d qs ms
-same_labels d ps qs ls ms Y places same is =
-    (λ holds. subst (λ (l : List Slice). LabelsAre d l ms) places (subst (LabelsAre d ps) (same.0 holds) is),
-     λ also. same.1 (labels_one d ps ls ms is (subst (λ (l : List Slice). LabelsAre d l ms) (sym places) also)))
+same_labels d ps qs ls ms Y places same is = (
+  λ holds. subst (λ (l : List Slice). LabelsAre d l ms) places (subst (LabelsAre d ps) (same.0 holds) is),
+  λ also. same.1 (labels_one d ps ls ms is (subst (λ (l : List Slice). LabelsAre d l ms) (sym places) also)),
+)
 
 -- an error in reading the primary copy
 none_there : (b : ℕ) (d : Sectors) (e : CopyError) → (IsOutside e → ⊥) → TellsFault b d Primary e → IsTrue false ↔ HasCopy b d Primary
