@@ -1,5 +1,5 @@
 -- What follows of the phases that write both copies.
-use Rattle.std.proofs.Common.{◌≡◌, ◌∙◌, ◌↔◌, ◌⊎◌, inl, inr, ⊎_elim, ℕ, zero, suc, ◌+◌, ◌-◌, ◌*◌, ◌<◌, ◌≤◌, List, [], ◌∷◌, ◌++◌, length, Bool, true, false, Option, Some, Ok, Err, Result, IfOk, IsTrue, All, Vec, replicate, slice_index_or, refl, sym, ap, subst, arith, length-append}
+use Rattle.std.proofs.Common.{◌≡◌, ◌∙◌, ◌↔◌, ◌⊎◌, inl, inr, ℕ, zero, suc, ◌+◌, ◌-◌, ◌*◌, ◌<◌, ◌≤◌, List, [], ◌∷◌, ◌++◌, length, Bool, true, false, Option, Some, Ok, Err, Result, IfOk, IsTrue, All, Vec, replicate, slice_index_or, refl, sym, ap, subst, arith, length-append}
 use Rattle.std.specs.declared.alloc.Global.{Global}
 use Rattle.std.proofs.lemmas.List.{get_or-map}
 use Rattle.std.proofs.lemmas.List.Elements.{All-append, All-cons}
@@ -9,7 +9,7 @@ use Rattle.pt_apply.specs.Plans.{writes_of, phases_in, phases_of, InRange, Phase
 use Rattle.pt_apply.specs.declared.plan.Plan.{Plan}
 use Rattle.pt_apply.specs.declared.plan.Write.{Write}
 use Rattle.pt_gpt.specs.Array.{array_len, array_sector}
-use Rattle.pt_gpt.specs.Copy.{HasCopy, array_place}
+use Rattle.pt_gpt.specs.Copy.{HasCopy}
 use Rattle.pt_gpt.specs.declared.entry.Entry.{Entry}
 use Rattle.pt_gpt.specs.declared.table.Side.TheVariants.{Primary, Backup}
 use Rattle.pt_gpt.specs.declared.table.Table.{Table}
@@ -20,7 +20,7 @@ use Rattle.pt_recover.specs.declared.layout.Body.TheVariants.{Gpt}
 use Rattle.pt_layout.specs.Healthy.{Healthy, IsHealthy}
 use Rattle.pt_check.specs.First.{writes_in}
 use Rattle.pt_plan.proofs.Assembling.{array_none, array_suc, length_writes, length_phases}
-use Rattle.pt_plan.specs.Copies.{in_order, CopiesAre, Protected}
+use Rattle.pt_plan.specs.Copies.{in_order, Protected}
 use Rattle.pt_plan.specs.Plans.{array_writes, array_phase, backup_phase, primary_phases, Protects, WritesCopies, FitsGpt, FitsDisk}
 
 length-array : (b : ℕ) (es : List (Option Entry)) (at k : ℕ) → length (array_writes b es at k) ≡ k

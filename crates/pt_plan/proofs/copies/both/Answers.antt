@@ -1,4 +1,4 @@
-use Rattle.std.proofs.Common.{◌≡◌, ◌∙◌, ◌++◌, ◌∷◌, [], Bool, ap, sym, subst}
+use Rattle.std.proofs.Common.{◌∙◌, ◌++◌, ◌∷◌, [], Bool, ap, sym, subst}
 use Rattle.pt_apply.specs.Plans.{phases_in, writes_of}
 use Rattle.pt_plan.specs.Copies.{CopiesAre}
 use Rattle.pt_plan.proofs.Assembling.{phases_more, backup_first, backup_last}

@@ -1,4 +1,4 @@
-use Rattle.std.proofs.Common.{◌≡◌, ◌∙◌, ap, sym, subst, false, IsTrue, inl, inr, arith}
+use Rattle.std.proofs.Common.{◌≡◌, sym, subst, false, IsTrue, inl, inr, arith}
 use Rattle.pt_apply.specs.Plans.{phases_in}
 use Rattle.pt_plan.specs.Copies.{Protected}
 use Rattle.pt_plan.proofs.Assembling.{last_pushed, none_pushed}

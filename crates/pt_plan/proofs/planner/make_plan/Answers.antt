@@ -1,9 +1,10 @@
-use Rattle.std.proofs.Common.{◌≡◌, ◌∙◌, ◌≤◌, sym, inr, arith, length, subst}
+use Rattle.std.proofs.Common.{◌∙◌, ◌≤◌, sym, inr, arith, length, subst}
 use Rattle.pt_apply.specs.Plans.{phases_of}
 use Rattle.pt_apply.specs.declared.plan.Plan.{Plan}
 use Rattle.pt_plan.specs.Plans.{copies, WritesCopies, IsPlan}
 use Rattle.pt_plan.specs.Planning.{StateIs}
 use Rattle.pt_plan.proofs.Planned.{isnt, not_fit, fits_it, table_fits, some_sectors, not_idle, ok_on}
+use Rattle.pt_plan.proofs.Finishing.{plan_finishes}
 use Rattle.pt_plan.proofs.planner.make_plan.Goals as goal
 
 pub returns-then-not-fits-clause-err : goal.returns-then-not-fits-clause-err
@@ -43,3 +44,8 @@ returns-clause-plan g c = λ tells.
     (fits_it g.row.B c.sectors.result (g.D.Disk.told c.args.disk.now).seen c.args.wanted.now (g.met.D.Disk.sized c.args.disk.now tells ∙ sym (c.sectors.ensures ∙ c.in-Ok-false.ensures.count)) (c.fits.ensures.0 c.if-not-fits.false))
     plain.0 plain.1 writes)
     (rw (c.in-Ok-false-is_other_kind.ensures.same tells ∙ c.in-Ok-false.ensures.same tells) at (c.write_copies.ensures.copies tells))
+
+pub returns-clause-finished : goal.returns-clause-finished
+returns-clause-finished g c = λ tells.
+    ok_on c.write_copies.result (λ (plan : Plan g.row.B). IsPlan g.row.B (g.D.Disk.told c.args.disk.now).seen c.args.wanted.now (phases_of plan)) _
+    (λ plan is. plan_finishes g.row.B (g.D.Disk.told c.args.disk.now).seen c.args.wanted.now (phases_of plan) c.requires.size is) (returns-clause-plan g c tells)
