@@ -611,10 +611,13 @@ fn emptied<const B: usize>(alloc: Global, sectors: u64, guids: &[Guid]) -> (u8, 
     requires { IsSectorSize B }
 {
     match edit::<B>(alloc, None, sectors, &[Edit::Empty], guids) {
-        Ok(made) => match made.body {
-            Body::Gpt(table) => (0, table.first, table.last),
-            Body::Mbr { .. } => (99, 0, 0),
-        },
+        Ok(made) => {
+            let Layout { body, .. } = made;
+            match body {
+                Body::Gpt(table) => (0, table.first, table.last),
+                Body::Mbr { .. } => (99, 0, 0),
+            }
+        }
         Err(refusal) => (refusal.number(), 0, 0),
     }
 }
@@ -636,7 +639,7 @@ fn empty_tables(rt: HostRuntime) -> Result<(), Fail> {
     let twice = edit::<512>(
         rt.alloc(),
         Some(&old),
-        4096,
+        old.sectors,
         &[Edit::Empty, Edit::Align(8), Edit::Empty],
         &two,
     );

@@ -24,6 +24,7 @@ use Rattle.pt_layout.specs.Overlaps.{IsOrdered}
 use Rattle.pt_layout.specs.Apart.{not_apart}
 use Rattle.pt_layout.specs.Tables.{IsTable}
 use Rattle.pt_layout.specs.OneHome.{place_one}
+use Rattle.pt_layout.specs.OnePath.{HasFour, sector_one}
 use Rattle.pt_layout.specs.Places.{IsPlaceOf}
 use Rattle.pt_layout.specs.Owned.{Owns}
 use Rattle.pt_layout.specs.Sound.{AllInside, Sound, IsFirstShared, IsUnsound}
@@ -137,3 +138,7 @@ finding_excludes_lem b d (ForeignLabel p) is healthy = some_excludes b d (Foreig
 -- in a sound layout a sector is one partition's, at one place in it
 pub place_is_one_lem : (b : ℕ) (o : Layout) (p q : Path) (j k s : ℕ) → Sound b o → IsPlaceOf b o p j s → IsPlaceOf b o q k s → (p ≡ q) × (j ≡ k)
 place_is_one_lem = place_one
+
+-- sector k of the partition of a path is one sector
+pub sector_is_one_lem : (b : ℕ) (o : Layout) (p : Path) (k s t : ℕ) → HasFour o.body → IsPlaceOf b o p k s → IsPlaceOf b o p k t → s ≡ t
+sector_is_one_lem = sector_one

@@ -23,3 +23,4 @@ pub mod Places
 pub mod Texts
 pub mod Grouped
 pub mod OneHome
+pub mod OnePath

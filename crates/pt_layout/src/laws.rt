@@ -6,6 +6,7 @@ ghost use Rattle.pt_recover.specs.declared.layout.Layout.{Layout};
 ghost use Rattle.pt_layout.specs.declared.finding.Finding.{Finding as FindingValue};
 ghost use Rattle.pt_layout.specs.declared.path.Path.{Path as PathValue};
 ghost use Rattle.pt_layout.specs.Places.{IsPlaceOf};
+ghost use Rattle.pt_layout.specs.OnePath.{HasFour};
 ghost use Rattle.pt_layout.specs.Tables.{IsTable};
 ghost use Rattle.pt_layout.specs.Owned.{Owns};
 ghost use Rattle.pt_layout.specs.Sound.{Sound, IsUnsound};
@@ -40,4 +41,10 @@ pub fn healthy_is_one()
 #[tactic(auto, using(crate::specs::Laws::place_is_one_lem))]
 pub fn place_is_one()
     ensures { (b : ℕ) (o : Layout) (p q : PathValue) (j k s : ℕ) → Sound b o → IsPlaceOf b o p j s → IsPlaceOf b o q k s → (p ≡ q) × (j ≡ k) }
+{}
+
+/// Sector `k` of the partition of a path is one sector, in a layout of an MBR with four records or of a GPT.
+#[tactic(auto, using(crate::specs::Laws::sector_is_one_lem))]
+pub fn sector_is_one()
+    ensures { (b : ℕ) (o : Layout) (p : PathValue) (k s t : ℕ) → HasFour o.body → IsPlaceOf b o p k s → IsPlaceOf b o p k t → s ≡ t }
 {}

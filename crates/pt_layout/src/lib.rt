@@ -27,7 +27,8 @@ mod tests;
 pub use finding::{Finding, Verdict, VerifyError};
 pub use health::verify;
 pub use laws::{
-    finding_excludes, healthy_is_one, place_is_one, sound_frees_tables, unsound_excludes,
+    finding_excludes, healthy_is_one, place_is_one, sector_is_one, sound_frees_tables,
+    unsound_excludes,
 };
 pub use number::{parse_number, parse_path};
 pub use owned::is_owned;

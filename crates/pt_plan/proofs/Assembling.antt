@@ -41,8 +41,14 @@ array_on n es at k ws w so_far lba bytes = writes_more ws w ∙ rw (so_far, lba,
 
 -- both copies, and then a last phase
 pub one_last : (b n : ℕ) (t : Table) (has_primary : Bool) (p : Writes) (phases : List Writes) → CopiesAre b n t has_primary [] phases → CopiesAre b n t has_primary (p ∷ []) (phases ++ p ∷ [])
-one_last b n t has_primary p phases is = record { primary = is.primary; backup = is.backup; is_primary = is.is_primary; is_backup = is.is_backup; fit = is.fit;
-    is = ap (λ (ps : List Writes). ps ++ p ∷ []) is.is ∙ last has_primary }
+one_last b n t has_primary p phases is = record {
+  primary = is.primary;
+  backup = is.backup;
+  is_primary = is.is_primary;
+  is_backup = is.is_backup;
+  fit = is.fit;
+  is = ap (λ (ps : List Writes). ps ++ p ∷ []) is.is ∙ last has_primary;
+}
   where
     last : (q : Bool) → in_order q (backup_phase b n t is.backup) (primary_phases b n t is.primary) [] ++ p ∷ [] ≡ in_order q (backup_phase b n t is.backup) (primary_phases b n t is.primary) (p ∷ [])
     last true = refl
@@ -61,10 +67,22 @@ none_pushed n t has_primary old ps is so_far = record { last = []; protects = in
 
 -- the backup, and after it the primary
 pub backup_first : (b n : ℕ) (t : Table) (before now : List Writes) (writes : Writes) → before ≡ writes ∷ [] → IsBackupPhase b n t writes → ArePrimaryPhases b n t before now → CopiesAre b n t true [] now
-backup_first b n t before now writes first backup primary = record { primary = primary.header; backup = backup.header; is_primary = primary.is_header; is_backup = backup.is_header; fit = primary.fit;
-    is = primary.is ∙ ap (λ (ps : List Writes). ps ++ primary_phases b n t primary.header) (first ∙ ap (λ (w : Writes). w ∷ []) backup.is) }
+backup_first b n t before now writes first backup primary = record {
+  primary = primary.header;
+  backup = backup.header;
+  is_primary = primary.is_header;
+  is_backup = backup.is_header;
+  fit = primary.fit;
+  is = primary.is ∙ ap (λ (ps : List Writes). ps ++ primary_phases b n t primary.header) (first ∙ ap (λ (w : Writes). w ∷ []) backup.is);
+}
 
 -- the primary, and after it the backup
 pub backup_last : (b n : ℕ) (t : Table) (before middle now : List Writes) (writes : Writes) → before ≡ [] → ArePrimaryPhases b n t before middle → now ≡ middle ++ writes ∷ [] → IsBackupPhase b n t writes → CopiesAre b n t false [] now
-backup_last b n t before middle now writes none primary last backup = record { primary = primary.header; backup = backup.header; is_primary = primary.is_header; is_backup = backup.is_header; fit = primary.fit;
-    is = last ∙ ap (λ (ps : List Writes). ps ++ writes ∷ []) (primary.is ∙ ap (λ (ps : List Writes). ps ++ primary_phases b n t primary.header) none) ∙ ap (λ (w : Writes). primary_phases b n t primary.header ++ w ∷ []) backup.is }
+backup_last b n t before middle now writes none primary last backup = record {
+  primary = primary.header;
+  backup = backup.header;
+  is_primary = primary.is_header;
+  is_backup = backup.is_header;
+  fit = primary.fit;
+  is = last ∙ ap (λ (ps : List Writes). ps ++ writes ∷ []) (primary.is ∙ ap (λ (ps : List Writes). ps ++ primary_phases b n t primary.header) none) ∙ ap (λ (w : Writes). primary_phases b n t primary.header ++ w ∷ []) backup.is;
+}

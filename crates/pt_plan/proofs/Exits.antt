@@ -1,10 +1,10 @@
 -- The exits of a commit.
-use Rattle.std.proofs.Common.{◌≡◌, ◌∙◌, ◌⊎◌, inl, inr, ⊎_elim, ℕ, ◌+◌, ◌<◌, ◌≤◌, List, [], ◌∷◌, ◌++◌, length, take, refl, sym, ap, subst, arith, Option, Some, Result, Ok, Err}
-use Rattle.pt_sector.specs.Sectors.{Sectors, sector}
+use Rattle.std.proofs.Common.{◌≡◌, ◌∙◌, ◌⊎◌, inl, ⊎_elim, ℕ, ◌+◌, List, [], ◌∷◌, ◌++◌, refl, sym, ap, subst, Option, Some, Result, Ok, Err}
+use Rattle.pt_sector.specs.Sectors.{Sectors}
 use Rattle.pt_sector.specs.Writes.{Writes, after}
 use Rattle.pt_sector.specs.Device.{Told, MayLeave, Flushed, FailedFlush}
 use Rattle.pt_sector.specs.declared.disk.Fault.{Fault}
-use Rattle.pt_sector.specs.Since.{LeavesOnly, leaves_none, leaves_once, leaves_through, leaves_weaker}
+use Rattle.pt_sector.specs.Since.{LeavesOnly, leaves_once, leaves_through, leaves_weaker}
 use Rattle.pt_apply.specs.Runs.{Settled, StoppedSomewhere}
 use Rattle.pt_apply.specs.Promises.{Keeps}
 use Rattle.pt_recover.specs.declared.error.NoTable.{NoTable as Reason}
@@ -14,8 +14,8 @@ use Rattle.pt_check.specs.declared.answer.Answer.{Answer}
 use Rattle.pt_plan.specs.declared.error.PlanError.{PlanError}
 use Rattle.pt_plan.specs.declared.error.CommitError.{CommitError}
 use Rattle.pt_plan.specs.declared.error.CommitError.TheVariants.{NoTable, Edit, Plan, Check, Device, Memory}
-use Rattle.pt_plan.specs.History.{Past, Done, Unchanged, Either, History, Has, Carries}
-use Rattle.pt_plan.specs.Commits.{Leads, Refuses, Bounded, Ready, Ends, past, refused, Committed}
+use Rattle.pt_plan.specs.History.{Past, Either, Has}
+use Rattle.pt_plan.specs.Commits.{Leads, Refuses, Bounded, Ready, Ends, refused, Committed}
 use Rattle.pt_plan.proofs.Histories.{one_of, has_either, has_unchanged, has_done, has_new, has_old, flush_leaves, failed_flush_leaves, settled_leaves}
 
 module _ {W : Type 0} (denotes : Sectors → Option Layout → Type 0) (reason : Sectors → Reason → Type 0) (makes : W → Type 0)
@@ -95,9 +95,13 @@ module _ {W : Type 0} (denotes : Sectors → Option Layout → Type 0) (reason :
 
       stopped_bounded : (c : Sectors) → StoppedSomewhere phases now.seen c → Bounded denotes reason makes edited plans unplanned answers healthy table owned words old.seen c
       stopped_bounded c stopped =
-          let at : StoppedSomewhere phases mid.seen c = stopped_at c stopped in
-          (ready.old, ready.new, leads, subst (λ (d : Sectors). Keeps denotes healthy table owned ready.old (Some ready.new) d c) flush.seen
-            (ready.safe.stays ready.old (Some ready.new) ready.leads.from ready.finished at.phase at.within c at.stopped))
+          let at : StoppedSomewhere phases mid.seen c = stopped_at c stopped in (
+            ready.old,
+            ready.new,
+            leads,
+            subst (λ (d : Sectors). Keeps denotes healthy table owned ready.old (Some ready.new) d c) flush.seen
+                (ready.safe.stays ready.old (Some ready.new) ready.leads.from ready.finished at.phase at.within c at.stopped),
+          )
 
       moments : (o : Option Layout) (calls : List (Past W)) → ((c : Sectors) → MayLeave old c → Has denotes edited o calls c)
           → LeavesOnly old new (Has denotes edited o (calls ++ Either words ∷ []))

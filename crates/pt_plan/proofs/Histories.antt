@@ -1,10 +1,10 @@
 -- Histories that go on, and what a crash may leave over several calls.
-use Rattle.std.proofs.Common.{◌≡◌, ◌∙◌, ◌⊎◌, inl, inr, ⊎_elim, ℕ, ◌+◌, ◌<◌, ◌≤◌, List, [], ◌∷◌, ◌++◌, length, refl, sym, ap, subst, arith, Option, Some, Result, Ok}
+use Rattle.std.proofs.Common.{◌≡◌, ◌∙◌, ◌⊎◌, inl, inr, ⊎_elim, ℕ, List, [], ◌∷◌, ◌++◌, length, refl, sym, ap, subst, arith, Option, Some, Result, Ok}
 use Rattle.std.proofs.lemmas.Bool.{cases_order}
 use Rattle.std.proofs.lemmas.List.{ext_get_or}
 use Rattle.pt_sector.specs.Sectors.{Sectors, sector}
-use Rattle.pt_sector.specs.Writes.{Writes, Stopped, Puts, MayHold}
-use Rattle.pt_sector.specs.Device.{Told, MayLeave, Elapses, Flushed, FailedFlush}
+use Rattle.pt_sector.specs.Writes.{Writes, Puts, MayHold}
+use Rattle.pt_sector.specs.Device.{Told, MayLeave, Flushed, FailedFlush}
 use Rattle.pt_apply.specs.Runs.{Settled}
 use Rattle.pt_plan.specs.History.{Past, Done, Unchanged, Either, Steps, History, Has}
 use Rattle.pt_apply.specs.Promises.{Switches}
@@ -60,6 +60,6 @@ pub settled_leaves : (now : Told) (d : Sectors) → Settled now d → (c : Secto
 settled_leaves now d settled c left =
     let len : length c ≡ length d = left.same_count ∙ ap length settled.durable in
     ext_get_or [] c d len (λ k lt. ⊎_elim
-        (λ is. rw settled.durable at is)
-        (λ puts. absurd (subst (λ (p : Writes). Puts p k (sector c k)) settled.pending puts))
-        (left.each k (omega (arith, lt, left.same_count))))
+    (λ is. rw settled.durable at is)
+    (λ puts. absurd (subst (λ (p : Writes). Puts p k (sector c k)) settled.pending puts))
+    (left.each k (omega (arith, lt, left.same_count))))

@@ -4,3 +4,4 @@ pub mod Starting
 pub mod Assembling
 pub mod Surveying
 pub mod Planned
+pub mod Finishing

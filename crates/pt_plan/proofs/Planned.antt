@@ -1,5 +1,5 @@
 -- What follows of the phases that write both copies.
-use Rattle.std.proofs.Common.{◌≡◌, ◌∙◌, ◌↔◌, ◌⊎◌, inl, inr, ⊎_elim, ℕ, zero, suc, ◌+◌, ◌-◌, ◌*◌, ◌<◌, ◌≤◌, List, [], ◌∷◌, ◌++◌, length, Bool, true, false, Option, Some, Ok, Err, Result, IfOk, IsTrue, All, Vec, replicate, slice_index_or, refl, sym, ap, subst, arith, length-append}
+use Rattle.std.proofs.Common.{◌≡◌, ◌∙◌, ◌↔◌, ◌⊎◌, inl, inr, ℕ, zero, suc, ◌+◌, ◌-◌, ◌*◌, ◌<◌, ◌≤◌, List, [], ◌∷◌, ◌++◌, length, Bool, true, false, Option, Some, Ok, Err, Result, IfOk, IsTrue, All, Vec, replicate, slice_index_or, refl, sym, ap, subst, arith, length-append}
 use Rattle.std.specs.declared.alloc.Global.{Global}
 use Rattle.std.proofs.lemmas.List.{get_or-map}
 use Rattle.std.proofs.lemmas.List.Elements.{All-append, All-cons}
@@ -9,7 +9,7 @@ use Rattle.pt_apply.specs.Plans.{writes_of, phases_in, phases_of, InRange, Phase
 use Rattle.pt_apply.specs.declared.plan.Plan.{Plan}
 use Rattle.pt_apply.specs.declared.plan.Write.{Write}
 use Rattle.pt_gpt.specs.Array.{array_len, array_sector}
-use Rattle.pt_gpt.specs.Copy.{HasCopy, array_place}
+use Rattle.pt_gpt.specs.Copy.{HasCopy}
 use Rattle.pt_gpt.specs.declared.entry.Entry.{Entry}
 use Rattle.pt_gpt.specs.declared.table.Side.TheVariants.{Primary, Backup}
 use Rattle.pt_gpt.specs.declared.table.Table.{Table}
@@ -20,7 +20,7 @@ use Rattle.pt_recover.specs.declared.layout.Body.TheVariants.{Gpt}
 use Rattle.pt_layout.specs.Healthy.{Healthy, IsHealthy}
 use Rattle.pt_check.specs.First.{writes_in}
 use Rattle.pt_plan.proofs.Assembling.{array_none, array_suc, length_writes, length_phases}
-use Rattle.pt_plan.specs.Copies.{in_order, CopiesAre, Protected}
+use Rattle.pt_plan.specs.Copies.{in_order, Protected}
 use Rattle.pt_plan.specs.Plans.{array_writes, array_phase, backup_phase, primary_phases, Protects, WritesCopies, FitsGpt, FitsDisk}
 
 length-array : (b : ℕ) (es : List (Option Entry)) (at k : ℕ) → length (array_writes b es at k) ≡ k
@@ -34,7 +34,7 @@ array_below : (b n : ℕ) (es : List (Option Entry)) (at k : ℕ) → at + k ≤
 array_below b n es at zero le = subst (All (Below n)) (sym (array_none b es at)) (λ i d lt. absurd (omega (arith, lt)))
 array_below b n es at (suc k) le = subst (All (Below n)) (sym (array_suc b es at k))
     (All-append (Below n) (array_writes b es at k) ((at + k, array_sector b es k) ∷ []) (array_below b n es at k (omega (arith, le)))
-      (All-cons (Below n) (at + k, array_sector b es k) [] (omega (arith, le)) (λ i d lt. absurd (omega (arith, lt)))))
+    (All-cons (Below n) (at + k, array_sector b es k) [] (omega (arith, le)) (λ i d lt. absurd (omega (arith, lt)))))
 
 one_below : (n : ℕ) (w : ℕ × List ℕ) → w.0 < n → All (Below n) (w ∷ [])
 one_below n w lt = All-cons (Below n) w [] lt (λ i d no. absurd (omega (arith, no)))
@@ -102,8 +102,11 @@ record IsSmall (n : ℕ) (last : List Writes) : Type 0 where
 
 small : (n : ℕ) (head : List ℕ) (last : List Writes) → 0 < n → Protects n head last → IsSmall n last
 small n head last some (inl (is, empty)) = rw empty (record { few = omega arith; short = omega arith; good = λ i d lt. absurd (omega (arith, lt)) })
-small n head last some (inr (isnt, (new, from, one))) = rw one (record { few = omega arith; short = omega arith;
-    good = All-cons (IsGood n) ((0, new) ∷ []) [] (record { some = omega arith; below = one_below n (0, new) some }) (λ i d lt. absurd (omega (arith, lt))) })
+small n head last some (inr (isnt, (new, from, one))) = rw one (record {
+  few = omega arith;
+  short = omega arith;
+  good = All-cons (IsGood n) ((0, new) ∷ []) [] (record { some = omega arith; below = one_below n (0, new) some }) (λ i d lt. absurd (omega (arith, lt)));
+})
 
 module _ {b : _} (n : ℕ) (t : Table) (p : Bool) (head : List ℕ) (plan : Plan b) (room : 2 * array_len b + 4 ≤ n) (long : 0 < array_len b) (is : Protected b n t p head (phases_of plan)) where
   last_small : IsSmall n is.last
@@ -128,16 +131,22 @@ module _ {b : _} (n : ℕ) (t : Table) (p : Bool) (head : List ℕ) (plan : Plan
 -- on a disk where the copy was looked for and sector 0 read
 pub copies_written : (b n : ℕ) (d : Sectors) (t : Table) (p : Bool) (head : List ℕ) (phases : List Writes) → length d ≡ n → (IsTrue p ↔ HasCopy b d Primary) → head ≡ sector d 0 → Protected b n t p head phases → WritesCopies b d t phases
 copies_written b n d t p head phases count has at it = record {
-    primary = is.copies.primary; backup = is.copies.backup; is_primary = is.copies.is_primary; is_backup = is.copies.is_backup; last = is.last; fit = is.copies.fit; protects = is.protects;
-    order = order p has is.copies.is;
-  }
+  primary = is.copies.primary;
+  backup = is.copies.backup;
+  is_primary = is.copies.is_primary;
+  is_backup = is.copies.is_backup;
+  last = is.last;
+  fit = is.copies.fit;
+  protects = is.protects;
+  order = order p has is.copies.is;
+}
   where
     is : Protected b (length d) t p (sector d 0) phases
     is = subst (λ (m : ℕ). Protected b m t p (sector d 0) phases) (sym count) (subst (λ (h : List ℕ). Protected b n t p h phases) at it)
 
     order : (q : Bool) → (IsTrue q ↔ HasCopy b d Primary) → phases ≡ in_order q (backup_phase b (length d) t is.copies.backup) (primary_phases b (length d) t is.copies.primary) is.last
         → (HasCopy b d Primary × (phases ≡ backup_phase b (length d) t is.copies.backup ∷ (primary_phases b (length d) t is.copies.primary ++ is.last)))
-          ⊎ ((¬ HasCopy b d Primary) × (phases ≡ primary_phases b (length d) t is.copies.primary ++ backup_phase b (length d) t is.copies.backup ∷ is.last))
+        ⊎ ((¬ HasCopy b d Primary) × (phases ≡ primary_phases b (length d) t is.copies.primary ++ backup_phase b (length d) t is.copies.backup ∷ is.last))
     order true yes_it_has same = inl (yes_it_has.0 refl, same)
     order false hasnt same = inr ((λ there. absurd (let no : false ≡ true = hasnt.1 there in cc)), same)
 

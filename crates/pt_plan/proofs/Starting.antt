@@ -1,31 +1,23 @@
 -- The steps before a commit's first write.
-use Rattle.std.proofs.Common.{◌≡◌, ◌∙◌, ◌↔◌, ℕ, zero, suc, ◌+◌, ◌<◌, List, [], ◌∷◌, length, drop, get_or, Option, Some, None, Ok, Err, refl, sym, ap, subst, arith, add-one}
+use Rattle.std.proofs.Common.{◌≡◌, ◌∙◌, ℕ, zero, suc, ◌+◌, ◌<◌, List, [], ◌∷◌, length, drop, get_or, Option, Some, None, Ok, Err, refl, sym, ap, subst, arith, add-one}
 use Rattle.pt_sector.specs.Sectors.{Sectors}
-use Rattle.pt_sector.specs.Writes.{Writes}
+use Rattle.pt_sector.specs.Writes.{Writes, after}
 use Rattle.pt_recover.specs.Answers.{IsReason}
 use Rattle.pt_layout.specs.Healthy.{Healthy}
 use Rattle.pt_check.specs.Answers.{Answers, TableOf, OwnedOf}
 use Rattle.pt_plan.specs.Batches.{Batch, Makes, EditedBy, IsReady, IsRefusal}
 use Rattle.pt_plan.specs.Commits.{Leads}
 use Rattle.pt_plan.specs.Plans.{IsPlan, Unplanned}
-use Rattle.pt_plan.specs.Steps.{sectors_in, StartsFrom, NotEdited, NotPlanned, IsConfirmed, NotConfirmed}
+use Rattle.pt_plan.specs.Steps.{sectors_in, StartsFrom, NotEdited, NotPlanned, IsSafe, NotSafe}
 use Rattle.pt_plan.specs.declared.error.CommitError.{CommitError}
 use Rattle.pt_plan.specs.declared.error.CommitError.TheVariants.{NoTable, Edit, Plan, Check, Device, Memory}
 use Rattle.pt_recover.specs.Denotes.{Denotes}
-use Rattle.pt_recover.specs.Laws.{denotes_one_lem}
 use Rattle.pt_recover.specs.declared.layout.Layout.{Layout}
 
 pub drop-next : {X : Type 0} (xs : List X) (i : ℕ) (x : X) → i < length xs → x ≡ get_or xs i x → drop i xs ≡ x ∷ drop (i + 1) xs
 drop-next [] i x lt is = absurd (omega (arith, lt))
 drop-next (y ∷ xs) zero x lt is = ap (λ (z : _). z ∷ xs) (sym is)
 drop-next (y ∷ xs) (suc i) x lt is = rw add-one (rw add-one at (drop-next xs i x (omega (arith, lt)) is))
-
-some_same : {X : Type 0} {x y : X} → Some x ≡ Some y → x ≡ y
-some_same same = cc
-
--- what is recovered is the layout exactly where the disk denotes it
-pub same_denotes : (b : ℕ) (d : Sectors) (o p : Layout) (Y : Type 0) → Y ↔ (o ≡ p) → Denotes b d (Some o) → Y ↔ Denotes b d (Some p)
-same_denotes b d o p Y same is = (λ holds. subst (λ (x : Layout). Denotes b d (Some x)) (same.0 holds) is, λ also. same.1 (some_same (denotes_one_lem b d (Some o) (Some p) is also)))
 
 -- a layout that a disk denotes says the disk's number of sectors
 sectors_are : (b n : ℕ) (d : Sectors) → length d ≡ n → (o : Option Layout) → Denotes b d o → sectors_in o n ≡ n
@@ -57,13 +49,13 @@ module _ (b n : ℕ) (batch : Batch) (d : Sectors) (sized : length d ≡ n) (o :
     not_planned (Device fault) is = tt
     not_planned Memory is = tt
 
-    pub not_confirmed : (phases : List Writes) → IsPlan b d l phases → (e : CommitError) → NotConfirmed b d l phases e → IsRefusal b n batch d e
-    not_confirmed phases planned (NoTable e) none = absurd none
-    not_confirmed phases planned (Edit r) none = absurd none
-    not_confirmed phases planned (Plan e) none = absurd none
-    not_confirmed phases planned (Check why) is = (o, l, leads, record { phases = phases; planned = planned; because = is })
-    not_confirmed phases planned (Device fault) is = tt
-    not_confirmed phases planned Memory is = tt
+    pub not_safe : (phases : List Writes) → IsPlan b d l phases → (e : CommitError) → NotSafe b d phases e → IsRefusal b n batch d e
+    not_safe phases planned (NoTable e) none = absurd none
+    not_safe phases planned (Edit r) none = absurd none
+    not_safe phases planned (Plan e) none = absurd none
+    not_safe phases planned (Check why) is = (o, l, leads, record { phases = phases; planned = planned; because = is })
+    not_safe phases planned (Device fault) is = tt
+    not_safe phases planned Memory is = tt
 
-    pub confirmed : (phases : List Writes) → IsConfirmed b d l phases → IsReady b n batch d phases
-    confirmed phases is = record { old = o; new = l; leads = leads; finished = is.finished; switch = is.switch; safe = is.safe }
+    pub ready : (phases : List Writes) → Denotes b (after phases d) (Some l) → IsSafe b d phases → IsReady b n batch d phases
+    ready phases finished is = record { old = o; new = l; leads = leads; finished = finished; switch = is.switch; safe = is.safe }

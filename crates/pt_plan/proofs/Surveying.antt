@@ -1,11 +1,11 @@
 -- What the planner reads of a disk.
-use Rattle.std.proofs.Common.{◌≡◌, ◌∙◌, ◌↔◌, ◌⊎◌, inl, inr, ⊎_elim, ℕ, ◌+◌, List, [], ◌∷◌, length, Bool, true, false, Some, Ok, Err, Result, IfOk, IfErr, OnOk, IsTrue, refl, sym, ap, subst}
+use Rattle.std.proofs.Common.{◌≡◌, ◌∙◌, ◌↔◌, inl, inr, ⊎_elim, ℕ, List, [], ◌∷◌, true, false, Some, IfOk, IsTrue, refl, sym, subst}
 use Rattle.pt_sector.specs.Sectors.{Sectors, sector}
 use Rattle.pt_bsd.specs.Laws.{label_one}
 use Rattle.pt_gpt.specs.Answers.{TellsFault}
 use Rattle.pt_gpt.specs.Copy.{Copy, HasCopy}
 use Rattle.pt_gpt.specs.declared.table.Table.{Table}
-use Rattle.pt_gpt.specs.Errors.{IsOutside, FailedAs}
+use Rattle.pt_gpt.specs.Errors.{IsOutside}
 use Rattle.pt_gpt.specs.Laws.{no_copy_lem}
 use Rattle.pt_gpt.specs.declared.error.CopyError.{CopyError}
 use Rattle.pt_gpt.specs.declared.error.CopyError.TheVariants.{Signature, Revision, HeaderSize, HeaderCrc, MyLba, ArrayPlace, EntryShape, UsableRange, ArrayCrc, Device, Memory}
@@ -19,7 +19,7 @@ use Rattle.pt_layout.specs.Healthy.{IsHealthy}
 use Rattle.pt_layout.specs.Findings.{IsFinding}
 use Rattle.pt_layout.specs.Laws.{finding_excludes_lem}
 use Rattle.pt_layout.specs.declared.finding.Finding.{Finding}
-use Rattle.pt_plan.specs.Failed.{PlanFailedAs, IsFailure, no_copy_of}
+use Rattle.pt_plan.specs.Failed.{no_copy_of}
 
 some_same : {X : Type 0} {x y : X} → Some x ≡ Some y → x ≡ y
 some_same same = cc
@@ -40,9 +40,10 @@ labels_one d (x ∷ ps) ls ms (inr p) (inl q) = absurd (p.0 (q.0, q.3))
 labels_one d (x ∷ ps) ls ms (inr p) (inr q) = labels_one d ps ls ms p.1 q.1
 
 pub same_labels : (d : Sectors) (ps qs : List Slice) (ls ms : List Labelled) (Y : Type 0) → ps ≡ qs → Y ↔ (ls ≡ ms) → LabelsAre d ps ls → Y ↔ LabelsAre d qs ms
-same_labels d ps qs ls ms Y places same is =
-    (λ holds. subst (λ (l : List Slice). LabelsAre d l ms) places (subst (LabelsAre d ps) (same.0 holds) is),
-     λ also. same.1 (labels_one d ps ls ms is (subst (λ (l : List Slice). LabelsAre d l ms) (sym places) also)))
+same_labels d ps qs ls ms Y places same is = (
+  λ holds. subst (λ (l : List Slice). LabelsAre d l ms) places (subst (LabelsAre d ps) (same.0 holds) is),
+  λ also. same.1 (labels_one d ps ls ms is (subst (λ (l : List Slice). LabelsAre d l ms) (sym places) also)),
+)
 
 -- an error in reading the primary copy
 none_there : (b : ℕ) (d : Sectors) (e : CopyError) → (IsOutside e → ⊥) → TellsFault b d Primary e → IsTrue false ↔ HasCopy b d Primary

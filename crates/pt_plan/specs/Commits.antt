@@ -1,5 +1,5 @@
 -- What a commit of words does to a disk, over what a disk denotes, what words make of it, and what planner and checker say.
-use Rattle.std.specs.Prelude.{◌≡◌, ◌⊎◌, ℕ, List, length, Option, Some, None, Result, Ok, Err}
+use Rattle.std.specs.Prelude.{◌≡◌, ℕ, List, Option, Some, None, Result, Ok, Err}
 use Rattle.pt_sector.specs.Sectors.{Sectors}
 use Rattle.pt_sector.specs.Writes.{Writes, after}
 use Rattle.pt_sector.specs.Device.{Told}
@@ -12,7 +12,6 @@ use Rattle.pt_edit.specs.declared.error.Refusal.{Refusal}
 use Rattle.pt_check.specs.declared.answer.Answer.{Answer}
 use Rattle.pt_check.specs.declared.answer.Answer.TheVariants.{No}
 use Rattle.pt_check.specs.declared.answer.Why.{Why}
-use Rattle.pt_check.specs.declared.answer.Why.TheVariants.{Neither}
 use Rattle.pt_plan.specs.declared.error.PlanError.{PlanError}
 use Rattle.pt_plan.specs.declared.error.CommitError.{CommitError}
 use Rattle.pt_plan.specs.declared.error.CommitError.TheVariants.{NoTable, Edit, Plan, Check, Device, Memory}
@@ -42,11 +41,11 @@ module _ {W : Type 0} (denotes : Sectors → Option Layout → Type 0) (reason :
     pub may : o ≡ None → makes words
     pub to : edited o words (Ok l)
 
-  -- the plan isn't safe for this reason, or it is of so many phases and the finished disk denotes another layout
+  -- a plan for the layout isn't safe, for this reason
   pub record Unsafe (d : Sectors) (l : Layout) (why : Why) : Type 0 where
     pub phases : List Writes
     pub planned : plans d l phases
-    pub because : answers d phases (No why) ⊎ ((why ≡ Neither (length phases)) × ¬ denotes (after phases d) (Some l))
+    pub because : answers d phases (No why)
 
   -- why the words are refused on d
   abbrev pub Refuses : W → Sectors → CommitError → Type 0

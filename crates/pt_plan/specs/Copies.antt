@@ -1,5 +1,5 @@
 -- The phases that write both copies of a table, as they are put together.
-use Rattle.std.specs.Prelude.{◌≡◌, ℕ, List, [], ◌∷◌, ◌++◌, Bool, true, false}
+use Rattle.std.specs.Prelude.{◌≡◌, ℕ, List, ◌∷◌, ◌++◌, Bool, true, false}
 use Rattle.pt_sector.specs.Writes.{Writes}
 use Rattle.pt_gpt.specs.Array.{AllFit}
 use Rattle.pt_gpt.specs.Header.{HeaderBytes}

@@ -1,18 +1,16 @@
 -- What the steps of a commit answer.
-use Rattle.std.specs.Prelude.{◌≡◌, ◌⊎◌, ◌≢◌, ℕ, List, length, Option, Some, None, Ok, Err}
+use Rattle.std.specs.Prelude.{◌≡◌, ◌≢◌, ℕ, List, Option, Some, None, Err}
 use Rattle.pt_sector.specs.Sectors.{Sectors}
-use Rattle.pt_sector.specs.Writes.{Writes, after}
+use Rattle.pt_sector.specs.Writes.{Writes}
 use Rattle.pt_apply.specs.Promises.{Safe}
-use Rattle.pt_recover.specs.Answers.{IsReason, IsOutside}
+use Rattle.pt_recover.specs.Answers.{IsReason}
 use Rattle.pt_recover.specs.Denotes.{Denotes}
 use Rattle.pt_recover.specs.declared.layout.Layout.{Layout}
 use Rattle.pt_layout.specs.Healthy.{Healthy}
 use Rattle.pt_edit.specs.declared.error.Refusal.TheVariants as refusal
 use Rattle.pt_check.specs.Answers.{Answers, TableOf, OwnedOf}
 use Rattle.pt_check.specs.declared.answer.Answer.TheVariants.{No}
-use Rattle.pt_check.specs.declared.answer.Why.TheVariants.{Neither}
 use Rattle.pt_plan.specs.Batches.{Batch, Makes, EditedBy}
-use Rattle.pt_plan.specs.Failed.{IsFailure}
 use Rattle.pt_plan.specs.Plans.{Unplanned}
 use Rattle.pt_plan.specs.declared.error.CommitError.{CommitError}
 use Rattle.pt_plan.specs.declared.error.CommitError.TheVariants.{NoTable, Edit, Plan, Check, Device, Memory}
@@ -49,13 +47,12 @@ abbrev pub NotPlanned : ℕ → Sectors → Layout → CommitError → Type 0
 NotPlanned b d l (Plan e) = Unplanned b d l e
 NotPlanned b d l e = IsCommitFailure e
 
--- the plan leads to the layout, and is safe
-pub record IsConfirmed (b : ℕ) (d : Sectors) (l : Layout) (phases : List Writes) : Type 0 where
-  pub finished : Denotes b (after phases d) (Some l)
+-- the plan is safe
+pub record IsSafe (b : ℕ) (d : Sectors) (phases : List Writes) : Type 0 where
   pub switch : ℕ
   pub safe : Safe (Denotes b) (Healthy b) (TableOf b) (OwnedOf b) phases d switch
 
 -- why it isn't
-abbrev pub NotConfirmed : ℕ → Sectors → Layout → List Writes → CommitError → Type 0
-NotConfirmed b d l phases (Check why) = Answers b d phases (No why) ⊎ ((why ≡ Neither (length phases)) × ¬ Denotes b (after phases d) (Some l))
-NotConfirmed b d l phases e = IsCommitFailure e
+abbrev pub NotSafe : ℕ → Sectors → List Writes → CommitError → Type 0
+NotSafe b d phases (Check why) = Answers b d phases (No why)
+NotSafe b d phases e = IsCommitFailure e

@@ -52,7 +52,11 @@ fn header_sector<const B: usize>(sectors: u64, table: &Table, side: Side) -> Sec
 }
 
 /// A phase of one write.
-fn single<const B: usize>(alloc: Global, lba: u64, bytes: &Sector<B>) -> Result<Vec<Write<B>>, AllocError>
+fn single<const B: usize>(
+    alloc: Global,
+    lba: u64,
+    bytes: &Sector<B>,
+) -> Result<Vec<Write<B>>, AllocError>
     requires { IsSectorSize B }
     ensures { IfOk result (λ ws. writes_of ws.items ≡ (lba, bytes.now) ∷ []) }
 {
@@ -65,7 +69,11 @@ fn single<const B: usize>(alloc: Global, lba: u64, bytes: &Sector<B>) -> Result<
 }
 
 /// The writes of a whole array from a sector on.
-fn array<const B: usize>(alloc: Global, entries: &[Option<Entry>], at: u64) -> Result<Vec<Write<B>>, AllocError>
+fn array<const B: usize>(
+    alloc: Global,
+    entries: &[Option<Entry>],
+    at: u64,
+) -> Result<Vec<Write<B>>, AllocError>
     requires size { IsSectorSize B }
     requires room { at + array_len B < 2 ^ 64 }
     ensures { IfOk result (λ ws. writes_of ws.items ≡ array_writes B entries.now at (array_len B)) }
@@ -81,13 +89,21 @@ fn array<const B: usize>(alloc: Global, entries: &[Option<Entry>], at: u64) -> R
 }
 
 /// The backup copy: its array, and its header in the last sector.
-fn backup<const B: usize>(alloc: Global, sectors: u64, table: &Table) -> Result<Vec<Write<B>>, AllocError>
+fn backup<const B: usize>(
+    alloc: Global,
+    sectors: u64,
+    table: &Table,
+) -> Result<Vec<Write<B>>, AllocError>
     requires size { IsSectorSize B }
     requires room { 2 * array_len B + 4 ≤ sectors }
     requires few { length table.now.entries ≤ 128 }
     ensures { IfOk result (λ ws. IsBackupPhase B sectors table.now (writes_of ws.items)) }
 {
-    let mut writes = array(alloc, table.entries.as_slice(), array_at::<B>(Side::Backup, sectors))?;
+    let mut writes = array(
+        alloc,
+        table.entries.as_slice(),
+        array_at::<B>(Side::Backup, sectors),
+    )?;
     writes.push(Write {
         lba: Lba(sectors - 1),
         bytes: header_sector(sectors, table, Side::Backup),
@@ -96,7 +112,12 @@ fn backup<const B: usize>(alloc: Global, sectors: u64, table: &Table) -> Result<
 }
 
 /// The phases of the primary copy, added to others: its header zeroed, its array, and its header.
-fn push_primary<const B: usize>(alloc: Global, phases: &mut Vec<Vec<Write<B>>>, sectors: u64, table: &Table) -> Result<(), AllocError>
+fn push_primary<const B: usize>(
+    alloc: Global,
+    phases: &mut Vec<Vec<Write<B>>>,
+    sectors: u64,
+    table: &Table,
+) -> Result<(), AllocError>
     requires size { IsSectorSize B }
     requires room { 2 * array_len B + 4 ≤ sectors }
     requires few { length table.now.entries ≤ 128 }

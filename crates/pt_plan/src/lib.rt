@@ -4,7 +4,6 @@
 mod commits;
 mod copies;
 mod error;
-mod finished;
 mod fits;
 mod planner;
 mod prepare;

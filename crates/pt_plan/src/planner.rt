@@ -2,7 +2,7 @@
 
 ghost use Rattle.std.specs.Prelude.{◌≡◌, ◌+◌, ◌*◌, ◌<◌, ◌≤◌, [], All, Some, length, OnOk, IfOk, IfErr};
 ghost use Rattle.pt_sector.specs.Sectors.{IsSectorSize};
-ghost use Rattle.pt_apply.specs.Plans.{phases_of, InRange};
+ghost use Rattle.pt_apply.specs.Plans.{phases_of, finished, InRange};
 ghost use Rattle.pt_gpt.specs.Array.{array_len};
 ghost use Rattle.pt_recover.specs.Denotes.{Denotes};
 ghost use Rattle.pt_layout.specs.Healthy.{Healthy};
@@ -99,7 +99,8 @@ fn write_copies<const B: usize, D: Disk<B>>(
     }
 }
 
-/// A plan that makes the disk healthy, with the wanted layout: without phases where the disk is so already.
+/// A plan for the wanted layout, which the finished disk denotes: without phases where the disk is healthy with that
+/// layout already.
 ///
 /// Where a primary copy of a GPT exists, the backup copy is written first: phase 1 is its array and its header in the
 /// last sector, 2 zeroes the primary header in sector 1, 3 is the primary array, 4 the primary header. Else phase 1
@@ -125,6 +126,7 @@ pub fn make_plan<const B: usize, D: Disk<B>>(
     ensures short { IfOk result (λ plan. length plan.phases.items ≤ 5) }
     ensures idle { D.tells → IfOk result (λ plan. Healthy B (D.told disk.old).seen → Denotes B (D.told disk.old).seen (Some wanted.now) → plan.phases.items ≡ []) }
     ensures plan { D.tells → IfOk result (λ plan. IsPlan B (D.told disk.old).seen wanted.now (phases_of plan)) }
+    ensures finished { D.tells → IfOk result (λ plan. Denotes B (finished plan (D.told disk.old).seen) (Some wanted.now)) }
     ensures err { D.tells → IfErr result (Unplanned B (D.told disk.old).seen wanted.now) }
 {
     if let Err(error) = be_sound::<B>(alloc, wanted) {

@@ -1,20 +1,18 @@
 //! The steps of a commit before its first write.
 
-ghost use Rattle.std.specs.Prelude.{◌≡◌, ◌≤◌, ◌*◌, ◌+◌, ℕ, Ok, length, OnOk, IfOk, IfErr, IsTrue, ◌↔◌};
+ghost use Rattle.std.specs.Prelude.{◌≡◌, Ok, Some, OnOk, IfOk, IfErr, IsTrue, ◌↔◌};
 ghost use Rattle.pt_sector.specs.Sectors.{IsSectorSize};
-ghost use Rattle.pt_apply.specs.Plans.{phases_of, InRange};
-ghost use Rattle.pt_gpt.specs.Array.{array_len};
-ghost use Rattle.pt_check.specs.First.{writes_in};
+ghost use Rattle.pt_apply.specs.Plans.{phases_of, finished, InRange};
+ghost use Rattle.pt_recover.specs.Denotes.{Denotes};
 ghost use Rattle.pt_plan.specs.Batches.{IsReady, IsRefusal, MakesTable, EditedBy};
 ghost use Rattle.pt_plan.specs.Failed.{FailedAs};
 ghost use Rattle.pt_plan.specs.Plans.{IsPlan};
-ghost use Rattle.pt_plan.specs.Steps.{sectors_in, StartsFrom, NoStart, NotEdited, NotPlanned, IsConfirmed, NotConfirmed};
+ghost use Rattle.pt_plan.specs.Steps.{sectors_in, StartsFrom, NoStart, NotEdited, NotPlanned, IsSafe, NotSafe};
 
 use crate::error::{CommitError, PlanError};
-use crate::finished::finishes;
 use crate::planner::make_plan;
 use pt_apply::Plan;
-use pt_check::{Answer, CheckError, Why, check};
+use pt_check::{Answer, CheckError, check};
 use pt_edit::{Edit, Refusal, edit};
 use pt_guid::Guid;
 use pt_layout::{Layout, NoTable, recover};
@@ -103,8 +101,8 @@ fn planned<const B: usize, D: Disk<B>>(
     ensures failed { IfErr result (λ e. FailedAs e (D.failures disk.old) (D.failures disk.new)) }
     ensures same { D.tells → D.told disk.new ≡ D.told disk.old }
     ensures in_range { IfOk result (InRange (D.count disk.old)) }
-    ensures few { IfOk result (λ plan. length (writes_in (phases_of plan)) ≤ 2 * array_len B + 4) }
     ensures plan { D.tells → IfOk result (λ plan. IsPlan B (D.told disk.old).seen wanted.now (phases_of plan)) }
+    ensures finished { D.tells → IfOk result (λ plan. Denotes B (finished plan (D.told disk.old).seen) (Some wanted.now)) }
     ensures err { D.tells → IfErr result (NotPlanned B (D.told disk.old).seen wanted.now) }
 {
     match make_plan(alloc, disk, wanted) {
@@ -115,29 +113,22 @@ fn planned<const B: usize, D: Disk<B>>(
     }
 }
 
-/// Checks a plan, and that it leads to the layout.
-fn confirm<const B: usize, D: Disk<B>>(
+/// Checks a plan.
+fn checked<const B: usize, D: Disk<B>>(
     alloc: Global,
     disk: &mut D,
     plan: &Plan<B>,
-    wanted: &Layout,
 ) -> Result<(), CommitError>
     requires size { IsSectorSize B }
-    requires few { length (writes_in (phases_of plan.now)) ≤ 2 * array_len B + 4 }
     ensures count { D.count disk.new ≡ D.count disk.old }
     ensures name { D.name disk.new ≡ D.name disk.old }
     ensures reads { D.reads disk.old disk.new }
     ensures quiet { OnOk result (D.failures disk.new ≡ D.failures disk.old) }
     ensures failed { IfErr result (λ e. FailedAs e (D.failures disk.old) (D.failures disk.new)) }
     ensures same { D.tells → D.told disk.new ≡ D.told disk.old }
-    ensures ok { D.tells → OnOk result (IsConfirmed B (D.told disk.old).seen wanted.now (phases_of plan.now)) }
-    ensures err { D.tells → IfErr result (NotConfirmed B (D.told disk.old).seen wanted.now (phases_of plan.now)) }
+    ensures ok { D.tells → OnOk result (IsSafe B (D.told disk.old).seen (phases_of plan.now)) }
+    ensures err { D.tells → IfErr result (NotSafe B (D.told disk.old).seen (phases_of plan.now)) }
 {
-    match finishes(alloc, disk, plan, wanted) {
-        Ok(true) => {}
-        Ok(false) => return Err(CommitError::Check(Why::Neither(plan.phases.len() as u64))),
-        Err(error) => return Err(error),
-    }
     match check(alloc, disk, plan) {
         Ok(Answer::Yes { .. }) => Ok(()),
         Ok(Answer::No(why)) => Err(CommitError::Check(why)),
@@ -176,7 +167,7 @@ pub(crate) fn prepare<const B: usize, D: Disk<B>>(
         Ok(plan) => plan,
         Err(error) => return Err(error),
     };
-    match confirm(alloc, disk, &plan, &wanted) {
+    match checked(alloc, disk, &plan) {
         Ok(()) => Ok(plan),
         Err(error) => Err(error),
     }

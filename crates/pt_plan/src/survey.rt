@@ -110,7 +110,10 @@ fn no_copy(error: CopyError) -> Result<bool, PlanError>
 }
 
 /// Whether the primary copy of a GPT exists.
-pub(crate) fn has_primary<const B: usize, D: Disk<B>>(alloc: Global, disk: &mut D) -> Result<bool, PlanError>
+pub(crate) fn has_primary<const B: usize, D: Disk<B>>(
+    alloc: Global,
+    disk: &mut D,
+) -> Result<bool, PlanError>
     requires size { IsSectorSize B }
     requires room { 2 * array_len B + 4 ≤ D.count disk.old }
     ensures count { D.count disk.new ≡ D.count disk.old }

@@ -28,7 +28,12 @@ fn name_of(unit: u16) -> [u16; 36] {
 }
 
 /// A GPT of so many sectors with 128 entries, of which the first is a partition with this name.
-fn layout<const B: usize>(alloc: Global, sectors: u64, first: u64, unit: u16) -> Result<Layout, AllocError>
+fn layout<const B: usize>(
+    alloc: Global,
+    sectors: u64,
+    first: u64,
+    unit: u16,
+) -> Result<Layout, AllocError>
     requires { IsSectorSize B }
 {
     let edge = array_sectors::<B>() + 2;
@@ -59,7 +64,9 @@ fn write_all<const B: usize, D: Disk<B>>(disk: &mut D, plan: &Plan<B>) -> bool {
     let mut done = true;
     for phase in &plan.phases {
         for write in phase {
-            done = write.lba.0 < disk.sectors() && disk.write(write.lba, &write.bytes).is_ok() && done;
+            done = write.lba.0 < disk.sectors()
+                && disk.write(write.lba, &write.bytes).is_ok()
+                && done;
         }
         done = disk.flush().is_ok() && done;
     }
@@ -88,11 +95,18 @@ fn plan_and_write<const B: usize, D: Disk<B>>(
     let plan = make_plan(alloc, disk, wanted)?;
     let answer = check(alloc, disk, &plan)?;
     let written = write_all(disk, &plan);
-    Ok(if written { Some((counts(&plan), answer)) } else { None })
+    Ok(if written {
+        Some((counts(&plan), answer))
+    } else {
+        None
+    })
 }
 
 /// The first unit of the first partition's name; none where the disk isn't healthy.
-fn healthy_name<const B: usize, D: Disk<B>>(alloc: Global, disk: &mut D) -> Result<Option<u16>, Fail>
+fn healthy_name<const B: usize, D: Disk<B>>(
+    alloc: Global,
+    disk: &mut D,
+) -> Result<Option<u16>, Fail>
     requires { IsSectorSize B }
 {
     match verify(alloc, disk)? {
@@ -117,7 +131,11 @@ fn first_name(layout: &Layout) -> Option<u16> {
 }
 
 /// Plans from nothing, for a new name, for the same layout again, and with a broken primary header.
-fn plans<const B: usize>(alloc: Global, sectors: u64, first: u64) -> Result<[Option<([usize; 5], Answer)>; 4], Fail>
+fn plans<const B: usize>(
+    alloc: Global,
+    sectors: u64,
+    first: u64,
+) -> Result<[Option<([usize; 5], Answer)>; 4], Fail>
     requires size { IsSectorSize B }
     requires few { sectors ≤ 4096 }
 {
@@ -133,25 +151,36 @@ fn plans<const B: usize>(alloc: Global, sectors: u64, first: u64) -> Result<[Opt
     let broken = broken && 1 < disk.sectors() && disk.write(Lba(1), &header).is_ok();
     let mended = plan_and_write(alloc, &mut disk, &old)?;
     let healthy = healthy_name(alloc, &mut disk)? == Some(97);
-    Ok([made, named, again, if broken && healthy { mended } else { None }])
+    Ok([
+        made,
+        named,
+        again,
+        if broken && healthy { mended } else { None },
+    ])
 }
 
 #[test]
 fn phases_of_plans(rt: HostRuntime) -> Result<(), Fail> {
     let small = plans::<512>(rt.alloc(), 4096, 2048)?;
-    assert!(rt; small == [
-        Some(([1, 32, 1, 33, 1], Answer::Yes { switch: 3 })),
-        Some(([33, 1, 32, 1, 0], Answer::Yes { switch: 2 })),
-        Some(([0; 5], Answer::Yes { switch: 0 })),
-        Some(([1, 32, 1, 33, 0], Answer::Yes { switch: 3 })),
-    ]);
+    assert!(rt;
+        small
+            == [
+                Some(([1, 32, 1, 33, 1], Answer::Yes { switch: 3 })),
+                Some(([33, 1, 32, 1, 0], Answer::Yes { switch: 2 })),
+                Some(([0; 5], Answer::Yes { switch: 0 })),
+                Some(([1, 32, 1, 33, 0], Answer::Yes { switch: 3 })),
+            ]
+    );
     let large = plans::<4096>(rt.alloc(), 256, 6)?;
-    assert!(rt; large == [
-        Some(([1, 4, 1, 5, 1], Answer::Yes { switch: 3 })),
-        Some(([5, 1, 4, 1, 0], Answer::Yes { switch: 2 })),
-        Some(([0; 5], Answer::Yes { switch: 0 })),
-        Some(([1, 4, 1, 5, 0], Answer::Yes { switch: 3 })),
-    ]);
+    assert!(rt;
+        large
+            == [
+                Some(([1, 4, 1, 5, 1], Answer::Yes { switch: 3 })),
+                Some(([5, 1, 4, 1, 0], Answer::Yes { switch: 2 })),
+                Some(([0; 5], Answer::Yes { switch: 0 })),
+                Some(([1, 4, 1, 5, 0], Answer::Yes { switch: 3 })),
+            ]
+    );
     Ok(())
 }
 
@@ -184,7 +213,10 @@ fn sector_of(alloc: Global, lba: u64, byte: Option<u8>) -> Result<Write<512>, Fa
     if let Some(byte) = byte {
         bytes[0] = byte;
     }
-    Ok(Write { lba: Lba(lba), bytes })
+    Ok(Write {
+        lba: Lba(lba),
+        bytes,
+    })
 }
 
 fn zeros(lba: u64) -> Write<512> {
@@ -197,14 +229,29 @@ fn zeros(lba: u64) -> Write<512> {
 #[test]
 fn answers_to_other_plans(rt: HostRuntime) -> Result<(), Fail> {
     let alloc = rt.alloc();
-    assert_eq!(rt; answer_to(alloc, &[zeros(4096)])?, Answer::No(Why::OutOfRange(1)));
-    assert_eq!(rt; answer_to(alloc, &[sector_of(alloc, 0, Some(1))?])?, Answer::No(Why::BootCode(1)));
+    assert_eq!(rt;
+        answer_to(alloc, &[zeros(4096)])?,
+        Answer::No(Why::OutOfRange(1))
+    );
+    assert_eq!(rt;
+        answer_to(alloc, &[sector_of(alloc, 0, Some(1))?])?,
+        Answer::No(Why::BootCode(1))
+    );
     let back = [zeros(1), zeros(4095), sector_of(alloc, 1, None)?];
     assert_eq!(rt; answer_to(alloc, &back)?, Answer::No(Why::Neither(2)));
-    assert_eq!(rt; answer_to(alloc, &[zeros(100)])?, Answer::No(Why::NotATable(Lba(100))));
-    assert_eq!(rt; answer_to(alloc, &[zeros(0)])?, Answer::No(Why::Final(Finding::Protective)));
+    assert_eq!(rt;
+        answer_to(alloc, &[zeros(100)])?,
+        Answer::No(Why::NotATable(Lba(100)))
+    );
+    assert_eq!(rt;
+        answer_to(alloc, &[zeros(0)])?,
+        Answer::No(Why::Final(Finding::Protective))
+    );
     let none = Finding::NoTable(NoTable::NoCopy(CopyError::Signature, CopyError::Signature));
-    assert_eq!(rt; answer_to(alloc, &[zeros(4095), zeros(1)])?, Answer::No(Why::Final(none)));
+    assert_eq!(rt;
+        answer_to(alloc, &[zeros(4095), zeros(1)])?,
+        Answer::No(Why::Final(none))
+    );
     Ok(())
 }
 
@@ -216,7 +263,10 @@ fn primary_array_under_an_open_header(rt: HostRuntime) -> Result<(), Fail> {
     if plan.phases.len() > 1 {
         drop(plan.phases.remove(1));
     }
-    assert_eq!(rt; check(rt.alloc(), &mut disk, &plan)?, Answer::No(Why::ReadSector(2, Lba(2))));
+    assert_eq!(rt;
+        check(rt.alloc(), &mut disk, &plan)?,
+        Answer::No(Why::ReadSector(2, Lba(2)))
+    );
     Ok(())
 }
 
@@ -272,7 +322,10 @@ fn commits<const B: usize>(alloc: Global) -> Result<([u8; 4], Option<u16>), Fail
     let named = commit_number(commit(alloc, &mut disk, &rename(alloc, 1, "b")?, &[]));
     let name = healthy_name(alloc, &mut disk)?;
     let again = commit_number(commit(alloc, &mut disk, &rename(alloc, 1, "b")?, &[]));
-    Ok(([none, missing, named, again], if made { name } else { None }))
+    Ok((
+        [none, missing, named, again],
+        if made { name } else { None },
+    ))
 }
 
 fn commit_number(answer: Result<(), CommitError>) -> u8 {
@@ -291,7 +344,12 @@ fn commits_of_names(rt: HostRuntime) -> Result<(), Fail> {
 }
 
 /// The name that a crash leaves after a commit of another whose call of this number fails, and whether it failed.
-fn after_failure<const B: usize>(alloc: Global, call: u64, kept: bool, choices: &[usize]) -> Result<(Option<u16>, bool), Fail>
+fn after_failure<const B: usize>(
+    alloc: Global,
+    call: u64,
+    kept: bool,
+    choices: &[usize],
+) -> Result<(Option<u16>, bool), Fail>
     requires { IsSectorSize B }
 {
     let mut disk: CrashDisk<B> = CrashDisk::new(alloc, 80, 40)?;
@@ -312,7 +370,12 @@ fn after_failure<const B: usize>(alloc: Global, call: u64, kept: bool, choices: 
 
 /// One call of a commit fails, and then one so many calls later, until none does: the name is the old one, and then the
 /// new one.
-fn failures<const B: usize>(alloc: Global, step: u64, kept: bool, choices: &[usize]) -> Result<bool, Fail>
+fn failures<const B: usize>(
+    alloc: Global,
+    step: u64,
+    kept: bool,
+    choices: &[usize],
+) -> Result<bool, Fail>
     requires { IsSectorSize B }
 {
     let mut good = true;

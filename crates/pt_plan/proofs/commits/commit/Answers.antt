@@ -1,4 +1,3 @@
-use Rattle.std.proofs.Common.{rules}
 use Rattle.pt_recover.specs.Laws.{denotes_one_lem}
 use Rattle.pt_plan.proofs.Exits.{at_failed_flush, at_refused, at_failed, at_done}
 use Rattle.pt_plan.proofs.commits.commit.Goals as goal

@@ -1,4 +1,4 @@
-use Rattle.std.proofs.Common.{◌≡◌, ◌∙◌, ap, sym, refl}
+use Rattle.std.proofs.Common.{◌∙◌, ap, sym, refl}
 use Rattle.pt_apply.specs.Plans.{writes_of}
 use Rattle.pt_plan.proofs.Assembling.{array_none, array_on}
 use Rattle.pt_plan.proofs.copies.array.Goals as goal

@@ -1,4 +1,3 @@
-use Rattle.std.proofs.Common.{rules}
 use Rattle.pt_plan.proofs.copies.header_sector.Goals as goal
 
 pub returns-clause-fit : goal.returns-clause-fit

@@ -1,25 +1,30 @@
-use Rattle.std.proofs.Common.{◌≡◌, ◌∙◌, ◌≤◌, sym, inr, arith, length, subst}
+use Rattle.std.proofs.Common.{◌∙◌, ◌≤◌, sym, inr, arith, length, subst}
 use Rattle.pt_apply.specs.Plans.{phases_of}
 use Rattle.pt_apply.specs.declared.plan.Plan.{Plan}
 use Rattle.pt_plan.specs.Plans.{copies, WritesCopies, IsPlan}
 use Rattle.pt_plan.specs.Planning.{StateIs}
 use Rattle.pt_plan.proofs.Planned.{isnt, not_fit, fits_it, table_fits, some_sectors, not_idle, ok_on}
+use Rattle.pt_plan.proofs.Finishing.{plan_finishes}
 use Rattle.pt_plan.proofs.planner.make_plan.Goals as goal
 
 pub returns-then-not-fits-clause-err : goal.returns-then-not-fits-clause-err
-returns-then-not-fits-clause-err g c = λ tells.
-    (c.in_default.ensures.ok, isnt c.in-Ok-false.field-0 c.in-Ok-false.field-0-test (c.in-Ok-false.ensures.ok tells),
-     not_fit g.row.B c.sectors.result (g.D.Disk.told c.args.disk.now).seen c.args.wanted.now (g.met.D.Disk.sized c.args.disk.now tells ∙ sym (c.sectors.ensures ∙ c.in-Ok-false.ensures.count))
-       (isnt c.fits.result c.if-not-fits.true c.fits.ensures))
+returns-then-not-fits-clause-err g c = λ tells. (
+  c.in_default.ensures.ok,
+  isnt c.in-Ok-false.field-0 c.in-Ok-false.field-0-test (c.in-Ok-false.ensures.ok tells),
+  not_fit g.row.B c.sectors.result (g.D.Disk.told c.args.disk.now).seen c.args.wanted.now (g.met.D.Disk.sized c.args.disk.now tells ∙ sym (c.sectors.ensures ∙ c.in-Ok-false.ensures.count))
+      (isnt c.fits.result c.if-not-fits.true c.fits.ensures),
+)
 
 pub is_other_kind-requires-clause-some : goal.is_other_kind-requires-clause-some
 is_other_kind-requires-clause-some g c = some_sectors g.row.B _ c.in-Gpt.table (table_fits g.row.B c.sectors.result _ c.args.wanted.now c.in-Gpt.table (c.fits.ensures.0 c.if-not-fits.false) c.sectors.ensures c.in-Gpt.is)
 
 pub returns-in-Ok-true-is_other_kind-clause-err : goal.returns-in-Ok-true-is_other_kind-clause-err
-returns-in-Ok-true-is_other_kind-clause-err g c = λ tells.
-    (c.in_default.ensures.ok, isnt c.in-Ok-false.field-0 c.in-Ok-false.field-0-test (c.in-Ok-false.ensures.ok tells),
-     fits_it g.row.B c.sectors.result (g.D.Disk.told c.args.disk.now).seen c.args.wanted.now (g.met.D.Disk.sized c.args.disk.now tells ∙ sym (c.sectors.ensures ∙ c.in-Ok-false.ensures.count)) (c.fits.ensures.0 c.if-not-fits.false),
-     inr (subst (StateIs g.row.B (g.D.Disk.told c.args.disk.now).seen c.args.wanted.now) c.in-Ok-true-is_other_kind.field-0-test (rw (c.in-Ok-false.ensures.same tells) at (c.in-Ok-true-is_other_kind.ensures.ok tells))))
+returns-in-Ok-true-is_other_kind-clause-err g c = λ tells. (
+  c.in_default.ensures.ok,
+  isnt c.in-Ok-false.field-0 c.in-Ok-false.field-0-test (c.in-Ok-false.ensures.ok tells),
+  fits_it g.row.B c.sectors.result (g.D.Disk.told c.args.disk.now).seen c.args.wanted.now (g.met.D.Disk.sized c.args.disk.now tells ∙ sym (c.sectors.ensures ∙ c.in-Ok-false.ensures.count)) (c.fits.ensures.0 c.if-not-fits.false),
+  inr (subst (StateIs g.row.B (g.D.Disk.told c.args.disk.now).seen c.args.wanted.now) c.in-Ok-true-is_other_kind.field-0-test (rw (c.in-Ok-false.ensures.same tells) at (c.in-Ok-true-is_other_kind.ensures.ok tells))),
+)
 
 pub write_copies-requires : goal.write_copies-requires
 write_copies-requires g c = (omega arith, (c.requires.size, table_fits g.row.B c.sectors.result _ c.args.wanted.now c.in-Gpt.table (c.fits.ensures.0 c.if-not-fits.false) (c.sectors.ensures ∙ sym c.in-Ok-false-is_other_kind.ensures.count) c.in-Gpt.is))
@@ -34,8 +39,13 @@ returns-clause-plan g c = λ tells.
     let state : StateIs g.row.B (g.D.Disk.told c.args.disk.now).seen c.args.wanted.now c.in-Ok-false-is_other_kind.field-0 = rw (c.in-Ok-false.ensures.same tells) at (c.in-Ok-false-is_other_kind.ensures.ok tells) in
     let plain = subst (StateIs g.row.B (g.D.Disk.told c.args.disk.now).seen c.args.wanted.now) c.in-Ok-false-is_other_kind.field-0-test state in
     ok_on c.write_copies.result (λ (plan : Plan g.row.B). WritesCopies g.row.B (g.D.Disk.told c.args.disk.now).seen c.in-Gpt.table (phases_of plan)) _
-      (λ plan writes. copies c.in-Gpt.table c.in-Gpt.is c.in_default.ensures.ok
-        (isnt c.in-Ok-false.field-0 c.in-Ok-false.field-0-test (c.in-Ok-false.ensures.ok tells))
-        (fits_it g.row.B c.sectors.result (g.D.Disk.told c.args.disk.now).seen c.args.wanted.now (g.met.D.Disk.sized c.args.disk.now tells ∙ sym (c.sectors.ensures ∙ c.in-Ok-false.ensures.count)) (c.fits.ensures.0 c.if-not-fits.false))
-        plain.0 plain.1 writes)
-      (rw (c.in-Ok-false-is_other_kind.ensures.same tells ∙ c.in-Ok-false.ensures.same tells) at (c.write_copies.ensures.copies tells))
+    (λ plan writes. copies c.in-Gpt.table c.in-Gpt.is c.in_default.ensures.ok
+    (isnt c.in-Ok-false.field-0 c.in-Ok-false.field-0-test (c.in-Ok-false.ensures.ok tells))
+    (fits_it g.row.B c.sectors.result (g.D.Disk.told c.args.disk.now).seen c.args.wanted.now (g.met.D.Disk.sized c.args.disk.now tells ∙ sym (c.sectors.ensures ∙ c.in-Ok-false.ensures.count)) (c.fits.ensures.0 c.if-not-fits.false))
+    plain.0 plain.1 writes)
+    (rw (c.in-Ok-false-is_other_kind.ensures.same tells ∙ c.in-Ok-false.ensures.same tells) at (c.write_copies.ensures.copies tells))
+
+pub returns-clause-finished : goal.returns-clause-finished
+returns-clause-finished g c = λ tells.
+    ok_on c.write_copies.result (λ (plan : Plan g.row.B). IsPlan g.row.B (g.D.Disk.told c.args.disk.now).seen c.args.wanted.now (phases_of plan)) _
+    (λ plan is. plan_finishes g.row.B (g.D.Disk.told c.args.disk.now).seen c.args.wanted.now (phases_of plan) c.requires.size is) (returns-clause-plan g c tells)

@@ -1,4 +1,4 @@
-use Rattle.std.proofs.Common.{◌≡◌, ◌∙◌, ◌<◌, sym, ap, subst, arith, ◌+◌, ◌*◌, ◌≤◌, inl, inr}
+use Rattle.std.proofs.Common.{◌∙◌, ◌<◌, sym, arith, inl, inr}
 use Rattle.pt_gpt.specs.Array.{array_len}
 use Rattle.pt_sector.specs.Sectors.{IsSectorSize}
 use Rattle.pt_plan.proofs.Planned.{in_range, phases_some, writes_few, phases_short, copies_written}

@@ -1,4 +1,4 @@
-use Rattle.std.proofs.Common.{◌≡◌, ◌∙◌, IsTrue, ap, sym}
+use Rattle.std.proofs.Common.{◌∙◌, IsTrue, ap, sym}
 use Rattle.pt_recover.specs.Labels.{places_of}
 use Rattle.pt_recover.proofs.Whole.{places_within}
 use Rattle.pt_plan.proofs.Surveying.{same_labels}

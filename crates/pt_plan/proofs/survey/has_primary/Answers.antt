@@ -1,6 +1,3 @@
-use Rattle.std.proofs.Common.{IsTrue, IfOk, Bool, Result, sym, subst, refl}
-use Rattle.pt_gpt.specs.Copy.{HasCopy}
-use Rattle.pt_gpt.specs.declared.table.Side.TheVariants.{Primary}
 use Rattle.pt_plan.proofs.Surveying.{no_primary, primary_there}
 use Rattle.pt_plan.proofs.survey.has_primary.Goals as goal
 
