@@ -9,7 +9,7 @@ use Rattle.pt_sector.specs.Sectors.{Sectors, sector, IsSectorSize}
 use Rattle.pt_sector.specs.Writes.{Writes, Puts, written, after}
 use Rattle.pt_sector.specs.Written.{agrees_written, written-append, length-written, length-after}
 use Rattle.pt_mbr.specs.Protective.{IsProtective}
-use Rattle.pt_mbr.proofs.Terms.{protective_is_borne}
+use Rattle.pt_mbr.specs.Laws.{protective_is_borne}
 use Rattle.pt_bsd.specs.Label.{LabelBytes}
 use Rattle.pt_gpt.specs.Array.{array_len, array_sector, counted}
 use Rattle.pt_gpt.specs.Copy.{Copy, IsPlaced, IsWritten}
@@ -26,10 +26,7 @@ use Rattle.pt_recover.specs.declared.layout.Body.TheVariants.{Gpt}
 use Rattle.pt_recover.specs.declared.layout.Labelled.{Labelled}
 use Rattle.pt_recover.specs.declared.layout.Layout.{Layout}
 use Rattle.pt_recover.specs.declared.layout.Slice.{Slice}
-use Rattle.pt_layout.proofs.ByPlace.{entry_at, entries_len}
-use Rattle.pt_layout.proofs.Grouped.{to_present}
 use Rattle.pt_layout.specs.Members.{Group, groups_of, top_group, tops, present, entries_as, entry_member}
-use Rattle.pt_layout.specs.Search.{AtPlace}
 use Rattle.pt_layout.specs.Sound.{Sound}
 use Rattle.pt_layout.specs.declared.member.Member.{Member}
 use Rattle.pt_plan.proofs.Assembling.{array_none, array_suc}
@@ -303,9 +300,28 @@ placed_in b n t s is = by_case (nat_eq b 512) refl where
   by_case true so = (let same : slices_of b (Gpt t) ≡ entry_slices 1 t.entries = rw (so, slices_of) refl in placed n 1 t.entries s (subst (λ (l : List Slice). IsPlace (filter (has_place n) l) s) same is))
   by_case false so = (let same : slices_of b (Gpt t) ≡ [] = rw (so, slices_of) refl in absurd (subst (λ (l : List Slice). IsPlace (filter (has_place n) l) s) same is))
 
+-- the entries as members
+entry_at : (b n k : ℕ) (es : List (Option Entry)) → k < length es → get_or (entries_as b n es) k None ≡ option_map (entry_member b (n + k)) (get_or es k None)
+unfolding entries_as
+entry_at b n k [] lt = absurd (omega (arith, lt))
+entry_at b n zero (e ∷ es) lt = let same : n + 0 ≡ n = omega arith in rw same refl
+entry_at b n (suc k) (e ∷ es) lt = let same : n + suc k ≡ n + 1 + k = omega arith in rw same (entry_at b (n + 1) k es (omega (arith, lt)))
+
+entries_len : (b n : ℕ) (es : List (Option Entry)) → length (entries_as b n es) ≡ length es
+unfolding entries_as
+entries_len b n [] = refl
+entries_len b n (e ∷ es) = let rest = entries_len b (n + 1) es in omega (arith, rest)
+
+present_there : (os : List (Option Member)) (m : Member) (k : ℕ) → k < length os → get_or os k None ≡ Some m → Contains (present os) m
+present_there [] m k lt at = absurd (omega (arith, lt))
+present_there (None ∷ os) m zero lt at = absurd (cc at)
+present_there (None ∷ os) m (suc k) lt at = present_there os m k (omega (arith, lt)) at
+present_there (Some x ∷ os) m zero lt at = (0, omega arith, (let same : x ≡ m = cc in same))
+present_there (Some x ∷ os) m (suc k) lt at = let later = present_there os m k (omega (arith, lt)) at in (suc later.0, omega (arith, later.1), later.2)
+
 -- the entries of a sound layout are usable
-member_there : (b n k : ℕ) (es : List (Option Entry)) (e : Entry) → k < length es → get_or es k None ≡ Some e → AtPlace (entries_as b n es) (entry_member b (n + k) e)
-member_there b n k es e lt at = (k, omega (arith, lt, entries_len b n es), entry_at b n k es lt ∙ ap (option_map (entry_member b (n + k))) at)
+member_there : (b n k : ℕ) (es : List (Option Entry)) (e : Entry) → k < length es → get_or es k None ≡ Some e → Contains (present (entries_as b n es)) (entry_member b (n + k) e)
+member_there b n k es e lt at = present_there (entries_as b n es) (entry_member b (n + k) e) k (omega (arith, lt, entries_len b n es)) (entry_at b n k es lt ∙ ap (option_map (entry_member b (n + k))) at)
 
 usable : (b : ℕ) (o : Layout) (t : Table) (k : ℕ) (e : Entry) → Sound b o → o.body ≡ Gpt t → k < length t.entries → get_or t.entries k None ≡ Some e → (t.first ≤ e.first) × (e.last ≤ t.last)
 unfolding groups_of top_group tops
@@ -313,7 +329,7 @@ usable b o t k e sound is lt at =
     let g : Group = record { low = t.first; high = t.last; members = present (tops b (Gpt t)) } in
     let m : Member = entry_member b (1 + k) e in
     let stands : Contains (groups_of b o) g = (0, omega arith, ap (top_group b o.sectors) is) in
-    let sibling : Contains g.members m = to_present (entries_as b 1 t.entries) m (member_there b 1 k t.entries e lt at) in
+    let sibling : Contains g.members m = member_there b 1 k t.entries e lt at in
     let inside = sound.inside g m (record { stands = stands; sibling = sibling }) in
     (inside.low, inside.high)
 

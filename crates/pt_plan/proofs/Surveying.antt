@@ -1,6 +1,8 @@
 -- What the planner reads of a disk.
-use Rattle.std.proofs.Common.{◌≡◌, ◌∙◌, ◌↔◌, inl, inr, ⊎_elim, ℕ, List, [], ◌∷◌, true, false, Some, IfOk, IsTrue, refl, sym, subst}
+use Rattle.std.proofs.Common.{◌≡◌, ◌∙◌, ◌↔◌, inl, inr, ⊎_elim, ℕ, List, [], ◌∷◌, true, false, Some, IfOk, IsTrue, refl, sym, subst, ◌<◌, get_or, filter, All, arith}
+use Rattle.std.proofs.lemmas.List.Elements.{filter_passes}
 use Rattle.pt_sector.specs.Sectors.{Sectors, sector}
+use Rattle.pt_recover.specs.declared.layout.Body.{Body}
 use Rattle.pt_bsd.specs.Laws.{label_one}
 use Rattle.pt_gpt.specs.Answers.{TellsFault}
 use Rattle.pt_gpt.specs.Copy.{Copy, HasCopy}
@@ -10,7 +12,7 @@ use Rattle.pt_gpt.specs.Laws.{no_copy_lem}
 use Rattle.pt_gpt.specs.declared.error.CopyError.{CopyError}
 use Rattle.pt_gpt.specs.declared.error.CopyError.TheVariants.{Signature, Revision, HeaderSize, HeaderCrc, MyLba, ArrayPlace, EntryShape, UsableRange, ArrayCrc, Device, Memory}
 use Rattle.pt_gpt.specs.declared.table.Side.TheVariants.{Primary}
-use Rattle.pt_recover.specs.Labels.{place_of, LabelsAre}
+use Rattle.pt_recover.specs.Labels.{places_of, slices_of, has_place, place_of, LabelsAre}
 use Rattle.pt_recover.specs.Laws.{denotes_one_lem}
 use Rattle.pt_recover.specs.declared.layout.Labelled.{Labelled}
 use Rattle.pt_recover.specs.declared.layout.Layout.{Layout}
@@ -68,3 +70,13 @@ primary_there b d t is = (λ yes_it_is. (t, is), λ has. refl)
 -- a disk with a finding isn't healthy
 pub not_done : (b : ℕ) (d : Sectors) (o : Layout) (f : Finding) → IsFinding b d f → IsTrue false ↔ IsHealthy b d o
 not_done b d o f finding = (λ impossible. absurd cc, λ is. absurd (finding_excludes_lem b d f finding (o, is)))
+
+on_disk : (n : ℕ) (p : Slice) → has_place n p ≡ true → place_of p < n
+on_disk n p has = grind arith
+
+-- each label place is on the disk
+pub places_within : (b n m : ℕ) (y : Body) (ps : List Slice) → ps ≡ places_of b n y → n ≡ m → All (λ p. place_of p < m) ps
+unfolding places_of
+places_within b n m y ps are same =
+    subst (λ (l : List Slice). All (λ p. place_of p < m) l) (sym are)
+    (subst (λ (x : ℕ). All (λ p. place_of p < x) (filter (has_place n) (slices_of b y))) same (λ k d lt. on_disk n (get_or (filter (has_place n) (slices_of b y)) k d) (filter_passes (has_place n) (slices_of b y) k d lt)))

@@ -14,9 +14,10 @@ pub enum PlanError {
     /// No plan leads there by one switch: more sectors that decide what the disk denotes would have to change than
     /// the one that switches; or the layout is none of a disk of this size.
     NotOneSwitch,
-    /// A sector that would be written is owned by a partition of the disk's present layout.
+    /// A sector that would be written is owned by a partition of the disk's present layout. To come: meanwhile the
+    /// checker refuses such a plan.
     ReusedInOneBatch,
-    /// Only a label changes, and the disk isn't healthy.
+    /// Only a label changes, and the disk isn't healthy. To come, with plans for labels.
     NeedsRepair,
     /// The layout isn't sound: the first thing that is wrong with it.
     Unsound(Finding),

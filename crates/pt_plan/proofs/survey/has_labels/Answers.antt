@@ -1,7 +1,6 @@
 use Rattle.std.proofs.Common.{◌∙◌, IsTrue, ap, sym}
 use Rattle.pt_recover.specs.Labels.{places_of}
-use Rattle.pt_recover.proofs.Whole.{places_within}
-use Rattle.pt_plan.proofs.Surveying.{same_labels}
+use Rattle.pt_plan.proofs.Surveying.{places_within, same_labels}
 use Rattle.pt_plan.proofs.survey.has_labels.Goals as goal
 
 pub read_labels-requires-clause-within : goal.read_labels-requires-clause-within
