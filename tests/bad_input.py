@@ -76,7 +76,8 @@ def refusals(ptab, image):
 
 
 def usage(ptab, image):
-    for words in ([], ["show"], ["edit", image], ["nothing"], ["show", image, image], ["show", "--depth", image]):
+    for words in ([], ["show"], ["edit", image], ["nothing"], ["show", image, image], ["show", "--depth", image],
+                  ["show", "--sector-size", "1024", image], ["show", "--sector-size", "0512", image]):
         expect(ptab, words, image, "", None, 2)
 
 

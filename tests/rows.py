@@ -59,6 +59,8 @@ def gpt_rows(command):
     for path, place, fault in (("0", "0", "path"), ("01", "0", "path"), ("1.i", "0", "path"), ("1.A", "x", "path"),
                                ("1", "x", "number"), ("1", "01", "number"), ("1", "18446744073709551616", "number")):
         command.gives(["locate", path, place], "", f"bad {fault}\n", 2)
+    command.gives(["show", "--sector-size", "512"], shown())
+    command.gives(["show", "--sector-size", "4096"], "", "no table: copies 1 1\n", 4)
     flipped = bytearray(whole)
     flipped[2 * 512 + 200] ^= 1
     command.on(flipped).gives(["show"], shown()).gives(["verify"], "no 2 primary copy 9\n", status=1)
@@ -95,6 +97,11 @@ def made(command):
     if command.image() != bytes(gpt(2048, {})):
         sys.exit("a new table has other bytes than docs/format.md's")
     command.on(zeros(67)).gives(["edit", *guids, "o"], "", "refused: edit 12\n", 3)
+    large = ["--sector-size", "4096"]
+    command.on(zeros(11 * 8)).gives(["edit", *large, *guids, "o"], "", "refused: edit 12\n", 3)
+    for sectors, last in ((12, 6), (256, 250)):
+        command.on(zeros(sectors * 8)).gives(["edit", *large, *guids, "o"], "done\n").gives(["verify", *large], "yes\n")
+        command.gives(["show", *large], f"gpt {sectors} 6 {last} {images.DISK}\n")
     command.on(zeros(68)).gives(["edit", *guids, "o"], "done\n").gives(["show"], f"gpt 68 34 34 {images.DISK}\n")
     command.on(one_partition() + zeros(1000)).gives(["edit", "e"], "done\n").gives(["verify"], "yes\n")
     command.gives(["show"], shown().replace("gpt 4096 34 4062", "gpt 5096 34 5062"))

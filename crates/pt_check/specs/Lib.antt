@@ -2,7 +2,9 @@ pub mod Answers
 pub mod Course
 pub mod Failed
 pub mod First
+pub mod Laws
 pub mod Misplaced
+pub mod One
 pub mod Reasons
 pub mod Recovered
 pub mod Trials

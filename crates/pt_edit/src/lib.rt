@@ -26,3 +26,5 @@ pub use word::{Code, Edit, End};
 
 #[cfg(test)]
 mod tests;
+#[cfg(test)]
+mod text_tests;

@@ -58,13 +58,16 @@ impl From<AllocError> for LineError {
     }
 }
 
-const ABOUT: &str = "Shows and edits partition tables (GPT, MBR with extended partitions, BSD labels) in a disk image. \
+const ABOUT: &str =
+    "Shows and edits partition tables (GPT, MBR with extended partitions, BSD labels) in a disk image. \
 An edit leaves the old table or the new one whenever the power goes.";
 
-const STATUSES: &str = "Exit status: 0 done or yes, 1 the answer is no, 2 usage or an unreadable word, \
+const STATUSES: &str =
+    "Exit status: 0 done or yes, 1 the answer is no, 2 usage or an unreadable word, \
 3 refused, 4 no table, 5 device, 6 memory.";
 
-const WORDS: &str = "Words, in the manner of sgdisk(8): c:NUM:NAME names a partition, t:NUM:CODE types it, d:NUM deletes it, \
+const WORDS: &str =
+    "Words, in the manner of sgdisk(8): c:NUM:NAME names a partition, t:NUM:CODE types it, d:NUM deletes it, \
 u:NUM:GUID and U:GUID set its GUID and the disk's, A:NUM:BIT:V an attribute, e extends the table to a grown disk, \
 o makes an empty GPT. Fresh GUIDs: --fresh $(head -c 16 /dev/urandom | od -An -tx1 | tr -d ' \\n').";
 

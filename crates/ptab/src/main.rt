@@ -9,10 +9,9 @@ mod show;
 mod texts;
 
 use run::run;
-use std::env;
-use std::io;
 use std::io::BufWriter;
 use std::process::ExitCode;
+use std::{env, io};
 use texts::Status;
 
 /// Runs the words after the program's name on its two output streams.

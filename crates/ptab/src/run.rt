@@ -7,9 +7,7 @@ use crate::file_disk::{Access, open};
 use crate::line::{Job, Line, LineError, SectorSize, read_line};
 use crate::show::print_layout;
 use crate::texts::{Failure, Status, print_finding};
-use pt_layout::{
-    Path, Verdict, VerifyError, locate, parse_number, parse_path, recover, verify,
-};
+use pt_layout::{Path, Verdict, VerifyError, locate, parse_number, parse_path, recover, verify};
 use std::fs::{File, Files};
 use std::io;
 use std::io::Write;
@@ -117,7 +115,11 @@ fn answer<const B: usize, R: Files<File = File> + AllocGlobal, O: Write>(
     }
 }
 
-fn line_answer<R: Files<File = File> + AllocGlobal, O: Write>(rt: &R, words: &[&str], out: &mut O) -> Answer {
+fn line_answer<R: Files<File = File> + AllocGlobal, O: Write>(
+    rt: &R,
+    words: &[&str],
+    out: &mut O,
+) -> Answer {
     match read_line(rt.alloc(), words) {
         Ok(Line { job, size }) => match size {
             SectorSize::Bytes512 => answer::<512, R, O>(rt, &job, out),

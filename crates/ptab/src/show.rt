@@ -75,13 +75,7 @@ fn print_name<O: Write>(out: &mut O, name: &[u16; 36]) -> io::Result<()> {
     let units = name.iter().copied().take_while(|&unit| unit != 0);
     for found in char::decode_utf16(units) {
         let shown = match found {
-            Ok(c) => {
-                if c < ' ' || c == '\u{7F}' {
-                    '?'
-                } else {
-                    c
-                }
-            }
+            Ok(c) => { if c < ' ' || c == '\u{7F}' { '?' } else { c } }
             Err(_) => '?',
         };
         write!(out, "{shown}")?;

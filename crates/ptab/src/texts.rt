@@ -1,7 +1,7 @@
 //! What the command answers: its texts and its exit statuses (docs/commands.md).
 
-use pt_layout::{Finding, NoTable, Path};
 use pt_gpt::Side;
+use pt_layout::{Finding, NoTable, Path};
 use pt_mbr::ChainError;
 use std::io;
 use std::io::Write;
