@@ -1,5 +1,5 @@
 #!/usr/bin/env bash
-# The whole gate: the built command on real images and on bad input, then every proof from nothing, the edits that the
+# The whole gate: the built command on real images, on bad input and under power cuts, then every proof from nothing, the edits that the
 # prover must refuse, the tests and the programs. It ends with the line of `rt ci`.
 set -euo pipefail
 cd "$(dirname "$0")"
@@ -9,5 +9,6 @@ ptab=$(./build.sh)
 python3 tests/real_images.py "$ptab"
 python3 tests/bad_input.py "$ptab"
 python3 tests/rows.py "$ptab"
+python3 tests/power_cut.py "$ptab"
 python3 tests/hostile.py "$ptab" 8000
 exec rt ci

@@ -7,9 +7,10 @@ need python3 python3
 need sgdisk gdisk
 need sfdisk fdisk
 need parted parted
+need strace strace
 for word in "$@"; do
   case "$word" in
-    bench) need valgrind valgrind; need strace strace; need gcc gcc; [ -e /usr/include/zlib.h ] || missing+=(zlib1g-dev) ;;
+    bench) need valgrind valgrind; need gcc gcc; [ -e /usr/include/zlib.h ] || missing+=(zlib1g-dev) ;;
     *) echo "usage: tests/install.sh [bench]" >&2; exit 2 ;;
   esac
 done
