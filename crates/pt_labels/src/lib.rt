@@ -2,7 +2,10 @@
 #![tactic(auto)]
 
 mod lists;
+mod parts;
+mod slices;
 
 pub use lists::{
     add_label, drop_label, drop_logical_labels, lower_labels, put_label, raise_labels,
 };
+pub use parts::{delete_part, set_part_kind};
