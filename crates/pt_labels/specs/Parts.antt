@@ -1,5 +1,5 @@
 -- What a letter names in the label of a slice, and the words `t` and `d` of it.
-use Rattle.std.specs.Prelude.{◌≡◌, ◌≢◌, ℕ, List, slice_index_or, slice_set, Option, Some, None, if◌then◌else◌, nat_eq}
+use Rattle.std.specs.Prelude.{◌≡◌, ◌≢◌, ℕ, slice_index_or, slice_set, Option, Some, None, if◌then◌else◌, nat_eq}
 use Rattle.pt_bsd.specs.Empty.{entry_of_size}
 use Rattle.pt_bsd.specs.declared.label.Label.{Label}
 use Rattle.pt_bsd.specs.declared.label.LabelEntry.{LabelEntry}
