@@ -1,0 +1,10 @@
+//! The word `g`: the layout of an MBR becomes that of a GPT.
+//!
+//! specs/Partitions.antt says what is kept, specs/Room.antt where there is room for a GPT, specs/Converted.antt what is made and why
+//! not. The laws of src/laws.rt stand as terms in specs/Laws.antt, for contracts above to cite.
+#![tactic(auto)]
+
+mod partition;
+mod partitions;
+
+pub use partition::Partition;
