@@ -4,7 +4,11 @@
 //! not. The laws of src/laws.rt stand as terms in specs/Laws.antt, for contracts above to cite.
 #![tactic(auto)]
 
+mod laws;
 mod partition;
 mod partitions;
+mod room;
 
+pub use laws::{converted_one, converted_taken, refusal_one};
 pub use partition::Partition;
+pub use partitions::guids_for;

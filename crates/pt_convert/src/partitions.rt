@@ -1,10 +1,12 @@
 //! The partitions of an MBR in the order of their numbers.
 
-ghost use Rattle.std.specs.Prelude.{◌≡◌, ◌≤◌, ◌+◌, ◌++◌, IfOk, OnOk, option_to_list};
+ghost use Rattle.std.specs.Prelude.{◌≡◌, ◌≤◌, ◌+◌, ◌++◌, IfOk, OnOk, length, option_to_list};
 ghost use Rattle.pt_convert.specs.Partitions.{primary, primaries, logical, logicals_from};
 ghost use Rattle.pt_recover.specs.Labels.{next_number};
+ghost use Rattle.pt_convert.specs.Converted.{guids_taken};
 
 use crate::partition::Partition;
+use pt_layout::{Body, Layout};
 use pt_mbr::{Ebr, Record, is_extended_kind};
 use std::alloc::{AllocError, Global};
 
@@ -98,4 +100,47 @@ pub(crate) fn partitions_of(
     push_primaries(&mut partitions, records)?;
     push_logicals(&mut partitions, chain)?;
     Ok(partitions)
+}
+
+// How many logical partitions a chain has.
+pub(crate) fn logical_count(chain: &[Ebr]) -> usize
+    ensures value { result ≡ length (logicals_from 5 chain.now) }
+    ensures most { result ≤ length chain.now }
+{
+    let mut count = 0;
+    for ebr in chain {
+        if ebr.logical.is_some() {
+            count += 1;
+        }
+    }
+    count
+}
+
+// How many partitions four records have, without the extended one.
+fn primary_count(records: &[Option<Record>]) -> usize
+    ensures value { result ≡ length (primaries 1 records.now) }
+    ensures most { result ≤ length records.now }
+{
+    let mut count = 0;
+    for record in records {
+        if let Some(record) = record {
+            if !is_extended_kind(record.kind) {
+                count += 1;
+            }
+        }
+    }
+    count
+}
+
+/// How many fresh GUIDs the layout takes as it becomes a GPT: one for the disk, and one for each partition, but not for the extended
+/// one.
+pub fn guids_for(layout: &Layout) -> usize
+    ensures { result ≡ guids_taken layout.now }
+{
+    match &layout.body {
+        Body::Mbr { records, chain } => {
+            1 + primary_count(&records[..]) + logical_count(chain.as_slice())
+        }
+        Body::Gpt(_) => 1,
+    }
 }
