@@ -1,6 +1,6 @@
 -- Partitions, counted.
-use Rattle.std.proofs.Common.{◌≡◌, ◌≤◌, ◌+◌, ℕ, zero, suc, Bool, true, false, cond, List, [], ◌∷◌, ◌++◌, length, length-append, Option, Some, None, refl, sym, ap, ◌∙◌, arith, take}
-use Rattle.std.specs.Prelude.{count_by, is_some}
+use Rattle.std.proofs.Common.{◌≡◌, ◌≤◌, ◌+◌, ℕ, Bool, true, false, cond, List, [], ◌∷◌, length, length-append, Option, Some, None, refl, sym, ap, ◌∙◌, arith, take}
+use Rattle.std.specs.Prelude.{count_by}
 use Rattle.std.proofs.lemmas.List.{take_all}
 use Rattle.std.proofs.lemmas.List.Sums.{sum_by-cons}
 use Rattle.pt_mbr.specs.declared.record.Record.{Record}
@@ -8,8 +8,7 @@ use Rattle.pt_mbr.specs.declared.ebr.Ebr.{Ebr}
 use Rattle.pt_recover.specs.Mbr.{is_extended}
 use Rattle.pt_recover.specs.Labels.{next_number}
 use Rattle.pt_convert.specs.Counted.{has_logical, has_primary}
-use Rattle.pt_convert.specs.Partitions.{partition_of, primary, primaries, logical, logicals_from}
-use Rattle.pt_convert.specs.declared.partition.Partition.{Partition}
+use Rattle.pt_convert.specs.Partitions.{primary, primaries, logical, logicals_from}
 
 logical_len : (n : ℕ) (e : Ebr) → length (logical n e) ≡ cond (has_logical e) 1 0
 unfolding logical

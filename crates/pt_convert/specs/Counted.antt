@@ -1,5 +1,5 @@
 -- How many partitions records have.
-use Rattle.std.specs.Prelude.{ℕ, Bool, true, false, List, count_by, is_some, Option, Some, None, if◌then◌else◌}
+use Rattle.std.specs.Prelude.{Bool, true, false, is_some, Option, Some, None, if◌then◌else◌}
 use Rattle.pt_mbr.specs.declared.record.Record.{Record}
 use Rattle.pt_mbr.specs.declared.ebr.Ebr.{Ebr}
 use Rattle.pt_recover.specs.Mbr.{is_extended}

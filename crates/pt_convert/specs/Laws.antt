@@ -10,7 +10,7 @@ use Rattle.pt_recover.specs.declared.layout.Layout.{Layout}
 use Rattle.pt_recover.specs.declared.layout.Body.TheVariants.{Gpt}
 use Rattle.pt_words.specs.declared.error.Refusal.{Refusal}
 use Rattle.pt_convert.specs.Partitions.{partitions}
-use Rattle.pt_convert.specs.Converted.{IsAt, guids_taken, entry_of, IsGptOf, MayConvert, Converted, NotConverted, no_mbr, unknown, no_room, too_few, twins}
+use Rattle.pt_convert.specs.Converted.{IsAt, entry_of, IsGptOf, Converted, NotConverted, no_mbr, unknown, no_room, too_few, twins}
 use Rattle.pt_convert.specs.declared.partition.Partition.{Partition}
 
 -- a place of a list holds one thing
@@ -59,19 +59,19 @@ one_entry : (b n : ℕ) (guids : List Guid) (ps : List Partition) (t u : Table) 
     → slice_index_or t.entries k None ≡ slice_index_or u.entries k None
 one_entry b n guids ps t u x y enough k lt = elim (numbered_or ps (k + 1)) as (λ _. slice_index_or t.entries k None ≡ slice_index_or u.entries k None) [
   | inl (i, p, at, is) ↦ (
-    let guid : Guid = slice_index_or guids (1 + i) t.disk in
-    let some : IsAt guids (1 + i) guid = (omega (arith, at.0), get_or_default guids (1 + i) guid t.disk (omega (arith, at.0))) in
-    let place : p.number - 1 ≡ k = omega arith in
-    let one = subst (λ (m : ℕ). slice_index_or t.entries m None ≡ entry_of guid p) place (x.each i p guid at some) in
-    let other = subst (λ (m : ℕ). slice_index_or u.entries m None ≡ entry_of guid p) place (y.each i p guid at some) in
-    one ∙ sym other
-  )
+      let guid : Guid = slice_index_or guids (1 + i) t.disk in
+      let some : IsAt guids (1 + i) guid = (omega (arith, at.0), get_or_default guids (1 + i) guid t.disk (omega (arith, at.0))) in
+      let place : p.number - 1 ≡ k = omega arith in
+      let one = subst (λ (m : ℕ). slice_index_or t.entries m None ≡ entry_of guid p) place (x.each i p guid at some) in
+      let other = subst (λ (m : ℕ). slice_index_or u.entries m None ≡ entry_of guid p) place (y.each i p guid at some) in
+      one ∙ sym other
+      )
   | inr spare ↦ (
-    let place : (k + 1) - 1 ≡ k = omega arith in
-    let one = subst (λ (m : ℕ). slice_index_or t.entries m None ≡ None) place (x.others (k + 1) (omega arith) (omega (arith, x.count)) spare) in
-    let other = subst (λ (m : ℕ). slice_index_or u.entries m None ≡ None) place (y.others (k + 1) (omega arith) (omega (arith, x.count)) spare) in
-    one ∙ sym other
-  )
+      let place : (k + 1) - 1 ≡ k = omega arith in
+      let one = subst (λ (m : ℕ). slice_index_or t.entries m None ≡ None) place (x.others (k + 1) (omega arith) (omega (arith, x.count)) spare) in
+      let other = subst (λ (m : ℕ). slice_index_or u.entries m None ≡ None) place (y.others (k + 1) (omega arith) (omega (arith, x.count)) spare) in
+      one ∙ sym other
+      )
 ]
 
 same_tables : (t u : Table) → t.disk ≡ u.disk → t.first ≡ u.first → t.last ≡ u.last → t.entries ≡ u.entries → t ≡ u

@@ -1,5 +1,5 @@
 -- The partitions of an MBR in the order of their numbers, without the extended one.
-use Rattle.std.specs.Prelude.{ℕ, ◌+◌, ◌-◌, List, [], ◌∷◌, ◌++◌, length, Option, Some, None, if◌then◌else◌}
+use Rattle.std.specs.Prelude.{◌≡◌, ℕ, ◌+◌, ◌-◌, List, [], ◌∷◌, ◌++◌, length, Option, Some, None, if◌then◌else◌}
 use Rattle.pt_mbr.specs.declared.record.Record.{Record}
 use Rattle.pt_mbr.specs.declared.ebr.Ebr.{Ebr}
 use Rattle.pt_recover.specs.Mbr.{is_extended}
@@ -40,3 +40,8 @@ logicals (Gpt t) = []
 abbrev pub partitions : Body → List Partition
 partitions (Mbr records chain) = primaries 1 records ++ logicals_from 5 chain
 partitions (Gpt t) = []
+
+-- an MBR has four records
+abbrev pub HasFour : Body → Type 0
+HasFour (Mbr records chain) = length records ≡ 4
+HasFour (Gpt t) = ⊥

@@ -4,11 +4,15 @@
 //! not. The laws of src/laws.rt stand as terms in specs/Laws.antt, for contracts above to cite.
 #![tactic(auto)]
 
+mod convert;
+mod entries;
+mod kinds;
 mod laws;
 mod partition;
 mod partitions;
 mod room;
+mod twins;
 
-pub use laws::{converted_one, converted_taken, refusal_one};
-pub use partition::Partition;
+pub use convert::to_gpt;
+pub use laws::{converted_one, converted_taken, partitions_kept, refusal_one};
 pub use partitions::guids_for;

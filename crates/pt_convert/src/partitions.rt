@@ -91,13 +91,14 @@ fn push_logicals(partitions: &mut Vec<Partition>, chain: &[Ebr]) -> Result<(), A
 // All of them, but the extended partition.
 pub(crate) fn partitions_of(
     alloc: Global,
-    records: &[Option<Record>],
+    records: &[Option<Record>; 4],
     chain: &[Ebr],
 ) -> Result<Vec<Partition>, AllocError>
-    ensures { IfOk result (λ v. v.items ≡ primaries 1 records.now ++ logicals_from 5 chain.now) }
+    ensures ok { IfOk result (λ v. v.items ≡ primaries 1 «records».now ++ logicals_from 5 chain.now) }
+    ensures four { length «records».now ≡ 4 }
 {
     let mut partitions = Vec::new(alloc);
-    push_primaries(&mut partitions, records)?;
+    push_primaries(&mut partitions, &records[..])?;
     push_logicals(&mut partitions, chain)?;
     Ok(partitions)
 }

@@ -1,4 +1,4 @@
-use Rattle.std.proofs.Common.{◌++◌, ◌∙◌, option_to_list, arith}
+use Rattle.std.proofs.Common.{◌++◌, option_to_list, arith}
 use Rattle.pt_convert.specs.Partitions.{primaries}
 use Rattle.pt_convert.proofs.Steps.{primary_more, primary_end}
 use Rattle.pt_convert.proofs.partitions.push_primaries.Goals as goal

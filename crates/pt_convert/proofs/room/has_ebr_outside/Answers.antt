@@ -1,4 +1,4 @@
-use Rattle.std.proofs.Common.{refl, arith, true, false, sym, ◌∙◌}
+use Rattle.std.proofs.Common.{refl}
 use Rattle.pt_layout.specs.Counts.{no_ebr}
 use Rattle.pt_convert.proofs.Searches.{stands, next_ebr, no_ebr_left, not_true}
 use Rattle.pt_convert.proofs.room.has_ebr_outside.Goals as goal

@@ -1,4 +1,4 @@
-use Rattle.std.proofs.Common.{refl, sym, ◌∙◌, arith}
+use Rattle.std.proofs.Common.{refl, arith}
 use Rattle.pt_convert.proofs.Searches.{any_is, chain_is, chain_decides, not_true}
 use Rattle.pt_convert.proofs.room.has_no_room.Goals as goal
 
