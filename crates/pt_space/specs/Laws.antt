@@ -3,9 +3,9 @@ use Rattle.std.specs.Prelude.{◌≡◌, ◌≢◌, ◌<◌, ◌≤◌, ◌⊎�
 use Rattle.std.proofs.Common.{refl, sym, ap, ◌∙◌, subst, inl, inr, arith}
 use Rattle.std.proofs.lemmas.Bool.{cases_lt}
 use Rattle.pt_space.specs.declared.space.Run.{Run}
-use Rattle.pt_space.specs.declared.word.End.{End}
-use Rattle.pt_space.specs.declared.word.Refusal.{Refusal}
-use Rattle.pt_space.specs.declared.word.Refusal.TheVariants.{NoSpace, OutsideUsable, Overlap}
+use Rattle.pt_words.specs.declared.word.End.{End}
+use Rattle.pt_words.specs.declared.error.Refusal.{Refusal}
+use Rattle.pt_words.specs.declared.error.Refusal.TheVariants.{NoSpace, OutsideUsable, Overlap}
 use Rattle.pt_space.specs.Area.{Area, Holds, IsUsable, IsTaken, IsFree, IsBlock, TakesRecord, Leads, IsFreeRun}
 use Rattle.pt_space.specs.Blocks.{same_run, same_block}
 use Rattle.pt_space.specs.Placed.{rounded_up, lead_size, start_of, room, IsLargest, Starts, in_largest, at_given, RecordRefused, record_outside, record_taken, NotLed, NotStarted, no_room, not_usable, not_free, not_led, past_end, Ends, NotEnded, before_start, past_usable, past_block, StartsIn, Placed, NotPlaced, no_start, no_end}

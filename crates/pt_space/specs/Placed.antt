@@ -1,10 +1,10 @@
 -- Where a partition is placed, and why it isn't.
 use Rattle.std.specs.Prelude.{◌≡◌, ◌≢◌, ◌<◌, ◌≤◌, ◌+◌, ◌-◌, ◌*◌, ◌%◌, ℕ, zero, suc, List, Contains, Option, Some, None, if◌then◌else◌, nat_eq}
 use Rattle.pt_space.specs.declared.space.Run.{Run}
-use Rattle.pt_space.specs.declared.word.End.{End}
-use Rattle.pt_space.specs.declared.word.End.TheVariants.{Block, Length, At}
-use Rattle.pt_space.specs.declared.word.Refusal.{Refusal}
-use Rattle.pt_space.specs.declared.word.Refusal.TheVariants.{NoSpace, OutsideUsable, Overlap}
+use Rattle.pt_words.specs.declared.word.End.{End}
+use Rattle.pt_words.specs.declared.word.End.TheVariants.{Block, Length, At}
+use Rattle.pt_words.specs.declared.error.Refusal.{Refusal}
+use Rattle.pt_words.specs.declared.error.Refusal.TheVariants.{NoSpace, OutsideUsable, Overlap}
 use Rattle.pt_space.specs.Area.{Area, Holds, IsUsable, IsTaken, IsFree, IsBlock, TakesRecord, Leads}
 
 -- the least multiple of an alignment that isn't below a sector, as a law says; with alignment 0 the sector itself

@@ -2,8 +2,8 @@
 
 ghost use Rattle.std.specs.Prelude.{◌≡◌, ◌≢◌, ◌≤◌, ◌*◌, ℕ};
 ghost use Rattle.pt_space.specs.declared.space.Run.{Run};
-ghost use Rattle.pt_space.specs.declared.word.End.{End};
-ghost use Rattle.pt_space.specs.declared.word.Refusal.{Refusal};
+ghost use Rattle.pt_words.specs.declared.word.End.{End};
+ghost use Rattle.pt_words.specs.declared.error.Refusal.{Refusal};
 ghost use Rattle.pt_space.specs.Area.{Area, IsFreeRun};
 ghost use Rattle.pt_space.specs.Placed.{rounded_up, IsRoundedUp, Placed, NotPlaced};
 

@@ -8,14 +8,12 @@ mod laws;
 mod placement;
 mod space;
 mod start;
-mod word;
 
 pub use laws::{
     placed_is_free, placed_is_not_refused, placed_one, refused_one, rounded_up_is_least,
 };
 pub use placement::place;
 pub use space::{Lead, Run, Space};
-pub use word::{End, Refusal};
 
 #[cfg(test)]
 mod tests;

@@ -7,7 +7,7 @@ ghost use Rattle.pt_space.specs.Sweep.{Fits128};
 
 use crate::space::{Run, Space};
 use crate::start::find_start;
-use crate::word::{End, Refusal};
+use pt_words::{End, Refusal};
 
 // The partition from the first sector of a part on.
 fn end_in(part: Run, high: u128, end: End) -> Result<Run, Refusal>

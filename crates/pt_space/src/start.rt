@@ -7,7 +7,7 @@ ghost use Rattle.pt_space.specs.Started.{HasStarted};
 
 use crate::block::{block_end, is_in, largest, round_up};
 use crate::space::{Lead, Run, Space};
-use crate::word::Refusal;
+use pt_words::Refusal;
 
 // Whether the sector before a free one takes an extended boot record, where it has to.
 fn check_lead(space: &Space, first: u128) -> Result<(), Refusal>
