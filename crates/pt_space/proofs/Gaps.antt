@@ -1,7 +1,8 @@
 -- What is free between taken runs in the order of their first sectors.
-use Rattle.std.proofs.Common.{◌≡◌, ◌<◌, ◌≤◌, ◌+◌, ◌-◌, ℕ, List, length, get_or, min, max, ltb, refl, sym, ap, ◌∙◌, subst, arith, inl, inr}
-use Rattle.std.specs.Prelude.{◌⊎◌, Option, Some, None}
+use Rattle.std.proofs.Common.{◌≡◌, ◌<◌, ◌≤◌, ◌+◌, ◌-◌, ℕ, List, length, get_or, min, max, sym, ap, ◌∙◌, subst, arith, inl, inr}
+use Rattle.std.specs.Prelude.{◌⊎◌, Option, None}
 use Rattle.std.specs.List.Sorted.{IsNonDecreasingBy}
+use Rattle.std.proofs.lemmas.List.{get_or_default}
 use Rattle.std.proofs.lemmas.Bool.{cases_lt, cond-true, cond-false, lt-ltb, le-ltb}
 use Rattle.pt_space.specs.declared.space.Run.{Run}
 use Rattle.pt_space.specs.Area.{Area, Holds, IsTaken, IsFree, IsBlock}
@@ -15,13 +16,39 @@ pub record Swept (a : Area) (alignment i first : ℕ) (best : Option Run) : Type
   pub high : first ≤ a.high
   pub passed : (j : ℕ) (d : Run) → j < i → (get_or a.taken j d).first ≤ (get_or a.taken j d).last → (get_or a.taken j d).last < first
   pub edge : (n : ℕ) → n + 1 ≡ first → ¬ IsFree a n
-  pub best : BestBelow a alignment first best
+  pub best_is : BestBelow a alignment first best
 
 -- run i is this one, whatever stands for one past the end
 pub record IsAt (a : Area) (i : ℕ) (run : Run) : Type 0 where
   pub inside : i < length a.taken
   pub is : (d : Run) → get_or a.taken i d ≡ run
   pub some : run.first ≤ run.last
+
+abbrev pub run_at : List Run → ℕ → Run
+run_at items i = get_or items i (record { first = 0; last = 0 })
+
+pub any_default : (a : Area) (items : List Run) (i : ℕ) → items ≡ a.taken → i < length items → (d : Run) → get_or a.taken i d ≡ run_at items i
+any_default a items i same lt d = ap (λ (xs : List Run). get_or xs i d) (sym same) ∙ get_or_default items i d (record { first = 0; last = 0 }) lt
+
+pub is_at : (a : Area) (items : List Run) (i : ℕ) → items ≡ a.taken → i < length items → (run_at items i).first ≤ (run_at items i).last → IsAt a i (run_at items i)
+is_at a items i same lt some = record {
+  inside = subst (λ (xs : List Run). i < length xs) same lt;
+  is = any_default a items i same lt;
+  some = some;
+}
+
+pub swept_same : (a : Area) (alignment i f g : ℕ) (b q : Option Run) → g ≡ f → q ≡ b → Swept a alignment i f b → Swept a alignment i g q
+swept_same a alignment i f g b q first best is =
+    subst (λ (n : ℕ). Swept a alignment i n q) (sym first) (subst (λ (r : Option Run). Swept a alignment i f r) (sym best) is)
+
+pub swept_start : (a : Area) (alignment : ℕ) → a.low ≤ a.high → Swept a alignment 0 a.low None
+swept_start a alignment some = record {
+  low = omega arith;
+  high = some;
+  passed = λ j d lt has. absurd (omega arith);
+  edge = λ n at free. omega (arith, free.0.0);
+  best_is = λ c x lt. (let has = x.some in let free = x.free c.first (omega arith, omega arith) in absurd (omega (arith, free.0.0)));
+}
 
 module _ (a : Area) (alignment i first : ℕ) (best : Option Run) (swept : Swept a alignment i first best) (sorted : IsNonDecreasingBy (λ (r : Run). r.first) a.taken) where
   -- no run that stands before i has a sector from the first on
@@ -37,15 +64,17 @@ module _ (a : Area) (alignment i first : ℕ) (best : Option Run) (swept : Swept
 
     gap_free : (n : ℕ) → first ≤ n → n < run.first → n ≤ a.high → IsFree a n
     gap_free n from lt high =
-        let low = swept.low in
-        ((omega arith, high), λ taken. (let q = taken.0 in let j = taken.1.0 in let here = taken.1.2 in
-            elim (cases_lt j i) as (λ _. ⊥) [
-              | inl before ↦ not_passed n j q from before (subst (λ (r : Run). Holds r n) (sym here) taken.2)
-              | inr after ↦ (let order = sorted i j q after taken.1.1 in
-                  let one = ap (λ (r : Run). r.first) (at.is q) in
-                  let two = ap (λ (r : Run). r.first) here in
-                  omega (arith, taken.2.0))
-            ]))
+        let low = swept.low in (
+          (omega arith, high),
+          λ taken. (let q = taken.0 in let j = taken.1.0 in let here = taken.1.2 in
+              elim (cases_lt j i) as (λ _. ⊥) [
+                | inl before ↦ not_passed n j q from before (subst (λ (r : Run). Holds r n) (sym here) taken.2)
+                | inr after ↦ (let order = sorted i j q after taken.1.1 in
+                    let one = ap (λ (r : Run). r.first) (at.is q) in
+                    let two = ap (λ (r : Run). r.first) here in
+                    omega (arith, taken.2.0))
+              ]),
+        )
 
     gap_block : first < run.first → IsBlock a (gap_of a first run)
     gap_block lt =
@@ -82,9 +111,9 @@ module _ (a : Area) (alignment i first : ℕ) (best : Option Run) (swept : Swept
     best_after new le past either = elim (cases_lt first run.first) as (λ _. BestBelow a alignment new (best_past a alignment best first run)) [
       | inl lt ↦ (let below : first < new = elim either as (λ _. first < new) [ inl x ↦ x | inr x ↦ absurd (omega arith) ] in
           subst (λ (p : Option Run). BestBelow a alignment new p) (sym (cond-true _ _ _ (lt-ltb first run.first lt)))
-          (longer_below a alignment first new (gap_of a first run) (one_gap new lt below (past below)) best swept.best))
+          (longer_below a alignment first new (gap_of a first run) (one_gap new lt below (past below)) best swept.best_is))
       | inr ge ↦ subst (λ (p : Option Run). BestBelow a alignment new p) (sym (cond-false _ _ _ (le-ltb first run.first ge)))
-          (no_more a alignment first new best le (λ b x from under. none_in_run b x (omega arith) (let far = past (omega arith) in omega arith)) swept.best)
+          (no_more a alignment first new best le (λ b x from under. none_in_run b x (omega arith) (let far = past (omega arith) in omega arith)) swept.best_is)
     ]
 
     -- a run that reaches the end of what is usable ends the sweep
@@ -113,32 +142,36 @@ module _ (a : Area) (alignment i first : ℕ) (best : Option Run) (swept : Swept
             | inl past ↦ swept.edge n (omega arith) free
             | inr in_run ↦ free.1 (run_taken n (omega arith, omega arith))
           ];
-          best = best_after (max first (run.last + 1)) (omega arith) (λ lt. omega arith) (elim (cases_lt first run.first) as (λ _. first < max first (run.last + 1) ⊎ run.first ≤ first) [ inl lt ↦ inl (omega arith) | inr ge ↦ inr ge ]);
+          best_is = best_after (max first (run.last + 1)) (omega arith) (λ lt. omega arith) (elim (cases_lt first run.first) as (λ _. first < max first (run.last + 1) ⊎ run.first ≤ first) [ inl lt ↦ inl (omega arith) | inr ge ↦ inr ge ]);
         }
 
   -- a run of no sector is passed over
-  pub swept_none : (run : Run) → ((d : Run) → get_or a.taken i d ≡ run) → run.last < run.first → Swept a alignment (i + 1) first best
-  swept_none run at none = record {
-    low = swept.low;
-    high = swept.high;
-    passed = λ j d lt has. elim (cases_lt j i) as (λ _. (get_or a.taken j d).last < first) [
-      | inl before ↦ swept.passed j d before has
-      | inr after ↦ (let same : j ≡ i = omega arith in
-          let here = ap (λ (k : ℕ). get_or a.taken k d) same ∙ at d in
-          let one = ap (λ (r : Run). r.first) here in
-          let two = ap (λ (r : Run). r.last) here in
-          absurd (omega arith))
-    ];
-    edge = swept.edge;
-    best = swept.best;
-  }
+  pub swept_none : (items : List Run) → items ≡ a.taken → i < length items → (run_at items i).last < (run_at items i).first → Swept a alignment (i + 1) first best
+  swept_none items list inside none =
+      let at = any_default a items i list inside in record {
+        low = swept.low;
+        high = swept.high;
+        passed = λ j d lt has. elim (cases_lt j i) as (λ _. (get_or a.taken j d).last < first) [
+          | inl before ↦ swept.passed j d before has
+          | inr after ↦ (let same : j ≡ i = omega arith in
+              let here = ap (λ (k : ℕ). get_or a.taken k d) same ∙ at d in
+              let one = ap (λ (r : Run). r.first) here in
+              let two = ap (λ (r : Run). r.last) here in
+              absurd (omega arith))
+        ];
+        edge = swept.edge;
+        best_is = swept.best_is;
+      }
 
   -- after all of them, what is left is free
   last_block : length a.taken ≤ i → IsBlock a (record { first = first; last = a.high })
   last_block all = record {
     some = swept.high;
-    free = λ n held. (let low = swept.low in ((omega (arith, held.0), held.1), λ taken.
-        not_passed n taken.1.0 taken.0 held.0 (omega (arith, taken.1.1)) (subst (λ (r : Run). Holds r n) (sym taken.1.2) taken.2)));
+    free = λ n held. (let low = swept.low in (
+      (omega (arith, held.0), held.1),
+      λ taken.
+          not_passed n taken.1.0 taken.0 held.0 (omega (arith, taken.1.1)) (subst (λ (r : Run). Holds r n) (sym taken.1.2) taken.2),
+    ));
     before = swept.edge;
     after = λ free. omega (arith, free.0.1);
   }
@@ -156,4 +189,4 @@ module _ (a : Area) (alignment i first : ℕ) (best : Option Run) (swept : Swept
   best_of_swept all =
       let high = swept.high in
       best_of_all a alignment (a.high + 1) _ (omega arith)
-      (longer_below a alignment first (a.high + 1) (record { first = first; last = a.high }) (last_gap all) best swept.best)
+      (longer_below a alignment first (a.high + 1) (record { first = first; last = a.high }) (last_gap all) best swept.best_is)

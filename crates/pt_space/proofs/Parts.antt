@@ -1,14 +1,13 @@
 -- The part of the largest block, as one more block comes.
-use Rattle.std.proofs.Common.{◌≡◌, ◌<◌, ◌≤◌, ◌+◌, ◌-◌, ℕ, ltb, leb, refl, sym, ap, ◌∙◌, subst, arith, inl, inr}
-use Rattle.std.specs.Prelude.{◌⊎◌, Option, Some, None, IfSome}
+use Rattle.std.proofs.Common.{◌≡◌, ◌<◌, ◌≤◌, ◌+◌, ◌-◌, ℕ, refl, sym, subst, arith, rules, inl, inr}
+use Rattle.std.specs.Prelude.{Option, Some, None, IfSome}
 use Rattle.std.proofs.lemmas.Bool.{cases_lt, cond-true, cond-false, le-leb, lt-leb, lt-ltb, le-ltb}
 use Rattle.pt_space.specs.declared.space.Run.{Run}
-use Rattle.pt_space.specs.Area.{Area, Holds, IsFree, IsBlock}
-use Rattle.pt_space.specs.Blocks.{same_block}
-use Rattle.pt_space.specs.Placed.{room, start_of, IsLargest}
+use Rattle.pt_space.specs.Area.{Area, IsBlock}
+use Rattle.pt_space.specs.Placed.{room, start_of}
 use Rattle.pt_space.specs.Sweep.{part_of, longer_of, IsPart, IsLargestBelow, BestBelow, Best}
 
-pub PartIs : Area → ℕ → Run → Option Run → Type 0
+abbrev pub PartIs : Area → ℕ → Run → Option Run → Type 0
 PartIs a alignment b None = room a alignment b ≡ 0
 PartIs a alignment b (Some r) = IsPart a alignment b r
 
@@ -41,19 +40,26 @@ module _ (a : Area) (alignment old new : ℕ) (gap : Run) (more : OneMore a old 
   keeps b r part largest le =
       let up = more.above in
       let down = more.below in
-      let first = largest.below in
-      (b, part, record {
-        below = omega arith;
-        most = each (λ (c : Run). room a alignment c ≤ room a alignment b) largest.most le;
-        lowest = each (λ (c : Run). room a alignment c ≡ room a alignment b → b.first ≤ c.first) largest.lowest (λ same. omega arith);
-      })
+      let first = largest.below in (
+        b,
+        part,
+        record {
+          below = omega arith;
+          most = each (λ (c : Run). room a alignment c ≤ room a alignment b) largest.most le;
+          lowest = each (λ (c : Run). room a alignment c ≡ room a alignment b → b.first ≤ c.first) largest.lowest (λ same. omega arith);
+        },
+      )
 
   takes : (r : Run) → IsPart a alignment gap r → ((b : Run) → IsBlock a b → b.first < old → room a alignment b < room a alignment gap) → BestBelow a alignment new (Some r)
-  takes r part less = (gap, part, record {
-    below = more.below;
-    most = each (λ (c : Run). room a alignment c ≤ room a alignment gap) (λ b x lt. (let small = less b x lt in omega arith)) (omega arith);
-    lowest = each (λ (c : Run). room a alignment c ≡ room a alignment gap → gap.first ≤ c.first) (λ b x lt same. (let small = less b x lt in omega arith)) (λ same. omega arith);
-  })
+  takes r part less = (
+    gap,
+    part,
+    record {
+      below = more.below;
+      most = each (λ (c : Run). room a alignment c ≤ room a alignment gap) (λ b x lt. (let small = less b x lt in omega arith)) (omega arith);
+      lowest = each (λ (c : Run). room a alignment c ≡ room a alignment gap → gap.first ≤ c.first) (λ b x lt same. (let small = less b x lt in omega arith)) (λ same. omega arith);
+    },
+  )
 
   room_is : (b r : Run) → IsPart a alignment b r → room a alignment b ≡ r.last + 1 - r.first
   room_is b r part = omega (arith, part.first_is, part.last_is)
@@ -91,27 +97,33 @@ no_more a alignment old new None le none is = λ c x lt. elim (cases_lt c.first 
   | inr high ↦ absurd (none c x high lt)
 ]
 no_more a alignment old new (Some r) le none (b, part, largest) =
-    let first = largest.below in
-    (b, part, record {
-      below = omega arith;
-      most = λ c x lt. elim (cases_lt c.first old) as (λ _. room a alignment c ≤ room a alignment b) [
-        | inl low ↦ largest.most c x low
-        | inr high ↦ absurd (none c x high lt)
-      ];
-      lowest = λ c x lt same. elim (cases_lt c.first old) as (λ _. b.first ≤ c.first) [
-        | inl low ↦ largest.lowest c x low same
-        | inr high ↦ absurd (none c x high lt)
-      ];
-    })
+    let first = largest.below in (
+      b,
+      part,
+      record {
+        below = omega arith;
+        most = λ c x lt. elim (cases_lt c.first old) as (λ _. room a alignment c ≤ room a alignment b) [
+          | inl low ↦ largest.most c x low
+          | inr high ↦ absurd (none c x high lt)
+        ];
+        lowest = λ c x lt same. elim (cases_lt c.first old) as (λ _. b.first ≤ c.first) [
+          | inl low ↦ largest.lowest c x low same
+          | inr high ↦ absurd (none c x high lt)
+        ];
+      },
+    )
 
 -- every block starts at a usable sector
 pub best_of_all : (a : Area) (alignment bound : ℕ) (best : Option Run) → a.high < bound → BestBelow a alignment bound best → Best a alignment best
 best_of_all a alignment bound None past is = λ c x. (let some = x.some in let free = x.free c.first (omega arith, omega arith) in is c x (omega (arith, free.0.1)))
 best_of_all a alignment bound (Some r) past (b, part, largest) =
-    let some = part.some in
-    (b, part, record {
-      is_block = part.is_block;
-      some = omega (arith, part.first_is, part.last_is);
-      most = λ c x. (let has = x.some in let free = x.free c.first (omega arith, omega arith) in largest.most c x (omega (arith, free.0.1)));
-      lowest = λ c x same. (let has = x.some in let free = x.free c.first (omega arith, omega arith) in largest.lowest c x (omega (arith, free.0.1)) same);
-    })
+    let some = part.some in (
+      b,
+      part,
+      record {
+        is_block = part.is_block;
+        some = omega (arith, part.first_is, part.last_is);
+        most = λ c x. (let has = x.some in let free = x.free c.first (omega arith, omega arith) in largest.most c x (omega (arith, free.0.1)));
+        lowest = λ c x same. (let has = x.some in let free = x.free c.first (omega arith, omega arith) in largest.lowest c x (omega (arith, free.0.1)) same);
+      },
+    )

@@ -1,13 +1,12 @@
 -- Sets of sectors, by the list of what is taken.
-use Rattle.std.proofs.Common.{◌≡◌, ◌<◌, ◌≤◌, ◌+◌, ◌-◌, ℕ, zero, suc, List, [], ◌∷◌, length, get_or, refl, sym, subst, arith, inl, inr}
-use Rattle.std.specs.Prelude.{◌⊎◌, Contains, Option, Some, None}
+use Rattle.std.proofs.Common.{◌≡◌, ◌≤◌, ◌+◌, ℕ, zero, suc, List, [], ◌∷◌, refl, sym, subst, arith, inl, inr}
+use Rattle.std.specs.Prelude.{◌⊎◌, Option, Some, None}
 use Rattle.std.proofs.lemmas.Bool.{cases_lt}
 use Rattle.std.specs.List.Sorted.{IsPermutation}
 use Rattle.std.proofs.lemmas.List.Sorted.{Contains-permutation, IsPermutation-sym}
 use Rattle.pt_space.specs.declared.space.Run.{Run}
-use Rattle.pt_space.specs.Area.{Area, Holds, IsIn, IsUsable, IsTaken, IsFree, IsBlock}
-use Rattle.pt_space.specs.Placed.{room, start_of, IsLargest}
-use Rattle.pt_space.specs.Sweep.{IsPart, Best}
+use Rattle.pt_space.specs.Area.{Area, Holds, IsIn, IsFree, IsBlock}
+use Rattle.pt_space.specs.Sweep.{Best}
 
 -- a list in another order has the same sectors
 abbrev pub with_taken : Area → List Run → Area
@@ -49,7 +48,7 @@ best_back a ys alignment (Some r) moved (b, part, largest) = (
     some = largest.some;
     most = λ c x. largest.most c (block_there a ys c moved x);
     lowest = λ c x same. largest.lowest c (block_there a ys c moved x) same;
-  }
+  },
 )
 
 in_front : (r : Run) (rs : List Run) (k : ℕ) → Holds r k → IsIn (r ∷ rs) k

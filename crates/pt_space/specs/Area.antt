@@ -1,5 +1,5 @@
 -- The sectors where a partition may be placed: usable ones, taken ones, free ones, and the blocks of the free ones.
-use Rattle.std.specs.Prelude.{◌≡◌, ◌<◌, ◌≤◌, ◌⊎◌, ◌+◌, ℕ, List, Contains, Option, Some, None}
+use Rattle.std.specs.Prelude.{◌≡◌, ◌≤◌, ◌⊎◌, ◌+◌, ℕ, List, Contains, Option, Some, None}
 use Rattle.pt_space.specs.declared.space.Run.{Run}
 use Rattle.pt_space.specs.declared.space.Lead.{Lead}
 use Rattle.pt_space.specs.declared.space.Lead.TheVariants as leads

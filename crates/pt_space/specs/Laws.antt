@@ -1,14 +1,12 @@
 -- The laws of places, as terms that definitions and proofs above can cite.
-use Rattle.std.specs.Prelude.{◌≡◌, ◌≢◌, ◌<◌, ◌≤◌, ◌⊎◌, ◌+◌, ◌-◌, ℕ, List, Contains, Option, Some, None}
-use Rattle.std.proofs.Common.{refl, sym, ap, ◌∙◌, subst, inl, inr, arith}
-use Rattle.std.proofs.lemmas.Bool.{cases_lt}
+use Rattle.std.specs.Prelude.{◌≡◌, ◌≤◌, ◌+◌, ◌-◌, ℕ, List, Option, Some, None}
+use Rattle.std.proofs.Common.{sym, ap, ◌∙◌, subst, inl, arith}
 use Rattle.pt_space.specs.declared.space.Run.{Run}
 use Rattle.pt_words.specs.declared.word.End.{End}
 use Rattle.pt_words.specs.declared.error.Refusal.{Refusal}
-use Rattle.pt_words.specs.declared.error.Refusal.TheVariants.{NoSpace, OutsideUsable, Overlap}
-use Rattle.pt_space.specs.Area.{Area, Holds, IsUsable, IsTaken, IsFree, IsBlock, TakesRecord, Leads, IsFreeRun}
+use Rattle.pt_space.specs.Area.{Area, Holds, IsUsable, IsTaken, IsBlock, TakesRecord, Leads, IsFreeRun}
 use Rattle.pt_space.specs.Blocks.{same_run, same_block}
-use Rattle.pt_space.specs.Placed.{rounded_up, lead_size, start_of, room, IsLargest, Starts, in_largest, at_given, RecordRefused, record_outside, record_taken, NotLed, NotStarted, no_room, not_usable, not_free, not_led, past_end, Ends, NotEnded, before_start, past_usable, past_block, StartsIn, Placed, NotPlaced, no_start, no_end}
+use Rattle.pt_space.specs.Placed.{rounded_up, lead_size, start_of, room, IsLargest, Starts, in_largest, at_given, record_outside, record_taken, NotLed, NotStarted, no_room, not_usable, not_free, not_led, Ends, NotEnded, before_start, past_usable, past_block, StartsIn, Placed, NotPlaced, no_start, no_end}
 use Rattle.pt_space.specs.Rounding.{rounded_above}
 
 -- one block is the largest
@@ -104,7 +102,7 @@ placed_one_lem a alignment start end r q x y =
     let home = same_home a alignment start x.block y.block r.first q.first x.starts y.starts in
     let first = same_first a alignment start x.block y.block r.first q.first x.starts y.starts in
     ends_one x.block.last r.first end r q x.ends
-        (subst (λ (n : ℕ). Ends x.block.last n end q) (sym first) (subst (λ (b : Run). Ends b.last q.first end q) (sym home) y.ends))
+    (subst (λ (n : ℕ). Ends x.block.last n end q) (sym first) (subst (λ (b : Run). Ends b.last q.first end q) (sym home) y.ends))
 
 -- the end of a block is usable
 last_usable : (a : Area) (b : Run) → IsBlock a b → b.last ≤ a.high
@@ -117,7 +115,7 @@ placed_is_not_refused_lem a alignment start end r q x (no_end b f y not) =
     let home = same_home a alignment start x.block b r.first f x.starts y in
     let first = same_first a alignment start x.block b r.first f x.starts y in
     ended a.high x.block.last r.first end r q (last_usable a x.block x.starts.is_block) x.ends
-        (subst (λ (n : ℕ). NotEnded a.high x.block.last n end q) (sym first) (subst (λ (c : Run). NotEnded a.high c.last f end q) (sym home) not))
+    (subst (λ (n : ℕ). NotEnded a.high x.block.last n end q) (sym first) (subst (λ (c : Run). NotEnded a.high c.last f end q) (sym home) not))
 
 -- nothing is refused for two reasons
 pub refused_one_lem : (a : Area) (alignment start : ℕ) (end : End) (r q : Refusal) → NotPlaced a alignment start end r → NotPlaced a alignment start end q → r ≡ q
@@ -128,7 +126,7 @@ refused_one_lem a alignment start end r q (no_end b f x not) (no_end c g y nor) 
     let home = same_home a alignment start b c f g x y in
     let first = same_first a alignment start b c f g x y in
     not_ended_one a.high b.last f end r q not
-        (subst (λ (n : ℕ). NotEnded a.high b.last n end q) (sym first) (subst (λ (d : Run). NotEnded a.high d.last g end q) (sym home) nor))
+    (subst (λ (n : ℕ). NotEnded a.high b.last n end q) (sym first) (subst (λ (d : Run). NotEnded a.high d.last g end q) (sym home) nor))
 
 -- in a block with room a record may stand before the start
 led_in_block : (a : Area) (alignment : ℕ) (b : Run) (empties : Option (List ℕ)) → IsBlock a b → rounded_up alignment (b.first + lead_size empties) ≤ b.last → Leads a empties (rounded_up alignment (b.first + lead_size empties))

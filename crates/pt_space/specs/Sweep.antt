@@ -1,5 +1,5 @@
 -- What a sweep over the taken runs keeps.
-use Rattle.std.specs.Prelude.{◌≡◌, ◌<◌, ◌≤◌, ◌+◌, ◌-◌, ◌^◌, ℕ, List, Option, Some, None, if◌then◌else◌, nat_lt, nat_le, min}
+use Rattle.std.specs.Prelude.{◌≡◌, ◌<◌, ◌≤◌, ◌+◌, ◌-◌, ◌^◌, ℕ, Option, Some, None, if◌then◌else◌, nat_lt, nat_le, min}
 use Rattle.pt_space.specs.declared.space.Run.{Run}
 use Rattle.pt_space.specs.Area.{Area, IsFree, IsBlock}
 use Rattle.pt_space.specs.Placed.{start_of, room, IsLargest}

@@ -22,7 +22,10 @@ fn check_lead(space: &Space, first: u128) -> Result<(), Refusal>
                 return Err(Refusal::OutsideUsable);
             }
             let before = first - 1;
-            if !is_in(&space.taken, before) || has(empties, before) {
+            if !is_in(&space.taken, before) {
+                return Ok(());
+            }
+            if has(empties, before) {
                 Ok(())
             } else {
                 Err(Refusal::Overlap)
