@@ -1,17 +1,15 @@
 -- Laws of what edits keep, as terms that definitions and proofs above can cite.
-use Rattle.std.specs.Prelude.{◌≡◌, ◌⊎◌, ℕ, List, Contains, Option, Some, None}
-use Rattle.std.proofs.Common.{refl, sym, ap, subst, ◌∙◌, inl, inr}
+use Rattle.std.specs.Prelude.{◌≡◌, ◌⊎◌, ℕ, Option, Some, None}
+use Rattle.std.proofs.Common.{refl, ap, subst, ◌∙◌, inl, inr}
 use Rattle.pt_mbr.specs.declared.record.Record.{Record}
 use Rattle.pt_mbr.specs.declared.ebr.Ebr.{Ebr}
 use Rattle.pt_bsd.specs.Empty.{empty_of}
-use Rattle.pt_bsd.specs.Label.{entry_of}
 use Rattle.pt_bsd.specs.declared.label.Label.{Label}
-use Rattle.pt_recover.specs.Labels.{places_of}
 use Rattle.pt_recover.specs.declared.layout.Slice.{Slice}
 use Rattle.pt_recover.specs.declared.layout.Layout.{Layout}
 use Rattle.pt_layout.specs.Members.{label_of}
 use Rattle.pt_shape.specs.Shape.{Shaped}
-use Rattle.pt_shape.specs.Keeps.{SameButParts, WasSlice, LabelStays, IsOldLabel, IsNewLabel, IsMadeRecord, IsTyped, IsOldRecord, IsOldLogicalOf, IsOldLogical, IsMadeLogical, WasMbr, Keeps, records_in, chain_in, IsMbrBody}
+use Rattle.pt_shape.specs.Keeps.{SameButParts, LabelStays, IsOldLabel, IsNewLabel, IsMadeRecord, IsTyped, IsOldRecord, IsOldLogical, IsMadeLogical, Keeps}
 
 pub same_but_parts_refl : (l : Label) → SameButParts l l
 same_but_parts_refl l = record { same = refl; places = refl; counted = λ k. refl; raw = refl }

@@ -1,3 +1,4 @@
 pub mod Shape
 pub mod Keeps
 pub mod Laws
+pub mod Denoted

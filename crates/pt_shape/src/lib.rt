@@ -3,4 +3,4 @@
 
 mod laws;
 
-pub use laws::{keeps_itself, keeps_on};
+pub use laws::{denoted_is_shaped, keeps_itself, keeps_on};
