@@ -1,6 +1,7 @@
 //! Places of partitions, as docs/commands.md tells them.
 
-use crate::{End, Lead, Refusal, Run, Space, place};
+use crate::{Lead, Run, Space, place};
+use pt_words::{End, Refusal};
 use std::alloc::Global;
 use std::test::Fail;
 
