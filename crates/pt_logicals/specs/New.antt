@@ -2,7 +2,7 @@
 --
 -- Sectors are the disk's own numbers. A partition and its record lie in the extended partition, whose start and size
 -- have 32 bits, and its record takes a sector of them: a size always fits a record.
-use Rattle.std.specs.Prelude.{◌≡◌, ◌<◌, ◌≤◌, ◌⊎◌, ◌+◌, ◌-◌, ◌^◌, ℕ, Bool, true, false, List, [], ◌∷◌, ◌++◌, flat_map, option_to_list, Option, Some, None, if◌then◌else◌, nat_lt, nat_le, ◌&&◌}
+use Rattle.std.specs.Prelude.{◌≡◌, ◌<◌, ◌≤◌, ◌⊎◌, ◌+◌, ◌-◌, ◌^◌, ℕ, true, false, List, [], ◌∷◌, flat_map, option_to_list, Option, Some, None, if◌then◌else◌, nat_lt, nat_le, ◌&&◌}
 use Rattle.pt_bsd.specs.Empty.{empty_of}
 use Rattle.pt_mbr.specs.declared.record.Record.{Record}
 use Rattle.pt_mbr.specs.declared.ebr.Ebr.{Ebr}

@@ -90,14 +90,14 @@ same_run : (extended : Option Record) (chain : List Ebr) (alignment start : ℕ)
     → Site extended chain alignment start end code x k p → Site extended chain alignment start end code y j q → p ≡ q
 same_run extended chain alignment start end code x y k j p q a b =
     placed_one_lem (logical_area x chain) alignment start end p q a.placed
-        (subst (λ (r : Record). Placed (logical_area r chain) alignment start end q) (sym (one_parent extended x y a.is_parent b.is_parent)) b.placed)
+    (subst (λ (r : Record). Placed (logical_area r chain) alignment start end q) (sym (one_parent extended x y a.is_parent b.is_parent)) b.placed)
 
 -- what is placed isn't refused
 site_not : (extended : Option Record) (chain : List Ebr) (alignment start : ℕ) (end : End) (code : Option Code) (x y : Record) (k : ℕ) (p : Run) (r : Refusal)
     → Site extended chain alignment start end code x k p → extended ≡ Some y → NotPlaced (logical_area y chain) alignment start end r → ⊥
 site_not extended chain alignment start end code x y k p r a also not =
     placed_is_not_refused_lem (logical_area x chain) alignment start end p r a.placed
-        (subst (λ (s : Record). NotPlaced (logical_area s chain) alignment start end r) (sym (one_parent extended x y a.is_parent also)) not)
+    (subst (λ (s : Record). NotPlaced (logical_area s chain) alignment start end r) (sym (one_parent extended x y a.is_parent also)) not)
 
 -- what fits is no misfit
 fits_not : (b : ℕ) (extended : Option Record) (chain : List Ebr) (alignment start : ℕ) (end : End) (code : Option Code) (x y : Record) (k j : ℕ) (p q : Run)
@@ -124,11 +124,13 @@ logical_new_one_lem b extended chain labels alignment start end code made other 
     let run = same_run extended chain alignment start end code x.parent y.parent x.kind y.kind x.place y.place u v in
     let here = subst (λ (p : Run). Entered chain (p.first - 1) (record_for y.kind (len_of p)) y.number other) (sym run) y.entered in
     let there = subst (λ (k : ℕ). Entered chain (x.place.first - 1) (record_for k (len_of x.place)) y.number other) (sym kind) here in
-    let both = entered_one_lem chain (x.place.first - 1) (record_for x.kind (len_of x.place)) x.number y.number made other x.entered there in
-    (both.1, x.moved
-        ∙ (ap (λ (k : ℕ). labels_with b k (len_of x.place) x.number labels) kind
-        ∙ (ap (λ (p : Run). labels_with b y.kind (len_of p) x.number labels) run
-        ∙ (ap (λ (n : ℕ). labels_with b y.kind (len_of y.place) n labels) both.0 ∙ sym y.moved))))
+    let both = entered_one_lem chain (x.place.first - 1) (record_for x.kind (len_of x.place)) x.number y.number made other x.entered there in (
+      both.1,
+      x.moved
+          ∙ (ap (λ (k : ℕ). labels_with b k (len_of x.place) x.number labels) kind
+          ∙ (ap (λ (p : Run). labels_with b y.kind (len_of p) x.number labels) run
+          ∙ (ap (λ (n : ℕ). labels_with b y.kind (len_of y.place) n labels) both.0 ∙ sym y.moved))),
+    )
 
 pub logical_new_taken_lem : (b : ℕ) (extended : Option Record) (chain : List Ebr) (labels : List Labelled) (alignment start : ℕ) (end : End) (code : Option Code) (made : List Ebr) (left : List Labelled) (r : Refusal)
     → LogicalNew b extended chain labels alignment start end code made left → LogicalNotNew b extended chain alignment start end code r → ⊥
@@ -138,10 +140,10 @@ logical_new_taken_lem b extended chain labels alignment start end code made left
     site_not extended chain alignment start end code x.parent p x.kind x.place r (new_site b extended chain labels alignment start end code made left x) some not
 logical_new_taken_lem b extended chain labels alignment start end code made left r x (misfit p k q some typed placed bad is) =
     fits_not b extended chain alignment start end code x.parent p x.kind k x.place q (new_site b extended chain labels alignment start end code made left x)
-        (site_of extended chain alignment start end code p k q some typed placed) x.fits bad
+    (site_of extended chain alignment start end code p k q some typed placed) x.fits bad
 logical_new_taken_lem b extended chain labels alignment start end code made left r x (full p k q some typed placed fits all is) =
     let run = same_run extended chain alignment start end code x.parent p x.kind k x.place q (new_site b extended chain labels alignment start end code made left x)
-        (site_of extended chain alignment start end code p k q some typed placed) in
+    (site_of extended chain alignment start end code p k q some typed placed) in
     entered_full chain (x.place.first - 1) (record_for x.kind (len_of x.place)) x.number made x.entered (subst (λ (s : Run). IsFull chain (s.first - 1)) (sym run) all)
 
 pub logical_not_new_one_lem : (b : ℕ) (extended : Option Record) (chain : List Ebr) (alignment start : ℕ) (end : End) (code : Option Code) (r q : Refusal)
@@ -160,7 +162,7 @@ logical_not_new_one_lem b extended chain alignment start end code r q (no_place 
 logical_not_new_one_lem b extended chain alignment start end code r q (no_place x k some kind not) (no_kind y also off) = absurd (kind_not code k q kind off)
 logical_not_new_one_lem b extended chain alignment start end code r q (no_place x k some kind not) (no_place y j also typed off) =
     refused_one_lem (logical_area x chain) alignment start end r q not
-        (subst (λ (s : Record). NotPlaced (logical_area s chain) alignment start end q) (sym (one_parent extended x y some also)) off)
+    (subst (λ (s : Record). NotPlaced (logical_area s chain) alignment start end q) (sym (one_parent extended x y some also)) off)
 logical_not_new_one_lem b extended chain alignment start end code r q (no_place x k some kind not) (misfit y j t also typed placed bad so) =
     absurd (site_not extended chain alignment start end code y x j t r (site_of extended chain alignment start end code y j t also typed placed) some not)
 logical_not_new_one_lem b extended chain alignment start end code r q (no_place x k some kind not) (full y j t also typed placed fits all so) =
@@ -172,12 +174,12 @@ logical_not_new_one_lem b extended chain alignment start end code r q (misfit x 
 logical_not_new_one_lem b extended chain alignment start end code r q (misfit x k p some kind here bad is) (misfit y j t also typed placed worse so) = is ∙ sym so
 logical_not_new_one_lem b extended chain alignment start end code r q (misfit x k p some kind here bad is) (full y j t also typed placed fits all so) =
     absurd (fits_not b extended chain alignment start end code y x j k t p (site_of extended chain alignment start end code y j t also typed placed)
-        (site_of extended chain alignment start end code x k p some kind here) fits bad)
+    (site_of extended chain alignment start end code x k p some kind here) fits bad)
 logical_not_new_one_lem b extended chain alignment start end code r q (full x k p some kind here good whole is) (no_parent none so) = absurd (parent_not extended x some none)
 logical_not_new_one_lem b extended chain alignment start end code r q (full x k p some kind here good whole is) (no_kind y also off) = absurd (kind_not code k q kind off)
 logical_not_new_one_lem b extended chain alignment start end code r q (full x k p some kind here good whole is) (no_place y j also typed off) =
     absurd (site_not extended chain alignment start end code x y k p q (site_of extended chain alignment start end code x k p some kind here) also off)
 logical_not_new_one_lem b extended chain alignment start end code r q (full x k p some kind here good whole is) (misfit y j t also typed placed bad so) =
     absurd (fits_not b extended chain alignment start end code x y k j p t (site_of extended chain alignment start end code x k p some kind here)
-        (site_of extended chain alignment start end code y j t also typed placed) good bad)
+    (site_of extended chain alignment start end code y j t also typed placed) good bad)
 logical_not_new_one_lem b extended chain alignment start end code r q (full x k p some kind here good whole is) (full y j t also typed placed fits all so) = is ∙ sym so

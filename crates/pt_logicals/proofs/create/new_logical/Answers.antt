@@ -3,7 +3,7 @@ use Rattle.pt_mbr.specs.declared.ebr.Ebr.{Ebr}
 use Rattle.pt_mbr.specs.declared.record.Record.{Record}
 use Rattle.pt_space.specs.Placed.{Placed, NotPlaced}
 use Rattle.pt_logicals.specs.Entered.{Entered}
-use Rattle.pt_logicals.specs.New.{logical_area, len_of, Misfit, LogicalNew, no_kind, no_place, misfit, full}
+use Rattle.pt_logicals.specs.New.{logical_area, no_kind, no_place, misfit, full}
 use Rattle.pt_logicals.proofs.create.new_logical.Goals as goal
 
 true_false : (c : Bool) → c ≡ true → c ≡ false → ⊥
@@ -15,20 +15,20 @@ returns-in-Err-clause-err g c = λ other. no_kind c.in-Some.parent c.in-Some.is 
 pub returns-in-Err-place_in-clause-err : goal.returns-in-Err-place_in-clause-err
 returns-in-Err-place_in-clause-err g c = λ other.
     no_place c.in-Some.parent c.in-Ok.kind c.in-Some.is c.in-Ok.ensures.ok
-        (subst (λ (x : List Ebr). NotPlaced (logical_area c.in-Some.parent x) c.args.alignment c.args.start c.args.end c.in-Err-place_in.refusal) c.as_slice.ensures (c.in-Err-place_in.ensures.err other))
+    (subst (λ (x : List Ebr). NotPlaced (logical_area c.in-Some.parent x) c.args.alignment c.args.start c.args.end c.in-Err-place_in.refusal) c.as_slice.ensures (c.in-Err-place_in.ensures.err other))
 
 pub returns-then-is_misfit-clause-err : goal.returns-then-is_misfit-clause-err
 returns-then-is_misfit-clause-err g c = λ other.
     misfit c.in-Some.parent c.in-Ok.kind c.in-Ok-place_in.placed c.in-Some.is c.in-Ok.ensures.ok
-        (subst (λ (x : List Ebr). Placed (logical_area c.in-Some.parent x) c.args.alignment c.args.start c.args.end c.in-Ok-place_in.placed) c.as_slice.ensures c.in-Ok-place_in.ensures.ok)
-        (c.is_misfit.ensures.0 c.if-is_misfit.true) refl
+    (subst (λ (x : List Ebr). Placed (logical_area c.in-Some.parent x) c.args.alignment c.args.start c.args.end c.in-Ok-place_in.placed) c.as_slice.ensures c.in-Ok-place_in.ensures.ok)
+    (c.is_misfit.ensures.0 c.if-is_misfit.true) refl
 
 pub returns-in-Err-enter-clause-err : goal.returns-in-Err-enter-clause-err
 returns-in-Err-enter-clause-err g c = λ other.
     full c.in-Some.parent c.in-Ok.kind c.in-Ok-place_in.placed c.in-Some.is c.in-Ok.ensures.ok
-        (subst (λ (x : List Ebr). Placed (logical_area c.in-Some.parent x) c.args.alignment c.args.start c.args.end c.in-Ok-place_in.placed) c.as_slice.ensures c.in-Ok-place_in.ensures.ok)
-        (λ bad. true_false c.is_misfit.result (c.is_misfit.ensures.1 bad) c.if-is_misfit.false)
-        (c.in-Err-enter.ensures.err other).0 (c.in-Err-enter.ensures.err other).1
+    (subst (λ (x : List Ebr). Placed (logical_area c.in-Some.parent x) c.args.alignment c.args.start c.args.end c.in-Ok-place_in.placed) c.as_slice.ensures c.in-Ok-place_in.ensures.ok)
+    (λ bad. true_false c.is_misfit.result (c.is_misfit.ensures.1 bad) c.if-is_misfit.false)
+    (c.in-Err-enter.ensures.err other).0 (c.in-Err-enter.ensures.err other).1
 
 pub returns-in-Ok-move_labels-clause-ok : goal.returns-in-Ok-move_labels-clause-ok
 returns-in-Ok-move_labels-clause-ok g c = record {
