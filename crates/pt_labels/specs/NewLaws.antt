@@ -51,9 +51,9 @@ new_one_lem b number letter alignment start end code o p q x y =
     let area : area_in x.label x.slice ≡ area_in y.label y.slice = same_area x.slice y.slice x.label y.label x.old y.old same in
     let run : x.run ≡ y.run = placed_one_lem (area_in x.label x.slice) alignment start end x.run y.run x.is_placed (subst (λ (a : Area). Placed a alignment start end y.run) (sym area) y.is_placed) in
     let there : HasOffset x.label x.slice x.run y.offset =
-        subst (λ (z : Run). HasOffset x.label x.slice z y.offset) (sym run)
-        (subst (λ (z : Member). HasOffset x.label z y.run y.offset) (sym same.slice)
-        (subst (λ (z : Label). HasOffset z y.slice y.run y.offset) (sym same.label) y.is_offset)) in
+    subst (λ (z : Run). HasOffset x.label x.slice z y.offset) (sym run)
+    (subst (λ (z : Member). HasOffset x.label z y.run y.offset) (sym same.slice)
+    (subst (λ (z : Label). HasOffset z y.slice y.run y.offset) (sym same.label) y.is_offset)) in
     let offset : x.offset ≡ y.offset = offset_one x.label x.slice x.run x.offset y.offset x.is_offset there in
     x.made ∙ (rw (same.label, run, offset, kind) (sym y.made))
 
@@ -69,9 +69,9 @@ new_excludes_lem b number letter alignment start end code o p r x (no_offset m l
     let area = same_area x.slice m x.label l x.old e same in
     let one = placed_one_lem (area_in l m) alignment start end x.run run (subst (λ (a : Area). Placed a alignment start end x.run) area x.is_placed) placed in
     none x.offset
-        (subst (λ (z : Run). HasOffset l m z x.offset) one
-        (subst (λ (z : Member). HasOffset l z x.run x.offset) same.slice
-        (subst (λ (z : Label). HasOffset z x.slice x.run x.offset) same.label x.is_offset)))
+    (subst (λ (z : Run). HasOffset l m z x.offset) one
+    (subst (λ (z : Member). HasOffset l z x.run x.offset) same.slice
+    (subst (λ (z : Label). HasOffset z x.slice x.run x.offset) same.label x.is_offset)))
 
 pub not_new_one_lem : (b number letter alignment start : ℕ) (end : End) (code : Option Code) (o : Layout) (r q : Refusal) → PartNotNew b number letter alignment start end code o r → PartNotNew b number letter alignment start end code o q → r ≡ q
 not_new_one_lem b number letter alignment start end code o r q (no_unused none) (no_unused nothing) = no_unused_one b o number letter r q none nothing

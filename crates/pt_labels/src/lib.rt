@@ -6,6 +6,8 @@ mod lists;
 mod new;
 mod parts;
 mod slices;
+#[cfg(test)]
+mod tests;
 
 pub use laws::{
     part_deleted_excludes, part_deleted_one, part_new_excludes, part_new_one, part_not_deleted_one,
