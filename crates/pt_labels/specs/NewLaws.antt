@@ -1,5 +1,5 @@
 -- The laws of `n` with a letter, as terms that definitions and proofs above can cite.
-use Rattle.std.specs.Prelude.{◌≡◌, ◌+◌, ℕ, Option, Some, None}
+use Rattle.std.specs.Prelude.{◌≡◌, ℕ, Option}
 use Rattle.std.proofs.Common.{sym, ap, ◌∙◌, subst, arith}
 use Rattle.pt_bsd.specs.Form.{form_of, sector_by}
 use Rattle.pt_bsd.specs.declared.form.Form.{Form}
@@ -15,7 +15,7 @@ use Rattle.pt_space.specs.declared.space.Run.{Run}
 use Rattle.pt_space.specs.Area.{Area}
 use Rattle.pt_space.specs.Placed.{Placed, NotPlaced}
 use Rattle.pt_space.specs.Laws.{placed_one_lem, placed_is_not_refused_lem, refused_one_lem}
-use Rattle.pt_labels.specs.New.{HasUnused, NoUnused, missing, taken, new_type, area_in, HasOffset, PartNew, PartNotNew, no_unused, no_type, no_place, no_offset}
+use Rattle.pt_labels.specs.New.{HasUnused, NoUnused, missing, taken, area_in, HasOffset, PartNew, PartNotNew, no_unused, no_type, no_place, no_offset}
 use Rattle.pt_labels.specs.Laws.{some_none, IsSame, entry_one_lem, entry_there, no_entry_one}
 
 unused_same : (b : ℕ) (o : Layout) (number letter : ℕ) (m n : Member) (l k : Label) (e f : LabelEntry) → HasUnused b o number letter m l e → HasUnused b o number letter n k f → IsSame m n l k e f
