@@ -1,0 +1,10 @@
+//! The records of sector 0: what words make of an MBR.
+//!
+//! Numbers 1 to 4 are the records, numbers from 5 on the logical partitions, which `pt_logicals` edits. docs/commands.md
+//! has the words, docs/model.md what they mean.
+#![tactic(auto)]
+
+mod kind;
+mod parts;
+
+pub use parts::MbrParts;
