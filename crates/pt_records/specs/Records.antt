@@ -1,14 +1,11 @@
 -- The records of sector 0 by their numbers, and their types.
-use Rattle.std.specs.Prelude.{◌≡◌, ◌≤◌, ◌-◌, ℕ, Bool, List, slice_index_or, slice_set, Option, Some, None, if◌then◌else◌, nat_eq, ◌&&◌, ◌||◌}
+use Rattle.std.specs.Prelude.{◌≡◌, ◌≤◌, ◌-◌, ℕ, List, slice_index_or, slice_set, Option, Some, None}
 use Rattle.pt_mbr.specs.declared.record.Record.{Record}
 use Rattle.pt_mbr.specs.declared.ebr.Ebr.{Ebr}
-use Rattle.pt_recover.specs.Mbr.{is_extended}
 use Rattle.pt_recover.specs.declared.layout.Labelled.{Labelled}
 use Rattle.pt_recover.specs.declared.layout.Layout.{Layout}
 use Rattle.pt_recover.specs.declared.layout.Body.{Body}
 use Rattle.pt_recover.specs.declared.layout.Body.TheVariants.{Mbr, Gpt}
-use Rattle.pt_words.specs.declared.word.Code.{Code}
-use Rattle.pt_words.specs.declared.word.Code.TheVariants.{Two, Four}
 use Rattle.pt_records.specs.declared.parts.MbrParts.{MbrParts}
 
 -- the layout that its parts are
@@ -33,15 +30,6 @@ pub record HasRecord (records : List (Option Record)) (number : ℕ) (r : Record
 abbrev pub with_record : List (Option Record) → ℕ → Option Record → List (Option Record)
 with_record records number r = slice_set records (number - 1) r
 
--- the type that a code gives a record: neither unused nor protective
-abbrev pub record_type : Code → Option ℕ
-record_type (Two code) = if nat_eq code 0 || nat_eq code 0xEE then None else Some code
-record_type (Four code) = None
-
--- a type is the slices'; there are none with sectors of 4096 bytes
-abbrev pub is_slice : ℕ → ℕ → Bool
-is_slice b kind = nat_eq b 512 && nat_eq kind 0xA5
-
--- a partition of the type holds others
-abbrev pub is_container : ℕ → ℕ → Bool
-is_container b kind = is_extended kind || is_slice b kind
+-- the layout with other records, another chain and other labels
+abbrev pub with_mbr : Layout → List (Option Record) → List Ebr → List Labelled → Layout
+with_mbr o records chain labels = record { sectors = o.sectors; body = Mbr records chain; labels = labels }

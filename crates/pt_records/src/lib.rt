@@ -4,7 +4,10 @@
 //! has the words, docs/model.md what they mean.
 #![tactic(auto)]
 
+mod deletion;
 mod kind;
 mod parts;
 
+pub use deletion::delete;
+pub use kind::set_kind;
 pub use parts::MbrParts;

@@ -1,10 +1,11 @@
 //! The layout of an MBR in its parts.
 
-ghost use Rattle.std.specs.Prelude.{◌≡◌, ◌≤◌, IfSome, IfNone};
+ghost use Rattle.std.specs.Prelude.{◌≡◌, ◌↔◌, IsTrue, IfSome, IfNone};
 ghost use Rattle.pt_mbr.specs.declared.record.Record.{Record};
+ghost use Rattle.pt_recover.specs.Mbr.{is_extended};
 ghost use Rattle.pt_records.specs.Records.{whole_of, IsPrimary, HasRecord, with_record};
 
-use pt_mbr::Record;
+use pt_mbr::{Record, is_extended_kind};
 use pt_recover::{Body, Ebrs, Labels, Layout};
 
 /// What the layout of an MBR has.
@@ -39,12 +40,19 @@ impl MbrParts {
     }
 }
 
+// Whether a number is a record's.
+pub(crate) fn is_primary(number: u64) -> bool
+    ensures { IsTrue result ↔ IsPrimary number }
+{
+    1 <= number && number <= 4
+}
+
 // The used record of a number.
 pub(crate) fn used_record(records: &[Option<Record>; 4], number: u64) -> Option<Record>
     ensures some { IfSome result (λ r. HasRecord records.now number r) }
     ensures none { IfNone result ((r : Record) → ¬ HasRecord records.now number r) }
 {
-    if number == 0 || number > 4 {
+    if !is_primary(number) {
         return None;
     }
     records[number as usize - 1]
@@ -61,4 +69,11 @@ pub(crate) fn put_record(
 {
     records[number as usize - 1] = new;
     records
+}
+
+// Whether a type is an extended partition's.
+pub(crate) fn has_chain(kind: u8) -> bool
+    ensures { result ≡ is_extended kind }
+{
+    is_extended_kind(kind)
 }
