@@ -1,13 +1,9 @@
 -- Lists of which the first elements are changed.
-use Rattle.std.proofs.Common.{◌≡◌, ◌<◌, ◌≤◌, ◌+◌, ◌++◌, ◌∷◌, [], ℕ, suc, Bool, List, length, get_or, take, drop, map, append_assoc, Option, Some, None, ap, sym, ◌∙◌, arith, nat_eq, if◌then◌else◌}
+use Rattle.std.proofs.Common.{◌≡◌, ◌<◌, ◌≤◌, ◌+◌, ◌++◌, ◌∷◌, [], ℕ, suc, List, length, get_or, take, drop, map, append_assoc, ap, sym, ◌∙◌, arith}
 use Rattle.std.proofs.Math.ListN.{set}
 use Rattle.std.proofs.Math.Seq.{drop-cons, get_or-append_seam, set-append_seam}
-use Rattle.std.proofs.lemmas.Option.{none-some}
-use Rattle.std.proofs.lemmas.Bool.{eq-eqb, ne_eqb}
 use Rattle.std.proofs.lemmas.List.{drop_all, take_all, take_more, append-nil, length-map, length-take, map-append}
-use Rattle.pt_bsd.specs.declared.label.LabelEntry.{LabelEntry}
 use Rattle.pt_recover.specs.declared.layout.Labelled.{Labelled}
-use Rattle.pt_layout.specs.Members.{label_of}
 
 -- a list of which the first k elements are changed
 abbrev pub changed_to : (Labelled → Labelled) → ℕ → List Labelled → List Labelled

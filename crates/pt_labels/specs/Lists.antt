@@ -1,5 +1,5 @@
 -- The labels of a layout, by the numbers of their slices.
-use Rattle.std.specs.Prelude.{◌+◌, ◌-◌, ◌^◌, ◌++◌, ◌∷◌, ℕ, Bool, true, false, List, map, filter, if◌then◌else◌, nat_eq, nat_lt}
+use Rattle.std.specs.Prelude.{◌+◌, ◌-◌, ◌^◌, ◌++◌, ◌∷◌, ℕ, true, false, List, map, filter, if◌then◌else◌, nat_eq, nat_lt}
 use Rattle.pt_bsd.specs.declared.label.Label.{Label}
 use Rattle.pt_recover.specs.declared.layout.Labelled.{Labelled}
 

@@ -1,4 +1,4 @@
-use Rattle.std.proofs.Common.{rules, if◌then◌else◌, nat_eq, nat_lt, true, false}
+use Rattle.std.proofs.Common.{rules, nat_lt}
 use Rattle.std.proofs.lemmas.Fn.{filter_same}
 use Rattle.pt_recover.specs.declared.layout.Labelled.{Labelled}
 use Rattle.pt_labels.proofs.lists.above.Goals as goal
