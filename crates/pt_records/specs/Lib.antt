@@ -1,3 +1,4 @@
 pub mod Records
 pub mod Typed
 pub mod Deleted
+pub mod Laws
