@@ -1,22 +1,20 @@
 -- The laws of `t` and `d`, as terms that definitions and proofs above can cite.
-use Rattle.std.specs.Prelude.{◌≡◌, ◌⊎◌, ℕ, Bool, true, false, List, Option, Some, None}
+use Rattle.std.specs.Prelude.{◌≡◌, ℕ, Bool, true, false, List, Option, Some, None}
 use Rattle.std.proofs.Common.{◌∙◌, sym, ap, subst, inl, inr}
 use Rattle.std.proofs.lemmas.Option.{none-some}
 use Rattle.pt_mbr.specs.declared.record.Record.{Record}
 use Rattle.pt_mbr.specs.declared.ebr.Ebr.{Ebr}
 use Rattle.pt_recover.specs.Mbr.{is_extended}
-use Rattle.pt_recover.specs.declared.layout.Labelled.{Labelled}
 use Rattle.pt_recover.specs.declared.layout.Layout.{Layout}
 use Rattle.pt_recover.specs.declared.layout.Body.{Body}
 use Rattle.pt_recover.specs.declared.layout.Body.TheVariants.{Mbr, Gpt}
 use Rattle.pt_words.specs.declared.error.Refusal.{Refusal}
 use Rattle.pt_words.specs.declared.word.Code.{Code}
-use Rattle.pt_logicals.specs.Types.{record_type, is_container}
-use Rattle.pt_logicals.specs.Chains.{LogicalTyped, LogicalDeleted}
+use Rattle.pt_logicals.specs.Types.{is_container}
 use Rattle.pt_logicals.specs.Laws.{logical_typed_one_lem, logical_not_typed_one_lem, logical_typed_taken_lem, logical_deleted_one_lem, logical_not_deleted_one_lem, logical_deleted_taken_lem}
-use Rattle.pt_records.specs.Records.{OfMbr, HasRecord, with_record, with_mbr}
+use Rattle.pt_records.specs.Records.{OfMbr, HasRecord, with_mbr}
 use Rattle.pt_records.specs.Typed.{PrimaryTyped, PrimaryNotTyped, no_record, strange_code, container, TypedIn, typed_record, typed_logical, NotTypedIn, record_not_typed, logical_not_typed, RecordTyped, RecordNotTyped}
-use Rattle.pt_records.specs.Deleted.{PrimaryDeleted, plain, extended, PrimaryNotDeleted, DeletedIn, deleted_record, deleted_logical, NotDeletedIn, record_not_deleted, logical_not_deleted, RecordDeleted, RecordNotDeleted}
+use Rattle.pt_records.specs.Deleted.{PrimaryDeleted, plain, extended, DeletedIn, deleted_record, deleted_logical, NotDeletedIn, record_not_deleted, logical_not_deleted, RecordDeleted, RecordNotDeleted}
 
 true_false : (c : Bool) → c ≡ true → c ≡ false → ⊥
 true_false c x y = let e : ◌≡◌ {A = Bool} true false = sym x ∙ y in cc

@@ -1,6 +1,6 @@
 use Rattle.std.proofs.Common.{refl}
 use Rattle.pt_records.specs.Deleted.{deleted_logical, logical_not_deleted}
-use Rattle.pt_records.proofs.Tests.{not_both}
+use Rattle.pt_records.proofs.Decided.{not_both}
 use Rattle.pt_records.proofs.deletion.delete.Goals as goal
 
 pub returns-in-Ok-clause-ok : goal.returns-in-Ok-clause-ok

@@ -1,6 +1,6 @@
 use Rattle.std.proofs.Common.{refl}
 use Rattle.pt_records.specs.Typed.{typed_record, typed_logical, record_not_typed, logical_not_typed}
-use Rattle.pt_records.proofs.Tests.{not_both}
+use Rattle.pt_records.proofs.Decided.{not_both}
 use Rattle.pt_records.proofs.kind.set_kind.Goals as goal
 
 pub returns-in-Ok-clause-ok : goal.returns-in-Ok-clause-ok
