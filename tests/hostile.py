@@ -207,9 +207,11 @@ def main():
     with tempfile.TemporaryDirectory(dir=memory) as folder, multiprocessing.Pool(workers) as pool:
         size = 100
         jobs = [(ptab, seed, size, f"{folder}/image{seed}") for seed in range((count + size - 1) // size)]
-        for done in pool.imap_unordered(batch, jobs):
+        for finished, done in enumerate(pool.imap_unordered(batch, jobs), 1):
             if done:
                 sys.exit(done)
+            if finished % 100 == 0:
+                print(f"{finished * size} of {count}", file=sys.stderr, flush=True)
     print(f"hostile images: {count} passed, 0 failed")
 
 
