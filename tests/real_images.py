@@ -190,6 +190,18 @@ def labels(ptab, folder):
     return image
 
 
+def out_of_order(ptab, folder):
+    """parted chains logicals in the order in which they were made; sfdisk sorts them."""
+    image = Image(ptab, folder, "parted_order", 64 * MIB)
+    parted(512, image.path, "mklabel", "msdos", "mkpart", "extended", "1MiB", "60MiB", "mkpart", "logical", "40MiB", "50MiB",
+           "mkpart", "logical", "20MiB", "30MiB", "mkpart", "logical", "2MiB", "5MiB")
+    same("links that lead downward", image.run("show").stderr, "no table: chain 3 40832\n")
+    image.verifies("no 1 no table\n")
+    must("sfdisk", "-q", "-r", image.path)
+    locate_ends(image, compare_mbr(image))
+    image.verifies("yes\n")
+
+
 def main():
     ptab = os.path.abspath(sys.argv[1])
     with tempfile.TemporaryDirectory() as folder:
@@ -202,6 +214,7 @@ def main():
             locate_ends(image, compare_mbr(image))
             image.verifies("yes\n")
         labels(ptab, folder)
+        out_of_order(ptab, folder)
     print(f"real images: {checked} passed, 0 failed")
 
 
