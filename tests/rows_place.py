@@ -127,6 +127,16 @@ def in_labels(command):
     command.on(slice_of_gpt).refused("edit 13", "n:1.a:0:0").refused("edit 8", "t:1:8300").refused("edit 6", "t:1:05")
 
 
+def far_labels(command):
+    """An absolute label has no offset past 32 bits."""
+    sectors = 2 ** 32 + 5000
+    pieces = SMALL.gpt_pieces(sectors, {1: entry(4294967200, 4294968199, FREEBSD)})
+    pieces[4294967201] = label(1000, {}, raw_offset=4294967200)
+    command.on_sparse(sectors, pieces).refused("edit 15", "a:1", "n:1.a:4294967300:+10").refused("not yet", "a:1", "n:1.a:4294967290:+10")
+    pieces[4294967201] = label(1000, {})
+    command.on_sparse(sectors, pieces).refused("not yet", "a:1", "n:1.a:4294967300:+10")
+
+
 def not_yet(command):
     """Edits that this version knows and doesn't plan; nothing is written."""
     command.on(SMALL.mbr(16384, [])).refused("not yet", "n:2:4096:12287:05", "n:5:0:+1000").refused("not yet", "n:0:2048:4095", "n:0:0:0")
@@ -139,4 +149,4 @@ def not_yet(command):
     command.on(one_partition()).refused("not yet", *NEXT, "a:1", "n:2:100:200:A500")
 
 
-ROWS = (beside_one, from_nothing, blocks, on_mbr, to_gpt, in_labels, not_yet)
+ROWS = (beside_one, from_nothing, blocks, on_mbr, to_gpt, in_labels, far_labels, not_yet)
