@@ -2,3 +2,6 @@ pub mod Records
 pub mod Typed
 pub mod Deleted
 pub mod Laws
+pub mod Numbers
+pub mod New
+pub mod NewLaws

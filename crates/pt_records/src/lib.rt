@@ -4,10 +4,13 @@
 //! has the words, docs/model.md what they mean.
 #![tactic(auto)]
 
+mod creation;
 mod deletion;
 mod kind;
 mod laws;
+mod numbers;
 mod parts;
+mod space;
 
 pub use deletion::delete;
 pub use kind::set_kind;
