@@ -4,4 +4,5 @@ pub mod Deleted
 pub mod Laws
 pub mod Numbers
 pub mod New
+pub mod Created
 pub mod NewLaws

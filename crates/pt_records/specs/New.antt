@@ -16,6 +16,7 @@ use Rattle.pt_space.specs.declared.space.Run.{Run}
 use Rattle.pt_space.specs.Area.{Area}
 use Rattle.pt_space.specs.Placed.{Placed, NotPlaced}
 use Rattle.pt_logicals.specs.Types.{new_type, is_slice}
+use Rattle.pt_logicals.specs.New.{len_of, farthest}
 use Rattle.pt_records.specs.Records.{with_record, with_mbr}
 use Rattle.pt_records.specs.Numbers.{TakesNumber, NotNumbered}
 
@@ -48,21 +49,13 @@ run_of (Some r) = if nat_eq r.size 0 then [] else record { first = r.start; last
 abbrev pub disk_area : ℕ → List (Option Record) → Area
 disk_area n records = record { low = 1; high = min (n - 1) 4294967295; taken = flat_map run_of records; empties = None }
 
--- how many sectors there are from the first to the last
-abbrev pub run_len : Run → ℕ
-run_len run = run.last - run.first + 1
-
 -- a slice has room for its label from 2 sectors on
 abbrev pub IsShortSlice : ℕ → ℕ → Run → Type 0
-IsShortSlice b kind run = (is_slice b kind ≡ true) × (run_len run < 2)
-
--- a CHS field that tells nothing
-abbrev pub no_chs : List ℕ
-no_chs = 0xFE ∷ 0xFF ∷ 0xFF ∷ []
+IsShortSlice b kind run = (is_slice b kind ≡ true) × (len_of run < 2)
 
 -- a new record
 abbrev pub record_at : ℕ → Run → Record
-record_at kind run = record { boot = 0; start_chs = no_chs; kind = kind; end_chs = no_chs; start = run.first; size = run_len run }
+record_at kind run = record { boot = 0; start_chs = farthest; kind = kind; end_chs = farthest; start = run.first; size = len_of run }
 
 -- a new extended partition has one empty extended boot record, in its first sector
 abbrev pub new_chain : ℕ → Run → List Ebr → List Ebr
@@ -70,7 +63,7 @@ new_chain kind run chain = if is_extended kind then record { at = lba run.first;
 
 -- a new slice has the empty label of its length
 abbrev pub new_labels : ℕ → ℕ → ℕ → Run → List Labelled → List Labelled
-new_labels b number kind run labels = if is_slice b kind then with_new_label number (empty_of (run_len run)) labels else labels
+new_labels b number kind run labels = if is_slice b kind then with_new_label number (empty_of (len_of run)) labels else labels
 
 -- a new record
 pub record RecordMade (b asked alignment start : ℕ) (end : End) (code : Option Code) (o : Layout) (records : List (Option Record)) (chain : List Ebr) (p : Layout) : Type 0 where

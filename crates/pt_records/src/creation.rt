@@ -2,14 +2,15 @@
 
 ghost use Rattle.std.specs.Prelude.{◌≡◌, ◌≢◌, ◌↔◌, ◌≤◌, ◌<◌, ◌^◌, IsTrue, IfOk, IfErr};
 ghost use Rattle.pt_records.specs.Records.{whole_of};
-ghost use Rattle.pt_records.specs.New.{extended_record, IsSecond, Chosen, NotChosen, IsShortSlice, record_at, new_chain, new_labels, RecordMade, RecordNotMade};
+ghost use Rattle.pt_records.specs.Created.{one_more, RecordNew, RecordNotNew};
+ghost use Rattle.pt_records.specs.New.{extended_record, IsSecond, Chosen, NotChosen, IsShortSlice, record_at, new_chain, new_labels};
 
 use crate::numbers::number_for;
 use crate::parts::{MbrParts, has_chain, put_record};
 use crate::space::place_record;
 use pt_bsd::empty_label;
 use pt_labels::add_label;
-use pt_logicals::{is_slice_kind, new_type_of};
+use pt_logicals::{is_slice_kind, new_logical, new_type_of};
 use pt_mbr::{Ebr, Record};
 use pt_recover::{Body, Ebrs, Labels, Layout};
 use pt_sector::Lba;
@@ -17,8 +18,11 @@ use pt_space::Run;
 use pt_words::{Code, End, Refusal};
 use std::alloc::{AllocError, Global};
 
-/// A CHS field that tells nothing.
-const NO_CHS: [u8; 3] = [0xFE, 0xFF, 0xFF];
+/// The number that asks for one more logical partition.
+const ONE_MORE: u64 = 5;
+
+/// The CHS fields of a new record.
+const FARTHEST: [u8; 3] = [0xFE, 0xFF, 0xFF];
 
 // The extended record, the first where there are more.
 #[tactic(auto, using(crate::proofs::Extended::none_here, crate::proofs::Extended::plain_here, crate::proofs::Extended::found_here, crate::proofs::Extended::ended))]
@@ -73,21 +77,16 @@ fn record_in(kind: u8, run: Run) -> Record
 {
     Record {
         boot: 0,
-        start_chs: NO_CHS,
+        start_chs: FARTHEST,
         kind,
-        end_chs: NO_CHS,
+        end_chs: FARTHEST,
         start: run.first as u32,
         size: (run.last - run.first + 1) as u32,
     }
 }
 
 // The chain with a new record: that of a new extended partition, or the old one.
-fn chain_with(
-    alloc: Global,
-    chain: Ebrs,
-    kind: u8,
-    run: Run,
-) -> Result<Ebrs, AllocError>
+fn chain_with(alloc: Global, chain: Ebrs, kind: u8, run: Run) -> Result<Ebrs, AllocError>
     requires { run.first < 2 ^ 32 }
     ensures { IfOk result (λ made. made ≡ new_chain kind run chain) }
 {
@@ -141,8 +140,9 @@ fn add_record<const B: usize>(
     end: End,
     code: &Option<Code>,
 ) -> Result<Layout, Refusal>
-    ensures ok { IfOk result (λ made. RecordMade B asked alignment start end code.now (whole_of parts) parts.records parts.chain made) }
-    ensures err { IfErr result (λ refusal. refusal ≢ Refusal.Memory → RecordNotMade B asked alignment start end code.now parts.sectors parts.records refusal) }
+    requires { asked ≢ one_more }
+    ensures ok { IfOk result (λ made. RecordNew B asked alignment start end code.now (whole_of parts) made) }
+    ensures err { IfErr result (λ refusal. refusal ≢ Refusal.Memory → RecordNotNew B asked alignment start end code.now (whole_of parts) refusal) }
 {
     let MbrParts {
         sectors,
@@ -175,4 +175,68 @@ fn add_record<const B: usize>(
         body: Body::Mbr { records, chain },
         labels,
     })
+}
+
+// `n` of a logical partition.
+fn add_logical<const B: usize>(
+    alloc: Global,
+    parts: MbrParts,
+    alignment: u64,
+    start: u64,
+    end: End,
+    code: &Option<Code>,
+) -> Result<Layout, Refusal>
+    ensures ok { IfOk result (λ made. RecordNew B one_more alignment start end code.now (whole_of parts) made) }
+    ensures err { IfErr result (λ refusal. refusal ≢ Refusal.Memory → RecordNotNew B one_more alignment start end code.now (whole_of parts) refusal) }
+{
+    let MbrParts {
+        sectors,
+        records,
+        chain,
+        labels,
+    } = parts;
+    let extended = extended_in(&records);
+    match new_logical::<B>(alloc, extended, chain, labels, alignment, start, end, code) {
+        Ok((chain, labels)) => Ok(Layout {
+            sectors,
+            body: Body::Mbr { records, chain },
+            labels,
+        }),
+        Err(refusal) => Err(refusal),
+    }
+}
+
+/// `n` without a letter: the layout with a new partition.
+///
+/// `asked` is its number: 1 to 4 of a record, 0 for the lowest of these that is unused, 5 for one more logical
+/// partition, whose number is then its place in the chain. `alignment` is in sectors, of the disk's own sector numbers;
+/// `start` is a sector before it is rounded up, or 0 for the largest free block. A new extended partition has one empty
+/// extended boot record, in its first sector; a new slice has the empty label. The first of these refusals is told:
+///
+/// - `NoSuchPartition`: a number from 6 on, or 5 without an extended partition; `NumberTaken`: a used record has the
+///   number; `NoSpace`: all four records are used.
+/// - `UnknownCode`: the code isn't of two digits, or is 00 or EE.
+/// - `ContainerType`: a second extended partition, or a logical one of type 05 or 0F.
+/// - `NoSpace`, `OutsideUsable` and `Overlap` as `pt_space::place` tells them.
+/// - `ContainerType`: a slice of fewer than two sectors.
+/// - `NoSpace`: a logical partition would need a 129th extended boot record.
+///
+/// `Memory` is told for want of memory alone.
+pub fn new<const B: usize>(
+    alloc: Global,
+    parts: MbrParts,
+    asked: u64,
+    alignment: u64,
+    start: u64,
+    end: End,
+    code: &Option<Code>,
+) -> Result<Layout, Refusal>
+    ensures ok { IfOk result (λ made. RecordNew B asked alignment start end code.now (whole_of parts) made) }
+    ensures err { IfErr result (λ refusal. refusal ≢ Refusal.Memory → RecordNotNew B asked alignment start end code.now (whole_of parts) refusal) }
+{
+    if asked == ONE_MORE {
+        add_logical::<B>(alloc, parts, alignment, start, end, code)
+    } else {
+        add_record::<B>(alloc, parts, asked, alignment, start, end, code)
+    }
 }

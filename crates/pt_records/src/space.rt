@@ -41,11 +41,7 @@ fn taken_by(alloc: Global, records: &[Option<Record>; 4]) -> Result<Vec<Run>, Al
 }
 
 // Where there is a place for one more on a disk of so many sectors.
-fn space_of(
-    alloc: Global,
-    sectors: u64,
-    records: &[Option<Record>; 4],
-) -> Result<Space, AllocError>
+fn space_of(alloc: Global, sectors: u64, records: &[Option<Record>; 4]) -> Result<Space, AllocError>
     ensures { IfOk result (λ space. area_of space ≡ disk_area sectors records.now) }
 {
     let taken = taken_by(alloc, records)?;
