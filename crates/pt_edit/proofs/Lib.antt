@@ -1,3 +1,3 @@
 pub mod Units
 pub mod Folding
-pub mod LabelLists
+pub mod Runs
