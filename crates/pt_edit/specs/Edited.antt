@@ -7,6 +7,7 @@ use Rattle.pt_recover.specs.Gpt.{HasRoom}
 use Rattle.pt_recover.specs.declared.layout.Layout.{Layout}
 use Rattle.pt_recover.specs.declared.layout.Body.{Body}
 use Rattle.pt_recover.specs.declared.layout.Body.TheVariants.{Mbr, Gpt}
+use Rattle.pt_convert.specs.Converted.{guids_taken, Converted, NotConverted}
 use Rattle.pt_labels.specs.Parts.{PartTyped, PartNotTyped, PartDeleted, PartNotDeleted}
 use Rattle.pt_edit.specs.Changes.{Named, NameRefused, UniqueSet, UniqueRefused, BitSet, BitRefused, DiskSet, Extended, NoTable, edge}
 use Rattle.pt_edit.specs.Spots.{EntryTyped, EntryNotTyped, EntryDeleted, EntryNotDeleted}
@@ -17,7 +18,7 @@ use Rattle.pt_words.specs.declared.error.Refusal.TheVariants.{NotForThisTable, N
 use Rattle.pt_words.specs.declared.word.Code.{Code}
 use Rattle.pt_words.specs.declared.word.End.{End}
 use Rattle.pt_words.specs.declared.word.Edit.{Edit}
-use Rattle.pt_words.specs.declared.word.Edit.TheVariants.{Align, New, Delete, SetKind, SetName, SetUnique, SetDisk, SetBit, Extend, Empty}
+use Rattle.pt_words.specs.declared.word.Edit.TheVariants.{Align, New, Delete, SetKind, SetName, SetUnique, SetDisk, SetBit, Extend, ToGpt, Empty}
 
 -- what the words are folded over: the layout or nothing, the alignment of starts in sectors, the fresh GUIDs that are left
 pub record State : Type 0 where
@@ -97,7 +98,9 @@ MakesOn b alignment fresh (SetUnique number guid) o p = UniqueSet number guid o 
 MakesOn b alignment fresh (SetDisk guid) o p = DiskSet guid o p
 MakesOn b alignment fresh (SetBit number bit value) o p = BitSet number bit value o p
 MakesOn b alignment fresh Extend o p = Extended b o p
-MakesOn b alignment fresh _ o p = ⊥
+MakesOn b alignment fresh ToGpt o p = Converted b fresh o p
+MakesOn b alignment fresh (Align k) o p = ⊥
+MakesOn b alignment fresh Empty o p = ⊥
 
 -- and why it is refused there
 abbrev pub RefusesOn : ℕ → ℕ → List Guid → Edit → Layout → Refusal → Type 0
@@ -109,17 +112,20 @@ RefusesOn b alignment fresh (SetUnique number guid) o r = UniqueRefused number g
 RefusesOn b alignment fresh (SetDisk guid) o r = NoTable o r
 RefusesOn b alignment fresh (SetBit number bit value) o r = BitRefused number o r
 RefusesOn b alignment fresh Extend o r = NoTable o r
-RefusesOn b alignment fresh _ o r = r ≡ NotYet
+RefusesOn b alignment fresh ToGpt o r = NotConverted b fresh o r
+RefusesOn b alignment fresh (Align k) o r = r ≡ NotForThisTable
+RefusesOn b alignment fresh Empty o r = r ≡ NotForThisTable
 
--- how many fresh GUIDs a word takes of a path of a layout: a new entry of a GPT takes one
+-- a new entry of a GPT takes one fresh GUID, any other new partition none
 abbrev pub taken_by_new : Option ℕ → Body → ℕ
 taken_by_new (Some letter) body = 0
 taken_by_new None (Mbr records chain) = 0
 taken_by_new None (Gpt t) = 1
 
--- how many fresh GUIDs a word takes
+-- how many fresh GUIDs a word takes: `g` one for the disk and one for each partition
 abbrev pub taken_by : Edit → Layout → ℕ
 taken_by (New path start end code) o = taken_by_new path.letter o.body
+taken_by ToGpt o = guids_taken o
 taken_by _ o = 0
 
 -- a word that needs a layout makes another of it, and takes its fresh GUIDs from the front of those that are left

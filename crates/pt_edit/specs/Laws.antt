@@ -7,12 +7,12 @@ use Rattle.pt_gpt.specs.declared.table.Table.{Table}
 use Rattle.pt_recover.specs.declared.layout.Layout.{Layout}
 use Rattle.pt_recover.specs.declared.layout.Body.{Body}
 use Rattle.pt_recover.specs.declared.layout.Body.TheVariants.{Mbr, Gpt}
+use Rattle.pt_convert.specs.Laws.{converted_one_lem, converted_taken_lem, not_converted_one_lem}
 use Rattle.pt_labels.specs.Laws.{typed_one_lem, typed_excludes_lem, not_typed_one_lem, deleted_one_lem, deleted_excludes_lem, not_deleted_one_lem}
 use Rattle.pt_edit.specs.Spots.{is_slice, EntryTyped, EntryNotTyped, no_such_entry, unknown_code, is_container, EntryDeleted, EntryNotDeleted}
 use Rattle.pt_edit.specs.Changes.{IsGpt, HasEntry, Changed, Missing, no_gpt, no_entry, NotChanged, missing, barred, TableMade, NoTable, with_body}
-use Rattle.pt_edit.specs.NewEntry.{EntryMade, EntryNotMade}
 use Rattle.pt_edit.specs.NewLaws.{some_none, cons_some, entry_made_one, entry_made_taken, entry_not_made_one}
-use Rattle.pt_edit.specs.Edited.{State, InKind, Typed, NotTyped, Deleted, NotDeleted, Made, NotMade, asked_for, taken_by, MakesOf, RefusedOf, MakesOn, RefusesOn, Emptied, EmptyRefused, no_room, no_guid, Takes, Refuses, Ends, EditedFrom, Edited, initial}
+use Rattle.pt_edit.specs.Edited.{State, InKind, Typed, NotTyped, Deleted, NotDeleted, Made, NotMade, asked_for, MakesOf, RefusedOf, MakesOn, RefusesOn, Emptied, EmptyRefused, no_room, no_guid, Takes, Refuses, Ends, EditedFrom, Edited, initial}
 use Rattle.pt_edit.specs.declared.asked.Asked.{Asked}
 use Rattle.pt_words.specs.declared.error.Refusal.{Refusal}
 use Rattle.pt_words.specs.declared.word.Code.{Code}
@@ -177,7 +177,7 @@ makes_on_one b alignment fresh Extend o p q x y = table_one _ o p q x y
 makes_on_one b alignment fresh (New path start end code) o p q x y = made_one b path.letter (asked_for path.number alignment start end code) fresh o p q x y
 makes_on_one b alignment fresh (Delete path) o p q x y = deleted_one b path.number path.letter o p q x y
 makes_on_one b alignment fresh (SetKind path code) o p q x y = typed_one b path.number path.letter code o p q x y
-makes_on_one b alignment fresh ToGpt o p q x y = absurd x
+makes_on_one b alignment fresh ToGpt o p q x y = converted_one_lem b fresh o p q x y
 makes_on_one b alignment fresh (Align k) o p q x y = absurd x
 makes_on_one b alignment fresh Empty o p q x y = absurd x
 
@@ -191,7 +191,7 @@ makes_on_taken b alignment fresh Extend o p r x y = table_taken _ o p r x y
 makes_on_taken b alignment fresh (New path start end code) o p r x y = made_taken b path.letter (asked_for path.number alignment start end code) fresh o p r x y
 makes_on_taken b alignment fresh (Delete path) o p r x y = deleted_taken b path.number path.letter o p r x y
 makes_on_taken b alignment fresh (SetKind path code) o p r x y = typed_taken b path.number path.letter code o p r x y
-makes_on_taken b alignment fresh ToGpt o p r x y = x
+makes_on_taken b alignment fresh ToGpt o p r x y = converted_taken_lem b fresh o p r x y
 makes_on_taken b alignment fresh (Align k) o p r x y = x
 makes_on_taken b alignment fresh Empty o p r x y = x
 
@@ -205,7 +205,7 @@ refuses_on_one b alignment fresh Extend o r q x y = x.1 ∙ sym y.1
 refuses_on_one b alignment fresh (New path start end code) o r q x y = not_made_one b path.letter (asked_for path.number alignment start end code) fresh o r q x y
 refuses_on_one b alignment fresh (Delete path) o r q x y = not_deleted_one b path.number path.letter o r q x y
 refuses_on_one b alignment fresh (SetKind path code) o r q x y = not_typed_one b path.number path.letter code o r q x y
-refuses_on_one b alignment fresh ToGpt o r q x y = x ∙ sym y
+refuses_on_one b alignment fresh ToGpt o r q x y = not_converted_one_lem b fresh o r q x y
 refuses_on_one b alignment fresh (Align k) o r q x y = x ∙ sym y
 refuses_on_one b alignment fresh Empty o r q x y = x ∙ sym y
 

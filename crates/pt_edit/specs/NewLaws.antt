@@ -1,5 +1,5 @@
 -- The laws of a new entry.
-use Rattle.std.specs.Prelude.{◌≡◌, ◌≢◌, ◌≤◌, ◌<◌, ◌-◌, ℕ, List, [], ◌∷◌, length, slice_index_or, Option, Some, None}
+use Rattle.std.specs.Prelude.{◌≡◌, ℕ, List, [], ◌∷◌, length, Option, Some, None}
 use Rattle.std.proofs.Common.{sym, ap, ◌∙◌, subst, arith}
 use Rattle.std.proofs.lemmas.Option.{none-some}
 use Rattle.pt_guid.specs.declared.guid.Guid.{Guid}
@@ -9,7 +9,7 @@ use Rattle.pt_recover.specs.declared.layout.Layout.{Layout}
 use Rattle.pt_space.specs.declared.space.Run.{Run}
 use Rattle.pt_space.specs.Laws.{placed_one_lem, placed_is_not_refused_lem, refused_one_lem}
 use Rattle.pt_edit.specs.Changes.{HasEntry, Elsewhere}
-use Rattle.pt_edit.specs.NewEntry.{IsUnused, TakesNumber, given, lowest, NoNumber, no_such_number, taken, all_taken, new_type, table_area, HasPlace, NoPlace, no_number, no_type, no_sectors, IsWrongSize, with_new_entry, EntryMade, EntryNotMade, no_place, wrong_size, no_guid, same_guid}
+use Rattle.pt_edit.specs.NewEntry.{IsUnused, TakesNumber, given, lowest, NoNumber, no_such_number, taken, all_taken, new_type, table_area, HasPlace, NoPlace, no_number, no_type, no_sectors, IsWrongSize, EntryMade, EntryNotMade, no_place, wrong_size, no_guid, same_guid}
 use Rattle.pt_edit.specs.declared.asked.Asked.{Asked}
 use Rattle.pt_words.specs.declared.error.Refusal.{Refusal}
 

@@ -1,6 +1,6 @@
 //! The word `n` without a letter, in a GPT: a new entry.
 
-ghost use Rattle.std.specs.Prelude.{◌≡◌, ◌≢◌, ◌≤◌, ◌<◌, ◌^◌, ◌↔◌, ℕ, [], IsTrue, IfOk, IfErr, IfSome, IfNone, flat_map, option_to_list, Some, None};
+ghost use Rattle.std.specs.Prelude.{◌≡◌, ◌≢◌, ◌≤◌, ◌<◌, ◌^◌, ◌↔◌, ℕ, [], IsTrue, IfOk, IfErr, IfSome, IfNone, ◌∷◌, drop, flat_map, option_to_list, Some, None};
 ghost use Rattle.pt_space.specs.Area.{area_of};
 ghost use Rattle.pt_edit.specs.NewEntry.{IsUnused, TakesNumber, NoNumber, new_type, entry_runs, table_area, HasPlace, NoPlace, IsWrongSize, new_entry_of, new_labels, with_new_entry, EntryMade, EntryNotMade};
 ghost use Rattle.pt_edit.specs.Whole.{whole_of};
@@ -107,7 +107,8 @@ fn taken_runs(alloc: Global, table: &Table) -> Result<Vec<Run>, AllocError>
 
 // Where a new entry may lie.
 fn table_space(alloc: Global, table: &Table) -> Result<Space, AllocError>
-    ensures { IfOk result (λ space. area_of space ≡ table_area table.now) }
+    ensures area { IfOk result (λ space. area_of space ≡ table_area table.now) }
+    ensures small { IfOk result (λ space. space.high < 2 ^ 64) }
 {
     let taken = taken_runs(alloc, table)?;
     Ok(Space {
@@ -121,9 +122,14 @@ fn table_space(alloc: Global, table: &Table) -> Result<Space, AllocError>
 // The place of a new entry.
 fn find_spot(alloc: Global, table: &Table, asked: &Asked) -> Result<Spot, Refusal>
     ensures ok { IfOk result (λ s. HasPlace table.now asked.now s.number s.kind.0 s.run) }
+    ensures small { IfOk result (λ s. s.run.first < 2 ^ 64) }
+    ensures fits { IfOk result (λ s. s.run.last < 2 ^ 64) }
     ensures err { IfErr result (λ refusal. refusal ≢ Refusal.Memory → NoPlace table.now asked.now refusal) }
 {
-    let number = number_for(table, asked.number)?;
+    let number = match number_for(table, asked.number) {
+        Ok(number) => number,
+        Err(refusal) => return Err(refusal),
+    };
     let kind = match new_type_of(&asked.code) {
         Some(kind) => kind,
         None => return Err(Refusal::UnknownCode),
@@ -165,7 +171,11 @@ fn entry_at(spot: &Spot, guid: &Guid) -> Entry
 }
 
 // The labels with that of a new slice.
-fn label_new<const B: usize>(alloc: Global, labels: Labels, spot: &Spot) -> Result<Labels, AllocError>
+fn label_new<const B: usize>(
+    alloc: Global,
+    labels: Labels,
+    spot: &Spot,
+) -> Result<Labels, AllocError>
     requires last { spot.now.run.last < 2 ^ 64 }
     requires size { ¬ IsWrongSize B spot.now.kind.0 spot.now.run }
     ensures { IfOk result (λ made. made ≡ new_labels B spot.now.number spot.now.kind.0 spot.now.run labels) }
@@ -178,7 +188,12 @@ fn label_new<const B: usize>(alloc: Global, labels: Labels, spot: &Spot) -> Resu
 }
 
 // The layout with the entry of a place.
-fn put_new<const B: usize>(alloc: Global, gpt: Gpt, spot: &Spot, guid: &Guid) -> Result<Layout, AllocError>
+fn put_new<const B: usize>(
+    alloc: Global,
+    gpt: Gpt,
+    spot: &Spot,
+    guid: &Guid,
+) -> Result<Layout, AllocError>
     requires first { spot.now.run.first < 2 ^ 64 }
     requires last { spot.now.run.last < 2 ^ 64 }
     requires unused { IsUnused gpt.table spot.now.number }
@@ -199,6 +214,18 @@ fn put_new<const B: usize>(alloc: Global, gpt: Gpt, spot: &Spot, guid: &Guid) ->
     Ok(gpt.with_entry(spot.number, entry_at(spot, guid)))
 }
 
+// The first of the fresh GUIDs.
+#[tactic(auto, using(crate::proofs::Places::first_of))]
+fn next_guid(fresh: &[Guid]) -> Option<Guid>
+    ensures some { IfSome result (λ guid. fresh.now ≡ guid ∷ drop 1 fresh.now) }
+    ensures none { IfNone result (fresh.now ≡ []) }
+{
+    if fresh.is_empty() {
+        return None;
+    }
+    Some(fresh[0])
+}
+
 // The layout with a new entry, which takes the first of the fresh GUIDs.
 pub(crate) fn new_entry<const B: usize>(
     alloc: Global,
@@ -209,12 +236,15 @@ pub(crate) fn new_entry<const B: usize>(
     ensures ok { IfOk result (λ made. EntryMade B gpt.table asked.now fresh.now (whole_of gpt) made) }
     ensures err { IfErr result (λ refusal. refusal ≢ Refusal.Memory → EntryNotMade B gpt.table asked.now fresh.now refusal) }
 {
-    let spot = find_spot(alloc, &gpt.table, asked)?;
+    let spot = match find_spot(alloc, &gpt.table, asked) {
+        Ok(spot) => spot,
+        Err(refusal) => return Err(refusal),
+    };
     if is_wrong_size::<B>(&spot) {
         return Err(Refusal::ContainerType);
     }
-    let guid = match fresh.first() {
-        Some(guid) => *guid,
+    let guid = match next_guid(fresh) {
+        Some(guid) => guid,
         None => return Err(Refusal::NoFreshGuid),
     };
     if is_elsewhere(&gpt.table, spot.number, &guid) {

@@ -57,11 +57,11 @@ pub(crate) fn new<const B: usize>(
     ensures ok { IfOk result (λ made. Made B letter asked.now fresh.now layout made) }
     ensures err { IfErr result (λ refusal. refusal ≢ Refusal.Memory → NotMade B letter asked.now fresh.now layout refusal) }
 {
-    if letter.is_some() {
-        return Err(Refusal::NotYet);
-    }
-    match Gpt::of(layout) {
-        Ok(gpt) => new_entry::<B>(alloc, gpt, asked, fresh),
-        Err(_) => Err(Refusal::NotYet),
+    match letter {
+        Some(_) => Err(Refusal::NotYet),
+        None => match Gpt::of(layout) {
+            Ok(gpt) => new_entry::<B>(alloc, gpt, asked, fresh),
+            Err(_) => Err(Refusal::NotYet),
+        },
     }
 }

@@ -9,6 +9,7 @@ use crate::asked::Asked;
 use crate::entries::{rename, set_bit, set_unique};
 use crate::paths::{delete, new, set_kind};
 use crate::tables::{empty, extend, set_disk};
+use pt_convert::{guids_for, to_gpt};
 use pt_gpt::array_sectors;
 use pt_guid::Guid;
 use pt_recover::{Body, Layout};
@@ -90,16 +91,19 @@ fn take_on<const B: usize>(
         Edit::Extend => extend::<B>(layout),
         Edit::SetKind(path, code) => set_kind::<B>(layout, path, code),
         Edit::Delete(path) => delete::<B>(layout, path),
-        _ => Err(Refusal::NotYet),
+        Edit::ToGpt => to_gpt::<B>(alloc, layout, fresh),
+        // These need no layout, and are taken before.
+        Edit::Align(_) | Edit::Empty => Err(Refusal::NotForThisTable),
     }
 }
 
 // How many fresh GUIDs a word takes.
-fn guids_for(word: &Edit, layout: &Layout) -> usize
+fn guids_of(word: &Edit, layout: &Layout) -> usize
     ensures { result ≡ taken_by word.now layout.now }
 {
     match (word, &layout.body) {
         (Edit::New { path, .. }, Body::Gpt(_)) if path.letter.is_none() => 1,
+        (Edit::ToGpt, _) => guids_for(layout),
         _ => 0,
     }
 }
@@ -126,13 +130,15 @@ fn take_layout<const B: usize>(
         Some(layout) => layout,
         None => return Err(Refusal::NotForThisTable),
     };
-    let count = guids_for(word, &layout);
-    let layout = take_on::<B>(alloc, layout, word, alignment, &guids[taken..])?;
-    Ok(State {
-        layout: Some(layout),
-        alignment,
-        taken: taken + count,
-    })
+    let count = guids_of(word, &layout);
+    match take_on::<B>(alloc, layout, word, alignment, &guids[taken..]) {
+        Ok(layout) => Ok(State {
+            layout: Some(layout),
+            alignment,
+            taken: taken + count,
+        }),
+        Err(refusal) => Err(refusal),
+    }
 }
 
 // The state after a word.
