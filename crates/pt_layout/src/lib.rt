@@ -2,12 +2,16 @@
 #![tactic(auto)]
 
 mod buried;
+#[cfg(test)]
+mod compared;
 mod faults;
 mod finding;
 mod foreign;
 mod groups;
 mod halves;
 mod health;
+#[cfg(test)]
+mod images;
 mod laws;
 mod member;
 mod number;
@@ -16,6 +20,8 @@ mod owned;
 mod ownership;
 mod path;
 mod places;
+#[cfg(test)]
+mod plain;
 mod search;
 mod slots;
 mod soundness;
