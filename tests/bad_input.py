@@ -23,6 +23,8 @@ def expect(ptab, words, image, out, err, status):
     global checked
     before = digest(image)
     done = subprocess.run([ptab, *words], capture_output=True, text=True)
+    if err is None and not done.stderr:
+        sys.exit(f"ptab {' '.join(words)} says nothing on standard error")
     found = (done.stdout, done.stderr if err is not None else None, done.returncode)
     if found != (out, err, status):
         sys.exit(f"ptab {' '.join(words)}:\n  found  {found}\n  wanted {(out, err, status)}\n{done.stderr}")
@@ -46,10 +48,13 @@ def gpt(folder):
 
 def not_images(ptab, folder):
     missing = f"{folder}/missing"
-    for command in (["show", missing], ["verify", missing], ["edit", missing, "c:1:x"]):
-        expect(ptab, command, missing, "", "device\n", 5)
-    for command in (["show", folder], ["verify", folder], ["edit", folder, "c:1:x"]):
-        expect(ptab, command, folder, "", "device\n", 5)
+    for path in (missing, folder, "/dev/null", f"{folder}/a/b"):
+        for command in (["show", path], ["verify", path], ["locate", path, "1", "0"], ["edit", path, "c:1:x"]):
+            expect(ptab, command, path, "", "device\n", 5)
+    expect(ptab, ["edit", missing, "--fresh", "0", "x"], missing, "", "bad fresh\n", 2)
+    expect(ptab, ["edit", missing, "x"], missing, "", "bad word x\n", 2)
+    expect(ptab, ["locate", missing, "x", "x"], missing, "", "bad path\n", 2)
+    expect(ptab, ["locate", missing, "1", "x"], missing, "", "bad number\n", 2)
     for name, content in (("empty", b""), ("short", bytes(511)), ("zeros", bytes(512)), ("text", b"no table here\n" * 40)):
         path = file_of(folder, name, content)
         expect(ptab, ["show", path], path, "", "no table: too small\n", 4)
@@ -76,9 +81,16 @@ def refusals(ptab, image):
 
 
 def usage(ptab, image):
-    for words in ([], ["show"], ["edit", image], ["nothing"], ["show", image, image], ["show", "--depth", image],
-                  ["show", "--sector-size", "1024", image], ["show", "--sector-size", "0512", image]):
+    commands = (["show", image], ["verify", image], ["locate", image, "1", "0"], ["edit", image, "c:1:x"])
+    for words in ([], ["show"], ["verify"], ["locate", image], ["locate", image, "1"], ["locate", image, "1", "0", "0"],
+                  ["edit", image], ["nothing"], ["nothing", image], ["show", image, image], ["show", "--depth", image],
+                  ["edit", image, "--fresh"], ["edit", image, "--fresh", "", "--fresh", "", "c:1:x"], ["show", "--fresh", "", image]):
         expect(ptab, words, image, "", None, 2)
+    for words in commands:
+        for size in ("1024", "0512", "0", "", "8192", "512 "):
+            expect(ptab, [words[0], "--sector-size", size, *words[1:]], image, "", None, 2)
+            expect(ptab, [*words, f"--sector-size={size}"], image, "", None, 2)
+        expect(ptab, [*words, "--sector-size", "512", "--sector-size", "512"], image, "", None, 2)
 
 
 def main():

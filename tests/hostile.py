@@ -1,8 +1,9 @@
 #!/usr/bin/env python3
-"""Shows and verifies images that are valid but for bytes, sectors, sums and lengths changed at random by a fixed seed,
-half of them with their sums mended: every run ends in a named answer, and no image is changed.
+"""Shows, verifies and locates in images that are valid but for bytes, sectors, sums and lengths changed at random by a fixed
+seed, half of them with their sums mended: every run ends in a named answer, the three answers go together, and no image is
+changed. The images are of every kind: GPT from either copy, MBR, chains, labels of both forms, both sector sizes.
 
-usage: tests/hostile.py PTAB [COUNT]
+usage: tests/hostile.py PTAB [COUNT [WORKERS]]
 """
 import multiprocessing
 import os
@@ -15,62 +16,85 @@ import tempfile
 import zlib
 
 import images
-from images import SECTOR, ebr, entry, gpt, label, mbr, put, record
+from images import LARGE, SMALL, ebr, entry, guid, label, record
 
 NUMBER = r"\d+"
 PLACE = r"\d+(\.[a-h])?"
-PARTITION = rf"({NUMBER} {NUMBER} {NUMBER} ([0-9A-F]{{4}}|[0-9a-f-]{{36}}) [0-9a-f]{{16}} [0-9a-f-]{{36}}( .*)?|{NUMBER} {NUMBER} {NUMBER} [0-9A-F]{{2}} [0-9A-F]{{2}}|{NUMBER}\.[a-h] {NUMBER} {NUMBER} [0-9A-F]{{2}})"
-SHOWN = re.compile(rf"(gpt {NUMBER} {NUMBER} {NUMBER} [0-9a-f-]{{36}}|mbr {NUMBER})\n({PARTITION}\n)*", re.DOTALL)
+PARTITION = (rf"({NUMBER} {NUMBER} {NUMBER} ([0-9A-F]{{4}}|[0-9a-f-]{{36}}) [0-9a-f]{{16}} [0-9a-f-]{{36}}( [^\n]*)?"
+             rf"|{NUMBER} {NUMBER} {NUMBER} [0-9A-F]{{2}} (00|80)|{NUMBER}\.[abd-h] {NUMBER} {NUMBER} [0-9A-F]{{2}})")
+SHOWN = re.compile(rf"(gpt {NUMBER} {NUMBER} {NUMBER} [0-9a-f-]{{36}}|mbr {NUMBER})\n({PARTITION}\n)*")
 NO_TABLE = re.compile(rf"no table: (copies [1-9] [1-9]|chain [1-4] {NUMBER}|chain 5|two extended|too small)\n")
 FINDING = re.compile(
     rf"yes\n|no (1 no table|2 primary copy [1-9]|3 backup copy [1-9]|4 copies differ|5 alternate (primary|backup)|6 protective record"
     rf"|7 outside {PLACE}|8 overlap {PLACE} {PLACE}|9 on table {PLACE} {NUMBER}|10 same guid {NUMBER} {NUMBER}|11 foreign label {PLACE})\n")
+LINE = re.compile(r"(\d+)(\.[a-h])? (\d+) (\d+) (\S+) (?:.*)")
 
 
-def plain_gpt(rng):
-    sectors = rng.randrange(68, 200)
-    last = sectors - 34
-    return gpt(sectors, {1: entry(34, rng.randrange(34, last + 1), name="data"), 3: entry(34, last, unique=images.DISK)})
-
-
-def sliced_gpt(rng):
-    image = gpt(300, {1: entry(40, 139, kind=images.FREEBSD), 2: entry(140, 200, unique=images.DISK)})
-    put(image, 41, label(100, {0: (30, 16, 7), 3: (20, 50, 1)}, raw_offset=rng.choice((0, 40))))
+def plain_gpt(rng, sectors):
+    """A GPT with two partitions; sometimes with one copy alone."""
+    count = rng.randrange(2 * sectors.array + 4, 200)
+    first, last = sectors.array + 2, count - sectors.array - 2
+    middle = rng.randrange(first, last + 1)
+    entries = {1: entry(first, middle, name="data")}
+    if middle < last:
+        entries[3] = entry(middle + 1, last, images.FREEBSD if rng.randrange(2) else images.LINUX, guid(3), attributes=5)
+    image = sectors.gpt(count, entries, count=rng.choice((128, 128, 3, 64)))
+    broken = rng.choice((None, None, 1, count - 1))
+    if broken:
+        sectors.put(image, broken, bytes(sectors.size))
     return image
 
 
-def sliced_mbr(rng):
-    image = mbr(200, [record(0xA5, 10, 100), record(0x83, 120, 30, 0x80)])
-    put(image, 11, label(100, {0: (30, 16, 7)}, raw_offset=rng.choice((0, 10))))
+def sliced_gpt(rng, sectors):
+    image = sectors.gpt(300, {1: entry(40, 139, images.FREEBSD), 2: entry(140, 200, images.FREEBSD, guid(2))})
+    absolute = rng.randrange(2)
+    base = 40 if absolute else 0
+    sectors.put(image, 41, label(100, {0: (30, base + 16, 7), 3: (20, base + 50, 1)}, raw_offset=base))
+    if rng.randrange(2):
+        sectors.put(image, 141, label(61, {1: (45, 16, 7)}, count=rng.choice((3, 8))))
+    if rng.randrange(3) == 0:
+        sectors.put(image, 1, bytes(sectors.size))
     return image
 
 
-def chained(rng):
-    image = mbr(200, [record(0x0C, 1, 9), record(rng.choice((0x05, 0x0F)), 10, 150)])
-    steps = rng.randrange(1, 8)
+def sliced_mbr(rng, sectors):
+    image = sectors.mbr(200, [record(0xA5, 10, 100), record(0x83, 120, 30, 0x80), record(0xA5, 150, 2)])
+    base = rng.choice((0, 10))
+    sectors.put(image, 11, label(100, {0: (30, base + 16, 7), 1: (50, base + 46, 1)}, raw_offset=base))
+    return image
+
+
+def chained(rng, sectors):
+    image = sectors.mbr(200, [record(0x0C, 1, 9), record(rng.choice((0x05, 0x0F)), 10, 150)])
+    steps = rng.randrange(1, 6)
     for k in range(steps):
-        link = record(0x05, 10 * (k + 1), 10) if k + 1 < steps else bytes(16)
-        put(image, 10 + 10 * k, ebr(record(rng.choice((0x83, 0xA5, 0)), 1, 8), link))
+        at = 10 + 25 * k
+        link = record(rng.choice((0x05, 0x0F)), 25 * (k + 1), 25) if k + 1 < steps else bytes(16)
+        sectors.put(image, at, ebr(record(rng.choice((0x83, 0xA5, 0)), 1, 24), link))
+        base = rng.choice((0, at + 1))
+        if rng.randrange(2):
+            sectors.put(image, at + 2, label(24, {0: (4, base + 16, 7), 7: (4, base + 20, 1)}, raw_offset=base))
     return image
 
 
-def mend_gpt(image):
-    sectors = len(image) // SECTOR
-    for my in (1, sectors - 1):
-        if not 1 <= my < sectors:
+def mend_gpt(image, sectors):
+    count = sectors.count(image)
+    for my in (1, count - 1):
+        if not 1 <= my < count:
             continue
-        at = my * SECTOR
-        array, count = struct.unpack_from("<QI", image, at + 72)
-        if array * SECTOR + min(count, 128) * 128 <= len(image):
-            struct.pack_into("<I", image, at + 88, zlib.crc32(image[array * SECTOR:array * SECTOR + min(count, 128) * 128]))
+        at = my * sectors.size
+        array, entries = struct.unpack_from("<QI", image, at + 72)
+        length = min(entries, 128) * 128
+        if array * sectors.size + length <= len(image):
+            struct.pack_into("<I", image, at + 88, zlib.crc32(image[array * sectors.size:array * sectors.size + length]))
         size = struct.unpack_from("<I", image, at + 12)[0]
-        if 16 < size <= SECTOR:
+        if 20 <= size <= sectors.size:
             struct.pack_into("<I", image, at + 16, 0)
             struct.pack_into("<I", image, at + 16, zlib.crc32(image[at:at + size]))
 
 
-def mend_labels(image):
-    for at in range(0, len(image) - SECTOR + 1, SECTOR):
+def mend_labels(image, sectors):
+    for at in range(0, len(image) - sectors.size + 1, sectors.size):
         if struct.unpack_from("<I", image, at)[0] != images.MAGIC:
             continue
         count = min(struct.unpack_from("<H", image, at + 138)[0], 8)
@@ -81,43 +105,49 @@ def mend_labels(image):
         struct.pack_into("<H", image, at + 136, total)
 
 
-def interesting(image, rng):
+def interesting(image, sectors, rng):
     """A place that some format gives a meaning."""
-    sectors = len(image) // SECTOR
-    at = rng.choice((0, 0, 1, 2, 10, 11, 20, 30, 41, sectors - 1, sectors - 2, sectors - 33)) % sectors
-    return at * SECTOR + rng.choice((rng.randrange(SECTOR), rng.randrange(92), 446 + rng.randrange(66), rng.randrange(128)))
+    count = sectors.count(image)
+    at = rng.choice((0, 0, 1, 2, 10, 11, 12, 35, 37, 41, 60, 62, 141, count - 1, count - 2, count - sectors.array - 1)) % count
+    inside = rng.choice((rng.randrange(sectors.size), rng.randrange(92), 446 + rng.randrange(66), rng.randrange(128),
+                         136 + rng.randrange(140)))
+    return at * sectors.size + inside
 
 
-def change(image, rng):
+def change(image, sectors, rng):
     kind = rng.randrange(6)
     if kind <= 2:
-        image[interesting(image, rng)] = rng.choice((0, 1, 5, 15, 0x80, 0xA5, 0xEE, 0xFF, rng.randrange(256)))
+        image[interesting(image, sectors, rng)] = rng.choice((0, 1, 5, 15, 0x80, 0xA5, 0xEE, 0xFF, rng.randrange(256)))
     elif kind == 3:
-        at = min(interesting(image, rng), len(image) - 8)
-        struct.pack_into("<Q", image, at, rng.choice((0, 1, 2, 34, 2 ** 32 - 1, 2 ** 63 - 1, 2 ** 63, 2 ** 64 - 1, rng.randrange(300))))
+        at = min(interesting(image, sectors, rng), len(image) - 8)
+        number = rng.choice((0, 1, 2, 34, 2 ** 32 - 1, 2 ** 63 - 1, 2 ** 63, 2 ** 64 - 1, rng.randrange(300)))
+        form = rng.choice(("<Q", "<I"))
+        struct.pack_into(form, image, at, number & (2 ** (64 if form == "<Q" else 32) - 1))
     elif kind == 4:
-        sectors = len(image) // SECTOR
-        a, b = rng.randrange(sectors), rng.randrange(sectors)
-        image[a * SECTOR:(a + 1) * SECTOR] = image[b * SECTOR:(b + 1) * SECTOR]
+        count, size = sectors.count(image), sectors.size
+        a, b = rng.randrange(count), rng.randrange(count)
+        image[a * size:(a + 1) * size] = image[b * size:(b + 1) * size]
     elif rng.randrange(4) == 0:
-        del image[max(1, len(image) - rng.randrange(40 * SECTOR)):]
+        del image[max(1, len(image) - rng.randrange(40 * sectors.size)):]
     else:
-        image.extend(bytes(rng.randrange(3 * SECTOR)))
+        image.extend(bytes(rng.randrange(3 * sectors.size)))
 
 
 def hostile(rng):
-    image = bytearray(rng.choice((plain_gpt, sliced_gpt, sliced_mbr, chained))(rng))
+    """(its sectors, an image)."""
+    sectors = rng.choice((SMALL, SMALL, SMALL, LARGE))
+    image = bytearray(rng.choice((plain_gpt, sliced_gpt, sliced_mbr, chained))(rng, sectors))
     for _ in range(rng.choice((0, 1, 1, 2, 3, 6))):
-        if len(image) >= 2 * SECTOR:
-            change(image, rng)
-    if rng.randrange(2) == 0 and len(image) >= 2 * SECTOR:
-        mend_labels(image)
-        mend_gpt(image)
-    return bytes(image)
+        if len(image) >= 2 * sectors.size:
+            change(image, sectors, rng)
+    if rng.randrange(2) == 0 and len(image) >= 2 * sectors.size:
+        mend_labels(image, sectors)
+        mend_gpt(image, sectors)
+    return sectors, bytes(image)
 
 
-def run(ptab, command, path):
-    done = subprocess.run([ptab, command, path], capture_output=True)
+def run(ptab, command, sectors, path, *words):
+    done = subprocess.run([ptab, command, "--sector-size", str(sectors.size), path, *words], capture_output=True)
     return done.returncode, done.stdout.decode("utf-8"), done.stderr.decode("utf-8")
 
 
@@ -132,28 +162,50 @@ def named(shown, verified):
     return verified[0] == (0 if verified[1] == "yes\n" else 1) and (shown[0] == 4) == verified[1].startswith("no 1 ")
 
 
+def place(shown, sectors, rng):
+    """A path, a sector of it, and what locate has to answer after what show said."""
+    lines = [line for line in map(LINE.fullmatch, (text + " " for text in shown[1].split("\n")[1:])) if line]
+    k = rng.choice((0, 0, 1, 5, 29, 2 ** 32, 2 ** 64 - 1))
+    if shown[0] == 4:
+        return "1", k, (4, "", shown[2])
+    if not lines or rng.randrange(8) == 0:
+        return rng.choice(("129", "4.c", "1.c", str(2 ** 64 - 1))), k, (1, "none\n", "")
+    number, letter, first, last, kind = rng.choice(lines).groups()
+    containers = ("A500", "A5", "05", "0F") if sectors is SMALL else ("05", "0F")
+    first, last = int(first), int(last)
+    leaf = (letter or kind not in containers) and first <= last < 2 ** 63
+    inside = leaf and k <= last - first
+    return number + (letter or ""), k, (0, f"{first + k}\n", "") if inside else (1, "none\n", "")
+
+
 def batch(job):
     ptab, seed, count, path = job
     rng = random.Random(seed)
     for number in range(count):
-        image = hostile(rng)
+        sectors, image = hostile(rng)
         with open(path, "wb") as it:
             it.write(image)
-        answers = run(ptab, "show", path), run(ptab, "verify", path)
+        shown, verified = run(ptab, "show", sectors, path), run(ptab, "verify", sectors, path)
+        which = f"seed {seed}, image {number}: {sectors.size}"
+        if not named(shown, verified):
+            return f"{which}: {shown} {verified}"
+        where, k, wanted = place(shown, sectors, rng)
+        found = run(ptab, "locate", sectors, path, where, str(k))
+        if found != wanted:
+            return f"{which}: {shown}: locate {where} {k}: found {found}, wanted {wanted}"
         with open(path, "rb") as it:
             if it.read() != image:
-                return f"seed {seed}, image {number}: the image was changed"
-        if not named(*answers):
-            return f"seed {seed}, image {number}: {answers}"
+                return f"{which}: the image was changed"
     return None
 
 
 def main():
     ptab = os.path.abspath(sys.argv[1])
     count = int(sys.argv[2]) if len(sys.argv) > 2 else 100_000
-    workers = os.cpu_count() or 1
-    with tempfile.TemporaryDirectory() as folder, multiprocessing.Pool(workers) as pool:
-        size = 250
+    workers = int(sys.argv[3]) if len(sys.argv) > 3 else os.cpu_count() or 1
+    memory = "/dev/shm" if os.access("/dev/shm", os.W_OK) else None
+    with tempfile.TemporaryDirectory(dir=memory) as folder, multiprocessing.Pool(workers) as pool:
+        size = 100
         jobs = [(ptab, seed, size, f"{folder}/image{seed}") for seed in range((count + size - 1) // size)]
         for done in pool.imap_unordered(batch, jobs):
             if done:

@@ -1,10 +1,8 @@
-"""Disk images by docs/format.md, made byte by byte and with none of the product's code, for sectors of 512 bytes."""
+"""Disk images by docs/format.md, made byte by byte and with none of the product's code, for both sector sizes."""
 import struct
 import uuid
 import zlib
 
-SECTOR = 512
-ARRAY = 32
 LINUX = "0FC63DAF-8483-4772-8E79-3D69D8477DE4"
 FREEBSD = "516E7CB4-6ECF-11D6-8FF8-00022D09712B"
 DISK = "00010203-0405-4607-8809-0a0b0c0d0e0f"
@@ -12,30 +10,15 @@ FIRST = "00000000-0000-4000-8000-000000000000"
 MAGIC = 0x82564557
 
 
-def zeros(sectors):
-    return bytearray(sectors * SECTOR)
-
-
-def put(image, lba, content):
-    image[lba * SECTOR:lba * SECTOR + len(content)] = content
-
-
-def sector(image, lba):
-    return bytes(image[lba * SECTOR:(lba + 1) * SECTOR])
+def guid(number):
+    """A GUID of its own for each number."""
+    return f"00000000-0000-4000-8000-{number:012x}"
 
 
 def entry(first, last, kind=LINUX, unique=FIRST, attributes=0, name=""):
     units = name.encode("utf-16-le")
     return (uuid.UUID(kind).bytes_le + uuid.UUID(unique).bytes_le
             + struct.pack("<QQQ", first, last, attributes) + units + bytes(72 - len(units)))
-
-
-def header(my, alternate, first, last, array, array_crc, count=128, size=92, entry_size=128, disk=DISK):
-    def bytes_with(crc):
-        return struct.pack("<8sIIIIQQQQ16sQIII", b"EFI PART", 0x10000, size, crc, 0, my, alternate, first, last,
-                           uuid.UUID(disk).bytes_le, array, count, entry_size, array_crc)
-    summed = (bytes_with(0) + bytes(420))[:min(size, SECTOR)]
-    return bytes_with(zlib.crc32(summed)) + bytes(420)
 
 
 def record(kind, first, size, boot=0, start_chs=b"\xfe\xff\xff", end_chs=b"\xfe\xff\xff"):
@@ -52,45 +35,11 @@ def array_of(entries, count=128):
     return b"".join(entries.get(number, bytes(128)) for number in range(1, count + 1))
 
 
-def put_side(image, side, entries, **fields):
-    """Writes the primary or the backup copy; fields replace those of the header."""
-    sectors = len(image) // SECTOR
-    array = array_of(entries, min(fields.get("count", 128), 128))
-    place = 2 if side == "primary" else sectors - ARRAY - 1
-    my, alternate = (1, sectors - 1) if side == "primary" else (sectors - 1, 1)
-    words = dict(my=my, alternate=alternate, first=34, last=sectors - 34, array=place, array_crc=zlib.crc32(array))
-    words.update(fields)
-    put(image, place, array)
-    put(image, my, header(**words))
+def ebr(logical=bytes(16), link=bytes(16), rest=bytes(32), mark=b"\x55\xaa"):
+    return bytes(446) + logical + link + rest + mark
 
 
-def gpt(sectors, entries):
-    """A healthy GPT image."""
-    image = zeros(sectors)
-    put(image, 0, protective(sectors))
-    put_side(image, "primary", entries)
-    put_side(image, "backup", entries)
-    return image
-
-
-def one_partition():
-    """4096 sectors with one partition that takes all that an alignment of 2048 leaves."""
-    return gpt(4096, {1: entry(2048, 4062)})
-
-
-def mbr(sectors, records):
-    """An image of an MBR with up to four records."""
-    image = zeros(sectors)
-    table = b"".join(records)
-    put(image, 0, bytes(446) + table + bytes(64 - len(table)) + b"\x55\xaa")
-    return image
-
-
-def ebr(logical=bytes(16), link=bytes(16)):
-    return bytes(446) + logical + link + bytes(32) + b"\x55\xaa"
-
-
-def label(length, entries, raw_offset=0, count=8, checksum=None):
+def label(length, entries, raw_offset=0, count=8, checksum=None, sector_size=512, magic=MAGIC, magic2=MAGIC):
     """The 276 bytes of a label; entries {index: (size, offset, fstype)} beside the raw one."""
     all_entries = {2: (length, raw_offset, 0), **entries}
     table = b"".join(
@@ -99,10 +48,95 @@ def label(length, entries, raw_offset=0, count=8, checksum=None):
         for k in range(8))
 
     def bytes_with(total):
-        return (struct.pack("<IHH32sI16sI68sIHHII", MAGIC, 0, 0, bytes(32), 512, bytes(16), length, bytes(68), MAGIC,
-                            total, count, 8192, 0) + table)
+        return (struct.pack("<IHH32sI16sI68sIHHII", magic, 0, 0, bytes(32), sector_size, bytes(16), length, bytes(68),
+                            magic2, total, count, 8192, 0) + table)
     counted = bytes_with(0)[:148 + 16 * count]
     total = 0
     for (word,) in struct.iter_unpack("<H", counted):
         total ^= word
     return bytes_with(total if checksum is None else checksum)
+
+
+def checksum_of(label_bytes):
+    return struct.unpack_from("<H", label_bytes, 136)[0]
+
+
+class Sectors:
+    """Images with sectors of `size` bytes, whose arrays of 128 entries take `array` of them."""
+
+    def __init__(self, size):
+        self.size = size
+        self.array = 16384 // size
+
+    def zeros(self, sectors):
+        return bytearray(sectors * self.size)
+
+    def put(self, image, lba, content):
+        image[lba * self.size:lba * self.size + len(content)] = content
+
+    def sector(self, image, lba):
+        return bytes(image[lba * self.size:(lba + 1) * self.size])
+
+    def count(self, image):
+        return len(image) // self.size
+
+    def header(self, my, alternate, first, last, array, array_crc, count=128, size=92, entry_size=128, disk=DISK,
+               signature=b"EFI PART", revision=0x10000, crc=None):
+        def bytes_with(crc):
+            return struct.pack("<8sIIIIQQQQ16sQIII", signature, revision, size, crc, 0, my, alternate, first, last,
+                               uuid.UUID(disk).bytes_le, array, count, entry_size, array_crc)
+        rest = bytes(self.size - 92)
+        return bytes_with(zlib.crc32((bytes_with(0) + rest)[:min(size, self.size)]) if crc is None else crc) + rest
+
+    def put_side(self, image, side, entries, **fields):
+        """Writes the primary or the backup copy; fields replace those of the header."""
+        sectors = self.count(image)
+        array = array_of(entries, min(fields.get("count", 128), 128))
+        place = 2 if side == "primary" else sectors - self.array - 1
+        my, alternate = (1, sectors - 1) if side == "primary" else (sectors - 1, 1)
+        words = dict(my=my, alternate=alternate, first=self.array + 2, last=sectors - self.array - 2, array=place,
+                     array_crc=zlib.crc32(array))
+        words.update(fields)
+        self.put(image, place, array)
+        self.put(image, my, self.header(**words))
+
+    def gpt(self, sectors, entries, **fields):
+        """A healthy GPT image, where the fields, which replace those of both headers, leave it so."""
+        image = self.zeros(sectors)
+        self.put(image, 0, protective(sectors))
+        self.put_side(image, "primary", entries, **fields)
+        self.put_side(image, "backup", entries, **fields)
+        return image
+
+    def mbr(self, sectors, records):
+        """An image of an MBR with up to four records."""
+        image = self.zeros(sectors)
+        table = b"".join(records)
+        self.put(image, 0, bytes(446) + table + bytes(64 - len(table)) + b"\x55\xaa")
+        return image
+
+
+SMALL = Sectors(512)
+LARGE = Sectors(4096)
+
+
+def one_partition():
+    """4096 sectors of 512 bytes with one partition that takes all that an alignment of 2048 leaves."""
+    return SMALL.gpt(4096, {1: entry(2048, 4062)})
+
+
+def chained(ebrs, sectors=SMALL, kind=0x05):
+    """16384 sectors with an extended partition in 4096 to 12287, as record 2, and the sectors {lba: bytes}."""
+    image = sectors.mbr(16384, [bytes(16), record(kind, 4096, 8192)])
+    for lba, content in ebrs.items():
+        sectors.put(image, lba, content)
+    return image
+
+
+def long_chain(count, sectors=SMALL):
+    """1024 sectors with an extended partition from 10 and that many extended boot records, each with a logical of one sector."""
+    image = sectors.mbr(1024, [record(0x05, 10, 1000)])
+    for k in range(count):
+        link = record(0x05, 2 * k + 2, 1) if k + 1 < count else bytes(16)
+        sectors.put(image, 10 + 2 * k, ebr(record(0x83, 1, 1), link))
+    return image

@@ -13,7 +13,7 @@ import sys
 import tempfile
 
 import images
-from images import SECTOR, entry, gpt, one_partition, zeros
+from images import SMALL, entry, one_partition
 
 FRESH = ["--fresh", "000102030405060708090a0b0c0d0e0f" + "0" * 32]
 CALL = re.compile(r'(openat|lseek|write|fsync)\((.*)\) += (\d+)$')
@@ -23,7 +23,7 @@ checked = 0
 def recorded(ptab, path, words):
     """The phases of an edit: the writes, as (sector, bytes), between its syncs."""
     log = f"{path}.log"
-    done = subprocess.run(["strace", "-e", "trace=openat,lseek,write,fsync", "-xx", "-s", str(2 * SECTOR), "-o", log,
+    done = subprocess.run(["strace", "-e", "trace=openat,lseek,write,fsync", "-xx", "-s", str(2 * SMALL.size), "-o", log,
                            ptab, "edit", path, *words], capture_output=True, text=True)
     if done.returncode != 0:
         sys.exit(f"{words}: status {done.returncode}: {done.stderr}")
@@ -42,7 +42,7 @@ def recorded(ptab, path, words):
                 at = int(answer)
             elif call == "write":
                 content = bytes.fromhex(re.search(r'"([^"]*)"', arguments).group(1).replace("\\x", ""))
-                writes.append((at // SECTOR, content))
+                writes.append((at // SMALL.size, content))
                 at += len(content)
             else:
                 phases.append(writes)
@@ -55,7 +55,7 @@ def recorded(ptab, path, words):
 def written(image, writes):
     image = bytearray(image)
     for lba, content in writes:
-        images.put(image, lba, content)
+        SMALL.put(image, lba, content)
     return image
 
 
@@ -105,16 +105,16 @@ def main():
     ptab = os.path.abspath(sys.argv[1])
     whole = one_partition()
     broken = bytearray(whole)
-    broken[SECTOR] ^= 0xFF
+    broken[SMALL.size] ^= 0xFF
     sloppy = bytearray(whole)
     sloppy[446 + 5] = 0xFE
     with tempfile.TemporaryDirectory() as folder:
         cut(ptab, folder, "a name", whole, ["c:1:data"], [33, 1, 32, 1], 2)
         cut(ptab, folder, "a name from the backup", broken, ["c:1:data"], [1, 32, 1, 33], 3)
         cut(ptab, folder, "a name over a sloppy protective record", sloppy, ["c:1:data"], [33, 1, 32, 1, 1], 2)
-        cut(ptab, folder, "a new table", zeros(2048), [*FRESH, "o"], [1, 32, 1, 33, 1], 3)
-        cut(ptab, folder, "a grown disk", whole + zeros(1000), ["e"], [33, 1, 32, 1, 1], 2)
-        two = gpt(4096, {1: entry(2048, 3000), 2: entry(3001, 4000, unique=images.DISK)})
+        cut(ptab, folder, "a new table", SMALL.zeros(2048), [*FRESH, "o"], [1, 32, 1, 33, 1], 3)
+        cut(ptab, folder, "a grown disk", whole + SMALL.zeros(1000), ["e"], [33, 1, 32, 1, 1], 2)
+        two = SMALL.gpt(4096, {1: entry(2048, 3000), 2: entry(3001, 4000, unique=images.DISK)})
         cut(ptab, folder, "a deletion", two, ["d:1", "t:2:8200"], [33, 1, 32, 1], 2)
     print(f"power cuts: {checked} passed, 0 failed")
 

@@ -8,8 +8,8 @@ use Rattle.pt_recover.specs.declared.layout.Layout.{Layout}
 use Rattle.pt_recover.specs.declared.layout.Body.{Body}
 use Rattle.pt_recover.specs.declared.layout.Body.TheVariants.{Mbr, Gpt}
 use Rattle.pt_edit.specs.Names.{units_of, padded}
-use Rattle.pt_edit.specs.declared.error.Refusal.{Refusal}
-use Rattle.pt_edit.specs.declared.error.Refusal.TheVariants.{NoSuchPartition, NameTooLong, NotForThisTable, SameGuid}
+use Rattle.pt_words.specs.declared.error.Refusal.{Refusal}
+use Rattle.pt_words.specs.declared.error.Refusal.TheVariants.{NoSuchPartition, NameTooLong, NotForThisTable, SameGuid}
 
 -- it is the table of a GPT
 abbrev pub IsGpt : Body → Type 0

@@ -7,10 +7,10 @@ use Rattle.pt_recover.specs.declared.layout.Layout.{Layout}
 use Rattle.pt_recover.specs.declared.layout.Body.TheVariants.{Gpt}
 use Rattle.pt_edit.specs.Changes.{Named, NameRefused, UniqueSet, UniqueRefused, BitSet, BitRefused, DiskSet, Extended, NoTable, edge}
 use Rattle.pt_edit.specs.Spots.{Typed, NotTyped, Deleted, NotDeleted, RefusedIn}
-use Rattle.pt_edit.specs.declared.error.Refusal.{Refusal}
-use Rattle.pt_edit.specs.declared.error.Refusal.TheVariants.{NotForThisTable, NoFreshGuid, NoRoomForGpt, NotYet}
-use Rattle.pt_edit.specs.declared.word.Edit.{Edit}
-use Rattle.pt_edit.specs.declared.word.Edit.TheVariants.{Align, Delete, SetKind, SetName, SetUnique, SetDisk, SetBit, Extend, Empty}
+use Rattle.pt_words.specs.declared.error.Refusal.{Refusal}
+use Rattle.pt_words.specs.declared.error.Refusal.TheVariants.{NotForThisTable, NoFreshGuid, NoRoomForGpt, NotYet}
+use Rattle.pt_words.specs.declared.word.Edit.{Edit}
+use Rattle.pt_words.specs.declared.word.Edit.TheVariants.{Align, Delete, SetKind, SetName, SetUnique, SetDisk, SetBit, Extend, Empty}
 
 -- what the words are folded over: the layout or nothing, the alignment of starts in sectors, the fresh GUIDs that are left
 pub record State : Type 0 where

@@ -2,8 +2,8 @@
 use Rattle.std.specs.Prelude.{List, drop}
 use Rattle.pt_guid.specs.declared.guid.Guid.{Guid}
 use Rattle.pt_edit.specs.Edited.{State}
-use Rattle.pt_edit.specs.declared.word.Edit.{Edit}
-use Rattle.pt_edit.specs.declared.word.Edit.TheVariants.{Align, Empty}
+use Rattle.pt_words.specs.declared.word.Edit.{Edit}
+use Rattle.pt_words.specs.declared.word.Edit.TheVariants.{Align, Empty}
 use Rattle.pt_edit.specs.declared.state.State.{State as Kept}
 
 -- the state that it stands for

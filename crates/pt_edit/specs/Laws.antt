@@ -11,13 +11,13 @@ use Rattle.std.proofs.lemmas.Option.{none-some}
 use Rattle.pt_bsd.specs.declared.label.Label.{Label}
 use Rattle.pt_bsd.specs.declared.label.LabelEntry.{LabelEntry}
 use Rattle.pt_recover.specs.declared.layout.Labelled.{Labelled}
-use Rattle.pt_edit.specs.declared.word.Code.{Code}
+use Rattle.pt_words.specs.declared.word.Code.{Code}
 use Rattle.pt_edit.specs.Spots.{is_slice, HasPart, NoPart, no_slice, no_label, is_raw, unused, EntryTyped, EntryNotTyped, no_such_entry, unknown_code, is_container, EntryDeleted, PartMade, TypedAs, PartNotTyped, no_part, strange_code, Zeroed, Typed, NotTyped, Deleted, NotDeleted, RefusedIn}
 use Rattle.pt_edit.specs.Changes.{IsGpt, HasEntry, Changed, Missing, no_gpt, no_entry, NotChanged, missing, barred, TableMade, NoTable, with_body}
 use Rattle.pt_edit.specs.Edited.{State, MakesOf, RefusedOn, MakesOn, RefusesOn, Emptied, EmptyRefused, no_room, no_guid, Takes, Refuses, Ends, EditedFrom, Edited, initial}
-use Rattle.pt_edit.specs.declared.error.Refusal.{Refusal}
-use Rattle.pt_edit.specs.declared.word.Edit.{Edit}
-use Rattle.pt_edit.specs.declared.word.Edit.TheVariants.{Align, New, Delete, SetKind, SetName, SetUnique, SetDisk, SetBit, Extend, ToGpt, Empty}
+use Rattle.pt_words.specs.declared.error.Refusal.{Refusal}
+use Rattle.pt_words.specs.declared.word.Edit.{Edit}
+use Rattle.pt_words.specs.declared.word.Edit.TheVariants.{Align, New, Delete, SetKind, SetName, SetUnique, SetDisk, SetBit, Extend, ToGpt, Empty}
 
 -- a body is of one table
 one_table : (o : Body) (t u : Table) → o ≡ Gpt t → o ≡ Gpt u → t ≡ u

@@ -1,4 +1,3 @@
-pub mod Numbers
 pub mod Names
 pub mod Changes
 pub mod Spots
@@ -6,5 +5,3 @@ pub mod Edited
 pub mod Fold
 pub mod Whole
 pub mod Laws
-pub mod Words
-pub mod WordLaws

@@ -13,10 +13,10 @@ use Rattle.pt_recover.specs.declared.layout.Body.{Body}
 use Rattle.pt_recover.specs.declared.layout.Body.TheVariants.{Mbr, Gpt}
 use Rattle.pt_layout.specs.Members.{label_of}
 use Rattle.pt_edit.specs.Changes.{HasEntry, with_entry, with_body}
-use Rattle.pt_edit.specs.declared.error.Refusal.{Refusal}
-use Rattle.pt_edit.specs.declared.error.Refusal.TheVariants.{NoSuchPartition, UnknownCode, ContainerType, ForeignLabel, NotYet}
-use Rattle.pt_edit.specs.declared.word.Code.{Code}
-use Rattle.pt_edit.specs.declared.word.Code.TheVariants.{Two, Four}
+use Rattle.pt_words.specs.declared.error.Refusal.{Refusal}
+use Rattle.pt_words.specs.declared.error.Refusal.TheVariants.{NoSuchPartition, UnknownCode, ContainerType, ForeignLabel, NotYet}
+use Rattle.pt_words.specs.declared.word.Code.{Code}
+use Rattle.pt_words.specs.declared.word.Code.TheVariants.{Two, Four}
 
 -- a type GUID is the slices'; there are none with sectors of 4096 bytes
 abbrev pub is_slice : ℕ → List ℕ → Bool

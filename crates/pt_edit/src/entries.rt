@@ -3,12 +3,12 @@
 ghost use Rattle.std.specs.Prelude.{◌≡◌, ◌↔◌, IsTrue, IfOk, IfErr};
 ghost use Rattle.pt_edit.specs.Changes.{Named, NameRefused, Elsewhere, UniqueSet, UniqueRefused, with_bit, BitSet, BitRefused};
 
-use crate::error::Refusal;
 use crate::gpt::with_used;
 use crate::name::padded_units;
 use pt_gpt::Table;
 use pt_guid::Guid;
 use pt_recover::Layout;
+use pt_words::Refusal;
 
 // The layout with another name of one entry.
 pub(crate) fn rename(layout: Layout, number: u64, name: &str) -> Result<Layout, Refusal>

@@ -5,11 +5,10 @@ ghost use Rattle.std.specs.Option.{option_map};
 ghost use Rattle.pt_sector.specs.Sectors.{IsSectorSize};
 ghost use Rattle.pt_edit.specs.Edited.{Edited};
 
-use crate::error::Refusal;
 use crate::state::{FIRST_ALIGNMENT, State, take_word};
-use crate::word::Edit;
 use pt_guid::Guid;
 use pt_recover::Layout;
+use pt_words::{Edit, Refusal};
 use std::alloc::Global;
 
 /// What the words make, in order, of the layout of a disk of so many sectors, or of nothing where the disk denotes nothing. The first

@@ -5,11 +5,11 @@ ghost use Rattle.pt_layout.specs.Members.{label_of};
 ghost use Rattle.pt_edit.specs.Whole.{with_part_spot};
 ghost use Rattle.pt_edit.specs.Spots.{is_slice, relabelled_as, HasSlice, HasPart, NoPart, with_label, without_label, with_part};
 
-use crate::error::Refusal;
 use crate::gpt::{Gpt, used_entry};
 use pt_bsd::{Label, LabelEntry};
 use pt_gpt::{Entry, Table};
 use pt_recover::{Body, Labelled, Labels, Layout, is_slice_type};
+use pt_words::Refusal;
 
 /// The letter of the raw entry, c.
 const RAW: u8 = 2;

@@ -4,14 +4,13 @@ ghost use Rattle.std.specs.Prelude.{◌≡◌, IfOk, IfErr, IfSome, IfNone, Some
 ghost use Rattle.pt_edit.specs.Spots.{entry_type, part_type, EntryTyped, EntryNotTyped, EntryDeleted, EntryNotDeleted, PartMade, TypedAs, Zeroed, PartNotTyped, NoPart, Typed, NotTyped, Deleted, NotDeleted, RefusedIn};
 ghost use Rattle.pt_edit.specs.Whole.{whole_of};
 
-use crate::error::Refusal;
 use crate::gpt::{Gpt, used_entry};
 use crate::labels::{drop_label, is_slice_entry, part_of, with_part_of};
-use crate::word::Code;
 use pt_bsd::LabelEntry;
 use pt_guid::{Guid, type_of_code};
 use pt_layout::Path;
 use pt_recover::Layout;
+use pt_words::{Code, Refusal};
 
 // The type of an entry by its code.
 fn entry_type_of(code: &Code) -> Option<Guid>

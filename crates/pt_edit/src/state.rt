@@ -6,13 +6,12 @@ ghost use Rattle.pt_edit.specs.Edited.{Takes, Refuses, MakesOn, RefusesOn, Empti
 ghost use Rattle.pt_edit.specs.Fold.{state_of};
 
 use crate::entries::{rename, set_bit, set_unique};
-use crate::error::Refusal;
 use crate::spots::{delete, set_kind};
 use crate::tables::{empty, extend, set_disk};
-use crate::word::Edit;
 use pt_gpt::array_sectors;
 use pt_guid::Guid;
 use pt_recover::Layout;
+use pt_words::{Edit, Refusal};
 use std::alloc::Global;
 
 /// The alignment of starts before a word says another, in bytes.

@@ -6,11 +6,11 @@ ghost use Rattle.pt_recover.specs.Gpt.{HasRoom};
 ghost use Rattle.pt_edit.specs.Changes.{DiskSet, Extended, NoTable, edge};
 ghost use Rattle.pt_edit.specs.Edited.{empty_gpt};
 
-use crate::error::Refusal;
 use crate::gpt::Gpt;
 use pt_gpt::{Entries, Table, array_sectors};
 use pt_guid::Guid;
 use pt_recover::{Body, Labels, Layout};
+use pt_words::Refusal;
 use std::alloc::{AllocError, Global};
 
 /// How many entries a new GPT has.

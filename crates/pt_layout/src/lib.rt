@@ -36,6 +36,7 @@ pub use laws::{
     finding_excludes, healthy_is_one, place_is_one, sector_is_one, sound_frees_tables,
     unsound_excludes,
 };
+pub use member::{Kind, Member};
 pub use number::{parse_number, parse_path};
 pub use owned::is_owned;
 pub use ownership::Owner;
@@ -45,5 +46,6 @@ pub use pt_recover::{
     Body, Ebrs, Labelled, Labels, Layout, NoTable, Slice, Trace, denotes_one, entry_place,
     is_slice_type, label_places, reads_decide, record_place, recover, recover_traced, stop_keeps,
 };
+pub use slots::{find_label, part_slot, slot, slot_count};
 pub use soundness::unsound;
 pub use tables::is_table;

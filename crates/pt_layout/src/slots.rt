@@ -187,9 +187,9 @@ fn mbr_slot<const B: usize>(
     }
 }
 
-// How many places for members a table has.
+/// How many places for members a table has: its records or entries, then its extended boot records.
 #[tactic(auto, using(crate::proofs::ByPlace::gpt_len))]
-pub(crate) fn slot_count<const B: usize>(body: &Body) -> usize
+pub fn slot_count<const B: usize>(body: &Body) -> usize
     ensures { result ≡ length (slots B body.now) }
 {
     match body {
@@ -198,9 +198,9 @@ pub(crate) fn slot_count<const B: usize>(body: &Body) -> usize
     }
 }
 
-// The member in a place: the records or entries first, then the chain's.
+/// The member in a place, from 0 on: the records or entries first, then the chain's. None where that is unused.
 #[tactic(auto, using(crate::proofs::ByPlace::gpt_at, crate::proofs::ByPlace::gpt_len))]
-pub(crate) fn slot<const B: usize>(body: &Body, k: usize) -> Option<Member>
+pub fn slot<const B: usize>(body: &Body, k: usize) -> Option<Member>
     requires { k < length (slots B body.now) }
     ensures value { result ≡ slice_index_or (slots B body.now) k None }
     ensures small { IfSome result (λ m. m.first < 2 ^ 66) }
@@ -223,8 +223,8 @@ fn label_in(labels: &[Labelled], number: u64) -> Option<Label>
     None
 }
 
-// The label of the slice of a number.
-pub(crate) fn find_label(labels: &Labels, number: u64) -> Option<Label>
+/// The label of the slice of a number.
+pub fn find_label(labels: &Labels, number: u64) -> Option<Label>
     ensures { result ≡ label_of labels.now number }
 {
     label_in(labels.as_slice(), number)
@@ -266,9 +266,10 @@ fn part(label: &Label, slice: &Member, k: usize, e: &LabelEntry) -> Option<Membe
     })
 }
 
-// The partition of entry k of a slice's label.
+/// The partition of entry `k`, from 0 for a, of a slice's label. None for c, and where the entry isn't counted or has
+/// no sectors.
 #[tactic(auto, using(crate::proofs::ByPlace::part_at))]
-pub(crate) fn part_slot(label: &Label, slice: &Member, k: usize) -> Option<Member>
+pub fn part_slot(label: &Label, slice: &Member, k: usize) -> Option<Member>
     requires small { slice.now.first < 2 ^ 66 }
     requires within { k < 8 }
     requires counted { length label.now.entries ≡ 8 }

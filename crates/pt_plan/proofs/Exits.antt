@@ -9,7 +9,7 @@ use Rattle.pt_apply.specs.Runs.{Settled, StoppedSomewhere}
 use Rattle.pt_apply.specs.Promises.{Keeps}
 use Rattle.pt_recover.specs.declared.error.NoTable.{NoTable as Reason}
 use Rattle.pt_recover.specs.declared.layout.Layout.{Layout}
-use Rattle.pt_edit.specs.declared.error.Refusal.{Refusal}
+use Rattle.pt_words.specs.declared.error.Refusal.{Refusal}
 use Rattle.pt_check.specs.declared.answer.Answer.{Answer}
 use Rattle.pt_plan.specs.declared.error.PlanError.{PlanError}
 use Rattle.pt_plan.specs.declared.error.CommitError.{CommitError}

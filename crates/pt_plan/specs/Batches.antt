@@ -9,9 +9,9 @@ use Rattle.pt_recover.specs.Denotes.{Denotes}
 use Rattle.pt_recover.specs.declared.layout.Layout.{Layout}
 use Rattle.pt_layout.specs.Healthy.{Healthy}
 use Rattle.pt_edit.specs.Edited.{Edited}
-use Rattle.pt_edit.specs.declared.error.Refusal.{Refusal}
-use Rattle.pt_edit.specs.declared.word.Edit.{Edit}
-use Rattle.pt_edit.specs.declared.word.Edit.TheVariants.{Align, Empty}
+use Rattle.pt_words.specs.declared.error.Refusal.{Refusal}
+use Rattle.pt_words.specs.declared.word.Edit.{Edit}
+use Rattle.pt_words.specs.declared.word.Edit.TheVariants.{Align, Empty}
 use Rattle.pt_check.specs.Answers.{Answers, TableOf, OwnedOf}
 use Rattle.pt_plan.specs.declared.error.CommitError.{CommitError}
 use Rattle.pt_plan.specs.Commits.{Committed, Ready, Refuses}

@@ -8,7 +8,7 @@ use Rattle.pt_apply.specs.Runs.{Settled}
 use Rattle.pt_apply.specs.Promises.{Keeps, Safe}
 use Rattle.pt_recover.specs.declared.error.NoTable.{NoTable as Reason}
 use Rattle.pt_recover.specs.declared.layout.Layout.{Layout}
-use Rattle.pt_edit.specs.declared.error.Refusal.{Refusal}
+use Rattle.pt_words.specs.declared.error.Refusal.{Refusal}
 use Rattle.pt_check.specs.declared.answer.Answer.{Answer}
 use Rattle.pt_check.specs.declared.answer.Answer.TheVariants.{No}
 use Rattle.pt_check.specs.declared.answer.Why.{Why}

@@ -6,7 +6,7 @@ use Rattle.pt_gpt.specs.declared.error.CopyError.TheVariants as copy
 use Rattle.pt_recover.specs.Answers.{IsOutside}
 use Rattle.pt_recover.specs.declared.error.NoTable.{NoTable}
 use Rattle.pt_recover.specs.declared.error.NoTable.TheVariants as no_table
-use Rattle.pt_edit.specs.declared.error.Refusal.TheVariants as refusal
+use Rattle.pt_words.specs.declared.error.Refusal.TheVariants as refusal
 use Rattle.pt_plan.specs.declared.error.PlanError.{PlanError}
 use Rattle.pt_plan.specs.declared.error.PlanError.TheVariants as plan
 use Rattle.pt_plan.specs.declared.error.CommitError.{CommitError}

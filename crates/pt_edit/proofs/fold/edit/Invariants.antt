@@ -4,7 +4,7 @@ use Rattle.std.specs.Option.{option_map}
 use Rattle.pt_recover.specs.declared.layout.Layout.{Layout}
 use Rattle.pt_edit.specs.Edited.{Edited, EditedFrom}
 use Rattle.pt_edit.specs.Fold.{state_of}
-use Rattle.pt_edit.specs.declared.error.Refusal.{Refusal}
+use Rattle.pt_words.specs.declared.error.Refusal.{Refusal}
 use Rattle.pt_edit.proofs.fold.edit.Given as goal
 
 abbrev pub invariant-loop-word : goal.invariant-loop-word

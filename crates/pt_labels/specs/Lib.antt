@@ -1,0 +1,4 @@
+pub mod Lists
+pub mod Slices
+pub mod Parts
+pub mod Laws

@@ -1,0 +1,39 @@
+//! Laws of the words with a letter. Each function does nothing: its contract is the law.
+
+ghost use Rattle.std.specs.Prelude.{◌≡◌, ℕ};
+ghost use Rattle.pt_recover.specs.declared.layout.Layout.{Layout};
+ghost use Rattle.pt_words.specs.declared.error.Refusal.{Refusal};
+ghost use Rattle.pt_words.specs.declared.word.Code.{Code};
+ghost use Rattle.pt_labels.specs.Parts.{PartTyped, PartNotTyped, PartDeleted, PartNotDeleted};
+
+/// `set_part_kind` has one result.
+#[tactic(auto, using(crate::specs::Laws::typed_one_lem))]
+pub fn part_typed_one()
+    ensures { (b number letter : ℕ) (code : Code) (o p q : Layout) → PartTyped b number letter code o p → PartTyped b number letter code o q → p ≡ q }
+{}
+
+/// Its result excludes a refusal.
+pub fn part_typed_excludes()
+    ensures { (b number letter : ℕ) (code : Code) (o p : Layout) (r : Refusal) → PartTyped b number letter code o p → ¬ PartNotTyped b number letter code o r }
+{}
+
+/// It is refused for one reason.
+pub fn part_not_typed_one()
+    ensures { (b number letter : ℕ) (code : Code) (o : Layout) (r q : Refusal) → PartNotTyped b number letter code o r → PartNotTyped b number letter code o q → r ≡ q }
+{}
+
+/// `delete_part` has one result.
+#[tactic(auto, using(crate::specs::Laws::deleted_one_lem))]
+pub fn part_deleted_one()
+    ensures { (b number letter : ℕ) (o p q : Layout) → PartDeleted b number letter o p → PartDeleted b number letter o q → p ≡ q }
+{}
+
+/// Its result excludes a refusal.
+pub fn part_deleted_excludes()
+    ensures { (b number letter : ℕ) (o p : Layout) (r : Refusal) → PartDeleted b number letter o p → ¬ PartNotDeleted b number letter o r }
+{}
+
+/// It is refused for one reason.
+pub fn part_not_deleted_one()
+    ensures { (b number letter : ℕ) (o : Layout) (r q : Refusal) → PartNotDeleted b number letter o r → PartNotDeleted b number letter o q → r ≡ q }
+{}

@@ -1,0 +1,23 @@
+-- The type bytes of records.
+use Rattle.std.specs.Prelude.{ℕ, Bool, Option, Some, None, if◌then◌else◌, nat_eq, ◌&&◌, ◌||◌}
+use Rattle.pt_recover.specs.Mbr.{is_extended}
+use Rattle.pt_words.specs.declared.word.Code.{Code}
+use Rattle.pt_words.specs.declared.word.Code.TheVariants.{Two, Four}
+
+-- the type byte that a code gives a record: two digits, and neither 00 of unused records nor EE of protective ones
+abbrev pub record_type : Code → Option ℕ
+record_type (Two kind) = if nat_eq kind 0 || nat_eq kind 0xEE then None else Some kind
+record_type (Four kind) = None
+
+-- the type byte of a new record, 83 where no code is given
+abbrev pub new_type : Option Code → Option ℕ
+new_type None = Some 0x83
+new_type (Some code) = record_type code
+
+-- the slices' type; there are none with sectors of 4096 bytes
+abbrev pub is_slice : ℕ → ℕ → Bool
+is_slice b kind = nat_eq b 512 && nat_eq kind 0xA5
+
+-- a type of records that hold other partitions
+abbrev pub is_container : ℕ → ℕ → Bool
+is_container b kind = is_extended kind || is_slice b kind

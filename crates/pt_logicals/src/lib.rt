@@ -1,0 +1,16 @@
+//! Edits of an MBR's logical partitions: their chain of extended boot records, and the labels that move with their
+//! numbers.
+#![tactic(auto)]
+
+mod change;
+mod enter;
+mod find;
+mod laws;
+mod types;
+
+pub use change::{delete_logical, set_logical_kind};
+pub use laws::{
+    logical_deleted_is_one, logical_deleted_is_taken, logical_not_deleted_is_one,
+    logical_not_typed_is_one, logical_typed_is_one, logical_typed_is_taken,
+};
+pub use types::{is_container_type, is_slice_kind, new_type_of, record_type_of};

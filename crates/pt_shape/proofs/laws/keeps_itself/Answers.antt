@@ -1,0 +1,5 @@
+use Rattle.pt_shape.specs.Laws.{keeps_refl}
+use Rattle.pt_shape.proofs.laws.keeps_itself.Goals as goal
+
+pub returns : goal.returns
+returns c = keeps_refl

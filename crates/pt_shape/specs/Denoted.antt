@@ -1,0 +1,151 @@
+-- What a disk denotes is shaped.
+use Rattle.std.specs.Prelude.{◌≡◌, ◌≢◌, ◌<◌, ◌≤◌, ◌+◌, ℕ, zero, suc, List, [], ◌∷◌, length, get_or, slice_index, Option, Some, None}
+use Rattle.std.proofs.Common.{refl, sym, ap, subst, ◌∙◌, inl, inr, arith}
+use Rattle.pt_sector.specs.Sectors.{Sectors, Span, sector}
+use Rattle.pt_sector.specs.declared.address.Lba.{Lba}
+use Rattle.pt_mbr.specs.Mbr.{IsBootIndicator, AreRecords, BearsProtective, HasBootIndicators}
+use Rattle.pt_mbr.specs.Record.{IsExtendedKind, RecordIs, IsUsed}
+use Rattle.pt_mbr.specs.Ebr.{HasBadLogical}
+use Rattle.pt_mbr.specs.Chain.{Walk, lba}
+use Rattle.pt_mbr.specs.declared.record.Record.{Record}
+use Rattle.pt_mbr.specs.declared.ebr.Ebr.{Ebr}
+use Rattle.pt_gpt.specs.Copy.{Copy}
+use Rattle.pt_gpt.specs.Laws.{copy_is_typed_lem, copy_count_lem}
+use Rattle.pt_gpt.specs.declared.table.Table.{Table}
+use Rattle.pt_gpt.specs.declared.table.Side.{Side}
+use Rattle.pt_gpt.specs.declared.table.Side.TheVariants.{Primary, Backup}
+use Rattle.pt_bsd.specs.Label.{LabelBytes, IsEntry, counted_in, entry_of}
+use Rattle.pt_bsd.specs.Counted.{IsRaw, IsThere, count_of}
+use Rattle.pt_bsd.specs.Label.{HasRaw}
+use Rattle.pt_bsd.specs.declared.label.Label.{Label}
+use Rattle.pt_bsd.specs.declared.label.LabelEntry.{LabelEntry}
+use Rattle.pt_recover.specs.Mbr.{IsMbr, IsMbrSector, HasChain, extended_of, extent_of}
+use Rattle.pt_recover.specs.Labels.{places_of, LabelsAre, place_of}
+use Rattle.pt_recover.specs.Denotes.{Denotes, BodyIs}
+use Rattle.pt_recover.specs.declared.layout.Slice.{Slice}
+use Rattle.pt_recover.specs.declared.layout.Labelled.{Labelled}
+use Rattle.pt_recover.specs.declared.layout.Layout.{Layout}
+use Rattle.pt_recover.specs.declared.layout.Body.{Body}
+use Rattle.pt_recover.specs.declared.layout.Body.TheVariants.{Mbr, Gpt}
+use Rattle.pt_shape.specs.Shape.{FitsTable, FitsSlot, FitsLogical, Linked, FitsExtended, FitsMbr, FitsBody, FitsLabel, AreLabelsOf, Shaped}
+
+-- a copy's table
+copy_fits : (b : ℕ) (d : Sectors) (side : Side) (t : Table) → Copy b d side t → FitsTable b (length d) t
+copy_fits b d side t copy =
+    let count = copy_count_lem b d side t copy in
+    let range = copy.stands.is_head.placed.range in
+    let first = copy.stands.first in
+    let last = copy.stands.last in
+    record {
+      room = copy.room;
+      some = count.0;
+      most = count.1;
+      low = omega (arith, range.0, first);
+      order = omega (arith, range.1, first, last);
+      high = omega (arith, range.2, last);
+      typed = copy_is_typed_lem b d side t copy;
+    }
+
+-- a record that stands in its bytes
+record_fits : (o : Option Record) (at : ℕ) (bytes : List ℕ) → RecordIs o at bytes → IsBootIndicator (slice_index bytes at) → (IsUsed at bytes → slice_index bytes (at + 4) ≢ 0xEE) → FitsSlot o
+record_fits None at bytes is boot plain = tt
+record_fits (Some r) at bytes is boot plain = record {
+  typed = λ none. is.0.0 (is.1.kind ∙ none);
+  plain = λ protective. plain is.0 (is.1.kind ∙ protective);
+  sized = λ none. is.0.1 (is.1.size ∙ none);
+  boot = subst IsBootIndicator is.1.boot boot;
+}
+
+logical_fits : (o : Option Record) (bytes : List ℕ) → RecordIs o 446 bytes → IsBootIndicator (slice_index bytes 446) → ¬ HasBadLogical bytes → FitsLogical o
+unfolding HasBadLogical
+logical_fits None bytes is boot good = tt
+logical_fits (Some r) bytes is boot good = (
+  record_fits (Some r) 446 bytes is boot (λ used protective. good (used, inr protective)),
+  λ extended. good (is.0, inl (subst IsExtendedKind (sym is.1.kind) extended)),
+)
+
+-- the extended boot records of a walk
+walk_linked : (d : Sectors) (x : Span) (from : Option Lba) (list : List Ebr) → Walk d x from list None → Linked x (length d) from list
+unfolding HasBootIndicators
+walk_linked d x None [] walk = tt
+walk_linked d x (Some at) [] walk = absurd cc
+walk_linked d x None (e ∷ es) walk = absurd walk
+walk_linked d x (Some at) (e ∷ es) walk = (
+  walk.0.bytes.place,
+  walk.0.inside,
+  walk.1,
+  logical_fits e.logical (sector d at.0) walk.0.bytes.logical walk.0.bytes.boots.0 walk.0.bytes.logical_kind,
+  walk_linked d x e.next es walk.2,
+)
+
+chain_fits : (d : Sectors) (rs : List Record) (chain : List Ebr) → HasChain d rs chain → FitsExtended (length d) rs chain
+chain_fits d [] chain has = has
+chain_fits d (r ∷ []) chain has = record { few = has.few; linked = walk_linked d (extent_of r) (Some (lba (extent_of r).first)) chain has.whole }
+chain_fits d (r ∷ s ∷ rs) chain has = absurd has
+
+slot_fits : (records : List (Option Record)) (bytes : List ℕ) → IsMbrSector bytes → AreRecords records bytes → (k : ℕ) → k < 4 → FitsSlot (get_or records k None)
+unfolding BearsProtective HasBootIndicators
+slot_fits records bytes is are zero lt = record_fits (get_or records 0 None) 446 bytes are.first is.formed.boots.0 (λ used e. is.plain (inl e))
+slot_fits records bytes is are (suc zero) lt = record_fits (get_or records 1 None) 462 bytes are.second is.formed.boots.1 (λ used e. is.plain (inr (inl e)))
+slot_fits records bytes is are (suc (suc zero)) lt = record_fits (get_or records 2 None) 478 bytes are.third is.formed.boots.2 (λ used e. is.plain (inr (inr (inl e))))
+slot_fits records bytes is are (suc (suc (suc zero))) lt = record_fits (get_or records 3 None) 494 bytes are.fourth is.formed.boots.3 (λ used e. is.plain (inr (inr (inr e))))
+slot_fits records bytes is are (suc (suc (suc (suc k)))) lt = absurd (omega (arith, lt))
+
+mbr_fits : (d : Sectors) (records : List (Option Record)) (chain : List Ebr) → IsMbr d records → HasChain d (extended_of records) chain → FitsMbr (length d) records chain
+mbr_fits d records chain is has = record {
+  four = is.1.four;
+  each = slot_fits records (sector d 0) is.0.1 is.1;
+  extended = chain_fits d (extended_of records) chain has;
+}
+
+body_fits : (b : ℕ) (d : Sectors) (y : Body) → BodyIs b d y → FitsBody b (length d) y
+body_fits b d (Mbr records chain) is = mbr_fits d records chain is.0 is.1
+body_fits b d (Gpt t) is = elim is.2 [ inl primary ↦ copy_fits b d Primary t primary | inr backup ↦ copy_fits b d Backup t backup.1 ]
+
+-- how many entries are there
+count_is : (es : List (Option LabelEntry)) (c : ℕ) → c ≤ length es → ((k : ℕ) → k < c → IsThere (get_or es k None)) → ((k : ℕ) → c ≤ k → k < length es → get_or es k None ≡ None) → count_of es ≡ c
+count_is [] c most there none = omega (arith, most)
+count_is (None ∷ es) zero most there none = refl
+count_is (None ∷ es) (suc c) most there none = absurd (there 0 (omega arith))
+count_is (Some e ∷ es) zero most there none = let no = none 0 (omega arith) (omega arith) in absurd cc
+count_is (Some e ∷ es) (suc c) most there none =
+    ap suc (count_is es c (omega (arith, most)) (λ k lt. there (suc k) (omega (arith, lt))) (λ k le lt. none (suc k) (omega (arith, le)) (omega (arith, lt))))
+
+entry_there : (o : Option LabelEntry) (k : ℕ) (bytes : List ℕ) → IsEntry o k bytes → k < counted_in bytes → IsThere o
+entry_there None k bytes is lt = absurd (omega (arith, is, lt))
+entry_there (Some e) k bytes is lt = tt
+
+entry_none : (o : Option LabelEntry) (k : ℕ) (bytes : List ℕ) → IsEntry o k bytes → counted_in bytes ≤ k → o ≡ None
+entry_none None k bytes is le = refl
+entry_none (Some e) k bytes is le = absurd (omega (arith, is.0, le))
+
+raw_is : (o : Option LabelEntry) (first len : ℕ) (bytes : List ℕ) → IsEntry o 2 bytes → 3 ≤ counted_in bytes → HasRaw first len bytes → IsRaw o first len
+raw_is None first len bytes is least raw = absurd (omega (arith, is, least))
+raw_is (Some e) first len bytes is least raw = (sym is.1.size ∙ raw.size, elim raw.start [ inl none ↦ inl (sym is.1.offset ∙ none) | inr start ↦ inr (sym is.1.offset ∙ start) ])
+
+label_fits : (s : Slice) (l : Label) (bytes : List ℕ) → LabelBytes l s.first s.len bytes → FitsLabel s l
+label_fits s l bytes is =
+    let places = is.entries.places in
+    let count : count_of l.entries ≡ counted_in bytes = count_is l.entries (counted_in bytes) (omega (arith, is.count.most, places))
+    (λ k lt. entry_there (entry_of l k) k bytes (is.entries.each k (omega (arith, lt, is.count.most))) lt)
+    (λ k le lt. entry_none (entry_of l k) k bytes (is.entries.each k (omega (arith, lt, places))) le) in
+    record {
+      counted = record {
+        places = places;
+        least = omega (arith, count, is.count.least);
+        others = λ k above lt. entry_none (entry_of l k) k bytes (is.entries.each k lt) (omega (arith, count, above));
+      };
+      slice = raw_is (entry_of l 2) s.first s.len bytes (is.entries.each 2 (omega arith)) is.count.least is.raw;
+    }
+
+labels_fit : (d : Sectors) (places : List Slice) (labels : List Labelled) → LabelsAre d places labels → AreLabelsOf places labels
+labels_fit d [] labels are = are
+labels_fit d (s ∷ ss) labels (inl (l, rest, is, at, then)) = inl (l, rest, is, label_fits s l (sector d (place_of s)) at, labels_fit d ss rest then)
+labels_fit d (s ∷ ss) labels (inr are) = inr (labels_fit d ss labels are.1)
+
+-- what a disk denotes is shaped
+pub denoted_is_shaped_lem : (b : ℕ) (d : Sectors) (o : Layout) → Denotes b d (Some o) → Shaped b o
+denoted_is_shaped_lem b d o denotes = record {
+  body = subst (λ (n : ℕ). FitsBody b n o.body) (sym denotes.0) (body_fits b d o.body denotes.1);
+  labels = subst (λ (n : ℕ). AreLabelsOf (places_of b n o.body) o.labels) (sym denotes.0) (labels_fit d (places_of b (length d) o.body) o.labels denotes.2);
+}

@@ -1,0 +1,4 @@
+pub mod Shape
+pub mod Keeps
+pub mod Laws
+pub mod Denoted

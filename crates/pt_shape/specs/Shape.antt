@@ -1,0 +1,92 @@
+-- Layouts that a disk of their size may denote, as far as numbers and places tell.
+use Rattle.std.specs.Prelude.{◌≡◌, ◌≢◌, ◌<◌, ◌≤◌, ◌⊎◌, ◌+◌, ◌-◌, ℕ, List, [], ◌∷◌, length, slice_index_or, Option, Some, None}
+use Rattle.pt_sector.specs.Sectors.{Span}
+use Rattle.pt_sector.specs.declared.address.Lba.{Lba}
+use Rattle.pt_mbr.specs.Mbr.{IsBootIndicator}
+use Rattle.pt_mbr.specs.Record.{IsExtendedKind}
+use Rattle.pt_mbr.specs.Chain.{IsInside, IsUpward, lba}
+use Rattle.pt_mbr.specs.declared.record.Record.{Record}
+use Rattle.pt_mbr.specs.declared.ebr.Ebr.{Ebr}
+use Rattle.pt_gpt.specs.Array.{array_len, AllTyped}
+use Rattle.pt_gpt.specs.declared.table.Table.{Table}
+use Rattle.pt_bsd.specs.Counted.{IsCounted, FitsSlice}
+use Rattle.pt_bsd.specs.declared.label.Label.{Label}
+use Rattle.pt_recover.specs.Gpt.{HasRoom}
+use Rattle.pt_recover.specs.Mbr.{extended_of, extent_of}
+use Rattle.pt_recover.specs.Labels.{places_of}
+use Rattle.pt_recover.specs.declared.layout.Slice.{Slice}
+use Rattle.pt_recover.specs.declared.layout.Labelled.{Labelled}
+use Rattle.pt_recover.specs.declared.layout.Layout.{Layout}
+use Rattle.pt_recover.specs.declared.layout.Body.{Body}
+use Rattle.pt_recover.specs.declared.layout.Body.TheVariants.{Mbr, Gpt}
+
+-- a table of a GPT on n sectors: 1 to 128 entries, a usable range between the arrays, and a type in each used entry
+pub record FitsTable (b n : ℕ) (t : Table) : Type 0 where
+  pub room : HasRoom b n
+  pub some : 1 ≤ length t.entries
+  pub most : length t.entries ≤ 128
+  pub low : array_len b + 2 ≤ t.first
+  pub order : t.first ≤ t.last
+  pub high : t.last ≤ n - (array_len b + 2)
+  pub typed : AllTyped t.entries
+
+-- a used record of an MBR: it has a type, not the protective one, a size, and a boot indicator
+pub record FitsRecord (r : Record) : Type 0 where
+  pub typed : r.kind ≢ 0
+  pub plain : r.kind ≢ 0xEE
+  pub sized : r.size ≢ 0
+  pub boot : IsBootIndicator r.boot
+
+abbrev pub FitsSlot : Option Record → Type 0
+FitsSlot None = Unit {0}
+FitsSlot (Some r) = FitsRecord r
+
+-- a logical partition's: and it is none of an extended partition
+abbrev pub FitsLogical : Option Record → Type 0
+FitsLogical None = Unit {0}
+FitsLogical (Some r) = FitsRecord r × (¬ IsExtendedKind r.kind)
+
+-- extended boot records from a place on: each is where the one before it links to, they lead upward, and the last links to none
+abbrev pub Linked : Span → ℕ → Option Lba → List Ebr → Type 0
+Linked x n None [] = Unit {0}
+Linked x n (Some at) [] = ⊥
+Linked x n None (e ∷ es) = ⊥
+Linked x n (Some at) (e ∷ es) = (e.at ≡ at) × IsInside x n at × IsUpward at e.next × FitsLogical e.logical × Linked x n e.next es
+
+-- a chain of an extended partition: at most 128 of them from its first sector on
+pub record FitsChain (x : Span) (n : ℕ) (chain : List Ebr) : Type 0 where
+  pub few : length chain ≤ 128
+  pub linked : Linked x n (Some (lba x.first)) chain
+
+-- no chain without an extended record, a chain of a lone one, and never two
+abbrev pub FitsExtended : ℕ → List Record → List Ebr → Type 0
+FitsExtended n [] chain = chain ≡ []
+FitsExtended n (r ∷ []) chain = FitsChain (extent_of r) n chain
+FitsExtended n (r ∷ s ∷ rs) chain = ⊥
+
+-- the records and the chain of an MBR on n sectors
+pub record FitsMbr (n : ℕ) (records : List (Option Record)) (chain : List Ebr) : Type 0 where
+  pub four : length records ≡ 4
+  pub each : (k : ℕ) → k < 4 → FitsSlot (slice_index_or records k None)
+  pub extended : FitsExtended n (extended_of records) chain
+
+abbrev pub FitsBody : ℕ → ℕ → Body → Type 0
+FitsBody b n (Mbr records chain) = FitsMbr n records chain
+FitsBody b n (Gpt t) = FitsTable b n t
+
+-- a label that a slice may have: three to eight entries, of which c is the slice
+pub record FitsLabel (s : Slice) (l : Label) : Type 0 where
+  pub counted : IsCounted l
+  pub slice : FitsSlice l s.first s.len
+
+-- labels of these slices, in their order: a slice has one or none
+abbrev pub AreLabelsOf : List Slice → List Labelled → Type 0
+AreLabelsOf [] labels = labels ≡ []
+AreLabelsOf (s ∷ ss) labels =
+    ((l : Label) × (rest : List Labelled) × (labels ≡ record { number = s.number; label = l } ∷ rest) × FitsLabel s l × AreLabelsOf ss rest)
+    ⊎ AreLabelsOf ss labels
+
+-- a layout that a disk may denote: its table fits, and its labels are those of slices with a label place
+pub record Shaped (b : ℕ) (o : Layout) : Type 0 where
+  pub body : FitsBody b o.sectors o.body
+  pub labels : AreLabelsOf (places_of b o.sectors o.body) o.labels

@@ -1,0 +1,12 @@
+use Rattle.std.proofs.Common.{[], ◌∷◌, refl, inl}
+use Rattle.pt_words.specs.Words.{path}
+use Rattle.pt_words.proofs.Faults.{other_count, bad_count, bad_field}
+use Rattle.pt_words.proofs.words.parse_delete.Goals as goal
+
+pub returns-in-None-clause-err : goal.returns-in-None-clause-err
+returns-in-None-clause-err c = bad_count 100 _ refl (other_count 1 _ (path ∷ []) c.in-None.ensures.none)
+
+pub returns-in-None-path_field-clause-err : goal.returns-in-None-path_field-clause-err
+returns-in-None-path_field-clause-err c =
+    bad_field 100 (path ∷ []) _ (c.in-Some.text.now ∷ []) _ refl refl c.in-Some.ensures.some
+    (inl (c.in-None-path_field.ensures.none, refl))

@@ -1,0 +1,30 @@
+use Rattle.std.proofs.Common.{List, ℕ, Option, Bor, [], ◌∷◌, ◌∙◌, length, refl, sym, ap, subst, arith, inl}
+use Rattle.std.specs.Option.{option_map}
+use Rattle.pt_words.specs.Words.{number, greatest, fields, fields_after, IsFault}
+use Rattle.pt_words.specs.declared.error.EditError.TheVariants.{FieldCount}
+use Rattle.pt_words.proofs.Cuts.{some_field}
+use Rattle.pt_words.proofs.Faults.{bad_count, bad_field, name_count, named_rest}
+use Rattle.pt_words.proofs.words.parse_set_name.Goals as goal
+
+pub returns-in-None-clause-err : goal.returns-in-None-clause-err
+returns-in-None-clause-err c = λ _.
+    subst (λ (r : List (List ℕ)). IsFault (99 ∷ []) r FieldCount) (sym c.in-None.ensures.none) (bad_count 99 [] refl refl)
+
+pub returns-in-None-rest-clause-err : goal.returns-in-None-rest-clause-err
+returns-in-None-rest-clause-err c = λ _.
+    let all = c.in-Some.ensures.some ∙ ap (λ (r : Option (Bor (List ℕ))). c.in-Some.number.now ∷ fields_after (option_map (λ t. t.now) r)) c.in-None-rest.is in
+    subst (λ (r : List (List ℕ)). IsFault (99 ∷ []) r FieldCount) (sym all) (bad_count 99 (c.in-Some.number.now ∷ []) refl refl)
+
+pub returns-in-None-entry_number-clause-err : goal.returns-in-None-entry_number-clause-err
+returns-in-None-entry_number-clause-err c = λ _.
+    let text = c.in-Some-rest.name.now in
+    let more = some_field text in
+    let all = c.in-Some.ensures.some ∙ ap (λ (r : Option (Bor (List ℕ))). c.in-Some.number.now ∷ fields_after (option_map (λ t. t.now) r)) c.in-Some-rest.is in
+    bad_field 99 (number 1 greatest ∷ []) _ (c.in-Some.number.now ∷ fields text) _ refl (name_count (length (c.in-Some.number.now ∷ fields text)) (omega (arith, more))) all
+    (inl (c.in-None-entry_number.ensures.none, refl))
+
+pub returns-in-Ok-clause-ok : goal.returns-in-Ok-clause-ok
+returns-in-Ok-clause-ok c =
+    let all = c.in-Some.ensures.some ∙ ap (λ (r : Option (Bor (List ℕ))). c.in-Some.number.now ∷ fields_after (option_map (λ t. t.now) r)) c.in-Some-rest.is in
+    let (g, rest, whole, joined) = named_rest _ c.in-Some.number.now c.in-Some-rest.name.now all in
+    (c.in-Some.number.now, g, rest, whole, c.in-Some-entry_number.ensures.some, c.in-Ok.ensures.ok ∙ joined)

@@ -1,0 +1,19 @@
+//! Edit words: their values, their texts, and why one is refused.
+//!
+//! docs/commands.md has the words; what they make of a layout is `pt_edit`'s.
+#![tactic(auto)]
+
+mod error;
+mod field;
+mod laws;
+mod parse;
+mod word;
+mod words;
+
+pub use error::{EditError, Refusal};
+pub use laws::fault_is_no_word;
+pub use parse::parse_edit;
+pub use word::{Code, Edit, End};
+
+#[cfg(test)]
+mod tests;

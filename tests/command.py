@@ -1,0 +1,72 @@
+"""Runs of the built command on images, each compared whole: output, errors, status, and an image that may not change."""
+import subprocess
+import sys
+
+from images import LARGE, SMALL
+
+
+class Command:
+    """The command on one image file; `checked` counts the runs."""
+
+    checked = 0
+
+    def __init__(self, ptab, path, sectors=SMALL):
+        self.ptab = ptab
+        self.path = path
+        self.sectors = sectors
+
+    def large(self):
+        """The same, with sectors of 4096 bytes."""
+        return Command(self.ptab, self.path, LARGE)
+
+    def on(self, image):
+        with open(self.path, "wb") as it:
+            it.write(image)
+        return self
+
+    def image(self):
+        with open(self.path, "rb") as it:
+            return it.read()
+
+    def run(self, *words):
+        """(output, errors, status) of the words, the image's path put second."""
+        size = [] if self.sectors is SMALL else ["--sector-size", str(self.sectors.size)]
+        done = subprocess.run([self.ptab, words[0], *size, self.path, *words[1:]], capture_output=True)
+        return done.stdout.decode("utf-8"), done.stderr.decode("utf-8"), done.returncode
+
+    def gives(self, words, out, err="", status=0):
+        before = self.image()
+        found = self.run(*words)
+        if found != (out, err, status):
+            sys.exit(f"{' '.join(words)}:\n  found  {found}\n  wanted {(out, err, status)}")
+        if (words[0] != "edit" or status != 0) and self.image() != before:
+            sys.exit(f"{' '.join(words)} changed the image")
+        Command.checked += 1
+        return self
+
+    def shows(self, *lines):
+        return self.gives(["show"], "".join(f"{line}\n" for line in lines))
+
+    def no_table(self, why):
+        """`show` tells why there is no table, `verify` that there is none."""
+        self.gives(["show"], "", f"no table: {why}\n", 4)
+        return self.gives(["verify"], "no 1 no table\n", status=1)
+
+    def healthy(self):
+        return self.gives(["verify"], "yes\n")
+
+    def unhealthy(self, finding):
+        return self.gives(["verify"], f"no {finding}\n", status=1)
+
+    def located(self, path, k, lba):
+        return self.gives(["locate", path, str(k)], f"{lba}\n")
+
+    def nowhere(self, path, k):
+        return self.gives(["locate", path, str(k)], "none\n", status=1)
+
+    def edited(self, *words):
+        return self.gives(["edit", *words], "done\n")
+
+    def refused(self, why, *words):
+        """An edit that is refused with that text, and writes nothing."""
+        return self.gives(["edit", *words], "", f"refused: {why}\n", 3)
