@@ -1,6 +1,6 @@
 -- A layout has one first thing that is wrong with it at most, and so has a disk.
 use Rattle.std.specs.Prelude.{◌≡◌, ◌⊎◌, ◌∷◌, ◌++◌, [], ℕ, Bool, true, false, List, All, Contains, length, Option, Some, None, nat_eq, if◌then◌else◌}
-use Rattle.std.proofs.Common.{zero, suc, ◌<◌, ◌≤◌, ◌+◌, ◌*◌, refl, sym, ap, subst, ◌∙◌, arith, inl, inr}
+use Rattle.std.proofs.Common.{suc, ◌<◌, ◌≤◌, ◌+◌, refl, sym, ap, subst, ◌∙◌, arith, inl, inr}
 use Rattle.std.proofs.lemmas.List.Elements.{Contains-append_right, Contains-get_or}
 use Rattle.pt_sector.specs.Sectors.{Sectors}
 use Rattle.pt_sector.specs.declared.address.Lba.{Lba}
@@ -27,13 +27,12 @@ use Rattle.pt_recover.specs.declared.layout.Body.{Body}
 use Rattle.pt_recover.specs.declared.layout.Body.TheVariants.{Mbr, Gpt}
 use Rattle.pt_layout.specs.declared.path.Path.{Path}
 use Rattle.pt_layout.specs.declared.member.Member.{Member}
-use Rattle.pt_layout.specs.declared.overlap.Overlap.{Overlap}
 use Rattle.pt_layout.specs.declared.finding.Finding.{Finding}
 use Rattle.pt_layout.specs.declared.finding.Finding.TheVariants.{NoTable, PrimaryCopy, BackupCopy, CopiesDiffer, Alternate, Protective, OutsideUsable, Overlap as Shared, OnTable, SameGuid, ForeignLabel}
 use Rattle.pt_layout.specs.declared.finding.Verdict.{Verdict}
 use Rattle.pt_layout.specs.declared.finding.Verdict.TheVariants.{Yes, No}
 use Rattle.pt_layout.specs.Paths.{rank, letter_rank}
-use Rattle.pt_layout.specs.Members.{number_path, letter_path, slots, Group, groups_of, part_of, parts_as, parts_in, parts, label_of, IsMember}
+use Rattle.pt_layout.specs.Members.{number_path, letter_path, slots, Group, groups_of, part_of, parts_as, parts_in, label_of, IsMember}
 use Rattle.pt_layout.specs.Overlaps.{IsOrdered, IsApart, IsFirstOverlap}
 use Rattle.pt_layout.specs.Apart.{not_apart}
 use Rattle.pt_layout.specs.Search.{AtPlace, IsNear}
@@ -53,10 +52,10 @@ HasEight (l ∷ ls) = (length l.label.entries ≡ 8) × HasEight ls
 label_eight : (ls : List Labelled) (n : ℕ) (l : Label) → HasEight ls → label_of ls n ≡ Some l → length l.entries ≡ 8
 unfolding label_of HasEight
 label_eight [] n l eight is = absurd cc
-label_eight (x ∷ xs) n l eight is = by_case (nat_eq x.number n) is where
-  by_case : (b : Bool) → (if b then Some x.label else label_of xs n) ≡ Some l → length l.entries ≡ 8
-  by_case true here = (let e : x.label ≡ l = cc in ap (λ (z : Label). length z.entries) (sym e) ∙ eight.0)
-  by_case false there = label_eight xs n l eight.1 there
+label_eight (x ∷ xs) n l eight is = by_case (label_eight xs n l eight.1) (nat_eq x.number n) is where
+  by_case : (label_of xs n ≡ Some l → length l.entries ≡ 8) → (b : Bool) → (if b then Some x.label else label_of xs n) ≡ Some l → length l.entries ≡ 8
+  by_case later true here = (let e : x.label ≡ l = cc in ap (λ (z : Label). length z.entries) (sym e) ∙ eight.0)
+  by_case later false there = later there
 
 -- a path of a member has no letter, or one of eight
 abbrev IsNamed : Path → Type 0
@@ -109,8 +108,8 @@ outside_one b o p q eight x y =
     let there = x.first q y.here in
     let back = y.first p x.here in
     rank_one p q (named p x) (named q y) (omega arith) where
-  named : (r : Path) → IsFirstOutside b o r → IsNamed r
-  named r z = subst IsNamed z.here.path (member_named b o z.here.member eight (record { group = z.here.group; stands = z.here.is_of.stands; sibling = z.here.is_of.sibling }))
+      named : (r : Path) → IsFirstOutside b o r → IsNamed r
+      named r z = subst IsNamed z.here.path (member_named b o z.here.member eight (record { group = z.here.group; stands = z.here.is_of.stands; sibling = z.here.is_of.sibling }))
 
 head_of : (x : Group) (xs : List Group) → Contains (x ∷ xs) x
 head_of x xs = (0, omega arith, refl)

@@ -1,12 +1,12 @@
 -- Members in order are in one order, and the first that meets the one before it is one.
-use Rattle.std.proofs.Common.{◌≡◌, ◌<◌, ◌≤◌, ◌+◌, ℕ, zero, suc, List, [], ◌∷◌, length, get_or, refl, sym, ap, subst, ◌∙◌, arith, inl, inr, Bool, true, false}
-use Rattle.std.specs.Prelude.{◌⊎◌, ◌&&◌, not, filter, if◌then◌else◌}
+use Rattle.std.proofs.Common.{◌≡◌, ◌<◌, ◌≤◌, ◌+◌, ℕ, suc, List, [], ◌∷◌, length, get_or, refl, sym, ap, subst, ◌∙◌, arith, inl, inr, Bool, true, false}
+use Rattle.std.specs.Prelude.{◌&&◌, not, filter, if◌then◌else◌}
 use Rattle.std.proofs.lemmas.Bool.{cases_lt}
-use Rattle.core.proofs.slice.Orders.{nat_cmp-ltb}
-use borrow.Author.Tests.{lt-ltb, le-ltb}
+use Rattle.std.specs.Cmp.{nat_cmp_is}
+use Rattle.std.specs.declared.cmp.Ordering.TheVariants.{Less, Equal, Greater}
 use Rattle.std.specs.Ordering.{nat_cmp, is_lt}
-use Rattle.std.specs.List.Sorted.{IsNonDecreasingBy, IsStableByKey, ties}
-use Rattle.pt_layout.specs.Overlaps.{Meets, member_at, nobody, IsFirstMeeting, IsFirstOverlap}
+use Rattle.std.specs.List.Sorted.{IsNonDecreasingBy, ties}
+use Rattle.pt_layout.specs.Overlaps.{member_at, nobody, IsFirstMeeting, IsFirstOverlap}
 use Rattle.pt_layout.specs.declared.member.Member.{Member}
 use Rattle.pt_layout.specs.declared.overlap.Overlap.{Overlap}
 
@@ -15,10 +15,13 @@ abbrev tied : Member → Member → Bool
 tied x y = ties (λ (a b : Member). is_lt (nat_cmp a.first b.first)) x y
 
 below : (x y : Member) → x.first < y.first → is_lt (nat_cmp x.first y.first) ≡ true
-below x y lt = nat_cmp-ltb x.first y.first ∙ lt-ltb x.first y.first lt
+below x y lt = ap is_lt (sym (nat_cmp_is x.first y.first Less lt))
 
 not_below : (x y : Member) → y.first ≤ x.first → is_lt (nat_cmp x.first y.first) ≡ false
-not_below x y le = nat_cmp-ltb x.first y.first ∙ le-ltb x.first y.first le
+not_below x y le = elim (cases_lt y.first x.first) as (λ _. is_lt (nat_cmp x.first y.first) ≡ false) [
+  | inl lt ↦ ap is_lt (sym (nat_cmp_is x.first y.first Greater lt))
+  | inr ge ↦ (let same : x.first ≡ y.first = omega arith in ap is_lt (sym (nat_cmp_is x.first y.first Equal same)))
+]
 
 tied_same : (x y : Member) → x.first ≡ y.first → tied x y ≡ true
 tied_same x y same =
@@ -74,13 +77,13 @@ order_one (x ∷ xs) (y ∷ ys) p q same = elim (cases_lt x.first y.first) as (�
   | inr ge ↦ elim (cases_lt y.first x.first) as (λ _. x ∷ xs ≡ y ∷ ys) [
     | inl lt ↦ absurd (not_first y x ys xs p (sym (same y)) lt)
     | inr le ↦
-      (let start : x.first ≡ y.first = omega arith in
-      let both : x ∷ filter (tied x) xs ≡ y ∷ filter (tied x) ys = sym (kept_tied x x xs refl) ∙ same x ∙ kept_tied x y ys start in
-      let heads : x ≡ y = cc in
-      let tails : (z : Member) → filter (tied z) xs ≡ filter (tied z) ys =
-      λ z. rest_same (tied z x) x (filter (tied z) xs) (filter (tied z) ys) (sym (kept_more z x xs) ∙ same z ∙ subst (λ (m : Member). filter (tied z) (m ∷ ys) ≡ kept_in (tied z x) x (filter (tied z) ys)) heads (kept_more z x ys)) in
-      let rest = order_one xs ys (later x xs p) (later y ys q) tails in
-      λ i. heads i ∷ rest i)
+        (let start : x.first ≡ y.first = omega arith in
+        let both : x ∷ filter (tied x) xs ≡ y ∷ filter (tied x) ys = sym (kept_tied x x xs refl) ∙ same x ∙ kept_tied x y ys start in
+        let heads : x ≡ y = cc in
+        let tails : (z : Member) → filter (tied z) xs ≡ filter (tied z) ys =
+        λ z. rest_same (tied z x) x (filter (tied z) xs) (filter (tied z) ys) (sym (kept_more z x xs) ∙ same z ∙ subst (λ (m : Member). filter (tied z) (m ∷ ys) ≡ kept_in (tied z x) x (filter (tied z) ys)) heads (kept_more z x ys)) in
+        let rest = order_one xs ys (later x xs p) (later y ys q) tails in
+        λ i. heads i ∷ rest i)
   ]
 ]
 
@@ -93,10 +96,10 @@ meeting_one members o u p q = elim (cases_lt p.k q.k) as (λ _. o ≡ u) [
   | inr ge ↦ elim (cases_lt q.k p.k) as (λ _. o ≡ u) [
     | inl lt ↦ absurd (meeting_place members u o q p lt)
     | inr le ↦
-      (let same : p.k ≡ q.k = omega arith in
-      let before : o.before ≡ u.before = p.before ∙ ap (λ (k : ℕ). (member_at members k).path) same ∙ sym q.before in
-      let it : o.it ≡ u.it = p.it ∙ ap (λ (k : ℕ). (member_at members (k + 1)).path) same ∙ sym q.it in
-      λ i. record { before = before i; it = it i })
+        (let same : p.k ≡ q.k = omega arith in
+        let before : o.before ≡ u.before = p.before ∙ ap (λ (k : ℕ). (member_at members k).path) same ∙ sym q.before in
+        let it : o.it ≡ u.it = p.it ∙ ap (λ (k : ℕ). (member_at members (k + 1)).path) same ∙ sym q.it in
+        λ i. record { before = before i; it = it i })
   ]
 ]
 

@@ -1,6 +1,6 @@
 -- In a sound layout a sector has one owner at most.
-use Rattle.std.specs.Prelude.{◌≡◌, ◌<◌, ◌≤◌, ◌+◌, ◌⊎◌, ℕ}
-use Rattle.std.proofs.Common.{refl, sym, ap, subst, ◌∙◌, arith, inl, inr}
+use Rattle.std.specs.Prelude.{◌≡◌, ℕ}
+use Rattle.std.proofs.Common.{refl, ap, arith}
 use Rattle.pt_recover.specs.declared.layout.Layout.{Layout}
 use Rattle.pt_layout.specs.declared.ownership.Owner.{Owner}
 use Rattle.pt_layout.specs.declared.ownership.Owner.TheVariants.{Partition, Table, Reserved, Free}

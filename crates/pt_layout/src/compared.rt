@@ -1,6 +1,5 @@
 //! The real `verify` and the real trace beside the plain ones, on images of every kind.
 
-ghost use Rattle.std.specs.Prelude.{◌≡◌, ◌≤◌, length};
 ghost use Rattle.pt_sector.specs.Sectors.{IsSectorSize};
 
 use crate::images::{Dice, gpt_image, mbr_image};
@@ -10,13 +9,7 @@ use pt_sector::{Disk, Lba, MemDisk};
 use std::alloc::Global;
 use std::test::Fail;
 
-/// What was seen: healthy disks, findings 1 to 11 by their numbers, then a broken chain, two extended records, no copy
-/// and a disk that is too small.
-#[derive(Clone, Copy, Debug, PartialEq, Eq)]
-struct Seen {
-    by_number: [bool; 16],
-}
-
+/// The number of a finding, 0 where there is none; 12 to 15 for the four reasons of a disk to denote nothing.
 fn kind_of(finding: &Option<Finding>) -> u8 {
     match finding {
         None => 0,
@@ -52,12 +45,10 @@ fn compared<const B: usize>(
 }
 
 /// Compares on so many images of each kind, and answers which findings were seen.
-fn compare_all<const B: usize>(alloc: Global, images: u64) -> Result<Option<Seen>, Fail>
+fn compare_all<const B: usize>(alloc: Global, images: u64) -> Result<Option<[bool; 16]>, Fail>
     requires { IsSectorSize B }
 {
-    let mut seen = Seen {
-        by_number: [false; 16],
-    };
+    let mut seen = [false; 16];
     for seed in 0..images {
         let mut dice = Dice { state: seed / 2 };
         let mut disk = if seed % 2 == 0 {
@@ -66,7 +57,7 @@ fn compare_all<const B: usize>(alloc: Global, images: u64) -> Result<Option<Seen
             gpt_image::<B>(alloc, &mut dice)?
         };
         match compared(alloc, &mut disk)? {
-            Some(found) => seen.by_number[(kind_of(&found) % 16) as usize] = true,
+            Some(found) => seen[(kind_of(&found) % 16) as usize] = true,
             None => return Ok(None),
         }
     }
@@ -75,12 +66,10 @@ fn compare_all<const B: usize>(alloc: Global, images: u64) -> Result<Option<Seen
 
 #[test]
 fn plain_answers(rt: HostRuntime) -> Result<(), Fail> {
-    let mut all = Seen {
-        by_number: [true; 16],
-    };
-    all.by_number[1] = false;
+    let mut all = [true; 16];
+    all[1] = false;
     assert_eq!(rt; compare_all::<512>(rt.alloc(), 1000)?, Some(all));
-    all.by_number[11] = false;
+    all[11] = false;
     assert_eq!(rt; compare_all::<4096>(rt.alloc(), 400)?, Some(all));
     Ok(())
 }

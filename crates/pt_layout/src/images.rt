@@ -60,13 +60,13 @@ fn record(kind: u8, start: u32, size: u32) -> Option<Record> {
 }
 
 /// A label for a slice, in either form, with entries a and b; now and then one of another length.
-fn put_label<const B: usize, D: Disk<B>>(disk: &mut D, dice: &mut Dice, first: u64, len: u32)
+fn put_label<const B: usize, D: Disk<B>>(disk: &mut D, dice: &mut Dice, first: u32, len: u32)
     requires { IsSectorSize B }
 {
     if dice.rarely(3) {
         return;
     }
-    let start = if dice.rarely(2) { 0 } else { first as u32 };
+    let start = if dice.rarely(2) { 0 } else { first };
     let wrong = dice.rarely(12) as u32;
     let mut label = empty_label(len.wrapping_add(wrong));
     for k in 0..3usize {
@@ -82,7 +82,8 @@ fn put_label<const B: usize, D: Disk<B>>(disk: &mut D, dice: &mut Dice, first: u
             });
         }
     }
-    put(disk, first.wrapping_add(1), &encode_label(&label, &[0; B]));
+    let place = u64::from(first) + 1;
+    put(disk, place, &encode_label(&label, &[0; B]));
 }
 
 /// A chain of up to three extended boot records from a sector on; now and then broken.
@@ -107,7 +108,7 @@ fn put_chain<const B: usize, D: Disk<B>>(disk: &mut D, dice: &mut Dice, first: u
             put(disk, at, &encode_mbr(&Mbr { records }, &[0; B]));
         }
         if kind == 0xA5 {
-            put_label(disk, dice, at + u64::from(start), size);
+            put_label(disk, dice, first.wrapping_add(k * 26 + start), size);
         }
         if !more {
             return;
@@ -139,7 +140,7 @@ pub(crate) fn mbr_image<const B: usize>(alloc: Global, dice: &mut Dice) -> Resul
             put_chain(&mut disk, dice, start);
         }
         if kind == 0xA5 {
-            put_label(&mut disk, dice, u64::from(start), size);
+            put_label(&mut disk, dice, start, size);
         }
     }
     put(&mut disk, 0, &encode_mbr(&Mbr { records }, &[0; B]));
@@ -174,7 +175,7 @@ fn entries<const B: usize, D: Disk<B>>(disk: &mut D, dice: &mut Dice) -> [Option
                 name: [0; 36],
             });
             if first <= last {
-                put_label(disk, dice, u64::from(first), last - first + 1);
+                put_label(disk, dice, first, last - first + 1);
             }
         }
     }

@@ -1,7 +1,7 @@
 //! Soundness, health and what recovery reads, straight from the definitions: every pair of siblings is compared, and
 //! what is read is a list of single sectors. Tests hold the real answers to these.
 
-ghost use Rattle.std.specs.Prelude.{◌≤◌, ◌<◌, ◌+◌, ◌*◌};
+ghost use Rattle.std.specs.Prelude.{◌≡◌, ◌≤◌, ◌<◌, ◌+◌, ◌*◌, IfSome};
 ghost use Rattle.pt_sector.specs.Sectors.{IsSectorSize};
 ghost use Rattle.pt_gpt.specs.Array.{array_len};
 
@@ -19,7 +19,7 @@ use std::alloc::Global;
 use std::test::Fail;
 
 /// A member, the number of what holds it (0 for the disk itself), and the usable sectors there.
-#[derive(Clone, Copy, Debug, PartialEq, Eq)]
+#[derive(Clone, Copy)]
 pub(crate) struct Plain {
     parent: u64,
     low: u128,
@@ -228,7 +228,9 @@ fn overlap(members: &[Plain]) -> Option<Finding> {
 }
 
 /// The label place of a slice on a disk of so many sectors.
-fn place(m: &Member, sectors: u64) -> Option<u64> {
+fn place(m: &Member, sectors: u64) -> Option<u64>
+    ensures { IfSome result (λ s. s < sectors) }
+{
     if m.kind == Kind::Slice && exists(m) && m.first < m.last {
         for s in 0..sectors {
             if u128::from(s) == m.first.saturating_add(1) {
@@ -471,6 +473,7 @@ fn read_side<const B: usize, D: Disk<B>>(
 ) -> Result<(), Fail>
     requires size { IsSectorSize B }
     requires room { 2 * array_len B + 4 ≤ D.count disk.old }
+    ensures { D.count disk.new ≡ D.count disk.old }
 {
     let sectors = disk.sectors();
     read.push(match side {
