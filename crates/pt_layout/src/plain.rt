@@ -377,15 +377,16 @@ fn broken<const B: usize, D: Disk<B>>(alloc: Global, disk: &mut D) -> Option<Fin
 fn foreign<const B: usize, D: Disk<B>>(disk: &mut D, members: &[Plain]) -> Option<Finding>
     requires { IsSectorSize B }
 {
-    let sectors = disk.sectors();
     let mut found: Option<Path> = None;
     for k in 0..members.len() {
+        let sectors = disk.sectors();
         let m = members[k].m;
         if let Some(s) = place(&m, sectors) {
             let mut sector = [0; B];
             let _ = disk.read(Lba(s), &mut sector);
-            let len = m.last.saturating_sub(m.first).saturating_add(1) as u64;
-            let none = decode_label(&sector, m.first as u64, len).is_err();
+            let len = m.last.saturating_sub(m.first).saturating_add(1);
+            let len = u64::try_from(len).unwrap_or(0);
+            let none = decode_label(&sector, s.saturating_sub(1), len).is_err();
             if bears_magic(&sector) && none && found.is_none_or(|q| m.path < q) {
                 found = Some(m.path);
             }
