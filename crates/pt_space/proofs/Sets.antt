@@ -5,51 +5,32 @@ use Rattle.std.proofs.lemmas.Bool.{cases_lt}
 use Rattle.std.specs.List.Sorted.{IsPermutation}
 use Rattle.std.proofs.lemmas.List.Sorted.{Contains-permutation, IsPermutation-sym}
 use Rattle.pt_space.specs.declared.space.Run.{Run}
-use Rattle.pt_space.specs.Area.{Area, Holds, IsIn, IsFree, IsBlock}
+use Rattle.pt_space.specs.Area.{Area, Holds, IsIn, IsFree}
+use Rattle.pt_space.specs.Alike.{SameSectors, with_taken, turned, block_alike, largest_alike}
 use Rattle.pt_space.specs.Sweep.{Best}
 
 -- a list in another order has the same sectors
-abbrev pub with_taken : Area → List Run → Area
-with_taken a ys = record { low = a.low; high = a.high; taken = ys; empties = a.empties }
-
-pub in_permutation : (xs ys : List Run) (k : ℕ) → IsPermutation xs ys → IsIn xs k → IsIn ys k
+in_permutation : (xs ys : List Run) (k : ℕ) → IsPermutation xs ys → IsIn xs k → IsIn ys k
 in_permutation xs ys k moved is = (is.0, Contains-permutation xs ys is.0 moved is.1, is.2)
 
-free_there : (a : Area) (ys : List Run) (k : ℕ) → IsPermutation a.taken ys → IsFree a k → IsFree (with_taken a ys) k
-free_there a ys k moved free = (free.0, λ taken. free.1 (in_permutation ys a.taken k (IsPermutation-sym a.taken ys moved) taken))
-
-free_back : (a : Area) (ys : List Run) (k : ℕ) → IsPermutation a.taken ys → IsFree (with_taken a ys) k → IsFree a k
-free_back a ys k moved free = (free.0, λ taken. free.1 (in_permutation a.taken ys k moved taken))
-
-block_there : (a : Area) (ys : List Run) (b : Run) → IsPermutation a.taken ys → IsBlock a b → IsBlock (with_taken a ys) b
-block_there a ys b moved x = record {
-  some = x.some;
-  free = λ k held. free_there a ys k moved (x.free k held);
-  before = λ k at free. x.before k at (free_back a ys k moved free);
-  after = λ free. x.after (free_back a ys (b.last + 1) moved free);
-}
-
-block_back : (a : Area) (ys : List Run) (b : Run) → IsPermutation a.taken ys → IsBlock (with_taken a ys) b → IsBlock a b
-block_back a ys b moved x = record {
-  some = x.some;
-  free = λ k held. free_back a ys k moved (x.free k held);
-  before = λ k at free. x.before k at (free_there a ys k moved free);
-  after = λ free. x.after (free_there a ys (b.last + 1) moved free);
+same_sectors : (xs ys : List Run) → IsPermutation xs ys → SameSectors xs ys
+same_sectors xs ys moved = record {
+  there = λ k is. in_permutation xs ys k moved is;
+  back = λ k is. in_permutation ys xs k (IsPermutation-sym xs ys moved) is;
 }
 
 -- so it has the same largest block
-pub best_back : (a : Area) (ys : List Run) (alignment : ℕ) (r : Option Run) → IsPermutation a.taken ys → Best (with_taken a ys) alignment r → Best a alignment r
-best_back a ys alignment None moved none = λ c x. none c (block_there a ys c moved x)
-best_back a ys alignment (Some r) moved (b, part, largest) = (
+best_alike : (a : Area) (ys : List Run) (alignment : ℕ) (r : Option Run) → SameSectors a.taken ys → Best a alignment r → Best (with_taken a ys) alignment r
+best_alike a ys alignment None same none = λ c x. none c (block_alike (with_taken a ys) a.taken (turned a.taken ys same) c x)
+best_alike a ys alignment (Some r) same (b, part, largest) = (
   b,
-  record { is_block = block_back a ys b moved part.is_block; first_is = part.first_is; last_is = part.last_is; some = part.some },
-  record {
-    is_block = block_back a ys b moved largest.is_block;
-    some = largest.some;
-    most = λ c x. largest.most c (block_there a ys c moved x);
-    lowest = λ c x same. largest.lowest c (block_there a ys c moved x) same;
-  },
+  record { is_block = block_alike a ys same b part.is_block; first_is = part.first_is; last_is = part.last_is; some = part.some },
+  largest_alike a alignment ys same b largest,
 )
+
+pub best_back : (a : Area) (ys : List Run) (alignment : ℕ) (r : Option Run) → IsPermutation a.taken ys → Best (with_taken a ys) alignment r → Best a alignment r
+best_back a ys alignment r moved is =
+    best_alike (with_taken a ys) a.taken alignment r (turned a.taken ys (same_sectors a.taken ys moved)) is
 
 in_front : (r : Run) (rs : List Run) (k : ℕ) → Holds r k → IsIn (r ∷ rs) k
 in_front r rs k held = (r, (0, omega arith, refl), held)

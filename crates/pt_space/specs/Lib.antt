@@ -5,3 +5,4 @@ pub mod Blocks
 pub mod Sweep
 pub mod Started
 pub mod Laws
+pub mod Alike

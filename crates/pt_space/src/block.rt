@@ -109,8 +109,7 @@ fn sweep(space: &Space, alignment: u64) -> Option<Run>
 
 // The part of the largest block. It takes no memory: the runs are sorted in place.
 pub(crate) fn largest(space: &mut Space, alignment: u64) -> Option<Run>
-    ensures best { Best (area_of space.old) alignment result }
-    ensures high { space.new.high ≡ space.old.high }
+    ensures { Best (area_of space.old) alignment result }
 {
     space.taken.sort_unstable_by_key(|run| run.first);
     sweep(space, alignment)

@@ -1,9 +1,10 @@
 //! What holds of places, wherever they are looked for.
 
-ghost use Rattle.std.specs.Prelude.{◌≡◌, ◌≢◌, ◌≤◌, ◌*◌, ℕ};
+ghost use Rattle.std.specs.Prelude.{◌≡◌, ◌≢◌, ◌≤◌, ◌*◌, ℕ, List};
 ghost use Rattle.pt_space.specs.declared.space.Run.{Run};
 ghost use Rattle.pt_words.specs.declared.word.End.{End};
 ghost use Rattle.pt_words.specs.declared.error.Refusal.{Refusal};
+ghost use Rattle.pt_space.specs.Alike.{SameSectors, with_taken};
 ghost use Rattle.pt_space.specs.Area.{Area, IsFreeRun};
 ghost use Rattle.pt_space.specs.Placed.{rounded_up, IsRoundedUp, Placed, NotPlaced};
 
@@ -30,4 +31,14 @@ pub fn placed_is_free()
 /// A sector rounded up is the least multiple of the alignment that isn't below it.
 pub fn rounded_up_is_least()
     ensures { (alignment k : ℕ) → alignment ≢ 0 → IsRoundedUp alignment k (rounded_up alignment k) }
+{}
+
+/// Only which sectors are taken counts, and not which runs have them: what is placed is placed.
+pub fn placed_by_sectors()
+    ensures { (a : Area) (alignment start : ℕ) (end : End) (runs : List Run) (r : Run) → SameSectors a.taken runs → Placed a alignment start end r → Placed (with_taken a runs) alignment start end r }
+{}
+
+/// And what is refused is refused.
+pub fn refused_by_sectors()
+    ensures { (a : Area) (alignment start : ℕ) (end : End) (runs : List Run) (r : Refusal) → SameSectors a.taken runs → NotPlaced a alignment start end r → NotPlaced (with_taken a runs) alignment start end r }
 {}

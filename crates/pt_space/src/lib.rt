@@ -10,7 +10,8 @@ mod space;
 mod start;
 
 pub use laws::{
-    placed_is_free, placed_is_not_refused, placed_one, refused_one, rounded_up_is_least,
+    placed_by_sectors, placed_is_free, placed_is_not_refused, placed_one, refused_by_sectors,
+    refused_one, rounded_up_is_least,
 };
 pub use placement::place;
 pub use space::{Lead, Run, Space};

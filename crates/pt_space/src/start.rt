@@ -66,7 +66,6 @@ fn given(space: &Space, alignment: u64, start: u64) -> Result<Run, Refusal>
 pub(crate) fn find_start(space: &mut Space, alignment: u64, start: u64) -> Result<Run, Refusal>
     ensures ok { IfOk result (HasStarted (area_of space.old) alignment start) }
     ensures err { IfErr result (NotStarted (area_of space.old) alignment start) }
-    ensures high { space.new.high ≡ space.old.high }
 {
     if start != 0 {
         return given(space, alignment, start);
