@@ -9,6 +9,7 @@ ptab=$(./build.sh)
 python3 tests/real_images.py "$ptab"
 python3 tests/bad_input.py "$ptab"
 python3 tests/rows.py "$ptab"
+python3 tests/session.py "$ptab"
 python3 tests/power_cut.py "$ptab"
 python3 tests/hostile.py "$ptab" 8000
 exec rt ci

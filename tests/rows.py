@@ -9,6 +9,7 @@ import tempfile
 
 import rows_edit
 import rows_gpt
+import rows_help
 import rows_labels
 import rows_mbr
 from command import Command
@@ -17,7 +18,7 @@ from command import Command
 def main():
     ptab = os.path.abspath(sys.argv[1])
     with tempfile.TemporaryDirectory() as folder:
-        for part in (rows_gpt, rows_mbr, rows_labels, rows_edit):
+        for part in (rows_gpt, rows_mbr, rows_labels, rows_edit, rows_help):
             for rows in part.ROWS:
                 rows(Command(ptab, f"{folder}/image"))
     print(f"rows: {Command.checked} passed, 0 failed")

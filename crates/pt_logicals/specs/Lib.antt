@@ -5,3 +5,5 @@ pub mod Entered
 pub mod New
 pub mod Laws
 pub mod NewLaws
+pub mod Linked
+pub mod LinkLaws
