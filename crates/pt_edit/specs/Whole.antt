@@ -1,8 +1,6 @@
 -- The layout of a GPT that the program has taken apart.
 use Rattle.std.specs.Prelude.{ℕ, ◌-◌, slice_set, None}
-use Rattle.pt_edit.specs.Spots.{without_label, with_label, with_part}
-use Rattle.pt_bsd.specs.declared.label.Label.{Label}
-use Rattle.pt_bsd.specs.declared.label.LabelEntry.{LabelEntry}
+use Rattle.pt_labels.specs.Lists.{without_label}
 use Rattle.pt_recover.specs.declared.layout.Layout.{Layout}
 use Rattle.pt_recover.specs.declared.layout.Body.TheVariants as body
 use Rattle.pt_edit.specs.declared.gpt.Gpt.{Gpt}
@@ -17,12 +15,4 @@ without_spot number g = record {
   sectors = g.sectors;
   body = body.Gpt (record { disk = g.table.disk; first = g.table.first; last = g.table.last; entries = slice_set g.table.entries (number - 1) None });
   labels = without_label number g.labels;
-}
-
--- the layout with another entry of a letter in the label of a number
-abbrev pub with_part_spot : ℕ → Label → ℕ → LabelEntry → Gpt → Layout
-with_part_spot number l letter e g = record {
-  sectors = g.sectors;
-  body = body.Gpt g.table;
-  labels = with_label number (with_part l letter e) g.labels;
 }
