@@ -8,13 +8,17 @@ use Rattle.pt_recover.specs.declared.layout.Layout.{Layout}
 use Rattle.pt_recover.specs.declared.layout.Body.{Body}
 use Rattle.pt_recover.specs.declared.layout.Body.TheVariants.{Mbr, Gpt}
 use Rattle.pt_convert.specs.Converted.{guids_taken, Converted, NotConverted}
+use Rattle.pt_records.specs.Typed.{RecordTyped, RecordNotTyped}
+use Rattle.pt_records.specs.Deleted.{RecordDeleted, RecordNotDeleted}
+use Rattle.pt_records.specs.Created.{RecordNew, RecordNotNew}
+use Rattle.pt_labels.specs.New.{PartNew, PartNotNew}
 use Rattle.pt_labels.specs.Parts.{PartTyped, PartNotTyped, PartDeleted, PartNotDeleted}
 use Rattle.pt_edit.specs.Changes.{Named, NameRefused, UniqueSet, UniqueRefused, BitSet, BitRefused, DiskSet, Extended, NoTable, edge}
 use Rattle.pt_edit.specs.Spots.{EntryTyped, EntryNotTyped, EntryDeleted, EntryNotDeleted}
 use Rattle.pt_edit.specs.NewEntry.{EntryMade, EntryNotMade}
 use Rattle.pt_edit.specs.declared.asked.Asked.{Asked}
 use Rattle.pt_words.specs.declared.error.Refusal.{Refusal}
-use Rattle.pt_words.specs.declared.error.Refusal.TheVariants.{NotForThisTable, NoFreshGuid, NoRoomForGpt, NotYet}
+use Rattle.pt_words.specs.declared.error.Refusal.TheVariants.{NotForThisTable, NoFreshGuid, NoRoomForGpt}
 use Rattle.pt_words.specs.declared.word.Code.{Code}
 use Rattle.pt_words.specs.declared.word.End.{End}
 use Rattle.pt_words.specs.declared.word.Edit.{Edit}
@@ -57,32 +61,32 @@ abbrev pub InKind : Body → Type 0 → (Table → Type 0) → Type 0
 InKind (Mbr records chain) HoldsInMbr HoldsIn = HoldsInMbr
 InKind (Gpt t) HoldsInMbr HoldsIn = HoldsIn t
 
--- `t` by the path: of a partition of a label, or of a record or an entry
+-- `t` by the path: of a partition of a label, or of a record, a logical partition or an entry
 abbrev pub Typed : ℕ → ℕ → Option ℕ → Code → Layout → Layout → Type 0
 Typed b number (Some letter) code o p = PartTyped b number letter code o p
-Typed b number None code o p = InKind o.body ⊥ (λ t. EntryTyped b t number code o p)
+Typed b number None code o p = InKind o.body (RecordTyped b number code o p) (λ t. EntryTyped b t number code o p)
 
 abbrev pub NotTyped : ℕ → ℕ → Option ℕ → Code → Layout → Refusal → Type 0
 NotTyped b number (Some letter) code o r = PartNotTyped b number letter code o r
-NotTyped b number None code o r = InKind o.body (r ≡ NotYet) (λ t. EntryNotTyped b t number code r)
+NotTyped b number None code o r = InKind o.body (RecordNotTyped b number code o r) (λ t. EntryNotTyped b t number code r)
 
 -- `d` by the path
 abbrev pub Deleted : ℕ → ℕ → Option ℕ → Layout → Layout → Type 0
 Deleted b number (Some letter) o p = PartDeleted b number letter o p
-Deleted b number None o p = InKind o.body ⊥ (λ t. EntryDeleted t number o p)
+Deleted b number None o p = InKind o.body (RecordDeleted number o p) (λ t. EntryDeleted t number o p)
 
 abbrev pub NotDeleted : ℕ → ℕ → Option ℕ → Layout → Refusal → Type 0
 NotDeleted b number (Some letter) o r = PartNotDeleted b number letter o r
-NotDeleted b number None o r = InKind o.body (r ≡ NotYet) (λ t. EntryNotDeleted t number r)
+NotDeleted b number None o r = InKind o.body (RecordNotDeleted number o r) (λ t. EntryNotDeleted t number r)
 
 -- `n` by the path
 abbrev pub Made : ℕ → Option ℕ → Asked → List Guid → Layout → Layout → Type 0
-Made b (Some letter) a fresh o p = ⊥
-Made b None a fresh o p = InKind o.body ⊥ (λ t. EntryMade b t a fresh o p)
+Made b (Some letter) a fresh o p = PartNew b a.number letter a.alignment a.start a.end a.code o p
+Made b None a fresh o p = InKind o.body (RecordNew b a.number a.alignment a.start a.end a.code o p) (λ t. EntryMade b t a fresh o p)
 
 abbrev pub NotMade : ℕ → Option ℕ → Asked → List Guid → Layout → Refusal → Type 0
-NotMade b (Some letter) a fresh o r = r ≡ NotYet
-NotMade b None a fresh o r = InKind o.body (r ≡ NotYet) (λ t. EntryNotMade b t a fresh r)
+NotMade b (Some letter) a fresh o r = PartNotNew b a.number letter a.alignment a.start a.end a.code o r
+NotMade b None a fresh o r = InKind o.body (RecordNotNew b a.number a.alignment a.start a.end a.code o r) (λ t. EntryNotMade b t a fresh r)
 
 -- what a word `n` asks for
 abbrev pub asked_for : ℕ → ℕ → ℕ → End → Option Code → Asked

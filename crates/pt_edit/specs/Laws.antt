@@ -8,6 +8,9 @@ use Rattle.pt_recover.specs.declared.layout.Layout.{Layout}
 use Rattle.pt_recover.specs.declared.layout.Body.{Body}
 use Rattle.pt_recover.specs.declared.layout.Body.TheVariants.{Mbr, Gpt}
 use Rattle.pt_convert.specs.Laws.{converted_one_lem, converted_taken_lem, not_converted_one_lem}
+use Rattle.pt_records.specs.Laws.{record_typed_one_lem, record_typed_taken_lem, record_not_typed_one_lem, record_deleted_one_lem, record_deleted_taken_lem, record_not_deleted_one_lem}
+use Rattle.pt_records.specs.NewLaws.{record_new_one_lem, record_new_taken_lem, record_not_new_one_lem}
+use Rattle.pt_labels.specs.NewLaws.{new_one_lem, new_excludes_lem, not_new_one_lem}
 use Rattle.pt_labels.specs.Laws.{typed_one_lem, typed_excludes_lem, not_typed_one_lem, deleted_one_lem, deleted_excludes_lem, not_deleted_one_lem}
 use Rattle.pt_edit.specs.Spots.{is_slice, EntryTyped, EntryNotTyped, no_such_entry, unknown_code, is_container, EntryDeleted, EntryNotDeleted}
 use Rattle.pt_edit.specs.Changes.{IsGpt, HasEntry, Changed, Missing, no_gpt, no_entry, NotChanged, missing, barred, TableMade, NoTable, with_body}
@@ -131,41 +134,41 @@ in_kind (Gpt t) M N G H P mbr gpt x y = gpt t x y
 -- `t` by whether the path has a letter
 typed_one : (b number : ℕ) (letter : Option ℕ) (code : Code) (o p q : Layout) → Typed b number letter code o p → Typed b number letter code o q → p ≡ q
 typed_one b number (Some letter) code o p q x y = typed_one_lem b number letter code o p q x y
-typed_one b number None code o p q x y = in_kind o.body _ _ _ _ (p ≡ q) (λ m n. absurd m) (λ t. entry_typed_one b t number code o p q) x y
+typed_one b number None code o p q x y = in_kind o.body _ _ _ _ (p ≡ q) (record_typed_one_lem b number code o p q) (λ t. entry_typed_one b t number code o p q) x y
 
 typed_taken : (b number : ℕ) (letter : Option ℕ) (code : Code) (o p : Layout) (r : Refusal) → Typed b number letter code o p → NotTyped b number letter code o r → ⊥
 typed_taken b number (Some letter) code o p r x y = typed_excludes_lem b number letter code o p r x y
-typed_taken b number None code o p r x y = in_kind o.body _ _ _ _ ⊥ (λ m n. m) (λ t. entry_typed_taken b t number code o p r) x y
+typed_taken b number None code o p r x y = in_kind o.body _ _ _ _ ⊥ (record_typed_taken_lem b number code o p r) (λ t. entry_typed_taken b t number code o p r) x y
 
 not_typed_one : (b number : ℕ) (letter : Option ℕ) (code : Code) (o : Layout) (r q : Refusal) → NotTyped b number letter code o r → NotTyped b number letter code o q → r ≡ q
 not_typed_one b number (Some letter) code o r q x y = not_typed_one_lem b number letter code o r q x y
-not_typed_one b number None code o r q x y = in_kind o.body _ _ _ _ (r ≡ q) (λ m n. m ∙ sym n) (λ t. entry_not_typed_one b t number code r q) x y
+not_typed_one b number None code o r q x y = in_kind o.body _ _ _ _ (r ≡ q) (record_not_typed_one_lem b number code o r q) (λ t. entry_not_typed_one b t number code r q) x y
 
 -- `d` likewise
 deleted_one : (b number : ℕ) (letter : Option ℕ) (o p q : Layout) → Deleted b number letter o p → Deleted b number letter o q → p ≡ q
 deleted_one b number (Some letter) o p q x y = deleted_one_lem b number letter o p q x y
-deleted_one b number None o p q x y = in_kind o.body _ _ _ _ (p ≡ q) (λ m n. absurd m) (λ t. entry_deleted_one t number o p q) x y
+deleted_one b number None o p q x y = in_kind o.body _ _ _ _ (p ≡ q) (record_deleted_one_lem number o p q) (λ t. entry_deleted_one t number o p q) x y
 
 deleted_taken : (b number : ℕ) (letter : Option ℕ) (o p : Layout) (r : Refusal) → Deleted b number letter o p → NotDeleted b number letter o r → ⊥
 deleted_taken b number (Some letter) o p r x y = deleted_excludes_lem b number letter o p r x y
-deleted_taken b number None o p r x y = in_kind o.body _ _ _ _ ⊥ (λ m n. m) (λ t. entry_deleted_taken t number o p r) x y
+deleted_taken b number None o p r x y = in_kind o.body _ _ _ _ ⊥ (record_deleted_taken_lem number o p r) (λ t. entry_deleted_taken t number o p r) x y
 
 not_deleted_one : (b number : ℕ) (letter : Option ℕ) (o : Layout) (r q : Refusal) → NotDeleted b number letter o r → NotDeleted b number letter o q → r ≡ q
 not_deleted_one b number (Some letter) o r q x y = not_deleted_one_lem b number letter o r q x y
-not_deleted_one b number None o r q x y = in_kind o.body _ _ _ _ (r ≡ q) (λ m n. m ∙ sym n) (λ t m n. m.is ∙ sym n.is) x y
+not_deleted_one b number None o r q x y = in_kind o.body _ _ _ _ (r ≡ q) (record_not_deleted_one_lem number o r q) (λ t m n. m.is ∙ sym n.is) x y
 
 -- and `n`
 made_one : (b : ℕ) (letter : Option ℕ) (a : Asked) (fresh : List Guid) (o p q : Layout) → Made b letter a fresh o p → Made b letter a fresh o q → p ≡ q
-made_one b (Some letter) a fresh o p q x y = absurd x
-made_one b None a fresh o p q x y = in_kind o.body _ _ _ _ (p ≡ q) (λ m n. absurd m) (λ t. entry_made_one b t a fresh o p q) x y
+made_one b (Some letter) a fresh o p q x y = new_one_lem b a.number letter a.alignment a.start a.end a.code o p q x y
+made_one b None a fresh o p q x y = in_kind o.body _ _ _ _ (p ≡ q) (record_new_one_lem b a.number a.alignment a.start a.end a.code o p q) (λ t. entry_made_one b t a fresh o p q) x y
 
 made_taken : (b : ℕ) (letter : Option ℕ) (a : Asked) (fresh : List Guid) (o p : Layout) (r : Refusal) → Made b letter a fresh o p → NotMade b letter a fresh o r → ⊥
-made_taken b (Some letter) a fresh o p r x y = x
-made_taken b None a fresh o p r x y = in_kind o.body _ _ _ _ ⊥ (λ m n. m) (λ t. entry_made_taken b t a fresh o p r) x y
+made_taken b (Some letter) a fresh o p r x y = new_excludes_lem b a.number letter a.alignment a.start a.end a.code o p r x y
+made_taken b None a fresh o p r x y = in_kind o.body _ _ _ _ ⊥ (record_new_taken_lem b a.number a.alignment a.start a.end a.code o p r) (λ t. entry_made_taken b t a fresh o p r) x y
 
 not_made_one : (b : ℕ) (letter : Option ℕ) (a : Asked) (fresh : List Guid) (o : Layout) (r q : Refusal) → NotMade b letter a fresh o r → NotMade b letter a fresh o q → r ≡ q
-not_made_one b (Some letter) a fresh o r q x y = x ∙ sym y
-not_made_one b None a fresh o r q x y = in_kind o.body _ _ _ _ (r ≡ q) (λ m n. m ∙ sym n) (λ t. entry_not_made_one b t a fresh r q) x y
+not_made_one b (Some letter) a fresh o r q x y = not_new_one_lem b a.number letter a.alignment a.start a.end a.code o r q x y
+not_made_one b None a fresh o r q x y = in_kind o.body _ _ _ _ (r ≡ q) (record_not_new_one_lem b a.number a.alignment a.start a.end a.code o r q) (λ t. entry_not_made_one b t a fresh r q) x y
 
 -- a word makes one layout of another
 makes_on_one : (b alignment : ℕ) (fresh : List Guid) (w : Edit) (o p q : Layout) → MakesOn b alignment fresh w o p → MakesOn b alignment fresh w o q → p ≡ q

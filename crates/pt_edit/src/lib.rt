@@ -7,6 +7,7 @@ mod asked;
 mod entries;
 mod fold;
 mod gpt;
+mod kinds;
 mod laws;
 mod name;
 mod new_entry;

@@ -4,11 +4,11 @@ ghost use Rattle.std.specs.Prelude.{◌≢◌, IfOk, IfErr};
 ghost use Rattle.pt_edit.specs.Edited.{Typed, NotTyped, Deleted, NotDeleted, Made, NotMade};
 
 use crate::asked::Asked;
-use crate::gpt::Gpt;
+use crate::kinds::{Parts, parts_of};
 use crate::new_entry::new_entry;
 use crate::spots::{delete_entry, set_entry_kind};
 use pt_guid::Guid;
-use pt_labels::{delete_part, set_part_kind};
+use pt_labels::{delete_part, new_part, set_part_kind};
 use pt_layout::Path;
 use pt_recover::Layout;
 use pt_words::{Code, Refusal};
@@ -26,9 +26,9 @@ pub(crate) fn set_kind<const B: usize>(
     if let Some(letter) = path.letter {
         return set_part_kind::<B>(layout, path.number, letter, code);
     }
-    match Gpt::of(layout) {
-        Ok(gpt) => set_entry_kind::<B>(gpt, path.number, code),
-        Err(_) => Err(Refusal::NotYet),
+    match parts_of(layout) {
+        Parts::OfGpt(gpt) => set_entry_kind::<B>(gpt, path.number, code),
+        Parts::OfMbr(parts) => pt_records::set_kind::<B>(parts, path.number, code),
     }
 }
 
@@ -40,9 +40,9 @@ pub(crate) fn delete<const B: usize>(layout: Layout, path: &Path) -> Result<Layo
     if let Some(letter) = path.letter {
         return delete_part::<B>(layout, path.number, letter);
     }
-    match Gpt::of(layout) {
-        Ok(gpt) => delete_entry(gpt, path.number),
-        Err(_) => Err(Refusal::NotYet),
+    match parts_of(layout) {
+        Parts::OfGpt(gpt) => delete_entry(gpt, path.number),
+        Parts::OfMbr(parts) => pt_records::delete(parts, path.number),
     }
 }
 
@@ -58,10 +58,27 @@ pub(crate) fn new<const B: usize>(
     ensures err { IfErr result (λ refusal. refusal ≢ Refusal.Memory → NotMade B letter asked.now fresh.now layout refusal) }
 {
     match letter {
-        Some(_) => Err(Refusal::NotYet),
-        None => match Gpt::of(layout) {
-            Ok(gpt) => new_entry::<B>(alloc, gpt, asked, fresh),
-            Err(_) => Err(Refusal::NotYet),
+        Some(letter) => new_part::<B>(
+            alloc,
+            layout,
+            asked.number,
+            letter,
+            asked.alignment,
+            asked.start,
+            asked.end,
+            &asked.code,
+        ),
+        None => match parts_of(layout) {
+            Parts::OfGpt(gpt) => new_entry::<B>(alloc, gpt, asked, fresh),
+            Parts::OfMbr(parts) => pt_records::new::<B>(
+                alloc,
+                parts,
+                asked.number,
+                asked.alignment,
+                asked.start,
+                asked.end,
+                &asked.code,
+            ),
         },
     }
 }

@@ -4,11 +4,10 @@ ghost use Rattle.std.specs.Prelude.{◌≡◌, IfSome};
 ghost use Rattle.pt_sector.specs.Sectors.{IsSectorSize};
 
 use crate::{edit, parse_edit};
-use pt_bsd::empty_label;
+use pt_bsd::{LabelEntry, empty_label};
 use pt_gpt::Entry;
 use pt_guid::Guid;
-use pt_layout::{Body, Ebrs, Labels, Layout};
-use pt_mbr::Record;
+use pt_layout::{Body, Ebrs, Labels, Layout, slot, slot_count};
 use std::alloc::Global;
 use std::test::Fail;
 
@@ -73,10 +72,20 @@ fn entry(made: Result<Layout, u8>, number: usize) -> Option<Entry> {
     }
 }
 
-/// The first and the last sector of an entry.
-fn span(made: Result<Layout, u8>, number: usize) -> Option<(u64, u64)> {
-    let entry = entry(made, number)?;
-    Some((entry.first, entry.last))
+/// The first and the last sector of the partition of a number.
+fn span(made: Result<Layout, u8>, number: u64) -> Option<(u128, u128)> {
+    let body = match made {
+        Ok(Layout { body, .. }) => body,
+        Err(_) => return None,
+    };
+    for k in 0..slot_count::<512>(&body) {
+        if let Some(member) = slot::<512>(&body, k) {
+            if member.path.number == number {
+                return Some((member.first, member.last));
+            }
+        }
+    }
+    None
 }
 
 #[test]
@@ -208,14 +217,14 @@ fn a_new_slice_has_a_label(rt: HostRuntime) -> Result<(), Fail> {
     Ok(())
 }
 
-/// An MBR on 16,384 sectors with this first record.
-fn with_record(alloc: Global, record: Record) -> Layout
-    ensures { result.sectors ≡ 16384 }
+/// An empty MBR on so many sectors.
+fn empty_mbr(alloc: Global, sectors: u64) -> Layout
+    ensures { result.sectors ≡ sectors }
 {
     Layout {
-        sectors: 16384,
+        sectors,
         body: Body::Mbr {
-            records: [Some(record), None, None, None],
+            records: [None; 4],
             chain: Ebrs::new(Vec::new(alloc)),
         },
         labels: Labels::new(Vec::new(alloc)),
@@ -224,27 +233,99 @@ fn with_record(alloc: Global, record: Record) -> Layout
 
 #[test]
 fn an_mbr_becomes_a_gpt(rt: HostRuntime) -> Result<(), Fail> {
-    let record = Record {
-        boot: 0,
-        start_chs: [0; 3],
-        kind: 0x83,
-        end_chs: [0; 3],
-        start: 2048,
-        size: 2048,
-    };
-    let old = with_record(rt.alloc(), record);
-    let new = made::<512>(rt.alloc(), Some(&old), 16384, "g n:0:4096:0", &FRESH)?;
-    assert_eq!(rt; span(new, 2), Some((4096, 16350)));
-    for (line, number) in [("g g", 9), ("c:1:x", 9), ("t:1.a:07", 1)] {
-        let made = made::<512>(rt.alloc(), Some(&old), 16384, line, &FRESH)?;
+    let old = empty_mbr(rt.alloc(), 4096);
+    for (line, number) in [
+        ("n:1:2048:4063 g", 12),
+        ("n:1:2048:4062 g", 0),
+        ("n:1:2048:4062 g g", 9),
+        ("n:1:2048:4062 g a:1 n:0:0:+1 n:0:0:+1", 10),
+        ("c:1:x", 9),
+        ("t:1.a:07", 1),
+        ("n:1:2048:0:8300", 6),
+    ] {
+        let made = made::<512>(rt.alloc(), Some(&old), 4096, line, &FRESH[..3])?;
         assert_eq!(rt; refusal(made), number, "at {line}");
     }
-    let long = Record {
-        size: 14336,
-        ..record
-    };
-    let old = with_record(rt.alloc(), long);
-    let new = made::<512>(rt.alloc(), Some(&old), 16384, "g", &FRESH)?;
-    assert_eq!(rt; refusal(new), 12);
+    Ok(())
+}
+
+#[test]
+fn partitions_of_an_mbr(rt: HostRuntime) -> Result<(), Fail> {
+    let old = empty_mbr(rt.alloc(), 16384);
+    for (line, number, wanted) in [
+        ("n:0:2048:4095 n:0:0:0", 2, Some((4096, 16383))),
+        ("n:2:4096:12287:05 n:5:0:+1000", 5, Some((6144, 7143))),
+        (
+            "n:2:4096:12287:05 n:5:0:+1000 n:5:0:+1000",
+            6,
+            Some((8192, 9191)),
+        ),
+        (
+            "n:2:4096:12287:05 n:5:0:+1000 n:5:0:+1000 d:5",
+            5,
+            Some((8192, 9191)),
+        ),
+        (
+            "n:2:4096:12287:05 n:5:0:+1000 n:5:0:+1000 d:5 n:5:6144:+1000",
+            6,
+            Some((8192, 9191)),
+        ),
+        ("n:2:4096:12287:05 n:5:0:+1000 d:2", 5, None),
+        ("n:2:4096:12287:05 n:5:0:+1000 n:6:0:+1000", 5, None),
+    ] {
+        let made = made::<512>(rt.alloc(), Some(&old), 16384, line, &[])?;
+        assert_eq!(rt; span(made, number), wanted, "at {line}");
+    }
+    Ok(())
+}
+
+#[test]
+fn partitions_of_a_label(rt: HostRuntime) -> Result<(), Fail> {
+    let old = empty_mbr(rt.alloc(), 8192);
+    let line = "n:1:2048:6143:A5 a:1 n:1.b:2064:4063 t:1.b:01";
+    match made::<512>(rt.alloc(), Some(&old), 8192, line, &[])? {
+        Ok(layout) => {
+            let labels = layout.labels.into_vec();
+            assert_eq!(rt; labels.len(), 1);
+            let part = LabelEntry {
+                size: 2000,
+                offset: 16,
+                fragment: 0,
+                fstype: 1,
+                frag: 0,
+                cpg: 0,
+            };
+            assert_eq!(rt; labels[0].label.entries[1], Some(part));
+        }
+        Err(_) => assert!(rt; false),
+    }
+    Ok(())
+}
+
+#[test]
+fn offsets_of_a_label(rt: HostRuntime) -> Result<(), Fail> {
+    let line = "o a:1 n:1:4294967290:+1001:A500";
+    match made::<512>(rt.alloc(), None, 8589934592, line, &FRESH)? {
+        Ok(layout) => {
+            let mut labels = layout.labels.into_vec();
+            assert_eq!(rt; labels.len(), 1);
+            labels[0].label.entries[2] = Some(LabelEntry {
+                size: 1001,
+                offset: 4294967290,
+                fragment: 0,
+                fstype: 0,
+                frag: 0,
+                cpg: 0,
+            });
+            let old = Layout {
+                sectors: 8589934592,
+                body: layout.body,
+                labels: Labels::new(labels),
+            };
+            let new = made::<512>(rt.alloc(), Some(&old), 8589934592, "a:1 n:1.a:0:0", &[])?;
+            assert_eq!(rt; refusal(new), 15);
+        }
+        Err(_) => assert!(rt; false),
+    }
     Ok(())
 }
