@@ -7,3 +7,5 @@ pub mod Laws
 pub mod NewLaws
 pub mod Linked
 pub mod LinkLaws
+pub mod Numbered
+pub mod NumberLaws

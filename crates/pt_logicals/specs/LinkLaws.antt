@@ -29,13 +29,13 @@ kept (e ∷ es) from zero o within x = (x.0, x.1, x.2)
 kept (e ∷ es) from (suc k) o within x = (x.0, x.1, kept es e.next k o (omega arith) x.2)
 
 -- the chain with one more behind the one at a place
-more : List Ebr → ℕ → ℕ → Record → List Ebr
+unfoldable pub more : List Ebr → ℕ → ℕ → Record → List Ebr
 more chain j s r = insert (slice_set chain j (record (ebr_at chain j) { next = Some (lba s) })) (suc j) (record { at = lba s; logical = Some r; next = (ebr_at chain j).next })
 
 shaped : List Ebr → ℕ → ℕ → Record → Bool → ℕ → List Ebr
 shaped chain j s r c i = insert (if c then chain else slice_set chain i (record (ebr_at chain i) { next = Some (lba s) })) (suc j) (record { at = lba s; logical = Some r; next = if c then option_map (λ (e : Ebr). e.at) (slice_get chain 0) else (ebr_at chain i).next })
 
-with_ebr_is : (chain : List Ebr) (j s : ℕ) (r : Record) → with_ebr chain (suc j) s r ≡ more chain j s r
+pub with_ebr_is : (chain : List Ebr) (j s : ℕ) (r : Record) → with_ebr chain (suc j) s r ≡ more chain j s r
 unfolding more shaped
 with_ebr_is chain j s r =
     let some : ¬ (suc j ≡ 0) = omega arith in
