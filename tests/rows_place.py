@@ -105,8 +105,8 @@ def to_gpt(command):
     low = SMALL.mbr(16384, [record(0x05, 20, 8192)])
     SMALL.put(low, 20, ebr())
     command.on(low).refused("edit 12", "g")
-    many = long_chain(125)
-    command.on(many).refused("edit 12", "g")
+    command.on(long_chain(125, first=40)).refused("edit 12", "g")
+    command.on(long_chain(124, first=40)).refused("edit 10", "g")
 
 
 def no_slices(command):
@@ -156,5 +156,4 @@ def not_yet(command):
     command.on(one_partition()).refused("not yet", *NEXT, "a:1", "n:2:100:200:A500")
 
 
-ROWS = (beside_one, from_nothing, blocks, to_gpt, not_yet)
-TO_COME = (on_mbr, no_slices, in_labels, far_labels)
+ROWS = (beside_one, from_nothing, blocks, on_mbr, to_gpt, no_slices, in_labels, far_labels, not_yet)
