@@ -34,6 +34,7 @@ def beside_one(command):
     for code in ("EF00", "ef00", "8200", "0700", "A503"):
         command.on(one_partition()).edited(*NEXT, "a:1", f"n:128:100:200:{code}").healthy()
         command.shows(HEAD, ONE, new_line(128, 100, 200, code.upper()))
+    command.on(one_partition()).edited(*NEXT, "d:1", "n:1:2048:4062:8200").shows(HEAD, new_line(1, 2048, 4062, "8200")).healthy()
     command.on(one_partition()).edited(*NEXT, "a:1", "n:2:100:200", "c:2:new", "A:2:0:1", "d:1").healthy()
     command.shows(HEAD, f"2 100 200 8300 0000000000000001 {NEXT_GUID} new")
 
@@ -105,8 +106,8 @@ def to_gpt(command):
     low = SMALL.mbr(16384, [record(0x05, 20, 8192)])
     SMALL.put(low, 20, ebr())
     command.on(low).refused("edit 12", "g")
-    many = long_chain(125)
-    command.on(many).refused("edit 12", "g")
+    command.on(long_chain(125, first=40)).refused("edit 12", "g")
+    command.on(long_chain(124, first=40)).refused("edit 10", "g")
 
 
 def no_slices(command):
@@ -156,5 +157,4 @@ def not_yet(command):
     command.on(one_partition()).refused("not yet", *NEXT, "a:1", "n:2:100:200:A500")
 
 
-ROWS = (beside_one, from_nothing, blocks, to_gpt, not_yet)
-TO_COME = (on_mbr, no_slices, in_labels, far_labels)
+ROWS = (beside_one, from_nothing, blocks, on_mbr, to_gpt, no_slices, in_labels, far_labels, not_yet)
