@@ -23,17 +23,21 @@ MIB = 1 << 20
 LOGICALS = 120
 ONE, FULL, CHAIN, LARGE = "1 partition, 64 MiB", "128 partitions, 256 MiB", f"{LOGICALS} logicals, 256 MiB", "1 partition, sparse 1 TiB"
 CALLS = "read,pread64,readv,preadv,write,pwrite64,writev,pwritev,fsync,fdatasync"
-# Sector 0, both headers, both arrays; or sector 0 and each extended boot record.
+# The sectors that decide the answer: sector 0, both headers and both arrays; or sector 0 and each extended boot record, where
+# verify reads sector 0 once more, to learn that it is an MBR's.
 NAMED = {ONE: 67, FULL: 67, LARGE: 67, CHAIN: 1 + LOGICALS}
+TWICE = {"show": 0, "verify": 1}
 
 
-def gpt_by_sgdisk(path, size, count):
+def gpt_by_sgdisk(ptab, path, size, count):
+    """A healthy table: on small disks sgdisk's protective record is mended."""
     with open(path, "wb") as it:
         it.truncate(size)
     words = ["sgdisk"]
     for number in range(1, count + 1):
         words += ["-n", f"{number}:{2048 * number}:+1000K", "-c", f"{number}:part {number}"]
     subprocess.run([*words, path], check=True, capture_output=True)
+    subprocess.run([ptab, "edit", path, "a:2048"], check=True, capture_output=True)
 
 
 def chain(path, size, count):
@@ -47,10 +51,10 @@ def chain(path, size, count):
 
 
 MAKE = {
-    ONE: lambda path: gpt_by_sgdisk(path, 64 * MIB, 1),
-    FULL: lambda path: gpt_by_sgdisk(path, 256 * MIB, 128),
-    CHAIN: lambda path: chain(path, 256 * MIB, LOGICALS),
-    LARGE: lambda path: gpt_by_sgdisk(path, 1 << 40, 1),
+    ONE: lambda ptab, path: gpt_by_sgdisk(ptab, path, 64 * MIB, 1),
+    FULL: lambda ptab, path: gpt_by_sgdisk(ptab, path, 256 * MIB, 128),
+    CHAIN: lambda ptab, path: chain(path, 256 * MIB, LOGICALS),
+    LARGE: lambda ptab, path: gpt_by_sgdisk(ptab, path, 1 << 40, 1),
 }
 
 
@@ -138,11 +142,11 @@ def faults(found):
     for (title, job, tool), (many, sectors) in found.items():
         if tool != "ptab" or job == "rename":
             continue
-        if sectors > NAMED[title]:
+        if sectors > NAMED[title] + (TWICE[job] if title == CHAIN else 0):
             yield f"{title}: {job} reads {sectors} sectors, more than {NAMED[title]}"
         if many >= found[(title, job, "sfdisk")][0]:
             yield f"{title}: {job} takes more instructions than sfdisk"
-        if title == LARGE and (many > 1.02 * found[(ONE, job, tool)][0] or sectors > found[(ONE, job, tool)][1]):
+        if title == LARGE and (many > 1.05 * found[(ONE, job, tool)][0] or sectors > found[(ONE, job, tool)][1]):
             yield f"{title}: {job} costs more than on 64 MiB"
 
 
@@ -153,8 +157,10 @@ def main():
     with tempfile.TemporaryDirectory() as folder:
         for title, make in MAKE.items():
             kept, image = f"{folder}/kept.img", f"{folder}/image.img"
-            make(kept)
+            make(ptab, kept)
             for job, tools in jobs(ptab, image, title).items():
+                if job == "verify" and subprocess.run([ptab, "verify", kept], capture_output=True).returncode != 0:
+                    sys.exit(f"{title}: not healthy")
                 for tool, words in tools:
                     took, many, seen = measure(words, image, kept, folder, job == "rename")
                     found[(title, job, tool)] = (many, seen["sectors"])

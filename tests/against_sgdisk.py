@@ -9,6 +9,7 @@ import random
 import sys
 import tempfile
 import uuid
+from concurrent.futures import ProcessPoolExecutor
 from dataclasses import dataclass
 
 from tools import by_fdisk, by_parted, by_sfdisk, by_sgdisk, must, run
@@ -149,15 +150,23 @@ def edited(ptab, ours, theirs, rng, numbers):
     accepted(ptab, ours, must(ptab, "show", ours).splitlines())
 
 
+def table_made_and_edited(ptab, seed):
+    """How many answers were compared."""
+    before = checked
+    rng = random.Random(seed)
+    with tempfile.TemporaryDirectory() as folder:
+        table = any_table(rng)
+        ours, theirs, _ = made(ptab, folder, table, rng)
+        edited(ptab, ours, theirs, rng, [it.number for it in table.partitions])
+    return checked - before
+
+
 def main():
     ptab = os.path.abspath(sys.argv[1])
-    rng = random.Random(5)
-    with tempfile.TemporaryDirectory() as folder:
-        for _ in range(int(sys.argv[2]) if len(sys.argv) > 2 else 12):
-            table = any_table(rng)
-            ours, theirs, _ = made(ptab, folder, table, rng)
-            edited(ptab, ours, theirs, rng, [it.number for it in table.partitions])
-    print(f"against sgdisk: {checked} passed, 0 failed")
+    count = int(sys.argv[2]) if len(sys.argv) > 2 else 16
+    with ProcessPoolExecutor() as pool:
+        done = [pool.submit(table_made_and_edited, ptab, seed) for seed in range(count)]
+        print(f"against sgdisk: {sum(it.result() for it in done)} passed, 0 failed")
 
 
 main()

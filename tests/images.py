@@ -139,10 +139,10 @@ def chained(ebrs, sectors=SMALL, kind=0x05):
     return image
 
 
-def long_chain(count, sectors=SMALL):
-    """1024 sectors with an extended partition from 10 and that many extended boot records, each with a logical of one sector."""
-    image = sectors.mbr(1024, [record(0x05, 10, 1000)])
+def long_chain(count, sectors=SMALL, first=10):
+    """1024 sectors with an extended partition of 900 and that many extended boot records, each with a logical of one sector."""
+    image = sectors.mbr(1024, [record(0x05, first, 900)])
     for k in range(count):
         link = record(0x05, 2 * k + 2, 1) if k + 1 < count else bytes(16)
-        sectors.put(image, 10 + 2 * k, ebr(record(0x83, 1, 1), link))
+        sectors.put(image, first + 2 * k, ebr(record(0x83, 1, 1), link))
     return image

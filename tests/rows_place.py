@@ -19,8 +19,7 @@ def beside_one(command):
     refused = (("n:2:0:0", 3), ("n:2:100:200", 5), ("a:1 n:2:4063:0", 4), ("a:1 n:2:100:99", 3), ("a:1 n:2:100:4063", 4),
                ("a:1 n:2:100:2048", 5), ("a:1 n:129:0:0", 1), ("a:1 n:1:0:0", 2), ("a:1 n:2:0:0 n:3:0:0", 3), ("a:1 n:2:33:0", 4),
                ("a:1 n:2:18446744073709551615:0", 4), ("n:2:18446744073709551615:0", 4), ("a:1 n:2:100:+18446744073709551615", 4),
-               ("n:1:0:0:05", 2), ("n:0:0:0:05", 6), ("n:2:0:0:1234", 6), ("n:2:0:0:83", 6), ("n:1.a:0:0", 1), ("n:2.a:0:0", 1),
-               ("n:129.a:0:0", 1), ("a:1 n:2:100:100:A500", 8), ("a:1 n:2:2048:2048:A500", 5), ("g", 9))
+               ("n:1:0:0:05", 2), ("n:0:0:0:05", 6), ("n:2:0:0:1234", 6), ("n:2:0:0:83", 6), ("a:1 n:2:100:100:A500", 8), ("a:1 n:2:2048:2048:A500", 5), ("g", 9))
     for words, number in refused:
         command.refused(f"edit {number}", *NEXT, *words.split(" "))
     command.refused("edit 10", "a:1", "n:2:0:0").refused("edit 10", *NEXT, "a:1", "n:2:0:+1", "n:3:0:+1")
@@ -49,7 +48,7 @@ def from_nothing(command):
     command.shows(f"gpt 2048 34 2014 {images.DISK}", f"1 34 2014 8300 0000000000000000 {images.FIRST}")
     command.on(SMALL.zeros(0)).gives(["edit", *BOTH, "n:1:0:0"], "", "no table: too small\n", 4)
     large = command.large()
-    large.on(LARGE.zeros(256)).refused("edit 3", *BOTH, "o", "n:1:0:0").refused("edit 1", *BOTH, "o", "a:1", "n:1.a:0:0")
+    large.on(LARGE.zeros(256)).refused("edit 3", *BOTH, "o", "n:1:0:0")
     large.edited(*BOTH, "o", "a:1", "n:1:0:0").healthy()
     large.shows(f"gpt 256 6 250 {images.DISK}", f"1 6 250 8300 0000000000000000 {images.FIRST}")
     large.on(LARGE.zeros(1024)).edited(*BOTH, "o", "n:3:0:0:A500").healthy()
@@ -106,8 +105,16 @@ def to_gpt(command):
     low = SMALL.mbr(16384, [record(0x05, 20, 8192)])
     SMALL.put(low, 20, ebr())
     command.on(low).refused("edit 12", "g")
-    many = long_chain(125)
-    command.on(many).refused("edit 12", "g")
+    command.on(long_chain(125, first=40)).refused("edit 12", "g")
+    command.on(long_chain(124, first=40)).refused("edit 10", "g")
+
+
+def no_slices(command):
+    """A letter under what is no slice."""
+    command.on(one_partition())
+    for number in (1, 2, 128, 129, 2 ** 64 - 1):
+        command.refused("edit 1", "a:1", f"n:{number}.a:0:0").refused("edit 1", f"d:{number}.a").refused("edit 1", f"t:{number}.a:07")
+    command.large().on(LARGE.gpt(1024, {1: entry(6, 1018, FREEBSD)})).refused("edit 1", "n:1.a:0:0")
 
 
 def in_labels(command):
@@ -149,4 +156,4 @@ def not_yet(command):
     command.on(one_partition()).refused("not yet", *NEXT, "a:1", "n:2:100:200:A500")
 
 
-ROWS = (beside_one, from_nothing, blocks, on_mbr, to_gpt, in_labels, far_labels, not_yet)
+ROWS = (beside_one, from_nothing, blocks, on_mbr, to_gpt, no_slices, in_labels, far_labels, not_yet)

@@ -39,10 +39,12 @@ Exit status: 0 found, 1 none, 2 usage, a bad PATH or K, 4 no table, 5 the image
 can't be read, 6 no memory.";
 
 pub const EDIT: &str = "\
-Words: c:NUM:NAME name, t:PATH:CODE type, d:PATH delete, u:NUM:GUID its GUID,
-U:GUID the disk's, A:NUM:BIT:V attribute bit, e use a grown disk, o empty GPT,
-a:K alignment. PATH is 3 or 2.a, CODE EF00 8300 8200 0700 A503. `o` takes a
-fresh GUID: --fresh $(head -c 16 /dev/urandom | od -An -v -tx1 | tr -d ' \\n')
+Words: n:NUM:START:END[:CODE] new (0 lets ptab choose, END may be +SECTORS),
+d:PATH delete, t:PATH:CODE type, c:NUM:NAME name, u:NUM:GUID its GUID, U:GUID
+the disk's, A:NUM:BIT:V attribute, a:K alignment, e use a grown disk, o empty
+GPT, g MBR to GPT. PATH is 3 or 2.a; CODE EF00 8300 8200 0700 A500 A503, or two
+digits on an MBR. `o`, `n` and `g` take fresh GUIDs:
+  --fresh $(head -c 1024 /dev/urandom | od -An -v -tx1 | tr -d ' \\n')
 
 Exit status: 0 done, 2 usage or a bad word, 3 refused, 4 no table, 5 the image
 can't be opened, read or written, 6 no memory. After 2, 3, 4 and 6 nothing was
