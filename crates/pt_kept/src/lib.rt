@@ -1,0 +1,5 @@
+//! What every edit keeps.
+#![tactic(auto)]
+
+/// Nothing yet.
+pub fn nothing() {}
