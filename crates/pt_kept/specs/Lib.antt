@@ -1,3 +1,5 @@
 pub mod Lists
 pub mod Entries
 pub mod Tables
+pub mod Order
+pub mod Parts

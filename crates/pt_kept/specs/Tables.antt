@@ -67,8 +67,8 @@ no_ebr : (e : Ebr) → Contains [] e → ⊥
 no_ebr e (k, lt, is) = absurd (omega (arith, lt))
 
 -- a layout with a GPT keeps of another what its labels do
-pub keeps_gpt : (b : ℕ) (o : Layout) (t : Table) (ls : List Labelled) → FitsTable b o.sectors t → AreLabelsOf (places_of b o.sectors (Gpt t)) ls
-    → ((s : Slice) → Contains (places_of b o.sectors (Gpt t)) s → IsOldLabel b (Some o) s (label_of ls s.number) ⊎ IsNewLabel s (label_of ls s.number))
+pub keeps_gpt : (b : ℕ) (o : Layout) (t : Table) (ls : List Labelled) → FitsTable b o.sectors t → AreLabelsOf (slices_of b (Gpt t)) ls
+    → ((s : Slice) → Contains (slices_of b (Gpt t)) s → IsOldLabel b (Some o) s (label_of ls s.number) ⊎ IsNewLabel s (label_of ls s.number))
     → Keeps b o.sectors (Some o) (record { sectors = o.sectors; body = Gpt t; labels = ls })
 keeps_gpt b o t ls fits are labels = record {
   sectors = refl;
@@ -79,26 +79,26 @@ keeps_gpt b o t ls fits are labels = record {
   logicals = λ e r is has. absurd (no_ebr e is);
 }
 
--- the places of a GPT's slices
-places_512 : (b n : ℕ) (t : Table) (c : Bool) → nat_eq b 512 ≡ c → places_of b n (Gpt t) ≡ (if c then filter (has_place n) (entry_slices 1 t.entries) else [])
-unfolding places_of slices_of
-places_512 b n t true is = rw is refl
-places_512 b n t false is = rw is refl
+-- the slices of a GPT
+slices_512 : (b : ℕ) (t : Table) (c : Bool) → nat_eq b 512 ≡ c → slices_of b (Gpt t) ≡ (if c then entry_slices 1 t.entries else [])
+unfolding slices_of
+slices_512 b t true is = rw is refl
+slices_512 b t false is = rw is refl
 
 -- where the slices of a table are those of another
-pub places_same : (b n : ℕ) (t u : Table) → entry_slices 1 u.entries ≡ entry_slices 1 t.entries → places_of b n (Gpt u) ≡ places_of b n (Gpt t)
-unfolding places_of slices_of
-places_same b n t u same = ap (λ (l : List Slice). filter (has_place n) (if nat_eq b 512 then l else [])) same
+pub slices_as : (b : ℕ) (t u : Table) → entry_slices 1 u.entries ≡ entry_slices 1 t.entries → slices_of b (Gpt u) ≡ slices_of b (Gpt t)
+unfolding slices_of
+slices_as b t u same = ap (λ (l : List Slice). if nat_eq b 512 then l else []) same
 
-unchanged : (b : ℕ) (o : Layout) (t u : Table) → Shaped b o → o.body ≡ Gpt t → FitsTable b o.sectors u → places_of b o.sectors (Gpt u) ≡ places_of b o.sectors (Gpt t) → Keeps b o.sectors (Some o) (record { sectors = o.sectors; body = Gpt u; labels = o.labels })
+unchanged : (b : ℕ) (o : Layout) (t u : Table) → Shaped b o → o.body ≡ Gpt t → FitsTable b o.sectors u → slices_of b (Gpt u) ≡ slices_of b (Gpt t) → Keeps b o.sectors (Some o) (record { sectors = o.sectors; body = Gpt u; labels = o.labels })
 unchanged b o t u shaped is fits same =
-    let places : places_of b o.sectors (Gpt u) ≡ places_of b o.sectors o.body = same ∙ ap (places_of b o.sectors) (sym is) in
+    let places : slices_of b (Gpt u) ≡ slices_of b o.body = same ∙ ap (slices_of b) (sym is) in
     keeps_gpt b o u o.labels fits (subst (λ (l : List Slice). AreLabelsOf l o.labels) (sym places) shaped.labels)
     (λ s stands. inl (s, record { stands = subst (λ (l : List Slice). Contains l s) places stands; first = refl; len = refl }, label_stays_refl_lem (label_of o.labels s.number)))
 
 -- a table with other numbers of its own, and the same entries
 pub keeps_table : (b : ℕ) (o : Layout) (t u : Table) → Shaped b o → o.body ≡ Gpt t → FitsTable b o.sectors u → u.entries ≡ t.entries → Keeps b o.sectors (Some o) (record { sectors = o.sectors; body = Gpt u; labels = o.labels })
-keeps_table b o t u shaped is fits same = unchanged b o t u shaped is fits (places_same b o.sectors t u (ap (entry_slices 1) same))
+keeps_table b o t u shaped is fits same = unchanged b o t u shaped is fits (slices_as b t u (ap (entry_slices 1) same))
 
 table_fits : (b : ℕ) (o : Layout) (t : Table) → Shaped b o → o.body ≡ Gpt t → FitsTable b o.sectors t
 table_fits b o t shaped is = subst (λ (y : Body). FitsBody b o.sectors y) is shaped.body
@@ -109,16 +109,14 @@ pub keeps_entry : (b number : ℕ) (o : Layout) (t : Table) (x : Option Entry) �
 keeps_entry b number o t x shaped is first last typed same =
     let at : number ≡ 1 + (number - 1) = omega (arith, first) in
     let slices = slices_same 1 (number - 1) x t.entries (omega (arith, first, last)) (subst (λ (i : ℕ). entry_slice i x ≡ entry_slice i (slice_index_or t.entries (number - 1) None)) at same) in
-    unchanged b o t (entries_with t number x) shaped is (fits_set b o.sectors number t x first last typed (table_fits b o t shaped is)) (places_same b o.sectors t (entries_with t number x) slices)
+    unchanged b o t (entries_with t number x) shaped is (fits_set b o.sectors number t x first last typed (table_fits b o t shaped is)) (slices_as b t (entries_with t number x) slices)
 
--- the slices with a label place are the same ones of fewer slices
-pub places_by : (b n : ℕ) (f : ℕ → Bool) (t u : Table) → entry_slices 1 u.entries ≡ slices_by f (entry_slices 1 t.entries) → places_of b n (Gpt u) ≡ slices_by f (places_of b n (Gpt t))
-places_by b n f t u same = by_size (nat_eq b 512) refl where
-  by_size : (c : Bool) → nat_eq b 512 ≡ c → places_of b n (Gpt u) ≡ slices_by f (places_of b n (Gpt t))
-  by_size true is =
-      places_512 b n u true is ∙ (ap (filter (has_place n)) same
-      ∙ (filter_swap (has_place n) (λ (s : Slice). f s.number) (entry_slices 1 t.entries) ∙ ap (slices_by f) (sym (places_512 b n t true is))))
-  by_size false is = places_512 b n u false is ∙ ap (slices_by f) (sym (places_512 b n t false is))
+-- the slices of fewer numbers
+pub slices_fewer : (b : ℕ) (f : ℕ → Bool) (t u : Table) → entry_slices 1 u.entries ≡ slices_by f (entry_slices 1 t.entries) → slices_of b (Gpt u) ≡ slices_by f (slices_of b (Gpt t))
+slices_fewer b f t u same = by_size (nat_eq b 512) refl where
+  by_size : (c : Bool) → nat_eq b 512 ≡ c → slices_of b (Gpt u) ≡ slices_by f (slices_of b (Gpt t))
+  by_size true is = slices_512 b u true is ∙ (same ∙ ap (slices_by f) (sym (slices_512 b t true is)))
+  by_size false is = slices_512 b u false is ∙ ap (slices_by f) (sym (slices_512 b t false is))
 
 -- an entry goes, with the label of its number
 pub keeps_without : (b number : ℕ) (o : Layout) (t : Table) → Shaped b o → o.body ≡ Gpt t → 1 ≤ number → number ≤ length t.entries
@@ -129,11 +127,11 @@ keeps_without b number o t shaped is first last =
     let at : 1 + (number - 1) ≡ number = omega (arith, first) in
     let slices : entry_slices 1 u.entries ≡ slices_by f (entry_slices 1 t.entries) =
         slices_without 1 (number - 1) t.entries (omega (arith, first, last)) ∙ ap (λ (k : ℕ). slices_by (is_not k) (entry_slices 1 t.entries)) at in
-    let places : places_of b o.sectors (Gpt u) ≡ slices_by f (places_of b o.sectors o.body) = places_by b o.sectors f t u slices ∙ ap (λ (y : Body). slices_by f (places_of b o.sectors y)) (sym is) in
+    let places : slices_of b (Gpt u) ≡ slices_by f (slices_of b o.body) = slices_fewer b f t u slices ∙ ap (λ (y : Body). slices_by f (slices_of b y)) (sym is) in
     keeps_gpt b o u (without_label number o.labels) (fits_set b o.sectors number t None first last tt (table_fits b o t shaped is))
-    (subst (λ (l : List Slice). AreLabelsOf l (without_label number o.labels)) (sym places) (are_filter f (places_of b o.sectors o.body) o.labels shaped.labels))
+    (subst (λ (l : List Slice). AreLabelsOf l (without_label number o.labels)) (sym places) (are_filter f (slices_of b o.body) o.labels shaped.labels))
     (λ s stands. (
-      let kept = contains_filter (λ (x : Slice). f x.number) s (places_of b o.sectors o.body) (subst (λ (l : List Slice). Contains l s) places stands) in
+      let kept = contains_filter (λ (x : Slice). f x.number) s (slices_of b o.body) (subst (λ (l : List Slice). Contains l s) places stands) in
       let other : s.number ≢ number = λ same. true≢false (sym kept.1 ∙ is_not_false number s.number same) in
       let label : label_of o.labels s.number ≡ label_of (without_label number o.labels) s.number = sym (label_of_by f s.number o.labels kept.1) in
       inl (s, record { stands = kept.0; first = refl; len = refl }, subst (LabelStays (label_of o.labels s.number)) label (label_stays_refl_lem (label_of o.labels s.number)))))
@@ -153,7 +151,7 @@ keeps_leaf b number o t e shaped is first last typed none leaf = by_size (nat_eq
   no_slice false large so = rw so refl
   by_size : (c : Bool) → nat_eq b 512 ≡ c → Keeps b o.sectors (Some o) (record { sectors = o.sectors; body = Gpt u; labels = o.labels })
   by_size true large = keeps_entry b number o t (Some e) shaped is first last typed (no_slice (is_slice_kind e.kind.0) large refl ∙ ap (entry_slice number) (sym none))
-  by_size false small = unchanged b o t u shaped is fits (places_512 b o.sectors u false small ∙ sym (places_512 b o.sectors t false small))
+  by_size false small = unchanged b o t u shaped is fits (slices_512 b u false small ∙ sym (slices_512 b t false small))
 
 pub contains_append : {X : Type 0} (y : X) (xs ys : List X) → Contains (xs ++ ys) y → Contains xs y ⊎ Contains ys y
 contains_append y [] ys is = inr is
@@ -163,29 +161,19 @@ contains_append y (x ∷ xs) ys is = elim (contains_cases x y (xs ++ ys) is) [
 ]
 
 -- the empty label fits its slice
-pub empty_fits : (s : Slice) → FitsLabel s (empty_of s.len)
-empty_fits s = record { counted = empty_counted s.len; slice = (refl, inl refl) }
+pub empty_fits : (s : Slice) → 2 ≤ s.len → FitsLabel s (empty_of s.len)
+empty_fits s second = record { second = second; counted = empty_counted s.len; slice = (refl, inl refl) }
 
 -- the sectors of a slice that exists
 pub slice_len : (number first last : ℕ) → first ≤ last → last < 2 ^ 63 → (slice_from number first last).len ≡ last - first + 1
 slice_len number first last order top = rw (le-leb first last order, lt-ltb last (2 ^ 63) top) refl
 
-has_its_place : (n : ℕ) (s : Slice) → 2 ≤ s.len → s.first + 1 < n → has_place n s ≡ true
-has_its_place n s long within = rw (lt-ltb 1 s.len long, lt-ltb (s.first + 1) n within) refl
-
-around_by : (n k : ℕ) (new ss : List Slice) → filter (has_place n) (around k new ss) ≡ around k (filter (has_place n) new) (filter (has_place n) ss)
-around_by n k new ss =
-    filter-append (has_place n) (slices_by (is_below k) ss) (new ++ slices_by (is_above k) ss)
-    ∙ (ap (λ (l : List Slice). l ++ filter (has_place n) (new ++ slices_by (is_above k) ss)) (filter_swap (has_place n) (λ (s : Slice). is_below k s.number) ss)
-    ∙ ap (λ (l : List Slice). slices_by (is_below k) (filter (has_place n) ss) ++ l)
-      (filter-append (has_place n) new (slices_by (is_above k) ss) ∙ ap (λ (l : List Slice). filter (has_place n) new ++ l) (filter_swap (has_place n) (λ (s : Slice). is_above k s.number) ss)))
-
--- where one slice more has a label place, and its label is new, and all others have theirs
-pub entered_label : (b number : ℕ) (o : Layout) (s x : Slice) → s.number ≡ number → Contains (around number (s ∷ []) (places_of b o.sectors o.body)) x
+-- where there is one slice more, its label is new, and all others have theirs
+pub entered_label : (b number : ℕ) (o : Layout) (s x : Slice) → s.number ≡ number → Contains (around number (s ∷ []) (slices_of b o.body)) x
     → IsOldLabel b (Some o) x (label_of (with_new_label number (empty_of s.len) o.labels) x.number) ⊎ IsNewLabel x (label_of (with_new_label number (empty_of s.len) o.labels) x.number)
 entered_label b number o s x at stands = by_side (contains_append x (slices_by (is_below number) old) ((s ∷ []) ++ slices_by (is_above number) old) stands) where
   old : List Slice
-  old = places_of b o.sectors o.body
+  old = slices_of b o.body
   made : List Labelled
   made = with_new_label number (empty_of s.len) o.labels
   stays : (f : ℕ → Bool) → Contains (slices_by f old) x → x.number ≢ number → IsOldLabel b (Some o) x (label_of made x.number) ⊎ IsNewLabel x (label_of made x.number)
@@ -225,12 +213,9 @@ keeps_slice b number o t e shaped is first last typed none large kind long withi
     let slices : entry_slices 1 u.entries ≡ around number (s ∷ []) (entry_slices 1 t.entries) =
         slices_with 1 (number - 1) (Some e) t.entries (omega (arith, first, last)) none
         ∙ (ap (λ (k : ℕ). around k (entry_slice k (Some e)) (entry_slices 1 t.entries)) at ∙ ap (λ (l : List Slice). around number l (entry_slices 1 t.entries)) new) in
-    let holds : filter (has_place n) (s ∷ []) ≡ s ∷ [] = filter_in (has_place n) s [] (has_its_place n s (omega (arith, len, long)) (omega (arith, long, within))) in
-    let places : places_of b n (Gpt u) ≡ around number (s ∷ []) (places_of b n o.body) =
-        places_512 b n u true large ∙ (ap (filter (has_place n)) slices ∙ (around_by n number (s ∷ []) (entry_slices 1 t.entries)
-        ∙ (ap (λ (l : List Slice). around number l (filter (has_place n) (entry_slices 1 t.entries))) holds
-        ∙ ap (around number (s ∷ [])) (sym (places_512 b n t true large) ∙ ap (places_of b n) (sym is))))) in
+    let places : slices_of b (Gpt u) ≡ around number (s ∷ []) (slices_of b o.body) =
+        slices_512 b u true large ∙ (slices ∙ ap (around number (s ∷ [])) (sym (slices_512 b t true large) ∙ ap (slices_of b) (sym is))) in
     subst (λ (k : ℕ). Keeps b n (Some o) (record { sectors = n; body = Gpt u; labels = with_new_label number (empty_of k) o.labels })) len
     (keeps_gpt b o u (with_new_label number (empty_of s.len) o.labels) (fits_set b n number t (Some e) first last typed (table_fits b o t shaped is))
-    (subst (λ (l : List Slice). AreLabelsOf l (with_new_label number (empty_of s.len) o.labels)) (sym places) (are_entered number s (empty_of s.len) (places_of b n o.body) o.labels refl (empty_fits s) shaped.labels))
+    (subst (λ (l : List Slice). AreLabelsOf l (with_new_label number (empty_of s.len) o.labels)) (sym places) (are_entered number s (empty_of s.len) (slices_of b o.body) o.labels refl (empty_fits s (omega (arith, len, long))) shaped.labels))
     (λ x stands. entered_label b number o s x refl (subst (λ (l : List Slice). Contains l x) places stands)))

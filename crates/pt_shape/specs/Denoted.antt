@@ -1,6 +1,7 @@
 -- What a disk denotes is shaped.
-use Rattle.std.specs.Prelude.{◌≡◌, ◌≢◌, ◌<◌, ◌≤◌, ◌+◌, ℕ, zero, suc, List, [], ◌∷◌, length, get_or, slice_index, Option, Some, None}
+use Rattle.std.specs.Prelude.{◌≡◌, ◌≢◌, ◌<◌, ◌≤◌, ◌+◌, ℕ, zero, suc, List, [], ◌∷◌, length, get_or, slice_index, Option, Some, None, Bool, true, false, filter, nat_lt}
 use Rattle.std.proofs.Common.{refl, sym, ap, subst, ◌∙◌, inl, inr, arith}
+use Rattle.std.proofs.lemmas.Bool.{ltb-true, false≢true}
 use Rattle.pt_sector.specs.Sectors.{Sectors, Span, sector}
 use Rattle.pt_sector.specs.declared.address.Lba.{Lba}
 use Rattle.pt_mbr.specs.Mbr.{IsBootIndicator, AreRecords, BearsProtective, HasBootIndicators}
@@ -20,7 +21,7 @@ use Rattle.pt_bsd.specs.Label.{HasRaw}
 use Rattle.pt_bsd.specs.declared.label.Label.{Label}
 use Rattle.pt_bsd.specs.declared.label.LabelEntry.{LabelEntry}
 use Rattle.pt_recover.specs.Mbr.{IsMbr, IsMbrSector, HasChain, extended_of, extent_of}
-use Rattle.pt_recover.specs.Labels.{places_of, LabelsAre, place_of}
+use Rattle.pt_recover.specs.Labels.{slices_of, places_of, has_place, LabelsAre, place_of}
 use Rattle.pt_recover.specs.Denotes.{Denotes, BodyIs}
 use Rattle.pt_recover.specs.declared.layout.Slice.{Slice}
 use Rattle.pt_recover.specs.declared.layout.Labelled.{Labelled}
@@ -65,20 +66,20 @@ logical_fits (Some r) bytes is boot good = (
 )
 
 -- the extended boot records of a walk
-walk_linked : (d : Sectors) (x : Span) (from : Option Lba) (list : List Ebr) → Walk d x from list None → Linked x (length d) from list
+walk_linked : (d : Sectors) (x : Span) (from : Option Lba) (list : List Ebr) → Walk d x from list None → Linked x from list
 unfolding HasBootIndicators
 walk_linked d x None [] walk = tt
 walk_linked d x (Some at) [] walk = absurd cc
 walk_linked d x None (e ∷ es) walk = absurd walk
 walk_linked d x (Some at) (e ∷ es) walk = (
   walk.0.bytes.place,
-  walk.0.inside,
+  walk.0.inside.0,
   walk.1,
   logical_fits e.logical (sector d at.0) walk.0.bytes.logical walk.0.bytes.boots.0 walk.0.bytes.logical_kind,
   walk_linked d x e.next es walk.2,
 )
 
-chain_fits : (d : Sectors) (rs : List Record) (chain : List Ebr) → HasChain d rs chain → FitsExtended (length d) rs chain
+chain_fits : (d : Sectors) (rs : List Record) (chain : List Ebr) → HasChain d rs chain → FitsExtended rs chain
 chain_fits d [] chain has = has
 chain_fits d (r ∷ []) chain has = record { few = has.few; linked = walk_linked d (extent_of r) (Some (lba (extent_of r).first)) chain has.whole }
 chain_fits d (r ∷ s ∷ rs) chain has = absurd has
@@ -91,7 +92,7 @@ slot_fits records bytes is are (suc (suc zero)) lt = record_fits (get_or records
 slot_fits records bytes is are (suc (suc (suc zero))) lt = record_fits (get_or records 3 None) 494 bytes are.fourth is.formed.boots.3 (λ used e. is.plain (inr (inr (inr e))))
 slot_fits records bytes is are (suc (suc (suc (suc k)))) lt = absurd (omega (arith, lt))
 
-mbr_fits : (d : Sectors) (records : List (Option Record)) (chain : List Ebr) → IsMbr d records → HasChain d (extended_of records) chain → FitsMbr (length d) records chain
+mbr_fits : (d : Sectors) (records : List (Option Record)) (chain : List Ebr) → IsMbr d records → HasChain d (extended_of records) chain → FitsMbr records chain
 mbr_fits d records chain is has = record {
   four = is.1.four;
   each = slot_fits records (sector d 0) is.0.1 is.1;
@@ -123,13 +124,14 @@ raw_is : (o : Option LabelEntry) (first len : ℕ) (bytes : List ℕ) → IsEntr
 raw_is None first len bytes is least raw = absurd (omega (arith, is, least))
 raw_is (Some e) first len bytes is least raw = (sym is.1.size ∙ raw.size, elim raw.start [ inl none ↦ inl (sym is.1.offset ∙ none) | inr start ↦ inr (sym is.1.offset ∙ start) ])
 
-label_fits : (s : Slice) (l : Label) (bytes : List ℕ) → LabelBytes l s.first s.len bytes → FitsLabel s l
-label_fits s l bytes is =
+label_fits : (s : Slice) (l : Label) (bytes : List ℕ) → 2 ≤ s.len → LabelBytes l s.first s.len bytes → FitsLabel s l
+label_fits s l bytes second is =
     let places = is.entries.places in
     let count : count_of l.entries ≡ counted_in bytes = count_is l.entries (counted_in bytes) (omega (arith, is.count.most, places))
     (λ k lt. entry_there (entry_of l k) k bytes (is.entries.each k (omega (arith, lt, is.count.most))) lt)
     (λ k le lt. entry_none (entry_of l k) k bytes (is.entries.each k (omega (arith, lt, places))) le) in
     record {
+      second = second;
       counted = record {
         places = places;
         least = omega (arith, count, is.count.least);
@@ -138,14 +140,36 @@ label_fits s l bytes is =
       slice = raw_is (entry_of l 2) s.first s.len bytes (is.entries.each 2 (omega arith)) is.count.least is.raw;
     }
 
-labels_fit : (d : Sectors) (places : List Slice) (labels : List Labelled) → LabelsAre d places labels → AreLabelsOf places labels
-labels_fit d [] labels are = are
-labels_fit d (s ∷ ss) labels (inl (l, rest, is, at, then)) = inl (l, rest, is, label_fits s l (sector d (place_of s)) at, labels_fit d ss rest then)
-labels_fit d (s ∷ ss) labels (inr are) = inr (labels_fit d ss labels are.1)
+-- a slice with a label place has a second sector
+place_long : (n : ℕ) (s : Slice) (t : Bool) → nat_lt 1 s.len ≡ t → has_place n s ≡ true → 2 ≤ s.len
+place_long n s true so is = omega (arith, ltb-true 1 s.len so)
+place_long n s false so is = let both : false ≡ true = sym (rw so refl) ∙ is in absurd (false≢true both)
+
+-- the labels of the slices with a label place are labels of the slices
+labels_fit : (d : Sectors) (n : ℕ) (s : Slice) (ss : List Slice) (labels : List Labelled) → ((rest : List Labelled) → LabelsAre d (filter (has_place n) ss) rest → AreLabelsOf ss rest)
+    → (t : Bool) → has_place n s ≡ t → LabelsAre d (filter (has_place n) (s ∷ ss)) labels → AreLabelsOf (s ∷ ss) labels
+labels_fit d n s ss labels more true so are = one (subst (λ (l : List Slice). LabelsAre d l labels) here are) where
+  here : filter (has_place n) (s ∷ ss) ≡ s ∷ filter (has_place n) ss
+  here = rw (so, filter) refl
+
+  one : LabelsAre d (s ∷ filter (has_place n) ss) labels → AreLabelsOf (s ∷ ss) labels
+  one (inl (l, rest, is, at, behind)) = inl (l, rest, is, label_fits s l (sector d (place_of s)) (place_long n s (nat_lt 1 s.len) refl so) at, more rest behind)
+  one (inr (none, behind)) = inr (more labels behind)
+labels_fit d n s ss labels more false so are =
+    let gone : filter (has_place n) (s ∷ ss) ≡ filter (has_place n) ss = rw (so, filter) refl in
+    inr (more labels (subst (λ (l : List Slice). LabelsAre d l labels) gone are))
+
+all_fit : (d : Sectors) (n : ℕ) (ss : List Slice) (labels : List Labelled) → LabelsAre d (filter (has_place n) ss) labels → AreLabelsOf ss labels
+all_fit d n [] labels are = are
+all_fit d n (s ∷ ss) labels are = labels_fit d n s ss labels (all_fit d n ss) (has_place n s) refl are
+
+places_fit : (b : ℕ) (d : Sectors) (y : Body) (labels : List Labelled) → LabelsAre d (places_of b (length d) y) labels → AreLabelsOf (slices_of b y) labels
+unfolding places_of
+places_fit b d y labels are = all_fit d (length d) (slices_of b y) labels are
 
 -- what a disk denotes is shaped
 pub denoted_is_shaped_lem : (b : ℕ) (d : Sectors) (o : Layout) → Denotes b d (Some o) → Shaped b o
 denoted_is_shaped_lem b d o denotes = record {
   body = subst (λ (n : ℕ). FitsBody b n o.body) (sym denotes.0) (body_fits b d o.body denotes.1);
-  labels = subst (λ (n : ℕ). AreLabelsOf (places_of b n o.body) o.labels) (sym denotes.0) (labels_fit d (places_of b (length d) o.body) o.labels denotes.2);
+  labels = places_fit b d o.body o.labels denotes.2;
 }
