@@ -3,3 +3,4 @@ pub mod Entries
 pub mod Tables
 pub mod Order
 pub mod Parts
+pub mod Chain
