@@ -1,4 +1,6 @@
 pub mod Lists
 pub mod Slices
 pub mod Parts
+pub mod New
 pub mod Laws
+pub mod NewLaws

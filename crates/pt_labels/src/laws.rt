@@ -1,9 +1,11 @@
 //! Laws of the words with a letter. Each function does nothing: its contract is the law.
 
-ghost use Rattle.std.specs.Prelude.{◌≡◌, ℕ};
+ghost use Rattle.std.specs.Prelude.{◌≡◌, ℕ, Option};
 ghost use Rattle.pt_recover.specs.declared.layout.Layout.{Layout};
 ghost use Rattle.pt_words.specs.declared.error.Refusal.{Refusal};
 ghost use Rattle.pt_words.specs.declared.word.Code.{Code};
+ghost use Rattle.pt_words.specs.declared.word.End.{End};
+ghost use Rattle.pt_labels.specs.New.{PartNew, PartNotNew};
 ghost use Rattle.pt_labels.specs.Parts.{PartTyped, PartNotTyped, PartDeleted, PartNotDeleted};
 
 /// `set_part_kind` has one result.
@@ -36,4 +38,19 @@ pub fn part_deleted_excludes()
 /// It is refused for one reason.
 pub fn part_not_deleted_one()
     ensures { (b number letter : ℕ) (o : Layout) (r q : Refusal) → PartNotDeleted b number letter o r → PartNotDeleted b number letter o q → r ≡ q }
+{}
+
+/// `new_part` has one result.
+pub fn part_new_one()
+    ensures { (b number letter alignment start : ℕ) (end : End) (code : Option Code) (o p q : Layout) → PartNew b number letter alignment start end code o p → PartNew b number letter alignment start end code o q → p ≡ q }
+{}
+
+/// Its result excludes a refusal.
+pub fn part_new_excludes()
+    ensures { (b number letter alignment start : ℕ) (end : End) (code : Option Code) (o p : Layout) (r : Refusal) → PartNew b number letter alignment start end code o p → ¬ PartNotNew b number letter alignment start end code o r }
+{}
+
+/// It is refused for one reason.
+pub fn part_not_new_one()
+    ensures { (b number letter alignment start : ℕ) (end : End) (code : Option Code) (o : Layout) (r q : Refusal) → PartNotNew b number letter alignment start end code o r → PartNotNew b number letter alignment start end code o q → r ≡ q }
 {}

@@ -3,14 +3,18 @@
 
 mod laws;
 mod lists;
+mod new;
 mod parts;
 mod slices;
+#[cfg(test)]
+mod tests;
 
 pub use laws::{
-    part_deleted_excludes, part_deleted_one, part_not_deleted_one, part_not_typed_one,
-    part_typed_excludes, part_typed_one,
+    part_deleted_excludes, part_deleted_one, part_new_excludes, part_new_one, part_not_deleted_one,
+    part_not_new_one, part_not_typed_one, part_typed_excludes, part_typed_one,
 };
 pub use lists::{
     add_label, drop_label, drop_logical_labels, lower_labels, put_label, raise_labels,
 };
+pub use new::new_part;
 pub use parts::{delete_part, set_part_kind};

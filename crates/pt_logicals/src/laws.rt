@@ -1,11 +1,14 @@
 //! What holds of edits of logical partitions, whatever they are of.
 
-ghost use Rattle.std.specs.Prelude.{◌≡◌, ℕ, List};
+ghost use Rattle.std.specs.Prelude.{◌≡◌, ℕ, List, Option};
+ghost use Rattle.pt_mbr.specs.declared.record.Record.{Record};
 ghost use Rattle.pt_mbr.specs.declared.ebr.Ebr.{Ebr};
 ghost use Rattle.pt_recover.specs.declared.layout.Labelled.{Labelled};
 ghost use Rattle.pt_logicals.specs.Chains.{LogicalTyped, LogicalNotTyped, LogicalDeleted, LogicalNotDeleted};
+ghost use Rattle.pt_logicals.specs.New.{LogicalNew, LogicalNotNew};
 ghost use Rattle.pt_words.specs.declared.error.Refusal.{Refusal};
 ghost use Rattle.pt_words.specs.declared.word.Code.{Code};
+ghost use Rattle.pt_words.specs.declared.word.End.{End};
 
 /// A logical partition with another type makes one chain.
 pub fn logical_typed_is_one()
@@ -35,4 +38,19 @@ pub fn logical_not_deleted_is_one()
 /// One that goes isn't refused.
 pub fn logical_deleted_is_taken()
     ensures { (number : ℕ) (chain : List Ebr) (labels : List Labelled) (made : List Ebr) (left : List Labelled) (r : Refusal) → LogicalDeleted number chain labels made left → ¬ LogicalNotDeleted number chain r }
+{}
+
+/// A new logical partition makes one chain, and one list of labels.
+pub fn logical_new_is_one()
+    ensures { (b : ℕ) (extended : Option Record) (chain : List Ebr) (labels : List Labelled) (alignment start : ℕ) (end : End) (code : Option Code) (made other : List Ebr) (left rest : List Labelled) → LogicalNew b extended chain labels alignment start end code made left → LogicalNew b extended chain labels alignment start end code other rest → (made ≡ other) × (left ≡ rest) }
+{}
+
+/// It is refused for one reason.
+pub fn logical_not_new_is_one()
+    ensures { (b : ℕ) (extended : Option Record) (chain : List Ebr) (alignment start : ℕ) (end : End) (code : Option Code) (r q : Refusal) → LogicalNotNew b extended chain alignment start end code r → LogicalNotNew b extended chain alignment start end code q → r ≡ q }
+{}
+
+/// One that is made isn't refused.
+pub fn logical_new_is_taken()
+    ensures { (b : ℕ) (extended : Option Record) (chain : List Ebr) (labels : List Labelled) (alignment start : ℕ) (end : End) (code : Option Code) (made : List Ebr) (left : List Labelled) (r : Refusal) → LogicalNew b extended chain labels alignment start end code made left → ¬ LogicalNotNew b extended chain alignment start end code r }
 {}

@@ -1,0 +1,208 @@
+//! The word `n` with a letter: a new partition of a slice's label.
+
+ghost use Rattle.std.specs.Prelude.{◌≡◌, ◌≢◌, ◌<◌, ◌≤◌, ◌^◌, ◌++◌, ℕ, IfOk, IfErr, OnOk, IfSome, IfNone, length, flat_map, Some};
+ghost use Rattle.pt_bsd.specs.Form.{sector_by};
+ghost use Rattle.pt_layout.specs.Members.{parts_in};
+ghost use Rattle.pt_words.specs.declared.error.Refusal.TheVariants.{Memory};
+ghost use Rattle.pt_space.specs.Area.{area_of};
+ghost use Rattle.pt_space.specs.Placed.{Placed, NotPlaced};
+ghost use Rattle.pt_labels.specs.New.{HasUnused, NoUnused, new_type, run_of, area_in, len_of, HasOffset, new_entry, PartNew, PartNotNew};
+
+use crate::parts::{Spot, entry_of, part_type_of, put_entry};
+use pt_bsd::{Form, Label, LabelEntry};
+use pt_layout::{Layout, Member, part_slot};
+use pt_space::{Lead, Run, Space, place};
+use pt_words::{Code, End, Refusal};
+use std::alloc::{AllocError, Global};
+
+/// The type of a new partition where no code is given: a fast file system.
+const FAST_FILE_SYSTEM: u8 = 7;
+
+/// How many sectors at a slice's start are reserved.
+const RESERVED: u128 = 16;
+
+// The entry of a letter of a slice's label, where it is counted, isn't c, and has no sectors.
+fn unused_of<const B: usize>(layout: &Layout, number: u64, letter: u8) -> Result<Spot, Refusal>
+    ensures ok { IfOk result (λ s. HasUnused B layout.now number letter s.slice s.label s.entry) }
+    ensures err { IfErr result (NoUnused B layout.now number letter) }
+    ensures small { IfOk result (λ s. s.slice.first < 2 ^ 66) }
+{
+    let spot = match entry_of::<B>(layout, number, letter) {
+        Ok(spot) => spot,
+        Err(refusal) => return Err(refusal),
+    };
+    if spot.entry.size != 0 {
+        return Err(Refusal::NumberTaken);
+    }
+    Ok(spot)
+}
+
+fn new_type_of(code: &Option<Code>) -> Option<u8>
+    ensures { result ≡ new_type code.now }
+{
+    match code {
+        Some(code) => part_type_of(code),
+        None => Some(FAST_FILE_SYSTEM),
+    }
+}
+
+// With the sectors of a partition, where they exist.
+fn push_run(taken: &mut Vec<Run>, part: Option<Member>) -> Result<(), AllocError>
+    ensures { OnOk result (taken.new.items ≡ taken.old.items ++ run_of part) }
+{
+    if let Some(m) = part {
+        if m.first <= m.last && m.last < 1 << 63 {
+            taken.push(Run {
+                first: m.first,
+                last: m.last,
+            })?;
+        }
+    }
+    Ok(())
+}
+
+// The sectors of a label's partitions.
+#[tactic(auto, using(crate::proofs::Runs::none_yet, crate::proofs::Runs::one_more, crate::proofs::Runs::all_of, crate::proofs::Runs::parts_len))]
+fn taken_in(alloc: Global, label: &Label, slice: &Member) -> Result<Vec<Run>, AllocError>
+    requires small { slice.now.first < 2 ^ 66 }
+    requires counted { length label.now.entries ≡ 8 }
+    ensures { IfOk result (λ v. v.items ≡ flat_map run_of (parts_in (Some label.now) slice.now)) }
+{
+    let mut taken = Vec::new(alloc);
+    for k in 0..8usize {
+        match push_run(&mut taken, part_slot(label, slice, k)) {
+            Ok(()) => {}
+            Err(e) => return Err(e),
+        }
+    }
+    Ok(taken)
+}
+
+// Where a partition of a slice may stand.
+fn space_in(alloc: Global, label: Label, slice: &Member) -> Result<Space, AllocError>
+    requires { slice.now.first < 2 ^ 66 }
+    ensures { IfOk result (λ s. area_of s ≡ area_in label slice.now) }
+{
+    let taken = match taken_in(alloc, &label, slice) {
+        Ok(taken) => taken,
+        Err(e) => return Err(e),
+    };
+    Ok(Space {
+        low: slice.first + RESERVED,
+        high: slice.last,
+        taken,
+        lead: Lead::None,
+    })
+}
+
+// Where a partition of a slice is placed.
+fn place_in(
+    alloc: Global,
+    label: Label,
+    slice: &Member,
+    alignment: u64,
+    start: u64,
+    end: End,
+) -> Result<Run, Refusal>
+    requires { slice.now.first < 2 ^ 66 }
+    ensures ok { IfOk result (λ run. Placed (area_in label slice.now) alignment start end run) }
+    ensures err { IfErr result (λ refusal. refusal ≢ Memory → NotPlaced (area_in label slice.now) alignment start end refusal) }
+{
+    let space = match space_in(alloc, label, slice) {
+        Ok(space) => space,
+        Err(_) => return Err(Refusal::Memory),
+    };
+    match place(space, alignment, start, end) {
+        Ok(run) => Ok(run),
+        Err(refusal) => Err(refusal),
+    }
+}
+
+// The offset that a form gives to a sector, in a slice with this first sector.
+fn offset_of(form: Form, slice_first: u128, sector: u128) -> Option<u32>
+    ensures some { IfSome result (λ offset. sector_by form slice_first offset ≡ sector) }
+    ensures none { IfNone result ((offset : ℕ) → offset < 2 ^ 32 → ¬ (sector_by form slice_first offset ≡ sector)) }
+{
+    let offset = match form {
+        Form::Relative => sector.checked_sub(slice_first)?,
+        Form::Absolute => sector,
+    };
+    u32::try_from(offset).ok()
+}
+
+// How many sectors there are.
+fn len_in(run: Run) -> Option<u32>
+    requires { run.first ≤ run.last }
+    ensures some { IfSome result (λ len. len ≡ len_of run) }
+    ensures none { IfNone result (2 ^ 32 ≤ len_of run) }
+{
+    u32::try_from(run.last - run.first).ok()?.checked_add(1)
+}
+
+// The entry of a new partition in these sectors.
+fn entry_at(label: &Label, slice: &Member, run: Run, kind: u8) -> Option<LabelEntry>
+    requires { run.first ≤ run.last }
+    ensures some { IfSome result (λ e. HasOffset label.now slice.now run e.offset × (e ≡ new_entry (len_of run) e.offset kind)) }
+    ensures none { IfNone result ((offset : ℕ) → ¬ HasOffset label.now slice.now run offset) }
+{
+    let offset = match offset_of(label.form(), slice.first, run.first) {
+        Some(offset) => offset,
+        None => return None,
+    };
+    let size = match len_in(run) {
+        Some(size) => size,
+        None => return None,
+    };
+    Some(LabelEntry {
+        size,
+        offset,
+        fragment: 0,
+        fstype: kind,
+        frag: 0,
+        cpg: 0,
+    })
+}
+
+/// `n` with a letter: the layout with a new partition, of a letter from 0 for a, in the label of the slice of a number.
+/// All else of it stays.
+///
+/// `alignment`, `start` and `end` are in the disk's own sector numbers. A partition may stand from the slice's
+/// seventeenth sector on, and in none of the label's other partitions. Its offset is written in the label's form. Its
+/// type is 07 where no code is given.
+///
+/// Refused, the first of these, with `NoSuchPartition` where the number is no slice's (there are none with sectors of
+/// 4096 bytes), `ForeignLabel` where the slice has no label, `ContainerType` for c, `NoSuchPartition` for a letter that
+/// the label doesn't count, `NumberTaken` for one that has sectors, `UnknownCode` for a code of four digits or 00, what
+/// `place` of pt_space refuses, and `LabelOffset` where the offset or the number of sectors is 2^32 or more. `Memory` is
+/// want of memory.
+pub fn new_part<const B: usize>(
+    alloc: Global,
+    layout: Layout,
+    number: u64,
+    letter: u8,
+    alignment: u64,
+    start: u64,
+    end: End,
+    code: &Option<Code>,
+) -> Result<Layout, Refusal>
+    ensures ok { IfOk result (λ made. PartNew B number letter alignment start end code.now layout made) }
+    ensures err { IfErr result (λ refusal. refusal ≢ Memory → PartNotNew B number letter alignment start end code.now layout refusal) }
+{
+    let spot = match unused_of::<B>(&layout, number, letter) {
+        Ok(spot) => spot,
+        Err(refusal) => return Err(refusal),
+    };
+    let kind = match new_type_of(code) {
+        Some(kind) => kind,
+        None => return Err(Refusal::UnknownCode),
+    };
+    let run = match place_in(alloc, spot.label, &spot.slice, alignment, start, end) {
+        Ok(run) => run,
+        Err(refusal) => return Err(refusal),
+    };
+    let entry = match entry_at(&spot.label, &spot.slice, run, kind) {
+        Some(entry) => entry,
+        None => return Err(Refusal::LabelOffset),
+    };
+    Ok(put_entry(layout, number, letter, &spot.label, entry))
+}

@@ -1,0 +1,7 @@
+use Rattle.std.proofs.Common.{◌≡◌, take}
+use Rattle.std.specs.Prelude.{flat_map}
+use Rattle.pt_logicals.specs.New.{taken_of}
+use Rattle.pt_logicals.proofs.space.taken_in.Given as goal
+
+abbrev pub invariant-loop-k : goal.invariant-loop-k
+invariant-loop-k l = l.taken.items ≡ flat_map taken_of (take l.k l.chain)

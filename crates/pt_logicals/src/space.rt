@@ -1,0 +1,123 @@
+//! Where a new logical partition is placed.
+
+ghost use Rattle.std.specs.Prelude.{◌≡◌, ◌≢◌, ◌≤◌, ◌<◌, ◌+◌, ◌-◌, ◌++◌, IfOk, IfErr, OnOk, flat_map, option_to_list};
+ghost use Rattle.pt_space.specs.Area.{area_of};
+ghost use Rattle.pt_space.specs.Placed.{Placed, NotPlaced};
+ghost use Rattle.pt_logicals.specs.New.{existing, logical_run, taken_of, empty_sector, logical_area};
+
+use pt_mbr::{Ebr, Record};
+use pt_space::{Lead, Run, Space, place};
+use pt_words::{End, Refusal};
+use std::alloc::{AllocError, Global};
+
+// The sectors of a record whose start counts from a sector, where their extent exists.
+fn existing_run(at: u64, start: u32, size: u32) -> Option<Run>
+    ensures { result ≡ existing (at + start) (at + start + size - 1) }
+{
+    let first = u128::from(at) + u128::from(start);
+    let last = (first + u128::from(size)).saturating_sub(1);
+    if first <= last && last < 1 << 63 {
+        Some(Run { first, last })
+    } else {
+        None
+    }
+}
+
+// The sectors of an extended boot record's logical partition, where their extent exists.
+fn run_of(ebr: &Ebr) -> Option<Run>
+    ensures { result ≡ logical_run ebr.now }
+{
+    match &ebr.logical {
+        Some(logical) => existing_run(ebr.at.0, logical.start, logical.size),
+        None => None,
+    }
+}
+
+// The last sector of an extended partition.
+fn last_of(start: u32, size: u32) -> u128
+    ensures { result ≡ start + size - 1 }
+{
+    (u128::from(start) + u128::from(size)).saturating_sub(1)
+}
+
+// Adds what isn't free for an extended boot record.
+fn push_taken(taken: &mut Vec<Run>, ebr: &Ebr) -> Result<(), AllocError>
+    ensures { OnOk result (taken.new.items ≡ taken.old.items ++ taken_of ebr.now) }
+{
+    let at = u128::from(ebr.at.0);
+    taken.push(Run {
+        first: at,
+        last: at,
+    })?;
+    if let Some(run) = run_of(ebr) {
+        taken.push(run)?;
+    }
+    Ok(())
+}
+
+// What isn't free in a chain.
+fn taken_in(alloc: Global, chain: &[Ebr]) -> Result<Vec<Run>, AllocError>
+    ensures { IfOk result (λ v. v.items ≡ flat_map taken_of chain.now) }
+{
+    let mut taken = Vec::new(alloc);
+    for k in 0..chain.len() {
+        push_taken(&mut taken, &chain[k])?;
+    }
+    Ok(taken)
+}
+
+// Adds the sector of an extended boot record, where it is empty.
+fn push_empty(empties: &mut Vec<u64>, ebr: &Ebr) -> Result<(), AllocError>
+    ensures { OnOk result (empties.new.items ≡ empties.old.items ++ empty_sector ebr.now) }
+{
+    if ebr.logical.is_none() {
+        empties.push(ebr.at.0)?;
+    }
+    Ok(())
+}
+
+// The sectors of a chain's empty records.
+fn empties_in(alloc: Global, chain: &[Ebr]) -> Result<Vec<u64>, AllocError>
+    ensures { IfOk result (λ v. v.items ≡ flat_map empty_sector chain.now) }
+{
+    let mut empties = Vec::new(alloc);
+    for k in 0..chain.len() {
+        push_empty(&mut empties, &chain[k])?;
+    }
+    Ok(empties)
+}
+
+// Where logical partitions are placed in an extended one with this chain.
+fn space_in(alloc: Global, extended: &Record, chain: &[Ebr]) -> Result<Space, AllocError>
+    ensures { IfOk result (λ space. area_of space ≡ logical_area extended.now chain.now) }
+{
+    let taken = taken_in(alloc, chain)?;
+    let empties = empties_in(alloc, chain)?;
+    Ok(Space {
+        low: u128::from(extended.start),
+        high: last_of(extended.start, extended.size),
+        taken,
+        lead: Lead::Record(empties),
+    })
+}
+
+// The sectors of a new logical partition. The one before them is in the extended partition too.
+#[tactic(auto, using(crate::proofs::Within::placed_within))]
+pub(crate) fn place_in(
+    alloc: Global,
+    extended: &Record,
+    chain: &[Ebr],
+    alignment: u64,
+    start: u64,
+    end: End,
+) -> Result<Run, Refusal>
+    ensures ok { IfOk result (λ run. Placed (logical_area extended.now chain.now) alignment start end run) }
+    ensures within { IfOk result (λ run. extended.now.start < run.first × run.first ≤ run.last × run.last < extended.now.start + extended.now.size) }
+    ensures err { IfErr result (λ refusal. refusal ≢ Refusal.Memory → NotPlaced (logical_area extended.now chain.now) alignment start end refusal) }
+{
+    let space = match space_in(alloc, extended, chain) {
+        Ok(space) => space,
+        Err(_) => return Err(Refusal::Memory),
+    };
+    place(space, alignment, start, end)
+}

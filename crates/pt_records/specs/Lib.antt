@@ -1,0 +1,4 @@
+pub mod Records
+pub mod Typed
+pub mod Deleted
+pub mod Laws

@@ -1,0 +1,44 @@
+//! What holds of edits of an MBR, whatever they are of.
+
+ghost use Rattle.std.specs.Prelude.{◌≡◌, ℕ};
+ghost use Rattle.pt_recover.specs.declared.layout.Layout.{Layout};
+ghost use Rattle.pt_words.specs.declared.error.Refusal.{Refusal};
+ghost use Rattle.pt_words.specs.declared.word.Code.{Code};
+ghost use Rattle.pt_records.specs.Typed.{RecordTyped, RecordNotTyped};
+ghost use Rattle.pt_records.specs.Deleted.{RecordDeleted, RecordNotDeleted};
+
+/// `t` makes one layout.
+#[tactic(auto, using(crate::specs::Laws::record_typed_one_lem))]
+pub fn typed_is_one()
+    ensures { (b number : ℕ) (code : Code) (o p q : Layout) → RecordTyped b number code o p → RecordTyped b number code o q → p ≡ q }
+{}
+
+/// It is refused for one reason.
+#[tactic(auto, using(crate::specs::Laws::record_not_typed_one_lem))]
+pub fn not_typed_is_one()
+    ensures { (b number : ℕ) (code : Code) (o : Layout) (r q : Refusal) → RecordNotTyped b number code o r → RecordNotTyped b number code o q → r ≡ q }
+{}
+
+/// A type that is taken isn't refused.
+#[tactic(auto, using(crate::specs::Laws::record_typed_taken_lem))]
+pub fn typed_is_taken()
+    ensures { (b number : ℕ) (code : Code) (o p : Layout) (r : Refusal) → RecordTyped b number code o p → ¬ RecordNotTyped b number code o r }
+{}
+
+/// `d` makes one layout.
+#[tactic(auto, using(crate::specs::Laws::record_deleted_one_lem))]
+pub fn deleted_is_one()
+    ensures { (number : ℕ) (o p q : Layout) → RecordDeleted number o p → RecordDeleted number o q → p ≡ q }
+{}
+
+/// It is refused for one reason.
+#[tactic(auto, using(crate::specs::Laws::record_not_deleted_one_lem))]
+pub fn not_deleted_is_one()
+    ensures { (number : ℕ) (o : Layout) (r q : Refusal) → RecordNotDeleted number o r → RecordNotDeleted number o q → r ≡ q }
+{}
+
+/// A partition that goes isn't refused.
+#[tactic(auto, using(crate::specs::Laws::record_deleted_taken_lem))]
+pub fn deleted_is_taken()
+    ensures { (number : ℕ) (o p : Layout) (r : Refusal) → RecordDeleted number o p → ¬ RecordNotDeleted number o r }
+{}

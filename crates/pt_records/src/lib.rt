@@ -1,0 +1,21 @@
+//! The records of sector 0: what words without a letter make of an MBR.
+//!
+//! Numbers 1 to 4 are the records, numbers from 5 on the logical partitions, which `pt_logicals` edits. docs/commands.md
+//! has the words, docs/model.md what they mean.
+#![tactic(auto)]
+
+mod deletion;
+mod kind;
+mod laws;
+mod parts;
+
+pub use deletion::delete;
+pub use kind::set_kind;
+pub use laws::{
+    deleted_is_one, deleted_is_taken, not_deleted_is_one, not_typed_is_one, typed_is_one,
+    typed_is_taken,
+};
+pub use parts::MbrParts;
+
+#[cfg(test)]
+mod tests;

@@ -1,0 +1,5 @@
+pub mod Sets
+pub mod Parts
+pub mod Gaps
+pub mod BlockEnds
+pub mod Leading

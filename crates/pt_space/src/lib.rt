@@ -1,0 +1,20 @@
+//! Where a new partition may be placed among taken sectors.
+//!
+//! It knows of no table: only of sectors by number. docs/commands.md has the words that a place is asked for by.
+#![tactic(auto)]
+
+mod block;
+mod laws;
+mod placement;
+mod space;
+mod start;
+
+pub use laws::{
+    placed_by_sectors, placed_is_free, placed_is_not_refused, placed_one, refused_by_sectors,
+    refused_one, rounded_up_is_least,
+};
+pub use placement::place;
+pub use space::{Lead, Run, Space};
+
+#[cfg(test)]
+mod tests;
