@@ -54,12 +54,12 @@ primaries_below n top [] le = tt
 primaries_below n top (r ∷ rs) le =
     below_append top (primary_slice n r) (primary_slices (n + 1) rs) (below_more (n + 1) top (primary_slice n r) (omega (arith, le)) (below_primary n r)) (primaries_below (n + 1) top rs (omega (arith, le)))
 
-below_logical : (n : ℕ) (e : Ebr) (o : Option Record) → e.logical ≡ o → AreBelow (n + 1) (logical_slice n e)
+pub below_logical : (n : ℕ) (e : Ebr) (o : Option Record) → e.logical ≡ o → AreBelow (n + 1) (logical_slice n e)
 unfolding logical_slice
 below_logical n e None is = rw is tt
 below_logical n e (Some r) is = rw is (below_one n e.at.0 r (nat_eq r.kind 0xA5) refl)
 
-next_of : (n : ℕ) (e : Ebr) (o : Option Record) → e.logical ≡ o → next_number n e ≡ (if is_some o then n + 1 else n)
+pub next_of : (n : ℕ) (e : Ebr) (o : Option Record) → e.logical ≡ o → next_number n e ≡ (if is_some o then n + 1 else n)
 unfolding next_number
 next_of n e None is = rw is refl
 next_of n e (Some r) is = rw is refl
@@ -206,7 +206,7 @@ logical_gone : (k : ℕ) (e : Ebr) (r : Record) → e.logical ≡ Some r → sli
 unfolding logical_slice
 logical_gone k e r is = rw is (lowered_here k e.at.0 r (nat_eq r.kind 0xA5) refl)
 
-emptied : (n : ℕ) (x : Ebr) → x.logical ≡ None → logical_slice n x ≡ []
+pub emptied : (n : ℕ) (x : Ebr) → x.logical ≡ None → logical_slice n x ≡ []
 unfolding logical_slice
 emptied n x none = rw none refl
 

@@ -4,3 +4,7 @@ pub mod Tables
 pub mod Order
 pub mod Parts
 pub mod Chain
+pub mod Raised
+pub mod Moved
+pub mod Mbr
+pub mod Logicals

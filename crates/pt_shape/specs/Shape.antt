@@ -1,5 +1,5 @@
 -- Layouts that a disk of their size may denote, as far as numbers and places tell.
-use Rattle.std.specs.Prelude.{◌≡◌, ◌≢◌, ◌<◌, ◌≤◌, ◌⊎◌, ◌+◌, ◌-◌, ℕ, List, [], ◌∷◌, length, slice_index_or, Option, Some, None}
+use Rattle.std.specs.Prelude.{◌≡◌, ◌≢◌, ◌<◌, ◌≤◌, ◌⊎◌, ◌+◌, ◌-◌, ◌^◌, ℕ, List, [], ◌∷◌, length, slice_index_or, Option, Some, None}
 use Rattle.pt_sector.specs.Sectors.{Span, InSpan}
 use Rattle.pt_sector.specs.declared.address.Lba.{Lba}
 use Rattle.pt_mbr.specs.Mbr.{IsBootIndicator}
@@ -30,11 +30,13 @@ pub record FitsTable (b n : ℕ) (t : Table) : Type 0 where
   pub high : t.last ≤ n - (array_len b + 2)
   pub typed : AllTyped t.entries
 
--- a used record of an MBR: it has a type, not the protective one, a size, and a boot indicator
+-- a used record of an MBR: it has a type, not the protective one, a size, and a boot indicator, and its numbers have 32 bits
 pub record FitsRecord (r : Record) : Type 0 where
   pub typed : r.kind ≢ 0
   pub plain : r.kind ≢ 0xEE
   pub sized : r.size ≢ 0
+  pub start : r.start < 2 ^ 32
+  pub size : r.size < 2 ^ 32
   pub boot : IsBootIndicator r.boot
 
 abbrev pub FitsSlot : Option Record → Type 0
