@@ -8,3 +8,5 @@ pub mod Raised
 pub mod Moved
 pub mod Mbr
 pub mod Logicals
+pub mod Entering
+pub mod NewLogicals
