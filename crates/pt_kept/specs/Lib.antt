@@ -10,3 +10,4 @@ pub mod Mbr
 pub mod Logicals
 pub mod Entering
 pub mod NewLogicals
+pub mod Records

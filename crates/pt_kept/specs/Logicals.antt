@@ -73,7 +73,7 @@ next_same m e f r q has also = next_of m e (Some r) has ∙ sym (next_of m f (So
 pub read_at : (chain : List Ebr) (k : ℕ) (d : Ebr) → k < length chain → ebr_at chain k ≡ slice_index_or chain k d
 read_at chain k d lt = any_default chain k no_ebr d lt
 
-logical_of : (r : Record) (kind : ℕ) → FitsRecord r → kind ≢ 0 → kind ≢ 0xEE → FitsRecord (record r { kind = kind })
+pub logical_of : (r : Record) (kind : ℕ) → FitsRecord r → kind ≢ 0 → kind ≢ 0xEE → FitsRecord (record r { kind = kind })
 logical_of r kind fits some plain = record { typed = some; plain = plain; sized = fits.sized; start = fits.start; size = fits.size; boot = fits.boot }
 
 -- what the chain's logical partitions are
