@@ -1,5 +1,6 @@
 #!/usr/bin/env bash
-# Builds the command and measures: CRC-32 beside zlib's, then show and rename beside sgdisk, sfdisk and parted.
+# Builds the command and measures: CRC-32 beside zlib's; show, verify and rename beside sgdisk, sfdisk, parted and cgpt; new tables beside
+# sgdisk and sfdisk.
 set -euo pipefail
 cd "$(dirname "$0")/.."
 export PATH="$PATH:/usr/sbin:/sbin"
@@ -7,3 +8,4 @@ tests/install.sh bench
 ptab=$(./build.sh)
 bench/crc.sh
 python3 bench/tools.py "$ptab"
+python3 bench/edits.py "$ptab"

@@ -1,5 +1,5 @@
 #!/usr/bin/env bash
-# Builds the command and shows it at work on a GPT image that sgdisk makes: shown, renamed, and, with its primary copy
+# Builds the command and shows it at work on a GPT image that sgdisk makes: shown, renamed, located in, and, with its primary copy
 # damaged, shown from the backup and renamed, which mends it.
 set -euo pipefail
 cd "$(dirname "$0")/.."
@@ -19,6 +19,7 @@ ptab show disk.img
 ptab edit disk.img c:2:archive
 ptab show disk.img
 ptab verify disk.img
+ptab locate disk.img 2 1000
 echo "\$ # the primary header is overwritten with zeros"
 dd if=/dev/zero of=disk.img bs=512 seek=1 count=1 conv=notrunc status=none
 ptab verify disk.img

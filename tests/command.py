@@ -1,4 +1,5 @@
 """Runs of the built command on images, each compared whole: output, errors, status, and an image that may not change."""
+import os
 import subprocess
 import sys
 
@@ -14,19 +15,35 @@ class Command:
         self.ptab = ptab
         self.path = path
         self.sectors = sectors
+        self.sparse = None
 
     def large(self):
         """The same, with sectors of 4096 bytes."""
         return Command(self.ptab, self.path, LARGE)
 
     def on(self, image):
+        self.sparse = None
         with open(self.path, "wb") as it:
             it.write(image)
         return self
 
+    def on_sparse(self, sectors, pieces):
+        """An image of that many sectors with the pieces {lba: bytes}, zeros elsewhere, which takes no room for them."""
+        self.sparse = sorted(pieces)
+        with open(self.path, "wb") as it:
+            it.truncate(sectors * self.sectors.size)
+            for lba, content in pieces.items():
+                it.seek(lba * self.sectors.size)
+                it.write(content)
+        return self
+
     def image(self):
+        """The whole image; of a sparse one its length, the room that it takes, and a sector of each piece."""
         with open(self.path, "rb") as it:
-            return it.read()
+            if self.sparse is None:
+                return it.read()
+            found = os.fstat(it.fileno())
+            return found.st_size, found.st_blocks, [os.pread(it.fileno(), self.sectors.size, lba * self.sectors.size) for lba in self.sparse]
 
     def run(self, *words):
         """(output, errors, status) of the words, the image's path put second."""

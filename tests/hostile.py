@@ -10,7 +10,6 @@ import os
 import random
 import re
 import struct
-import subprocess
 import sys
 import tempfile
 import zlib
@@ -146,9 +145,24 @@ def hostile(rng):
     return sectors, bytes(image)
 
 
-def run(ptab, command, sectors, path, *words):
-    done = subprocess.run([ptab, command, "--sector-size", str(sectors.size), path, *words], capture_output=True)
-    return done.returncode, done.stdout.decode("utf-8"), done.stderr.decode("utf-8")
+class Runner:
+    """Runs the command with its streams in two files, which is cheaper than pipes."""
+
+    def __init__(self, ptab, path):
+        self.ptab = ptab
+        self.path = path
+        self.streams = [os.open(f"{path}.{name}", os.O_RDWR | os.O_CREAT | os.O_TRUNC, 0o600) for name in ("out", "err")]
+
+    def run(self, command, sectors, *words):
+        """(status, output, errors); a negative status is that of a signal."""
+        for stream in self.streams:
+            os.ftruncate(stream, 0)
+            os.lseek(stream, 0, os.SEEK_SET)
+        actions = [(os.POSIX_SPAWN_DUP2, stream, number) for number, stream in enumerate(self.streams, 1)]
+        line = [self.ptab, command, "--sector-size", str(sectors.size), self.path, *words]
+        child = os.posix_spawn(self.ptab, line, {}, file_actions=actions)
+        status = os.waitstatus_to_exitcode(os.waitpid(child, 0)[1])
+        return (status, *(os.pread(stream, os.fstat(stream).st_size, 0).decode("utf-8") for stream in self.streams))
 
 
 def named(shown, verified):
@@ -181,21 +195,25 @@ def place(shown, sectors, rng):
 def batch(job):
     ptab, seed, count, path = job
     rng = random.Random(seed)
+    it = Runner(ptab, path)
     for number in range(count):
         sectors, image = hostile(rng)
-        with open(path, "wb") as it:
-            it.write(image)
-        shown, verified = run(ptab, "show", sectors, path), run(ptab, "verify", sectors, path)
+        with open(path, "wb") as file:
+            file.write(image)
+        shown, verified = it.run("show", sectors), it.run("verify", sectors)
         which = f"seed {seed}, image {number}: {sectors.size}"
         if not named(shown, verified):
             return f"{which}: {shown} {verified}"
         where, k, wanted = place(shown, sectors, rng)
-        found = run(ptab, "locate", sectors, path, where, str(k))
+        found = it.run("locate", sectors, where, str(k))
         if found != wanted:
             return f"{which}: {shown}: locate {where} {k}: found {found}, wanted {wanted}"
-        with open(path, "rb") as it:
-            if it.read() != image:
+        with open(path, "rb") as file:
+            if file.read() != image:
                 return f"{which}: the image was changed"
+    for stream in it.streams:
+        os.close(stream)
+    os.remove(path)
     return None
 
 
@@ -207,9 +225,11 @@ def main():
     with tempfile.TemporaryDirectory(dir=memory) as folder, multiprocessing.Pool(workers) as pool:
         size = 100
         jobs = [(ptab, seed, size, f"{folder}/image{seed}") for seed in range((count + size - 1) // size)]
-        for done in pool.imap_unordered(batch, jobs):
+        for finished, done in enumerate(pool.imap_unordered(batch, jobs), 1):
             if done:
                 sys.exit(done)
+            if finished % 100 == 0:
+                print(f"{finished * size} of {count}", file=sys.stderr, flush=True)
     print(f"hostile images: {count} passed, 0 failed")
 
 

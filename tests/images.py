@@ -88,24 +88,30 @@ class Sectors:
         rest = bytes(self.size - 92)
         return bytes_with(zlib.crc32((bytes_with(0) + rest)[:min(size, self.size)]) if crc is None else crc) + rest
 
-    def put_side(self, image, side, entries, **fields):
-        """Writes the primary or the backup copy; fields replace those of the header."""
-        sectors = self.count(image)
+    def side(self, sectors, side, entries, **fields):
+        """The pieces {lba: bytes} of the primary or the backup copy; fields replace those of the header."""
         array = array_of(entries, min(fields.get("count", 128), 128))
         place = 2 if side == "primary" else sectors - self.array - 1
         my, alternate = (1, sectors - 1) if side == "primary" else (sectors - 1, 1)
         words = dict(my=my, alternate=alternate, first=self.array + 2, last=sectors - self.array - 2, array=place,
                      array_crc=zlib.crc32(array))
         words.update(fields)
-        self.put(image, place, array)
-        self.put(image, my, self.header(**words))
+        return {place: array, my: self.header(**words)}
+
+    def put_side(self, image, side, entries, **fields):
+        for lba, content in self.side(self.count(image), side, entries, **fields).items():
+            self.put(image, lba, content)
+
+    def gpt_pieces(self, sectors, entries, **fields):
+        """The pieces of a healthy GPT image, where the fields, which replace those of both headers, leave it so."""
+        return {0: protective(sectors), **self.side(sectors, "primary", entries, **fields),
+                **self.side(sectors, "backup", entries, **fields)}
 
     def gpt(self, sectors, entries, **fields):
-        """A healthy GPT image, where the fields, which replace those of both headers, leave it so."""
+        """A whole GPT image."""
         image = self.zeros(sectors)
-        self.put(image, 0, protective(sectors))
-        self.put_side(image, "primary", entries, **fields)
-        self.put_side(image, "backup", entries, **fields)
+        for lba, content in self.gpt_pieces(sectors, entries, **fields).items():
+            self.put(image, lba, content)
         return image
 
     def mbr(self, sectors, records):
@@ -133,10 +139,10 @@ def chained(ebrs, sectors=SMALL, kind=0x05):
     return image
 
 
-def long_chain(count, sectors=SMALL):
-    """1024 sectors with an extended partition from 10 and that many extended boot records, each with a logical of one sector."""
-    image = sectors.mbr(1024, [record(0x05, 10, 1000)])
+def long_chain(count, sectors=SMALL, first=10):
+    """1024 sectors with an extended partition of 900 and that many extended boot records, each with a logical of one sector."""
+    image = sectors.mbr(1024, [record(0x05, first, 900)])
     for k in range(count):
         link = record(0x05, 2 * k + 2, 1) if k + 1 < count else bytes(16)
-        sectors.put(image, 10 + 2 * k, ebr(record(0x83, 1, 1), link))
+        sectors.put(image, first + 2 * k, ebr(record(0x83, 1, 1), link))
     return image

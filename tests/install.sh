@@ -10,7 +10,7 @@ need parted parted
 need strace strace
 for word in "$@"; do
   case "$word" in
-    bench) need valgrind valgrind; need gcc gcc; [ -e /usr/include/zlib.h ] || missing+=(zlib1g-dev) ;;
+    bench) need valgrind valgrind; need cgpt cgpt; need gcc gcc; [ -e /usr/include/zlib.h ] || missing+=(zlib1g-dev) ;;
     *) echo "usage: tests/install.sh [bench]" >&2; exit 2 ;;
   esac
 done

@@ -113,6 +113,8 @@ def main():
         cut(ptab, folder, "a name from the backup", broken, ["c:1:data"], [1, 32, 1, 33], 3)
         cut(ptab, folder, "a name over a sloppy protective record", sloppy, ["c:1:data"], [33, 1, 32, 1, 1], 2)
         cut(ptab, folder, "a new table", SMALL.zeros(2048), [*FRESH, "o"], [1, 32, 1, 33, 1], 3)
+        cut(ptab, folder, "a new table with a partition", SMALL.zeros(2048), [*FRESH, "o", "a:1", "n:1:0:0"], [1, 32, 1, 33, 1], 3)
+        cut(ptab, folder, "a new partition", whole, [*FRESH, "a:1", "n:2:100:200", "c:2:new"], [33, 1, 32, 1], 2)
         cut(ptab, folder, "a grown disk", whole + SMALL.zeros(1000), ["e"], [33, 1, 32, 1, 1], 2)
         two = SMALL.gpt(4096, {1: entry(2048, 3000), 2: entry(3001, 4000, unique=images.DISK)})
         cut(ptab, folder, "a deletion", two, ["d:1", "t:2:8200"], [33, 1, 32, 1], 2)

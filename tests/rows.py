@@ -6,21 +6,32 @@ usage: tests/rows.py PTAB
 import os
 import sys
 import tempfile
+from concurrent.futures import ProcessPoolExecutor
 
 import rows_edit
 import rows_gpt
+import rows_help
 import rows_labels
 import rows_mbr
+import rows_place
 from command import Command
+
+PARTS = (rows_gpt, rows_mbr, rows_labels, rows_edit, rows_place, rows_help)
+
+
+def run(rows, ptab):
+    """How many answers were compared."""
+    before = Command.checked
+    with tempfile.TemporaryDirectory() as folder:
+        rows(Command(ptab, f"{folder}/image"))
+    return Command.checked - before
 
 
 def main():
     ptab = os.path.abspath(sys.argv[1])
-    with tempfile.TemporaryDirectory() as folder:
-        for part in (rows_gpt, rows_mbr, rows_labels, rows_edit):
-            for rows in part.ROWS:
-                rows(Command(ptab, f"{folder}/image"))
-    print(f"rows: {Command.checked} passed, 0 failed")
+    with ProcessPoolExecutor() as pool:
+        done = [pool.submit(run, rows, ptab) for part in PARTS for rows in part.ROWS]
+        print(f"rows: {sum(it.result() for it in done)} passed, 0 failed")
 
 
 main()

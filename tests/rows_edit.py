@@ -44,6 +44,26 @@ def renamed_from_backup(command):
     command.on(both).gives(["edit", "a:1"], "", "no table: copies 1 1\n", 4)
 
 
+def mended(command):
+    """A word that changes nothing mends what is wrong with the copies and sector 0, and writes nothing where nothing is."""
+    whole = one_partition()
+    for at in (512, 2 * 512 + 200, 4095 * 512, 4063 * 512, 446 + 5, 510):
+        broken = one_partition()
+        broken[at] ^= 0xFF
+        command.on(broken).edited("a:2048").healthy()
+        is_now(command, whole, f"byte {at} mended")
+    differing = one_partition()
+    SMALL.put_side(differing, "backup", {1: entry(2048, 4061)})
+    command.on(differing).unhealthy("4 copies differ").edited("a:2048").healthy()
+    is_now(command, whole, "copies that differ, mended")
+    named = one_partition()
+    SMALL.put_side(named, "primary", {1: entry(2048, 4062)}, alternate=4094)
+    command.on(named).unhealthy("5 alternate primary").edited("a:2048").healthy()
+    is_now(command, whole, "an alternate place, mended")
+    command.on(whole).edited("a:2048").edited("c:1:").edited("t:1:8300").edited("A:1:0:0").edited(f"u:1:{images.FIRST}", "e")
+    is_now(command, whole, "nothing to change")
+
+
 def new_tables(command):
     command.on(SMALL.zeros(2048)).refused("edit 10", "o").edited(*FRESH, "o").healthy()
     is_now(command, SMALL.gpt(2048, {}), "a new table")
@@ -122,4 +142,4 @@ def not_for_mbr(command):
     command.on(broken).gives(["edit", "d:2"], "", "no table: chain 3 4096\n", 4)
 
 
-ROWS = (names, renamed_from_backup, new_tables, large_tables, grown, fields, unsound, slices, not_for_mbr)
+ROWS = (names, renamed_from_backup, mended, new_tables, large_tables, grown, fields, unsound, slices, not_for_mbr)

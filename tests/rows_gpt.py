@@ -204,6 +204,18 @@ def small(command):
     command.on(SMALL.gpt(68, {128: entry(34, 34)})).healthy().located("128", 0, 34)
 
 
+def huge(command):
+    """Disks whose sectors don't fit 32 bits: the protective record's size doesn't either."""
+    for sectors in (2 ** 32, 2 ** 32 + 1, 2 ** 32 + 5000):
+        pieces = SMALL.gpt_pieces(sectors, {1: entry(34, sectors - 34, name="all")})
+        if pieces[0][458:462] != b"\xff\xff\xff\xff":
+            raise SystemExit("the protective record of a huge disk has another size")
+        command.on_sparse(sectors, pieces).healthy().located("1", sectors - 68, sectors - 34).nowhere("1", sectors - 67)
+        command.shows(f"gpt {sectors} 34 {sectors - 34} {images.DISK}", f"1 34 {sectors - 34} 8300 0000000000000000 {images.FIRST} all")
+    pieces[0] = protective(5000)
+    command.on_sparse(sectors, pieces).unhealthy("6 protective record")
+
+
 def sectors_of_4096(command):
     large = command.large()
     one = f"1 6 250 8300 0000000000000000 {images.FIRST}"
@@ -243,4 +255,4 @@ def sectors_of_4096(command):
 
 
 ROWS = (whole, damaged, headers, first_fault, accepted, findings_of_gpt, protective_records, unsound, overlaps, same_guids,
-        shown_fields, small, sectors_of_4096)
+        shown_fields, small, huge, sectors_of_4096)

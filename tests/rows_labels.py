@@ -121,6 +121,21 @@ def on_gpt(command):
     command.on(low).shows(f"gpt 4096 34 4062 {images.DISK}", f"1 0 99 A500 0000000000000000 {images.FIRST}").unhealthy("7 outside 1")
 
 
+def far(command):
+    """A slice that begins past 32 bits has no absolute form; one that begins below has, though it ends past them."""
+    sectors = 2 ** 32 + 5000
+    for first, absolute in ((4294967200, True), (4294967296, False)):
+        pieces = SMALL.gpt_pieces(sectors, {1: entry(first, first + 999, FREEBSD)})
+        lines = (f"gpt {sectors} 34 {sectors - 34} {images.DISK}", f"1 {first} {first + 999} A500 0000000000000000 {images.FIRST}")
+        pieces[first + 1] = label(1000, {0: (10, 100, 7)})
+        command.on_sparse(sectors, pieces).shows(*lines, f"1.a {first + 100} {first + 109} 07").healthy().located("1.a", 9, first + 109)
+        if absolute:
+            pieces[first + 1] = label(1000, {0: (10, first + 20, 7)}, raw_offset=first)
+            command.on_sparse(sectors, pieces).shows(*lines, f"1.a {first + 20} {first + 29} 07").healthy()
+    pieces[4294967297] = label(1000, {}, raw_offset=1)
+    command.on_sparse(sectors, pieces).shows(*lines).unhealthy("11 foreign label 1")
+
+
 def sectors_of_4096(command):
     """No slices and no labels: both types are ordinary ones."""
     large = command.large()
@@ -133,4 +148,4 @@ def sectors_of_4096(command):
     large.located("1", 0, 6).nowhere("1.a", 0)
 
 
-ROWS = (labels, absolute, foreign, unsound, places, in_chains, on_gpt, sectors_of_4096)
+ROWS = (labels, absolute, foreign, unsound, places, in_chains, on_gpt, far, sectors_of_4096)

@@ -89,10 +89,10 @@ def long_chains(command):
     for it, sectors in both_sizes(command):
         it.on(long_chain(129, sectors)).no_table("chain 5")
         lines = [f"{5 + k} {11 + 2 * k} {11 + 2 * k} 83 00" for k in range(128)]
-        it.on(long_chain(128, sectors)).shows("mbr 1024", "1 10 1009 05 00", *lines).healthy().located("132", 0, 265)
+        it.on(long_chain(128, sectors)).shows("mbr 1024", "1 10 909 05 00", *lines).healthy().located("132", 0, 265)
         last = 10 + 2 * 127
-        for link, fault in ((record(0x05, 0, 1), f"chain 3 {last}"), (record(0x05, 1000, 1), "chain 4 1010"),
-                            (record(0x05, 999, 1), "chain 5")):
+        for link, fault in ((record(0x05, 0, 1), f"chain 3 {last}"), (record(0x05, 900, 1), "chain 4 910"),
+                            (record(0x05, 899, 1), "chain 5")):
             image = long_chain(128, sectors)
             sectors.put(image, last, ebr(record(0x83, 1, 1), link))
             it.on(image).no_table(fault)

@@ -1,3 +1,4 @@
 pub mod Units
 pub mod Folding
-pub mod LabelLists
+pub mod Runs
+pub mod Places

@@ -2,16 +2,8 @@
 use Rattle.std.specs.Prelude.{List, drop}
 use Rattle.pt_guid.specs.declared.guid.Guid.{Guid}
 use Rattle.pt_edit.specs.Edited.{State}
-use Rattle.pt_words.specs.declared.word.Edit.{Edit}
-use Rattle.pt_words.specs.declared.word.Edit.TheVariants.{Align, Empty}
 use Rattle.pt_edit.specs.declared.state.State.{State as Kept}
 
 -- the state that it stands for
 abbrev pub state_of : List Guid → Kept → State
 state_of guids s = record { layout = s.layout; alignment = s.alignment; fresh = drop s.taken guids }
-
--- the word needs a layout
-abbrev pub NeedsLayout : Edit → Type 0
-NeedsLayout (Align k) = ⊥
-NeedsLayout Empty = ⊥
-NeedsLayout _ = Unit {0}

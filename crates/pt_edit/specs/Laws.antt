@@ -1,5 +1,5 @@
 -- The law of what words make, as a term that definitions and proofs above can cite.
-use Rattle.std.specs.Prelude.{◌≡◌, ℕ, Bool, true, false, slice_index_or, List, [], ◌∷◌, length, Option, Some, None, Result, Err}
+use Rattle.std.specs.Prelude.{◌≡◌, ℕ, Bool, true, false, List, [], ◌∷◌, Option, Some, None, Result, Err}
 use Rattle.std.proofs.Common.{sym, ap, ◌∙◌, subst, inl, inr, arith}
 use Rattle.pt_guid.specs.declared.guid.Guid.{Guid}
 use Rattle.pt_gpt.specs.declared.entry.Entry.{Entry}
@@ -7,15 +7,18 @@ use Rattle.pt_gpt.specs.declared.table.Table.{Table}
 use Rattle.pt_recover.specs.declared.layout.Layout.{Layout}
 use Rattle.pt_recover.specs.declared.layout.Body.{Body}
 use Rattle.pt_recover.specs.declared.layout.Body.TheVariants.{Mbr, Gpt}
-use Rattle.std.proofs.lemmas.Option.{none-some}
-use Rattle.pt_bsd.specs.declared.label.Label.{Label}
-use Rattle.pt_bsd.specs.declared.label.LabelEntry.{LabelEntry}
-use Rattle.pt_recover.specs.declared.layout.Labelled.{Labelled}
-use Rattle.pt_words.specs.declared.word.Code.{Code}
-use Rattle.pt_edit.specs.Spots.{is_slice, HasPart, NoPart, no_slice, no_label, is_raw, unused, EntryTyped, EntryNotTyped, no_such_entry, unknown_code, is_container, EntryDeleted, PartMade, TypedAs, PartNotTyped, no_part, strange_code, Zeroed, Typed, NotTyped, Deleted, NotDeleted, RefusedIn}
+use Rattle.pt_convert.specs.Laws.{converted_one_lem, converted_taken_lem, not_converted_one_lem}
+use Rattle.pt_records.specs.Laws.{record_typed_one_lem, record_typed_taken_lem, record_not_typed_one_lem, record_deleted_one_lem, record_deleted_taken_lem, record_not_deleted_one_lem}
+use Rattle.pt_records.specs.NewLaws.{record_new_one_lem, record_new_taken_lem, record_not_new_one_lem}
+use Rattle.pt_labels.specs.NewLaws.{new_one_lem, new_excludes_lem, not_new_one_lem}
+use Rattle.pt_labels.specs.Laws.{typed_one_lem, typed_excludes_lem, not_typed_one_lem, deleted_one_lem, deleted_excludes_lem, not_deleted_one_lem}
+use Rattle.pt_edit.specs.Spots.{is_slice, EntryTyped, EntryNotTyped, no_such_entry, unknown_code, is_container, EntryDeleted, EntryNotDeleted}
 use Rattle.pt_edit.specs.Changes.{IsGpt, HasEntry, Changed, Missing, no_gpt, no_entry, NotChanged, missing, barred, TableMade, NoTable, with_body}
-use Rattle.pt_edit.specs.Edited.{State, MakesOf, RefusedOn, MakesOn, RefusesOn, Emptied, EmptyRefused, no_room, no_guid, Takes, Refuses, Ends, EditedFrom, Edited, initial}
+use Rattle.pt_edit.specs.NewLaws.{some_none, cons_some, entry_made_one, entry_made_taken, entry_not_made_one}
+use Rattle.pt_edit.specs.Edited.{State, InKind, Typed, NotTyped, Deleted, NotDeleted, Made, NotMade, asked_for, MakesOf, RefusedOf, MakesOn, RefusesOn, Emptied, EmptyRefused, no_room, no_guid, Takes, Refuses, Ends, EditedFrom, Edited, initial}
+use Rattle.pt_edit.specs.declared.asked.Asked.{Asked}
 use Rattle.pt_words.specs.declared.error.Refusal.{Refusal}
+use Rattle.pt_words.specs.declared.word.Code.{Code}
 use Rattle.pt_words.specs.declared.word.Edit.{Edit}
 use Rattle.pt_words.specs.declared.word.Edit.TheVariants.{Align, New, Delete, SetKind, SetName, SetUnique, SetDisk, SetBit, Extend, ToGpt, Empty}
 
@@ -85,215 +88,145 @@ table_one change o p q (t, table, made) (u, also, so) =
 table_taken : (change : Table → Table) (o p : Layout) (r : Refusal) → TableMade change o p → NoTable o r → ⊥
 table_taken change o p r (t, table, made) (not, is) = not (gpt_is o.body t table)
 
-some_none : {A : Type 0} (x : A) → Some x ≡ None → ⊥
-some_none x same = none-some x (sym same)
-
 true_false : (c : Bool) → c ≡ true → c ≡ false → ⊥
 true_false c x y = let e : ◌≡◌ {A = Bool} true false = sym x ∙ y in cc
 
--- a letter of a label is one partition
-part_one : (b : ℕ) (t : Table) (labels : List Labelled) (number letter : ℕ) (l m : Label) (e f : LabelEntry) → HasPart b t labels number letter l e → HasPart b t labels number letter m f → (l ≡ m) × (e ≡ f)
-part_one b t labels number letter l m e f x y =
-    let same : l ≡ m = cc in
-    let counted = subst (λ (k : Label). slice_index_or k.entries letter None ≡ Some f) (sym same) y.counted in
-    let entry : e ≡ f = cc in
-    (same, entry)
-
--- a partition that is there isn't missing
-part_there : (b : ℕ) (t : Table) (labels : List Labelled) (number letter : ℕ) (l : Label) (e : LabelEntry) (r : Refusal) → HasPart b t labels number letter l e → NoPart b t labels number letter r → ⊥
-part_there b t labels number letter l e r x (no_slice not is) = not x.slice
-part_there b t labels number letter l e r x (no_label slice none is) = some_none l (sym x.label ∙ none)
-part_there b t labels number letter l e r x (is_raw m slice label same is) = x.other same
-part_there b t labels number letter l e r x (unused m slice label other none is) =
-    let same : l ≡ m = cc in
-    x.sized (none e (subst (λ (k : Label). slice_index_or k.entries letter None ≡ Some e) same x.counted))
-
--- and is missing for one reason
-no_part_one : (b : ℕ) (t : Table) (labels : List Labelled) (number letter : ℕ) (r q : Refusal) → NoPart b t labels number letter r → NoPart b t labels number letter q → r ≡ q
-no_part_one b t labels number letter r q (no_slice not is) (no_slice also so) = is ∙ sym so
-no_part_one b t labels number letter r q (no_slice not is) (no_label slice none so) = absurd (not slice)
-no_part_one b t labels number letter r q (no_slice not is) (is_raw m slice label same so) = absurd (not slice)
-no_part_one b t labels number letter r q (no_slice not is) (unused m slice label other none so) = absurd (not slice)
-no_part_one b t labels number letter r q (no_label slice none is) (no_slice not so) = absurd (not slice)
-no_part_one b t labels number letter r q (no_label slice none is) (no_label also nothing so) = is ∙ sym so
-no_part_one b t labels number letter r q (no_label slice none is) (is_raw m also label same so) = absurd (some_none m (sym label ∙ none))
-no_part_one b t labels number letter r q (no_label slice none is) (unused m also label other nothing so) = absurd (some_none m (sym label ∙ none))
-no_part_one b t labels number letter r q (is_raw m slice label same is) (no_slice not so) = absurd (not slice)
-no_part_one b t labels number letter r q (is_raw m slice label same is) (no_label also none so) = absurd (some_none m (sym label ∙ none))
-no_part_one b t labels number letter r q (is_raw m slice label same is) (is_raw n also other equal so) = is ∙ sym so
-no_part_one b t labels number letter r q (is_raw m slice label same is) (unused n also label2 other nothing so) = absurd (other same)
-no_part_one b t labels number letter r q (unused m slice label other nothing is) (no_slice not so) = absurd (not slice)
-no_part_one b t labels number letter r q (unused m slice label other nothing is) (no_label also none so) = absurd (some_none m (sym label ∙ none))
-no_part_one b t labels number letter r q (unused m slice label other nothing is) (is_raw n also label2 same so) = absurd (other same)
-no_part_one b t labels number letter r q (unused m slice label other nothing is) (unused n also label2 another none so) = is ∙ sym so
-
 -- an entry gets one type
-typed_one : (b number : ℕ) (code : Code) (o p q : Layout) → EntryTyped b number code o p → EntryTyped b number code o q → p ≡ q
-typed_one b number code o p q a c =
-    let x : EntryOf o number a.table a.entry = record { is_table = a.is_table; is_entry = a.is_entry } in
-    let y : EntryOf o number c.table c.entry = record { is_table = c.is_table; is_entry = c.is_entry } in
-    let t = same_table o number a.table c.table a.entry c.entry x y in
-    let e = same_entry o number a.table c.table a.entry c.entry x y in
-    let k : a.kind ≡ c.kind = cc in
-    a.made ∙ (rw (t, e, k) (sym c.made))
+entry_typed_one : (b : ℕ) (t : Table) (number : ℕ) (code : Code) (o p q : Layout) → EntryTyped b t number code o p → EntryTyped b t number code o q → p ≡ q
+entry_typed_one b t number code o p q x y =
+    let e = one_entry t number x.entry y.entry x.is_entry y.is_entry in
+    let k : x.kind ≡ y.kind = cc in
+    x.made ∙ (rw (e, k) (sym y.made))
 
-typed_taken : (b number : ℕ) (code : Code) (o p : Layout) (t : Table) (r : Refusal) → o.body ≡ Gpt t → EntryTyped b number code o p → EntryNotTyped b t number code r → ⊥
-typed_taken b number code o p t r table a (no_such_entry none is) = none a.entry (subst (λ (x : Table). HasEntry x number a.entry) (one_table o.body a.table t a.is_table table) a.is_entry)
-typed_taken b number code o p t r table a (unknown_code e entry none is) = some_none a.kind (sym a.known ∙ none)
-typed_taken b number code o p t r table a (is_container e kind entry known (inl old) is) =
-    let there = subst (λ (x : Table). HasEntry x number a.entry) (one_table o.body a.table t a.is_table table) a.is_entry in
-    let same = one_entry t number e a.entry entry there in
-    true_false (is_slice b a.entry.kind.0) (subst (λ (x : Entry). is_slice b x.kind.0 ≡ true) same old) a.old
-typed_taken b number code o p t r table a (is_container e kind entry known (inr new) is) =
-    let same : kind ≡ a.kind = cc in
-    true_false (is_slice b a.kind) (subst (λ (x : List ℕ). is_slice b x ≡ true) same new) a.new
+entry_typed_taken : (b : ℕ) (t : Table) (number : ℕ) (code : Code) (o p : Layout) (r : Refusal) → EntryTyped b t number code o p → EntryNotTyped b t number code r → ⊥
+entry_typed_taken b t number code o p r x (no_such_entry none is) = none x.entry x.is_entry
+entry_typed_taken b t number code o p r x (unknown_code e entry none is) = some_none x.kind (sym x.known ∙ none)
+entry_typed_taken b t number code o p r x (is_container e kind entry known (inl old) is) =
+    let same = one_entry t number e x.entry entry x.is_entry in
+    true_false (is_slice b x.entry.kind.0) (subst (λ (y : Entry). is_slice b y.kind.0 ≡ true) same old) x.old
+entry_typed_taken b t number code o p r x (is_container e kind entry known (inr new) is) =
+    let same : kind ≡ x.kind = cc in
+    true_false (is_slice b x.kind) (subst (λ (y : List ℕ). is_slice b y ≡ true) same new) x.new
 
-not_typed_one : (b : ℕ) (t : Table) (number : ℕ) (code : Code) (r q : Refusal) → EntryNotTyped b t number code r → EntryNotTyped b t number code q → r ≡ q
-not_typed_one b t number code r q (no_such_entry none is) (no_such_entry nothing so) = is ∙ sym so
-not_typed_one b t number code r q (no_such_entry none is) (unknown_code e entry known so) = absurd (none e entry)
-not_typed_one b t number code r q (no_such_entry none is) (is_container e kind entry known why so) = absurd (none e entry)
-not_typed_one b t number code r q (unknown_code e entry known is) (no_such_entry none so) = absurd (none e entry)
-not_typed_one b t number code r q (unknown_code e entry known is) (unknown_code f also kind so) = is ∙ sym so
-not_typed_one b t number code r q (unknown_code e entry none is) (is_container f kind also known why so) = absurd (some_none kind (sym known ∙ none))
-not_typed_one b t number code r q (is_container e kind entry known why is) (no_such_entry none so) = absurd (none e entry)
-not_typed_one b t number code r q (is_container e kind entry known why is) (unknown_code f also none so) = absurd (some_none kind (sym known ∙ none))
-not_typed_one b t number code r q (is_container e kind entry known why is) (is_container f type also so2 reason so) = is ∙ sym so
+entry_not_typed_one : (b : ℕ) (t : Table) (number : ℕ) (code : Code) (r q : Refusal) → EntryNotTyped b t number code r → EntryNotTyped b t number code q → r ≡ q
+entry_not_typed_one b t number code r q (no_such_entry none is) (no_such_entry nothing so) = is ∙ sym so
+entry_not_typed_one b t number code r q (no_such_entry none is) (unknown_code e entry known so) = absurd (none e entry)
+entry_not_typed_one b t number code r q (no_such_entry none is) (is_container e kind entry known why so) = absurd (none e entry)
+entry_not_typed_one b t number code r q (unknown_code e entry known is) (no_such_entry none so) = absurd (none e entry)
+entry_not_typed_one b t number code r q (unknown_code e entry known is) (unknown_code f also kind so) = is ∙ sym so
+entry_not_typed_one b t number code r q (unknown_code e entry none is) (is_container f kind also known why so) = absurd (some_none kind (sym known ∙ none))
+entry_not_typed_one b t number code r q (is_container e kind entry known why is) (no_such_entry none so) = absurd (none e entry)
+entry_not_typed_one b t number code r q (is_container e kind entry known why is) (unknown_code f also none so) = absurd (some_none kind (sym known ∙ none))
+entry_not_typed_one b t number code r q (is_container e kind entry known why is) (is_container f type also so2 reason so) = is ∙ sym so
 
-deleted_one : (number : ℕ) (o p q : Layout) → EntryDeleted number o p → EntryDeleted number o q → p ≡ q
-deleted_one number o p q a c = a.made ∙ (rw (one_table o.body a.table c.table a.is_table c.is_table) (sym c.made))
+-- an entry goes in one way
+entry_deleted_one : (t : Table) (number : ℕ) (o p q : Layout) → EntryDeleted t number o p → EntryDeleted t number o q → p ≡ q
+entry_deleted_one t number o p q x y = x.made ∙ sym y.made
 
--- a partition of a label becomes one other
-part_made_one : (b number letter : ℕ) (Becomes : LabelEntry → LabelEntry → Type 0) (o p q : Layout) → ((e f g : LabelEntry) → Becomes e f → Becomes e g → f ≡ g)
-    → PartMade b number letter Becomes o p → PartMade b number letter Becomes o q → p ≡ q
-part_made_one b number letter Becomes o p q one a c =
-    let t = one_table o.body a.table c.table a.is_table c.is_table in
-    let there = subst (λ (x : Table). HasPart b x o.labels number letter c.label c.old) (sym t) c.is_part in
-    let same = part_one b a.table o.labels number letter a.label c.label a.old c.old a.is_part there in
-    let new = one a.old a.new c.new a.becomes (subst (λ (x : LabelEntry). Becomes x c.new) (sym same.1) c.becomes) in
-    a.made ∙ (rw (same.0, new) (sym c.made))
+entry_deleted_taken : (t : Table) (number : ℕ) (o p : Layout) (r : Refusal) → EntryDeleted t number o p → EntryNotDeleted t number r → ⊥
+entry_deleted_taken t number o p r x y = y.none x.entry x.is_entry
 
-part_made_there : (b number letter : ℕ) (Becomes : LabelEntry → LabelEntry → Type 0) (o p : Layout) (t : Table) (r : Refusal) → o.body ≡ Gpt t → PartMade b number letter Becomes o p → NoPart b t o.labels number letter r → ⊥
-part_made_there b number letter Becomes o p t r table a none =
-    part_there b t o.labels number letter a.label a.old r (subst (λ (x : Table). HasPart b x o.labels number letter a.label a.old) (one_table o.body a.table t a.is_table table) a.is_part) none
+-- what follows from two things in an MBR and in each table follows in a body
+in_kind : (y : Body) (M N : Type 0) (G H : Table → Type 0) (P : Type 0) → (M → N → P) → ((t : Table) → G t → H t → P) → InKind y M G → InKind y N H → P
+in_kind (Mbr records chain) M N G H P mbr gpt x y = mbr x y
+in_kind (Gpt t) M N G H P mbr gpt x y = gpt t x y
 
-typed_as_one : (code : Code) (e f g : LabelEntry) → TypedAs code e f → TypedAs code e g → f ≡ g
-typed_as_one code e f g (kind, known, made) (other, also, so) =
-    let same : kind ≡ other = cc in made ∙ (rw same (sym so))
+-- `t` by whether the path has a letter
+typed_one : (b number : ℕ) (letter : Option ℕ) (code : Code) (o p q : Layout) → Typed b number letter code o p → Typed b number letter code o q → p ≡ q
+typed_one b number (Some letter) code o p q x y = typed_one_lem b number letter code o p q x y
+typed_one b number None code o p q x y = in_kind o.body _ _ _ _ (p ≡ q) (record_typed_one_lem b number code o p q) (λ t. entry_typed_one b t number code o p q) x y
 
-part_not_typed : (b number letter : ℕ) (code : Code) (o p : Layout) (t : Table) (r : Refusal) → o.body ≡ Gpt t → PartMade b number letter (TypedAs code) o p → PartNotTyped b t o.labels number letter code r → ⊥
-part_not_typed b number letter code o p t r table a (no_part n) = part_made_there b number letter (TypedAs code) o p t r table a n
-part_not_typed b number letter code o p t r table a (strange_code l e part unknown is) = some_none a.becomes.0 (sym a.becomes.1 ∙ unknown)
+typed_taken : (b number : ℕ) (letter : Option ℕ) (code : Code) (o p : Layout) (r : Refusal) → Typed b number letter code o p → NotTyped b number letter code o r → ⊥
+typed_taken b number (Some letter) code o p r x y = typed_excludes_lem b number letter code o p r x y
+typed_taken b number None code o p r x y = in_kind o.body _ _ _ _ ⊥ (record_typed_taken_lem b number code o p r) (λ t. entry_typed_taken b t number code o p r) x y
 
-part_not_typed_one : (b : ℕ) (t : Table) (labels : List Labelled) (number letter : ℕ) (code : Code) (r q : Refusal) → PartNotTyped b t labels number letter code r → PartNotTyped b t labels number letter code q → r ≡ q
-part_not_typed_one b t labels number letter code r q (no_part n) (no_part m) = no_part_one b t labels number letter r q n m
-part_not_typed_one b t labels number letter code r q (no_part n) (strange_code l e part unknown is) = absurd (part_there b t labels number letter l e r part n)
-part_not_typed_one b t labels number letter code r q (strange_code l e part unknown is) (no_part n) = absurd (part_there b t labels number letter l e q part n)
-part_not_typed_one b t labels number letter code r q (strange_code l e part unknown is) (strange_code m f also unknown2 so) = is ∙ sym so
+not_typed_one : (b number : ℕ) (letter : Option ℕ) (code : Code) (o : Layout) (r q : Refusal) → NotTyped b number letter code o r → NotTyped b number letter code o q → r ≡ q
+not_typed_one b number (Some letter) code o r q x y = not_typed_one_lem b number letter code o r q x y
+not_typed_one b number None code o r q x y = in_kind o.body _ _ _ _ (r ≡ q) (record_not_typed_one_lem b number code o r q) (λ t. entry_not_typed_one b t number code r q) x y
 
--- `t` and `d` by whether the path has a letter
-typed_path_one : (b number : ℕ) (letter : Option ℕ) (code : Code) (o p q : Layout) → Typed b number letter code o p → Typed b number letter code o q → p ≡ q
-typed_path_one b number None code o p q x y = typed_one b number code o p q x y
-typed_path_one b number (Some letter) code o p q x y = part_made_one b number letter (TypedAs code) o p q (typed_as_one code) x y
+-- `d` likewise
+deleted_one : (b number : ℕ) (letter : Option ℕ) (o p q : Layout) → Deleted b number letter o p → Deleted b number letter o q → p ≡ q
+deleted_one b number (Some letter) o p q x y = deleted_one_lem b number letter o p q x y
+deleted_one b number None o p q x y = in_kind o.body _ _ _ _ (p ≡ q) (record_deleted_one_lem number o p q) (λ t. entry_deleted_one t number o p q) x y
 
-deleted_path_one : (b number : ℕ) (letter : Option ℕ) (o p q : Layout) → Deleted b number letter o p → Deleted b number letter o q → p ≡ q
-deleted_path_one b number None o p q x y = deleted_one number o p q x y
-deleted_path_one b number (Some letter) o p q x y = part_made_one b number letter Zeroed o p q (λ e f g a c. a ∙ sym c) x y
+deleted_taken : (b number : ℕ) (letter : Option ℕ) (o p : Layout) (r : Refusal) → Deleted b number letter o p → NotDeleted b number letter o r → ⊥
+deleted_taken b number (Some letter) o p r x y = deleted_excludes_lem b number letter o p r x y
+deleted_taken b number None o p r x y = in_kind o.body _ _ _ _ ⊥ (record_deleted_taken_lem number o p r) (λ t. entry_deleted_taken t number o p r) x y
 
-typed_table : (b number : ℕ) (letter : Option ℕ) (code : Code) (o p : Layout) → Typed b number letter code o p → (t : Table) × (o.body ≡ Gpt t)
-typed_table b number None code o p x = (x.table, x.is_table)
-typed_table b number (Some letter) code o p x = (x.table, x.is_table)
+not_deleted_one : (b number : ℕ) (letter : Option ℕ) (o : Layout) (r q : Refusal) → NotDeleted b number letter o r → NotDeleted b number letter o q → r ≡ q
+not_deleted_one b number (Some letter) o r q x y = not_deleted_one_lem b number letter o r q x y
+not_deleted_one b number None o r q x y = in_kind o.body _ _ _ _ (r ≡ q) (record_not_deleted_one_lem number o r q) (λ t m n. m.is ∙ sym n.is) x y
 
-deleted_table : (b number : ℕ) (letter : Option ℕ) (o p : Layout) → Deleted b number letter o p → (t : Table) × (o.body ≡ Gpt t)
-deleted_table b number None o p x = (x.table, x.is_table)
-deleted_table b number (Some letter) o p x = (x.table, x.is_table)
+-- and `n`
+made_one : (b : ℕ) (letter : Option ℕ) (a : Asked) (fresh : List Guid) (o p q : Layout) → Made b letter a fresh o p → Made b letter a fresh o q → p ≡ q
+made_one b (Some letter) a fresh o p q x y = new_one_lem b a.number letter a.alignment a.start a.end a.code o p q x y
+made_one b None a fresh o p q x y = in_kind o.body _ _ _ _ (p ≡ q) (record_new_one_lem b a.number a.alignment a.start a.end a.code o p q) (λ t. entry_made_one b t a fresh o p q) x y
 
-typed_path_taken : (b number : ℕ) (letter : Option ℕ) (code : Code) (o p : Layout) (t : Table) (r : Refusal) → o.body ≡ Gpt t → Typed b number letter code o p → NotTyped b t o.labels number letter code r → ⊥
-typed_path_taken b number None code o p t r table x y = typed_taken b number code o p t r table x y
-typed_path_taken b number (Some letter) code o p t r table x y = part_not_typed b number letter code o p t r table x y
+made_taken : (b : ℕ) (letter : Option ℕ) (a : Asked) (fresh : List Guid) (o p : Layout) (r : Refusal) → Made b letter a fresh o p → NotMade b letter a fresh o r → ⊥
+made_taken b (Some letter) a fresh o p r x y = new_excludes_lem b a.number letter a.alignment a.start a.end a.code o p r x y
+made_taken b None a fresh o p r x y = in_kind o.body _ _ _ _ ⊥ (record_new_taken_lem b a.number a.alignment a.start a.end a.code o p r) (λ t. entry_made_taken b t a fresh o p r) x y
 
-deleted_path_taken : (b number : ℕ) (letter : Option ℕ) (o p : Layout) (t : Table) (r : Refusal) → o.body ≡ Gpt t → Deleted b number letter o p → NotDeleted b t o.labels number letter r → ⊥
-deleted_path_taken b number None o p t r table x y = y.none x.entry (subst (λ (u : Table). HasEntry u number x.entry) (one_table o.body x.table t x.is_table table) x.is_entry)
-deleted_path_taken b number (Some letter) o p t r table x y = part_made_there b number letter Zeroed o p t r table x y
-
-not_typed_path_one : (b : ℕ) (t : Table) (labels : List Labelled) (number : ℕ) (letter : Option ℕ) (code : Code) (r q : Refusal) → NotTyped b t labels number letter code r → NotTyped b t labels number letter code q → r ≡ q
-not_typed_path_one b t labels number None code r q x y = not_typed_one b t number code r q x y
-not_typed_path_one b t labels number (Some letter) code r q x y = part_not_typed_one b t labels number letter code r q x y
-
-not_deleted_path_one : (b : ℕ) (t : Table) (labels : List Labelled) (number : ℕ) (letter : Option ℕ) (r q : Refusal) → NotDeleted b t labels number letter r → NotDeleted b t labels number letter q → r ≡ q
-not_deleted_path_one b t labels number None r q x y = x.is ∙ sym y.is
-not_deleted_path_one b t labels number (Some letter) r q x y = no_part_one b t labels number letter r q x y
-
--- what holds of the refusals in each table holds of those in the layout
-in_gpt_taken : (o : Layout) (t : Table) (Refused : Table → Type 0) (r : Refusal) → o.body ≡ Gpt t → RefusedIn o.body Refused r → Refused t
-in_gpt_taken o t Refused r table x = subst (λ (y : Body). RefusedIn y Refused r) table x
-
-in_gpt_one : (o : Body) (Refused : Table → Refusal → Type 0) (r q : Refusal) → ((t : Table) → Refused t r → Refused t q → r ≡ q) → RefusedIn o (λ t. Refused t r) r → RefusedIn o (λ t. Refused t q) q → r ≡ q
-in_gpt_one (Mbr records chain) Refused r q one x y = x ∙ sym y
-in_gpt_one (Gpt t) Refused r q one x y = one t x y
+not_made_one : (b : ℕ) (letter : Option ℕ) (a : Asked) (fresh : List Guid) (o : Layout) (r q : Refusal) → NotMade b letter a fresh o r → NotMade b letter a fresh o q → r ≡ q
+not_made_one b (Some letter) a fresh o r q x y = not_new_one_lem b a.number letter a.alignment a.start a.end a.code o r q x y
+not_made_one b None a fresh o r q x y = in_kind o.body _ _ _ _ (r ≡ q) (record_not_new_one_lem b a.number a.alignment a.start a.end a.code o r q) (λ t. entry_not_made_one b t a fresh r q) x y
 
 -- a word makes one layout of another
-makes_on_one : (b : ℕ) (w : Edit) (o p q : Layout) → MakesOn b w o p → MakesOn b w o q → p ≡ q
-makes_on_one b (SetName number name) o p q x y = changed_one number _ _ o p q x y
-makes_on_one b (SetUnique number guid) o p q x y = changed_one number _ _ o p q x y
-makes_on_one b (SetDisk guid) o p q x y = table_one _ o p q x y
-makes_on_one b (SetBit number bit value) o p q x y = changed_one number _ _ o p q x y
-makes_on_one b Extend o p q x y = table_one _ o p q x y
-makes_on_one b (Align k) o p q x y = absurd x
-makes_on_one b (New path start end code) o p q x y = absurd x
-makes_on_one b (Delete path) o p q x y = deleted_path_one b path.number path.letter o p q x y
-makes_on_one b (SetKind path code) o p q x y = typed_path_one b path.number path.letter code o p q x y
-makes_on_one b ToGpt o p q x y = absurd x
-makes_on_one b Empty o p q x y = absurd x
+makes_on_one : (b alignment : ℕ) (fresh : List Guid) (w : Edit) (o p q : Layout) → MakesOn b alignment fresh w o p → MakesOn b alignment fresh w o q → p ≡ q
+makes_on_one b alignment fresh (SetName number name) o p q x y = changed_one number _ _ o p q x y
+makes_on_one b alignment fresh (SetUnique number guid) o p q x y = changed_one number _ _ o p q x y
+makes_on_one b alignment fresh (SetDisk guid) o p q x y = table_one _ o p q x y
+makes_on_one b alignment fresh (SetBit number bit value) o p q x y = changed_one number _ _ o p q x y
+makes_on_one b alignment fresh Extend o p q x y = table_one _ o p q x y
+makes_on_one b alignment fresh (New path start end code) o p q x y = made_one b path.letter (asked_for path.number alignment start end code) fresh o p q x y
+makes_on_one b alignment fresh (Delete path) o p q x y = deleted_one b path.number path.letter o p q x y
+makes_on_one b alignment fresh (SetKind path code) o p q x y = typed_one b path.number path.letter code o p q x y
+makes_on_one b alignment fresh ToGpt o p q x y = converted_one_lem b fresh o p q x y
+makes_on_one b alignment fresh (Align k) o p q x y = absurd x
+makes_on_one b alignment fresh Empty o p q x y = absurd x
 
 -- or is refused there
-makes_on_taken : (b : ℕ) (w : Edit) (o p : Layout) (r : Refusal) → MakesOn b w o p → RefusesOn b w o r → ⊥
-makes_on_taken b (SetName number name) o p r x y = changed_taken number _ _ _ _ o p r (λ t short long. omega arith) x y
-makes_on_taken b (SetUnique number guid) o p r x y = changed_taken number _ _ _ _ o p r (λ t none some. none some) x y
-makes_on_taken b (SetDisk guid) o p r x y = table_taken _ o p r x y
-makes_on_taken b (SetBit number bit value) o p r x y = entry_there number o x.table x.entry r x.is_table x.is_entry y
-makes_on_taken b Extend o p r x y = table_taken _ o p r x y
-makes_on_taken b (Align k) o p r x y = x
-makes_on_taken b (New path start end code) o p r x y = x
-makes_on_taken b (Delete path) o p r x y =
-    let (t, table) = deleted_table b path.number path.letter o p x in
-    deleted_path_taken b path.number path.letter o p t r table x (in_gpt_taken o t _ r table y)
-makes_on_taken b (SetKind path code) o p r x y =
-    let (t, table) = typed_table b path.number path.letter code o p x in
-    typed_path_taken b path.number path.letter code o p t r table x (in_gpt_taken o t _ r table y)
-makes_on_taken b ToGpt o p r x y = x
-makes_on_taken b Empty o p r x y = x
+makes_on_taken : (b alignment : ℕ) (fresh : List Guid) (w : Edit) (o p : Layout) (r : Refusal) → MakesOn b alignment fresh w o p → RefusesOn b alignment fresh w o r → ⊥
+makes_on_taken b alignment fresh (SetName number name) o p r x y = changed_taken number _ _ _ _ o p r (λ t short long. omega arith) x y
+makes_on_taken b alignment fresh (SetUnique number guid) o p r x y = changed_taken number _ _ _ _ o p r (λ t none some. none some) x y
+makes_on_taken b alignment fresh (SetDisk guid) o p r x y = table_taken _ o p r x y
+makes_on_taken b alignment fresh (SetBit number bit value) o p r x y = entry_there number o x.table x.entry r x.is_table x.is_entry y
+makes_on_taken b alignment fresh Extend o p r x y = table_taken _ o p r x y
+makes_on_taken b alignment fresh (New path start end code) o p r x y = made_taken b path.letter (asked_for path.number alignment start end code) fresh o p r x y
+makes_on_taken b alignment fresh (Delete path) o p r x y = deleted_taken b path.number path.letter o p r x y
+makes_on_taken b alignment fresh (SetKind path code) o p r x y = typed_taken b path.number path.letter code o p r x y
+makes_on_taken b alignment fresh ToGpt o p r x y = converted_taken_lem b fresh o p r x y
+makes_on_taken b alignment fresh (Align k) o p r x y = x
+makes_on_taken b alignment fresh Empty o p r x y = x
 
 -- for one reason
-refuses_on_one : (b : ℕ) (w : Edit) (o : Layout) (r q : Refusal) → RefusesOn b w o r → RefusesOn b w o q → r ≡ q
-refuses_on_one b (SetName number name) o r q x y = not_changed_one number _ _ o r q x y
-refuses_on_one b (SetUnique number guid) o r q x y = not_changed_one number _ _ o r q x y
-refuses_on_one b (SetDisk guid) o r q x y = x.1 ∙ sym y.1
-refuses_on_one b (SetBit number bit value) o r q x y = missing_one number o r q x y
-refuses_on_one b Extend o r q x y = x.1 ∙ sym y.1
-refuses_on_one b (Align k) o r q x y = x ∙ sym y
-refuses_on_one b (New path start end code) o r q x y = x ∙ sym y
-refuses_on_one b (Delete path) o r q x y = in_gpt_one o.body (λ t u. NotDeleted b t o.labels path.number path.letter u) r q (λ t. not_deleted_path_one b t o.labels path.number path.letter r q) x y
-refuses_on_one b (SetKind path code) o r q x y = in_gpt_one o.body (λ t u. NotTyped b t o.labels path.number path.letter code u) r q (λ t. not_typed_path_one b t o.labels path.number path.letter code r q) x y
-refuses_on_one b ToGpt o r q x y = x ∙ sym y
-refuses_on_one b Empty o r q x y = x ∙ sym y
+refuses_on_one : (b alignment : ℕ) (fresh : List Guid) (w : Edit) (o : Layout) (r q : Refusal) → RefusesOn b alignment fresh w o r → RefusesOn b alignment fresh w o q → r ≡ q
+refuses_on_one b alignment fresh (SetName number name) o r q x y = not_changed_one number _ _ o r q x y
+refuses_on_one b alignment fresh (SetUnique number guid) o r q x y = not_changed_one number _ _ o r q x y
+refuses_on_one b alignment fresh (SetDisk guid) o r q x y = x.1 ∙ sym y.1
+refuses_on_one b alignment fresh (SetBit number bit value) o r q x y = missing_one number o r q x y
+refuses_on_one b alignment fresh Extend o r q x y = x.1 ∙ sym y.1
+refuses_on_one b alignment fresh (New path start end code) o r q x y = not_made_one b path.letter (asked_for path.number alignment start end code) fresh o r q x y
+refuses_on_one b alignment fresh (Delete path) o r q x y = not_deleted_one b path.number path.letter o r q x y
+refuses_on_one b alignment fresh (SetKind path code) o r q x y = not_typed_one b path.number path.letter code o r q x y
+refuses_on_one b alignment fresh ToGpt o r q x y = not_converted_one_lem b fresh o r q x y
+refuses_on_one b alignment fresh (Align k) o r q x y = x ∙ sym y
+refuses_on_one b alignment fresh Empty o r q x y = x ∙ sym y
 
 -- of a state with a layout a word makes one state
-makes_one : (b : ℕ) (w : Edit) (s t u : State) → MakesOf s t (MakesOn b w) → MakesOf s u (MakesOn b w) → t ≡ u
-makes_one b w s t u (o, p, is, made, after) (o', p', is', made', after') =
-    let e : o ≡ o' = cc in
-    let f : p ≡ p' = makes_on_one b w o p p' made (subst (λ (x : Layout). MakesOn b w x p') (sym e) made') in
-    after ∙ (rw f (sym after'))
+makes_one : (b : ℕ) (w : Edit) (s t u : State) → MakesOf b w s t → MakesOf b w s u → t ≡ u
+makes_one b w s t u x y =
+    let e : x.old ≡ y.old = cc in
+    let there = subst (λ (o : Layout). MakesOn b s.alignment s.fresh w o y.new) (sym e) y.makes in
+    let f : x.new ≡ y.new = makes_on_one b s.alignment s.fresh w x.old x.new y.new x.makes there in
+    x.made ∙ (rw (e, f) (sym y.made))
 
-makes_taken : (b : ℕ) (w : Edit) (s t : State) (r : Refusal) → MakesOf s t (MakesOn b w) → RefusedOn s.layout (λ o. RefusesOn b w o r) r → ⊥
-makes_taken b w s t r (o, p, is, made, after) refused =
-    makes_on_taken b w o p r made (subst (λ (x : Option Layout). RefusedOn x (λ y. RefusesOn b w y r) r) is refused)
+makes_taken : (b : ℕ) (w : Edit) (s t : State) (r : Refusal) → MakesOf b w s t → RefusedOf b w s.alignment s.fresh s.layout r → ⊥
+makes_taken b w s t r x refused =
+    makes_on_taken b s.alignment s.fresh w x.old x.new r x.makes (subst (λ (o : Option Layout). RefusedOf b w s.alignment s.fresh o r) x.is refused)
 
-refused_on_one : (b : ℕ) (w : Edit) (o : Option Layout) (r q : Refusal) → RefusedOn o (λ p. RefusesOn b w p r) r → RefusedOn o (λ p. RefusesOn b w p q) q → r ≡ q
-refused_on_one b w None r q x y = x ∙ sym y
-refused_on_one b w (Some p) r q x y = refuses_on_one b w p r q x y
-
-cons_some : (g : Guid) (gs : List Guid) → g ∷ gs ≡ [] → ⊥
-cons_some g gs same = absurd (omega (arith, ap length same))
+refused_of_one : (b : ℕ) (w : Edit) (alignment : ℕ) (fresh : List Guid) (o : Option Layout) (r q : Refusal) → RefusedOf b w alignment fresh o r → RefusedOf b w alignment fresh o q → r ≡ q
+refused_of_one b w alignment fresh None r q x y = x ∙ sym y
+refused_of_one b w alignment fresh (Some p) r q x y = refuses_on_one b alignment fresh w p r q x y
 
 -- `o` makes one state, or is refused for one reason
 emptied_one : (b n : ℕ) (s t u : State) → Emptied b n s t → Emptied b n s u → t ≡ u
@@ -345,15 +278,15 @@ takes_taken b n ToGpt s t r x y = makes_taken b ToGpt s t r x y
 refuses_one : (b n : ℕ) (w : Edit) (s : State) (r q : Refusal) → Refuses b n w s r → Refuses b n w s q → r ≡ q
 refuses_one b n (Align k) s r q x y = absurd x
 refuses_one b n Empty s r q x y = empty_refused_one b n s r q x y
-refuses_one b n (New path start end code) s r q x y = refused_on_one b (New path start end code) s.layout r q x y
-refuses_one b n (Delete path) s r q x y = refused_on_one b (Delete path) s.layout r q x y
-refuses_one b n (SetKind path code) s r q x y = refused_on_one b (SetKind path code) s.layout r q x y
-refuses_one b n (SetName number name) s r q x y = refused_on_one b (SetName number name) s.layout r q x y
-refuses_one b n (SetUnique number guid) s r q x y = refused_on_one b (SetUnique number guid) s.layout r q x y
-refuses_one b n (SetDisk guid) s r q x y = refused_on_one b (SetDisk guid) s.layout r q x y
-refuses_one b n (SetBit number bit value) s r q x y = refused_on_one b (SetBit number bit value) s.layout r q x y
-refuses_one b n Extend s r q x y = refused_on_one b Extend s.layout r q x y
-refuses_one b n ToGpt s r q x y = refused_on_one b ToGpt s.layout r q x y
+refuses_one b n (New path start end code) s r q x y = refused_of_one b (New path start end code) s.alignment s.fresh s.layout r q x y
+refuses_one b n (Delete path) s r q x y = refused_of_one b (Delete path) s.alignment s.fresh s.layout r q x y
+refuses_one b n (SetKind path code) s r q x y = refused_of_one b (SetKind path code) s.alignment s.fresh s.layout r q x y
+refuses_one b n (SetName number name) s r q x y = refused_of_one b (SetName number name) s.alignment s.fresh s.layout r q x y
+refuses_one b n (SetUnique number guid) s r q x y = refused_of_one b (SetUnique number guid) s.alignment s.fresh s.layout r q x y
+refuses_one b n (SetDisk guid) s r q x y = refused_of_one b (SetDisk guid) s.alignment s.fresh s.layout r q x y
+refuses_one b n (SetBit number bit value) s r q x y = refused_of_one b (SetBit number bit value) s.alignment s.fresh s.layout r q x y
+refuses_one b n Extend s r q x y = refused_of_one b Extend s.alignment s.fresh s.layout r q x y
+refuses_one b n ToGpt s r q x y = refused_of_one b ToGpt s.alignment s.fresh s.layout r q x y
 
 ends_one : (o : Option Layout) (r q : Result Layout Refusal) → Ends o r → Ends o q → r ≡ q
 ends_one None r q a b = a ∙ sym b

@@ -1,7 +1,9 @@
 pub mod Names
 pub mod Changes
 pub mod Spots
+pub mod NewEntry
 pub mod Edited
 pub mod Fold
 pub mod Whole
+pub mod NewLaws
 pub mod Laws

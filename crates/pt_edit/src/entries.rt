@@ -27,7 +27,7 @@ pub(crate) fn rename(layout: Layout, number: u64, name: &str) -> Result<Layout, 
 }
 
 // Whether a used entry of another number has this GUID.
-fn is_elsewhere(table: &Table, number: u64, guid: &Guid) -> bool
+pub(crate) fn is_elsewhere(table: &Table, number: u64, guid: &Guid) -> bool
     ensures { IsTrue result ↔ Elsewhere table.now number guid.now }
 {
     for index in 0..table.entries.len() {

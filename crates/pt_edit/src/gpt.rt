@@ -5,8 +5,8 @@ ghost use Rattle.pt_gpt.specs.declared.entry.Entry.{Entry};
 ghost use Rattle.pt_edit.specs.Changes.{HasEntry, Missing, NoTable, with_entry};
 ghost use Rattle.pt_edit.specs.Whole.{whole_of, without_spot};
 
-use crate::labels::drop_label;
 use pt_gpt::{Entry, Table};
+use pt_labels::drop_label;
 use pt_recover::{Body, Labels, Layout};
 use pt_words::Refusal;
 

@@ -3,12 +3,15 @@
 //! docs/commands.md has the words, docs/model.md what they mean.
 #![tactic(auto)]
 
+mod asked;
 mod entries;
 mod fold;
 mod gpt;
-mod labels;
+mod kinds;
 mod laws;
 mod name;
+mod new_entry;
+mod paths;
 mod spots;
 mod state;
 mod tables;

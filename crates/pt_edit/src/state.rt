@@ -1,16 +1,18 @@
 //! What the words are folded over.
 
-ghost use Rattle.std.specs.Prelude.{◌≢◌, IfOk, IfErr};
+ghost use Rattle.std.specs.Prelude.{◌≡◌, ◌≢◌, ◌≤◌, IfOk, IfErr, drop, length};
 ghost use Rattle.pt_sector.specs.Sectors.{IsSectorSize};
-ghost use Rattle.pt_edit.specs.Edited.{Takes, Refuses, MakesOn, RefusesOn, Emptied, EmptyRefused};
+ghost use Rattle.pt_edit.specs.Edited.{Takes, Refuses, MakesOf, RefusedOf, MakesOn, RefusesOn, Emptied, EmptyRefused, taken_by};
 ghost use Rattle.pt_edit.specs.Fold.{state_of};
 
+use crate::asked::Asked;
 use crate::entries::{rename, set_bit, set_unique};
-use crate::spots::{delete, set_kind};
+use crate::paths::{delete, new, set_kind};
 use crate::tables::{empty, extend, set_disk};
+use pt_convert::{guids_for, to_gpt};
 use pt_gpt::array_sectors;
 use pt_guid::Guid;
-use pt_recover::Layout;
+use pt_recover::{Body, Layout};
 use pt_words::{Edit, Refusal};
 use std::alloc::Global;
 
@@ -33,6 +35,8 @@ fn take_empty<const B: usize>(
     guids: &[Guid],
 ) -> Result<State, Refusal>
     requires size { IsSectorSize B }
+    requires taken { state.taken ≤ length guids.now }
+    ensures taken { IfOk result (λ made. made.taken ≤ length guids.now) }
     ensures ok { IfOk result (λ made. Emptied B sectors (state_of guids.now state) (state_of guids.now made)) }
     ensures err { IfErr result (λ refusal. refusal ≢ Refusal.Memory → EmptyRefused B sectors (state_of guids.now state) refusal) }
 {
@@ -52,13 +56,34 @@ fn take_empty<const B: usize>(
     }
 }
 
-// The layout after a word that needs one.
-fn take_on<const B: usize>(layout: Layout, word: &Edit) -> Result<Layout, Refusal>
+// The layout after a word that needs one, with an alignment and the fresh GUIDs that are left.
+fn take_on<const B: usize>(
+    alloc: Global,
+    layout: Layout,
+    word: &Edit,
+    alignment: u64,
+    fresh: &[Guid],
+) -> Result<Layout, Refusal>
     requires size { IsSectorSize B }
-    ensures ok { IfOk result (λ made. MakesOn B word.now layout made) }
-    ensures err { IfErr result (λ refusal. RefusesOn B word.now layout refusal) }
+    ensures ok { IfOk result (λ made. MakesOn B alignment fresh.now word.now layout made) }
+    ensures err { IfErr result (λ refusal. refusal ≢ Refusal.Memory → RefusesOn B alignment fresh.now word.now layout refusal) }
 {
     match word {
+        Edit::New {
+            path,
+            start,
+            end,
+            code,
+        } => {
+            let asked = Asked {
+                number: path.number,
+                alignment,
+                start: *start,
+                end: *end,
+                code: *code,
+            };
+            new::<B>(alloc, layout, path.letter, &asked, fresh)
+        }
         Edit::SetName(number, name) => rename(layout, *number, name.as_str()),
         Edit::SetUnique(number, guid) => set_unique(layout, *number, guid),
         Edit::SetDisk(guid) => set_disk(layout, guid),
@@ -66,7 +91,53 @@ fn take_on<const B: usize>(layout: Layout, word: &Edit) -> Result<Layout, Refusa
         Edit::Extend => extend::<B>(layout),
         Edit::SetKind(path, code) => set_kind::<B>(layout, path, code),
         Edit::Delete(path) => delete::<B>(layout, path),
-        _ => Err(Refusal::NotYet),
+        Edit::ToGpt => to_gpt::<B>(alloc, layout, fresh),
+        // These need no layout, and are taken before.
+        Edit::Align(_) | Edit::Empty => Err(Refusal::NotForThisTable),
+    }
+}
+
+// How many fresh GUIDs a word takes.
+fn guids_of(word: &Edit, layout: &Layout) -> usize
+    ensures { result ≡ taken_by word.now layout.now }
+{
+    match (word, &layout.body) {
+        (Edit::New { path, .. }, Body::Gpt(_)) if path.letter.is_none() => 1,
+        (Edit::ToGpt, _) => guids_for(layout),
+        _ => 0,
+    }
+}
+
+// The state after a word that needs a layout.
+fn take_layout<const B: usize>(
+    alloc: Global,
+    state: State,
+    word: &Edit,
+    guids: &[Guid],
+) -> Result<State, Refusal>
+    requires size { IsSectorSize B }
+    requires taken { state.taken ≤ length guids.now }
+    ensures ok { IfOk result (λ made. MakesOf B word.now (state_of guids.now state) (state_of guids.now made)) }
+    ensures err { IfErr result (λ refusal. refusal ≢ Refusal.Memory → RefusedOf B word.now state.alignment (drop state.taken guids.now) state.layout refusal) }
+    ensures taken { IfOk result (λ made. made.taken ≤ length guids.now) }
+{
+    let State {
+        layout,
+        alignment,
+        taken,
+    } = state;
+    let layout = match layout {
+        Some(layout) => layout,
+        None => return Err(Refusal::NotForThisTable),
+    };
+    let count = guids_of(word, &layout);
+    match take_on::<B>(alloc, layout, word, alignment, &guids[taken..]) {
+        Ok(layout) => Ok(State {
+            layout: Some(layout),
+            alignment,
+            taken: taken + count,
+        }),
+        Err(refusal) => Err(refusal),
     }
 }
 
@@ -79,8 +150,10 @@ pub(crate) fn take_word<const B: usize>(
     guids: &[Guid],
 ) -> Result<State, Refusal>
     requires size { IsSectorSize B }
+    requires taken { state.taken ≤ length guids.now }
     ensures ok { IfOk result (λ made. Takes B sectors word.now (state_of guids.now state) (state_of guids.now made)) }
     ensures err { IfErr result (λ refusal. refusal ≢ Refusal.Memory → Refuses B sectors word.now (state_of guids.now state) refusal) }
+    ensures taken { IfOk result (λ made. made.taken ≤ length guids.now) }
 {
     match word {
         Edit::Align(k) => Ok(State {
@@ -89,24 +162,6 @@ pub(crate) fn take_word<const B: usize>(
             taken: state.taken,
         }),
         Edit::Empty => take_empty::<B>(alloc, state, sectors, guids),
-        _ => {
-            let State {
-                layout,
-                alignment,
-                taken,
-            } = state;
-            let layout = match layout {
-                Some(layout) => layout,
-                None => return Err(Refusal::NotForThisTable),
-            };
-            match take_on::<B>(layout, word) {
-                Ok(layout) => Ok(State {
-                    layout: Some(layout),
-                    alignment,
-                    taken,
-                }),
-                Err(refusal) => Err(refusal),
-            }
-        }
+        _ => take_layout::<B>(alloc, state, word, guids),
     }
 }

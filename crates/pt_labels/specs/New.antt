@@ -4,8 +4,9 @@ use Rattle.pt_bsd.specs.Form.{form_of, sector_by}
 use Rattle.pt_bsd.specs.declared.label.Label.{Label}
 use Rattle.pt_bsd.specs.declared.label.LabelEntry.{LabelEntry}
 use Rattle.pt_recover.specs.declared.layout.Layout.{Layout}
+use Rattle.pt_layout.specs.declared.member.Kind.TheVariants.{Leaf}
 use Rattle.pt_layout.specs.declared.member.Member.{Member}
-use Rattle.pt_layout.specs.Members.{parts_in}
+use Rattle.pt_layout.specs.Members.{letter_path, parts_in}
 use Rattle.pt_words.specs.declared.error.Refusal.{Refusal}
 use Rattle.pt_words.specs.declared.error.Refusal.TheVariants.{NumberTaken, UnknownCode, LabelOffset}
 use Rattle.pt_words.specs.declared.word.Code.{Code}
@@ -52,6 +53,10 @@ pub record HasOffset (l : Label) (m : Member) (run : Run) (offset : ℕ) : Type 
 -- the entry of a new partition: all but its sectors and its type is 0
 abbrev pub new_entry : ℕ → ℕ → ℕ → LabelEntry
 new_entry size offset kind = record { size = size; offset = offset; fragment = 0; fstype = kind; frag = 0; cpg = 0 }
+
+-- the partition of a letter in these sectors
+abbrev pub placed_part : Member → ℕ → Run → Member
+placed_part slice letter run = record { path = letter_path slice.path.number letter; kind = Leaf; first = run.first; last = run.last }
 
 -- `n` with a letter: an unused entry becomes a partition, and nothing else changes
 pub record PartNew (b number letter alignment start : ℕ) (end : End) (code : Option Code) (o p : Layout) : Type 0 where

@@ -1,21 +1,27 @@
 -- The laws of `n` with a letter, as terms that definitions and proofs above can cite.
-use Rattle.std.specs.Prelude.{◌≡◌, ℕ, Option}
-use Rattle.std.proofs.Common.{sym, ap, ◌∙◌, subst, arith}
-use Rattle.pt_bsd.specs.Form.{form_of, sector_by}
+use Rattle.std.specs.Prelude.{◌≡◌, ◌≢◌, ◌+◌, ◌-◌, ℕ, Option, Some}
+use Rattle.std.proofs.Common.{refl, sym, ap, ◌∙◌, subst, arith}
+use Rattle.std.proofs.lemmas.Bool.{ne_eqb}
+use Rattle.pt_bsd.specs.Form.{form_of, sector_by, entry_first_of}
+use Rattle.pt_bsd.specs.Laws.{with_entry_form}
 use Rattle.pt_bsd.specs.declared.form.Form.{Form}
 use Rattle.pt_bsd.specs.declared.form.Form.TheVariants.{Relative, Absolute}
 use Rattle.pt_bsd.specs.declared.label.Label.{Label}
 use Rattle.pt_bsd.specs.declared.label.LabelEntry.{LabelEntry}
 use Rattle.pt_recover.specs.declared.layout.Layout.{Layout}
+use Rattle.pt_layout.specs.declared.path.Path.{Path}
+use Rattle.pt_layout.specs.declared.member.Kind.TheVariants.{Leaf}
 use Rattle.pt_layout.specs.declared.member.Member.{Member}
+use Rattle.pt_layout.specs.Members.{letter_path, sized_member, part_of}
 use Rattle.pt_words.specs.declared.error.Refusal.{Refusal}
 use Rattle.pt_words.specs.declared.word.Code.{Code}
 use Rattle.pt_words.specs.declared.word.End.{End}
 use Rattle.pt_space.specs.declared.space.Run.{Run}
-use Rattle.pt_space.specs.Area.{Area}
+use Rattle.pt_space.specs.Area.{Area, IsFreeRun}
 use Rattle.pt_space.specs.Placed.{Placed, NotPlaced}
-use Rattle.pt_space.specs.Laws.{placed_one_lem, placed_is_not_refused_lem, refused_one_lem}
-use Rattle.pt_labels.specs.New.{HasUnused, NoUnused, missing, taken, area_in, HasOffset, PartNew, PartNotNew, no_unused, no_type, no_place, no_offset}
+use Rattle.pt_space.specs.Laws.{placed_one_lem, placed_is_not_refused_lem, refused_one_lem, placed_is_free_lem}
+use Rattle.pt_labels.specs.Parts.{with_part}
+use Rattle.pt_labels.specs.New.{HasUnused, NoUnused, missing, taken, area_in, HasOffset, PartNew, PartNotNew, no_unused, no_type, no_place, no_offset, len_of, new_entry, placed_part}
 use Rattle.pt_labels.specs.Laws.{some_none, IsSame, entry_one_lem, entry_there, no_entry_one}
 
 unused_same : (b : ℕ) (o : Layout) (number letter : ℕ) (m n : Member) (l k : Label) (e f : LabelEntry) → HasUnused b o number letter m l e → HasUnused b o number letter n k f → IsSame m n l k e f
@@ -96,3 +102,28 @@ not_new_one_lem b number letter alignment start end code o r q (no_offset m l e 
     let same = unused_same b o number letter m n l k e f there also in
     absurd (placed_is_not_refused_lem (area_in l m) alignment start end run q placed (subst (λ (a : Area). NotPlaced a alignment start end q) (sym (same_area m n l k e f same)) not))
 not_new_one_lem b number letter alignment start end code o r q (no_offset m l e kind run there known placed none is) (no_offset n k f type other also of put nothing so) = is ∙ sym so
+
+-- a member with these sectors
+member_as : (path : Path) (first size f g : ℕ) → first ≡ f → first + size - 1 ≡ g → sized_member path Leaf first size ≡ record { path = path; kind = Leaf; first = f; last = g }
+member_as path first size f g p q = ap (λ (k : ℕ). record { path = path; kind = Leaf; first = k; last = first + size - 1 }) p ∙ ap (λ (k : ℕ). record { path = path; kind = Leaf; first = f; last = k }) q
+
+part_is : (l : Label) (m : Member) (letter : ℕ) (e : LabelEntry) → letter ≢ 2 → e.size ≢ 0 → part_of l m letter (Some e) ≡ Some (sized_member (letter_path m.path.number letter) Leaf (entry_first_of l m.first e) e.size)
+part_is l m letter e other sized = rw (ne_eqb letter 2 other, ne_eqb e.size 0 sized) refl
+
+-- the partition that `n` makes has the sectors where it was placed
+pub new_stands_lem : (b number letter alignment start : ℕ) (end : End) (code : Option Code) (o p : Layout) (x : PartNew b number letter alignment start end code o p)
+    → part_of (with_part x.label letter (new_entry (len_of x.run) x.offset x.kind)) x.slice letter (Some (new_entry (len_of x.run) x.offset x.kind)) ≡ Some (placed_part x.slice letter x.run)
+new_stands_lem b number letter alignment start end code o p x =
+    let e : LabelEntry = new_entry (len_of x.run) x.offset x.kind in
+    let l : Label = with_part x.label letter e in
+    let other = x.is_unused.entry.other in
+    let some = (placed_is_free_lem (area_in x.label x.slice) alignment start end x.run x.is_placed).some in
+    let sized : len_of x.run ≢ 0 = λ z. omega (arith, z, some) in
+    let first : entry_first_of l x.slice.first e ≡ x.run.first = ap (λ (f : Form). sector_by f x.slice.first x.offset) (with_entry_form x.label letter e other) ∙ x.is_offset.start in
+    let last : entry_first_of l x.slice.first e + len_of x.run - 1 ≡ x.run.last = omega (arith, first, some) in
+    part_is l x.slice letter e other sized
+    ∙ ap (λ (m : Member). Some m) (member_as (letter_path x.slice.path.number letter) (entry_first_of l x.slice.first e) (len_of x.run) x.run.first x.run.last first last)
+
+-- and they are free
+pub new_free_lem : (b number letter alignment start : ℕ) (end : End) (code : Option Code) (o p : Layout) (x : PartNew b number letter alignment start end code o p) → IsFreeRun (area_in x.label x.slice) x.run
+new_free_lem b number letter alignment start end code o p x = placed_is_free_lem (area_in x.label x.slice) alignment start end x.run x.is_placed

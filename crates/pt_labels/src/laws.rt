@@ -1,12 +1,14 @@
 //! Laws of the words with a letter. Each function does nothing: its contract is the law.
 
-ghost use Rattle.std.specs.Prelude.{◌≡◌, ℕ, Option};
+ghost use Rattle.std.specs.Prelude.{◌≡◌, ℕ, Option, Some};
 ghost use Rattle.pt_recover.specs.declared.layout.Layout.{Layout};
 ghost use Rattle.pt_words.specs.declared.error.Refusal.{Refusal};
 ghost use Rattle.pt_words.specs.declared.word.Code.{Code};
 ghost use Rattle.pt_words.specs.declared.word.End.{End};
-ghost use Rattle.pt_labels.specs.New.{PartNew, PartNotNew};
-ghost use Rattle.pt_labels.specs.Parts.{PartTyped, PartNotTyped, PartDeleted, PartNotDeleted};
+ghost use Rattle.pt_layout.specs.Members.{part_of};
+ghost use Rattle.pt_space.specs.Area.{IsFreeRun};
+ghost use Rattle.pt_labels.specs.New.{area_in, len_of, new_entry, placed_part, PartNew, PartNotNew};
+ghost use Rattle.pt_labels.specs.Parts.{with_part, PartTyped, PartNotTyped, PartDeleted, PartNotDeleted};
 
 /// `set_part_kind` has one result.
 #[tactic(auto, using(crate::specs::Laws::typed_one_lem))]
@@ -53,4 +55,15 @@ pub fn part_new_excludes()
 /// It is refused for one reason.
 pub fn part_not_new_one()
     ensures { (b number letter alignment start : ℕ) (end : End) (code : Option Code) (o : Layout) (r q : Refusal) → PartNotNew b number letter alignment start end code o r → PartNotNew b number letter alignment start end code o q → r ≡ q }
+{}
+
+/// What `new_part` made is a partition of its label, in the sectors where it was placed.
+pub fn part_new_stands()
+    ensures { (b number letter alignment start : ℕ) (end : End) (code : Option Code) (o p : Layout) (x : PartNew b number letter alignment start end code o p)
+        → part_of (with_part x.label letter (new_entry (len_of x.run) x.offset x.kind)) x.slice letter (Some (new_entry (len_of x.run) x.offset x.kind)) ≡ Some (placed_part x.slice letter x.run) }
+{}
+
+/// Those sectors are the slice's, from its seventeenth on, and no other partition's of its label.
+pub fn part_new_is_free()
+    ensures { (b number letter alignment start : ℕ) (end : End) (code : Option Code) (o p : Layout) (x : PartNew b number letter alignment start end code o p) → IsFreeRun (area_in x.label x.slice) x.run }
 {}

@@ -93,7 +93,7 @@ broken_not_whole b d t (OnTable p s) room is whole = is
 broken_not_whole b d t (SameGuid i j) room is whole = is
 broken_not_whole b d t (ForeignLabel p) room is whole = is
 
-body_not_whole : (b : ℕ) (d : Sectors) (o : Layout) (f : Finding) → Denotes b d (Some o) → IsBodyBroken b d o.body f → IsBodyWhole b d o.body → ⊥
+pub body_not_whole : (b : ℕ) (d : Sectors) (o : Layout) (f : Finding) → Denotes b d (Some o) → IsBodyBroken b d o.body f → IsBodyWhole b d o.body → ⊥
 body_not_whole b d o f denotes = by_body o.body denotes.1 where
   by_body : (y : Body) → BodyIs b d y → IsBodyBroken b d y f → IsBodyWhole b d y → ⊥
   by_body (Mbr rs chain) is broken whole = broken

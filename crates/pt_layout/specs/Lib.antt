@@ -24,3 +24,6 @@ pub mod Texts
 pub mod Grouped
 pub mod OneHome
 pub mod OnePath
+pub mod OneOrder
+pub mod OneFinding
+pub mod OneOwner

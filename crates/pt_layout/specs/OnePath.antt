@@ -24,7 +24,7 @@ HasFour (Mbr records chain) = length records ≡ 4
 HasFour (Gpt t) = Unit {0}
 
 -- a place is the first one or one of the rest
-place_cases : (o : Option Member) (os : List (Option Member)) (m : Member) → AtPlace (o ∷ os) m → (o ≡ Some m) ⊎ AtPlace os m
+pub place_cases : (o : Option Member) (os : List (Option Member)) (m : Member) → AtPlace (o ∷ os) m → (o ≡ Some m) ⊎ AtPlace os m
 place_cases o os m (zero, lt, at) = inl at
 place_cases o os m (suc k, lt, at) = inr (k, omega arith, at)
 
@@ -127,7 +127,7 @@ slots_one b (Mbr rs chain) x y four p q same =
 slots_one b (Gpt t) x y four p q same =
     rows_one 1 (1 + length t.entries) (1 + length t.entries) (entries_as b 1 t.entries) [] x y (numbered_entries b 1 t.entries) (numbered_none (1 + length t.entries)) (present_split (entries_as b 1 t.entries) [] x p) (present_split (entries_as b 1 t.entries) [] y q) same
 
-slot_whole : (b : ℕ) (z : Body) (x : Member) → AtPlace (slots b z) x → x.path ≡ number_path x.path.number
+pub slot_whole : (b : ℕ) (z : Body) (x : Member) → AtPlace (slots b z) x → x.path ≡ number_path x.path.number
 unfolding tops logicals
 slot_whole b (Mbr rs chain) x p = elim (present_split (records_as b 1 rs) (logicals_as b 5 chain) x p) as (λ _. x.path ≡ number_path x.path.number) [
   | inl top ↦ (numbered_records b 1 rs).whole x top
@@ -139,7 +139,7 @@ slot_whole b (Gpt t) x p = elim (present_split (entries_as b 1 t.entries) [] x p
 ]
 
 -- the letters of a label's partitions
-part_path : (l : Label) (m x : Member) (k : ℕ) (o : Option LabelEntry) → part_of l m k o ≡ Some x → x.path ≡ letter_path m.path.number k
+pub part_path : (l : Label) (m x : Member) (k : ℕ) (o : Option LabelEntry) → part_of l m k o ≡ Some x → x.path ≡ letter_path m.path.number k
 part_path l m x k None is = absurd cc
 part_path l m x k (Some e) is = by_case (nat_eq k 2) (nat_eq e.size 0) refl refl where
   by_case : (c d : Bool) → nat_eq k 2 ≡ c → nat_eq e.size 0 ≡ d → x.path ≡ letter_path m.path.number k

@@ -5,13 +5,16 @@ ghost use Rattle.pt_sector.specs.Sectors.{Sectors};
 ghost use Rattle.pt_recover.specs.declared.layout.Layout.{Layout};
 ghost use Rattle.pt_layout.specs.declared.finding.Finding.{Finding as FindingValue};
 ghost use Rattle.pt_layout.specs.declared.path.Path.{Path as PathValue};
-ghost use Rattle.pt_layout.specs.Places.{IsPlaceOf};
+ghost use Rattle.pt_layout.specs.Places.{IsPlaceOf, OwnerIs};
 ghost use Rattle.pt_layout.specs.OnePath.{HasFour};
 ghost use Rattle.pt_layout.specs.Tables.{IsTable};
 ghost use Rattle.pt_layout.specs.Owned.{Owns};
 ghost use Rattle.pt_layout.specs.Sound.{Sound, IsUnsound};
 ghost use Rattle.pt_layout.specs.Healthy.{IsHealthy, Healthy};
-ghost use Rattle.pt_layout.specs.Findings.{IsFinding};
+ghost use Rattle.pt_layout.specs.declared.finding.Verdict.{Verdict as VerdictValue};
+ghost use Rattle.pt_layout.specs.declared.ownership.Owner.{Owner as OwnerValue};
+ghost use Rattle.pt_layout.specs.Findings.{IsFinding, VerdictIs};
+ghost use Rattle.pt_layout.specs.OneFinding.{HasEight};
 
 /// In a sound layout no partition owns a sector of a table.
 #[tactic(auto, using(crate::specs::Laws::sound_frees_tables_lem))]
@@ -47,4 +50,28 @@ pub fn place_is_one()
 #[tactic(auto, using(crate::specs::Laws::sector_is_one_lem))]
 pub fn sector_is_one()
     ensures { (b : ℕ) (o : Layout) (p : PathValue) (k s t : ℕ) → HasFour o.body → IsPlaceOf b o p k s → IsPlaceOf b o p k t → s ≡ t }
+{}
+
+/// A layout whose labels have places for eight entries, as those of disks have, has one first finding at most.
+#[tactic(auto, using(crate::specs::OneFinding::unsound_one))]
+pub fn unsound_is_one()
+    ensures { (b : ℕ) (o : Layout) (f g : FindingValue) → HasEight o.labels → IsUnsound b o f → IsUnsound b o g → f ≡ g }
+{}
+
+/// A disk has one first finding at most.
+#[tactic(auto, using(crate::specs::OneFinding::finding_one))]
+pub fn finding_is_one()
+    ensures { (b : ℕ) (d : Sectors) (f g : FindingValue) → IsFinding b d f → IsFinding b d g → f ≡ g }
+{}
+
+/// A disk has one verdict at most: it is healthy with one layout, or has one first finding.
+#[tactic(auto, using(crate::specs::OneFinding::verdict_one))]
+pub fn verdict_is_one()
+    ensures { (b : ℕ) (d : Sectors) (v w : VerdictValue) → VerdictIs b d v → VerdictIs b d w → v ≡ w }
+{}
+
+/// In a sound layout a sector has one owner at most.
+#[tactic(auto, using(crate::specs::OneOwner::owner_one))]
+pub fn owner_is_one()
+    ensures { (b : ℕ) (o : Layout) (s : ℕ) (x y : OwnerValue) → Sound b o → OwnerIs b o s x → OwnerIs b o s y → x ≡ y }
 {}

@@ -2,12 +2,16 @@
 #![tactic(auto)]
 
 mod buried;
+#[cfg(test)]
+mod compared;
 mod faults;
 mod finding;
 mod foreign;
 mod groups;
 mod halves;
 mod health;
+#[cfg(test)]
+mod images;
 mod laws;
 mod member;
 mod number;
@@ -16,6 +20,8 @@ mod owned;
 mod ownership;
 mod path;
 mod places;
+#[cfg(test)]
+mod plain;
 mod search;
 mod slots;
 mod soundness;
@@ -27,8 +33,8 @@ mod tests;
 pub use finding::{Finding, Verdict, VerifyError};
 pub use health::verify;
 pub use laws::{
-    finding_excludes, healthy_is_one, place_is_one, sector_is_one, sound_frees_tables,
-    unsound_excludes,
+    finding_excludes, finding_is_one, healthy_is_one, owner_is_one, place_is_one, sector_is_one,
+    sound_frees_tables, unsound_excludes, unsound_is_one, verdict_is_one,
 };
 pub use member::{Kind, Member};
 pub use number::{parse_number, parse_path};
@@ -38,7 +44,8 @@ pub use path::Path;
 pub use places::{locate, owner};
 pub use pt_recover::{
     Body, Ebrs, Labelled, Labels, Layout, NoTable, Slice, Trace, denotes_one, entry_place,
-    is_slice_type, label_places, reads_decide, record_place, recover, recover_traced, stop_keeps,
+    is_slice_type, label_places, reads_decide, reason_is_nothing, reason_is_one, record_place,
+    recover, recover_traced, stop_keeps,
 };
 pub use slots::{find_label, part_slot, slot, slot_count};
 pub use soundness::unsound;

@@ -5,3 +5,7 @@ pub mod Entered
 pub mod New
 pub mod Laws
 pub mod NewLaws
+pub mod Linked
+pub mod LinkLaws
+pub mod Numbered
+pub mod NumberLaws

@@ -1,11 +1,17 @@
 //! What holds of edits of logical partitions, whatever they are of.
 
-ghost use Rattle.std.specs.Prelude.{◌≡◌, ℕ, List, Option};
+ghost use Rattle.std.specs.Prelude.{◌≡◌, ◌-◌, ℕ, List, Option, Some};
+ghost use Rattle.std.specs.List.{insert, remove};
+ghost use Rattle.pt_sector.specs.Sectors.{Sectors, Span};
+ghost use Rattle.pt_sector.specs.declared.address.Lba.{Lba};
+ghost use Rattle.pt_mbr.specs.Chain.{lba, Chain};
 ghost use Rattle.pt_mbr.specs.declared.record.Record.{Record};
 ghost use Rattle.pt_mbr.specs.declared.ebr.Ebr.{Ebr};
 ghost use Rattle.pt_recover.specs.declared.layout.Labelled.{Labelled};
 ghost use Rattle.pt_logicals.specs.Chains.{LogicalTyped, LogicalNotTyped, LogicalDeleted, LogicalNotDeleted};
-ghost use Rattle.pt_logicals.specs.New.{LogicalNew, LogicalNotNew};
+ghost use Rattle.pt_logicals.specs.Numbered.{logicals_of};
+ghost use Rattle.pt_logicals.specs.Linked.{IsLinked};
+ghost use Rattle.pt_logicals.specs.New.{len_of, record_for, LogicalNew, LogicalNotNew};
 ghost use Rattle.pt_words.specs.declared.error.Refusal.{Refusal};
 ghost use Rattle.pt_words.specs.declared.word.Code.{Code};
 ghost use Rattle.pt_words.specs.declared.word.End.{End};
@@ -53,4 +59,34 @@ pub fn logical_not_new_is_one()
 /// One that is made isn't refused.
 pub fn logical_new_is_taken()
     ensures { (b : ℕ) (extended : Option Record) (chain : List Ebr) (labels : List Labelled) (alignment start : ℕ) (end : End) (code : Option Code) (made : List Ebr) (left : List Labelled) (r : Refusal) → LogicalNew b extended chain labels alignment start end code made left → ¬ LogicalNotNew b extended chain alignment start end code r }
+{}
+
+/// The chain of a disk is linked upward from the extended partition's first sector.
+pub fn chain_is_linked()
+    ensures { (d : Sectors) (x : Span) (list : List Ebr) → Chain d x list → IsLinked (Some (lba x.first)) list }
+{}
+
+/// A linked chain stays one with another type of a logical partition.
+pub fn logical_typed_is_linked()
+    ensures { (b number : ℕ) (code : Code) (chain made : List Ebr) (from : Option Lba) → LogicalTyped b number code chain made → IsLinked from chain → IsLinked from made }
+{}
+
+/// It stays one without a logical partition.
+pub fn logical_deleted_is_linked()
+    ensures { (number : ℕ) (chain : List Ebr) (labels : List Labelled) (made : List Ebr) (left : List Labelled) (from : Option Lba) → LogicalDeleted number chain labels made left → IsLinked from chain → IsLinked from made }
+{}
+
+/// And it stays one with a new logical partition, also where that takes an extended boot record more.
+pub fn logical_new_is_linked()
+    ensures { (b : ℕ) (x : Record) (chain : List Ebr) (labels : List Labelled) (alignment start : ℕ) (end : End) (code : Option Code) (made : List Ebr) (left : List Labelled) → LogicalNew b (Some x) chain labels alignment start end code made left → IsLinked (Some (lba x.start)) chain → IsLinked (Some (lba x.start)) made }
+{}
+
+/// A new logical partition comes between those of lower and of higher numbers, at its number, which counts from 5.
+pub fn logical_new_is_numbered()
+    ensures { (b : ℕ) (extended : Option Record) (chain : List Ebr) (labels : List Labelled) (alignment start : ℕ) (end : End) (code : Option Code) (made : List Ebr) (left : List Labelled) (x : LogicalNew b extended chain labels alignment start end code made left) → logicals_of made ≡ insert (logicals_of chain) (x.number - 5) (record { at = x.place.first - 1; partition = record_for x.kind (len_of x.place) }) }
+{}
+
+/// One that goes leaves the others in their order.
+pub fn logical_deleted_is_numbered()
+    ensures { (number : ℕ) (chain : List Ebr) (labels : List Labelled) (made : List Ebr) (left : List Labelled) → LogicalDeleted number chain labels made left → logicals_of made ≡ remove (logicals_of chain) (number - 5) }
 {}

@@ -1,1 +1,3 @@
 pub mod Decided
+pub mod Extended
+pub mod Within

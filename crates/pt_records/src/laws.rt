@@ -1,11 +1,13 @@
 //! What holds of edits of an MBR, whatever they are of.
 
-ghost use Rattle.std.specs.Prelude.{◌≡◌, ℕ};
+ghost use Rattle.std.specs.Prelude.{◌≡◌, ℕ, Option};
 ghost use Rattle.pt_recover.specs.declared.layout.Layout.{Layout};
 ghost use Rattle.pt_words.specs.declared.error.Refusal.{Refusal};
 ghost use Rattle.pt_words.specs.declared.word.Code.{Code};
+ghost use Rattle.pt_words.specs.declared.word.End.{End};
 ghost use Rattle.pt_records.specs.Typed.{RecordTyped, RecordNotTyped};
 ghost use Rattle.pt_records.specs.Deleted.{RecordDeleted, RecordNotDeleted};
+ghost use Rattle.pt_records.specs.Created.{RecordNew, RecordNotNew};
 
 /// `t` makes one layout.
 #[tactic(auto, using(crate::specs::Laws::record_typed_one_lem))]
@@ -41,4 +43,22 @@ pub fn not_deleted_is_one()
 #[tactic(auto, using(crate::specs::Laws::record_deleted_taken_lem))]
 pub fn deleted_is_taken()
     ensures { (number : ℕ) (o p : Layout) (r : Refusal) → RecordDeleted number o p → ¬ RecordNotDeleted number o r }
+{}
+
+/// `n` makes one layout.
+#[tactic(auto, using(crate::specs::NewLaws::record_new_one_lem))]
+pub fn new_is_one()
+    ensures { (b number alignment start : ℕ) (end : End) (code : Option Code) (o p q : Layout) → RecordNew b number alignment start end code o p → RecordNew b number alignment start end code o q → p ≡ q }
+{}
+
+/// It is refused for one reason.
+#[tactic(auto, using(crate::specs::NewLaws::record_not_new_one_lem))]
+pub fn not_new_is_one()
+    ensures { (b number alignment start : ℕ) (end : End) (code : Option Code) (o : Layout) (r q : Refusal) → RecordNotNew b number alignment start end code o r → RecordNotNew b number alignment start end code o q → r ≡ q }
+{}
+
+/// What is made isn't refused.
+#[tactic(auto, using(crate::specs::NewLaws::record_new_taken_lem))]
+pub fn new_is_taken()
+    ensures { (b number alignment start : ℕ) (end : End) (code : Option Code) (o p : Layout) (r : Refusal) → RecordNew b number alignment start end code o p → ¬ RecordNotNew b number alignment start end code o r }
 {}

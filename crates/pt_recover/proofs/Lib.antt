@@ -10,3 +10,4 @@ pub mod Whole
 pub mod Equal
 pub mod Joined
 pub mod Searched
+pub mod Failed

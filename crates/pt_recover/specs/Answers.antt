@@ -71,3 +71,8 @@ IsTraceOf b d runs = (s : ℕ) → IsIn runs s ↔ Reads b d s
 abbrev pub HeadIs : List ℕ → Option Mbr → Type 0
 HeadIs bytes None = ¬ IsMbrSector bytes
 HeadIs bytes (Some m) = IsMbrSector bytes × AreRecords m.records bytes
+
+-- a device's fault is at one of these sectors
+abbrev pub FailedIn : (ℕ → Type 0) → NoTable → Type 0
+FailedIn S (Device at) = S at.0
+FailedIn S _ = Unit {0}

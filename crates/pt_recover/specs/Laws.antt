@@ -1,12 +1,15 @@
 -- The laws of what disks denote, as terms that definitions and proofs above can cite.
-use Rattle.std.specs.Prelude.{◌≡◌, ℕ, List, Option}
+use Rattle.std.specs.Prelude.{◌≡◌, ℕ, List, Option, None}
 use Rattle.pt_sector.specs.Sectors.{Sectors, Agrees}
 use Rattle.pt_sector.specs.Writes.{Writes, Puts, Stopped}
 use Rattle.pt_sector.specs.Written.{agrees_stopped}
 use Rattle.pt_recover.specs.Denotes.{Denotes, Reads, SameMeaning}
 use Rattle.pt_recover.specs.Same.{same_meaning}
 use Rattle.pt_recover.specs.One.{denoted_one}
+use Rattle.pt_recover.specs.Answers.{IsReason}
+use Rattle.pt_recover.specs.Reasons.{reason_one, reason_nothing}
 use Rattle.pt_recover.specs.declared.layout.Layout.{Layout}
+use Rattle.pt_recover.specs.declared.error.NoTable.{NoTable}
 
 -- none of these writes is to a sector that recovery of d reads
 abbrev pub LeavesReads : ℕ → Sectors → Writes → Type 0
@@ -24,3 +27,11 @@ denotes_one_lem = denoted_one
 pub stop_keeps_lem : (b : ℕ) (d c : Sectors) (phase : Writes) → LeavesReads b d phase → Stopped d phase c → SameMeaning b c d
 stop_keeps_lem b d c phase leaves stopped =
     same_meaning b c d (agrees_stopped (Reads b d) d phase c (λ s bytes read puts. leaves s bytes puts read) stopped)
+
+-- a disk has one reason at most to denote nothing
+pub reason_is_one_lem : (b : ℕ) (d : Sectors) (e f : NoTable) → IsReason b d e → IsReason b d f → e ≡ f
+reason_is_one_lem = reason_one
+
+-- a disk with a reason denotes nothing
+pub reason_is_nothing_lem : (b : ℕ) (d : Sectors) (e : NoTable) → IsReason b d e → Denotes b d None
+reason_is_nothing_lem = reason_nothing

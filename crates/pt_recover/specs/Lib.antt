@@ -7,4 +7,5 @@ pub mod Answers
 pub mod Steps
 pub mod Same
 pub mod One
+pub mod Reasons
 pub mod Laws

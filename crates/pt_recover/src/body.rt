@@ -6,7 +6,7 @@ ghost use Rattle.pt_recover.specs.Mbr.{IsMbrDisk, IsMbr};
 ghost use Rattle.pt_recover.specs.Denotes.{BodyIs, BodyReads};
 ghost use Rattle.pt_recover.specs.Steps.{RestReads};
 ghost use Rattle.pt_recover.specs.Spans.{Adds};
-ghost use Rattle.pt_recover.specs.Answers.{IsOutside, TellsNothing, FailedAs, HeadIs};
+ghost use Rattle.pt_recover.specs.Answers.{IsOutside, TellsNothing, FailedAs, FailedIn, HeadIs};
 
 use crate::error::NoTable;
 use crate::extended::read_lone;
@@ -41,6 +41,7 @@ pub fn read_records<const B: usize, D: Disk<B>>(disk: &mut D) -> Result<Option<M
     ensures reads { D.reads disk.old disk.new }
     ensures quiet { OnOk result (D.failures disk.new ≡ D.failures disk.old) }
     ensures failed { IfErr result (λ e. FailedAs e (D.failures disk.old) (D.failures disk.new)) }
+    ensures place { IfErr result (FailedIn (λ s. s ≡ 0)) }
     ensures outside { IfErr result IsOutside }
     ensures same { D.tells → D.told disk.new ≡ D.told disk.old }
     ensures ok { D.tells → IfOk result (HeadIs (sector (D.told disk.old).seen 0)) }
@@ -65,6 +66,7 @@ fn read_gpt<const B: usize, D: Disk<B>>(
     ensures reads { D.reads disk.old disk.new }
     ensures quiet { OnOk result (D.failures disk.new ≡ D.failures disk.old) }
     ensures failed { IfErr result (λ e. FailedAs e (D.failures disk.old) (D.failures disk.new)) }
+    ensures place { D.tells → IfErr result (FailedIn (RestReads B (D.told disk.old).seen)) }
     ensures same { D.tells → D.told disk.new ≡ D.told disk.old }
     ensures ok { D.tells → IfOk result (λ y. BodyIs B (D.told disk.old).seen y) }
     ensures err { D.tells → IfErr result (λ e. TellsNothing B (D.told disk.old).seen e) }
@@ -95,6 +97,7 @@ fn read_mbr<const B: usize, D: Disk<B>>(
     ensures reads { D.reads disk.old disk.new }
     ensures quiet { OnOk result (D.failures disk.new ≡ D.failures disk.old) }
     ensures failed { IfErr result (λ e. FailedAs e (D.failures disk.old) (D.failures disk.new)) }
+    ensures place { D.tells → IfErr result (FailedIn (RestReads B (D.told disk.old).seen)) }
     ensures same { D.tells → D.told disk.new ≡ D.told disk.old }
     ensures ok { D.tells → IfOk result (λ y. BodyIs B (D.told disk.old).seen y) }
     ensures err { D.tells → IfErr result (λ e. TellsNothing B (D.told disk.old).seen e) }
@@ -122,6 +125,7 @@ pub(crate) fn read_body<const B: usize, D: Disk<B>>(
     ensures reads { D.reads disk.old disk.new }
     ensures quiet { OnOk result (D.failures disk.new ≡ D.failures disk.old) }
     ensures failed { IfErr result (λ e. FailedAs e (D.failures disk.old) (D.failures disk.new)) }
+    ensures place { D.tells → IfErr result (FailedIn (BodyReads B (D.told disk.old).seen)) }
     ensures same { D.tells → D.told disk.new ≡ D.told disk.old }
     ensures ok { D.tells → IfOk result (λ y. BodyIs B (D.told disk.old).seen y) }
     ensures err { D.tells → IfErr result (λ e. TellsNothing B (D.told disk.old).seen e) }

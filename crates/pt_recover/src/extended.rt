@@ -6,7 +6,7 @@ ghost use Rattle.pt_mbr.specs.Chain.{span_of, Chain, ChainReads, StandsAt, IsRea
 ghost use Rattle.pt_recover.specs.Mbr.{IsMbr, extended_of, extent_of, HasChain, ExtendedReads};
 ghost use Rattle.pt_recover.specs.Steps.{ExtendedIs, ToldAs, IsChainFault};
 ghost use Rattle.pt_recover.specs.Spans.{Adds};
-ghost use Rattle.pt_recover.specs.Answers.{IsOutside, TellsNothing, FailedAs};
+ghost use Rattle.pt_recover.specs.Answers.{IsOutside, TellsNothing, FailedAs, FailedIn};
 
 use crate::error::NoTable;
 use crate::layout::Ebrs;
@@ -124,6 +124,7 @@ fn read_extended<const B: usize, D: Disk<B>>(
     ensures reads { D.reads disk.old disk.new }
     ensures quiet { OnOk result (D.failures disk.new ≡ D.failures disk.old) }
     ensures failed { IfErr result (λ e. FailedAs e (D.failures disk.old) (D.failures disk.new)) }
+    ensures place { D.tells → IfErr result (FailedIn (ChainReads (D.told disk.old).seen (span_of extent.now))) }
     ensures same { D.tells → D.told disk.new ≡ D.told disk.old }
     ensures ok { D.tells → IfOk result (λ list. Chain (D.told disk.old).seen (span_of extent.now) list) }
     ensures err { D.tells → IfErr result (λ e. IsOutside e ⊎ IsChainFault (D.told disk.old).seen (span_of extent.now) e) }
@@ -164,6 +165,7 @@ pub(crate) fn read_lone<const B: usize, D: Disk<B>>(
     ensures reads { D.reads disk.old disk.new }
     ensures quiet { OnOk result (D.failures disk.new ≡ D.failures disk.old) }
     ensures failed { IfErr result (λ e. FailedAs e (D.failures disk.old) (D.failures disk.new)) }
+    ensures place { D.tells → IfErr result (FailedIn (ExtendedReads (D.told disk.old).seen (extended_of mbr.now.records))) }
     ensures same { D.tells → D.told disk.new ≡ D.told disk.old }
     ensures ok { D.tells → IfOk result (λ list. HasChain (D.told disk.old).seen (extended_of mbr.now.records) list) }
     ensures err { D.tells → IfErr result (λ e. TellsNothing B (D.told disk.old).seen e) }

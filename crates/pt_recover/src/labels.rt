@@ -5,7 +5,7 @@ ghost use Rattle.pt_sector.specs.Sectors.{IsSectorSize, sector};
 ghost use Rattle.pt_recover.specs.Labels.{place_of, IsPlace, LabelsAre};
 ghost use Rattle.pt_recover.specs.Steps.{labelled, LabelIs};
 ghost use Rattle.pt_recover.specs.Spans.{Adds};
-ghost use Rattle.pt_recover.specs.Answers.{IsOutside, FailedAs};
+ghost use Rattle.pt_recover.specs.Answers.{IsOutside, FailedAs, FailedIn};
 
 use crate::error::NoTable;
 use crate::layout::{Labelled, Labels, Slice};
@@ -38,6 +38,7 @@ fn read_label<const B: usize, D: Disk<B>>(
     ensures reads { D.reads disk.old disk.new }
     ensures quiet { OnOk result (D.failures disk.new ≡ D.failures disk.old) }
     ensures failed { IfErr result (λ e. FailedAs e (D.failures disk.old) (D.failures disk.new)) }
+    ensures place { IfErr result (FailedIn (λ s. s ≡ place_of slice)) }
     ensures outside { IfErr result IsOutside }
     ensures same { D.tells → D.told disk.new ≡ D.told disk.old }
     ensures ok { D.tells → IfOk result (λ o. LabelIs slice (sector (D.told disk.old).seen (place_of slice)) o) }
@@ -83,6 +84,7 @@ pub(crate) fn traced_labels<const B: usize, D: Disk<B>>(
     ensures reads { D.reads disk.old disk.new }
     ensures quiet { OnOk result (D.failures disk.new ≡ D.failures disk.old) }
     ensures failed { IfErr result (λ e. FailedAs e (D.failures disk.old) (D.failures disk.new)) }
+    ensures place { IfErr result (FailedIn (IsPlace slices.now)) }
     ensures outside { IfErr result IsOutside }
     ensures same { D.tells → D.told disk.new ≡ D.told disk.old }
     ensures ok { D.tells → IfOk result (λ ls. LabelsAre (D.told disk.old).seen slices.now ls) }
@@ -116,6 +118,7 @@ pub fn read_labels<const B: usize, D: Disk<B>>(
     ensures reads { D.reads disk.old disk.new }
     ensures quiet { OnOk result (D.failures disk.new ≡ D.failures disk.old) }
     ensures failed { IfErr result (λ e. FailedAs e (D.failures disk.old) (D.failures disk.new)) }
+    ensures place { IfErr result (FailedIn (IsPlace slices.now)) }
     ensures outside { IfErr result IsOutside }
     ensures same { D.tells → D.told disk.new ≡ D.told disk.old }
     ensures ok { D.tells → IfOk result (λ ls. LabelsAre (D.told disk.old).seen slices.now ls) }

@@ -1,10 +1,12 @@
 //! What holds of the meaning of disks, whatever they hold.
 
-ghost use Rattle.std.specs.Prelude.{◌≡◌, ℕ, List, Option};
+ghost use Rattle.std.specs.Prelude.{◌≡◌, ℕ, List, Option, None};
 ghost use Rattle.pt_sector.specs.Sectors.{Sectors, Agrees};
 ghost use Rattle.pt_sector.specs.Writes.{Writes, Stopped};
 ghost use Rattle.pt_recover.specs.Denotes.{Denotes, Reads, SameMeaning};
 ghost use Rattle.pt_recover.specs.Laws.{LeavesReads};
+ghost use Rattle.pt_recover.specs.Answers.{IsReason};
+ghost use Rattle.pt_recover.specs.declared.error.NoTable.{NoTable};
 ghost use Rattle.pt_recover.specs.declared.layout.Layout.{Layout};
 
 /// The sectors that recovery reads decide what a disk denotes: who agrees with it on them denotes the same, by the
@@ -21,4 +23,16 @@ pub fn denotes_one()
 /// A stop within writes to sectors that recovery doesn't read leaves a disk of the same meaning.
 pub fn stop_keeps()
     ensures { (b : ℕ) (d c : Sectors) (phase : Writes) → LeavesReads b d phase → Stopped d phase c → SameMeaning b c d }
+{}
+
+/// A disk has one reason at most to denote nothing.
+#[tactic(auto, using(crate::specs::Laws::reason_is_one_lem))]
+pub fn reason_is_one()
+    ensures { (b : ℕ) (d : Sectors) (e f : NoTable) → IsReason b d e → IsReason b d f → e ≡ f }
+{}
+
+/// A disk with a reason to denote nothing denotes nothing.
+#[tactic(auto, using(crate::specs::Laws::reason_is_nothing_lem))]
+pub fn reason_is_nothing()
+    ensures { (b : ℕ) (d : Sectors) (e : NoTable) → IsReason b d e → Denotes b d None }
 {}

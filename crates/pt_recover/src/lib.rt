@@ -21,7 +21,7 @@ mod trace;
 pub use body::read_records;
 pub use error::NoTable;
 pub use labels::read_labels;
-pub use laws::{denotes_one, reads_decide, stop_keeps};
+pub use laws::{denotes_one, reads_decide, reason_is_nothing, reason_is_one, stop_keeps};
 pub use layout::{Body, Ebrs, Labelled, Labels, Layout, Slice};
 pub use recovery::{recover, recover_traced};
 pub use slices::{entry_place, is_slice_type, label_places, record_place};

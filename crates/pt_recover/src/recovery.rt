@@ -4,7 +4,7 @@ ghost use Rattle.std.specs.Prelude.{◌≡◌, ◌⊎◌, OnOk, IfOk, IfErr, Som
 ghost use Rattle.pt_sector.specs.Sectors.{IsSectorSize};
 ghost use Rattle.pt_recover.specs.Denotes.{Denotes, Reads};
 ghost use Rattle.pt_recover.specs.Spans.{Adds};
-ghost use Rattle.pt_recover.specs.Answers.{IsOutside, TellsNothing, FailedAs, IsTraceOf};
+ghost use Rattle.pt_recover.specs.Answers.{IsOutside, TellsNothing, FailedAs, FailedIn, IsTraceOf};
 
 use crate::body::read_body;
 use crate::error::NoTable;
@@ -27,6 +27,7 @@ fn recover_into<const B: usize, D: Disk<B>>(
     ensures reads { D.reads disk.old disk.new }
     ensures quiet { OnOk result (D.failures disk.new ≡ D.failures disk.old) }
     ensures failed { IfErr result (λ e. FailedAs e (D.failures disk.old) (D.failures disk.new)) }
+    ensures place { D.tells → IfErr result (FailedIn (Reads B (D.told disk.old).seen)) }
     ensures same { D.tells → D.told disk.new ≡ D.told disk.old }
     ensures ok { D.tells → IfOk result (λ o. Denotes B (D.told disk.old).seen (Some o)) }
     ensures err { D.tells → IfErr result (λ e. TellsNothing B (D.told disk.old).seen e) }
@@ -60,6 +61,7 @@ pub fn recover<const B: usize, D: Disk<B>>(alloc: Global, disk: &mut D) -> Resul
     ensures reads { D.reads disk.old disk.new }
     ensures quiet { OnOk result (D.failures disk.new ≡ D.failures disk.old) }
     ensures failed { IfErr result (λ e. FailedAs e (D.failures disk.old) (D.failures disk.new)) }
+    ensures place { D.tells → IfErr result (FailedIn (Reads B (D.told disk.old).seen)) }
     ensures same { D.tells → D.told disk.new ≡ D.told disk.old }
     ensures ok { D.tells → IfOk result (λ o. Denotes B (D.told disk.old).seen (Some o)) }
     ensures err { D.tells → IfErr result (λ e. TellsNothing B (D.told disk.old).seen e) }
@@ -78,6 +80,7 @@ pub fn recover_traced<const B: usize, D: Disk<B>>(
     ensures reads { D.reads disk.old disk.new }
     ensures quiet { OnOk result.0 (D.failures disk.new ≡ D.failures disk.old) }
     ensures failed { IfErr result.0 (λ e. FailedAs e (D.failures disk.old) (D.failures disk.new)) }
+    ensures place { D.tells → IfErr result.0 (FailedIn (Reads B (D.told disk.old).seen)) }
     ensures same { D.tells → D.told disk.new ≡ D.told disk.old }
     ensures ok { D.tells → IfOk result.0 (λ o. Denotes B (D.told disk.old).seen (Some o)) }
     ensures err { D.tells → IfErr result.0 (λ e. TellsNothing B (D.told disk.old).seen e) }

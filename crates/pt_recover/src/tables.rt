@@ -3,13 +3,13 @@
 ghost use Rattle.std.specs.Prelude.{◌≡◌, ◌+◌, ◌-◌, ◌≤◌, ◌⊎◌, IfOk, IfErr, OnOk, IfSome, IfNone};
 ghost use Rattle.pt_sector.specs.Sectors.{IsSectorSize};
 ghost use Rattle.pt_gpt.specs.Array.{counted};
-ghost use Rattle.pt_gpt.specs.Errors.{IsOutside as IsOutsideCopy, FailedAs as FailedAsCopy};
+ghost use Rattle.pt_gpt.specs.Errors.{IsOutside as IsOutsideCopy, FailedAs as FailedAsCopy, FailedIn as FailedInCopy};
 ghost use Rattle.pt_gpt.specs.Copy.{IsPlaced, InArray, Copy, SideReads};
 ghost use Rattle.pt_gpt.specs.Answers.{TellsFault};
 ghost use Rattle.pt_recover.specs.Gpt.{HasRoom, TableIs, TableReads};
 ghost use Rattle.pt_recover.specs.Steps.{OutsideAs, AreCopyFaults};
 ghost use Rattle.pt_recover.specs.Spans.{Adds};
-ghost use Rattle.pt_recover.specs.Answers.{IsOutside, FailedAs};
+ghost use Rattle.pt_recover.specs.Answers.{IsOutside, FailedAs, FailedIn};
 
 use crate::error::NoTable;
 use crate::trace::Trace;
@@ -47,6 +47,7 @@ fn traced_copy<const B: usize, D: Disk<B>>(
     ensures reads { D.reads disk.old disk.new }
     ensures quiet { OnOk result (D.failures disk.new ≡ D.failures disk.old) }
     ensures failed { IfErr result (λ e. FailedAsCopy e (D.failures disk.old) (D.failures disk.new)) }
+    ensures place { D.tells → IfErr result (FailedInCopy (SideReads B (D.told disk.old).seen side)) }
     ensures same { D.tells → D.told disk.new ≡ D.told disk.old }
     ensures ok { D.tells → IfOk result (λ t. Copy B (D.told disk.old).seen side t) }
     ensures err { D.tells → IfErr result (λ e. TellsFault B (D.told disk.old).seen side e) }
@@ -97,6 +98,7 @@ pub(crate) fn read_either<const B: usize, D: Disk<B>>(
     ensures reads { D.reads disk.old disk.new }
     ensures quiet { OnOk result (D.failures disk.new ≡ D.failures disk.old) }
     ensures failed { IfErr result (λ e. FailedAs e (D.failures disk.old) (D.failures disk.new)) }
+    ensures place { D.tells → IfErr result (FailedIn (TableReads B (D.told disk.old).seen)) }
     ensures same { D.tells → D.told disk.new ≡ D.told disk.old }
     ensures ok { D.tells → IfOk result (λ t. TableIs B (D.told disk.old).seen t) }
     ensures err { D.tells → IfErr result (λ e. IsOutside e ⊎ AreCopyFaults B (D.told disk.old).seen e) }

@@ -1,5 +1,6 @@
 //! The command line.
 
+use crate::help::{ABOUT, EDIT, LOCATE, SHOW, STATUSES, VERIFY};
 use clap::error::ErrorKind;
 use clap::{Arg, ArgAction, ArgMatches, Command};
 use std::alloc::{AllocError, Global};
@@ -58,19 +59,6 @@ impl From<AllocError> for LineError {
     }
 }
 
-const ABOUT: &str =
-    "Shows and edits partition tables (GPT, MBR with extended partitions, BSD labels) in a disk image. \
-An edit leaves the old table or the new one whenever the power goes.";
-
-const STATUSES: &str =
-    "Exit status: 0 done or yes, 1 the answer is no, 2 usage or an unreadable word, \
-3 refused, 4 no table, 5 device, 6 memory.";
-
-const WORDS: &str =
-    "Words, in the manner of sgdisk(8): c:NUM:NAME names a partition, t:NUM:CODE types it, d:NUM deletes it, \
-u:NUM:GUID and U:GUID set its GUID and the disk's, A:NUM:BIT:V an attribute, e extends the table to a grown disk, \
-o makes an empty GPT. Fresh GUIDs: --fresh $(head -c 16 /dev/urandom | od -An -tx1 | tr -d ' \\n').";
-
 fn image<'a>(alloc: Global) -> Arg<'a> {
     Arg::new(alloc, "IMAGE")
         .required(true)
@@ -84,22 +72,24 @@ fn sector_size<'a>(alloc: Global) -> Arg<'a> {
         .value_name("BYTES")
         .value_parser(["512", "4096"].as_slice())
         .default_value("512")
+        .hide_default_value(true)
+        .hide_possible_values(true)
         .action(ArgAction::Set)
-        .help("How many bytes a sector has")
+        .help("The size of a sector: 512 (the default) or 4096")
 }
 
 fn show_command<'a>(alloc: Global) -> Result<Command<'a>, AllocError> {
     Command::new(alloc, "show")
-        .about("Prints the layout that the image denotes, a line a partition")
-        .after_help(STATUSES)
+        .about("Prints the image's partitions, a line each")
+        .after_help(SHOW)
         .arg(image(alloc))?
         .arg(sector_size(alloc))
 }
 
 fn verify_command<'a>(alloc: Global) -> Result<Command<'a>, AllocError> {
     Command::new(alloc, "verify")
-        .about("Prints `yes` where the image is healthy, else the first finding")
-        .after_help(STATUSES)
+        .about("Prints `yes` where the image is healthy, else what is wrong")
+        .after_help(VERIFY)
         .arg(image(alloc))?
         .arg(sector_size(alloc))
 }
@@ -114,8 +104,8 @@ fn locate_command<'a>(alloc: Global) -> Result<Command<'a>, AllocError> {
         .action(ArgAction::Set)
         .help("A sector of the partition, from 0 on");
     Command::new(alloc, "locate")
-        .about("Prints the disk's sector that is sector K of a partition, or `none`")
-        .after_help(STATUSES)
+        .about("Prints where on the disk sector K of a partition is")
+        .after_help(LOCATE)
         .arg(image(alloc))?
         .arg(path)?
         .arg(place)?
@@ -132,10 +122,10 @@ fn edit_command<'a>(alloc: Global) -> Result<Command<'a>, AllocError> {
         .required(true)
         .num_args(1..)
         .action(ArgAction::Append)
-        .help("Edit words, applied in order as one change");
+        .help("Edit words, taken in order");
     Command::new(alloc, "edit")
-        .about("Edits the table by words, in one change that a stop leaves done or undone")
-        .after_help(WORDS)
+        .about("Edits the table by words, as one change: all of them or none")
+        .after_help(EDIT)
         .arg(image(alloc))?
         .arg(fresh)?
         .arg(sector_size(alloc))?

@@ -3,6 +3,7 @@
 
 mod edit;
 mod file_disk;
+mod help;
 mod line;
 mod run;
 mod show;

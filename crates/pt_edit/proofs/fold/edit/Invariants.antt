@@ -1,5 +1,5 @@
 -- What the words that are left make of the state is what all of them make.
-use Rattle.std.proofs.Common.{drop, Result}
+use Rattle.std.proofs.Common.{◌≤◌, drop, length, Result}
 use Rattle.std.specs.Option.{option_map}
 use Rattle.pt_recover.specs.declared.layout.Layout.{Layout}
 use Rattle.pt_edit.specs.Edited.{Edited, EditedFrom}
@@ -8,6 +8,8 @@ use Rattle.pt_words.specs.declared.error.Refusal.{Refusal}
 use Rattle.pt_edit.proofs.fold.edit.Given as goal
 
 abbrev pub invariant-loop-word : goal.invariant-loop-word
-invariant-loop-word g l =
-    (r : Result Layout Refusal) → EditedFrom g.row.B l.sectors (drop l.word-index l.edits) (state_of l.guids l.state) r
-    → Edited g.row.B l.sectors (option_map (λ o. o.now) l.old) l.edits l.guids r
+invariant-loop-word g l = record {
+  taken : l.state.taken ≤ length l.guids;
+  so_far : (r : Result Layout Refusal) → EditedFrom g.row.B l.sectors (drop l.word-index l.edits) (state_of l.guids l.state) r
+      → Edited g.row.B l.sectors (option_map (λ o. o.now) l.old) l.edits l.guids r;
+}

@@ -3,11 +3,12 @@ use Rattle.std.specs.Prelude.{◌⊎◌, ◌<◌}
 use Rattle.std.proofs.lemmas.Result.{on_ok_weaker, IfErr-weaker}
 use Rattle.pt_sector.specs.Sectors.{Sectors}
 use Rattle.pt_sector.specs.Device.{Told}
-use Rattle.pt_recover.specs.Answers.{IsOutside}
+use Rattle.pt_recover.specs.Answers.{IsOutside, FailedIn}
 use Rattle.pt_recover.specs.Steps.{RestReads}
 use Rattle.pt_recover.specs.Denotes.{BodyReads}
 use Rattle.pt_recover.specs.Spans.{Adds}
 use Rattle.pt_recover.proofs.Bodies.{some_sector, body_read, body_read_or}
+use Rattle.pt_recover.proofs.Failed.{body_failed}
 use Rattle.pt_recover.proofs.body.read_body.Goals as goal
 
 pub returns-in-Ok-Some-clause-traced : goal.returns-in-Ok-Some-clause-traced
@@ -45,3 +46,17 @@ returns-in-Ok-None-clause-traced_err g c = λ tells.
     IfErr-weaker c.read_gpt.result (λ e. IsOutside e ⊎ Adds c.add_one.new.self c.read_gpt.new.trace (RestReads g.row.B (g.D.Disk.told c.read_records.new.disk).seen)) (λ e. IsOutside e ⊎ Adds c.args.trace.now c.read_gpt.new.trace (BodyReads g.row.B d))
     (λ e adds. body_read_or (IsOutside e) g.row.B d c.args.trace.now c.add_one.new.self c.read_gpt.new.trace some c.in-Ok.ensures (subst (λ (t : Told). IsOutside e ⊎ Adds c.add_one.new.self c.read_gpt.new.trace (RestReads g.row.B t.seen)) same adds))
     (c.read_gpt.ensures.traced_err tells)
+
+pub returns-in-Ok-Some-clause-place : goal.returns-in-Ok-Some-clause-place
+returns-in-Ok-Some-clause-place g c = λ tells.
+    let same = c.in-Ok-Some.ensures.same tells in
+    IfErr-weaker c.read_mbr.result (FailedIn (RestReads g.row.B (g.D.Disk.told c.read_records.new.disk).seen)) (FailedIn (BodyReads g.row.B (g.D.Disk.told c.args.disk.now).seen))
+    (λ e failed. body_failed g.row.B (g.D.Disk.told c.args.disk.now).seen e (subst (λ (t : Told). FailedIn (RestReads g.row.B t.seen) e) same failed))
+    (c.read_mbr.ensures.place tells)
+
+pub returns-in-Ok-None-clause-place : goal.returns-in-Ok-None-clause-place
+returns-in-Ok-None-clause-place g c = λ tells.
+    let same = c.in-Ok-None.ensures.same tells in
+    IfErr-weaker c.read_gpt.result (FailedIn (RestReads g.row.B (g.D.Disk.told c.read_records.new.disk).seen)) (FailedIn (BodyReads g.row.B (g.D.Disk.told c.args.disk.now).seen))
+    (λ e failed. body_failed g.row.B (g.D.Disk.told c.args.disk.now).seen e (subst (λ (t : Told). FailedIn (RestReads g.row.B t.seen) e) same failed))
+    (c.read_gpt.ensures.place tells)

@@ -7,6 +7,7 @@ use Rattle.pt_recover.specs.declared.layout.Slice.{Slice}
 use Rattle.pt_recover.specs.declared.layout.Labelled.{Labelled}
 use Rattle.pt_recover.proofs.LabelSteps.{label_more, labels_end}
 use Rattle.pt_recover.proofs.Traces.{place_more}
+use Rattle.pt_recover.proofs.Failed.{place_failed}
 use Rattle.pt_recover.proofs.labels.traced_labels.Goals as goal
 
 pub loop-k-preserved : goal.loop-k-preserved
@@ -31,3 +32,6 @@ returns-clause-ok g c = λ tells.
     let d : Sectors = (g.D.Disk.told c.args.disk.now).seen in
     subst (λ (l : List Labelled). LabelsAre d c.args.slices.now l) (sym c.new.ensures)
     (labels_end d c.args.slices.now c.loop-k.k c.loop-k.labels.items (omega arith) (c.loop-k.invariant.labels tells))
+
+pub returns-in-Err-clause-place : goal.returns-in-Err-clause-place
+returns-in-Err-clause-place g c = place_failed c.args.slices.now c.loop-k.k (record { number = 0; first = 0; len = 0 }) c.in-Err.e (omega arith) c.in-Err.ensures.place

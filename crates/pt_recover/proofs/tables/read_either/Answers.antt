@@ -1,9 +1,11 @@
+use Rattle.pt_gpt.specs.Errors.{FailedIn as FailedInCopy}
 use Rattle.std.proofs.Common.{subst, inr}
 use Rattle.pt_sector.specs.Device.{Told}
 use Rattle.pt_gpt.specs.Copy.{Copy, SideReads}
 use Rattle.pt_gpt.specs.declared.table.Side.TheVariants.{Backup}
 use Rattle.pt_recover.specs.Spans.{Adds}
 use Rattle.pt_recover.proofs.Sides.{primary_read, none_there, inside_adds, both_read}
+use Rattle.pt_recover.proofs.Failed.{primary_failed, backup_failed}
 use Rattle.pt_recover.proofs.tables.read_either.Goals as goal
 
 pub returns-in-Ok-clause-traced : goal.returns-in-Ok-clause-traced
@@ -29,3 +31,12 @@ returns-in-None-outside-clause-traced_err g c = λ tells. inr (
     (none_there g.row.B (g.D.Disk.told c.args.disk.now).seen c.in-Err.e (c.in-Err.ensures.err tells) c.in-None.ensures.none)
     (inside_adds (c.in-Err.ensures.traced_err tells) c.in-None.ensures.none)
     (subst (λ (t : Told). Adds c.traced_copy.new.trace c.traced_copy-2.new.trace (SideReads g.row.B t.seen Backup)) (c.in-Err.ensures.same tells) (inside_adds (c.in-Err-traced_copy.ensures.traced_err tells) c.in-None-outside.ensures.none)))
+
+pub returns-in-Some-clause-place : goal.returns-in-Some-clause-place
+returns-in-Some-clause-place g c = λ tells. primary_failed g.row.B (g.D.Disk.told c.args.disk.now).seen c.in-Err.e c.in-Some.e c.in-Some.ensures.some (c.in-Err.ensures.place tells)
+
+pub returns-in-Some-outside-clause-place : goal.returns-in-Some-outside-clause-place
+returns-in-Some-outside-clause-place g c = λ tells.
+    backup_failed g.row.B (g.D.Disk.told c.args.disk.now).seen c.in-Err-traced_copy.e c.in-Some-outside.e
+    (none_there g.row.B (g.D.Disk.told c.args.disk.now).seen c.in-Err.e (c.in-Err.ensures.err tells) c.in-None.ensures.none) c.in-Some-outside.ensures.some
+    (subst (λ (t : Told). FailedInCopy (SideReads g.row.B t.seen Backup) c.in-Err-traced_copy.e) (c.in-Err.ensures.same tells) (c.in-Err-traced_copy.ensures.place tells))

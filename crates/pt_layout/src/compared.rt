@@ -1,0 +1,75 @@
+//! The real `verify` and the real trace beside the plain ones, on images of every kind.
+
+ghost use Rattle.pt_sector.specs.Sectors.{IsSectorSize};
+
+use crate::images::{Dice, gpt_image, mbr_image};
+use crate::plain::{plain_trace, plain_verify};
+use crate::{Finding, NoTable, Verdict, recover_traced, verify};
+use pt_sector::{Disk, Lba, MemDisk};
+use std::alloc::Global;
+use std::test::Fail;
+
+/// The number of a finding, 0 where there is none; 12 to 15 for the four reasons of a disk to denote nothing.
+fn kind_of(finding: &Option<Finding>) -> u8 {
+    match finding {
+        None => 0,
+        Some(Finding::NoTable(NoTable::Chain(_))) => 12,
+        Some(Finding::NoTable(NoTable::TwoExtended)) => 13,
+        Some(Finding::NoTable(NoTable::NoCopy(_, _))) => 14,
+        Some(Finding::NoTable(NoTable::TooSmall)) => 15,
+        Some(finding) => finding.number(),
+    }
+}
+
+/// What `verify` finds, where the plain one finds the same and both traces are one.
+fn compared<const B: usize>(
+    alloc: Global,
+    disk: &mut MemDisk<B>,
+) -> Result<Option<Option<Finding>>, Fail>
+    requires { IsSectorSize B }
+{
+    let (_, trace) = recover_traced(alloc, disk);
+    let read = plain_trace(alloc, disk)?;
+    for s in 0..disk.sectors() {
+        if trace.contains(Lba(s)) != read.contains(&s) {
+            return Ok(None);
+        }
+    }
+    let found = match verify(alloc, disk) {
+        Ok(Verdict::Yes(_)) => None,
+        Ok(Verdict::No(finding)) => Some(finding),
+        Err(_) => return Ok(None),
+    };
+    let plain = plain_verify(alloc, disk)?;
+    Ok(if plain == found { Some(found) } else { None })
+}
+
+/// Compares on so many images of each kind, and answers which findings were seen.
+fn compare_all<const B: usize>(alloc: Global, images: u64) -> Result<Option<[bool; 16]>, Fail>
+    requires { IsSectorSize B }
+{
+    let mut seen = [false; 16];
+    for seed in 0..images {
+        let mut dice = Dice { state: seed / 2 };
+        let mut disk = if seed % 2 == 0 {
+            mbr_image::<B>(alloc, &mut dice)?
+        } else {
+            gpt_image::<B>(alloc, &mut dice)?
+        };
+        match compared(alloc, &mut disk)? {
+            Some(found) => seen[(kind_of(&found) % 16) as usize] = true,
+            None => return Ok(None),
+        }
+    }
+    Ok(Some(seen))
+}
+
+#[test]
+fn plain_answers(rt: HostRuntime) -> Result<(), Fail> {
+    let mut all = [true; 16];
+    all[1] = false;
+    assert_eq!(rt; compare_all::<512>(rt.alloc(), 1000)?, Some(all));
+    all[11] = false;
+    assert_eq!(rt; compare_all::<4096>(rt.alloc(), 400)?, Some(all));
+    Ok(())
+}

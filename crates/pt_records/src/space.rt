@@ -1,0 +1,75 @@
+//! Where a record's partition may be placed.
+
+ghost use Rattle.std.specs.Prelude.{◌≡◌, ◌≢◌, ◌≤◌, ◌<◌, ◌^◌, ◌++◌, IfOk, IfErr, OnOk, flat_map};
+ghost use Rattle.pt_space.specs.Area.{area_of};
+ghost use Rattle.pt_space.specs.Placed.{Placed, NotPlaced};
+ghost use Rattle.pt_records.specs.New.{run_of, disk_area};
+
+use pt_mbr::Record;
+use pt_space::{Lead, Run, Space, place};
+use pt_words::{End, Refusal};
+use std::alloc::{AllocError, Global};
+
+/// The last sector that a record's start can tell.
+const LAST: u128 = 0xFFFF_FFFF;
+
+// Adds the sectors of a record, if it has any.
+fn push_run(taken: &mut Vec<Run>, slot: Option<Record>) -> Result<(), AllocError>
+    ensures { OnOk result (taken.new.items ≡ taken.old.items ++ run_of slot) }
+{
+    if let Some(r) = slot {
+        if r.size != 0 {
+            let first = u128::from(r.start);
+            taken.push(Run {
+                first,
+                last: first + u128::from(r.size) - 1,
+            })?;
+        }
+    }
+    Ok(())
+}
+
+// The sectors of the used records.
+fn taken_by(alloc: Global, records: &[Option<Record>; 4]) -> Result<Vec<Run>, AllocError>
+    ensures { IfOk result (λ taken. taken.items ≡ flat_map run_of records.now) }
+{
+    let mut taken = Vec::new(alloc);
+    for k in 0..4 {
+        push_run(&mut taken, records[k])?;
+    }
+    Ok(taken)
+}
+
+// Where there is a place for one more on a disk of so many sectors.
+fn space_of(alloc: Global, sectors: u64, records: &[Option<Record>; 4]) -> Result<Space, AllocError>
+    ensures { IfOk result (λ space. area_of space ≡ disk_area sectors records.now) }
+{
+    let taken = taken_by(alloc, records)?;
+    Ok(Space {
+        low: 1,
+        high: u128::from(sectors.saturating_sub(1)).min(LAST),
+        taken,
+        lead: Lead::None,
+    })
+}
+
+// The sectors of a new record's partition. Their numbers have 32 bits.
+#[tactic(auto, using(crate::proofs::Within::placed_within))]
+pub(crate) fn place_record(
+    alloc: Global,
+    sectors: u64,
+    records: &[Option<Record>; 4],
+    alignment: u64,
+    start: u64,
+    end: End,
+) -> Result<Run, Refusal>
+    ensures ok { IfOk result (λ run. Placed (disk_area sectors records.now) alignment start end run) }
+    ensures within { IfOk result (λ run. 1 ≤ run.first × run.first ≤ run.last × run.last < 2 ^ 32) }
+    ensures err { IfErr result (λ refusal. refusal ≢ Refusal.Memory → NotPlaced (disk_area sectors records.now) alignment start end refusal) }
+{
+    let space = match space_of(alloc, sectors, records) {
+        Ok(space) => space,
+        Err(_) => return Err(Refusal::Memory),
+    };
+    place(space, alignment, start, end)
+}

@@ -1,0 +1,51 @@
+//! What the command says of itself, each page within a screen of 24 lines of 80 characters.
+
+pub const ABOUT: &str = "\
+Reads, verifies and edits partition tables (GPT, MBR with extended partitions,
+BSD labels) in a disk image. A power cut during an edit leaves the old table or
+the new one.";
+
+pub const STATUSES: &str = "\
+Exit status: 0 done or yes, 1 the answer is no, 2 usage or an unreadable word,
+3 refused, 4 no table, 5 the image or an output stream failed, 6 no memory.
+After 2, 3, 4 and 6 nothing was written.";
+
+pub const SHOW: &str = "\
+The first line is `gpt SECTORS FIRST LAST DISKGUID` (the usable sectors) or
+`mbr SECTORS`. Then come the partitions by number, a slice before its letters:
+  GPT    NUM FIRST LAST TYPE ATTRIBUTES UNIQUE [NAME]
+  MBR    NUM FIRST LAST TYPE BOOT
+  label  NUM.LETTER FIRST LAST FSTYPE
+Every sector is the disk's own number.
+
+Exit status: 0 shown, 2 usage, 4 no table (standard error says why), 5 the image
+can't be read, 6 no memory.";
+
+pub const VERIFY: &str = "\
+Findings, the first that holds; E is a copy's fault, P and Q are partitions:
+  no 1 no table             no 5 alternate SIDE       no 9 on table P SECTOR
+  no 2 primary copy E       no 6 protective record    no 10 same guid P Q
+  no 3 backup copy E        no 7 outside P            no 11 foreign label P
+  no 4 copies differ        no 8 overlap P Q
+
+Exit status: 0 healthy, 1 a finding, 2 usage, 5 the image can't be read,
+6 no memory.";
+
+pub const LOCATE: &str = "\
+Answers `none` past the partition's end, and for what holds no data of its own:
+the extended partition, a slice, its label's entry c, no partition at all.
+
+Exit status: 0 found, 1 none, 2 usage, a bad PATH or K, 4 no table, 5 the image
+can't be read, 6 no memory.";
+
+pub const EDIT: &str = "\
+Words: n:NUM:START:END[:CODE] new (0 lets ptab choose, END may be +SECTORS),
+d:PATH delete, t:PATH:CODE type, c:NUM:NAME name, u:NUM:GUID its GUID, U:GUID
+the disk's, A:NUM:BIT:V attribute, a:K alignment, e use a grown disk, o empty
+GPT, g MBR to GPT. PATH is 3 or 2.a; CODE EF00 8300 8200 0700 A500 A503, or two
+digits on an MBR. `o`, `n` and `g` take fresh GUIDs:
+  --fresh $(head -c 1024 /dev/urandom | od -An -v -tx1 | tr -d ' \\n')
+
+Exit status: 0 done, 2 usage or a bad word, 3 refused, 4 no table, 5 the image
+can't be opened, read or written, 6 no memory. After 2, 3, 4 and 6 nothing was
+written; after 5 the image has the old table or the new one.";
