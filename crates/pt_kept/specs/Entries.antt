@@ -1,5 +1,5 @@
 -- The slices of numbered entries or records, when one of these changes.
-use Rattle.std.specs.Prelude.{◌≡◌, ◌≢◌, ◌<◌, ◌≤◌, ◌⊎◌, ◌+◌, ◌-◌, ◌++◌, ◌∷◌, [], ℕ, zero, suc, Bool, true, false, List, filter, length, slice_index_or, slice_set, Option, Some, None, if◌then◌else◌, nat_eq, nat_lt, ◌&&◌}
+use Rattle.std.specs.Prelude.{◌≡◌, ◌≢◌, ◌<◌, ◌≤◌, ◌⊎◌, ◌+◌, ◌-◌, ◌++◌, ◌∷◌, [], ℕ, zero, suc, Bool, true, false, List, filter, length, replicate, slice_index_or, slice_set, Option, Some, None, if◌then◌else◌, nat_eq, nat_lt, ◌&&◌}
 use Rattle.std.proofs.Common.{refl, sym, ap, subst, ◌∙◌, inl, inr, arith, append_assoc}
 use Rattle.std.proofs.lemmas.Bool.{eq-eqb, ne_eqb, lt-ltb, le-ltb}
 use Rattle.std.proofs.lemmas.List.Elements.{filter-append}
@@ -161,6 +161,12 @@ many_with one is n (suc k) y (x ∷ xs) lt none =
     let m = n + suc k in
     let more = many_with one is (n + 1) k y xs (omega (arith, lt)) none ∙ ap (λ (i : ℕ). around i (one i y) (many one (n + 1) xs)) (move n k) in
     ap (λ (l : List Slice). one n x ++ l) more ∙ sym (around_first one is n m (one m y) x xs (omega arith))
+
+-- unused ones have no slices
+pub many_none : {X : Type 0} (one : ℕ → Option X → List Slice) (is : IsNumbered one) (n k : ℕ) → many one n (replicate k None) ≡ []
+unfolding many
+many_none one is n zero = refl
+many_none one is n (suc k) = ap (λ (l : List Slice). l ++ many one (n + 1) (replicate k None)) (is.none n) ∙ many_none one is (n + 1) k
 
 -- the same of a table's entries
 pub slices_without : (n k : ℕ) (es : List (Option Entry)) → k < length es → entry_slices n (slice_set es k None) ≡ slices_by (is_not (n + k)) (entry_slices n es)

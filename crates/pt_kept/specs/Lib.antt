@@ -11,3 +11,5 @@ pub mod Logicals
 pub mod Entering
 pub mod NewLogicals
 pub mod Records
+pub mod NewRecords
+pub mod GptWords

@@ -32,10 +32,10 @@ use Rattle.pt_kept.specs.Mbr.{mbr_of, slices_mbr, WasRecord, WasLogical, keeps_m
 use Rattle.pt_kept.specs.Logicals.{type_plain, container_plain, container_leaf, logical_of}
 
 -- the extended records of one record
-abbrev extended_in : Option Record → List Record
+abbrev pub extended_in : Option Record → List Record
 extended_in r = extended_of (r ∷ [])
 
-extended_first : (r : Option Record) (rs : List (Option Record)) → extended_of (r ∷ rs) ≡ extended_in r ++ extended_of rs
+pub extended_first : (r : Option Record) (rs : List (Option Record)) → extended_of (r ∷ rs) ≡ extended_in r ++ extended_of rs
 unfolding extended_of
 extended_first None rs = refl
 extended_first (Some r) rs = by_type (is_extended r.kind) refl where
@@ -51,7 +51,7 @@ pub extended_no : (r : Record) → is_extended r.kind ≡ false → extended_in 
 unfolding extended_of
 extended_no r is = rw is refl
 
-none_extended : extended_in None ≡ []
+pub none_extended : extended_in None ≡ []
 unfolding extended_of
 none_extended = refl
 
@@ -86,7 +86,7 @@ no_chain [] none = refl
 no_chain (r ∷ rs) none = absurd (omega (arith, none))
 
 -- each record fits where one changes and fits
-slots_set : (rs : List (Option Record)) (k : ℕ) (x : Option Record) → k < length rs → FitsSlot x → ((j : ℕ) → j < 4 → FitsSlot (slice_index_or rs j None)) → (j : ℕ) → j < 4 → FitsSlot (slice_index_or (slice_set rs k x) j None)
+pub slots_set : (rs : List (Option Record)) (k : ℕ) (x : Option Record) → k < length rs → FitsSlot x → ((j : ℕ) → j < 4 → FitsSlot (slice_index_or rs j None)) → (j : ℕ) → j < 4 → FitsSlot (slice_index_or (slice_set rs k x) j None)
 slots_set rs k x within fits each j lt = by_place (nat_eq j k) refl where
   by_place : (t : Bool) → nat_eq j k ≡ t → FitsSlot (slice_index_or (slice_set rs k x) j None)
   by_place true so =
@@ -94,7 +94,7 @@ slots_set rs k x within fits each j lt = by_place (nat_eq j k) refl where
   by_place false so = subst FitsSlot (sym (get_or-set_other rs k j x None (eqb-false j k so))) (each j lt)
 
 -- a record of the changed ones
-set_records : (rs : List (Option Record)) (k : ℕ) (x : Option Record) → k < length rs → ((r : Record) → x ≡ Some r → WasRecord rs k r ⊎ IsMadeRecord r) → (j : ℕ) (r : Record) → slice_index_or (slice_set rs k x) j None ≡ Some r → WasRecord rs j r ⊎ IsMadeRecord r
+pub set_records : (rs : List (Option Record)) (k : ℕ) (x : Option Record) → k < length rs → ((r : Record) → x ≡ Some r → WasRecord rs k r ⊎ IsMadeRecord r) → (j : ℕ) (r : Record) → slice_index_or (slice_set rs k x) j None ≡ Some r → WasRecord rs j r ⊎ IsMadeRecord r
 set_records rs k x within new j r is = by_place (nat_eq j k) refl where
   by_place : (t : Bool) → nat_eq j k ≡ t → WasRecord rs j r ⊎ IsMadeRecord r
   by_place true so =
@@ -103,15 +103,15 @@ set_records rs k x within new j r is = by_place (nat_eq j k) refl where
       subst (λ (i : ℕ). WasRecord rs i r ⊎ IsMadeRecord r) same (new r found)
   by_place false so = same_records rs j r (sym (get_or-set_other rs k j x None (eqb-false j k so)) ∙ is)
 
-leaf_record : (n : ℕ) (r : Record) → nat_eq r.kind 0xA5 ≡ false → primary_slice n (Some r) ≡ []
+pub leaf_record : (n : ℕ) (r : Record) → nat_eq r.kind 0xA5 ≡ false → primary_slice n (Some r) ≡ []
 unfolding primary_slice record_slice
 leaf_record n r is = rw is refl
 
-no_record_slice : (n : ℕ) → primary_slice n None ≡ []
+pub no_record_slice : (n : ℕ) → primary_slice n None ≡ []
 unfolding primary_slice
 no_record_slice n = refl
 
-within_four : (rs : List (Option Record)) (number : ℕ) → length rs ≡ 4 → IsPrimary number → number - 1 < length rs
+pub within_four : (rs : List (Option Record)) (number : ℕ) → length rs ≡ 4 → IsPrimary number → number - 1 < length rs
 within_four rs number four is = omega (arith, four, is.0, is.1)
 
 -- `t` of a record

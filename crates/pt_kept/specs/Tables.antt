@@ -60,10 +60,10 @@ fits_set b n number t x first last typed fits =
       typed = typed_set t.entries (number - 1) x (omega (arith, first, last)) typed fits.typed;
     }
 
-no_record : (k : ℕ) (r : Record) → slice_index_or [] k None ≡ Some r → ⊥
+pub no_record : (k : ℕ) (r : Record) → slice_index_or [] k None ≡ Some r → ⊥
 no_record k r is = absurd cc
 
-no_ebr : (e : Ebr) → Contains [] e → ⊥
+pub no_ebr : (e : Ebr) → Contains [] e → ⊥
 no_ebr e (k, lt, is) = absurd (omega (arith, lt))
 
 -- a layout with a GPT keeps of another what its labels do
@@ -80,7 +80,7 @@ keeps_gpt b o t ls fits are labels = record {
 }
 
 -- the slices of a GPT
-slices_512 : (b : ℕ) (t : Table) (c : Bool) → nat_eq b 512 ≡ c → slices_of b (Gpt t) ≡ (if c then entry_slices 1 t.entries else [])
+pub slices_512 : (b : ℕ) (t : Table) (c : Bool) → nat_eq b 512 ≡ c → slices_of b (Gpt t) ≡ (if c then entry_slices 1 t.entries else [])
 unfolding slices_of
 slices_512 b t true is = rw is refl
 slices_512 b t false is = rw is refl
@@ -100,7 +100,7 @@ unchanged b o t u shaped is fits same =
 pub keeps_table : (b : ℕ) (o : Layout) (t u : Table) → Shaped b o → o.body ≡ Gpt t → FitsTable b o.sectors u → u.entries ≡ t.entries → Keeps b o.sectors (Some o) (record { sectors = o.sectors; body = Gpt u; labels = o.labels })
 keeps_table b o t u shaped is fits same = unchanged b o t u shaped is fits (slices_as b t u (ap (entry_slices 1) same))
 
-table_fits : (b : ℕ) (o : Layout) (t : Table) → Shaped b o → o.body ≡ Gpt t → FitsTable b o.sectors t
+pub table_fits : (b : ℕ) (o : Layout) (t : Table) → Shaped b o → o.body ≡ Gpt t → FitsTable b o.sectors t
 table_fits b o t shaped is = subst (λ (y : Body). FitsBody b o.sectors y) is shaped.body
 
 -- an entry with the same slice, or none as before
@@ -219,3 +219,9 @@ keeps_slice b number o t e shaped is first last typed none large kind long withi
     (keeps_gpt b o u (with_new_label number (empty_of s.len) o.labels) (fits_set b n number t (Some e) first last typed (table_fits b o t shaped is))
     (subst (λ (l : List Slice). AreLabelsOf l (with_new_label number (empty_of s.len) o.labels)) (sym places) (are_entered number s (empty_of s.len) (slices_of b o.body) o.labels refl (empty_fits s (omega (arith, len, long))) shaped.labels))
     (λ x stands. entered_label b number o s x refl (subst (λ (l : List Slice). Contains l x) places stands)))
+
+-- an entry changes where there are no slices
+pub keeps_small : (b number : ℕ) (o : Layout) (t : Table) (x : Option Entry) → Shaped b o → o.body ≡ Gpt t → 1 ≤ number → number ≤ length t.entries → IfSome x IsTyped → nat_eq b 512 ≡ false
+    → Keeps b o.sectors (Some o) (record { sectors = o.sectors; body = Gpt (entries_with t number x); labels = o.labels })
+keeps_small b number o t x shaped is first last typed small =
+    unchanged b o t (entries_with t number x) shaped is (fits_set b o.sectors number t x first last typed (table_fits b o t shaped is)) (slices_512 b (entries_with t number x) false small ∙ sym (slices_512 b t false small))
