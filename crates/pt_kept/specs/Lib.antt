@@ -13,3 +13,4 @@ pub mod NewLogicals
 pub mod Records
 pub mod NewRecords
 pub mod GptWords
+pub mod Conversion

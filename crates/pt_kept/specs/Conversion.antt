@@ -1,0 +1,178 @@
+-- What a conversion to GPT keeps.
+use Rattle.std.specs.Prelude.{◌≡◌, ◌≢◌, ◌<◌, ◌≤◌, ◌⊎◌, ◌+◌, ◌-◌, ◌*◌, ◌^◌, ◌++◌, ◌∷◌, [], ◌==◌, ℕ, zero, suc, Bool, true, false, List, flat_map, length, replicate, slice_index_or, Option, Some, None, IfSome, Contains, option_map, is_some, if◌then◌else◌, nat_eq, ◌&&◌, ◌||◌}
+use Rattle.std.proofs.Common.{refl, sym, ap, subst, ◌∙◌, inl, inr, arith, append_assoc}
+use Rattle.std.proofs.lemmas.Bool.{cases_lt, true≢false, eqb-true, eqb-false}
+use Rattle.std.proofs.lemmas.Grind.{flat_map-append}
+use Rattle.pt_guid.specs.Codes.{type_of}
+use Rattle.pt_guid.specs.declared.guid.Guid.{Guid}
+use Rattle.pt_gpt.specs.Array.{array_len, AllTyped}
+use Rattle.pt_gpt.specs.Entry.{IsTyped}
+use Rattle.pt_gpt.specs.declared.entry.Entry.{Entry}
+use Rattle.pt_gpt.specs.declared.table.Table.{Table}
+use Rattle.pt_mbr.specs.declared.record.Record.{Record}
+use Rattle.pt_mbr.specs.declared.ebr.Ebr.{Ebr}
+use Rattle.pt_recover.specs.Gpt.{HasRoom}
+use Rattle.pt_recover.specs.Mbr.{is_extended}
+use Rattle.pt_recover.specs.Labels.{is_slice_kind, slice_from, record_slice, primary_slice, primary_slices, logical_slice, next_number, logical_slices, entry_slice, entry_slices, slices_of}
+use Rattle.pt_recover.specs.declared.layout.Slice.{Slice}
+use Rattle.pt_recover.specs.declared.layout.Labelled.{Labelled}
+use Rattle.pt_recover.specs.declared.layout.Layout.{Layout}
+use Rattle.pt_recover.specs.declared.layout.Body.{Body}
+use Rattle.pt_recover.specs.declared.layout.Body.TheVariants.{Mbr, Gpt}
+use Rattle.pt_layout.specs.Members.{label_of}
+use Rattle.pt_convert.specs.Partitions.{partition_of, primary, primaries, logical, logicals_from, partitions}
+use Rattle.pt_convert.specs.Room.{edge, NoRoom, small}
+use Rattle.pt_convert.specs.Converted.{new_type, HasUnknown, IsAt, entry_of, guids_taken, IsGptOf, MayConvert, Converted, HasRecords}
+use Rattle.pt_convert.specs.Placed.{Placeable}
+use Rattle.pt_convert.specs.declared.partition.Partition.{Partition}
+use Rattle.pt_convert.proofs.Numbers.{placed}
+use Rattle.pt_convert.proofs.Places.{at_place}
+use Rattle.pt_shape.specs.Shape.{FitsTable, FitsMbr, FitsBody, AreLabelsOf, Shaped}
+use Rattle.pt_shape.specs.Keeps.{Keeps}
+use Rattle.pt_kept.specs.Lists.{contains_cases, contains_later}
+use Rattle.pt_kept.specs.Tables.{keeps_gpt, slices_512}
+use Rattle.pt_kept.specs.Mbr.{slices_mbr, body_fits, old_labels, same_slice}
+use Rattle.pt_kept.specs.GptWords.{code_typed}
+
+-- the slice that a partition is
+abbrev slice_in : Partition → List Slice
+slice_in p = if nat_eq p.kind 0xA5 then slice_from p.number p.first p.last ∷ [] else []
+
+plain_extended : (kind : ℕ) → is_extended kind ≡ true → nat_eq kind 0xA5 ≡ false
+plain_extended kind is = by_slice (nat_eq kind 0xA5) refl where
+  by_slice : (t : Bool) → nat_eq kind 0xA5 ≡ t → nat_eq kind 0xA5 ≡ false
+  by_slice true so = absurd (true≢false (sym is ∙ ap is_extended (eqb-true kind 0xA5 so)))
+  by_slice false so = so
+
+lone : (p : Partition) → flat_map slice_in (p ∷ []) ≡ slice_in p
+lone p = by_slice (nat_eq p.kind 0xA5) refl where
+  by_slice : (t : Bool) → nat_eq p.kind 0xA5 ≡ t → flat_map slice_in (p ∷ []) ≡ slice_in p
+  by_slice true so = rw so refl
+  by_slice false so = rw so refl
+
+one_primary : (n : ℕ) (r : Option Record) → flat_map slice_in (primary n r) ≡ primary_slice n r
+unfolding primary primary_slice record_slice
+one_primary n None = refl
+one_primary n (Some r) = by_type (is_extended r.kind) refl where
+  by_type : (t : Bool) → is_extended r.kind ≡ t → flat_map slice_in (primary n (Some r)) ≡ primary_slice n (Some r)
+  by_type true is = let plain = plain_extended r.kind is in rw (is, plain) refl
+  by_type false is = rw is (lone (partition_of n 0 r))
+
+all_primaries : (n : ℕ) (rs : List (Option Record)) → flat_map slice_in (primaries n rs) ≡ primary_slices n rs
+unfolding primaries primary_slices
+all_primaries n [] = refl
+all_primaries n (r ∷ rs) =
+    flat_map-append slice_in (primary n r) (primaries (n + 1) rs)
+    ∙ (ap (λ (l : List Slice). l ++ flat_map slice_in (primaries (n + 1) rs)) (one_primary n r) ∙ ap (λ (l : List Slice). primary_slice n r ++ l) (all_primaries (n + 1) rs))
+
+one_logical : (n : ℕ) (e : Ebr) (o : Option Record) → e.logical ≡ o → flat_map slice_in (logical n e) ≡ logical_slice n e
+unfolding logical logical_slice record_slice
+one_logical n e None is = rw is refl
+one_logical n e (Some r) is = rw is (lone (partition_of n e.at.0 r))
+
+all_logicals : (n : ℕ) (es : List Ebr) → flat_map slice_in (logicals_from n es) ≡ logical_slices n es
+unfolding logicals_from logical_slices
+all_logicals n [] = refl
+all_logicals n (e ∷ es) =
+    flat_map-append slice_in (logical n e) (logicals_from (next_number n e) es)
+    ∙ (ap (λ (l : List Slice). l ++ flat_map slice_in (logicals_from (next_number n e) es)) (one_logical n e e.logical refl) ∙ ap (λ (l : List Slice). logical_slice n e ++ l) (all_logicals (next_number n e) es))
+
+-- numbers that rise
+abbrev IsRising : ℕ → List Partition → Type 0
+IsRising low [] = Unit {0}
+IsRising low (p ∷ ps) = (low ≤ p.number) × IsRising (p.number + 1) ps
+
+later : (p q : Partition) (ps : List Partition) (k : ℕ) → IsAt ps k q → IsAt (p ∷ ps) (suc k) q
+later p q ps k at = (omega (arith, at.0), at.1)
+
+rising_of : (low : ℕ) (ps : List Partition) → ((k : ℕ) (p : Partition) → IsAt ps k p → low ≤ p.number) → ((i j : ℕ) (p q : Partition) → i < j → IsAt ps i p → IsAt ps j q → p.number < q.number) → IsRising low ps
+rising_of low [] least up = tt
+rising_of low (p ∷ ps) least up =
+    let here : IsAt (p ∷ ps) 0 p = (omega arith, refl) in
+    (least 0 p here, rising_of (p.number + 1) ps (λ k q at. let lt = up 0 (suc k) p q (omega arith) here (later p q ps k at) in omega (arith, lt)) (λ i j q r lt a c. up (suc i) (suc j) q r (omega (arith, lt)) (later p q ps i a) (later p r ps j c)))
+
+rising_more : (low : ℕ) (ps : List Partition) → IsRising low ps → ((p : Partition) → Contains ps p → p.number ≢ low) → IsRising (low + 1) ps
+rising_more low [] up none = tt
+rising_more low (p ∷ ps) up none = (let other = none p (0, omega arith, refl) in omega (arith, up.0, other), up.1)
+
+rising_least : (low : ℕ) (ps : List Partition) (p : Partition) → IsRising low ps → Contains ps p → low ≤ p.number
+rising_least low [] p up is = absurd (omega (arith, is.1))
+rising_least low (q ∷ ps) p up is = elim (contains_cases q p ps is) [
+  | inl here ↦ (let n = ap (λ (x : Partition). x.number) here in omega (arith, n, up.0))
+  | inr behind ↦ (let more = rising_least (q.number + 1) ps p up.1 behind in omega (arith, more, up.0))
+]
+
+-- entries from a number on whose slices are those of partitions
+record Stands (n : ℕ) (es : List (Option Entry)) (ps : List Partition) : Type 0 where
+  rising : IsRising n ps
+  below : (p : Partition) → Contains ps p → p.number < n + length es
+  each : (p : Partition) → Contains ps p → entry_slice p.number (slice_index_or es (p.number - n) None) ≡ slice_in p
+  others : (k : ℕ) → k < length es → ((p : Partition) → Contains ps p → p.number ≢ n + k) → slice_index_or es k None ≡ None
+
+no_slice : (n : ℕ) → entry_slice n None ≡ []
+unfolding entry_slice
+no_slice n = refl
+
+none_left : (n : ℕ) (ps : List Partition) → Stands n [] ps → ps ≡ []
+none_left n [] s = refl
+none_left n (p ∷ ps) s = let below = s.below p (0, omega arith, refl) in absurd (omega (arith, below, s.rising.0))
+
+behind : (n : ℕ) (e : Option Entry) (es : List (Option Entry)) (ps : List Partition) (p : Partition) → n + 1 ≤ p.number → entry_slice p.number (slice_index_or (e ∷ es) (p.number - n) None) ≡ slice_in p → entry_slice p.number (slice_index_or es (p.number - (n + 1)) None) ≡ slice_in p
+behind n e es ps p above is =
+    let at : p.number - n ≡ suc (p.number - (n + 1)) = omega (arith, above) in
+    subst (λ (k : ℕ). entry_slice p.number (slice_index_or (e ∷ es) k None) ≡ slice_in p) at is
+
+-- no partition has the first number
+past_none : (n : ℕ) (e : Option Entry) (es : List (Option Entry)) (ps : List Partition) → Stands n (e ∷ es) ps → ((p : Partition) → Contains ps p → p.number ≢ n) → (entry_slice n e ≡ []) × Stands (n + 1) es ps
+past_none n e es ps s none =
+    let up = rising_more n ps s.rising none in
+    let at : e ≡ None = s.others 0 (omega arith) (λ p is same. none p is (omega (arith, same))) in
+    (
+      ap (entry_slice n) at ∙ no_slice n,
+      record {
+        rising = up;
+        below = λ p is. (let lt = s.below p is in omega (arith, lt));
+        each = λ p is. behind n e es ps p (rising_least (n + 1) ps p up is) (s.each p is);
+        others = λ k lt free. s.others (suc k) (omega (arith, lt)) (λ p is same. free p is (omega (arith, same)));
+      },
+    )
+
+-- the first partition has it
+past_one : (n : ℕ) (e : Option Entry) (es : List (Option Entry)) (p : Partition) (ps : List Partition) → Stands n (e ∷ es) (p ∷ ps) → p.number ≡ n → (entry_slice n e ≡ slice_in p) × Stands (n + 1) es ps
+past_one n e es p ps s same =
+    let here : Contains (p ∷ ps) p = (0, omega arith, refl) in
+    let at : p.number - n ≡ 0 = omega (arith, same) in
+    let up : IsRising (n + 1) ps = subst (λ (k : ℕ). IsRising k ps) (ap (λ (k : ℕ). k + 1) same) s.rising.1 in
+    (
+      subst (λ (k : ℕ). entry_slice k e ≡ slice_in p) same (subst (λ (k : ℕ). entry_slice p.number (slice_index_or (e ∷ es) k None) ≡ slice_in p) at (s.each p here)),
+      record {
+        rising = up;
+        below = λ q is. (let lt = s.below q (contains_later p q ps is) in omega (arith, lt));
+        each = λ q is. behind n e es ps q (rising_least (n + 1) ps q up is) (s.each q (contains_later p q ps is));
+        others = λ k lt free. s.others (suc k) (omega (arith, lt)) (λ q is equal. (elim (contains_cases p q ps is) [
+          | inl first ↦ (let number = ap (λ (x : Partition). x.number) first in absurd (omega (arith, number, same, equal)))
+          | inr more ↦ free q more (omega (arith, equal))
+        ]));
+      },
+    )
+
+standing_at : (n : ℕ) (e : Option Entry) (es : List (Option Entry)) (p : Partition) (ps : List Partition) → Stands n (e ∷ es) (p ∷ ps) → ((qs : List Partition) → Stands (n + 1) es qs → entry_slices (n + 1) es ≡ flat_map slice_in qs) → (t : Bool) → nat_eq p.number n ≡ t
+    → entry_slices n (e ∷ es) ≡ flat_map slice_in (p ∷ ps)
+unfolding entry_slices
+standing_at n e es p ps s more true so =
+    let step = past_one n e es p ps s (eqb-true p.number n so) in
+    ap (λ (l : List Slice). l ++ entry_slices (n + 1) es) step.0 ∙ (ap (λ (l : List Slice). slice_in p ++ l) (more ps step.1) ∙ refl)
+standing_at n e es p ps s more false so =
+    let other = eqb-false p.number n so in
+    let up = s.rising in
+    let step = past_none n e es (p ∷ ps) s (λ q is same. (let least = rising_least p.number (p ∷ ps) q (omega arith, up.1) is in absurd (omega (arith, least, same, other, up.0)))) in
+    ap (λ (l : List Slice). l ++ entry_slices (n + 1) es) step.0 ∙ more (p ∷ ps) step.1
+
+-- their slices are the partitions'
+standing : (n : ℕ) (es : List (Option Entry)) (ps : List Partition) → Stands n es ps → entry_slices n es ≡ flat_map slice_in ps
+unfolding entry_slices
+standing n [] ps s = ap (flat_map slice_in) (sym (none_left n ps s))
+standing n (e ∷ es) [] s =
+    let step = past_none n e es [] s (λ p is. absurd (omega (arith, is.1))) in
+    ap (λ (l : List Slice). l ++ entry_slices (n + 1) es) step.0 ∙ standing (n + 1) es [] step.1
+standing n (e ∷ es) (p ∷ ps) s = standing_at n e es p ps s (standing (n + 1) es) (nat_eq p.number n) refl
