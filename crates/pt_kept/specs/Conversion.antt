@@ -20,7 +20,7 @@ use Rattle.pt_recover.specs.declared.layout.Layout.{Layout}
 use Rattle.pt_recover.specs.declared.layout.Body.{Body}
 use Rattle.pt_recover.specs.declared.layout.Body.TheVariants.{Mbr, Gpt}
 use Rattle.pt_layout.specs.Members.{label_of}
-use Rattle.pt_convert.specs.Partitions.{partition_of, primary, primaries, logical, logicals_from, partitions}
+use Rattle.pt_convert.specs.Partitions.{partition_of, primary, primaries, logical, logicals_from, partitions, HasFour}
 use Rattle.pt_convert.specs.Room.{edge, NoRoom, small}
 use Rattle.pt_convert.specs.Converted.{new_type, HasUnknown, IsAt, entry_of, guids_taken, IsGptOf, MayConvert, Converted, HasRecords}
 use Rattle.pt_convert.specs.Placed.{Placeable}
@@ -176,3 +176,131 @@ standing n (e ∷ es) [] s =
     let step = past_none n e es [] s (λ p is. absurd (omega (arith, is.1))) in
     ap (λ (l : List Slice). l ++ entry_slices (n + 1) es) step.0 ∙ standing (n + 1) es [] step.1
 standing n (e ∷ es) (p ∷ ps) s = standing_at n e es p ps s (standing (n + 1) es) (nat_eq p.number n) refl
+
+-- what is said of a type that a record's type becomes
+record NewType (kind : ℕ) (stored : List ℕ) : Type 0 where
+  slice : is_slice_kind stored ≡ nat_eq kind 0xA5
+  typed : ¬ (stored ≡ replicate 16 0)
+
+as_type : (kind code : ℕ) (stored other : List ℕ) (c : Bool) → is_slice_kind stored ≡ c → nat_eq kind 0xA5 ≡ c → type_of code ≡ Some stored → Some stored ≡ Some other → NewType kind other
+as_type kind code stored other c slice is known same =
+    let one : stored ≡ other = cc in
+    subst (NewType kind) one (record { slice = slice ∙ sym is; typed = code_typed code stored known })
+
+not_a5 : (kind k : ℕ) → (kind == k) ≡ true → nat_eq k 0xA5 ≡ false → nat_eq kind 0xA5 ≡ false
+not_a5 kind k is other = ap (λ (n : ℕ). nat_eq n 0xA5) (eqb-true kind k is) ∙ other
+
+type_of_kind : (kind : ℕ) (stored : List ℕ) → new_type kind ≡ Some stored → NewType kind stored
+type_of_kind kind stored is = by_kind (kind == 0xEF) (kind == 0x83) (kind == 0x82) (kind == 0x07) (kind == 0xA5) refl refl refl refl refl where
+  by_kind : (p q r s t : Bool) → (kind == 0xEF) ≡ p → (kind == 0x83) ≡ q → (kind == 0x82) ≡ r → (kind == 0x07) ≡ s → (kind == 0xA5) ≡ t → NewType kind stored
+  by_kind true q r s t a b c d e = as_type kind 0xEF00 _ stored false refl (not_a5 kind 0xEF a refl) refl (sym (rw a refl) ∙ is)
+  by_kind false true r s t a b c d e = as_type kind 0x8300 _ stored false refl (not_a5 kind 0x83 b refl) refl (sym (rw (a, b) refl) ∙ is)
+  by_kind false false true s t a b c d e = as_type kind 0x8200 _ stored false refl (not_a5 kind 0x82 c refl) refl (sym (rw (a, b, c) refl) ∙ is)
+  by_kind false false false true t a b c d e = as_type kind 0x0700 _ stored false refl (not_a5 kind 0x07 d refl) refl (sym (rw (a, b, c, d) refl) ∙ is)
+  by_kind false false false false true a b c d e = as_type kind 0xA500 _ stored true refl e refl (sym (rw (a, b, c, d, e) refl) ∙ is)
+  by_kind false false false false false a b c d e = let none : None ≡ Some stored = sym (rw (a, b, c, d, e) refl) ∙ is in absurd cc
+
+-- an entry that a partition becomes
+record BecomesEntry (p : Partition) (x : Option Entry) : Type 0 where
+  entry : Entry
+  is : x ≡ Some entry
+  typed : IsTyped entry
+  slice : entry_slice p.number x ≡ slice_in p
+
+entry_made : (guid : Guid) (p : Partition) (o : Option (List ℕ)) → new_type p.kind ≡ o → (new_type p.kind ≢ None) → BecomesEntry p (entry_of guid p)
+unfolding entry_slice
+entry_made guid p None is known = absurd (known is)
+entry_made guid p (Some stored) is known =
+    let type = type_of_kind p.kind stored is in
+    let e : Entry = record { kind = record { 0 = stored }; unique = guid; first = p.first; last = p.last; attributes = 0; name = replicate 36 0 } in
+    let same : entry_of guid p ≡ Some e = rw is refl in
+    record { entry = e; is = same; typed = type.typed; slice = ap (entry_slice p.number) same ∙ ap (λ (c : Bool). if c then slice_from p.number p.first p.last ∷ [] else []) type.slice }
+
+found : (ps : List Partition) (number : ℕ) → ((j : ℕ) × (p : Partition) × IsAt ps j p × (p.number ≡ number)) ⊎ ((p : Partition) → Contains ps p → p.number ≢ number)
+found [] number = inr (λ p is. absurd (omega (arith, is.1)))
+found (q ∷ ps) number = found_at q ps number (found ps number) (nat_eq q.number number) refl where
+  found_at : (q : Partition) (ps : List Partition) (number : ℕ) → ((j : ℕ) × (p : Partition) × IsAt ps j p × (p.number ≡ number)) ⊎ ((p : Partition) → Contains ps p → p.number ≢ number) → (t : Bool) → nat_eq q.number number ≡ t
+      → ((j : ℕ) × (p : Partition) × IsAt (q ∷ ps) j p × (p.number ≡ number)) ⊎ ((p : Partition) → Contains (q ∷ ps) p → p.number ≢ number)
+  found_at q ps number more true so = inl (0, q, (omega arith, refl), eqb-true q.number number so)
+  found_at q ps number (inl (j, p, at, same)) false so = inl (suc j, p, later q p ps j at, same)
+  found_at q ps number (inr none) false so = inr (λ p is. (elim (contains_cases q p ps is) [
+    | inl here ↦ (λ e. eqb-false q.number number so (ap (λ (x : Partition). x.number) here ∙ e))
+    | inr behind ↦ none p behind
+  ]))
+
+no_guid : Guid
+no_guid = record { 0 = [] }
+
+-- each partition's entry in the table
+made_entry : (b n : ℕ) (guids : List Guid) (ps : List Partition) (t : Table) (j : ℕ) (p : Partition) → IsGptOf b n guids ps t → 1 + length ps ≤ length guids → ¬ HasUnknown ps → IsAt ps j p → BecomesEntry p (slice_index_or t.entries (p.number - 1) None)
+made_entry b n guids ps t j p is enough known at =
+    let guid = slice_index_or guids (1 + j) no_guid in
+    let own : IsAt guids (1 + j) guid = at_place guids (1 + j) no_guid (omega (arith, at.0, enough)) in
+    subst (BecomesEntry p) (sym (is.each j p guid at own)) (entry_made guid p (new_type p.kind) refl (λ none. known (p, (j, at.0, at.1), none)))
+
+all_typed : (b n : ℕ) (guids : List Guid) (ps : List Partition) (t : Table) → IsGptOf b n guids ps t → 1 + length ps ≤ length guids → ¬ HasUnknown ps → AllTyped t.entries
+all_typed b n guids ps t is enough known k lt = by_number (found ps (k + 1)) where
+  at : (k + 1) - 1 ≡ k
+  at = omega arith
+  by_number : ((j : ℕ) × (p : Partition) × IsAt ps j p × (p.number ≡ k + 1)) ⊎ ((p : Partition) → Contains ps p → p.number ≢ k + 1) → IfSome (slice_index_or t.entries k None) IsTyped
+  by_number (inl (j, p, stands, same)) =
+      let made = made_entry b n guids ps t j p is enough known stands in
+      let place : p.number - 1 ≡ k = omega (arith, same) in
+      let entry : slice_index_or t.entries k None ≡ Some made.entry = sym (ap (λ (i : ℕ). slice_index_or t.entries i None) place) ∙ made.is in
+      subst (λ (x : Option Entry). IfSome x IsTyped) (sym entry) made.typed
+  by_number (inr none) =
+      let free : slice_index_or t.entries k None ≡ None = ap (λ (i : ℕ). slice_index_or t.entries i None) (sym at) ∙ is.others (k + 1) (omega arith) (omega (arith, lt, is.count)) none in
+      subst (λ (x : Option Entry). IfSome x IsTyped) (sym free) tt
+
+table_stands : (b n : ℕ) (guids : List Guid) (ps : List Partition) (t : Table) → IsGptOf b n guids ps t → 1 + length ps ≤ length guids → ¬ HasUnknown ps → Placeable n ps → Stands 1 t.entries ps
+table_stands b n guids ps t is enough known place = record {
+  rising = rising_of 1 ps place.low place.rising;
+  below = λ p at. (let h = place.high at.0 p (at.1, at.2) in omega (arith, h, is.count));
+  each = λ p at. (made_entry b n guids ps t at.0 p is enough known (at.1, at.2)).slice;
+  others = λ k lt free. (
+    let same : (1 + k) - 1 ≡ k = omega arith in
+    sym (ap (λ (i : ℕ). slice_index_or t.entries i None) same) ∙ is.others (1 + k) (omega arith) (omega (arith, lt, is.count)) free);
+}
+
+has_room : (b : ℕ) (o : Layout) → ¬ NoRoom b o → HasRoom b o.sectors
+has_room b o room = elim (cases_lt o.sectors (2 * array_len b + 4)) as (λ _. HasRoom b o.sectors) [
+  | inl less ↦ absurd (room (small (λ more. omega (arith, less, more))))
+  | inr more ↦ more
+]
+
+-- the slices of a table and of an MBR, with sectors of either size
+slices_by_size : (b : ℕ) (t : Table) (rs : List (Option Record)) (chain : List Ebr) → entry_slices 1 t.entries ≡ primary_slices 1 rs ++ logical_slices 5 chain → (d : Bool) → nat_eq b 512 ≡ d → slices_of b (Gpt t) ≡ slices_of b (Mbr rs chain)
+slices_by_size b t rs chain same true large = slices_512 b t true large ∙ (same ∙ sym (slices_mbr b rs chain true large))
+slices_by_size b t rs chain same false small_sectors = slices_512 b t false small_sectors ∙ sym (slices_mbr b rs chain false small_sectors)
+
+-- `g`
+pub keeps_converted : (b : ℕ) (guids : List Guid) (o p : Layout) → Shaped b o → Converted b guids o p → Keeps b o.sectors (Some o) p
+keeps_converted b guids o p shaped c = subst (λ (q : Layout). Keeps b o.sectors (Some o) q) (sym c.made) (by_body o.body refl) where
+  t : Table
+  t = c.table
+  of_mbr : (rs : List (Option Record)) (chain : List Ebr) → o.body ≡ Mbr rs chain → Keeps b o.sectors (Some o) (record { sectors = o.sectors; body = Gpt t; labels = o.labels })
+  of_mbr rs chain is =
+      let ps = partitions o.body in
+      let ps_is : ps ≡ partitions (Mbr rs chain) = ap partitions is in
+      let fits = body_fits b o rs chain shaped is in
+      let room = has_room b o c.may.room in
+      let place = placed b o (subst HasFour (sym is) fits.four) c.may.room in
+      let stands = table_stands b o.sectors guids ps t c.is_table c.may.enough c.may.known place in
+      let same : entry_slices 1 t.entries ≡ primary_slices 1 rs ++ logical_slices 5 chain = (standing 1 t.entries ps stands ∙ (ap (flat_map slice_in) ps_is ∙ (flat_map-append slice_in (primaries 1 rs) (logicals_from 5 chain)
+        ∙ (ap (λ (l : List Slice). l ++ flat_map slice_in (logicals_from 5 chain)) (all_primaries 1 rs) ∙ ap (λ (l : List Slice). primary_slices 1 rs ++ l) (all_logicals 5 chain))))) in
+      let slices = slices_by_size b t rs chain same (nat_eq b 512) refl in
+      keeps_gpt b o t o.labels
+      (record {
+        room = room;
+        some = omega (arith, c.is_table.count);
+        most = omega (arith, c.is_table.count);
+        low = omega (arith, c.is_table.first);
+        order = omega (arith, c.is_table.first, c.is_table.last, room);
+        high = omega (arith, c.is_table.last);
+        typed = all_typed b o.sectors guids ps t c.is_table c.may.enough c.may.known;
+      })
+      (subst (λ (l : List Slice). AreLabelsOf l o.labels) (sym slices) (old_labels b o rs chain shaped is))
+      (λ s there. same_slice b o rs chain s s (label_of o.labels s.number) is (subst (λ (l : List Slice). Contains l s) slices there) refl refl refl)
+  by_body : (y : Body) → o.body ≡ y → Keeps b o.sectors (Some o) (record { sectors = o.sectors; body = Gpt t; labels = o.labels })
+  by_body (Mbr rs chain) is = of_mbr rs chain is
+  by_body (Gpt u) is = absurd (subst HasRecords is c.may.is_mbr)
