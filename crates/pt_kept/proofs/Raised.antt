@@ -1,18 +1,18 @@
 -- The slices of a chain's logical partitions, when one more comes.
-use Rattle.std.specs.Prelude.{◌≡◌, ◌≢◌, ◌<◌, ◌≤◌, ◌⊎◌, ◌+◌, ◌-◌, ◌^◌, ◌++◌, ◌∷◌, [], ℕ, zero, suc, Bool, true, false, List, filter, map, length, slice_index_or, slice_set, Option, Some, None, is_some, if◌then◌else◌, nat_eq, nat_lt, ◌&&◌}
+use Rattle.std.specs.Prelude.{◌≡◌, ◌<◌, ◌≤◌, ◌+◌, ◌-◌, ◌^◌, ◌++◌, ◌∷◌, [], ℕ, zero, suc, List, map, length, slice_index_or, slice_set, Option, Some, None, if◌then◌else◌, nat_lt}
 use Rattle.std.specs.List.{insert}
-use Rattle.std.proofs.Common.{refl, sym, ap, subst, ◌∙◌, inl, inr, arith, append_assoc}
-use Rattle.std.proofs.lemmas.Bool.{cases_lt, lt-ltb, le-ltb}
+use Rattle.std.proofs.Common.{refl, sym, ap, ◌∙◌, arith, append_assoc}
+use Rattle.std.proofs.lemmas.Bool.{lt-ltb, le-ltb}
 use Rattle.std.proofs.lemmas.List.{map-append}
 use Rattle.std.proofs.lemmas.List.Elements.{filter-append}
 use Rattle.pt_mbr.specs.declared.record.Record.{Record}
 use Rattle.pt_mbr.specs.declared.ebr.Ebr.{Ebr}
 use Rattle.pt_recover.specs.Labels.{logical_slice, next_number, logical_slices}
 use Rattle.pt_recover.specs.declared.layout.Slice.{Slice}
-use Rattle.pt_kept.specs.Lists.{slices_by}
-use Rattle.pt_kept.specs.Entries.{is_below, is_above, around}
-use Rattle.pt_kept.specs.Order.{IsAscending, logicals_ascend}
-use Rattle.pt_kept.specs.Chain.{AreBelow, below_logical, ascending_kept, ascending_gone, by_below, none_below, renumbered, map_below, Moves, chain_moved, number_by, number_least, next_of, next_most, emptied}
+use Rattle.pt_kept.proofs.Lists.{slices_by}
+use Rattle.pt_kept.proofs.Entries.{is_below, is_above, around}
+use Rattle.pt_kept.proofs.Order.{logicals_ascend}
+use Rattle.pt_kept.proofs.Chain.{AreBelow, below_logical, ascending_kept, ascending_gone, by_below, none_below, renumbered, map_below, Moves, chain_moved, number_by, number_least, next_of, next_most, emptied}
 
 -- the greatest number of 64 bits
 abbrev pub greatest : ℕ
@@ -36,11 +36,11 @@ slices_raised k ss = map (renumbered (raise k)) ss
 pub around_low : (k top : ℕ) (new ss ts : List Slice) → top ≤ k → AreBelow top ss → around k new (ss ++ ts) ≡ ss ++ around k new ts
 around_low k top new ss ts le are =
     let low : slices_by (is_below k) (ss ++ ts) ≡ ss ++ slices_by (is_below k) ts =
-        filter-append (λ (s : Slice). is_below k s.number) ss ts
-        ∙ ap (λ (l : List Slice). l ++ slices_by (is_below k) ts) (by_below (is_below k) top ss (λ m lt. lt-ltb m k (omega (arith, lt, le))) are) in
+    filter-append (λ (s : Slice). is_below k s.number) ss ts
+    ∙ ap (λ (l : List Slice). l ++ slices_by (is_below k) ts) (by_below (is_below k) top ss (λ m lt. lt-ltb m k (omega (arith, lt, le))) are) in
     let high : slices_by (is_above k) (ss ++ ts) ≡ slices_by (is_above k) ts =
-        filter-append (λ (s : Slice). is_above k s.number) ss ts
-        ∙ ap (λ (l : List Slice). l ++ slices_by (is_above k) ts) (none_below (is_above k) top ss (λ m lt. le-ltb k m (omega (arith, lt, le))) are) in
+    filter-append (λ (s : Slice). is_above k s.number) ss ts
+    ∙ ap (λ (l : List Slice). l ++ slices_by (is_above k) ts) (none_below (is_above k) top ss (λ m lt. le-ltb k m (omega (arith, lt, le))) are) in
     ap (λ (l : List Slice). l ++ (new ++ slices_by (is_above k) (ss ++ ts))) low
     ∙ (ap (λ (l : List Slice). (ss ++ slices_by (is_below k) ts) ++ (new ++ l)) high ∙ append_assoc ss (slices_by (is_below k) ts) (new ++ slices_by (is_above k) ts))
 
@@ -48,8 +48,8 @@ around_low k top new ss ts le are =
 pub raised_low : (k top : ℕ) (new ss ts : List Slice) → top ≤ k → AreBelow top ss → around k new (slices_raised k (ss ++ ts)) ≡ ss ++ around k new (slices_raised k ts)
 raised_low k top new ss ts le are =
     let same : slices_raised k (ss ++ ts) ≡ ss ++ slices_raised k ts =
-        map-append (renumbered (raise k)) ss ts
-        ∙ ap (λ (l : List Slice). l ++ slices_raised k ts) (map_below (raise k) top ss (λ m lt. raise_below k m (omega (arith, lt, le))) are) in
+    map-append (renumbered (raise k)) ss ts
+    ∙ ap (λ (l : List Slice). l ++ slices_raised k ts) (map_below (raise k) top ss (λ m lt. raise_below k m (omega (arith, lt, le))) are) in
     ap (around k new) same ∙ around_low k top new ss (slices_raised k ts) le are
 
 -- those behind it move up
@@ -61,8 +61,8 @@ raised_high k new es few =
     let high : slices_by (is_above k) (logical_slices (k + 1) es) ≡ logical_slices (k + 1) es = ascending_kept (is_above k) (k + 1) (logical_slices (k + 1) es) (λ m le. lt-ltb k m (omega (arith, le))) order in
     ap (around k new) up
     ∙ (ap (λ (l : List Slice). l ++ (new ++ slices_by (is_above k) (logical_slices (k + 1) es))) low ∙ ap (λ (l : List Slice). new ++ l) high) where
-  moved : Moves (raise k) k (k + 1) greatest
-  moved i lt = let at = raise_above k (k + i) (omega arith) lt in omega (arith, at)
+      moved : Moves (raise k) k (k + 1) greatest
+      moved i lt = let at = raise_above k (k + i) (omega arith) lt in omega (arith, at)
 
 -- one more behind an extended boot record, which has a number below it or none
 past_one : (n k : ℕ) (new : List Slice) (e : Ebr) (ts : List Slice) (o : Option Record) → e.logical ≡ o → next_number n e ≤ k → around k new (slices_raised k (logical_slice n e ++ ts)) ≡ logical_slice n e ++ around k new (slices_raised k ts)
@@ -80,7 +80,7 @@ chain_filled n k x r [] lt few none has = absurd (omega (arith, lt))
 chain_filled n zero x r (e ∷ es) lt few none has =
     let next : next_number n x ≡ n + 1 = next_of n x (Some r) has in
     let old : logical_slice n e ++ logical_slices (next_number n e) es ≡ logical_slices n es =
-        ap (λ (l : List Slice). l ++ logical_slices (next_number n e) es) (emptied n e (none e)) ∙ ap (λ (m : ℕ). logical_slices m es) (next_of n e None (none e)) in
+    ap (λ (l : List Slice). l ++ logical_slices (next_number n e) es) (emptied n e (none e)) ∙ ap (λ (m : ℕ). logical_slices m es) (next_of n e None (none e)) in
     ap (λ (m : ℕ). logical_slice n x ++ logical_slices m es) next
     ∙ sym (ap (λ (l : List Slice). around n (logical_slice n x) (slices_raised n l)) old ∙ raised_high n (logical_slice n x) es (omega (arith, few)))
 chain_filled n (suc k) x r (e ∷ es) lt few none has =

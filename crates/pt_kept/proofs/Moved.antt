@@ -1,18 +1,18 @@
 -- Labels that move with the numbers of their slices.
-use Rattle.std.specs.Prelude.{◌≡◌, ◌≢◌, ◌<◌, ◌≤◌, ◌⊎◌, ◌+◌, ◌-◌, ◌^◌, ◌++◌, ◌∷◌, [], ℕ, zero, suc, Bool, true, false, List, filter, map, length, slice_index_or, slice_set, Option, Some, None, Contains, is_some, if◌then◌else◌, nat_eq, nat_lt, ◌&&◌}
-use Rattle.std.proofs.Common.{refl, sym, ap, subst, ◌∙◌, inl, inr, arith, append_assoc}
-use Rattle.std.proofs.lemmas.Bool.{cases_lt, eqb-true, eqb-false, lt-ltb, le-ltb, ltb-true, ltb-false, true≢false}
+use Rattle.std.specs.Prelude.{◌≡◌, ◌≢◌, ◌<◌, ◌≤◌, ◌⊎◌, ◌+◌, ◌-◌, ◌++◌, ◌∷◌, [], ℕ, Bool, true, false, List, map, length, Contains, nat_eq, nat_lt}
+use Rattle.std.proofs.Common.{refl, sym, ap, subst, ◌∙◌, inl, inr, arith}
+use Rattle.std.proofs.lemmas.Bool.{cases_lt, eqb-true, eqb-false, lt-ltb, le-ltb, true≢false}
 use Rattle.pt_bsd.specs.declared.label.Label.{Label}
 use Rattle.pt_recover.specs.declared.layout.Slice.{Slice}
 use Rattle.pt_recover.specs.declared.layout.Labelled.{Labelled}
 use Rattle.pt_layout.specs.Members.{label_of}
 use Rattle.pt_labels.specs.Lists.{labelled, without_label, lowered_as, lowered, raised_as, raised}
 use Rattle.pt_shape.specs.Shape.{FitsLabel, AreLabelsOf}
-use Rattle.pt_kept.specs.Lists.{slices_by, labels_by, filter_in, filter_out, are_filter, label_of_by, label_of_head, label_of_tail, contains_cases, contains_later, contains_filter}
-use Rattle.pt_kept.specs.Entries.{is_not, is_not_true, is_not_false, is_below, is_above}
-use Rattle.pt_kept.specs.Order.{IsAscending, ascend_from}
-use Rattle.pt_kept.specs.Chain.{AreBelow, ascending_kept, ascending_gone, renumbered, lower, lower_above, lower_below, slices_lowered}
-use Rattle.pt_kept.specs.Raised.{greatest, raise, raise_below, raise_above, slices_raised}
+use Rattle.pt_kept.proofs.Lists.{slices_by, filter_in, filter_out, are_filter, label_of_by, label_of_head, label_of_tail, contains_cases, contains_later, contains_filter}
+use Rattle.pt_kept.proofs.Entries.{is_not, is_not_true, is_not_false, is_below, is_above}
+use Rattle.pt_kept.proofs.Order.{IsAscending, ascend_from}
+use Rattle.pt_kept.proofs.Chain.{AreBelow, ascending_kept, ascending_gone, renumbered, lower, lower_above, lower_below, slices_lowered}
+use Rattle.pt_kept.proofs.Raised.{greatest, raise, raise_below, raise_above, slices_raised}
 
 -- a label under another number
 abbrev pub relabelled : (ℕ → ℕ) → Labelled → Labelled
@@ -75,10 +75,10 @@ pub label_of_lowered : (k m : ℕ) (ls : List Labelled) → m ≢ k → label_of
 label_of_lowered k m ls other =
     ap (λ (l : List Labelled). label_of l (lower k m)) (lowered_is k ls)
     ∙ (label_of_moved (lower k) (without_label k ls) m apart ∙ label_of_by (is_not k) m ls (is_not_true k m other)) where
-  apart : (x : Labelled) → Contains (without_label k ls) x → lower k x.number ≡ lower k m → x.number ≡ m
-  apart x is same =
-      let kept = contains_filter (λ (y : Labelled). is_not k y.number) x ls is in
-      lower_one k x.number m (λ e. true≢false (sym kept.1 ∙ is_not_false k x.number e)) other (cases_lt x.number k) (cases_lt m k) same
+      apart : (x : Labelled) → Contains (without_label k ls) x → lower k x.number ≡ lower k m → x.number ≡ m
+      apart x is same =
+          let kept = contains_filter (λ (y : Labelled). is_not k y.number) x ls is in
+          lower_one k x.number m (λ e. true≢false (sym kept.1 ∙ is_not_false k x.number e)) other (cases_lt x.number k) (cases_lt m k) same
 
 number_here : (top : ℕ) (s : Slice) (l : Label) (rest : List Labelled) (x : Labelled) → s.number < top → (Contains rest x → x.number < top) → (labelled s.number l ≡ x) ⊎ Contains rest x → x.number < top
 number_here top s l rest x below more (inl same) = let n : s.number ≡ x.number = ap (λ (y : Labelled). y.number) same in omega (arith, n, below)
@@ -129,9 +129,10 @@ pub raised_ascend : (k low : ℕ) (ss : List Slice) → low < greatest → AreBe
 raised_ascend k low [] small below up = tt
 raised_ascend k low (s ∷ ss) small below up =
     let n = s.number in
-    let first : n + 1 < greatest = omega (arith, below.0) in
-    (raise_order k low n small (omega (arith, first)) up.0 (cases_lt low k) (cases_lt n k),
-    ascend_from (raise k n + 1) (raise k (n + 1)) (slices_raised k ss) (raise_step k n first (cases_lt n k) (cases_lt (n + 1) k)) (raised_ascend k (n + 1) ss first below.1 up.1))
+    let first : n + 1 < greatest = omega (arith, below.0) in (
+      raise_order k low n small (omega (arith, first)) up.0 (cases_lt low k) (cases_lt n k),
+      ascend_from (raise k n + 1) (raise k (n + 1)) (slices_raised k ss) (raise_step k n first (cases_lt n k) (cases_lt (n + 1) k)) (raised_ascend k (n + 1) ss first below.1 up.1),
+    )
 
 -- no slice has the number
 abbrev pub NoneHas : ℕ → List Slice → Type 0

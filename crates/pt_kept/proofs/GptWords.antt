@@ -1,7 +1,7 @@
 -- What the words of a GPT keep.
-use Rattle.std.specs.Prelude.{◌≡◌, ◌≢◌, ◌<◌, ◌≤◌, ◌⊎◌, ◌+◌, ◌-◌, ◌*◌, ◌^◌, ◌++◌, ◌∷◌, [], ◌==◌, ℕ, zero, suc, Bool, true, false, List, length, replicate, slice_index, slice_index_or, slice_set, Option, Some, None, IfSome, Contains, if◌then◌else◌, nat_eq, ◌&&◌}
+use Rattle.std.specs.Prelude.{◌≡◌, ◌≢◌, ◌<◌, ◌≤◌, ◌+◌, ◌-◌, ◌*◌, ◌^◌, [], ◌==◌, ℕ, Bool, true, false, List, length, replicate, slice_index, Option, Some, None, IfSome, Contains, nat_eq, ◌&&◌}
 use Rattle.std.proofs.Common.{refl, sym, ap, subst, ◌∙◌, inl, inr, arith}
-use Rattle.std.proofs.lemmas.Bool.{cases_lt, true≢false, eqb-true, eqb-false}
+use Rattle.std.proofs.lemmas.Bool.{cases_lt, true≢false}
 use Rattle.std.proofs.lemmas.List.{length-replicate, get_or-replicate}
 use Rattle.pt_guid.specs.Codes.{type_of, efi_system, linux_filesystem, linux_swap, basic_data, freebsd, freebsd_ufs}
 use Rattle.pt_guid.specs.Mixed.{mixed}
@@ -11,24 +11,25 @@ use Rattle.pt_gpt.specs.Entry.{IsTyped}
 use Rattle.pt_gpt.specs.declared.entry.Entry.{Entry}
 use Rattle.pt_gpt.specs.declared.table.Table.{Table}
 use Rattle.pt_recover.specs.Gpt.{HasRoom}
-use Rattle.pt_recover.specs.Labels.{is_slice_kind, entry_slice, entry_slices, slices_of}
+use Rattle.pt_recover.specs.Labels.{is_slice_kind, entry_slice, slices_of}
 use Rattle.pt_recover.specs.declared.layout.Slice.{Slice}
+use Rattle.pt_bsd.specs.Empty.{empty_of}
+use Rattle.pt_labels.specs.Lists.{with_new_label}
+use Rattle.pt_recover.specs.declared.layout.Labelled.{Labelled}
 use Rattle.pt_recover.specs.declared.layout.Layout.{Layout}
-use Rattle.pt_recover.specs.declared.layout.Body.{Body}
-use Rattle.pt_recover.specs.declared.layout.Body.TheVariants.{Mbr, Gpt}
+use Rattle.pt_recover.specs.declared.layout.Body.TheVariants.{Gpt}
 use Rattle.pt_words.specs.declared.word.Code.{Code}
 use Rattle.pt_words.specs.declared.word.Code.TheVariants.{Two, Four}
-use Rattle.pt_space.specs.declared.space.Run.{Run}
 use Rattle.pt_space.specs.Laws.{placed_is_free_lem}
-use Rattle.pt_edit.specs.Changes.{HasEntry, Changed, TableMade, DiskSet, Extended, edge, with_entry, with_body}
+use Rattle.pt_edit.specs.Changes.{HasEntry, Changed, DiskSet, Extended, edge, with_entry, with_body}
 use Rattle.pt_edit.specs.Spots.{is_slice, entry_type, EntryTyped, EntryDeleted}
-use Rattle.pt_edit.specs.NewEntry.{IsUnused, TakesNumber, given, lowest, new_type, table_area, IsWrongSize, run_length, new_entry_of, new_labels, with_new_entry, EntryMade}
+use Rattle.pt_edit.specs.NewEntry.{IsUnused, TakesNumber, given, lowest, new_type, table_area, run_length, new_entry_of, new_labels, with_new_entry, EntryMade}
 use Rattle.pt_edit.specs.Edited.{empty_gpt}
 use Rattle.pt_edit.specs.declared.asked.Asked.{Asked}
-use Rattle.pt_shape.specs.Shape.{FitsTable, FitsBody, AreLabelsOf, Shaped}
+use Rattle.pt_shape.specs.Shape.{FitsTable, AreLabelsOf, Shaped}
 use Rattle.pt_shape.specs.Keeps.{Keeps}
-use Rattle.pt_kept.specs.Entries.{many, entry_numbered, entries_many, many_none}
-use Rattle.pt_kept.specs.Tables.{keeps_table, keeps_small, keeps_entry, keeps_without, keeps_leaf, keeps_slice, table_fits, slices_512, no_record, no_ebr}
+use Rattle.pt_kept.proofs.Entries.{entry_numbered, entries_many, many_none}
+use Rattle.pt_kept.proofs.Tables.{keeps_table, keeps_small, keeps_entry, keeps_without, keeps_leaf, keeps_slice, table_fits, slices_512, no_record, no_ebr}
 
 -- no type GUID of a code is zero
 first_byte : (stored kind : List ℕ) → slice_index stored 0 ≢ 0 → Some stored ≡ Some kind → ¬ (kind ≡ replicate 16 0)
@@ -90,7 +91,7 @@ keeps_extended b o p shaped (t, is, made) =
     let fits = table_fits b o t shaped is in
     subst (λ (q : Layout). Keeps b o.sectors (Some o) q) (sym made)
     (keeps_table b o t (record t { last = o.sectors - edge b }) shaped is
-      (record { room = fits.room; some = fits.some; most = fits.most; low = fits.low; order = omega (arith, fits.order, fits.high); high = omega arith; typed = fits.typed }) refl)
+    (record { room = fits.room; some = fits.some; most = fits.most; low = fits.low; order = omega (arith, fits.order, fits.high); high = omega arith; typed = fits.typed }) refl)
 
 plain_slice : (b n : ℕ) (e : Entry) (c : Bool) → nat_eq b 512 ≡ true → is_slice b e.kind.0 ≡ false → is_slice_kind e.kind.0 ≡ c → entry_slice n (Some e) ≡ entry_slice n None
 unfolding entry_slice
@@ -102,10 +103,13 @@ pub keeps_typed : (b number : ℕ) (code : Code) (o p : Layout) (t : Table) → 
 keeps_typed b number code o p t shaped is x = subst (λ (q : Layout). Keeps b o.sectors (Some o) q) (sym x.made) (by_size (nat_eq b 512) refl) where
   new : Entry
   new = record x.entry { kind = record { 0 = x.kind } }
+
   u : Table
   u = with_entry t number new
+
   typed : IsTyped new
   typed = type_typed code x.kind x.known
+
   by_size : (c : Bool) → nat_eq b 512 ≡ c → Keeps b o.sectors (Some o) (with_body o (Gpt u))
   by_size true large =
       keeps_entry b number o t (Some new) shaped is x.is_entry.first x.is_entry.last typed
@@ -133,27 +137,34 @@ pub keeps_made : (b : ℕ) (a : Asked) (fresh : List Guid) (o p : Layout) (t : T
 keeps_made b a fresh o p t small shaped is x = subst (λ (q : Layout). Keeps b o.sectors (Some o) q) (sym x.made) (by_slice (is_slice b x.kind) refl) where
   e : Entry
   e = new_entry_of x.kind x.guid x.run
+
   fits : FitsTable b o.sectors t
   fits = table_fits b o t shaped is
+
   unused : IsUnused t x.number
   unused = unused_of t a.number x.number x.place.takes
+
   typed : IsTyped e
   typed = new_typed a.code x.kind x.place.known
+
   some : x.run.first ≤ x.run.last
   some = (placed_is_free_lem (table_area t) a.alignment a.start a.end x.run x.place.placed).some
+
   top : x.run.last ≤ t.last
   top = let free = placed_is_free_lem (table_area t) a.alignment a.start a.end x.run x.place.placed in (free.free x.run.last (free.some, omega arith)).0.1
+
   room : 2 * array_len b + 4 ≤ o.sectors
   room = fits.room
+
   by_slice : (c : Bool) → is_slice b x.kind ≡ c → Keeps b o.sectors (Some o) (with_new_entry b t x.number x.kind x.guid x.run o)
   by_slice true it =
       let long : x.run.first < x.run.last = elim (cases_lt (run_length x.run) 2) as (λ _. x.run.first < x.run.last) [ inl short ↦ absurd (x.size (record { is_slice = it; wrong = inl short })) | inr enough ↦ omega (arith, enough) ] in
-      let labels : new_labels b x.number x.kind x.run o.labels ≡ _ = rw it refl in
-      subst (λ (l : List _). Keeps b o.sectors (Some o) (record { sectors = o.sectors; body = Gpt (with_entry t x.number e); labels = l })) (sym labels)
+      let labels : new_labels b x.number x.kind x.run o.labels ≡ with_new_label x.number (empty_of (run_length x.run)) o.labels = rw it refl in
+      subst (λ (l : List Labelled). Keeps b o.sectors (Some o) (record { sectors = o.sectors; body = Gpt (with_entry t x.number e); labels = l })) (sym labels)
       (keeps_slice b x.number o t e shaped is unused.first unused.last typed unused.none (and_left (nat_eq b 512) (is_slice_kind x.kind) it) (and_right (nat_eq b 512) (is_slice_kind x.kind) it) long (omega (arith, top, fits.high, room)) small)
   by_slice false it =
       let labels : new_labels b x.number x.kind x.run o.labels ≡ o.labels = rw it refl in
-      subst (λ (l : List _). Keeps b o.sectors (Some o) (record { sectors = o.sectors; body = Gpt (with_entry t x.number e); labels = l })) (sym labels)
+      subst (λ (l : List Labelled). Keeps b o.sectors (Some o) (record { sectors = o.sectors; body = Gpt (with_entry t x.number e); labels = l })) (sym labels)
       (keeps_leaf b x.number o t e shaped is unused.first unused.last typed unused.none it)
 
 none_typed : (k : ℕ) → AllTyped (replicate k None)
@@ -177,8 +188,10 @@ keeps_empty b n guid old room = record {
 } where
   t : Table
   t = record { disk = guid; first = edge b; last = n - edge b; entries = replicate 128 None }
+
   by_size : (c : Bool) → nat_eq b 512 ≡ c → slices_of b (Gpt t) ≡ []
   by_size true large = slices_512 b t true large ∙ (entries_many 1 (replicate 128 None) ∙ many_none entry_slice entry_numbered 1 128)
   by_size false small = slices_512 b t false small
+
   none : slices_of b (Gpt t) ≡ []
   none = by_size (nat_eq b 512) refl

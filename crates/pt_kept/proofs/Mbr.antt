@@ -1,32 +1,27 @@
 -- What edits of an MBR keep.
-use Rattle.std.specs.Prelude.{◌≡◌, ◌≢◌, ◌<◌, ◌≤◌, ◌⊎◌, ◌+◌, ◌-◌, ◌++◌, ◌∷◌, [], ℕ, zero, suc, Bool, true, false, List, map, take, count_by, length, slice_index_or, slice_set, Option, Some, None, Contains, is_some, if◌then◌else◌, nat_eq, nat_lt, ◌&&◌, ◌||◌}
+use Rattle.std.specs.Prelude.{◌≡◌, ◌<◌, ◌≤◌, ◌⊎◌, ◌+◌, ◌++◌, ◌∷◌, [], ℕ, zero, suc, Bool, true, false, List, map, take, length, slice_index_or, slice_set, Option, Some, None, Contains, is_some, if◌then◌else◌, nat_eq}
 use Rattle.std.proofs.Common.{refl, sym, ap, subst, ◌∙◌, inl, inr, arith}
-use Rattle.std.proofs.lemmas.Bool.{cases_lt, eqb-true, eqb-false, true≢false}
 use Rattle.std.proofs.lemmas.List.{length-set}
 use Rattle.std.proofs.lemmas.List.Sums.{sum_by-cons}
-use Rattle.pt_sector.specs.Sectors.{Span, InSpan}
+use Rattle.pt_sector.specs.Sectors.{Span}
 use Rattle.pt_sector.specs.declared.address.Lba.{Lba}
 use Rattle.pt_mbr.specs.Chain.{IsUpward, lba}
-use Rattle.pt_mbr.specs.Record.{IsExtendedKind}
 use Rattle.pt_mbr.specs.declared.record.Record.{Record}
 use Rattle.pt_mbr.specs.declared.ebr.Ebr.{Ebr}
-use Rattle.pt_recover.specs.Mbr.{extended_of, extent_of, is_extended}
-use Rattle.pt_recover.specs.Labels.{record_slice, primary_slices, logical_slice, next_number, logical_slices, slices_of}
+use Rattle.pt_recover.specs.Mbr.{extended_of, extent_of}
+use Rattle.pt_recover.specs.Labels.{primary_slices, next_number, logical_slices, slices_of}
 use Rattle.pt_recover.specs.declared.layout.Slice.{Slice}
 use Rattle.pt_recover.specs.declared.layout.Labelled.{Labelled}
 use Rattle.pt_recover.specs.declared.layout.Layout.{Layout}
 use Rattle.pt_recover.specs.declared.layout.Body.{Body}
-use Rattle.pt_recover.specs.declared.layout.Body.TheVariants.{Mbr, Gpt}
-use Rattle.pt_layout.specs.Counts.{used_before, no_ebr}
+use Rattle.pt_recover.specs.declared.layout.Body.TheVariants.{Mbr}
+use Rattle.pt_layout.specs.Counts.{used_before}
 use Rattle.pt_layout.specs.Members.{label_of}
-use Rattle.pt_labels.specs.Lists.{lowered}
-use Rattle.pt_shape.specs.Shape.{FitsRecord, FitsLogical, Linked, FitsChain, FitsExtended, FitsMbr, FitsBody, AreLabelsOf, Shaped}
-use Rattle.pt_shape.specs.Keeps.{LabelStays, IsOldLabel, IsNewLabel, IsTyped, IsOldRecord, IsMadeRecord, IsOldLogical, IsMadeLogical, WasMbr, IsMbrBody, Keeps, records_in, chain_in}
+use Rattle.pt_shape.specs.Shape.{FitsLogical, Linked, FitsChain, FitsExtended, FitsMbr, FitsBody, AreLabelsOf, Shaped}
+use Rattle.pt_shape.specs.Keeps.{LabelStays, IsOldLabel, IsNewLabel, IsTyped, IsMadeRecord, IsMadeLogical, IsMbrBody, Keeps, records_in, chain_in}
 use Rattle.pt_shape.specs.Laws.{label_stays_refl_lem}
-use Rattle.pt_kept.specs.Lists.{slices_by, contains_cases, contains_later, contains_filter}
-use Rattle.pt_kept.specs.Entries.{is_not, is_not_false}
-use Rattle.pt_kept.specs.Chain.{primaries_below, renumbered, number_by, number_least, next_of, chain_same, chain_lowered, lower, slices_lowered, lowered_append, lowered_low}
-use Rattle.pt_kept.specs.Moved.{are_lowered, label_of_lowered}
+use Rattle.pt_kept.proofs.Lists.{contains_cases, contains_later}
+use Rattle.pt_kept.proofs.Chain.{number_by, next_of}
 
 -- an MBR with these records, this chain and these labels
 abbrev pub mbr_of : Layout → List (Option Record) → List Ebr → List Labelled → Layout
@@ -74,8 +69,11 @@ old_labels b o rs chain shaped is = subst (λ (y : Body). AreLabelsOf (slices_of
 pub same_slice : (b : ℕ) (o : Layout) (rs : List (Option Record)) (chain : List Ebr) (s was : Slice) (l : Option _) → o.body ≡ Mbr rs chain → Contains (slices_of b (Mbr rs chain)) was → was.first ≡ s.first → was.len ≡ s.len
     → label_of o.labels was.number ≡ l → IsOldLabel b (Some o) s l ⊎ IsNewLabel s l
 same_slice b o rs chain s was l is stands first len label =
-    inl (was, record { stands = subst (λ (y : Body). Contains (slices_of b y) was) (sym is) stands; first = first; len = len },
-      subst (LabelStays (label_of o.labels was.number)) label (label_stays_refl_lem (label_of o.labels was.number)))
+    inl (
+      was,
+      record { stands = subst (λ (y : Body). Contains (slices_of b y) was) (sym is) stands; first = first; len = len },
+      subst (LabelStays (label_of o.labels was.number)) label (label_stays_refl_lem (label_of o.labels was.number)),
+    )
 
 pub same_records : (rs : List (Option Record)) (k : ℕ) (r : Record) → slice_index_or rs k None ≡ Some r → WasRecord rs k r ⊎ IsMadeRecord r
 same_records rs k r at = inl (r, at, refl)
@@ -132,7 +130,7 @@ fits_set rs chain k e lt at next fits is = record {
   four = is.four;
   each = is.each;
   extended = refit (extended_of rs) chain (slice_set chain k e) (omega (arith, lt))
-    (λ x f. record { few = omega (arith, f.few, length-set chain k e); linked = linked_set x (Some (lba x.first)) chain k e lt at next fits f.linked }) is.extended;
+      (λ x f. record { few = omega (arith, f.few, length-set chain k e); linked = linked_set x (Some (lba x.first)) chain k e lt at next fits f.linked }) is.extended;
 }
 
 counted_one : (e : Ebr) (n : ℕ) (o : Option Record) → e.logical ≡ o → next_number n e ≡ n + (if is_some e.logical then 1 else 0)

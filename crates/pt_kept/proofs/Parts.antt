@@ -1,25 +1,20 @@
 -- What edits of a label keep.
-use Rattle.std.specs.Prelude.{◌≡◌, ◌≢◌, ◌<◌, ◌≤◌, ◌⊎◌, ◌+◌, ◌-◌, ◌++◌, ◌∷◌, [], ℕ, zero, suc, Bool, true, false, List, length, slice_index_or, slice_set, Contains, Option, Some, None, nat_eq}
-use Rattle.std.proofs.Common.{refl, sym, ap, subst, ◌∙◌, inl, inr, arith}
+use Rattle.std.specs.Prelude.{◌≡◌, ◌<◌, ℕ, Bool, true, false, List, length, slice_index_or, Option, Some, None, nat_eq}
+use Rattle.std.proofs.Common.{refl, sym, subst, ◌∙◌, inl, inr}
 use Rattle.std.proofs.lemmas.Bool.{cases_lt, eqb-true, eqb-false}
 use Rattle.std.proofs.lemmas.List.{get_or_past}
-use Rattle.pt_mbr.specs.declared.record.Record.{Record}
-use Rattle.pt_mbr.specs.declared.ebr.Ebr.{Ebr}
 use Rattle.pt_bsd.specs.declared.label.Label.{Label}
 use Rattle.pt_bsd.specs.declared.label.LabelEntry.{LabelEntry}
 use Rattle.pt_recover.specs.Labels.{slices_of}
-use Rattle.pt_recover.specs.declared.layout.Slice.{Slice}
-use Rattle.pt_recover.specs.declared.layout.Labelled.{Labelled}
 use Rattle.pt_recover.specs.declared.layout.Layout.{Layout}
-use Rattle.pt_recover.specs.declared.layout.Body.{Body}
 use Rattle.pt_layout.specs.declared.member.Member.{Member}
 use Rattle.pt_layout.specs.Members.{label_of}
 use Rattle.pt_labels.specs.Lists.{with_label}
 use Rattle.pt_labels.specs.Parts.{HasEntry, PartMade, with_part, with_entry_of}
-use Rattle.pt_shape.specs.Shape.{FitsBody, FitsLabel, AreLabelsOf, Shaped}
-use Rattle.pt_shape.specs.Keeps.{SameButParts, LabelStays, IsOldLabel, IsNewLabel, Keeps}
-use Rattle.pt_shape.specs.Laws.{label_stays_refl_lem, keeps_refl}
-use Rattle.pt_kept.specs.Order.{slices_ascend_lem, are_with, label_of_with, label_of_changed, part_fits, same_but_part}
+use Rattle.pt_shape.specs.Shape.{Shaped}
+use Rattle.pt_shape.specs.Keeps.{LabelStays, Keeps}
+use Rattle.pt_shape.specs.Laws.{label_stays_refl_lem}
+use Rattle.pt_kept.proofs.Order.{slices_ascend_lem, are_with, label_of_with, label_of_changed, part_fits, same_but_part}
 
 -- an entry that stands in a list stands inside it
 pub there : (es : List (Option LabelEntry)) (k : ℕ) (e : LabelEntry) → slice_index_or es k None ≡ Some e → k < length es
@@ -43,8 +38,10 @@ keeps_entry_of b number letter o m l old new shaped has = record {
 } where
   changed : Label
   changed = with_part l letter new
+
   within : letter < length l.entries
   within = there l.entries letter old has.counted
+
   stays : (k : ℕ) (t : Bool) → nat_eq k number ≡ t → LabelStays (label_of o.labels k) (label_of (with_label number changed o.labels) k)
   stays k true so =
       let same : number ≡ k = sym (eqb-true k number so) in

@@ -1,18 +1,16 @@
 -- The slices of a chain's logical partitions, when one of these goes or comes.
-use Rattle.std.specs.Prelude.{◌≡◌, ◌≢◌, ◌<◌, ◌≤◌, ◌⊎◌, ◌+◌, ◌-◌, ◌^◌, ◌++◌, ◌∷◌, [], ℕ, zero, suc, Bool, true, false, List, filter, map, take, count_by, length, slice_index_or, slice_set, Option, Some, None, Contains, is_some, if◌then◌else◌, nat_eq, nat_lt, ◌&&◌}
-use Rattle.std.proofs.Common.{refl, sym, ap, subst, ◌∙◌, inl, inr, arith, append_assoc}
-use Rattle.std.proofs.lemmas.Bool.{cases_lt, eq-eqb, ne_eqb, eqb-true, eqb-false, lt-ltb, le-ltb, ltb-true, ltb-false, true≢false}
+use Rattle.std.specs.Prelude.{◌≡◌, ◌<◌, ◌≤◌, ◌+◌, ◌-◌, ◌++◌, ◌∷◌, [], ℕ, zero, suc, Bool, true, false, List, map, length, slice_index_or, slice_set, Option, Some, None, is_some, if◌then◌else◌, nat_eq, nat_lt}
+use Rattle.std.proofs.Common.{refl, sym, ap, ◌∙◌, arith}
+use Rattle.std.proofs.lemmas.Bool.{lt-ltb, le-ltb}
 use Rattle.std.proofs.lemmas.List.{map-append}
 use Rattle.std.proofs.lemmas.List.Elements.{filter-append}
 use Rattle.pt_mbr.specs.declared.record.Record.{Record}
 use Rattle.pt_mbr.specs.declared.ebr.Ebr.{Ebr}
 use Rattle.pt_recover.specs.Labels.{slice_from, record_slice, primary_slice, primary_slices, logical_slice, next_number, logical_slices}
 use Rattle.pt_recover.specs.declared.layout.Slice.{Slice}
-use Rattle.pt_recover.specs.declared.layout.Labelled.{Labelled}
-use Rattle.pt_labels.specs.Lists.{labelled}
-use Rattle.pt_kept.specs.Lists.{slices_by, filter_in, filter_out, contains_cases, contains_later}
-use Rattle.pt_kept.specs.Entries.{is_not, is_not_true, is_not_false, is_below, is_above, around}
-use Rattle.pt_kept.specs.Order.{IsAscending, ascend_from, logicals_ascend}
+use Rattle.pt_kept.proofs.Lists.{slices_by, filter_in, filter_out}
+use Rattle.pt_kept.proofs.Entries.{is_not, is_not_true, is_not_false}
+use Rattle.pt_kept.proofs.Order.{IsAscending, logicals_ascend}
 
 -- all numbers pass a test, or none does
 pub ascending_kept : (f : ℕ → Bool) (n : ℕ) (ss : List Slice) → ((m : ℕ) → n ≤ m → f m ≡ true) → IsAscending n ss → slices_by f ss ≡ ss
@@ -194,8 +192,8 @@ lowered_high : (k : ℕ) (es : List Ebr) → slices_lowered k (logical_slices (k
 lowered_high k es =
     ap (map (renumbered (lower k))) (ascending_kept (is_not k) (k + 1) (logical_slices (k + 1) es) (λ m le. is_not_true k m (omega (arith, le))) (logicals_ascend (k + 1) es))
     ∙ chain_moved (lower k) (k + 1) k ((k + 1) + length es) es (λ i lt. moved i) (omega arith) where
-  moved : (i : ℕ) → lower k ((k + 1) + i) ≡ k + i
-  moved i = let at = lower_above k ((k + 1) + i) (omega arith) in omega (arith, at)
+      moved : (i : ℕ) → lower k ((k + 1) + i) ≡ k + i
+      moved i = let at = lower_above k ((k + 1) + i) (omega arith) in omega (arith, at)
 
 lowered_here : (k at : ℕ) (r : Record) (c : Bool) → nat_eq r.kind 0xA5 ≡ c → slices_lowered k (record_slice k at r) ≡ []
 unfolding record_slice
@@ -229,6 +227,6 @@ chain_lowered n (suc k) x r (e ∷ es) lt has none =
     ap (λ (l : List Slice). logical_slice n e ++ l) more
     ∙ sym (lowered_append top (logical_slice n e) (logical_slices (next_number n e) es)
     ∙ ap (λ (l : List Slice). l ++ slices_lowered top (logical_slices (next_number n e) es)) (low_here n top e e.logical refl least)) where
-  low_here : (n top : ℕ) (e : Ebr) (o : Option Record) → e.logical ≡ o → next_number n e ≤ top → slices_lowered top (logical_slice n e) ≡ logical_slice n e
-  low_here n top e None is le = ap (slices_lowered top) (emptied n e is) ∙ sym (emptied n e is)
-  low_here n top e (Some r) is le = let next = next_of n e (Some r) is in lowered_low top (n + 1) (logical_slice n e) (omega (arith, next, le)) (below_logical n e (Some r) is)
+      low_here : (n top : ℕ) (e : Ebr) (o : Option Record) → e.logical ≡ o → next_number n e ≤ top → slices_lowered top (logical_slice n e) ≡ logical_slice n e
+      low_here n top e None is le = ap (slices_lowered top) (emptied n e is) ∙ sym (emptied n e is)
+      low_here n top e (Some r) is le = let next = next_of n e (Some r) is in lowered_low top (n + 1) (logical_slice n e) (omega (arith, next, le)) (below_logical n e (Some r) is)

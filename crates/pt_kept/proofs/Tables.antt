@@ -1,10 +1,9 @@
 -- What edits of a GPT's table keep.
-use Rattle.std.specs.Prelude.{◌≡◌, ◌≢◌, ◌<◌, ◌≤◌, ◌⊎◌, ◌+◌, ◌-◌, ◌++◌, ◌∷◌, [], ℕ, zero, suc, Bool, true, false, List, filter, length, slice_index_or, slice_set, ◌^◌, Option, Some, None, IfSome, Contains, if◌then◌else◌, nat_eq, nat_lt, ◌&&◌}
-use Rattle.std.proofs.Common.{refl, sym, ap, subst, ◌∙◌, inl, inr, arith, append_assoc}
-use Rattle.std.proofs.lemmas.Bool.{cases_lt, eq-eqb, ne_eqb, eqb-true, eqb-false, ltb-true, lt-ltb, le-leb, true≢false}
+use Rattle.std.specs.Prelude.{◌≡◌, ◌≢◌, ◌<◌, ◌≤◌, ◌⊎◌, ◌+◌, ◌-◌, ◌++◌, ◌∷◌, [], ℕ, Bool, true, false, List, length, slice_index_or, slice_set, ◌^◌, Option, Some, None, IfSome, Contains, if◌then◌else◌, nat_eq, ◌&&◌}
+use Rattle.std.proofs.Common.{refl, sym, ap, subst, ◌∙◌, inl, inr, arith}
+use Rattle.std.proofs.lemmas.Bool.{eqb-true, eqb-false, ltb-true, lt-ltb, le-leb, true≢false}
 use Rattle.pt_bsd.specs.Laws.{empty_counted}
 use Rattle.std.proofs.lemmas.List.{length-set, get_or-set_same, get_or-set_other}
-use Rattle.std.proofs.lemmas.List.Elements.{filter-append}
 use Rattle.pt_gpt.specs.Array.{AllTyped}
 use Rattle.pt_gpt.specs.Entry.{IsTyped}
 use Rattle.pt_gpt.specs.declared.entry.Entry.{Entry}
@@ -12,20 +11,19 @@ use Rattle.pt_gpt.specs.declared.table.Table.{Table}
 use Rattle.pt_mbr.specs.declared.record.Record.{Record}
 use Rattle.pt_mbr.specs.declared.ebr.Ebr.{Ebr}
 use Rattle.pt_bsd.specs.Empty.{empty_of}
-use Rattle.pt_bsd.specs.declared.label.Label.{Label}
-use Rattle.pt_recover.specs.Labels.{is_slice_kind, slice_from, extent_len, entry_slice, entry_slices, slices_of, places_of, has_place}
+use Rattle.pt_recover.specs.Labels.{is_slice_kind, slice_from, entry_slice, entry_slices, slices_of}
 use Rattle.pt_recover.specs.declared.layout.Slice.{Slice}
 use Rattle.pt_recover.specs.declared.layout.Labelled.{Labelled}
 use Rattle.pt_recover.specs.declared.layout.Layout.{Layout}
 use Rattle.pt_recover.specs.declared.layout.Body.{Body}
-use Rattle.pt_recover.specs.declared.layout.Body.TheVariants.{Mbr, Gpt}
+use Rattle.pt_recover.specs.declared.layout.Body.TheVariants.{Gpt}
 use Rattle.pt_layout.specs.Members.{label_of}
 use Rattle.pt_labels.specs.Lists.{without_label, with_new_label}
 use Rattle.pt_shape.specs.Shape.{FitsTable, FitsBody, FitsLabel, AreLabelsOf, Shaped}
-use Rattle.pt_shape.specs.Keeps.{LabelStays, IsOldLabel, IsNewLabel, IsOldRecord, IsMadeRecord, IsOldLogical, IsMadeLogical, WasMbr, IsMbrBody, Keeps, records_in, chain_in}
+use Rattle.pt_shape.specs.Keeps.{LabelStays, IsOldLabel, IsNewLabel, Keeps}
 use Rattle.pt_shape.specs.Laws.{same_but_parts_refl, label_stays_refl_lem}
-use Rattle.pt_kept.specs.Lists.{slices_by, filter_in, contains_later, are_filter, are_entered, label_of_by, label_of_new, label_of_old, contains_filter, contains_cases, filter_swap}
-use Rattle.pt_kept.specs.Entries.{is_not, is_not_true, is_not_false, is_below, is_above, around, slices_without, slices_with, slices_same}
+use Rattle.pt_kept.proofs.Lists.{slices_by, contains_later, are_filter, are_entered, label_of_by, label_of_new, label_of_old, contains_filter, contains_cases}
+use Rattle.pt_kept.proofs.Entries.{is_not, is_not_false, is_below, is_above, around, slices_without, slices_with, slices_same}
 
 -- a table with other entries
 abbrev pub with_entries : Table → List (Option Entry) → Table
@@ -126,15 +124,15 @@ keeps_without b number o t shaped is first last =
     let f = is_not number in
     let at : 1 + (number - 1) ≡ number = omega (arith, first) in
     let slices : entry_slices 1 u.entries ≡ slices_by f (entry_slices 1 t.entries) =
-        slices_without 1 (number - 1) t.entries (omega (arith, first, last)) ∙ ap (λ (k : ℕ). slices_by (is_not k) (entry_slices 1 t.entries)) at in
+    slices_without 1 (number - 1) t.entries (omega (arith, first, last)) ∙ ap (λ (k : ℕ). slices_by (is_not k) (entry_slices 1 t.entries)) at in
     let places : slices_of b (Gpt u) ≡ slices_by f (slices_of b o.body) = slices_fewer b f t u slices ∙ ap (λ (y : Body). slices_by f (slices_of b y)) (sym is) in
     keeps_gpt b o u (without_label number o.labels) (fits_set b o.sectors number t None first last tt (table_fits b o t shaped is))
     (subst (λ (l : List Slice). AreLabelsOf l (without_label number o.labels)) (sym places) (are_filter f (slices_of b o.body) o.labels shaped.labels))
     (λ s stands. (
-      let kept = contains_filter (λ (x : Slice). f x.number) s (slices_of b o.body) (subst (λ (l : List Slice). Contains l s) places stands) in
-      let other : s.number ≢ number = λ same. true≢false (sym kept.1 ∙ is_not_false number s.number same) in
-      let label : label_of o.labels s.number ≡ label_of (without_label number o.labels) s.number = sym (label_of_by f s.number o.labels kept.1) in
-      inl (s, record { stands = kept.0; first = refl; len = refl }, subst (LabelStays (label_of o.labels s.number)) label (label_stays_refl_lem (label_of o.labels s.number)))))
+    let kept = contains_filter (λ (x : Slice). f x.number) s (slices_of b o.body) (subst (λ (l : List Slice). Contains l s) places stands) in
+    let other : s.number ≢ number = λ same. true≢false (sym kept.1 ∙ is_not_false number s.number same) in
+    let label : label_of o.labels s.number ≡ label_of (without_label number o.labels) s.number = sym (label_of_by f s.number o.labels kept.1) in
+    inl (s, record { stands = kept.0; first = refl; len = refl }, subst (LabelStays (label_of o.labels s.number)) label (label_stays_refl_lem (label_of o.labels s.number)))))
 
 -- a new entry that is no slice
 pub keeps_leaf : (b number : ℕ) (o : Layout) (t : Table) (e : Entry) → Shaped b o → o.body ≡ Gpt t → 1 ≤ number → number ≤ length t.entries → IsTyped e
@@ -144,11 +142,14 @@ unfolding entry_slice
 keeps_leaf b number o t e shaped is first last typed none leaf = by_size (nat_eq b 512) refl where
   u : Table
   u = entries_with t number (Some e)
+
   fits : FitsTable b o.sectors u
   fits = fits_set b o.sectors number t (Some e) first last typed (table_fits b o t shaped is)
+
   no_slice : (c : Bool) → nat_eq b 512 ≡ true → is_slice_kind e.kind.0 ≡ c → entry_slice number (Some e) ≡ entry_slice number None
   no_slice true large so = absurd (true≢false (sym (rw (large, so) refl) ∙ leaf))
   no_slice false large so = rw so refl
+
   by_size : (c : Bool) → nat_eq b 512 ≡ c → Keeps b o.sectors (Some o) (record { sectors = o.sectors; body = Gpt u; labels = o.labels })
   by_size true large = keeps_entry b number o t (Some e) shaped is first last typed (no_slice (is_slice_kind e.kind.0) large refl ∙ ap (entry_slice number) (sym none))
   by_size false small = unchanged b o t u shaped is fits (slices_512 b u false small ∙ sym (slices_512 b t false small))
@@ -174,24 +175,32 @@ pub entered_label : (b number : ℕ) (o : Layout) (s x : Slice) → s.number ≡
 entered_label b number o s x at stands = by_side (contains_append x (slices_by (is_below number) old) ((s ∷ []) ++ slices_by (is_above number) old) stands) where
   old : List Slice
   old = slices_of b o.body
+
   made : List Labelled
   made = with_new_label number (empty_of s.len) o.labels
+
   stays : (f : ℕ → Bool) → Contains (slices_by f old) x → x.number ≢ number → IsOldLabel b (Some o) x (label_of made x.number) ⊎ IsNewLabel x (label_of made x.number)
   stays f is other =
       let kept = contains_filter (λ (y : Slice). f y.number) x old is in
-      inl (x, record { stands = kept.0; first = refl; len = refl },
-        subst (LabelStays (label_of o.labels x.number)) (sym (label_of_old number x.number (empty_of s.len) o.labels other)) (label_stays_refl_lem (label_of o.labels x.number)))
+      inl (
+        x,
+        record { stands = kept.0; first = refl; len = refl },
+        subst (LabelStays (label_of o.labels x.number)) (sym (label_of_old number x.number (empty_of s.len) o.labels other)) (label_stays_refl_lem (label_of o.labels x.number)),
+      )
+
   is_new : s ≡ x → IsOldLabel b (Some o) x (label_of made x.number) ⊎ IsNewLabel x (label_of made x.number)
   is_new same =
       let number_of : number ≡ x.number = sym at ∙ ap (λ (y : Slice). y.number) same in
       let has : Some (empty_of x.len) ≡ label_of made x.number =
-          ap (λ (y : Slice). Some (empty_of y.len)) (sym same) ∙ (sym (label_of_new number (empty_of s.len) o.labels) ∙ ap (label_of made) number_of) in
+      ap (λ (y : Slice). Some (empty_of y.len)) (sym same) ∙ (sym (label_of_new number (empty_of s.len) o.labels) ∙ ap (label_of made) number_of) in
       inr (subst (IsNewLabel x) has (same_but_parts_refl (empty_of x.len)))
+
   by_later : (s ≡ x) ⊎ Contains (slices_by (is_above number) old) x → IsOldLabel b (Some o) x (label_of made x.number) ⊎ IsNewLabel x (label_of made x.number)
   by_later (inl same) = is_new same
   by_later (inr above) =
       let passes : is_above number x.number ≡ true = (contains_filter (λ (y : Slice). is_above number y.number) x old above).1 in
       stays (is_above number) above (omega (arith, ltb-true number x.number passes))
+
   by_side : Contains (slices_by (is_below number) old) x ⊎ Contains ((s ∷ []) ++ slices_by (is_above number) old) x → IsOldLabel b (Some o) x (label_of made x.number) ⊎ IsNewLabel x (label_of made x.number)
   by_side (inl below) =
       let passes : is_below number x.number ≡ true = (contains_filter (λ (y : Slice). is_below number y.number) x old below).1 in
@@ -211,10 +220,10 @@ keeps_slice b number o t e shaped is first last typed none large kind long withi
     let at : 1 + (number - 1) ≡ number = omega (arith, first) in
     let new : entry_slice number (Some e) ≡ s ∷ [] = rw kind refl in
     let slices : entry_slices 1 u.entries ≡ around number (s ∷ []) (entry_slices 1 t.entries) =
-        slices_with 1 (number - 1) (Some e) t.entries (omega (arith, first, last)) none
-        ∙ (ap (λ (k : ℕ). around k (entry_slice k (Some e)) (entry_slices 1 t.entries)) at ∙ ap (λ (l : List Slice). around number l (entry_slices 1 t.entries)) new) in
+    slices_with 1 (number - 1) (Some e) t.entries (omega (arith, first, last)) none
+    ∙ (ap (λ (k : ℕ). around k (entry_slice k (Some e)) (entry_slices 1 t.entries)) at ∙ ap (λ (l : List Slice). around number l (entry_slices 1 t.entries)) new) in
     let places : slices_of b (Gpt u) ≡ around number (s ∷ []) (slices_of b o.body) =
-        slices_512 b u true large ∙ (slices ∙ ap (around number (s ∷ [])) (sym (slices_512 b t true large) ∙ ap (slices_of b) (sym is))) in
+    slices_512 b u true large ∙ (slices ∙ ap (around number (s ∷ [])) (sym (slices_512 b t true large) ∙ ap (slices_of b) (sym is))) in
     subst (λ (k : ℕ). Keeps b n (Some o) (record { sectors = n; body = Gpt u; labels = with_new_label number (empty_of k) o.labels })) len
     (keeps_gpt b o u (with_new_label number (empty_of s.len) o.labels) (fits_set b n number t (Some e) first last typed (table_fits b o t shaped is))
     (subst (λ (l : List Slice). AreLabelsOf l (with_new_label number (empty_of s.len) o.labels)) (sym places) (are_entered number s (empty_of s.len) (slices_of b o.body) o.labels refl (empty_fits s (omega (arith, len, long))) shaped.labels))

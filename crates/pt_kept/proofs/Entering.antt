@@ -1,26 +1,20 @@
 -- How one more extended boot record enters a chain that fits.
-use Rattle.std.specs.Prelude.{◌≡◌, ◌≢◌, ◌<◌, ◌≤◌, ◌⊎◌, ◌+◌, ◌-◌, ◌^◌, ◌++◌, ◌∷◌, [], ℕ, zero, suc, Bool, true, false, List, map, flat_map, length, slice_index_or, slice_set, slice_get, Option, Some, None, Contains, is_some, if◌then◌else◌, nat_eq, nat_lt, ◌&&◌, ◌||◌}
+use Rattle.std.specs.Prelude.{◌≡◌, ◌≢◌, ◌<◌, ◌⊎◌, ◌++◌, ◌∷◌, [], ℕ, zero, suc, Bool, true, false, List, flat_map, length, slice_index_or, slice_set, slice_get, Option, Some, None, Contains}
 use Rattle.std.specs.List.{insert}
 use Rattle.std.proofs.Common.{refl, sym, ap, subst, ◌∙◌, inl, inr, arith}
-use Rattle.std.proofs.lemmas.Bool.{cases_lt, true≢false}
-use Rattle.std.proofs.lemmas.List.{length-set}
-use Rattle.std.proofs.lemmas.List.Edits.{length-insert}
 use Rattle.pt_sector.specs.Sectors.{Span, InSpan}
 use Rattle.pt_sector.specs.declared.address.Lba.{Lba}
 use Rattle.pt_mbr.specs.Chain.{IsUpward, lba}
 use Rattle.pt_mbr.specs.declared.record.Record.{Record}
 use Rattle.pt_mbr.specs.declared.ebr.Ebr.{Ebr}
 use Rattle.pt_recover.specs.Mbr.{is_extended, extended_of, extent_of}
-use Rattle.pt_layout.specs.Counts.{no_ebr}
-use Rattle.pt_space.specs.declared.space.Run.{Run}
-use Rattle.pt_space.specs.Area.{Area, Holds, IsIn, IsTaken}
+use Rattle.pt_space.specs.Area.{IsIn}
 use Rattle.pt_logicals.specs.Chains.{ebr_at}
-use Rattle.pt_logicals.specs.Entered.{IsEmptyIn, NoEmptyIn, IsPlaceFor}
-use Rattle.pt_logicals.specs.New.{taken_of, empty_sector, logical_run}
+use Rattle.pt_logicals.specs.Entered.{IsEmptyIn}
+use Rattle.pt_logicals.specs.New.{taken_of, empty_sector}
 use Rattle.pt_shape.specs.Shape.{FitsRecord, FitsSlot, FitsLogical, Linked, FitsChain, FitsExtended}
-use Rattle.pt_kept.specs.Lists.{contains_cases, contains_later}
-use Rattle.pt_kept.specs.Tables.{contains_append}
-use Rattle.pt_kept.specs.Mbr.{contains_at, contains_set}
+use Rattle.pt_kept.proofs.Lists.{contains_cases, contains_later}
+use Rattle.pt_kept.proofs.Tables.{contains_append}
 
 -- where a link leads, a sector below it is below the next one's
 below_next : (x : Span) (from : Option Lba) (cs : List Ebr) (s : ℕ) → Linked x from cs → (0 < length cs → s < (ebr_at cs 0).at.0) → IsUpward (lba s) from

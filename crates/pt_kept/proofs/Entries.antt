@@ -1,13 +1,13 @@
 -- The slices of numbered entries or records, when one of these changes.
-use Rattle.std.specs.Prelude.{◌≡◌, ◌≢◌, ◌<◌, ◌≤◌, ◌⊎◌, ◌+◌, ◌-◌, ◌++◌, ◌∷◌, [], ℕ, zero, suc, Bool, true, false, List, filter, length, replicate, slice_index_or, slice_set, Option, Some, None, if◌then◌else◌, nat_eq, nat_lt, ◌&&◌}
-use Rattle.std.proofs.Common.{refl, sym, ap, subst, ◌∙◌, inl, inr, arith, append_assoc}
+use Rattle.std.specs.Prelude.{◌≡◌, ◌≢◌, ◌<◌, ◌≤◌, ◌+◌, ◌-◌, ◌++◌, ◌∷◌, [], ℕ, zero, suc, Bool, true, false, List, length, replicate, slice_index_or, slice_set, Option, Some, None, if◌then◌else◌, nat_eq, nat_lt}
+use Rattle.std.proofs.Common.{refl, sym, ap, subst, ◌∙◌, arith, append_assoc}
 use Rattle.std.proofs.lemmas.Bool.{eq-eqb, ne_eqb, lt-ltb, le-ltb}
 use Rattle.std.proofs.lemmas.List.Elements.{filter-append}
 use Rattle.pt_gpt.specs.declared.entry.Entry.{Entry}
 use Rattle.pt_mbr.specs.declared.record.Record.{Record}
 use Rattle.pt_recover.specs.Labels.{is_slice_kind, slice_from, record_slice, primary_slice, primary_slices, entry_slice, entry_slices}
 use Rattle.pt_recover.specs.declared.layout.Slice.{Slice}
-use Rattle.pt_kept.specs.Lists.{slices_by, filter_in, filter_out}
+use Rattle.pt_kept.proofs.Lists.{slices_by, filter_in, filter_out}
 
 -- what gives the slice of a number, if any
 pub record IsNumbered {X : Type 0} (one : ℕ → Option X → List Slice) : Type 0 where
@@ -39,6 +39,7 @@ entry_numbered = record { none = λ n. refl; kept = kept; gone = gone } where
   kept : (f : ℕ → Bool) (n : ℕ) (x : Option Entry) → f n ≡ true → slices_by f (entry_slice n x) ≡ entry_slice n x
   kept f n None so = refl
   kept f n (Some e) so = kept_if f n e.first e.last (is_slice_kind e.kind.0) so
+
   gone : (f : ℕ → Bool) (n : ℕ) (x : Option Entry) → f n ≡ false → slices_by f (entry_slice n x) ≡ []
   gone f n None so = refl
   gone f n (Some e) so = gone_if f n e.first e.last (is_slice_kind e.kind.0) so
@@ -55,6 +56,7 @@ record_numbered = record { none = λ n. refl; kept = kept; gone = gone } where
   kept : (f : ℕ → Bool) (n : ℕ) (x : Option Record) → f n ≡ true → slices_by f (primary_slice n x) ≡ primary_slice n x
   kept f n None so = refl
   kept f n (Some r) so = kept_if f n (0 + r.start) (0 + r.start + r.size - 1) (nat_eq r.kind 0xA5) so
+
   gone : (f : ℕ → Bool) (n : ℕ) (x : Option Record) → f n ≡ false → slices_by f (primary_slice n x) ≡ []
   gone f n None so = refl
   gone f n (Some r) so = gone_if f n (0 + r.start) (0 + r.start + r.size - 1) (nat_eq r.kind 0xA5) so
@@ -137,9 +139,9 @@ around_first : {X : Type 0} (one : ℕ → Option X → List Slice) (is : IsNumb
 around_first one is n m new x xs lt =
     let s = many one (n + 1) xs in
     let low : slices_by (is_below m) (many one n (x ∷ xs)) ≡ one n x ++ slices_by (is_below m) s =
-        joined one (is_below m) n x xs ∙ ap (λ (l : List Slice). l ++ slices_by (is_below m) s) (is.kept (is_below m) n x (lt-ltb n m lt)) in
+    joined one (is_below m) n x xs ∙ ap (λ (l : List Slice). l ++ slices_by (is_below m) s) (is.kept (is_below m) n x (lt-ltb n m lt)) in
     let high : slices_by (is_above m) (many one n (x ∷ xs)) ≡ slices_by (is_above m) s =
-        joined one (is_above m) n x xs ∙ ap (λ (l : List Slice). l ++ slices_by (is_above m) s) (is.gone (is_above m) n x (le-ltb m n (omega (arith, lt)))) in
+    joined one (is_above m) n x xs ∙ ap (λ (l : List Slice). l ++ slices_by (is_above m) s) (is.gone (is_above m) n x (le-ltb m n (omega (arith, lt)))) in
     ap (λ (l : List Slice). l ++ (new ++ slices_by (is_above m) (many one n (x ∷ xs)))) low
     ∙ (ap (λ (l : List Slice). (one n x ++ slices_by (is_below m) s) ++ (new ++ l)) high
     ∙ append_assoc (one n x) (slices_by (is_below m) s) (new ++ slices_by (is_above m) s))

@@ -1,50 +1,47 @@
 -- What a new logical partition keeps.
-use Rattle.std.specs.Prelude.{◌≡◌, ◌≢◌, ◌<◌, ◌≤◌, ◌⊎◌, ◌+◌, ◌-◌, ◌^◌, ◌++◌, ◌∷◌, [], ℕ, zero, suc, Bool, true, false, List, map, flat_map, length, slice_index_or, slice_set, slice_get, Option, Some, None, Contains, is_some, if◌then◌else◌, nat_eq, nat_lt, ◌&&◌, ◌||◌}
+use Rattle.std.specs.Prelude.{◌≡◌, ◌≢◌, ◌<◌, ◌≤◌, ◌⊎◌, ◌+◌, ◌-◌, ◌^◌, ◌++◌, ◌∷◌, [], ℕ, zero, suc, Bool, true, false, List, flat_map, length, slice_index_or, slice_set, slice_get, Option, Some, None, Contains, nat_eq}
 use Rattle.std.specs.List.{insert}
 use Rattle.std.proofs.Common.{refl, sym, ap, subst, ◌∙◌, inl, inr, arith}
-use Rattle.std.proofs.lemmas.Bool.{cases_lt, ne_eqb, eqb-true, eqb-false, true≢false, false≢true}
+use Rattle.std.proofs.lemmas.Bool.{cases_lt, ne_eqb}
 use Rattle.std.proofs.lemmas.List.{length-set}
 use Rattle.std.proofs.lemmas.List.Edits.{length-insert}
-use Rattle.pt_mbr.specs.Mbr.{IsBootIndicator}
 use Rattle.pt_sector.specs.declared.address.Lba.{Lba}
 use Rattle.pt_mbr.specs.Chain.{lba}
 use Rattle.pt_mbr.specs.declared.record.Record.{Record}
 use Rattle.pt_mbr.specs.declared.ebr.Ebr.{Ebr}
 use Rattle.pt_bsd.specs.Empty.{empty_of}
-use Rattle.pt_bsd.specs.declared.label.Label.{Label}
-use Rattle.pt_recover.specs.Mbr.{is_extended, extended_of, extent_of}
+use Rattle.pt_recover.specs.Mbr.{extended_of, extent_of}
 use Rattle.pt_recover.specs.Labels.{slice_from, record_slice, primary_slices, logical_slice, next_number, logical_slices, slices_of}
 use Rattle.pt_recover.specs.declared.layout.Slice.{Slice}
 use Rattle.pt_recover.specs.declared.layout.Labelled.{Labelled}
 use Rattle.pt_recover.specs.declared.layout.Layout.{Layout}
 use Rattle.pt_recover.specs.declared.layout.Body.{Body}
 use Rattle.pt_recover.specs.declared.layout.Body.TheVariants.{Mbr}
-use Rattle.pt_layout.specs.Counts.{used_before, no_ebr}
+use Rattle.pt_layout.specs.Counts.{no_ebr}
 use Rattle.pt_layout.specs.Members.{label_of}
 use Rattle.pt_labels.specs.Lists.{raised, with_new_label}
 use Rattle.pt_words.specs.declared.word.Code.{Code}
-use Rattle.pt_words.specs.declared.word.Code.TheVariants.{Two}
 use Rattle.pt_words.specs.declared.word.End.{End}
 use Rattle.pt_space.specs.declared.space.Run.{Run}
-use Rattle.pt_space.specs.Area.{Area, Holds, IsUsable, IsIn, IsTaken, IsFreeRun, TakesRecord}
+use Rattle.pt_space.specs.Area.{IsIn}
 use Rattle.pt_space.specs.Laws.{placed_is_free_lem}
-use Rattle.pt_logicals.specs.Types.{record_type, new_type, is_slice, is_container}
+use Rattle.pt_logicals.specs.Types.{new_type, is_slice}
 use Rattle.pt_logicals.specs.Chains.{ebr_at, number_at, with_logical}
-use Rattle.pt_logicals.specs.Entered.{IsEmptyIn, IsEmptyAt, NoEmptyIn, IsPlaceFor, linked, link_at, with_ebr, Entered, reused, added}
-use Rattle.pt_logicals.specs.New.{logical_area, len_of, farthest, record_for, Misfit, labels_with, NewKind, LogicalNew, empty_sector, taken_of}
-use Rattle.pt_shape.specs.Shape.{FitsRecord, FitsLogical, FitsChain, FitsExtended, FitsMbr, FitsLabel, FitsBody, AreLabelsOf, Shaped}
-use Rattle.pt_shape.specs.Keeps.{IsOldLabel, IsNewLabel, IsTyped, IsMadeRecord, IsMadeLogical, Keeps}
+use Rattle.pt_logicals.specs.Entered.{IsEmptyAt, IsPlaceFor, with_ebr, Entered, reused, added}
+use Rattle.pt_logicals.specs.New.{logical_area, len_of, record_for, Misfit, labels_with, NewKind, LogicalNew, empty_sector, taken_of}
+use Rattle.pt_shape.specs.Shape.{FitsLogical, FitsChain, FitsExtended, FitsMbr, AreLabelsOf, Shaped}
+use Rattle.pt_shape.specs.Keeps.{IsOldLabel, IsNewLabel, IsMadeLogical, Keeps}
 use Rattle.pt_shape.specs.Laws.{same_but_parts_refl}
-use Rattle.pt_kept.specs.Lists.{slices_by, are_entered, label_of_new, label_of_old, contains_cases, contains_later, contains_filter}
-use Rattle.pt_kept.specs.Entries.{is_below, is_above, around}
-use Rattle.pt_kept.specs.Tables.{contains_append, empty_fits, slice_len}
-use Rattle.pt_kept.specs.Order.{IsAscending, slices_ascend_lem}
-use Rattle.pt_kept.specs.Chain.{AreBelow, below_append, below_more, primaries_below, logicals_below, renumbered, number_by, number_least, chain_same, next_of}
-use Rattle.pt_kept.specs.Raised.{greatest, raise, slices_raised, raised_low, chain_filled, chain_inserted}
-use Rattle.pt_kept.specs.Moved.{are_raised, label_of_raised, raise_free, raised_ascend, raised_free, split_at}
-use Rattle.pt_kept.specs.Mbr.{mbr_of, slices_mbr, WasLogical, keeps_mbr, body_fits, old_labels, same_slice, same_records, same_logical, contains_set, contains_at, contains_map, fits_set, number_same}
-use Rattle.pt_kept.specs.Logicals.{type_plain, not_extended, read_at}
-use Rattle.pt_kept.specs.Entering.{linked_enter, first_at, contains_insert, empty_listed, not_own, extended_fits, chain_of, refit_one}
+use Rattle.pt_kept.proofs.Lists.{slices_by, are_entered, label_of_new, label_of_old, contains_cases, contains_filter}
+use Rattle.pt_kept.proofs.Entries.{is_below, is_above, around}
+use Rattle.pt_kept.proofs.Tables.{contains_append, empty_fits, slice_len}
+use Rattle.pt_kept.proofs.Order.{IsAscending, slices_ascend_lem}
+use Rattle.pt_kept.proofs.Chain.{AreBelow, below_append, below_more, primaries_below, logicals_below, renumbered, number_by, number_least, chain_same, next_of}
+use Rattle.pt_kept.proofs.Raised.{greatest, raise, slices_raised, raised_low, chain_filled, chain_inserted}
+use Rattle.pt_kept.proofs.Moved.{are_raised, label_of_raised, raise_free, raised_ascend, raised_free, split_at}
+use Rattle.pt_kept.proofs.Mbr.{mbr_of, slices_mbr, WasLogical, keeps_mbr, body_fits, old_labels, same_slice, same_records, same_logical, contains_set, contains_at, contains_map, fits_set, number_same}
+use Rattle.pt_kept.proofs.Logicals.{type_plain, not_extended, read_at}
+use Rattle.pt_kept.proofs.Entering.{linked_enter, first_at, contains_insert, empty_listed, not_own, extended_fits, chain_of, refit_one}
 
 -- the type of a new record is none of an unused or of a protective one
 pub new_plain : (code : Option Code) (kind : ℕ) → new_type code ≡ Some kind → (kind ≢ 0) × (kind ≢ 0xEE)
@@ -74,19 +71,19 @@ raised_label b number o rs chain ls x is below are stands same =
     let moved : raise number m.0.number ≡ x.number = ap (λ (y : Slice). y.number) m.2 in
     let free : x.number ≢ number = λ e. raise_free number m.0.number small (cases_lt m.0.number number) (moved ∙ e) in
     let label : label_of o.labels m.0.number ≡ label_of ls x.number =
-        sym (label_of_raised number m.0.number old o.labels (below_more top greatest old (omega arith) below) are small) ∙ (ap (label_of (raised number o.labels)) moved ∙ sym (same x.number free)) in
+    sym (label_of_raised number m.0.number old o.labels (below_more top greatest old (omega arith) below) are small) ∙ (ap (label_of (raised number o.labels)) moved ∙ sym (same x.number free)) in
     same_slice b o rs chain x m.0 (label_of ls x.number) is m.1 (ap (λ (y : Slice). y.first) m.2) (ap (λ (y : Slice). y.len) m.2) label where
-  small_number : (top : ℕ) (ss : List Slice) (s : Slice) → AreBelow top ss → Contains ss s → top ≤ greatest → s.number < greatest
-  small_number top [] s below is le = absurd (omega (arith, is.1))
-  small_number top (t ∷ ss) s below is le = elim (contains_cases t s ss is) [
-    | inl here ↦ (let n = ap (λ (y : Slice). y.number) here in omega (arith, n, below.0, le))
-    | inr later ↦ small_number top ss s below.1 later le
-  ]
+      small_number : (top : ℕ) (ss : List Slice) (s : Slice) → AreBelow top ss → Contains ss s → top ≤ greatest → s.number < greatest
+      small_number top [] s below is le = absurd (omega (arith, is.1))
+      small_number top (t ∷ ss) s below is le = elim (contains_cases t s ss is) [
+        | inl here ↦ (let n = ap (λ (y : Slice). y.number) here in omega (arith, n, below.0, le))
+        | inr later ↦ small_number top ss s below.1 later le
+      ]
 
 -- no slice is new
 kept_plain : (b number : ℕ) (o : Layout) (rs : List (Option Record)) (chain : List Ebr) → Shaped b o → o.body ≡ Mbr rs chain → length chain ≤ 128
     → AreLabelsOf (around number [] (slices_raised number (slices_of b (Mbr rs chain)))) (raised number o.labels)
-      × ((x : Slice) → Contains (around number [] (slices_raised number (slices_of b (Mbr rs chain)))) x → IsKept b o (raised number o.labels) x)
+    × ((x : Slice) → Contains (around number [] (slices_raised number (slices_of b (Mbr rs chain)))) x → IsKept b o (raised number o.labels) x)
 kept_plain b number o rs chain shaped is few =
     let old = slices_of b (Mbr rs chain) in
     let fits = body_fits b o rs chain shaped is in
@@ -94,9 +91,8 @@ kept_plain b number o rs chain shaped is few =
     let order : IsAscending 1 old = subst (λ (y : Body). IsAscending 1 (slices_of b y)) is (slices_ascend_lem b o shaped) in
     let up = raised_ascend number 1 old (omega arith) (below_more top (greatest - 1) old (omega arith) below) order in
     let all : around number [] (slices_raised number old) ≡ slices_raised number old =
-        split_at number (raise number 1) (slices_raised number old) up (raised_free number old (below_more top greatest old (omega arith) below)) in
-    let are = old_labels b o rs chain shaped is in
-    (
+    split_at number (raise number 1) (slices_raised number old) up (raised_free number old (below_more top greatest old (omega arith) below)) in
+    let are = old_labels b o rs chain shaped is in (
       subst (λ (l : List Slice). AreLabelsOf l (raised number o.labels)) (sym all) (are_raised number old o.labels are),
       λ x stands. raised_label b number o rs chain (raised number o.labels) x is below are (subst (λ (l : List Slice). Contains l x) all stands) (λ m other. refl),
     )
@@ -104,33 +100,40 @@ kept_plain b number o rs chain shaped is few =
 -- one is
 kept_slice : (b number : ℕ) (o : Layout) (rs : List (Option Record)) (chain : List Ebr) (s : Slice) → Shaped b o → o.body ≡ Mbr rs chain → length chain ≤ 128 → s.number ≡ number → 2 ≤ s.len
     → AreLabelsOf (around number (s ∷ []) (slices_raised number (slices_of b (Mbr rs chain)))) (with_new_label number (empty_of s.len) (raised number o.labels))
-      × ((x : Slice) → Contains (around number (s ∷ []) (slices_raised number (slices_of b (Mbr rs chain)))) x → IsKept b o (with_new_label number (empty_of s.len) (raised number o.labels)) x)
+    × ((x : Slice) → Contains (around number (s ∷ []) (slices_raised number (slices_of b (Mbr rs chain)))) x → IsKept b o (with_new_label number (empty_of s.len) (raised number o.labels)) x)
 kept_slice b number o rs chain s shaped is few at long =
     (are_entered number s (empty_of s.len) moved (raised number o.labels) at (empty_fits s long) (are_raised number old o.labels are), labels) where
-  old : List Slice
-  old = slices_of b (Mbr rs chain)
-  moved : List Slice
-  moved = slices_raised number old
-  are : AreLabelsOf old o.labels
-  are = old_labels b o rs chain shaped is
-  below : AreBelow top old
-  below = old_below b rs chain (body_fits b o rs chain shaped is).four few (nat_eq b 512) refl
-  ls : List Labelled
-  ls = with_new_label number (empty_of s.len) (raised number o.labels)
-  from_old : (f : ℕ → Bool) (x : Slice) → Contains (slices_by f moved) x → IsKept b o ls x
-  from_old f x stands =
-      raised_label b number o rs chain ls x is below are (contains_filter (λ (y : Slice). f y.number) x moved stands).0 (λ m other. label_of_old number m (empty_of s.len) (raised number o.labels) other)
-  from_new : (x : Slice) → s ≡ x → IsKept b o ls x
-  from_new x same =
-      let number_of : number ≡ x.number = sym at ∙ ap (λ (y : Slice). y.number) same in
-      let has : Some (empty_of x.len) ≡ label_of ls x.number =
+      old : List Slice
+      old = slices_of b (Mbr rs chain)
+
+      moved : List Slice
+      moved = slices_raised number old
+
+      are : AreLabelsOf old o.labels
+      are = old_labels b o rs chain shaped is
+
+      below : AreBelow top old
+      below = old_below b rs chain (body_fits b o rs chain shaped is).four few (nat_eq b 512) refl
+
+      ls : List Labelled
+      ls = with_new_label number (empty_of s.len) (raised number o.labels)
+
+      from_old : (f : ℕ → Bool) (x : Slice) → Contains (slices_by f moved) x → IsKept b o ls x
+      from_old f x stands =
+          raised_label b number o rs chain ls x is below are (contains_filter (λ (y : Slice). f y.number) x moved stands).0 (λ m other. label_of_old number m (empty_of s.len) (raised number o.labels) other)
+
+      from_new : (x : Slice) → s ≡ x → IsKept b o ls x
+      from_new x same =
+          let number_of : number ≡ x.number = sym at ∙ ap (λ (y : Slice). y.number) same in
+          let has : Some (empty_of x.len) ≡ label_of ls x.number =
           ap (λ (y : Slice). Some (empty_of y.len)) (sym same) ∙ (sym (label_of_new number (empty_of s.len) (raised number o.labels)) ∙ ap (label_of ls) number_of) in
-      inr (subst (IsNewLabel x) has (same_but_parts_refl (empty_of x.len)))
-  labels : (x : Slice) → Contains (around number (s ∷ []) moved) x → IsKept b o ls x
-  labels x stands = elim (contains_append x (slices_by (is_below number) moved) ((s ∷ []) ++ slices_by (is_above number) moved) stands) [
-    | inl low ↦ from_old (is_below number) x low
-    | inr later ↦ elim (contains_cases s x (slices_by (is_above number) moved) later) [ inl here ↦ from_new x here | inr high ↦ from_old (is_above number) x high ]
-  ]
+          inr (subst (IsNewLabel x) has (same_but_parts_refl (empty_of x.len)))
+
+      labels : (x : Slice) → Contains (around number (s ∷ []) moved) x → IsKept b o ls x
+      labels x stands = elim (contains_append x (slices_by (is_below number) moved) ((s ∷ []) ++ slices_by (is_above number) moved) stands) [
+        | inl low ↦ from_old (is_below number) x low
+        | inr later ↦ elim (contains_cases s x (slices_by (is_above number) moved) later) [ inl here ↦ from_new x here | inr high ↦ from_old (is_above number) x high ]
+      ]
 
 -- the slices of an MBR whose chain has one more logical partition
 grown : (b number : ℕ) (rs : List (Option Record)) (chain made : List Ebr) (x : Ebr) → length rs ≡ 4 → 5 ≤ number → nat_eq b 512 ≡ true
@@ -168,8 +171,10 @@ finish : (b number kind len s : ℕ) (o : Layout) (rs : List (Option Record)) (c
 finish b number kind len s o rs chain made shaped is few some small fit g = by_kind (nat_eq b 512) (nat_eq kind 0xA5) refl refl where
   four : length rs ≡ 4
   four = (body_fits b o rs chain shaped is).four
+
   old : List Slice
   old = slices_of b (Mbr rs chain)
+
   by_list : (new : List Slice) (ls : List Labelled) → slices_of b (Mbr rs made) ≡ around number new (slices_raised number old) → labels_with b kind len number o.labels ≡ ls
       → (AreLabelsOf (around number new (slices_raised number old)) ls × ((x : Slice) → Contains (around number new (slices_raised number old)) x → IsKept b o ls x))
       → Keeps b o.sectors (Some o) (mbr_of o rs made (labels_with b kind len number o.labels))
@@ -177,19 +182,21 @@ finish b number kind len s o rs chain made shaped is few some small fit g = by_k
       subst (λ (l : List Labelled). Keeps b o.sectors (Some o) (mbr_of o rs made l)) (sym labels)
       (keeps_mbr b o rs chain rs made ls is g.fits (subst (λ (l : List Slice). AreLabelsOf l ls) (sym slices) kept.0)
       (λ x stands. kept.1 x (subst (λ (l : List Slice). Contains l x) slices stands)) (same_records rs) g.logicals)
+
   new_slice : nat_eq b 512 ≡ true → nat_eq kind 0xA5 ≡ true → (t : Slice) → t ≡ slice_from number (g.ebr.at.0 + 1) (g.ebr.at.0 + 1 + len - 1) → Keeps b o.sectors (Some o) (mbr_of o rs made (labels_with b kind len number o.labels))
   new_slice large a t t_is =
       let slice : is_slice b kind ≡ true = rw (large, a) refl in
       let first : t.len ≡ len =
-          ap (λ (y : Slice). y.len) t_is
-          ∙ (slice_len number (g.ebr.at.0 + 1) (g.ebr.at.0 + 1 + len - 1) (omega (arith, some)) (omega (arith, small, g.at, some)) ∙ omega (arith, some)) in
+      ap (λ (y : Slice). y.len) t_is
+      ∙ (slice_len number (g.ebr.at.0 + 1) (g.ebr.at.0 + 1 + len - 1) (omega (arith, some)) (omega (arith, small, g.at, some)) ∙ omega (arith, some)) in
       let long : 2 ≤ t.len = elim (cases_lt len 2) as (λ _. 2 ≤ t.len) [ inl short ↦ absurd (fit (record { slice = slice; sectors = inl short })) | inr enough ↦ omega (arith, first, enough) ] in
       let one : logical_slice number g.ebr ≡ t ∷ [] = slice_one number g.ebr (record_for kind len) g.has a ∙ ap (λ (y : Slice). y ∷ []) (sym t_is) in
       let labels : labels_with b kind len number o.labels ≡ with_new_label number (empty_of t.len) (raised number o.labels) =
-          rw slice (ap (λ (n : ℕ). with_new_label number (empty_of n) (raised number o.labels)) (sym first)) in
+      rw slice (ap (λ (n : ℕ). with_new_label number (empty_of n) (raised number o.labels)) (sym first)) in
       by_list (t ∷ []) (with_new_label number (empty_of t.len) (raised number o.labels))
       (grown b number rs chain made g.ebr four g.least large g.slices ∙ ap (λ (l : List Slice). around number l (slices_raised number old)) one) labels
       (kept_slice b number o rs chain t shaped is few (ap (λ (y : Slice). y.number) t_is) long)
+
   by_kind : (c a : Bool) → nat_eq b 512 ≡ c → nat_eq kind 0xA5 ≡ a → Keeps b o.sectors (Some o) (mbr_of o rs made (labels_with b kind len number o.labels))
   by_kind true true large a = new_slice large a (slice_from number (g.ebr.at.0 + 1) (g.ebr.at.0 + 1 + len - 1)) refl
   by_kind true false large a =
@@ -256,11 +263,11 @@ entered b number kind len s j rs p chain fits is few lt at low high below above 
     let joined : List Ebr = slice_set chain j y in
     let size : length joined ≡ length chain = length-set chain j y in
     let same : logical_slices 5 joined ≡ logical_slices 5 chain =
-        chain_same 5 j y chain lt (λ m d. slice_by_logical m y (slice_index_or chain j d) (ap (λ (e : Ebr). e.logical) (read_at chain j d lt)) (ap (λ (e : Ebr). e.at.0) (read_at chain j d lt)))
-        (λ m d. next_by_logical m y (slice_index_or chain j d) (ap (λ (e : Ebr). e.logical) (read_at chain j d lt))) in
+    chain_same 5 j y chain lt (λ m d. slice_by_logical m y (slice_index_or chain j d) (ap (λ (e : Ebr). e.logical) (read_at chain j d lt)) (ap (λ (e : Ebr). e.at.0) (read_at chain j d lt)))
+    (λ m d. next_by_logical m y (slice_index_or chain j d) (ap (λ (e : Ebr). e.logical) (read_at chain j d lt))) in
     let numbers : number_by 5 (suc j) joined ≡ number =
-        number_joined 5 j y chain lt (λ m d. next_by_logical m y (slice_index_or chain j d) (ap (λ (e : Ebr). e.logical) (read_at chain j d lt)))
-        ∙ (number_same 5 (suc j) chain (omega (arith, lt)) ∙ sym at) in
+    number_joined 5 j y chain lt (λ m d. next_by_logical m y (slice_index_or chain j d) (ap (λ (e : Ebr). e.logical) (read_at chain j d lt)))
+    ∙ (number_same 5 (suc j) chain (omega (arith, lt)) ∙ sym at) in
     let insertion = chain_inserted 5 (suc j) x (record_for kind len) joined (omega (arith, lt, size)) (omega (arith, few, size)) refl in
     let old = chain_of (extended_of rs) p chain is fits.extended in
     let total : length (insert joined (suc j) x) ≡ length joined + 1 = length-insert joined (suc j) x (omega (arith, lt, size)) in
@@ -301,12 +308,12 @@ behind_one : (p : Record) (chain : List Ebr) (s k : ℕ) → FitsChain (extent_o
 behind_one p chain s k fits low free place = elim (cases_lt 0 k) as (λ _. 1 ≤ k) [
   | inl some ↦ some
   | inr none ↦ (
-    let first = first_at (extent_of p) chain fits in
-    let zero_is : k ≡ 0 = omega (arith, none) in
-    let at_place : s ≤ (ebr_at chain k).at.0 = place.behind (omega (arith, first.0, zero_is)) in
-    let here : (ebr_at chain k).at.0 ≡ p.start = ap (λ (n : ℕ). (ebr_at chain n).at.0) zero_is ∙ ap (λ (a : Lba). a.0) first.1 in
-    let other = not_own chain s k (omega (arith, first.0, zero_is)) free in
-    absurd (omega (arith, at_place, here, low, other)))
+      let first = first_at (extent_of p) chain fits in
+      let zero_is : k ≡ 0 = omega (arith, none) in
+      let at_place : s ≤ (ebr_at chain k).at.0 = place.behind (omega (arith, first.0, zero_is)) in
+      let here : (ebr_at chain k).at.0 ≡ p.start = ap (λ (n : ℕ). (ebr_at chain n).at.0) zero_is ∙ ap (λ (a : Lba). a.0) first.1 in
+      let other = not_own chain s k (omega (arith, first.0, zero_is)) free in
+      absurd (omega (arith, at_place, here, low, other)))
 ]
 
 -- the entered chain
@@ -322,9 +329,9 @@ grown_of b number kind len s rs p chain made fits is few low high (inl free) goo
 grown_of b number kind len s rs p chain made fits is few low high (inl free) good (added (suc j) none less place at so) =
     let lt : j < length chain = omega (arith, place.within) in
     let above : suc j < length chain → s < (ebr_at chain (suc j)).at.0 = λ more. (
-      let le = place.behind more in
-      let other = not_own chain s (suc j) more free in
-      omega (arith, le, other)) in
+    let le = place.behind more in
+    let other = not_own chain s (suc j) more free in
+    omega (arith, le, other)) in
     subst (Grown b number kind len s rs chain) (sym (so ∙ entered_is chain j s (record_for kind len)))
     (entered b number kind len s j rs p chain fits is less lt at low high (place.before j (omega arith)) above good)
 

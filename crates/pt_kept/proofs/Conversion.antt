@@ -1,6 +1,6 @@
 -- What a conversion to GPT keeps.
-use Rattle.std.specs.Prelude.{◌≡◌, ◌≢◌, ◌<◌, ◌≤◌, ◌⊎◌, ◌+◌, ◌-◌, ◌*◌, ◌^◌, ◌++◌, ◌∷◌, [], ◌==◌, ℕ, zero, suc, Bool, true, false, List, flat_map, length, replicate, slice_index_or, Option, Some, None, IfSome, Contains, option_map, is_some, if◌then◌else◌, nat_eq, ◌&&◌, ◌||◌}
-use Rattle.std.proofs.Common.{refl, sym, ap, subst, ◌∙◌, inl, inr, arith, append_assoc}
+use Rattle.std.specs.Prelude.{◌≡◌, ◌≢◌, ◌<◌, ◌≤◌, ◌⊎◌, ◌+◌, ◌-◌, ◌*◌, ◌++◌, ◌∷◌, [], ◌==◌, ℕ, suc, Bool, true, false, List, flat_map, length, replicate, slice_index_or, Option, Some, None, IfSome, Contains, if◌then◌else◌, nat_eq}
+use Rattle.std.proofs.Common.{refl, sym, ap, subst, ◌∙◌, inl, inr, arith}
 use Rattle.std.proofs.lemmas.Bool.{cases_lt, true≢false, eqb-true, eqb-false}
 use Rattle.std.proofs.lemmas.Grind.{flat_map-append}
 use Rattle.pt_guid.specs.Codes.{type_of}
@@ -15,24 +15,23 @@ use Rattle.pt_recover.specs.Gpt.{HasRoom}
 use Rattle.pt_recover.specs.Mbr.{is_extended}
 use Rattle.pt_recover.specs.Labels.{is_slice_kind, slice_from, record_slice, primary_slice, primary_slices, logical_slice, next_number, logical_slices, entry_slice, entry_slices, slices_of}
 use Rattle.pt_recover.specs.declared.layout.Slice.{Slice}
-use Rattle.pt_recover.specs.declared.layout.Labelled.{Labelled}
 use Rattle.pt_recover.specs.declared.layout.Layout.{Layout}
 use Rattle.pt_recover.specs.declared.layout.Body.{Body}
 use Rattle.pt_recover.specs.declared.layout.Body.TheVariants.{Mbr, Gpt}
 use Rattle.pt_layout.specs.Members.{label_of}
 use Rattle.pt_convert.specs.Partitions.{partition_of, primary, primaries, logical, logicals_from, partitions, HasFour}
-use Rattle.pt_convert.specs.Room.{edge, NoRoom, small}
-use Rattle.pt_convert.specs.Converted.{new_type, HasUnknown, IsAt, entry_of, guids_taken, IsGptOf, MayConvert, Converted, HasRecords}
+use Rattle.pt_convert.specs.Room.{NoRoom, small}
+use Rattle.pt_convert.specs.Converted.{new_type, HasUnknown, IsAt, entry_of, IsGptOf, Converted, HasRecords}
 use Rattle.pt_convert.specs.Placed.{Placeable}
 use Rattle.pt_convert.specs.declared.partition.Partition.{Partition}
 use Rattle.pt_convert.proofs.Numbers.{placed}
 use Rattle.pt_convert.proofs.Places.{at_place}
-use Rattle.pt_shape.specs.Shape.{FitsTable, FitsMbr, FitsBody, AreLabelsOf, Shaped}
+use Rattle.pt_shape.specs.Shape.{AreLabelsOf, Shaped}
 use Rattle.pt_shape.specs.Keeps.{Keeps}
-use Rattle.pt_kept.specs.Lists.{contains_cases, contains_later}
-use Rattle.pt_kept.specs.Tables.{keeps_gpt, slices_512}
-use Rattle.pt_kept.specs.Mbr.{slices_mbr, body_fits, old_labels, same_slice}
-use Rattle.pt_kept.specs.GptWords.{code_typed}
+use Rattle.pt_kept.proofs.Lists.{contains_cases, contains_later}
+use Rattle.pt_kept.proofs.Tables.{keeps_gpt, slices_512}
+use Rattle.pt_kept.proofs.Mbr.{slices_mbr, body_fits, old_labels, same_slice}
+use Rattle.pt_kept.proofs.GptWords.{code_typed}
 
 -- the slice that a partition is
 abbrev slice_in : Partition → List Slice
@@ -126,8 +125,7 @@ behind n e es ps p above is =
 past_none : (n : ℕ) (e : Option Entry) (es : List (Option Entry)) (ps : List Partition) → Stands n (e ∷ es) ps → ((p : Partition) → Contains ps p → p.number ≢ n) → (entry_slice n e ≡ []) × Stands (n + 1) es ps
 past_none n e es ps s none =
     let up = rising_more n ps s.rising none in
-    let at : e ≡ None = s.others 0 (omega arith) (λ p is same. none p is (omega (arith, same))) in
-    (
+    let at : e ≡ None = s.others 0 (omega arith) (λ p is same. none p is (omega (arith, same))) in (
       ap (entry_slice n) at ∙ no_slice n,
       record {
         rising = up;
@@ -142,8 +140,7 @@ past_one : (n : ℕ) (e : Option Entry) (es : List (Option Entry)) (p : Partitio
 past_one n e es p ps s same =
     let here : Contains (p ∷ ps) p = (0, omega arith, refl) in
     let at : p.number - n ≡ 0 = omega (arith, same) in
-    let up : IsRising (n + 1) ps = subst (λ (k : ℕ). IsRising k ps) (ap (λ (k : ℕ). k + 1) same) s.rising.1 in
-    (
+    let up : IsRising (n + 1) ps = subst (λ (k : ℕ). IsRising k ps) (ap (λ (k : ℕ). k + 1) same) s.rising.1 in (
       subst (λ (k : ℕ). entry_slice k e ≡ slice_in p) same (subst (λ (k : ℕ). entry_slice p.number (slice_index_or (e ∷ es) k None) ≡ slice_in p) at (s.each p here)),
       record {
         rising = up;
@@ -242,6 +239,7 @@ all_typed : (b n : ℕ) (guids : List Guid) (ps : List Partition) (t : Table) �
 all_typed b n guids ps t is enough known k lt = by_number (found ps (k + 1)) where
   at : (k + 1) - 1 ≡ k
   at = omega arith
+
   by_number : ((j : ℕ) × (p : Partition) × IsAt ps j p × (p.number ≡ k + 1)) ⊎ ((p : Partition) → Contains ps p → p.number ≢ k + 1) → IfSome (slice_index_or t.entries k None) IsTyped
   by_number (inl (j, p, stands, same)) =
       let made = made_entry b n guids ps t j p is enough known stands in
@@ -258,8 +256,8 @@ table_stands b n guids ps t is enough known place = record {
   below = λ p at. (let h = place.high at.0 p (at.1, at.2) in omega (arith, h, is.count));
   each = λ p at. (made_entry b n guids ps t at.0 p is enough known (at.1, at.2)).slice;
   others = λ k lt free. (
-    let same : (1 + k) - 1 ≡ k = omega arith in
-    sym (ap (λ (i : ℕ). slice_index_or t.entries i None) same) ∙ is.others (1 + k) (omega arith) (omega (arith, lt, is.count)) free);
+      let same : (1 + k) - 1 ≡ k = omega arith in
+      sym (ap (λ (i : ℕ). slice_index_or t.entries i None) same) ∙ is.others (1 + k) (omega arith) (omega (arith, lt, is.count)) free);
 }
 
 has_room : (b : ℕ) (o : Layout) → ¬ NoRoom b o → HasRoom b o.sectors
@@ -278,6 +276,7 @@ pub keeps_converted : (b : ℕ) (guids : List Guid) (o p : Layout) → Shaped b 
 keeps_converted b guids o p shaped c = subst (λ (q : Layout). Keeps b o.sectors (Some o) q) (sym c.made) (by_body o.body refl) where
   t : Table
   t = c.table
+
   of_mbr : (rs : List (Option Record)) (chain : List Ebr) → o.body ≡ Mbr rs chain → Keeps b o.sectors (Some o) (record { sectors = o.sectors; body = Gpt t; labels = o.labels })
   of_mbr rs chain is =
       let ps = partitions o.body in
@@ -287,7 +286,7 @@ keeps_converted b guids o p shaped c = subst (λ (q : Layout). Keeps b o.sectors
       let place = placed b o (subst HasFour (sym is) fits.four) c.may.room in
       let stands = table_stands b o.sectors guids ps t c.is_table c.may.enough c.may.known place in
       let same : entry_slices 1 t.entries ≡ primary_slices 1 rs ++ logical_slices 5 chain = (standing 1 t.entries ps stands ∙ (ap (flat_map slice_in) ps_is ∙ (flat_map-append slice_in (primaries 1 rs) (logicals_from 5 chain)
-        ∙ (ap (λ (l : List Slice). l ++ flat_map slice_in (logicals_from 5 chain)) (all_primaries 1 rs) ∙ ap (λ (l : List Slice). primary_slices 1 rs ++ l) (all_logicals 5 chain))))) in
+      ∙ (ap (λ (l : List Slice). l ++ flat_map slice_in (logicals_from 5 chain)) (all_primaries 1 rs) ∙ ap (λ (l : List Slice). primary_slices 1 rs ++ l) (all_logicals 5 chain))))) in
       let slices = slices_by_size b t rs chain same (nat_eq b 512) refl in
       keeps_gpt b o t o.labels
       (record {
@@ -301,6 +300,7 @@ keeps_converted b guids o p shaped c = subst (λ (q : Layout). Keeps b o.sectors
       })
       (subst (λ (l : List Slice). AreLabelsOf l o.labels) (sym slices) (old_labels b o rs chain shaped is))
       (λ s there. same_slice b o rs chain s s (label_of o.labels s.number) is (subst (λ (l : List Slice). Contains l s) slices there) refl refl refl)
+
   by_body : (y : Body) → o.body ≡ y → Keeps b o.sectors (Some o) (record { sectors = o.sectors; body = Gpt t; labels = o.labels })
   by_body (Mbr rs chain) is = of_mbr rs chain is
   by_body (Gpt u) is = absurd (subst HasRecords is c.may.is_mbr)

@@ -1,18 +1,16 @@
 -- Slices stand in the order of their numbers.
-use Rattle.std.specs.Prelude.{◌≡◌, ◌≢◌, ◌<◌, ◌≤◌, ◌⊎◌, ◌+◌, ◌-◌, ◌++◌, ◌∷◌, [], ℕ, zero, suc, Bool, true, false, List, filter, map, length, slice_index_or, slice_set, Option, Some, None, Contains, is_some, if◌then◌else◌, nat_eq, nat_lt, ◌&&◌}
+use Rattle.std.specs.Prelude.{◌≡◌, ◌≢◌, ◌<◌, ◌≤◌, ◌+◌, ◌-◌, ◌++◌, ◌∷◌, [], ℕ, Bool, true, false, List, filter, length, slice_index_or, slice_set, Option, Some, None, is_some, if◌then◌else◌, nat_eq}
 use Rattle.std.proofs.Common.{refl, sym, ap, subst, ◌∙◌, inl, inr, arith, append_assoc}
-use Rattle.std.proofs.lemmas.Bool.{cases_lt, eq-eqb, ne_eqb, eqb-true, eqb-false, true≢false}
+use Rattle.std.proofs.lemmas.Bool.{cases_lt, ne_eqb, eqb-true, eqb-false}
 use Rattle.std.proofs.lemmas.List.{length-set, get_or-set_same, get_or-set_other}
 use Rattle.pt_gpt.specs.declared.entry.Entry.{Entry}
-use Rattle.pt_gpt.specs.declared.table.Table.{Table}
 use Rattle.pt_mbr.specs.declared.record.Record.{Record}
 use Rattle.pt_mbr.specs.declared.ebr.Ebr.{Ebr}
-use Rattle.pt_bsd.specs.Label.{entry_of}
-use Rattle.pt_bsd.specs.Counted.{IsCounted, count_of, IsThere}
+use Rattle.pt_bsd.specs.Counted.{count_of}
 use Rattle.pt_bsd.specs.Laws.{with_entry_counted, with_entry_fits}
 use Rattle.pt_bsd.specs.declared.label.Label.{Label}
 use Rattle.pt_bsd.specs.declared.label.LabelEntry.{LabelEntry}
-use Rattle.pt_recover.specs.Labels.{is_slice_kind, slice_from, record_slice, primary_slice, primary_slices, logical_slice, next_number, logical_slices, entry_slice, entry_slices, slices_of, places_of, has_place}
+use Rattle.pt_recover.specs.Labels.{is_slice_kind, slice_from, record_slice, primary_slice, primary_slices, logical_slice, next_number, logical_slices, entry_slice, entry_slices, slices_of}
 use Rattle.pt_recover.specs.declared.layout.Slice.{Slice}
 use Rattle.pt_recover.specs.declared.layout.Labelled.{Labelled}
 use Rattle.pt_recover.specs.declared.layout.Layout.{Layout}
@@ -23,7 +21,7 @@ use Rattle.pt_labels.specs.Lists.{labelled, relabelled_as, with_label}
 use Rattle.pt_labels.specs.Parts.{with_part}
 use Rattle.pt_shape.specs.Shape.{FitsBody, FitsLabel, AreLabelsOf, Shaped}
 use Rattle.pt_shape.specs.Keeps.{SameButParts}
-use Rattle.pt_kept.specs.Lists.{filter_in, filter_out, label_of_head, label_of_tail}
+use Rattle.pt_kept.proofs.Lists.{filter_in, filter_out, label_of_head, label_of_tail}
 
 -- each number is above the one before it
 abbrev pub IsAscending : ℕ → List Slice → Type 0
@@ -156,6 +154,7 @@ label_of_with k m new (x ∷ ls) other = with_step k m new x ls other (label_of_
       let apart : x.number ≢ m = eqb-false x.number m so in
       let number : (relabelled_as k new x).number ≡ x.number = relabelled_number k new x (nat_eq x.number k) refl in
       label_of_tail (relabelled_as k new x) (with_label k new ls) m (λ e. apart (sym number ∙ e)) ∙ (more ∙ sym (label_of_tail x ls m apart))
+
 label_step : (k : ℕ) (old new : Label) (x : Labelled) (ls : List Labelled) → (label_of ls k ≡ Some old → label_of (with_label k new ls) k ≡ Some new) → label_of (x ∷ ls) k ≡ Some old → (t : Bool) → nat_eq x.number k ≡ t → label_of (with_label k new (x ∷ ls)) k ≡ Some new
 label_step k old new x ls more has true so =
     let changed : relabelled_as k new x ≡ labelled x.number new = rw so refl in

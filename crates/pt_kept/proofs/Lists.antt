@@ -1,12 +1,12 @@
 -- Lists of slices and of their labels, by numbers.
-use Rattle.std.specs.Prelude.{◌≡◌, ◌≢◌, ◌<◌, ◌≤◌, ◌⊎◌, ◌+◌, ◌++◌, ◌∷◌, [], ℕ, zero, suc, Bool, true, false, List, map, filter, Contains, length, get_or, Option, Some, None, if◌then◌else◌, nat_eq, nat_lt}
+use Rattle.std.specs.Prelude.{◌≡◌, ◌≢◌, ◌<◌, ◌≤◌, ◌⊎◌, ◌++◌, ◌∷◌, [], ℕ, zero, suc, Bool, true, false, List, filter, Contains, Option, Some, None, nat_eq, nat_lt}
 use Rattle.std.proofs.Common.{refl, sym, ap, subst, ◌∙◌, inl, inr, arith}
 use Rattle.std.proofs.lemmas.Bool.{cases_lt, eq-eqb, ne_eqb, eqb-true, eqb-false, false≢true, lt-ltb, le-ltb}
 use Rattle.pt_bsd.specs.declared.label.Label.{Label}
 use Rattle.pt_recover.specs.declared.layout.Slice.{Slice}
 use Rattle.pt_recover.specs.declared.layout.Labelled.{Labelled}
 use Rattle.pt_layout.specs.Members.{label_of}
-use Rattle.pt_labels.specs.Lists.{labelled, without_label, relabelled_as, with_label, labels_below, labels_above, with_new_label}
+use Rattle.pt_labels.specs.Lists.{labelled, labels_below, labels_above, with_new_label}
 use Rattle.pt_shape.specs.Shape.{FitsLabel, AreLabelsOf}
 
 -- the slices whose numbers pass a test, and the labels
@@ -121,12 +121,14 @@ pub label_of_old : (k m : ℕ) (l : Label) (ls : List Labelled) → m ≢ k → 
 label_of_old k m l ls other = by_side (cases_lt m k) where
   tail : (m : ℕ) → k ≢ m → label_of (labelled k l ∷ labels_above k ls) m ≡ label_of (labels_above k ls) m
   tail m apart = label_of_tail (labelled k l) (labels_above k ls) m apart
+
   below : m < k → (o : Option Label) → label_of ls m ≡ o → label_of (with_new_label k l ls) m ≡ o
   below lt None is =
       let here : label_of (labels_below k ls) m ≡ None = label_of_by (λ n. nat_lt n k) m ls (lt-ltb m k lt) ∙ is in
       label_of_second (labels_below k ls) (labelled k l ∷ labels_above k ls) m here
       ∙ (tail m (λ e. other (sym e)) ∙ label_of_gone (λ n. nat_lt k n) m ls (le-ltb k m (omega (arith, lt))))
   below lt (Some x) is = label_of_first (labels_below k ls) (labelled k l ∷ labels_above k ls) m x (label_of_by (λ n. nat_lt n k) m ls (lt-ltb m k lt) ∙ is)
+
   by_side : (m < k) ⊎ (k ≤ m) → label_of (with_new_label k l ls) m ≡ label_of ls m
   by_side (inl lt) = below lt (label_of ls m) refl
   by_side (inr ge) =
@@ -138,8 +140,8 @@ pub are_entered : (k : ℕ) (s : Slice) (l : Label) (ss : List Slice) (ls : List
     → AreLabelsOf (slices_by (λ n. nat_lt n k) ss ++ s ∷ slices_by (λ n. nat_lt k n) ss) (with_new_label k l ls)
 are_entered k s l ss ls number fits are =
     are_append (slices_by (λ n. nat_lt n k) ss) (s ∷ slices_by (λ n. nat_lt k n) ss) (labels_below k ls) (labelled k l ∷ labels_above k ls)
-        (are_filter (λ n. nat_lt n k) ss ls are)
-        (inl (l, labels_above k ls, ap (λ (n : ℕ). labelled n l ∷ labels_above k ls) (sym number), fits, are_filter (λ n. nat_lt k n) ss ls are))
+    (are_filter (λ n. nat_lt n k) ss ls are)
+    (inl (l, labels_above k ls, ap (λ (n : ℕ). labelled n l ∷ labels_above k ls) (sym number), fits, are_filter (λ n. nat_lt k n) ss ls are))
 
 -- one of a list with one in front
 pub contains_cases : {X : Type 0} (x y : X) (xs : List X) → Contains (x ∷ xs) y → (x ≡ y) ⊎ Contains xs y
