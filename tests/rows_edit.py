@@ -123,6 +123,8 @@ def unsound(command):
     command.on(SMALL.gpt(4096, {1: entry(100, 300), 2: entry(200, 400, unique=guid(2))})).refused("plan 4", "c:1:x")
     command.on(SMALL.gpt(4096, {1: entry(100, 200), 2: entry(300, 400)})).refused("plan 4", "c:1:x")
     command.edited(f"u:2:{guid(2)}").healthy()
+    command.on(SMALL.gpt(4096, {1: entry(100, 300), 2: entry(200, 400, unique=guid(2))})).edited("d:1").healthy()
+    command.on(SMALL.gpt(4096, {1: entry(3000, 2999)})).edited("d:1").healthy().shows(HEAD)
 
 
 def slices(command):
@@ -131,6 +133,11 @@ def slices(command):
     line = f"1 2048 6143 A500 0000000000000000 {images.FIRST}"
     command.on(image).edited("c:1:bsd").shows(f"gpt 8192 34 8158 {images.DISK}", line + " bsd", "1.d 2064 2163 01").healthy()
     command.refused("edit 8", "t:1:8300").refused("edit 8", "d:1.c").refused("edit 1", "d:1.a").refused("edit 6", "t:1.d:8300")
+    command.refused("not yet", "d:1.d").refused("not yet", "t:1.d:07")
+    command.edited("d:1").healthy().shows(f"gpt 8192 34 8158 {images.DISK}")
+    foreign = SMALL.gpt(8192, {1: entry(2048, 6143, FREEBSD)})
+    SMALL.put(foreign, 2049, label(4000, {}))
+    command.on(foreign).unhealthy("11 foreign label 1").edited("d:1").healthy()
 
 
 def not_for_mbr(command):

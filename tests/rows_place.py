@@ -34,6 +34,7 @@ def beside_one(command):
     for code in ("EF00", "ef00", "8200", "0700", "A503"):
         command.on(one_partition()).edited(*NEXT, "a:1", f"n:128:100:200:{code}").healthy()
         command.shows(HEAD, ONE, new_line(128, 100, 200, code.upper()))
+    command.on(one_partition()).edited(*NEXT, "d:1", "n:1:2048:4062:8200").shows(HEAD, new_line(1, 2048, 4062, "8200")).healthy()
     command.on(one_partition()).edited(*NEXT, "a:1", "n:2:100:200", "c:2:new", "A:2:0:1", "d:1").healthy()
     command.shows(HEAD, f"2 100 200 8300 0000000000000001 {NEXT_GUID} new")
 

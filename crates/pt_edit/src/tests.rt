@@ -3,6 +3,7 @@
 ghost use Rattle.std.specs.Prelude.{◌≡◌, IfSome};
 ghost use Rattle.pt_sector.specs.Sectors.{IsSectorSize};
 
+use crate::gpt::{Gpt, used_entry};
 use crate::{edit, parse_edit};
 use pt_bsd::{LabelEntry, empty_label};
 use pt_gpt::Entry;
@@ -60,32 +61,34 @@ fn refusal(made: Result<Layout, u8>) -> u8 {
 }
 
 /// The entry of a number.
-fn entry(made: Result<Layout, u8>, number: usize) -> Option<Entry> {
-    match made {
-        Ok(Layout { body, .. }) => match body {
-            Body::Gpt(table) if number > 0 && number <= table.entries.len() => {
-                table.entries.get(number - 1)
-            }
-            _ => None,
-        },
+fn entry(made: Result<Layout, u8>, number: u64) -> Option<Entry> {
+    let layout = match made {
+        Ok(layout) => layout,
+        Err(_) => return None,
+    };
+    match Gpt::of(layout) {
+        Ok(gpt) => used_entry(&gpt.table, number),
         Err(_) => None,
     }
 }
 
-/// The first and the last sector of the partition of a number.
-fn span(made: Result<Layout, u8>, number: u64) -> Option<(u128, u128)> {
-    let body = match made {
-        Ok(Layout { body, .. }) => body,
-        Err(_) => return None,
-    };
-    for k in 0..slot_count::<512>(&body) {
-        if let Some(member) = slot::<512>(&body, k) {
+fn span_in(body: &Body, number: u64) -> Option<(u128, u128)> {
+    for k in 0..slot_count::<512>(body) {
+        if let Some(member) = slot::<512>(body, k) {
             if member.path.number == number {
                 return Some((member.first, member.last));
             }
         }
     }
     None
+}
+
+/// The first and the last sector of the partition of a number.
+fn span(made: Result<Layout, u8>, number: u64) -> Option<(u128, u128)> {
+    match made {
+        Ok(layout) => span_in(&layout.body, number),
+        Err(_) => None,
+    }
 }
 
 #[test]

@@ -11,3 +11,4 @@ pub mod Verdicts
 pub mod LabelPlaces
 pub mod Numbers
 pub mod Paths
+pub mod Failing

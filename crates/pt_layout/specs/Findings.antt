@@ -1,13 +1,15 @@
 -- What is wrong with a disk: the first that holds.
-use Rattle.std.specs.Prelude.{◌≡◌, ◌≢◌, ◌≤◌, ◌+◌, ◌-◌, ℕ, length, Some, None}
+use Rattle.std.specs.Prelude.{◌≡◌, ◌≢◌, ◌≤◌, ◌⊎◌, ◌+◌, ◌-◌, ℕ, length, Some, None}
 use Rattle.pt_sector.specs.Sectors.{Sectors, sector}
 use Rattle.pt_mbr.specs.Protective.{IsProtective}
-use Rattle.pt_gpt.specs.Copy.{Copy, HasCopy, IsCopyFault}
+use Rattle.pt_gpt.specs.Copy.{Copy, HasCopy, IsCopyFault, SideReads}
 use Rattle.pt_gpt.specs.declared.header.Header.{Header}
 use Rattle.pt_gpt.specs.declared.table.Table.{Table}
 use Rattle.pt_gpt.specs.declared.table.Side.{Side}
 use Rattle.pt_gpt.specs.declared.table.Side.TheVariants.{Primary, Backup}
-use Rattle.pt_recover.specs.Denotes.{Denotes}
+use Rattle.pt_recover.specs.Mbr.{IsMbrDisk}
+use Rattle.pt_recover.specs.Gpt.{HasRoom}
+use Rattle.pt_recover.specs.Denotes.{Denotes, Reads}
 use Rattle.pt_recover.specs.Answers.{IsReason}
 use Rattle.pt_recover.specs.declared.layout.Layout.{Layout}
 use Rattle.pt_recover.specs.declared.layout.Body.{Body}
@@ -108,3 +110,16 @@ VerdictIs b d (No f) = IsFinding b d f
 abbrev pub FailedAs : VerifyError → ℕ → ℕ → Type 0
 FailedAs (Device at) before now = now ≡ before + 1
 FailedAs Memory before now = now ≡ before
+
+-- the backup side of a disk that is tried as a GPT
+abbrev pub BackupReads : ℕ → Sectors → ℕ → Type 0
+BackupReads b d s = (¬ IsMbrDisk d) × HasRoom b (length d) × SideReads b d Backup s
+
+-- the sectors that decide a verdict: those that recovery reads, and the backup side of a GPT
+abbrev pub VerdictReads : ℕ → Sectors → ℕ → Type 0
+VerdictReads b d s = Reads b d s ⊎ BackupReads b d s
+
+-- a device's fault is at one of these sectors
+abbrev pub FailedIn : (ℕ → Type 0) → VerifyError → Type 0
+FailedIn S (Device at) = S at.0
+FailedIn S Memory = Unit {0}

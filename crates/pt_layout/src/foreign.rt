@@ -2,8 +2,8 @@
 
 ghost use Rattle.std.specs.Prelude.{◌≡◌, ◌<◌, ◌↔◌, IsTrue, IfOk, IfErr, OnOk, All};
 ghost use Rattle.pt_sector.specs.Sectors.{IsSectorSize};
-ghost use Rattle.pt_recover.specs.Labels.{place_of};
-ghost use Rattle.pt_layout.specs.Findings.{FailedAs};
+ghost use Rattle.pt_recover.specs.Labels.{place_of, places_of, IsPlace};
+ghost use Rattle.pt_layout.specs.Findings.{FailedAs, FailedIn};
 ghost use Rattle.pt_layout.specs.Next.{NextIs};
 ghost use Rattle.pt_layout.specs.Foreign.{ForeignBytes, ForeignOf, ForeignAmong, ForeignIs};
 
@@ -53,6 +53,7 @@ fn foreign_number<const B: usize, D: Disk<B>>(
     ensures reads { D.reads disk.old disk.new }
     ensures quiet { OnOk result (D.failures disk.new ≡ D.failures disk.old) }
     ensures failed { IfErr result (λ e. FailedAs e (D.failures disk.old) (D.failures disk.new)) }
+    ensures place { IfErr result (FailedIn (λ s. s ≡ place_of slice)) }
     ensures same { D.tells → D.told disk.new ≡ D.told disk.old }
     ensures ok { D.tells → IfOk result (NextIs (ForeignOf (D.told disk.old).seen slice) 0) }
 {
@@ -77,6 +78,7 @@ fn lowest_foreign<const B: usize, D: Disk<B>>(
     ensures reads { D.reads disk.old disk.new }
     ensures quiet { OnOk result (D.failures disk.new ≡ D.failures disk.old) }
     ensures failed { IfErr result (λ e. FailedAs e (D.failures disk.old) (D.failures disk.new)) }
+    ensures place { IfErr result (FailedIn (IsPlace slices.now)) }
     ensures same { D.tells → D.told disk.new ≡ D.told disk.old }
     ensures ok { D.tells → IfOk result (NextIs (ForeignAmong (D.told disk.old).seen slices.now) 0) }
 {
@@ -103,6 +105,7 @@ pub(crate) fn first_foreign<const B: usize, D: Disk<B>>(
     ensures reads { D.reads disk.old disk.new }
     ensures quiet { OnOk result (D.failures disk.new ≡ D.failures disk.old) }
     ensures failed { IfErr result (λ e. FailedAs e (D.failures disk.old) (D.failures disk.new)) }
+    ensures place { D.tells → IfErr result (FailedIn (IsPlace (places_of B (D.count disk.old) layout.now.body))) }
     ensures same { D.tells → D.told disk.new ≡ D.told disk.old }
     ensures ok { D.tells → IfOk result (ForeignIs B (D.told disk.old).seen layout.now) }
 {

@@ -2,10 +2,12 @@
 
 ghost use Rattle.std.specs.Prelude.{◌≡◌, ◌-◌, ◌<◌, ◌≤◌, ◌⊎◌, ◌↔◌, IsTrue, IfOk, IfErr, OnOk};
 ghost use Rattle.pt_sector.specs.Sectors.{IsSectorSize};
-ghost use Rattle.pt_gpt.specs.Errors.{FailedAs as FailedAsCopy};
+ghost use Rattle.pt_gpt.specs.Errors.{FailedAs as FailedAsCopy, FailedIn as FailedInCopy};
 ghost use Rattle.pt_gpt.specs.Answers.{TellsFault};
+ghost use Rattle.pt_gpt.specs.Copy.{SideReads};
+ghost use Rattle.pt_gpt.specs.declared.table.Side.TheVariants.{Primary, Backup};
 ghost use Rattle.pt_recover.specs.Gpt.{HasRoom};
-ghost use Rattle.pt_layout.specs.Findings.{FailedAs};
+ghost use Rattle.pt_layout.specs.Findings.{FailedAs, FailedIn};
 ghost use Rattle.pt_layout.specs.Halves.{HalfIs, HalfOrFault, HalvesAre, OutsideAs, paired_as};
 
 use crate::finding::VerifyError;
@@ -41,6 +43,7 @@ fn read_half<const B: usize, D: Disk<B>>(
     ensures reads { D.reads disk.old disk.new }
     ensures quiet { OnOk result (D.failures disk.new ≡ D.failures disk.old) }
     ensures failed { IfErr result (λ e. FailedAsCopy e (D.failures disk.old) (D.failures disk.new)) }
+    ensures place { D.tells → IfErr result (FailedInCopy (SideReads B (D.told disk.old).seen side)) }
     ensures same { D.tells → D.told disk.new ≡ D.told disk.old }
     ensures ok { D.tells → IfOk result (λ h. HalfIs B (D.told disk.old).seen side h) }
     ensures err { D.tells → IfErr result (λ e. TellsFault B (D.told disk.old).seen side e) }
@@ -79,6 +82,7 @@ fn half_or_fault<const B: usize, D: Disk<B>>(
     ensures reads { D.reads disk.old disk.new }
     ensures quiet { OnOk result (D.failures disk.new ≡ D.failures disk.old) }
     ensures failed { IfErr result (λ e. FailedAs e (D.failures disk.old) (D.failures disk.new)) }
+    ensures place { D.tells → IfErr result (FailedIn (SideReads B (D.told disk.old).seen side)) }
     ensures same { D.tells → D.told disk.new ≡ D.told disk.old }
     ensures ok { D.tells → IfOk result (λ h. HalfOrFault B (D.told disk.old).seen side h) }
 {
@@ -104,6 +108,7 @@ pub(crate) fn read_halves<const B: usize, D: Disk<B>>(
     ensures reads { D.reads disk.old disk.new }
     ensures quiet { OnOk result (D.failures disk.new ≡ D.failures disk.old) }
     ensures failed { IfErr result (λ e. FailedAs e (D.failures disk.old) (D.failures disk.new)) }
+    ensures place { D.tells → IfErr result (FailedIn (λ s. SideReads B (D.told disk.old).seen Primary s ⊎ SideReads B (D.told disk.old).seen Backup s)) }
     ensures same { D.tells → D.told disk.new ≡ D.told disk.old }
     ensures ok { D.tells → IfOk result (λ h. HalvesAre B (D.told disk.old).seen h) }
 {

@@ -4,13 +4,14 @@ ghost use Rattle.std.specs.Prelude.{◌≡◌, ◌<◌, ◌≤◌, ◌↔◌, If
 ghost use Rattle.pt_sector.specs.Sectors.{IsSectorSize, sector};
 ghost use Rattle.pt_recover.specs.Mbr.{IsMbrSector};
 ghost use Rattle.pt_recover.specs.Gpt.{HasRoom};
+ghost use Rattle.pt_recover.specs.Labels.{places_of, IsPlace};
 ghost use Rattle.pt_gpt.specs.declared.table.Side.TheVariants.{Primary, Backup};
 ghost use Rattle.pt_recover.specs.declared.layout.Body.TheVariants.{Gpt};
-ghost use Rattle.pt_recover.specs.Denotes.{BodyIs, Denotes};
+ghost use Rattle.pt_recover.specs.Denotes.{BodyIs, Denotes, Reads};
 ghost use Rattle.pt_layout.specs.Healthy.{IsBodyWhole};
 ghost use Rattle.pt_layout.specs.Halves.{HalfIs, HalvesAre};
 ghost use Rattle.pt_layout.specs.Verdicts.{HeadIs, NoGpt, LayoutOf, PairIs, IsOpen, IsHalfBroken, OutsideOf};
-ghost use Rattle.pt_layout.specs.Findings.{VerdictIs, FailedAs};
+ghost use Rattle.pt_layout.specs.Findings.{VerdictIs, FailedAs, FailedIn, VerdictReads};
 
 use crate::finding::{Finding, Verdict, VerifyError};
 use crate::foreign::first_foreign;
@@ -65,6 +66,7 @@ fn read_head<const B: usize, D: Disk<B>>(disk: &mut D) -> Result<Head, VerifyErr
     ensures reads { D.reads disk.old disk.new }
     ensures quiet { OnOk result (D.failures disk.new ≡ D.failures disk.old) }
     ensures failed { IfErr result (λ e. FailedAs e (D.failures disk.old) (D.failures disk.new)) }
+    ensures place { IfErr result (FailedIn (λ s. s ≡ 0)) }
     ensures same { D.tells → D.told disk.new ≡ D.told disk.old }
     ensures ok { D.tells → IfOk result (HeadIs (D.count disk.old) (sector (D.told disk.old).seen 0)) }
 {
@@ -90,6 +92,7 @@ fn judge<const B: usize, D: Disk<B>>(
     ensures reads { D.reads disk.old disk.new }
     ensures quiet { OnOk result (D.failures disk.new ≡ D.failures disk.old) }
     ensures failed { IfErr result (λ e. FailedAs e (D.failures disk.old) (D.failures disk.new)) }
+    ensures place { D.tells → IfErr result (FailedIn (Reads B (D.told disk.old).seen)) }
     ensures same { D.tells → D.told disk.new ≡ D.told disk.old }
     ensures ok { D.tells → IfOk result (λ v. VerdictIs B (D.told disk.old).seen v) }
 {
@@ -118,6 +121,7 @@ fn with_labels<const B: usize, D: Disk<B>>(
     ensures reads { D.reads disk.old disk.new }
     ensures quiet { OnOk result (D.failures disk.new ≡ D.failures disk.old) }
     ensures failed { IfErr result (λ e. FailedAs e (D.failures disk.old) (D.failures disk.new)) }
+    ensures place { D.tells → IfErr result (FailedIn (IsPlace (places_of B (D.count disk.old) (Gpt table)))) }
     ensures same { D.tells → D.told disk.new ≡ D.told disk.old }
     ensures sectors { IfOk result (λ o. o.sectors ≡ D.count disk.old) }
     ensures ok { D.tells → IfOk result (LayoutOf B (D.told disk.old).seen table) }
@@ -187,6 +191,7 @@ fn verify_both<const B: usize, D: Disk<B>>(
     ensures reads { D.reads disk.old disk.new }
     ensures quiet { OnOk result (D.failures disk.new ≡ D.failures disk.old) }
     ensures failed { IfErr result (λ e. FailedAs e (D.failures disk.old) (D.failures disk.new)) }
+    ensures place { D.tells → IfErr result (FailedIn (VerdictReads B (D.told disk.old).seen)) }
     ensures same { D.tells → D.told disk.new ≡ D.told disk.old }
     ensures ok { D.tells → IfOk result (λ v. VerdictIs B (D.told disk.old).seen v) }
 {
@@ -218,6 +223,7 @@ fn verify_one<const B: usize, D: Disk<B>>(
     ensures reads { D.reads disk.old disk.new }
     ensures quiet { OnOk result (D.failures disk.new ≡ D.failures disk.old) }
     ensures failed { IfErr result (λ e. FailedAs e (D.failures disk.old) (D.failures disk.new)) }
+    ensures place { D.tells → IfErr result (FailedIn (VerdictReads B (D.told disk.old).seen)) }
     ensures same { D.tells → D.told disk.new ≡ D.told disk.old }
     ensures ok { D.tells → IfOk result (λ v. VerdictIs B (D.told disk.old).seen v) }
 {
@@ -244,6 +250,7 @@ fn verify_halves<const B: usize, D: Disk<B>>(
     ensures reads { D.reads disk.old disk.new }
     ensures quiet { OnOk result (D.failures disk.new ≡ D.failures disk.old) }
     ensures failed { IfErr result (λ e. FailedAs e (D.failures disk.old) (D.failures disk.new)) }
+    ensures place { D.tells → IfErr result (FailedIn (VerdictReads B (D.told disk.old).seen)) }
     ensures same { D.tells → D.told disk.new ≡ D.told disk.old }
     ensures ok { D.tells → IfOk result (λ v. VerdictIs B (D.told disk.old).seen v) }
 {
@@ -272,6 +279,7 @@ fn verify_gpt<const B: usize, D: Disk<B>>(
     ensures reads { D.reads disk.old disk.new }
     ensures quiet { OnOk result (D.failures disk.new ≡ D.failures disk.old) }
     ensures failed { IfErr result (λ e. FailedAs e (D.failures disk.old) (D.failures disk.new)) }
+    ensures place { D.tells → IfErr result (FailedIn (VerdictReads B (D.told disk.old).seen)) }
     ensures same { D.tells → D.told disk.new ≡ D.told disk.old }
     ensures ok { D.tells → IfOk result (λ v. VerdictIs B (D.told disk.old).seen v) }
 {
@@ -298,6 +306,7 @@ fn verify_mbr<const B: usize, D: Disk<B>>(
     ensures reads { D.reads disk.old disk.new }
     ensures quiet { OnOk result (D.failures disk.new ≡ D.failures disk.old) }
     ensures failed { IfErr result (λ e. FailedAs e (D.failures disk.old) (D.failures disk.new)) }
+    ensures place { D.tells → IfErr result (FailedIn (VerdictReads B (D.told disk.old).seen)) }
     ensures same { D.tells → D.told disk.new ≡ D.told disk.old }
     ensures ok { D.tells → IfOk result (λ v. VerdictIs B (D.told disk.old).seen v) }
 {
@@ -324,6 +333,7 @@ pub fn verify<const B: usize, D: Disk<B>>(
     ensures reads { D.reads disk.old disk.new }
     ensures quiet { OnOk result (D.failures disk.new ≡ D.failures disk.old) }
     ensures failed { IfErr result (λ e. FailedAs e (D.failures disk.old) (D.failures disk.new)) }
+    ensures place { D.tells → IfErr result (FailedIn (VerdictReads B (D.told disk.old).seen)) }
     ensures same { D.tells → D.told disk.new ≡ D.told disk.old }
     ensures ok { D.tells → IfOk result (λ v. VerdictIs B (D.told disk.old).seen v) }
 {

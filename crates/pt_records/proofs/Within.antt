@@ -1,5 +1,5 @@
 -- Bounds of a new record's number and sectors.
-use Rattle.std.proofs.Common.{◌≡◌, ◌<◌, ◌≤◌, ◌-◌, ◌^◌, ℕ, List, min, Option, arith}
+use Rattle.std.proofs.Common.{◌<◌, ◌≤◌, ◌-◌, ◌^◌, ℕ, List, min, Option, arith}
 use Rattle.pt_mbr.specs.declared.record.Record.{Record}
 use Rattle.pt_space.specs.declared.space.Run.{Run}
 use Rattle.pt_space.specs.Area.{IsFreeRun}

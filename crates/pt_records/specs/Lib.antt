@@ -6,3 +6,4 @@ pub mod Numbers
 pub mod New
 pub mod Created
 pub mod NewLaws
+pub mod Apart

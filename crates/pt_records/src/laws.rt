@@ -7,6 +7,7 @@ ghost use Rattle.pt_words.specs.declared.word.Code.{Code};
 ghost use Rattle.pt_words.specs.declared.word.End.{End};
 ghost use Rattle.pt_records.specs.Typed.{RecordTyped, RecordNotTyped};
 ghost use Rattle.pt_records.specs.Deleted.{RecordDeleted, RecordNotDeleted};
+ghost use Rattle.pt_records.specs.Apart.{RecordsLieApart};
 ghost use Rattle.pt_records.specs.Created.{RecordNew, RecordNotNew};
 
 /// `t` makes one layout.
@@ -61,4 +62,10 @@ pub fn not_new_is_one()
 #[tactic(auto, using(crate::specs::NewLaws::record_new_taken_lem))]
 pub fn new_is_taken()
     ensures { (b number alignment start : ℕ) (end : End) (code : Option Code) (o p : Layout) (r : Refusal) → RecordNew b number alignment start end code o p → ¬ RecordNotNew b number alignment start end code o r }
+{}
+
+/// Where no sector is in two records, none is sector 0 and all are on the disk, so it is after `n`.
+#[tactic(auto, using(crate::specs::Apart::new_apart_lem))]
+pub fn new_stays_apart()
+    ensures { (b number alignment start : ℕ) (end : End) (code : Option Code) (o p : Layout) → RecordNew b number alignment start end code o p → RecordsLieApart o → RecordsLieApart p }
 {}

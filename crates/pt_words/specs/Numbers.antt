@@ -30,4 +30,3 @@ refusal_number refusal.NoRoomForGpt = 12
 refusal_number refusal.ForeignLabel = 13
 refusal_number refusal.Memory = 14
 refusal_number refusal.LabelOffset = 15
-refusal_number refusal.NotYet = 0

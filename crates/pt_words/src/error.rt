@@ -69,12 +69,10 @@ pub enum Refusal {
     Memory,
     /// The label counts its offsets from another sector.
     LabelOffset,
-    /// The word has no meaning here yet: `n` and `g`, and in an MBR `d` and `t`. This answer goes as they come.
-    NotYet,
 }
 
 impl Refusal {
-    /// The number that stands for it, from 1 to 15 in the order of the variants; 0 for `NotYet`.
+    /// The number that stands for it, from 1 to 15 in the order of the variants.
     pub fn number(self) -> u8
         ensures { result ≡ refusal_number self }
     {
@@ -94,7 +92,6 @@ impl Refusal {
             Refusal::ForeignLabel => 13,
             Refusal::Memory => 14,
             Refusal::LabelOffset => 15,
-            Refusal::NotYet => 0,
         }
     }
 }

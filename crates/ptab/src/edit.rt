@@ -6,7 +6,7 @@ use crate::file_disk::{Access, open};
 use crate::run::{Answer, printed};
 use crate::texts::{Failure, Status};
 use pt_check::Why;
-use pt_edit::{Edit, EditError, Refusal, parse_edit};
+use pt_edit::{Edit, EditError, parse_edit};
 use pt_guid::{Guid, fresh as fresh_guid};
 use pt_plan::{CommitError, PlanError, commit};
 use std::alloc::Global;
@@ -73,7 +73,6 @@ fn check_number(why: Why) -> u8 {
 fn refusal(error: CommitError) -> Failure {
     match error {
         CommitError::NoTable(why) => Failure::NoTable(why),
-        CommitError::Edit(Refusal::NotYet) => Failure::NotYet,
         CommitError::Edit(why) => Failure::Edit(why.number()),
         CommitError::Plan(PlanError::NotYet) => Failure::NotYet,
         CommitError::Plan(why) => Failure::Plan(why.number()),

@@ -4,6 +4,7 @@ use Rattle.pt_sector.specs.Device.{Told}
 use Rattle.pt_layout.specs.Next.{NextIs}
 use Rattle.pt_layout.specs.Foreign.{ForeignOf, no_slice}
 use Rattle.pt_layout.proofs.Lowest.{Under, next_more}
+use Rattle.pt_layout.proofs.Failing.{place_failed}
 use Rattle.pt_layout.proofs.foreign.lowest_foreign.Goals as goal
 
 pub loop-k-preserved : goal.loop-k-preserved
@@ -26,3 +27,6 @@ returns-clause-ok g c = λ tells.
     let d : Sectors = (g.D.Disk.told c.args.disk.now).seen in
     let all : c.loop-k.k ≡ length c.args.slices.now = omega arith in
     subst (λ (k : ℕ). NextIs (Under (λ j. ForeignOf d (get_or c.args.slices.now j no_slice)) k) 0 c.loop-k.lowest) all (c.loop-k.invariant.lowest tells)
+
+pub returns-in-Err-clause-place : goal.returns-in-Err-clause-place
+returns-in-Err-clause-place g c = place_failed c.args.slices.now c.loop-k.k (record { number = 0; first = 0; len = 0 }) c.in-Err.e (omega arith) c.in-Err.ensures.place

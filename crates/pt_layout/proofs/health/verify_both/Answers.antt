@@ -1,14 +1,17 @@
 use Rattle.std.proofs.Common.{◌≡◌, ◌∙◌, ℕ, length, Some, None, sym, subst}
-use Rattle.std.specs.Prelude.{IfOk}
+use Rattle.std.specs.Prelude.{IfOk, IfErr}
 use Rattle.pt_sector.specs.Sectors.{Sectors}
 use Rattle.pt_sector.specs.Device.{Told}
 use Rattle.pt_recover.specs.Gpt.{HasRoom}
-use Rattle.pt_recover.specs.Denotes.{Denotes}
+use Rattle.pt_recover.specs.Denotes.{Denotes, Reads}
 use Rattle.pt_layout.specs.declared.finding.Verdict.{Verdict}
 use Rattle.pt_layout.specs.Healthy.{IsBodyWhole}
 use Rattle.pt_layout.specs.Verdicts.{PairIs}
-use Rattle.pt_layout.specs.Findings.{VerdictIs}
-use Rattle.pt_layout.proofs.Verdicts.{pair_finding, pair_whole, pair_denotes}
+use Rattle.pt_layout.specs.Findings.{VerdictIs, FailedIn, VerdictReads}
+use Rattle.pt_layout.proofs.Verdicts.{pair_finding, pair_whole, pair_denotes, primary_body, open_plain}
+use Rattle.std.proofs.lemmas.Result.{IfErr-weaker}
+use Rattle.pt_recover.specs.declared.layout.Body.TheVariants.{Gpt}
+use Rattle.pt_layout.proofs.Failing.{label_failed, read_failed}
 use Rattle.pt_layout.proofs.health.verify_both.Goals as goal
 
 pub returns-in-Some-clause-ok : goal.returns-in-Some-clause-ok
@@ -42,3 +45,17 @@ returns-clause-same g c = λ tells. c.judge.ensures.same tells ∙ c.in-Ok.ensur
 pub returns-clause-ok : goal.returns-clause-ok
 returns-clause-ok g c = λ tells.
     subst (λ (t : Told). IfOk c.judge.result (λ (v : Verdict). VerdictIs g.row.B t.seen v)) (c.in-Ok.ensures.same tells) (c.judge.ensures.ok tells)
+
+pub returns-in-Err-clause-place : goal.returns-in-Err-clause-place
+returns-in-Err-clause-place g c = λ tells.
+    let d : Sectors = (g.D.Disk.told c.args.disk.now).seen in
+    let sized : length d ≡ g.D.Disk.count c.args.disk.now = g.met.D.Disk.sized c.args.disk.now tells in
+    let room : HasRoom g.row.B (length d) = subst (λ (n : ℕ). HasRoom g.row.B n) (sym sized) c.requires.room in
+    let is = primary_body g.row.B d c.args.primary.header c.args.primary.table (open_plain d c.args.protected (c.requires.open tells)) room (c.requires.primary tells) in
+    read_failed g.row.B d c.in-Err.e (label_failed g.row.B (g.D.Disk.count c.args.disk.now) d (Gpt c.args.primary.table) c.in-Err.e is (sym sized) (c.in-Err.ensures.place tells))
+
+pub returns-clause-place : goal.returns-clause-place
+returns-clause-place g c = λ tells.
+    let d : Sectors = (g.D.Disk.told c.args.disk.now).seen in
+    IfErr-weaker c.judge.result (FailedIn (Reads g.row.B d)) (FailedIn (VerdictReads g.row.B d)) (λ e failed. read_failed g.row.B d e failed)
+    (subst (λ (t : Told). IfErr c.judge.result (FailedIn (Reads g.row.B t.seen))) (c.in-Ok.ensures.same tells) (c.judge.ensures.place tells))

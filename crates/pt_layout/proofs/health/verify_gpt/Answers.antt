@@ -1,9 +1,10 @@
-use Rattle.std.proofs.Common.{◌≡◌, ◌∙◌, length, sym, subst, arith}
+use Rattle.std.proofs.Common.{◌≡◌, ◌∙◌, ℕ, length, sym, subst, arith}
 use Rattle.pt_sector.specs.Sectors.{Sectors}
 use Rattle.pt_sector.specs.Device.{Told}
 use Rattle.pt_recover.specs.Gpt.{HasRoom}
 use Rattle.pt_layout.specs.Verdicts.{IsOpen}
-use Rattle.pt_layout.proofs.Verdicts.{small_finding}
+use Rattle.pt_layout.proofs.Verdicts.{small_finding, open_plain}
+use Rattle.pt_layout.proofs.Failing.{halves_failed}
 use Rattle.pt_layout.proofs.health.verify_gpt.Goals as goal
 
 pub returns-then-sectors-array_sectors-clause-ok : goal.returns-then-sectors-array_sectors-clause-ok
@@ -15,3 +16,11 @@ returns-then-sectors-array_sectors-clause-ok g c = λ tells.
 
 pub verify_halves-requires-clause-open : goal.verify_halves-requires-clause-open
 verify_halves-requires-clause-open g c = λ tells. subst (λ (t : Told). IsOpen t.seen c.args.protected) (sym (c.in-Ok.ensures.same tells)) (c.requires.open tells)
+
+pub returns-in-Err-clause-place : goal.returns-in-Err-clause-place
+returns-in-Err-clause-place g c = λ tells.
+    let d : Sectors = (g.D.Disk.told c.args.disk.now).seen in
+    let sized : c.sectors-sectors.result ≡ length d = c.sectors-sectors.ensures ∙ sym (g.met.D.Disk.sized c.args.disk.now tells) in
+    let enough : HasRoom g.row.B c.sectors-sectors.result = omega (arith, c.if-sectors-array_sectors.false, c.array_sectors.ensures.value) in
+    let room : HasRoom g.row.B (length d) = subst (λ (n : ℕ). HasRoom g.row.B n) sized enough in
+    halves_failed g.row.B d c.in-Err.e (open_plain d c.args.protected (c.requires.open tells)) room (c.in-Err.ensures.place tells)

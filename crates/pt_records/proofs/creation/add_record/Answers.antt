@@ -1,6 +1,6 @@
 use Rattle.std.proofs.Common.{refl}
 use Rattle.pt_records.specs.New.{not_chosen, not_placed, too_short}
-use Rattle.pt_records.specs.Created.{new_record, no_new_record}
+use Rattle.pt_records.specs.Created.{no_new_record}
 use Rattle.pt_records.proofs.creation.add_record.Goals as goal
 
 pub returns-in-Err-clause-err : goal.returns-in-Err-clause-err
