@@ -8,7 +8,9 @@ tests/install.sh
 said=$(mktemp)
 trap 'rm -f "$said"' EXIT
 rt ci | tee "$said"
-ptab=$(./build.sh)
+# what `rt ci` proved and built
+ptab="$PWD/crates/ptab/out/ptab"
+if [ ! -x "$ptab" ]; then ptab=$(./build.sh); fi
 python3 tests/real_images.py "$ptab"
 python3 tests/against_sgdisk.py "$ptab"
 python3 tests/bad_input.py "$ptab"
