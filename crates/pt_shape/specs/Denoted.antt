@@ -1,9 +1,12 @@
 -- What a disk denotes is shaped.
-use Rattle.std.specs.Prelude.{◌≡◌, ◌≢◌, ◌<◌, ◌≤◌, ◌+◌, ℕ, zero, suc, List, [], ◌∷◌, length, get_or, slice_index, Option, Some, None}
+use Rattle.std.specs.Prelude.{◌≡◌, ◌≢◌, ◌<◌, ◌≤◌, ◌+◌, ℕ, zero, suc, List, [], ◌∷◌, length, get_or, slice_index, Option, Some, None, Bool, true, false, filter, nat_lt, ◌-◌, ◌^◌, take, drop, slice_range}
 use Rattle.std.proofs.Common.{refl, sym, ap, subst, ◌∙◌, inl, inr, arith}
+use Rattle.std.proofs.lemmas.Bool.{ltb-true, false≢true}
 use Rattle.pt_sector.specs.Sectors.{Sectors, Span, sector}
 use Rattle.pt_sector.specs.declared.address.Lba.{Lba}
 use Rattle.pt_mbr.specs.Mbr.{IsBootIndicator, AreRecords, BearsProtective, HasBootIndicators}
+use Rattle.byteorder.specs.Numbers.{little_from-lt}
+use Rattle.pt_mbr.specs.Bytes.{number_at}
 use Rattle.pt_mbr.specs.Record.{IsExtendedKind, RecordIs, IsUsed}
 use Rattle.pt_mbr.specs.Ebr.{HasBadLogical}
 use Rattle.pt_mbr.specs.Chain.{Walk, lba}
@@ -20,7 +23,7 @@ use Rattle.pt_bsd.specs.Label.{HasRaw}
 use Rattle.pt_bsd.specs.declared.label.Label.{Label}
 use Rattle.pt_bsd.specs.declared.label.LabelEntry.{LabelEntry}
 use Rattle.pt_recover.specs.Mbr.{IsMbr, IsMbrSector, HasChain, extended_of, extent_of}
-use Rattle.pt_recover.specs.Labels.{places_of, LabelsAre, place_of}
+use Rattle.pt_recover.specs.Labels.{slices_of, places_of, has_place, LabelsAre, place_of}
 use Rattle.pt_recover.specs.Denotes.{Denotes, BodyIs}
 use Rattle.pt_recover.specs.declared.layout.Slice.{Slice}
 use Rattle.pt_recover.specs.declared.layout.Labelled.{Labelled}
@@ -46,61 +49,84 @@ copy_fits b d side t copy =
       typed = copy_is_typed_lem b d side t copy;
     }
 
+-- each byte of a sector is one
+abbrev pub AreBytes : List ℕ → Type 0
+AreBytes bytes = (k : ℕ) → slice_index bytes k < 256
+
+abbrev pub AllBytes : Sectors → Type 0
+AllBytes d = (s : ℕ) → AreBytes (sector d s)
+
+take_bytes : (n : ℕ) (bytes : List ℕ) → AreBytes bytes → AreBytes (take n bytes)
+take_bytes zero bytes are k = omega arith
+take_bytes (suc n) [] are k = omega arith
+take_bytes (suc n) (x ∷ xs) are zero = are 0
+take_bytes (suc n) (x ∷ xs) are (suc k) = take_bytes n xs (λ i. are (suc i)) k
+
+drop_bytes : (n : ℕ) (bytes : List ℕ) → AreBytes bytes → AreBytes (drop n bytes)
+drop_bytes zero bytes are k = are k
+drop_bytes (suc n) [] are k = omega arith
+drop_bytes (suc n) (x ∷ xs) are k = drop_bytes n xs (λ i. are (suc i)) k
+
+number_fits : (i : ℕ) (bytes : List ℕ) → AreBytes bytes → number_at i 4 bytes < 2 ^ 32
+number_fits i bytes are = little_from-lt 0 4 (slice_range bytes i (i + 4)) (take_bytes ((i + 4) - i) (drop i bytes) (drop_bytes i bytes are))
+
 -- a record that stands in its bytes
-record_fits : (o : Option Record) (at : ℕ) (bytes : List ℕ) → RecordIs o at bytes → IsBootIndicator (slice_index bytes at) → (IsUsed at bytes → slice_index bytes (at + 4) ≢ 0xEE) → FitsSlot o
-record_fits None at bytes is boot plain = tt
-record_fits (Some r) at bytes is boot plain = record {
+record_fits : (o : Option Record) (at : ℕ) (bytes : List ℕ) → AreBytes bytes → RecordIs o at bytes → IsBootIndicator (slice_index bytes at) → (IsUsed at bytes → slice_index bytes (at + 4) ≢ 0xEE) → FitsSlot o
+record_fits None at bytes are is boot plain = tt
+record_fits (Some r) at bytes are is boot plain = record {
   typed = λ none. is.0.0 (is.1.kind ∙ none);
   plain = λ protective. plain is.0 (is.1.kind ∙ protective);
   sized = λ none. is.0.1 (is.1.size ∙ none);
+  start = subst (λ (n : ℕ). n < 2 ^ 32) is.1.start (number_fits (at + 8) bytes are);
+  size = subst (λ (n : ℕ). n < 2 ^ 32) is.1.size (number_fits (at + 12) bytes are);
   boot = subst IsBootIndicator is.1.boot boot;
 }
 
-logical_fits : (o : Option Record) (bytes : List ℕ) → RecordIs o 446 bytes → IsBootIndicator (slice_index bytes 446) → ¬ HasBadLogical bytes → FitsLogical o
+logical_fits : (o : Option Record) (bytes : List ℕ) → AreBytes bytes → RecordIs o 446 bytes → IsBootIndicator (slice_index bytes 446) → ¬ HasBadLogical bytes → FitsLogical o
 unfolding HasBadLogical
-logical_fits None bytes is boot good = tt
-logical_fits (Some r) bytes is boot good = (
-  record_fits (Some r) 446 bytes is boot (λ used protective. good (used, inr protective)),
+logical_fits None bytes are is boot good = tt
+logical_fits (Some r) bytes are is boot good = (
+  record_fits (Some r) 446 bytes are is boot (λ used protective. good (used, inr protective)),
   λ extended. good (is.0, inl (subst IsExtendedKind (sym is.1.kind) extended)),
 )
 
 -- the extended boot records of a walk
-walk_linked : (d : Sectors) (x : Span) (from : Option Lba) (list : List Ebr) → Walk d x from list None → Linked x (length d) from list
+walk_linked : (d : Sectors) (x : Span) (from : Option Lba) (list : List Ebr) → AllBytes d → Walk d x from list None → Linked x from list
 unfolding HasBootIndicators
-walk_linked d x None [] walk = tt
-walk_linked d x (Some at) [] walk = absurd cc
-walk_linked d x None (e ∷ es) walk = absurd walk
-walk_linked d x (Some at) (e ∷ es) walk = (
+walk_linked d x None [] are walk = tt
+walk_linked d x (Some at) [] are walk = absurd cc
+walk_linked d x None (e ∷ es) are walk = absurd walk
+walk_linked d x (Some at) (e ∷ es) are walk = (
   walk.0.bytes.place,
-  walk.0.inside,
+  walk.0.inside.0,
   walk.1,
-  logical_fits e.logical (sector d at.0) walk.0.bytes.logical walk.0.bytes.boots.0 walk.0.bytes.logical_kind,
-  walk_linked d x e.next es walk.2,
+  logical_fits e.logical (sector d at.0) (are at.0) walk.0.bytes.logical walk.0.bytes.boots.0 walk.0.bytes.logical_kind,
+  walk_linked d x e.next es are walk.2,
 )
 
-chain_fits : (d : Sectors) (rs : List Record) (chain : List Ebr) → HasChain d rs chain → FitsExtended (length d) rs chain
-chain_fits d [] chain has = has
-chain_fits d (r ∷ []) chain has = record { few = has.few; linked = walk_linked d (extent_of r) (Some (lba (extent_of r).first)) chain has.whole }
-chain_fits d (r ∷ s ∷ rs) chain has = absurd has
+chain_fits : (d : Sectors) (rs : List Record) (chain : List Ebr) → AllBytes d → HasChain d rs chain → FitsExtended rs chain
+chain_fits d [] chain are has = has
+chain_fits d (r ∷ []) chain are has = record { few = has.few; linked = walk_linked d (extent_of r) (Some (lba (extent_of r).first)) chain are has.whole }
+chain_fits d (r ∷ s ∷ rs) chain are has = absurd has
 
-slot_fits : (records : List (Option Record)) (bytes : List ℕ) → IsMbrSector bytes → AreRecords records bytes → (k : ℕ) → k < 4 → FitsSlot (get_or records k None)
+slot_fits : (records : List (Option Record)) (bytes : List ℕ) → AreBytes bytes → IsMbrSector bytes → AreRecords records bytes → (k : ℕ) → k < 4 → FitsSlot (get_or records k None)
 unfolding BearsProtective HasBootIndicators
-slot_fits records bytes is are zero lt = record_fits (get_or records 0 None) 446 bytes are.first is.formed.boots.0 (λ used e. is.plain (inl e))
-slot_fits records bytes is are (suc zero) lt = record_fits (get_or records 1 None) 462 bytes are.second is.formed.boots.1 (λ used e. is.plain (inr (inl e)))
-slot_fits records bytes is are (suc (suc zero)) lt = record_fits (get_or records 2 None) 478 bytes are.third is.formed.boots.2 (λ used e. is.plain (inr (inr (inl e))))
-slot_fits records bytes is are (suc (suc (suc zero))) lt = record_fits (get_or records 3 None) 494 bytes are.fourth is.formed.boots.3 (λ used e. is.plain (inr (inr (inr e))))
-slot_fits records bytes is are (suc (suc (suc (suc k)))) lt = absurd (omega (arith, lt))
+slot_fits records bytes each is are zero lt = record_fits (get_or records 0 None) 446 bytes each are.first is.formed.boots.0 (λ used e. is.plain (inl e))
+slot_fits records bytes each is are (suc zero) lt = record_fits (get_or records 1 None) 462 bytes each are.second is.formed.boots.1 (λ used e. is.plain (inr (inl e)))
+slot_fits records bytes each is are (suc (suc zero)) lt = record_fits (get_or records 2 None) 478 bytes each are.third is.formed.boots.2 (λ used e. is.plain (inr (inr (inl e))))
+slot_fits records bytes each is are (suc (suc (suc zero))) lt = record_fits (get_or records 3 None) 494 bytes each are.fourth is.formed.boots.3 (λ used e. is.plain (inr (inr (inr e))))
+slot_fits records bytes each is are (suc (suc (suc (suc k)))) lt = absurd (omega (arith, lt))
 
-mbr_fits : (d : Sectors) (records : List (Option Record)) (chain : List Ebr) → IsMbr d records → HasChain d (extended_of records) chain → FitsMbr (length d) records chain
-mbr_fits d records chain is has = record {
+mbr_fits : (d : Sectors) (records : List (Option Record)) (chain : List Ebr) → AllBytes d → IsMbr d records → HasChain d (extended_of records) chain → FitsMbr records chain
+mbr_fits d records chain are is has = record {
   four = is.1.four;
-  each = slot_fits records (sector d 0) is.0.1 is.1;
-  extended = chain_fits d (extended_of records) chain has;
+  each = slot_fits records (sector d 0) (are 0) is.0.1 is.1;
+  extended = chain_fits d (extended_of records) chain are has;
 }
 
-body_fits : (b : ℕ) (d : Sectors) (y : Body) → BodyIs b d y → FitsBody b (length d) y
-body_fits b d (Mbr records chain) is = mbr_fits d records chain is.0 is.1
-body_fits b d (Gpt t) is = elim is.2 [ inl primary ↦ copy_fits b d Primary t primary | inr backup ↦ copy_fits b d Backup t backup.1 ]
+body_fits : (b : ℕ) (d : Sectors) (y : Body) → AllBytes d → BodyIs b d y → FitsBody b (length d) y
+body_fits b d (Mbr records chain) are is = mbr_fits d records chain are is.0 is.1
+body_fits b d (Gpt t) are is = elim is.2 [ inl primary ↦ copy_fits b d Primary t primary | inr backup ↦ copy_fits b d Backup t backup.1 ]
 
 -- how many entries are there
 count_is : (es : List (Option LabelEntry)) (c : ℕ) → c ≤ length es → ((k : ℕ) → k < c → IsThere (get_or es k None)) → ((k : ℕ) → c ≤ k → k < length es → get_or es k None ≡ None) → count_of es ≡ c
@@ -123,13 +149,14 @@ raw_is : (o : Option LabelEntry) (first len : ℕ) (bytes : List ℕ) → IsEntr
 raw_is None first len bytes is least raw = absurd (omega (arith, is, least))
 raw_is (Some e) first len bytes is least raw = (sym is.1.size ∙ raw.size, elim raw.start [ inl none ↦ inl (sym is.1.offset ∙ none) | inr start ↦ inr (sym is.1.offset ∙ start) ])
 
-label_fits : (s : Slice) (l : Label) (bytes : List ℕ) → LabelBytes l s.first s.len bytes → FitsLabel s l
-label_fits s l bytes is =
+label_fits : (s : Slice) (l : Label) (bytes : List ℕ) → 2 ≤ s.len → LabelBytes l s.first s.len bytes → FitsLabel s l
+label_fits s l bytes second is =
     let places = is.entries.places in
     let count : count_of l.entries ≡ counted_in bytes = count_is l.entries (counted_in bytes) (omega (arith, is.count.most, places))
     (λ k lt. entry_there (entry_of l k) k bytes (is.entries.each k (omega (arith, lt, is.count.most))) lt)
     (λ k le lt. entry_none (entry_of l k) k bytes (is.entries.each k (omega (arith, lt, places))) le) in
     record {
+      second = second;
       counted = record {
         places = places;
         least = omega (arith, count, is.count.least);
@@ -138,14 +165,36 @@ label_fits s l bytes is =
       slice = raw_is (entry_of l 2) s.first s.len bytes (is.entries.each 2 (omega arith)) is.count.least is.raw;
     }
 
-labels_fit : (d : Sectors) (places : List Slice) (labels : List Labelled) → LabelsAre d places labels → AreLabelsOf places labels
-labels_fit d [] labels are = are
-labels_fit d (s ∷ ss) labels (inl (l, rest, is, at, then)) = inl (l, rest, is, label_fits s l (sector d (place_of s)) at, labels_fit d ss rest then)
-labels_fit d (s ∷ ss) labels (inr are) = inr (labels_fit d ss labels are.1)
+-- a slice with a label place has a second sector
+place_long : (n : ℕ) (s : Slice) (t : Bool) → nat_lt 1 s.len ≡ t → has_place n s ≡ true → 2 ≤ s.len
+place_long n s true so is = omega (arith, ltb-true 1 s.len so)
+place_long n s false so is = let both : false ≡ true = sym (rw so refl) ∙ is in absurd (false≢true both)
+
+-- the labels of the slices with a label place are labels of the slices
+labels_fit : (d : Sectors) (n : ℕ) (s : Slice) (ss : List Slice) (labels : List Labelled) → ((rest : List Labelled) → LabelsAre d (filter (has_place n) ss) rest → AreLabelsOf ss rest)
+    → (t : Bool) → has_place n s ≡ t → LabelsAre d (filter (has_place n) (s ∷ ss)) labels → AreLabelsOf (s ∷ ss) labels
+labels_fit d n s ss labels more true so are = one (subst (λ (l : List Slice). LabelsAre d l labels) here are) where
+  here : filter (has_place n) (s ∷ ss) ≡ s ∷ filter (has_place n) ss
+  here = rw (so, filter) refl
+
+  one : LabelsAre d (s ∷ filter (has_place n) ss) labels → AreLabelsOf (s ∷ ss) labels
+  one (inl (l, rest, is, at, behind)) = inl (l, rest, is, label_fits s l (sector d (place_of s)) (place_long n s (nat_lt 1 s.len) refl so) at, more rest behind)
+  one (inr (none, behind)) = inr (more labels behind)
+labels_fit d n s ss labels more false so are =
+    let gone : filter (has_place n) (s ∷ ss) ≡ filter (has_place n) ss = rw (so, filter) refl in
+    inr (more labels (subst (λ (l : List Slice). LabelsAre d l labels) gone are))
+
+all_fit : (d : Sectors) (n : ℕ) (ss : List Slice) (labels : List Labelled) → LabelsAre d (filter (has_place n) ss) labels → AreLabelsOf ss labels
+all_fit d n [] labels are = are
+all_fit d n (s ∷ ss) labels are = labels_fit d n s ss labels (all_fit d n ss) (has_place n s) refl are
+
+places_fit : (b : ℕ) (d : Sectors) (y : Body) (labels : List Labelled) → LabelsAre d (places_of b (length d) y) labels → AreLabelsOf (slices_of b y) labels
+unfolding places_of
+places_fit b d y labels are = all_fit d (length d) (slices_of b y) labels are
 
 -- what a disk denotes is shaped
-pub denoted_is_shaped_lem : (b : ℕ) (d : Sectors) (o : Layout) → Denotes b d (Some o) → Shaped b o
-denoted_is_shaped_lem b d o denotes = record {
-  body = subst (λ (n : ℕ). FitsBody b n o.body) (sym denotes.0) (body_fits b d o.body denotes.1);
-  labels = subst (λ (n : ℕ). AreLabelsOf (places_of b n o.body) o.labels) (sym denotes.0) (labels_fit d (places_of b (length d) o.body) o.labels denotes.2);
+pub denoted_is_shaped_lem : (b : ℕ) (d : Sectors) (o : Layout) → AllBytes d → Denotes b d (Some o) → Shaped b o
+denoted_is_shaped_lem b d o are denotes = record {
+  body = subst (λ (n : ℕ). FitsBody b n o.body) (sym denotes.0) (body_fits b d o.body are denotes.1);
+  labels = places_fit b d o.body o.labels denotes.2;
 }

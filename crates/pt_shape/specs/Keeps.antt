@@ -5,7 +5,7 @@ use Rattle.pt_mbr.specs.declared.ebr.Ebr.{Ebr}
 use Rattle.pt_bsd.specs.Empty.{empty_of}
 use Rattle.pt_bsd.specs.Label.{entry_of}
 use Rattle.pt_bsd.specs.declared.label.Label.{Label}
-use Rattle.pt_recover.specs.Labels.{places_of}
+use Rattle.pt_recover.specs.Labels.{slices_of}
 use Rattle.pt_recover.specs.declared.layout.Slice.{Slice}
 use Rattle.pt_recover.specs.declared.layout.Layout.{Layout}
 use Rattle.pt_recover.specs.declared.layout.Body.{Body}
@@ -20,9 +20,9 @@ pub record SameButParts (l m : Label) : Type 0 where
   pub counted : (k : ℕ) → is_some (entry_of m k) ≡ is_some (entry_of l k)
   pub raw : entry_of m 2 ≡ entry_of l 2
 
--- a slice with a label place of the old layout, on the same sectors
+-- a slice of the old layout on the same sectors
 pub record WasSlice (b : ℕ) (o : Layout) (s was : Slice) : Type 0 where
-  pub stands : Contains (places_of b o.sectors o.body) was
+  pub stands : Contains (slices_of b o.body) was
   pub first : was.first ≡ s.first
   pub len : was.len ≡ s.len
 
@@ -99,6 +99,6 @@ pub record Keeps (b n : ℕ) (old : Option Layout) (p : Layout) : Type 0 where
   pub sectors : p.sectors ≡ n
   pub shaped : Shaped b p
   pub mbr : IsMbrBody p.body → WasMbr old
-  pub labels : (s : Slice) → Contains (places_of b p.sectors p.body) s → IsOldLabel b old s (label_of p.labels s.number) ⊎ IsNewLabel s (label_of p.labels s.number)
+  pub labels : (s : Slice) → Contains (slices_of b p.body) s → IsOldLabel b old s (label_of p.labels s.number) ⊎ IsNewLabel s (label_of p.labels s.number)
   pub records : (k : ℕ) (r : Record) → slice_index_or (records_in p.body) k None ≡ Some r → IsOldRecord old k r ⊎ IsMadeRecord r
   pub logicals : (e : Ebr) (r : Record) → Contains (chain_in p.body) e → e.logical ≡ Some r → IsOldLogical old e r ⊎ IsMadeLogical r

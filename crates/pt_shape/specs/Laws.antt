@@ -14,9 +14,9 @@ use Rattle.pt_shape.specs.Keeps.{SameButParts, LabelStays, IsOldLabel, IsNewLabe
 pub same_but_parts_refl : (l : Label) → SameButParts l l
 same_but_parts_refl l = record { same = refl; places = refl; counted = λ k. refl; raw = refl }
 
-label_stays_refl : (l : Option Label) → LabelStays l l
-label_stays_refl None = tt
-label_stays_refl (Some l) = same_but_parts_refl l
+pub label_stays_refl_lem : (l : Option Label) → LabelStays l l
+label_stays_refl_lem None = tt
+label_stays_refl_lem (Some l) = same_but_parts_refl l
 
 -- a layout keeps itself
 pub keeps_refl : (b : ℕ) (o : Layout) → Shaped b o → Keeps b o.sectors (Some o) o
@@ -24,7 +24,7 @@ keeps_refl b o shaped = record {
   sectors = refl;
   shaped = shaped;
   mbr = λ m. m;
-  labels = λ s stands. inl (s, record { stands = stands; first = refl; len = refl }, label_stays_refl (label_of o.labels s.number));
+  labels = λ s stands. inl (s, record { stands = stands; first = refl; len = refl }, label_stays_refl_lem (label_of o.labels s.number));
   records = λ k r is. inl (r, is, refl);
   logicals = λ e r is has. inl (record { was = e; stands = is; place = refl; old = r; logical = has; typed = refl });
 }

@@ -1,10 +1,10 @@
 -- Layouts that a disk of their size may denote, as far as numbers and places tell.
-use Rattle.std.specs.Prelude.{◌≡◌, ◌≢◌, ◌<◌, ◌≤◌, ◌⊎◌, ◌+◌, ◌-◌, ℕ, List, [], ◌∷◌, length, slice_index_or, Option, Some, None}
-use Rattle.pt_sector.specs.Sectors.{Span}
+use Rattle.std.specs.Prelude.{◌≡◌, ◌≢◌, ◌<◌, ◌≤◌, ◌⊎◌, ◌+◌, ◌-◌, ◌^◌, ℕ, List, [], ◌∷◌, length, slice_index_or, Option, Some, None}
+use Rattle.pt_sector.specs.Sectors.{Span, InSpan}
 use Rattle.pt_sector.specs.declared.address.Lba.{Lba}
 use Rattle.pt_mbr.specs.Mbr.{IsBootIndicator}
 use Rattle.pt_mbr.specs.Record.{IsExtendedKind}
-use Rattle.pt_mbr.specs.Chain.{IsInside, IsUpward, lba}
+use Rattle.pt_mbr.specs.Chain.{IsUpward, lba}
 use Rattle.pt_mbr.specs.declared.record.Record.{Record}
 use Rattle.pt_mbr.specs.declared.ebr.Ebr.{Ebr}
 use Rattle.pt_gpt.specs.Array.{array_len, AllTyped}
@@ -13,7 +13,7 @@ use Rattle.pt_bsd.specs.Counted.{IsCounted, FitsSlice}
 use Rattle.pt_bsd.specs.declared.label.Label.{Label}
 use Rattle.pt_recover.specs.Gpt.{HasRoom}
 use Rattle.pt_recover.specs.Mbr.{extended_of, extent_of}
-use Rattle.pt_recover.specs.Labels.{places_of}
+use Rattle.pt_recover.specs.Labels.{slices_of}
 use Rattle.pt_recover.specs.declared.layout.Slice.{Slice}
 use Rattle.pt_recover.specs.declared.layout.Labelled.{Labelled}
 use Rattle.pt_recover.specs.declared.layout.Layout.{Layout}
@@ -30,11 +30,13 @@ pub record FitsTable (b n : ℕ) (t : Table) : Type 0 where
   pub high : t.last ≤ n - (array_len b + 2)
   pub typed : AllTyped t.entries
 
--- a used record of an MBR: it has a type, not the protective one, a size, and a boot indicator
+-- a used record of an MBR: it has a type, not the protective one, a size, and a boot indicator, and its numbers have 32 bits
 pub record FitsRecord (r : Record) : Type 0 where
   pub typed : r.kind ≢ 0
   pub plain : r.kind ≢ 0xEE
   pub sized : r.size ≢ 0
+  pub start : r.start < 2 ^ 32
+  pub size : r.size < 2 ^ 32
   pub boot : IsBootIndicator r.boot
 
 abbrev pub FitsSlot : Option Record → Type 0
@@ -47,35 +49,36 @@ FitsLogical None = Unit {0}
 FitsLogical (Some r) = FitsRecord r × (¬ IsExtendedKind r.kind)
 
 -- extended boot records from a place on: each is where the one before it links to, they lead upward, and the last links to none
-abbrev pub Linked : Span → ℕ → Option Lba → List Ebr → Type 0
-Linked x n None [] = Unit {0}
-Linked x n (Some at) [] = ⊥
-Linked x n None (e ∷ es) = ⊥
-Linked x n (Some at) (e ∷ es) = (e.at ≡ at) × IsInside x n at × IsUpward at e.next × FitsLogical e.logical × Linked x n e.next es
+abbrev pub Linked : Span → Option Lba → List Ebr → Type 0
+Linked x None [] = Unit {0}
+Linked x (Some at) [] = ⊥
+Linked x None (e ∷ es) = ⊥
+Linked x (Some at) (e ∷ es) = (e.at ≡ at) × InSpan x at.0 × IsUpward at e.next × FitsLogical e.logical × Linked x e.next es
 
 -- a chain of an extended partition: at most 128 of them from its first sector on
-pub record FitsChain (x : Span) (n : ℕ) (chain : List Ebr) : Type 0 where
+pub record FitsChain (x : Span) (chain : List Ebr) : Type 0 where
   pub few : length chain ≤ 128
-  pub linked : Linked x n (Some (lba x.first)) chain
+  pub linked : Linked x (Some (lba x.first)) chain
 
 -- no chain without an extended record, a chain of a lone one, and never two
-abbrev pub FitsExtended : ℕ → List Record → List Ebr → Type 0
-FitsExtended n [] chain = chain ≡ []
-FitsExtended n (r ∷ []) chain = FitsChain (extent_of r) n chain
-FitsExtended n (r ∷ s ∷ rs) chain = ⊥
+abbrev pub FitsExtended : List Record → List Ebr → Type 0
+FitsExtended [] chain = chain ≡ []
+FitsExtended (r ∷ []) chain = FitsChain (extent_of r) chain
+FitsExtended (r ∷ s ∷ rs) chain = ⊥
 
--- the records and the chain of an MBR on n sectors
-pub record FitsMbr (n : ℕ) (records : List (Option Record)) (chain : List Ebr) : Type 0 where
+-- the records and the chain of an MBR
+pub record FitsMbr (records : List (Option Record)) (chain : List Ebr) : Type 0 where
   pub four : length records ≡ 4
   pub each : (k : ℕ) → k < 4 → FitsSlot (slice_index_or records k None)
-  pub extended : FitsExtended n (extended_of records) chain
+  pub extended : FitsExtended (extended_of records) chain
 
 abbrev pub FitsBody : ℕ → ℕ → Body → Type 0
-FitsBody b n (Mbr records chain) = FitsMbr n records chain
+FitsBody b n (Mbr records chain) = FitsMbr records chain
 FitsBody b n (Gpt t) = FitsTable b n t
 
--- a label that a slice may have: three to eight entries, of which c is the slice
+-- a label that a slice may have: it has a second sector, and the label three to eight entries, of which c is the slice
 pub record FitsLabel (s : Slice) (l : Label) : Type 0 where
+  pub second : 2 ≤ s.len
   pub counted : IsCounted l
   pub slice : FitsSlice l s.first s.len
 
@@ -86,7 +89,7 @@ AreLabelsOf (s ∷ ss) labels =
     ((l : Label) × (rest : List Labelled) × (labels ≡ record { number = s.number; label = l } ∷ rest) × FitsLabel s l × AreLabelsOf ss rest)
     ⊎ AreLabelsOf ss labels
 
--- a layout that a disk may denote: its table fits, and its labels are those of slices with a label place
+-- a layout that a disk may denote: its table fits, and so do its labels. Whether it lies on the disk is soundness's business
 pub record Shaped (b : ℕ) (o : Layout) : Type 0 where
   pub body : FitsBody b o.sectors o.body
-  pub labels : AreLabelsOf (places_of b o.sectors o.body) o.labels
+  pub labels : AreLabelsOf (slices_of b o.body) o.labels

@@ -5,11 +5,12 @@ ghost use Rattle.pt_sector.specs.Sectors.{Sectors};
 ghost use Rattle.pt_recover.specs.Denotes.{Denotes};
 ghost use Rattle.pt_recover.specs.declared.layout.Layout.{Layout};
 ghost use Rattle.pt_shape.specs.Shape.{Shaped};
+ghost use Rattle.pt_shape.specs.Denoted.{AllBytes};
 ghost use Rattle.pt_shape.specs.Keeps.{Keeps};
 
-/// What a disk denotes is shaped.
+/// What a disk of bytes denotes is shaped.
 pub fn denoted_is_shaped()
-    ensures { (b : ℕ) (d : Sectors) (o : Layout) → Denotes b d (Some o) → Shaped b o }
+    ensures { (b : ℕ) (d : Sectors) (o : Layout) → AllBytes d → Denotes b d (Some o) → Shaped b o }
 {}
 
 /// A layout that a disk may denote keeps itself.

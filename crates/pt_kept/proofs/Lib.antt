@@ -1,0 +1,17 @@
+pub mod Lists
+pub mod Entries
+pub mod Tables
+pub mod Order
+pub mod Parts
+pub mod Chain
+pub mod Raised
+pub mod Moved
+pub mod Mbr
+pub mod Logicals
+pub mod Entering
+pub mod NewLogicals
+pub mod Records
+pub mod NewRecords
+pub mod GptWords
+pub mod Conversion
+pub mod Fold
