@@ -1,7 +1,7 @@
 ghost use Rattle.std.specs.Prelude.{◌≡◌, ◌≤◌, ◌<◌, ◌+◌, ℕ, length, Some, slice_get, OnOk, IfErr};
 ghost use Rattle.pt_sector.specs.Sectors.{IsSectorSize};
 ghost use Rattle.pt_sector.specs.Writes.{Stopped, written};
-ghost use Rattle.pt_sector.specs.Device.{Counted};
+ghost use Rattle.pt_sector.specs.Calls.{Blames};
 ghost use Rattle.pt_sector.specs.Since.{LeavesOnly};
 ghost use Rattle.pt_apply.specs.Plans.{writes_of, phases_of, finished, faults_of, InRange, PhaseInRange};
 ghost use Rattle.pt_apply.specs.Runs.{Settled, StoppedSomewhere, Reached, FailedIn, FaultOf};
@@ -32,7 +32,7 @@ pub fn apply<const B: usize, D: Disk<B>>(disk: &mut D, plan: &Plan<B>) -> Result
     requires settled { D.tells → Settled (D.told disk.old) (D.told disk.old).seen }
     ensures count { D.count disk.new ≡ D.count disk.old }
     ensures name { D.name disk.new ≡ D.name disk.old }
-    ensures counted { Counted (D.failures disk.old) (D.failures disk.new) result }
+    ensures blames { Blames Some result (D.faults disk.old) (D.faults disk.new) }
     ensures fault { IfErr result (FaultOf (phases_of plan.now)) }
     ensures done { D.tells → OnOk result (Settled (D.told disk.new) (finished plan.now (D.told disk.old).seen)) }
     ensures any_moment { D.tells → LeavesOnly (D.told disk.old) (D.told disk.new) (StoppedSomewhere (phases_of plan.now) (D.told disk.old).seen) }
@@ -40,9 +40,7 @@ pub fn apply<const B: usize, D: Disk<B>>(disk: &mut D, plan: &Plan<B>) -> Result
     ensures failed { D.tells → IfErr result (FailedIn (phases_of plan.now) (D.told disk.old).seen (D.told disk.old) (D.told disk.new)) }
 {
     for phase in &plan.phases {
-        if let Err(fault) = write_phase(disk, phase) {
-            return Err(fault);
-        }
+        write_phase(disk, phase)?;
     }
     Ok(())
 }
@@ -54,16 +52,14 @@ fn write_phase<const B: usize, D: Disk<B>>(disk: &mut D, phase: &[Write<B>]) -> 
     requires settled { D.tells → Settled (D.told disk.old) (D.told disk.old).seen }
     ensures count { D.count disk.new ≡ D.count disk.old }
     ensures name { D.name disk.new ≡ D.name disk.old }
-    ensures counted { Counted (D.failures disk.old) (D.failures disk.new) result }
+    ensures blames { Blames Some result (D.faults disk.old) (D.faults disk.new) }
     ensures fault { IfErr result (λ e. (call : ℕ) × (slice_get (faults_of (writes_of phase.now)) call ≡ Some e)) }
     ensures done { D.tells → OnOk result (Settled (D.told disk.new) (written (writes_of phase.now) (D.told disk.old).seen)) }
     ensures passed { D.tells → OnOk result (Within (Stopped (D.told disk.old).seen (writes_of phase.now)) (length phase.now + 1) (D.told disk.old) (D.told disk.new)) }
     ensures failed { D.tells → IfErr result (Ended (D.told disk.old).seen (writes_of phase.now) (D.told disk.old) (D.told disk.new)) }
 {
     for write in phase {
-        if let Err(fault) = disk.write(write.lba, &write.bytes) {
-            return Err(fault);
-        }
+        disk.write(write.lba, &write.bytes)?;
     }
     disk.flush()
 }

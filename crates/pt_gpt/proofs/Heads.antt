@@ -1,9 +1,9 @@
 -- What was read at a side's place is its header, or its fault.
 use Rattle.std.proofs.Common.{◌≡◌, ℕ, List, refl, ap, ◌∙◌, subst, inl, inr}
-use Rattle.std.specs.Prelude.{◌⊎◌, length, Option}
+use Rattle.std.specs.Prelude.{◌⊎◌, length, Option, None}
 use Rattle.pt_sector.specs.Sectors.{Sectors, sector}
 use Rattle.pt_sum.specs.Crc.{crc_of}
-use Rattle.pt_gpt.specs.Errors.{IsOutside, NeedsNoMemory, FailedIn}
+use Rattle.pt_gpt.specs.Errors.{IsOutside, NeedsNoMemory, FailedIn, fault_in}
 use Rattle.pt_gpt.specs.Header.{HeaderBytes, IsHeaderFault}
 use Rattle.pt_gpt.specs.Copy.{header_place, IsPlaced, IsPlaceFault, IsHead, no_header, misplaced, no_head, other_crc, array_of, HasArrayCrc, CopyWith}
 use Rattle.pt_gpt.specs.Array.{AreEntries}
@@ -54,3 +54,11 @@ header_needs_none b _ bytes fault = tt
 pub place_needs_none : (b : ℕ) (side : Side) (n : ℕ) (h : Header) (e : CopyError) → IsPlaceFault b side n h e → NeedsNoMemory e
 place_needs_none b side n h Memory fault = fault
 place_needs_none b side n h _ fault = tt
+
+pub header_blames_none : (b : ℕ) (e : CopyError) (bytes : List ℕ) → IsHeaderFault b e bytes → fault_in e ≡ None
+header_blames_none b (Device f) bytes fault = absurd fault
+header_blames_none b _ bytes fault = refl
+
+pub place_blames_none : (b : ℕ) (side : Side) (n : ℕ) (h : Header) (e : CopyError) → IsPlaceFault b side n h e → fault_in e ≡ None
+place_blames_none b side n h (Device f) fault = absurd fault
+place_blames_none b side n h _ fault = refl

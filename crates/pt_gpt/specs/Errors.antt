@@ -1,5 +1,9 @@
 -- The errors of reading a copy.
-use Rattle.std.specs.Prelude.{◌≡◌, ℕ, ◌+◌}
+use Rattle.std.specs.Prelude.{ℕ, Option, Some, None}
+use Rattle.pt_sector.specs.declared.disk.Fault.{Fault}
+use Rattle.pt_sector.specs.declared.disk.Fault.TheVariants.{Read}
+use Rattle.pt_sector.specs.declared.reading.Failure.{Failure}
+use Rattle.pt_sector.specs.declared.reading.Failure.TheVariants as failure
 use Rattle.pt_gpt.specs.declared.error.CopyError.{CopyError}
 use Rattle.pt_gpt.specs.declared.error.CopyError.TheVariants.{Signature, Revision, HeaderSize, HeaderCrc, MyLba, ArrayPlace, EntryShape, UsableRange, ArrayCrc, Device, Memory}
 
@@ -23,17 +27,23 @@ IsOutside (Device at) = Unit {0}
 IsOutside Memory = Unit {0}
 IsOutside _ = ⊥
 
+-- the failure that it is
+abbrev pub failure_in : CopyError → Option Failure
+failure_in (Device at) = Some (failure.Device at)
+failure_in Memory = Some failure.Memory
+failure_in _ = None
+
 -- an error of a call that takes no memory
 abbrev pub NeedsNoMemory : CopyError → Type 0
 NeedsNoMemory Memory = ⊥
 NeedsNoMemory _ = Unit {0}
 
--- a device's fault goes with one failure more, every other error with none
-abbrev pub FailedAs : CopyError → ℕ → ℕ → Type 0
-FailedAs (Device at) before now = now ≡ before + 1
-FailedAs _ before now = now ≡ before
+-- the fault that an error carries
+abbrev pub fault_in : CopyError → Option Fault
+fault_in (Device at) = Some (Read at)
+fault_in _ = None
 
--- a device's fault is at one of these sectors
+-- the sector whose read failed is one of these
 abbrev pub FailedIn : (ℕ → Type 0) → CopyError → Type 0
 FailedIn S (Device at) = S at.0
 FailedIn S _ = Unit {0}

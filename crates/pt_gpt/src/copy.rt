@@ -2,7 +2,9 @@
 
 ghost use Rattle.std.specs.Prelude.{◌≡◌, ◌⊎◌, ◌+◌, ◌*◌, ◌<◌, ◌≤◌, IfOk, IfErr, OnOk, length};
 ghost use Rattle.pt_sector.specs.Sectors.{IsSectorSize, sector};
-ghost use Rattle.pt_gpt.specs.Errors.{IsOutside, NeedsNoMemory, FailedAs, FailedIn};
+ghost use Rattle.pt_sector.specs.Calls.{Blames};
+ghost use Rattle.pt_sector.specs.Reads.{OnlyReads};
+ghost use Rattle.pt_gpt.specs.Errors.{IsOutside, NeedsNoMemory, fault_in, FailedIn};
 ghost use Rattle.pt_gpt.specs.Header.{HeaderBytes, IsHeaderFault};
 ghost use Rattle.pt_gpt.specs.Array.{array_len};
 ghost use Rattle.pt_gpt.specs.Copy.{header_place, IsPlaced, IsHead, CopyWith, Copy, SideReads};
@@ -13,7 +15,7 @@ use crate::error::CopyError;
 use crate::header::{Header, decode_header};
 use crate::place::{check_place, header_at};
 use crate::table::{Side, Table};
-use pt_sector::{Disk, Lba};
+use pt_sector::{Disk, Lba, read_sector};
 use std::alloc::Global;
 
 // The header that a sector is.
@@ -21,22 +23,16 @@ use std::alloc::Global;
 fn read_header<const B: usize, D: Disk<B>>(disk: &mut D, at: u64) -> Result<Header, CopyError>
     requires size { IsSectorSize B }
     requires within { at < D.count disk.old }
-    ensures count { D.count disk.new ≡ D.count disk.old }
-    ensures name { D.name disk.new ≡ D.name disk.old }
-    ensures reads { D.reads disk.old disk.new }
-    ensures quiet { OnOk result (D.failures disk.new ≡ D.failures disk.old) }
-    ensures failed { IfErr result (λ e. FailedAs e (D.failures disk.old) (D.failures disk.new)) }
+    ensures same { OnlyReads D.Disk disk.old disk.new }
+    ensures blames { Blames fault_in result (D.faults disk.old) (D.faults disk.new) }
     ensures place { IfErr result (FailedIn (λ s. s ≡ at)) }
     ensures memory { IfErr result NeedsNoMemory }
-    ensures same { D.tells → D.told disk.new ≡ D.told disk.old }
     ensures ok { D.tells → IfOk result (λ h. HeaderBytes B h (sector (D.told disk.old).seen at)) }
     ensures err { D.tells → IfErr result (λ e. IsOutside e ⊎ IsHeaderFault B e (sector (D.told disk.old).seen at)) }
 {
     let mut bytes = [0; B];
-    match disk.read(Lba(at), &mut bytes) {
-        Ok(()) => decode_header(&bytes),
-        Err(_) => Err(CopyError::Device(Lba(at))),
-    }
+    read_sector(disk, Lba(at), &mut bytes)?;
+    decode_header(&bytes)
 }
 
 /// The header of a side's copy, where the fields of the one that stands there are those of a table.
@@ -47,27 +43,18 @@ fn read_header<const B: usize, D: Disk<B>>(disk: &mut D, at: u64) -> Result<Head
 pub fn read_head<const B: usize, D: Disk<B>>(disk: &mut D, side: Side) -> Result<Header, CopyError>
     requires size { IsSectorSize B }
     requires room { 2 * array_len B + 4 ≤ D.count disk.old }
-    ensures count { D.count disk.new ≡ D.count disk.old }
-    ensures name { D.name disk.new ≡ D.name disk.old }
-    ensures reads { D.reads disk.old disk.new }
-    ensures quiet { OnOk result (D.failures disk.new ≡ D.failures disk.old) }
-    ensures failed { IfErr result (λ e. FailedAs e (D.failures disk.old) (D.failures disk.new)) }
+    ensures same { OnlyReads D.Disk disk.old disk.new }
+    ensures blames { Blames fault_in result (D.faults disk.old) (D.faults disk.new) }
     ensures place { IfErr result (FailedIn (λ s. s ≡ header_place side (D.count disk.old))) }
     ensures memory { IfErr result NeedsNoMemory }
-    ensures same { D.tells → D.told disk.new ≡ D.told disk.old }
     ensures placed { IfOk result (λ h. IsPlaced B side (D.count disk.old) h) }
     ensures ok { D.tells → IfOk result (λ h. IsHead B (D.told disk.old).seen side h) }
     ensures err { D.tells → IfErr result (λ e. TellsHeadFault B (D.told disk.old).seen side e) }
 {
     let sectors = disk.sectors();
-    let header = match read_header(disk, header_at(side, sectors)) {
-        Ok(header) => header,
-        Err(e) => return Err(e),
-    };
-    match check_place::<B>(&header, side, sectors) {
-        Ok(()) => Ok(header),
-        Err(e) => Err(e),
-    }
+    let header = read_header(disk, header_at(side, sectors))?;
+    check_place::<B>(&header, side, sectors)?;
+    Ok(header)
 }
 
 /// The table of the copy whose header stands on this side.
@@ -85,22 +72,15 @@ pub fn read_table<const B: usize, D: Disk<B>>(
     requires room { 2 * array_len B + 4 ≤ D.count disk.old }
     requires placed { IsPlaced B side (D.count disk.old) header.now }
     requires head { D.tells → IsHead B (D.told disk.old).seen side header.now }
-    ensures count { D.count disk.new ≡ D.count disk.old }
-    ensures name { D.name disk.new ≡ D.name disk.old }
-    ensures reads { D.reads disk.old disk.new }
-    ensures quiet { OnOk result (D.failures disk.new ≡ D.failures disk.old) }
-    ensures failed { IfErr result (λ e. FailedAs e (D.failures disk.old) (D.failures disk.new)) }
-    ensures same { D.tells → D.told disk.new ≡ D.told disk.old }
+    ensures same { OnlyReads D.Disk disk.old disk.new }
+    ensures blames { Blames fault_in result (D.faults disk.old) (D.faults disk.new) }
     ensures ok { D.tells → IfOk result (λ t. Copy B (D.told disk.old).seen side t) }
     ensures with { D.tells → IfOk result (λ t. CopyWith B (D.told disk.old).seen side header.now t) }
     ensures err { D.tells → IfErr result (λ e. TellsFault B (D.told disk.old).seen side e) }
     ensures place { D.tells → IfErr result (FailedIn (SideReads B (D.told disk.old).seen side)) }
 {
     let _sectors = disk.sectors();
-    let (crc, entries) = match read_entries(alloc, disk, header.array, header.count) {
-        Ok(read) => read,
-        Err(e) => return Err(e),
-    };
+    let (crc, entries) = read_entries(alloc, disk, header.array, header.count)?;
     if crc != header.array_crc {
         return Err(CopyError::ArrayCrc);
     }
@@ -123,18 +103,12 @@ pub fn read_copy<const B: usize, D: Disk<B>>(
 ) -> Result<Table, CopyError>
     requires size { IsSectorSize B }
     requires room { 2 * array_len B + 4 ≤ D.count disk.old }
-    ensures count { D.count disk.new ≡ D.count disk.old }
-    ensures name { D.name disk.new ≡ D.name disk.old }
-    ensures reads { D.reads disk.old disk.new }
-    ensures quiet { OnOk result (D.failures disk.new ≡ D.failures disk.old) }
-    ensures failed { IfErr result (λ e. FailedAs e (D.failures disk.old) (D.failures disk.new)) }
-    ensures same { D.tells → D.told disk.new ≡ D.told disk.old }
+    ensures same { OnlyReads D.Disk disk.old disk.new }
+    ensures blames { Blames fault_in result (D.faults disk.old) (D.faults disk.new) }
     ensures ok { D.tells → IfOk result (λ t. Copy B (D.told disk.old).seen side t) }
     ensures err { D.tells → IfErr result (λ e. TellsFault B (D.told disk.old).seen side e) }
     ensures place { D.tells → IfErr result (FailedIn (SideReads B (D.told disk.old).seen side)) }
 {
-    match read_head(disk, side) {
-        Ok(header) => read_table(alloc, disk, side, &header),
-        Err(e) => Err(e),
-    }
+    let header = read_head(disk, side)?;
+    read_table(alloc, disk, side, &header)
 }

@@ -3,7 +3,9 @@
 ghost use Rattle.std.specs.Prelude.{◌≡◌, ◌+◌, ◌*◌, ◌/◌, ◌<◌, ◌≤◌, ◌^◌, ◌++◌, IfOk, IfErr, OnOk, List, Option, length, take, vec_len, vec_capacity};
 ghost use Rattle.pt_sum.specs.Crc.{crc_of};
 ghost use Rattle.pt_sector.specs.Sectors.{IsSectorSize};
-ghost use Rattle.pt_gpt.specs.Errors.{IsOutside, FailedAs, FailedIn};
+ghost use Rattle.pt_sector.specs.Calls.{Blames};
+ghost use Rattle.pt_sector.specs.Reads.{OnlyReads};
+ghost use Rattle.pt_gpt.specs.Errors.{IsOutside, fault_in, FailedIn};
 ghost use Rattle.pt_gpt.specs.Array.{counted, AreEntries};
 ghost use Rattle.pt_gpt.specs.Copy.{bytes_from};
 ghost use Rattle.pt_gpt.specs.declared.entry.Entry.{Entry};
@@ -13,7 +15,7 @@ use crate::error::CopyError;
 use crate::place::counted_sectors;
 use crate::table::Entries;
 use crate::view::{ENTRY_SIZE, EntryView};
-use pt_sector::{Disk, Lba};
+use pt_sector::{Disk, Lba, read_sector};
 use pt_sum::Crc;
 use std::alloc::Global;
 
@@ -41,30 +43,20 @@ pub(crate) fn read_entries<const B: usize, D: Disk<B>>(
     requires most { count ≤ 128 }
     requires fits { at + counted B count < 2 ^ 64 }
     requires within { at + counted B count ≤ D.count disk.old }
-    ensures count { D.count disk.new ≡ D.count disk.old }
-    ensures name { D.name disk.new ≡ D.name disk.old }
-    ensures reads { D.reads disk.old disk.new }
-    ensures quiet { OnOk result (D.failures disk.new ≡ D.failures disk.old) }
-    ensures failed { IfErr result (λ e. FailedAs e (D.failures disk.old) (D.failures disk.new)) }
+    ensures same { OnlyReads D.Disk disk.old disk.new }
+    ensures blames { Blames fault_in result (D.faults disk.old) (D.faults disk.new) }
     ensures outside { IfErr result IsOutside }
     ensures place { IfErr result (FailedIn (λ s. (at ≤ s) × (s < at + counted B count))) }
     ensures number { IfOk result (λ r. length r.1 ≡ count) }
-    ensures same { D.tells → D.told disk.new ≡ D.told disk.old }
     ensures crc { D.tells → IfOk result (λ r. r.0 ≡ crc_of (take (count * 128) (bytes_from (D.told disk.old).seen at (counted B count)))) }
     ensures entries { D.tells → IfOk result (λ r. AreEntries r.1 (take (count * 128) (bytes_from (D.told disk.old).seen at (counted B count)))) }
 {
-    let mut items = match Vec::with_capacity(alloc, count as usize) {
-        Ok(items) => items,
-        Err(_) => return Err(CopyError::Memory),
-    };
+    let mut items = Vec::with_capacity(alloc, count as usize)?;
     let mut sum = Crc::new();
     let mut left = count as usize * ENTRY_SIZE;
     let mut sector = [0; B];
     for i in 0..counted_sectors::<B>(count) {
-        match disk.read(Lba(at + i), &mut sector) {
-            Ok(()) => {}
-            Err(_) => return Err(CopyError::Device(Lba(at + i))),
-        }
+        read_sector(disk, Lba(at + i), &mut sector)?;
         let whole = &sector[..];
         let taken = left.min(B);
         let part = &whole[..taken];

@@ -1,9 +1,11 @@
 //! Why a copy of the table can't be read.
 
 ghost use Rattle.std.specs.Prelude.{◌≡◌, ◌↔◌, IsTrue};
-ghost use Rattle.pt_gpt.specs.Errors.{error_number, IsOutside};
+ghost use Rattle.pt_gpt.specs.Errors.{error_number, failure_in};
+ghost use Rattle.pt_gpt.specs.declared.error.CopyError.TheVariants.{Device, Memory};
 
-use pt_sector::Lba;
+use pt_sector::{FailedRead, Failure, Lba};
+use std::alloc::AllocError;
 
 /// Why a copy of the table can't be read: of the first nine the first that holds, in this order.
 ///
@@ -29,10 +31,26 @@ pub enum CopyError {
     UsableRange,
     /// The array has another CRC-32 than the header says.
     ArrayCrc,
-    /// The device failed at this sector.
+    /// The read of this sector failed.
     Device(Lba),
     /// There was no memory for the entries.
     Memory,
+}
+
+impl From<FailedRead> for CopyError {
+    ghost from_gives = { λ failed e. e ≡ Device failed.0 };
+
+    fn from(failed: FailedRead) -> CopyError {
+        CopyError::Device(failed.0)
+    }
+}
+
+impl From<AllocError> for CopyError {
+    ghost from_gives = { λ _ e. e ≡ Memory };
+
+    fn from(_e: AllocError) -> CopyError {
+        CopyError::Memory
+    }
 }
 
 impl CopyError {
@@ -52,6 +70,17 @@ impl CopyError {
             CopyError::ArrayCrc => 9,
             CopyError::Device(_) => 10,
             CopyError::Memory => 11,
+        }
+    }
+
+    /// The failure that it is, if what is on the disk doesn't explain it: of `Device` and `Memory`.
+    pub fn failure(self) -> Option<Failure>
+        ensures { result ≡ failure_in self }
+    {
+        match self {
+            CopyError::Device(at) => Some(Failure::Device(at)),
+            CopyError::Memory => Some(Failure::Memory),
+            _ => None,
         }
     }
 }

@@ -77,6 +77,6 @@ pub bad_record : (d : Sectors) (x : Span) (list : List Ebr) (at : Lba) → Walk 
     → IsInside x (length d) at → IsEbrFault ebr.BadRecord (sector d at.0) → EndsIn d x list (BadRecord at)
 bad_record d x list at walk few inside bad = record { fault = record { before = list; at = at; few = omega arith; reached = walk; here = (refl, inside, few, bad) }; decoded = refl }
 
-pub device : (d : Sectors) (x : Span) (list : List Ebr) (at : Lba) → Walk d x (Some (lba x.first)) list (Some at) → length list < 128
-    → IsInside x (length d) at → EndsIn d x list (Device at)
-device d x list at walk few inside = record { fault = record { before = list; at = at; few = omega arith; reached = walk; here = (refl, inside, few) }; decoded = refl }
+pub device : (d : Sectors) (x : Span) (list : List Ebr) (at y : Lba) → y ≡ at → Walk d x (Some (lba x.first)) list (Some at) → length list < 128
+    → IsInside x (length d) at → EndsIn d x list (Device y)
+device d x list at y is walk few inside = record { fault = record { before = list; at = at; few = omega arith; reached = walk; here = (is, inside, few) }; decoded = refl }

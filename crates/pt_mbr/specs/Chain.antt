@@ -2,6 +2,8 @@
 use Rattle.std.specs.Prelude.{◌≡◌, ◌<◌, ◌≤◌, ◌⊎◌, ◌↔◌, ◌+◌, ℕ, List, [], ◌∷◌, length, Option, Some, None}
 use Rattle.pt_sector.specs.Sectors.{Sectors, sector, Span, InSpan}
 use Rattle.pt_sector.specs.declared.address.Lba.{Lba}
+use Rattle.pt_sector.specs.declared.disk.Fault.{Fault}
+use Rattle.pt_sector.specs.declared.disk.Fault.TheVariants.{Read}
 use Rattle.pt_sector.specs.declared.address.Extent.{Extent}
 use Rattle.pt_mbr.specs.Ebr.{EbrBytes, IsEbrFault}
 use Rattle.pt_mbr.specs.declared.ebr.Ebr.{Ebr}
@@ -74,10 +76,10 @@ abbrev pub IsDevice : ChainError → Type 0
 IsDevice (Device y) = Unit {0}
 IsDevice e = ⊥
 
--- the device's count of failures moved where it failed, and nowhere else
-abbrev pub FailedAs : ChainError → ℕ → ℕ → Type 0
-FailedAs (Device y) before now = now ≡ before + 1
-FailedAs e before now = now ≡ before
+-- the fault that an error carries
+abbrev pub fault_in : ChainError → Option Fault
+fault_in (Device at) = Some (Read at)
+fault_in e = None
 
 -- c has the chains that d has, and the faults, by the same sectors
 pub record SameChains (x : Span) (c d : Sectors) : Type 0 where

@@ -1,13 +1,16 @@
 ghost use Rattle.std.specs.Prelude.{◌≡◌, ◌+◌, ◌<◌, ◌≤◌, ◌^◌, ◌↔◌, ◌⊎◌, [], List, Some, IfSome, IfOk, IfErr, OnOk, OnErr, ℕ, length, IsTrue};
 ghost use Rattle.arrayvec.specs.ArrayVec.{array_vec_len};
 ghost use Rattle.pt_sector.specs.Sectors.{IsSectorSize, Span};
+ghost use Rattle.pt_sector.specs.Calls.{Blames};
+ghost use Rattle.pt_sector.specs.Reads.{OnlyReads};
+ghost use Rattle.pt_mbr.specs.declared.chain.ChainError.TheVariants.{Device};
 ghost use Rattle.pt_mbr.specs.declared.ebr.Ebr.{Ebr};
-ghost use Rattle.pt_mbr.specs.Chain.{lba, span_of, IsInside, EbrAt, FaultAt, Walk, Chain, ChainFault, ChainReads, StandsAt, ReadsAre, FailedAs};
+ghost use Rattle.pt_mbr.specs.Chain.{lba, span_of, IsInside, EbrAt, FaultAt, Walk, Chain, ChainFault, ChainReads, StandsAt, ReadsAre, fault_in};
 ghost use Rattle.pt_mbr.specs.Decoded.{EndsIn, StepsTo, StepsOut};
 
 use crate::ebr::{Ebr, EbrFault, decode_ebr};
 use arrayvec::ArrayVec;
-use pt_sector::{Disk, Extent, Lba, Sector};
+use pt_sector::{Disk, Extent, FailedRead, Lba, Sector, read_sector};
 
 /// Why an extended partition has no chain. The first fault on the way is told; the place is that of the extended boot
 /// record at fault.
@@ -23,8 +26,16 @@ pub enum ChainError {
     OutsideExtended(Lba),
     /// The 128th extended boot record links to one more.
     TooLong,
-    /// The device failed to read this sector.
+    /// The read of this sector failed.
     Device(Lba),
+}
+
+impl From<FailedRead> for ChainError {
+    ghost from_gives = { λ failed e. e ≡ Device failed.0 };
+
+    fn from(failed: FailedRead) -> ChainError {
+        ChainError::Device(failed.0)
+    }
 }
 
 fn first_of(extent: &Extent) -> Lba
@@ -48,20 +59,13 @@ fn read_ebr<const B: usize, D: Disk<B>>(
 ) -> Result<Ebr, ChainError>
     requires size { IsSectorSize B }
     requires inside { IsInside (span_of extent.now) (D.count disk.old) at }
-    ensures count { D.count disk.new ≡ D.count disk.old }
-    ensures name { D.name disk.new ≡ D.name disk.old }
-    ensures reads { D.reads disk.old disk.new }
-    ensures quiet { OnOk result (D.failures disk.new ≡ D.failures disk.old) }
-    ensures failed { IfErr result (λ e. FailedAs e (D.failures disk.old) (D.failures disk.new)) }
-    ensures same { D.tells → D.told disk.new ≡ D.told disk.old }
+    ensures same { OnlyReads D.Disk disk.old disk.new }
+    ensures blames { Blames fault_in result (D.faults disk.old) (D.faults disk.new) }
     ensures ok { D.tells → IfOk result (λ e. EbrAt (D.told disk.old).seen (span_of extent.now) at e) }
     ensures err { D.tells → IfErr result (λ e. (list : List Ebr) → length list < 128 → Walk (D.told disk.old).seen (span_of extent.now) (Some (lba (span_of extent.now).first)) list (Some at) → EndsIn (D.told disk.old).seen (span_of extent.now) list e) }
 {
     let mut sector = [0; B];
-    match disk.read(at, &mut sector) {
-        Ok(()) => {}
-        Err(_) => return Err(ChainError::Device(at)),
-    }
+    read_sector(disk, at, &mut sector)?;
     match decode_ebr(&sector, first_of(extent), at) {
         Ok(ebr) => Ok(ebr),
         Err(EbrFault::NoSignature) => Err(ChainError::NoSignature(at)),
@@ -79,22 +83,15 @@ fn step<const B: usize, D: Disk<B>>(
     requires size { IsSectorSize B }
     requires inside { IsInside (span_of extent.now) (D.count disk.old) at }
     requires room { array_vec_len list.old < 128 }
-    ensures count { D.count disk.new ≡ D.count disk.old }
-    ensures name { D.name disk.new ≡ D.name disk.old }
-    ensures reads { D.reads disk.old disk.new }
-    ensures quiet { OnOk result (D.failures disk.new ≡ D.failures disk.old) }
-    ensures failed { IfErr result (λ e. FailedAs e (D.failures disk.old) (D.failures disk.new)) }
-    ensures same { D.tells → D.told disk.new ≡ D.told disk.old }
+    ensures same { OnlyReads D.Disk disk.old disk.new }
+    ensures blames { Blames fault_in result (D.faults disk.old) (D.faults disk.new) }
     ensures one_more { OnOk result (array_vec_len list.new ≡ array_vec_len list.old + 1) }
     ensures next { IfOk result (λ o. IfSome o (λ next. IsInside (span_of extent.now) (D.count disk.old) next)) }
     ensures ok { D.tells → IfOk result (λ o. StepsTo (D.told disk.old).seen (span_of extent.now) list.old.items at list.new.items o) }
     ensures err { D.tells → IfErr result (λ e. StepsOut (D.told disk.old).seen (span_of extent.now) list.old.items at list.new.items e) }
 {
     let sectors = disk.sectors();
-    let ebr = match read_ebr(disk, extent, at) {
-        Ok(ebr) => ebr,
-        Err(e) => return Err(e),
-    };
+    let ebr = read_ebr(disk, extent, at)?;
     list.push(ebr);
     let next = match ebr.next {
         Some(next) => next,
@@ -117,12 +114,8 @@ fn follow<const B: usize, D: Disk<B>>(
 ) -> Result<(), ChainError>
     requires size { IsSectorSize B }
     requires empty { list.old.items ≡ [] }
-    ensures count { D.count disk.new ≡ D.count disk.old }
-    ensures name { D.name disk.new ≡ D.name disk.old }
-    ensures reads { D.reads disk.old disk.new }
-    ensures quiet { OnOk result (D.failures disk.new ≡ D.failures disk.old) }
-    ensures failed { IfErr result (λ e. FailedAs e (D.failures disk.old) (D.failures disk.new)) }
-    ensures same { D.tells → D.told disk.new ≡ D.told disk.old }
+    ensures same { OnlyReads D.Disk disk.old disk.new }
+    ensures blames { Blames fault_in result (D.faults disk.old) (D.faults disk.new) }
     ensures ok { D.tells → OnOk result (Chain (D.told disk.old).seen (span_of extent.now) list.new.items) }
     ensures err { D.tells → IfErr result (λ e. EndsIn (D.told disk.old).seen (span_of extent.now) list.new.items e) }
 {
@@ -132,10 +125,9 @@ fn follow<const B: usize, D: Disk<B>>(
         return Err(ChainError::OutsideExtended(at));
     }
     for _ in 0..128u32 {
-        match step(disk, extent, at, list) {
-            Ok(Some(next)) => at = next,
-            Ok(None) => return Ok(()),
-            Err(e) => return Err(e),
+        match step(disk, extent, at, list)? {
+            Some(next) => at = next,
+            None => return Ok(()),
         }
     }
     Err(ChainError::TooLong)
@@ -155,22 +147,16 @@ pub fn walk_chain<const B: usize, D: Disk<B>>(
 ) -> Result<(), ChainError>
     requires size { IsSectorSize B }
     requires empty { list.old.items ≡ [] }
-    ensures count { D.count disk.new ≡ D.count disk.old }
-    ensures name { D.name disk.new ≡ D.name disk.old }
-    ensures reads { D.reads disk.old disk.new }
-    ensures quiet { OnOk result (D.failures disk.new ≡ D.failures disk.old) }
-    ensures failed { IfErr result (λ e. FailedAs e (D.failures disk.old) (D.failures disk.new)) }
-    ensures same { D.tells → D.told disk.new ≡ D.told disk.old }
+    ensures same { OnlyReads D.Disk disk.old disk.new }
+    ensures blames { Blames fault_in result (D.faults disk.old) (D.faults disk.new) }
     ensures ok { D.tells → OnOk result (Chain (D.told disk.old).seen (span_of extent.now) list.new.items) }
     ensures err { D.tells → IfErr result (λ e. ChainFault (D.told disk.old).seen (span_of extent.now) e) }
     ensures decoded { D.tells → IfErr result (λ e. EndsIn (D.told disk.old).seen (span_of extent.now) list.new.items e) }
     ensures read_ok { D.tells → OnOk result ((s : ℕ) → ChainReads (D.told disk.old).seen (span_of extent.now) s ↔ StandsAt s list.new.items) }
     ensures read_err { D.tells → IfErr result (λ e. ReadsAre (D.told disk.old).seen (span_of extent.now) list.new.items e) }
 {
-    match follow(disk, extent, list) {
-        Ok(()) => Ok(()),
-        Err(e) => Err(e),
-    }
+    follow(disk, extent, list)?;
+    Ok(())
 }
 
 /// Reads the chain of an extended partition: its extended boot records in order, each read once, the empty ones too.
@@ -184,18 +170,12 @@ pub fn read_chain<const B: usize, D: Disk<B>>(
     extent: Extent,
 ) -> Result<ArrayVec<Ebr, 128>, ChainError>
     requires size { IsSectorSize B }
-    ensures count { D.count disk.new ≡ D.count disk.old }
-    ensures name { D.name disk.new ≡ D.name disk.old }
-    ensures reads { D.reads disk.old disk.new }
-    ensures quiet { OnOk result (D.failures disk.new ≡ D.failures disk.old) }
-    ensures failed { IfErr result (λ e. FailedAs e (D.failures disk.old) (D.failures disk.new)) }
-    ensures same { D.tells → D.told disk.new ≡ D.told disk.old }
+    ensures same { OnlyReads D.Disk disk.old disk.new }
+    ensures blames { Blames fault_in result (D.faults disk.old) (D.faults disk.new) }
     ensures ok { D.tells → IfOk result (λ list. Chain (D.told disk.old).seen (span_of extent) list.items) }
     ensures err { D.tells → IfErr result (λ e. ChainFault (D.told disk.old).seen (span_of extent) e) }
 {
     let mut list = ArrayVec::new();
-    match walk_chain(disk, &extent, &mut list) {
-        Ok(()) => Ok(list),
-        Err(e) => Err(e),
-    }
+    walk_chain(disk, &extent, &mut list)?;
+    Ok(list)
 }

@@ -11,3 +11,4 @@ pub mod Equal
 pub mod Joined
 pub mod Searched
 pub mod Failed
+pub mod Results

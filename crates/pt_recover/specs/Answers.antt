@@ -1,6 +1,10 @@
 -- What recovery answers where there is no layout.
-use Rattle.std.specs.Prelude.{◌≡◌, ◌⊎◌, ◌+◌, ◌↔◌, ℕ, List, [], ◌∷◌, length, Option, Some, None}
+use Rattle.std.specs.Prelude.{◌≡◌, ◌⊎◌, ◌↔◌, ℕ, List, [], ◌∷◌, length, Option, Some, None}
 use Rattle.pt_sector.specs.Sectors.{Sectors}
+use Rattle.pt_sector.specs.declared.disk.Fault.{Fault}
+use Rattle.pt_sector.specs.declared.disk.Fault.TheVariants.{Read}
+use Rattle.pt_sector.specs.declared.reading.Failure.{Failure}
+use Rattle.pt_sector.specs.declared.reading.Failure.TheVariants as failure
 use Rattle.pt_mbr.specs.Mbr.{AreRecords}
 use Rattle.pt_mbr.specs.Chain.{ChainFault, IsDevice}
 use Rattle.pt_mbr.specs.declared.record.Record.{Record}
@@ -58,10 +62,21 @@ IsOutside _ = ⊥
 abbrev pub TellsNothing : ℕ → Sectors → NoTable → Type 0
 TellsNothing b d e = IsOutside e ⊎ (Denotes b d None × IsReason b d e)
 
--- a device's fault goes with one failure more, every other answer with none
-abbrev pub FailedAs : NoTable → ℕ → ℕ → Type 0
-FailedAs (Device at) before now = now ≡ before + 1
-FailedAs _ before now = now ≡ before
+-- the failure that an answer is
+abbrev pub failure_in : NoTable → Option Failure
+failure_in (Device at) = Some (failure.Device at)
+failure_in Memory = Some failure.Memory
+failure_in _ = None
+
+-- what recovery tells of a failure
+abbrev pub told_failure : Failure → NoTable
+told_failure (failure.Device at) = Device at
+told_failure failure.Memory = Memory
+
+-- the fault that an answer carries
+abbrev pub fault_in : NoTable → Option Fault
+fault_in (Device at) = Some (Read at)
+fault_in _ = None
 
 -- the sectors of the trace are those that recovery reads, and no others
 abbrev pub IsTraceOf : ℕ → Sectors → List Run → Type 0
@@ -72,7 +87,7 @@ abbrev pub HeadIs : List ℕ → Option Mbr → Type 0
 HeadIs bytes None = ¬ IsMbrSector bytes
 HeadIs bytes (Some m) = IsMbrSector bytes × AreRecords m.records bytes
 
--- a device's fault is at one of these sectors
+-- the sector whose read failed is one of these
 abbrev pub FailedIn : (ℕ → Type 0) → NoTable → Type 0
 FailedIn S (Device at) = S at.0
 FailedIn S _ = Unit {0}

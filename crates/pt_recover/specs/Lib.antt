@@ -1,6 +1,7 @@
 pub mod Mbr
 pub mod Gpt
 pub mod Labels
+pub mod Numbers
 pub mod Denotes
 pub mod Spans
 pub mod Answers

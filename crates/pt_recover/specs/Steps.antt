@@ -6,8 +6,6 @@ use Rattle.pt_mbr.specs.declared.record.Record.{Record}
 use Rattle.pt_mbr.specs.declared.chain.ChainError.{ChainError}
 use Rattle.pt_mbr.specs.declared.chain.ChainError.TheVariants as way
 use Rattle.pt_gpt.specs.Copy.{IsCopyFault}
-use Rattle.pt_gpt.specs.declared.error.CopyError.{CopyError}
-use Rattle.pt_gpt.specs.declared.error.CopyError.TheVariants as copy
 use Rattle.pt_gpt.specs.declared.table.Side.TheVariants.{Primary, Backup}
 use Rattle.pt_bsd.specs.Label.{LabelBytes}
 use Rattle.pt_bsd.specs.declared.label.Label.{Label}
@@ -35,12 +33,6 @@ ToldAs fault e = (e ≡ no.Memory) ⊎ (e ≡ no.Chain fault)
 abbrev pub IsChainFault : Sectors → Span → NoTable → Type 0
 IsChainFault d x (no.Chain e) = ChainFault d x e × (¬ IsDevice e)
 IsChainFault d x _ = ⊥
-
--- what recovery tells of an error of a copy that the disk's content doesn't explain
-abbrev pub OutsideAs : CopyError → NoTable → Type 0
-OutsideAs (copy.Device at) e = e ≡ no.Device at
-OutsideAs copy.Memory e = e ≡ no.Memory
-OutsideAs _ e = ⊥
 
 -- the first fault of each copy
 abbrev pub AreCopyFaults : ℕ → Sectors → NoTable → Type 0

@@ -1,12 +1,14 @@
 //! What stands in a table: the records and the chain of an MBR disk, or the table of a GPT disk.
 
 ghost use Rattle.std.specs.Prelude.{◌≡◌, ◌<◌, ◌⊎◌, IfOk, IfErr, OnOk};
+ghost use Rattle.pt_sector.specs.Calls.{Blames};
+ghost use Rattle.pt_sector.specs.Reads.{OnlyReads, read_of};
 ghost use Rattle.pt_sector.specs.Sectors.{IsSectorSize, sector};
 ghost use Rattle.pt_recover.specs.Mbr.{IsMbrDisk, IsMbr};
 ghost use Rattle.pt_recover.specs.Denotes.{BodyIs, BodyReads};
 ghost use Rattle.pt_recover.specs.Steps.{RestReads};
 ghost use Rattle.pt_recover.specs.Spans.{Adds};
-ghost use Rattle.pt_recover.specs.Answers.{IsOutside, TellsNothing, FailedAs, FailedIn, HeadIs};
+ghost use Rattle.pt_recover.specs.Answers.{IsOutside, TellsNothing, fault_in, FailedIn, HeadIs};
 
 use crate::error::NoTable;
 use crate::extended::read_lone;
@@ -15,7 +17,7 @@ use crate::tables::read_either;
 use crate::trace::Trace;
 use pt_gpt::array_sectors;
 use pt_mbr::{Mbr, bears_protective, decode_mbr};
-use pt_sector::{Disk, Lba, Sector};
+use pt_sector::{Disk, FailedRead, Lba, Sector, read_sector};
 use std::alloc::Global;
 
 fn head_of<const B: usize>(sector: &Sector<B>) -> Option<Mbr>
@@ -33,24 +35,17 @@ fn head_of<const B: usize>(sector: &Sector<B>) -> Option<Mbr>
 }
 
 /// The records of sector 0 of an MBR disk; none of a disk that isn't one.
-pub fn read_records<const B: usize, D: Disk<B>>(disk: &mut D) -> Result<Option<Mbr>, NoTable>
+pub fn read_records<const B: usize, D: Disk<B>>(disk: &mut D) -> Result<Option<Mbr>, FailedRead>
     requires size { IsSectorSize B }
     requires some { 0 < D.count disk.old }
-    ensures count { D.count disk.new ≡ D.count disk.old }
-    ensures name { D.name disk.new ≡ D.name disk.old }
-    ensures reads { D.reads disk.old disk.new }
-    ensures quiet { OnOk result (D.failures disk.new ≡ D.failures disk.old) }
-    ensures failed { IfErr result (λ e. FailedAs e (D.failures disk.old) (D.failures disk.new)) }
-    ensures place { IfErr result (FailedIn (λ s. s ≡ 0)) }
-    ensures outside { IfErr result IsOutside }
-    ensures same { D.tells → D.told disk.new ≡ D.told disk.old }
+    ensures same { OnlyReads D.Disk disk.old disk.new }
+    ensures blames { Blames read_of result (D.faults disk.old) (D.faults disk.new) }
+    ensures place { IfErr result (λ e. e.0.0 ≡ 0) }
     ensures ok { D.tells → IfOk result (HeadIs (sector (D.told disk.old).seen 0)) }
 {
     let mut sector = [0; B];
-    match disk.read(Lba(0), &mut sector) {
-        Ok(()) => Ok(head_of(&sector)),
-        Err(_) => Err(NoTable::Device(Lba(0))),
-    }
+    read_sector(disk, Lba(0), &mut sector)?;
+    Ok(head_of(&sector))
 }
 
 // The table of a disk that isn't an MBR disk.
@@ -61,13 +56,9 @@ fn read_gpt<const B: usize, D: Disk<B>>(
 ) -> Result<Body, NoTable>
     requires size { IsSectorSize B }
     requires no_mbr { D.tells → ¬ IsMbrDisk (D.told disk.old).seen }
-    ensures count { D.count disk.new ≡ D.count disk.old }
-    ensures name { D.name disk.new ≡ D.name disk.old }
-    ensures reads { D.reads disk.old disk.new }
-    ensures quiet { OnOk result (D.failures disk.new ≡ D.failures disk.old) }
-    ensures failed { IfErr result (λ e. FailedAs e (D.failures disk.old) (D.failures disk.new)) }
+    ensures same { OnlyReads D.Disk disk.old disk.new }
+    ensures blames { Blames fault_in result (D.faults disk.old) (D.faults disk.new) }
     ensures place { D.tells → IfErr result (FailedIn (RestReads B (D.told disk.old).seen)) }
-    ensures same { D.tells → D.told disk.new ≡ D.told disk.old }
     ensures ok { D.tells → IfOk result (λ y. BodyIs B (D.told disk.old).seen y) }
     ensures err { D.tells → IfErr result (λ e. TellsNothing B (D.told disk.old).seen e) }
     ensures traced { D.tells → OnOk result (Adds trace.old trace.new (RestReads B (D.told disk.old).seen)) }
@@ -77,10 +68,8 @@ fn read_gpt<const B: usize, D: Disk<B>>(
     if sectors < 2 * array_sectors::<B>() + 4 {
         return Err(NoTable::TooSmall);
     }
-    match read_either(alloc, disk, trace) {
-        Ok(table) => Ok(Body::Gpt(table)),
-        Err(e) => Err(e),
-    }
+    let table = read_either(alloc, disk, trace)?;
+    Ok(Body::Gpt(table))
 }
 
 // The records and the chain of an MBR disk.
@@ -92,25 +81,19 @@ fn read_mbr<const B: usize, D: Disk<B>>(
 ) -> Result<Body, NoTable>
     requires size { IsSectorSize B }
     requires is_mbr { D.tells → IsMbr (D.told disk.old).seen mbr.now.records }
-    ensures count { D.count disk.new ≡ D.count disk.old }
-    ensures name { D.name disk.new ≡ D.name disk.old }
-    ensures reads { D.reads disk.old disk.new }
-    ensures quiet { OnOk result (D.failures disk.new ≡ D.failures disk.old) }
-    ensures failed { IfErr result (λ e. FailedAs e (D.failures disk.old) (D.failures disk.new)) }
+    ensures same { OnlyReads D.Disk disk.old disk.new }
+    ensures blames { Blames fault_in result (D.faults disk.old) (D.faults disk.new) }
     ensures place { D.tells → IfErr result (FailedIn (RestReads B (D.told disk.old).seen)) }
-    ensures same { D.tells → D.told disk.new ≡ D.told disk.old }
     ensures ok { D.tells → IfOk result (λ y. BodyIs B (D.told disk.old).seen y) }
     ensures err { D.tells → IfErr result (λ e. TellsNothing B (D.told disk.old).seen e) }
     ensures traced { D.tells → OnOk result (Adds trace.old trace.new (RestReads B (D.told disk.old).seen)) }
     ensures traced_err { D.tells → IfErr result (λ e. IsOutside e ⊎ Adds trace.old trace.new (RestReads B (D.told disk.old).seen)) }
 {
-    match read_lone(alloc, disk, mbr, trace) {
-        Ok(chain) => Ok(Body::Mbr {
-            records: mbr.records,
-            chain,
-        }),
-        Err(e) => Err(e),
-    }
+    let chain = read_lone(alloc, disk, mbr, trace)?;
+    Ok(Body::Mbr {
+        records: mbr.records,
+        chain,
+    })
 }
 
 /// The body that the disk denotes, with the sectors that decide it added to the trace.
@@ -120,13 +103,9 @@ pub(crate) fn read_body<const B: usize, D: Disk<B>>(
     trace: &mut Trace,
 ) -> Result<Body, NoTable>
     requires size { IsSectorSize B }
-    ensures count { D.count disk.new ≡ D.count disk.old }
-    ensures name { D.name disk.new ≡ D.name disk.old }
-    ensures reads { D.reads disk.old disk.new }
-    ensures quiet { OnOk result (D.failures disk.new ≡ D.failures disk.old) }
-    ensures failed { IfErr result (λ e. FailedAs e (D.failures disk.old) (D.failures disk.new)) }
+    ensures same { OnlyReads D.Disk disk.old disk.new }
+    ensures blames { Blames fault_in result (D.faults disk.old) (D.faults disk.new) }
     ensures place { D.tells → IfErr result (FailedIn (BodyReads B (D.told disk.old).seen)) }
-    ensures same { D.tells → D.told disk.new ≡ D.told disk.old }
     ensures ok { D.tells → IfOk result (λ y. BodyIs B (D.told disk.old).seen y) }
     ensures err { D.tells → IfErr result (λ e. TellsNothing B (D.told disk.old).seen e) }
     ensures traced { D.tells → OnOk result (Adds trace.old trace.new (BodyReads B (D.told disk.old).seen)) }
@@ -135,13 +114,9 @@ pub(crate) fn read_body<const B: usize, D: Disk<B>>(
     if disk.sectors() == 0 {
         return Err(NoTable::TooSmall);
     }
-    match trace.add_one(0) {
-        Ok(()) => {}
-        Err(_) => return Err(NoTable::Memory),
-    }
-    match read_records(disk) {
-        Ok(Some(mbr)) => read_mbr(alloc, disk, &mbr, trace),
-        Ok(None) => read_gpt(alloc, disk, trace),
-        Err(e) => Err(e),
+    trace.add_one(0)?;
+    match read_records(disk)? {
+        Some(mbr) => read_mbr(alloc, disk, &mbr, trace),
+        None => read_gpt(alloc, disk, trace),
     }
 }

@@ -1,8 +1,13 @@
 //! Why there is no layout.
 
+ghost use Rattle.std.specs.Prelude.{◌≡◌};
+ghost use Rattle.pt_recover.specs.Answers.{failure_in, told_failure};
+ghost use Rattle.pt_recover.specs.declared.error.NoTable.TheVariants.{Device, Memory};
+
 use pt_gpt::CopyError;
 use pt_mbr::ChainError;
-use pt_sector::Lba;
+use pt_sector::{FailedRead, Failure, Lba};
+use std::alloc::AllocError;
 
 /// Why recovery gives no layout. All but the last two are told exactly where the disk denotes nothing for that reason.
 #[derive(Clone, Copy, Debug, PartialEq, Eq)]
@@ -15,8 +20,48 @@ pub enum NoTable {
     TwoExtended,
     /// It is no MBR disk, and has fewer sectors than a GPT takes with one usable one: 68 of 512 bytes, or 12 of 4096.
     TooSmall,
-    /// The device failed to read this sector.
+    /// The read of this sector failed.
     Device(Lba),
     /// Memory for the layout was refused.
     Memory,
+}
+
+impl From<FailedRead> for NoTable {
+    ghost from_gives = { λ failed e. e ≡ Device failed.0 };
+
+    fn from(failed: FailedRead) -> NoTable {
+        NoTable::Device(failed.0)
+    }
+}
+
+impl From<AllocError> for NoTable {
+    ghost from_gives = { λ _ e. e ≡ Memory };
+
+    fn from(_e: AllocError) -> NoTable {
+        NoTable::Memory
+    }
+}
+
+impl From<Failure> for NoTable {
+    ghost from_gives = { λ failure e. e ≡ told_failure failure };
+
+    fn from(failure: Failure) -> NoTable {
+        match failure {
+            Failure::Device(at) => NoTable::Device(at),
+            Failure::Memory => NoTable::Memory,
+        }
+    }
+}
+
+impl NoTable {
+    /// The failure that it is, if what is on the disk doesn't explain it: of `Device` and `Memory`.
+    pub fn failure(self) -> Option<Failure>
+        ensures { result ≡ failure_in self }
+    {
+        match self {
+            NoTable::Device(at) => Some(Failure::Device(at)),
+            NoTable::Memory => Some(Failure::Memory),
+            _ => None,
+        }
+    }
 }

@@ -1,12 +1,14 @@
 //! The chain of a lone extended partition, and the sectors that it stands in.
 
 ghost use Rattle.std.specs.Prelude.{◌≡◌, ◌<◌, ◌+◌, ◌⊎◌, ◌↔◌, ◌++◌, ℕ, [], drop, option_to_list, IfOk, IfErr, OnOk, IfSome, IfNone};
+ghost use Rattle.pt_sector.specs.Calls.{Blames};
+ghost use Rattle.pt_sector.specs.Reads.{OnlyReads};
 ghost use Rattle.pt_sector.specs.Sectors.{IsSectorSize};
 ghost use Rattle.pt_mbr.specs.Chain.{span_of, Chain, ChainReads, StandsAt, IsReadBy};
 ghost use Rattle.pt_recover.specs.Mbr.{IsMbr, extended_of, extent_of, HasChain, ExtendedReads};
 ghost use Rattle.pt_recover.specs.Steps.{ExtendedIs, ToldAs, IsChainFault};
 ghost use Rattle.pt_recover.specs.Spans.{Adds};
-ghost use Rattle.pt_recover.specs.Answers.{IsOutside, TellsNothing, FailedAs, FailedIn};
+ghost use Rattle.pt_recover.specs.Answers.{IsOutside, TellsNothing, fault_in, FailedIn};
 
 use crate::error::NoTable;
 use crate::layout::Ebrs;
@@ -119,13 +121,9 @@ fn read_extended<const B: usize, D: Disk<B>>(
     trace: &mut Trace,
 ) -> Result<Ebrs, NoTable>
     requires size { IsSectorSize B }
-    ensures count { D.count disk.new ≡ D.count disk.old }
-    ensures name { D.name disk.new ≡ D.name disk.old }
-    ensures reads { D.reads disk.old disk.new }
-    ensures quiet { OnOk result (D.failures disk.new ≡ D.failures disk.old) }
-    ensures failed { IfErr result (λ e. FailedAs e (D.failures disk.old) (D.failures disk.new)) }
+    ensures same { OnlyReads D.Disk disk.old disk.new }
+    ensures blames { Blames fault_in result (D.faults disk.old) (D.faults disk.new) }
     ensures place { D.tells → IfErr result (FailedIn (ChainReads (D.told disk.old).seen (span_of extent.now))) }
-    ensures same { D.tells → D.told disk.new ≡ D.told disk.old }
     ensures ok { D.tells → IfOk result (λ list. Chain (D.told disk.old).seen (span_of extent.now) list) }
     ensures err { D.tells → IfErr result (λ e. IsOutside e ⊎ IsChainFault (D.told disk.old).seen (span_of extent.now) e) }
     ensures traced { D.tells → OnOk result (Adds trace.old trace.new (ChainReads (D.told disk.old).seen (span_of extent.now))) }
@@ -133,10 +131,10 @@ fn read_extended<const B: usize, D: Disk<B>>(
 {
     let mut list = ArrayVec::new();
     match walk_chain(disk, extent, &mut list) {
-        Ok(()) => match kept_chain(alloc, list.as_slice(), trace) {
-            Ok(chain) => Ok(chain),
-            Err(_) => Err(NoTable::Memory),
-        },
+        Ok(()) => {
+            let chain = kept_chain(alloc, list.as_slice(), trace)?;
+            Ok(chain)
+        }
         Err(fault) => Err(told_fault(list.as_slice(), fault, trace)),
     }
 }
@@ -160,13 +158,9 @@ pub(crate) fn read_lone<const B: usize, D: Disk<B>>(
 ) -> Result<Ebrs, NoTable>
     requires size { IsSectorSize B }
     requires is_mbr { D.tells → IsMbr (D.told disk.old).seen mbr.now.records }
-    ensures count { D.count disk.new ≡ D.count disk.old }
-    ensures name { D.name disk.new ≡ D.name disk.old }
-    ensures reads { D.reads disk.old disk.new }
-    ensures quiet { OnOk result (D.failures disk.new ≡ D.failures disk.old) }
-    ensures failed { IfErr result (λ e. FailedAs e (D.failures disk.old) (D.failures disk.new)) }
+    ensures same { OnlyReads D.Disk disk.old disk.new }
+    ensures blames { Blames fault_in result (D.faults disk.old) (D.faults disk.new) }
     ensures place { D.tells → IfErr result (FailedIn (ExtendedReads (D.told disk.old).seen (extended_of mbr.now.records))) }
-    ensures same { D.tells → D.told disk.new ≡ D.told disk.old }
     ensures ok { D.tells → IfOk result (λ list. HasChain (D.told disk.old).seen (extended_of mbr.now.records) list) }
     ensures err { D.tells → IfErr result (λ e. TellsNothing B (D.told disk.old).seen e) }
     ensures traced { D.tells → OnOk result (Adds trace.old trace.new (ExtendedReads (D.told disk.old).seen (extended_of mbr.now.records))) }
@@ -184,8 +178,5 @@ pub(crate) fn read_lone<const B: usize, D: Disk<B>>(
             return Err(NoTable::Chain(ChainError::OutsideExtended(first)));
         }
     };
-    match read_extended(alloc, disk, &extent, trace) {
-        Ok(chain) => Ok(chain),
-        Err(e) => Err(e),
-    }
+    read_extended(alloc, disk, &extent, trace)
 }

@@ -1,17 +1,17 @@
 //! Labels, each from its slice's label place.
 
 ghost use Rattle.std.specs.Prelude.{◌≡◌, ◌<◌, ◌++◌, All, IfOk, IfErr, OnOk};
+ghost use Rattle.pt_sector.specs.Calls.{Blames};
+ghost use Rattle.pt_sector.specs.Reads.{OnlyReads, FailedIn, fault_of};
 ghost use Rattle.pt_sector.specs.Sectors.{IsSectorSize, sector};
 ghost use Rattle.pt_recover.specs.Labels.{place_of, IsPlace, LabelsAre};
 ghost use Rattle.pt_recover.specs.Steps.{labelled, LabelIs};
 ghost use Rattle.pt_recover.specs.Spans.{Adds};
-ghost use Rattle.pt_recover.specs.Answers.{IsOutside, FailedAs, FailedIn};
 
-use crate::error::NoTable;
 use crate::layout::{Labelled, Labels, Slice};
 use crate::trace::Trace;
 use pt_bsd::{Label, decode_label};
-use pt_sector::{Disk, Lba, Sector};
+use pt_sector::{Disk, Failure, Lba, Sector, read_sector};
 use std::alloc::{AllocError, Global};
 
 #[tactic(auto, using(crate::proofs::LabelSteps::no_label))]
@@ -30,31 +30,21 @@ fn read_label<const B: usize, D: Disk<B>>(
     disk: &mut D,
     slice: Slice,
     trace: &mut Trace,
-) -> Result<Option<Label>, NoTable>
+) -> Result<Option<Label>, Failure>
     requires size { IsSectorSize B }
     requires within { place_of slice < D.count disk.old }
-    ensures count { D.count disk.new ≡ D.count disk.old }
-    ensures name { D.name disk.new ≡ D.name disk.old }
-    ensures reads { D.reads disk.old disk.new }
-    ensures quiet { OnOk result (D.failures disk.new ≡ D.failures disk.old) }
-    ensures failed { IfErr result (λ e. FailedAs e (D.failures disk.old) (D.failures disk.new)) }
+    ensures same { OnlyReads D.Disk disk.old disk.new }
+    ensures blames { Blames fault_of result (D.faults disk.old) (D.faults disk.new) }
     ensures place { IfErr result (FailedIn (λ s. s ≡ place_of slice)) }
-    ensures outside { IfErr result IsOutside }
-    ensures same { D.tells → D.told disk.new ≡ D.told disk.old }
     ensures ok { D.tells → IfOk result (λ o. LabelIs slice (sector (D.told disk.old).seen (place_of slice)) o) }
     ensures traced { OnOk result (Adds trace.old trace.new (λ s. s ≡ place_of slice)) }
 {
     let _sectors = disk.sectors();
     let at = slice.first + 1;
-    match trace.add_one(at) {
-        Ok(()) => {}
-        Err(_) => return Err(NoTable::Memory),
-    }
+    trace.add_one(at)?;
     let mut sector = [0; B];
-    match disk.read(Lba(at), &mut sector) {
-        Ok(()) => Ok(label_of(&sector, slice)),
-        Err(_) => Err(NoTable::Device(Lba(at))),
-    }
+    read_sector(disk, Lba(at), &mut sector)?;
+    Ok(label_of(&sector, slice))
 }
 
 fn push_label(
@@ -76,31 +66,20 @@ pub(crate) fn traced_labels<const B: usize, D: Disk<B>>(
     disk: &mut D,
     slices: &[Slice],
     trace: &mut Trace,
-) -> Result<Labels, NoTable>
+) -> Result<Labels, Failure>
     requires size { IsSectorSize B }
     requires within { All (λ p. place_of p < D.count disk.old) slices.now }
-    ensures count { D.count disk.new ≡ D.count disk.old }
-    ensures name { D.name disk.new ≡ D.name disk.old }
-    ensures reads { D.reads disk.old disk.new }
-    ensures quiet { OnOk result (D.failures disk.new ≡ D.failures disk.old) }
-    ensures failed { IfErr result (λ e. FailedAs e (D.failures disk.old) (D.failures disk.new)) }
+    ensures same { OnlyReads D.Disk disk.old disk.new }
+    ensures blames { Blames fault_of result (D.faults disk.old) (D.faults disk.new) }
     ensures place { IfErr result (FailedIn (IsPlace slices.now)) }
-    ensures outside { IfErr result IsOutside }
-    ensures same { D.tells → D.told disk.new ≡ D.told disk.old }
     ensures ok { D.tells → IfOk result (λ ls. LabelsAre (D.told disk.old).seen slices.now ls) }
     ensures traced { OnOk result (Adds trace.old trace.new (IsPlace slices.now)) }
 {
     let mut labels = Vec::new(alloc);
     for k in 0..slices.len() {
         let slice = slices[k];
-        let found = match read_label(disk, slice, trace) {
-            Ok(found) => found,
-            Err(e) => return Err(e),
-        };
-        match push_label(&mut labels, slice.number, found) {
-            Ok(()) => {}
-            Err(_) => return Err(NoTable::Memory),
-        }
+        let found = read_label(disk, slice, trace)?;
+        push_label(&mut labels, slice.number, found)?;
     }
     Ok(Labels::new(labels))
 }
@@ -110,17 +89,12 @@ pub fn read_labels<const B: usize, D: Disk<B>>(
     alloc: Global,
     disk: &mut D,
     slices: &[Slice],
-) -> Result<Labels, NoTable>
+) -> Result<Labels, Failure>
     requires size { IsSectorSize B }
     requires within { All (λ p. place_of p < D.count disk.old) slices.now }
-    ensures count { D.count disk.new ≡ D.count disk.old }
-    ensures name { D.name disk.new ≡ D.name disk.old }
-    ensures reads { D.reads disk.old disk.new }
-    ensures quiet { OnOk result (D.failures disk.new ≡ D.failures disk.old) }
-    ensures failed { IfErr result (λ e. FailedAs e (D.failures disk.old) (D.failures disk.new)) }
+    ensures same { OnlyReads D.Disk disk.old disk.new }
+    ensures blames { Blames fault_of result (D.faults disk.old) (D.faults disk.new) }
     ensures place { IfErr result (FailedIn (IsPlace slices.now)) }
-    ensures outside { IfErr result IsOutside }
-    ensures same { D.tells → D.told disk.new ≡ D.told disk.old }
     ensures ok { D.tells → IfOk result (λ ls. LabelsAre (D.told disk.old).seen slices.now ls) }
 {
     let mut trace = Trace::new(alloc);

@@ -11,6 +11,7 @@ mod extended;
 mod labels;
 mod laws;
 mod layout;
+mod numbers;
 mod recovery;
 mod slices;
 mod tables;

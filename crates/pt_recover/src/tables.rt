@@ -1,15 +1,17 @@
 //! The table of a GPT disk, and the sectors that decide it.
 
-ghost use Rattle.std.specs.Prelude.{◌≡◌, ◌+◌, ◌-◌, ◌≤◌, ◌⊎◌, IfOk, IfErr, OnOk, IfSome, IfNone};
+ghost use Rattle.std.specs.Prelude.{◌≡◌, ◌+◌, ◌-◌, ◌≤◌, ◌⊎◌, IfOk, IfErr, OnOk};
+ghost use Rattle.pt_sector.specs.Calls.{Blames};
+ghost use Rattle.pt_sector.specs.Reads.{OnlyReads};
 ghost use Rattle.pt_sector.specs.Sectors.{IsSectorSize};
 ghost use Rattle.pt_gpt.specs.Array.{counted};
-ghost use Rattle.pt_gpt.specs.Errors.{IsOutside as IsOutsideCopy, FailedAs as FailedAsCopy, FailedIn as FailedInCopy};
+ghost use Rattle.pt_gpt.specs.Errors.{IsOutside as IsOutsideCopy, fault_in as fault_in_copy, FailedIn as FailedInCopy};
 ghost use Rattle.pt_gpt.specs.Copy.{IsPlaced, InArray, Copy, SideReads};
 ghost use Rattle.pt_gpt.specs.Answers.{TellsFault};
 ghost use Rattle.pt_recover.specs.Gpt.{HasRoom, TableIs, TableReads};
-ghost use Rattle.pt_recover.specs.Steps.{OutsideAs, AreCopyFaults};
+ghost use Rattle.pt_recover.specs.Steps.{AreCopyFaults};
 ghost use Rattle.pt_recover.specs.Spans.{Adds};
-ghost use Rattle.pt_recover.specs.Answers.{IsOutside, FailedAs, FailedIn};
+ghost use Rattle.pt_recover.specs.Answers.{IsOutside, fault_in, FailedIn};
 
 use crate::error::NoTable;
 use crate::trace::Trace;
@@ -42,47 +44,19 @@ fn traced_copy<const B: usize, D: Disk<B>>(
 ) -> Result<Table, CopyError>
     requires size { IsSectorSize B }
     requires room { HasRoom B (D.count disk.old) }
-    ensures count { D.count disk.new ≡ D.count disk.old }
-    ensures name { D.name disk.new ≡ D.name disk.old }
-    ensures reads { D.reads disk.old disk.new }
-    ensures quiet { OnOk result (D.failures disk.new ≡ D.failures disk.old) }
-    ensures failed { IfErr result (λ e. FailedAsCopy e (D.failures disk.old) (D.failures disk.new)) }
+    ensures same { OnlyReads D.Disk disk.old disk.new }
+    ensures blames { Blames fault_in_copy result (D.faults disk.old) (D.faults disk.new) }
     ensures place { D.tells → IfErr result (FailedInCopy (SideReads B (D.told disk.old).seen side)) }
-    ensures same { D.tells → D.told disk.new ≡ D.told disk.old }
     ensures ok { D.tells → IfOk result (λ t. Copy B (D.told disk.old).seen side t) }
     ensures err { D.tells → IfErr result (λ e. TellsFault B (D.told disk.old).seen side e) }
     ensures traced { D.tells → OnOk result (Adds trace.old trace.new (SideReads B (D.told disk.old).seen side)) }
     ensures traced_err { D.tells → IfErr result (λ e. IsOutsideCopy e ⊎ Adds trace.old trace.new (SideReads B (D.told disk.old).seen side)) }
 {
     let sectors = disk.sectors();
-    match trace.add_one(header_at(side, sectors)) {
-        Ok(()) => {}
-        Err(_) => return Err(CopyError::Memory),
-    }
-    let header = match read_head(disk, side) {
-        Ok(header) => header,
-        Err(e) => return Err(e),
-    };
-    match trace_array::<B>(&header, side, sectors, trace) {
-        Ok(()) => {}
-        Err(_) => return Err(CopyError::Memory),
-    }
-    match read_table(alloc, disk, side, &header) {
-        Ok(table) => Ok(table),
-        Err(e) => Err(e),
-    }
-}
-
-// What an error is told as that the disk's content doesn't explain.
-fn outside(e: CopyError) -> Option<NoTable>
-    ensures some { IfSome result (λ n. OutsideAs e n) }
-    ensures none { IfNone result (¬ IsOutsideCopy e) }
-{
-    match e {
-        CopyError::Device(at) => Some(NoTable::Device(at)),
-        CopyError::Memory => Some(NoTable::Memory),
-        _ => None,
-    }
+    trace.add_one(header_at(side, sectors))?;
+    let header = read_head(disk, side)?;
+    trace_array::<B>(&header, side, sectors, trace)?;
+    read_table(alloc, disk, side, &header)
 }
 
 /// The table of a disk with room for one: that of the primary copy, or else of the backup.
@@ -93,13 +67,9 @@ pub(crate) fn read_either<const B: usize, D: Disk<B>>(
 ) -> Result<Table, NoTable>
     requires size { IsSectorSize B }
     requires room { HasRoom B (D.count disk.old) }
-    ensures count { D.count disk.new ≡ D.count disk.old }
-    ensures name { D.name disk.new ≡ D.name disk.old }
-    ensures reads { D.reads disk.old disk.new }
-    ensures quiet { OnOk result (D.failures disk.new ≡ D.failures disk.old) }
-    ensures failed { IfErr result (λ e. FailedAs e (D.failures disk.old) (D.failures disk.new)) }
+    ensures same { OnlyReads D.Disk disk.old disk.new }
+    ensures blames { Blames fault_in result (D.faults disk.old) (D.faults disk.new) }
     ensures place { D.tells → IfErr result (FailedIn (TableReads B (D.told disk.old).seen)) }
-    ensures same { D.tells → D.told disk.new ≡ D.told disk.old }
     ensures ok { D.tells → IfOk result (λ t. TableIs B (D.told disk.old).seen t) }
     ensures err { D.tells → IfErr result (λ e. IsOutside e ⊎ AreCopyFaults B (D.told disk.old).seen e) }
     ensures traced { D.tells → OnOk result (Adds trace.old trace.new (TableReads B (D.told disk.old).seen)) }
@@ -109,16 +79,16 @@ pub(crate) fn read_either<const B: usize, D: Disk<B>>(
         Ok(table) => return Ok(table),
         Err(e) => e,
     };
-    match outside(primary) {
-        Some(e) => return Err(e),
+    match primary.failure() {
+        Some(failure) => return Err(NoTable::from(failure)),
         None => {}
     }
     let backup = match traced_copy(alloc, disk, Side::Backup, trace) {
         Ok(table) => return Ok(table),
         Err(e) => e,
     };
-    match outside(backup) {
-        Some(e) => Err(e),
+    match backup.failure() {
+        Some(failure) => Err(NoTable::from(failure)),
         None => Err(NoTable::NoCopy(primary, backup)),
     }
 }

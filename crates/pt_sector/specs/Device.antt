@@ -1,8 +1,7 @@
 -- What a device tells of its content, and what its calls do.
-use Rattle.std.specs.Prelude.{◌≡◌, ◌⊎◌, ℕ, ◌<◌, ◌+◌, List, [], ◌∷◌, ◌++◌, length, slice_set, Result, OnOk, OnErr}
+use Rattle.std.specs.Prelude.{◌≡◌, ◌⊎◌, ℕ, ◌<◌, List, [], ◌∷◌, ◌++◌, length, slice_set}
 use Rattle.pt_sector.specs.Sectors.{Sectors}
 use Rattle.pt_sector.specs.Writes.{Writes, MayHold, Stopped}
-use Rattle.pt_sector.specs.declared.disk.Fault.{Fault}
 
 -- what was durable and what was pending
 abbrev pub Moment : Type 0
@@ -63,8 +62,3 @@ pub record FailedFlush (old new : Told) : Type 0 where
   pub same_count : length new.durable ≡ length old.durable
   pub no_more : (k : ℕ) (v : List ℕ) → k < length old.durable → MayHold new.durable new.pending k v → MayHold old.durable old.pending k v
   pub time : Elapses old new
-
--- the count of failures goes on by a failed call and by no other
-pub record Counted {T : Type 0} (before now : ℕ) (result : Result T Fault) : Type 0 where
-  pub ok : OnOk result (now ≡ before)
-  pub err : OnErr result (now ≡ before + 1)

@@ -6,6 +6,9 @@ pub mod Written
 pub mod Device
 pub mod Past
 pub mod Since
+pub mod Bound
+pub mod Calls
+pub mod Reads
 pub mod Memory
 pub mod Ascending
 pub mod Puts

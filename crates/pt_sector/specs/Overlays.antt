@@ -27,10 +27,6 @@ overlay_told seen own past = told_of (shown seen own) (shown seen own) [] (momen
 abbrev pub content : {D : Type 0} {b : _} → (D → Told) → Overlay D b (Own b) → Told
 content told_below o = overlay_told (told_below o.disk.now).seen o.own o.past.items
 
--- the failed calls of the borrowed disk, and the writes that it refused itself
-abbrev pub failed_calls : {D : Type 0} {b : _} → (D → ℕ) → Overlay D b (Own b) → ℕ
-failed_calls failed_below o = failed_below o.disk.now + length o.refused.items
-
 -- sector k is one of its own
 abbrev pub Keeps : {D : Type 0} {b : _} → Overlay D b (Own b) → ℕ → Type 0
 Keeps o k = Has (puts_as_writes o.own.puts.items) k

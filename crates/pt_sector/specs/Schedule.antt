@@ -1,7 +1,8 @@
 -- A disk that stops and fails: what it tells, its room, and the call that fails.
-use Rattle.std.specs.Prelude.{◌≡◌, ℕ, ◌-◌, ◌≤◌, Bool, length}
+use Rattle.std.specs.Prelude.{◌≡◌, ℕ, ◌-◌, ◌≤◌, Bool, List, length}
 use Rattle.pt_sector.specs.Device.{Told}
 use Rattle.pt_sector.specs.Crash.{crash_told}
+use Rattle.pt_sector.specs.declared.disk.Fault.{Fault}
 use Rattle.pt_sector.specs.declared.crash.CrashDisk.{CrashDisk}
 
 abbrev pub content : {b : _} → CrashDisk b → Told
@@ -10,9 +11,9 @@ content d = crash_told d.cache d.past.items
 abbrev pub sector_count : {b : _} → CrashDisk b → ℕ
 sector_count d = length d.cache.durable.items
 
--- how many of its calls have failed
-abbrev pub failed_calls : {b : _} → CrashDisk b → ℕ
-failed_calls d = length d.failures.items
+-- the faults of its calls that failed
+abbrev pub faults_of : {b : _} → CrashDisk b → List Fault
+faults_of d = d.failed.items
 
 -- how many writes may be pending at once
 abbrev pub pending_room : {b : _} → CrashDisk b → ℕ

@@ -1,5 +1,5 @@
 -- Several calls: what a crash in them may leave.
-use Rattle.std.specs.Prelude.{◌≡◌, ◌⊎◌, ℕ, List, [], ◌∷◌, ◌++◌}
+use Rattle.std.specs.Prelude.{◌≡◌, ◌⊎◌, List, [], ◌∷◌, ◌++◌}
 use Rattle.std.proofs.Common.{inl, inr, ⊎_elim, refl, ◌∙◌, sym, ap}
 use Rattle.pt_sector.specs.Sectors.{Sectors}
 use Rattle.pt_sector.specs.Device.{Told, Moment, MayLeave, LeftBy, Elapses, now_of}
@@ -45,22 +45,3 @@ leaves_weaker old new P Q weaker run = record {
   inside = λ c left. ⊎_elim (λ before. inl before) (λ p. inr (weaker c p)) (run.inside c left);
   at_end = λ c may. ⊎_elim (λ before. inl before) (λ p. inr (weaker c p)) (run.at_end c may);
 }
-
--- What a disk above keeps of the one that it borrows.
-module _ {D : Type 0} (name_of : D → ℕ) (keeps_on : D → D → Type 0) (count_of : D → ℕ) (does_tell : Type 0) (told_by : D → Told) where
-  pub record Below (old new : D) : Type 0 where
-    pub name : name_of new ≡ name_of old
-    pub kept : keeps_on old new
-    pub count : count_of new ≡ count_of old
-    pub same : does_tell → told_by new ≡ told_by old
-
-  pub below_same : ((a : D) → keeps_on a a) → (a : D) → Below a a
-  below_same kept_same a = record { name = refl; kept = kept_same a; count = refl; same = λ t. refl }
-
-  pub below_on : ((a b c : D) → keeps_on a b → keeps_on b c → keeps_on a c) → (a b c : D) → Below a b → Below b c → Below a c
-  below_on kept_on a b c ab bc = record {
-    name = bc.name ∙ ab.name;
-    kept = kept_on a b c ab.kept bc.kept;
-    count = bc.count ∙ ab.count;
-    same = λ t. bc.same t ∙ ab.same t;
-  }

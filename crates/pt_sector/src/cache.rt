@@ -1,4 +1,4 @@
-ghost use Rattle.std.specs.Prelude.{◌≡◌, ◌≤◌, ◌<◌, ◌++◌, ℕ, List, [], ◌∷◌, length, All, vec_len, vec_capacity, IfOk, IsTrue, ◌↔◌};
+ghost use Rattle.std.specs.Prelude.{◌≡◌, ◌≤◌, ◌<◌, ◌*◌, ◌^◌, ◌++◌, ℕ, List, [], ◌∷◌, length, All, vec_len, vec_capacity, IfOk, IsTrue, ◌↔◌};
 ghost use Rattle.pt_sector.specs.Sectors.{sector, IsSectorSize};
 ghost use Rattle.pt_sector.specs.Pending.{reading};
 
@@ -13,6 +13,7 @@ pub(crate) struct WriteCache<const B: usize> {
     pub(crate) pending: Vec<Pending<B>>,
     pub(crate) room: usize,
     ghost small: { B ≤ 4096 },
+    ghost fits: { length durable.items * B ≤ 2 ^ 64 },
     ghost in_range: { All (λ p. p.lba.0 < length durable.items) pending.items },
     ghost within: { vec_len pending ≤ room },
     ghost reserved: { room ≤ vec_capacity pending },
@@ -24,7 +25,8 @@ impl<const B: usize> WriteCache<B> {
         durable: Vec<[u8; B]>,
         room: usize,
     ) -> Result<WriteCache<B>, AllocError>
-        requires { IsSectorSize B }
+        requires size { IsSectorSize B }
+        requires count { length durable.items * B ≤ 2 ^ 64 }
         ensures durable { IfOk result (λ c. c.durable.items ≡ durable.entry.items) }
         ensures pending { IfOk result (λ c. c.pending.items ≡ []) }
         ensures room { IfOk result (λ c. c.room ≡ room) }

@@ -1,13 +1,15 @@
-ghost use Rattle.std.specs.Prelude.{◌≡◌, ◌≤◌, ◌<◌, ◌-◌, ◌*◌, ◌^◌, ◌↔◌, ◌⊎◌, ℕ, List, [], ◌∷◌, ◌++◌, length, slice_set, if◌then◌else◌, true, IsTrue, IfOk, IfErr, OnOk, OnErr, IsErr, false};
+ghost use Rattle.std.specs.Prelude.{◌≡◌, ◌≤◌, ◌<◌, ◌-◌, ◌*◌, ◌^◌, ◌↔◌, ◌⊎◌, ℕ, List, [], ◌∷◌, ◌++◌, length, slice_set, Some, if◌then◌else◌, true, IsTrue, IfOk, IfErr, OnOk, OnErr, IsErr, false};
 ghost use Rattle.pt_sector.specs.declared.disk.Fault.TheVariants.{Read, Write, Flush};
 ghost use Rattle.pt_sector.specs.Sectors.{IsSectorSize, sector};
-ghost use Rattle.pt_sector.specs.Device.{MayLeave, Counted, Wrote, FailedWrite, Flushed, FailedFlush};
+ghost use Rattle.pt_sector.specs.Device.{MayLeave, Wrote, FailedWrite, Flushed, FailedFlush};
+ghost use Rattle.pt_sector.specs.Calls.{Blames, untouched_same, untouched_on};
+ghost use Rattle.pt_sector.specs.Reads.{OnlyReads};
 ghost use Rattle.pt_sector.specs.Past.{told_of};
 ghost use Rattle.pt_sector.specs.Memory.{zero_sectors};
 ghost use Rattle.pt_sector.specs.Reading.{length-reading, stopped_reading};
 ghost use Rattle.pt_sector.specs.Stop.{IsPicked};
 ghost use Rattle.pt_sector.specs.Crash.{crash_told};
-ghost use Rattle.pt_sector.specs.Schedule.{content, sector_count, failed_calls, pending_room, IsFull, fails_in, reads_failed, CallPasses, SameContent};
+ghost use Rattle.pt_sector.specs.Schedule.{content, sector_count, faults_of, pending_room, IsFull, fails_in, reads_failed, CallPasses, SameContent};
 
 use crate::address::Lba;
 use crate::cache::WriteCache;
@@ -25,7 +27,7 @@ use std::alloc::{AllocError, Global};
 pub struct CrashDisk<const B: usize> {
     cache: WriteCache<B>,
     past: Moments<WriteCache<B>>,
-    failures: Moments<Fault>,
+    failed: Moments<Fault>,
     fail_in: u64,
     kept: bool,
 }
@@ -38,7 +40,7 @@ impl<const B: usize> CrashDisk<B> {
         requires count { sectors * B ≤ 2 ^ 64 }
         ensures told { IfOk result (λ d. content d ≡ told_of (zero_sectors B sectors) (zero_sectors B sectors) [] []) }
         ensures count { IfOk result (λ d. sector_count d ≡ sectors) }
-        ensures failures { IfOk result (λ d. failed_calls d ≡ 0) }
+        ensures faults { IfOk result (λ d. faults_of d ≡ []) }
         ensures room { IfOk result (λ d. pending_room d ≡ room) }
         ensures never_fails { IfOk result (λ d. fails_in d ≡ 0) }
     {
@@ -46,7 +48,7 @@ impl<const B: usize> CrashDisk<B> {
         Ok(CrashDisk {
             cache: WriteCache::new(alloc, durable, room)?,
             past: Moments::new(),
-            failures: Moments::new(),
+            failed: Moments::new(),
             fail_in: 0,
             kept: false,
         })
@@ -60,7 +62,7 @@ impl<const B: usize> CrashDisk<B> {
         ensures kept { reads_failed self.new ≡ kept }
         ensures told { content self.new ≡ content self.old }
         ensures count { sector_count self.new ≡ sector_count self.old }
-        ensures failures { failed_calls self.new ≡ failed_calls self.old }
+        ensures faults { faults_of self.new ≡ faults_of self.old }
         ensures room { pending_room self.new ≡ pending_room self.old }
     {
         self.fail_in = k;
@@ -78,7 +80,7 @@ impl<const B: usize> CrashDisk<B> {
         let CrashDisk {
             cache,
             past: _,
-            failures: _,
+            failed: _,
             fail_in: _,
             kept: _,
         } = self;
@@ -99,15 +101,17 @@ impl<const B: usize> Disk<B> for CrashDisk<B> {
 
     ghost count = { sector_count };
 
-    ghost failures = { failed_calls };
+    ghost faults = { faults_of };
 
     ghost name = { λ d. 0 };
 
     ghost reads = { λ a b. Unit {0} };
 
-    ghost reads_same = { λ a. tt };
+    ghost reads_same = { untouched_same _ _ _ _ _ _ (λ a. tt) };
 
-    ghost reads_on = { λ a b c ab bc. tt };
+    ghost reads_on = { untouched_on _ _ _ _ _ _ (λ a b c ab bc. tt) };
+
+    ghost bounded = { λ d. d.cache.fits };
 
     ghost sized = { λ d tells. length-reading d.cache.pending.items d.cache.durable.items };
 
@@ -119,16 +123,15 @@ impl<const B: usize> Disk<B> for CrashDisk<B> {
 
     fn read(&mut self, lba: Lba, into: &mut [u8; B]) -> Result<(), Fault>
         requires { lba.0 < sector_count self.old }
-        ensures count { sector_count self.new ≡ sector_count self.old }
-        ensures counted { Counted (failed_calls self.old) (failed_calls self.new) result }
+        ensures same { OnlyReads ⟦<CrashDisk<B> as Disk<B>>⟧ self.old self.new }
+        ensures blames { Blames Some result (faults_of self.old) (faults_of self.new) }
         ensures fault { IfErr result (λ e. e ≡ Read lba) }
         ensures bytes { OnOk result (into.new ≡ sector (content self.old).seen lba.0) }
-        ensures same { content self.new ≡ content self.old }
         ensures fails { IsErr result ↔ (fails_in self.old ≡ 1) }
         ensures call { CallPasses self.old self.new }
     {
         if counts_down(&mut self.fail_in) {
-            self.failures = self.failures.and(&Fault::Read(lba));
+            self.failed = self.failed.and(&Fault::Read(lba));
             return Err(Fault::Read(lba));
         }
         self.cache.read(lba, into);
@@ -139,7 +142,7 @@ impl<const B: usize> Disk<B> for CrashDisk<B> {
     fn write(&mut self, lba: Lba, bytes: &[u8; B]) -> Result<(), Fault>
         requires { lba.0 < sector_count self.old }
         ensures count { sector_count self.new ≡ sector_count self.old }
-        ensures counted { Counted (failed_calls self.old) (failed_calls self.new) result }
+        ensures blames { Blames Some result (faults_of self.old) (faults_of self.new) }
         ensures fault { IfErr result (λ e. e ≡ Write lba) }
         ensures done { OnOk result (Wrote (content self.old) (content self.new) lba.0 bytes.now) }
         ensures failed { OnErr result (FailedWrite (content self.old) (content self.new) lba.0 bytes.now) }
@@ -153,7 +156,7 @@ impl<const B: usize> Disk<B> for CrashDisk<B> {
         self.past = self.past.and(&self.cache);
         let fails = counts_down(&mut self.fail_in);
         if self.cache.is_full() {
-            self.failures = self.failures.and(&Fault::Write(lba));
+            self.failed = self.failed.and(&Fault::Write(lba));
             return Err(Fault::Write(lba));
         }
         let write = Pending {
@@ -163,7 +166,7 @@ impl<const B: usize> Disk<B> for CrashDisk<B> {
         };
         self.cache.add(write);
         if fails {
-            self.failures = self.failures.and(&Fault::Write(lba));
+            self.failed = self.failed.and(&Fault::Write(lba));
             return Err(Fault::Write(lba));
         }
         Ok(())
@@ -172,7 +175,7 @@ impl<const B: usize> Disk<B> for CrashDisk<B> {
     /// Fails where it is set to; then all stays pending.
     fn flush(&mut self) -> Result<(), Fault>
         ensures count { sector_count self.new ≡ sector_count self.old }
-        ensures counted { Counted (failed_calls self.old) (failed_calls self.new) result }
+        ensures blames { Blames Some result (faults_of self.old) (faults_of self.new) }
         ensures fault { IfErr result (λ e. e ≡ Flush) }
         ensures done { OnOk result (Flushed (content self.old) (content self.new)) }
         ensures failed { OnErr result (FailedFlush (content self.old) (content self.new)) }
@@ -182,7 +185,7 @@ impl<const B: usize> Disk<B> for CrashDisk<B> {
     {
         self.past = self.past.and(&self.cache);
         if counts_down(&mut self.fail_in) {
-            self.failures = self.failures.and(&Fault::Flush);
+            self.failed = self.failed.and(&Fault::Flush);
             return Err(Fault::Flush);
         }
         self.cache.flush();

@@ -1,7 +1,9 @@
-ghost use Rattle.std.specs.Prelude.{◌≡◌, ◌<◌, ◌≤◌, ℕ, List, length, OnOk, OnErr, IfErr};
+ghost use Rattle.std.specs.Prelude.{◌≡◌, ◌<◌, ◌≤◌, ◌*◌, ◌^◌, ℕ, List, length, Some, OnOk, OnErr, IfErr};
+ghost use Rattle.pt_sector.specs.declared.disk.Fault.{Fault};
 ghost use Rattle.pt_sector.specs.declared.disk.Fault.TheVariants.{Read, Write, Flush};
 ghost use Rattle.pt_sector.specs.Sectors.{sector};
-ghost use Rattle.pt_sector.specs.Device.{Told, MayLeave, Counted, Wrote, FailedWrite, Flushed, FailedFlush};
+ghost use Rattle.pt_sector.specs.Device.{Told, MayLeave, Wrote, FailedWrite, Flushed, FailedFlush};
+ghost use Rattle.pt_sector.specs.Calls.{Blames, Untouched};
 
 use crate::address::Lba;
 
@@ -27,8 +29,8 @@ pub trait Disk<const B: usize> {
     /// How many sectors it has.
     ghost count: { Self → ℕ };
 
-    /// How many of its calls have failed.
-    ghost failures: { Self → ℕ };
+    /// The faults of its calls that failed, the oldest first.
+    ghost faults: { Self → List Fault };
 
     /// The name of the borrow that it holds, or 0.
     ghost name: { Self → ℕ };
@@ -43,20 +45,17 @@ pub trait Disk<const B: usize> {
     /// Reads one sector. After `Err`, what `into` holds is open.
     fn read(&mut self, lba: Lba, into: &mut [u8; B]) -> Result<(), Fault>
         requires { lba.0 < count self.old }
-        ensures count { count self.new ≡ count self.old }
-        ensures name { name self.new ≡ name self.old }
-        ensures reads { reads self.old self.new }
-        ensures counted { Counted (failures self.old) (failures self.new) result }
+        ensures same { Untouched count name reads tells told faults self.old self.new }
+        ensures blames { Blames Some result (faults self.old) (faults self.new) }
         ensures fault { IfErr result (λ e. e ≡ Read lba) }
-        ensures bytes { tells → OnOk result (into.new ≡ sector (told self.old).seen lba.0) }
-        ensures same { tells → told self.new ≡ told self.old };
+        ensures bytes { tells → OnOk result (into.new ≡ sector (told self.old).seen lba.0) };
 
     /// Writes one sector. It may stay pending until a flush.
     fn write(&mut self, lba: Lba, bytes: &[u8; B]) -> Result<(), Fault>
         requires { lba.0 < count self.old }
         ensures count { count self.new ≡ count self.old }
         ensures name { name self.new ≡ name self.old }
-        ensures counted { Counted (failures self.old) (failures self.new) result }
+        ensures blames { Blames Some result (faults self.old) (faults self.new) }
         ensures fault { IfErr result (λ e. e ≡ Write lba) }
         ensures done { tells → OnOk result (Wrote (told self.old) (told self.new) lba.0 bytes.now) }
         ensures failed { tells → OnErr result (FailedWrite (told self.old) (told self.new) lba.0 bytes.now) };
@@ -65,14 +64,18 @@ pub trait Disk<const B: usize> {
     fn flush(&mut self) -> Result<(), Fault>
         ensures count { count self.new ≡ count self.old }
         ensures name { name self.new ≡ name self.old }
-        ensures counted { Counted (failures self.old) (failures self.new) result }
+        ensures blames { Blames Some result (faults self.old) (faults self.new) }
         ensures fault { IfErr result (λ e. e ≡ Flush) }
         ensures done { tells → OnOk result (Flushed (told self.old) (told self.new)) }
         ensures failed { tells → OnErr result (FailedFlush (told self.old) (told self.new)) };
 
-    ghost reads_same: { (a : Self) → reads a a };
+    ghost reads_same: { (a : Self) → Untouched count name reads tells told faults a a };
 
-    ghost reads_on: { (a b c : Self) → reads a b → reads b c → reads a c };
+    ghost reads_on: { (a b c : Self) → Untouched count name reads tells told faults a b
+        → Untouched count name reads tells told faults b c → Untouched count name reads tells told faults a c };
+
+    /// It has at most 2^64 bytes.
+    ghost bounded: { (disk : Self) → count disk * B ≤ 2 ^ 64 };
 
     /// It has as many sectors as it says.
     ghost sized: { (disk : Self) → tells → length (told disk).seen ≡ count disk };

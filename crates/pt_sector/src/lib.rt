@@ -13,6 +13,7 @@ mod overlay;
 mod own;
 mod pending;
 mod put;
+mod reading;
 mod room;
 mod stop;
 #[cfg(test)]
@@ -27,4 +28,5 @@ pub use moments::Moments;
 pub use overlay::Overlay;
 #[doc(hidden)]
 pub use own::Own;
+pub use reading::{FailedRead, Failure, read_sector};
 pub use room::Room;

@@ -3,6 +3,7 @@ ghost use Rattle.std.proofs.Common.{refl};
 ghost use Rattle.pt_sector.specs.declared.disk.Fault.TheVariants.{Read, Write, Flush};
 ghost use Rattle.pt_sector.specs.Sectors.{IsSectorSize, sector};
 ghost use Rattle.pt_sector.specs.Device.{Wrote, Flushed};
+ghost use Rattle.pt_sector.specs.Calls.{untouched_same, untouched_on};
 ghost use Rattle.pt_sector.specs.Past.{stopped_same};
 ghost use Rattle.pt_sector.specs.Memory.{mem_told, zero_sectors};
 
@@ -16,6 +17,7 @@ use std::alloc::{AllocError, Global};
 pub struct MemDisk<const B: usize> {
     sectors: Vec<[u8; B]>,
     past: Moments<Vec<[u8; B]>>,
+    ghost fits: { length sectors.items * B ≤ 2 ^ 64 },
 }
 
 impl<const B: usize> MemDisk<B> {
@@ -30,13 +32,14 @@ impl<const B: usize> MemDisk<B> {
         Ok(MemDisk::from_sectors(zeroed(alloc, sectors)?))
     }
 
-    /// The law that none of its calls fails: its count of failures, which a failed call would move, is always 0.
+    /// The law that none of its calls fails: the list of its faults, to which a failed call would add, is always empty.
     pub fn never_fails(&self)
-        ensures { ⟦<MemDisk<B> as Disk<B>>⟧.failures self.now ≡ 0 }
+        ensures { ⟦<MemDisk<B> as Disk<B>>⟧.faults self.now ≡ [] }
     {}
 
     /// A disk with these sectors.
     pub(crate) fn from_sectors(sectors: Vec<[u8; B]>) -> MemDisk<B>
+        requires { length sectors.items * B ≤ 2 ^ 64 }
         ensures { ⟦<MemDisk<B> as Disk<B>>⟧.told result ≡ mem_told sectors.entry.items [] }
     {
         MemDisk {
@@ -53,15 +56,17 @@ impl<const B: usize> Disk<B> for MemDisk<B> {
 
     ghost count = { λ d. length d.sectors.items };
 
-    ghost failures = { λ d. 0 };
+    ghost faults = { λ d. [] };
 
     ghost name = { λ d. 0 };
 
     ghost reads = { λ a b. Unit {0} };
 
-    ghost reads_same = { λ a. tt };
+    ghost reads_same = { untouched_same _ _ _ _ _ _ (λ a. tt) };
 
-    ghost reads_on = { λ a b c ab bc. tt };
+    ghost reads_on = { untouched_on _ _ _ _ _ _ (λ a b c ab bc. tt) };
+
+    ghost bounded = { λ d. d.fits };
 
     ghost sized = { λ d tells. refl };
 

@@ -1,12 +1,10 @@
 -- What a disk denotes is shaped.
-use Rattle.std.specs.Prelude.{◌≡◌, ◌≢◌, ◌<◌, ◌≤◌, ◌+◌, ℕ, zero, suc, List, [], ◌∷◌, length, get_or, slice_index, Option, Some, None, Bool, true, false, filter, nat_lt, ◌-◌, ◌^◌, take, drop, slice_range}
+use Rattle.std.specs.Prelude.{◌≡◌, ◌≢◌, ◌<◌, ◌≤◌, ◌+◌, ℕ, zero, suc, List, [], ◌∷◌, length, get_or, slice_index, Option, Some, None, Bool, true, false, filter, nat_lt, All}
 use Rattle.std.proofs.Common.{refl, sym, ap, subst, ◌∙◌, inl, inr, arith}
 use Rattle.std.proofs.lemmas.Bool.{ltb-true, false≢true}
 use Rattle.pt_sector.specs.Sectors.{Sectors, Span, sector}
 use Rattle.pt_sector.specs.declared.address.Lba.{Lba}
 use Rattle.pt_mbr.specs.Mbr.{IsBootIndicator, AreRecords, BearsProtective, HasBootIndicators}
-use Rattle.byteorder.specs.Numbers.{little_from-lt}
-use Rattle.pt_mbr.specs.Bytes.{number_at}
 use Rattle.pt_mbr.specs.Record.{IsExtendedKind, RecordIs, IsUsed}
 use Rattle.pt_mbr.specs.Ebr.{HasBadLogical}
 use Rattle.pt_mbr.specs.Chain.{Walk, lba}
@@ -25,6 +23,7 @@ use Rattle.pt_bsd.specs.declared.label.LabelEntry.{LabelEntry}
 use Rattle.pt_recover.specs.Mbr.{IsMbr, IsMbrSector, HasChain, extended_of, extent_of}
 use Rattle.pt_recover.specs.Labels.{slices_of, places_of, has_place, LabelsAre, place_of}
 use Rattle.pt_recover.specs.Denotes.{Denotes, BodyIs}
+use Rattle.pt_recover.specs.Numbers.{SlotNumbers, EbrNumbers, BodyNumbers, Numbers}
 use Rattle.pt_recover.specs.declared.layout.Slice.{Slice}
 use Rattle.pt_recover.specs.declared.layout.Labelled.{Labelled}
 use Rattle.pt_recover.specs.declared.layout.Layout.{Layout}
@@ -49,84 +48,63 @@ copy_fits b d side t copy =
       typed = copy_is_typed_lem b d side t copy;
     }
 
--- each byte of a sector is one
-abbrev pub AreBytes : List ℕ → Type 0
-AreBytes bytes = (k : ℕ) → slice_index bytes k < 256
-
-abbrev pub AllBytes : Sectors → Type 0
-AllBytes d = (s : ℕ) → AreBytes (sector d s)
-
-take_bytes : (n : ℕ) (bytes : List ℕ) → AreBytes bytes → AreBytes (take n bytes)
-take_bytes zero bytes are k = omega arith
-take_bytes (suc n) [] are k = omega arith
-take_bytes (suc n) (x ∷ xs) are zero = are 0
-take_bytes (suc n) (x ∷ xs) are (suc k) = take_bytes n xs (λ i. are (suc i)) k
-
-drop_bytes : (n : ℕ) (bytes : List ℕ) → AreBytes bytes → AreBytes (drop n bytes)
-drop_bytes zero bytes are k = are k
-drop_bytes (suc n) [] are k = omega arith
-drop_bytes (suc n) (x ∷ xs) are k = drop_bytes n xs (λ i. are (suc i)) k
-
-number_fits : (i : ℕ) (bytes : List ℕ) → AreBytes bytes → number_at i 4 bytes < 2 ^ 32
-number_fits i bytes are = little_from-lt 0 4 (slice_range bytes i (i + 4)) (take_bytes ((i + 4) - i) (drop i bytes) (drop_bytes i bytes are))
-
 -- a record that stands in its bytes
-record_fits : (o : Option Record) (at : ℕ) (bytes : List ℕ) → AreBytes bytes → RecordIs o at bytes → IsBootIndicator (slice_index bytes at) → (IsUsed at bytes → slice_index bytes (at + 4) ≢ 0xEE) → FitsSlot o
-record_fits None at bytes are is boot plain = tt
-record_fits (Some r) at bytes are is boot plain = record {
+record_fits : (o : Option Record) (at : ℕ) (bytes : List ℕ) → SlotNumbers o → RecordIs o at bytes → IsBootIndicator (slice_index bytes at) → (IsUsed at bytes → slice_index bytes (at + 4) ≢ 0xEE) → FitsSlot o
+record_fits None at bytes numbers is boot plain = tt
+record_fits (Some r) at bytes numbers is boot plain = record {
   typed = λ none. is.0.0 (is.1.kind ∙ none);
   plain = λ protective. plain is.0 (is.1.kind ∙ protective);
   sized = λ none. is.0.1 (is.1.size ∙ none);
-  start = subst (λ (n : ℕ). n < 2 ^ 32) is.1.start (number_fits (at + 8) bytes are);
-  size = subst (λ (n : ℕ). n < 2 ^ 32) is.1.size (number_fits (at + 12) bytes are);
+  start = numbers.start;
+  size = numbers.size;
   boot = subst IsBootIndicator is.1.boot boot;
 }
 
-logical_fits : (o : Option Record) (bytes : List ℕ) → AreBytes bytes → RecordIs o 446 bytes → IsBootIndicator (slice_index bytes 446) → ¬ HasBadLogical bytes → FitsLogical o
+logical_fits : (o : Option Record) (bytes : List ℕ) → SlotNumbers o → RecordIs o 446 bytes → IsBootIndicator (slice_index bytes 446) → ¬ HasBadLogical bytes → FitsLogical o
 unfolding HasBadLogical
-logical_fits None bytes are is boot good = tt
-logical_fits (Some r) bytes are is boot good = (
-  record_fits (Some r) 446 bytes are is boot (λ used protective. good (used, inr protective)),
+logical_fits None bytes numbers is boot good = tt
+logical_fits (Some r) bytes numbers is boot good = (
+  record_fits (Some r) 446 bytes numbers is boot (λ used protective. good (used, inr protective)),
   λ extended. good (is.0, inl (subst IsExtendedKind (sym is.1.kind) extended)),
 )
 
 -- the extended boot records of a walk
-walk_linked : (d : Sectors) (x : Span) (from : Option Lba) (list : List Ebr) → AllBytes d → Walk d x from list None → Linked x from list
+walk_linked : (d : Sectors) (x : Span) (from : Option Lba) (list : List Ebr) → All EbrNumbers list → Walk d x from list None → Linked x from list
 unfolding HasBootIndicators
-walk_linked d x None [] are walk = tt
-walk_linked d x (Some at) [] are walk = absurd cc
-walk_linked d x None (e ∷ es) are walk = absurd walk
-walk_linked d x (Some at) (e ∷ es) are walk = (
+walk_linked d x None [] numbers walk = tt
+walk_linked d x (Some at) [] numbers walk = absurd cc
+walk_linked d x None (e ∷ es) numbers walk = absurd walk
+walk_linked d x (Some at) (e ∷ es) numbers walk = (
   walk.0.bytes.place,
   walk.0.inside.0,
   walk.1,
-  logical_fits e.logical (sector d at.0) (are at.0) walk.0.bytes.logical walk.0.bytes.boots.0 walk.0.bytes.logical_kind,
-  walk_linked d x e.next es are walk.2,
+  logical_fits e.logical (sector d at.0) (numbers 0 e (omega arith)) walk.0.bytes.logical walk.0.bytes.boots.0 walk.0.bytes.logical_kind,
+  walk_linked d x e.next es (λ k z lt. numbers (suc k) z (omega (arith, lt))) walk.2,
 )
 
-chain_fits : (d : Sectors) (rs : List Record) (chain : List Ebr) → AllBytes d → HasChain d rs chain → FitsExtended rs chain
-chain_fits d [] chain are has = has
-chain_fits d (r ∷ []) chain are has = record { few = has.few; linked = walk_linked d (extent_of r) (Some (lba (extent_of r).first)) chain are has.whole }
-chain_fits d (r ∷ s ∷ rs) chain are has = absurd has
+chain_fits : (d : Sectors) (rs : List Record) (chain : List Ebr) → All EbrNumbers chain → HasChain d rs chain → FitsExtended rs chain
+chain_fits d [] chain numbers has = has
+chain_fits d (r ∷ []) chain numbers has = record { few = has.few; linked = walk_linked d (extent_of r) (Some (lba (extent_of r).first)) chain numbers has.whole }
+chain_fits d (r ∷ s ∷ rs) chain numbers has = absurd has
 
-slot_fits : (records : List (Option Record)) (bytes : List ℕ) → AreBytes bytes → IsMbrSector bytes → AreRecords records bytes → (k : ℕ) → k < 4 → FitsSlot (get_or records k None)
+slot_fits : (records : List (Option Record)) (bytes : List ℕ) → All SlotNumbers records → IsMbrSector bytes → AreRecords records bytes → (k : ℕ) → k < 4 → FitsSlot (get_or records k None)
 unfolding BearsProtective HasBootIndicators
-slot_fits records bytes each is are zero lt = record_fits (get_or records 0 None) 446 bytes each are.first is.formed.boots.0 (λ used e. is.plain (inl e))
-slot_fits records bytes each is are (suc zero) lt = record_fits (get_or records 1 None) 462 bytes each are.second is.formed.boots.1 (λ used e. is.plain (inr (inl e)))
-slot_fits records bytes each is are (suc (suc zero)) lt = record_fits (get_or records 2 None) 478 bytes each are.third is.formed.boots.2 (λ used e. is.plain (inr (inr (inl e))))
-slot_fits records bytes each is are (suc (suc (suc zero))) lt = record_fits (get_or records 3 None) 494 bytes each are.fourth is.formed.boots.3 (λ used e. is.plain (inr (inr (inr e))))
-slot_fits records bytes each is are (suc (suc (suc (suc k)))) lt = absurd (omega (arith, lt))
+slot_fits records bytes numbers is are zero lt = record_fits (get_or records 0 None) 446 bytes (numbers 0 None (omega (arith, are.four))) are.first is.formed.boots.0 (λ used e. is.plain (inl e))
+slot_fits records bytes numbers is are (suc zero) lt = record_fits (get_or records 1 None) 462 bytes (numbers 1 None (omega (arith, are.four))) are.second is.formed.boots.1 (λ used e. is.plain (inr (inl e)))
+slot_fits records bytes numbers is are (suc (suc zero)) lt = record_fits (get_or records 2 None) 478 bytes (numbers 2 None (omega (arith, are.four))) are.third is.formed.boots.2 (λ used e. is.plain (inr (inr (inl e))))
+slot_fits records bytes numbers is are (suc (suc (suc zero))) lt = record_fits (get_or records 3 None) 494 bytes (numbers 3 None (omega (arith, are.four))) are.fourth is.formed.boots.3 (λ used e. is.plain (inr (inr (inr e))))
+slot_fits records bytes numbers is are (suc (suc (suc (suc k)))) lt = absurd (omega (arith, lt))
 
-mbr_fits : (d : Sectors) (records : List (Option Record)) (chain : List Ebr) → AllBytes d → IsMbr d records → HasChain d (extended_of records) chain → FitsMbr records chain
-mbr_fits d records chain are is has = record {
+mbr_fits : (d : Sectors) (records : List (Option Record)) (chain : List Ebr) → BodyNumbers (Mbr records chain) → IsMbr d records → HasChain d (extended_of records) chain → FitsMbr records chain
+mbr_fits d records chain numbers is has = record {
   four = is.1.four;
-  each = slot_fits records (sector d 0) (are 0) is.0.1 is.1;
-  extended = chain_fits d (extended_of records) chain are has;
+  each = slot_fits records (sector d 0) numbers.0 is.0.1 is.1;
+  extended = chain_fits d (extended_of records) chain numbers.1 has;
 }
 
-body_fits : (b : ℕ) (d : Sectors) (y : Body) → AllBytes d → BodyIs b d y → FitsBody b (length d) y
-body_fits b d (Mbr records chain) are is = mbr_fits d records chain are is.0 is.1
-body_fits b d (Gpt t) are is = elim is.2 [ inl primary ↦ copy_fits b d Primary t primary | inr backup ↦ copy_fits b d Backup t backup.1 ]
+body_fits : (b : ℕ) (d : Sectors) (y : Body) → BodyNumbers y → BodyIs b d y → FitsBody b (length d) y
+body_fits b d (Mbr records chain) numbers is = mbr_fits d records chain numbers is.0 is.1
+body_fits b d (Gpt t) numbers is = elim is.2 [ inl primary ↦ copy_fits b d Primary t primary | inr backup ↦ copy_fits b d Backup t backup.1 ]
 
 -- how many entries are there
 count_is : (es : List (Option LabelEntry)) (c : ℕ) → c ≤ length es → ((k : ℕ) → k < c → IsThere (get_or es k None)) → ((k : ℕ) → c ≤ k → k < length es → get_or es k None ≡ None) → count_of es ≡ c
@@ -192,9 +170,9 @@ places_fit : (b : ℕ) (d : Sectors) (y : Body) (labels : List Labelled) → Lab
 unfolding places_of
 places_fit b d y labels are = all_fit d (length d) (slices_of b y) labels are
 
--- what a disk denotes is shaped
-pub denoted_is_shaped_lem : (b : ℕ) (d : Sectors) (o : Layout) → AllBytes d → Denotes b d (Some o) → Shaped b o
-denoted_is_shaped_lem b d o are denotes = record {
-  body = subst (λ (n : ℕ). FitsBody b n o.body) (sym denotes.0) (body_fits b d o.body are denotes.1);
+-- what a disk denotes is shaped, if its records' numbers have 32 bits
+pub denoted_is_shaped_lem : (b : ℕ) (d : Sectors) (o : Layout) → Numbers o → Denotes b d (Some o) → Shaped b o
+denoted_is_shaped_lem b d o numbers denotes = record {
+  body = subst (λ (n : ℕ). FitsBody b n o.body) (sym denotes.0) (body_fits b d o.body numbers denotes.1);
   labels = places_fit b d o.body o.labels denotes.2;
 }

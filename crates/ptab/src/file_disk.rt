@@ -1,7 +1,9 @@
 //! A disk in a file.
 
 ghost use Rattle.std.specs.Prelude.{◌≡◌, ◌≤◌, ◌<◌, ◌*◌, ◌+◌, ◌^◌, ◌∷◌, [], ◌++◌, length};
-ghost use Rattle.ptab.specs.Untold.{untold};
+ghost use Rattle.ptab.specs.Untold.{untold, in_bound};
+
+ghost use Rattle.pt_sector.specs.Calls.{untouched_same, untouched_on};
 
 use pt_sector::{Disk, Fault, Lba, Moments};
 use std::fs::{File, Files, OpenFile, OpenOptions};
@@ -72,15 +74,17 @@ impl<const B: usize> Disk<B> for FileDisk<B> {
 
     ghost count = { λ d. d.sectors };
 
-    ghost failures = { λ d. length d.failed.items };
+    ghost faults = { λ d. d.failed.items };
 
     ghost name = { λ d. 0 };
 
     ghost reads = { λ a b. Unit {0} };
 
-    ghost reads_same = { λ a. tt };
+    ghost reads_same = { untouched_same _ _ _ _ _ _ (λ a. tt) };
 
-    ghost reads_on = { λ a b c ab bc. tt };
+    ghost reads_on = { untouched_on _ _ _ _ _ _ (λ a b c ab bc. tt) };
+
+    ghost bounded = { λ d. in_bound (d.sectors * B) d.fits };
 
     ghost sized = { λ d tells. absurd tells };
 

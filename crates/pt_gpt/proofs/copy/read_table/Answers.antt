@@ -1,22 +1,24 @@
 use Rattle.std.proofs.Common.{◌∙◌, sym, inr}
+use Rattle.std.proofs.lemmas.Result.{err_from_is_err_and}
 use Rattle.pt_gpt.specs.Copy.{SideReads, InArray}
 use Rattle.pt_gpt.proofs.Heads.{failed_in, other_crc_of, table_of}
 use Rattle.pt_gpt.proofs.copy.read_table.Goals as goal
 
-pub returns-in-Err-clause-place : goal.returns-in-Err-clause-place
-returns-in-Err-clause-place g c tells =
+pub returns-in_err-crc-clause-place : goal.returns-in_err-crc-clause-place
+returns-in_err-crc-clause-place g c tells =
     let h = c.args.header.now in
-    failed_in (InArray g.row.B h) (SideReads g.row.B (g.D.Disk.told c.args.disk.now).seen c.args.side) c.in-Err.e (λ s here. inr (h, c.requires.head tells, here)) c.in-Err.ensures.place
+    let p = err_from_is_err_and c.from_residual.result c.from_residual.ensures.1 in
+    rw (p.1, p.2) (failed_in (InArray g.row.B h) (SideReads g.row.B (g.D.Disk.told c.args.disk.now).seen c.args.side) _ (λ s here. inr (h, c.requires.head tells, here)) c.in_err-crc.ensures.place)
 
 pub returns-then-crc-header-clause-err : goal.returns-then-crc-header-clause-err
 returns-then-crc-header-clause-err g c tells =
     other_crc_of g.row.B (g.D.Disk.told c.args.disk.now).seen c.args.side c.args.header.now (c.requires.head tells)
-    (λ crc. c.if-crc-header.true (c.in-Ok.ensures.crc tells ∙ sym crc))
+    (λ crc. c.if-crc-header.true (c.in_ok-crc.ensures.crc tells ∙ sym crc))
 
 pub returns-clause-with : goal.returns-clause-with
 returns-clause-with g c tells =
-    table_of g.row.B (g.D.Disk.told c.args.disk.now).seen c.args.side c.args.header.now c.in-Ok.read.1 (c.requires.head tells)
-    (sym c.if-crc-header.false ∙ c.in-Ok.ensures.crc tells) c.in-Ok.ensures.number (c.in-Ok.ensures.entries tells)
+    table_of g.row.B (g.D.Disk.told c.args.disk.now).seen c.args.side c.args.header.now _ (c.requires.head tells)
+    (sym c.if-crc-header.false ∙ c.in_ok-crc.ensures.crc tells) c.in_ok-crc.ensures.number (c.in_ok-crc.ensures.entries tells)
 
 pub returns-clause-ok : goal.returns-clause-ok
 returns-clause-ok g c tells =

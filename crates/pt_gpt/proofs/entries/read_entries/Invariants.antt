@@ -1,5 +1,6 @@
 use Rattle.std.proofs.Common.{◌≡◌, ◌*◌, ◌+◌, ◌-◌}
 use Rattle.std.specs.Prelude.{vec_len, vec_capacity}
+use Rattle.pt_sector.specs.Reads.{OnlyReads}
 use Rattle.pt_gpt.proofs.Parts.{Streamed}
 use Rattle.pt_gpt.proofs.entries.read_entries.Given as goal
 
@@ -7,13 +8,10 @@ abbrev pub invariant-loop-i : goal.invariant-loop-i
 invariant-loop-i g l =
     let disk = g.D.Disk in
     record {
-      count : disk.count l.disk ≡ disk.count l.fn.disk;
-      name : disk.name l.disk ≡ disk.name l.fn.disk;
-      reads : disk.reads l.fn.disk l.disk;
-      failures : disk.failures l.disk ≡ disk.failures l.fn.disk;
+      disk_same : OnlyReads disk l.fn.disk l.disk;
+      quiet : disk.faults l.disk ≡ disk.faults l.fn.disk;
       left : l.left ≡ l.count * 128 - l.i * g.row.B;
       pushed : vec_len l.items * 128 + l.left ≡ l.count * 128;
       capacity : vec_capacity l.items ≡ l.count;
-      same : disk.tells → disk.told l.disk ≡ disk.told l.fn.disk;
       streamed : disk.tells → Streamed g.row.B (l.count * 128) l.at l.i (disk.told l.fn.disk).seen l.sum l.left l.items.items;
     }

@@ -1,5 +1,6 @@
-use Rattle.std.proofs.Common.{arith, subst, sym, ◌∙◌, Some}
+use Rattle.std.proofs.Common.{rules, arith, subst, sym, ◌∙◌, Some}
 use Rattle.std.proofs.lemmas.Bool.{false≢true}
+use Rattle.std.proofs.lemmas.Result.{err_from_is_err_and}
 use Rattle.pt_sector.specs.Device.{Told}
 use Rattle.pt_mbr.specs.Chain.{lba, span_of, Walk}
 use Rattle.pt_mbr.specs.Decoded.{EndsIn}
@@ -12,11 +13,27 @@ returns-then-not-is_inside-clause-err g c tells =
     starts_out (g.D.Disk.told c.args.disk.now).seen (span_of c.args.extent.now) c.args.list.now.items c.first_of-at.result c.requires.empty c.first_of-at.ensures.start
     (λ inside. false≢true (c.if-not-is_inside.ensures.1 (inside_same _ _ _ c.first_of-at.result (c.sectors-sectors.ensures ∙ sym (g.met.D.Disk.sized c.args.disk.now tells)) inside)))
 
-pub returns-in-Err-clause-err : goal.returns-in-Err-clause-err
-returns-in-Err-clause-err g c tells =
-    let same = c.loop.invariant.same tells in
+pub loop-preserved : goal.loop-preserved
+loop-preserved g c = record {
+  same = g.met.D.Disk.reads_on c.args.disk.now c.loop.disk c.step.new.disk c.loop.invariant.same c.in_ok-next.ensures.same;
+  quiet = c.in_ok-next.ensures.blames ∙ c.loop.invariant.quiet;
+  long = search rules;
+  inside = search rules;
+  reached = λ tells. let same = c.loop.invariant.same.same tells in search rules;
+}
+
+pub returns-in_err-next-clause-same : goal.returns-in_err-next-clause-same
+returns-in_err-next-clause-same g c = g.met.D.Disk.reads_on c.args.disk.now c.loop.disk c.step.new.disk c.loop.invariant.same c.in_err-next.ensures.same
+
+pub returns-in-None-clause-same : goal.returns-in-None-clause-same
+returns-in-None-clause-same g c = g.met.D.Disk.reads_on c.args.disk.now c.loop.disk c.step.new.disk c.loop.invariant.same c.in_ok-next.ensures.same
+
+pub returns-in_err-next-clause-err : goal.returns-in_err-next-clause-err
+returns-in_err-next-clause-err g c tells =
+    let p = err_from_is_err_and c.from_residual.result c.from_residual.ensures.1 in
+    let same = c.loop.invariant.same.same tells in
     let walk = subst (λ (t : Told). Walk t.seen (span_of c.args.extent.now) (Some (lba (span_of c.args.extent.now).first)) c.loop.list.items (Some c.loop.at)) (sym same) (c.loop.invariant.reached tells) in
-    subst (λ (t : Told). EndsIn t.seen (span_of c.args.extent.now) c.step.new.list.items c.in-Err.e) same (c.in-Err.ensures.err tells (omega arith) walk)
+    rw (p.1, p.2) (subst (λ (t : Told). EndsIn t.seen (span_of c.args.extent.now) c.step.new.list.items c.in_err-next.field-0.0) same (c.in_err-next.ensures.err tells (omega arith) walk))
 
 pub returns-clause-err : goal.returns-clause-err
 returns-clause-err g c tells =

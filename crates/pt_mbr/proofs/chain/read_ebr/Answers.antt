@@ -1,4 +1,5 @@
 use Rattle.std.proofs.Common.{subst, List, ℕ}
+use Rattle.std.proofs.lemmas.Result.{err_from_is_err_and}
 use Rattle.pt_mbr.specs.Ebr.{IsEbrFault}
 use Rattle.pt_mbr.specs.Chain.{span_of}
 use Rattle.pt_mbr.specs.declared.ebr.EbrFault.{EbrFault}
@@ -7,21 +8,23 @@ use Rattle.pt_mbr.proofs.Walks.{no_signature, bad_record, device}
 use Rattle.pt_mbr.specs.Same.{inside_same}
 use Rattle.pt_mbr.proofs.chain.read_ebr.Goals as goal
 
-pub returns-in-Err-clause-err : goal.returns-in-Err-clause-err
-returns-in-Err-clause-err g c tells list few walk =
-    device (g.D.Disk.told c.args.disk.now).seen (span_of c.args.extent.now) list c.args.at walk few
-    (inside_same _ _ _ c.args.at (g.met.D.Disk.sized c.args.disk.now tells) c.requires.inside)
+pub returns-in_err-read_sector-clause-err : goal.returns-in_err-read_sector-clause-err
+returns-in_err-read_sector-clause-err g c tells =
+    let p = err_from_is_err_and c.from_residual.result c.from_residual.ensures.1 in
+    rw (p.1, p.2) (λ list few walk.
+        device (g.D.Disk.told c.args.disk.now).seen (span_of c.args.extent.now) list c.args.at _ c.in_err-read_sector.ensures.fault walk few
+        (inside_same _ _ _ c.args.at (g.met.D.Disk.sized c.args.disk.now tells) c.requires.inside))
 
 pub returns-in-Err-NoSignature-clause-err : goal.returns-in-Err-NoSignature-clause-err
 returns-in-Err-NoSignature-clause-err g c tells list few walk =
     no_signature (g.D.Disk.told c.args.disk.now).seen (span_of c.args.extent.now) list c.args.at walk few
     (inside_same _ _ _ c.args.at (g.met.D.Disk.sized c.args.disk.now tells) c.requires.inside)
-    (subst (λ (b : List ℕ). IsEbrFault ebr.NoSignature b) (c.in-Ok.ensures.bytes tells)
-    (subst (λ (f : EbrFault). IsEbrFault f c.read.new.into) c.in-Err-NoSignature.field-0-is c.in-Err-NoSignature.ensures.err))
+    (subst (λ (b : List ℕ). IsEbrFault ebr.NoSignature b) (c.in_ok-read_sector.ensures.bytes tells)
+    (subst (λ (f : EbrFault). IsEbrFault f c.read_sector.new.into) c.in-Err-NoSignature.field-0-is c.in-Err-NoSignature.ensures.err))
 
 pub returns-in-Err-BadRecord-clause-err : goal.returns-in-Err-BadRecord-clause-err
 returns-in-Err-BadRecord-clause-err g c tells list few walk =
     bad_record (g.D.Disk.told c.args.disk.now).seen (span_of c.args.extent.now) list c.args.at walk few
     (inside_same _ _ _ c.args.at (g.met.D.Disk.sized c.args.disk.now tells) c.requires.inside)
-    (subst (λ (b : List ℕ). IsEbrFault ebr.BadRecord b) (c.in-Ok.ensures.bytes tells)
-    (subst (λ (f : EbrFault). IsEbrFault f c.read.new.into) c.in-Err-BadRecord.field-0-is c.in-Err-BadRecord.ensures.err))
+    (subst (λ (b : List ℕ). IsEbrFault ebr.BadRecord b) (c.in_ok-read_sector.ensures.bytes tells)
+    (subst (λ (f : EbrFault). IsEbrFault f c.read_sector.new.into) c.in-Err-BadRecord.field-0-is c.in-Err-BadRecord.ensures.err))

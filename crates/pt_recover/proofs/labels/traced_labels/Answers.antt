@@ -1,4 +1,5 @@
-use Rattle.std.proofs.Common.{◌∙◌, sym, subst, List, get_or, refl, arith}
+use Rattle.std.proofs.lemmas.Result.{err_from_is_err_and}
+use Rattle.std.proofs.Common.{rules, ◌∙◌, sym, subst, List, get_or, refl, arith}
 use Rattle.pt_sector.specs.Sectors.{Sectors, sector}
 use Rattle.pt_sector.specs.Device.{Told}
 use Rattle.pt_recover.specs.Labels.{LabelsAre, place_of}
@@ -6,7 +7,7 @@ use Rattle.pt_recover.specs.Steps.{LabelIs}
 use Rattle.pt_recover.specs.declared.layout.Slice.{Slice}
 use Rattle.pt_recover.specs.declared.layout.Labelled.{Labelled}
 use Rattle.pt_recover.proofs.LabelSteps.{label_more, labels_end}
-use Rattle.pt_recover.proofs.Traces.{place_more}
+use Rattle.pt_recover.proofs.Traces.{place_more, place_end}
 use Rattle.pt_recover.proofs.Failed.{place_failed}
 use Rattle.pt_recover.proofs.labels.traced_labels.Goals as goal
 
@@ -15,16 +16,13 @@ loop-k-preserved g c =
     let z : Slice = record { number = 0; first = 0; len = 0 } in
     let p : Slice = get_or c.args.slices.now c.loop-k.k z in
     record {
-      count = c.in-Ok.ensures.count ∙ c.loop-k.invariant.count;
-      name = c.in-Ok.ensures.name ∙ c.loop-k.invariant.name;
-      reads = g.met.D.Disk.reads_on c.args.disk.now c.loop-k.disk c.read_label.new.disk c.loop-k.invariant.reads c.in-Ok.ensures.reads;
-      quiet = c.in-Ok.ensures.quiet ∙ c.loop-k.invariant.quiet;
-      same = λ tells. c.in-Ok.ensures.same tells ∙ c.loop-k.invariant.same tells;
+      same = g.met.D.Disk.reads_on c.args.disk.now c.loop-k.disk c.read_label.new.disk c.loop-k.invariant.same c.in_ok-found.ensures.same;
+      quiet = c.in_ok-found.ensures.blames ∙ c.loop-k.invariant.quiet;
       labels = λ tells.
           (let d : Sectors = (g.D.Disk.told c.args.disk.now).seen in
-          label_more d c.args.slices.now c.loop-k.k z p c.in-Ok.found c.loop-k.labels.items c.push_label.new.labels.items (omega arith) refl
-          (subst (λ (t : Told). LabelIs p (sector t.seen (place_of p)) c.in-Ok.found) (c.loop-k.invariant.same tells) (c.in-Ok.ensures.ok tells)) (c.loop-k.invariant.labels tells) c.in-Ok-push_label.ensures);
-      traced = place_more c.args.trace.now c.loop-k.trace c.read_label.new.trace c.args.slices.now c.loop-k.k z p (omega arith) refl c.loop-k.invariant.traced c.in-Ok.ensures.traced;
+          label_more d c.args.slices.now c.loop-k.k z p c.in_ok-found.found c.loop-k.labels.items c.push_label.new.labels.items (omega arith) refl
+          (subst (λ (t : Told). LabelIs p (sector t.seen (place_of p)) c.in_ok-found.found) (c.loop-k.invariant.same.same tells) (c.in_ok-found.ensures.ok tells)) (c.loop-k.invariant.labels tells) c.in_ok-push_label.ensures);
+      traced = place_more c.args.trace.now c.loop-k.trace c.read_label.new.trace c.args.slices.now c.loop-k.k z p (omega arith) refl c.loop-k.invariant.traced c.in_ok-found.ensures.traced;
     }
 
 pub returns-clause-ok : goal.returns-clause-ok
@@ -33,5 +31,7 @@ returns-clause-ok g c = λ tells.
     subst (λ (l : List Labelled). LabelsAre d c.args.slices.now l) (sym c.new.ensures)
     (labels_end d c.args.slices.now c.loop-k.k c.loop-k.labels.items (omega arith) (c.loop-k.invariant.labels tells))
 
-pub returns-in-Err-clause-place : goal.returns-in-Err-clause-place
-returns-in-Err-clause-place g c = place_failed c.args.slices.now c.loop-k.k (record { number = 0; first = 0; len = 0 }) c.in-Err.e (omega arith) c.in-Err.ensures.place
+pub returns-in_err-found-clause-place : goal.returns-in_err-found-clause-place
+returns-in_err-found-clause-place g c =
+    let p = err_from_is_err_and c.from_residual.result c.from_residual.ensures.1 in
+    rw (p.1, p.2) (place_failed c.args.slices.now c.loop-k.k (record { number = 0; first = 0; len = 0 }) c.in_err-found.field-0.0 (omega arith) c.in_err-found.ensures.place)
