@@ -17,7 +17,7 @@ use Rattle.pt_check.specs.declared.objection.Found.{Found}
 
 -- phases of a plan
 
-length-phases : {b : _} (ps : List (Vec (Write b) Global)) → length (phases_in ps) ≡ length ps
+pub length-phases : {b : _} (ps : List (Vec (Write b) Global)) → length (phases_in ps) ≡ length ps
 length-phases ps = length-map ps (λ (p : Vec (Write _) Global). writes_of p.items)
 
 pub phase-at : {b : _} (ps : List (Vec (Write b) Global)) (i : ℕ) (p : Vec (Write b) Global) → i < length ps → p ≡ get_or ps i p → get_or (phases_in ps) i [] ≡ writes_of p.items

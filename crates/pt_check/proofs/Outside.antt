@@ -3,15 +3,14 @@ use Rattle.std.proofs.Common.{◌≡◌, ◌⊎◌, ⊎_elim, ℕ, Some, None, O
 use Rattle.std.specs.Prelude.{Result, OnOk, IfOk, IfErr}
 use Rattle.pt_sector.specs.Sectors.{Sectors}
 use Rattle.pt_recover.specs.Denotes.{Denotes}
-use Rattle.pt_recover.specs.Answers.{IsOutside, TellsNothing, IsTraceOf}
+use Rattle.pt_recover.specs.Answers.{IsOutside, TellsNothing, IsTraceOf, failure_in}
 use Rattle.pt_recover.specs.declared.layout.Layout.{Layout}
 use Rattle.pt_recover.specs.declared.error.NoTable.{NoTable}
 use Rattle.pt_recover.specs.declared.error.NoTable.TheVariants.{NoCopy, Chain, TwoExtended, TooSmall, Device, Memory}
-use Rattle.pt_check.specs.Failed.{outside_of}
 use Rattle.pt_check.specs.Recovered.{IsOf}
 
 -- an answer that is neither of the device's nor of memory's isn't outside the disk's content
-inside : (e : NoTable) → outside_of e ≡ None → ¬ IsOutside e
+inside : (e : NoTable) → failure_in e ≡ None → ¬ IsOutside e
 inside (NoCopy a b) is = λ none. none
 inside (Chain e) is = λ none. none
 inside TwoExtended is = λ none. none
@@ -23,7 +22,7 @@ pub recovered_ok : (b : ℕ) (d : Sectors) (r : Result Layout NoTable) (o : Layo
 recovered_ok b d (Ok l) o runs is denotes traced = let same : l ≡ o = cc in record { denotes = subst (λ (x : Layout). Denotes b d (Some x)) same denotes; reads = traced }
 recovered_ok b d (Err e) o runs is denotes traced = absurd cc
 
-pub recovered_none : (b : ℕ) (d : Sectors) (r : Result Layout NoTable) (e : NoTable) (runs : _) → r ≡ Err e → outside_of e ≡ None → IfErr r (λ f. TellsNothing b d f)
+pub recovered_none : (b : ℕ) (d : Sectors) (r : Result Layout NoTable) (e : NoTable) (runs : _) → r ≡ Err e → failure_in e ≡ None → IfErr r (λ f. TellsNothing b d f)
     → IfErr r (λ f. IsOutside f ⊎ IsTraceOf b d runs) → IsOf b d (record { layout = None; trace = runs })
 recovered_none b d (Ok l) e runs is no_failure told traced = absurd cc
 recovered_none b d (Err f) e runs is no_failure told traced =

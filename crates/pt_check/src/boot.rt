@@ -1,16 +1,16 @@
 //! The boot code: the first 440 bytes of sector 0.
 
-ghost use Rattle.std.specs.Prelude.{◌≡◌, ◌≤◌, ◌<◌, ◌↔◌, IsTrue, take, length, OnOk, IfOk, IfErr};
+ghost use Rattle.std.specs.Prelude.{◌≡◌, ◌≤◌, ◌<◌, ◌↔◌, IsTrue, take, length, IfOk};
+ghost use Rattle.pt_sector.specs.Calls.{Blames};
+ghost use Rattle.pt_sector.specs.Reads.{OnlyReads, read_of};
 ghost use Rattle.pt_sector.specs.Sectors.{IsSectorSize};
 ghost use Rattle.pt_apply.specs.Plans.{phases_of};
-ghost use Rattle.pt_check.specs.Failed.{FailedAs};
 ghost use Rattle.pt_check.specs.First.{writes_in, NoneIs};
 ghost use Rattle.pt_check.specs.Reasons.{ChangesBoot, NumberIs};
 
-use crate::error::CheckError;
 use crate::objection::{Objection, first_in_plan};
 use pt_apply::{Plan, Write};
-use pt_sector::{Disk, Lba};
+use pt_sector::{Disk, FailedRead, Lba, read_sector};
 
 /// How many bytes of sector 0 are the boot code.
 const BOOT_CODE: usize = 440;
@@ -52,25 +52,19 @@ impl<const B: usize> Objection<B> for OtherBootCode<'_> {
 pub(crate) fn other_boot_code<const B: usize, D: Disk<B>>(
     disk: &mut D,
     plan: &Plan<B>,
-) -> Result<Option<u64>, CheckError>
+) -> Result<Option<u64>, FailedRead>
     requires size { IsSectorSize B }
     requires few { length (writes_in (phases_of plan.now)) ≤ 4096 }
     requires inside { NoneIs (λ w. ¬ (w.0 < D.count disk.old)) (writes_in (phases_of plan.now)) }
-    ensures count { D.count disk.new ≡ D.count disk.old }
-    ensures name { D.name disk.new ≡ D.name disk.old }
-    ensures reads { D.reads disk.old disk.new }
-    ensures quiet { OnOk result (D.failures disk.new ≡ D.failures disk.old) }
-    ensures failed { IfErr result (λ e. FailedAs e (D.failures disk.old) (D.failures disk.new)) }
-    ensures same { D.tells → D.told disk.new ≡ D.told disk.old }
+    ensures same { OnlyReads D.Disk disk.old disk.new }
+    ensures blames { Blames read_of result (D.faults disk.old) (D.faults disk.new) }
     ensures found { D.tells → IfOk result (λ n. NumberIs (phases_of plan.now) (ChangesBoot (D.told disk.old).seen) n) }
 {
     if disk.sectors() == 0 {
         return Ok(None);
     }
     let mut head = [0; B];
-    if let Err(fault) = disk.read(Lba(0), &mut head) {
-        return Err(CheckError::Device(fault));
-    }
+    read_sector(disk, Lba(0), &mut head)?;
     match first_in_plan(
         &OtherBootCode {
             kept: boot_code(&head),

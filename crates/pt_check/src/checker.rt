@@ -1,11 +1,13 @@
 //! Whether a plan may be applied.
 
-ghost use Rattle.std.specs.Prelude.{◌≡◌, ◌≤◌, length, OnOk, IfOk, IfErr};
+ghost use Rattle.std.specs.Prelude.{◌≡◌, ◌≤◌, length, IfOk};
+ghost use Rattle.pt_sector.specs.Calls.{Blames};
+ghost use Rattle.pt_sector.specs.Reads.{OnlyReads};
 ghost use Rattle.pt_sector.specs.Sectors.{IsSectorSize};
 ghost use Rattle.pt_apply.specs.Plans.{phases_of};
 ghost use Rattle.pt_check.specs.Answers.{Answers, Promises, Fits};
 ghost use Rattle.pt_check.specs.Course.{switch_number};
-ghost use Rattle.pt_check.specs.Failed.{FailedAs};
+ghost use Rattle.pt_check.specs.Failed.{fault_in};
 ghost use Rattle.pt_check.specs.First.{writes_in};
 ghost use Rattle.pt_check.specs.Misplaced.{MisplacedIs};
 ghost use Rattle.pt_check.specs.Reasons.{IsFit};
@@ -38,12 +40,8 @@ pub fn check<const B: usize, D: Disk<B>>(
     plan: &Plan<B>,
 ) -> Result<Answer, CheckError>
     requires size { IsSectorSize B }
-    ensures count { D.count disk.new ≡ D.count disk.old }
-    ensures name { D.name disk.new ≡ D.name disk.old }
-    ensures reads { D.reads disk.old disk.new }
-    ensures quiet { OnOk result (D.failures disk.new ≡ D.failures disk.old) }
-    ensures failed { IfErr result (λ e. FailedAs e (D.failures disk.old) (D.failures disk.new)) }
-    ensures same { D.tells → D.told disk.new ≡ D.told disk.old }
+    ensures same { OnlyReads D.Disk disk.old disk.new }
+    ensures blames { Blames fault_in result (D.faults disk.old) (D.faults disk.new) }
     ensures in_range { IfOk result (λ a. Fits (D.count disk.old) plan.now a) }
     ensures answers { D.tells → IfOk result (λ a. Answers B (D.told disk.old).seen (phases_of plan.now) a) }
     ensures promises { D.tells → IfOk result (λ a. Promises B (D.told disk.old).seen (phases_of plan.now) a) }
@@ -56,10 +54,9 @@ pub fn check<const B: usize, D: Disk<B>>(
     if let Some(found) = first_in_plan(&OutOfRange { sectors }, plan) {
         return Ok(Answer::No(Why::OutOfRange(found.number)));
     }
-    match other_boot_code(disk, plan) {
-        Ok(None) => check_phases(alloc, disk, plan, count),
-        Ok(Some(number)) => Ok(Answer::No(Why::BootCode(number))),
-        Err(error) => Err(error),
+    match other_boot_code(disk, plan)? {
+        None => check_phases(alloc, disk, plan, count),
+        Some(number) => Ok(Answer::No(Why::BootCode(number))),
     }
 }
 
@@ -74,39 +71,27 @@ fn check_phases<const B: usize, D: Disk<B>>(
     requires few { length (writes_in (phases_of plan.now)) ≤ 4096 }
     requires room { count ≡ length (writes_in (phases_of plan.now)) }
     requires fit { D.tells → IsFit (D.told disk.old).seen (phases_of plan.now) }
-    ensures count { D.count disk.new ≡ D.count disk.old }
-    ensures name { D.name disk.new ≡ D.name disk.old }
-    ensures reads { D.reads disk.old disk.new }
-    ensures quiet { OnOk result (D.failures disk.new ≡ D.failures disk.old) }
-    ensures failed { IfErr result (λ e. FailedAs e (D.failures disk.old) (D.failures disk.new)) }
-    ensures same { D.tells → D.told disk.new ≡ D.told disk.old }
+    ensures same { OnlyReads D.Disk disk.old disk.new }
+    ensures blames { Blames fault_in result (D.faults disk.old) (D.faults disk.new) }
     ensures answers { D.tells → IfOk result (λ a. Answers B (D.told disk.old).seen (phases_of plan.now) a) }
     ensures promises { D.tells → IfOk result (λ a. Promises B (D.told disk.old).seen (phases_of plan.now) a) }
 {
-    let old = match read_layout(alloc, disk) {
-        Ok(old) => old,
-        Err(error) => return Err(error),
-    };
-    let Recovered { layout: old, trace } = old;
-    let new = match finished_layout(alloc, disk, plan, count) {
-        Ok(new) => new,
-        Err(error) => return Err(error),
-    };
+    let before = read_layout(alloc, disk)?;
+    let Recovered { layout: old, trace } = before;
+    let new = finished_layout(alloc, disk, plan, count)?;
     let layouts = Layouts { old, new };
-    let switch = match try_phases(alloc, disk, plan, count, &layouts, trace) {
-        Ok(Trial::Passed(switch)) => switch,
-        Ok(Trial::Refused(why)) => return Ok(Answer::No(why)),
-        Err(error) => return Err(error),
+    let switch = match try_phases(alloc, disk, plan, count, &layouts, trace)? {
+        Trial::Passed(switch) => switch,
+        Trial::Refused(why) => return Ok(Answer::No(why)),
     };
     if let Some(why) = misplaced(plan, &layouts) {
         return Ok(Answer::No(why));
     }
-    match finished_finding(alloc, disk, plan, count) {
-        Ok(None) => Ok(Answer::Yes {
+    match finished_finding(alloc, disk, plan, count)? {
+        None => Ok(Answer::Yes {
             switch: number(switch),
         }),
-        Ok(Some(finding)) => Ok(Answer::No(Why::Final(finding))),
-        Err(error) => Err(error),
+        Some(finding) => Ok(Answer::No(Why::Final(finding))),
     }
 }
 

@@ -1,6 +1,12 @@
 //! What keeps the checker from an answer.
 
-use pt_sector::Fault;
+ghost use Rattle.std.specs.Prelude.{◌≡◌};
+ghost use Rattle.pt_sector.specs.declared.disk.Fault.TheVariants.{Read};
+ghost use Rattle.pt_check.specs.Failed.{told_failure};
+ghost use Rattle.pt_check.specs.declared.error.CheckError.TheVariants.{Device, Memory};
+
+use pt_sector::{FailedRead, Failure, Fault};
+use std::alloc::AllocError;
 
 /// Why there is no answer.
 #[derive(Clone, Copy, Debug, PartialEq, Eq)]
@@ -9,4 +15,31 @@ pub enum CheckError {
     Device(Fault),
     /// Memory was refused.
     Memory,
+}
+
+impl From<FailedRead> for CheckError {
+    ghost from_gives = { λ failed e. e ≡ Device (Read failed.0) };
+
+    fn from(failed: FailedRead) -> CheckError {
+        CheckError::Device(Fault::Read(failed.0))
+    }
+}
+
+impl From<AllocError> for CheckError {
+    ghost from_gives = { λ _ e. e ≡ Memory };
+
+    fn from(_e: AllocError) -> CheckError {
+        CheckError::Memory
+    }
+}
+
+impl From<Failure> for CheckError {
+    ghost from_gives = { λ failure e. e ≡ told_failure failure };
+
+    fn from(failure: Failure) -> CheckError {
+        match failure {
+            Failure::Device(at) => CheckError::Device(Fault::Read(at)),
+            Failure::Memory => CheckError::Memory,
+        }
+    }
 }

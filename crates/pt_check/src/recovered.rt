@@ -1,11 +1,13 @@
-ghost use Rattle.std.specs.Prelude.{◌≡◌, OnOk, IfOk, IfErr};
+ghost use Rattle.std.specs.Prelude.{IfOk};
+ghost use Rattle.pt_sector.specs.Calls.{Blames};
+ghost use Rattle.pt_sector.specs.Reads.{OnlyReads};
 ghost use Rattle.pt_sector.specs.Sectors.{IsSectorSize};
-ghost use Rattle.pt_check.specs.Failed.{FailedAs, outside_of};
+ghost use Rattle.pt_check.specs.Failed.{fault_in};
 ghost use Rattle.pt_check.specs.Recovered.{IsOf};
 
 use crate::error::CheckError;
-use pt_recover::{Layout, NoTable, Trace, recover_traced};
-use pt_sector::{Disk, Fault};
+use pt_recover::{Layout, Trace, recover_traced};
+use pt_sector::Disk;
 use std::alloc::Global;
 
 /// What a disk denotes, a layout or nothing, and the sectors that decide it.
@@ -15,43 +17,31 @@ pub(crate) struct Recovered {
     pub trace: Trace,
 }
 
-// The failure of the device or of memory, if this is one.
-fn outside(error: NoTable) -> Option<CheckError>
-    ensures { result ≡ outside_of error }
-{
-    match error {
-        NoTable::Device(at) => Some(CheckError::Device(Fault::Read(at))),
-        NoTable::Memory => Some(CheckError::Memory),
-        _ => None,
-    }
-}
-
 /// What the disk denotes, with the sectors that decide it.
 pub(crate) fn read_layout<const B: usize, D: Disk<B>>(
     alloc: Global,
     disk: &mut D,
 ) -> Result<Recovered, CheckError>
     requires size { IsSectorSize B }
-    ensures count { D.count disk.new ≡ D.count disk.old }
-    ensures name { D.name disk.new ≡ D.name disk.old }
-    ensures reads { D.reads disk.old disk.new }
-    ensures quiet { OnOk result (D.failures disk.new ≡ D.failures disk.old) }
-    ensures failed { IfErr result (λ e. FailedAs e (D.failures disk.old) (D.failures disk.new)) }
-    ensures same { D.tells → D.told disk.new ≡ D.told disk.old }
+    ensures same { OnlyReads D.Disk disk.old disk.new }
+    ensures blames { Blames fault_in result (D.faults disk.old) (D.faults disk.new) }
     ensures recovered { D.tells → IfOk result (λ r. IsOf B (D.told disk.old).seen r) }
 {
     let (answer, trace) = recover_traced(alloc, disk);
-    match answer {
-        Ok(layout) => Ok(Recovered {
-            layout: Some(layout),
+    let error = match answer {
+        Ok(layout) => {
+            return Ok(Recovered {
+                layout: Some(layout),
+                trace,
+            });
+        }
+        Err(error) => error,
+    };
+    match error.failure() {
+        Some(failure) => Err(CheckError::from(failure)),
+        None => Ok(Recovered {
+            layout: None,
             trace,
         }),
-        Err(error) => match outside(error) {
-            Some(failure) => Err(failure),
-            None => Ok(Recovered {
-                layout: None,
-                trace,
-            }),
-        },
     }
 }

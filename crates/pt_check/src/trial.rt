@@ -1,13 +1,15 @@
 //! The phases of a plan, tried one after the other over the disk.
 
-ghost use Rattle.std.specs.Prelude.{◌≡◌, ◌≤◌, ◌+◌, ℕ, Some, None, length, OnOk, IfOk, IfErr, IfSome, IsNone, ◌↔◌};
+ghost use Rattle.std.specs.Prelude.{◌≡◌, ◌≤◌, ◌+◌, length, IfOk};
+ghost use Rattle.pt_sector.specs.Calls.{Blames};
+ghost use Rattle.pt_sector.specs.Reads.{OnlyReads};
 ghost use Rattle.pt_sector.specs.Sectors.{IsSectorSize};
 ghost use Rattle.pt_sector.specs.Writes.{written};
 ghost use Rattle.pt_sector.specs.Overlays.{room_left};
 ghost use Rattle.pt_apply.specs.Plans.{writes_of, phases_of};
 ghost use Rattle.pt_recover.specs.Denotes.{Denotes, Reads};
 ghost use Rattle.pt_recover.specs.Spans.{IsIn};
-ghost use Rattle.pt_check.specs.Failed.{FailedAs};
+ghost use Rattle.pt_check.specs.Failed.{fault_in};
 ghost use Rattle.pt_check.specs.First.{writes_in};
 ghost use Rattle.pt_check.specs.Recovered.{IsOf};
 ghost use Rattle.pt_check.specs.Trials.{TouchedIs, StepIs, TrialIs};
@@ -99,7 +101,7 @@ pub(crate) fn put_phase<'a, const B: usize, D: Disk<B>>(
     requires room { length phase.now ≤ room_left over.old.own }
     ensures same_reference { over.new.disk.ghost_name ≡ over.old.disk.ghost_name }
     ensures disk { over.new.disk.now ≡ over.old.disk.now }
-    ensures refused { over.new.refused ≡ over.old.refused }
+    ensures faults { over.new.failed ≡ over.old.failed }
     ensures room { room_left over.old.own ≤ room_left over.new.own + length phase.now }
     ensures seen { (⟦<Overlay<'a, D, B> as Disk<B>>⟧.told over.new).seen ≡ written (writes_of phase.now) (⟦<Overlay<'a, D, B> as Disk<B>>⟧.told over.old).seen }
 {
@@ -121,18 +123,11 @@ pub(crate) fn try_phases<const B: usize, D: Disk<B>>(
     requires size { IsSectorSize B }
     requires room { count ≡ length (writes_in (phases_of plan.now)) }
     requires old { D.tells → IsOf B (D.told disk.old).seen (record { layout = layouts.now.old; trace = trace }) }
-    ensures count { D.count disk.new ≡ D.count disk.old }
-    ensures name { D.name disk.new ≡ D.name disk.old }
-    ensures reads { D.reads disk.old disk.new }
-    ensures quiet { OnOk result (D.failures disk.new ≡ D.failures disk.old) }
-    ensures failed { IfErr result (λ e. FailedAs e (D.failures disk.old) (D.failures disk.new)) }
-    ensures same { D.tells → D.told disk.new ≡ D.told disk.old }
+    ensures same { OnlyReads D.Disk disk.old disk.new }
+    ensures blames { Blames fault_in result (D.faults disk.old) (D.faults disk.new) }
     ensures tried { D.tells → IfOk result (λ t. TrialIs (Denotes B) (Reads B) (phases_of plan.now) (D.told disk.old).seen layouts.now.old layouts.now.new t) }
 {
-    let room = match Room::new(alloc, count) {
-        Ok(room) => room,
-        Err(_) => return Err(CheckError::Memory),
-    };
+    let room = Room::new(alloc, count)?;
     let mut over = Overlay::new(disk, room);
     let mut before = trace;
     let mut switch = None;
@@ -143,10 +138,7 @@ pub(crate) fn try_phases<const B: usize, D: Disk<B>>(
             return Ok(Trial::Refused(Why::ReadSector(number, lba)));
         }
         put_phase(&mut over, phase);
-        let after = match read_layout(alloc, &mut over) {
-            Ok(after) => after,
-            Err(error) => return Err(error),
-        };
+        let after = read_layout(alloc, &mut over)?;
         let Recovered { layout, trace } = after;
         switch = match compare(&layout, layouts, switch, number) {
             Step::Goes(switch) => switch,

@@ -15,3 +15,4 @@ pub mod NewRecords
 pub mod GptWords
 pub mod Conversion
 pub mod Fold
+pub mod Recovered

@@ -1,7 +1,10 @@
 //! What holds of every layout that words make.
 
-ghost use Rattle.std.specs.Prelude.{◌+◌, ◌<◌, ◌^◌, ℕ, List, Option, Ok};
+ghost use Rattle.std.specs.Prelude.{◌+◌, ◌*◌, ◌<◌, ◌≤◌, ◌^◌, ℕ, List, Option, Ok, IfSome, length};
 ghost use Rattle.pt_guid.specs.declared.guid.Guid.{Guid};
+ghost use Rattle.pt_sector.specs.Sectors.{Sectors, IsSectorSize};
+ghost use Rattle.pt_recover.specs.Denotes.{Denotes};
+ghost use Rattle.pt_recover.specs.Numbers.{Numbers};
 ghost use Rattle.pt_recover.specs.declared.layout.Layout.{Layout};
 ghost use Rattle.pt_words.specs.declared.word.Edit.{Edit};
 ghost use Rattle.pt_edit.specs.Edited.{Edited};
@@ -11,4 +14,11 @@ ghost use Rattle.pt_kept.specs.Old.{MayBe};
 /// What words make of a layout that a disk may denote, or of nothing, keeps of it what `Keeps` says.
 pub fn edit_keeps()
     ensures { (b n : ℕ) (old : Option Layout) (words : List Edit) (guids : List Guid) (p : Layout) → n < 2 ^ 63 → MayBe b n old → Edited b n old words guids (Ok p) → Keeps b n old p }
+{}
+
+/// The same of what recovery gave, with no premise but what its contract and the disk's own law say: the disk has at most
+/// 2^64 bytes and denotes the layout, whose records' numbers have 32 bits.
+pub fn edit_of_disk_keeps()
+    ensures { (b : ℕ) (d : Sectors) (old : Option Layout) (words : List Edit) (guids : List Guid) (p : Layout) → IsSectorSize b → length d * b ≤ 2 ^ 64
+        → Denotes b d old → IfSome old Numbers → Edited b (length d) old words guids (Ok p) → Keeps b (length d) old p }
 {}

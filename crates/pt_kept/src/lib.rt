@@ -5,4 +5,4 @@
 
 mod laws;
 
-pub use laws::edit_keeps;
+pub use laws::{edit_keeps, edit_of_disk_keeps};

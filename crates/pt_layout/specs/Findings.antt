@@ -1,5 +1,5 @@
 -- What is wrong with a disk: the first that holds.
-use Rattle.std.specs.Prelude.{◌≡◌, ◌≢◌, ◌≤◌, ◌⊎◌, ◌+◌, ◌-◌, ℕ, length, Some, None}
+use Rattle.std.specs.Prelude.{◌≡◌, ◌≢◌, ◌≤◌, ◌⊎◌, ◌-◌, ℕ, length, Some, None}
 use Rattle.pt_sector.specs.Sectors.{Sectors, sector}
 use Rattle.pt_mbr.specs.Protective.{IsProtective}
 use Rattle.pt_gpt.specs.Copy.{Copy, HasCopy, IsCopyFault, SideReads}
@@ -19,8 +19,6 @@ use Rattle.pt_layout.specs.declared.finding.Finding.{Finding}
 use Rattle.pt_layout.specs.declared.finding.Finding.TheVariants.{NoTable, PrimaryCopy, BackupCopy, CopiesDiffer, Alternate, Protective, OutsideUsable, Overlap, OnTable, SameGuid, ForeignLabel}
 use Rattle.pt_layout.specs.declared.finding.Verdict.{Verdict}
 use Rattle.pt_layout.specs.declared.finding.Verdict.TheVariants.{Yes, No}
-use Rattle.pt_layout.specs.declared.finding.VerifyError.{VerifyError}
-use Rattle.pt_layout.specs.declared.finding.VerifyError.TheVariants.{Device, Memory}
 use Rattle.pt_layout.specs.Members.{number_path}
 use Rattle.pt_layout.specs.Sound.{Sound, IsUnsound}
 use Rattle.pt_layout.specs.Healthy.{HasCopies, NameEachOther, IsBodyWhole, HasForeign, IsHealthy}
@@ -106,11 +104,6 @@ abbrev pub VerdictIs : ℕ → Sectors → Verdict → Type 0
 VerdictIs b d (Yes o) = IsHealthy b d o
 VerdictIs b d (No f) = IsFinding b d f
 
--- a device's fault goes with one failure more, want of memory with none
-abbrev pub FailedAs : VerifyError → ℕ → ℕ → Type 0
-FailedAs (Device at) before now = now ≡ before + 1
-FailedAs Memory before now = now ≡ before
-
 -- the backup side of a disk that is tried as a GPT
 abbrev pub BackupReads : ℕ → Sectors → ℕ → Type 0
 BackupReads b d s = (¬ IsMbrDisk d) × HasRoom b (length d) × SideReads b d Backup s
@@ -118,8 +111,3 @@ BackupReads b d s = (¬ IsMbrDisk d) × HasRoom b (length d) × SideReads b d Ba
 -- the sectors that decide a verdict: those that recovery reads, and the backup side of a GPT
 abbrev pub VerdictReads : ℕ → Sectors → ℕ → Type 0
 VerdictReads b d s = Reads b d s ⊎ BackupReads b d s
-
--- a device's fault is at one of these sectors
-abbrev pub FailedIn : (ℕ → Type 0) → VerifyError → Type 0
-FailedIn S (Device at) = S at.0
-FailedIn S Memory = Unit {0}

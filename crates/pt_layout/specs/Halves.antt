@@ -1,13 +1,10 @@
 -- The two copies of a GPT, with their headers.
-use Rattle.std.specs.Prelude.{◌≡◌, ℕ, Option, Some, None, Result, Ok, Err}
+use Rattle.std.specs.Prelude.{ℕ, Result, Ok, Err}
 use Rattle.pt_sector.specs.Sectors.{Sectors}
 use Rattle.pt_gpt.specs.Copy.{CopyWith, IsCopyFault}
 use Rattle.pt_gpt.specs.declared.error.CopyError.{CopyError}
-use Rattle.pt_gpt.specs.declared.error.CopyError.TheVariants as copy
 use Rattle.pt_gpt.specs.declared.table.Side.{Side}
 use Rattle.pt_gpt.specs.declared.table.Side.TheVariants.{Primary, Backup}
-use Rattle.pt_layout.specs.declared.finding.VerifyError.{VerifyError}
-use Rattle.pt_layout.specs.declared.finding.VerifyError.TheVariants.{Device, Memory}
 use Rattle.pt_layout.specs.declared.halves.Half.{Half}
 use Rattle.pt_layout.specs.declared.halves.Halves.{Halves}
 use Rattle.pt_layout.specs.declared.halves.Halves.TheVariants.{Both, OnlyPrimary, OnlyBackup, Neither}
@@ -18,12 +15,6 @@ HalfIs b d side h = CopyWith b d side h.header h.table
 abbrev pub HalfOrFault : ℕ → Sectors → Side → Result Half CopyError → Type 0
 HalfOrFault b d side (Ok h) = HalfIs b d side h
 HalfOrFault b d side (Err e) = IsCopyFault b d side e
-
--- what an error is told as that the disk's content doesn't explain
-abbrev pub OutsideAs : CopyError → Option VerifyError → Type 0
-OutsideAs (copy.Device at) r = r ≡ Some (Device at)
-OutsideAs copy.Memory r = r ≡ Some Memory
-OutsideAs e r = r ≡ None
 
 abbrev pub paired_as : Result Half CopyError → Result Half CopyError → Halves
 paired_as (Ok p) (Ok q) = Both p q

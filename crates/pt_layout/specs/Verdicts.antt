@@ -10,12 +10,8 @@ use Rattle.pt_recover.specs.Labels.{places_of, LabelsAre}
 use Rattle.pt_recover.specs.Denotes.{BodyIs}
 use Rattle.pt_recover.specs.declared.layout.Layout.{Layout}
 use Rattle.pt_recover.specs.declared.layout.Body.TheVariants.{Gpt}
-use Rattle.pt_recover.specs.declared.error.NoTable.{NoTable}
-use Rattle.pt_recover.specs.declared.error.NoTable.TheVariants as no
 use Rattle.pt_layout.specs.declared.finding.Finding.{Finding}
 use Rattle.pt_layout.specs.declared.finding.Finding.TheVariants.{PrimaryCopy, BackupCopy, CopiesDiffer, Alternate, Protective}
-use Rattle.pt_layout.specs.declared.finding.VerifyError.{VerifyError}
-use Rattle.pt_layout.specs.declared.finding.VerifyError.TheVariants.{Device, Memory}
 use Rattle.pt_layout.specs.declared.halves.Half.{Half}
 use Rattle.pt_layout.specs.declared.health.Head.{Head}
 use Rattle.pt_layout.specs.declared.health.Head.TheVariants as head
@@ -53,8 +49,3 @@ PairIs n protected p q (Some (Alternate Primary)) = (p.table ≡ q.table) × (p.
 PairIs n protected p q (Some (Alternate Backup)) = (p.table ≡ q.table) × (p.header.alternate ≡ n - 1) × (q.header.alternate ≢ 1)
 PairIs n protected p q (Some Protective) = (p.table ≡ q.table) × (p.header.alternate ≡ n - 1) × (q.header.alternate ≡ 1) × (protected ≡ false)
 PairIs n protected p q _ = ⊥
-
--- an error of recovery that the disk's content doesn't explain, told as one of verifying
-abbrev pub OutsideOf : NoTable → VerifyError → Type 0
-OutsideOf (no.Device at) e = e ≡ Device at
-OutsideOf other e = e ≡ Memory

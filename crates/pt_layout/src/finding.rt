@@ -64,12 +64,3 @@ pub enum Verdict {
     Yes(Layout),
     No(Finding),
 }
-
-/// Why there is no verdict.
-#[derive(Clone, Copy, Debug, PartialEq, Eq)]
-pub enum VerifyError {
-    /// The device failed to read this sector.
-    Device(Lba),
-    /// Memory was refused.
-    Memory,
-}

@@ -1,18 +1,18 @@
 //! The two copies of a GPT, with their headers.
 
 ghost use Rattle.std.specs.Prelude.{◌≡◌, ◌-◌, ◌<◌, ◌≤◌, ◌⊎◌, ◌↔◌, IsTrue, IfOk, IfErr, OnOk};
+ghost use Rattle.pt_sector.specs.Calls.{Blames};
+ghost use Rattle.pt_sector.specs.Reads.{OnlyReads, FailedIn, fault_of};
 ghost use Rattle.pt_sector.specs.Sectors.{IsSectorSize};
-ghost use Rattle.pt_gpt.specs.Errors.{FailedAs as FailedAsCopy, FailedIn as FailedInCopy};
+ghost use Rattle.pt_gpt.specs.Errors.{fault_in as fault_in_copy, FailedIn as FailedInCopy};
 ghost use Rattle.pt_gpt.specs.Answers.{TellsFault};
 ghost use Rattle.pt_gpt.specs.Copy.{SideReads};
 ghost use Rattle.pt_gpt.specs.declared.table.Side.TheVariants.{Primary, Backup};
 ghost use Rattle.pt_recover.specs.Gpt.{HasRoom};
-ghost use Rattle.pt_layout.specs.Findings.{FailedAs, FailedIn};
-ghost use Rattle.pt_layout.specs.Halves.{HalfIs, HalfOrFault, HalvesAre, OutsideAs, paired_as};
+ghost use Rattle.pt_layout.specs.Halves.{HalfIs, HalfOrFault, HalvesAre, paired_as};
 
-use crate::finding::VerifyError;
 use pt_gpt::{CopyError, Header, Side, Table, read_head, read_table};
-use pt_sector::Disk;
+use pt_sector::{Disk, Failure};
 use std::alloc::Global;
 
 /// A copy of the table with its header.
@@ -38,35 +38,15 @@ fn read_half<const B: usize, D: Disk<B>>(
 ) -> Result<Half, CopyError>
     requires size { IsSectorSize B }
     requires room { HasRoom B (D.count disk.old) }
-    ensures count { D.count disk.new ≡ D.count disk.old }
-    ensures name { D.name disk.new ≡ D.name disk.old }
-    ensures reads { D.reads disk.old disk.new }
-    ensures quiet { OnOk result (D.failures disk.new ≡ D.failures disk.old) }
-    ensures failed { IfErr result (λ e. FailedAsCopy e (D.failures disk.old) (D.failures disk.new)) }
+    ensures same { OnlyReads D.Disk disk.old disk.new }
+    ensures blames { Blames fault_in_copy result (D.faults disk.old) (D.faults disk.new) }
     ensures place { D.tells → IfErr result (FailedInCopy (SideReads B (D.told disk.old).seen side)) }
-    ensures same { D.tells → D.told disk.new ≡ D.told disk.old }
     ensures ok { D.tells → IfOk result (λ h. HalfIs B (D.told disk.old).seen side h) }
     ensures err { D.tells → IfErr result (λ e. TellsFault B (D.told disk.old).seen side e) }
 {
-    let header = match read_head(disk, side) {
-        Ok(header) => header,
-        Err(e) => return Err(e),
-    };
-    match read_table(alloc, disk, side, &header) {
-        Ok(table) => Ok(Half { header, table }),
-        Err(e) => Err(e),
-    }
-}
-
-// What an error is told as that the disk's content doesn't explain.
-fn outside(e: CopyError) -> Option<VerifyError>
-    ensures { OutsideAs e result }
-{
-    match e {
-        CopyError::Device(at) => Some(VerifyError::Device(at)),
-        CopyError::Memory => Some(VerifyError::Memory),
-        _ => None,
-    }
+    let header = read_head(disk, side)?;
+    let table = read_table(alloc, disk, side, &header)?;
+    Ok(Half { header, table })
 }
 
 // A copy, or the rule that it breaks.
@@ -74,24 +54,20 @@ fn half_or_fault<const B: usize, D: Disk<B>>(
     alloc: Global,
     disk: &mut D,
     side: Side,
-) -> Result<Result<Half, CopyError>, VerifyError>
+) -> Result<Result<Half, CopyError>, Failure>
     requires size { IsSectorSize B }
     requires room { HasRoom B (D.count disk.old) }
-    ensures count { D.count disk.new ≡ D.count disk.old }
-    ensures name { D.name disk.new ≡ D.name disk.old }
-    ensures reads { D.reads disk.old disk.new }
-    ensures quiet { OnOk result (D.failures disk.new ≡ D.failures disk.old) }
-    ensures failed { IfErr result (λ e. FailedAs e (D.failures disk.old) (D.failures disk.new)) }
+    ensures same { OnlyReads D.Disk disk.old disk.new }
+    ensures blames { Blames fault_of result (D.faults disk.old) (D.faults disk.new) }
     ensures place { D.tells → IfErr result (FailedIn (SideReads B (D.told disk.old).seen side)) }
-    ensures same { D.tells → D.told disk.new ≡ D.told disk.old }
     ensures ok { D.tells → IfOk result (λ h. HalfOrFault B (D.told disk.old).seen side h) }
 {
     let e = match read_half(alloc, disk, side) {
         Ok(half) => return Ok(Ok(half)),
         Err(e) => e,
     };
-    match outside(e) {
-        Some(error) => Err(error),
+    match e.failure() {
+        Some(failure) => Err(failure),
         None => Ok(Err(e)),
     }
 }
@@ -100,26 +76,16 @@ fn half_or_fault<const B: usize, D: Disk<B>>(
 pub(crate) fn read_halves<const B: usize, D: Disk<B>>(
     alloc: Global,
     disk: &mut D,
-) -> Result<Halves, VerifyError>
+) -> Result<Halves, Failure>
     requires size { IsSectorSize B }
     requires room { HasRoom B (D.count disk.old) }
-    ensures count { D.count disk.new ≡ D.count disk.old }
-    ensures name { D.name disk.new ≡ D.name disk.old }
-    ensures reads { D.reads disk.old disk.new }
-    ensures quiet { OnOk result (D.failures disk.new ≡ D.failures disk.old) }
-    ensures failed { IfErr result (λ e. FailedAs e (D.failures disk.old) (D.failures disk.new)) }
+    ensures same { OnlyReads D.Disk disk.old disk.new }
+    ensures blames { Blames fault_of result (D.faults disk.old) (D.faults disk.new) }
     ensures place { D.tells → IfErr result (FailedIn (λ s. SideReads B (D.told disk.old).seen Primary s ⊎ SideReads B (D.told disk.old).seen Backup s)) }
-    ensures same { D.tells → D.told disk.new ≡ D.told disk.old }
     ensures ok { D.tells → IfOk result (λ h. HalvesAre B (D.told disk.old).seen h) }
 {
-    let primary = match half_or_fault(alloc, disk, Side::Primary) {
-        Ok(primary) => primary,
-        Err(e) => return Err(e),
-    };
-    let backup = match half_or_fault(alloc, disk, Side::Backup) {
-        Ok(backup) => backup,
-        Err(e) => return Err(e),
-    };
+    let primary = half_or_fault(alloc, disk, Side::Primary)?;
+    let backup = half_or_fault(alloc, disk, Side::Backup)?;
     Ok(paired(primary, backup))
 }
 

@@ -30,7 +30,7 @@ mod tables;
 #[cfg(test)]
 mod tests;
 
-pub use finding::{Finding, Verdict, VerifyError};
+pub use finding::{Finding, Verdict};
 pub use health::verify;
 pub use laws::{
     finding_excludes, finding_is_one, healthy_is_one, owner_is_one, place_is_one, sector_is_one,
@@ -47,6 +47,7 @@ pub use pt_recover::{
     is_slice_type, label_places, reads_decide, reason_is_nothing, reason_is_one, record_place,
     recover, recover_traced, stop_keeps,
 };
+pub use pt_sector::Failure as VerifyError;
 pub use slots::{find_label, part_slot, slot, slot_count};
 pub use soundness::unsound;
 pub use tables::is_table;

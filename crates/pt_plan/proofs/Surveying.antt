@@ -1,5 +1,5 @@
 -- What the planner reads of a disk.
-use Rattle.std.proofs.Common.{◌≡◌, ◌∙◌, ◌↔◌, inl, inr, ⊎_elim, ℕ, List, [], ◌∷◌, true, false, Some, IfOk, IsTrue, refl, sym, subst, ◌<◌, get_or, filter, All, arith}
+use Rattle.std.proofs.Common.{◌≡◌, ◌∙◌, ◌↔◌, inl, inr, ⊎_elim, ℕ, List, [], ◌∷◌, true, false, Some, None, IsTrue, refl, sym, subst, ◌<◌, get_or, filter, All, arith}
 use Rattle.std.proofs.lemmas.List.Elements.{filter_passes}
 use Rattle.pt_sector.specs.Sectors.{Sectors, sector}
 use Rattle.pt_recover.specs.declared.layout.Body.{Body}
@@ -7,10 +7,10 @@ use Rattle.pt_bsd.specs.Laws.{label_one}
 use Rattle.pt_gpt.specs.Answers.{TellsFault}
 use Rattle.pt_gpt.specs.Copy.{Copy, HasCopy}
 use Rattle.pt_gpt.specs.declared.table.Table.{Table}
-use Rattle.pt_gpt.specs.Errors.{IsOutside}
+use Rattle.pt_gpt.specs.Errors.{IsOutside, failure_in}
 use Rattle.pt_gpt.specs.Laws.{no_copy_lem}
 use Rattle.pt_gpt.specs.declared.error.CopyError.{CopyError}
-use Rattle.pt_gpt.specs.declared.error.CopyError.TheVariants.{Signature, Revision, HeaderSize, HeaderCrc, MyLba, ArrayPlace, EntryShape, UsableRange, ArrayCrc, Device, Memory}
+use Rattle.pt_gpt.specs.declared.error.CopyError.TheVariants.{Device, Memory}
 use Rattle.pt_gpt.specs.declared.table.Side.TheVariants.{Primary}
 use Rattle.pt_recover.specs.Labels.{places_of, slices_of, has_place, place_of, LabelsAre}
 use Rattle.pt_recover.specs.Laws.{denotes_one_lem}
@@ -21,7 +21,6 @@ use Rattle.pt_layout.specs.Healthy.{IsHealthy}
 use Rattle.pt_layout.specs.Findings.{IsFinding}
 use Rattle.pt_layout.specs.Laws.{finding_excludes_lem}
 use Rattle.pt_layout.specs.declared.finding.Finding.{Finding}
-use Rattle.pt_plan.specs.Failed.{no_copy_of}
 
 some_same : {X : Type 0} {x y : X} → Some x ≡ Some y → x ≡ y
 some_same same = cc
@@ -48,21 +47,13 @@ same_labels d ps qs ls ms Y places same is = (
 )
 
 -- an error in reading the primary copy
-none_there : (b : ℕ) (d : Sectors) (e : CopyError) → (IsOutside e → ⊥) → TellsFault b d Primary e → IsTrue false ↔ HasCopy b d Primary
-none_there b d e not_outside is = (λ impossible. absurd cc, λ has. absurd (⊎_elim not_outside (λ fault. no_copy_lem b d Primary e fault has) is))
+inside : (e : CopyError) → failure_in e ≡ None → ¬ IsOutside e
+inside (Device at) none = absurd cc
+inside Memory none = absurd cc
+inside _ none = λ out. out
 
-pub no_primary : (b : ℕ) (d : Sectors) (e : CopyError) → TellsFault b d Primary e → IfOk (no_copy_of e) (λ yes. IsTrue yes ↔ HasCopy b d Primary)
-no_primary b d Signature is = none_there b d Signature (λ x. x) is
-no_primary b d Revision is = none_there b d Revision (λ x. x) is
-no_primary b d HeaderSize is = none_there b d HeaderSize (λ x. x) is
-no_primary b d HeaderCrc is = none_there b d HeaderCrc (λ x. x) is
-no_primary b d MyLba is = none_there b d MyLba (λ x. x) is
-no_primary b d ArrayPlace is = none_there b d ArrayPlace (λ x. x) is
-no_primary b d EntryShape is = none_there b d EntryShape (λ x. x) is
-no_primary b d UsableRange is = none_there b d UsableRange (λ x. x) is
-no_primary b d ArrayCrc is = none_there b d ArrayCrc (λ x. x) is
-no_primary b d (Device at) is = tt
-no_primary b d Memory is = tt
+pub no_primary : (b : ℕ) (d : Sectors) (e : CopyError) → failure_in e ≡ None → TellsFault b d Primary e → IsTrue false ↔ HasCopy b d Primary
+no_primary b d e none is = (λ impossible. absurd cc, λ has. absurd (⊎_elim (inside e none) (λ fault. no_copy_lem b d Primary e fault has) is))
 
 pub primary_there : (b : ℕ) (d : Sectors) (t : Table) → Copy b d Primary t → IsTrue true ↔ HasCopy b d Primary
 primary_there b d t is = (λ yes_it_is. (t, is), λ has. refl)

@@ -1,12 +1,14 @@
 -- Errors of the planner and of a commit: their numbers, and the failures of the device that go with them.
-use Rattle.std.specs.Prelude.{◌≡◌, ◌≢◌, ℕ, ◌+◌, Bool, false, Result, Ok, Err}
+use Rattle.std.specs.Prelude.{◌≢◌, ℕ, Option, Some, None}
+use Rattle.pt_sector.specs.declared.disk.Fault.{Fault}
 use Rattle.pt_sector.specs.declared.disk.Fault.TheVariants.{Read}
-use Rattle.pt_gpt.specs.declared.error.CopyError.{CopyError}
-use Rattle.pt_gpt.specs.declared.error.CopyError.TheVariants as copy
+use Rattle.pt_sector.specs.declared.reading.Failure.{Failure}
+use Rattle.pt_sector.specs.declared.reading.Failure.TheVariants as failure
 use Rattle.pt_recover.specs.Answers.{IsOutside}
-use Rattle.pt_recover.specs.declared.error.NoTable.{NoTable}
-use Rattle.pt_recover.specs.declared.error.NoTable.TheVariants as no_table
+use Rattle.pt_words.specs.declared.error.Refusal.{Refusal}
 use Rattle.pt_words.specs.declared.error.Refusal.TheVariants as refusal
+use Rattle.pt_check.specs.declared.error.CheckError.{CheckError}
+use Rattle.pt_check.specs.declared.error.CheckError.TheVariants as check
 use Rattle.pt_plan.specs.declared.error.PlanError.{PlanError}
 use Rattle.pt_plan.specs.declared.error.PlanError.TheVariants as plan
 use Rattle.pt_plan.specs.declared.error.CommitError.{CommitError}
@@ -35,28 +37,42 @@ IsFailure (plan.Device fault) = Unit {0}
 IsFailure plan.Memory = Unit {0}
 IsFailure _ = ⊥
 
--- a device's fault goes with one failure more, every other error with none
-abbrev pub PlanFailedAs : PlanError → ℕ → ℕ → Type 0
-PlanFailedAs (plan.Device fault) before now = now ≡ before + 1
-PlanFailedAs _ before now = now ≡ before
+-- the fault that the planner's error carries
+abbrev pub plan_fault_in : PlanError → Option Fault
+plan_fault_in (plan.Device fault) = Some fault
+plan_fault_in _ = None
 
--- a device's fault goes with one failure more, every other error with none; and neither such a fault nor want of memory
--- is told within another error
-abbrev pub FailedAs : CommitError → ℕ → ℕ → Type 0
-FailedAs (commit.NoTable e) before now = (now ≡ before) × ¬ IsOutside e
-FailedAs (commit.Edit r) before now = (now ≡ before) × (r ≢ refusal.Memory)
-FailedAs (commit.Plan e) before now = (now ≡ before) × ¬ IsFailure e
-FailedAs (commit.Check why) before now = now ≡ before
-FailedAs (commit.Device fault) before now = now ≡ before + 1
-FailedAs commit.Memory before now = now ≡ before
+-- and a commit's
+abbrev pub commit_fault_in : CommitError → Option Fault
+commit_fault_in (commit.Device fault) = Some fault
+commit_fault_in _ = None
 
--- the planner's error for a failure that recovery told
-abbrev pub failure_of : NoTable → PlanError
-failure_of (no_table.Device at) = plan.Device (Read at)
-failure_of _ = plan.Memory
+-- neither the device's fault nor want of memory is told within another error
+abbrev pub HidesNoFailure : CommitError → Type 0
+HidesNoFailure (commit.NoTable e) = ¬ IsOutside e
+HidesNoFailure (commit.Edit r) = r ≢ refusal.Memory
+HidesNoFailure (commit.Plan e) = ¬ IsFailure e
+HidesNoFailure _ = Unit {0}
 
--- no copy, unless the error is a failure
-abbrev pub no_copy_of : CopyError → Result Bool PlanError
-no_copy_of (copy.Device at) = Err (plan.Device (Read at))
-no_copy_of copy.Memory = Err plan.Memory
-no_copy_of _ = Ok false
+-- what the planner tells of a failure
+abbrev pub plan_failure : Failure → PlanError
+plan_failure (failure.Device at) = plan.Device (Read at)
+plan_failure failure.Memory = plan.Memory
+
+-- what a commit tells of a failure, of an edit's refusal, and of the planner's and the checker's errors
+abbrev pub commit_failure : Failure → CommitError
+commit_failure (failure.Device at) = commit.Device (Read at)
+commit_failure failure.Memory = commit.Memory
+
+abbrev pub commit_unedited : Refusal → CommitError
+commit_unedited refusal.Memory = commit.Memory
+commit_unedited r = commit.Edit r
+
+abbrev pub commit_unplanned : PlanError → CommitError
+commit_unplanned (plan.Device fault) = commit.Device fault
+commit_unplanned plan.Memory = commit.Memory
+commit_unplanned e = commit.Plan e
+
+abbrev pub commit_unchecked : CheckError → CommitError
+commit_unchecked (check.Device fault) = commit.Device fault
+commit_unchecked check.Memory = commit.Memory

@@ -1,9 +1,10 @@
 //! Edits of a disk, from its layout to its sectors.
 
-ghost use Rattle.std.specs.Prelude.{◌≡◌, OnOk, IfErr};
+ghost use Rattle.std.specs.Prelude.{◌≡◌, IfErr};
 ghost use Rattle.pt_sector.specs.Sectors.{IsSectorSize};
+ghost use Rattle.pt_sector.specs.Calls.{Blames};
 ghost use Rattle.pt_plan.specs.Batches.{Commits};
-ghost use Rattle.pt_plan.specs.Failed.{FailedAs};
+ghost use Rattle.pt_plan.specs.Failed.{commit_fault_in as fault_in, HidesNoFailure};
 
 use crate::error::CommitError;
 use crate::prepare::prepare;
@@ -30,19 +31,12 @@ pub fn commit<const B: usize, D: Disk<B>>(
     requires size { IsSectorSize B }
     ensures count { D.count disk.new ≡ D.count disk.old }
     ensures name { D.name disk.new ≡ D.name disk.old }
-    ensures quiet { OnOk result (D.failures disk.new ≡ D.failures disk.old) }
-    ensures failed { IfErr result (λ e. FailedAs e (D.failures disk.old) (D.failures disk.new)) }
+    ensures blames { Blames fault_in result (D.faults disk.old) (D.faults disk.new) }
+    ensures hides { IfErr result HidesNoFailure }
     ensures commits { D.tells → Commits B (D.count disk.old) (record { edits = edits.now; guids = guids.now }) result (D.told disk.old) (D.told disk.new) }
 {
-    if let Err(fault) = disk.flush() {
-        return Err(CommitError::Device(fault));
-    }
-    let plan = match prepare(alloc, disk, edits, guids) {
-        Ok(plan) => plan,
-        Err(error) => return Err(error),
-    };
-    match apply(disk, &plan) {
-        Ok(()) => Ok(()),
-        Err(fault) => Err(CommitError::Device(fault)),
-    }
+    disk.flush()?;
+    let plan = prepare(alloc, disk, edits, guids)?;
+    apply(disk, &plan)?;
+    Ok(())
 }

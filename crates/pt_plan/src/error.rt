@@ -1,12 +1,15 @@
 //! Why there is no plan, and why a commit did nothing.
 
 ghost use Rattle.std.specs.Prelude.{◌≡◌};
-ghost use Rattle.pt_plan.specs.Failed.{plan_error_number, commit_error_number};
+ghost use Rattle.pt_plan.specs.Failed.{plan_error_number, commit_error_number, plan_failure, commit_failure, commit_unedited, commit_unplanned, commit_unchecked};
+ghost use Rattle.pt_plan.specs.declared.error.PlanError.TheVariants as plan;
+ghost use Rattle.pt_plan.specs.declared.error.CommitError.TheVariants as commit;
 
-use pt_check::Why;
+use pt_check::{CheckError, Why};
 use pt_edit::Refusal;
 use pt_layout::{Finding, NoTable};
-use pt_sector::Fault;
+use pt_sector::{Failure, Fault};
+use std::alloc::AllocError;
 
 /// Why there is no plan for a layout.
 #[derive(Clone, Copy, Debug, PartialEq, Eq)]
@@ -46,6 +49,25 @@ impl PlanError {
     }
 }
 
+impl From<Failure> for PlanError {
+    ghost from_gives = { λ failure e. e ≡ plan_failure failure };
+
+    fn from(failure: Failure) -> PlanError {
+        match failure {
+            Failure::Device(at) => PlanError::Device(Fault::Read(at)),
+            Failure::Memory => PlanError::Memory,
+        }
+    }
+}
+
+impl From<AllocError> for PlanError {
+    ghost from_gives = { λ _ e. e ≡ plan.Memory };
+
+    fn from(_e: AllocError) -> PlanError {
+        PlanError::Memory
+    }
+}
+
 /// Why a commit isn't done. A fault of the device in any step is `Device`, and want of memory in any step is `Memory`,
 /// never within another error. After all but `Device` nothing was written.
 #[derive(Clone, Copy, Debug, PartialEq, Eq)]
@@ -77,6 +99,59 @@ impl CommitError {
             CommitError::Check(_) => 4,
             CommitError::Device(_) => 5,
             CommitError::Memory => 6,
+        }
+    }
+}
+
+impl From<Failure> for CommitError {
+    ghost from_gives = { λ failure e. e ≡ commit_failure failure };
+
+    fn from(failure: Failure) -> CommitError {
+        match failure {
+            Failure::Device(at) => CommitError::Device(Fault::Read(at)),
+            Failure::Memory => CommitError::Memory,
+        }
+    }
+}
+
+impl From<Fault> for CommitError {
+    ghost from_gives = { λ fault e. e ≡ commit.Device fault };
+
+    fn from(fault: Fault) -> CommitError {
+        CommitError::Device(fault)
+    }
+}
+
+impl From<Refusal> for CommitError {
+    ghost from_gives = { λ refusal e. e ≡ commit_unedited refusal };
+
+    fn from(refusal: Refusal) -> CommitError {
+        match refusal {
+            Refusal::Memory => CommitError::Memory,
+            refusal => CommitError::Edit(refusal),
+        }
+    }
+}
+
+impl From<PlanError> for CommitError {
+    ghost from_gives = { λ error e. e ≡ commit_unplanned error };
+
+    fn from(error: PlanError) -> CommitError {
+        match error {
+            PlanError::Device(fault) => CommitError::Device(fault),
+            PlanError::Memory => CommitError::Memory,
+            error => CommitError::Plan(error),
+        }
+    }
+}
+
+impl From<CheckError> for CommitError {
+    ghost from_gives = { λ error e. e ≡ commit_unchecked error };
+
+    fn from(error: CheckError) -> CommitError {
+        match error {
+            CheckError::Device(fault) => CommitError::Device(fault),
+            CheckError::Memory => CommitError::Memory,
         }
     }
 }

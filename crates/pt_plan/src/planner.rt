@@ -2,13 +2,15 @@
 
 ghost use Rattle.std.specs.Prelude.{◌≡◌, ◌+◌, ◌*◌, ◌<◌, ◌≤◌, [], All, Some, length, OnOk, IfOk, IfErr};
 ghost use Rattle.pt_sector.specs.Sectors.{IsSectorSize};
+ghost use Rattle.pt_sector.specs.Calls.{Blames};
+ghost use Rattle.pt_sector.specs.Reads.{OnlyReads, fault_of};
 ghost use Rattle.pt_apply.specs.Plans.{phases_of, finished, InRange};
 ghost use Rattle.pt_gpt.specs.Array.{array_len};
 ghost use Rattle.pt_recover.specs.Denotes.{Denotes};
 ghost use Rattle.pt_layout.specs.Healthy.{Healthy};
 ghost use Rattle.pt_layout.specs.Sound.{Sound};
 ghost use Rattle.pt_check.specs.First.{writes_in};
-ghost use Rattle.pt_plan.specs.Failed.{PlanFailedAs, IsFailure};
+ghost use Rattle.pt_plan.specs.Failed.{plan_fault_in as fault_in};
 ghost use Rattle.pt_plan.specs.Plans.{FitsGpt, WritesCopies, IsPlan, Unplanned};
 ghost use Rattle.pt_plan.specs.Planning.{IsUnsoundBy, StateIs};
 
@@ -19,7 +21,7 @@ use crate::survey::{has_labels, has_primary, head, is_done, is_mbr};
 use pt_apply::Plan;
 use pt_gpt::Table;
 use pt_layout::{Body, Layout, unsound};
-use pt_sector::Disk;
+use pt_sector::{Disk, Failure};
 use std::alloc::Global;
 
 /// That the layout is sound.
@@ -28,10 +30,10 @@ fn be_sound<const B: usize>(alloc: Global, wanted: &Layout) -> Result<(), PlanEr
     ensures ok { OnOk result (Sound B wanted.now) }
     ensures err { IfErr result (IsUnsoundBy B wanted.now) }
 {
-    match unsound::<B>(alloc, wanted) {
-        Ok(None) => Ok(()),
-        Ok(Some(finding)) => Err(PlanError::Unsound(finding)),
-        Err(_) => Err(PlanError::Memory),
+    let broken = unsound::<B>(alloc, wanted)?;
+    match broken {
+        Some(finding) => Err(PlanError::Unsound(finding)),
+        None => Ok(()),
     }
 }
 
@@ -40,27 +42,19 @@ fn is_other_kind<const B: usize, D: Disk<B>>(
     alloc: Global,
     disk: &mut D,
     wanted: &Layout,
-) -> Result<bool, PlanError>
+) -> Result<bool, Failure>
     requires size { IsSectorSize B }
     requires some { 0 < D.count disk.old }
-    ensures count { D.count disk.new ≡ D.count disk.old }
-    ensures name { D.name disk.new ≡ D.name disk.old }
-    ensures reads { D.reads disk.old disk.new }
-    ensures quiet { OnOk result (D.failures disk.new ≡ D.failures disk.old) }
-    ensures failed { IfErr result (λ e. PlanFailedAs e (D.failures disk.old) (D.failures disk.new)) }
-    ensures failure { IfErr result IsFailure }
-    ensures same { D.tells → D.told disk.new ≡ D.told disk.old }
+    ensures same { OnlyReads D.Disk disk.old disk.new }
+    ensures blames { Blames fault_of result (D.faults disk.old) (D.faults disk.new) }
     ensures ok { D.tells → IfOk result (StateIs B (D.told disk.old).seen wanted.now) }
 {
-    match is_mbr(disk) {
-        Ok(true) => return Ok(true),
-        Ok(false) => {}
-        Err(error) => return Err(error),
+    let mbr = is_mbr(disk)?;
+    if mbr {
+        return Ok(true);
     }
-    match has_labels(alloc, disk, wanted) {
-        Ok(has) => Ok(!has),
-        Err(error) => Err(error),
-    }
+    let has = has_labels(alloc, disk, wanted)?;
+    Ok(!has)
 }
 
 /// The plan that writes both copies of a table.
@@ -68,16 +62,11 @@ fn write_copies<const B: usize, D: Disk<B>>(
     alloc: Global,
     disk: &mut D,
     table: &Table,
-) -> Result<Plan<B>, PlanError>
+) -> Result<Plan<B>, Failure>
     requires size { IsSectorSize B }
     requires fits { FitsGpt B (D.count disk.old) table.now }
-    ensures count { D.count disk.new ≡ D.count disk.old }
-    ensures name { D.name disk.new ≡ D.name disk.old }
-    ensures reads { D.reads disk.old disk.new }
-    ensures quiet { OnOk result (D.failures disk.new ≡ D.failures disk.old) }
-    ensures failed { IfErr result (λ e. PlanFailedAs e (D.failures disk.old) (D.failures disk.new)) }
-    ensures failure { IfErr result IsFailure }
-    ensures same { D.tells → D.told disk.new ≡ D.told disk.old }
+    ensures same { OnlyReads D.Disk disk.old disk.new }
+    ensures blames { Blames fault_of result (D.faults disk.old) (D.faults disk.new) }
     ensures in_range { IfOk result (InRange (D.count disk.old)) }
     ensures phases { IfOk result (λ plan. All (λ p. 0 < length p.items) plan.phases.items) }
     ensures few { IfOk result (λ plan. length (writes_in (phases_of plan)) ≤ 2 * array_len B + 4) }
@@ -85,18 +74,10 @@ fn write_copies<const B: usize, D: Disk<B>>(
     ensures copies { D.tells → IfOk result (λ plan. WritesCopies B (D.told disk.old).seen table.now (phases_of plan)) }
 {
     let sectors = disk.sectors();
-    let primary = match has_primary(alloc, disk) {
-        Ok(primary) => primary,
-        Err(error) => return Err(error),
-    };
-    let head = match head(disk) {
-        Ok(head) => head,
-        Err(error) => return Err(error),
-    };
-    match copies(alloc, sectors, table, primary, &head) {
-        Ok(plan) => Ok(plan),
-        Err(_) => Err(PlanError::Memory),
-    }
+    let primary = has_primary(alloc, disk)?;
+    let head = head(disk)?;
+    let plan = copies(alloc, sectors, table, primary, &head)?;
+    Ok(plan)
 }
 
 /// A plan for the wanted layout, which the finished disk denotes: without phases where the disk is healthy with that
@@ -114,12 +95,8 @@ pub fn make_plan<const B: usize, D: Disk<B>>(
     wanted: &Layout,
 ) -> Result<Plan<B>, PlanError>
     requires size { IsSectorSize B }
-    ensures count { D.count disk.new ≡ D.count disk.old }
-    ensures name { D.name disk.new ≡ D.name disk.old }
-    ensures reads { D.reads disk.old disk.new }
-    ensures quiet { OnOk result (D.failures disk.new ≡ D.failures disk.old) }
-    ensures failed { IfErr result (λ e. PlanFailedAs e (D.failures disk.old) (D.failures disk.new)) }
-    ensures same { D.tells → D.told disk.new ≡ D.told disk.old }
+    ensures same { OnlyReads D.Disk disk.old disk.new }
+    ensures blames { Blames fault_in result (D.faults disk.old) (D.faults disk.new) }
     ensures in_range { IfOk result (InRange (D.count disk.old)) }
     ensures phases { IfOk result (λ plan. All (λ p. 0 < length p.items) plan.phases.items) }
     ensures few { IfOk result (λ plan. length (writes_in (phases_of plan)) ≤ 2 * array_len B + 4) }
@@ -129,17 +106,12 @@ pub fn make_plan<const B: usize, D: Disk<B>>(
     ensures finished { D.tells → IfOk result (λ plan. Denotes B (finished plan (D.told disk.old).seen) (Some wanted.now)) }
     ensures err { D.tells → IfErr result (Unplanned B (D.told disk.old).seen wanted.now) }
 {
-    if let Err(error) = be_sound::<B>(alloc, wanted) {
-        return Err(error);
-    }
-    match is_done(alloc, disk, wanted) {
-        Ok(true) => {
-            return Ok(Plan {
-                phases: Vec::new(alloc),
-            });
-        }
-        Ok(false) => {}
-        Err(error) => return Err(error),
+    be_sound::<B>(alloc, wanted)?;
+    let done = is_done(alloc, disk, wanted)?;
+    if done {
+        return Ok(Plan {
+            phases: Vec::new(alloc),
+        });
     }
     if !fits::<B>(disk.sectors(), wanted) {
         return Err(PlanError::NotOneSwitch);
@@ -148,10 +120,10 @@ pub fn make_plan<const B: usize, D: Disk<B>>(
         Body::Gpt(table) => table,
         Body::Mbr { .. } => return Err(PlanError::NotYet),
     };
-    match is_other_kind(alloc, disk, wanted) {
-        Ok(true) => return Err(PlanError::NotYet),
-        Ok(false) => {}
-        Err(error) => return Err(error),
+    let other = is_other_kind(alloc, disk, wanted)?;
+    if other {
+        return Err(PlanError::NotYet);
     }
-    write_copies(alloc, disk, table)
+    let plan = write_copies(alloc, disk, table)?;
+    Ok(plan)
 }

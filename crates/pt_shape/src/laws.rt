@@ -3,14 +3,14 @@
 ghost use Rattle.std.specs.Prelude.{ℕ, Option, Some};
 ghost use Rattle.pt_sector.specs.Sectors.{Sectors};
 ghost use Rattle.pt_recover.specs.Denotes.{Denotes};
+ghost use Rattle.pt_recover.specs.Numbers.{Numbers};
 ghost use Rattle.pt_recover.specs.declared.layout.Layout.{Layout};
 ghost use Rattle.pt_shape.specs.Shape.{Shaped};
-ghost use Rattle.pt_shape.specs.Denoted.{AllBytes};
 ghost use Rattle.pt_shape.specs.Keeps.{Keeps};
 
-/// What a disk of bytes denotes is shaped.
+/// What a disk denotes is shaped, if its records' numbers have 32 bits: recovery gives no other layout.
 pub fn denoted_is_shaped()
-    ensures { (b : ℕ) (d : Sectors) (o : Layout) → AllBytes d → Denotes b d (Some o) → Shaped b o }
+    ensures { (b : ℕ) (d : Sectors) (o : Layout) → Numbers o → Denotes b d (Some o) → Shaped b o }
 {}
 
 /// A layout that a disk may denote keeps itself.

@@ -11,7 +11,7 @@ pub loop-phase-preserved : goal.loop-phase-preserved
 loop-phase-preserved g c = record {
   same_reference = search rules;
   disk = search rules;
-  refused = search rules;
+  faults = search rules;
   room = omega (arith, c.loop-phase.invariant.room, c.put_phase.ensures.room, count_on c.deref-phase-items.result.now c.loop-phase.phase-index c.phase-item.result c.loop-phase-test.true c.phase-item.is, ap length c.deref.ensures.value);
   seen = seen_on (phases_in c.deref-phase-items.result.now) (shown (g.D.Disk.told c.args.over.now.disk.now).seen c.args.over.now.own) c.loop-phase.phase-index (writes_of c.deref.result.now) _ _
       (index_within c.deref-phase-items.result.now c.loop-phase.phase-index c.loop-phase-test.true)

@@ -9,7 +9,7 @@ abbrev pub invariant-loop-phase : goal.invariant-loop-phase
 invariant-loop-phase g l = record {
   same_reference : l.over.disk.ghost_name ≡ l.initial.over.disk.ghost_name;
   disk : l.over.disk.now ≡ l.initial.over.disk.now;
-  refused : l.over.refused ≡ l.initial.over.refused;
+  faults : l.over.failed ≡ l.initial.over.failed;
   room : length (writes_in (phases_in l.phase-items)) ≤ room_left l.over.own + length (writes_in (take l.phase-index (phases_in l.phase-items)));
   seen : shown (g.D.Disk.told l.over.disk.now).seen l.over.own ≡ disk_after (phases_in l.phase-items) (shown (g.D.Disk.told l.initial.over.disk.now).seen l.initial.over.own) l.phase-index;
 }

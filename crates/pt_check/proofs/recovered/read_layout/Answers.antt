@@ -6,5 +6,5 @@ pub returns-in-Ok-clause-recovered : goal.returns-in-Ok-clause-recovered
 returns-in-Ok-clause-recovered g c = λ tells. recovered_ok _ _ _ _ _ c.in-Ok.is (c.recover_traced-answer.ensures.ok tells) (c.recover_traced-answer.ensures.traced tells)
 
 pub returns-in-None-clause-recovered : goal.returns-in-None-clause-recovered
-returns-in-None-clause-recovered g c = λ tells. recovered_none _ _ _ _ _ c.in-Err.is (sym c.outside.ensures ∙ c.in-None.is)
+returns-in-None-clause-recovered g c = λ tells. recovered_none _ _ _ _ _ c.in-Err.is (sym c.failure.ensures ∙ c.in-None.is)
     (c.recover_traced-answer.ensures.err tells) (c.recover_traced-answer.ensures.traced_err tells)

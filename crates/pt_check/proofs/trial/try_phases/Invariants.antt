@@ -1,6 +1,6 @@
 use Rattle.std.proofs.Common.{◌≡◌, ◌≤◌, ◌+◌, length, take}
 use Rattle.pt_sector.specs.Overlays.{room_left, shown}
-use Rattle.pt_sector.specs.Since.{Below}
+use Rattle.pt_sector.specs.Reads.{OnlyReads}
 use Rattle.pt_apply.specs.Plans.{phases_of}
 use Rattle.pt_recover.specs.Denotes.{Denotes, Reads}
 use Rattle.pt_check.specs.Course.{disk_after, Course}
@@ -11,9 +11,8 @@ use Rattle.pt_check.proofs.trial.try_phases.Given as goal
 abbrev pub invariant-loop-i : goal.invariant-loop-i
 invariant-loop-i g l = record {
   same_reference : l.over.disk.ghost_name ≡ l.initial.over.disk.ghost_name;
-  below : Below g.D.Disk.name g.D.Disk.reads g.D.Disk.count g.D.Disk.tells g.D.Disk.told l.fn.disk l.over.disk.now;
-  failures : g.D.Disk.failures l.over.disk.now ≡ g.D.Disk.failures l.fn.disk;
-  refused : length l.over.refused.items ≡ 0;
+  same : OnlyReads g.D.Disk l.fn.disk l.over.disk.now;
+  quiet : g.D.Disk.faults l.over.disk.now ≡ g.D.Disk.faults l.fn.disk;
   room : length (writes_in (phases_of l.plan)) ≤ room_left l.over.own + length (writes_in (take l.i (phases_of l.plan)));
   seen : g.D.Disk.tells → shown (g.D.Disk.told l.over.disk.now).seen l.over.own ≡ disk_after (phases_of l.plan) (g.D.Disk.told l.fn.disk).seen l.i;
   trace : g.D.Disk.tells → Reading (Reads g.row.B) (disk_after (phases_of l.plan) (g.D.Disk.told l.fn.disk).seen l.i) l.before;

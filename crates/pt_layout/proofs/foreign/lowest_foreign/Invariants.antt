@@ -1,4 +1,5 @@
 use Rattle.std.proofs.Common.{◌≡◌, get_or}
+use Rattle.pt_sector.specs.Reads.{OnlyReads}
 use Rattle.pt_layout.specs.Next.{NextIs}
 use Rattle.pt_layout.specs.Foreign.{ForeignOf, no_slice}
 use Rattle.pt_layout.proofs.Lowest.{Under}
@@ -6,10 +7,7 @@ use Rattle.pt_layout.proofs.foreign.lowest_foreign.Given as goal
 
 abbrev pub invariant-loop-k : goal.invariant-loop-k
 invariant-loop-k g l = record {
-  count : g.D.Disk.count l.disk ≡ g.D.Disk.count l.fn.disk;
-  name : g.D.Disk.name l.disk ≡ g.D.Disk.name l.fn.disk;
-  reads : g.D.Disk.reads l.fn.disk l.disk;
-  quiet : g.D.Disk.failures l.disk ≡ g.D.Disk.failures l.fn.disk;
-  same : g.D.Disk.tells → g.D.Disk.told l.disk ≡ g.D.Disk.told l.fn.disk;
+  same : OnlyReads g.D.Disk l.fn.disk l.disk;
+  quiet : g.D.Disk.faults l.disk ≡ g.D.Disk.faults l.fn.disk;
   lowest : g.D.Disk.tells → NextIs (Under (λ j. ForeignOf (g.D.Disk.told l.fn.disk).seen (get_or l.slices j no_slice)) l.k) 0 l.lowest;
 }

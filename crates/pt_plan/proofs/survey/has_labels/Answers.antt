@@ -5,9 +5,10 @@ use Rattle.pt_plan.proofs.survey.has_labels.Goals as goal
 
 pub read_labels-requires-clause-within : goal.read_labels-requires-clause-within
 read_labels-requires-clause-within g c =
-    places_within g.row.B c.sectors-sectors.result (g.D.Disk.count c.args.disk.now) c.args.wanted.now.body c.deref.result.now (c.deref.ensures.value ∙ c.in-Ok.ensures) c.sectors-sectors.ensures
+    places_within g.row.B c.sectors-sectors.result (g.D.Disk.count c.args.disk.now) c.args.wanted.now.body c.deref.result.now (c.deref.ensures.value ∙ c.in_ok-places.ensures) c.sectors-sectors.ensures
 
-pub returns-in-Ok-read_labels-clause-ok : goal.returns-in-Ok-read_labels-clause-ok
-returns-in-Ok-read_labels-clause-ok g c = λ tells. same_labels (g.D.Disk.told c.args.disk.now).seen c.deref.result.now _ c.in-Ok-read_labels.labels c.args.wanted.now.labels (IsTrue c.same.result)
-    (c.deref.ensures.value ∙ c.in-Ok.ensures ∙ ap (λ (n : _). places_of g.row.B n c.args.wanted.now.body) (c.sectors-sectors.ensures ∙ sym (g.met.D.Disk.sized c.args.disk.now tells)))
-    c.same.ensures (c.in-Ok-read_labels.ensures.ok tells)
+pub returns-clause-ok : goal.returns-clause-ok
+returns-clause-ok g c = λ tells.
+    same_labels (g.D.Disk.told c.args.disk.now).seen c.deref.result.now _ c.in_ok-labels.labels c.args.wanted.now.labels (IsTrue c.same.result)
+    (c.deref.ensures.value ∙ c.in_ok-places.ensures ∙ ap (λ (n : _). places_of g.row.B n c.args.wanted.now.body) (c.sectors-sectors.ensures ∙ sym (g.met.D.Disk.sized c.args.disk.now tells)))
+    c.same.ensures (c.in_ok-labels.ensures.ok tells)
