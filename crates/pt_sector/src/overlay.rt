@@ -141,7 +141,8 @@ impl<'a, D: Disk<B>, const B: usize> Disk<B> for Overlay<'a, D, B> {
         ensures faults { self.new.failed ≡ self.old.failed }
         ensures done { Flushed (content D.told self.old) (content D.told self.new) }
     {
-        self.past = self.past.and(&self.own);
+        let moment = self.past.and(&self.own);
+        self.past = moment;
         Ok(())
     }
 }
