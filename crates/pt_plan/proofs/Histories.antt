@@ -1,11 +1,9 @@
 -- Histories that go on, and what a crash may leave over several calls.
 use Rattle.std.proofs.Common.{◌≡◌, ◌∙◌, ◌⊎◌, inl, inr, ⊎_elim, ℕ, List, [], ◌∷◌, ◌++◌, length, refl, sym, ap, subst, arith, Option, Some, Result, Ok}
 use Rattle.std.proofs.lemmas.Bool.{cases_order}
-use Rattle.std.proofs.lemmas.List.{ext_get_or}
 use Rattle.pt_sector.specs.Sectors.{Sectors, sector}
 use Rattle.pt_sector.specs.Writes.{Writes, Puts, MayHold}
 use Rattle.pt_sector.specs.Device.{Told, MayLeave, Flushed, FailedFlush}
-use Rattle.pt_apply.specs.Runs.{Settled}
 use Rattle.pt_plan.specs.History.{Past, Done, Unchanged, Either, Steps, History, Has}
 use Rattle.pt_apply.specs.Promises.{Switches}
 
@@ -54,12 +52,3 @@ failed_flush_leaves old new failed c left = record {
   same_count = left.same_count ∙ failed.same_count;
   each = λ k lt. failed.no_more k (sector c k) lt (left.each k (omega (arith, lt, failed.same_count)));
 }
-
--- where nothing is pending a crash leaves one disk
-pub settled_leaves : (now : Told) (d : Sectors) → Settled now d → (c : Sectors) → MayLeave now c → c ≡ d
-settled_leaves now d settled c left =
-    let len : length c ≡ length d = left.same_count ∙ ap length settled.durable in
-    ext_get_or [] c d len (λ k lt. ⊎_elim
-    (λ is. rw settled.durable at is)
-    (λ puts. absurd (subst (λ (p : Writes). Puts p k (sector c k)) settled.pending puts))
-    (left.each k (omega (arith, lt, left.same_count))))

@@ -14,7 +14,9 @@ use Rattle.pt_words.specs.declared.word.Edit.{Edit}
 use Rattle.pt_words.specs.declared.word.Edit.TheVariants.{Align, Empty}
 use Rattle.pt_check.specs.Answers.{Answers, TableOf, OwnedOf}
 use Rattle.pt_plan.specs.declared.error.CommitError.{CommitError}
-use Rattle.pt_plan.specs.Commits.{Committed, Ready, Refuses}
+use Rattle.pt_plan.specs.Calls.{Call, CarryOn}
+use Rattle.pt_plan.specs.Commits.{past, Committed, Ready, Refuses}
+use Rattle.pt_plan.specs.History.{Either, Carries}
 use Rattle.pt_plan.specs.Plans.{IsPlan, Unplanned}
 
 -- the words of a commit, and the GUIDs that they may take
@@ -47,3 +49,14 @@ IsReady b n = Ready (Denotes b) (IsReason b) Makes (EditedBy b n) (IsPlan b) (Un
 -- why the batch is refused
 abbrev pub IsRefusal : ℕ → ℕ → Batch → Sectors → CommitError → Type 0
 IsRefusal b n = Refuses (Denotes b) (IsReason b) Makes (EditedBy b n) (IsPlan b) (Unplanned b) (Answers b) (Healthy b) (TableOf b) (OwnedOf b)
+
+-- a commit of the batch that answered so, as a call
+abbrev pub call_of : Batch → Result Unit CommitError → Call Batch
+call_of batch result = record { inside = Either batch; done = past batch result }
+
+-- a call carries every history on, and so do calls in order
+abbrev pub CallCarries : ℕ → ℕ → Call Batch → Told → Told → Type 0
+CallCarries b n call = Carries (Denotes b) (EditedBy b n) call.inside call.done
+
+abbrev pub CallsCarry : ℕ → ℕ → List (Call Batch) → Told → Told → Type 0
+CallsCarry b n = CarryOn (Denotes b) (EditedBy b n)

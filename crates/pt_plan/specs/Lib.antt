@@ -1,4 +1,5 @@
 pub mod Batches
+pub mod Calls
 pub mod Commits
 pub mod Copies
 pub mod Failed
