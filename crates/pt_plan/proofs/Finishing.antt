@@ -204,7 +204,7 @@ module _ (b : ℕ) (d : Sectors) (t : Table) (phases : List Writes) (room : 2 * 
       let c : Sectors = after phases d in
       let placed : IsPlaced b Primary (length c) (header_of b (length d) t Primary) = record { my = refl; place = refl; shape = (fits.some, fits.most, refl); range = (fits.low, fits.order, subst (λ (m : ℕ). t.last ≤ m - (array_len b + 2)) (sym is.count) fits.high) } in
       let written_so : IsWritten b c Primary (header_of b (length d) t Primary) t = record {
-        is_head = record { bytes = subst (HeaderBytes b (header_of b (length d) t Primary)) (sym is.header) writes.is_primary; placed = placed };
+        is_head = record { bytes = subst (HeaderBytes b (header_of b (length d) t Primary)) (sym is.header) writes.is_primary.header; placed = placed };
         disk = refl;
         first = refl;
         last = refl;

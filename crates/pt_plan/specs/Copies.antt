@@ -2,19 +2,18 @@
 use Rattle.std.specs.Prelude.{◌≡◌, ℕ, List, ◌∷◌, ◌++◌, Bool, true, false}
 use Rattle.pt_sector.specs.Writes.{Writes}
 use Rattle.pt_gpt.specs.Array.{AllFit}
-use Rattle.pt_gpt.specs.Header.{HeaderBytes}
 use Rattle.pt_gpt.specs.declared.table.Side.TheVariants.{Primary, Backup}
 use Rattle.pt_gpt.specs.declared.table.Table.{Table}
-use Rattle.pt_plan.specs.Plans.{header_of, backup_phase, primary_phases, Protects}
+use Rattle.pt_plan.specs.Plans.{header_of, IsWrittenHeader, backup_phase, primary_phases, Protects}
 
 pub record IsBackupPhase (b n : ℕ) (t : Table) (writes : Writes) : Type 0 where
   pub header : List ℕ
-  pub is_header : HeaderBytes b (header_of b n t Backup) header
+  pub is_header : IsWrittenHeader b (header_of b n t Backup) header
   pub is : writes ≡ backup_phase b n t header
 
 pub record ArePrimaryPhases (b n : ℕ) (t : Table) (before now : List Writes) : Type 0 where
   pub header : List ℕ
-  pub is_header : HeaderBytes b (header_of b n t Primary) header
+  pub is_header : IsWrittenHeader b (header_of b n t Primary) header
   pub fit : AllFit t.entries
   pub is : now ≡ before ++ primary_phases b n t header
 
@@ -26,8 +25,8 @@ in_order false backup primary last = primary ++ backup ∷ last
 pub record CopiesAre (b n : ℕ) (t : Table) (has_primary : Bool) (last phases : List Writes) : Type 0 where
   pub primary : List ℕ
   pub backup : List ℕ
-  pub is_primary : HeaderBytes b (header_of b n t Primary) primary
-  pub is_backup : HeaderBytes b (header_of b n t Backup) backup
+  pub is_primary : IsWrittenHeader b (header_of b n t Primary) primary
+  pub is_backup : IsWrittenHeader b (header_of b n t Backup) backup
   pub fit : AllFit t.entries
   pub is : phases ≡ in_order has_primary (backup_phase b n t backup) (primary_phases b n t primary) last
 

@@ -1,12 +1,12 @@
 -- The planner's plans, on a disk with sectors of b bytes, for a layout with a GPT.
-use Rattle.std.specs.Prelude.{◌≡◌, ◌⊎◌, ℕ, zero, suc, ◌+◌, ◌-◌, ◌<◌, ◌≤◌, List, [], ◌∷◌, ◌++◌, length, replicate, slice_index, Option}
+use Rattle.std.specs.Prelude.{◌≡◌, ◌⊎◌, ℕ, zero, suc, ◌+◌, ◌-◌, ◌<◌, ◌≤◌, List, [], ◌∷◌, ◌++◌, length, replicate, drop, slice_index, slice_range, Option}
 use Rattle.pt_sector.specs.Sectors.{Sectors, sector}
 use Rattle.pt_sector.specs.Writes.{Writes}
 use Rattle.pt_sum.specs.Crc.{crc_of}
 use Rattle.pt_mbr.specs.Protective.{IsProtective}
 use Rattle.pt_gpt.specs.Array.{array_len, array_bytes, array_sector, AllTyped, AllFit}
 use Rattle.pt_gpt.specs.Copy.{header_place, array_place, HasCopy}
-use Rattle.pt_gpt.specs.Header.{HeaderBytes}
+use Rattle.pt_gpt.specs.Header.{HeaderBytes, header_size}
 use Rattle.pt_gpt.specs.declared.entry.Entry.{Entry}
 use Rattle.pt_gpt.specs.declared.header.Header.{Header}
 use Rattle.pt_gpt.specs.declared.table.Side.{Side}
@@ -40,6 +40,13 @@ header_of b n t side = record {
   array_crc = crc_of (array_bytes t.entries);
 }
 
+-- a sector as it is written for a header: of size 92, with zeros in the reserved bytes and behind the header
+pub record IsWrittenHeader (b : ℕ) (h : Header) (bytes : List ℕ) : Type 0 where
+  pub header : HeaderBytes b h bytes
+  pub size : header_size bytes ≡ 92
+  pub reserved : slice_range bytes 20 24 ≡ replicate 4 0
+  pub rest : drop 92 bytes ≡ replicate (b - 92) 0
+
 -- the writes of the first sectors of an array that begins at a sector
 unfoldable pub array_writes : ℕ → List (Option Entry) → ℕ → ℕ → Writes
 array_writes b es at zero = []
@@ -72,8 +79,8 @@ Protects n old phases = (IsProtective n old × (phases ≡ []))
 pub record WritesCopies (b : ℕ) (d : Sectors) (t : Table) (phases : List Writes) : Type 0 where
   pub primary : List ℕ
   pub backup : List ℕ
-  pub is_primary : HeaderBytes b (header_of b (length d) t Primary) primary
-  pub is_backup : HeaderBytes b (header_of b (length d) t Backup) backup
+  pub is_primary : IsWrittenHeader b (header_of b (length d) t Primary) primary
+  pub is_backup : IsWrittenHeader b (header_of b (length d) t Backup) backup
   pub last : List Writes
   pub fit : AllFit t.entries
   pub protects : Protects (length d) (sector d 0) last

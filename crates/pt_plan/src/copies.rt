@@ -4,9 +4,8 @@ ghost use Rattle.std.specs.Prelude.{◌≡◌, ◌+◌, ◌-◌, ◌*◌, ◌<�
 ghost use Rattle.pt_sector.specs.Sectors.{IsSectorSize};
 ghost use Rattle.pt_apply.specs.Plans.{writes_of, phases_of, phases_in};
 ghost use Rattle.pt_gpt.specs.Array.{array_len, AllFit};
-ghost use Rattle.pt_gpt.specs.Header.{HeaderBytes};
 ghost use Rattle.pt_gpt.specs.declared.table.Side.TheVariants.{Primary, Backup};
-ghost use Rattle.pt_plan.specs.Plans.{other_side as opposite, header_of, array_writes, backup_phase, primary_phases};
+ghost use Rattle.pt_plan.specs.Plans.{other_side as opposite, header_of, IsWrittenHeader, array_writes, backup_phase, primary_phases};
 ghost use Rattle.pt_plan.specs.Copies.{IsBackupPhase, ArePrimaryPhases, CopiesAre, Protected};
 
 use pt_apply::{Plan, Write};
@@ -35,7 +34,7 @@ fn header_sector<const B: usize>(sectors: u64, table: &Table, side: Side) -> Sec
     requires size { IsSectorSize B }
     requires room { 2 * array_len B + 4 ≤ sectors }
     requires few { length table.now.entries ≤ 128 }
-    ensures bytes { HeaderBytes B (header_of B sectors table.now side) result }
+    ensures bytes { IsWrittenHeader B (header_of B sectors table.now side) result }
     ensures fit { AllFit table.now.entries }
 {
     encode_header(&Header {
