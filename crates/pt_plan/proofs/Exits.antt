@@ -1,11 +1,14 @@
 -- The exits of a commit.
-use Rattle.std.proofs.Common.{◌≡◌, ◌∙◌, ◌⊎◌, inl, ⊎_elim, ℕ, ◌+◌, List, [], ◌∷◌, ◌++◌, refl, sym, ap, subst, Option, Some, Result, Ok, Err}
+use Rattle.std.proofs.Common.{◌≡◌, ◌∙◌, ◌⊎◌, inl, inr, ⊎_elim, ℕ, zero, suc, ◌+◌, List, [], ◌∷◌, ◌++◌, refl, sym, ap, subst, Option, Some, Result, Ok, Err, slice_get, slice_index_or}
 use Rattle.pt_sector.specs.Sectors.{Sectors}
 use Rattle.pt_sector.specs.Writes.{Writes, after}
 use Rattle.pt_sector.specs.Device.{Told, MayLeave, Flushed, FailedFlush}
+use Rattle.pt_sector.specs.declared.address.Lba.{Lba}
 use Rattle.pt_sector.specs.declared.disk.Fault.{Fault}
+use Rattle.pt_sector.specs.declared.disk.Fault.TheVariants.{Read, Write, Flush}
 use Rattle.pt_sector.specs.Since.{LeavesOnly, leaves_once, leaves_through, leaves_weaker}
-use Rattle.pt_apply.specs.Runs.{Settled, StoppedSomewhere}
+use Rattle.pt_apply.specs.Plans.{faults_of}
+use Rattle.pt_apply.specs.Runs.{Settled, StoppedSomewhere, FailedIn}
 use Rattle.pt_apply.specs.Promises.{Keeps}
 use Rattle.pt_recover.specs.declared.error.NoTable.{NoTable as Reason}
 use Rattle.pt_recover.specs.declared.layout.Layout.{Layout}
@@ -16,8 +19,15 @@ use Rattle.pt_plan.specs.declared.error.CommitError.{CommitError}
 use Rattle.pt_plan.specs.declared.error.CommitError.TheVariants.{NoTable, Edit, Plan, Check, Device, Memory}
 use Rattle.pt_plan.specs.Calls.{settled_leaves}
 use Rattle.pt_plan.specs.History.{Past, Either, Has}
-use Rattle.pt_plan.specs.Commits.{Leads, Refuses, Bounded, Ready, Ends, refused, Committed}
+use Rattle.pt_plan.specs.Commits.{Leads, Refuses, Bounded, Ready, FailedWriting, EndsBy, Ends, refused, Committed}
 use Rattle.pt_plan.proofs.Histories.{one_of, has_either, has_unchanged, has_done, has_new, has_old, flush_leaves, failed_flush_leaves}
+
+-- no call of a phase reads
+reads_nothing : (ws : Writes) (call : ℕ) (at : Lba) → slice_get (faults_of ws) call ≡ Some (Read at) → ⊥
+reads_nothing [] zero at is = absurd cc
+reads_nothing [] (suc call) at is = absurd cc
+reads_nothing (w ∷ ws) zero at is = absurd cc
+reads_nothing (w ∷ ws) (suc call) at is = reads_nothing ws call at is
 
 module _ {W : Type 0} (denotes : Sectors → Option Layout → Type 0) (reason : Sectors → Reason → Type 0) (makes : W → Type 0)
     (edited : Option Layout → W → Result Layout Refusal → Type 0) (plans : Sectors → Layout → List Writes → Type 0)
@@ -26,13 +36,13 @@ module _ {W : Type 0} (denotes : Sectors → Option Layout → Type 0) (reason :
   Says : Result Unit (CommitError) → Told → Told → Type 0
   Says result old new = Committed denotes reason makes edited plans unplanned answers healthy table owned words result old new
 
-  pub at_failed_flush : (fault : Fault) (old new : Told) → FailedFlush old new → Committed denotes reason makes edited plans unplanned answers healthy table owned words (Err (Device fault)) old new
-  at_failed_flush fault old new failed = record {
+  pub at_failed_flush : (fault : Fault) (old new : Told) → fault ≡ Flush → FailedFlush old new → Committed denotes reason makes edited plans unplanned answers healthy table owned words (Err (Device fault)) old new
+  at_failed_flush fault old new is failed = record {
     history = record {
       any_moment = λ o calls start. leaves_once old new _ failed.time (λ c may. inl (failed_flush_leaves old new failed c may));
       at_return = λ o calls start c may. has_either denotes edited words calls o c (start c (failed_flush_leaves old new failed c may));
     };
-    ends = tt;
+    ends = subst (λ (f : Fault). EndsBy denotes reason makes edited plans unplanned answers healthy table owned words f old new) (sym is) (inl failed);
     bounds = leaves_once old new _ failed.time (λ c may. inl (failed_flush_leaves old new failed c may));
   }
 
@@ -44,12 +54,22 @@ module _ {W : Type 0} (denotes : Sectors → Option Layout → Type 0) (reason :
   has_refused (Device fault) calls o c has = has_either denotes edited words calls o c has
   has_refused Memory calls o c has = has_unchanged denotes edited calls o c has
 
-  ends_refused : (e : CommitError) (old mid new : Told) → mid.seen ≡ old.seen → new.seen ≡ old.seen → Refuses denotes reason makes edited plans unplanned answers healthy table owned words mid.seen e → Ends denotes reason makes edited plans unplanned answers healthy table owned words (Err e) old new
+  ends_met : (fault : Fault) (old new : Told) → Flushed old new → EndsBy denotes reason makes edited plans unplanned answers healthy table owned words fault old new
+  ends_met (Read at) old new flushed = flushed
+  ends_met (Write at) old new flushed = inr flushed
+  ends_met Flush old new flushed = inr (inr flushed)
+
+  ends_writing : (fault : Fault) (old new : Told) → FailedWriting denotes reason makes edited plans unplanned answers healthy table owned words old new fault → EndsBy denotes reason makes edited plans unplanned answers healthy table owned words fault old new
+  ends_writing (Read at) old new writing = absurd (reads_nothing (slice_index_or writing.phases writing.failed.phase []) writing.failed.call at writing.failed.is)
+  ends_writing (Write at) old new writing = inl writing
+  ends_writing Flush old new writing = inr (inl writing)
+
+  ends_refused : (e : CommitError) (old mid new : Told) → mid.seen ≡ old.seen → Flushed old new → Refuses denotes reason makes edited plans unplanned answers healthy table owned words mid.seen e → Ends denotes reason makes edited plans unplanned answers healthy table owned words (Err e) old new
   ends_refused (NoTable e) old mid new a is why = (is, rw a at why)
   ends_refused (Edit r) old mid new a is why = (is, rw a at why)
   ends_refused (Plan e) old mid new a is why = (is, rw a at why)
   ends_refused (Check w) old mid new a is why = (is, rw a at why)
-  ends_refused (Device fault) old mid new a is why = tt
+  ends_refused (Device fault) old mid new a is why = ends_met fault old new is
   ends_refused Memory old mid new a is why = (is, tt)
 
   module _ (old mid now : Told) (seen : MayLeave old old.seen) (flush : Flushed old mid) (same : now ≡ mid) where
@@ -65,7 +85,7 @@ module _ {W : Type 0} (denotes : Sectors → Option Layout → Type 0) (reason :
         any_moment = λ o calls start. so_far _;
         at_return = λ o calls start c may. has_refused e calls o c (start c (still c may));
       };
-      ends = ends_refused e old mid now flush.seen ((ap (λ (x : Told). x.seen) same) ∙ flush.seen) why;
+      ends = ends_refused e old mid now flush.seen (subst (λ (x : Told). Flushed old x) (sym same) flush) why;
       bounds = so_far _;
     }
 
@@ -113,9 +133,9 @@ module _ {W : Type 0} (denotes : Sectors → Option Layout → Type 0) (reason :
       bounded : LeavesOnly old new (Bounded denotes reason makes edited plans unplanned answers healthy table owned words old.seen)
       bounded = leaves_through old now new _ (so_far _) (leaves_weaker now new _ _ stopped_bounded run)
 
-      pub at_failed : (fault : Fault)
+      pub at_failed : (fault : Fault) → FailedIn phases now.seen now new fault
           → Committed denotes reason makes edited plans unplanned answers healthy table owned words (Err (Device fault)) old new
-      at_failed fault = record {
+      at_failed fault failed = record {
         history = record {
           any_moment = moments;
           at_return = λ o calls start c may. ⊎_elim
@@ -123,7 +143,13 @@ module _ {W : Type 0} (denotes : Sectors → Option Layout → Type 0) (reason :
               (λ stopped. stopped_has o calls start c stopped)
               (run.at_end c may);
         };
-        ends = tt;
+        ends = ends_writing fault old new (record {
+          mid = mid;
+          flushed = flush;
+          phases = phases;
+          ready = ready;
+          failed = subst (λ (x : Told). FailedIn phases x.seen x new fault) same failed;
+        });
         bounds = bounded;
       }
 

@@ -1,10 +1,12 @@
 -- What a commit of words does to a disk, over what a disk denotes, what words make of it, and what planner and checker say.
-use Rattle.std.specs.Prelude.{◌≡◌, ℕ, List, Option, Some, None, Result, Ok, Err}
+use Rattle.std.specs.Prelude.{◌≡◌, ◌⊎◌, ℕ, List, Option, Some, None, Result, Ok, Err}
 use Rattle.pt_sector.specs.Sectors.{Sectors}
 use Rattle.pt_sector.specs.Writes.{Writes, after}
-use Rattle.pt_sector.specs.Device.{Told}
+use Rattle.pt_sector.specs.Device.{Told, Flushed, FailedFlush}
 use Rattle.pt_sector.specs.Since.{LeavesOnly}
-use Rattle.pt_apply.specs.Runs.{Settled}
+use Rattle.pt_sector.specs.declared.disk.Fault.{Fault}
+use Rattle.pt_sector.specs.declared.disk.Fault.TheVariants.{Read, Write, Flush}
+use Rattle.pt_apply.specs.Runs.{Settled, FailedIn}
 use Rattle.pt_apply.specs.Promises.{Keeps, Safe}
 use Rattle.pt_recover.specs.declared.error.NoTable.{NoTable as Reason}
 use Rattle.pt_recover.specs.declared.layout.Layout.{Layout}
@@ -69,12 +71,27 @@ module _ {W : Type 0} (denotes : Sectors → Option Layout → Type 0) (reason :
     pub switch : ℕ
     pub safe : Safe denotes healthy table owned phases d switch
 
-  -- at the return: the words are done, durable, and the disk is healthy; or the disk reads as before, and why
+  -- the first flush was done, and then a call of a checked plan failed, by this fault: how far the calls came
+  pub record FailedWriting (words : W) (old new : Told) (fault : Fault) : Type 0 where
+    pub mid : Told
+    pub flushed : Flushed old mid
+    pub phases : List Writes
+    pub ready : Ready words mid.seen phases
+    pub failed : FailedIn phases mid.seen mid new fault
+
+  -- at the return after a device's fault. A read: only the first flush was done. A write: a checked plan's. A flush: the
+  -- first one, or a checked plan's; or only the first one was done, since no clause of the checker says that it tells a read
+  abbrev pub EndsBy : W → Fault → Told → Told → Type 0
+  EndsBy words (Read at) old new = Flushed old new
+  EndsBy words (Write at) old new = FailedWriting words old new (Write at) ⊎ Flushed old new
+  EndsBy words Flush old new = FailedFlush old new ⊎ (FailedWriting words old new Flush ⊎ Flushed old new)
+
+  -- at the return: the words are done, durable, and the disk is healthy; or only the first flush was done, and why
   abbrev pub Ends : W → Result Unit CommitError → Told → Told → Type 0
   Ends words (Ok x) old new = Settled new new.seen × healthy new.seen
       × ((o : Option Layout) × (l : Layout) × Leads words old.seen o l × denotes new.seen (Some l))
-  Ends words (Err (Device fault)) old new = Unit {0}
-  Ends words (Err e) old new = (new.seen ≡ old.seen) × Refuses words old.seen e
+  Ends words (Err (Device fault)) old new = EndsBy words fault old new
+  Ends words (Err e) old new = Flushed old new × Refuses words old.seen e
 
   -- a commit of the words that answered so, whatever was on the disk and whatever calls went before
   pub record Committed (words : W) (result : Result Unit CommitError) (old new : Told) : Type 0 where

@@ -3,7 +3,7 @@ use Rattle.pt_plan.proofs.Exits.{at_failed_flush, at_refused, at_failed, at_done
 use Rattle.pt_plan.proofs.commits.commit.Goals as goal
 
 pub returns-in-Err-clause-commits : goal.returns-in-Err-clause-commits
-returns-in-Err-clause-commits g c = λ tells. at_failed_flush _ _ _ _ _ _ _ _ _ _ _ c.in-Err.fault _ _ (c.in-Err.ensures.failed tells)
+returns-in-Err-clause-commits g c = λ tells. at_failed_flush _ _ _ _ _ _ _ _ _ _ _ c.in-Err.fault _ _ c.in-Err.ensures.fault (c.in-Err.ensures.failed tells)
 
 pub returns-in-Err-prepare-clause-commits : goal.returns-in-Err-prepare-clause-commits
 returns-in-Err-prepare-clause-commits g c = λ tells.
@@ -17,4 +17,4 @@ returns-in-Ok-apply-clause-commits g c = λ tells.
 pub returns-clause-commits : goal.returns-clause-commits
 returns-clause-commits g c = λ tells.
     at_failed _ _ _ _ _ _ _ _ _ _ _ _ _ _ (g.met.D.Disk.may_be_seen _ tells) (c.in_default.ensures.done tells) (c.prepare.ensures.same tells) (denotes_one_lem g.row.B) _
-    (rw c.flush.ensures.count at (c.in-Ok.ensures.ready tells)) _ (c.apply.ensures.any_moment tells) c.in-Err-apply.fault
+    (rw c.flush.ensures.count at (c.in-Ok.ensures.ready tells)) _ (c.apply.ensures.any_moment tells) c.in-Err-apply.fault (c.in-Err-apply.ensures.failed tells)
