@@ -1,8 +1,10 @@
 -- The exits of a commit.
 use Rattle.std.proofs.Common.{◌≡◌, ◌∙◌, ◌⊎◌, inl, inr, ⊎_elim, ℕ, zero, suc, ◌+◌, List, [], ◌∷◌, ◌++◌, refl, sym, ap, subst, Option, Some, Result, Ok, Err, slice_get, slice_index_or}
+use Rattle.std.proofs.lemmas.List.{append_cancel_left}
 use Rattle.pt_sector.specs.Sectors.{Sectors}
 use Rattle.pt_sector.specs.Writes.{Writes, after}
 use Rattle.pt_sector.specs.Device.{Told, MayLeave, Flushed, FailedFlush}
+use Rattle.pt_sector.specs.Calls.{IsReadIn, AreReads, ReadFaults, with_fault}
 use Rattle.pt_sector.specs.declared.address.Lba.{Lba}
 use Rattle.pt_sector.specs.declared.disk.Fault.{Fault}
 use Rattle.pt_sector.specs.declared.disk.Fault.TheVariants.{Read, Write, Flush}
@@ -18,6 +20,7 @@ use Rattle.pt_plan.specs.declared.error.PlanError.{PlanError}
 use Rattle.pt_plan.specs.declared.error.CommitError.{CommitError}
 use Rattle.pt_plan.specs.declared.error.CommitError.TheVariants.{NoTable, Edit, Plan, Check, Device, Memory}
 use Rattle.pt_plan.specs.Calls.{settled_leaves}
+use Rattle.pt_plan.specs.Failed.{commit_fault_in}
 use Rattle.pt_plan.specs.History.{Past, Either, Has}
 use Rattle.pt_plan.specs.Commits.{Leads, Refuses, Bounded, Ready, FailedWriting, EndsBy, Ends, refused, Committed}
 use Rattle.pt_plan.proofs.Histories.{one_of, has_either, has_unchanged, has_done, has_new, has_old, flush_leaves, failed_flush_leaves}
@@ -28,6 +31,24 @@ reads_nothing [] zero at is = absurd cc
 reads_nothing [] (suc call) at is = absurd cc
 reads_nothing (w ∷ ws) zero at is = absurd cc
 reads_nothing (w ∷ ws) (suc call) at is = reads_nothing ws call at is
+
+-- the fault that an error carries is a read's
+abbrev pub MetRead : CommitError → Type 0
+MetRead (Device fault) = IsReadIn (λ s. Unit {0}) fault
+MetRead _ = Unit {0}
+
+came_one : (old new : List Fault) (f : Fault) → new ≡ old ++ f ∷ [] → ReadFaults old new → IsReadIn (λ s. Unit {0}) f
+unfolding ReadFaults
+came_one old new f one (more, come, reads) = (subst AreReads (append_cancel_left old more (f ∷ []) (sym come ∙ one)) reads).0
+
+-- where only reads failed, it is so
+pub met_read : (e : CommitError) (old new : List Fault) → new ≡ with_fault old (commit_fault_in e) → ReadFaults old new → MetRead e
+met_read (NoTable e) old new one came = tt
+met_read (Edit r) old new one came = tt
+met_read (Plan e) old new one came = tt
+met_read (Check why) old new one came = tt
+met_read (Device fault) old new one came = came_one old new fault one came
+met_read Memory old new one came = tt
 
 module _ {W : Type 0} (denotes : Sectors → Option Layout → Type 0) (reason : Sectors → Reason → Type 0) (makes : W → Type 0)
     (edited : Option Layout → W → Result Layout Refusal → Type 0) (plans : Sectors → Layout → List Writes → Type 0)
@@ -54,23 +75,23 @@ module _ {W : Type 0} (denotes : Sectors → Option Layout → Type 0) (reason :
   has_refused (Device fault) calls o c has = has_either denotes edited words calls o c has
   has_refused Memory calls o c has = has_unchanged denotes edited calls o c has
 
-  ends_met : (fault : Fault) (old new : Told) → Flushed old new → EndsBy denotes reason makes edited plans unplanned answers healthy table owned words fault old new
-  ends_met (Read at) old new flushed = flushed
-  ends_met (Write at) old new flushed = inr flushed
-  ends_met Flush old new flushed = inr (inr flushed)
+  ends_met : (fault : Fault) (old new : Told) → IsReadIn (λ s. Unit {0}) fault → Flushed old new → EndsBy denotes reason makes edited plans unplanned answers healthy table owned words fault old new
+  ends_met (Read at) old new read flushed = flushed
+  ends_met (Write at) old new read flushed = absurd read
+  ends_met Flush old new read flushed = absurd read
 
   ends_writing : (fault : Fault) (old new : Told) → FailedWriting denotes reason makes edited plans unplanned answers healthy table owned words old new fault → EndsBy denotes reason makes edited plans unplanned answers healthy table owned words fault old new
   ends_writing (Read at) old new writing = absurd (reads_nothing (slice_index_or writing.phases writing.failed.phase []) writing.failed.call at writing.failed.is)
-  ends_writing (Write at) old new writing = inl writing
-  ends_writing Flush old new writing = inr (inl writing)
+  ends_writing (Write at) old new writing = writing
+  ends_writing Flush old new writing = inr writing
 
-  ends_refused : (e : CommitError) (old mid new : Told) → mid.seen ≡ old.seen → Flushed old new → Refuses denotes reason makes edited plans unplanned answers healthy table owned words mid.seen e → Ends denotes reason makes edited plans unplanned answers healthy table owned words (Err e) old new
-  ends_refused (NoTable e) old mid new a is why = (is, rw a at why)
-  ends_refused (Edit r) old mid new a is why = (is, rw a at why)
-  ends_refused (Plan e) old mid new a is why = (is, rw a at why)
-  ends_refused (Check w) old mid new a is why = (is, rw a at why)
-  ends_refused (Device fault) old mid new a is why = ends_met fault old new is
-  ends_refused Memory old mid new a is why = (is, tt)
+  ends_refused : (e : CommitError) (old mid new : Told) → mid.seen ≡ old.seen → MetRead e → Flushed old new → Refuses denotes reason makes edited plans unplanned answers healthy table owned words mid.seen e → Ends denotes reason makes edited plans unplanned answers healthy table owned words (Err e) old new
+  ends_refused (NoTable e) old mid new a read is why = (is, rw a at why)
+  ends_refused (Edit r) old mid new a read is why = (is, rw a at why)
+  ends_refused (Plan e) old mid new a read is why = (is, rw a at why)
+  ends_refused (Check w) old mid new a read is why = (is, rw a at why)
+  ends_refused (Device fault) old mid new a read is why = ends_met fault old new read is
+  ends_refused Memory old mid new a read is why = (is, tt)
 
   module _ (old mid now : Told) (seen : MayLeave old old.seen) (flush : Flushed old mid) (same : now ≡ mid) where
     pub still : (c : Sectors) → MayLeave now c → MayLeave old c
@@ -79,13 +100,13 @@ module _ {W : Type 0} (denotes : Sectors → Option Layout → Type 0) (reason :
     pub so_far : (P : Sectors → Type 0) → LeavesOnly old now P
     so_far P = rw same (leaves_once old mid P flush.time (λ c may. inl (flush_leaves old mid seen flush c may)))
 
-    pub at_refused : (e : CommitError) → Refuses denotes reason makes edited plans unplanned answers healthy table owned words mid.seen e → Committed denotes reason makes edited plans unplanned answers healthy table owned words (Err e) old now
-    at_refused e why = record {
+    pub at_refused : (e : CommitError) → MetRead e → Refuses denotes reason makes edited plans unplanned answers healthy table owned words mid.seen e → Committed denotes reason makes edited plans unplanned answers healthy table owned words (Err e) old now
+    at_refused e read why = record {
       history = record {
         any_moment = λ o calls start. so_far _;
         at_return = λ o calls start c may. has_refused e calls o c (start c (still c may));
       };
-      ends = ends_refused e old mid now flush.seen (subst (λ (x : Told). Flushed old x) (sym same) flush) why;
+      ends = ends_refused e old mid now flush.seen read (subst (λ (x : Told). Flushed old x) (sym same) flush) why;
       bounds = so_far _;
     }
 

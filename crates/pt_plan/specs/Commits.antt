@@ -80,11 +80,11 @@ module _ {W : Type 0} (denotes : Sectors → Option Layout → Type 0) (reason :
     pub failed : FailedIn phases mid.seen mid new fault
 
   -- at the return after a device's fault. A read: only the first flush was done. A write: a checked plan's. A flush: the
-  -- first one, or a checked plan's; or only the first one was done, since no clause of the checker says that it tells a read
+  -- first one, or a checked plan's
   abbrev pub EndsBy : W → Fault → Told → Told → Type 0
   EndsBy words (Read at) old new = Flushed old new
-  EndsBy words (Write at) old new = FailedWriting words old new (Write at) ⊎ Flushed old new
-  EndsBy words Flush old new = FailedFlush old new ⊎ (FailedWriting words old new Flush ⊎ Flushed old new)
+  EndsBy words (Write at) old new = FailedWriting words old new (Write at)
+  EndsBy words Flush old new = FailedFlush old new ⊎ FailedWriting words old new Flush
 
   -- at the return: the words are done, durable, and the disk is healthy; or only the first flush was done, and why
   abbrev pub Ends : W → Result Unit CommitError → Told → Told → Type 0

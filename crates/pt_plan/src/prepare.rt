@@ -112,6 +112,7 @@ fn checked<const B: usize, D: Disk<B>>(
     requires size { IsSectorSize B }
     ensures same { OnlyReads D.Disk disk.old disk.new }
     ensures blames { Blames fault_in result (D.faults disk.old) (D.faults disk.new) }
+    ensures hides { IfErr result HidesNoFailure }
     ensures ok { D.tells → OnOk result (IsSafe B (D.told disk.old).seen (phases_of plan.now)) }
     ensures err { D.tells → IfErr result (NotSafe B (D.told disk.old).seen (phases_of plan.now)) }
 {

@@ -64,21 +64,21 @@ returns-in_err-after-clause-blames g c =
     let quiet : g.D.Disk.faults c.put_phase.new.over.disk.now ≡ g.D.Disk.faults c.args.disk.now = ap g.D.Disk.faults c.put_phase.ensures.disk ∙ c.loop-i.invariant.quiet in
     let e = c.in_err-after.field-0.0 in
     let below : g.D.Disk.faults c.read_layout.new.disk.disk.now ≡ with_fault (g.D.Disk.faults c.put_phase.new.over.disk.now) (fault_in e) =
-        blames_below g.D.Disk {T = Recovered} fault_in (Err e) _ _ _ _ c.in_err-after.ensures.same.through.0 c.in_err-after.ensures.blames in
+    blames_below g.D.Disk {T = Recovered} fault_in (Err e) _ _ _ _ c.in_err-after.ensures.same.through.0 c.in_err-after.ensures.blames in
     let blames : g.D.Disk.faults c.read_layout.new.disk.disk.now ≡ with_fault (g.D.Disk.faults c.args.disk.now) (fault_in e) = rw quiet at below in
     rw (p.1, p.2) (search (rules, blames))
 
 pub returns-in-Neither-clause-same : goal.returns-in-Neither-clause-same
 returns-in-Neither-clause-same g c =
     let same : OnlyReads g.D.Disk c.args.disk.now c.read_layout.new.disk.disk.now =
-        g.met.D.Disk.reads_on _ _ _ c.loop-i.invariant.same (rw c.put_phase.ensures.disk at c.in_ok-after.ensures.same.through.0.below) in
+    g.met.D.Disk.reads_on _ _ _ c.loop-i.invariant.same (rw c.put_phase.ensures.disk at c.in_ok-after.ensures.same.through.0.below) in
     search (rules, same)
 
 pub returns-in-Neither-clause-blames : goal.returns-in-Neither-clause-blames
 returns-in-Neither-clause-blames g c =
     let quiet : g.D.Disk.faults c.read_layout.new.disk.disk.now ≡ g.D.Disk.faults c.args.disk.now =
-        blames_below g.D.Disk fault_in (Ok c.in_ok-after.after) _ _ _ _ c.in_ok-after.ensures.same.through.0 c.in_ok-after.ensures.blames
-        ∙ ap g.D.Disk.faults c.put_phase.ensures.disk ∙ c.loop-i.invariant.quiet in
+    blames_below g.D.Disk fault_in (Ok c.in_ok-after.after) _ _ _ _ c.in_ok-after.ensures.same.through.0 c.in_ok-after.ensures.blames
+    ∙ ap g.D.Disk.faults c.put_phase.ensures.disk ∙ c.loop-i.invariant.quiet in
     search (rules, quiet)
 
 pub returns-clause-tried : goal.returns-clause-tried

@@ -28,3 +28,6 @@ pub returns-clause-copies : goal.returns-clause-copies
 returns-clause-copies g c = λ tells.
     copies_written g.row.B c.sectors-sectors.result (g.D.Disk.told c.args.disk.now).seen c.args.table.now c.in_ok-primary.primary c.in_ok-head.head _
     (g.met.D.Disk.sized c.args.disk.now tells ∙ sym c.sectors-sectors.ensures) (c.in_ok-primary.ensures.ok tells) (rw (c.in_ok-primary.ensures.same.same tells) at (c.in_ok-head.ensures.ok tells)) c.in_ok-plan.ensures
+
+pub returns-clause-same : goal.returns-clause-same
+returns-clause-same g c = g.met.D.Disk.reads_on _ _ _ c.in_ok-primary.ensures.same c.in_ok-head.ensures.same
