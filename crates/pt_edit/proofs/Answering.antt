@@ -13,11 +13,10 @@ use Rattle.pt_recover.specs.declared.layout.Layout.{Layout}
 use Rattle.pt_recover.specs.declared.layout.Body.{Body}
 use Rattle.pt_recover.specs.declared.layout.Body.TheVariants.{Mbr, Gpt}
 use Rattle.pt_layout.specs.OnePath.{HasFour}
-use Rattle.pt_words.specs.Searches.{Decided, not_decided, le_decided}
+use Rattle.pt_words.specs.Searches.{Decided, le_decided}
 use Rattle.pt_words.specs.declared.error.Refusal.{Refusal}
 use Rattle.pt_words.specs.declared.error.Refusal.TheVariants.{NotForThisTable, NoFreshGuid, NoRoomForGpt, NameTooLong, SameGuid}
 use Rattle.pt_words.specs.declared.word.Code.{Code}
-use Rattle.pt_words.specs.declared.word.End.{End}
 use Rattle.pt_words.specs.declared.word.Edit.{Edit}
 use Rattle.pt_words.specs.declared.word.Edit.TheVariants.{Align, New, Delete, SetKind, SetName, SetUnique, SetDisk, SetBit, Extend, ToGpt, Empty}
 use Rattle.pt_labels.specs.Answers.{part_typed_answers_lem, part_deleted_answers_lem, part_new_answers_lem}
@@ -27,10 +26,10 @@ use Rattle.pt_records.specs.Created.{RecordNew, RecordNotNew}
 use Rattle.pt_records.specs.Answers.{typed_answers_lem, deleted_answers_lem, new_answers_lem}
 use Rattle.pt_convert.proofs.Answering.{convert_answers_lem}
 use Rattle.pt_edit.specs.Names.{units_of}
-use Rattle.pt_edit.specs.Changes.{Elsewhere, edge}
+use Rattle.pt_edit.specs.Changes.{Elsewhere}
 use Rattle.pt_edit.specs.Spots.{EntryTyped, EntryNotTyped, EntryDeleted, EntryNotDeleted}
 use Rattle.pt_edit.specs.NewEntry.{EntryMade, EntryNotMade}
-use Rattle.pt_edit.specs.Edited.{State, initial, empty_gpt, Emptied, EmptyRefused, no_room, no_guid, InKind, Typed, NotTyped, Deleted, NotDeleted, Made, NotMade, asked_for, MakesOn, RefusesOn, taken_by, MakesOf, RefusedOf, Takes, Refuses, Ends, EditedFrom, Edited}
+use Rattle.pt_edit.specs.Edited.{State, initial, empty_gpt, no_room, no_guid, InKind, Typed, NotTyped, Deleted, NotDeleted, Made, NotMade, asked_for, MakesOn, RefusesOn, taken_by, MakesOf, RefusedOf, Takes, Refuses, Ends, EditedFrom, Edited}
 use Rattle.pt_edit.specs.declared.asked.Asked.{Asked}
 use Rattle.pt_edit.proofs.EntryAnswers.{changed_or, changed_freely_or, table_made_or, elsewhere_decided, entry_typed_or, entry_deleted_or, entry_made_or}
 use Rattle.pt_edit.proofs.FourRecords.{makes_four}

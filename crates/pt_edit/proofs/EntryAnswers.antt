@@ -1,6 +1,6 @@
 -- Each word on an entry of a GPT makes a layout of each, or is refused for a reason.
-use Rattle.std.specs.Prelude.{◌≡◌, ◌≢◌, ◌<◌, ◌≤◌, ◌⊎◌, ◌+◌, ◌-◌, ℕ, Bool, true, false, List, [], ◌∷◌, length, slice_index_or, slice_set, Option, Some, None}
-use Rattle.std.proofs.Common.{refl, sym, ap, subst, inl, inr, arith}
+use Rattle.std.specs.Prelude.{◌≡◌, ◌≢◌, ◌≤◌, ◌⊎◌, ◌+◌, ◌-◌, ℕ, true, false, List, [], ◌∷◌, length, slice_index_or, slice_set, Option, Some, None}
+use Rattle.std.proofs.Common.{refl, sym, subst, inl, inr, arith}
 use Rattle.std.proofs.lemmas.Bool.{cases_lt, cases_eq, cases_Bool}
 use Rattle.pt_guid.specs.declared.guid.Guid.{Guid}
 use Rattle.pt_gpt.specs.declared.entry.Entry.{Entry}
@@ -8,7 +8,7 @@ use Rattle.pt_gpt.specs.declared.table.Table.{Table}
 use Rattle.pt_recover.specs.declared.layout.Layout.{Layout}
 use Rattle.pt_recover.specs.declared.layout.Body.{Body}
 use Rattle.pt_recover.specs.declared.layout.Body.TheVariants.{Mbr, Gpt}
-use Rattle.pt_words.specs.Searches.{Decided, both_decided, either_decided, not_decided, alike_decided, le_decided, lt_decided, eq_decided, true_decided, option_cases, search_below}
+use Rattle.pt_words.specs.Searches.{Decided, both_decided, either_decided, alike_decided, le_decided, lt_decided, eq_decided, true_decided, option_cases, search_below}
 use Rattle.pt_words.specs.declared.error.Refusal.{Refusal}
 use Rattle.pt_words.specs.declared.error.Refusal.TheVariants.{NoSuchPartition, NumberTaken, NoSpace, UnknownCode, ContainerType, NotForThisTable, NoFreshGuid, SameGuid}
 use Rattle.pt_words.specs.declared.word.Code.{Code}

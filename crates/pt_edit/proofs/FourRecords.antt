@@ -1,6 +1,5 @@
 -- No word changes how many records an MBR has.
 use Rattle.std.specs.Prelude.{◌≡◌, ◌-◌, ℕ, List, length, Option, Some, None}
-use Rattle.std.specs.String.{string_bytes}
 use Rattle.std.proofs.Common.{refl, sym, ap, ◌∙◌, subst}
 use Rattle.std.proofs.lemmas.List.{length-set}
 use Rattle.pt_guid.specs.declared.guid.Guid.{Guid}
@@ -9,7 +8,6 @@ use Rattle.pt_gpt.specs.declared.table.Table.{Table}
 use Rattle.pt_mbr.specs.declared.record.Record.{Record}
 use Rattle.pt_mbr.specs.declared.ebr.Ebr.{Ebr}
 use Rattle.pt_bsd.specs.declared.label.LabelEntry.{LabelEntry}
-use Rattle.pt_recover.specs.declared.layout.Labelled.{Labelled}
 use Rattle.pt_recover.specs.declared.layout.Layout.{Layout}
 use Rattle.pt_recover.specs.declared.layout.Body.{Body}
 use Rattle.pt_recover.specs.declared.layout.Body.TheVariants.{Mbr, Gpt}
@@ -18,14 +16,12 @@ use Rattle.pt_words.specs.declared.word.Code.{Code}
 use Rattle.pt_words.specs.declared.word.End.{End}
 use Rattle.pt_words.specs.declared.word.Edit.{Edit}
 use Rattle.pt_words.specs.declared.word.Edit.TheVariants.{Align, New, Delete, SetKind, SetName, SetUnique, SetDisk, SetBit, Extend, ToGpt, Empty}
-use Rattle.pt_labels.specs.Parts.{with_entry_of, PartMade, PartTyped, PartDeleted}
-use Rattle.pt_labels.specs.New.{PartNew}
+use Rattle.pt_labels.specs.Parts.{with_entry_of, PartMade}
 use Rattle.pt_records.specs.Records.{OfMbr, with_record, with_mbr}
 use Rattle.pt_records.specs.Typed.{TypedIn, typed_record, typed_logical, RecordTyped}
 use Rattle.pt_records.specs.Deleted.{PrimaryDeleted, plain, extended, DeletedIn, deleted_record, deleted_logical, RecordDeleted}
 use Rattle.pt_records.specs.Created.{NewIn, new_record, new_logical, RecordNew}
-use Rattle.pt_convert.specs.Converted.{Converted}
-use Rattle.pt_edit.specs.Changes.{Changed, TableMade, with_entry}
+use Rattle.pt_edit.specs.Changes.{Changed, TableMade}
 use Rattle.pt_edit.specs.Spots.{EntryTyped, EntryDeleted}
 use Rattle.pt_edit.specs.NewEntry.{EntryMade}
 use Rattle.pt_edit.specs.Edited.{InKind, Typed, Deleted, Made, asked_for, MakesOn}
