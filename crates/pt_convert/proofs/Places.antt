@@ -28,9 +28,9 @@ none_placed guids ps = record {
   others = λ number low high spare. get_or-replicate 128 (number - 1) None None (omega arith);
 }
 
-pub one_placed : (guids : List Guid) (ps : List Partition) (k : ℕ) (entries : List (Option Entry)) (p : Partition) (guid : Guid) → Placeable (2 ^ 64) ps → UpTo guids ps k entries → IsAt ps k p → IsAt guids (1 + k) guid
+pub one_placed_on : (n : ℕ) (guids : List Guid) (ps : List Partition) (k : ℕ) (entries : List (Option Entry)) (p : Partition) (guid : Guid) → Placeable n ps → UpTo guids ps k entries → IsAt ps k p → IsAt guids (1 + k) guid
     → UpTo guids ps (k + 1) (set entries (p.number - 1) (entry_of guid p))
-one_placed guids ps k entries p guid fit before at some =
+one_placed_on n guids ps k entries p guid fit before at some =
     let low = fit.low k p at in
     let high = fit.high k p at in
     let place : p.number - 1 < length entries = omega (arith, before.count) in
@@ -56,6 +56,10 @@ one_placed guids ps k entries p guid fit before at some =
           let apart : number - 1 ≢ p.number - 1 = λ same. differs (omega arith) in
           get_or-set_other entries (p.number - 1) (number - 1) (entry_of guid p) None apart ∙ before.others number first last (λ j q lt. spare j q (omega arith));
     }
+
+pub one_placed : (guids : List Guid) (ps : List Partition) (k : ℕ) (entries : List (Option Entry)) (p : Partition) (guid : Guid) → Placeable (2 ^ 64) ps → UpTo guids ps k entries → IsAt ps k p → IsAt guids (1 + k) guid
+    → UpTo guids ps (k + 1) (set entries (p.number - 1) (entry_of guid p))
+one_placed guids ps k entries p guid fit before at some = one_placed_on (2 ^ 64) guids ps k entries p guid fit before at some
 
 pub all_placed : (guids : List Guid) (ps : List Partition) (k : ℕ) (entries : List (Option Entry)) → length ps ≤ k → UpTo guids ps k entries → ArePlaced guids ps entries
 all_placed guids ps k entries past done = record {

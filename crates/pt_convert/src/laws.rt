@@ -1,6 +1,6 @@
 //! What holds of `g`, whatever the layout is.
 
-ghost use Rattle.std.specs.Prelude.{◌≡◌, ℕ, List, Option, filter, map};
+ghost use Rattle.std.specs.Prelude.{◌≡◌, ℕ, List, Option, filter, map, ◌⊎◌};
 ghost use Rattle.pt_guid.specs.declared.guid.Guid.{Guid};
 ghost use Rattle.pt_mbr.specs.declared.record.Record.{Record};
 ghost use Rattle.pt_mbr.specs.declared.ebr.Ebr.{Ebr};
@@ -11,6 +11,7 @@ ghost use Rattle.pt_words.specs.declared.error.Refusal.{Refusal};
 ghost use Rattle.pt_convert.specs.Partitions.{partitions};
 ghost use Rattle.pt_convert.specs.Kept.{is_kept, member_of};
 ghost use Rattle.pt_convert.specs.Converted.{Converted, NotConverted};
+ghost use Rattle.pt_layout.specs.OnePath.{HasFour};
 
 /// A layout becomes one GPT.
 pub fn converted_one()
@@ -30,4 +31,9 @@ pub fn converted_taken()
 /// The partitions that are kept are the records and logical partitions of the layout, in order, but for the extended one.
 pub fn partitions_kept()
     ensures { (b : ℕ) (records : List (Option Record)) (chain : List Ebr) → filter is_kept (present (slots b (Mbr records chain))) ≡ map (member_of b) (partitions (Mbr records chain)) }
+{}
+
+/// A layout of a GPT or of four records becomes a GPT, or there is a reason why it doesn't.
+pub fn convert_answers()
+    ensures { (b : ℕ) (guids : List Guid) (o : Layout) → HasFour o.body → ((p : Layout) × Converted b guids o p) ⊎ ((r : Refusal) × NotConverted b guids o r) }
 {}

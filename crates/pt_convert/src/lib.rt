@@ -16,5 +16,5 @@ mod tests;
 mod twins;
 
 pub use convert::to_gpt;
-pub use laws::{converted_one, converted_taken, partitions_kept, refusal_one};
+pub use laws::{convert_answers, converted_one, converted_taken, partitions_kept, refusal_one};
 pub use partitions::guids_for;

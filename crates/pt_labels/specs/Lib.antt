@@ -4,3 +4,4 @@ pub mod Parts
 pub mod New
 pub mod Laws
 pub mod NewLaws
+pub mod Answers

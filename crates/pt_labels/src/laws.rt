@@ -1,6 +1,6 @@
 //! Laws of the words with a letter. Each function does nothing: its contract is the law.
 
-ghost use Rattle.std.specs.Prelude.{◌≡◌, ℕ, Option, Some};
+ghost use Rattle.std.specs.Prelude.{◌≡◌, ℕ, Option, Some, ◌⊎◌};
 ghost use Rattle.pt_recover.specs.declared.layout.Layout.{Layout};
 ghost use Rattle.pt_words.specs.declared.error.Refusal.{Refusal};
 ghost use Rattle.pt_words.specs.declared.word.Code.{Code};
@@ -66,4 +66,19 @@ pub fn part_new_stands()
 /// Those sectors are the slice's, from its seventeenth on, and no other partition's of its label.
 pub fn part_new_is_free()
     ensures { (b number letter alignment start : ℕ) (end : End) (code : Option Code) (o p : Layout) (x : PartNew b number letter alignment start end code o p) → IsFreeRun (area_in x.label x.slice) x.run }
+{}
+
+/// The word `t` gives a partition of a label another type, or there is a reason why it doesn't.
+pub fn part_typed_answers()
+    ensures { (b number letter : ℕ) (code : Code) (o : Layout) → ((p : Layout) × PartTyped b number letter code o p) ⊎ ((r : Refusal) × PartNotTyped b number letter code o r) }
+{}
+
+/// The word `d` deletes a partition of a label, or there is a reason why it doesn't.
+pub fn part_deleted_answers()
+    ensures { (b number letter : ℕ) (o : Layout) → ((p : Layout) × PartDeleted b number letter o p) ⊎ ((r : Refusal) × PartNotDeleted b number letter o r) }
+{}
+
+/// The word `n` makes a partition of a label, or there is a reason why it doesn't.
+pub fn part_new_answers()
+    ensures { (b number letter alignment start : ℕ) (end : End) (code : Option Code) (o : Layout) → ((p : Layout) × PartNew b number letter alignment start end code o p) ⊎ ((r : Refusal) × PartNotNew b number letter alignment start end code o r) }
 {}

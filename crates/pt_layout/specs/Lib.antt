@@ -27,3 +27,4 @@ pub mod OnePath
 pub mod OneOrder
 pub mod OneFinding
 pub mod OneOwner
+pub mod OneText

@@ -33,8 +33,9 @@ mod tests;
 pub use finding::{Finding, Verdict};
 pub use health::verify;
 pub use laws::{
-    finding_excludes, finding_is_one, healthy_is_one, owner_is_one, place_is_one, sector_is_one,
-    sound_frees_tables, unsound_excludes, unsound_is_one, verdict_is_one,
+    finding_excludes, finding_is_one, healthy_is_one, number_is_one, owner_is_one, path_is_one,
+    place_is_one, sector_is_one, sound_frees_tables, unsound_excludes, unsound_is_one,
+    verdict_is_one,
 };
 pub use member::{Kind, Member};
 pub use number::{parse_number, parse_path};

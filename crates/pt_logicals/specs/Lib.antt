@@ -9,3 +9,4 @@ pub mod Linked
 pub mod LinkLaws
 pub mod Numbered
 pub mod NumberLaws
+pub mod Answers

@@ -1,6 +1,6 @@
 //! What holds of edits of logical partitions, whatever they are of.
 
-ghost use Rattle.std.specs.Prelude.{◌≡◌, ◌-◌, ℕ, List, Option, Some};
+ghost use Rattle.std.specs.Prelude.{◌≡◌, ◌-◌, ℕ, List, Option, Some, ◌⊎◌};
 ghost use Rattle.std.specs.List.{insert, remove};
 ghost use Rattle.pt_sector.specs.Sectors.{Sectors, Span};
 ghost use Rattle.pt_sector.specs.declared.address.Lba.{Lba};
@@ -89,4 +89,19 @@ pub fn logical_new_is_numbered()
 /// One that goes leaves the others in their order.
 pub fn logical_deleted_is_numbered()
     ensures { (number : ℕ) (chain : List Ebr) (labels : List Labelled) (made : List Ebr) (left : List Labelled) → LogicalDeleted number chain labels made left → logicals_of made ≡ remove (logicals_of chain) (number - 5) }
+{}
+
+/// The word `t` gives a logical partition another type, or there is a reason why it doesn't.
+pub fn logical_typed_answers()
+    ensures { (b number : ℕ) (code : Code) (chain : List Ebr) → ((made : List Ebr) × LogicalTyped b number code chain made) ⊎ ((r : Refusal) × LogicalNotTyped b number code chain r) }
+{}
+
+/// The word `d` deletes a logical partition, or there is a reason why it doesn't.
+pub fn logical_deleted_answers()
+    ensures { (number : ℕ) (chain : List Ebr) (labels : List Labelled) → ((made : List Ebr) × (left : List Labelled) × LogicalDeleted number chain labels made left) ⊎ ((r : Refusal) × LogicalNotDeleted number chain r) }
+{}
+
+/// The word `n` makes a logical partition, or there is a reason why it doesn't.
+pub fn logical_new_answers()
+    ensures { (b : ℕ) (extended : Option Record) (chain : List Ebr) (labels : List Labelled) (alignment start : ℕ) (end : End) (code : Option Code) → ((made : List Ebr) × (left : List Labelled) × LogicalNew b extended chain labels alignment start end code made left) ⊎ ((r : Refusal) × LogicalNotNew b extended chain alignment start end code r) }
 {}

@@ -7,3 +7,4 @@ pub mod New
 pub mod Created
 pub mod NewLaws
 pub mod Apart
+pub mod Answers

@@ -1,6 +1,6 @@
 //! What holds of edits of an MBR, whatever they are of.
 
-ghost use Rattle.std.specs.Prelude.{◌≡◌, ℕ, Option};
+ghost use Rattle.std.specs.Prelude.{◌≡◌, ℕ, Option, ◌⊎◌, List};
 ghost use Rattle.pt_recover.specs.declared.layout.Layout.{Layout};
 ghost use Rattle.pt_words.specs.declared.error.Refusal.{Refusal};
 ghost use Rattle.pt_words.specs.declared.word.Code.{Code};
@@ -9,6 +9,9 @@ ghost use Rattle.pt_records.specs.Typed.{RecordTyped, RecordNotTyped};
 ghost use Rattle.pt_records.specs.Deleted.{RecordDeleted, RecordNotDeleted};
 ghost use Rattle.pt_records.specs.Apart.{RecordsLieApart};
 ghost use Rattle.pt_records.specs.Created.{RecordNew, RecordNotNew};
+ghost use Rattle.pt_mbr.specs.declared.record.Record.{Record};
+ghost use Rattle.pt_mbr.specs.declared.ebr.Ebr.{Ebr};
+ghost use Rattle.pt_recover.specs.declared.layout.Body.TheVariants.{Mbr};
 
 /// `t` makes one layout.
 #[tactic(auto, using(crate::specs::Laws::record_typed_one_lem))]
@@ -68,4 +71,19 @@ pub fn new_is_taken()
 #[tactic(auto, using(crate::specs::Apart::new_apart_lem))]
 pub fn new_stays_apart()
     ensures { (b number alignment start : ℕ) (end : End) (code : Option Code) (o p : Layout) → RecordNew b number alignment start end code o p → RecordsLieApart o → RecordsLieApart p }
+{}
+
+/// The word `t` gives a partition of an MBR another type, or there is a reason why it doesn't.
+pub fn typed_answers()
+    ensures { (b number : ℕ) (code : Code) (o : Layout) (records : List (Option Record)) (chain : List Ebr) → o.body ≡ Mbr records chain → ((p : Layout) × RecordTyped b number code o p) ⊎ ((r : Refusal) × RecordNotTyped b number code o r) }
+{}
+
+/// The word `d` deletes a partition of an MBR, or there is a reason why it doesn't.
+pub fn deleted_answers()
+    ensures { (number : ℕ) (o : Layout) (records : List (Option Record)) (chain : List Ebr) → o.body ≡ Mbr records chain → ((p : Layout) × RecordDeleted number o p) ⊎ ((r : Refusal) × RecordNotDeleted number o r) }
+{}
+
+/// The word `n` makes a partition in an MBR, or there is a reason why it doesn't.
+pub fn new_answers()
+    ensures { (b asked alignment start : ℕ) (end : End) (code : Option Code) (o : Layout) (records : List (Option Record)) (chain : List Ebr) → o.body ≡ Mbr records chain → ((p : Layout) × RecordNew b asked alignment start end code o p) ⊎ ((r : Refusal) × RecordNotNew b asked alignment start end code o r) }
 {}

@@ -16,8 +16,9 @@ pub use creation::new;
 pub use deletion::delete;
 pub use kind::set_kind;
 pub use laws::{
-    deleted_is_one, deleted_is_taken, new_is_one, new_is_taken, new_stays_apart,
-    not_deleted_is_one, not_new_is_one, not_typed_is_one, typed_is_one, typed_is_taken,
+    deleted_answers, deleted_is_one, deleted_is_taken, new_answers, new_is_one, new_is_taken,
+    new_stays_apart, not_deleted_is_one, not_new_is_one, not_typed_is_one, typed_answers,
+    typed_is_one, typed_is_taken,
 };
 pub use parts::MbrParts;
 

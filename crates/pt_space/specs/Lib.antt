@@ -6,3 +6,4 @@ pub mod Sweep
 pub mod Started
 pub mod Laws
 pub mod Alike
+pub mod Answers

@@ -1,6 +1,6 @@
 //! What holds of places, wherever they are looked for.
 
-ghost use Rattle.std.specs.Prelude.{◌≡◌, ◌≢◌, ◌≤◌, ◌*◌, ℕ, List};
+ghost use Rattle.std.specs.Prelude.{◌≡◌, ◌≢◌, ◌≤◌, ◌*◌, ℕ, List, ◌⊎◌};
 ghost use Rattle.pt_space.specs.declared.space.Run.{Run};
 ghost use Rattle.pt_words.specs.declared.word.End.{End};
 ghost use Rattle.pt_words.specs.declared.error.Refusal.{Refusal};
@@ -41,4 +41,9 @@ pub fn placed_by_sectors()
 /// And what is refused is refused.
 pub fn refused_by_sectors()
     ensures { (a : Area) (alignment start : ℕ) (end : End) (runs : List Run) (r : Refusal) → SameSectors a.taken runs → NotPlaced a alignment start end r → NotPlaced (with_taken a runs) alignment start end r }
+{}
+
+/// A partition has a place in each area, or there is a reason why it has none.
+pub fn place_answers()
+    ensures { (a : Area) (alignment start : ℕ) (end : End) → ((r : Run) × Placed a alignment start end r) ⊎ ((e : Refusal) × NotPlaced a alignment start end e) }
 {}

@@ -10,8 +10,8 @@ mod space;
 mod start;
 
 pub use laws::{
-    placed_by_sectors, placed_is_free, placed_is_not_refused, placed_one, refused_by_sectors,
-    refused_one, rounded_up_is_least,
+    place_answers, placed_by_sectors, placed_is_free, placed_is_not_refused, placed_one,
+    refused_by_sectors, refused_one, rounded_up_is_least,
 };
 pub use placement::place;
 pub use space::{Lead, Run, Space};

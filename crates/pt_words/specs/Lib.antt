@@ -1,3 +1,5 @@
 pub mod Numbers
 pub mod Words
 pub mod WordLaws
+pub mod OneWord
+pub mod Searches
