@@ -12,3 +12,4 @@ pub mod LabelPlaces
 pub mod Numbers
 pub mod Paths
 pub mod Failing
+pub mod InOrder

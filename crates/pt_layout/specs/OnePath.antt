@@ -183,7 +183,7 @@ letters_one l m x y n (e ∷ es) a c same = elim (place_cases (part_of l m n e) 
   ]
 ]
 
-parts_letter : (o : Option Label) (m x : Member) → AtPlace (parts_in o m) x → (k : ℕ) × (x.path ≡ letter_path m.path.number k)
+pub parts_letter : (o : Option Label) (m x : Member) → AtPlace (parts_in o m) x → (k : ℕ) × (x.path ≡ letter_path m.path.number k)
 unfolding parts_in
 parts_letter None m x at = absurd (omega (arith, at.1))
 parts_letter (Some l) m x at = let r = part_letter l m x 0 l.entries at in (r.0, r.2)

@@ -8,6 +8,7 @@ use Rattle.pt_layout.specs.declared.member.Kind.TheVariants as kind
 use Rattle.pt_layout.specs.declared.member.Member.{Member}
 use Rattle.pt_layout.specs.declared.ownership.Owner.{Owner}
 use Rattle.pt_layout.specs.declared.ownership.Owner.TheVariants.{Partition, Table, Reserved, Free}
+use Rattle.pt_layout.specs.Paths.{rank}
 use Rattle.pt_layout.specs.Members.{IsMember, Exists, Holds}
 use Rattle.pt_layout.specs.Tables.{IsTable}
 use Rattle.pt_layout.specs.Owned.{Owns}
@@ -39,9 +40,13 @@ IsUnusable (Gpt t) s = (s < t.first) ⊎ (t.last < s)
 abbrev pub IsReserved : ℕ → Layout → ℕ → Type 0
 IsReserved b o s = IsInSlice b o s ⊎ IsUnusable o.body s
 
--- the first of these that holds
+-- no leaf that has the sector comes before this path in path order
+abbrev pub NoneBefore : ℕ → Layout → Path → ℕ → Type 0
+NoneBefore b o p s = (q : Path) (k : ℕ) → IsPlaceOf b o q k s → rank p ≤ rank q
+
+-- the first of these that holds, and of the partitions that have the sector the first
 abbrev pub OwnerIs : ℕ → Layout → ℕ → Owner → Type 0
-OwnerIs b o s (Partition p) = (k : ℕ) × IsPlaceOf b o p k s
+OwnerIs b o s (Partition p) = (k : ℕ) × IsPlaceOf b o p k s × NoneBefore b o p s
 OwnerIs b o s Table = (¬ Owns b o s) × IsTable b o s
 OwnerIs b o s Reserved = (¬ Owns b o s) × (¬ IsTable b o s) × IsReserved b o s
 OwnerIs b o s Free = (¬ Owns b o s) × (¬ IsTable b o s) × (¬ IsReserved b o s)

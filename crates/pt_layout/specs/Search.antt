@@ -5,6 +5,7 @@ use Rattle.pt_layout.specs.declared.member.Kind.TheVariants.{Leaf, Slice}
 use Rattle.pt_layout.specs.declared.member.Member.{Member}
 use Rattle.pt_layout.specs.declared.search.Wanted.{Wanted}
 use Rattle.pt_layout.specs.declared.search.Wanted.TheVariants.{LeafWith, LeafNamed, SliceWith}
+use Rattle.pt_layout.specs.Paths.{rank}
 use Rattle.pt_layout.specs.Members.{Exists, Holds, slots, parts}
 
 -- the member stands in one of the places
@@ -25,18 +26,22 @@ Answers (LeafWith lba) m = Exists m × (m.kind ≡ Leaf) × Holds m lba.0
 Answers (LeafNamed path k) m = Exists m × (m.kind ≡ Leaf) × (m.path ≡ path) × (m.first + k ≤ m.last)
 Answers (SliceWith lba) m = Exists m × (m.kind ≡ Slice) × Holds m lba.0
 
+-- of the members in P that are as wanted, x is the first in path order
+abbrev pub IsFirst : (Member → Type 0) → Wanted → Member → Type 0
+IsFirst P wanted x = P x × Answers wanted x × ((y : Member) → P y → Answers wanted y → rank x.path ≤ rank y.path)
+
 abbrev pub FoundAt : Wanted → Option Member → Option Member → Type 0
 FoundAt wanted place None = (x : Member) → place ≡ Some x → ¬ Answers wanted x
 FoundAt wanted place (Some x) = (place ≡ Some x) × Answers wanted x
 
 abbrev pub FoundIn : Wanted → List (Option Member) → Option Member → Type 0
 FoundIn wanted places None = (x : Member) → AtPlace places x → ¬ Answers wanted x
-FoundIn wanted places (Some x) = AtPlace places x × Answers wanted x
+FoundIn wanted places (Some x) = IsFirst (AtPlace places) wanted x
 
 abbrev pub FoundNear : Layout → Member → Wanted → Option Member → Type 0
 FoundNear o m wanted None = (x : Member) → IsNear o m x → ¬ Answers wanted x
-FoundNear o m wanted (Some x) = IsNear o m x × Answers wanted x
+FoundNear o m wanted (Some x) = IsFirst (IsNear o m) wanted x
 
 abbrev pub Found : ℕ → Layout → Wanted → Option Member → Type 0
 Found b o wanted None = (x : Member) → InLayout b o x → ¬ Answers wanted x
-Found b o wanted (Some x) = InLayout b o x × Answers wanted x
+Found b o wanted (Some x) = IsFirst (InLayout b o) wanted x

@@ -243,10 +243,7 @@ fn verify_gpt<const B: usize, D: Disk<B>>(
 }
 
 // The verdict on a disk that has no GPT.
-fn verify_mbr<const B: usize, D: Disk<B>>(
-    alloc: Global,
-    disk: &mut D,
-) -> Result<Verdict, Failure>
+fn verify_mbr<const B: usize, D: Disk<B>>(alloc: Global, disk: &mut D) -> Result<Verdict, Failure>
     requires size { IsSectorSize B }
     requires plain { D.tells → NoGpt B (D.told disk.old).seen }
     ensures same { OnlyReads D.Disk disk.old disk.new }
@@ -269,10 +266,7 @@ fn verify_mbr<const B: usize, D: Disk<B>>(
 /// whole.
 ///
 /// `Yes` exactly where it is, with its layout, and else the first finding.
-pub fn verify<const B: usize, D: Disk<B>>(
-    alloc: Global,
-    disk: &mut D,
-) -> Result<Verdict, Failure>
+pub fn verify<const B: usize, D: Disk<B>>(alloc: Global, disk: &mut D) -> Result<Verdict, Failure>
     requires size { IsSectorSize B }
     ensures same { OnlyReads D.Disk disk.old disk.new }
     ensures blames { Blames fault_of result (D.faults disk.old) (D.faults disk.new) }

@@ -1,12 +1,13 @@
 //! The search for a member.
 
-ghost use Rattle.std.specs.Prelude.{◌≡◌, ◌<◌, ◌≤◌, ◌+◌, ◌^◌, ◌↔◌, IsTrue, Some, None, length, slice_index_or};
+ghost use Rattle.std.specs.Prelude.{◌≡◌, ◌<◌, ◌≤◌, ◌+◌, ◌^◌, ◌↔◌, IsTrue, IfSome, Some, None, length, slice_index_or};
 ghost use Rattle.pt_layout.specs.Members.{parts, parts_in, Exists, Holds};
+ghost use Rattle.pt_layout.specs.Paths.{rank};
 ghost use Rattle.pt_layout.specs.Search.{Answers, FoundAt, FoundIn, FoundNear, Found};
 
 use crate::member::{Kind, Member};
 use crate::path::Path;
-use crate::slots::{find_label, part_slot, slot, slot_count};
+use crate::slots::{count_slots, find_label, part_slot, slot};
 use pt_bsd::Label;
 use pt_recover::Layout;
 use pt_sector::Lba;
@@ -72,7 +73,8 @@ fn part_as(label: &Label, slice: &Member, k: usize, wanted: &Wanted) -> Option<M
 fn find_part(label: &Label, slice: &Member, wanted: &Wanted) -> Option<Member>
     requires small { slice.now.first < 2 ^ 66 }
     requires counted { length label.now.entries ≡ 8 }
-    ensures { FoundIn wanted.now (parts_in (Some label.now) slice.now) result }
+    ensures found { FoundIn wanted.now (parts_in (Some label.now) slice.now) result }
+    ensures close { IfSome result (λ x. rank x.path ≤ rank slice.now.path + 8) }
 {
     for k in 0..8usize {
         if let Some(part) = part_as(label, slice, k, wanted) {
@@ -86,7 +88,8 @@ fn find_part(label: &Label, slice: &Member, wanted: &Wanted) -> Option<Member>
 #[tactic(auto, using(crate::proofs::ByPlace::parts_none))]
 fn find_labelled(layout: &Layout, slice: &Member, wanted: &Wanted) -> Option<Member>
     requires { slice.now.first < 2 ^ 66 }
-    ensures { FoundIn wanted.now (parts layout.now slice.now) result }
+    ensures found { FoundIn wanted.now (parts layout.now slice.now) result }
+    ensures close { IfSome result (λ x. rank x.path ≤ rank slice.now.path + 8) }
 {
     match find_label(&layout.labels, slice.path.number) {
         Some(label) => find_part(&label, slice, wanted),
@@ -97,7 +100,8 @@ fn find_labelled(layout: &Layout, slice: &Member, wanted: &Wanted) -> Option<Mem
 // Among a member and the partitions of its label.
 fn find_near(layout: &Layout, m: &Member, wanted: &Wanted) -> Option<Member>
     requires { m.now.first < 2 ^ 66 }
-    ensures { FoundNear layout.now m.now wanted.now result }
+    ensures found { FoundNear layout.now m.now wanted.now result }
+    ensures close { IfSome result (λ x. rank x.path ≤ rank m.now.path + 8) }
 {
     if answers(m, wanted) {
         return Some(*m);
@@ -112,7 +116,7 @@ fn find_near(layout: &Layout, m: &Member, wanted: &Wanted) -> Option<Member>
 pub(crate) fn find<const B: usize>(layout: &Layout, wanted: &Wanted) -> Option<Member>
     ensures { Found B layout.now wanted.now result }
 {
-    for k in 0..slot_count::<B>(&layout.body) {
+    for k in 0..count_slots::<B>(&layout.body) {
         if let Some(m) = slot::<B>(&layout.body, k) {
             if let Some(found) = find_near(layout, &m, wanted) {
                 return Some(found);

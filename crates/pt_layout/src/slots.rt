@@ -5,6 +5,7 @@ ghost use Rattle.pt_layout.specs.Members.{records_as, entries_as, logicals_as, s
 ghost use Rattle.pt_recover.specs.declared.layout.Body.TheVariants.{Mbr};
 ghost use Rattle.pt_bsd.specs.Form.{entry_first_of};
 ghost use Rattle.pt_layout.specs.Counts.{used_before, logical_at};
+ghost use Rattle.pt_layout.specs.OnePath.{HasFour};
 
 use crate::member::{Kind, Member};
 use crate::path::Path;
@@ -165,7 +166,8 @@ fn logical_slot<const B: usize>(chain: &[Ebr], k: usize) -> Option<Member>
 
 #[tactic(auto, using(crate::proofs::ByPlace::mbr_len))]
 fn mbr_count<const B: usize>(records: &[Option<Record>; 4], chain: &[Ebr]) -> usize
-    ensures { result ≡ length (slots B (Mbr «records».now chain.now)) }
+    ensures value { result ≡ length (slots B (Mbr «records».now chain.now)) }
+    ensures four { length «records».now ≡ 4 }
 {
     4 + chain.len()
 }
@@ -187,15 +189,23 @@ fn mbr_slot<const B: usize>(
     }
 }
 
-/// How many places for members a table has: its records or entries, then its extended boot records.
+// How many places for members a table has, four of them for the records of an MBR.
 #[tactic(auto, using(crate::proofs::ByPlace::gpt_len))]
-pub fn slot_count<const B: usize>(body: &Body) -> usize
-    ensures { result ≡ length (slots B body.now) }
+pub(crate) fn count_slots<const B: usize>(body: &Body) -> usize
+    ensures value { result ≡ length (slots B body.now) }
+    ensures four { HasFour body.now }
 {
     match body {
         Body::Mbr { records, chain } => mbr_count::<B>(records, chain.as_slice()),
         Body::Gpt(table) => table.entries.as_slice().len(),
     }
+}
+
+/// How many places for members a table has: its records or entries, then its extended boot records.
+pub fn slot_count<const B: usize>(body: &Body) -> usize
+    ensures { result ≡ length (slots B body.now) }
+{
+    count_slots::<B>(body)
 }
 
 /// The member in a place, from 0 on: the records or entries first, then the chain's. None where that is unused.

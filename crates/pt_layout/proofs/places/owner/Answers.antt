@@ -11,7 +11,7 @@ neither p q (inl x) = p x
 neither p q (inr y) = q y
 
 pub returns-in-Some : goal.returns-in-Some
-returns-in-Some g c = home_found g.row.B c.args.layout.now c.args.lba c.in-Some.m c.in-Some.ensures.0 c.in-Some.ensures.1
+returns-in-Some g c = home_found g.row.B c.args.layout.now c.args.lba c.in-Some.m c.in-Some.ensures
 
 pub returns-then-is_table : goal.returns-then-is_table
 returns-then-is_table g c = (owns_none g.row.B c.args.layout.now c.args.lba c.in-None.ensures, c.is_table.ensures.0 c.if-is_table.true)
