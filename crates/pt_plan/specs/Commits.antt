@@ -79,8 +79,8 @@ module _ {W : Type 0} (denotes : Sectors → Option Layout → Type 0) (reason :
     pub ready : Ready words mid.seen phases
     pub failed : FailedIn phases mid.seen mid new fault
 
-  -- at the return after a device's fault. A read: only the first flush was done. A write: a checked plan's. A flush: the
-  -- first one, or a checked plan's
+  -- at the return after a device's fault. A read's: only the first flush was done. A write's: a checked plan's call failed.
+  -- A flush's: the first one failed, or a checked plan's
   abbrev pub EndsBy : W → Fault → Told → Told → Type 0
   EndsBy words (Read at) old new = Flushed old new
   EndsBy words (Write at) old new = FailedWriting words old new (Write at)

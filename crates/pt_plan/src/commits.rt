@@ -20,8 +20,9 @@ use std::alloc::Global;
 /// make of the disk's present one, checked, and applied phase by phase. Whatever was on the disk and whatever calls
 /// went before: each disk that a crash within the call may leave denotes the layout before or the one that the words
 /// make of it; after `Ok` it is the latter, nothing is pending, and the disk is healthy; after every error but
-/// `Device` nothing was written. Outside the tables of both layouts, in the sectors that partitions of either own and
-/// in the boot code (bytes 0 to 439 of sector 0) nothing changes.
+/// `Device`, and after `Device` for a read, the first flush was done and nothing else. Outside the tables of both
+/// layouts, in the sectors that partitions of either own and in the boot code (bytes 0 to 439 of sector 0) nothing
+/// changes.
 pub fn commit<const B: usize, D: Disk<B>>(
     alloc: Global,
     disk: &mut D,

@@ -69,7 +69,7 @@ impl From<AllocError> for PlanError {
 }
 
 /// Why a commit isn't done. A fault of the device in any step is `Device`, and want of memory in any step is `Memory`,
-/// never within another error. After all but `Device` nothing was written.
+/// never within another error. After all but `Device` the first flush was done and nothing else.
 #[derive(Clone, Copy, Debug, PartialEq, Eq)]
 pub enum CommitError {
     /// The disk denotes nothing, for this reason, and the first word but `a` isn't `o`.
@@ -80,8 +80,8 @@ pub enum CommitError {
     Plan(PlanError),
     /// The plan is refused.
     Check(Why),
-    /// The device failed. The words may have been done or not: each disk that a crash may leave denotes the layout
-    /// before or the one after.
+    /// The device failed. After a failed read the first flush was done and nothing else. Otherwise the words may have
+    /// been done or not: each disk that a crash may leave denotes the layout before or the one after.
     Device(Fault),
     /// Memory was refused.
     Memory,
