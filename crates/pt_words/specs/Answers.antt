@@ -19,7 +19,7 @@ use Rattle.pt_layout.specs.declared.path.Path.{Path}
 use Rattle.pt_words.specs.Searches.{Decided, both_decided, alike_decided, le_decided, lt_decided, numbers_decided, option_cases, in_head, in_tail}
 use Rattle.pt_words.specs.Words.{greatest, Field, number, path, new_path, end, code, guid, IsIn, IsNewPath, IsEnd, IsHex, IsCode, Fits, error_of, is_letter, exactly, kinds, FirstBad, IsFault, letter_fault, count_fault, field_fault, IsWordFault, IsWord}
 use Rattle.pt_words.specs.declared.error.EditError.{EditError}
-use Rattle.pt_words.specs.declared.error.EditError.TheVariants.{UnknownLetter, FieldCount}
+use Rattle.pt_words.specs.declared.error.EditError.TheVariants.{UnknownLetter, FieldCount, Memory}
 use Rattle.pt_words.specs.declared.word.Code.{Code}
 use Rattle.pt_words.specs.declared.word.Code.TheVariants.{Two, Four}
 use Rattle.pt_words.specs.declared.word.End.{End}
@@ -367,3 +367,28 @@ text_answers_lem (l ∷ []) rest name text = elim (one_of l letters) as (λ _. W
   | inl found ↦ subst (λ (x : ℕ). WordOr (x ∷ []) rest) (sym found.2) (each_has letters (λ x. WordOr (x ∷ []) rest) found.0 (all_letters rest name text) found.1)
   | inr none ↦ inr (UnknownLetter, letter_fault (λ k known is. (let same : l ≡ k = cc in no_letter letters k (subst (IsNoneOf letters) same none) known)) refl)
 ]
+
+-- a field is never told as a want of memory
+told_other : (k : Field) → error_of k ≡ Memory → ⊥
+told_other (number low high) e = absurd cc
+told_other path e = absurd cc
+told_other new_path e = absurd cc
+told_other end e = absurd cc
+told_other code e = absurd cc
+told_other guid e = absurd cc
+
+bad_other : (ks : List Field) (fs : List (List ℕ)) (e : EditError) → FirstBad ks fs e → e ≡ Memory → ⊥
+bad_other [] fs e bad same = bad
+bad_other (k ∷ ks) [] e bad same = bad
+bad_other (k ∷ ks) (f ∷ fs) e (inl (not, is)) same = told_other k (sym is ∙ same)
+bad_other (k ∷ ks) (f ∷ fs) e (inr (fits, bad)) same = bad_other ks fs e bad same
+
+fault_other : (letter : List ℕ) (rest : List (List ℕ)) (e : EditError) → IsFault letter rest e → e ≡ Memory → ⊥
+fault_other letter rest e (letter_fault not is) same = absurd cc
+fault_other letter rest e (count_fault l here known none is) same = absurd cc
+fault_other letter rest e (field_fault l ks here known are bad) same = bad_other ks rest e bad same
+
+-- and so no fault is a want of memory
+pub memory_is_no_fault_lem : (fs : List (List ℕ)) → IsWordFault fs Memory → ⊥
+memory_is_no_fault_lem [] fault = fault
+memory_is_no_fault_lem (letter ∷ rest) fault = fault_other letter rest Memory fault refl

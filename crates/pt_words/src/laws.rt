@@ -8,6 +8,7 @@ ghost use Rattle.pt_words.specs.declared.word.Edit.{Edit};
 ghost use Rattle.std.specs.Global.{Global};
 ghost use Rattle.std.specs.List.{join_with_byte};
 ghost use Rattle.std.specs.String.{string_bytes};
+ghost use Rattle.pt_words.specs.declared.error.EditError.TheVariants.{Memory};
 
 /// A text that is a word has no fault.
 pub fn fault_is_no_word()
@@ -27,4 +28,9 @@ pub fn word_fault_is_one()
 /// A text is a word, or has a fault: a first field and others, where the text of a name is a string.
 pub fn text_answers()
     ensures { (letter : List ℕ) (rest : List (List ℕ)) (name : String Global) → string_bytes name ≡ join_with_byte 58 (drop 1 rest) → ((w : Edit) × IsWord (letter ∷ rest) w) ⊎ ((e : EditError) × IsWordFault (letter ∷ rest) e) }
+{}
+
+/// No text's fault is a want of memory: that error is the program's alone.
+pub fn memory_is_no_fault()
+    ensures { (fs : List (List ℕ)) → ¬ IsWordFault fs Memory }
 {}
