@@ -59,7 +59,7 @@ part_four : (b number letter : ℕ) (Becomes : LabelEntry → LabelEntry → Typ
 part_four b number letter Becomes o p four made = to_four p (with_entry_of number made.label letter made.new o) made.made four
 
 -- one way for each kind of body
-either_kind : {C : Type 0} (y : Body) (InRecords : Type 0) (InTable : Table → Type 0) → (InRecords → C) → ((t : Table) → InTable t → C) → InKind y InRecords InTable → C
+pub either_kind : {C : Type 0} (y : Body) (InRecords : Type 0) (InTable : Table → Type 0) → (InRecords → C) → ((t : Table) → InTable t → C) → InKind y InRecords InTable → C
 either_kind (Mbr records chain) InRecords InTable one two x = one x
 either_kind (Gpt t) InRecords InTable one two x = two t x
 

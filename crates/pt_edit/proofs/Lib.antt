@@ -5,3 +5,4 @@ pub mod Places
 pub mod EntryAnswers
 pub mod FourRecords
 pub mod Answering
+pub mod NoMemory

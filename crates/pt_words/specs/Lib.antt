@@ -3,3 +3,4 @@ pub mod Words
 pub mod WordLaws
 pub mod OneWord
 pub mod Searches
+pub mod Answers

@@ -1,6 +1,7 @@
 -- A text is one word at most, and has one fault at most.
-use Rattle.std.specs.Prelude.{◌≡◌, ◌<◌, ◌≤◌, ◌^◌, ℕ, Bool, true, false, if◌then◌else◌, List, [], ◌∷◌, ◌++◌, length, slice_index, Option, Some, None}
+use Rattle.std.specs.Prelude.{◌≡◌, ◌<◌, ◌≤◌, ◌^◌, ℕ, Bool, true, false, if◌then◌else◌, List, [], ◌∷◌, ◌++◌, length, slice_index, Option, Some, None, String}
 use Rattle.std.specs.Fmt.{decimal}
+use Rattle.std.specs.Global.{Global}
 use Rattle.std.specs.List.{join_with_byte}
 use Rattle.std.specs.String.{string_bytes}
 use Rattle.std.proofs.Common.{refl, sym, ap, ◌∙◌, subst, inl, inr, arith}
@@ -23,7 +24,7 @@ use Rattle.pt_words.specs.declared.word.Edit.TheVariants.{Align, New, Delete, Se
 
 -- words that say the same: they are one, and of two names the texts are one, wherever in memory these lie
 abbrev pub IsAlike : Edit → Edit → Type 0
-IsAlike (SetName number name) w = (other : _) × (w ≡ SetName number other) × (string_bytes name ≡ string_bytes other)
+IsAlike (SetName number name) w = (other : String Global) × (w ≡ SetName number other) × (string_bytes name ≡ string_bytes other)
 IsAlike v w = v ≡ w
 
 -- a number from 1 on begins with a digit that isn't 0

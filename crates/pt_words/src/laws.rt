@@ -1,10 +1,14 @@
 //! What holds of texts, whatever they are.
 
-ghost use Rattle.std.specs.Prelude.{◌≡◌, ℕ, List};
+ghost use Rattle.std.specs.Prelude.{◌≡◌, ℕ, List, ◌⊎◌, ◌∷◌, drop, String};
 ghost use Rattle.pt_words.specs.OneWord.{IsAlike};
 ghost use Rattle.pt_words.specs.Words.{IsWord, IsWordFault};
 ghost use Rattle.pt_words.specs.declared.error.EditError.{EditError};
 ghost use Rattle.pt_words.specs.declared.word.Edit.{Edit};
+ghost use Rattle.std.specs.Global.{Global};
+ghost use Rattle.std.specs.List.{join_with_byte};
+ghost use Rattle.std.specs.String.{string_bytes};
+ghost use Rattle.pt_words.specs.declared.error.EditError.TheVariants.{Memory};
 
 /// A text that is a word has no fault.
 pub fn fault_is_no_word()
@@ -19,4 +23,14 @@ pub fn word_is_one()
 /// A text has one fault at most.
 pub fn word_fault_is_one()
     ensures { (fs : List (List ℕ)) (e f : EditError) → IsWordFault fs e → IsWordFault fs f → e ≡ f }
+{}
+
+/// A text is a word, or has a fault: a first field and others, where the text of a name is a string.
+pub fn text_answers()
+    ensures { (letter : List ℕ) (rest : List (List ℕ)) (name : String Global) → string_bytes name ≡ join_with_byte 58 (drop 1 rest) → ((w : Edit) × IsWord (letter ∷ rest) w) ⊎ ((e : EditError) × IsWordFault (letter ∷ rest) e) }
+{}
+
+/// No text's fault is a want of memory: that error is the program's alone.
+pub fn memory_is_no_fault()
+    ensures { (fs : List (List ℕ)) → ¬ IsWordFault fs Memory }
 {}

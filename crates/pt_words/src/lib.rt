@@ -11,7 +11,9 @@ mod word;
 mod words;
 
 pub use error::{EditError, Refusal};
-pub use laws::{fault_is_no_word, word_fault_is_one, word_is_one};
+pub use laws::{
+    fault_is_no_word, memory_is_no_fault, text_answers, word_fault_is_one, word_is_one,
+};
 pub use parse::parse_edit;
 pub use word::{Code, Edit, End};
 

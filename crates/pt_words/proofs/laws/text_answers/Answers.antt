@@ -1,0 +1,5 @@
+use Rattle.pt_words.specs.Answers.{text_answers_lem}
+use Rattle.pt_words.proofs.laws.text_answers.Goals as goal
+
+pub returns : goal.returns
+returns c = text_answers_lem
