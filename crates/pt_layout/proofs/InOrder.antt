@@ -18,9 +18,9 @@ use Rattle.pt_layout.specs.declared.member.Kind.TheVariants.{Leaf, Slice}
 use Rattle.pt_layout.specs.declared.member.Member.{Member}
 use Rattle.pt_layout.specs.declared.search.Wanted.{Wanted}
 use Rattle.pt_layout.specs.declared.search.Wanted.TheVariants.{LeafWith, LeafNamed, SliceWith}
-use Rattle.pt_layout.specs.Paths.{rank, letter_rank}
-use Rattle.pt_layout.specs.Counts.{used_before, no_ebr, logical_at}
-use Rattle.pt_layout.specs.Members.{slots, parts, parts_in, part_of, label_of, record_member, logical_member, entry_member, letter_path, sized_member}
+use Rattle.pt_layout.specs.Paths.{rank}
+use Rattle.pt_layout.specs.Counts.{used_before, no_ebr}
+use Rattle.pt_layout.specs.Members.{slots, parts_in, part_of, label_of, record_member, logical_member, entry_member, letter_path, sized_member}
 use Rattle.pt_layout.specs.Search.{AtPlace, IsNear, InLayout, Answers, FoundAt, FoundIn, FoundNear, Found}
 use Rattle.pt_layout.specs.OnePath.{HasFour, slot_whole, part_path, parts_letter}
 use Rattle.pt_layout.proofs.ByPlace.{mbr_len, mbr_low, mbr_high, gpt_len, gpt_at, parts_len, parts_none, part_at}

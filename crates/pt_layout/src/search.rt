@@ -113,6 +113,7 @@ fn find_near(layout: &Layout, m: &Member, wanted: &Wanted) -> Option<Member>
 }
 
 /// A member that is as wanted, the first in path order.
+#[tactic(auto, using(crate::proofs::InOrder::slot_first))]
 pub(crate) fn find<const B: usize>(layout: &Layout, wanted: &Wanted) -> Option<Member>
     ensures { Found B layout.now wanted.now result }
 {

@@ -1,6 +1,6 @@
 use Rattle.std.proofs.Common.{◌∙◌, sym}
 use Rattle.pt_gpt.specs.Copy.{SideReads}
-use Rattle.pt_layout.proofs.Failing.{told_failed, copy_inside}
+use Rattle.pt_layout.proofs.Failing.{told_failed}
 use Rattle.pt_layout.proofs.halves.half_or_fault.Goals as goal
 
 pub returns-in-Some-clause-place : goal.returns-in-Some-clause-place

@@ -8,7 +8,7 @@ use Rattle.pt_layout.specs.Findings.{VerdictReads}
 use Rattle.std.specs.Prelude.{IfErr}
 use Rattle.std.proofs.lemmas.Result.{IfErr-weaker}
 use Rattle.pt_recover.specs.Denotes.{Reads}
-use Rattle.pt_layout.proofs.Failing.{read_failed, reason_failed, reason_inside}
+use Rattle.pt_layout.proofs.Failing.{read_failed, reason_failed}
 use Rattle.pt_layout.proofs.health.verify_mbr.Goals as goal
 
 pub judge-requires-clause-whole : goal.judge-requires-clause-whole
