@@ -8,8 +8,7 @@ use pt_mbr::{Ebr, Record};
 
 fn has_32_bits(_number: u32)
     ensures { _number < 2 ^ 32 }
-{
-}
+{}
 
 fn slot_numbers(slot: &Option<Record>)
     ensures { SlotNumbers slot.now }

@@ -2,7 +2,6 @@
 
 ghost use Rattle.std.specs.Prelude.{◌≡◌, ◌≤◌, ◌<◌, ◌*◌, ◌+◌, ◌^◌, ◌∷◌, [], ◌++◌, length};
 ghost use Rattle.ptab.specs.Untold.{untold, in_bound};
-
 ghost use Rattle.pt_sector.specs.Calls.{untouched_same, untouched_on};
 
 use pt_sector::{Disk, Fault, Lba, Moments};

@@ -52,4 +52,4 @@ pub returns-in_err-write_phase-clause-fault : goal.returns-in_err-write_phase-cl
 returns-in_err-write_phase-clause-fault g c =
     let p = err_from_is_err_and c.from_residual.result c.from_residual.ensures.1 in
     rw (p.1, p.2) (rw c.deref-phase-items.ensures.value at (fault_in c.deref-phase-items.result.now c.loop-phase.phase-index c.phase-item.result
-        c.deref.result.now _ c.loop-phase-test.true c.phase-item.is c.deref.ensures.value c.in_err-write_phase.ensures.fault))
+    c.deref.result.now _ c.loop-phase-test.true c.phase-item.is c.deref.ensures.value c.in_err-write_phase.ensures.fault))

@@ -25,12 +25,12 @@ pub returns-in_err-write-clause-failed : goal.returns-in_err-write-clause-failed
 returns-in_err-write-clause-failed g c = λ tells.
     let p = err_from_is_err_and c.from_residual.result c.from_residual.ensures.1 in
     rw (p.1, p.2) (record {
-  call = c.loop-write.write-index;
-  within = writing_failed _ _ _ _ _ _ _ _ _ (c.loop-write.invariant.writing tells)
-      (puts-write c.args.phase.now c.loop-write.write-index c.write-item.result c.loop-write-test.true c.write-item.is)
-      (c.in_err-write.ensures.failed tells);
-  is = fault-of-write c.args.phase.now c.loop-write.write-index c.write-item.result _ c.loop-write-test.true c.write-item.is c.in_err-write.ensures.fault;
-})
+      call = c.loop-write.write-index;
+      within = writing_failed _ _ _ _ _ _ _ _ _ (c.loop-write.invariant.writing tells)
+          (puts-write c.args.phase.now c.loop-write.write-index c.write-item.result c.loop-write-test.true c.write-item.is)
+          (c.in_err-write.ensures.failed tells);
+      is = fault-of-write c.args.phase.now c.loop-write.write-index c.write-item.result _ c.loop-write-test.true c.write-item.is c.in_err-write.ensures.fault;
+    })
 
 pub returns-clause-passed : goal.returns-clause-passed
 returns-clause-passed g c = λ tells. ends_done c.args.phase.now _ _ _ _ _ (whole_index c.loop-write-test.false c.loop-write.auto.write-index-end)

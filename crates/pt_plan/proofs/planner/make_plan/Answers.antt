@@ -18,8 +18,7 @@ pub is_other_kind-requires-clause-some : goal.is_other_kind-requires-clause-some
 is_other_kind-requires-clause-some g c = some_sectors g.row.B _ c.in-Gpt.table (table_fits g.row.B c.sectors.result _ c.args.wanted.now c.in-Gpt.table (c.fits.ensures.0 c.if-not-fits.false) c.sectors.ensures c.in-Gpt.is)
 
 pub returns-then-other-clause-err : goal.returns-then-other-clause-err
-returns-then-other-clause-err g c = λ tells.
-    (
+returns-then-other-clause-err g c = λ tells. (
   c.in_ok-be_sound.ensures.ok,
   isnt c.in_ok-done.done c.if-done.false (c.in_ok-done.ensures.ok tells),
   fits_it g.row.B c.sectors.result (g.D.Disk.told c.args.disk.now).seen c.args.wanted.now (g.met.D.Disk.sized c.args.disk.now tells ∙ sym (c.sectors.ensures ∙ c.in_ok-done.ensures.same.same_count)) (c.fits.ensures.0 c.if-not-fits.false),
@@ -39,7 +38,7 @@ returns-clause-plan g c = λ tells.
     let state : StateIs g.row.B d c.args.wanted.now c.in_ok-other.other = rw (c.in_ok-done.ensures.same.same tells) at (c.in_ok-other.ensures.ok tells) in
     let plain = subst (StateIs g.row.B d c.args.wanted.now) c.if-other.false state in
     let writes : WritesCopies g.row.B d c.in-Gpt.table (phases_of c.in_ok-plan.plan) =
-        rw (c.in_ok-other.ensures.same.same tells ∙ c.in_ok-done.ensures.same.same tells) at (c.in_ok-plan.ensures.copies tells) in
+    rw (c.in_ok-other.ensures.same.same tells ∙ c.in_ok-done.ensures.same.same tells) at (c.in_ok-plan.ensures.copies tells) in
     copies c.in-Gpt.table c.in-Gpt.is c.in_ok-be_sound.ensures.ok
     (isnt c.in_ok-done.done c.if-done.false (c.in_ok-done.ensures.ok tells))
     (fits_it g.row.B c.sectors.result d c.args.wanted.now (g.met.D.Disk.sized c.args.disk.now tells ∙ sym (c.sectors.ensures ∙ c.in_ok-done.ensures.same.same_count)) (c.fits.ensures.0 c.if-not-fits.false))

@@ -32,10 +32,11 @@ returns-in_err-labels-clause-place g c = λ tells.
     rw (p.1, p.2) (label_failed g.row.B c.sectors-sectors.result (g.D.Disk.told c.args.disk.now).seen c.in_ok-body.body c.deref.result.now c.in_err-labels.field-0.0
     (c.in_ok-body.ensures.ok tells) (c.deref.ensures.value ∙ c.in_ok-places.ensures) (c.sectors-sectors.ensures ∙ sym (g.met.D.Disk.sized c.args.disk.now tells)) c.in_err-labels.ensures.place)
 
-
 pub returns-clause-ok : goal.returns-clause-ok
 returns-clause-ok g c = λ tells.
     let d : Sectors = (g.D.Disk.told c.args.disk.now).seen in
-    let count : c.sectors-sectors.result ≡ length d = c.sectors-sectors.ensures ∙ sym (g.met.D.Disk.sized c.args.disk.now tells) in
-    (count, c.in_ok-body.ensures.ok tells,
-      rw (c.in_ok-body.ensures.same.same tells, c.deref.ensures.value, c.in_ok-places.ensures, count) at (c.in_ok-labels.ensures.ok tells))
+    let count : c.sectors-sectors.result ≡ length d = c.sectors-sectors.ensures ∙ sym (g.met.D.Disk.sized c.args.disk.now tells) in (
+      count,
+      c.in_ok-body.ensures.ok tells,
+      rw (c.in_ok-body.ensures.same.same tells, c.deref.ensures.value, c.in_ok-places.ensures, count) at (c.in_ok-labels.ensures.ok tells),
+    )
