@@ -1,5 +1,5 @@
 -- How many sectors a disk has at most.
-use Rattle.std.specs.Prelude.{◌≡◌, ℕ, ◌*◌, ◌^◌, ◌<◌, ◌≤◌}
+use Rattle.std.specs.Prelude.{ℕ, ◌*◌, ◌^◌, ◌<◌, ◌≤◌}
 use Rattle.std.proofs.Common.{arith, inl, inr}
 use Rattle.pt_sector.specs.Sectors.{IsSectorSize}
 

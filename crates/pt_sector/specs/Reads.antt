@@ -1,6 +1,6 @@
 -- Calls that only read, by the ghosts of a disk.
 use Rattle.std.specs.Prelude.{◌≡◌, ℕ, List, [], ◌∷◌, ◌++◌, Option, Some, None, Result}
-use Rattle.std.proofs.Common.{◌∙◌, refl, sym, ap, append_assoc, Ok, Err}
+use Rattle.std.proofs.Common.{◌∙◌, sym, ap, append_assoc, Ok, Err}
 use Rattle.std.proofs.lemmas.List.{append-nil, append_cancel_left}
 use Rattle.pt_sector.specs.Calls.{Untouched, Blames, with_fault}
 use Rattle.pt_sector.specs.declared.disk.Fault.{Fault}
