@@ -1,83 +1,19 @@
 -- From what was found out to the answer and its promise.
-use Rattle.std.proofs.Common.{◌≡◌, ◌∙◌, ◌⊎◌, inl, inr, ⊎_elim, ℕ, zero, suc, ◌+◌, ◌*◌, ◌<◌, ◌≤◌, List, [], ◌∷◌, length, slice_get, refl, sym, ap, subst, arith, Option, Some, None}
+use Rattle.std.proofs.Common.{◌≡◌, ◌∙◌, ◌⊎◌, inl, inr, ⊎_elim, ℕ, ◌+◌, ◌*◌, ◌<◌, ◌≤◌, List, length, subst, arith, Option}
 use Rattle.std.specs.Prelude.{◌↔◌}
 use Rattle.std.proofs.lemmas.Bool.{cases_lt}
-use Rattle.std.proofs.Math.Seq.{take-length}
 use Rattle.pt_sector.specs.Sectors.{Sectors, Agrees}
-use Rattle.pt_sector.specs.Writes.{Writes, Puts, after}
+use Rattle.pt_sector.specs.Writes.{Writes, after}
 use Rattle.pt_layout.specs.declared.finding.Finding.{Finding}
 use Rattle.pt_apply.specs.Promises.{Safe, Keeps, Switches}
-use Rattle.pt_check.specs.Course.{phase_at, disk_after, IsCalm, LayoutsAre, Course, switch_number}
+use Rattle.pt_check.specs.Accepted.{no_read, no_neither, same_or, most_or}
+use Rattle.pt_check.specs.Course.{IsCalm, Course, switch_number}
 use Rattle.pt_check.specs.First.{writes_in, NoneIs}
-use Rattle.pt_check.specs.Reasons.{stage, turn, most_writes, FirstWrite, FirstSector, IsOutside, ChangesBoot, ReadsSector, Leads, GivesNeither, IsSwitch, IsStray, IsOwned, Holds}
+use Rattle.pt_check.specs.Reasons.{stage, turn, most_writes, FirstWrite, FirstSector, IsOutside, ChangesBoot, ReadsSector, Leads, GivesNeither, IsStray, IsOwned, Holds}
 use Rattle.pt_check.specs.declared.answer.Why.{Why}
 use Rattle.pt_check.specs.declared.answer.Why.TheVariants.{TooManyWrites, OutOfRange, BootCode, ReadSector, Neither, NotATable, Owned, Final}
 use Rattle.pt_check.proofs.Heart.{stops}
 use Rattle.pt_check.proofs.Keeping.{keeps}
-
-got_puts : (ws : Writes) (k : ℕ) (w : ℕ × List ℕ) → slice_get ws k ≡ Some w → Puts ws w.0 w.1
-got_puts [] k w at = absurd cc
-got_puts (v ∷ ws) zero w at = let same : v ≡ w = cc in inl (ap (λ (x : ℕ × List ℕ). x.0) same, ap (λ (x : ℕ × List ℕ). x.1) same)
-got_puts (v ∷ ws) (suc k) w at = inr (got_puts ws k w at)
-
-module _ {L : Type 0} (denotes : Sectors → Option L → Type 0) (reads : Sectors → ℕ → Type 0) (one : (x : Sectors) (o p : Option L) → denotes x o → denotes x p → o ≡ p)
-    (phases : List Writes) (d : Sectors) where
-  -- a calm phase reads no sector of its own
-  no_read : (p lba : ℕ) (r : ReadsSector reads d phases p lba) → IsCalm denotes reads phases d r.i → ⊥
-  no_read p lba r calm = ⊎_elim
-      (λ few. absurd (omega (arith, few, r.several)))
-      (λ misses. misses r.write.0 r.write.1 (got_puts (phase_at phases r.i) r.at r.write r.first.at) r.first.is)
-      calm
-
-  module _ (old new : Option L) (leads : Leads denotes d phases old new) where
-    -- a phase that was passed gave one of the two
-    no_neither : (done : ℕ) (switch : Option ℕ) → LayoutsAre denotes reads phases d old new done switch → (p : ℕ) (g : GivesNeither denotes d phases p) → g.i < done → ⊥
-    no_neither done None olds p g lt =
-        let same : g.old ≡ old = one d g.old old g.leads.from leads.from in
-        ⊎_elim
-        (λ no. no.0 (subst (denotes (disk_after phases d (g.i + 1))) (sym same) (olds (g.i + 1) (omega (arith, lt)))))
-        (λ back. back.0 (same ∙ sym (one (disk_after phases d back.2.0) g.new old back.2.3 (olds back.2.0 (omega (arith, lt, back.2.2))))))
-        g.neither
-    no_neither done (Some s) (pos, most, differ, olds, news) p g lt =
-        let same_old : g.old ≡ old = one d g.old old g.leads.from leads.from in
-        let same_new : g.new ≡ new = one (after phases d) g.new new g.leads.to leads.to in
-        ⊎_elim
-        (λ low. ⊎_elim
-        (λ no. no.0 (subst (denotes (disk_after phases d (g.i + 1))) (sym same_old) (olds (g.i + 1) low)))
-        (λ back. back.0 (same_old ∙ sym (one (disk_after phases d back.2.0) g.new old back.2.3 (olds back.2.0 (omega (arith, low, back.2.2))))))
-        g.neither)
-        (λ high. ⊎_elim
-        (λ no. no.1 (subst (denotes (disk_after phases d (g.i + 1))) (sym same_new) (news (g.i + 1) high (omega (arith, lt)))))
-        (λ back. back.0 (one (disk_after phases d (g.i + 1)) g.old new back.1 (news (g.i + 1) high (omega (arith, lt))) ∙ sym same_new))
-        g.neither)
-        (cases_lt (g.i + 1) s)
-
-    -- at the end
-    whole : disk_after phases d (length phases) ≡ after phases d
-    whole = ap (λ (ps : List Writes). after ps d) (take-length phases)
-
-    same_or : (switch : Option ℕ) → LayoutsAre denotes reads phases d old new (length phases) switch → (switch_number switch ≡ 0) ↔ (old ≡ new)
-    same_or None olds = ((λ zero_is. one (after phases d) old new (subst (λ (x : Sectors). denotes x old) whole (olds (length phases) (omega arith))) leads.to), (λ same. refl))
-    same_or (Some s) (pos, most, differ, olds, news) = ((λ none. absurd (omega (arith, pos, none))), (λ same. absurd (differ same)))
-
-    most_or : (switch : Option ℕ) → LayoutsAre denotes reads phases d old new (length phases) switch → switch_number switch ≤ length phases
-    most_or None olds = omega arith
-    most_or (Some s) (pos, most, differ, olds, news) = most
-
-    pub is_switch : (switch : Option ℕ) → LayoutsAre denotes reads phases d old new (length phases) switch → IsSwitch denotes d phases (switch_number switch)
-    is_switch None olds = record { old = old; new = new; leads = leads; first = inl ((same_or None olds).0 refl, refl) }
-    is_switch (Some s) (pos, most, differ, olds, news) = record {
-      old = old;
-      new = new;
-      leads = leads;
-      first = inr (
-        differ,
-        pos,
-        most,
-        news s (omega arith) most,
-        (λ j j_pos less is_new. differ (one (disk_after phases d j) old new (olds j less) is_new)),
-      );
-    }
 
 -- What is known of a plan when the reasons before a stage, or before a turn in the stage of the phases, were looked for.
 module _ {L : Type 0} (denotes : Sectors → Option L → Type 0) (reads : Sectors → ℕ → Type 0) (table owned : Option L → ℕ → Type 0)

@@ -15,13 +15,14 @@ use Rattle.pt_check.specs.Reasons.{stage, turn, most_writes, FirstWrite, IsOutsi
 use Rattle.pt_check.specs.Trials.{TrialIs}
 use Rattle.pt_sector.specs.declared.address.Lba.{Lba}
 use Rattle.pt_check.specs.Misplaced.{MisplacedIs}
+use Rattle.pt_check.specs.Accepted.{is_switch}
 use Rattle.pt_check.specs.Answers.{TableOf, OwnedOf, WrongIs, Answers, Promises}
 use Rattle.pt_check.specs.declared.answer.Why.{Why}
 use Rattle.pt_check.specs.declared.answer.Why.TheVariants.{TooManyWrites, OutOfRange, BootCode, ReadSector, Neither, NotATable, Owned, Final}
 use Rattle.pt_check.specs.declared.answer.Answer.TheVariants.{No, Yes}
 use Rattle.pt_check.specs.declared.objection.Found.{Found}
 use Rattle.pt_check.specs.declared.trial.Trial.TheVariants.{Refused}
-use Rattle.pt_check.proofs.Answering.{Known, known_writes, known_phase, known_all, cleared, is_switch, safe}
+use Rattle.pt_check.proofs.Answering.{Known, known_writes, known_phase, known_all, cleared, safe}
 use Rattle.pt_check.proofs.Firsts.{first_sector}
 
 -- who agrees on what is read denotes the same
