@@ -80,10 +80,7 @@ fn members_from<const B: usize>(
 {
     let mut members = Vec::new(alloc);
     for k in from..to {
-        match push_member(&mut members, slot::<B>(body, k)) {
-            Ok(()) => {}
-            Err(e) => return Err(e),
-        }
+        push_member(&mut members, slot::<B>(body, k))?;
     }
     Ok(members)
 }
@@ -110,10 +107,7 @@ fn label_parts(alloc: Global, label: &Label, slice: &Member) -> Result<Vec<Membe
 {
     let mut members = Vec::new(alloc);
     for k in 0..8usize {
-        match push_member(&mut members, part_slot(label, slice, k)) {
-            Ok(()) => {}
-            Err(e) => return Err(e),
-        }
+        push_member(&mut members, part_slot(label, slice, k))?;
     }
     Ok(members)
 }
@@ -134,10 +128,7 @@ fn slice_parts(alloc: Global, layout: &Layout, slice: &Member) -> Result<Vec<Mem
 fn top_siblings<const B: usize>(alloc: Global, layout: &Layout) -> Result<Siblings, AllocError>
     ensures { IfOk result (λ g. g ≡ top_group B layout.now.sectors layout.now.body) }
 {
-    let members = match top_members::<B>(alloc, &layout.body) {
-        Ok(members) => members,
-        Err(e) => return Err(e),
-    };
+    let members = top_members::<B>(alloc, &layout.body)?;
     match &layout.body {
         Body::Mbr { .. } => {
             let high = layout.sectors.saturating_sub(1);

@@ -40,9 +40,6 @@ pub(crate) fn first_overlap(members: Vec<Member>) -> Result<Option<Overlap>, All
     ensures found { IfOk result (λ o. FirstOverlapIs members.items o) }
 {
     let mut sorted = members;
-    match sorted.sort_by_key(|m| m.first) {
-        Ok(()) => {}
-        Err(e) => return Err(e),
-    }
+    sorted.sort_by_key(|m| m.first)?;
     Ok(first_meeting(&sorted))
 }

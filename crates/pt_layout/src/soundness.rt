@@ -24,10 +24,7 @@ fn shared_in(alloc: Global, group: &Siblings) -> Result<Option<Overlap>, AllocEr
     requires { All IsOrdered group.now.members }
     ensures found { IfOk result (λ o. FirstOverlapIs group.now.members o) }
 {
-    let members = match Vec::from_slice(alloc, group.as_slice()) {
-        Ok(members) => members,
-        Err(e) => return Err(e),
-    };
+    let members = Vec::from_slice(alloc, group.as_slice())?;
     first_overlap(members)
 }
 
@@ -37,10 +34,9 @@ fn first_shared(alloc: Global, groups: &[Siblings]) -> Result<Option<Overlap>, A
     ensures found { IfOk result (λ o. SharedIs groups.now o) }
 {
     for k in 0..groups.len() {
-        match shared_in(alloc, &groups[k]) {
-            Ok(Some(overlap)) => return Ok(Some(overlap)),
-            Ok(None) => {}
-            Err(e) => return Err(e),
+        let shared = shared_in(alloc, &groups[k])?;
+        if shared.is_some() {
+            return Ok(shared);
         }
     }
     Ok(None)
@@ -140,17 +136,13 @@ pub fn unsound<const B: usize>(
     requires size { IsSectorSize B }
     ensures found { IfOk result (λ f. UnsoundIs B layout.now f) }
 {
-    let groups = match groups::<B>(alloc, layout) {
-        Ok(groups) => groups,
-        Err(e) => return Err(e),
-    };
+    let groups = groups::<B>(alloc, layout)?;
     if let Some(path) = outside_usable::<B>(layout, &groups) {
         return Ok(Some(Finding::OutsideUsable(path)));
     }
-    match overlapping::<B>(alloc, layout, &groups) {
-        Ok(Some(overlap)) => return Ok(Some(Finding::Overlap(overlap.before, overlap.it))),
-        Ok(None) => {}
-        Err(e) => return Err(e),
+    let overlap = overlapping::<B>(alloc, layout, &groups)?;
+    if let Some(overlap) = overlap {
+        return Ok(Some(Finding::Overlap(overlap.before, overlap.it)));
     }
     if let Some(spot) = on_table::<B>(layout, &groups) {
         return Ok(Some(Finding::OnTable(spot.path, Lba(spot.lba))));

@@ -1,5 +1,5 @@
 -- Where a device failed.
-use Rattle.std.specs.Prelude.{◌≡◌, ◌<◌, ◌⊎◌, ℕ, List, length, get_or, Option, Some, None}
+use Rattle.std.specs.Prelude.{◌≡◌, ◌<◌, ℕ, List, length, get_or, Option, Some, None}
 use Rattle.std.proofs.Common.{[], ◌∷◌, zero, suc, refl, sym, subst, arith, inl, inr}
 use Rattle.pt_sector.specs.Sectors.{Sectors}
 use Rattle.pt_sector.specs.Reads.{FailedIn as FailedAt, failed_more}
@@ -16,7 +16,7 @@ use Rattle.pt_recover.specs.Mbr.{IsMbrDisk, IsMbr, extended_of, ExtendedReads}
 use Rattle.pt_recover.specs.Gpt.{HasRoom, TableReads}
 use Rattle.pt_recover.specs.Labels.{places_of, place_of, IsPlace}
 use Rattle.pt_recover.specs.Steps.{RestReads, of_chain, of_table}
-use Rattle.pt_recover.specs.Denotes.{BodyIs, BodyReads, Reads, body, label, head, chain, table}
+use Rattle.pt_recover.specs.Denotes.{BodyIs, BodyReads, Reads, body, label, chain, table}
 use Rattle.pt_recover.specs.Answers.{FailedIn, told_failure}
 use Rattle.pt_recover.specs.declared.layout.Body.{Body}
 use Rattle.pt_recover.specs.declared.layout.Slice.{Slice}

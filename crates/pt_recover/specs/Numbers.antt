@@ -1,8 +1,7 @@
 -- Numbers of 32 bits: what the types of records say of their starts and sizes.
-use Rattle.std.specs.Prelude.{◌<◌, ◌^◌, List, Option, Some, None, All}
+use Rattle.std.specs.Prelude.{◌<◌, ◌^◌, Option, Some, None, All}
 use Rattle.pt_mbr.specs.declared.record.Record.{Record}
 use Rattle.pt_mbr.specs.declared.ebr.Ebr.{Ebr}
-use Rattle.pt_gpt.specs.declared.table.Table.{Table}
 use Rattle.pt_recover.specs.declared.layout.Body.{Body}
 use Rattle.pt_recover.specs.declared.layout.Body.TheVariants.{Mbr, Gpt}
 use Rattle.pt_recover.specs.declared.layout.Layout.{Layout}

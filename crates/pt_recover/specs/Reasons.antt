@@ -1,10 +1,9 @@
 -- A disk that denotes nothing does so for one reason, and one that has a reason denotes nothing.
-use Rattle.std.proofs.Common.{◌≡◌, ℕ, List, [], ◌∷◌, length, Option, Some, None, refl, sym, ap, ◌∙◌, subst, inl, inr}
-use Rattle.std.specs.Prelude.{◌⊎◌}
+use Rattle.std.proofs.Common.{◌≡◌, ℕ, List, [], ◌∷◌, Option, None, refl, sym, ap, ◌∙◌, subst, inl, inr}
 use Rattle.pt_sector.specs.Sectors.{Sectors}
 use Rattle.pt_mbr.specs.declared.record.Record.{Record}
 use Rattle.pt_mbr.specs.declared.chain.ChainError.{ChainError}
-use Rattle.pt_mbr.specs.Chain.{Chain, ChainFault, IsDevice}
+use Rattle.pt_mbr.specs.Chain.{Chain, ChainFault}
 use Rattle.pt_mbr.specs.Laws.{fault_is_one, fault_has_no_chain}
 use Rattle.pt_gpt.specs.Laws.{no_copy_lem}
 use Rattle.pt_gpt.specs.Faults.{copy_fault_is_one_lem}

@@ -128,10 +128,7 @@ fn push_primaries(
 {
     for k in 0..records.len() {
         let place = primary_place(sectors, k as u64 + 1, &records[k]);
-        match push_place(places, place) {
-            Ok(()) => {}
-            Err(e) => return Err(e),
-        }
+        push_place(places, place)?;
     }
     Ok(())
 }
@@ -142,10 +139,7 @@ fn push_logicals(places: &mut Vec<Slice>, sectors: u64, chain: &[Ebr]) -> Result
     let mut number = 5;
     for k in 0..chain.len() {
         let place = logical_place(sectors, number, &chain[k]);
-        match push_place(places, place) {
-            Ok(()) => {}
-            Err(e) => return Err(e),
-        }
+        push_place(places, place)?;
         number = number_after(number, &chain[k]);
     }
     Ok(())
@@ -160,10 +154,7 @@ fn push_entries(
 {
     for k in 0..entries.len() {
         let place = entry_place(sectors, k as u64 + 1, &entries[k]);
-        match push_place(places, place) {
-            Ok(()) => {}
-            Err(e) => return Err(e),
-        }
+        push_place(places, place)?;
     }
     Ok(())
 }
@@ -183,18 +174,13 @@ pub fn label_places<const B: usize>(
     }
     match body {
         Body::Mbr { records, chain } => {
-            match push_primaries(&mut places, sectors, &records[..]) {
-                Ok(()) => {}
-                Err(e) => return Err(e),
-            }
-            match push_logicals(&mut places, sectors, chain.as_slice()) {
-                Ok(()) => Ok(places),
-                Err(e) => Err(e),
-            }
+            push_primaries(&mut places, sectors, &records[..])?;
+            push_logicals(&mut places, sectors, chain.as_slice())?;
+            Ok(places)
         }
-        Body::Gpt(table) => match push_entries(&mut places, sectors, table.entries.as_slice()) {
-            Ok(()) => Ok(places),
-            Err(e) => Err(e),
-        },
+        Body::Gpt(table) => {
+            push_entries(&mut places, sectors, table.entries.as_slice())?;
+            Ok(places)
+        }
     }
 }

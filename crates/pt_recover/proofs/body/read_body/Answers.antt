@@ -1,4 +1,4 @@
-use Rattle.std.proofs.Common.{rules, length, subst}
+use Rattle.std.proofs.Common.{length, subst}
 use Rattle.std.specs.Prelude.{◌⊎◌, ◌<◌}
 use Rattle.std.proofs.lemmas.Result.{on_ok_weaker, IfErr-weaker}
 use Rattle.pt_sector.specs.Sectors.{Sectors}

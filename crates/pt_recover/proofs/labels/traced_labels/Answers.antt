@@ -1,5 +1,5 @@
 use Rattle.std.proofs.lemmas.Result.{err_from_is_err_and}
-use Rattle.std.proofs.Common.{rules, ◌∙◌, sym, subst, List, get_or, refl, arith}
+use Rattle.std.proofs.Common.{◌∙◌, sym, subst, List, get_or, refl, arith}
 use Rattle.pt_sector.specs.Sectors.{Sectors, sector}
 use Rattle.pt_sector.specs.Device.{Told}
 use Rattle.pt_recover.specs.Labels.{LabelsAre, place_of}
@@ -7,7 +7,7 @@ use Rattle.pt_recover.specs.Steps.{LabelIs}
 use Rattle.pt_recover.specs.declared.layout.Slice.{Slice}
 use Rattle.pt_recover.specs.declared.layout.Labelled.{Labelled}
 use Rattle.pt_recover.proofs.LabelSteps.{label_more, labels_end}
-use Rattle.pt_recover.proofs.Traces.{place_more, place_end}
+use Rattle.pt_recover.proofs.Traces.{place_more}
 use Rattle.pt_recover.proofs.Failed.{place_failed}
 use Rattle.pt_recover.proofs.labels.traced_labels.Goals as goal
 

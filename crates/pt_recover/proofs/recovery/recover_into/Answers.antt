@@ -3,8 +3,6 @@ use Rattle.std.proofs.Common.{◌≡◌, ◌∙◌, sym, length}
 use Rattle.pt_sector.specs.Sectors.{Sectors}
 use Rattle.pt_recover.proofs.Whole.{places_within, all_read, none_read}
 use Rattle.pt_recover.proofs.Failed.{reads_failed, label_failed}
-use Rattle.pt_sector.specs.Device.{Told}
-use Rattle.pt_recover.specs.Answers.{FailedIn}
 use Rattle.pt_recover.proofs.recovery.recover_into.Goals as goal
 
 pub returns-in_err-body-clause-traced_err : goal.returns-in_err-body-clause-traced_err

@@ -11,7 +11,7 @@ loop-k-preserved c =
     record {
       few = omega (arith, c.number_after-number.ensures.most, c.loop-k.invariant.few);
       covers = logical_more p (c.args.places.now.items ++ filter p (logical_slices 5 c.args.chain.now)) c.loop-k.places.items (option_to_list c.logical_place-place.result) c.push_place.new.places.items c.args.chain.now c.loop-k.k
-          c.loop-k.number c.number_after-number.result z (get_or c.args.chain.now c.loop-k.k z) (omega arith) refl c.loop-k.invariant.covers c.logical_place-place.ensures c.in-Ok.ensures c.number_after-number.ensures.value;
+          c.loop-k.number c.number_after-number.result z (get_or c.args.chain.now c.loop-k.k z) (omega arith) refl c.loop-k.invariant.covers c.logical_place-place.ensures c.in_ok-push_place.ensures c.number_after-number.ensures.value;
     }
 
 pub returns : goal.returns
