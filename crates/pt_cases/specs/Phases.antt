@@ -1,5 +1,5 @@
 -- The phases of a plan have writes, and these ascend.
-use Rattle.std.proofs.Common.{◌≡◌, ◌∙◌, inl, inr, ⊎_elim, ℕ, zero, suc, ◌+◌, ◌-◌, ◌<◌, ◌≤◌, List, [], ◌∷◌, ◌++◌, length, replicate, refl, sym, subst, arith, Option, length-append}
+use Rattle.std.proofs.Common.{◌≡◌, inl, inr, ⊎_elim, ℕ, zero, suc, ◌+◌, ◌-◌, ◌<◌, ◌≤◌, List, [], ◌∷◌, ◌++◌, length, replicate, refl, sym, subst, arith, Option, length-append}
 use Rattle.std.specs.Prelude.{◌≢◌, All}
 use Rattle.std.proofs.lemmas.List.Elements.{All-nil, All-cons}
 use Rattle.pt_sector.specs.Sectors.{Sectors, sector, IsSectorSize}
@@ -17,7 +17,7 @@ use Rattle.pt_cases.specs.Copies.{array_writes, array_phase, one_write, closing,
 use Rattle.pt_cases.specs.Frames.{puts_at, rises_in_tail, one_is, puts_split}
 use Rattle.pt_cases.specs.Parts.{label_middle, primary_low, backup_high, array_few, backup_few}
 use Rattle.pt_cases.specs.Select.{Rises, rises_ascends}
-use Rattle.pt_cases.specs.Sides.{array_suc, puts_array}
+use Rattle.pt_cases.specs.Sides.{puts_array}
 
 -- one write at least, each of a higher sector than the one before it
 pub record IsPhase (ws : Writes) : Type 0 where
