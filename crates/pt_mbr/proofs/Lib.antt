@@ -3,3 +3,4 @@ pub mod Reading
 pub mod Encoding
 pub mod Guarding
 pub mod Written
+mod Changing
