@@ -116,13 +116,13 @@ module _ (old new : List (Option Record)) (u s0 s1 s2 c : List ℕ)
 
   pub four_turned : (k : ℕ) → k < 4 → Turned (get_or old k None ≡ get_or new k None) (get_or new k None) k u c
   four_turned zero few = turned _ _ 0 u u s0 c few (omega (arith, long, l0)) (omega (arith, l3, l0)) (stays_so 0 u) w0
-    (stays_on 0 s0 s1 c (by_1 0 (omega arith)) (stays_on 0 s1 s2 c (by_2 0 (omega arith)) (by_3 0 (omega arith))))
+      (stays_on 0 s0 s1 c (by_1 0 (omega arith)) (stays_on 0 s1 s2 c (by_2 0 (omega arith)) (by_3 0 (omega arith))))
   four_turned (suc zero) few = turned _ _ 1 u s0 s1 c few (omega (arith, long, l1)) (omega (arith, l3, l1)) (by_0 1 (omega arith)) w1
-    (stays_on 1 s1 s2 c (by_2 1 (omega arith)) (by_3 1 (omega arith)))
+      (stays_on 1 s1 s2 c (by_2 1 (omega arith)) (by_3 1 (omega arith)))
   four_turned (suc (suc zero)) few = turned _ _ 2 u s1 s2 c few (omega (arith, long, l2)) (omega (arith, l3, l2)) (stays_on 2 u s0 s1 (by_0 2 (omega arith)) (by_1 2 (omega arith))) w2
-    (by_3 2 (omega arith))
+      (by_3 2 (omega arith))
   four_turned (suc (suc (suc zero))) few = turned _ _ 3 u s2 c c few (omega (arith, long, l3)) refl (stays_on 3 u s0 s2 (by_0 3 (omega arith)) (stays_on 3 s0 s1 s2 (by_1 3 (omega arith)) (by_2 3 (omega arith)))) w3
-    (stays_so 3 c)
+      (stays_so 3 c)
   four_turned (suc (suc (suc (suc k)))) few = absurd (omega (arith, few))
 
   pub all_else : (i : ℕ) → (i < 446) ⊎ (510 ≤ i) → slice_index c i ≡ slice_index u i

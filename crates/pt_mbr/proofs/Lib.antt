@@ -3,4 +3,5 @@ pub mod Reading
 pub mod Encoding
 pub mod Guarding
 pub mod Written
-mod Changing
+pub mod Changing
+pub mod Linking

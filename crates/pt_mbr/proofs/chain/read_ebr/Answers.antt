@@ -12,8 +12,8 @@ pub returns-in_err-read_sector-clause-err : goal.returns-in_err-read_sector-clau
 returns-in_err-read_sector-clause-err g c tells =
     let p = err_from_is_err_and c.from_residual.result c.from_residual.ensures.1 in
     rw (p.1, p.2) (λ list few walk.
-        device (g.D.Disk.told c.args.disk.now).seen (span_of c.args.extent.now) list c.args.at _ c.in_err-read_sector.ensures.fault walk few
-        (inside_same _ _ _ c.args.at (g.met.D.Disk.sized c.args.disk.now tells) c.requires.inside))
+    device (g.D.Disk.told c.args.disk.now).seen (span_of c.args.extent.now) list c.args.at _ c.in_err-read_sector.ensures.fault walk few
+    (inside_same _ _ _ c.args.at (g.met.D.Disk.sized c.args.disk.now tells) c.requires.inside))
 
 pub returns-in-Err-NoSignature-clause-err : goal.returns-in-Err-NoSignature-clause-err
 returns-in-Err-NoSignature-clause-err g c tells list few walk =
