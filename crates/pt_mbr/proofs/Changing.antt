@@ -1,11 +1,10 @@
 -- A sector in which records change is read as the new ones.
-use Rattle.std.proofs.Common.{◌≡◌, ◌≢◌, ℕ, zero, suc, ◌+◌, ◌-◌, ◌*◌, ◌<◌, ◌≤◌, List, [], ◌∷◌, length, take, drop, replicate, get_or, Option, Some, None, refl, sym, ap, ◌∙◌, subst, arith, inl, inr}
+use Rattle.std.proofs.Common.{◌≡◌, ◌≢◌, ℕ, zero, suc, ◌+◌, ◌-◌, ◌<◌, ◌≤◌, List, length, take, drop, get_or, Option, Some, None, refl, sym, ap, ◌∙◌, subst, arith, inl, inr}
 use Rattle.std.specs.Prelude.{◌⊎◌, slice_index, slice_range}
 use Rattle.std.proofs.lemmas.List.{ext_get_or, get_or-drop, get_or-take, length-drop, length-take-le}
-use Rattle.pt_sector.specs.declared.address.Lba.{Lba}
 use Rattle.pt_mbr.specs.Bytes.{HasSignature}
-use Rattle.pt_mbr.specs.Record.{IsUsed, RecordIs, IsUsable, IsExtendedKind, IsWritten, boot_of, place_of, record_bytes}
-use Rattle.pt_mbr.specs.Mbr.{IsBootIndicator, HasBootIndicators, AreRecords, MbrBytes, BearsProtective}
+use Rattle.pt_mbr.specs.Record.{RecordIs, IsUsable, IsWritten, boot_of, place_of, record_bytes}
+use Rattle.pt_mbr.specs.Mbr.{IsBootIndicator, HasBootIndicators, MbrBytes, BearsProtective}
 use Rattle.pt_mbr.specs.Changes.{mbr_of, IsChanged, IsStep, IsPlainRecord, ArePlain}
 use Rattle.pt_mbr.specs.declared.record.Record.{Record}
 use Rattle.pt_mbr.specs.Kept.{range_same, record_kept}

@@ -1,11 +1,11 @@
 -- Extended boot records that change, or stand in a new sector.
-use Rattle.std.proofs.Common.{◌≡◌, ◌≢◌, ℕ, ◌+◌, ◌*◌, ◌++◌, ◌<◌, ◌≤◌, List, [], ◌∷◌, length, take, drop, replicate, get_or, Option, Some, None, refl, sym, ap, ◌∙◌, subst, arith, inl, inr}
+use Rattle.std.proofs.Common.{◌≡◌, ◌≢◌, ℕ, ◌+◌, ◌++◌, ◌<◌, ◌≤◌, List, [], ◌∷◌, length, take, drop, replicate, get_or, Option, Some, None, refl, sym, ap, ◌∙◌, subst, arith, inl, inr}
 use Rattle.std.specs.Prelude.{◌⊎◌, slice_index, slice_range}
 use Rattle.std.proofs.lemmas.Bool.{cases_lt}
 use Rattle.std.proofs.lemmas.List.{ext_get_or, get_or-drop, get_or-take, get_or-replicate, get_or_past, length-drop, length-replicate, length-take-le}
 use Rattle.pt_sector.specs.declared.address.Lba.{Lba}
 use Rattle.pt_mbr.specs.Bytes.{number_at, put_at, HasSignature}
-use Rattle.pt_mbr.specs.Record.{IsUsed, RecordIs, IsUsable, IsExtendedKind, IsWritten, boot_of, place_of, record_bytes}
+use Rattle.pt_mbr.specs.Record.{IsUsed, RecordIs, IsUsable, IsExtendedKind, IsWritten, boot_of, record_bytes}
 use Rattle.pt_mbr.specs.Mbr.{IsBootIndicator, HasBootIndicators}
 use Rattle.pt_mbr.specs.Ebr.{EbrBytes, NextIs, HasZeros, HasBadLogical, HasBadLink}
 use Rattle.pt_mbr.specs.Changes.{IsChanged, IsStep, IsPlainRecord, IsPlainLogical, LinksTo}

@@ -1,5 +1,5 @@
 -- Chains of extended boot records.
-use Rattle.std.specs.Prelude.{◌≡◌, ◌<◌, ◌≤◌, ◌⊎◌, ◌↔◌, ◌+◌, ℕ, List, [], ◌∷◌, length, Option, Some, None}
+use Rattle.std.specs.Prelude.{◌≡◌, ◌<◌, ◌≤◌, ◌⊎◌, ◌↔◌, ℕ, List, [], ◌∷◌, length, Option, Some, None}
 use Rattle.pt_sector.specs.Sectors.{Sectors, sector, Span, InSpan}
 use Rattle.pt_sector.specs.declared.address.Lba.{Lba}
 use Rattle.pt_sector.specs.declared.disk.Fault.{Fault}

@@ -311,12 +311,12 @@ fn links_have_known_bytes(rt: HostRuntime) -> Result<(), Fail> {
     let link = link_to(Lba(4096), &ebr_at(6143, None));
     let first = ebr_at(4096, Some(Lba(6143)));
     let sector: Sector<512> = new_ebr(&first, &link);
-    assert_eq!(rt; sector[462..478], LINK_BYTES);
+    assert_eq!(rt; &sector[462..478], LINK_BYTES.as_slice());
     assert_eq!(rt; decode_ebr(&sector, Lba(4096), Lba(4096)), Ok(first));
     let moved = ebr_at(4096, Some(Lba(8191)));
     let other = link_to(Lba(4096), &ebr_at(8191, None));
     let changed = change_ebr(&sector, &first, &moved, &other);
-    assert_eq!(rt; changed[462..478], OTHER_LINK_BYTES);
+    assert_eq!(rt; &changed[462..478], OTHER_LINK_BYTES.as_slice());
     assert_eq!(rt; changed[0..462], sector[0..462]);
     assert_eq!(rt; decode_ebr(&changed, Lba(4096), Lba(4096)), Ok(moved));
     Ok(())
@@ -363,7 +363,7 @@ fn kept_records_keep_their_bytes(rt: HostRuntime) -> Result<(), Fail> {
         })
     );
     let cleared = change_records(&changed, &[old[0], None, added, None], &[None; 4]);
-    assert_eq!(rt; cleared[446..462], [0; 16]);
+    assert_eq!(rt; &cleared[446..462], [0; 16].as_slice());
     assert_eq!(rt; cleared[463], 7);
     Ok(())
 }
