@@ -6,3 +6,4 @@ pub mod Empty
 pub mod Laws
 pub mod Counted
 pub mod Writing
+pub mod Equal

@@ -1,6 +1,6 @@
 //! Writing a label over a slice's second sector.
 
-ghost use Rattle.std.specs.Prelude.{◌≡◌, ◌<◌, ◌≤◌, ◌+◌, ◌*◌, ◌^◌, ℕ, List, [], ◌∷◌, ◌++◌, None, length, take, drop, replicate, slice_index, slice_index_or};
+ghost use Rattle.std.specs.Prelude.{◌≡◌, ◌<◌, ◌≤◌, ◌+◌, ◌*◌, ◌^◌, ℕ, List, [], ◌∷◌, ◌++◌, None, IfSome, IfNone, length, take, drop, replicate, slice_index, slice_index_or};
 ghost use Rattle.std.specs.List.{flat_map};
 ghost use Rattle.byteorder.specs.Endian.{little_bytes};
 ghost use Rattle.pt_sector.specs.Sectors.{IsSectorSize};
@@ -10,7 +10,7 @@ ghost use Rattle.pt_bsd.specs.Label.{LabelBytes, HasEntry, place_of};
 ghost use Rattle.pt_bsd.specs.Counted.{end_of, count_of, IsCounted, FitsSlice};
 ghost use Rattle.pt_bsd.specs.Writing.{put_at, ChangesOnly, head_from, HeadFits, tail_from, TailFits, entry_from, EntryFits, HasFront, IsPut, PutSoFar};
 
-use crate::decode::{ENTRIES, ENTRY, MAGIC};
+use crate::decode::{ENTRIES, ENTRY, MAGIC, decode_label};
 use crate::label::{Label, LabelEntry};
 use byteorder::{ByteOrder, LittleEndian};
 use pt_sector::Sector;
@@ -198,4 +198,25 @@ pub fn encode_label<const B: usize>(label: &Label, under: &Sector<B>) -> Sector<
     let mut sector = *under;
     write_label(&mut sector[..], label);
     sector
+}
+
+/// The sector `under` with the label in its place, if it is read again there in a slice of these sectors.
+///
+/// A label of three to eight entries, with none behind the first `None`, whose entry c is that of the slice, always is.
+pub fn encode_for<const B: usize>(
+    label: &Label,
+    slice_first: u64,
+    slice_len: u64,
+    under: &Sector<B>,
+) -> Option<Sector<B>>
+    requires size { IsSectorSize B }
+    ensures some { IfSome result (λ s. LabelBytes label.now slice_first slice_len s) }
+    ensures rest { IfSome result (λ s. drop (end_of label.now) s ≡ drop (end_of label.now) under.now) }
+    ensures none { IfNone result (¬ (IsCounted label.now × FitsSlice label.now slice_first slice_len)) }
+{
+    let sector = encode_label(label, under);
+    match decode_label(&sector, slice_first, slice_len) {
+        Ok(found) => { if found == *label { Some(sector) } else { None } }
+        Err(_) => None,
+    }
 }

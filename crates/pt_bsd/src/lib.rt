@@ -12,7 +12,7 @@ mod laws;
 
 pub use decode::{bears_magic, decode_label};
 pub use empty::empty_label;
-pub use encode::encode_label;
+pub use encode::{encode_for, encode_label};
 pub use form::Form;
 pub use label::{Label, LabelEntry, LabelError};
 pub use laws::{

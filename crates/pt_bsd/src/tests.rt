@@ -3,7 +3,8 @@
 ghost use Rattle.std.specs.Prelude.{◌<◌};
 
 use crate::{
-    Form, Label, LabelEntry, LabelError, bears_magic, decode_label, empty_label, encode_label,
+    Form, Label, LabelEntry, LabelError, bears_magic, decode_label, empty_label, encode_for,
+    encode_label,
 };
 
 // A file system's partition.
@@ -184,4 +185,19 @@ fn magic(rt: HostRuntime) {
     assert!(rt; bears_magic(&changed(132, [0, 0], [0, 0])));
     assert!(rt; !bears_magic(&changed(2, [0x56, 0x83], [0, 0])));
     assert!(rt; !bears_magic(&[0u8; 4096]));
+}
+
+#[test]
+fn labels_are_read_back(rt: HostRuntime) {
+    let sector = [7u8; 512];
+    let label = absolute();
+    assert_eq!(rt;
+        encode_for(&label, 2048, 4096, &sector),
+        Some(encode_label(&label, &sector))
+    );
+    assert_eq!(rt; encode_for(&label, 2049, 4096, &sector), None);
+    assert_eq!(rt; encode_for(&label, 2048, 4095, &sector), None);
+    let mut gap = label;
+    gap.entries[1] = None;
+    assert_eq!(rt; encode_for(&gap, 2048, 4096, &sector), None);
 }

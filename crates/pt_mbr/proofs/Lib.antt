@@ -3,3 +3,5 @@ pub mod Reading
 pub mod Encoding
 pub mod Guarding
 pub mod Written
+pub mod Changing
+pub mod Linking

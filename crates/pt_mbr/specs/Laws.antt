@@ -1,12 +1,13 @@
 -- The laws of this crate as terms, for definitions and proofs above. Their statements are those of the public functions in src/laws.rt.
-use Rattle.std.specs.Prelude.{◌≡◌, ◌<◌, ◌≤◌, ◌+◌, ◌↔◌, ◌⊎◌, ℕ, List, length, slice_index, Option}
-use Rattle.std.proofs.Common.{inl}
+use Rattle.std.specs.Prelude.{◌≡◌, ◌<◌, ◌≤◌, ◌+◌, ◌↔◌, ◌⊎◌, ℕ, List, length, slice_index, Option, Some, None}
+use Rattle.std.proofs.Common.{inl, refl}
 use Rattle.pt_sector.specs.Sectors.{Sectors, Span, Agrees}
 use Rattle.pt_sector.specs.declared.address.Lba.{Lba}
 use Rattle.pt_mbr.specs.Record.{RecordIs}
 use Rattle.pt_mbr.specs.Mbr.{AreRecords, MbrBytes, BearsProtective}
 use Rattle.pt_mbr.specs.Protective.{IsProtective}
-use Rattle.pt_mbr.specs.Ebr.{EbrBytes, IsEbrFault}
+use Rattle.pt_mbr.specs.Bytes.{number_at}
+use Rattle.pt_mbr.specs.Ebr.{EbrBytes, NextIs, IsEbrFault}
 use Rattle.pt_mbr.specs.Chain.{Chain, ChainFault, ChainReads, IsDevice, StandsAt, IsAtFault, SameChains}
 use Rattle.pt_mbr.specs.declared.record.Record.{Record}
 use Rattle.pt_mbr.specs.declared.mbr.Mbr.{Mbr}
@@ -64,3 +65,16 @@ chain_reads_are = reading.of_list
 
 pub fault_reads_are : (d : Sectors) (x : Span) (e : ChainError) (f : ChainFault d x e) → ¬ IsDevice e → (s : ℕ) → ChainReads d x s ↔ (StandsAt s f.before ⊎ IsAtFault e s)
 fault_reads_are = reading.of_fault
+
+next_under : (first : ℕ) (o : Option Lba) (b : List ℕ) → NextIs first o b → (g : ℕ) → (p : Option Lba) × NextIs g p b
+next_under first None b is g = (None, is)
+next_under first (Some y) b is g = (Some (record { 0 = g + number_at 470 4 b }), (is.0, refl))
+
+-- an extended boot record reads as one whatever the first sector is that its link counts from, with the same logical partition
+pub ebr_rebased_lem : (first g : ℕ) (at : Lba) (e : Ebr) (b : List ℕ) → EbrBytes first at e b → (f : Ebr) × EbrBytes g at f b × (f.logical ≡ e.logical)
+ebr_rebased_lem first g at e b is =
+    let next = next_under first e.next b is.next g in (
+      record { at = at; logical = e.logical; next = next.0 },
+      record { signature = is.signature; boots = is.boots; zeros = is.zeros; logical_kind = is.logical_kind; link_kind = is.link_kind; place = refl; logical = is.logical; next = next.1 },
+      refl,
+    )

@@ -11,3 +11,4 @@ pub mod Kept
 pub mod Same
 pub mod Reading
 pub mod Laws
+pub mod Changes

@@ -9,7 +9,11 @@ use crate::record::Record;
 use pt_sector::Sector;
 
 // Record k as a value, and not by reference.
-fn put_value<const B: usize>(sector: &Sector<B>, k: usize, value: Option<Record>) -> Sector<B>
+pub(crate) fn put_value<const B: usize>(
+    sector: &Sector<B>,
+    k: usize,
+    value: Option<Record>,
+) -> Sector<B>
     requires size { IsSectorSize B }
     requires place { k < 4 }
     ensures { IsWritten value k sector.now result }

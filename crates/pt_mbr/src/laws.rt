@@ -61,3 +61,9 @@ pub fn protective_is_borne()
 pub fn faults_are_one()
     ensures { (d : Sectors) (x : Span) (e f : ChainError) → ChainFault d x e → ChainFault d x f → (e ≡ f) ⊎ IsDevice e ⊎ IsDevice f }
 {}
+
+/// A law: an extended boot record reads as one whatever the first sector is that its link counts from, with the same
+/// logical partition.
+pub fn ebr_is_rebased()
+    ensures { (first g : ℕ) (at : Lba) (e : Ebr) (b : List ℕ) → EbrBytes first at e b → (f : Ebr) × EbrBytes g at f b × (f.logical ≡ e.logical) }
+{}

@@ -6,6 +6,7 @@
 
 mod bytes;
 mod chain;
+mod change;
 mod ebr;
 mod encode;
 mod laws;
@@ -16,11 +17,12 @@ mod record;
 mod tests;
 
 pub use chain::{ChainError, read_chain, walk_chain};
+pub use change::{change_ebr, change_records, link_to, new_ebr};
 pub use ebr::{Ebr, EbrFault, decode_ebr};
 pub use encode::encode_mbr;
 pub use laws::{
-    chain_reads_are, chain_reads_decide, chains_are_one, ebr_is_one, faults_are_one, mbr_is_one,
-    protective_is_borne, record_is_its_bytes, record_is_one,
+    chain_reads_are, chain_reads_decide, chains_are_one, ebr_is_one, ebr_is_rebased,
+    faults_are_one, mbr_is_one, protective_is_borne, record_is_its_bytes, record_is_one,
 };
 pub use mbr::{Mbr, bears_protective, decode_mbr, put_record};
 pub use protection::{is_protective, protective};

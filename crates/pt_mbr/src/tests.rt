@@ -2,8 +2,9 @@ ghost use Rattle.std.specs.Prelude.{◌≡◌, ◌<◌, ◌≤◌, ◌*◌, ◌^
 ghost use Rattle.pt_sector.specs.Sectors.{IsSectorSize};
 
 use crate::{
-    ChainError, Ebr, Mbr, Record, bears_protective, decode_mbr, encode_mbr, is_protective,
-    protective, put_record, read_chain, walk_chain,
+    ChainError, Ebr, Mbr, Record, bears_protective, change_ebr, change_records, decode_ebr,
+    decode_mbr, encode_mbr, is_protective, link_to, new_ebr, protective, put_record, read_chain,
+    walk_chain,
 };
 use arrayvec::ArrayVec;
 use pt_sector::{CrashDisk, Disk, Extent, Fault, Lba, MemDisk, Sector};
@@ -285,5 +286,84 @@ fn an_empty_record_may_bear_the_protective_type(rt: HostRuntime) -> Result<(), F
         assert!(rt; bears_protective(&sector));
     }
     assert!(rt; !bears_protective(&[0; 4096]));
+    Ok(())
+}
+
+/// An extended boot record at a place, with a logical partition of 1000 sectors behind it.
+fn ebr_at(at: u64, next: Option<Lba>) -> Ebr {
+    Ebr {
+        at: Lba(at),
+        logical: Some(record_of(0x83, 1, 1000)),
+        next,
+    }
+}
+
+const LINK_BYTES: [u8; 16] = [
+    0x00, 0xFE, 0xFF, 0xFF, 0x05, 0xFE, 0xFF, 0xFF, 0xFF, 0x07, 0x00, 0x00, 0xE9, 0x03, 0x00, 0x00,
+];
+
+const OTHER_LINK_BYTES: [u8; 16] = [
+    0x00, 0xFE, 0xFF, 0xFF, 0x05, 0xFE, 0xFF, 0xFF, 0xFF, 0x0F, 0x00, 0x00, 0xE9, 0x03, 0x00, 0x00,
+];
+
+#[test]
+fn links_have_known_bytes(rt: HostRuntime) -> Result<(), Fail> {
+    let link = link_to(Lba(4096), &ebr_at(6143, None));
+    let first = ebr_at(4096, Some(Lba(6143)));
+    let sector: Sector<512> = new_ebr(&first, &link);
+    assert_eq!(rt; &sector[462..478], LINK_BYTES.as_slice());
+    assert_eq!(rt; decode_ebr(&sector, Lba(4096), Lba(4096)), Ok(first));
+    let moved = ebr_at(4096, Some(Lba(8191)));
+    let other = link_to(Lba(4096), &ebr_at(8191, None));
+    let changed = change_ebr(&sector, &first, &moved, &other);
+    assert_eq!(rt; &changed[462..478], OTHER_LINK_BYTES.as_slice());
+    assert_eq!(rt; changed[0..462], sector[0..462]);
+    assert_eq!(rt; decode_ebr(&changed, Lba(4096), Lba(4096)), Ok(moved));
+    Ok(())
+}
+
+#[test]
+fn links_fit_their_fields(rt: HostRuntime) -> Result<(), Fail> {
+    let empty = Ebr {
+        at: Lba(4096 + 0xFFFF_FFFF),
+        logical: None,
+        next: None,
+    };
+    assert_eq!(rt;
+        link_to(Lba(4096), &empty),
+        Some(record_of(0x05, 0xFFFF_FFFF, 1))
+    );
+    assert_eq!(rt; link_to(Lba(4095), &empty), None);
+    assert_eq!(rt; link_to(Lba(4096), &ebr_at(4095, None)), None);
+    let mut long = ebr_at(6143, None);
+    long.logical = Some(record_of(0x83, 1, 0xFFFF_FFFE));
+    assert_eq!(rt;
+        link_to(Lba(4096), &long),
+        Some(record_of(0x05, 2047, 0xFFFF_FFFF))
+    );
+    long.logical = Some(record_of(0x83, 2, 0xFFFF_FFFE));
+    assert_eq!(rt; link_to(Lba(4096), &long), None);
+    Ok(())
+}
+
+#[test]
+fn kept_records_keep_their_bytes(rt: HostRuntime) -> Result<(), Fail> {
+    let mut sector: Sector<512> = boot_record([Some(record_of(0x83, 2048, 100)), None]);
+    // an unused record may hold any bytes
+    sector[463] = 7;
+    let old = [Some(record_of(0x83, 2048, 100)), None, None, None];
+    let added = Some(record_of(0x07, 4096, 100));
+    let changed = change_records(&sector, &old, &[old[0], None, added, None]);
+    assert_eq!(rt; changed[0..478], sector[0..478]);
+    assert_eq!(rt; changed[494..512], sector[494..512]);
+    assert_eq!(rt;
+        decode_mbr(&changed),
+        Some(Mbr {
+            records: [old[0], None, added, None]
+        })
+    );
+    let cleared = change_records(&changed, &[old[0], None, added, None], &[None; 4]);
+    assert_eq!(rt; &cleared[446..462], [0; 16].as_slice());
+    assert_eq!(rt; cleared[463], 7);
     Ok(())
 }

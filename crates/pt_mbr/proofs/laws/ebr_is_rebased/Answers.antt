@@ -1,0 +1,5 @@
+use Rattle.pt_mbr.specs.Laws.{ebr_rebased_lem}
+use Rattle.pt_mbr.proofs.laws.ebr_is_rebased.Goals as goal
+
+pub returns : goal.returns
+returns c = ebr_rebased_lem
