@@ -1,6 +1,6 @@
 //! The plan of a text.
 
-ghost use Rattle.std.specs.Prelude.{◌≡◌, ◌≢◌, ◌<◌, ◌++◌, ◌∷◌, [], ℕ, List, IfOk, IfErr, IfSome, IfNone, Ok, tt};
+ghost use Rattle.std.specs.Prelude.{◌≡◌, ◌≢◌, ◌<◌, ◌++◌, ◌∷◌, [], ℕ, List, IfOk, IfErr, IfSome, IfNone, Ok};
 ghost use Rattle.std.specs.Bool.{MatchBool};
 ghost use Rattle.hex.specs.Hex.{decode_sized};
 ghost use Rattle.pt_sector.specs.Sectors.{IsSectorSize};

@@ -1,0 +1,55 @@
+-- The canonical text is the plan's.
+use Rattle.std.proofs.Common.{◌≡◌, ◌<◌, ◌+◌, ℕ, List, [], ◌∷◌, ◌++◌, length, map, refl, sym, ap, ◌∙◌, subst, arith, append_assoc}
+use Rattle.std.proofs.lemmas.List.{append-nil, map-append}
+use Rattle.std.proofs.lemmas.List.Elements.{All-nil, All-cons, All-head, All-tail}
+use Rattle.std.specs.Prelude.{All}
+use Rattle.pt_sector.specs.Writes.{Writes}
+use Rattle.pt_text.specs.Lines.{joined, IsWriteLine, Step, Put, Flush, AreLines}
+use Rattle.pt_text.specs.PlanTexts.{Begins, PlanText, steps_of, puts, NoneEmpty}
+use Rattle.pt_text.specs.Canonical.{write_line, writes_text, text_of}
+use Rattle.pt_text.proofs.Growing.{lines_append}
+
+-- a write that a line can hold
+abbrev pub HasLine : ℕ → ℕ × List ℕ → Type 0
+HasLine b w = IsWriteLine b (write_line w) w
+
+abbrev pub HaveLines : ℕ → List Writes → Type 0
+HaveLines b phases = All (λ (p : Writes). All (HasLine b) p) phases
+
+lines_of : List Writes → List (List ℕ)
+lines_of [] = []
+lines_of (p ∷ ps) = map write_line p ++ (70 ∷ []) ∷ lines_of ps
+
+joined_phase : (p : Writes) (lines : List (List ℕ)) (rest : List ℕ)
+    → joined (map write_line p ++ (70 ∷ []) ∷ lines) rest ≡ writes_text p ++ (70 ∷ 10 ∷ joined lines rest)
+joined_phase [] lines rest = refl
+joined_phase (w ∷ p) lines rest =
+    ap (λ (t : List ℕ). write_line w ++ 10 ∷ t) (joined_phase p lines rest)
+    ∙ (sym (append_assoc (write_line w) (10 ∷ []) (writes_text p ++ (70 ∷ 10 ∷ joined lines rest)))
+    ∙ sym (append_assoc (write_line w ++ 10 ∷ []) (writes_text p) (70 ∷ 10 ∷ joined lines rest)))
+
+joined_text : (phases : List Writes) → text_of phases ≡ joined (lines_of phases) []
+unfolding lines_of
+joined_text [] = refl
+joined_text (p ∷ ps) =
+    append_assoc (writes_text p) (70 ∷ 10 ∷ []) (text_of ps)
+    ∙ (ap (λ (t : List ℕ). writes_text p ++ (70 ∷ 10 ∷ t)) (joined_text ps) ∙ sym (joined_phase p (lines_of ps) []))
+
+phase_lines : (b : ℕ) (p : Writes) → All (HasLine b) p → AreLines b (map write_line p) (puts p)
+phase_lines b [] all = tt
+phase_lines b (w ∷ p) all = (All-head (HasLine b) w p all, phase_lines b p (All-tail (HasLine b) w p all))
+
+plan_lines : (b : ℕ) (phases : List Writes) → HaveLines b phases → AreLines b (lines_of phases) (steps_of phases)
+unfolding lines_of
+plan_lines b [] all = tt
+plan_lines b (p ∷ ps) all =
+    let P : Writes → Type 0 = λ q. All (HasLine b) q in
+    lines_append b (map write_line p) ((70 ∷ []) ∷ lines_of ps) (puts p) (Flush ∷ steps_of ps) (phase_lines b p (All-head P p ps all))
+    (refl, plan_lines b ps (All-tail P p ps all))
+
+pub canonical : (b : ℕ) (phases : List Writes) (text : List ℕ) → text ≡ text_of phases → NoneEmpty phases → HaveLines b phases → PlanText b phases text
+canonical b phases text is some all = record {
+  lines = lines_of phases;
+  whole = is ∙ joined_text phases;
+  begins = record { some = some; each = subst (AreLines b (lines_of phases)) (sym (append-nil (steps_of phases))) (plan_lines b phases all) };
+}

@@ -1,0 +1,8 @@
+use Rattle.std.proofs.Common.{◌≡◌, ◌++◌, take}
+use Rattle.std.specs.String.{string_bytes}
+use Rattle.pt_apply.specs.Plans.{writes_of}
+use Rattle.pt_text.specs.Canonical.{writes_text}
+use Rattle.pt_text.proofs.write.push_phase.Given as goal
+
+abbrev pub invariant-loop-write : goal.invariant-loop-write
+invariant-loop-write g l = string_bytes l.text ≡ string_bytes l.fn.text ++ writes_text (writes_of (take l.write-index l.phase))
