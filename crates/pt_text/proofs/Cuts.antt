@@ -1,11 +1,15 @@
 -- Texts that are cut at a byte, and the bytes that a line lacks.
-use Rattle.std.proofs.Common.{◌≡◌, ◌≢◌, ◌⊎◌, inl, inr, ◌<◌, ◌^◌, ◌+◌, ℕ, zero, suc, List, [], ◌∷◌, ◌++◌, length, get_or, Bool, true, false, refl, sym, ap, ◌∙◌, subst, arith, Result, Ok}
+use Rattle.std.proofs.Common.{◌≡◌, ◌≢◌, ◌⊎◌, inl, inr, ◌<◌, ◌^◌, ◌+◌, ℕ, zero, suc, List, [], ◌∷◌, ◌++◌, length, get_or, Bool, true, false, refl, sym, ap, ◌∙◌, subst, arith, Result, Ok, Option, Some, None, Bor, IfNone, length-append}
 use Rattle.std.specs.Fmt.{decimal}
 use Rattle.std.proofs.lemmas.Bool.{cases_lt}
 use Rattle.std.proofs.lemmas.Fmt.{decimal_injective}
 use Rattle.std.proofs.lemmas.List.Elements.{All-head, All-tail}
 use Rattle.std.specs.List.{AllPass}
-use Rattle.std.specs.Prelude.{IsOk}
+use Rattle.std.specs.Prelude.{IsOk, IfSome}
+use Rattle.std.specs.Option.{MatchOption}
+use Rattle.std.proofs.Math.Seq.{get_or-append_seam}
+use Rattle.pt_sector.specs.Writes.{Writes}
+use Rattle.pt_text.specs.Faults.{Fits}
 use Rattle.std.specs.Result.{result_unwrap_or}
 use Rattle.hex.specs.Hex.{decode_sized, is_hex_digit}
 use Rattle.hex.specs.declared.error.FromHexError.{FromHexError}
@@ -102,3 +106,32 @@ step_one b line (Put v) (Put w) hs ht = ap Put (write_one b line v w hs ht)
 step_one b line (Put v) Flush hs ht = absurd (write_no_flush b line v hs ht)
 step_one b line Flush (Put w) hs ht = absurd (write_no_flush b line w ht hs)
 step_one b line Flush Flush hs ht = refl
+
+-- what a cut at the first c says of a text
+abbrev pub Parts : ℕ → List ℕ → Option (Bor (List ℕ) × Bor (List ℕ)) → Type 0
+Parts c text r = MatchOption r (Lacks c text) (λ x. (text ≡ x.0.now ++ c ∷ x.1.now) × Lacks c x.0.now)
+
+pub fields_found : (text letter rest : List ℕ) (r : Option (Bor (List ℕ) × Bor (List ℕ))) → text ≡ letter ++ 32 ∷ rest → letter ≡ 87 ∷ [] → Parts 32 rest r
+    → IfSome r (λ x. (text ≡ 87 ∷ 32 ∷ (x.0.now ++ 32 ∷ x.1.now)) × Lacks 32 x.0.now)
+fields_found text letter rest None whole is parts = tt
+fields_found text letter rest (Some x) whole is parts =
+    (whole ∙ (ap (λ (t : List ℕ). t ++ 32 ∷ rest) is ∙ ap (λ (t : List ℕ). 87 ∷ 32 ∷ t) parts.0), parts.1)
+
+pub fields_missing : (text letter rest : List ℕ) (r : Option (Bor (List ℕ) × Bor (List ℕ))) → text ≡ letter ++ 32 ∷ rest → letter ≡ 87 ∷ [] → Parts 32 rest r
+    → IfNone r ((number digits : List ℕ) → Lacks 32 number → text ≢ 87 ∷ 32 ∷ (number ++ 32 ∷ digits))
+fields_missing text letter rest (Some x) whole is parts = tt
+fields_missing text letter rest None whole is parts = λ number digits lack e.
+    let start = whole ∙ ap (λ (t : List ℕ). t ++ 32 ∷ rest) is in
+    let same = same_tail 32 32 _ _ (same_tail 87 87 _ _ (sym start ∙ e)) in
+    let within : length number < length rest = rw same (let len = length-append number (32 ∷ digits) in omega (arith, len)) in
+    parts (length number) within (rw same (get_or-append_seam number 32 digits 0))
+
+-- the fields of the line of a write
+pub fields_one : (b : ℕ) (line number digits : List ℕ) (w : ℕ × List ℕ) → line ≡ 87 ∷ 32 ∷ (number ++ 32 ∷ digits) → Lacks 32 number
+    → (is : IsWriteLine b line w) → (number ≡ decimal w.0) × (digits ≡ is.digits)
+fields_one b line number digits w whole lack is =
+    one_cut 32 number (decimal w.0) digits is.digits lack (decimal_spaceless w.0 is.fits) (same_tail 32 32 _ _ (same_tail 87 87 _ _ (sym whole ∙ is.written)))
+
+pub no_fit : (b : ℕ) (last : Writes) (line : List ℕ) → ((s : Step) → ¬ IsLine b line s) → ¬ Fits b last line
+no_fit b last line none (inl is) = none (Put is.0) is.1
+no_fit b last line none (inr is) = none Flush is.0

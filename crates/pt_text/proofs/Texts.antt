@@ -1,20 +1,16 @@
 -- The canonical text is the plan's.
-use Rattle.std.proofs.Common.{◌≡◌, ◌<◌, ◌+◌, ℕ, List, [], ◌∷◌, ◌++◌, length, map, refl, sym, ap, ◌∙◌, subst, arith, append_assoc}
+use Rattle.std.proofs.Common.{◌≡◌, ◌<◌, ◌^◌, ◌+◌, ℕ, List, [], ◌∷◌, ◌++◌, length, map, refl, sym, ap, ◌∙◌, subst, arith, append_assoc}
 use Rattle.std.proofs.lemmas.List.{append-nil, map-append}
 use Rattle.std.proofs.lemmas.List.Elements.{All-nil, All-cons, All-head, All-tail}
 use Rattle.std.specs.Prelude.{All}
 use Rattle.pt_sector.specs.Writes.{Writes}
 use Rattle.pt_text.specs.Lines.{joined, IsWriteLine, Step, Put, Flush, AreLines}
 use Rattle.pt_text.specs.PlanTexts.{Begins, PlanText, steps_of, puts, NoneEmpty}
-use Rattle.pt_text.specs.Canonical.{write_line, writes_text, text_of}
+use Rattle.pt_text.specs.Canonical.{write_line, HasLine, HaveLines, writes_text, text_of}
+use Rattle.hex.specs.Hex.{encode_lower, IsBytes}
+use Rattle.hex.proofs.HexLemmas.{decode_sized-encode_lower}
+use Rattle.std.specs.List.{concat}
 use Rattle.pt_text.proofs.Growing.{lines_append}
-
--- a write that a line can hold
-abbrev pub HasLine : ℕ → ℕ × List ℕ → Type 0
-HasLine b w = IsWriteLine b (write_line w) w
-
-abbrev pub HaveLines : ℕ → List Writes → Type 0
-HaveLines b phases = All (λ (p : Writes). All (HasLine b) p) phases
 
 lines_of : List Writes → List (List ℕ)
 lines_of [] = []
@@ -53,3 +49,11 @@ canonical b phases text is some all = record {
   whole = is ∙ joined_text phases;
   begins = record { some = some; each = subst (AreLines b (lines_of phases)) (sym (append-nil (steps_of phases))) (plan_lines b phases all) };
 }
+
+-- one more of the pieces of a text
+pub concat_more : {X : Type 0} (f : X → List ℕ) (xs : List X) (x : X) → concat (map f (xs ++ x ∷ [])) ≡ concat (map f xs) ++ f x
+concat_more f [] x = append-nil (f x)
+concat_more f (y ∷ xs) x = ap (λ (t : List ℕ). f y ++ t) (concat_more f xs x) ∙ sym (append_assoc (f y) (concat (map f xs)) (f x))
+
+pub has_line : (b n : ℕ) (bytes : List ℕ) → n < 2 ^ 64 → length bytes ≡ b → IsBytes bytes → HasLine b (n, bytes)
+has_line b n bytes fits size are = record { digits = encode_lower bytes; fits = fits; bytes = decode_sized-encode_lower bytes b size are; written = refl }

@@ -7,19 +7,16 @@ ghost use Rattle.pt_text.specs.Faults.{IsTextFault};
 ghost use Rattle.pt_text.specs.declared.error.PlanTextError.{PlanTextError as ErrorValue};
 
 /// A text is one plan's at most.
-#[tactic(auto, using(crate::proofs::OneReading::plan_one))]
 pub fn plan_is_one()
     ensures { (b : ℕ) (p q : List Writes) (text : List ℕ) → PlanText b p text → PlanText b q text → p ≡ q }
 {}
 
 /// A text that is a plan's has no fault.
-#[tactic(auto, using(crate::proofs::OneReading::plan_faultless))]
 pub fn plan_has_no_fault()
     ensures { (b : ℕ) (p : List Writes) (text : List ℕ) (e : ErrorValue) → PlanText b p text → ¬ IsTextFault b text e }
 {}
 
 /// A text has one fault at most.
-#[tactic(auto, using(crate::proofs::OneReading::fault_one))]
 pub fn text_fault_is_one()
     ensures { (b : ℕ) (text : List ℕ) (e f : ErrorValue) → IsTextFault b text e → IsTextFault b text f → e ≡ f }
 {}

@@ -1,10 +1,10 @@
 //! The text of a plan.
 
-ghost use Rattle.std.specs.Prelude.{◌≡◌, ◌++◌, ℕ, IfOk, OnOk, OnErr};
+ghost use Rattle.std.specs.Prelude.{◌≡◌, ◌++◌, ℕ, All, IfOk, OnOk, OnErr};
 ghost use Rattle.std.specs.String.{string_bytes};
 ghost use Rattle.pt_sector.specs.Sectors.{IsSectorSize};
 ghost use Rattle.pt_apply.specs.Plans.{writes_of, phases_of};
-ghost use Rattle.pt_text.specs.Canonical.{write_text, phase_text, text_of};
+ghost use Rattle.pt_text.specs.Canonical.{HasLine, write_text, phase_text, text_of};
 ghost use Rattle.pt_text.specs.PlanTexts.{NoneEmpty, PlanText};
 
 use pt_apply::{Plan, Write};
@@ -12,7 +12,8 @@ use std::alloc::{AllocError, Global};
 
 // One line.
 fn push_write<const B: usize>(alloc: Global, text: &mut String, write: &Write<B>) -> Result<(), AllocError>
-    ensures { OnOk result (string_bytes text.new ≡ string_bytes text.old ++ write_text (write.now.lba.0, write.now.bytes)) }
+    ensures text { OnOk result (string_bytes text.new ≡ string_bytes text.old ++ write_text (write.now.lba.0, write.now.bytes)) }
+    ensures held { HasLine B (write.now.lba.0, write.now.bytes) }
 {
     let digits = hex::encode(alloc, write.bytes.as_slice())?;
     let line = format!(in alloc; "W {} {digits}\n", write.lba.0)?;
@@ -21,7 +22,8 @@ fn push_write<const B: usize>(alloc: Global, text: &mut String, write: &Write<B>
 
 // The lines of a phase: its writes, and its flush.
 fn push_phase<const B: usize>(alloc: Global, text: &mut String, phase: &[Write<B>]) -> Result<(), AllocError>
-    ensures { OnOk result (string_bytes text.new ≡ string_bytes text.old ++ phase_text (writes_of phase.now)) }
+    ensures text { OnOk result (string_bytes text.new ≡ string_bytes text.old ++ phase_text (writes_of phase.now)) }
+    ensures held { OnOk result (All (HasLine B) (writes_of phase.now)) }
 {
     for write in phase {
         push_write(alloc, text, write)?;
