@@ -7,6 +7,7 @@ use Rattle.std.proofs.lemmas.List.Elements.{All-head, All-tail}
 use Rattle.std.specs.List.{AllPass}
 use Rattle.std.specs.Prelude.{IsOk, IfSome}
 use Rattle.std.specs.Option.{MatchOption}
+use Rattle.std.specs.Bool.{MatchBool}
 use Rattle.std.proofs.Math.Seq.{get_or-append_seam}
 use Rattle.pt_sector.specs.Writes.{Writes}
 use Rattle.pt_text.specs.Faults.{Fits}
@@ -135,3 +136,11 @@ fields_one b line number digits w whole lack is =
 pub no_fit : (b : ℕ) (last : Writes) (line : List ℕ) → ((s : Step) → ¬ IsLine b line s) → ¬ Fits b last line
 no_fit b last line none (inl is) = none (Put is.0) is.1
 no_fit b last line none (inr is) = none Flush is.0
+
+pub when_true : (t : Bool) (P Q : Type 0) → t ≡ true → MatchBool t P Q → P
+when_true true P Q e h = h
+when_true false P Q e h = cc e
+
+pub when_false : (t : Bool) (P Q : Type 0) → t ≡ false → MatchBool t P Q → Q
+when_false true P Q e h = cc e
+when_false false P Q e h = h

@@ -1,8 +1,8 @@
 -- The canonical text is the plan's.
-use Rattle.std.proofs.Common.{◌≡◌, ◌<◌, ◌^◌, ◌+◌, ℕ, List, [], ◌∷◌, ◌++◌, length, map, refl, sym, ap, ◌∙◌, subst, arith, append_assoc}
-use Rattle.std.proofs.lemmas.List.{append-nil, map-append}
+use Rattle.std.proofs.Common.{◌≡◌, ◌<◌, ◌^◌, ◌+◌, ℕ, List, [], ◌∷◌, ◌++◌, length, map, refl, sym, ap, ◌∙◌, subst, arith, append_assoc, rules, ◌≤◌, get_or, take, Result, Ok, Err}
+use Rattle.std.proofs.lemmas.List.{append-nil, map-append, take_more}
 use Rattle.std.proofs.lemmas.List.Elements.{All-nil, All-cons, All-head, All-tail}
-use Rattle.std.specs.Prelude.{All}
+use Rattle.std.specs.Prelude.{All, OnOk}
 use Rattle.pt_sector.specs.Writes.{Writes}
 use Rattle.pt_text.specs.Lines.{joined, IsWriteLine, Step, Put, Flush, AreLines}
 use Rattle.pt_text.specs.PlanTexts.{Begins, PlanText, steps_of, puts, NoneEmpty}
@@ -57,3 +57,30 @@ concat_more f (y ∷ xs) x = ap (λ (t : List ℕ). f y ++ t) (concat_more f xs 
 
 pub has_line : (b n : ℕ) (bytes : List ℕ) → n < 2 ^ 64 → length bytes ≡ b → IsBytes bytes → HasLine b (n, bytes)
 has_line b n bytes fits size are = record { digits = encode_lower bytes; fits = fits; bytes = decode_sized-encode_lower bytes b size are; written = refl }
+
+all_more : {X : Type 0} (P : X → Type 0) (xs : List X) (x : X) → All P xs → P x → All P (xs ++ x ∷ [])
+all_more P [] x all is = All-cons P x [] is (All-nil P)
+all_more P (y ∷ xs) x all is = All-cons P y (xs ++ x ∷ []) (All-head P y xs all) (all_more P xs x (All-tail P y xs all) is)
+
+taken_more : {X Y : Type 0} (g : X → Y) (xs : List X) (i : ℕ) (x : X) → i < length xs → x ≡ get_or xs i x → map g (take (i + 1) xs) ≡ map g (take i xs) ++ g x ∷ []
+taken_more g xs i x within is =
+    ap (λ (t : List _). map g t) (take_more xs i x within ∙ ap (λ (y : _). take i xs ++ y ∷ []) (sym is)) ∙ map-append g (take i xs) (x ∷ [])
+
+-- the text once one more item is written
+pub text_more : {X Y : Type 0} (f : Y → List ℕ) (g : X → Y) (xs : List X) (i : ℕ) (x : X) (start old new : List ℕ) → i < length xs → x ≡ get_or xs i x
+    → old ≡ start ++ concat (map f (map g (take i xs))) → new ≡ old ++ f (g x) → new ≡ start ++ concat (map f (map g (take (i + 1) xs)))
+text_more f g xs i x start old new within is before more =
+    more ∙ (ap (λ (t : List ℕ). t ++ f (g x)) before
+    ∙ (append_assoc start (concat (map f (map g (take i xs)))) (f (g x))
+    ∙ ap (λ (t : List ℕ). start ++ t) (sym (concat_more f (map g (take i xs)) (g x)) ∙ ap (λ (t : List _). concat (map f t)) (sym (taken_more g xs i x within is)))))
+
+pub held_more : {X Y : Type 0} (P : Y → Type 0) (g : X → Y) (xs : List X) (i : ℕ) (x : X) → i < length xs → x ≡ get_or xs i x
+    → All P (map g (take i xs)) → P (g x) → All P (map g (take (i + 1) xs))
+held_more P g xs i x within is all at = subst (λ (t : List _). All P t) (sym (taken_more g xs i x within is)) (all_more P (map g (take i xs)) (g x) all at)
+
+pub all_taken : {X Y : Type 0} (P : Y → Type 0) (g : X → Y) (xs : List X) (i : ℕ) → length xs ≤ i → All P (map g (take i xs)) → All P (map g xs)
+all_taken P g xs i past all = subst (λ (t : List _). All P (map g t)) (search (rules, arith)) all
+
+pub on_ok : {T E : Type 0} (r : Result T E) (P : Type 0) → P → OnOk r P
+on_ok (Ok x) P h = h
+on_ok (Err e) P h = tt

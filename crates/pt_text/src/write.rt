@@ -1,6 +1,6 @@
 //! The text of a plan.
 
-ghost use Rattle.std.specs.Prelude.{◌≡◌, ◌++◌, ℕ, All, IfOk, OnOk, OnErr};
+ghost use Rattle.std.specs.Prelude.{◌≡◌, ◌++◌, All, length, IfOk, OnOk};
 ghost use Rattle.std.specs.String.{string_bytes};
 ghost use Rattle.pt_sector.specs.Sectors.{IsSectorSize};
 ghost use Rattle.pt_apply.specs.Plans.{writes_of, phases_of};
@@ -11,13 +11,21 @@ use pt_apply::{Plan, Write};
 use std::alloc::{AllocError, Global};
 
 // One line.
-fn push_write<const B: usize>(alloc: Global, text: &mut String, write: &Write<B>) -> Result<(), AllocError>
-    ensures text { OnOk result (string_bytes text.new ≡ string_bytes text.old ++ write_text (write.now.lba.0, write.now.bytes)) }
-    ensures held { HasLine B (write.now.lba.0, write.now.bytes) }
+fn push_line(alloc: Global, text: &mut String, lba: u64, bytes: &[u8]) -> Result<(), AllocError>
+    ensures text { OnOk result (string_bytes text.new ≡ string_bytes text.old ++ write_text (lba, bytes.now)) }
+    ensures held { HasLine (length bytes.now) (lba, bytes.now) }
 {
-    let digits = hex::encode(alloc, write.bytes.as_slice())?;
-    let line = format!(in alloc; "W {} {digits}\n", write.lba.0)?;
+    let digits = hex::encode(alloc, bytes)?;
+    let line = format!(in alloc; "W {lba} {digits}\n")?;
     text.push_str(&line)
+}
+
+// The line of a sector's write.
+fn push_write<const B: usize>(alloc: Global, text: &mut String, lba: u64, bytes: &[u8; B]) -> Result<(), AllocError>
+    ensures text { OnOk result (string_bytes text.new ≡ string_bytes text.old ++ write_text (lba, bytes.now)) }
+    ensures held { HasLine B (lba, bytes.now) }
+{
+    push_line(alloc, text, lba, bytes.as_slice())
 }
 
 // The lines of a phase: its writes, and its flush.
@@ -26,7 +34,7 @@ fn push_phase<const B: usize>(alloc: Global, text: &mut String, phase: &[Write<B
     ensures held { OnOk result (All (HasLine B) (writes_of phase.now)) }
 {
     for write in phase {
-        push_write(alloc, text, write)?;
+        push_write(alloc, text, write.lba.0, &write.bytes)?;
     }
     text.push_str("F\n")
 }
