@@ -1,10 +1,9 @@
 -- Lines that are added to those that were read.
-use Rattle.std.proofs.Common.{◌≡◌, ◌≢◌, ◌⊎◌, inl, inr, ◌<◌, ◌≤◌, ◌+◌, ℕ, List, [], ◌∷◌, ◌++◌, length, map, refl, sym, ap, ◌∙◌, subst, arith, length-append, append_assoc, drop, get_or}
+use Rattle.std.proofs.Common.{◌≡◌, ◌≢◌, ◌⊎◌, inl, inr, ◌<◌, ◌≤◌, ◌+◌, ℕ, suc, List, [], ◌∷◌, ◌++◌, length, map, refl, sym, ap, ◌∙◌, subst, arith, length-append, append_assoc, drop, get_or}
 use Rattle.std.proofs.lemmas.List.{append-nil, map-append}
 use Rattle.std.proofs.Math.Seq.{get_or-append_seam}
 use Rattle.std.specs.Prelude.{All}
 use Rattle.std.proofs.lemmas.List.Elements.{All-nil, All-cons, All-head, All-tail}
-use native.Mathlib.Numerals.{unary_clauses}
 use Rattle.std.specs.Str.{IsUtf8}
 use Rattle.std.proofs.lemmas.Str.{IsUtf8-drop, IsCharBoundary-after_ascii}
 use Rattle.pt_sector.specs.Writes.{Writes}
@@ -134,14 +133,15 @@ reading_unflushed b text n phases last h more = record { lines = h.lines; phases
 pub reading_done : (b : ℕ) (text : List ℕ) (n : ℕ) (phases : List Writes) → IsReading b text [] n phases [] → PlanText b phases text
 reading_done b text n phases h = record { lines = h.lines; whole = h.whole; begins = h.begins }
 
-drop_seam : (xs : List ℕ) (c : ℕ) (ys : List ℕ) → drop (length xs + 1) (xs ++ c ∷ ys) ≡ ys
+drop_seam : (xs : List ℕ) (c : ℕ) (ys : List ℕ) → drop (suc (length xs)) (xs ++ c ∷ ys) ≡ ys
 drop_seam [] c ys = refl
-drop_seam (x ∷ xs) c ys = simp unary_clauses (drop_seam xs c ys)
+drop_seam (x ∷ xs) c ys = drop_seam xs c ys
 
 pub utf8_after : (rest line after : List ℕ) → rest ≡ line ++ 10 ∷ after → IsUtf8 rest → IsUtf8 after
 utf8_after rest line after e utf8 =
     let within : length line < length rest = rw e (let len = length-append line (10 ∷ after) in omega (arith, len)) in
     let at : get_or rest (length line) 0 ≡ 10 = rw e (get_or-append_seam line 10 after 0) in
     let ascii : get_or rest (length line) 0 < 128 = omega (arith, at) in
-    let behind : drop (length line + 1) rest ≡ after = ap (λ (t : List ℕ). drop (length line + 1) t) e ∙ drop_seam line 10 after in
+    let one : length line + 1 ≡ suc (length line) = omega arith in
+    let behind : drop (length line + 1) rest ≡ after = ap (λ (t : List ℕ). drop (length line + 1) t) e ∙ (ap (λ (n : ℕ). drop n (line ++ 10 ∷ after)) one ∙ drop_seam line 10 after) in
     subst IsUtf8 behind (IsUtf8-drop rest (length line + 1) utf8 (IsCharBoundary-after_ascii rest (length line) utf8 within ascii))

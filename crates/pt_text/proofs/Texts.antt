@@ -1,6 +1,6 @@
 -- The canonical text is the plan's.
-use Rattle.std.proofs.Common.{◌≡◌, ◌<◌, ◌^◌, ◌+◌, ℕ, List, [], ◌∷◌, ◌++◌, length, map, refl, sym, ap, ◌∙◌, subst, arith, append_assoc, rules, ◌≤◌, get_or, take, Result, Ok, Err}
-use Rattle.std.proofs.lemmas.List.{append-nil, map-append, take_more}
+use Rattle.std.proofs.Common.{◌≡◌, ◌<◌, ◌^◌, ◌+◌, ℕ, List, [], ◌∷◌, ◌++◌, length, map, refl, sym, ap, ◌∙◌, subst, arith, append_assoc, ◌≤◌, get_or, take, Result, Ok, Err}
+use Rattle.std.proofs.lemmas.List.{append-nil, map-append, take_more, take_all}
 use Rattle.std.proofs.lemmas.List.Elements.{All-nil, All-cons, All-head, All-tail}
 use Rattle.std.specs.Prelude.{All, OnOk}
 use Rattle.pt_sector.specs.Writes.{Writes}
@@ -79,7 +79,7 @@ pub held_more : {X Y : Type 0} (P : Y → Type 0) (g : X → Y) (xs : List X) (i
 held_more P g xs i x within is all at = subst (λ (t : List _). All P t) (sym (taken_more g xs i x within is)) (all_more P (map g (take i xs)) (g x) all at)
 
 pub all_taken : {X Y : Type 0} (P : Y → Type 0) (g : X → Y) (xs : List X) (i : ℕ) → length xs ≤ i → All P (map g (take i xs)) → All P (map g xs)
-all_taken P g xs i past all = subst (λ (t : List _). All P (map g t)) (search (rules, arith)) all
+all_taken P g xs i past all = subst (λ (t : List _). All P (map g t)) (take_all i xs past) all
 
 pub on_ok : {T E : Type 0} (r : Result T E) (P : Type 0) → P → OnOk r P
 on_ok (Ok x) P h = h

@@ -1,0 +1,3 @@
+//! Texts by hand, and plans that come back.
+
+use crate::{PlanTextError, plan_text, read_plan};
