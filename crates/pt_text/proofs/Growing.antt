@@ -123,8 +123,8 @@ reading_unended b text rest n phases last h lineless more = record {
   number = h.number;
   more = more;
   bad = λ l a is fits.
-    let within : length l < length rest = rw is (let len = length-append l (10 ∷ a) in omega (arith, len)) in
-    lineless (length l) within (rw is (get_or-append_seam l 10 a 0));
+      let within : length l < length rest = rw is (let len = length-append l (10 ∷ a) in omega (arith, len)) in
+      lineless (length l) within (rw is (get_or-append_seam l 10 a 0));
 }
 
 pub reading_unflushed : (b : ℕ) (text : List ℕ) (n : ℕ) (phases : List Writes) (last : Writes) → IsReading b text [] n phases last → 0 < length last → LacksFlush b text

@@ -57,7 +57,7 @@ goes_plan [] last some = goes_last last
 goes_plan (p ∷ ps) last some =
     subst (λ (ss : List Step). Goes false ss (has last)) (sym (append_assoc (puts p) (Flush ∷ steps_of ps) (puts last)))
     (goes_puts p false (Flush ∷ (steps_of ps ++ puts last)) (has last) (All-head (λ (q : Writes). 0 < length q) p ps some)
-      (refl, goes_plan ps last (All-tail (λ (q : Writes). 0 < length q) p ps some)))
+    (refl, goes_plan ps last (All-tail (λ (q : Writes). 0 < length q) p ps some)))
 
 -- no line that may come stands at the head of the rest
 abbrev Stuck : ℕ → Bool → List ℕ → Type 0

@@ -1,8 +1,11 @@
 -- The canonical text is the plan's.
 use Rattle.std.proofs.Common.{◌≡◌, ◌<◌, ◌^◌, ◌+◌, ℕ, List, [], ◌∷◌, ◌++◌, length, map, refl, sym, ap, ◌∙◌, subst, arith, append_assoc, ◌≤◌, get_or, take, Result, Ok, Err}
-use Rattle.std.proofs.lemmas.List.{append-nil, map-append, take_more, take_all}
+use Rattle.std.proofs.lemmas.List.{append-nil, map-append, take_more, take_all, length-map}
 use Rattle.std.proofs.lemmas.List.Elements.{All-nil, All-cons, All-head, All-tail}
-use Rattle.std.specs.Prelude.{All, OnOk}
+use Rattle.std.specs.Prelude.{All, OnOk, Vec}
+use Rattle.std.specs.declared.alloc.Global.{Global}
+use Rattle.pt_apply.specs.declared.plan.Write.{Write}
+use Rattle.pt_apply.specs.Plans.{writes_of, phases_in}
 use Rattle.pt_sector.specs.Writes.{Writes}
 use Rattle.pt_text.specs.Lines.{joined, IsWriteLine, Step, Put, Flush, AreLines}
 use Rattle.pt_text.specs.PlanTexts.{Begins, PlanText, steps_of, puts, NoneEmpty}
@@ -84,3 +87,20 @@ all_taken P g xs i past all = subst (λ (t : List _). All P (map g t)) (take_all
 pub on_ok : {T E : Type 0} (r : Result T E) (P : Type 0) → P → OnOk r P
 on_ok (Ok x) P h = h
 on_ok (Err e) P h = tt
+
+abbrev HasWrites : {b : ℕ} → Vec (Write b) Global → Type 0
+HasWrites p = 0 < length p.items
+
+pub none_empty : {b : ℕ} (items : List (Vec (Write b) Global)) → All (λ (p : Vec (Write b) Global). 0 < length p.items) items → NoneEmpty (phases_in items)
+none_empty [] all = All-nil (λ (q : Writes). 0 < length q)
+none_empty (p ∷ items) all =
+    All-cons (λ (q : Writes). 0 < length q) (writes_of p.items) (phases_in items)
+    (let some = All-head HasWrites p items all in let len = length-map p.items (λ (w : Write _). (w.lba.0, w.bytes)) in omega (arith, some, len))
+    (none_empty items (All-tail HasWrites p items all))
+
+pub phases_some : {b : ℕ} (items : List (Vec (Write b) Global)) → NoneEmpty (phases_in items) → All (λ (p : Vec (Write b) Global). 0 < length p.items) items
+phases_some [] all = All-nil HasWrites
+phases_some (p ∷ items) all =
+    All-cons HasWrites p items
+    (let some = All-head (λ (q : Writes). 0 < length q) (writes_of p.items) (phases_in items) all in let len = length-map p.items (λ (w : Write _). (w.lba.0, w.bytes)) in omega (arith, some, len))
+    (phases_some items (All-tail (λ (q : Writes). 0 < length q) (writes_of p.items) (phases_in items) all))

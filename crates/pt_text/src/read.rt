@@ -1,6 +1,6 @@
 //! The plan of a text.
 
-ghost use Rattle.std.specs.Prelude.{◌≡◌, ◌≢◌, ◌<◌, ◌++◌, ◌∷◌, [], ℕ, List, IfOk, IfErr, IfSome, IfNone, Ok};
+ghost use Rattle.std.specs.Prelude.{◌≡◌, ◌≢◌, ◌<◌, ◌++◌, ◌∷◌, [], ℕ, List, All, length, IfOk, IfErr, IfSome, IfNone, Ok};
 ghost use Rattle.std.specs.Bool.{MatchBool};
 ghost use Rattle.hex.specs.Hex.{decode_sized};
 ghost use Rattle.pt_sector.specs.Sectors.{IsSectorSize};
@@ -100,7 +100,11 @@ fn read_line<const B: usize>(line: &str) -> Option<Line<B>>
 }
 
 // Adds a line, and says whether it may come there.
-fn take_line<const B: usize>(alloc: Global, partial: &mut Partial<B>, line: &str) -> Result<bool, AllocError>
+fn take_line<const B: usize>(
+    alloc: Global,
+    partial: &mut Partial<B>,
+    line: &str,
+) -> Result<bool, AllocError>
     requires { IsSectorSize B }
     ensures { IfOk result (λ good. MatchBool good (Grows B line.now (phases_read partial.old) (last_read partial.old) (phases_read partial.new) (last_read partial.new)) (¬ Fits B (last_read partial.old) line.now)) }
 {
@@ -122,6 +126,7 @@ fn take_line<const B: usize>(alloc: Global, partial: &mut Partial<B>, line: &str
 pub fn read_plan<const B: usize>(alloc: Global, text: &str) -> Result<Plan<B>, PlanTextError>
     requires size { IsSectorSize B }
     ensures ok { IfOk result (λ plan. PlanText B (phases_of plan) text.now) }
+    ensures phases { IfOk result (λ plan. All (λ p. 0 < length p.items) plan.phases.items) }
     ensures err { IfErr result (Refuses B text.now) }
 {
     let mut partial = Partial {
