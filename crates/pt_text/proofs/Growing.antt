@@ -1,13 +1,12 @@
 -- Lines that are added to those that were read.
-use Rattle.std.proofs.Common.{◌≡◌, ◌≢◌, ◌⊎◌, inl, inr, ◌<◌, ◌≤◌, ◌+◌, ℕ, suc, List, [], ◌∷◌, ◌++◌, length, map, refl, sym, ap, ◌∙◌, subst, arith, length-append, append_assoc, drop, get_or}
+use Rattle.std.proofs.Common.{◌≡◌, inl, inr, ◌<◌, ◌≤◌, ◌+◌, ℕ, suc, List, [], ◌∷◌, ◌++◌, length, refl, sym, ap, ◌∙◌, subst, arith, length-append, append_assoc, drop, get_or}
 use Rattle.std.proofs.lemmas.List.{append-nil, map-append}
 use Rattle.std.proofs.Math.Seq.{get_or-append_seam}
-use Rattle.std.specs.Prelude.{All}
 use Rattle.std.proofs.lemmas.List.Elements.{All-nil, All-cons, All-head, All-tail}
 use Rattle.std.specs.Str.{IsUtf8}
 use Rattle.std.proofs.lemmas.Str.{IsUtf8-drop, IsCharBoundary-after_ascii}
 use Rattle.pt_sector.specs.Writes.{Writes}
-use Rattle.pt_text.specs.Lines.{joined, IsWriteLine, IsFlushLine, Step, Put, Flush, IsLine, AreLines}
+use Rattle.pt_text.specs.Lines.{joined, Step, Put, Flush, IsLine, AreLines}
 use Rattle.pt_text.specs.PlanTexts.{Begins, PlanText, steps_of, puts, NoneEmpty}
 use Rattle.pt_text.specs.Faults.{Fits, IsBadLine, LacksFlush}
 use Rattle.pt_text.specs.Reading.{Grows, Lacks}

@@ -1,10 +1,10 @@
 -- A text has one reading.
-use Rattle.std.proofs.Common.{◌≡◌, ◌⊎◌, inl, inr, ◌<◌, ◌+◌, ℕ, suc, Bool, true, false, List, [], ◌∷◌, ◌++◌, length, map, refl, sym, ap, ◌∙◌, subst, arith, append_assoc}
+use Rattle.std.proofs.Common.{◌≡◌, ◌⊎◌, inl, inr, ◌<◌, ◌+◌, ℕ, suc, Bool, true, false, List, [], ◌∷◌, ◌++◌, length, refl, sym, ap, ◌∙◌, subst, arith, append_assoc}
 use Rattle.std.proofs.lemmas.List.{append-nil}
 use Rattle.std.proofs.lemmas.List.Elements.{All-head, All-tail}
 use Rattle.pt_sector.specs.Writes.{Writes}
 use Rattle.pt_text.specs.Lines.{joined, IsWriteLine, IsFlushLine, Step, Put, Flush, IsLine, AreLines}
-use Rattle.pt_text.specs.PlanTexts.{Begins, PlanText, steps_of, puts, NoneEmpty}
+use Rattle.pt_text.specs.PlanTexts.{PlanText, steps_of, puts, NoneEmpty}
 use Rattle.pt_text.specs.Faults.{Fits, IsBadLine, LacksFlush, IsTextFault}
 use Rattle.pt_text.specs.declared.error.PlanTextError.{PlanTextError}
 use Rattle.pt_text.specs.declared.error.PlanTextError.TheVariants.{BadLine, NoFinalFlush, Memory}

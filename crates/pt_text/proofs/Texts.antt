@@ -7,8 +7,8 @@ use Rattle.std.specs.declared.alloc.Global.{Global}
 use Rattle.pt_apply.specs.declared.plan.Write.{Write}
 use Rattle.pt_apply.specs.Plans.{writes_of, phases_in}
 use Rattle.pt_sector.specs.Writes.{Writes}
-use Rattle.pt_text.specs.Lines.{joined, IsWriteLine, Step, Put, Flush, AreLines}
-use Rattle.pt_text.specs.PlanTexts.{Begins, PlanText, steps_of, puts, NoneEmpty}
+use Rattle.pt_text.specs.Lines.{joined, Flush, AreLines}
+use Rattle.pt_text.specs.PlanTexts.{PlanText, steps_of, puts, NoneEmpty}
 use Rattle.pt_text.specs.Canonical.{write_line, HasLine, HaveLines, writes_text, text_of}
 use Rattle.hex.specs.Hex.{encode_lower, IsBytes}
 use Rattle.hex.proofs.HexLemmas.{decode_sized-encode_lower}
@@ -95,12 +95,12 @@ pub none_empty : {b : ℕ} (items : List (Vec (Write b) Global)) → All (λ (p 
 none_empty [] all = All-nil (λ (q : Writes). 0 < length q)
 none_empty (p ∷ items) all =
     All-cons (λ (q : Writes). 0 < length q) (writes_of p.items) (phases_in items)
-    (let some = All-head HasWrites p items all in let len = length-map p.items (λ (w : Write _). (w.lba.0, w.bytes)) in omega (arith, some, len))
+    (let some = All-head HasWrites p items all in let len = length-map {B = ℕ × List ℕ} p.items (λ (w : Write _). (w.lba.0, w.bytes)) in omega (arith, some, len))
     (none_empty items (All-tail HasWrites p items all))
 
 pub phases_some : {b : ℕ} (items : List (Vec (Write b) Global)) → NoneEmpty (phases_in items) → All (λ (p : Vec (Write b) Global). 0 < length p.items) items
 phases_some [] all = All-nil HasWrites
 phases_some (p ∷ items) all =
     All-cons HasWrites p items
-    (let some = All-head (λ (q : Writes). 0 < length q) (writes_of p.items) (phases_in items) all in let len = length-map p.items (λ (w : Write _). (w.lba.0, w.bytes)) in omega (arith, some, len))
+    (let some = All-head (λ (q : Writes). 0 < length q) (writes_of p.items) (phases_in items) all in let len = length-map {B = ℕ × List ℕ} p.items (λ (w : Write _). (w.lba.0, w.bytes)) in omega (arith, some, len))
     (phases_some items (All-tail (λ (q : Writes). 0 < length q) (writes_of p.items) (phases_in items) all))

@@ -1,5 +1,5 @@
 -- What is wrong with a text that is no plan's.
-use Rattle.std.specs.Prelude.{◌≡◌, ◌≢◌, ◌⊎◌, ◌+◌, ◌<◌, ℕ, List, [], ◌∷◌, ◌++◌, length}
+use Rattle.std.specs.Prelude.{◌≡◌, ◌⊎◌, ◌+◌, ◌<◌, ℕ, List, [], ◌∷◌, ◌++◌, length}
 use Rattle.pt_sector.specs.Writes.{Writes}
 use Rattle.pt_text.specs.Lines.{joined, IsWriteLine, IsFlushLine}
 use Rattle.pt_text.specs.PlanTexts.{Begins}

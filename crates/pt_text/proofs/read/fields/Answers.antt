@@ -1,4 +1,4 @@
-use Rattle.std.proofs.Common.{◌≡◌, List, [], ◌∷◌, subst, lit<, rules}
+use Rattle.std.proofs.Common.{◌≡◌, [], ◌∷◌, subst, lit<, rules}
 use Rattle.std.proofs.lemmas.Str.Pattern.{split_parts}
 use Rattle.pt_text.proofs.Cuts.{Parts, fields_found, fields_missing}
 use Rattle.pt_text.proofs.read.fields.Goals as goal

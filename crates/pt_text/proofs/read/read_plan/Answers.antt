@@ -1,4 +1,4 @@
-use Rattle.std.proofs.Common.{◌≡◌, ◌<◌, ◌≤◌, ◌+◌, ◌∷◌, ◌++◌, ℕ, List, length, subst, lit<, arith, inr, ap, length-append}
+use Rattle.std.proofs.Common.{◌<◌, ℕ, List, length, subst, lit<, arith, inr}
 use Rattle.std.proofs.lemmas.Str.Pattern.{split_parts}
 use Rattle.pt_text.specs.Reading.{phases_read, last_read}
 use Rattle.pt_text.proofs.Cuts.{Parts, when_true, when_false}
