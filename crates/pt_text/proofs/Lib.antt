@@ -1,0 +1,4 @@
+pub mod Cuts
+pub mod Texts
+pub mod Growing
+pub mod OneReading

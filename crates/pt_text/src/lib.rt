@@ -1,0 +1,18 @@
+//! Plans as text.
+//!
+//! A write is a line: `W`, a space, the sector in decimal without a zero in front, a space, and the sector's bytes, two
+//! hexadecimal digits each. A line `F` ends each phase. Each line ends with a newline, and nothing else may stand in a
+//! text. The empty text is that of the empty plan.
+#![tactic(auto)]
+
+mod error;
+mod laws;
+mod read;
+#[cfg(test)]
+mod tests;
+mod write;
+
+pub use error::PlanTextError;
+pub use laws::{plan_has_no_fault, plan_is_one, text_fault_is_one};
+pub use read::read_plan;
+pub use write::plan_text;
