@@ -1,5 +1,7 @@
 -- A text that is being read.
-use Rattle.std.specs.Prelude.{◌≡◌, ◌≢◌, ◌⊎◌, ◌<◌, ℕ, List, [], ◌∷◌, ◌++◌, length, slice_index}
+use Rattle.std.specs.Prelude.{Bool, ◌≡◌, ◌≢◌, ◌⊎◌, ◌<◌, ℕ, List, [], ◌∷◌, ◌++◌, length, slice_index}
+use Rattle.std.specs.Bool.{MatchBool}
+use Rattle.pt_text.specs.Faults.{Fits}
 use Rattle.pt_sector.specs.Writes.{Writes}
 use Rattle.pt_apply.specs.Plans.{writes_of, phases_in}
 use Rattle.pt_text.specs.Lines.{IsWriteLine, IsFlushLine, Step, Put, Flush}
@@ -26,3 +28,8 @@ phases_read p = phases_in p.phases.items
 
 abbrev pub last_read : {b : _} → Partial b → Writes
 last_read p = writes_of p.last.items
+
+-- a line is added where it may come
+abbrev pub Takes : (b : ℕ) → List ℕ → Partial b → Partial b → Bool → Type 0
+Takes b line old new good =
+    MatchBool good (Grows b line (phases_read old) (last_read old) (phases_read new) (last_read new)) (¬ Fits b (last_read old) line)

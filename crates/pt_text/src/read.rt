@@ -1,14 +1,13 @@
 //! The plan of a text.
 
 ghost use Rattle.std.specs.Prelude.{◌≡◌, ◌≢◌, ◌<◌, ◌++◌, ◌∷◌, [], ℕ, List, All, length, IfOk, IfErr, IfSome, IfNone, Ok};
-ghost use Rattle.std.specs.Bool.{MatchBool};
 ghost use Rattle.hex.specs.Hex.{decode_sized};
 ghost use Rattle.pt_sector.specs.Sectors.{IsSectorSize};
 ghost use Rattle.pt_apply.specs.Plans.{phases_of};
 ghost use Rattle.pt_text.specs.Lines.{Step, IsLine, IsWriteLine};
 ghost use Rattle.pt_text.specs.PlanTexts.{PlanText};
-ghost use Rattle.pt_text.specs.Faults.{Fits, Refuses};
-ghost use Rattle.pt_text.specs.Reading.{Lacks, step_of, Grows, phases_read, last_read};
+ghost use Rattle.pt_text.specs.Faults.{Refuses};
+ghost use Rattle.pt_text.specs.Reading.{Lacks, step_of, Takes};
 
 use crate::error::PlanTextError;
 use pt_apply::{Plan, Write};
@@ -106,7 +105,7 @@ fn take_line<const B: usize>(
     line: &str,
 ) -> Result<bool, AllocError>
     requires { IsSectorSize B }
-    ensures { IfOk result (λ good. MatchBool good (Grows B line.now (phases_read partial.old) (last_read partial.old) (phases_read partial.new) (last_read partial.new)) (¬ Fits B (last_read partial.old) line.now)) }
+    ensures { IfOk result (Takes B line.now partial.old partial.new) }
 {
     match read_line(line) {
         Some(Line::Write(write)) => partial.last.push(write)?,
