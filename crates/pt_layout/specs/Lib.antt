@@ -28,3 +28,4 @@ pub mod OneOrder
 pub mod OneFinding
 pub mod OneOwner
 pub mod OneText
+pub mod Guarded

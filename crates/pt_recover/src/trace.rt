@@ -92,7 +92,7 @@ impl Model for Trace {
 impl Trace {
     /// No sectors.
     #[tactic(auto, using(crate::proofs::Traces::in_none))]
-    pub(crate) fn new(alloc: Global) -> Trace
+    pub fn new(alloc: Global) -> Trace
         ensures { (s : ℕ) → ¬ IsIn result s }
     {
         Trace {
@@ -122,7 +122,7 @@ impl Trace {
 
     /// Adds one sector.
     #[tactic(auto, using(crate::proofs::Traces::adds_one))]
-    pub(crate) fn add_one(&mut self, lba: u64) -> Result<(), AllocError>
+    pub fn add_one(&mut self, lba: u64) -> Result<(), AllocError>
         ensures { OnOk result (Adds self.old self.new (λ s. s ≡ lba)) }
     {
         self.add(lba, lba)

@@ -1,0 +1,6 @@
+//! Targets: what the sectors of a wanted layout must hold, and the writes that are left of them.
+#![tactic(auto)]
+
+mod target;
+
+pub use target::{Kind, Target};
