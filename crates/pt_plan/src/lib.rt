@@ -16,3 +16,4 @@ pub use commits::commit;
 pub use error::{CommitError, PlanError};
 pub use laws::{calls_carry_on, commit_carries, history_begins, no_calls_carry, two_calls_carry};
 pub use planner::make_plan;
+pub use prepare::plan_for;

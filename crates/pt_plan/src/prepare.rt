@@ -123,6 +123,26 @@ fn checked<const B: usize, D: Disk<B>>(
     }
 }
 
+/// The plan that leads from what the disk denotes to what the words make of it, unchecked. Nothing is flushed or
+/// written. It is refused as `commit` refuses, and `Check` is never told.
+pub fn plan_for<const B: usize, D: Disk<B>>(
+    alloc: Global,
+    disk: &mut D,
+    edits: &[Edit],
+    guids: &[Guid],
+) -> Result<Plan<B>, CommitError>
+    requires size { IsSectorSize B }
+    ensures same { OnlyReads D.Disk disk.old disk.new }
+    ensures blames { Blames fault_in result (D.faults disk.old) (D.faults disk.new) }
+    ensures hides { IfErr result HidesNoFailure }
+    ensures in_range { IfOk result (InRange (D.count disk.old)) }
+{
+    let old = start(alloc, disk, edits, guids)?;
+    let wanted = edited::<B>(alloc, &old, disk.sectors(), edits, guids)?;
+    let plan = planned(alloc, disk, &wanted)?;
+    Ok(plan)
+}
+
 /// The checked plan for what the words make of what the disk denotes.
 pub(crate) fn prepare<const B: usize, D: Disk<B>>(
     alloc: Global,
