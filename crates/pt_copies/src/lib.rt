@@ -1,2 +1,6 @@
 //! The phases of a plan that writes both copies of a table.
 #![tactic(auto)]
+
+mod order;
+
+pub use order::Order;

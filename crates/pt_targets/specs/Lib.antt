@@ -1,1 +1,4 @@
 pub mod Targets
+pub mod Errors
+pub mod Causes
+pub mod Starts

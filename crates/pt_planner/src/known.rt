@@ -1,0 +1,67 @@
+//! What the planner knows of a disk.
+
+ghost use Rattle.std.specs.Prelude.{◌≡◌, IfOk, IfErr, IfSome, IfNone};
+ghost use Rattle.pt_sector.specs.Calls.{Blames};
+ghost use Rattle.pt_sector.specs.Reads.{OnlyReads, fault_of};
+ghost use Rattle.pt_sector.specs.Sectors.{IsSectorSize};
+ghost use Rattle.pt_recover.specs.Answers.{IsReason};
+ghost use Rattle.pt_planner.specs.Known.{IsKnown, IsKnownOf, ReasonIs};
+
+use pt_layout::{Finding, Head, Layout, NoTable, Survey, Trace, survey};
+use pt_sector::{Disk, Failure};
+use std::alloc::Global;
+
+/// What one reading of a disk tells the planner.
+#[derive(Drop)]
+pub struct Known {
+    /// What sector 0 says of the disk.
+    pub head: Head,
+    /// What the disk denotes: a layout, or nothing.
+    pub old: Option<Layout>,
+    /// The first thing that is wrong with it, none where it is healthy.
+    pub finding: Option<Finding>,
+    /// Whether the primary copy of a GPT exists.
+    pub primary: bool,
+    /// The sectors that recovery reads as sector 0 of an MBR disk, as an extended boot record or as a label place.
+    pub guarded: Trace,
+}
+
+/// Reads a disk once: what the planner must know, and why there is no layout, where there is none.
+pub fn read_known<const B: usize, D: Disk<B>>(
+    alloc: Global,
+    disk: &mut D,
+) -> Result<(Known, Option<NoTable>), Failure>
+    requires size { IsSectorSize B }
+    ensures same { OnlyReads D.Disk disk.old disk.new }
+    ensures blames { Blames fault_of result (D.faults disk.old) (D.faults disk.new) }
+    ensures known { D.tells → IfOk result (λ r. IsKnown B (D.told disk.old).seen r.0) }
+    ensures reason { D.tells → IfOk result (λ r. ReasonIs B (D.told disk.old).seen r.0.old r.1) }
+{
+    let read = survey(alloc, disk)?;
+    Ok(known(read))
+}
+
+/// The same, of a survey.
+fn known(read: Survey) -> (Known, Option<NoTable>)
+    ensures { IsKnownOf read result.0 result.1 }
+{
+    let Survey {
+        head,
+        found,
+        finding,
+        primary,
+        guarded,
+    } = read;
+    let (old, reason) = match found {
+        Ok(layout) => (Some(layout), None),
+        Err(reason) => (None, Some(reason)),
+    };
+    let known = Known {
+        head,
+        old,
+        finding,
+        primary,
+        guarded,
+    };
+    (known, reason)
+}

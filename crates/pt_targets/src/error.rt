@@ -1,0 +1,63 @@
+//! Why there is no plan.
+
+ghost use Rattle.std.specs.Prelude.{◌≡◌};
+ghost use Rattle.pt_targets.specs.Errors.{plan_error_number, plan_failure};
+ghost use Rattle.pt_targets.specs.declared.error.PlanError.TheVariants as plan;
+
+use pt_layout::Finding;
+use pt_sector::{Failure, Fault};
+use std::alloc::AllocError;
+
+/// Why there is no plan for a layout. Where several hold, the first of `Unsound`, `ReusedInOneBatch`, `NotOneSwitch`
+/// and `NeedsRepair` is told; but a layout that the disk can't have is `NotOneSwitch` before its writes are looked at.
+#[derive(Clone, Copy, Debug, PartialEq, Eq)]
+pub enum PlanError {
+    /// No plan leads there by one switch: a sector that decides what the disk denotes would change before it or beside
+    /// it. Or the layout is none that this disk may have, or one whose sectors wouldn't read back as written.
+    NotOneSwitch,
+    /// A sector that would be written is owned by a partition of the disk's present layout.
+    ReusedInOneBatch,
+    /// Only a label changes, and the copies of the GPT aren't whole.
+    NeedsRepair,
+    /// The layout isn't sound: the first thing that is wrong with it. Or it leaves a foreign label: the first such slice.
+    Unsound(Finding),
+    /// The device failed.
+    Device(Fault),
+    /// Memory was refused.
+    Memory,
+}
+
+impl PlanError {
+    /// The number that stands for it, from 1 to 6 in the order of the variants.
+    pub fn number(self) -> u8
+        ensures { result ≡ plan_error_number self }
+    {
+        match self {
+            PlanError::NotOneSwitch => 1,
+            PlanError::ReusedInOneBatch => 2,
+            PlanError::NeedsRepair => 3,
+            PlanError::Unsound(_) => 4,
+            PlanError::Device(_) => 5,
+            PlanError::Memory => 6,
+        }
+    }
+}
+
+impl From<Failure> for PlanError {
+    ghost from_gives = { λ failure e. e ≡ plan_failure failure };
+
+    fn from(failure: Failure) -> PlanError {
+        match failure {
+            Failure::Device(at) => PlanError::Device(Fault::Read(at)),
+            Failure::Memory => PlanError::Memory,
+        }
+    }
+}
+
+impl From<AllocError> for PlanError {
+    ghost from_gives = { λ _ e. e ≡ plan.Memory };
+
+    fn from(_e: AllocError) -> PlanError {
+        PlanError::Memory
+    }
+}
