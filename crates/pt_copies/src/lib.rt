@@ -1,6 +1,2 @@
 //! The phases of a plan that writes both copies of a table.
 #![tactic(auto)]
-
-mod order;
-
-pub use order::Order;

@@ -10,7 +10,8 @@ ghost use Rattle.pt_planner.specs.State.{IsBrokenBy, OrderOf};
 
 use crate::known::Known;
 use pt_chains::is_linked;
-use pt_copies::{Order, fits_table};
+use pt_copies::fits_table;
+use pt_tables::Order;
 use pt_layout::{Body, Finding, Head, Layout};
 
 /// Whether the disk denotes the layout.

@@ -16,8 +16,8 @@ use Rattle.pt_cases.specs.Copies.{FitsTable}
 use Rattle.pt_targets.specs.Starts.{Start}
 use Rattle.pt_targets.specs.Targets.{AreLabelTargets}
 use Rattle.pt_targets.specs.declared.target.Target.{Target}
-use Rattle.pt_copies.specs.declared.order.Order.{Order}
-use Rattle.pt_copies.specs.declared.order.Order.TheVariants.{BackupFirst, PrimaryFirst, FromMbr}
+use Rattle.pt_tables.specs.declared.order.Order.{Order}
+use Rattle.pt_tables.specs.declared.order.Order.TheVariants.{BackupFirst, PrimaryFirst, FromMbr}
 
 -- which order the disk asks for
 abbrev pub OrderIs : ℕ → Sectors → Order → Type 0
