@@ -1,2 +1,13 @@
 //! The phases of a plan that writes both copies of a table.
 #![tactic(auto)]
+
+mod fits;
+mod parts;
+mod phases;
+mod protect;
+#[cfg(test)]
+mod tests;
+
+pub use fits::fits_table;
+pub use phases::{backup_first, from_mbr, primary_first};
+pub use protect::{protected_head, protecting};
