@@ -3,6 +3,7 @@ use Rattle.std.specs.Prelude.{◌≡◌, ◌⊎◌, ℕ, Bool, true, false, Opti
 use Rattle.pt_sector.specs.Sectors.{Sectors}
 use Rattle.pt_recover.specs.declared.layout.Layout.{Layout}
 use Rattle.pt_layout.specs.Members.{number_path}
+use Rattle.pt_layout.specs.Sound.{IsUnsound}
 use Rattle.pt_layout.specs.declared.finding.Finding.{Finding}
 use Rattle.pt_layout.specs.declared.finding.Finding.TheVariants.{PrimaryCopy, BackupCopy, CopiesDiffer, Alternate, Protective, ForeignLabel}
 use Rattle.pt_layout.specs.declared.health.Head.{Head}
@@ -38,3 +39,9 @@ PlacesStop b d o p Memory = Unit {0}
 PlacesStop b d o p (Device fault) = Unit {0}
 PlacesStop b d o p ReusedInOneBatch = ⊥
 PlacesStop b d o p NeedsRepair = ⊥
+
+-- the first thing that is wrong with the layout, or want of memory
+abbrev pub IsUnsoundBy : ℕ → Layout → PlanError → Type 0
+IsUnsoundBy b p (Unsound f) = IsUnsound b p f
+IsUnsoundBy b p Memory = Unit {0}
+IsUnsoundBy b p _ = ⊥

@@ -1,6 +1,6 @@
 //! The targets of a wanted layout, and the plan that they make.
 
-ghost use Rattle.std.specs.Prelude.{◌≡◌, ◌⊎◌, ◌+◌, ◌*◌, ◌<◌, ◌≤◌, All, Some, length, IfOk, IfErr};
+ghost use Rattle.std.specs.Prelude.{◌≡◌, ◌<◌, All, None, length, IfOk, IfErr};
 ghost use Rattle.pt_sector.specs.Calls.{Blames};
 ghost use Rattle.pt_sector.specs.Reads.{OnlyReads, read_of};
 ghost use Rattle.pt_sector.specs.Sectors.{IsSectorSize};
@@ -8,15 +8,19 @@ ghost use Rattle.pt_apply.specs.Plans.{phases_of, InRange};
 ghost use Rattle.pt_recover.specs.declared.layout.Body.TheVariants.{Mbr, Gpt};
 ghost use Rattle.pt_recover.specs.Mbr.{extended_of};
 ghost use Rattle.pt_cases.specs.Cases.{IsPlan};
+ghost use Rattle.pt_cases.specs.Causes.{WasMbr};
 ghost use Rattle.pt_cases.specs.Copies.{FitsTable};
 ghost use Rattle.pt_cases.specs.Records.{IsLinked};
 ghost use Rattle.pt_tables.specs.Starts.{HeadIs};
+ghost use Rattle.pt_layout.specs.Surveys.{HeadOf};
+ghost use Rattle.pt_layout.specs.declared.health.Head.TheVariants as head;
+ghost use Rattle.pt_recover.specs.Denotes.{Denotes};
 ghost use Rattle.pt_targets.specs.Errors.{fault_in};
-ghost use Rattle.pt_targets.specs.Starts.{Start, StopsBy};
+ghost use Rattle.pt_targets.specs.Starts.{Start};
 ghost use Rattle.pt_targets.specs.Targets.{AreLabelTargets};
 ghost use Rattle.pt_planner.specs.Known.{IsKnown};
 ghost use Rattle.pt_planner.specs.State.{PlacesStop};
-ghost use Rattle.pt_planner.specs.Unplanned.{NoSwitch};
+ghost use Rattle.pt_planner.specs.Unplanned.{Hindered};
 
 use crate::known::Known;
 use crate::state::{changes_labels, is_broken, order_of};
@@ -71,6 +75,20 @@ pub(crate) fn to_mbr<const B: usize, D: Disk<B>>(
     chain: &Ebrs,
     places: Vec<Target<B>>,
 ) -> Result<Plan<B>, PlanError>
+    requires size { IsSectorSize B }
+    requires some { 0 < D.count disk.old }
+    requires body { wanted.now.body ≡ Mbr records.now chain.now }
+    requires linked { IsLinked (D.count disk.old) (extended_of records.now) chain.now }
+    requires in_range { All (λ t. t.at.0 < D.count disk.old) places.items }
+    requires known { D.tells → IsKnown B (D.told disk.old).seen known.now }
+    requires start { D.tells → Start B (D.told disk.old).seen known.now.old wanted.now }
+    requires places { D.tells → AreLabelTargets (D.told disk.old).seen known.now.old wanted.now places.items }
+    ensures same { OnlyReads D.Disk disk.old disk.new }
+    ensures blames { Blames fault_in result (D.faults disk.old) (D.faults disk.new) }
+    ensures in_range { IfOk result (InRange (D.count disk.old)) }
+    ensures some { IfOk result (λ plan. All (λ p. 0 < length p.items) plan.phases.items) }
+    ensures plan { D.tells → IfOk result (λ plan. IsPlan B (D.told disk.old).seen wanted.now (phases_of plan)) }
+    ensures err { D.tells → WasMbr known.now.old → IfErr result (Hindered B (D.told disk.old).seen known.now.old wanted.now) }
 {
     let layout = match &known.old {
         Some(layout) => layout,
@@ -92,6 +110,12 @@ fn head_of<const B: usize, D: Disk<B>>(
     disk: &mut D,
     head: Head,
 ) -> Result<Option<Sector<B>>, FailedRead>
+    requires some { 0 < D.count disk.old }
+    requires head { D.tells → HeadOf (D.told disk.old).seen head }
+    ensures same { OnlyReads D.Disk disk.old disk.new }
+    ensures blames { Blames read_of result (D.faults disk.old) (D.faults disk.new) }
+    ensures given { head ≡ head.Mbr → IfOk result (λ bytes. ¬ (bytes ≡ None)) }
+    ensures ok { D.tells → IfOk result (HeadIs (D.told disk.old).seen) }
 {
     if head == Head::Protected {
         return Ok(None);
@@ -110,6 +134,19 @@ pub(crate) fn to_gpt<const B: usize, D: Disk<B>>(
     table: &Table,
     places: Vec<Target<B>>,
 ) -> Result<Plan<B>, PlanError>
+    requires size { IsSectorSize B }
+    requires body { wanted.now.body ≡ Gpt table.now }
+    requires fits { FitsTable B (D.count disk.old) table.now }
+    requires in_range { All (λ t. t.at.0 < D.count disk.old) places.items }
+    requires known { D.tells → IsKnown B (D.told disk.old).seen known.now }
+    requires start { D.tells → Start B (D.told disk.old).seen known.now.old wanted.now }
+    requires places { D.tells → AreLabelTargets (D.told disk.old).seen known.now.old wanted.now places.items }
+    ensures same { OnlyReads D.Disk disk.old disk.new }
+    ensures blames { Blames fault_in result (D.faults disk.old) (D.faults disk.new) }
+    ensures in_range { IfOk result (InRange (D.count disk.old)) }
+    ensures some { IfOk result (λ plan. All (λ p. 0 < length p.items) plan.phases.items) }
+    ensures plan { D.tells → IfOk result (λ plan. IsPlan B (D.told disk.old).seen wanted.now (phases_of plan)) }
+    ensures err { D.tells → IfErr result (Hindered B (D.told disk.old).seen known.now.old wanted.now) }
 {
     if changes_labels(&known.old, wanted) {
         return one_label(alloc, &known.old, is_broken(&known.finding), places);
