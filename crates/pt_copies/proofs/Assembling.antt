@@ -1,5 +1,5 @@
 -- Phases, put together write by write.
-use Rattle.std.proofs.Common.{◌≡◌, ◌∙◌, ℕ, ◌+◌, ◌-◌, ◌<◌, List, [], ◌∷◌, ◌++◌, Option, zero, suc, refl, sym, ap, add-one, append_assoc}
+use Rattle.std.proofs.Common.{◌≡◌, ◌∙◌, ℕ, ◌+◌, ◌-◌, List, [], ◌∷◌, ◌++◌, Option, refl, sym, ap, add-one, append_assoc}
 use Rattle.pt_apply.specs.Plans.{writes_of}
 use Rattle.pt_apply.specs.declared.plan.Write.{Write}
 use Rattle.pt_gpt.specs.Array.{array_sector, AllFit}

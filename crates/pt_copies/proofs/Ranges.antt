@@ -1,10 +1,9 @@
 -- Writes and phases as lists of numbers and bytes, and what holds of each.
-use Rattle.std.proofs.Common.{◌≡◌, ◌∙◌, ◌⊎◌, inl, inr, ℕ, zero, suc, ◌+◌, ◌<◌, ◌≤◌, List, [], ◌∷◌, ◌++◌, length, slice_index_or, refl, sym, ap, subst, arith, length-append, Vec}
-use Rattle.std.specs.Prelude.{All}
+use Rattle.std.proofs.Common.{◌≡◌, inl, inr, ℕ, zero, suc, ◌+◌, ◌<◌, List, [], ◌∷◌, ◌++◌, length, slice_index_or, refl, subst, arith, length-append, Vec}
 use Rattle.std.proofs.lemmas.List.{map-append, length-map}
 use Rattle.std.specs.declared.alloc.Global.{Global}
 use Rattle.pt_sector.specs.Writes.{Writes, Puts}
-use Rattle.pt_apply.specs.Plans.{writes_of, phases_in, PhaseInRange, PhasesInRange}
+use Rattle.pt_apply.specs.Plans.{writes_of, phases_in, PhaseInRange}
 use Rattle.pt_apply.specs.declared.plan.Write.{Write}
 use Rattle.pt_check.specs.First.{writes_in}
 use Rattle.pt_cases.specs.Frames.{puts_left, puts_right}

@@ -1,4 +1,4 @@
-use Rattle.std.proofs.Common.{◌≡◌, ◌∙◌, ◌++◌, ◌∷◌, [], ap}
+use Rattle.std.proofs.Common.{◌∙◌, ◌++◌, ap}
 use Rattle.pt_apply.specs.Plans.{phases_in, writes_of}
 use Rattle.pt_sector.specs.Writes.{Writes}
 use Rattle.pt_cases.specs.Cases.{backup_first_phases}
