@@ -1,6 +1,6 @@
 //! From a disk and a wanted layout to the targets of its label places.
 
-ghost use Rattle.std.specs.Prelude.{◌≡◌, IfOk};
+ghost use Rattle.std.specs.Prelude.{◌≡◌, length, IfOk};
 ghost use Rattle.pt_sector.specs.Calls.{Blames};
 ghost use Rattle.pt_sector.specs.Reads.{OnlyReads, fault_of};
 ghost use Rattle.pt_sector.specs.Sectors.{IsSectorSize};
@@ -14,16 +14,23 @@ use crate::place::Place;
 use crate::reading::read_places;
 use crate::spots::spots;
 use crate::targets::{first_left, targets};
+use pt_mbr::Record;
 use pt_recover::{Body, Layout, Slice, label_places};
 use pt_sector::{Disk, Failure};
 use std::alloc::{AllocError, Global};
+
+fn are_four(records: &[Option<Record>; 4])
+    ensures { length «records».now ≡ 4 }
+{
+    let _count = records.len();
+}
 
 // That an MBR has four records. Its type says so; contracts see a body without types.
 fn has_four(body: &Body)
     ensures { HasFour body.now }
 {
     match body {
-        Body::Mbr { records, .. } => { let _count = records.len(); }
+        Body::Mbr { records, .. } => are_four(records),
         Body::Gpt(_) => {}
     }
 }

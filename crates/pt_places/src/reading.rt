@@ -30,7 +30,7 @@ fn push_place<const B: usize>(
     places: &mut Vec<Place<B>>,
     place: Place<B>,
 ) -> Result<(), AllocError>
-    ensures { OnOk result (places.new.items ≡ places.old.items ++ place ∷ []) }
+    ensures { OnOk result (places.new.items ≡ places.old.items ++ place.entry ∷ []) }
 {
     places.push(place)?;
     Ok(())
