@@ -1,14 +1,14 @@
 -- What single steps say, told by bytes.
-use Rattle.std.proofs.Common.{◌≡◌, ◌≢◌, ◌<◌, ◌≤◌, ◌+◌, ◌∙◌, ℕ, List, [], ◌∷◌, ◌++◌, length, get_or, take, replicate, All, Option, Some, None, refl, sym, ap, subst, arith, inl, inr}
-use Rattle.std.proofs.lemmas.List.{take_all}
-use Rattle.std.proofs.lemmas.List.Elements.{All-get_or, All-contains}
+use Rattle.std.proofs.Common.{◌≡◌, ◌≢◌, ◌<◌, ◌≤◌, ◌+◌, ◌∙◌, ℕ, List, [], ◌∷◌, ◌++◌, length, get_or, take, drop, replicate, All, Option, Some, None, refl, sym, ap, subst, arith, inl, inr}
+use Rattle.std.proofs.lemmas.List.{take_more, drop_more, get_or_default, take-append-drop}
+use Rattle.std.proofs.lemmas.List.Elements.{All-contains}
 use Rattle.pt_bsd.specs.Label.{LabelBytes}
 use Rattle.pt_bsd.specs.Laws.{label_one, label_counted, label_fits}
 use Rattle.pt_bsd.specs.declared.label.Label.{Label}
 use Rattle.pt_recover.specs.declared.layout.Slice.{Slice}
 use Rattle.pt_targets.specs.declared.target.Target.{Target}
 use Rattle.pt_targets.specs.declared.target.Kind.TheVariants.{Stays, New, Changes}
-use Rattle.pt_places.specs.Places.{OneHad, HadBytes, HadAt, Reads, IsBytes, stood, other, fresh, IsTargetOf, AreTargets, LabelledIs, IsTarget, keeps, changes, sets, KeptIs, WrittenIs}
+use Rattle.pt_places.specs.Places.{OneHad, HadBytes, HadAt, Reads, IsBytes, stood, other, fresh, IsTargetOf, AreTargets, LabelledIs, IsLeftAt, IsFirstAt, IsTarget, keeps, changes, sets, KeptIs, WrittenIs}
 use Rattle.pt_places.specs.declared.place.Place.{Place}
 
 abbrev pub NotHad : ℕ → List ℕ → Slice → Type 0
@@ -50,3 +50,21 @@ targets_push old [] [] p t are is = (is, tt)
 targets_push old [] (x ∷ ts) p t are is = absurd are
 targets_push old (q ∷ ps) [] p t are is = absurd are
 targets_push old (q ∷ ps) (x ∷ ts) p t are is = (are.0, targets_push old ps ts p t are.1 is)
+
+-- the target of the next place
+pub targets_on : {b : ℕ} (old : List Slice) (ps : List (Place b)) (ts now : List (Target b)) (k : ℕ) (d : Place b) (t : Target b) → k < length ps → IsTargetOf old (get_or ps k d) t → now ≡ ts ++ t ∷ [] → AreTargets old (take k ps) ts → AreTargets old (take (k + 1) ps) now
+targets_on {b = b} old ps ts now k d t lt is same are =
+    subst (λ (x : List (Place b)). AreTargets old x now) (sym (take_more ps k d lt))
+    (subst (λ (x : List (Target b)). AreTargets old (take k ps ++ get_or ps k d ∷ []) x) (sym same) (targets_push old (take k ps) ts (get_or ps k d) t are is))
+
+-- the first place that is left
+pub first_at : {b : ℕ} (ps : List (Place b)) (k : ℕ) (d e : Place b) → k < length ps → All (λ (p : Place b). ¬ IsLeftAt p) (take k ps) → IsLeftAt (get_or ps k d) → IsFirstAt ps (get_or ps k e).spot.slice.number
+first_at {b = b} ps k d e lt none left = record {
+  before = take k ps;
+  place = get_or ps k d;
+  rest = drop (k + 1) ps;
+  split = sym (take-append-drop k ps) ∙ ap (λ (x : List (Place b)). take k ps ++ x) (drop_more ps k d lt);
+  left = left;
+  number = ap (λ (p : Place b). p.spot.slice.number) (get_or_default ps k d e lt);
+  none = none;
+}

@@ -28,8 +28,9 @@ pub(crate) fn had_label<const B: usize>(old: &[Slice], first: u64, bytes: &Secto
     ensures { HadIs old.now first bytes.now result }
 {
     for k in 0..old.len() {
-        if let Some(label) = label_for(old[k], first, bytes) {
-            return Some(label);
+        match label_for(old[k], first, bytes) {
+            Some(label) => return Some(label),
+            None => {}
         }
     }
     None
