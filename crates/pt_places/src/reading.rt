@@ -12,7 +12,8 @@ use pt_sector::{Disk, FailedRead, Failure, Lba, read_sector};
 use std::alloc::{AllocError, Global};
 
 fn read_place<const B: usize, D: Disk<B>>(disk: &mut D, spot: Spot) -> Result<Place<B>, FailedRead>
-    requires { place_of spot.slice < D.count disk.old }
+    requires size { IsSectorSize B }
+    requires within { place_of spot.slice < D.count disk.old }
     ensures same { OnlyReads D.Disk disk.old disk.new }
     ensures blames { Blames read_of result (D.faults disk.old) (D.faults disk.new) }
     ensures spot { IfOk result (λ p. p.spot ≡ spot) }
@@ -42,7 +43,8 @@ pub(crate) fn read_places<const B: usize, D: Disk<B>>(
     disk: &mut D,
     spots: &[Spot],
 ) -> Result<Vec<Place<B>>, Failure>
-    requires { All (λ s. place_of s.slice < D.count disk.old) spots.now }
+    requires size { IsSectorSize B }
+    requires within { All (λ s. place_of s.slice < D.count disk.old) spots.now }
     ensures same { OnlyReads D.Disk disk.old disk.new }
     ensures blames { Blames fault_of result (D.faults disk.old) (D.faults disk.new) }
     ensures spots { IfOk result (λ v. map spot_of v.items ≡ spots.now) }
