@@ -2,5 +2,12 @@
 #![tactic(auto)]
 
 mod answer;
+mod had;
+mod labels;
+mod place;
+mod reading;
+mod spots;
+mod targets;
 
 pub use answer::LabelTargets;
+pub use labels::label_targets;
