@@ -1,5 +1,7 @@
 //! A small MBR disk with four slices: a label that is kept, one that changes, a new one, and none.
 
+ghost use Rattle.std.specs.Prelude.{◌≤◌};
+
 use crate::{LabelTargets, label_targets};
 use pt_bsd::{Label, LabelEntry, empty_label, encode_label};
 use pt_recover::{Labelled, Labels, Layout, recover};
@@ -22,16 +24,21 @@ fn label(size: u32) -> Label {
     label
 }
 
+fn put_slice(bytes: &mut Sector<512>, at: usize, start: u8)
+    requires { at ≤ 494 }
+{
+    bytes[at + 4] = 0xA5;
+    bytes[at + 8] = start;
+    bytes[at + 12] = 8;
+}
+
 /// Sector 0 of an MBR with slices of eight sectors at 8, 16, 24 and 32.
 fn head() -> Sector<512> {
     let mut bytes = [0; 512];
-    let mut start = 8;
-    for at in [446usize, 462, 478, 494] {
-        bytes[at + 4] = 0xA5;
-        bytes[at + 8] = start;
-        bytes[at + 12] = 8;
-        start += 8;
-    }
+    put_slice(&mut bytes, 446, 8);
+    put_slice(&mut bytes, 462, 16);
+    put_slice(&mut bytes, 478, 24);
+    put_slice(&mut bytes, 494, 32);
     bytes[510] = 0x55;
     bytes[511] = 0xAA;
     bytes
