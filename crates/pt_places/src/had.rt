@@ -8,12 +8,12 @@ use pt_bsd::{Label, decode_label};
 use pt_recover::Slice;
 use pt_sector::Sector;
 
-// The label that the sector is for a slice, if it starts there.
-fn label_for<const B: usize>(old: Slice, first: u64, bytes: &Sector<B>) -> Option<Label>
+// The label that the sector is for an old slice, if that starts where the slice does.
+fn label_for<const B: usize>(old: Slice, slice: Slice, bytes: &Sector<B>) -> Option<Label>
     requires { IsSectorSize B }
-    ensures { OneHad old first bytes.now result }
+    ensures { OneHad old slice.first bytes.now result }
 {
-    if old.first != first {
+    if old.first != slice.first {
         return None;
     }
     match decode_label(bytes, old.first, old.len) {
@@ -22,13 +22,13 @@ fn label_for<const B: usize>(old: Slice, first: u64, bytes: &Sector<B>) -> Optio
     }
 }
 
-// The label that the sector is for the old slices that start where this one does.
-pub(crate) fn had_label<const B: usize>(old: &[Slice], first: u64, bytes: &Sector<B>) -> Option<Label>
+// The label that the sector is for an old slice that starts where the slice does.
+pub(crate) fn had_label<const B: usize>(old: &[Slice], slice: Slice, bytes: &Sector<B>) -> Option<Label>
     requires { IsSectorSize B }
-    ensures { HadIs old.now first bytes.now result }
+    ensures { HadIs old.now slice.first bytes.now result }
 {
     for k in 0..old.len() {
-        match label_for(old[k], first, bytes) {
+        match label_for(old[k], slice, bytes) {
             Some(label) => return Some(label),
             None => {}
         }

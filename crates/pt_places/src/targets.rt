@@ -84,7 +84,7 @@ fn labelled<const B: usize>(place: &Place<B>, label: &Label, old: &[Slice]) -> O
     requires { IsSectorSize B }
     ensures { LabelledIs old.now place.now label.now result }
 {
-    match had_label(old, place.spot.slice.first, &place.bytes) {
+    match had_label(old, place.spot.slice, &place.bytes) {
         Some(had) => {
             if had == *label {
                 kept(place, label)

@@ -1,13 +1,15 @@
-use Rattle.std.proofs.Common.{◌≡◌, ◌∙◌, ℕ, List, length, map, Option, Some, None, MatchOption, All, sym, ap, subst, arith}
+use Rattle.std.proofs.Common.{◌≡◌, ◌∙◌, ℕ, List, length, map, Option, Some, None, MatchOption, All, sym, ap, subst, rules}
 use Rattle.pt_sector.specs.Sectors.{Sectors}
 use Rattle.pt_recover.specs.Labels.{places_of, place_of}
 use Rattle.pt_recover.specs.declared.layout.Layout.{Layout}
 use Rattle.pt_recover.specs.declared.layout.Slice.{Slice}
 use Rattle.pt_cases.specs.Numbers.{Rise, places_rise}
 use Rattle.pt_places.specs.Places.{spot_of, IsAt, IsRead, OldAre}
+use Rattle.pt_places.specs.Spots.{AreSpots}
 use Rattle.pt_places.specs.declared.place.Place.{Place}
+use Rattle.pt_places.specs.declared.place.Spot.{Spot}
 use Rattle.pt_places.proofs.Lifts.{within}
-use Rattle.pt_places.proofs.Whole.{at_some, at_none, whole, misplaced}
+use Rattle.pt_places.proofs.Whole.{at_some, spots_within, whole}
 use Rattle.pt_places.proofs.labels.label_targets.Goals as goal
 
 pub spots-requires : goal.spots-requires
@@ -17,7 +19,19 @@ spots-requires g c =
     subst (λ (l : List Slice). Rise 1 l) (sym slices) (places_rise g.row.B c.sectors-sectors.result y c.has_four.ensures)
 
 pub read_places-requires : goal.read_places-requires
-read_places-requires g c = ?
+read_places-requires g c =
+    let n = g.D.Disk.count c.args.disk.now in
+    let spots = c.deref-2.ensures.value in
+    let are : AreSpots c.deref.result.now c.as_slice.result.now c.in-Some.spots.items = at_some c.in_ok-found.found c.in-Some.spots _ _ c.in-Some.is c.in_ok-found.ensures in
+    (
+      search rules,
+      (
+        c.requires.size,
+        spots_within g.row.B c.sectors-sectors.result n c.args.wanted.now.body c.deref.result.now c.as_slice.result.now c.deref-2.result.now
+        (subst (λ (x : List Spot). AreSpots c.deref.result.now c.as_slice.result.now x) (sym spots) are)
+        (c.deref.ensures.value ∙ c.in_ok-slices.ensures) c.sectors-sectors.ensures,
+      ),
+    )
 
 pub returns-clause-in_range : goal.returns-clause-in_range
 returns-clause-in_range g c =
