@@ -65,18 +65,13 @@ begun_more b d head old first chain k z rest ts t new lt behind begun is pushed 
   each = λ u at. elim (Contains-push_cases ts t u at) [ inl before ↦ begun.each u before | inr same ↦ inr (told u (sym same)) ];
   count = length-append ts (t ∷ []) ∙ (let c = begun.count in omega (arith, c));
 } where
-  e : Ebr
-  e = get_or chain k z
-
   told : (u : Target b) → u ≡ t → (u.under ≡ sector d u.at.0) × StandsAt u.at.0 chain
-  unfolding e
   told u same = subst (λ (v : Target b). (v.under ≡ sector d v.at.0) × StandsAt v.at.0 chain) (sym same) (is.under ∙ ap (λ (n : ℕ). sector d n) (sym is.at), stands_here t.at.0 chain k z lt is.at)
 
   has : (more : List (Target b)) → Contains more t → HasEbrs d old first (drop (k + 1) chain) more → HasEbrs d old first (drop k chain) more
-  unfolding e
   has more at later =
-      subst (λ (l : List Ebr). HasEbrs d old first l more) (sym (opened chain k z e lt refl))
-      ((t, at, is.at, is.under, subst (λ (l : List Ebr). IsEbrTarget b d old first e (link_to first l) t.bytes) behind is.is), later)
+      subst (λ (l : List Ebr). HasEbrs d old first l more) (sym (opened chain k z (get_or chain k z) lt refl))
+      ((t, at, is.at, is.under, subst (λ (l : List Ebr). IsEbrTarget b d old first (get_or chain k z) (link_to first l) t.bytes) behind is.is), later)
 
 pub begun_end : (b : ℕ) (d : Sectors) (head : Target b) (old : List Ebr) (first : ℕ) (chain : List Ebr) (k : ℕ) (ts : List (Target b)) → length chain ≤ k → k ≤ length chain
     → IsBegun d head old first chain k ts → AreChainTargets d head old first chain ts

@@ -7,3 +7,4 @@ mod Lone
 mod Made
 mod Over
 mod Parts
+mod Whole

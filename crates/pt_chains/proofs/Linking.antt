@@ -5,7 +5,7 @@ use Rattle.std.proofs.lemmas.Bool.{false≢true}
 use Rattle.std.proofs.lemmas.List.{drop_all}
 use Rattle.pt_sector.specs.Sectors.{Span}
 use Rattle.pt_sector.specs.declared.address.Lba.{Lba}
-use Rattle.pt_mbr.specs.Chain.{IsInside, IsUpward, StandsAt}
+use Rattle.pt_mbr.specs.Chain.{IsInside, IsUpward, StandsAt, lba}
 use Rattle.pt_mbr.specs.declared.ebr.Ebr.{Ebr}
 use Rattle.pt_mbr.specs.declared.record.Record.{Record}
 use Rattle.pt_cases.specs.Records.{LinkedOn, IsLinked}
@@ -60,7 +60,7 @@ on_disk x n (Some at) (e ∷ es) linked (suc k) z lt = on_disk x n e.next es lin
 
 pub all_on_disk : (n : ℕ) (rs : List Record) (chain : List Ebr) → IsLinked n rs chain → (k : ℕ) (z : Ebr) → k < length chain → (get_or chain k z).at.0 < n
 all_on_disk n [] chain none k z lt = absurd (let e = ap length none in omega (arith, e, lt))
-all_on_disk n (r ∷ []) chain linked k z lt = on_disk (extent_of r) n _ chain linked.1 k z lt
+all_on_disk n (r ∷ []) chain linked k z lt = on_disk (extent_of r) n (Some (lba (extent_of r).first)) chain linked.1 k z lt
 all_on_disk n (r ∷ s ∷ rs) chain linked k z lt = absurd linked
 
 pub stands_on_disk : (n : ℕ) (chain : List Ebr) (s : ℕ) → ((k : ℕ) (z : Ebr) → k < length chain → (get_or chain k z).at.0 < n) → StandsAt s chain → s < n

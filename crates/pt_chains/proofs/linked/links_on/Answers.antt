@@ -1,9 +1,10 @@
-use Rattle.std.proofs.Common.{sym, ◌∙◌, ap, arith, subst, Some, None, ℕ, Option}
+use Rattle.std.proofs.Common.{◌≡◌, refl, sym, ◌∙◌, arith, subst, Some, None, ℕ, Option, Bool, true, false, not}
+use Rattle.std.specs.Prelude.{◌↔◌, IsTrue, is_some}
+use Rattle.pt_sector.specs.declared.address.Lba.{Lba}
 use Rattle.std.proofs.lemmas.Bool.{false≢true}
 use Rattle.pt_mbr.specs.Chain.{lba}
 use Rattle.pt_mbr.specs.declared.ebr.Ebr.{Ebr}
 use Rattle.pt_recover.specs.Mbr.{extent_of}
-use Rattle.pt_cases.specs.Records.{LinkedOn}
 use Rattle.pt_chains.proofs.Linking.{goes_on, stops, ended, GoesOn}
 use Rattle.pt_chains.proofs.linked.links_on.Goals as goal
 
@@ -24,5 +25,15 @@ loop-k-preserved c =
     goes_on (extent_of c.args.extended.now) c.args.sectors (Some (lba c.args.extended.now.start)) c.args.chain.now c.loop-k.to c.loop-k.k z c.loop-k-test.true
     (c.is_link.ensures.0 c.if-not-is_link.false) c.loop-k.invariant
 
+-- whether there is one
+none_is : (o : Option Lba) (b : Bool) → is_some o ≡ not b → IsTrue b ↔ (o ≡ None)
+none_is None true is = ((λ h. refl), (λ h. refl))
+none_is None false is = absurd (false≢true is)
+none_is (Some y) true is = absurd (false≢true (sym is))
+none_is (Some y) false is = ((λ h. absurd (false≢true h)), (λ h. absurd (cc)))
+
 pub returns : goal.returns
-returns c = ?
+returns c =
+    let is_end = ended (extent_of c.args.extended.now) c.args.sectors (Some (lba c.args.extended.now.start)) c.args.chain.now c.loop-k.to c.loop-k.k (omega arith) c.loop-k.invariant in
+    let none = none_is c.loop-k.to c.is_none.result c.is_none.ensures in
+    ((λ so. is_end.1 (none.0 so)), (λ whole. none.1 (is_end.0 whole)))
