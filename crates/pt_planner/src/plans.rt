@@ -13,7 +13,7 @@ ghost use Rattle.pt_cases.specs.Copies.{FitsTable};
 ghost use Rattle.pt_cases.specs.Records.{IsLinked};
 ghost use Rattle.pt_tables.specs.Starts.{HeadIs};
 ghost use Rattle.pt_layout.specs.Surveys.{HeadOf};
-ghost use Rattle.pt_layout.specs.declared.health.Head.TheVariants as head;
+ghost use Rattle.pt_layout.specs.declared.health.Head.TheVariants as kind;
 ghost use Rattle.pt_recover.specs.Denotes.{Denotes};
 ghost use Rattle.pt_targets.specs.Errors.{fault_in};
 ghost use Rattle.pt_targets.specs.Starts.{Start};
@@ -114,7 +114,7 @@ fn head_of<const B: usize, D: Disk<B>>(
     requires head { D.tells → HeadOf (D.told disk.old).seen head }
     ensures same { OnlyReads D.Disk disk.old disk.new }
     ensures blames { Blames read_of result (D.faults disk.old) (D.faults disk.new) }
-    ensures given { head ≡ head.Mbr → IfOk result (λ bytes. ¬ (bytes ≡ None)) }
+    ensures given { head ≡ kind.Mbr → IfOk result (λ bytes. ¬ (bytes ≡ None)) }
     ensures ok { D.tells → IfOk result (HeadIs (D.told disk.old).seen) }
 {
     if head == Head::Protected {
@@ -151,11 +151,12 @@ pub(crate) fn to_gpt<const B: usize, D: Disk<B>>(
     if changes_labels(&known.old, wanted) {
         return one_label(alloc, &known.old, is_broken(&known.finding), places);
     }
+    let head = head_of(disk, known.head)?;
     let ground = Ground {
         sectors: disk.sectors(),
         old: &known.old,
         guarded: &known.guarded,
-        head: head_of(disk, known.head)?,
+        head,
     };
     both_copies(alloc, order_of(known.head, known.primary), &ground, table, places)
 }

@@ -1,0 +1,38 @@
+use Rattle.std.proofs.Common.{rules, ◌≡◌, ◌<◌, All, None, length, IfOk, IfErr, ℕ, ◌+◌, ◌-◌, ◌*◌, ◌≤◌, ◌/◌, ◌%◌, Bool, true, false, nat_eq, nat_lt, List, [], ◌∷◌, ◌++◌, slice_index_or, slice_set, bit_and, bit_or, Fits, w8, w32, w64, Bor, MutBor}
+use Rattle.pt_sector.specs.Calls.{Blames}
+use Rattle.pt_sector.specs.Reads.{OnlyReads, read_of}
+use Rattle.pt_sector.specs.Sectors.{IsSectorSize}
+use Rattle.pt_apply.specs.Plans.{phases_of, InRange}
+use Rattle.pt_recover.specs.declared.layout.Body.TheVariants.{Mbr, Gpt}
+use Rattle.pt_recover.specs.Mbr.{extended_of}
+use Rattle.pt_cases.specs.Cases.{IsPlan}
+use Rattle.pt_cases.specs.Causes.{WasMbr}
+use Rattle.pt_cases.specs.Copies.{FitsTable}
+use Rattle.pt_cases.specs.Records.{IsLinked}
+use Rattle.pt_tables.specs.Starts.{HeadIs}
+use Rattle.pt_layout.specs.Surveys.{HeadOf}
+use Rattle.pt_layout.specs.declared.health.Head.TheVariants as kind
+use Rattle.pt_recover.specs.Denotes.{Denotes}
+use Rattle.pt_targets.specs.Errors.{fault_in}
+use Rattle.pt_targets.specs.Starts.{Start}
+use Rattle.pt_targets.specs.Targets.{AreLabelTargets}
+use Rattle.pt_planner.specs.Known.{IsKnown}
+use Rattle.pt_planner.specs.State.{PlacesStop}
+use Rattle.pt_planner.specs.Unplanned.{Hindered}
+use Rattle.pt_planner.proofs.plans.to_gpt.Goals as goal
+
+-- src/plans.rt:152:9
+pub returns-then-changes_labels-clause-plan : goal.returns-then-changes_labels-clause-plan
+returns-then-changes_labels-clause-plan g c = ?
+
+-- src/plans.rt:152:9
+pub returns-then-changes_labels-clause-err : goal.returns-then-changes_labels-clause-err
+returns-then-changes_labels-clause-err g c = ?
+
+-- src/plans.rt:129:1
+pub returns-clause-plan : goal.returns-clause-plan
+returns-clause-plan g c = ?
+
+-- src/plans.rt:129:1
+pub returns-clause-err : goal.returns-clause-err
+returns-clause-err g c = ?
