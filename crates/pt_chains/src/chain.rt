@@ -164,5 +164,12 @@ pub fn mbr_targets<const B: usize, D: Disk<B>>(
         None => return Ok(None),
     };
     let first = extended_first(records);
-    chain_targets(alloc, disk, head, old_chain.as_slice(), first, chain.as_slice())
+    chain_targets(
+        alloc,
+        disk,
+        head,
+        old_chain.as_slice(),
+        first,
+        chain.as_slice(),
+    )
 }
