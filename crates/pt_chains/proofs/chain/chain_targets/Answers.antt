@@ -1,6 +1,6 @@
-use Rattle.std.proofs.Common.{◌≡◌, ◌+◌, ◌-◌, refl, sym, ◌∙◌, subst, ap, ℕ, List, length, take, drop, get_or, Option, None, Some, arith}
+use Rattle.std.proofs.Common.{◌≡◌, ◌+◌, ◌-◌, ◌∙◌, subst, ℕ, List, length, take, drop, get_or, Option, None}
 use Rattle.std.specs.Prelude.{IfSome, IfNone}
-use Rattle.pt_sector.specs.Sectors.{Sectors, sector}
+use Rattle.pt_sector.specs.Sectors.{Sectors}
 use Rattle.pt_sector.specs.Device.{Told}
 use Rattle.pt_mbr.specs.declared.ebr.Ebr.{Ebr}
 use Rattle.pt_cases.specs.Records.{IsEbrTarget, link_to}

@@ -1,14 +1,13 @@
-use Rattle.std.proofs.Common.{◌≡◌, ◌<◌, ◌⊎◌, refl, sym, ◌∙◌, subst, ap, ℕ, List, length, get_or, Option, None, Some, arith, rules, inl, inr}
-use Rattle.std.specs.Prelude.{IfSome, IfNone, Contains}
-use Rattle.pt_sector.specs.Sectors.{Sectors, sector}
+use Rattle.std.proofs.Common.{◌≡◌, ◌<◌, ◌⊎◌, sym, subst, ℕ, List, length, get_or, Option, arith, rules, inl, inr}
+use Rattle.std.specs.Prelude.{IfSome}
+use Rattle.pt_sector.specs.Sectors.{Sectors}
 use Rattle.pt_sector.specs.Device.{Told}
 use Rattle.pt_mbr.specs.Chain.{StandsAt}
 use Rattle.pt_mbr.specs.declared.ebr.Ebr.{Ebr}
 use Rattle.pt_recover.specs.Mbr.{extended_of}
-use Rattle.pt_targets.specs.Targets.{AreMbrTargets}
 use Rattle.pt_targets.specs.declared.target.Target.{Target}
 use Rattle.pt_chains.specs.Steps.{IsHeadOf, AreChainTargets}
-use Rattle.pt_chains.specs.Unmade.{HasUnmade, HasUnmadeEbr}
+use Rattle.pt_chains.specs.Unmade.{HasUnmadeEbr}
 use Rattle.pt_chains.proofs.Linking.{all_on_disk, stands_on_disk}
 use Rattle.pt_chains.proofs.Whole.{some_weaker, none_weaker, are_targets, has_unmade}
 use Rattle.pt_chains.proofs.chain.mbr_targets.Goals as goal
