@@ -1,1 +1,7 @@
 pub mod Targets
+pub mod Selected
+pub mod Orders
+pub mod Firsts
+pub mod Splits
+pub mod Lifts
+pub mod Counts

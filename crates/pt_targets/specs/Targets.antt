@@ -1,5 +1,5 @@
 -- What the sectors of a wanted layout must hold: each sector once, with what it holds on the disk d.
-use Rattle.std.specs.Prelude.{◌≡◌, ◌≢◌, ◌⊎◌, ℕ, ◌<◌, ◌≤◌, List, [], ◌∷◌, ◌++◌, length, map, replicate, slice_index_or, Contains, Option, Some, None}
+use Rattle.std.specs.Prelude.{◌≡◌, ◌≢◌, ◌⊎◌, ℕ, ◌+◌, ◌<◌, ◌≤◌, List, [], ◌∷◌, ◌++◌, length, map, replicate, slice_index_or, Contains, Option, Some, None}
 use Rattle.pt_sector.specs.Sectors.{Sectors, sector}
 use Rattle.pt_sector.specs.Writes.{Writes, Puts}
 use Rattle.pt_sector.specs.Ascending.{IsAscending, sector_at}
@@ -31,10 +31,10 @@ TellDisk d ts = (t : Target _) → Contains ts t → t.under ≡ sector d t.at.0
 
 -- what the label place of a slice needs, with this label or with none: a label that is kept, changed, or new over zeros
 abbrev pub IsPlaceTarget : {b : _} → Sectors → Option Layout → Slice → Option Label → Target b → Type 0
-IsPlaceTarget d o w (Some l) t =
-    ((t.kind ≡ Stays) × Had _ d o (place_of w) l × LabelBytes l w.first w.len t.bytes × (t.bytes ≡ t.under))
-    ⊎ (((t.kind ≡ Changes) × ((m : Label) × Had _ d o (place_of w) m × (m ≢ l)) × IsEncoded l w t.under t.bytes)
-    ⊎ ((t.kind ≡ New) × ((m : Label) → ¬ Had _ d o (place_of w) m) × IsEncoded l w (replicate _ 0) t.bytes))
+IsPlaceTarget {b = b} d o w (Some l) t =
+    ((t.kind ≡ Stays) × Had b d o (place_of w) l × LabelBytes l w.first w.len t.bytes × (t.bytes ≡ t.under))
+    ⊎ (((t.kind ≡ Changes) × ((m : Label) × Had b d o (place_of w) m × (m ≢ l)) × IsEncoded l w t.under t.bytes)
+    ⊎ ((t.kind ≡ New) × ((m : Label) → ¬ Had b d o (place_of w) m) × IsEncoded l w (replicate b 0) t.bytes))
 IsPlaceTarget d o w None t = (t.kind ≡ Stays) × (¬ HasMagic t.under) × (t.bytes ≡ t.under)
 
 -- it is among the targets
@@ -43,7 +43,7 @@ Targeted d o ts w l = (t : Target _) × Contains ts t × (t.at.0 ≡ place_of w)
 
 -- the label places of the layout p, slice by slice, labelled or not, are among the targets
 abbrev pub HasLabelTargets : {b : _} → Sectors → Option Layout → Layout → List (Target b) → Type 0
-HasLabelTargets d o p ts = Along (Targeted d o ts) (places_of _ p.sectors p.body) p.labels
+HasLabelTargets {b = b} d o p ts = Along (Targeted d o ts) (places_of b p.sectors p.body) p.labels
 
 -- these are the targets of the label places of p, and no others
 pub record AreLabelTargets {b : _} (d : Sectors) (o : Option Layout) (p : Layout) (ts : List (Target b)) : Type 0 where
@@ -63,8 +63,8 @@ pub record HasHead {b : _} (d : Sectors) (old new : List (Option Record)) (ts : 
 -- so are its extended boot records
 abbrev pub HasEbrs : {b : _} → Sectors → List Ebr → ℕ → List Ebr → List (Target b) → Type 0
 HasEbrs d old first [] ts = Unit {0}
-HasEbrs d old first (e ∷ es) ts =
-    ((t : Target _) × Contains ts t × (t.at.0 ≡ e.at.0) × (t.under ≡ sector d e.at.0) × IsEbrTarget _ d old first e (link_to first es) t.bytes)
+HasEbrs {b = b} d old first (e ∷ es) ts =
+    ((t : Target b) × Contains ts t × (t.at.0 ≡ e.at.0) × (t.under ≡ sector d e.at.0) × IsEbrTarget b d old first e (link_to first es) t.bytes)
     × HasEbrs d old first es ts
 
 -- of the lone extended record
