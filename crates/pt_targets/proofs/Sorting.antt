@@ -4,6 +4,7 @@ use Rattle.std.specs.Prelude.{Contains, IsPermutation}
 use Rattle.std.specs.List.Sorted.{IsNonDecreasingBy}
 use Rattle.std.proofs.lemmas.Bool.{cases_lt}
 use Rattle.std.proofs.lemmas.List.Sorted.{IsPermutation-sym, Contains-permutation, length_permutation, sum_by-IsPermutation}
+use Rattle.std.proofs.lemmas.List.Sums.{sum_by-cons}
 use Rattle.pt_sector.specs.Ascending.{IsAscending}
 use Rattle.pt_targets.specs.Orders.{HasTwins}
 use Rattle.pt_targets.specs.Selected.{count_targeted}
@@ -61,8 +62,8 @@ count_of s ts = sum_by (is_of s) ts
 
 one_at : {b : ℕ} (s : ℕ) (ts : List (Target b)) (i : ℕ) → i < length ts → sector_of ts i ≡ s → 1 ≤ count_of s ts
 one_at s [] i lt at = absurd (omega (arith, lt))
-one_at s (t ∷ ts) zero lt at = (let here : t.at.0 ≡ s = at in omega (arith, here))
-one_at s (t ∷ ts) (suc i) lt at = (let later = one_at s ts i (omega (arith, lt)) at in omega (arith, later))
+one_at s (t ∷ ts) zero lt at = (let here : t.at.0 ≡ s = at in omega (arith, here, sum_by-cons (is_of s) t ts))
+one_at s (t ∷ ts) (suc i) lt at = (let later = one_at s ts i (omega (arith, lt)) at in omega (arith, later, sum_by-cons (is_of s) t ts))
 
 two_at : {b : ℕ} (s : ℕ) (ts : List (Target b)) (i j : ℕ) → i < j → j < length ts → sector_of ts i ≡ s → sector_of ts j ≡ s → 2 ≤ count_of s ts
 two_at s [] i j less lt at_i at_j = absurd (omega (arith, lt))
@@ -70,23 +71,23 @@ two_at s (t ∷ ts) i zero less lt at_i at_j = absurd (omega (arith, less))
 two_at s (t ∷ ts) zero (suc j) less lt at_i at_j =
     let here : t.at.0 ≡ s = at_i in
     let later = one_at s ts j (omega (arith, lt)) at_j in
-    omega (arith, here, later)
-two_at s (t ∷ ts) (suc i) (suc j) less lt at_i at_j = (let later = two_at s ts i j (omega (arith, less)) (omega (arith, lt)) at_i at_j in omega (arith, later))
+    omega (arith, here, later, sum_by-cons (is_of s) t ts)
+two_at s (t ∷ ts) (suc i) (suc j) less lt at_i at_j = (let later = two_at s ts i j (omega (arith, less)) (omega (arith, lt)) at_i at_j in omega (arith, later, sum_by-cons (is_of s) t ts))
 
 find_one : {b : ℕ} (s : ℕ) (ts : List (Target b)) → 1 ≤ count_of s ts → (i : ℕ) × (i < length ts) × (sector_of ts i ≡ s)
 find_one s [] some = absurd (omega (arith, some))
 find_one s (t ∷ ts) some = ⊎_elim
     (λ here. (0, omega arith, omega (arith, here)))
-    (λ not. (let later = find_one s ts (omega (arith, some, not)) in (suc later.0, omega (arith, later.1), later.2)))
+    (λ not. (let later = find_one s ts (omega (arith, some, not, sum_by-cons (is_of s) t ts)) in (suc later.0, omega (arith, later.1), later.2)))
     (cases_lt 0 (is_of s t))
 
 find_two : {b : ℕ} (s : ℕ) (ts : List (Target b)) → 2 ≤ count_of s ts → HasTwoOfOne ts
 find_two s [] some = absurd (omega (arith, some))
 find_two s (t ∷ ts) some = ⊎_elim
-    (λ here. (let later = find_one s ts (omega (arith, some)) in
+    (λ here. (let later = find_one s ts (omega (arith, some, sum_by-cons (is_of s) t ts)) in
         let at : t.at.0 ≡ s = omega (arith, here) in
         record { i = 0; j = suc later.0; order = omega arith; within = omega (arith, later.1); same = at ∙ sym later.2 }))
-    (λ not. (let later = find_two s ts (omega (arith, some, not)) in
+    (λ not. (let later = find_two s ts (omega (arith, some, not, sum_by-cons (is_of s) t ts)) in
         record { i = suc later.i; j = suc later.j; order = omega (arith, later.order); within = omega (arith, later.within); same = later.same }))
     (cases_lt 0 (is_of s t))
 

@@ -1,5 +1,6 @@
 -- The steps of the loops over targets.
-use Rattle.std.proofs.Common.{◌≡◌, ◌↔◌, ◌∙◌, inl, inr, ⊎_elim, ℕ, ◌+◌, ◌<◌, ◌≤◌, List, [], ◌∷◌, ◌++◌, length, take, drop, get_or, map, refl, sym, ap, subst, arith, Bool, true, false, Option, Some, None, IsTrue, IfSome, IfNone, is_some, option_to_list}
+use Rattle.std.proofs.Common.{◌≡◌, ◌↔◌, ◌∙◌, inl, inr, ⊎_elim, ℕ, suc, ◌+◌, ◌<◌, ◌≤◌, List, [], ◌∷◌, ◌++◌, length, take, drop, get_or, map, refl, sym, ap, subst, arith, Bool, true, false, Option, Some, None, IsTrue, IfSome, IfNone, is_some, option_to_list, Result, Ok, Err, IfOk, Vec}
+use Rattle.std.specs.declared.alloc.Global.{Global}
 use Rattle.std.specs.Prelude.{Contains}
 use Rattle.std.proofs.Math.Seq.{drop-cons}
 use Rattle.std.proofs.lemmas.List.{take_more, take_all, take-append-drop, map-append}
@@ -7,12 +8,13 @@ use Rattle.std.proofs.lemmas.List.Elements.{Contains-push_cases}
 use Rattle.pt_sector.specs.Ascending.{IsAscending}
 use Rattle.pt_sector.specs.Sectors.{Sectors}
 use Rattle.pt_sector.specs.Writes.{Writes}
-use Rattle.pt_apply.specs.Plans.{writes_of}
+use Rattle.pt_apply.specs.Plans.{writes_of, PhaseInRange}
 use Rattle.pt_apply.specs.declared.plan.Write.{Write}
 use Rattle.pt_targets.specs.Firsts.{NoneHas}
-use Rattle.pt_targets.specs.Selected.{Differs, Selects, NoneOf, TwoOf, NotAlone, selects_more, selects_skip, selected_none, selected_two}
-use Rattle.pt_targets.specs.Splits.{change_one, change_not_one}
-use Rattle.pt_targets.specs.Targets.{targeted, TellDisk, IsOneChange, NotOneChange}
+use Rattle.pt_targets.specs.Selected.{Differs, IsUnreadNew, AllBelow, Selects, NoneOf, TwoOf, NotAlone, selects_more, selects_skip, selected_none, selected_two}
+use Rattle.pt_targets.specs.Splits.{change_one, change_not_one, new_are, selected_in_range}
+use Rattle.pt_targets.specs.Targets.{targeted, TellDisk, IsOneChange, NotOneChange, AreNewWrites}
+use Rattle.pt_recover.specs.declared.trace.Run.{Run}
 use Rattle.pt_targets.specs.declared.target.Target.{Target}
 
 -- what a test that failed says
@@ -74,3 +76,14 @@ module _ {b : ℕ} (ts : List (Target b)) (up : IsAscending (targeted ts)) where
   pub change_none : (r : Option (Write b)) → IfNone r (NotAlone Differs ts) → IfNone r (NotOneChange ts)
   change_none None is = change_not_one ts is
   change_none (Some w) is = tt
+
+-- what one function says of the writes, another may say
+pub new_ok : {b : ℕ} {E : Type 0} (guarded : List Run) (ts : List (Target b)) → IsAscending (targeted ts) → (r : Result (Vec (Write b) Global) E)
+    → IfOk r (λ ws. Selects (IsUnreadNew guarded) ts (writes_of ws.items)) → IfOk r (λ ws. AreNewWrites guarded ts (writes_of ws.items))
+new_ok guarded ts up (Ok ws) is = new_are guarded ts up (writes_of ws.items) is
+new_ok guarded ts up (Err e) is = tt
+
+pub new_below : {b : ℕ} {E : Type 0} (guarded : List Run) (ts : List (Target b)) → (r : Result (Vec (Write b) Global) E)
+    → IfOk r (λ ws. Selects (IsUnreadNew guarded) ts (writes_of ws.items)) → IfOk r (λ ws. (n : ℕ) → AllBelow n ts → PhaseInRange n ws.items)
+new_below guarded ts (Ok ws) is = λ n below. selected_in_range (IsUnreadNew guarded) ts ws.items is n below
+new_below guarded ts (Err e) is = tt

@@ -1,14 +1,12 @@
 //! The first target of some kind.
 
-ghost use Rattle.std.specs.Prelude.{◌≡◌, ◌↔◌, IsTrue, IfSome, IfNone, Contains};
-ghost use Rattle.pt_check.specs.Answers.{OwnedOf};
+ghost use Rattle.std.specs.Prelude.{IfSome, IfNone};
 ghost use Rattle.pt_targets.specs.Firsts.{IsSectorOf, NoneHas};
-ghost use Rattle.pt_targets.specs.Selected.{Differs, IsOwnedChange, IsOwnedOf, IsOf};
+ghost use Rattle.pt_targets.specs.Selected.{IsOwnedChange, IsOwnedOf, IsOf};
 ghost use Rattle.pt_targets.specs.declared.target.Kind.TheVariants.{Changes};
 
-use crate::choice::is_change;
+use crate::choice::{is_of, is_owned_change, is_owned_of};
 use crate::target::{Kind, Target};
-use pt_layout::is_owned;
 use pt_recover::Layout;
 use pt_sector::Lba;
 
@@ -18,20 +16,11 @@ pub fn first_change<const B: usize>(targets: &[Target<B>]) -> Option<Lba>
     ensures none { IfNone result (NoneHas (IsOf Changes) targets.now) }
 {
     for target in targets {
-        if target.kind == Kind::Changes {
+        if is_of(target, Kind::Changes) {
             return Some(target.at);
         }
     }
     None
-}
-
-fn owned_in<const B: usize>(old: &Option<Layout>, at: Lba) -> bool
-    ensures { IsTrue result ↔ OwnedOf B old.now at.0 }
-{
-    match old {
-        None => false,
-        Some(layout) => is_owned::<B>(layout, at),
-    }
 }
 
 /// The sector of the first target that isn't met yet and that a partition owns.
@@ -43,7 +32,7 @@ pub fn first_owned_change<const B: usize>(
     ensures none { IfNone result (NoneHas (IsOwnedChange old.now) targets.now) }
 {
     for target in targets {
-        if is_change(target) && owned_in::<B>(old, target.at) {
+        if is_owned_change(target, old) {
             return Some(target.at);
         }
     }
@@ -60,7 +49,7 @@ pub fn first_owned_of_kind<const B: usize>(
     ensures none { IfNone result (NoneHas (IsOwnedOf old.now kind) targets.now) }
 {
     for target in targets {
-        if target.kind == kind && owned_in::<B>(old, target.at) {
+        if is_owned_of(target, old, kind) {
             return Some(target.at);
         }
     }

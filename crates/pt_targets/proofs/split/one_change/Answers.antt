@@ -5,4 +5,4 @@ pub returns-clause-one : goal.returns-clause-one
 returns-clause-one g c = change_some c.args.targets.now c.requires c.lone_change.result c.lone_change.ensures.one
 
 pub returns-clause-other : goal.returns-clause-other
-returns-clause-other g c = change_none c.args.targets.now c.lone_change.result c.lone_change.ensures.other
+returns-clause-other g c = change_none c.args.targets.now c.requires c.lone_change.result c.lone_change.ensures.other
