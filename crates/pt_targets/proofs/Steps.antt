@@ -44,15 +44,15 @@ module _ {b : ℕ} (P : Target b → Type 0) (xs : List (Target b)) (i : ℕ) wh
       → w.lba ≡ x.at → w.bytes ≡ x.bytes → new ≡ old ++ w ∷ [] → Selects P (take (i + 1) xs) (writes_of new)
   pushed x old new w lt at is holds lba bytes more =
       let put : writes_of new ≡ writes_of old ++ (x.at.0, x.bytes) ∷ [] =
-          ap writes_of more ∙ map-append (λ (y : Write b). (y.lba.0, y.bytes)) old (w ∷ []) ∙ (λ j. writes_of old ++ ((lba j).0, bytes j) ∷ []) in
+      ap writes_of more ∙ map-append (λ (y : Write b). (y.lba.0, y.bytes)) old (w ∷ []) ∙ (λ j. writes_of old ++ ((lba j).0, bytes j) ∷ []) in
       subst (λ (l : List (Target b)). Selects P l (writes_of new)) (sym (one_more xs i x lt at))
-          (subst (Selects P (take i xs ++ x ∷ [])) (sym put) (selects_more P (take i xs) (writes_of old) x is holds))
+      (subst (Selects P (take i xs ++ x ∷ [])) (sym put) (selects_more P (take i xs) (writes_of old) x is holds))
 
   pub skipped : (x : Target b) (old new : List (Write b)) → i < length xs → x ≡ get_or xs i x → Selects P (take i xs) (writes_of old) → ¬ P x
       → new ≡ old → Selects P (take (i + 1) xs) (writes_of new)
   skipped x old new lt at is not same =
       subst (λ (l : List (Target b)). Selects P l (writes_of new)) (sym (one_more xs i x lt at))
-          (subst (λ (ws : List (Write b)). Selects P (take i xs ++ x ∷ []) (writes_of ws)) (sym same) (selects_skip P (take i xs) (writes_of old) x is not))
+      (subst (λ (ws : List (Write b)). Selects P (take i xs ++ x ∷ []) (writes_of ws)) (sym same) (selects_skip P (take i xs) (writes_of old) x is not))
 
   pub found_two : (x : Target b) (found : Option (Write b)) → i < length xs → x ≡ get_or xs i x → IsAscending (targeted xs)
       → Selects P (take i xs) (writes_of (option_to_list found)) → P x → is_some found ≡ true → NotAlone P xs

@@ -82,12 +82,12 @@ module _ {b : ℕ} (d : Sectors) (o : Option Layout) (p : Layout) (ts sorted : L
   place_set w (Some l) (t, has, at, under, inr (inl (kind, other, is))) = absurd (settled t has kind)
   place_set w (Some l) (t, has, at, under, inr (inr (kind, none, is))) = ⊎_elim
       (λ same. ⊎_elim
-          (λ is_in. there none
-              (subst (λ (v : List ℕ). IsEncoded l w (replicate b 0) v) (same ∙ under) is)
-              ((reads (place_of w) at_place).1 (subst (IsIn guarded) at is_in))
-              (λ x puts. news.there t (order.all t has) kind (same, is_in) x (subst (λ (s : ℕ). Puts ws s x) (sym at) puts)))
-          (λ not_in. written (λ both. not_in both.1))
-          (in_or_not guarded t.at.0))
+      (λ is_in. there none
+      (subst (λ (v : List ℕ). IsEncoded l w (replicate b 0) v) (same ∙ under) is)
+      ((reads (place_of w) at_place).1 (subst (IsIn guarded) at is_in))
+      (λ x puts. news.there t (order.all t has) kind (same, is_in) x (subst (λ (s : ℕ). Puts ws s x) (sym at) puts)))
+      (λ not_in. written (λ both. not_in both.1))
+      (in_or_not guarded t.at.0))
       (λ differs. written (λ both. differs both.0))
       (same_or_not t.bytes t.under)
     where

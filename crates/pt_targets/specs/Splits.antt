@@ -77,9 +77,9 @@ module _ {b : ℕ} (guarded : List Run) (ts : List (Target b)) (up : IsAscending
     ended t has = ⊎_elim
         (λ same. inr (same ∙ tell t has, stayed t has same))
         (λ differs. ⊎_elim
-            (λ is. inl (puts_right quiet (one_write loud.0 loud.1) t.at.0 t.bytes (selected_all (IsLoud guarded) ts (loud ∷ []) l t has (differs, is))))
-            (λ not. inl (puts_left quiet (one_write loud.0 loud.1) t.at.0 t.bytes (selected_all (IsQuiet guarded) ts quiet q t has (differs, not))))
-            (in_or_not guarded t.at.0))
+        (λ is. inl (puts_right quiet (one_write loud.0 loud.1) t.at.0 t.bytes (selected_all (IsLoud guarded) ts (loud ∷ []) l t has (differs, is))))
+        (λ not. inl (puts_left quiet (one_write loud.0 loud.1) t.at.0 t.bytes (selected_all (IsQuiet guarded) ts quiet q t has (differs, not))))
+        (in_or_not guarded t.at.0))
         (same_or_not t.bytes t.under)
 
   -- the writes of new labels

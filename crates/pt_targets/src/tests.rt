@@ -11,6 +11,7 @@ use std::alloc::Global;
 use std::test::Fail;
 
 const CHANGED: [u8; 512] = [1; 512];
+
 const ZEROS: [u8; 512] = [0; 512];
 
 fn target(at: u64, kind: Kind, bytes: [u8; 512]) -> Target<512> {
@@ -75,7 +76,12 @@ fn sorted_sectors(alloc: Global, targets: &[Target<512>]) -> Result<Option<Vec<u
 fn targets_come_in_order(rt: HostRuntime) -> Result<(), Fail> {
     let sectors = sorted_sectors(rt.alloc(), &[changed(64), kept(0), changed(63)])?;
     let wanted = [0, 63, 64];
-    assert!(rt; match &sectors { Some(found) => found.as_slice() == wanted.as_slice(), None => false });
+    assert!(rt;
+        match &sectors {
+            Some(found) => found.as_slice() == wanted.as_slice(),
+            None => false
+        }
+    );
     Ok(())
 }
 
@@ -112,7 +118,12 @@ fn two_changes_are_guarded(rt: HostRuntime) -> Result<(), Fail> {
 #[test]
 fn a_lone_change(rt: HostRuntime) -> Result<(), Fail> {
     let one = one_change(&[kept(0), changed(1), kept(2)]);
-    assert!(rt; match one { Some(write) => write.lba.0 == 1 && write.bytes == CHANGED, None => false });
+    assert!(rt;
+        match one {
+            Some(write) => write.lba.0 == 1 && write.bytes == CHANGED,
+            None => false
+        }
+    );
     assert!(rt; one_change(&[kept(0), kept(1)]).is_none());
     assert!(rt; one_change(&[changed(0), changed(1)]).is_none());
     Ok(())
@@ -135,8 +146,14 @@ fn new_labels_that_are_not_read(rt: HostRuntime) -> Result<(), Fail> {
 
 #[test]
 fn labels_that_change(rt: HostRuntime) {
-    assert_eq!(rt; first_change(&[kept(0), changed(1), changed(2)]), Some(Lba(1)));
-    assert_eq!(rt; first_change(&[kept(0), target(1, Kind::New, CHANGED)]), None);
+    assert_eq!(rt;
+        first_change(&[kept(0), changed(1), changed(2)]),
+        Some(Lba(1))
+    );
+    assert_eq!(rt;
+        first_change(&[kept(0), target(1, Kind::New, CHANGED)]),
+        None
+    );
 }
 
 #[test]
@@ -146,6 +163,9 @@ fn sectors_that_a_partition_owns(rt: HostRuntime) {
     assert_eq!(rt; first_owned_change(&old, &targets), Some(Lba(199)));
     assert_eq!(rt; first_owned_change(&old, &[kept(100), changed(200)]), None);
     assert_eq!(rt; first_owned_change(&None, &targets), None);
-    assert_eq!(rt; first_owned_of_kind(&old, &targets, Kind::Stays), Some(Lba(100)));
+    assert_eq!(rt;
+        first_owned_of_kind(&old, &targets, Kind::Stays),
+        Some(Lba(100))
+    );
     assert_eq!(rt; first_owned_of_kind(&old, &targets, Kind::New), None);
 }
