@@ -4,6 +4,7 @@ use crate::{
     Kind, Split, Target, first_change, first_owned_change, first_owned_of_kind, in_order,
     new_writes, one_change, split_changes,
 };
+use pt_apply::Write;
 use pt_mbr::Record;
 use pt_recover::{Body, Ebrs, Labels, Layout, Trace};
 use pt_sector::Lba;
@@ -59,6 +60,14 @@ fn one_partition(alloc: Global) -> Layout {
     }
 }
 
+fn sectors_of(alloc: Global, writes: &[Write<512>]) -> Result<Vec<u64>, Fail> {
+    let mut sectors = Vec::new(alloc);
+    for write in writes {
+        sectors.push(write.lba.0)?;
+    }
+    Ok(sectors)
+}
+
 fn sorted_sectors(alloc: Global, targets: &[Target<512>]) -> Result<Option<Vec<u64>>, Fail> {
     match in_order(Vec::from_slice(alloc, targets)?) {
         None => Ok(None),
@@ -68,6 +77,40 @@ fn sorted_sectors(alloc: Global, targets: &[Target<512>]) -> Result<Option<Vec<u
                 sectors.push(target.at.0)?;
             }
             Ok(Some(sectors))
+        }
+    }
+}
+
+/// The quiet sectors and the loud one of some targets, where these are guarded.
+fn parts(
+    alloc: Global,
+    targets: &[Target<512>],
+    sectors: &[u64],
+) -> Result<Option<(Vec<u64>, u64)>, Fail> {
+    let Some(sorted) = in_order(Vec::from_slice(alloc, targets)?) else {
+        return Ok(None);
+    };
+    match split_changes(alloc, &sorted, &guarded(alloc, sectors)?)? {
+        Split::NotOne => Ok(None),
+        Split::One { quiet, loud } => Ok(Some((sectors_of(alloc, &quiet)?, loud.lba.0))),
+    }
+}
+
+/// The sector and the first byte of the one change.
+fn lone(alloc: Global, targets: &[Target<512>]) -> Result<Option<(u64, u8)>, Fail> {
+    match in_order(Vec::from_slice(alloc, targets)?) {
+        None => Ok(None),
+        Some(sorted) => Ok(one_change(&sorted).map(|write| (write.lba.0, write.bytes[0]))),
+    }
+}
+
+/// The sectors of the new writes, where these are guarded.
+fn fresh(alloc: Global, targets: &[Target<512>], sectors: &[u64]) -> Result<Vec<u64>, Fail> {
+    match in_order(Vec::from_slice(alloc, targets)?) {
+        None => Ok(Vec::new(alloc)),
+        Some(sorted) => {
+            let writes = new_writes(alloc, &sorted, &guarded(alloc, sectors)?)?;
+            sectors_of(alloc, &writes)
         }
     }
 }
@@ -94,38 +137,34 @@ fn two_of_one_sector_have_no_order(rt: HostRuntime) -> Result<(), Fail> {
 
 #[test]
 fn one_change_is_guarded(rt: HostRuntime) -> Result<(), Fail> {
-    let targets = [changed(0), kept(1), changed(64), kept(65)];
-    let parts = split_changes(rt.alloc(), &targets, &guarded(rt.alloc(), &[0, 1, 65])?)?;
-    match parts {
-        Split::NotOne => assert!(rt; false, "one change is guarded"),
-        Split::One { quiet, loud } => {
-            assert_eq!(rt; loud.lba.0, 0);
-            assert_eq!(rt; quiet.len(), 1);
-            assert!(rt; quiet[0].lba.0 == 64 && quiet[0].bytes == CHANGED);
+    let targets = [changed(64), changed(66), kept(1), changed(0), kept(65)];
+    let found = parts(rt.alloc(), &targets, &[0, 1, 65])?;
+    let wanted = [64, 66];
+    assert!(rt;
+        match &found {
+            Some((quiet, loud)) => quiet.as_slice() == wanted.as_slice() && *loud == 0,
+            None => false
         }
-    }
+    );
     Ok(())
 }
 
 #[test]
 fn two_changes_are_guarded(rt: HostRuntime) -> Result<(), Fail> {
     let targets = [changed(0), kept(1), changed(64)];
-    let parts = split_changes(rt.alloc(), &targets, &guarded(rt.alloc(), &[0, 1, 64])?)?;
-    assert!(rt; matches!(parts, Split::NotOne));
+    assert!(rt; parts(rt.alloc(), &targets, &[0, 1, 64])?.is_none());
+    assert!(rt; parts(rt.alloc(), &targets, &[1])?.is_none());
     Ok(())
 }
 
 #[test]
 fn a_lone_change(rt: HostRuntime) -> Result<(), Fail> {
-    let one = one_change(&[kept(0), changed(1), kept(2)]);
-    assert!(rt;
-        match one {
-            Some(write) => write.lba.0 == 1 && write.bytes == CHANGED,
-            None => false
-        }
+    assert_eq!(rt;
+        lone(rt.alloc(), &[kept(0), changed(1), kept(2)])?,
+        Some((1, 1))
     );
-    assert!(rt; one_change(&[kept(0), kept(1)]).is_none());
-    assert!(rt; one_change(&[changed(0), changed(1)]).is_none());
+    assert_eq!(rt; lone(rt.alloc(), &[kept(0), kept(1)])?, None);
+    assert_eq!(rt; lone(rt.alloc(), &[changed(0), changed(1)])?, None);
     Ok(())
 }
 
@@ -137,10 +176,9 @@ fn new_labels_that_are_not_read(rt: HostRuntime) -> Result<(), Fail> {
         target(192, Kind::New, CHANGED),
         changed(256),
     ];
-    let writes = new_writes(rt.alloc(), &targets, &guarded(rt.alloc(), &[64, 192])?)?;
-    assert_eq!(rt; writes.len(), 2);
-    assert_eq!(rt; writes[0].lba.0, 128);
-    assert_eq!(rt; writes[1].lba.0, 192);
+    let sectors = fresh(rt.alloc(), &targets, &[64, 192])?;
+    let wanted = [128, 192];
+    assert!(rt; sectors.as_slice() == wanted.as_slice());
     Ok(())
 }
 
