@@ -1,5 +1,5 @@
 -- The steps of the loops over targets.
-use Rattle.std.proofs.Common.{◌≡◌, ◌↔◌, ◌∙◌, inl, inr, ⊎_elim, ℕ, suc, ◌+◌, ◌<◌, ◌≤◌, List, [], ◌∷◌, ◌++◌, length, take, drop, get_or, map, refl, sym, ap, subst, arith, Bool, true, false, Option, Some, None, IsTrue, IfSome, IfNone, is_some, option_to_list, Result, Ok, Err, IfOk, Vec}
+use Rattle.std.proofs.Common.{◌≡◌, ◌↔◌, ◌∙◌, inl, inr, ⊎_elim, ℕ, suc, ◌+◌, ◌<◌, ◌≤◌, List, [], ◌∷◌, ◌++◌, length, take, drop, get_or, refl, sym, ap, subst, true, false, Option, Some, None, IsTrue, IfSome, IfNone, is_some, option_to_list, Result, Ok, Err, IfOk, Vec}
 use Rattle.std.specs.declared.alloc.Global.{Global}
 use Rattle.std.specs.Prelude.{Contains}
 use Rattle.std.proofs.Math.Seq.{drop-cons}
@@ -11,7 +11,7 @@ use Rattle.pt_sector.specs.Writes.{Writes}
 use Rattle.pt_apply.specs.Plans.{writes_of, PhaseInRange}
 use Rattle.pt_apply.specs.declared.plan.Write.{Write}
 use Rattle.pt_targets.specs.Firsts.{NoneHas}
-use Rattle.pt_targets.specs.Selected.{Differs, IsUnreadNew, AllBelow, Selects, NoneOf, TwoOf, NotAlone, selects_more, selects_skip, selected_none, selected_two}
+use Rattle.pt_targets.specs.Selected.{Differs, IsUnreadNew, AllBelow, Selects, NotAlone, selects_more, selects_skip, selected_none, selected_two}
 use Rattle.pt_targets.specs.Splits.{change_one, change_not_one, new_are, selected_in_range}
 use Rattle.pt_targets.specs.Targets.{targeted, TellDisk, IsOneChange, NotOneChange, AreNewWrites}
 use Rattle.pt_recover.specs.declared.trace.Run.{Run}

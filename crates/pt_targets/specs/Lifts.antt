@@ -1,5 +1,5 @@
 -- From targets that are met to the labels, and to sector 0 and the chain, that are.
-use Rattle.std.proofs.Common.{◌≡◌, ◌≢◌, ◌∙◌, ◌⊎◌, inl, inr, ⊎_elim, ℕ, ◌≤◌, List, [], ◌∷◌, length, replicate, refl, sym, ap, subst, arith, Option, Some, None}
+use Rattle.std.proofs.Common.{◌≡◌, ◌∙◌, inl, inr, ⊎_elim, ℕ, ◌≤◌, List, [], ◌∷◌, length, replicate, sym, subst, arith, Option, Some, None}
 use Rattle.std.specs.Prelude.{Contains, ◌↔◌}
 use Rattle.pt_sector.specs.Sectors.{Sectors, sector}
 use Rattle.pt_sector.specs.Writes.{Writes, Puts}
@@ -15,12 +15,11 @@ use Rattle.pt_recover.specs.Spans.{IsIn}
 use Rattle.pt_recover.specs.declared.layout.Layout.{Layout}
 use Rattle.pt_recover.specs.declared.layout.Slice.{Slice}
 use Rattle.pt_recover.specs.declared.trace.Run.{Run}
-use Rattle.pt_cases.specs.Records.{IsHeadTarget, IsEbrTarget, EbrsEnd, ChainEnds, link_to}
+use Rattle.pt_cases.specs.Records.{IsHeadTarget, EbrsEnd, ChainEnds}
 use Rattle.pt_cases.specs.Targets.{IsEncoded, IsLabelTarget, kept, changed, new, Ends, Met, LabelsMet, stood, set, there, Set, WritesLabels}
 use Rattle.pt_cases.specs.Walks.{along_so}
 use Rattle.pt_targets.specs.Splits.{same_or_not, in_or_not}
 use Rattle.pt_targets.specs.Targets.{IsPlaceTarget, Targeted, AreLabelTargets, AreMbrTargets, AreNewWrites, InOrder, HasChain, HasEbrs}
-use Rattle.pt_targets.specs.declared.target.Kind.{Kind}
 use Rattle.pt_targets.specs.declared.target.Kind.TheVariants.{Stays, New, Changes}
 use Rattle.pt_targets.specs.declared.target.Target.{Target}
 

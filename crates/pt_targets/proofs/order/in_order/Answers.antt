@@ -1,4 +1,4 @@
-use Rattle.std.proofs.Common.{List, refl, subst, rules}
+use Rattle.std.proofs.Common.{List, refl, subst}
 use Rattle.std.proofs.lemmas.List.Sorted.{IsNonDecreasingBy-from_sort_by_key}
 use Rattle.pt_targets.specs.Orders.{HasTwins}
 use Rattle.pt_targets.specs.declared.target.Target.{Target}
