@@ -18,6 +18,7 @@ use std::alloc::{AllocError, Global};
 pub enum Split<const B: usize> {
     /// None is, or more than one.
     NotOne,
+    /// One is.
     One {
         /// Those of other sectors, in ascending order.
         quiet: Vec<Write<B>>,
