@@ -17,26 +17,20 @@ sector_get [] i t lt = absurd (omega (arith, lt))
 sector_get (x ∷ ts) zero t lt = refl
 sector_get (x ∷ ts) (suc i) t lt = sector_get ts i t (omega (arith, lt))
 
--- the sector of the one that stands at i
-sector_is : {b : ℕ} (ts : List (Target b)) (i : ℕ) (t : Target b) → i < length ts → t ≡ get_or ts i t → sector_of ts i ≡ t.at.0
-sector_is ts i t lt at = sector_get ts i t lt ∙ ap (λ (x : Target _). x.at.0) (sym at)
-
 module _ {b : ℕ} (ts : List (Target b)) where
-  pub twins_at : (k : ℕ) (t u : Target b) → 1 ≤ k → k < length ts → t ≡ get_or ts (k - 1) t → u ≡ get_or ts k u → t.at.0 ≡ u.at.0 → HasTwins ts
-  twins_at k t u from lt at_t at_u same =
+  pub twins_at : (k : ℕ) (t u : Target b) → 1 ≤ k → k < length ts → (get_or ts (k - 1) t).at.0 ≡ (get_or ts k u).at.0 → HasTwins ts
+  twins_at k t u from lt same =
       let back : k ≡ k - 1 + 1 = omega (arith, from) in
-      let first = sector_is ts (k - 1) t (omega (arith, lt, from)) at_t in
-      let second = sector_is ts k u lt at_u in
-      (k - 1, omega (arith, lt, from), first ∙ same ∙ sym second ∙ ap (sector_of ts) back)
+      (k - 1, omega (arith, lt, from), sector_get ts (k - 1) t (omega (arith, lt, from)) ∙ same ∙ sym (sector_get ts k u lt) ∙ ap (sector_of ts) back)
 
-  pub apart_more : (k : ℕ) (t u : Target b) → 1 ≤ k → k < length ts → t ≡ get_or ts (k - 1) t → u ≡ get_or ts k u → ¬ (t.at.0 ≡ u.at.0)
+  pub apart_more : (k : ℕ) (t u : Target b) → 1 ≤ k → k < length ts → ¬ ((get_or ts (k - 1) t).at.0 ≡ (get_or ts k u).at.0)
       → ((j : ℕ) → j + 1 < k → ¬ (sector_of ts j ≡ sector_of ts (j + 1))) → (j : ℕ) → j + 1 < k + 1 → ¬ (sector_of ts j ≡ sector_of ts (j + 1))
-  apart_more k t u from lt at_t at_u other before j less same = ⊎_elim
+  apart_more k t u from lt other before j less same = ⊎_elim
       (λ below. before j below same)
       (λ last.
-          let here : j ≡ k - 1 = omega (arith, last, less, from) in
+          let here : k - 1 ≡ j = omega (arith, last, less, from) in
           let next : j + 1 ≡ k = omega (arith, last, less, from) in
-          other (sym (sector_is ts (k - 1) t (omega (arith, lt, from)) at_t) ∙ ap (sector_of ts) (sym here) ∙ same ∙ ap (sector_of ts) next ∙ sector_is ts k u lt at_u))
+          other (sym (sector_get ts (k - 1) t (omega (arith, lt, from))) ∙ ap (sector_of ts) here ∙ same ∙ ap (sector_of ts) next ∙ sector_get ts k u lt))
       (cases_lt (j + 1) k)
 
   ascends : IsNonDecreasingBy (λ (t : Target b). t.at.0) ts → ¬ HasTwins ts → IsAscending (targeted ts)
