@@ -1,2 +1,3 @@
-pub mod Within
-pub mod Labels
+pub mod MbrTurn
+pub mod LabelTurn
+pub mod Shapes

@@ -6,7 +6,6 @@ use Rattle.pt_check.specs.Answers.{OwnedOf}
 use Rattle.pt_recover.specs.declared.layout.Layout.{Layout}
 use Rattle.pt_recover.specs.declared.trace.Run.{Run}
 use Rattle.pt_cases.specs.Cases.{within_mbr_phases}
-use Rattle.pt_cases.specs.Copies.{one_write}
 use Rattle.pt_targets.specs.Targets.{TellDisk, HasTwoOfOne, InOrder, IsChange, IsSplit, NotOneLoud, IsOneChange, NotOneChange}
 use Rattle.pt_targets.specs.declared.error.PlanError.{PlanError}
 use Rattle.pt_targets.specs.declared.error.PlanError.TheVariants.{NotOneSwitch, ReusedInOneBatch, NeedsRepair, Unsound, Device, Memory}
@@ -50,13 +49,11 @@ NoTurn o guarded ts ReusedInOneBatch = OneOwned o ts
 NoTurn o guarded ts Memory = Unit {0}
 NoTurn o guarded ts _ = ⊥
 
--- the one phase of a turn with one write
-pub record IsLoneTurn {b : _} (o : Option Layout) (ts : List (Target b)) (phases : List Writes) : Type 0 where
+-- the one write of a turn
+pub record IsLoneTurn {b : _} (o : Option Layout) (ts : List (Target b)) (loud : ℕ × List ℕ) : Type 0 where
   pub sorted : List (Target b)
   pub free : AreFree o ts sorted
-  pub loud : ℕ × List ℕ
   pub change : (d : Sectors) → TellDisk d sorted → IsOneChange d sorted loud
-  pub is : phases ≡ one_write loud.0 loud.1 ∷ []
 
 -- why there is none
 abbrev pub NoLoneTurn : {b : _} → Option Layout → List (Target b) → PlanError → Type 0

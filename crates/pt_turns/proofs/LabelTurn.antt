@@ -53,8 +53,8 @@ module _ {b : ℕ} (d : Sectors) (o : Option Layout) (p : Layout) (broken : Bool
     )
 
   -- a turn is a plan
-  pub label_planned : broken ≡ false → (phases : List Writes) → IsLoneTurn o places phases → IsOneLabel b d o p is.table phases
-  label_planned whole phases turn = record {
+  pub label_planned : broken ≡ false → (loud : ℕ × List ℕ) (phases : List Writes) → IsLoneTurn o places loud → phases ≡ one_write loud.0 loud.1 ∷ [] → IsOneLabel b d o p is.table phases
+  label_planned whole loud phases turn made = record {
     common = record {
       from = is.start.from;
       sound = is.start.sound;
@@ -68,18 +68,18 @@ module _ {b : ℕ} (d : Sectors) (o : Option Layout) (p : Layout) (broken : Bool
     is_old = is.changes.is_old;
     same = is.changes.same;
     whole = (let there : Unbroken b d is.changes.old false = subst (Unbroken b d is.changes.old) whole is.unbroken in there);
-    loud = turn.loud;
-    is = turn.is;
-    met = labels_met d o (one_write turn.loud.0 turn.loud.1) places turn.sorted turn.free.order.all one.ends one.stays p is.places;
+    loud = loud;
+    is = made;
+    met = labels_met d o (one_write loud.0 loud.1) places turn.sorted turn.free.order.all one.ends one.stays p is.places;
     place = subst (IsPlace (places_of b p.sectors p.body)) one.at (is.places.each one.target (turn.free.order.only one.target one.change.0));
     other = λ same. one.change.1 (one.bytes ∙ same ∙ ap (sector d) (sym one.at) ∙ sym (tell_sorted turn.sorted turn.free.order one.target one.change.0));
   } where
-    one : IsOneChange d turn.sorted turn.loud
+    one : IsOneChange d turn.sorted loud
     one = turn.change d (tell_sorted turn.sorted turn.free.order)
 
     not_owned : (s : ℕ) (v : List ℕ) → Puts (writes_in phases) s v → ¬ OwnedOf b o s
-    not_owned s v puts owned = by_put (subst (λ (ps : List Writes). Puts (writes_in ps) s v) turn.is puts) where
-      by_put : Puts (one_write turn.loud.0 turn.loud.1) s v → ⊥
+    not_owned s v puts owned = by_put (subst (λ (ps : List Writes). Puts (writes_in ps) s v) made puts) where
+      by_put : Puts (one_write loud.0 loud.1) s v → ⊥
       by_put (inl here) = turn.free.free one.target one.change (subst (OwnedOf b o) (sym (one.at ∙ here.0)) owned)
       by_put (inr none) = none
 
