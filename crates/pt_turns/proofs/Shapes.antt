@@ -111,8 +111,8 @@ fewer [] ws x climb rises among (k, lt, at) never = absurd (omega (arith, lt))
 fewer (t ∷ ts) ws x climb rises among (zero, lt, at) never =
     let here : t.at.0 ≡ x.at.0 = ap (λ (y : Target _). y.at.0) at in
     let few = no_more ts ws climb.1 rises (λ s v puts.
-        let it = among s v puts in
-        (it.0, behind t ts it.0 (λ same. never v (subst (λ (k : ℕ). Puts ws k v) (sym it.2 ∙ sym same ∙ here) puts)) it.1, it.2)) in
+    let it = among s v puts in
+    (it.0, behind t ts it.0 (λ same. never v (subst (λ (k : ℕ). Puts ws k v) (sym it.2 ∙ sym same ∙ here) puts)) it.1, it.2)) in
     omega (arith, few)
 fewer (t ∷ ts) [] x climb rises among (suc k, lt, at) never = omega arith
 fewer (t ∷ ts) (w ∷ ws) x climb rises among (suc k, lt, at) never =
@@ -133,9 +133,9 @@ module _ {b : ℕ} (o : Option Layout) (guarded : List Run) (ts : List (Target b
   quiet_few =
       let last = split.1.each turn.loud.0 turn.loud.1 (puts_right turn.quiet (one_write turn.loud.0 turn.loud.1) turn.loud.0 turn.loud.1 (inl (refl, refl))) in
       let few = fewer turn.sorted turn.quiet last.0 (climbs turn.sorted turn.free.order.ascending) (ascends_rises turn.quiet split.1.ascending)
-          (λ s v puts. (let it = split.1.each s v (puts_left turn.quiet (one_write turn.loud.0 turn.loud.1) s v puts) in (it.0, it.1.0, it.2)))
-          last.1.0
-          (λ v puts. split.1.unread last.0.at.0 v puts (subst (IsIn guarded) (sym last.2) split.1.read)) in
+      (λ s v puts. (let it = split.1.each s v (puts_left turn.quiet (one_write turn.loud.0 turn.loud.1) s v puts) in (it.0, it.1.0, it.2)))
+      last.1.0
+      (λ v puts. split.1.unread last.0.at.0 v puts (subst (IsIn guarded) (sym last.2) split.1.read)) in
       omega (arith, few, turn.free.order.count)
 
   -- it writes no more sectors than there are targets
@@ -145,48 +145,8 @@ module _ {b : ℕ} (o : Option Layout) (guarded : List Run) (ts : List (Target b
       (λ two. subst (λ (ps : List Writes). length (writes_in ps) ≤ length ts) (sym two.1) (let few = quiet_few in omega (arith, few, length-append turn.quiet (one_write turn.loud.0 turn.loud.1))))
       turn.is
 
-some_quiet : (ws : Writes) → ws ≢ [] → 0 < length ws
-some_quiet [] other = absurd (other refl)
-some_quiet (w ∷ ws) other = omega arith
-
-abbrev pub AllSome : List Writes → Type 0
-AllSome phases = All (λ (ws : Writes). 0 < length ws) phases
-
-one_some : (loud : ℕ × List ℕ) → AllSome (one_write loud.0 loud.1 ∷ [])
-one_some loud = All-cons (λ (ws : Writes). 0 < length ws) (one_write loud.0 loud.1) [] (omega arith) (All-nil (λ (ws : Writes). 0 < length ws))
-
--- no phase of a turn is empty, and there are at most two
-pub made_some : (quiet : Writes) (loud : ℕ × List ℕ) (phases : List Writes) → within_mbr_phases quiet loud phases → AllSome phases
-made_some quiet loud phases (inl one) = subst AllSome (sym one.1) (one_some loud)
-made_some quiet loud phases (inr two) =
-    subst AllSome (sym two.1) (All-cons (λ (ws : Writes). 0 < length ws) quiet (one_write loud.0 loud.1 ∷ []) (some_quiet quiet two.0) (one_some loud))
-
-pub made_two : (quiet : Writes) (loud : ℕ × List ℕ) (phases : List Writes) → within_mbr_phases quiet loud phases → length phases ≤ 2
-made_two quiet loud phases (inl one) = (let count : length phases ≡ 1 = ap length one.1 in omega (arith, count))
-made_two quiet loud phases (inr two) = (let count : length phases ≡ 2 = ap length two.1 in omega (arith, count))
-
-pub lone_some : (loud : ℕ × List ℕ) (phases : List Writes) → phases ≡ one_write loud.0 loud.1 ∷ [] → AllSome phases
-lone_some loud phases made = subst AllSome (sym made) (one_some loud)
-
--- the same of phases of writes with sectors
+-- phases whose writes are all of sectors below n
 module _ {b : ℕ} where
-  count_in : (ps : List (Vec (Write b) Global)) → length (phases_in ps) ≡ length ps
-  count_in [] = refl
-  count_in (p ∷ ps) = ap suc (count_in ps)
-
-  count_of : (ws : List (Write b)) → length (writes_of ws) ≡ length ws
-  count_of [] = refl
-  count_of (w ∷ ws) = ap suc (count_of ws)
-
-  pub phases_two : (ps : List (Vec (Write b) Global)) → length (phases_in ps) ≤ 2 → length ps ≤ 2
-  phases_two ps few = omega (arith, few, count_in ps)
-
-  pub phases_some : (ps : List (Vec (Write b) Global)) → AllSome (phases_in ps) → All (λ (p : Vec (Write b) Global). 0 < length p.items) ps
-  phases_some [] some = All-nil (λ (p : Vec (Write b) Global). 0 < length p.items)
-  phases_some (p ∷ ps) some = All-cons (λ (q : Vec (Write b) Global). 0 < length q.items) p ps
-      (let first = All-head (λ (ws : Writes). 0 < length ws) (writes_of p.items) (phases_in ps) some in omega (arith, first, count_of p.items))
-      (phases_some ps (All-tail (λ (ws : Writes). 0 < length ws) (writes_of p.items) (phases_in ps) some))
-
   pub phases_range : (n : ℕ) (ps : List (Vec (Write b) Global)) → ((s : ℕ) (v : List ℕ) → Puts (writes_in (phases_in ps)) s v → s < n) → PhasesInRange n ps
   phases_range n [] low = All-nil (λ (p : Vec (Write b) Global). PhaseInRange n p.items)
   phases_range n (p ∷ ps) low = All-cons (λ (q : Vec (Write b) Global). PhaseInRange n q.items) p ps

@@ -40,7 +40,10 @@ module _ {b : ℕ} (o : Option Layout) (guarded : List Run) (ts sorted now : Lis
       let there : SplitIs guarded sorted NotOne = subst (λ (l : List (Target b)). SplitIs guarded l NotOne) same (subst (SplitIs guarded now) none is) in
       inr (sorted, free.order, there)
 
-module _ {b : ℕ} (o : Option Layout) (guarded : List Run) (heads places ts : List (Target b)) (parts : ts ≡ heads ++ places) where
+module _ {b : ℕ} (o : Option Layout) (guarded : List Run) (heads places now ts : List (Target b)) (joined : ts ≡ heads ++ now) (same : now ≡ places) where
+  parts : ts ≡ heads ++ places
+  parts = joined ∙ ap (λ (l : List (Target b)). heads ++ l) same
+
   pub turn_is_plan : (plan : Plan b) → IsTurn o guarded ts (phases_of plan) → (d : Sectors) (p : Layout) → MbrStart d o p guarded heads places → IsPlan b d p (phases_of plan)
   turn_is_plan plan turn d p start =
       within_mbr o start.records start.chain (mbr_planned d o p guarded heads places start (phases_of plan) (subst (λ (l : List (Target b)). IsTurn o guarded l (phases_of plan)) parts turn))

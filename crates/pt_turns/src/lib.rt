@@ -4,6 +4,8 @@
 mod label;
 mod order;
 mod phases;
+#[cfg(test)]
+mod tests;
 mod within;
 
 pub use label::one_label;
