@@ -1,29 +1,26 @@
 -- A turn of one label is a plan, and where there is none there is a cause.
-use Rattle.std.proofs.Common.{◌≡◌, ◌≢◌, ◌∙◌, ◌⊎◌, inl, inr, ⊎_elim, ℕ, List, [], ◌∷◌, length, refl, sym, ap, subst, arith, Option, Some, Bool, true, false}
+use Rattle.std.proofs.Common.{◌≡◌, ◌∙◌, inl, inr, ℕ, List, [], ◌∷◌, length, refl, sym, ap, subst, Option, Bool, true, false}
 use Rattle.std.specs.Prelude.{Contains}
 use Rattle.pt_sector.specs.Sectors.{Sectors, sector}
 use Rattle.pt_sector.specs.Writes.{Writes, Puts}
 use Rattle.pt_check.specs.Answers.{OwnedOf}
 use Rattle.pt_check.specs.First.{writes_in}
-use Rattle.pt_recover.specs.Denotes.{Denotes, BodyIs}
+use Rattle.pt_recover.specs.Denotes.{Denotes}
 use Rattle.pt_recover.specs.Labels.{places_of, IsPlace}
 use Rattle.pt_recover.specs.declared.layout.Body.{Body}
-use Rattle.pt_recover.specs.declared.layout.Body.TheVariants.{Gpt}
 use Rattle.pt_recover.specs.declared.layout.Layout.{Layout}
 use Rattle.pt_layout.specs.Guarded.{IsGuarded, place}
-use Rattle.pt_layout.specs.Healthy.{IsBodyWhole}
 use Rattle.pt_cases.specs.Cases.{IsOneLabel}
 use Rattle.pt_cases.specs.Copies.{one_write}
-use Rattle.pt_cases.specs.Targets.{LabelsMet}
 use Rattle.pt_targets.specs.Causes.{TargetsIn, TargetsOf, NotOneTurn, HasNoTurn, IsUnmended}
 use Rattle.pt_targets.specs.Causes as causes
 use Rattle.pt_targets.specs.Lifts.{labels_met}
 use Rattle.pt_targets.specs.Starts.{StopsBy}
-use Rattle.pt_targets.specs.Targets.{TellDisk, InOrder, IsChange, IsOneChange, NotOneChange}
+use Rattle.pt_targets.specs.Targets.{TellDisk, InOrder, IsOneChange, NotOneChange}
 use Rattle.pt_targets.specs.declared.error.PlanError.{PlanError}
 use Rattle.pt_targets.specs.declared.error.PlanError.TheVariants.{NotOneSwitch, ReusedInOneBatch, NeedsRepair, Unsound, Device, Memory}
 use Rattle.pt_targets.specs.declared.target.Target.{Target}
-use Rattle.pt_turns.specs.Outcomes.{NoneOwned, OneOwned, AreFree, IsLoneTurn, NoLoneTurn}
+use Rattle.pt_turns.specs.Outcomes.{IsLoneTurn, NoLoneTurn}
 use Rattle.pt_turns.specs.Turns.{LabelStart, Unbroken}
 
 module _ {b : ℕ} (d : Sectors) (o : Option Layout) (p : Layout) (broken : Bool) (places : List (Target b)) (is : LabelStart d o p broken places) where

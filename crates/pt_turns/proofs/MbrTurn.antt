@@ -1,6 +1,6 @@
 -- A turn of an MBR is a plan, and where there is none there is a cause.
-use Rattle.std.proofs.Common.{◌≡◌, ◌≢◌, ◌∙◌, ◌⊎◌, inl, inr, ⊎_elim, ℕ, ◌≤◌, List, [], ◌∷◌, ◌++◌, length, refl, sym, ap, subst, arith, Option, Some, None, length-append}
-use Rattle.std.specs.Prelude.{Contains, ◌↔◌}
+use Rattle.std.proofs.Common.{◌≡◌, ◌≢◌, ◌∙◌, ◌⊎◌, inl, inr, ⊎_elim, ℕ, ◌≤◌, List, [], ◌∷◌, ◌++◌, length, refl, sym, ap, subst, arith, Option, length-append}
+use Rattle.std.specs.Prelude.{Contains}
 use Rattle.std.proofs.lemmas.List.Elements.{Contains-append_left, Contains-append_right, Contains-append_cases}
 use Rattle.pt_sector.specs.Sectors.{Sectors, sector}
 use Rattle.pt_sector.specs.Writes.{Writes, Puts}
@@ -8,12 +8,10 @@ use Rattle.pt_mbr.specs.declared.ebr.Ebr.{Ebr}
 use Rattle.pt_mbr.specs.declared.record.Record.{Record}
 use Rattle.pt_check.specs.Answers.{OwnedOf}
 use Rattle.pt_check.specs.First.{writes_in}
-use Rattle.pt_recover.specs.Denotes.{Denotes, Reads, BodyIs}
+use Rattle.pt_recover.specs.Denotes.{Denotes, BodyIs}
 use Rattle.pt_recover.specs.Labels.{places_of}
 use Rattle.pt_recover.specs.Mbr.{IsMbrDisk, extended_of}
-use Rattle.pt_recover.specs.Spans.{IsIn}
 use Rattle.pt_recover.specs.declared.layout.Body.{Body}
-use Rattle.pt_recover.specs.declared.layout.Body.TheVariants.{Mbr}
 use Rattle.pt_recover.specs.declared.layout.Layout.{Layout}
 use Rattle.pt_recover.specs.declared.trace.Run.{Run}
 use Rattle.pt_cases.specs.Cases.{IsWithinMbr, IsNeeded, MbrMet, within_mbr_phases}
@@ -27,11 +25,11 @@ use Rattle.pt_targets.specs.Causes as causes
 use Rattle.pt_targets.specs.Counts.{most_mbr_places}
 use Rattle.pt_targets.specs.Lifts.{labels_met, mbr_met}
 use Rattle.pt_targets.specs.Starts.{StopsBy}
-use Rattle.pt_targets.specs.Targets.{TellDisk, HasTwoOfOne, InOrder, IsChange, IsSplit, NotOneLoud}
+use Rattle.pt_targets.specs.Targets.{TellDisk, InOrder, IsSplit, NotOneLoud}
 use Rattle.pt_targets.specs.declared.error.PlanError.{PlanError}
 use Rattle.pt_targets.specs.declared.error.PlanError.TheVariants.{NotOneSwitch, ReusedInOneBatch, NeedsRepair, Unsound, Device, Memory}
 use Rattle.pt_targets.specs.declared.target.Target.{Target}
-use Rattle.pt_turns.specs.Outcomes.{NoneOwned, OneOwned, AreFree, IsTurn, NoTurn}
+use Rattle.pt_turns.specs.Outcomes.{NoneOwned, IsTurn, NoTurn}
 use Rattle.pt_turns.specs.Turns.{MbrStart}
 
 -- a chain of a lone extended record is short

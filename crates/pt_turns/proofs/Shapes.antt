@@ -1,10 +1,10 @@
 -- How many writes a turn has, of which sectors, and in which phases.
-use Rattle.std.proofs.Common.{◌≡◌, ◌≢◌, ◌∙◌, ◌⊎◌, inl, inr, ⊎_elim, ℕ, zero, suc, ◌+◌, ◌<◌, ◌≤◌, List, [], ◌∷◌, ◌++◌, length, map, replicate, refl, sym, ap, subst, arith, Option, Vec, length-append}
+use Rattle.std.proofs.Common.{◌≡◌, ◌≢◌, ◌∙◌, inl, inr, ⊎_elim, ℕ, zero, suc, ◌+◌, ◌<◌, ◌≤◌, List, [], ◌∷◌, length, map, replicate, refl, sym, ap, subst, arith, Option, Vec, length-append}
 use Rattle.std.proofs.lemmas.List.{length-replicate}
-use Rattle.std.specs.Prelude.{Contains, All}
+use Rattle.std.specs.Prelude.{Contains}
 use Rattle.std.specs.declared.alloc.Global.{Global}
-use Rattle.std.proofs.lemmas.List.Elements.{All-nil, All-cons, All-head, All-tail}
-use Rattle.pt_sector.specs.Sectors.{Sectors, sector}
+use Rattle.std.proofs.lemmas.List.Elements.{All-nil, All-cons}
+use Rattle.pt_sector.specs.Sectors.{Sectors}
 use Rattle.pt_sector.specs.Writes.{Writes, Puts, written}
 use Rattle.pt_sector.specs.Ascending.{IsAscending, sector_at}
 use Rattle.pt_apply.specs.Plans.{writes_of, phases_in, PhasesInRange, PhaseInRange}
@@ -13,13 +13,12 @@ use Rattle.pt_check.specs.First.{writes_in}
 use Rattle.pt_recover.specs.Spans.{IsIn}
 use Rattle.pt_recover.specs.declared.layout.Layout.{Layout}
 use Rattle.pt_recover.specs.declared.trace.Run.{Run}
-use Rattle.pt_cases.specs.Cases.{within_mbr_phases}
 use Rattle.pt_cases.specs.Copies.{one_write}
 use Rattle.pt_cases.specs.Frames.{puts_left, puts_right, puts_at, rises_in_tail, put_there}
 use Rattle.pt_cases.specs.Select.{Rises}
 use Rattle.pt_targets.specs.Selected.{AllBelow, Climbs, climbs}
 use Rattle.pt_targets.specs.Splits.{writes_in_range}
-use Rattle.pt_targets.specs.Targets.{targeted, TellDisk, InOrder, IsSplit, IsOneChange}
+use Rattle.pt_targets.specs.Targets.{targeted, TellDisk, IsSplit}
 use Rattle.pt_targets.specs.declared.target.Target.{Target}
 use Rattle.pt_turns.specs.Outcomes.{IsTurn, IsLoneTurn}
 use Rattle.pt_turns.proofs.MbrTurn.{phases_put}

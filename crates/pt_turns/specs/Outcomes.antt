@@ -1,5 +1,5 @@
 -- What is left of some targets, as one turn or as none.
-use Rattle.std.specs.Prelude.{◌≡◌, ◌⊎◌, ℕ, ◌<◌, List, [], ◌∷◌, Contains, Option}
+use Rattle.std.specs.Prelude.{◌⊎◌, ℕ, List, Option}
 use Rattle.pt_sector.specs.Sectors.{Sectors}
 use Rattle.pt_sector.specs.Writes.{Writes}
 use Rattle.pt_check.specs.Answers.{OwnedOf}
@@ -8,7 +8,7 @@ use Rattle.pt_recover.specs.declared.trace.Run.{Run}
 use Rattle.pt_cases.specs.Cases.{within_mbr_phases}
 use Rattle.pt_targets.specs.Targets.{TellDisk, HasTwoOfOne, InOrder, IsChange, IsSplit, NotOneLoud, IsOneChange, NotOneChange}
 use Rattle.pt_targets.specs.declared.error.PlanError.{PlanError}
-use Rattle.pt_targets.specs.declared.error.PlanError.TheVariants.{NotOneSwitch, ReusedInOneBatch, NeedsRepair, Unsound, Device, Memory}
+use Rattle.pt_targets.specs.declared.error.PlanError.TheVariants.{NotOneSwitch, ReusedInOneBatch, Memory}
 use Rattle.pt_targets.specs.declared.target.Target.{Target}
 
 -- no sector that changes is owned in o
