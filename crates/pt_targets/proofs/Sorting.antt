@@ -1,6 +1,6 @@
 -- Sorted targets ascend where no two neighbours are of one sector; two of one sector are two in any order.
-use Rattle.std.proofs.Common.{◌≡◌, ◌∙◌, inl, inr, ⊎_elim, ℕ, zero, suc, ◌+◌, ◌-◌, ◌<◌, ◌≤◌, List, [], ◌∷◌, length, get_or, refl, sym, ap, subst, arith, sum_by}
-use Rattle.std.specs.Prelude.{Contains, IsPermutation}
+use Rattle.std.proofs.Common.{◌≡◌, ◌∙◌, ⊎_elim, ℕ, zero, suc, ◌+◌, ◌-◌, ◌<◌, ◌≤◌, List, [], ◌∷◌, length, get_or, refl, sym, ap, subst, arith, sum_by}
+use Rattle.std.specs.Prelude.{IsPermutation}
 use Rattle.std.specs.List.Sorted.{IsNonDecreasingBy}
 use Rattle.std.proofs.lemmas.Bool.{cases_lt}
 use Rattle.std.proofs.lemmas.List.Sorted.{IsPermutation-sym, Contains-permutation, length_permutation, sum_by-IsPermutation}
@@ -28,9 +28,9 @@ module _ {b : ℕ} (ts : List (Target b)) where
   apart_more k t u from lt other before j less same = ⊎_elim
       (λ below. before j below same)
       (λ last.
-          let here : k - 1 ≡ j = omega (arith, last, less, from) in
-          let next : j + 1 ≡ k = omega (arith, last, less, from) in
-          other (sym (sector_get ts (k - 1) t (omega (arith, lt, from))) ∙ ap (sector_of ts) here ∙ same ∙ ap (sector_of ts) next ∙ sector_get ts k u lt))
+      let here : k - 1 ≡ j = omega (arith, last, less, from) in
+      let next : j + 1 ≡ k = omega (arith, last, less, from) in
+      other (sym (sector_get ts (k - 1) t (omega (arith, lt, from))) ∙ ap (sector_of ts) here ∙ same ∙ ap (sector_of ts) next ∙ sector_get ts k u lt))
       (cases_lt (j + 1) k)
 
   ascends : IsNonDecreasingBy (λ (t : Target b). t.at.0) ts → ¬ HasTwins ts → IsAscending (targeted ts)
@@ -43,9 +43,9 @@ module _ {b : ℕ} (ts : List (Target b)) where
       let at_next = sector_get ts (i + 1) any (omega (arith, less, within)) in
       let at_j = sector_get ts j any within in
       ⊎_elim
-          (λ below. below)
-          (λ not. absurd (apart (i, omega (arith, less, within), omega (arith, next, far, at_i, at_next, at_j, not))))
-          (cases_lt (sector_of ts i) (sector_of ts j))
+      (λ below. below)
+      (λ not. absurd (apart (i, omega (arith, less, within), omega (arith, next, far, at_i, at_next, at_j, not))))
+      (cases_lt (sector_of ts i) (sector_of ts j))
 
 -- 1 where it is of sector s, and otherwise 0
 abbrev is_of : {b : ℕ} → ℕ → Target b → ℕ
@@ -79,10 +79,10 @@ find_two : {b : ℕ} (s : ℕ) (ts : List (Target b)) → 2 ≤ count_of s ts �
 find_two s [] some = absurd (omega (arith, some))
 find_two s (t ∷ ts) some = ⊎_elim
     (λ here. (let later = find_one s ts (omega (arith, some, sum_by-cons (is_of s) t ts)) in
-        let at : t.at.0 ≡ s = omega (arith, here) in
-        record { i = 0; j = suc later.0; order = omega arith; within = omega (arith, later.1); same = at ∙ sym later.2 }))
+    let at : t.at.0 ≡ s = omega (arith, here) in
+    record { i = 0; j = suc later.0; order = omega arith; within = omega (arith, later.1); same = at ∙ sym later.2 }))
     (λ not. (let later = find_two s ts (omega (arith, some, not, sum_by-cons (is_of s) t ts)) in
-        record { i = suc later.i; j = suc later.j; order = omega (arith, later.order); within = omega (arith, later.within); same = later.same }))
+    record { i = suc later.i; j = suc later.j; order = omega (arith, later.order); within = omega (arith, later.within); same = later.same }))
     (cases_lt 0 (is_of s t))
 
 module _ {b : ℕ} (ts sorted : List (Target b)) (same : IsPermutation ts sorted) where

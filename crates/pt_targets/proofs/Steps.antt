@@ -1,5 +1,5 @@
 -- The steps of the loops over targets.
-use Rattle.std.proofs.Common.{◌≡◌, ◌↔◌, ◌∙◌, inl, inr, ⊎_elim, ℕ, suc, ◌+◌, ◌<◌, ◌≤◌, List, [], ◌∷◌, ◌++◌, length, take, drop, get_or, map, refl, sym, ap, subst, arith, Bool, true, false, Option, Some, None, IsTrue, IfSome, IfNone, is_some, option_to_list, Result, Ok, Err, IfOk, Vec}
+use Rattle.std.proofs.Common.{◌≡◌, ◌↔◌, ◌∙◌, inl, inr, ⊎_elim, ℕ, suc, ◌+◌, ◌<◌, ◌≤◌, List, [], ◌∷◌, ◌++◌, length, take, drop, get_or, refl, sym, ap, subst, true, false, Option, Some, None, IsTrue, IfSome, IfNone, is_some, option_to_list, Result, Ok, Err, IfOk, Vec}
 use Rattle.std.specs.declared.alloc.Global.{Global}
 use Rattle.std.specs.Prelude.{Contains}
 use Rattle.std.proofs.Math.Seq.{drop-cons}
@@ -11,7 +11,7 @@ use Rattle.pt_sector.specs.Writes.{Writes}
 use Rattle.pt_apply.specs.Plans.{writes_of, PhaseInRange}
 use Rattle.pt_apply.specs.declared.plan.Write.{Write}
 use Rattle.pt_targets.specs.Firsts.{NoneHas}
-use Rattle.pt_targets.specs.Selected.{Differs, IsUnreadNew, AllBelow, Selects, NoneOf, TwoOf, NotAlone, selects_more, selects_skip, selected_none, selected_two}
+use Rattle.pt_targets.specs.Selected.{Differs, IsUnreadNew, AllBelow, Selects, NotAlone, selects_more, selects_skip, selected_none, selected_two}
 use Rattle.pt_targets.specs.Splits.{change_one, change_not_one, new_are, selected_in_range}
 use Rattle.pt_targets.specs.Targets.{targeted, TellDisk, IsOneChange, NotOneChange, AreNewWrites}
 use Rattle.pt_recover.specs.declared.trace.Run.{Run}
@@ -44,15 +44,15 @@ module _ {b : ℕ} (P : Target b → Type 0) (xs : List (Target b)) (i : ℕ) wh
       → w.lba ≡ x.at → w.bytes ≡ x.bytes → new ≡ old ++ w ∷ [] → Selects P (take (i + 1) xs) (writes_of new)
   pushed x old new w lt at is holds lba bytes more =
       let put : writes_of new ≡ writes_of old ++ (x.at.0, x.bytes) ∷ [] =
-          ap writes_of more ∙ map-append (λ (y : Write b). (y.lba.0, y.bytes)) old (w ∷ []) ∙ (λ j. writes_of old ++ ((lba j).0, bytes j) ∷ []) in
+      ap writes_of more ∙ map-append (λ (y : Write b). (y.lba.0, y.bytes)) old (w ∷ []) ∙ (λ j. writes_of old ++ ((lba j).0, bytes j) ∷ []) in
       subst (λ (l : List (Target b)). Selects P l (writes_of new)) (sym (one_more xs i x lt at))
-          (subst (Selects P (take i xs ++ x ∷ [])) (sym put) (selects_more P (take i xs) (writes_of old) x is holds))
+      (subst (Selects P (take i xs ++ x ∷ [])) (sym put) (selects_more P (take i xs) (writes_of old) x is holds))
 
   pub skipped : (x : Target b) (old new : List (Write b)) → i < length xs → x ≡ get_or xs i x → Selects P (take i xs) (writes_of old) → ¬ P x
       → new ≡ old → Selects P (take (i + 1) xs) (writes_of new)
   skipped x old new lt at is not same =
       subst (λ (l : List (Target b)). Selects P l (writes_of new)) (sym (one_more xs i x lt at))
-          (subst (λ (ws : List (Write b)). Selects P (take i xs ++ x ∷ []) (writes_of ws)) (sym same) (selects_skip P (take i xs) (writes_of old) x is not))
+      (subst (λ (ws : List (Write b)). Selects P (take i xs ++ x ∷ []) (writes_of ws)) (sym same) (selects_skip P (take i xs) (writes_of old) x is not))
 
   pub found_two : (x : Target b) (found : Option (Write b)) → i < length xs → x ≡ get_or xs i x → IsAscending (targeted xs)
       → Selects P (take i xs) (writes_of (option_to_list found)) → P x → is_some found ≡ true → NotAlone P xs

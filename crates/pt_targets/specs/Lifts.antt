@@ -1,5 +1,5 @@
 -- From targets that are met to the labels, and to sector 0 and the chain, that are.
-use Rattle.std.proofs.Common.{◌≡◌, ◌≢◌, ◌∙◌, ◌⊎◌, inl, inr, ⊎_elim, ℕ, ◌≤◌, List, [], ◌∷◌, length, replicate, refl, sym, ap, subst, arith, Option, Some, None}
+use Rattle.std.proofs.Common.{◌≡◌, ◌∙◌, inl, inr, ⊎_elim, ℕ, ◌≤◌, List, [], ◌∷◌, length, replicate, sym, subst, arith, Option, Some, None}
 use Rattle.std.specs.Prelude.{Contains, ◌↔◌}
 use Rattle.pt_sector.specs.Sectors.{Sectors, sector}
 use Rattle.pt_sector.specs.Writes.{Writes, Puts}
@@ -15,12 +15,11 @@ use Rattle.pt_recover.specs.Spans.{IsIn}
 use Rattle.pt_recover.specs.declared.layout.Layout.{Layout}
 use Rattle.pt_recover.specs.declared.layout.Slice.{Slice}
 use Rattle.pt_recover.specs.declared.trace.Run.{Run}
-use Rattle.pt_cases.specs.Records.{IsHeadTarget, IsEbrTarget, EbrsEnd, ChainEnds, link_to}
+use Rattle.pt_cases.specs.Records.{IsHeadTarget, EbrsEnd, ChainEnds}
 use Rattle.pt_cases.specs.Targets.{IsEncoded, IsLabelTarget, kept, changed, new, Ends, Met, LabelsMet, stood, set, there, Set, WritesLabels}
 use Rattle.pt_cases.specs.Walks.{along_so}
 use Rattle.pt_targets.specs.Splits.{same_or_not, in_or_not}
 use Rattle.pt_targets.specs.Targets.{IsPlaceTarget, Targeted, AreLabelTargets, AreMbrTargets, AreNewWrites, InOrder, HasChain, HasEbrs}
-use Rattle.pt_targets.specs.declared.target.Kind.{Kind}
 use Rattle.pt_targets.specs.declared.target.Kind.TheVariants.{Stays, New, Changes}
 use Rattle.pt_targets.specs.declared.target.Target.{Target}
 
@@ -82,12 +81,12 @@ module _ {b : ℕ} (d : Sectors) (o : Option Layout) (p : Layout) (ts sorted : L
   place_set w (Some l) (t, has, at, under, inr (inl (kind, other, is))) = absurd (settled t has kind)
   place_set w (Some l) (t, has, at, under, inr (inr (kind, none, is))) = ⊎_elim
       (λ same. ⊎_elim
-          (λ is_in. there none
-              (subst (λ (v : List ℕ). IsEncoded l w (replicate b 0) v) (same ∙ under) is)
-              ((reads (place_of w) at_place).1 (subst (IsIn guarded) at is_in))
-              (λ x puts. news.there t (order.all t has) kind (same, is_in) x (subst (λ (s : ℕ). Puts ws s x) (sym at) puts)))
-          (λ not_in. written (λ both. not_in both.1))
-          (in_or_not guarded t.at.0))
+      (λ is_in. there none
+      (subst (λ (v : List ℕ). IsEncoded l w (replicate b 0) v) (same ∙ under) is)
+      ((reads (place_of w) at_place).1 (subst (IsIn guarded) at is_in))
+      (λ x puts. news.there t (order.all t has) kind (same, is_in) x (subst (λ (s : ℕ). Puts ws s x) (sym at) puts)))
+      (λ not_in. written (λ both. not_in both.1))
+      (in_or_not guarded t.at.0))
       (λ differs. written (λ both. differs both.0))
       (same_or_not t.bytes t.under)
     where

@@ -1,11 +1,11 @@
 -- What is left of some targets, by whether it is one write of a guarded sector.
-use Rattle.std.proofs.Common.{◌≡◌, ◌≢◌, ◌∙◌, ◌⊎◌, inl, inr, ⊎_elim, ℕ, ◌<◌, ◌≤◌, List, [], ◌∷◌, ◌++◌, length, refl, sym, ap, subst, arith, Bool, true, false, Decides}
+use Rattle.std.proofs.Common.{◌≡◌, ◌≢◌, ◌∙◌, ◌⊎◌, inl, inr, ⊎_elim, ℕ, ◌<◌, List, [], ◌∷◌, ◌++◌, refl, sym, subst, arith, Bool, true, false, Decides}
 use Rattle.std.specs.Prelude.{Contains}
 use Rattle.std.specs.Str.{bytes_eq}
 use Rattle.std.proofs.lemmas.Bool.{cases_lt}
 use Rattle.std.proofs.lemmas.List.Elements.{All-nil, All-cons}
 use Rattle.std.proofs.lemmas.Slice.Eq.{bytes_eq-Decides}
-use Rattle.pt_sector.specs.Sectors.{Sectors, sector}
+use Rattle.pt_sector.specs.Sectors.{Sectors}
 use Rattle.pt_sector.specs.Writes.{Writes, Puts}
 use Rattle.pt_sector.specs.Ascending.{IsAscending}
 use Rattle.pt_apply.specs.Plans.{writes_of, PhaseInRange}
@@ -15,12 +15,10 @@ use Rattle.pt_recover.specs.declared.trace.Run.{Run}
 use Rattle.pt_cases.specs.Copies.{one_write}
 use Rattle.pt_cases.specs.Frames.{puts_split, puts_left, puts_right}
 use Rattle.pt_cases.specs.Targets.{Ends}
-use Rattle.pt_targets.specs.Selected.{Differs, IsLoud, IsQuiet, IsUnreadNew, AllBelow, Selects, NoneOf, TwoOf, NotAlone, selected_from, selected_all, selected_few, selected_ascend, selected_not}
-use Rattle.pt_targets.specs.Targets.{targeted, TellDisk, IsChange, IsSplit, NotOneLoud, IsOneChange, NotOneChange, AreNewWrites}
+use Rattle.pt_targets.specs.Selected.{Differs, IsLoud, IsQuiet, IsUnreadNew, AllBelow, Selects, NotAlone, selected_from, selected_all, selected_few, selected_ascend, selected_not}
+use Rattle.pt_targets.specs.Targets.{targeted, TellDisk, IsSplit, NotOneLoud, IsOneChange, NotOneChange, AreNewWrites}
 use Rattle.pt_targets.specs.declared.split.Split.{Split}
 use Rattle.pt_targets.specs.declared.split.Split.TheVariants.{NotOne, One}
-use Rattle.pt_targets.specs.declared.target.Kind.{Kind}
-use Rattle.pt_targets.specs.declared.target.Kind.TheVariants.{New}
 use Rattle.pt_targets.specs.declared.target.Target.{Target}
 
 -- on each disk of which they tell, these are the writes that are left; or not one of them is of a guarded sector
@@ -77,9 +75,9 @@ module _ {b : ℕ} (guarded : List Run) (ts : List (Target b)) (up : IsAscending
     ended t has = ⊎_elim
         (λ same. inr (same ∙ tell t has, stayed t has same))
         (λ differs. ⊎_elim
-            (λ is. inl (puts_right quiet (one_write loud.0 loud.1) t.at.0 t.bytes (selected_all (IsLoud guarded) ts (loud ∷ []) l t has (differs, is))))
-            (λ not. inl (puts_left quiet (one_write loud.0 loud.1) t.at.0 t.bytes (selected_all (IsQuiet guarded) ts quiet q t has (differs, not))))
-            (in_or_not guarded t.at.0))
+        (λ is. inl (puts_right quiet (one_write loud.0 loud.1) t.at.0 t.bytes (selected_all (IsLoud guarded) ts (loud ∷ []) l t has (differs, is))))
+        (λ not. inl (puts_left quiet (one_write loud.0 loud.1) t.at.0 t.bytes (selected_all (IsQuiet guarded) ts quiet q t has (differs, not))))
+        (in_or_not guarded t.at.0))
         (same_or_not t.bytes t.under)
 
   -- the writes of new labels

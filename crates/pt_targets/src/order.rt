@@ -24,6 +24,14 @@ pub fn in_order<const B: usize>(targets: Vec<Target<B>>) -> Option<Vec<Target<B>
     ensures none { IfNone result (HasTwoOfOne targets.entry.items) }
 {
     let mut sorted = targets;
-    sorted.sort_unstable_by_key(|target| ensures { result ≡ target.now.at.0 } { target.at.0 });
-    if has_twins(&sorted) { None } else { Some(sorted) }
+    sorted.sort_unstable_by_key(
+        |target|
+            ensures { result ≡ target.now.at.0 }
+        { target.at.0 },
+    );
+    if has_twins(&sorted) {
+        None
+    } else {
+        Some(sorted)
+    }
 }

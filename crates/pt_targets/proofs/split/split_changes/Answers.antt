@@ -1,5 +1,5 @@
 use Rattle.pt_apply.specs.Plans.{writes_of}
-use Rattle.pt_targets.specs.Splits.{split_one, loud_not_one}
+use Rattle.pt_targets.specs.Splits.{split_one}
 use Rattle.pt_targets.proofs.split.split_changes.Goals as goal
 
 pub returns-in_ok-quiet-in-Some : goal.returns-in_ok-quiet-in-Some
