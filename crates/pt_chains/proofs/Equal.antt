@@ -1,5 +1,5 @@
 -- What `==` decides of records.
-use Rattle.std.proofs.Common.{◌≡◌, List, Option, Some, None, Bool, ◌&&◌, ◌==◌, ap}
+use Rattle.std.proofs.Common.{◌≡◌, List, Option, ◌==◌, ap}
 use Rattle.std.specs.Bool.{Decides}
 use Rattle.std.specs.Option.{option_eq}
 use Rattle.std.proofs.lemmas.Bool.Decides.{Decides-eqb}

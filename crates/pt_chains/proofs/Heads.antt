@@ -1,10 +1,10 @@
 -- Sector 0 with its records changed.
-use Rattle.std.proofs.Common.{◌≡◌, ℕ, ◌<◌, ◌≤◌, ◌⊎◌, List, take, get_or, Option, None, Bool, true, false, not, ◌+◌, refl, sym, ap, subst, ◌∙◌, arith, inl, inr}
+use Rattle.std.proofs.Common.{◌≡◌, ℕ, ◌<◌, ◌≤◌, ◌⊎◌, List, take, get_or, Option, None, Bool, true, false, not, ◌+◌, refl, sym, subst, ◌∙◌, arith, inl, inr}
 use Rattle.std.specs.Prelude.{IsTrue, slice_index}
 use Rattle.std.specs.Prelude.{◌↔◌}
 use Rattle.std.proofs.lemmas.Bool.{false≢true}
 use Rattle.pt_mbr.specs.Bytes.{HasSignature}
-use Rattle.pt_mbr.specs.Mbr.{IsBootIndicator, HasBootIndicators, IsMbrFormed, AreRecords, MbrBytes, BearsProtective}
+use Rattle.pt_mbr.specs.Mbr.{IsBootIndicator, HasBootIndicators, AreRecords, MbrBytes, BearsProtective}
 use Rattle.pt_mbr.specs.Changes.{IsChanged}
 use Rattle.pt_mbr.specs.declared.record.Record.{Record}
 use Rattle.pt_mbr.specs.declared.mbr.Mbr.{Mbr}

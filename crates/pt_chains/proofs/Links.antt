@@ -1,5 +1,5 @@
 -- The bytes of a link hold the low bits of its numbers.
-use Rattle.std.proofs.Common.{◌≡◌, ℕ, ◌+◌, ◌-◌, ◌/◌, ◌%◌, ◌^◌, ◌<◌, List, [], ◌∷◌, ◌++◌, length, get_or, Some, refl, sym, ap, ◌∙◌, arith}
+use Rattle.std.proofs.Common.{◌≡◌, ℕ, ◌-◌, ◌/◌, ◌%◌, ◌<◌, List, [], ◌∷◌, ◌++◌, length, get_or, Some, ap, ◌∙◌, arith}
 use Rattle.byteorder.specs.Endian.{little_bytes}
 use Rattle.pt_mbr.specs.Record.{record_bytes}
 use Rattle.pt_mbr.specs.declared.ebr.Ebr.{Ebr}
@@ -23,7 +23,7 @@ low_bytes x = λ i. low_0 x i ∷ low_1 x i ∷ low_2 x i ∷ low_3 x i ∷ []
 pub link_low : (first : ℕ) (rest : List Ebr) (z : Ebr) (start size : ℕ) → 0 < length rest
     → start ≡ ((get_or rest 0 z).at.0 - first) % 4294967296 → size ≡ reach (get_or rest 0 z).logical % 4294967296
     → record_bytes (Some (record { boot = 0; start_chs = 254 ∷ 255 ∷ 255 ∷ []; kind = 5; end_chs = 254 ∷ 255 ∷ 255 ∷ []; start = start; size = size }))
-        ≡ record_bytes (link_to first rest)
+    ≡ record_bytes (link_to first rest)
 unfolding record_bytes
 link_low first [] z start size some low cut = absurd (omega (arith, some))
 link_low first (e ∷ es) z start size some low cut =

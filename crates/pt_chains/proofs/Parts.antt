@@ -1,10 +1,10 @@
 -- What sixteen bytes are read as.
-use Rattle.std.proofs.Common.{◌≡◌, ◌≢◌, ℕ, ◌+◌, ◌-◌, ◌*◌, ◌<◌, ◌≤◌, ◌⊎◌, List, length, take, drop, get_or, Option, Some, None, refl, sym, ap, subst, ◌∙◌, arith, inl, inr}
+use Rattle.std.proofs.Common.{◌≡◌, ℕ, ◌+◌, ◌-◌, ◌*◌, ◌<◌, ◌≤◌, List, take, drop, get_or, Option, Some, None, refl, sym, ap, subst, ◌∙◌, arith, inl, inr}
 use Rattle.std.specs.Prelude.{slice_index, slice_range}
 use Rattle.std.proofs.lemmas.List.{drop-drop, drop-take, take-take, get_or-take, get_or-drop}
 use Rattle.byteorder.specs.Endian.{little_number}
 use Rattle.pt_mbr.specs.Bytes.{number_at}
-use Rattle.pt_mbr.specs.Record.{IsUsed, RecordIs, place_of, record_bytes}
+use Rattle.pt_mbr.specs.Record.{IsUsed, RecordIs, place_of}
 use Rattle.pt_mbr.specs.Changes.{IsChanged}
 use Rattle.pt_mbr.specs.declared.record.Record.{Record}
 use Rattle.pt_cases.specs.Records.{IsRecordTarget, record_at}

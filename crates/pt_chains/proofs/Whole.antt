@@ -1,12 +1,12 @@
 -- The targets of sector 0 and of the chain, and what a call gives of them.
-use Rattle.std.proofs.Common.{◌≡◌, ℕ, ◌+◌, ◌<◌, ◌⊎◌, List, [], ◌∷◌, length, Option, Some, None, Result, Ok, Err, refl, sym, ap, subst, ◌∙◌, inl, inr}
-use Rattle.std.specs.Prelude.{Contains, IfOk, IfSome, IfNone}
+use Rattle.std.proofs.Common.{◌≡◌, ℕ, ◌⊎◌, List, [], ◌∷◌, Option, Some, None, Result, Ok, Err, sym, ap, subst, ◌∙◌, inl, inr}
+use Rattle.std.specs.Prelude.{IfOk, IfSome, IfNone}
 use Rattle.pt_sector.specs.Sectors.{Sectors, sector}
 use Rattle.pt_mbr.specs.Chain.{StandsAt}
 use Rattle.pt_mbr.specs.declared.ebr.Ebr.{Ebr}
 use Rattle.pt_mbr.specs.declared.record.Record.{Record}
 use Rattle.pt_recover.specs.Mbr.{extended_of}
-use Rattle.pt_cases.specs.Records.{IsEbrOver, IsEbrMade, IsEbrTarget, IsLinked, link_to}
+use Rattle.pt_cases.specs.Records.{IsEbrOver, IsEbrMade, IsEbrTarget, IsLinked}
 use Rattle.pt_targets.specs.Targets.{HasChain, HasEbrs, AreMbrTargets}
 use Rattle.pt_targets.specs.declared.target.Target.{Target}
 use Rattle.pt_chains.specs.Steps.{StartsAt, IsHeadOf, AreChainTargets}

@@ -1,12 +1,12 @@
 -- What the parts of a wanted MBR layout's targets are.
-use Rattle.std.specs.Prelude.{◌≡◌, ◌⊎◌, ◌+◌, ℕ, List, [], ◌∷◌, length, Option, Some, None, Contains}
+use Rattle.std.specs.Prelude.{◌≡◌, ◌⊎◌, ◌+◌, ℕ, List, [], ◌∷◌, length, Option, Contains}
 use Rattle.pt_sector.specs.Sectors.{Sectors, sector}
 use Rattle.pt_mbr.specs.Chain.{StandsAt}
 use Rattle.pt_mbr.specs.declared.ebr.Ebr.{Ebr}
 use Rattle.pt_mbr.specs.declared.record.Record.{Record}
 use Rattle.pt_recover.specs.Mbr.{extent_of}
 use Rattle.pt_cases.specs.Records.{IsHeadTarget, IsEbrTarget, link_to}
-use Rattle.pt_targets.specs.Targets.{HasEbrs, TellDisk}
+use Rattle.pt_targets.specs.Targets.{HasEbrs}
 use Rattle.pt_targets.specs.declared.target.Target.{Target}
 use Rattle.pt_chains.specs.declared.extended.Extended.{Extended}
 use Rattle.pt_chains.specs.declared.extended.Extended.TheVariants.{Nothing, One, Two}

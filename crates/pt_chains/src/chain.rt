@@ -140,8 +140,9 @@ fn chain_targets<const B: usize, D: Disk<B>>(
 /// old ones: first that of sector 0, then those of the chain in its order. None where no bytes would do for one of them.
 ///
 /// A record that stays keeps its bytes, and one that becomes unused is zeros. A link is written anew where it would lead
-/// elsewhere from the wanted extended partition's first sector. An extended boot record that isn't in the old chain
-/// stands over zeros, whatever its sector held. An `Err` is a failed read, or memory that was refused.
+/// elsewhere from the wanted extended partition's first sector, with the low 32 bits of its start and of its size; what
+/// then doesn't read as wanted has no target. An extended boot record that isn't in the old chain stands over zeros,
+/// whatever its sector held. An `Err` is a failed read, or memory that was refused.
 pub fn mbr_targets<const B: usize, D: Disk<B>>(
     alloc: Global,
     disk: &mut D,
@@ -164,5 +165,12 @@ pub fn mbr_targets<const B: usize, D: Disk<B>>(
         None => return Ok(None),
     };
     let first = extended_first(records);
-    chain_targets(alloc, disk, head, old_chain.as_slice(), first, chain.as_slice())
+    chain_targets(
+        alloc,
+        disk,
+        head,
+        old_chain.as_slice(),
+        first,
+        chain.as_slice(),
+    )
 }

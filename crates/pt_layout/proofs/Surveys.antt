@@ -1,14 +1,12 @@
 -- What a survey tells, put together.
-use Rattle.std.proofs.Common.{◌≡◌, ◌≢◌, ◌<◌, ◌≤◌, ◌^◌, ℕ, List, length, Bool, false, Option, Some, None, Result, Ok, Err, All, get_or, refl, sym, subst, arith, inl, inr}
-use Rattle.std.specs.Prelude.{◌↔◌, ◌⊎◌, IsTrue, IfOk}
+use Rattle.std.proofs.Common.{◌≡◌, ◌<◌, ◌^◌, ℕ, List, length, Bool, false, Option, Some, None, Ok, All, sym, subst, arith, inl, inr}
+use Rattle.std.specs.Prelude.{◌↔◌, ◌⊎◌, IsTrue}
 use Rattle.pt_sector.specs.Sectors.{Sectors}
-use Rattle.pt_gpt.specs.Copy.{HasCopy, IsCopyFault}
-use Rattle.pt_gpt.specs.Laws.{no_copy_lem}
-use Rattle.pt_gpt.specs.declared.error.CopyError.{CopyError}
+use Rattle.pt_gpt.specs.Copy.{HasCopy}
 use Rattle.pt_gpt.specs.declared.table.Table.{Table}
 use Rattle.pt_gpt.specs.declared.table.Side.TheVariants.{Primary}
 use Rattle.pt_recover.specs.Answers.{IsReason, IsOutside, TellsNothing, IsTraceOf}
-use Rattle.pt_recover.specs.Denotes.{BodyIs, Denotes, Reads}
+use Rattle.pt_recover.specs.Denotes.{BodyIs, Denotes}
 use Rattle.pt_recover.specs.Gpt.{HasRoom}
 use Rattle.pt_recover.specs.Labels.{places_of, place_of, IsPlace}
 use Rattle.pt_recover.specs.Mbr.{IsMbrDisk}

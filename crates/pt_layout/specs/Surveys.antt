@@ -1,5 +1,5 @@
 -- What one reading of a disk tells.
-use Rattle.std.specs.Prelude.{◌≡◌, ◌<◌, ◌↔◌, ℕ, length, Option, Some, None, Result, Ok, Err, IsTrue, IfOk}
+use Rattle.std.specs.Prelude.{◌<◌, ◌↔◌, ℕ, length, Option, Some, None, Result, Ok, Err, IsTrue, IfOk}
 use Rattle.pt_sector.specs.Sectors.{Sectors, sector}
 use Rattle.pt_mbr.specs.Protective.{IsProtective}
 use Rattle.pt_gpt.specs.Copy.{HasCopy}

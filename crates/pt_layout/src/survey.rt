@@ -298,7 +298,10 @@ fn survey_mbr<const B: usize, D: Disk<B>>(alloc: Global, disk: &mut D) -> Result
 ///
 /// Of a disk that isn't an MBR disk it reads sector 0, the two sides of a GPT and the label places of its layout, once
 /// each; a layout with nothing else wrong has its label places read once more. Of an MBR disk it reads sector 0 twice.
-pub fn survey_disk<const B: usize, D: Disk<B>>(alloc: Global, disk: &mut D) -> Result<Survey, Failure>
+pub fn survey_disk<const B: usize, D: Disk<B>>(
+    alloc: Global,
+    disk: &mut D,
+) -> Result<Survey, Failure>
     requires size { IsSectorSize B }
     ensures same { OnlyReads D.Disk disk.old disk.new }
     ensures blames { Blames fault_of result (D.faults disk.old) (D.faults disk.new) }

@@ -1,5 +1,5 @@
 -- From what the places hold to what the disk does.
-use Rattle.std.proofs.Common.{◌≡◌, ◌≢◌, ◌<◌, ◌≤◌, ◌+◌, ◌∙◌, ◌⊎◌, ⊎_elim, ℕ, List, [], ◌∷◌, ◌++◌, length, map, replicate, All, Option, Some, None, refl, sym, ap, subst, arith, inl, inr}
+use Rattle.std.proofs.Common.{◌≡◌, ◌+◌, ◌∙◌, ⊎_elim, ℕ, List, ◌∷◌, ◌++◌, length, All, Option, Some, None, refl, sym, ap, subst, arith, inl, inr}
 use Rattle.std.specs.Prelude.{Contains}
 use Rattle.std.proofs.lemmas.List.Elements.{All-contains, Contains-append_right, Contains-append_cases}
 use Rattle.pt_sector.specs.Sectors.{Sectors, sector}
@@ -16,7 +16,7 @@ use Rattle.pt_cases.specs.Targets.{Along, Had, IsEncoded, IsLabelTarget, kept, c
 use Rattle.pt_targets.specs.Targets.{IsPlaceTarget, Targeted, AreLabelTargets}
 use Rattle.pt_targets.specs.declared.target.Target.{Target}
 use Rattle.pt_places.specs.Answers.{LabelsFit, IsFirstLeft, HasUnreadable, NoneLeft, PlacesAnswer}
-use Rattle.pt_places.specs.Places.{spot_of, IsAt, IsRead, IsLeftAt, IsFirstAt, OldAre, HadAt, IsOf, IsBytes, stood, other, fresh, IsTarget, keeps, changes, sets, IsTargetOf, AreTargets, HasNone, NoneIsLeft, AnswerOf, AreWithin}
+use Rattle.pt_places.specs.Places.{IsAt, IsRead, IsLeftAt, IsFirstAt, OldAre, HadAt, IsOf, IsBytes, stood, other, fresh, IsTarget, keeps, changes, sets, IsTargetOf, AreTargets, HasNone, NoneIsLeft, AnswerOf, AreWithin}
 use Rattle.pt_places.specs.declared.answer.LabelTargets.{LabelTargets}
 use Rattle.pt_places.specs.declared.answer.LabelTargets.TheVariants.{Misplaced, Foreign, Unreadable, Targets}
 use Rattle.pt_places.specs.declared.place.Place.{Place}
@@ -99,9 +99,9 @@ module _ {b : ℕ} (d : Sectors) (o : Option Layout) (p : Layout) (old : List Sl
             ⊎_elim
             (λ before. absurd (All-contains (λ (x : Place b). ¬ IsLeftAt x) first.before q.0 first.none before q.3))
             (λ after.
-                let low = low_in first.place.spot.slice.number (first.place ∷ first.rest) q.0 up after in
-                let number : q.0.spot.slice.number ≡ w.number = ap (λ (x : Slice). x.number) q.2 in
-                omega (arith, low, number, first.number))
+            let low = low_in first.place.spot.slice.number (first.place ∷ first.rest) q.0 up after in
+            let number : q.0.spot.slice.number ≡ w.number = ap (λ (x : Slice). x.number) q.2 in
+            omega (arith, low, number, first.number))
             (Contains-append_cases first.before (first.place ∷ first.rest) q.0 there);
       }
 
@@ -126,12 +126,16 @@ module _ {b : ℕ} (d : Sectors) (o : Option Layout) (p : Layout) (old : List Sl
       by_old None is none =
           let empty : length old ≡ 0 = ap length none in
           absurd (omega (arith, empty, had.stands.1))
-      by_old (Some l) is are = (l, is, record {
-        slice = had.slice;
-        stands = subst (λ (x : List Slice). Contains x had.slice) are had.stands;
-        place = place;
-        label = subst (λ (v : List ℕ). LabelBytes m had.slice.first had.slice.len v) (bytes_of q has ∙ ap (λ (s : ℕ). sector d s) (sym place)) had.label;
-      })
+      by_old (Some l) is are = (
+        l,
+        is,
+        record {
+          slice = had.slice;
+          stands = subst (λ (x : List Slice). Contains x had.slice) are had.stands;
+          place = place;
+          label = subst (λ (v : List ℕ). LabelBytes m had.slice.first had.slice.len v) (bytes_of q has ∙ ap (λ (s : ℕ). sector d s) (sym place)) had.label;
+        },
+      )
 
   bytes_from : (q : Place b) → Contains places q → (l : Label) (v : List ℕ) → IsLabelTarget b d o q.spot.slice l v → IsBytes old q l v
   bytes_from q has l v (kept had is same) = stood (had_to q has l had) is (same ∙ sym (bytes_of q has))

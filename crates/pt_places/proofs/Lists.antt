@@ -1,5 +1,5 @@
 -- Places that were read, as slices and labels side by side.
-use Rattle.std.proofs.Common.{◌≡◌, ◌<◌, ◌≤◌, ◌+◌, ◌∙◌, ◌⊎◌, ℕ, zero, suc, List, [], ◌∷◌, ◌++◌, length, map, Option, Some, None, refl, sym, ap, subst, arith, inl, inr}
+use Rattle.std.proofs.Common.{◌≡◌, ◌≤◌, ◌+◌, ◌∙◌, ℕ, zero, suc, List, [], ◌∷◌, ◌++◌, length, map, Option, Some, None, refl, sym, ap, subst, arith, inl, inr}
 use Rattle.std.specs.Prelude.{Contains}
 use Rattle.std.proofs.lemmas.List.Elements.{Contains-append_left, Contains-append_right}
 use Rattle.pt_bsd.specs.declared.label.Label.{Label}
@@ -13,7 +13,6 @@ use Rattle.pt_targets.specs.declared.target.Target.{Target}
 use Rattle.pt_places.specs.Places.{spot_of, IsTargetOf, AreTargets}
 use Rattle.pt_places.specs.Spots.{slice_of, labels_of}
 use Rattle.pt_places.specs.declared.place.Place.{Place}
-use Rattle.pt_places.specs.declared.place.Spot.{Spot}
 
 -- the slices of some places
 abbrev pub slices_in : {b : ℕ} → List (Place b) → List Slice

@@ -1,15 +1,14 @@
 -- What single steps say, told by bytes.
-use Rattle.std.proofs.Common.{◌≡◌, ◌≢◌, ◌<◌, ◌≤◌, ◌+◌, ◌∙◌, ℕ, List, [], ◌∷◌, ◌++◌, length, get_or, take, drop, map, replicate, All, Option, Some, None, refl, sym, ap, subst, arith, inl, inr}
+use Rattle.std.proofs.Common.{◌≡◌, ◌≢◌, ◌<◌, ◌+◌, ◌∙◌, ℕ, List, [], ◌∷◌, ◌++◌, length, get_or, take, drop, map, replicate, All, Option, Some, None, sym, ap, subst}
 use Rattle.std.proofs.lemmas.List.{take_more, drop_more, get_or_default, map_push, take-append-drop}
 use Rattle.std.proofs.lemmas.List.Elements.{All-contains, All-more, All-push}
-use Rattle.pt_bsd.specs.Label.{LabelBytes}
-use Rattle.pt_bsd.specs.Laws.{label_one, label_counted, label_fits}
+use Rattle.pt_bsd.specs.Laws.{label_one}
 use Rattle.pt_bsd.specs.declared.label.Label.{Label}
 use Rattle.pt_recover.specs.declared.layout.Slice.{Slice}
 use Rattle.pt_targets.specs.declared.target.Target.{Target}
-use Rattle.pt_targets.specs.declared.target.Kind.TheVariants.{Stays, New, Changes}
+use Rattle.pt_targets.specs.declared.target.Kind.TheVariants.{New, Changes}
 use Rattle.pt_places.specs.declared.place.Spot.{Spot}
-use Rattle.pt_places.specs.Places.{spot_of, OneHad, HadBytes, HadAt, Reads, IsBytes, stood, other, fresh, IsTargetOf, AreTargets, LabelledIs, IsLeftAt, IsFirstAt, IsTarget, keeps, changes, sets, KeptIs, WrittenIs}
+use Rattle.pt_places.specs.Places.{spot_of, OneHad, HadBytes, HadAt, Reads, IsBytes, stood, other, fresh, IsTargetOf, AreTargets, LabelledIs, IsLeftAt, IsFirstAt, keeps, changes, sets, KeptIs, WrittenIs}
 use Rattle.pt_places.specs.declared.place.Place.{Place}
 
 abbrev pub NotHad : ℕ → List ℕ → Slice → Type 0

@@ -1,5 +1,5 @@
 -- What the label places of a wanted layout p come to, on a disk d that denotes o.
-use Rattle.std.specs.Prelude.{◌≡◌, ◌≤◌, ℕ, List, Contains, Option, Some, None}
+use Rattle.std.specs.Prelude.{◌≡◌, ◌≤◌, ℕ, List, Contains, Option}
 use Rattle.pt_sector.specs.Sectors.{Sectors}
 use Rattle.pt_bsd.specs.declared.label.Label.{Label}
 use Rattle.pt_recover.specs.Labels.{places_of}

@@ -23,7 +23,11 @@ fn label_for<const B: usize>(old: Slice, slice: Slice, bytes: &Sector<B>) -> Opt
 }
 
 // The label that the sector is for an old slice that starts where the slice does.
-pub(crate) fn had_label<const B: usize>(old: &[Slice], slice: Slice, bytes: &Sector<B>) -> Option<Label>
+pub(crate) fn had_label<const B: usize>(
+    old: &[Slice],
+    slice: Slice,
+    bytes: &Sector<B>,
+) -> Option<Label>
     requires { IsSectorSize B }
     ensures { HadIs old.now slice.first bytes.now result }
 {

@@ -27,10 +27,7 @@ fn read_place<const B: usize, D: Disk<B>>(disk: &mut D, spot: Spot) -> Result<Pl
     Ok(Place { spot, at, bytes })
 }
 
-fn push_place<const B: usize>(
-    places: &mut Vec<Place<B>>,
-    place: Place<B>,
-) -> Result<(), AllocError>
+fn push_place<const B: usize>(places: &mut Vec<Place<B>>, place: Place<B>) -> Result<(), AllocError>
     ensures { OnOk result (places.new.items ≡ places.old.items ++ place.entry ∷ []) }
 {
     places.push(place)?;

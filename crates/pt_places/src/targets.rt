@@ -52,7 +52,13 @@ fn kept<const B: usize>(place: &Place<B>, label: &Label) -> Option<Target<B>>
     ensures { KeptIs place.now label.now result }
 {
     match decode_label(&place.bytes, place.spot.slice.first, place.spot.slice.len) {
-        Ok(found) => { if found == *label { Some(stays(place)) } else { None } }
+        Ok(found) => {
+            if found == *label {
+                Some(stays(place))
+            } else {
+                None
+            }
+        }
         Err(_) => None,
     }
 }

@@ -135,10 +135,12 @@ fn the_first_foreign_place(rt: HostRuntime) -> Result<(), Fail> {
     put(&mut disk, 33, &magic);
     let labels = labelled(rt.alloc(), &[(1, label(1)), (2, label(2))])?;
     let found = answer(rt.alloc(), &mut disk, labels)?;
-    assert!(rt; match found {
-        Some(LabelTargets::Foreign(number)) => number == 3,
-        _ => false,
-    });
+    assert!(rt;
+        match found {
+            Some(LabelTargets::Foreign(number)) => number == 3,
+            _ => false,
+        }
+    );
     Ok(())
 }
 
@@ -147,15 +149,19 @@ fn labels_that_cannot_be(rt: HostRuntime) -> Result<(), Fail> {
     let mut disk = disk(rt.alloc())?;
     let turned = labelled(rt.alloc(), &[(2, label(2)), (1, label(1))])?;
     let found = answer(rt.alloc(), &mut disk, turned)?;
-    assert!(rt; match found {
-        Some(LabelTargets::Misplaced) => true,
-        _ => false,
-    });
+    assert!(rt;
+        match found {
+            Some(LabelTargets::Misplaced) => true,
+            _ => false,
+        }
+    );
     let short = labelled(rt.alloc(), &[(1, label(1)), (2, empty_label(7))])?;
     let found = answer(rt.alloc(), &mut disk, short)?;
-    assert!(rt; match found {
-        Some(LabelTargets::Unreadable) => true,
-        _ => false,
-    });
+    assert!(rt;
+        match found {
+            Some(LabelTargets::Unreadable) => true,
+            _ => false,
+        }
+    );
     Ok(())
 }

@@ -31,13 +31,13 @@ HeadIs d (Some bytes) = bytes ≡ sector d 0
 HeadIs d None = IsProtective (length d) (sector d 0)
 
 -- the table t of p is written in both copies, with the labels of p that are new
-pub record CopiesStart {b : _} (d : Sectors) (o : Option Layout) (p : Layout) (t : Table) (order : Order) (guarded : List Run)
-    (head : Option (List ℕ)) (places : List (Target b)) : Type 0 where
+pub record CopiesStart {b : _} (d : Sectors) (o : Option Layout) (p : Layout) (t : Table) (chosen : Order) (guarded : List Run)
+    (given : Option (List ℕ)) (label_targets : List (Target b)) : Type 0 where
   pub start : Start b d o p
   pub body : p.body ≡ Gpt t
   pub fits : FitsTable b (length d) t
   pub other : ¬ ChangesLabels o p
-  pub order : OrderIs b d order
-  pub head : HeadIs d head
+  pub order : OrderIs b d chosen
+  pub head : HeadIs d given
   pub guards : (s : ℕ) → IsIn guarded s ↔ IsGuarded b d s
-  pub places : AreLabelTargets d o p places
+  pub places : AreLabelTargets d o p label_targets

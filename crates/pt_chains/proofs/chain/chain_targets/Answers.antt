@@ -1,6 +1,6 @@
-use Rattle.std.proofs.Common.{◌≡◌, ◌+◌, ◌-◌, refl, sym, ◌∙◌, subst, ap, ℕ, List, length, take, drop, get_or, Option, None, Some, arith}
+use Rattle.std.proofs.Common.{◌≡◌, ◌+◌, ◌-◌, ◌∙◌, subst, ℕ, List, length, take, drop, get_or, Option, None}
 use Rattle.std.specs.Prelude.{IfSome, IfNone}
-use Rattle.pt_sector.specs.Sectors.{Sectors, sector}
+use Rattle.pt_sector.specs.Sectors.{Sectors}
 use Rattle.pt_sector.specs.Device.{Told}
 use Rattle.pt_mbr.specs.declared.ebr.Ebr.{Ebr}
 use Rattle.pt_cases.specs.Records.{IsEbrTarget, link_to}
@@ -17,7 +17,7 @@ returns-in-None-clause-none g c = λ tells.
     let rest : List Ebr = take (length chain - (c.loop-k.k + 1)) (drop (c.loop-k.k + 1) chain) in
     let first : ℕ = c.args.first.0 in
     let none : (v : List ℕ) → ¬ IsEbrTarget g.row.B (g.D.Disk.told c.loop-k.disk).seen c.args.old.now first (get_or chain c.loop-k.k z) (link_to first rest) v =
-        subst (λ (o : Option (Target g.row.B)). IfNone o ((v : List ℕ) → ¬ IsEbrTarget g.row.B (g.D.Disk.told c.loop-k.disk).seen c.args.old.now first (get_or chain c.loop-k.k z) (link_to first rest) v)) c.in-None.is (c.in_ok-target.ensures.none tells) in
+    subst (λ (o : Option (Target g.row.B)). IfNone o ((v : List ℕ) → ¬ IsEbrTarget g.row.B (g.D.Disk.told c.loop-k.disk).seen c.args.old.now first (get_or chain c.loop-k.k z) (link_to first rest) v)) c.in-None.is (c.in_ok-target.ensures.none tells) in
     unmade_at g.row.B d c.args.old.now first chain c.loop-k.k z rest c.loop-k-test.true (rest_of chain c.loop-k.k)
     (subst (λ (t : Told). (v : List ℕ) → ¬ IsEbrTarget g.row.B t.seen c.args.old.now first (get_or chain c.loop-k.k z) (link_to first rest) v) (c.loop-k.invariant.same.same tells) none)
 
@@ -28,7 +28,7 @@ loop-k-preserved g c =
     let rest : List Ebr = take (length chain - (c.loop-k.k + 1)) (drop (c.loop-k.k + 1) chain) in
     let first : ℕ = c.args.first.0 in
     let place : c.in-Some.target.at.0 ≡ (get_or chain c.loop-k.k z).at.0 =
-        subst (λ (o : Option (Target g.row.B)). IfSome o (λ t. t.at.0 ≡ (get_or chain c.loop-k.k z).at.0)) c.in-Some.is c.in_ok-target.ensures.place in
+    subst (λ (o : Option (Target g.row.B)). IfSome o (λ t. t.at.0 ≡ (get_or chain c.loop-k.k z).at.0)) c.in-Some.is c.in_ok-target.ensures.place in
     record {
       same = g.met.D.Disk.reads_on c.args.disk.now c.loop-k.disk c.ebr_at.new.disk c.loop-k.invariant.same c.in_ok-target.ensures.same;
       quiet = c.in_ok-target.ensures.blames ∙ c.loop-k.invariant.quiet;
@@ -36,7 +36,7 @@ loop-k-preserved g c =
       begun = λ tells.
           (let d : Sectors = (g.D.Disk.told c.args.disk.now).seen in
           let is : IsEbrOf (g.D.Disk.told c.loop-k.disk).seen c.args.old.now first (get_or chain c.loop-k.k z) rest c.in-Some.target =
-              subst (λ (o : Option (Target g.row.B)). IfSome o (λ t. IsEbrOf (g.D.Disk.told c.loop-k.disk).seen c.args.old.now first (get_or chain c.loop-k.k z) rest t)) c.in-Some.is (c.in_ok-target.ensures.some tells) in
+          subst (λ (o : Option (Target g.row.B)). IfSome o (λ t. IsEbrOf (g.D.Disk.told c.loop-k.disk).seen c.args.old.now first (get_or chain c.loop-k.k z) rest t)) c.in-Some.is (c.in_ok-target.ensures.some tells) in
           begun_more g.row.B d c.args.head c.args.old.now first chain c.loop-k.k z rest c.loop-k.targets.items c.in-Some.target c.push_target-in-Some.new.targets.items c.loop-k-test.true (rest_of chain c.loop-k.k)
           (c.loop-k.invariant.begun tells) (subst (λ (t : Told). IsEbrOf t.seen c.args.old.now first (get_or chain c.loop-k.k z) rest c.in-Some.target) (c.loop-k.invariant.same.same tells) is) c.in_ok-push_target-in-Some.ensures);
     }

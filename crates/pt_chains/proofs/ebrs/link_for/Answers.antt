@@ -1,4 +1,4 @@
-use Rattle.std.proofs.Common.{ℕ, ◌<◌, ◌%◌, length, rules, ap, ◌∙◌, Option, None}
+use Rattle.std.proofs.Common.{ℕ, ◌<◌, ◌%◌, length, rules, ap, ◌∙◌, None}
 use Rattle.pt_mbr.specs.declared.ebr.Ebr.{Ebr}
 use Rattle.pt_chains.proofs.Links.{link_low}
 use Rattle.pt_chains.proofs.ebrs.link_for.Goals as goal

@@ -16,7 +16,7 @@ returns-then-not-is_link c =
     let z : Ebr = record { at = record { 0 = 0 }; logical = None; next = None } in (
       (λ so. absurd (false≢true so)),
       (λ whole. absurd (stops (extent_of c.args.extended.now) c.args.sectors (Some (lba c.args.extended.now.start)) c.args.chain.now c.loop-k.to c.loop-k.k z c.loop-k-test.true
-      (λ next. false≢true (sym c.if-not-is_link.true ∙ c.is_link.ensures.1 next)) c.loop-k.invariant whole)),
+          (λ next. false≢true (sym c.if-not-is_link.true ∙ c.is_link.ensures.1 next)) c.loop-k.invariant whole)),
     )
 
 pub loop-k-preserved : goal.loop-k-preserved

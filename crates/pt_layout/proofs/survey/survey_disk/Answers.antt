@@ -1,5 +1,5 @@
-use Rattle.std.proofs.Common.{◌≡◌, ◌∙◌, ℕ, length, sym, subst, arith}
-use Rattle.pt_sector.specs.Sectors.{Sectors, sector}
+use Rattle.std.proofs.Common.{◌≡◌, ◌∙◌, length, sym, subst, arith}
+use Rattle.pt_sector.specs.Sectors.{Sectors}
 use Rattle.pt_sector.specs.Device.{Told}
 use Rattle.pt_recover.specs.Gpt.{HasRoom}
 use Rattle.pt_recover.specs.Mbr.{IsMbrDisk}

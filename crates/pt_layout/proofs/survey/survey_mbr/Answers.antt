@@ -1,6 +1,6 @@
-use Rattle.std.proofs.lemmas.Result.{err_from_is_err_and, IfOk-at_ok}
+use Rattle.std.proofs.lemmas.Result.{err_from_is_err_and}
 use Rattle.std.specs.Prelude.{Result, IfOk, IfErr, OnOk}
-use Rattle.std.proofs.Common.{◌≡◌, ◌∙◌, Option, Some, Ok, Err, sym, subst}
+use Rattle.std.proofs.Common.{◌∙◌, Some, Ok, sym, subst}
 use Rattle.pt_sector.specs.Sectors.{Sectors}
 use Rattle.pt_sector.specs.Device.{Told}
 use Rattle.pt_sector.specs.Reads.{FailedIn}
@@ -12,7 +12,6 @@ use Rattle.pt_recover.specs.declared.layout.Layout.{Layout}
 use Rattle.std.specs.Prelude.{◌⊎◌}
 use Rattle.pt_layout.specs.Healthy.{IsBodyWhole}
 use Rattle.pt_layout.specs.Surveys.{FindingIs}
-use Rattle.pt_layout.specs.declared.finding.Finding.{Finding}
 use Rattle.pt_layout.proofs.Verdicts.{mbr_whole}
 use Rattle.pt_layout.proofs.Surveys.{mbr_survey, mbr_nothing}
 use Rattle.pt_layout.proofs.Failing.{read_failed, reason_failed, reason_inside}

@@ -1,7 +1,5 @@
-use Rattle.std.proofs.Common.{◌≡◌, ◌∙◌, ℕ, List, length, map, Option, Some, None, MatchOption, All, sym, ap, subst, rules}
+use Rattle.std.proofs.Common.{◌≡◌, ◌∙◌, ℕ, List, length, map, All, sym, ap, subst, rules}
 use Rattle.pt_sector.specs.Sectors.{Sectors}
-use Rattle.pt_recover.specs.Labels.{places_of, place_of}
-use Rattle.pt_recover.specs.declared.layout.Layout.{Layout}
 use Rattle.pt_recover.specs.declared.layout.Slice.{Slice}
 use Rattle.pt_cases.specs.Numbers.{Rise, places_rise}
 use Rattle.pt_places.specs.Places.{spot_of, IsAt, IsRead, OldAre}
@@ -22,14 +20,13 @@ pub read_places-requires : goal.read_places-requires
 read_places-requires g c =
     let n = g.D.Disk.count c.args.disk.now in
     let spots = c.deref-2.ensures.value in
-    let are : AreSpots c.deref.result.now c.as_slice.result.now c.in-Some.spots.items = at_some c.in_ok-found.found c.in-Some.spots _ _ c.in-Some.is c.in_ok-found.ensures in
-    (
+    let are : AreSpots c.deref.result.now c.as_slice.result.now c.in-Some.spots.items = at_some c.in_ok-found.found c.in-Some.spots _ _ c.in-Some.is c.in_ok-found.ensures in (
       search rules,
       (
         c.requires.size,
         spots_within g.row.B c.sectors-sectors.result n c.args.wanted.now.body c.deref.result.now c.as_slice.result.now c.deref-2.result.now
-        (subst (λ (x : List Spot). AreSpots c.deref.result.now c.as_slice.result.now x) (sym spots) are)
-        (c.deref.ensures.value ∙ c.in_ok-slices.ensures) c.sectors-sectors.ensures,
+            (subst (λ (x : List Spot). AreSpots c.deref.result.now c.as_slice.result.now x) (sym spots) are)
+            (c.deref.ensures.value ∙ c.in_ok-slices.ensures) c.sectors-sectors.ensures,
       ),
     )
 

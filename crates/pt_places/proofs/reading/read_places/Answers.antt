@@ -1,8 +1,6 @@
-use Rattle.std.proofs.Common.{◌≡◌, ◌+◌, ◌∙◌, List, get_or, take, map, All, ℕ, sym, subst, arith}
+use Rattle.std.proofs.Common.{◌∙◌, ℕ, subst, arith}
 use Rattle.pt_sector.specs.Device.{Told}
-use Rattle.pt_places.specs.Places.{spot_of, IsAt, IsRead}
-use Rattle.pt_places.specs.declared.place.Place.{Place}
-use Rattle.pt_places.specs.declared.place.Spot.{Spot}
+use Rattle.pt_places.specs.Places.{IsAt, IsRead}
 use Rattle.pt_places.proofs.Pieces.{all_on, spots_on}
 use Rattle.pt_places.proofs.reading.read_places.Goals as goal
 
