@@ -1,0 +1,2 @@
+mod Knowing
+mod Making

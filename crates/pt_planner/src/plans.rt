@@ -76,7 +76,6 @@ pub(crate) fn to_mbr<const B: usize, D: Disk<B>>(
     places: Vec<Target<B>>,
 ) -> Result<Plan<B>, PlanError>
     requires size { IsSectorSize B }
-    requires some { 0 < D.count disk.old }
     requires body { wanted.now.body ≡ Mbr records.now chain.now }
     requires linked { IsLinked (D.count disk.old) (extended_of records.now) chain.now }
     requires in_range { All (λ t. t.at.0 < D.count disk.old) places.items }
@@ -98,6 +97,9 @@ pub(crate) fn to_mbr<const B: usize, D: Disk<B>>(
         Body::Mbr { records, chain } => (records, chain),
         Body::Gpt(_) => return Err(PlanError::NotOneSwitch),
     };
+    if disk.sectors() == 0 {
+        return Err(PlanError::NotOneSwitch);
+    }
     let heads = match mbr_targets(alloc, disk, old_records, old_chain, records, chain)? {
         Some(heads) => heads,
         None => return Err(PlanError::NotOneSwitch),

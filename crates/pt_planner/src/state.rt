@@ -27,9 +27,10 @@ pub(crate) fn is_same(old: &Option<Layout>, wanted: &Layout) -> bool
 /// Whether the disk is healthy with the layout.
 pub(crate) fn is_done<const B: usize>(known: &Known, wanted: &Layout) -> bool
     requires { IsSectorSize B }
-    ensures { (d : Sectors) → IsKnown B d known.now → IsTrue result ↔ IsHealthy B d wanted.now }
+    ensures done { (d : Sectors) → IsKnown B d known.now → IsTrue result ↔ IsHealthy B d wanted.now }
+    ensures stays { (known.now.old ≡ Some wanted.now) ⊎ ¬ (known.now.old ≡ Some wanted.now) }
 {
-    known.finding.is_none() && is_same(&known.old, wanted)
+    is_same(&known.old, wanted) && known.finding.is_none()
 }
 
 /// Whether the old layout is an MBR.

@@ -1,11 +1,8 @@
-use Rattle.std.proofs.Common.{rules, ◌≡◌, IfOk, IfErr, IfSome, IfNone, ℕ, ◌+◌, ◌-◌, ◌*◌, ◌<◌, ◌≤◌, length, ◌/◌, ◌%◌, Bool, true, false, nat_eq, nat_lt, List, [], ◌∷◌, ◌++◌, slice_index_or, slice_set, bit_and, bit_or, Fits, w8, w32, w64, Bor, MutBor}
-use Rattle.pt_sector.specs.Calls.{Blames}
-use Rattle.pt_sector.specs.Reads.{OnlyReads, fault_of}
-use Rattle.pt_sector.specs.Sectors.{IsSectorSize}
-use Rattle.pt_recover.specs.Answers.{IsReason}
-use Rattle.pt_planner.specs.Known.{IsKnown, IsKnownOf, ReasonIs}
+use Rattle.pt_planner.proofs.Knowing.{known_is, reason_is}
 use Rattle.pt_planner.proofs.known.read_known.Goals as goal
 
--- src/known.rt:30:1
 pub returns-clause-known : goal.returns-clause-known
-returns-clause-known g c = ?
+returns-clause-known g c = λ tells. known_is g.row.B _ c.in_ok-read.read c.known_of.result.0 c.known_of.result.1 c.known_of.ensures (c.in_ok-read.ensures.ok tells)
+
+pub returns-clause-reason : goal.returns-clause-reason
+returns-clause-reason g c = λ tells. reason_is g.row.B _ c.in_ok-read.read.found c.known_of.result.0.old c.known_of.result.1 c.known_of.ensures.found (c.in_ok-read.ensures.ok tells).found

@@ -1,16 +1,19 @@
-use Rattle.std.proofs.Common.{rules, ◌≡◌, ◌⊎◌, ◌↔◌, IsTrue, Option, Some, length, ℕ, ◌+◌, ◌-◌, ◌*◌, ◌<◌, ◌≤◌, ◌/◌, ◌%◌, Bool, true, false, nat_eq, nat_lt, List, [], ◌∷◌, ◌++◌, slice_index_or, slice_set, bit_and, bit_or, Fits, w8, w32, w64, Bor, MutBor}
-use Rattle.pt_sector.specs.Sectors.{Sectors, IsSectorSize}
-use Rattle.pt_layout.specs.Healthy.{IsHealthy}
-use Rattle.pt_cases.specs.Cases.{ChangesLabels}
-use Rattle.pt_cases.specs.Causes.{MayBe, WasMbr}
-use Rattle.pt_planner.specs.Known.{IsKnown}
-use Rattle.pt_planner.specs.State.{IsBrokenBy, OrderOf}
+use Rattle.std.proofs.Common.{absurd, false, true, ◌≡◌, inl, inr}
+use Rattle.pt_planner.proofs.Knowing.{done_here, not_done_here, decided}
+use Rattle.pt_planner.proofs.Making.{isnt}
 use Rattle.pt_planner.proofs.state.is_done.Goals as goal
 
--- src/state.rt:28:1
-pub returns-then-is_none : goal.returns-then-is_none
-returns-then-is_none g c = ?
+pub returns-then-is_same-clause-done : goal.returns-then-is_same-clause-done
+returns-then-is_same-clause-done g c = λ d known. done_here g.row.B d c.args.known.now c.args.wanted.now c.is_none.result (c.is_same.ensures.0 c.if-is_same.true) c.is_none.ensures known
 
--- src/state.rt:28:1
-pub returns-else-is_none : goal.returns-else-is_none
-returns-else-is_none g c = ?
+pub returns-then-is_same-clause-stays : goal.returns-then-is_same-clause-stays
+returns-then-is_same-clause-stays g c = decided c.is_same.result c.is_same.ensures
+
+pub returns-else-is_same-clause-done : goal.returns-else-is_same-clause-done
+returns-else-is_same-clause-done g c = λ d known. (
+  (λ yes. absurd (let low : false ≡ true = yes in cc)),
+  (λ healthy. absurd (not_done_here g.row.B d c.args.known.now c.args.wanted.now (isnt c.is_same.result c.if-is_same.false c.is_same.ensures) known healthy)),
+)
+
+pub returns-else-is_same-clause-stays : goal.returns-else-is_same-clause-stays
+returns-else-is_same-clause-stays g c = decided c.is_same.result c.is_same.ensures
