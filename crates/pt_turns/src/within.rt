@@ -1,12 +1,13 @@
 //! An MBR that becomes another one.
 
-ghost use Rattle.std.specs.Prelude.{◌≡◌, ◌+◌, ◌<◌, ◌≤◌, ◌++◌, ℕ, All, length, IfOk, IfErr};
+ghost use Rattle.std.specs.Prelude.{◌≡◌, ◌+◌, ◌<◌, ◌≤◌, ◌++◌, ℕ, All, None, length, IfOk, IfErr};
 ghost use Rattle.pt_sector.specs.Sectors.{Sectors, IsSectorSize};
 ghost use Rattle.pt_apply.specs.Plans.{phases_of, InRange};
 ghost use Rattle.pt_check.specs.First.{writes_in};
 ghost use Rattle.pt_recover.specs.declared.layout.Layout.{Layout};
 ghost use Rattle.pt_cases.specs.Cases.{IsPlan};
 ghost use Rattle.pt_targets.specs.Causes.{HasNoTurn};
+ghost use Rattle.pt_targets.specs.Errors.{fault_in};
 ghost use Rattle.pt_targets.specs.Starts.{StopsBy};
 ghost use Rattle.pt_turns.specs.Outcomes.{IsTurn, NoTurn};
 ghost use Rattle.pt_turns.specs.Turns.{MbrStart};
@@ -36,6 +37,7 @@ pub fn within_mbr<const B: usize>(
     ensures err { IfErr result (λ e. (d : Sectors) (p : Layout) → MbrStart d old.now p guarded.now heads.entry.items places.entry.items → StopsBy B d old.now p (HasNoTurn B d old.now p) e) }
     ensures in_range { IfOk result (λ plan. (n : ℕ) → All (λ t. t.at.0 < n) heads.entry.items → All (λ t. t.at.0 < n) places.entry.items → InRange n plan) }
     ensures some { IfOk result (λ plan. All (λ p. 0 < length p.items) plan.phases.items) }
+    ensures faultless { IfErr result (λ e. fault_in e ≡ None) }
     ensures two { IfOk result (λ plan. length plan.phases.items ≤ 2) }
     ensures few { IfOk result (λ plan. length (writes_in (phases_of plan)) ≤ length heads.entry.items + length places.entry.items) }
 {
