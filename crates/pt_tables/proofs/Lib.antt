@@ -1,0 +1,3 @@
+pub mod Labels
+pub mod Plans
+pub mod Touching
