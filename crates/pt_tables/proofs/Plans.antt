@@ -213,3 +213,21 @@ module _ {b : ℕ} (d : Sectors) (o : Option Layout) (p : Layout) (t : Table) (c
 pub shared_stops : {b : ℕ} (d : Sectors) (o : Option Layout) (p : Layout) (t : Table) (chosen : Order) (guarded : List Run) (given : Option (List ℕ)) (ts : List (Target b))
     → IsSectorSize b → CopiesStart d o p t chosen guarded given ts → HasTwoOfOne ts → StopsBy b d o p (HasNoCopies b d o p) NotOneSwitch
 shared_stops d o p t chosen guarded given ts size start two = inr (inr (ts, inr (writes_both d o p t chosen guarded given ts size start, start.places), two))
+
+module _ {b : ℕ} (n : ℕ) (o : Option Layout) (t : Table) (chosen : Order) (guarded : List Run) (given : Option (List ℕ)) (ts sorted first second : List (Target b)) (labels : Writes) (phases : List Writes)
+    (size : IsSectorSize b) (order : InOrder ts sorted) (first_is : first ≡ sorted) (second_is : second ≡ sorted) (news : AreNewWrites guarded first labels) (are : Arranged b n t given labels chosen phases) where
+  abbrev news_sorted : AreNewWrites guarded sorted labels
+  news_sorted = subst (λ (l : List (Target b)). AreNewWrites guarded l labels) first_is news
+
+  -- on each disk of so many sectors from which they start: a plan
+  pub plans : Passes o guarded chosen second phases → (d : Sectors) (p : Layout) → length d ≡ n → CopiesStart d o p t chosen guarded given ts → IsPlan b d p phases
+  plans passes d p count start = passed_plans d o p t chosen guarded given ts sorted size start order labels news_sorted phases
+      (subst (λ (l : List (Target b)). Passes o guarded chosen l phases) second_is passes)
+      (subst (λ (k : ℕ). Arranged b k t given labels chosen phases) (sym count) are)
+
+  -- or why there is none
+  pub stops : (e : PlanError) → RefusedBy o guarded chosen second phases e → (d : Sectors) (p : Layout) → length d ≡ n → CopiesStart d o p t chosen guarded given ts → StopsBy b d o p (HasNoCopies b d o p) e
+  stops e refused d p count start = refused_stops d o p t chosen guarded given ts sorted size start order labels news_sorted phases
+      (subst (λ (k : ℕ). Arranged b k t given labels chosen phases) (sym count) are)
+      e
+      (subst (λ (l : List (Target b)). RefusedBy o guarded chosen l phases e) second_is refused)

@@ -23,9 +23,6 @@ pub no_touch : (P : Type 0) → ¬ P → IsTrue false ↔ P
 no_touch P never = ((λ it. (let wrong : false ≡ true = it in absurd cc)), (λ it. absurd (never it)))
 
 module _ {b : ℕ} (P : ℕ → Type 0) where
-  pub none_here : ¬ Touches P (writes_of {b = b} [])
-  none_here it = absurd it.2
-
   pub write_touches : (ws : List (Write b)) (i : ℕ) (w : Write b) → i < length ws → w ≡ get_or ws i w → P w.lba.0 → Touches P (writes_of ws)
   write_touches [] i w lt at holds = absurd (omega (arith, lt))
   write_touches (x ∷ ws) zero w lt at holds = (w.lba.0, w.bytes, inl (ap (λ (y : Write b). y.lba.0) (sym at), ap (λ (y : Write b). y.bytes) (sym at)), holds)

@@ -33,13 +33,13 @@ pub(crate) fn accept<const B: usize>(
     ensures ok { OnOk result (Passes old.now guarded.now order targets.now (phases_of plan.now)) }
     ensures err { IfErr result (RefusedBy old.now guarded.now order targets.now (phases_of plan.now)) }
 {
-    let owned = Reserved::Owned(old);
-    if touches(&owned, &plan.phases)
-        || first_owned_of_kind(old, targets, Kind::Changes).is_some()
-    {
+    if touches(&Reserved::Owned(old), &plan.phases) {
         return Err(PlanError::ReusedInOneBatch);
     }
-    if first_change(targets).is_some() {
+    if let Some(_) = first_owned_of_kind(old, targets, Kind::Changes) {
+        return Err(PlanError::ReusedInOneBatch);
+    }
+    if let Some(_) = first_change(targets) {
         return Err(PlanError::NotOneSwitch);
     }
     let count = phases_before_switch(order).min(plan.phases.len());
