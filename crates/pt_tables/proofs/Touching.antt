@@ -1,7 +1,8 @@
 -- The steps of the loops over writes and over phases.
-use Rattle.std.proofs.Common.{◌≡◌, ◌↔◌, ◌⊎◌, inl, inr, ⊎_elim, ℕ, zero, suc, ◌+◌, ◌<◌, ◌≤◌, List, [], ◌∷◌, ◌++◌, length, take, get_or, refl, sym, ap, subst, arith, IsTrue, true, false, Vec}
+use Rattle.std.proofs.Common.{◌≡◌, ◌↔◌, ◌∙◌, ◌⊎◌, inl, inr, ⊎_elim, ℕ, zero, suc, ◌+◌, ◌<◌, ◌≤◌, List, [], ◌∷◌, ◌++◌, length, take, get_or, min, refl, sym, ap, subst, arith, IsTrue, true, false, Vec}
 use Rattle.std.specs.declared.alloc.Global.{Global}
-use Rattle.std.proofs.lemmas.List.{take_all}
+use Rattle.std.proofs.lemmas.Bool.{cases_lt}
+use Rattle.std.proofs.lemmas.List.{take_all, take-map, length-map}
 use Rattle.pt_sector.specs.Writes.{Writes, Puts}
 use Rattle.pt_apply.specs.Plans.{writes_of, phases_in}
 use Rattle.pt_apply.specs.declared.plan.Write.{Write}
@@ -78,3 +79,25 @@ module _ {b : ℕ} (P : ℕ → Type 0) where
 
   pub phase_none : (ps : List (Vec (Write b) Global)) (i : ℕ) → length ps ≤ i → ¬ Touches P (writes_in (phases_in (take i ps))) → ¬ Touches P (writes_in (phases_in ps))
   phase_none ps i past none = subst (λ (l : List (Vec (Write b) Global)). ¬ Touches P (writes_in (phases_in l))) (take_all i ps past) none
+
+abbrev writes : {b : ℕ} → Vec (Write b) Global → Writes
+writes p = writes_of p.items
+
+-- the first phases, as far as there are any
+first_of : {b : ℕ} (ps : List (Vec (Write b) Global)) (i : ℕ) → phases_in (take (min i (length ps)) ps) ≡ take i (phases_in ps)
+first_of {b = b} ps i = ⊎_elim
+    (λ less.
+        let count : min i (length ps) ≡ i = omega (arith, less) in
+        ap (λ (k : ℕ). phases_in (take k ps)) count ∙ sym (take-map (writes {b = b}) i ps))
+    (λ past.
+        let count : min i (length ps) ≡ length ps = omega (arith, past) in
+        ap (λ (k : ℕ). phases_in (take k ps)) count ∙ ap phases_in (take_all (length ps) ps (omega arith))
+        ∙ sym (take_all i (phases_in ps) (omega (arith, past, length-map ps (writes {b = b})))))
+    (cases_lt i (length ps))
+
+pub first_touch : {b : ℕ} (P : ℕ → Type 0) (ps seen : List (Vec (Write b) Global)) (count k many : ℕ) → seen ≡ ps → count ≡ min k many → many ≡ length ps
+    → Touches P (writes_in (phases_in (take count seen))) → Touches P (writes_in (take k (phases_in ps)))
+first_touch {b = b} P ps seen count k many same is of it =
+    let all : phases_in (take count seen) ≡ take k (phases_in ps) =
+    (λ j. phases_in (take (is j) (same j))) ∙ ap (λ (n : ℕ). phases_in (take (min k n) ps)) of ∙ first_of ps k in
+    subst (λ (qs : List Writes). Touches P (writes_in qs)) all it
