@@ -87,12 +87,12 @@ writes p = writes_of p.items
 first_of : {b : ℕ} (ps : List (Vec (Write b) Global)) (i : ℕ) → phases_in (take (min i (length ps)) ps) ≡ take i (phases_in ps)
 first_of {b = b} ps i = ⊎_elim
     (λ less.
-        let count : min i (length ps) ≡ i = omega (arith, less) in
-        ap (λ (k : ℕ). phases_in (take k ps)) count ∙ sym (take-map (writes {b = b}) i ps))
+    let count : min i (length ps) ≡ i = omega (arith, less) in
+    ap (λ (k : ℕ). phases_in (take k ps)) count ∙ sym (take-map (writes {b = b}) i ps))
     (λ past.
-        let count : min i (length ps) ≡ length ps = omega (arith, past) in
-        ap (λ (k : ℕ). phases_in (take k ps)) count ∙ ap phases_in (take_all (length ps) ps (omega arith))
-        ∙ sym (take_all i (phases_in ps) (omega (arith, past, length-map ps (writes {b = b})))))
+    let count : min i (length ps) ≡ length ps = omega (arith, past) in
+    ap (λ (k : ℕ). phases_in (take k ps)) count ∙ ap phases_in (take_all (length ps) ps (omega arith))
+    ∙ sym (take_all i (phases_in ps) (omega (arith, past, length-map ps (writes {b = b})))))
     (cases_lt i (length ps))
 
 pub first_touch : {b : ℕ} (P : ℕ → Type 0) (ps seen : List (Vec (Write b) Global)) (count k many : ℕ) → seen ≡ ps → count ≡ min k many → many ≡ length ps

@@ -61,7 +61,13 @@ fn arranged<const B: usize>(
         Order::PrimaryFirst => primary_first(alloc, sectors, table, labels, &last),
         Order::FromMbr => {
             let head = ground.head.unwrap_or([0; B]);
-            from_mbr(alloc, sectors, table, labels, &protected_head(sectors, &head))
+            from_mbr(
+                alloc,
+                sectors,
+                table,
+                labels,
+                &protected_head(sectors, &head),
+            )
         }
     }
 }

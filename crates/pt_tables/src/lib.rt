@@ -6,6 +6,8 @@ mod ground;
 mod order;
 mod refusal;
 mod reserved;
+#[cfg(test)]
+mod tests;
 
 pub use copies::both_copies;
 pub use ground::Ground;

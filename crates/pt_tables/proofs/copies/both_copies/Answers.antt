@@ -9,8 +9,28 @@ pub returns-in-None-clause-err : goal.returns-in-None-clause-err
 returns-in-None-clause-err g c = λ d p count start. shared_stops d c.args.ground.now.old.now p c.args.table.now c.args.order c.args.ground.now.guarded.now c.args.ground.now.head c.args.places.items c.requires.size start c.in-None.ensures.none
 
 pub arranged-requires : goal.arranged-requires
-arranged-requires g c = (search rules, (search rules, (search rules, (c.requires.size, (c.requires.room, (c.requires.few, (c.requires.head,
-    c.in_ok-labels.ensures.in_range c.args.ground.now.sectors (sorted_below c.args.ground.now.sectors c.args.places.items c.in-Some.targets.items c.deref.result.now c.in-Some.ensures.some c.deref.ensures.value c.requires.in_range))))))))
+arranged-requires g c = (
+  search rules,
+  (
+    search rules,
+    (
+      search rules,
+      (
+        c.requires.size,
+        (
+          c.requires.room,
+          (
+            c.requires.few,
+            (
+              c.requires.head,
+              c.in_ok-labels.ensures.in_range c.args.ground.now.sectors (sorted_below c.args.ground.now.sectors c.args.places.items c.in-Some.targets.items c.deref.result.now c.in-Some.ensures.some c.deref.ensures.value c.requires.in_range),
+            ),
+          ),
+        ),
+      ),
+    ),
+  ),
+)
 
 pub returns-in_err-accept-clause-err : goal.returns-in_err-accept-clause-err
 returns-in_err-accept-clause-err g c =
