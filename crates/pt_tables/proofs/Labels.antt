@@ -1,5 +1,5 @@
 -- The targets of label places: which labels they stand for, and that a guarded one is read.
-use Rattle.std.proofs.Common.{◌≡◌, ◌≢◌, ◌∙◌, ◌⊎◌, ◌↔◌, inl, inr, ⊎_elim, ℕ, zero, suc, ◌+◌, ◌-◌, ◌<◌, ◌≤◌, List, [], ◌∷◌, length, replicate, refl, sym, ap, subst, arith, Option, Some, None}
+use Rattle.std.proofs.Common.{◌≡◌, ◌∙◌, ◌⊎◌, ◌↔◌, inl, inr, ⊎_elim, ℕ, ◌+◌, ◌-◌, ◌<◌, ◌≤◌, List, [], ◌∷◌, length, refl, sym, ap, subst, arith, Option, Some, None}
 use Rattle.std.specs.Prelude.{Contains}
 use Rattle.pt_sector.specs.Sectors.{Sectors, sector, IsSectorSize}
 use Rattle.pt_sector.specs.Writes.{Writes, Puts}
@@ -23,13 +23,13 @@ use Rattle.pt_layout.specs.Guarded.{IsGuarded, place, guarded_reads, reads_guard
 use Rattle.pt_layout.specs.Sound.{Sound}
 use Rattle.pt_cases.specs.Copies.{FitsTable}
 use Rattle.pt_cases.specs.Places.{place_usable}
-use Rattle.pt_cases.specs.Targets.{Along, Had, IsEncoded, WritesLabels}
+use Rattle.pt_cases.specs.Targets.{Along, Had, WritesLabels}
 use Rattle.pt_cases.specs.Within.{reads_gpt, side_within}
-use Rattle.pt_targets.specs.Causes.{IsLabelled, IsNewLabel, IsOtherLabel, WritesBoth}
+use Rattle.pt_targets.specs.Causes.{IsNewLabel, IsOtherLabel, WritesBoth}
 use Rattle.pt_targets.specs.Counts.{few_gpt_places}
 use Rattle.pt_targets.specs.Lifts.{labels_written}
 use Rattle.pt_targets.specs.Selected.{climbs, climbs_one}
-use Rattle.pt_targets.specs.Targets.{Targeted, IsPlaceTarget, AreLabelTargets, AreNewWrites, InOrder}
+use Rattle.pt_targets.specs.Targets.{Targeted, IsPlaceTarget, AreNewWrites, InOrder}
 use Rattle.pt_targets.specs.declared.target.Kind.TheVariants.{Stays, New, Changes}
 use Rattle.pt_targets.specs.declared.target.Target.{Target}
 use Rattle.pt_tables.specs.Starts.{CopiesStart, OrderIs}

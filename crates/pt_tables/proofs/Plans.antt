@@ -1,36 +1,28 @@
 -- From phases of both copies to the plan, or to why there is none.
-use Rattle.std.proofs.Common.{◌≡◌, ◌∙◌, ◌⊎◌, inl, inr, ⊎_elim, ℕ, ◌+◌, ◌*◌, ◌<◌, ◌≤◌, List, [], ◌∷◌, ◌++◌, length, refl, sym, ap, subst, arith, Option, Some, None}
-use Rattle.std.specs.Prelude.{Contains}
+use Rattle.std.proofs.Common.{◌≡◌, ◌∙◌, inl, inr, ⊎_elim, ℕ, List, [], ◌++◌, length, refl, sym, subst, arith, Option, Some, None}
 use Rattle.pt_sector.specs.Sectors.{Sectors, sector, IsSectorSize}
 use Rattle.pt_sector.specs.Writes.{Writes, Puts}
-use Rattle.pt_mbr.specs.Protective.{IsProtective}
 use Rattle.pt_gpt.specs.Array.{array_len}
-use Rattle.pt_gpt.specs.Copy.{HasCopy}
 use Rattle.pt_gpt.specs.declared.table.Side.TheVariants.{Primary}
 use Rattle.pt_gpt.specs.declared.table.Table.{Table}
-use Rattle.pt_recover.specs.Mbr.{IsMbrDisk}
-use Rattle.pt_recover.specs.Spans.{IsIn}
 use Rattle.pt_recover.specs.declared.layout.Layout.{Layout}
 use Rattle.pt_recover.specs.declared.trace.Run.{Run}
 use Rattle.pt_layout.specs.Guarded.{IsGuarded}
-use Rattle.pt_check.specs.Answers.{OwnedOf}
 use Rattle.pt_check.specs.First.{writes_in}
 use Rattle.pt_cases.specs.Cases.{IsPlan, backup_first, primary_first, from_mbr, Common, Copies, labels_and_backup, backup_first_phases, primary_and_labels, primary_first_phases, copies_and_labels, from_mbr_phases}
-use Rattle.pt_cases.specs.Copies.{array_phase, one_write, closing, backup_phase, IsProtectedFrom, Protects}
+use Rattle.pt_cases.specs.Copies.{array_phase, closing, backup_phase, IsProtectedFrom, Protects}
 use Rattle.pt_cases.specs.Frames.{one_is, puts_split, puts_left, puts_right}
 use Rattle.pt_cases.specs.Sides.{puts_array, puts_backup}
-use Rattle.pt_cases.specs.Targets.{WritesLabels, Unguarded}
 use Rattle.pt_copies.specs.Written.{WroteCopies}
-use Rattle.pt_copies.specs.Reached.{IsOfCopy, Reaches, copies_and_labels_reached, backup_first_reached, primary_first_reached, from_mbr_reached, protects_reached}
+use Rattle.pt_copies.specs.Reached.{Reaches, copies_and_labels_reached, backup_first_reached, primary_first_reached, from_mbr_reached, protects_reached}
 use Rattle.pt_targets.specs.Causes.{WouldWrite, copy, head, WouldPrecede, backup, primary, HasNoCopies}
 use Rattle.pt_targets.specs.Causes as cause
-use Rattle.pt_targets.specs.Starts.{Start, StopsBy}
+use Rattle.pt_targets.specs.Starts.{StopsBy}
 use Rattle.pt_targets.specs.Targets.{AreNewWrites, InOrder, HasTwoOfOne}
 use Rattle.pt_targets.specs.declared.error.PlanError.{PlanError}
 use Rattle.pt_targets.specs.declared.error.PlanError.TheVariants.{NotOneSwitch, ReusedInOneBatch, NeedsRepair, Unsound, Device, Memory}
-use Rattle.pt_targets.specs.declared.target.Kind.TheVariants.{Changes}
 use Rattle.pt_targets.specs.declared.target.Target.{Target}
-use Rattle.pt_tables.specs.Phases.{Closes, Arranged, writes_before, Touches, Alters, RefusedBy, Passes}
+use Rattle.pt_tables.specs.Phases.{Closes, Arranged, writes_before, RefusedBy, Passes}
 use Rattle.pt_tables.specs.Starts.{CopiesStart, OrderIs, HeadIs}
 use Rattle.pt_tables.specs.declared.order.Order.{Order}
 use Rattle.pt_tables.specs.declared.order.Order.TheVariants.{BackupFirst, PrimaryFirst, FromMbr}

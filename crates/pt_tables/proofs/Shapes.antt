@@ -1,12 +1,12 @@
 -- How phases of both copies come about, and how many there are.
-use Rattle.std.proofs.Common.{◌≡◌, ◌∙◌, ◌⊎◌, inl, inr, ℕ, ◌+◌, ◌<◌, ◌≤◌, List, [], ◌∷◌, length, map, refl, sym, ap, subst, arith, Option, Some, None, Result, Ok, Err, IfOk, Vec, take, min, All}
+use Rattle.std.proofs.Common.{◌≡◌, ℕ, ◌<◌, ◌≤◌, List, length, refl, sym, ap, subst, arith, Option, Some, None, Result, Ok, Err, IfOk, Vec, All}
 use Rattle.std.specs.declared.alloc.Global.{Global}
 use Rattle.std.specs.Prelude.{Contains}
 use Rattle.std.specs.Option.{unwrap_or}
 use Rattle.std.proofs.lemmas.List.{length-map}
 use Rattle.std.proofs.lemmas.List.Elements.{All-contains}
 use Rattle.pt_sector.specs.Writes.{Writes}
-use Rattle.pt_apply.specs.Plans.{writes_of, phases_in, phases_of}
+use Rattle.pt_apply.specs.Plans.{writes_of, phases_of}
 use Rattle.pt_apply.specs.declared.plan.Write.{Write}
 use Rattle.pt_apply.specs.declared.plan.Plan.{Plan}
 use Rattle.pt_gpt.specs.declared.table.Table.{Table}
@@ -18,7 +18,7 @@ use Rattle.pt_targets.specs.Targets.{InOrder}
 use Rattle.pt_targets.specs.declared.target.Target.{Target}
 use Rattle.pt_tables.specs.Phases.{Closes, Arranged}
 use Rattle.pt_tables.specs.declared.order.Order.{Order}
-use Rattle.pt_tables.specs.declared.order.Order.TheVariants.{BackupFirst, PrimaryFirst, FromMbr}
+use Rattle.pt_tables.specs.declared.order.Order.TheVariants.{FromMbr}
 
 few_last : (last : Option (List ℕ)) → length (last_of last) ≤ 1
 few_last None = omega arith

@@ -1,5 +1,5 @@
 -- The phases of both copies in an order, what there may be against them, and what they have where there is nothing.
-use Rattle.std.specs.Prelude.{◌≡◌, ◌⊎◌, ℕ, List, [], length, take, Contains, Option, Some, None}
+use Rattle.std.specs.Prelude.{◌≡◌, ◌⊎◌, ℕ, List, [], take, Contains, Option, Some, None}
 use Rattle.pt_sector.specs.Writes.{Writes, Puts}
 use Rattle.pt_gpt.specs.declared.table.Table.{Table}
 use Rattle.pt_recover.specs.Spans.{IsIn}
