@@ -48,8 +48,8 @@ excluded b d x p (Some f) same known healthy = absurd (finding_excludes_lem b d 
 excluded b d x p None same known healthy = refl
 
 none_by : (finding : Option Finding) (none : Bool) → is_some finding ≡ not none → none ≡ true → finding ≡ None
-none_by None none is yes = refl
-none_by (Some f) none is yes = absurd (let some : true ≡ not true = is ∙ ap not yes in cc)
+none_by None none is is_true = refl
+none_by (Some f) none is is_true = absurd (let some : true ≡ not true = is ∙ ap not is_true in cc)
 
 none_tells : (finding : Option Finding) (none : Bool) → is_some finding ≡ not none → finding ≡ None → none ≡ true
 none_tells finding true is at = refl
@@ -58,7 +58,7 @@ none_tells finding false is at = absurd (let some : false ≡ true = sym (ap is_
 -- a disk with this layout is healthy with it where nothing is wrong
 pub done_here : (b : ℕ) (d : Sectors) (x : Known) (p : Layout) (none : Bool) → x.old ≡ Some p → is_some x.finding ≡ not none → IsKnown b d x → IsTrue none ↔ IsHealthy b d p
 done_here b d x p none same is known = (
-  (λ yes. healthy_with b d x.old p same (subst (WrongIs b d x.old) (none_by x.finding none is yes) known.finding)),
+  (λ so. healthy_with b d x.old p same (subst (WrongIs b d x.old) (none_by x.finding none is so) known.finding)),
   (λ healthy. none_tells x.finding none is (excluded b d x p x.finding refl known healthy)),
 )
 
@@ -68,4 +68,8 @@ not_done_here b d x p other known healthy = other (denotes_one_lem b d x.old (So
 
 pub decided : {P : Type 0} (holds : Bool) → IsTrue holds ↔ P → P ⊎ ¬ P
 decided true is = inl (is.0 refl)
-decided false is = inr (λ p. absurd (let yes : false ≡ true = is.1 p in cc))
+decided false is = inr (λ p. absurd (let high : false ≡ true = is.1 p in cc))
+
+pub low_isnt : (holds : Bool) → holds ≡ false → ¬ IsTrue holds
+low_isnt true low so = (let both : true ≡ false = low in cc)
+low_isnt false low so = (let both : false ≡ true = so in cc)

@@ -7,7 +7,7 @@ use Rattle.pt_gpt.specs.declared.table.Side.TheVariants.{Primary}
 use Rattle.pt_gpt.specs.declared.table.Table.{Table}
 use Rattle.pt_mbr.specs.declared.ebr.Ebr.{Ebr}
 use Rattle.pt_mbr.specs.declared.record.Record.{Record}
-use Rattle.pt_recover.specs.Denotes.{Denotes}
+use Rattle.pt_recover.specs.Denotes.{Denotes, BodyIs}
 use Rattle.pt_recover.specs.Laws.{denotes_one_lem}
 use Rattle.pt_recover.specs.Mbr.{extended_of, IsMbrDisk}
 use Rattle.pt_recover.specs.declared.layout.Body.{Body}
@@ -170,3 +170,7 @@ module _ (b : ℕ) (d : Sectors) (o : Option Layout) (p : Layout) (from : Denote
 
   pub none_of_disk : ¬ MayBe b d o p → Unplanned b d p NotOneSwitch
   none_of_disk isnt = record { sound = sound; not_done = not_done; old = o; from = from; cause = other_disk isnt }
+
+-- a disk that denotes an MBR has a sector
+pub has_sectors : (b : ℕ) (d : Sectors) (o : Option Layout) (old : Layout) (records : List (Option Record)) (chain : List Ebr) → Denotes b d o → o ≡ Some old → old.body ≡ Mbr records chain → 0 < length d
+has_sectors b d o old records chain from is body = (subst (BodyIs b d) body (subst (Denotes b d) is from).1).0.0.0

@@ -65,6 +65,13 @@ pub(crate) fn places_of<const B: usize, D: Disk<B>>(
     }
 }
 
+// That there are four. The type says so; contracts see a list.
+fn are_four(records: &[Option<Record>; 4])
+    ensures { length «records».now ≡ 4 }
+{
+    let _count = records.len();
+}
+
 /// The plan for an MBR, on an MBR disk.
 pub(crate) fn to_mbr<const B: usize, D: Disk<B>>(
     alloc: Global,
@@ -97,6 +104,7 @@ pub(crate) fn to_mbr<const B: usize, D: Disk<B>>(
         Body::Mbr { records, chain } => (records, chain),
         Body::Gpt(_) => return Err(PlanError::NotOneSwitch),
     };
+    are_four(records);
     if disk.sectors() == 0 {
         return Err(PlanError::NotOneSwitch);
     }

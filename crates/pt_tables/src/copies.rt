@@ -8,6 +8,7 @@ ghost use Rattle.pt_gpt.specs.Array.{array_len};
 ghost use Rattle.pt_recover.specs.declared.layout.Layout.{Layout};
 ghost use Rattle.pt_cases.specs.Cases.{IsPlan};
 ghost use Rattle.pt_targets.specs.Causes.{HasNoCopies};
+ghost use Rattle.pt_targets.specs.Errors.{fault_in};
 ghost use Rattle.pt_targets.specs.Starts.{StopsBy};
 ghost use Rattle.pt_tables.specs.Phases.{Arranged, Closes};
 ghost use Rattle.pt_tables.specs.Starts.{CopiesStart};
@@ -92,6 +93,7 @@ pub fn both_copies<const B: usize>(
     ensures err { IfErr result (λ e. (d : Sectors) (p : Layout) → length d ≡ ground.now.sectors → CopiesStart d ground.now.old.now p table.now order ground.now.guarded.now ground.now.head places.entry.items → StopsBy B d ground.now.old.now p (HasNoCopies B d ground.now.old.now p) e) }
     ensures in_range { IfOk result (InRange ground.now.sectors) }
     ensures some { IfOk result (λ plan. All (λ p. 0 < length p.items) plan.phases.items) }
+    ensures faultless { IfErr result (λ e. fault_in e ≡ None) }
     ensures short { IfOk result (λ plan. length plan.phases.items ≤ 5) }
     ensures count { IfOk result (λ plan. length (writes_in (phases_of plan)) ≤ 2 * array_len B + 4 + length places.entry.items) }
 {

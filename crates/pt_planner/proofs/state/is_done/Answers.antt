@@ -1,5 +1,4 @@
-use Rattle.std.proofs.Common.{absurd, false, true, ◌≡◌, inl, inr}
-use Rattle.pt_planner.proofs.Knowing.{done_here, not_done_here, decided}
+use Rattle.pt_planner.proofs.Knowing.{done_here, not_done_here, decided, low_isnt}
 use Rattle.pt_planner.proofs.Making.{isnt}
 use Rattle.pt_planner.proofs.state.is_done.Goals as goal
 
@@ -11,7 +10,7 @@ returns-then-is_same-clause-stays g c = decided c.is_same.result c.is_same.ensur
 
 pub returns-else-is_same-clause-done : goal.returns-else-is_same-clause-done
 returns-else-is_same-clause-done g c = λ d known. (
-  (λ yes. absurd (let low : false ≡ true = yes in cc)),
+  (λ so. absurd (low_isnt c.is_same.result c.if-is_same.false so)),
   (λ healthy. absurd (not_done_here g.row.B d c.args.known.now c.args.wanted.now (isnt c.is_same.result c.if-is_same.false c.is_same.ensures) known healthy)),
 )
 
