@@ -175,7 +175,7 @@ def large(command):
     image = LARGE.gpt(256, {1: entry(6, 250)})
     plan = plans.on(image).counts([5, 1, 4, 1], "c:1:data")
     plans.accepted(plan, 2).objected(plan[:1] + plan[2:], "4 2 2").objected([[(100, bytes(4096))]], "6 100")
-    for words in (("c:1:x", "A:1:63:1"), ("d:1",), ("a:1",), ("t:1:A500",), (*FRESH, "o", "n:1:0:0")):
+    for words in (("c:1:x", "A:1:63:1"), ("d:1",), ("a:1",), ("t:1:A500",), (*FRESH, "a:1", "o", "n:1:0:0")):
         same_as_edit(plans, image, *words)
     same_as_edit(plans, LARGE.gpt(256, {1: entry(6, 250)}) + LARGE.zeros(10), "e")
     for sectors in (12, 256):

@@ -51,13 +51,13 @@ can't be opened, read or written, 6 no memory. After 2, 3, 4 and 6 nothing was
 written; after 5 the image has the old table or the new one.";
 
 pub const PLAN: &str = "\
-WORD and HEX are those of `edit`. Each write is a line `W SECTOR BYTES`, with the
-bytes in hexadecimal; a line `F`, a flush, ends each phase. Nothing is printed
-where there is nothing to do. A plan is for the image as it is now: apply it
-before anything else is changed.
+WORD and HEX are those of `edit`. Each write is a line `W SECTOR BYTES`, with
+the bytes in hexadecimal; a line `F`, a flush, ends each phase. Nothing is
+printed where there is nothing to do. A plan is for the image as it is now:
+apply it before anything else is changed.
 
-Exit status: 0 planned, 2 usage or a bad word, 3 refused, 4 no table, 5 the image
-can't be read, 6 no memory.";
+Exit status: 0 planned, 2 usage or a bad word, 3 refused, 4 no table, 5 the
+image can't be read, 6 no memory.";
 
 pub const CHECK: &str = "\
 `yes S`: a stop within the plan leaves the old layout before phase S and the new

@@ -1,6 +1,6 @@
 //! Plans in files.
 
-ghost use Rattle.std.specs.Prelude.{◌≡◌, ◌≤◌, ◌==◌, length, count_by, IfOk, OnOk};
+ghost use Rattle.std.specs.Prelude.{◌≡◌, ◌≤◌, ◌+◌, ◌==◌, length, take, count_by, IfOk, OnOk, IfSome};
 ghost use Rattle.std.specs.String.{string_bytes};
 ghost use Rattle.pt_sector.specs.Sectors.{IsSectorSize};
 ghost use Rattle.pt_apply.specs.Plans.{phases_of};
@@ -18,7 +18,9 @@ use std::io::{ErrorKind, Read};
 const MOST: usize = 8_388_608;
 
 /// The bytes that a reader begins with, one more than a plan's text may have at most.
-fn first_bytes<T: Read + Drop>(alloc: Global, reader: T) -> Result<Vec<u8>, Failure> {
+fn first_bytes<T: Read + Drop>(alloc: Global, reader: T) -> Result<Vec<u8>, Failure>
+    ensures { IfOk result (λ bytes. IfSome (T.remaining reader) (λ all. bytes.items ≡ take (MOST + 1) all)) }
+{
     let mut bytes = Vec::new(alloc);
     let mut start = reader.take(MOST as u64 + 1);
     match start.read_to_end(&mut bytes) {
@@ -50,7 +52,10 @@ fn text_of(bytes: Vec<u8>) -> Result<String, Failure>
 fn count_lines(text: &str) -> u64
     ensures { result ≡ count_by (λ byte. byte == 10) text.now }
 {
-    text.as_bytes().iter().filter(|byte| **byte == b'\n').count() as u64
+    text.as_bytes()
+        .iter()
+        .filter(|byte| **byte == b'\n')
+        .count() as u64
 }
 
 /// The plan of a text.
