@@ -3,7 +3,7 @@ import sys
 
 import images
 from command import Command
-from images import FREEBSD, LARGE, SMALL, entry, guid, label, one_partition
+from images import FREEBSD, LARGE, SMALL, entry, guid, label, one_partition, record
 
 FRESH = ("--fresh", "000102030405060708090a0b0c0d0e0f" + "0" * 32)
 
@@ -131,6 +131,25 @@ def reasons(command):
     plans.objected([zeros(0)], "8 6").objected([zeros(4095), zeros(1)], "8 1").objected([zeros(1)], "8 2").objected([zeros(4095)], "8 3")
 
 
+def written(image, *ranges):
+    """A phase for each range of sectors, with what they hold in the image."""
+    return [[(lba, SMALL.sector(image, lba)) for lba in range(first, end)] for first, end in ranges]
+
+
+def by_hand(command):
+    """Plans that no words make: a GPT over an MBR disk, refused where a partition of the MBR stands on its tables, and a type."""
+    plans = Plans(command)
+    plan = written(one_partition(), (4063, 4096), (2, 34), (1, 2), (0, 1))
+    for first, size, sector in ((1, 100, 2), (33, 1, 33), (4000, 96, 4063), (4095, 1, 4095)):
+        plans.on(SMALL.mbr(4096, [record(0x83, first, size)])).objected(plan, f"7 {sector}")
+    plans.on(SMALL.mbr(4096, [record(0x83, 34, 4029)])).accepted(plan, 4).objected(plan[:3], "6 4063").applied(plan).healthy()
+    slices = SMALL.gpt(4096, {1: entry(2048, 4062, FREEBSD)})
+    plan = written(slices, (4063, 4096), (1, 2), (2, 34), (1, 2))
+    plan[1] = zeros(1)
+    plans.on(one_partition()).accepted(plan, 2).applied(plan).healthy()
+    plans.shows(f"gpt 4096 34 4062 {images.DISK}", f"1 2048 4062 A500 {0:016x} {images.FIRST}")
+
+
 def same_as_edit(plans, image, *words):
     """plan and apply leave what edit leaves; a second apply says what check says, and changes nothing."""
     plans.on(image).edited(*words)
@@ -202,4 +221,4 @@ def refused_as_edit(command):
                 plans.gives(["plan", *words], out, errors, status)
 
 
-ROWS = (healthy, damaged, reasons, small, large, refused_as_edit)
+ROWS = (healthy, damaged, reasons, by_hand, small, large, refused_as_edit)
