@@ -14,9 +14,10 @@ import rows_help
 import rows_labels
 import rows_mbr
 import rows_place
+import rows_plan
 from command import Command
 
-PARTS = (rows_gpt, rows_mbr, rows_labels, rows_edit, rows_place, rows_help)
+PARTS = (rows_gpt, rows_mbr, rows_labels, rows_edit, rows_place, rows_plan, rows_help)
 
 
 def run(rows, ptab):
