@@ -1,2 +1,3 @@
+mod Beginning
 mod Knowing
 mod Making
