@@ -6,7 +6,7 @@ use pt_check::CheckError;
 use pt_gpt::Side;
 use pt_layout::{Finding, NoTable, Path};
 use pt_mbr::ChainError;
-use pt_plan::{CommitError, PlanError};
+use pt_plan::CommitError;
 use std::alloc::AllocError;
 use std::io;
 use std::io::Write;
@@ -54,8 +54,6 @@ pub enum Failure {
     BadFresh,
     BadPath,
     BadNumber,
-    /// What the current version doesn't do.
-    NotYet,
     /// An edit was refused with this number.
     Edit(u8),
     /// A plan was refused with this number.
@@ -78,8 +76,7 @@ impl Failure {
             | Failure::BadFresh
             | Failure::BadPath
             | Failure::BadNumber => Status::Usage,
-            Failure::NotYet
-            | Failure::Edit(_)
+            Failure::Edit(_)
             | Failure::Plan(_)
             | Failure::Check(_)
             | Failure::PlanText(_) => Status::Refused,
@@ -97,7 +94,6 @@ impl Failure {
             Failure::BadFresh => writeln!(err, "bad fresh"),
             Failure::BadPath => writeln!(err, "bad path"),
             Failure::BadNumber => writeln!(err, "bad number"),
-            Failure::NotYet => writeln!(err, "refused: not yet"),
             Failure::Edit(number) => writeln!(err, "refused: edit {number}"),
             Failure::Plan(number) => writeln!(err, "refused: plan {number}"),
             Failure::Check(number) => writeln!(err, "refused: check {number}"),
@@ -135,7 +131,6 @@ impl From<CommitError> for Failure {
         match error {
             CommitError::NoTable(why) => Failure::NoTable(why),
             CommitError::Edit(why) => Failure::Edit(why.number()),
-            CommitError::Plan(PlanError::NotYet) => Failure::NotYet,
             CommitError::Plan(why) => Failure::Plan(why.number()),
             CommitError::Check(why) => Failure::Check(number_of(why)),
             CommitError::Device(_) => Failure::Device,
