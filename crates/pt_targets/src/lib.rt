@@ -1,6 +1,7 @@
 //! Targets: what the sectors of a wanted layout must hold, and the writes that are left of them.
 #![tactic(auto)]
 
+mod change;
 mod choice;
 mod error;
 mod first;
@@ -11,10 +12,11 @@ mod target;
 #[cfg(test)]
 mod tests;
 
+pub use change::one_change;
 pub use choice::{is_change, is_unread_new};
 pub use error::PlanError;
 pub use first::{first_change, first_owned_change, first_owned_of_kind};
 pub use fresh::new_writes;
 pub use order::in_order;
-pub use split::{Split, one_change, split_changes};
+pub use split::{Split, split_changes};
 pub use target::{Kind, Target};

@@ -1,14 +1,13 @@
-//! Targets that are met with one write, or with many of which one is special.
+//! The writes that are left of some targets, where one of them is of a guarded sector.
 
 ghost use Rattle.std.specs.Prelude.{◌≡◌, ◌∷◌, [], IfOk, IfSome, IfNone};
 ghost use Rattle.pt_apply.specs.Plans.{writes_of};
 ghost use Rattle.pt_sector.specs.Ascending.{IsAscending};
-ghost use Rattle.pt_sector.specs.Sectors.{Sectors};
-ghost use Rattle.pt_targets.specs.Selected.{Differs, IsLoud, IsQuiet, Selects, NotAlone};
+ghost use Rattle.pt_targets.specs.Selected.{IsLoud, IsQuiet, Selects, NotAlone};
 ghost use Rattle.pt_targets.specs.Splits.{SplitIs};
-ghost use Rattle.pt_targets.specs.Targets.{targeted, TellDisk, IsOneChange, NotOneChange};
+ghost use Rattle.pt_targets.specs.Targets.{targeted};
 
-use crate::choice::{is_change, is_loud, is_quiet, write_of};
+use crate::choice::{is_loud, is_quiet, write_of};
 use crate::target::Target;
 use pt_apply::Write;
 use pt_recover::Trace;
@@ -19,6 +18,7 @@ use std::alloc::{AllocError, Global};
 pub enum Split<const B: usize> {
     /// None is, or more than one.
     NotOne,
+    /// One is.
     One {
         /// Those of other sectors, in ascending order.
         quiet: Vec<Write<B>>,
@@ -80,33 +80,4 @@ pub fn split_changes<const B: usize>(
             Ok(Split::One { quiet, loud })
         }
     }
-}
-
-/// The write of the one target that isn't met yet; none where all are met, or two aren't.
-///
-/// The targets ascend by their sectors.
-pub fn one_change<const B: usize>(targets: &[Target<B>]) -> Option<Write<B>>
-    requires { IsAscending (targeted targets.now) }
-    ensures one { IfSome result (λ w. (d : Sectors) → TellDisk d targets.now → IsOneChange d targets.now (w.lba.0, w.bytes)) }
-    ensures other { IfNone result (NotOneChange targets.now) }
-{
-    lone_change(targets)
-}
-
-// The write of the lone target that changes its sector.
-fn lone_change<const B: usize>(targets: &[Target<B>]) -> Option<Write<B>>
-    requires { IsAscending (targeted targets.now) }
-    ensures one { IfSome result (λ w. Selects Differs targets.now ((w.lba.0, w.bytes) ∷ [])) }
-    ensures other { IfNone result (NotAlone Differs targets.now) }
-{
-    let mut found = None;
-    for target in targets {
-        if is_change(target) {
-            if found.is_some() {
-                return None;
-            }
-            found = Some(write_of(target));
-        }
-    }
-    found
 }

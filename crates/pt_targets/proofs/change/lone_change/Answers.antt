@@ -3,8 +3,8 @@ use Rattle.pt_apply.specs.Plans.{writes_of}
 use Rattle.pt_apply.specs.declared.plan.Write.{Write}
 use Rattle.pt_targets.specs.Selected.{Differs, Selects}
 use Rattle.pt_targets.proofs.Steps.{unless, pushed, skipped, found_two, found_none, was_none}
-use Rattle.pt_targets.proofs.split.lone_change.Goals as goal
-use Rattle.pt_targets.proofs.split.lone_change.Goals.{then-is_change+else-is_some, else-is_change}
+use Rattle.pt_targets.proofs.change.lone_change.Goals as goal
+use Rattle.pt_targets.proofs.change.lone_change.Goals.{then-is_change+else-is_some, else-is_change}
 
 pub returns-then-is_some-clause-other : goal.returns-then-is_some-clause-other
 returns-then-is_some-clause-other g c = found_two Differs c.args.targets.now c.loop-target.target-index c.target-item.result c.loop-target.found

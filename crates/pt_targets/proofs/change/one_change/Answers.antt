@@ -1,5 +1,5 @@
 use Rattle.pt_targets.proofs.Steps.{change_some, change_none}
-use Rattle.pt_targets.proofs.split.one_change.Goals as goal
+use Rattle.pt_targets.proofs.change.one_change.Goals as goal
 
 pub returns-clause-one : goal.returns-clause-one
 returns-clause-one g c = change_some c.args.targets.now c.requires c.lone_change.result c.lone_change.ensures.one
