@@ -146,7 +146,7 @@ fn orders_of_both_copies(rt: HostRuntime) -> Result<(), Fail> {
 }
 
 #[test]
-fn sectors_that_are_no_places(rt: HostRuntime) -> Result<(), Fail> {
+fn sectors_that_are_refused(rt: HostRuntime) -> Result<(), Fail> {
     let alloc = rt.alloc();
     let mut guarded = Trace::new(alloc);
     guarded.add_one(1)?;
