@@ -1,7 +1,7 @@
 -- The steps before a commit's first write.
 use Rattle.std.proofs.Common.{◌≡◌, ◌∙◌, ℕ, zero, suc, ◌+◌, ◌<◌, List, [], ◌∷◌, length, drop, get_or, Option, Some, None, Ok, Err, Bool, true, false, IsTrue, ◌↔◌, refl, sym, ap, subst, arith, add-one}
 use Rattle.pt_sector.specs.Sectors.{Sectors, IsSectorSize}
-use Rattle.pt_sector.specs.Writes.{Writes, after}
+use Rattle.pt_sector.specs.Writes.{Writes}
 use Rattle.pt_recover.specs.Answers.{IsReason, failure_in}
 use Rattle.pt_recover.specs.declared.error.NoTable.{NoTable as NoTableReason}
 use Rattle.pt_recover.specs.declared.error.NoTable.TheVariants as reason

@@ -1,14 +1,15 @@
 ghost use Rattle.std.specs.Prelude.{◌≡◌, ◌≤◌};
 ghost use Rattle.pt_sector.specs.Sectors.{IsSectorSize};
 
-use crate::{CommitError, PlanError, commit, make_plan};
+use crate::{CommitError, PlanError, commit, plan_for};
 use pt_apply::{Plan, Write};
 use pt_check::{Answer, Why, check};
-use pt_edit::{Edit, Refusal};
+use pt_edit::{Code, Edit, End, Refusal};
 use pt_gpt::{CopyError, Entries, Entry, Table, array_sectors};
 use pt_guid::Guid;
-use pt_layout::{Body, Finding, Labels, Layout, NoTable, Verdict, recover, verify};
-use pt_sector::{CrashDisk, Disk, Lba, MemDisk, Sector};
+use pt_layout::{Body, Finding, Labels, Layout, NoTable, Path, Verdict, recover, verify};
+use pt_planner::make_plan;
+use pt_sector::{CrashDisk, Disk, Fault, Lba, MemDisk, Sector};
 use std::alloc::{AllocError, Global};
 use std::test::Fail;
 
@@ -271,7 +272,7 @@ fn primary_array_under_an_open_header(rt: HostRuntime) -> Result<(), Fail> {
 }
 
 /// What the planner says of a layout whose partition lies on the tables, of one for another size, and of a GPT on an
-/// MBR disk.
+/// MBR disk, for which there is a plan.
 fn refusals<const B: usize>(alloc: Global) -> Result<[u8; 3], Fail>
     requires { IsSectorSize B }
 {
@@ -297,9 +298,9 @@ fn number_of<const B: usize>(plan: Result<Plan<B>, PlanError>) -> u8 {
 }
 
 #[test]
-fn layouts_without_a_plan(rt: HostRuntime) -> Result<(), Fail> {
-    assert_eq!(rt; refusals::<512>(rt.alloc())?, [4, 1, 0]);
-    assert_eq!(rt; refusals::<4096>(rt.alloc())?, [4, 1, 0]);
+fn layouts_with_and_without_a_plan(rt: HostRuntime) -> Result<(), Fail> {
+    assert_eq!(rt; refusals::<512>(rt.alloc())?, [4, 1, 99]);
+    assert_eq!(rt; refusals::<4096>(rt.alloc())?, [4, 1, 99]);
     Ok(())
 }
 
@@ -401,5 +402,76 @@ fn calls_fail_in_turn(rt: HostRuntime) -> Result<(), Fail> {
     assert!(rt; failures::<4096>(rt.alloc(), 1, true, &[9, 0, 9, 0])?);
     assert!(rt; failures::<4096>(rt.alloc(), 3, false, &[])?);
     assert!(rt; failures::<512>(rt.alloc(), 11, true, &[9; 40])?);
+    Ok(())
+}
+
+/// The type byte, first sector and number of sectors of the first partition on a healthy MBR disk.
+fn first_record<const B: usize, D: Disk<B>>(
+    alloc: Global,
+    disk: &mut D,
+) -> Result<Option<(u8, u32, u32)>, Fail>
+    requires { IsSectorSize B }
+{
+    match verify(alloc, disk)? {
+        Verdict::Yes(layout) => match layout.body {
+            Body::Mbr { records, .. } => match records[0] {
+                Some(record) => Ok(Some((record.kind, record.start, record.size))),
+                None => Ok(None),
+            },
+            Body::Gpt(_) => Ok(None),
+        },
+        Verdict::No(_) => Ok(None),
+    }
+}
+
+#[test]
+fn an_mbr_gets_a_partition(rt: HostRuntime) -> Result<(), Fail> {
+    let alloc = rt.alloc();
+    let mut disk: MemDisk<512> = MemDisk::new(alloc, 8192)?;
+    let mut mbr = [0; 512];
+    mbr[510] = 0x55;
+    mbr[511] = 0xAA;
+    disk.write(Lba(0), &mbr)?;
+    let mut edits = Vec::new(alloc);
+    edits.push(Edit::New {
+        path: Path {
+            number: 1,
+            letter: None,
+        },
+        start: 2048,
+        end: End::At(6143),
+        code: Some(Code::Two(0xA5)),
+    })?;
+    assert_eq!(rt; commit(alloc, &mut disk, &edits, &[]), Ok(()));
+    assert_eq!(rt; first_record(alloc, &mut disk)?, Some((0xA5, 2048, 4096)));
+    Ok(())
+}
+
+/// What a new name on a healthy disk of 4096 sectors answers where its call of this number fails.
+fn rename_with_failure(alloc: Global, call: u64) -> Result<Result<(), CommitError>, Fail> {
+    let mut disk: CrashDisk<512> = CrashDisk::new(alloc, 4096, 40)?;
+    let table = layout::<512>(alloc, 4096, 2048, 97)?;
+    let _made = plan_and_write(alloc, &mut disk, &table)?;
+    disk.fail_at(call, false);
+    Ok(commit(alloc, &mut disk, &rename(alloc, 1, "b")?, &[]))
+}
+
+// The first call is a flush, and then come 141 reads: the planner reads sector 0 and both sides of the table once (67),
+// the checker sector 0 and the primary side twice (68), and six times sector 0 alone. There are 67 writes, and a flush
+// follows each of the four phases.
+#[test]
+fn a_commit_reads_little(rt: HostRuntime) -> Result<(), Fail> {
+    let mut disk = gpt_disk(rt.alloc())?;
+    let edits = rename(rt.alloc(), 1, "b")?;
+    match plan_for(rt.alloc(), &mut disk, &edits, &[]) {
+        Ok(plan) => assert_eq!(rt; counts(&plan), [33, 1, 32, 1, 0]),
+        Err(_) => assert!(rt; false),
+    }
+    let after_reads = match rename_with_failure(rt.alloc(), 143)? {
+        Err(CommitError::Device(Fault::Write(_))) => true,
+        _ => false,
+    };
+    assert!(rt; after_reads);
+    assert_eq!(rt; rename_with_failure(rt.alloc(), 214)?, Ok(()));
     Ok(())
 }
