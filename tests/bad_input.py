@@ -9,6 +9,9 @@ import subprocess
 import sys
 import tempfile
 
+from images import one_partition
+
+MOST = 8 * 1024 * 1024
 checked = 0
 
 
@@ -48,18 +51,24 @@ def gpt(folder):
 
 def not_images(ptab, folder):
     missing = f"{folder}/missing"
+    plan = file_of(folder, "no_plan", b"")
     for path in (missing, folder, "/dev/null", f"{folder}/a/b"):
-        for command in (["show", path], ["verify", path], ["locate", path, "1", "0"], ["edit", path, "c:1:x"]):
+        for command in (["show", path], ["verify", path], ["locate", path, "1", "0"], ["edit", path, "c:1:x"], ["plan", path, "c:1:x"],
+                        ["check", path, plan], ["apply", path, plan]):
             expect(ptab, command, path, "", "device\n", 5)
-    expect(ptab, ["edit", missing, "--fresh", "0", "x"], missing, "", "bad fresh\n", 2)
-    expect(ptab, ["edit", missing, "x"], missing, "", "bad word x\n", 2)
+    for command in ("edit", "plan"):
+        expect(ptab, [command, missing, "--fresh", "0", "x"], missing, "", "bad fresh\n", 2)
+        expect(ptab, [command, missing, "x"], missing, "", "bad word x\n", 2)
     expect(ptab, ["locate", missing, "x", "x"], missing, "", "bad path\n", 2)
     expect(ptab, ["locate", missing, "1", "x"], missing, "", "bad number\n", 2)
     for name, content in (("empty", b""), ("short", bytes(511)), ("zeros", bytes(512)), ("text", b"no table here\n" * 40)):
         path = file_of(folder, name, content)
         expect(ptab, ["show", path], path, "", "no table: too small\n", 4)
         expect(ptab, ["verify", path], path, "no 1 no table\n", "", 1)
-        expect(ptab, ["edit", path, "c:1:x"], path, "", "no table: too small\n", 4)
+        for command in ("edit", "plan"):
+            expect(ptab, [command, path, "c:1:x"], path, "", "no table: too small\n", 4)
+        expect(ptab, ["check", path, plan], path, "no 8 1\n", "", 1)
+        expect(ptab, ["apply", path, plan], path, "no 8 1\n", "", 1)
     text = file_of(folder, "long_text", b"no table here either, but more of it\n" * 4000)
     expect(ptab, ["show", text], text, "", "no table: copies 1 1\n", 4)
     expect(ptab, ["edit", text, "c:1:x"], text, "", "no table: copies 1 1\n", 4)
@@ -79,7 +88,8 @@ WORDS = ("", "x", "z:1:x", "cc:1:x", "N:1:0:0",
 
 def bad_words(ptab, image):
     for word in WORDS:
-        expect(ptab, ["edit", image, "c:1:fine", word], image, "", f"bad word {word}\n", 2)
+        for command in ("edit", "plan"):
+            expect(ptab, [command, image, "c:1:fine", word], image, "", f"bad word {word}\n", 2)
     expect(ptab, ["edit", image, "d:1", "x", "y"], image, "", "bad word x\n", 2)
     expect(ptab, ["edit", image, "--fresh", "0", "c:1:x"], image, "", "bad fresh\n", 2)
     expect(ptab, ["edit", image, "--fresh", "g" * 32, "c:1:x"], image, "", "bad fresh\n", 2)
@@ -93,11 +103,74 @@ def refusals(ptab, image):
     expect(ptab, ["edit", image, "c:1:fine", "c:9:x"], image, "", "refused: edit 1\n", 3)
 
 
+def write_of(lba, size=512, digit="0", end="\n"):
+    return f"W {lba} {digit * (2 * size)}{end}".encode()
+
+
+def bad_texts():
+    """Texts that are no plan's, each with the line that is told."""
+    good = write_of(1) + b"F\n"
+    yield from ((text, 0) for text in (
+        b"\xff", b"\xff\n", good + b"\x80", b"W 1 \xe9\n", b"\xed\xa0\x80\n", b"F\n" * (MOST // 2) + b"F", b"\xff" * (MOST + 1)))
+    for line in (write_of(1, 511), write_of(1, 513), write_of(1, 256), write_of(1, 4096), write_of(1, 512, "g"),
+                 write_of("+1"), write_of("-1"), write_of("01"), write_of("00"), write_of(""), write_of("1 "),
+                 write_of(" 1"), write_of("\t1"), write_of("0x1"), write_of("1.0"), write_of("\u0661"),
+                 write_of(2 ** 64), write_of(10 ** 40), write_of(1, end="\r\n"), write_of(1, end=" \n"), write_of(1, end=""), write_of(1)[1:],
+                 b" " + write_of(1), b"w" + write_of(1)[1:], b"W\t" + write_of(1)[2:], b"WW" + write_of(1)[1:], b"W\n", b"W 1\n", b"W 1 \n",
+                 b"f\n", b" F\n", b"F \n", b"FF\n", b"F\r\n", b"F\0\n", b"\n", b"\0", b"\0\n", b"#\n", b"x", "\ufeff".encode()):
+        yield line, 1
+        yield good + line, 3
+        yield write_of(1) + line, 2
+    for text in (b"F\n", b"F", "\ufeff".encode() + good, bytes(MOST), b"\n" * MOST):
+        yield text, 1
+    yield good + b"F\n", 3
+    for text, line in ((write_of(1), 1), (good + write_of(1), 3), (write_of(1) + write_of(2), 2), (good + write_of(1) + write_of(2), 4)):
+        yield text, line
+    whole = good * (MOST // len(good))
+    yield whole + bytes(MOST - len(whole)), 2 * (MOST // len(good)) + 1
+    yield whole + b"\n" * (MOST - len(whole) + 1), 0
+
+
+def plans(ptab, folder):
+    """Plan files that can't be read or hold no plan, before an image that is missing; and plans that the checker refuses."""
+    missing = f"{folder}/missing"
+    image = file_of(folder, "healthy", one_partition())
+    for command in ("check", "apply"):
+        for path in (missing, folder, "/dev/null", f"{folder}/a/b", ""):
+            expect(ptab, [command, missing, path], missing, "", "device\n", 5)
+            expect(ptab, [command, image, path], image, "", "device\n", 5)
+        for text, line in bad_texts():
+            path = file_of(folder, "plan", text)
+            expect(ptab, [command, image, path], image, "", f"refused: plan text {line}\n", 3)
+            expect(ptab, [command, missing, path], missing, "", f"refused: plan text {line}\n", 3)
+        one = file_of(folder, "plan", write_of(1) + b"F\n")
+        expect(ptab, [command, missing, one], missing, "", "device\n", 5)
+        expect(ptab, [command, "--sector-size", "4096", image, one], image, "", "refused: plan text 1\n", 3)
+        for writes, answer in ((write_of(4096), "no 2 1"), (write_of(2 ** 64 - 1), "no 2 1"), (write_of(0), "no 8 6"),
+                               (write_of(100, 512, "A"), "no 6 100"), (write_of(100, 512, "a") + write_of(101, 512, "B"), "no 6 100"), (write_of(1) * (MOST // 1030), "no 1")):
+            expect(ptab, [command, image, file_of(folder, "plan", writes + b"F\n")], image, f"{answer}\n", "", 1)
+        large = file_of(folder, "plan", write_of(512, 4096) + b"F\n")
+        expect(ptab, [command, "--sector-size", "4096", image, large], image, "no 2 1\n", "", 1)
+    none = file_of(folder, "plan", b"")
+    expect(ptab, ["check", image, none], image, "yes 0\n", "", 0)
+    expect(ptab, ["apply", image, none], image, "done\n", "", 0)
+    header = one_partition()[512:1024].hex()
+    for digits in (header, header.upper(), header[:500].upper() + header[500:]):
+        same = file_of(folder, "plan", f"W 1 {digits}\nF\n".encode())
+        expect(ptab, ["check", image, same], image, "yes 0\n", "", 0)
+        expect(ptab, ["apply", image, same], image, "done\n", "", 0)
+    os.truncate(file_of(folder, "plan", b""), 2 ** 40)
+    expect(ptab, ["check", image, f"{folder}/plan"], image, "", "refused: plan text 0\n", 3)
+
+
 def usage(ptab, image):
-    commands = (["show", image], ["verify", image], ["locate", image, "1", "0"], ["edit", image, "c:1:x"])
+    commands = (["show", image], ["verify", image], ["locate", image, "1", "0"], ["edit", image, "c:1:x"], ["plan", image, "c:1:x"],
+                ["check", image, image], ["apply", image, image])
     for words in ([], ["show"], ["verify"], ["locate", image], ["locate", image, "1"], ["locate", image, "1", "0", "0"],
                   ["edit", image], ["nothing"], ["nothing", image], ["show", image, image], ["show", "--depth", image],
-                  ["edit", image, "--fresh"], ["edit", image, "--fresh", "", "--fresh", "", "c:1:x"], ["show", "--fresh", "", image]):
+                  ["plan"], ["plan", image], ["check"], ["check", image], ["check", image, image, image], ["check", "--fresh", "", image, image],
+                  ["apply", image], ["apply", image, image, "c:1:x"], ["plan", image, "--fresh"], ["edit", image, "--fresh"],
+                  ["edit", image, "--fresh", "", "--fresh", "", "c:1:x"], ["show", "--fresh", "", image]):
         expect(ptab, words, image, "", None, 2)
     for words in commands:
         for size in ("1024", "0512", "0", "", "8192", "512 "):
@@ -113,6 +186,7 @@ def main():
         image = gpt(folder)
         bad_words(ptab, image)
         refusals(ptab, image)
+        plans(ptab, folder)
         usage(ptab, image)
     print(f"bad input: {checked} passed, 0 failed")
 

@@ -56,7 +56,7 @@ class Command:
         found = self.run(*words)
         if found != (out, err, status):
             sys.exit(f"{' '.join(words)}:\n  found  {found}\n  wanted {(out, err, status)}")
-        if (words[0] != "edit" or status != 0) and self.image() != before:
+        if (words[0] not in ("edit", "apply") or status != 0) and self.image() != before:
             sys.exit(f"{' '.join(words)} changed the image")
         Command.checked += 1
         return self

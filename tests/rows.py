@@ -14,6 +14,7 @@ import rows_help
 import rows_labels
 import rows_mbr
 import rows_place
+import rows_plan
 import rows_records
 import rows_slices
 import rows_switches
@@ -21,8 +22,8 @@ import rows_turns
 import rows_words
 from command import Command
 
-PARTS = (rows_gpt, rows_mbr, rows_labels, rows_edit, rows_place, rows_turns, rows_records, rows_slices, rows_switches, rows_words,
-         rows_help)
+PARTS = (rows_gpt, rows_mbr, rows_labels, rows_edit, rows_place, rows_plan, rows_turns, rows_records, rows_slices, rows_switches,
+         rows_words, rows_help)
 
 
 def run(rows, ptab):

@@ -8,7 +8,8 @@ from command import Command
 from images import SMALL
 
 DOCS = os.path.join(os.path.dirname(os.path.abspath(__file__)), "..", "docs", "commands.md")
-STATUSES = {"": "0123456", "show": "02456", "verify": "01256", "locate": "012456", "edit": "023456"}
+STATUSES = {"": "0123456", "show": "02456", "verify": "01256", "locate": "012456", "edit": "023456",
+            "plan": "023456", "check": "012356", "apply": "012356"}
 
 
 def page(command, *words):
@@ -45,7 +46,7 @@ def pages(command):
 
 
 def words(command):
-    """Every word and every finding that docs/commands.md tells, and no other word."""
+    """Every word, finding and reason of the checker that docs/commands.md tells, and no other word."""
     with open(DOCS, encoding="utf-8") as it:
         docs = it.read()
     text = page(command, "edit", "--help")
@@ -59,6 +60,10 @@ def words(command):
     for number in range(1, 12):
         name = re.search(rf"^\| `no {number} (\w+ \w+)", docs, re.MULTILINE)
         holds("ptab verify --help", findings, f"no {number} " + name.group(1).split(" ")[0])
+    reasons = page(command, "check", "--help")
+    for number in range(1, 9):
+        names = re.search(rf"^\| `no {number}((?: [A-Z]+)*)` \|", docs, re.MULTILINE).group(1)
+        holds("ptab check --help", reasons, f"\n  {number}{names} ")
 
 
 def recipe(command):

@@ -1,0 +1,10 @@
+mod Begun
+mod Equal
+mod Heads
+mod Linking
+mod Links
+mod Lone
+mod Made
+mod Over
+mod Parts
+mod Whole

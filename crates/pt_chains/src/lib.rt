@@ -1,2 +1,13 @@
 //! Sector 0 and the extended boot records of a wanted MBR layout: what each must hold.
 #![tactic(auto)]
+
+mod chain;
+mod ebrs;
+mod extended;
+mod head;
+mod linked;
+#[cfg(test)]
+mod tests;
+
+pub use chain::mbr_targets;
+pub use linked::is_linked;

@@ -1,0 +1,3 @@
+pub mod Ranges
+pub mod Wrote
+pub mod Assembling

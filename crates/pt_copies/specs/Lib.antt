@@ -1,2 +1,3 @@
+pub mod Added
+pub mod Reached
 pub mod Written
-pub mod Starts

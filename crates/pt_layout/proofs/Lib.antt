@@ -8,6 +8,7 @@ pub mod Homes
 pub mod Lowest
 pub mod Foreignness
 pub mod Verdicts
+pub mod Surveys
 pub mod LabelPlaces
 pub mod Numbers
 pub mod Paths

@@ -1,5 +1,5 @@
 -- The first finding of a disk, step by step.
-use Rattle.std.proofs.Common.{◌≡◌, ℕ, length, Some, None, Bool, true, false, sym, subst, inl, inr}
+use Rattle.std.proofs.Common.{◌≡◌, ◌≢◌, ◌<◌, ℕ, length, Option, Some, None, refl, sym, subst, arith, inl, inr}
 use Rattle.pt_sector.specs.Sectors.{Sectors, sector}
 use Rattle.pt_gpt.specs.Copy.{CopyWith, IsCopyFault}
 use Rattle.pt_gpt.specs.Laws.{no_copy_lem}
@@ -12,6 +12,7 @@ use Rattle.pt_gpt.specs.declared.header.Header.{Header}
 use Rattle.pt_recover.specs.Labels.{places_of, LabelsAre}
 use Rattle.pt_recover.specs.Gpt.{HasRoom, TableIs}
 use Rattle.pt_recover.specs.Denotes.{BodyIs, Denotes}
+use Rattle.pt_recover.specs.Answers.{IsReason}
 use Rattle.pt_recover.specs.declared.error.NoTable.TheVariants as no
 use Rattle.pt_recover.specs.declared.layout.Layout.{Layout}
 use Rattle.pt_recover.specs.declared.layout.Body.{Body}
@@ -22,11 +23,12 @@ use Rattle.pt_layout.specs.declared.finding.Finding.TheVariants.{NoTable, Primar
 use Rattle.pt_layout.specs.Sound.{Sound, UnsoundIs}
 use Rattle.pt_layout.specs.Healthy.{IsBodyWhole, IsHealthy, HasCopies}
 use Rattle.pt_layout.specs.Foreign.{ForeignIs}
-use Rattle.pt_layout.specs.Findings.{IsFinding, IsBodyBroken}
+use Rattle.pt_layout.specs.Findings.{IsFinding, IsBodyBroken, IsBroken}
+use Rattle.pt_layout.specs.Surveys.{HeadOf}
 use Rattle.pt_layout.specs.Halves.{HalfIs}
 use Rattle.pt_layout.specs.declared.health.Head.{Head}
 use Rattle.pt_layout.specs.declared.health.Head.TheVariants as head
-use Rattle.pt_layout.specs.Verdicts.{HeadIs, NoGpt, IsOpen, IsHalfBroken, LayoutOf, PairIs}
+use Rattle.pt_layout.specs.Verdicts.{HeadIs, BrokenIs, LayoutOf, PairIs}
 use Rattle.pt_layout.specs.declared.halves.Half.{Half}
 
 pub unsound_finding : (b : ℕ) (d : Sectors) (o : Layout) (f : Finding) → Denotes b d (Some o) → IsBodyWhole b d o.body → UnsoundIs b o (Some f) → IsFinding b d f
@@ -62,111 +64,99 @@ primary_body b d h t plain room is = (plain, room, inl (record { room = room; he
 pub backup_body : (b : ℕ) (d : Sectors) (e : CopyError) (h : Header) (t : Table) → (¬ IsMbrDisk d) → HasRoom b (length d) → IsCopyFault b d Primary e → CopyWith b d Backup h t → BodyIs b d (Gpt t)
 backup_body b d e h t plain room fault is = (plain, room, inr (no_copy_lem b d Primary e fault, record { room = room; head = h; stands = is }))
 
--- what is found of one copy
-pub one_finding : (b : ℕ) (d : Sectors) (t : Table) (o : Layout) (f : Finding) → BodyIs b d (Gpt t) → LayoutOf b d t o → IsHalfBroken b d f → IsFinding b d f
-one_finding b d t o (PrimaryCopy e) is of broken = (o, gpt_denotes b d t o is of, subst (λ (y : Body). IsBodyBroken b d y (PrimaryCopy e)) (sym of.1) broken)
-one_finding b d t o (BackupCopy e) is of broken = (o, gpt_denotes b d t o is of, subst (λ (y : Body). IsBodyBroken b d y (BackupCopy e)) (sym of.1) broken)
-one_finding b d t o (NoTable e) is of broken = absurd broken
-one_finding b d t o CopiesDiffer is of broken = absurd broken
-one_finding b d t o (Alternate side) is of broken = absurd broken
-one_finding b d t o Protective is of broken = absurd broken
-one_finding b d t o (OutsideUsable p) is of broken = absurd broken
-one_finding b d t o (Overlap p q) is of broken = absurd broken
-one_finding b d t o (OnTable p s) is of broken = absurd broken
-one_finding b d t o (SameGuid i j) is of broken = absurd broken
-one_finding b d t o (ForeignLabel p) is of broken = absurd broken
+-- what breaks the copies is found
+pub broken_finding : (b : ℕ) (d : Sectors) (o : Layout) (f : Finding) → Denotes b d (Some o) → IsBodyBroken b d o.body f → IsFinding b d f
+broken_finding b d o f denotes broken = by_body o.body refl broken
+  where
+    by_body : (y : Body) → o.body ≡ y → IsBodyBroken b d y f → IsFinding b d f
+    by_body (Mbr rs chain) same is = absurd is
+    by_body (Gpt t) same is = by_finding f is
+      where
+        by_finding : (f : Finding) → IsBroken b d t f → IsFinding b d f
+        by_finding (PrimaryCopy e) is = (o, denotes, subst (λ (y : Body). IsBodyBroken b d y (PrimaryCopy e)) (sym same) is)
+        by_finding (BackupCopy e) is = (o, denotes, subst (λ (y : Body). IsBodyBroken b d y (BackupCopy e)) (sym same) is)
+        by_finding CopiesDiffer is = (o, denotes, subst (λ (y : Body). IsBodyBroken b d y CopiesDiffer) (sym same) is)
+        by_finding (Alternate side) is = (o, denotes, subst (λ (y : Body). IsBodyBroken b d y (Alternate side)) (sym same) is)
+        by_finding Protective is = (o, denotes, subst (λ (y : Body). IsBodyBroken b d y Protective) (sym same) is)
+        by_finding (NoTable e) is = absurd is
+        by_finding (OutsideUsable p) is = absurd is
+        by_finding (Overlap p q) is = absurd is
+        by_finding (OnTable p s) is = absurd is
+        by_finding (SameGuid i j) is = absurd is
+        by_finding (ForeignLabel p) is = absurd is
 
 -- two copies
 copies_of : (b : ℕ) (d : Sectors) (p q : Half) → HalfIs b d Primary p → HalfIs b d Backup q → p.table ≡ q.table → HasCopies b d p.table p.header q.header
 copies_of b d p q x y same = record { first = x; second = subst (λ (t : Table). CopyWith b d Backup q.header t) (sym same) y }
 
-pub open_plain : (d : Sectors) (c : Bool) → IsOpen d c → ¬ IsMbrDisk d
-open_plain d true is = is.0
-open_plain d false is = is.0
+protected : (d : Sectors) (h : Head) → HeadOf d h → h ≡ head.Protected → IsProtective (length d) (sector d 0)
+protected d head.Mbr is e = absurd cc
+protected d head.Protected is e = is.1
+protected d head.Unprotected is e = absurd cc
 
-protected : (d : Sectors) (c : Bool) → IsOpen d c → c ≡ true → IsProtective (length d) (sector d 0)
-protected d true is e = is.1
-protected d false is e = absurd cc
+unprotected : (d : Sectors) (h : Head) → ¬ IsMbrDisk d → 0 < length d → HeadOf d h → h ≢ head.Protected → ¬ IsProtective (length d) (sector d 0)
+unprotected d head.Mbr plain some is e = absurd (plain is)
+unprotected d head.Protected plain some is e = absurd (e refl)
+unprotected d head.Unprotected plain some is e = is.1 some
 
-unprotected : (d : Sectors) (c : Bool) → IsOpen d c → c ≡ false → ¬ IsProtective (length d) (sector d 0)
-unprotected d true is e = absurd cc
-unprotected d false is e = is.1
-
-pub pair_whole : (b : ℕ) (d : Sectors) (c : Bool) (p q : Half) (o : Layout) → IsOpen d c → HalfIs b d Primary p → HalfIs b d Backup q → PairIs (length d) c p q None → LayoutOf b d p.table o → IsBodyWhole b d o.body
-pair_whole b d c p q o is x y pair of = subst (λ (z : Body). IsBodyWhole b d z) (sym of.1) (record {
+pub pair_broken : (b : ℕ) (d : Sectors) (h : Head) (p q : Half) (f : Option Finding) → ¬ IsMbrDisk d → HeadOf d h → HasRoom b (length d) → HalfIs b d Primary p → HalfIs b d Backup q → PairIs (length d) h p q f → BrokenIs b d (Gpt p.table) f
+pair_broken b d h p q None plain is room x y pair = record {
   primary = p.header;
   backup = q.header;
   copies = copies_of b d p q x y pair.0;
   alternates = record { first = pair.1; second = pair.2 };
-  protective = protected d c is pair.3;
-})
-
-pub pair_finding : (b : ℕ) (d : Sectors) (c : Bool) (p q : Half) (o : Layout) (f : Finding) → IsOpen d c → HasRoom b (length d) → HalfIs b d Primary p → HalfIs b d Backup q → PairIs (length d) c p q (Some f) → LayoutOf b d p.table o → IsFinding b d f
-pair_finding b d c p q o CopiesDiffer is room x y pair of = (
-  o,
-  gpt_denotes b d p.table o (primary_body b d p.header p.table (open_plain d c is) room x) of,
-  subst (λ (z : Body). IsBodyBroken b d z CopiesDiffer) (sym of.1)
-      (record { primary = p.table; backup = q.table; first = record { room = room; head = p.header; stands = x }; second = record { room = room; head = q.header; stands = y }; differ = pair }),
-)
-pair_finding b d c p q o (Alternate Primary) is room x y pair of = (
-  o,
-  gpt_denotes b d p.table o (primary_body b d p.header p.table (open_plain d c is) room x) of,
-  subst (λ (z : Body). IsBodyBroken b d z (Alternate Primary)) (sym of.1)
-      (record { primary = p.header; backup = q.header; copies = copies_of b d p q x y pair.0; other = pair.1 }),
-)
-pair_finding b d c p q o (Alternate Backup) is room x y pair of = (
-  o,
-  gpt_denotes b d p.table o (primary_body b d p.header p.table (open_plain d c is) room x) of,
-  subst (λ (z : Body). IsBodyBroken b d z (Alternate Backup)) (sym of.1)
-      (record { primary = p.header; backup = q.header; copies = copies_of b d p q x y pair.0; other = (pair.1, pair.2) }),
-)
-pair_finding b d c p q o Protective is room x y pair of = (
-  o,
-  gpt_denotes b d p.table o (primary_body b d p.header p.table (open_plain d c is) room x) of,
-  subst (λ (z : Body). IsBodyBroken b d z Protective) (sym of.1)
-      (record { primary = p.header; backup = q.header; copies = copies_of b d p q x y pair.0; alternates = record { first = pair.1; second = pair.2 }; other = unprotected d c is pair.3 }),
-)
-pair_finding b d c p q o (NoTable e) is room x y pair of = absurd pair
-pair_finding b d c p q o (PrimaryCopy e) is room x y pair of = absurd pair
-pair_finding b d c p q o (BackupCopy e) is room x y pair of = absurd pair
-pair_finding b d c p q o (OutsideUsable s) is room x y pair of = absurd pair
-pair_finding b d c p q o (Overlap s t) is room x y pair of = absurd pair
-pair_finding b d c p q o (OnTable s t) is room x y pair of = absurd pair
-pair_finding b d c p q o (SameGuid i j) is room x y pair of = absurd pair
-pair_finding b d c p q o (ForeignLabel s) is room x y pair of = absurd pair
-
-pub pair_denotes : (b : ℕ) (d : Sectors) (c : Bool) (p : Half) (o : Layout) → IsOpen d c → HasRoom b (length d) → HalfIs b d Primary p → LayoutOf b d p.table o → Denotes b d (Some o)
-pair_denotes b d c p o is room x of = gpt_denotes b d p.table o (primary_body b d p.header p.table (open_plain d c is) room x) of
+  protective = protected d h is pair.3;
+}
+pair_broken b d h p q (Some CopiesDiffer) plain is room x y pair =
+    record { primary = p.table; backup = q.table; first = record { room = room; head = p.header; stands = x }; second = record { room = room; head = q.header; stands = y }; differ = pair }
+pair_broken b d h p q (Some (Alternate Primary)) plain is room x y pair =
+    record { primary = p.header; backup = q.header; copies = copies_of b d p q x y pair.0; other = pair.1 }
+pair_broken b d h p q (Some (Alternate Backup)) plain is room x y pair =
+    record { primary = p.header; backup = q.header; copies = copies_of b d p q x y pair.0; other = (pair.1, pair.2) }
+pair_broken b d h p q (Some Protective) plain is room x y pair =
+    record { primary = p.header; backup = q.header; copies = copies_of b d p q x y pair.0; alternates = record { first = pair.1; second = pair.2 }; other = unprotected d h plain (omega (arith, room)) is pair.3 }
+pair_broken b d h p q (Some (NoTable e)) plain is room x y pair = absurd pair
+pair_broken b d h p q (Some (PrimaryCopy e)) plain is room x y pair = absurd pair
+pair_broken b d h p q (Some (BackupCopy e)) plain is room x y pair = absurd pair
+pair_broken b d h p q (Some (OutsideUsable s)) plain is room x y pair = absurd pair
+pair_broken b d h p q (Some (Overlap s t)) plain is room x y pair = absurd pair
+pair_broken b d h p q (Some (OnTable s t)) plain is room x y pair = absurd pair
+pair_broken b d h p q (Some (SameGuid i j)) plain is room x y pair = absurd pair
+pair_broken b d h p q (Some (ForeignLabel s)) plain is room x y pair = absurd pair
 
 -- no copy, or no room
 no_tables : (b : ℕ) (d : Sectors) → (¬ IsMbrDisk d) → ((t : Table) → HasRoom b (length d) → ¬ TableIs b d t) → Denotes b d None
 no_tables b d plain none (Mbr rs chain) is = plain is.0.0
 no_tables b d plain none (Gpt t) is = none t is.1 is.2
 
-pub neither_finding : (b : ℕ) (d : Sectors) (c : Bool) (e f : CopyError) → IsOpen d c → HasRoom b (length d) → IsCopyFault b d Primary e → IsCopyFault b d Backup f → IsFinding b d (NoTable (no.NoCopy e f))
-neither_finding b d c e f is room x y = (
-  no_tables b d (open_plain d c is) (λ t big table. elim table as (λ _. ⊥) [
+pub neither_reason : (b : ℕ) (d : Sectors) (e f : CopyError) → ¬ IsMbrDisk d → HasRoom b (length d) → IsCopyFault b d Primary e → IsCopyFault b d Backup f → Denotes b d None × IsReason b d (no.NoCopy e f)
+neither_reason b d e f plain room x y = (
+  no_tables b d plain (λ t big table. elim table as (λ _. ⊥) [
     | inl copy ↦ no_copy_lem b d Primary e x (t, copy)
     | inr copy ↦ no_copy_lem b d Backup f y (t, copy.1)
   ]),
-  record { no_mbr = open_plain d c is; room = room; primary = x; backup = y },
+  record { no_mbr = plain; room = room; primary = x; backup = y },
 )
 
-pub small_finding : (b : ℕ) (d : Sectors) (c : Bool) → IsOpen d c → ¬ HasRoom b (length d) → IsFinding b d (NoTable no.TooSmall)
-small_finding b d c is small = (no_tables b d (open_plain d c is) (λ t big table. small big), (open_plain d c is, small))
+pub small_reason : (b : ℕ) (d : Sectors) → ¬ IsMbrDisk d → ¬ HasRoom b (length d) → Denotes b d None × IsReason b d no.TooSmall
+small_reason b d plain small = (no_tables b d plain (λ t big table. small big), (plain, small))
 
-pub mbr_whole : (b : ℕ) (d : Sectors) (o : Layout) → NoGpt b d → Denotes b d (Some o) → IsBodyWhole b d o.body
-mbr_whole b d o none denotes = by_body o.body denotes.1 where
+pub mbr_whole : (b : ℕ) (d : Sectors) (o : Layout) → IsMbrDisk d → Denotes b d (Some o) → IsBodyWhole b d o.body
+mbr_whole b d o mbr denotes = by_body o.body denotes.1 where
   by_body : (y : Body) → BodyIs b d y → IsBodyWhole b d y
   by_body (Mbr rs chain) is = tt
-  by_body (Gpt t) is = absurd (none t is)
+  by_body (Gpt t) is = absurd (is.0 mbr)
 
-pub protected_open : (d : Sectors) (n : ℕ) (h : Head) → HeadIs n (sector d 0) h → h ≡ head.Protected → n ≡ length d → IsOpen d true
-protected_open d n h is same count =
-    let at : HeadIs n (sector d 0) head.Protected = subst (λ (x : Head). HeadIs n (sector d 0) x) same is in
-    (λ disk. at.0 disk.1, subst (λ (m : ℕ). IsProtective m (sector d 0)) count at.1)
+-- what sector 0 says
+pub head_is : (d : Sectors) (n : ℕ) (h : Head) → HeadIs n (sector d 0) h → n ≡ length d → 0 < n → HeadOf d h
+head_is d n head.Mbr is count some = (subst (λ (m : ℕ). 0 < m) count some, is)
+head_is d n head.Protected is count some = (λ disk. is.0 disk.1, subst (λ (m : ℕ). IsProtective m (sector d 0)) count is.1)
+head_is d n head.Unprotected is count some = (λ disk. is.0 disk.1, λ any protective. is.1 (subst (λ (m : ℕ). IsProtective m (sector d 0)) (sym count) protective))
 
-pub unprotected_open : (d : Sectors) (n : ℕ) (h : Head) → HeadIs n (sector d 0) h → h ≡ head.Unprotected → n ≡ length d → IsOpen d false
-unprotected_open d n h is same count =
-    let at : HeadIs n (sector d 0) head.Unprotected = subst (λ (x : Head). HeadIs n (sector d 0) x) same is in
-    (λ disk. at.0 disk.1, λ protective. at.1 (subst (λ (m : ℕ). IsProtective m (sector d 0)) (sym count) protective))
+pub head_plain : (d : Sectors) (h : Head) → HeadOf d h → h ≢ head.Mbr → ¬ IsMbrDisk d
+head_plain d head.Mbr is other = absurd (other refl)
+head_plain d head.Protected is other = is.0
+head_plain d head.Unprotected is other = is.0
+
+pub empty_head : (d : Sectors) → length d ≡ 0 → HeadOf d head.Unprotected
+empty_head d none = (λ disk. omega (arith, disk.0, none), λ some. absurd (omega (arith, some, none)))

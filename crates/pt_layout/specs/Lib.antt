@@ -29,3 +29,4 @@ pub mod OneFinding
 pub mod OneOwner
 pub mod OneText
 pub mod Guarded
+pub mod Surveys

@@ -1,10 +1,11 @@
-//! The real `verify` and the real trace beside the plain ones, on images of every kind.
+//! The real `verify`, survey and trace beside the plain ones, on images of every kind.
 
 ghost use Rattle.pt_sector.specs.Sectors.{IsSectorSize};
 
 use crate::images::{Dice, gpt_image, mbr_image};
-use crate::plain::{plain_trace, plain_verify};
-use crate::{Finding, NoTable, Verdict, recover_traced, verify};
+use crate::plain::{plain_places, plain_trace, plain_verify};
+use crate::{Finding, Head, NoTable, Survey, Verdict, recover_traced, survey_disk, verify};
+use pt_gpt::{Side, array_sectors, read_copy};
 use pt_sector::{Disk, Lba, MemDisk};
 use std::alloc::Global;
 use std::test::Fail;
@@ -21,7 +22,32 @@ fn kind_of(finding: &Option<Finding>) -> u8 {
     }
 }
 
-/// What `verify` finds, where the plain one finds the same and both traces are one.
+/// Whether a survey guards what the plain reading says, and tells of the primary copy what a reading of it says.
+fn surveyed<const B: usize>(
+    alloc: Global,
+    disk: &mut MemDisk<B>,
+    told: &Survey,
+) -> Result<bool, Fail>
+    requires { IsSectorSize B }
+{
+    let is_mbr = told.head == Head::Mbr;
+    let guarded = if is_mbr {
+        plain_trace(alloc, disk)?
+    } else {
+        plain_places(alloc, disk)?
+    };
+    for s in 0..disk.sectors() {
+        if told.guarded.contains(Lba(s)) != guarded.contains(&s) {
+            return Ok(false);
+        }
+    }
+    if is_mbr || disk.sectors() < 2 * array_sectors::<B>() + 4 {
+        return Ok(!told.primary);
+    }
+    Ok(told.primary == read_copy(alloc, disk, Side::Primary).is_ok())
+}
+
+/// What `verify` finds, where the plain one finds the same, both traces are one and the survey is right.
 fn compared<const B: usize>(
     alloc: Global,
     disk: &mut MemDisk<B>,
@@ -34,6 +60,10 @@ fn compared<const B: usize>(
         if trace.contains(Lba(s)) != read.contains(&s) {
             return Ok(None);
         }
+    }
+    match survey_disk(alloc, disk) {
+        Ok(told) if surveyed(alloc, disk, &told)? => {}
+        _ => return Ok(None),
     }
     let found = match verify(alloc, disk) {
         Ok(Verdict::Yes(_)) => None,

@@ -42,7 +42,7 @@ impl Dice {
 }
 
 /// Writes a sector, where there is one.
-fn put<const B: usize, D: Disk<B>>(disk: &mut D, at: u64, bytes: &Sector<B>) {
+pub(crate) fn put<const B: usize, D: Disk<B>>(disk: &mut D, at: u64, bytes: &Sector<B>) {
     if at < disk.sectors() {
         let _ = disk.write(Lba(at), bytes);
     }

@@ -26,12 +26,13 @@ mod search;
 mod slots;
 mod soundness;
 mod spot;
+mod survey;
 mod tables;
 #[cfg(test)]
 mod tests;
 
 pub use finding::{Finding, Verdict};
-pub use health::verify;
+pub use health::{Head, verify};
 pub use laws::{
     finding_excludes, finding_is_one, healthy_is_one, number_is_one, owner_is_one, path_is_one,
     place_is_one, sector_is_one, sound_frees_tables, unsound_excludes, unsound_is_one,
@@ -51,4 +52,5 @@ pub use pt_recover::{
 pub use pt_sector::Failure as VerifyError;
 pub use slots::{find_label, part_slot, slot, slot_count};
 pub use soundness::unsound;
+pub use survey::{Survey, survey_disk};
 pub use tables::is_table;

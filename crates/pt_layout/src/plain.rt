@@ -505,6 +505,25 @@ fn read_sides<const B: usize, D: Disk<B>>(
     Ok(())
 }
 
+/// The label places of what a disk denotes.
+pub(crate) fn plain_places<const B: usize, D: Disk<B>>(
+    alloc: Global,
+    disk: &mut D,
+) -> Result<Vec<u64>, Fail>
+    requires { IsSectorSize B }
+{
+    let mut places = Vec::new(alloc);
+    if let Ok(layout) = recover(alloc, disk) {
+        let members = members_of::<B>(alloc, &layout)?;
+        for k in 0..members.len() {
+            if let Some(s) = place(&members[k].m, layout.sectors) {
+                places.push(s)?;
+            }
+        }
+    }
+    Ok(places)
+}
+
 /// The sectors that recovery reads, one by one.
 pub(crate) fn plain_trace<const B: usize, D: Disk<B>>(
     alloc: Global,
@@ -523,13 +542,8 @@ pub(crate) fn plain_trace<const B: usize, D: Disk<B>>(
         Some(mbr) if !bears_protective(&sector) => read_chain(disk, &mbr, &mut read)?,
         _ => read_sides(alloc, disk, &mut read)?,
     }
-    if let Ok(layout) = recover(alloc, disk) {
-        let members = members_of::<B>(alloc, &layout)?;
-        for k in 0..members.len() {
-            if let Some(s) = place(&members[k].m, layout.sectors) {
-                read.push(s)?;
-            }
-        }
+    for s in plain_places(alloc, disk)? {
+        read.push(s)?;
     }
     Ok(read)
 }

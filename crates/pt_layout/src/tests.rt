@@ -3,14 +3,18 @@
 ghost use Rattle.std.specs.Prelude.{◌<◌};
 ghost use Rattle.pt_sector.specs.Sectors.{IsSectorSize};
 
+use crate::images::put;
 use crate::{
-    Body, Ebrs, Finding, Labelled, Labels, Layout, NoTable, Owner, Path, Verdict, is_owned,
-    is_table, locate, owner, parse_path, unsound, verify,
+    Body, Ebrs, Finding, Head, Labelled, Labels, Layout, NoTable, Owner, Path, Verdict, is_owned,
+    is_table, locate, owner, parse_path, survey_disk, unsound, verify,
 };
 use pt_bsd::{Label, LabelEntry, empty_label};
-use pt_gpt::CopyError;
-use pt_mbr::{Ebr, Record};
-use pt_sector::{Disk, Lba, MemDisk, Sector};
+use pt_gpt::{
+    CopyError, Entry, Header, Side, array_at, array_crc, array_sectors, encode_header, header_at,
+};
+use pt_guid::Guid;
+use pt_mbr::{Ebr, Record, protective};
+use pt_sector::{CrashDisk, Disk, Lba, MemDisk, Sector};
 use std::alloc::Global;
 use std::test::Fail;
 
@@ -203,6 +207,65 @@ fn verdicts_on_small_disks(rt: HostRuntime) -> Result<(), Fail> {
         Some(Finding::NoTable(NoTable::TooSmall))
     );
     assert_eq!(rt; verdict::<4096>(rt.alloc(), 12, &[0; 4096])?, Some(none));
+    Ok(())
+}
+
+/// A healthy GPT disk of 200 sectors whose 128 entries are unused.
+fn empty_gpt<const B: usize>(alloc: Global) -> Result<CrashDisk<B>, Fail>
+    requires { IsSectorSize B }
+{
+    let mut disk: CrashDisk<B> = CrashDisk::new(alloc, 200, 3)?;
+    let edge = array_sectors::<B>() + 2;
+    let entries: [Option<Entry>; 128] = [None; 128];
+    for (side, other) in [(Side::Primary, Side::Backup), (Side::Backup, Side::Primary)] {
+        let header = Header {
+            my: header_at(side, 200),
+            alternate: header_at(other, 200),
+            first: edge,
+            last: 200 - edge,
+            disk: Guid([2; 16]),
+            array: array_at::<B>(side, 200),
+            count: 128,
+            entry_size: 128,
+            array_crc: array_crc(&entries),
+        };
+        put(&mut disk, header_at(side, 200), &encode_header(&header));
+    }
+    put(&mut disk, 0, &protective(200, &[0; B]));
+    Ok(disk)
+}
+
+/// How many sectors a survey of a disk reads, where those are fewer than 200: the first read that fails unseen is past
+/// its last.
+fn survey_reads<const B: usize>(alloc: Global, disk: &mut CrashDisk<B>) -> u64
+    requires { IsSectorSize B }
+{
+    for k in 0..200 {
+        disk.fail_at(k + 1, false);
+        if survey_disk(alloc, disk).is_ok() {
+            return k;
+        }
+    }
+    200
+}
+
+#[test]
+fn a_survey_reads_once(rt: HostRuntime) -> Result<(), Fail> {
+    let mut disk = empty_gpt::<512>(rt.alloc())?;
+    assert_eq!(rt; survey_reads(rt.alloc(), &mut disk), 67);
+    let mut large = empty_gpt::<4096>(rt.alloc())?;
+    assert_eq!(rt; survey_reads(rt.alloc(), &mut large), 11);
+    disk.fail_at(0, false);
+    match survey_disk(rt.alloc(), &mut disk) {
+        Ok(told) => {
+            assert_eq!(rt; told.head, Head::Protected);
+            assert_eq!(rt; told.finding, None);
+            assert!(rt; told.found.is_ok());
+            assert!(rt; told.primary);
+            assert!(rt; !told.guarded.contains(Lba(0)));
+        }
+        Err(_) => assert!(rt; false),
+    }
     Ok(())
 }
 

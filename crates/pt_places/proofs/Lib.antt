@@ -1,0 +1,5 @@
+pub mod Sides
+pub mod Pieces
+pub mod Lists
+pub mod Lifts
+pub mod Whole

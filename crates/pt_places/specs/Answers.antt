@@ -1,5 +1,5 @@
 -- What the label places of a wanted layout p come to, on a disk d that denotes o.
-use Rattle.std.specs.Prelude.{◌≡◌, ◌≤◌, ℕ, List, Contains, Option, Some, None}
+use Rattle.std.specs.Prelude.{◌≡◌, ◌≤◌, ℕ, List, Contains, Option}
 use Rattle.pt_sector.specs.Sectors.{Sectors}
 use Rattle.pt_bsd.specs.declared.label.Label.{Label}
 use Rattle.pt_recover.specs.Labels.{places_of}
@@ -34,7 +34,7 @@ abbrev pub NoneLeft : ℕ → Sectors → Layout → Type 0
 NoneLeft b d p = (w : Slice) → ¬ IsLeft b d p w
 
 abbrev pub PlacesAnswer : {b : _} → Sectors → Option Layout → Layout → LabelTargets b → Type 0
-PlacesAnswer d o p Misplaced = ¬ LabelsFit _ p
-PlacesAnswer d o p (Foreign n) = LabelsFit _ p × IsFirstLeft _ d p n
-PlacesAnswer d o p Unreadable = LabelsFit _ p × NoneLeft _ d p × HasUnreadable _ d o p
-PlacesAnswer d o p (Targets ts) = LabelsFit _ p × NoneLeft _ d p × AreLabelTargets d o p ts.items
+PlacesAnswer {b = b} d o p Misplaced = ¬ LabelsFit b p
+PlacesAnswer {b = b} d o p (Foreign n) = LabelsFit b p × IsFirstLeft b d p n
+PlacesAnswer {b = b} d o p Unreadable = LabelsFit b p × NoneLeft b d p × HasUnreadable b d o p
+PlacesAnswer {b = b} d o p (Targets ts) = LabelsFit b p × NoneLeft b d p × AreLabelTargets d o p ts.items

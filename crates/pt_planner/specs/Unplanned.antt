@@ -28,6 +28,15 @@ pub data NoSwitch (b : ℕ) (d : Sectors) (o : Option Layout) (p : Layout) : Typ
   turn : HasNoTurn b d o p → NoSwitch b d o p
   copies : HasNoCopies b d o p → NoSwitch b d o p
 
+-- why the targets of p make no plan
+abbrev pub Hindered : ℕ → Sectors → Option Layout → Layout → PlanError → Type 0
+Hindered b d o p ReusedInOneBatch = IsReused b d o p
+Hindered b d o p NotOneSwitch = NoSwitch b d o p
+Hindered b d o p NeedsRepair = IsUnmended b d o p
+Hindered b d o p (Device fault) = Unit {0}
+Hindered b d o p Memory = Unit {0}
+Hindered b d o p (Unsound f) = ⊥
+
 -- a foreign label would remain, on the first slice with this number
 pub record LeavesForeign (b : ℕ) (d : Sectors) (p : Layout) (f : Finding) : Type 0 where
   pub sound : Sound b p

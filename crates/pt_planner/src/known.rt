@@ -7,7 +7,7 @@ ghost use Rattle.pt_sector.specs.Sectors.{IsSectorSize};
 ghost use Rattle.pt_recover.specs.Answers.{IsReason};
 ghost use Rattle.pt_planner.specs.Known.{IsKnown, IsKnownOf, ReasonIs};
 
-use pt_layout::{Finding, Head, Layout, NoTable, Survey, Trace, survey};
+use pt_layout::{Finding, Head, Layout, NoTable, Survey, Trace, survey_disk};
 use pt_sector::{Disk, Failure};
 use std::alloc::Global;
 
@@ -37,12 +37,12 @@ pub fn read_known<const B: usize, D: Disk<B>>(
     ensures known { D.tells → IfOk result (λ r. IsKnown B (D.told disk.old).seen r.0) }
     ensures reason { D.tells → IfOk result (λ r. ReasonIs B (D.told disk.old).seen r.0.old r.1) }
 {
-    let read = survey(alloc, disk)?;
-    Ok(known(read))
+    let read = survey_disk(alloc, disk)?;
+    Ok(known_of(read))
 }
 
 /// The same, of a survey.
-fn known(read: Survey) -> (Known, Option<NoTable>)
+fn known_of(read: Survey) -> (Known, Option<NoTable>)
     ensures { IsKnownOf read result.0 result.1 }
 {
     let Survey {

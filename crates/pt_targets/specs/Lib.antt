@@ -2,3 +2,9 @@ pub mod Targets
 pub mod Errors
 pub mod Causes
 pub mod Starts
+pub mod Selected
+pub mod Orders
+pub mod Firsts
+pub mod Splits
+pub mod Lifts
+pub mod Counts

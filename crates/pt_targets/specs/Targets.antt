@@ -1,5 +1,5 @@
 -- What the sectors of a wanted layout must hold: each sector once, with what it holds on the disk d.
-use Rattle.std.specs.Prelude.{◌≡◌, ◌≢◌, ◌⊎◌, ℕ, ◌+◌, ◌<◌, ◌≤◌, List, [], ◌∷◌, ◌++◌, length, map, replicate, slice_index_or, Contains, Option, Some, None}
+use Rattle.std.specs.Prelude.{◌≡◌, ◌≢◌, ◌⊎◌, ℕ, ◌+◌, ◌<◌, ◌≤◌, List, [], ◌∷◌, ◌++◌, length, map, replicate, Contains, Option, Some, None}
 use Rattle.pt_sector.specs.Sectors.{Sectors, sector}
 use Rattle.pt_sector.specs.Writes.{Writes, Puts}
 use Rattle.pt_sector.specs.Ascending.{IsAscending, sector_at}
@@ -17,7 +17,6 @@ use Rattle.pt_recover.specs.declared.trace.Run.{Run}
 use Rattle.pt_cases.specs.Copies.{one_write}
 use Rattle.pt_cases.specs.Records.{IsHeadTarget, IsEbrTarget, link_to}
 use Rattle.pt_cases.specs.Targets.{Had, IsEncoded, Along, Ends}
-use Rattle.pt_targets.specs.declared.target.Kind.{Kind}
 use Rattle.pt_targets.specs.declared.target.Kind.TheVariants.{Stays, New, Changes}
 use Rattle.pt_targets.specs.declared.target.Target.{Target}
 

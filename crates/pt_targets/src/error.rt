@@ -1,11 +1,12 @@
 //! Why there is no plan.
 
 ghost use Rattle.std.specs.Prelude.{◌≡◌};
+ghost use Rattle.pt_sector.specs.declared.disk.Fault.TheVariants.{Read};
 ghost use Rattle.pt_targets.specs.Errors.{plan_error_number, plan_failure};
 ghost use Rattle.pt_targets.specs.declared.error.PlanError.TheVariants as plan;
 
 use pt_layout::Finding;
-use pt_sector::{Failure, Fault};
+use pt_sector::{FailedRead, Failure, Fault};
 use std::alloc::AllocError;
 
 /// Why there is no plan for a layout. Where several hold, the first of `Unsound`, `ReusedInOneBatch`, `NotOneSwitch`
@@ -51,6 +52,14 @@ impl From<Failure> for PlanError {
             Failure::Device(at) => PlanError::Device(Fault::Read(at)),
             Failure::Memory => PlanError::Memory,
         }
+    }
+}
+
+impl From<FailedRead> for PlanError {
+    ghost from_gives = { λ failed e. e ≡ plan.Device (Read failed.0) };
+
+    fn from(failed: FailedRead) -> PlanError {
+        PlanError::Device(Fault::Read(failed.0))
     }
 }
 

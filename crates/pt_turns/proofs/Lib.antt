@@ -1,0 +1,4 @@
+pub mod MbrTurn
+pub mod LabelTurn
+pub mod Shapes
+pub mod Turning

@@ -21,7 +21,8 @@ use Rattle.pt_targets.specs.Targets.{AreLabelTargets, AreMbrTargets}
 use Rattle.pt_targets.specs.declared.target.Target.{Target}
 
 -- p is an MBR in place of another one: what its sectors must hold, and what is guarded
-pub record MbrStart {b : _} (d : Sectors) (o : Option Layout) (p : Layout) (guarded : List Run) (heads places : List (Target b)) : Type 0 where
+pub record MbrStart {b : _} (d : Sectors) (o : Option Layout) (p : Layout) (guarded : List Run)
+    (head_targets label_targets : List (Target b)) : Type 0 where
   pub start : Start b d o p
   pub was : WasMbr o
   pub records : List (Option Record)
@@ -30,8 +31,8 @@ pub record MbrStart {b : _} (d : Sectors) (o : Option Layout) (p : Layout) (guar
   pub four : length records ≡ 4
   pub linked : IsLinked (length d) (extended_of records) chain
   pub guards : (s : ℕ) → IsIn guarded s ↔ IsGuarded b d s
-  pub heads : AreMbrTargets d was.records was.chain records chain heads
-  pub places : AreLabelTargets d o p places
+  pub heads : AreMbrTargets d was.records was.chain records chain head_targets
+  pub places : AreLabelTargets d o p label_targets
 
 -- the copies of the GPT are whole, or one is broken
 abbrev pub Unbroken : ℕ → Sectors → Layout → Bool → Type 0
@@ -39,10 +40,10 @@ Unbroken b d old true = (f : Finding) × IsBodyBroken b d old.body f
 Unbroken b d old false = IsBodyWhole b d old.body
 
 -- only labels of a GPT change
-pub record LabelStart {b : _} (d : Sectors) (o : Option Layout) (p : Layout) (broken : Bool) (places : List (Target b)) : Type 0 where
+pub record LabelStart {b : _} (d : Sectors) (o : Option Layout) (p : Layout) (broken : Bool) (label_targets : List (Target b)) : Type 0 where
   pub start : Start b d o p
   pub table : Table
   pub body : p.body ≡ Gpt table
   pub changes : ChangesLabels o p
   pub unbroken : Unbroken b d changes.old broken
-  pub places : AreLabelTargets d o p places
+  pub places : AreLabelTargets d o p label_targets

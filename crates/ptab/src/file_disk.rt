@@ -26,38 +26,47 @@ pub enum Access {
     Write,
 }
 
-/// An image that can't be opened, or isn't a plain file.
+/// A file that can't be opened, or isn't a plain one.
 #[derive(Clone, Copy, Debug, PartialEq, Eq)]
-pub struct NoImage;
+pub struct NoFile;
 
 /// Opens a plain file.
+pub fn open_plain<R: Files<File = File>>(
+    rt: &R,
+    path: &str,
+    access: Access,
+) -> Result<File, NoFile> {
+    match rt.metadata(path) {
+        Ok(found) => {
+            if !found.is_file() {
+                return Err(NoFile);
+            }
+        }
+        Err(_) => return Err(NoFile),
+    }
+    let mut how = OpenOptions::new();
+    how.read(true).write(access == Access::Write);
+    match rt.open_file(&how, path) {
+        Ok(file) => Ok(file),
+        Err(_) => Err(NoFile),
+    }
+}
+
+/// Opens a plain file as a disk.
 pub fn open<R: Files<File = File>, const B: usize>(
     rt: &R,
     path: &str,
     access: Access,
-) -> Result<FileDisk<B>, NoImage>
+) -> Result<FileDisk<B>, NoFile>
     requires { 0 < B }
 {
-    match rt.metadata(path) {
-        Ok(found) => {
-            if !found.is_file() {
-                return Err(NoImage);
-            }
-        }
-        Err(_) => return Err(NoImage),
-    }
-    let mut how = OpenOptions::new();
-    how.read(true).write(access == Access::Write);
-    let file = match rt.open_file(&how, path) {
-        Ok(file) => file,
-        Err(_) => return Err(NoImage),
-    };
+    let file = open_plain(rt, path, access)?;
     let bytes = match file.metadata() {
         Ok(found) => found.len(),
-        Err(_) => return Err(NoImage),
+        Err(_) => return Err(NoFile),
     };
     if bytes >= 1 << 63 {
-        return Err(NoImage);
+        return Err(NoFile);
     }
     Ok(FileDisk {
         file,

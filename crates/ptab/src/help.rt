@@ -49,3 +49,35 @@ digits on an MBR. `o`, `n` and `g` take fresh GUIDs:
 Exit status: 0 done, 2 usage or a bad word, 3 refused, 4 no table, 5 the image
 can't be opened, read or written, 6 no memory. After 2, 3, 4 and 6 nothing was
 written; after 5 the image has the old table or the new one.";
+
+pub const PLAN: &str = "\
+WORD and HEX are those of `edit`. Each write is a line `W SECTOR BYTES`, with
+the bytes in hexadecimal; a line `F`, a flush, ends each phase. Nothing is
+printed where there is nothing to do. A plan is for the image as it is now:
+apply it before anything else is changed.
+
+Exit status: 0 planned, 2 usage or a bad word, 3 refused, 4 no table, 5 the
+image can't be read, 6 no memory.";
+
+pub const CHECK: &str = "\
+`yes S`: a stop within the plan leaves the old layout before phase S and the new
+one after it (S is 0 where both are one). Else `no`, and the first that holds:
+  1               more than 4096 writes
+  2 WRITE         a write past the image's last sector
+  3 WRITE         it changes boot code, bytes 0 to 439 of sector 0
+  4 PHASE SECTOR  several writes, one of a sector that decides the layout
+  5 PHASE         after it the layout is neither the old nor the new one
+  6 SECTOR        written, and in the tables of neither layout
+  7 SECTOR        written, and in a partition of one of them
+  8 FINDING       the finished image isn't healthy: the number is `verify`'s
+
+Exit status: 0 yes, 1 no, 2 usage, 3 not a plan, 5 can't be read, 6 no memory.";
+
+pub const APPLY: &str = "\
+The image is flushed and the plan is checked. After a yes each phase is written
+and flushed, and `done` says that all is durable: a stop before that leaves the
+old layout or the new one. Where `ptab check` says no, so does this, and nothing
+is written.
+
+Exit status: 0 done, 1 no, 2 usage, 3 not a plan, 5 a file can't be opened, read
+or written, 6 no memory. After 1, 2, 3 and 6 nothing was written.";

@@ -1,6 +1,6 @@
 //! The command line.
 
-use crate::help::{ABOUT, EDIT, LOCATE, SHOW, STATUSES, VERIFY};
+use crate::help::{ABOUT, APPLY, CHECK, EDIT, LOCATE, PLAN, SHOW, STATUSES, VERIFY};
 use clap::error::ErrorKind;
 use clap::{Arg, ArgAction, ArgMatches, Command};
 use std::alloc::{AllocError, Global};
@@ -40,6 +40,19 @@ pub enum Job {
         image: String,
         fresh: Option<String>,
         words: Vec<String>,
+    },
+    Plan {
+        image: String,
+        fresh: Option<String>,
+        words: Vec<String>,
+    },
+    Check {
+        image: String,
+        file: String,
+    },
+    Apply {
+        image: String,
+        file: String,
     },
 }
 
@@ -112,24 +125,65 @@ fn locate_command<'a>(alloc: Global) -> Result<Command<'a>, AllocError> {
         .arg(sector_size(alloc))
 }
 
-fn edit_command<'a>(alloc: Global) -> Result<Command<'a>, AllocError> {
-    let fresh = Arg::new(alloc, "fresh")
+fn fresh<'a>(alloc: Global) -> Arg<'a> {
+    Arg::new(alloc, "fresh")
         .long("fresh")
         .value_name("HEX")
         .action(ArgAction::Set)
-        .help("Fresh GUIDs, 32 hexadecimal digits each");
-    let words = Arg::new(alloc, "WORD")
+        .help("Fresh GUIDs, 32 hexadecimal digits each")
+}
+
+fn words<'a>(alloc: Global) -> Arg<'a> {
+    Arg::new(alloc, "WORD")
         .required(true)
         .num_args(1..)
         .action(ArgAction::Append)
-        .help("Edit words, taken in order");
+        .help("Edit words, taken in order")
+}
+
+fn edit_command<'a>(alloc: Global) -> Result<Command<'a>, AllocError> {
     Command::new(alloc, "edit")
         .about("Edits the table by words, as one change: all of them or none")
         .after_help(EDIT)
         .arg(image(alloc))?
-        .arg(fresh)?
+        .arg(fresh(alloc))?
         .arg(sector_size(alloc))?
-        .arg(words)
+        .arg(words(alloc))
+}
+
+fn plan_command<'a>(alloc: Global) -> Result<Command<'a>, AllocError> {
+    Command::new(alloc, "plan")
+        .about("Prints the plan of what `edit` would write, and writes nothing")
+        .after_help(PLAN)
+        .arg(image(alloc))?
+        .arg(fresh(alloc))?
+        .arg(sector_size(alloc))?
+        .arg(words(alloc))
+}
+
+fn plan_file<'a>(alloc: Global) -> Arg<'a> {
+    Arg::new(alloc, "PLANFILE")
+        .required(true)
+        .action(ArgAction::Set)
+        .help("A plan as `ptab plan` prints it, a plain file of 8 MiB at most")
+}
+
+fn check_command<'a>(alloc: Global) -> Result<Command<'a>, AllocError> {
+    Command::new(alloc, "check")
+        .about("Answers whether a plan may be applied to the image, and writes nothing")
+        .after_help(CHECK)
+        .arg(image(alloc))?
+        .arg(plan_file(alloc))?
+        .arg(sector_size(alloc))
+}
+
+fn apply_command<'a>(alloc: Global) -> Result<Command<'a>, AllocError> {
+    Command::new(alloc, "apply")
+        .about("Applies a plan to the image, where `check` says yes")
+        .after_help(APPLY)
+        .arg(image(alloc))?
+        .arg(plan_file(alloc))?
+        .arg(sector_size(alloc))
 }
 
 fn command<'a>(alloc: Global) -> Result<Command<'a>, AllocError> {
@@ -140,7 +194,10 @@ fn command<'a>(alloc: Global) -> Result<Command<'a>, AllocError> {
         .subcommand(show_command(alloc)?)?
         .subcommand(verify_command(alloc)?)?
         .subcommand(locate_command(alloc)?)?
-        .subcommand(edit_command(alloc)?)
+        .subcommand(edit_command(alloc)?)?
+        .subcommand(plan_command(alloc)?)?
+        .subcommand(check_command(alloc)?)?
+        .subcommand(apply_command(alloc)?)
 }
 
 fn text_of(alloc: Global, matches: &ArgMatches<'_>, id: &str) -> Result<String, AllocError> {
@@ -155,16 +212,11 @@ fn texts_of(alloc: Global, matches: &ArgMatches<'_>, id: &str) -> Result<Vec<Str
     Ok(texts)
 }
 
-fn edit_job(alloc: Global, matches: &ArgMatches<'_>) -> Result<Job, AllocError> {
-    let fresh = match matches.get_str("fresh") {
-        Some(text) => Some(String::from_str(alloc, text)?),
-        None => None,
-    };
-    Ok(Job::Edit {
-        image: text_of(alloc, matches, "IMAGE")?,
-        fresh,
-        words: texts_of(alloc, matches, "WORD")?,
-    })
+fn fresh_of(alloc: Global, matches: &ArgMatches<'_>) -> Result<Option<String>, AllocError> {
+    match matches.get_str("fresh") {
+        Some(text) => Ok(Some(String::from_str(alloc, text)?)),
+        None => Ok(None),
+    }
 }
 
 fn size_of(matches: &ArgMatches<'_>) -> SectorSize {
@@ -187,7 +239,24 @@ fn job_of(alloc: Global, name: &str, inner: &ArgMatches<'_>) -> Result<Job, Line
             path: text_of(alloc, inner, "PATH")?,
             place: text_of(alloc, inner, "K")?,
         }),
-        "edit" => Ok(edit_job(alloc, inner)?),
+        "edit" => Ok(Job::Edit {
+            image: text_of(alloc, inner, "IMAGE")?,
+            fresh: fresh_of(alloc, inner)?,
+            words: texts_of(alloc, inner, "WORD")?,
+        }),
+        "plan" => Ok(Job::Plan {
+            image: text_of(alloc, inner, "IMAGE")?,
+            fresh: fresh_of(alloc, inner)?,
+            words: texts_of(alloc, inner, "WORD")?,
+        }),
+        "check" => Ok(Job::Check {
+            image: text_of(alloc, inner, "IMAGE")?,
+            file: text_of(alloc, inner, "PLANFILE")?,
+        }),
+        "apply" => Ok(Job::Apply {
+            image: text_of(alloc, inner, "IMAGE")?,
+            file: text_of(alloc, inner, "PLANFILE")?,
+        }),
         _ => Err(LineError::Usage(String::new(alloc))),
     }
 }

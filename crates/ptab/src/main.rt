@@ -1,13 +1,19 @@
-//! The command `ptab`: shows, verifies and edits the partition table of a disk image.
+//! The command `ptab`: shows, verifies and edits the partition table of a disk image, and plans and checks such edits.
 #![tactic(auto)]
 
+mod apply;
+mod check;
 mod edit;
 mod file_disk;
 mod help;
 mod line;
+mod plan;
+mod plan_file;
 mod run;
 mod show;
 mod texts;
+mod why;
+mod words;
 
 use run::run;
 use std::io::BufWriter;

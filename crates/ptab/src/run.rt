@@ -2,9 +2,12 @@
 
 ghost use Rattle.pt_sector.specs.Sectors.{IsSectorSize};
 
+use crate::apply::apply;
+use crate::check::check;
 use crate::edit::edit;
 use crate::file_disk::{Access, open};
 use crate::line::{Job, Line, LineError, SectorSize, read_line};
+use crate::plan::plan;
 use crate::show::print_layout;
 use crate::texts::{Failure, Status, print_finding};
 use pt_layout::{Path, Verdict, VerifyError, locate, parse_number, parse_path, recover, verify};
@@ -30,10 +33,7 @@ fn show<const B: usize, R: Files<File = File> + AllocGlobal, O: Write>(
 ) -> Answer
     requires { IsSectorSize B }
 {
-    let mut disk = match open::<R, B>(rt, image, Access::Read) {
-        Ok(disk) => disk,
-        Err(_) => return Err(Failure::Device),
-    };
+    let mut disk = open::<R, B>(rt, image, Access::Read)?;
     match recover::<B, _>(rt.alloc(), &mut disk) {
         Ok(layout) => printed(print_layout(out, &layout), Status::Done),
         Err(why) => Err(Failure::NoTable(why)),
@@ -47,10 +47,7 @@ fn verify_image<const B: usize, R: Files<File = File> + AllocGlobal, O: Write>(
 ) -> Answer
     requires { IsSectorSize B }
 {
-    let mut disk = match open::<R, B>(rt, image, Access::Read) {
-        Ok(disk) => disk,
-        Err(_) => return Err(Failure::Device),
-    };
+    let mut disk = open::<R, B>(rt, image, Access::Read)?;
     match verify::<B, _>(rt.alloc(), &mut disk) {
         Ok(Verdict::Yes(_)) => printed(writeln!(out, "yes"), Status::Done),
         Ok(Verdict::No(finding)) => printed(print_finding(out, &finding), Status::No),
@@ -78,10 +75,7 @@ fn locate_in<const B: usize, R: Files<File = File> + AllocGlobal, O: Write>(
 ) -> Answer
     requires { IsSectorSize B }
 {
-    let mut disk = match open::<R, B>(rt, image, Access::Read) {
-        Ok(disk) => disk,
-        Err(_) => return Err(Failure::Device),
-    };
+    let mut disk = open::<R, B>(rt, image, Access::Read)?;
     let layout = match recover::<B, _>(rt.alloc(), &mut disk) {
         Ok(layout) => layout,
         Err(why) => return Err(Failure::NoTable(why)),
@@ -112,6 +106,13 @@ fn answer<const B: usize, R: Files<File = File> + AllocGlobal, O: Write>(
             fresh,
             words,
         } => edit::<B, R, O>(rt, image.as_str(), fresh.as_ref(), words.as_slice(), out),
+        Job::Plan {
+            image,
+            fresh,
+            words,
+        } => plan::<B, R, O>(rt, image.as_str(), fresh.as_ref(), words.as_slice(), out),
+        Job::Check { image, file } => check::<B, R, O>(rt, image.as_str(), file.as_str(), out),
+        Job::Apply { image, file } => apply::<B, R, O>(rt, image.as_str(), file.as_str(), out),
     }
 }
 

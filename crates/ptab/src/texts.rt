@@ -1,8 +1,13 @@
 //! What the command answers: its texts and its exit statuses (docs/commands.md).
 
+use crate::file_disk::NoFile;
+use crate::why::number_of;
+use pt_check::CheckError;
 use pt_gpt::Side;
 use pt_layout::{Finding, NoTable, Path};
 use pt_mbr::ChainError;
+use pt_plan::CommitError;
+use std::alloc::AllocError;
 use std::io;
 use std::io::Write;
 
@@ -49,14 +54,14 @@ pub enum Failure {
     BadFresh,
     BadPath,
     BadNumber,
-    /// What the current version doesn't do.
-    NotYet,
     /// An edit was refused with this number.
     Edit(u8),
     /// A plan was refused with this number.
     Plan(u8),
     /// A plan was refused by the checker, with this number.
     Check(u8),
+    /// A text is no plan's: its first bad line, counted from 1; 0 where it is too long or no UTF-8.
+    PlanText(u64),
     NoTable(NoTable),
     Device,
     Memory,
@@ -71,9 +76,10 @@ impl Failure {
             | Failure::BadFresh
             | Failure::BadPath
             | Failure::BadNumber => Status::Usage,
-            Failure::NotYet | Failure::Edit(_) | Failure::Plan(_) | Failure::Check(_) => {
-                Status::Refused
-            }
+            Failure::Edit(_)
+            | Failure::Plan(_)
+            | Failure::Check(_)
+            | Failure::PlanText(_) => Status::Refused,
             Failure::NoTable(NoTable::Device(_)) | Failure::Device => Status::Device,
             Failure::NoTable(NoTable::Memory) | Failure::Memory => Status::Memory,
             Failure::NoTable(_) => Status::NoTable,
@@ -88,13 +94,47 @@ impl Failure {
             Failure::BadFresh => writeln!(err, "bad fresh"),
             Failure::BadPath => writeln!(err, "bad path"),
             Failure::BadNumber => writeln!(err, "bad number"),
-            Failure::NotYet => writeln!(err, "refused: not yet"),
             Failure::Edit(number) => writeln!(err, "refused: edit {number}"),
             Failure::Plan(number) => writeln!(err, "refused: plan {number}"),
             Failure::Check(number) => writeln!(err, "refused: check {number}"),
+            Failure::PlanText(line) => writeln!(err, "refused: plan text {line}"),
             Failure::NoTable(why) => print_no_table(err, *why),
             Failure::Device => writeln!(err, "device"),
             Failure::Memory => writeln!(err, "memory"),
+        }
+    }
+}
+
+impl From<NoFile> for Failure {
+    fn from(_no_file: NoFile) -> Failure {
+        Failure::Device
+    }
+}
+
+impl From<AllocError> for Failure {
+    fn from(_error: AllocError) -> Failure {
+        Failure::Memory
+    }
+}
+
+impl From<CheckError> for Failure {
+    fn from(error: CheckError) -> Failure {
+        match error {
+            CheckError::Device(_) => Failure::Device,
+            CheckError::Memory => Failure::Memory,
+        }
+    }
+}
+
+impl From<CommitError> for Failure {
+    fn from(error: CommitError) -> Failure {
+        match error {
+            CommitError::NoTable(why) => Failure::NoTable(why),
+            CommitError::Edit(why) => Failure::Edit(why.number()),
+            CommitError::Plan(why) => Failure::Plan(why.number()),
+            CommitError::Check(why) => Failure::Check(number_of(why)),
+            CommitError::Device(_) => Failure::Device,
+            CommitError::Memory => Failure::Memory,
         }
     }
 }

@@ -1,0 +1,11 @@
+use Rattle.std.proofs.Common.{ℕ, ◌<◌, ◌%◌, length, rules, ap, ◌∙◌, None}
+use Rattle.pt_mbr.specs.declared.ebr.Ebr.{Ebr}
+use Rattle.pt_chains.proofs.Links.{link_low}
+use Rattle.pt_chains.proofs.ebrs.link_for.Goals as goal
+
+pub returns : goal.returns
+returns c =
+    let z : Ebr = record { at = record { 0 = 0 }; logical = None; next = None } in
+    let some : 0 < length c.args.rest.now = search rules in
+    link_low c.args.first.0 c.args.rest.now z c.low_bits.result c.low_bits-2.result some
+    (c.low_bits.ensures ∙ ap (λ (n : ℕ). n % 4294967296) c.saturating_sub.ensures) (c.low_bits-2.ensures ∙ ap (λ (n : ℕ). n % 4294967296) c.reach_of.ensures)

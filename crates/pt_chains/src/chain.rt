@@ -1,0 +1,176 @@
+//! The targets of sector 0 and of a chain.
+
+ghost use Rattle.std.specs.Prelude.{◌≡◌, ◌<◌, ◌^◌, ◌↔◌, ◌⊎◌, ◌++◌, ◌∷◌, [], ℕ, List, All, Contains, IfOk, OnOk, IfSome, IfNone, IsTrue};
+ghost use Rattle.pt_sector.specs.Calls.{Blames};
+ghost use Rattle.pt_sector.specs.Reads.{OnlyReads, fault_of, read_of};
+ghost use Rattle.pt_sector.specs.Sectors.{IsSectorSize, sector};
+ghost use Rattle.pt_mbr.specs.Chain.{StandsAt};
+ghost use Rattle.pt_mbr.specs.declared.ebr.Ebr.{Ebr};
+ghost use Rattle.pt_recover.specs.Mbr.{extended_of};
+ghost use Rattle.pt_cases.specs.Records.{IsHeadTarget, IsEbrTarget, IsLinked, link_to};
+ghost use Rattle.pt_targets.specs.Targets.{AreMbrTargets};
+ghost use Rattle.pt_targets.specs.declared.target.Target.{Target};
+ghost use Rattle.pt_chains.specs.Steps.{IsHeadOf, IsEbrOf, AreChainTargets};
+ghost use Rattle.pt_chains.specs.Unmade.{HasUnmade, HasUnmadeEbr};
+
+use crate::ebrs::{ebr_made, ebr_over};
+use crate::extended::extended_first;
+use crate::head::head_target;
+use pt_mbr::{Ebr, Record};
+use pt_recover::Ebrs;
+use pt_sector::{Disk, FailedRead, Failure, Lba, read_sector};
+use pt_targets::{Kind, Target};
+use std::alloc::{AllocError, Global};
+
+// Whether one of them stands there.
+fn stands_at(chain: &[Ebr], at: Lba) -> bool
+    ensures { IsTrue result ↔ StandsAt at.0 chain.now }
+{
+    for k in 0..chain.len() {
+        if chain[k].at == at {
+            return true;
+        }
+    }
+    false
+}
+
+// The target of sector 0; none where no bytes would do.
+fn head_at<const B: usize, D: Disk<B>>(
+    disk: &mut D,
+    old: &[Option<Record>; 4],
+    new: &[Option<Record>; 4],
+) -> Result<Option<Target<B>>, FailedRead>
+    requires size { IsSectorSize B }
+    requires some { 0 < D.count disk.old }
+    ensures same { OnlyReads D.Disk disk.old disk.new }
+    ensures blames { Blames read_of result (D.faults disk.old) (D.faults disk.new) }
+    ensures place { IfOk result (λ o. IfSome o (λ t. t.at.0 ≡ 0)) }
+    ensures some { D.tells → IfOk result (λ o. IfSome o (λ t. IsHeadOf (D.told disk.old).seen old.now new.now t)) }
+    ensures none { D.tells → IfOk result (λ o. IfNone o ((v : List ℕ) → ¬ IsHeadTarget old.now new.now (sector (D.told disk.old).seen 0) v)) }
+{
+    let mut under = [0; B];
+    read_sector(disk, Lba(0), &mut under)?;
+    match head_target(&under, old, new) {
+        Some(bytes) => Ok(Some(Target {
+            at: Lba(0),
+            bytes,
+            under,
+            kind: Kind::Changes,
+        })),
+        None => Ok(None),
+    }
+}
+
+// The target of an extended boot record, with those behind it; none where no bytes would do.
+fn ebr_at<const B: usize, D: Disk<B>>(
+    disk: &mut D,
+    old: &[Ebr],
+    first: Lba,
+    ebr: &Ebr,
+    rest: &[Ebr],
+) -> Result<Option<Target<B>>, FailedRead>
+    requires size { IsSectorSize B }
+    requires small { first.0 < 2 ^ 63 }
+    requires within { ebr.now.at.0 < D.count disk.old }
+    ensures same { OnlyReads D.Disk disk.old disk.new }
+    ensures blames { Blames read_of result (D.faults disk.old) (D.faults disk.new) }
+    ensures place { IfOk result (λ o. IfSome o (λ t. t.at.0 ≡ ebr.now.at.0)) }
+    ensures some { D.tells → IfOk result (λ o. IfSome o (λ t. IsEbrOf (D.told disk.old).seen old.now first.0 ebr.now rest.now t)) }
+    ensures none { D.tells → IfOk result (λ o. IfNone o ((v : List ℕ) → ¬ IsEbrTarget B (D.told disk.old).seen old.now first.0 ebr.now (link_to first.0 rest.now) v)) }
+{
+    let mut under = [0; B];
+    read_sector(disk, ebr.at, &mut under)?;
+    let found = if stands_at(old, ebr.at) {
+        ebr_over(&under, first, ebr, rest)
+    } else {
+        ebr_made(first, ebr, rest)
+    };
+    match found {
+        Some(bytes) => Ok(Some(Target {
+            at: ebr.at,
+            bytes,
+            under,
+            kind: Kind::Changes,
+        })),
+        None => Ok(None),
+    }
+}
+
+fn push_target<const B: usize>(
+    targets: &mut Vec<Target<B>>,
+    target: Target<B>,
+) -> Result<(), AllocError>
+    ensures { OnOk result (targets.new.items ≡ targets.old.items ++ target.entry ∷ []) }
+{
+    targets.push(target)?;
+    Ok(())
+}
+
+// The target of sector 0, and behind it those of a chain in an extended partition from `first` on; none where no bytes
+// would do for one of these.
+fn chain_targets<const B: usize, D: Disk<B>>(
+    alloc: Global,
+    disk: &mut D,
+    head: Target<B>,
+    old: &[Ebr],
+    first: Lba,
+    chain: &[Ebr],
+) -> Result<Option<Vec<Target<B>>>, Failure>
+    requires size { IsSectorSize B }
+    requires small { first.0 < 2 ^ 63 }
+    requires within { All (λ e. e.at.0 < D.count disk.old) chain.now }
+    ensures same { OnlyReads D.Disk disk.old disk.new }
+    ensures blames { Blames fault_of result (D.faults disk.old) (D.faults disk.new) }
+    ensures place { IfOk result (λ o. IfSome o (λ ts. (t : Target B) → Contains ts.items t → (t.at.0 ≡ head.entry.at.0) ⊎ StandsAt t.at.0 chain.now)) }
+    ensures some { D.tells → IfOk result (λ o. IfSome o (λ ts. AreChainTargets (D.told disk.old).seen head.entry old.now first.0 chain.now ts.items)) }
+    ensures none { D.tells → IfOk result (λ o. IfNone o (HasUnmadeEbr B (D.told disk.old).seen old.now first.0 chain.now)) }
+{
+    let mut targets = Vec::new(alloc);
+    push_target(&mut targets, head)?;
+    for k in 0..chain.len() {
+        match ebr_at(disk, old, first, &chain[k], &chain[k + 1..])? {
+            Some(target) => push_target(&mut targets, target)?,
+            None => return Ok(None),
+        }
+    }
+    Ok(Some(targets))
+}
+
+/// What sector 0 and the extended boot records must hold for these records and this chain, on an MBR disk that has the
+/// old ones: first that of sector 0, then those of the chain in its order. None where no bytes would do for one of them.
+///
+/// A record that stays keeps its bytes, and one that becomes unused is zeros. A link is written anew where it would lead
+/// elsewhere from the wanted extended partition's first sector, with the low 32 bits of its start and of its size; what
+/// then doesn't read as wanted has no target. An extended boot record that isn't in the old chain stands over zeros,
+/// whatever its sector held. An `Err` is a failed read, or memory that was refused.
+pub fn mbr_targets<const B: usize, D: Disk<B>>(
+    alloc: Global,
+    disk: &mut D,
+    old_records: &[Option<Record>; 4],
+    old_chain: &Ebrs,
+    records: &[Option<Record>; 4],
+    chain: &Ebrs,
+) -> Result<Option<Vec<Target<B>>>, Failure>
+    requires size { IsSectorSize B }
+    requires linked { IsLinked (D.count disk.old) (extended_of records.now) chain.now }
+    requires some { 0 < D.count disk.old }
+    ensures same { OnlyReads D.Disk disk.old disk.new }
+    ensures blames { Blames fault_of result (D.faults disk.old) (D.faults disk.new) }
+    ensures in_range { IfOk result (λ o. IfSome o (λ ts. (t : Target B) → Contains ts.items t → t.at.0 < D.count disk.old)) }
+    ensures some { D.tells → IfOk result (λ o. IfSome o (λ ts. AreMbrTargets (D.told disk.old).seen old_records.now old_chain.now records.now chain.now ts.items)) }
+    ensures none { D.tells → IfOk result (λ o. IfNone o (HasUnmade B (D.told disk.old).seen old_records.now old_chain.now records.now chain.now)) }
+{
+    let head = match head_at(disk, old_records, records)? {
+        Some(head) => head,
+        None => return Ok(None),
+    };
+    let first = extended_first(records);
+    chain_targets(
+        alloc,
+        disk,
+        head,
+        old_chain.as_slice(),
+        first,
+        chain.as_slice(),
+    )
+}

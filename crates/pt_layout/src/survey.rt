@@ -1,0 +1,320 @@
+//! What one reading of a disk tells.
+
+ghost use Rattle.std.specs.Prelude.{◌≡◌, ◌<◌, ◌≤◌, ◌^◌, ◌↔◌, ℕ, IfOk, IfErr, OnOk, IsTrue, All, Some, Ok, Err, false};
+ghost use Rattle.pt_sector.specs.Calls.{Blames};
+ghost use Rattle.pt_sector.specs.Reads.{OnlyReads, FailedIn, fault_of};
+ghost use Rattle.pt_sector.specs.Sectors.{IsSectorSize};
+ghost use Rattle.pt_gpt.specs.Copy.{HasCopy};
+ghost use Rattle.pt_gpt.specs.declared.table.Side.TheVariants.{Primary, Backup};
+ghost use Rattle.pt_recover.specs.Denotes.{BodyIs, Denotes, Reads};
+ghost use Rattle.pt_recover.specs.Gpt.{HasRoom};
+ghost use Rattle.pt_recover.specs.Labels.{places_of, place_of, IsPlace};
+ghost use Rattle.pt_recover.specs.Mbr.{IsMbrDisk};
+ghost use Rattle.pt_recover.specs.Numbers.{Numbers};
+ghost use Rattle.pt_recover.specs.Spans.{IsIn};
+ghost use Rattle.pt_recover.specs.declared.layout.Body.TheVariants.{Gpt};
+ghost use Rattle.pt_layout.specs.Halves.{HalfIs, HalvesAre};
+ghost use Rattle.pt_layout.specs.Verdicts.{LayoutOf, PairIs, BrokenIs, ArePlaces, nothing_of};
+ghost use Rattle.pt_layout.specs.Healthy.{IsBodyWhole};
+ghost use Rattle.pt_layout.specs.Findings.{VerdictReads};
+ghost use Rattle.pt_layout.specs.Surveys.{HeadOf, FindingIs, IsSurvey};
+
+use crate::finding::Finding;
+use crate::foreign::first_foreign;
+use crate::halves::{Half, Halves, read_halves};
+use crate::health::{Head, read_head};
+use crate::path::Path;
+use crate::soundness::unsound;
+use pt_gpt::{Side, Table, array_sectors};
+use pt_recover::{Body, Layout, NoTable, Slice, Trace, label_places, read_labels, recover_traced};
+use pt_sector::{Disk, Failure};
+use std::alloc::{AllocError, Global};
+
+/// What one reading of a disk tells.
+#[derive(Drop)]
+pub struct Survey {
+    /// What sector 0 says of the disk: of one with no sectors `Unprotected`.
+    pub head: Head,
+    /// The layout that the disk denotes, or why it denotes nothing: never `Device` or `Memory`.
+    pub found: Result<Layout, NoTable>,
+    /// The first thing that is wrong with the disk, none where it is healthy.
+    pub finding: Option<Finding>,
+    /// Whether the primary copy of a GPT exists. On an MBR disk, and on one with no room for a GPT, it is false.
+    pub primary: bool,
+    /// The sectors that a plan may write in its switch alone: on an MBR disk all that recovery reads, on any other disk
+    /// the label places of the layout.
+    pub guarded: Trace,
+}
+
+// The survey of a disk that denotes nothing.
+fn nothing(head: Head, reason: NoTable, guarded: Trace) -> Survey
+    ensures { result ≡ nothing_of head reason guarded }
+{
+    Survey {
+        head,
+        found: Err(reason),
+        finding: Some(Finding::NoTable(reason)),
+        primary: false,
+        guarded,
+    }
+}
+
+// The first thing that is wrong with a disk that denotes a layout whose copies, if it has any, are whole.
+fn judge<const B: usize, D: Disk<B>>(
+    alloc: Global,
+    disk: &mut D,
+    layout: &Layout,
+) -> Result<Option<Finding>, Failure>
+    requires size { IsSectorSize B }
+    requires denotes { D.tells → Denotes B (D.told disk.old).seen (Some layout.now) }
+    requires whole { D.tells → IsBodyWhole B (D.told disk.old).seen layout.now.body }
+    ensures same { OnlyReads D.Disk disk.old disk.new }
+    ensures blames { Blames fault_of result (D.faults disk.old) (D.faults disk.new) }
+    ensures place { D.tells → IfErr result (FailedIn (Reads B (D.told disk.old).seen)) }
+    ensures ok { D.tells → IfOk result (λ f. FindingIs B (D.told disk.old).seen (Ok layout.now) f) }
+{
+    let _sectors = disk.sectors();
+    let broken = unsound::<B>(alloc, layout)?;
+    match broken {
+        Some(finding) => return Ok(Some(finding)),
+        None => {}
+    }
+    let foreign = first_foreign(alloc, disk, layout)?;
+    match foreign {
+        Some(path) => Ok(Some(Finding::ForeignLabel(path))),
+        None => Ok(None),
+    }
+}
+
+// The same, of a disk with this wrong with the copies, or nothing.
+fn judge_after<const B: usize, D: Disk<B>>(
+    alloc: Global,
+    disk: &mut D,
+    layout: &Layout,
+    broken: Option<Finding>,
+) -> Result<Option<Finding>, Failure>
+    requires size { IsSectorSize B }
+    requires denotes { D.tells → Denotes B (D.told disk.old).seen (Some layout.now) }
+    requires broken { D.tells → BrokenIs B (D.told disk.old).seen layout.now.body broken }
+    ensures same { OnlyReads D.Disk disk.old disk.new }
+    ensures blames { Blames fault_of result (D.faults disk.old) (D.faults disk.new) }
+    ensures place { D.tells → IfErr result (FailedIn (Reads B (D.told disk.old).seen)) }
+    ensures ok { D.tells → IfOk result (λ f. FindingIs B (D.told disk.old).seen (Ok layout.now) f) }
+{
+    match broken {
+        Some(finding) => Ok(Some(finding)),
+        None => judge(alloc, disk, layout),
+    }
+}
+
+// The label places of some slices.
+fn places_among(alloc: Global, slices: &[Slice]) -> Result<Trace, AllocError>
+    requires { All (λ p. place_of p < 2 ^ 64) slices.now }
+    ensures { IfOk result (ArePlaces slices.now) }
+{
+    let mut places = Trace::new(alloc);
+    for k in 0..slices.len() {
+        places.add_one(slices[k].first + 1)?;
+    }
+    Ok(places)
+}
+
+/// A layout with its label places.
+#[derive(Drop)]
+struct Placed {
+    layout: Layout,
+    places: Trace,
+}
+
+// The table's GPT with the disk's labels.
+fn with_labels<const B: usize, D: Disk<B>>(
+    alloc: Global,
+    disk: &mut D,
+    table: Table,
+) -> Result<Placed, Failure>
+    requires size { IsSectorSize B }
+    ensures same { OnlyReads D.Disk disk.old disk.new }
+    ensures blames { Blames fault_of result (D.faults disk.old) (D.faults disk.new) }
+    ensures place { D.tells → IfErr result (FailedIn (IsPlace (places_of B (D.count disk.old) (Gpt table)))) }
+    ensures body { IfOk result (λ p. p.layout.body ≡ Gpt table) }
+    ensures places { IfOk result (λ p. ArePlaces (places_of B (D.count disk.old) (Gpt table)) p.places) }
+    ensures ok { D.tells → IfOk result (λ p. LayoutOf B (D.told disk.old).seen table p.layout) }
+{
+    let sectors = disk.sectors();
+    let body = Body::Gpt(table);
+    let slices = label_places::<B>(alloc, sectors, &body)?;
+    let places = places_among(alloc, &slices)?;
+    let labels = read_labels(alloc, disk, &slices)?;
+    let layout = Layout {
+        sectors,
+        body,
+        labels,
+    };
+    Ok(Placed { layout, places })
+}
+
+// The first thing that is wrong with the two copies, and with sector 0.
+fn broken_pair(sectors: u64, head: Head, primary: &Half, backup: &Half) -> Option<Finding>
+    requires { 1 ≤ sectors }
+    ensures { PairIs sectors head primary.now backup.now result }
+{
+    if !primary.table.same(&backup.table) {
+        return Some(Finding::CopiesDiffer);
+    }
+    if primary.header.alternate != sectors - 1 {
+        return Some(Finding::Alternate(Side::Primary));
+    }
+    if backup.header.alternate != 1 {
+        return Some(Finding::Alternate(Side::Backup));
+    }
+    match head {
+        Head::Protected => None,
+        _ => Some(Finding::Protective),
+    }
+}
+
+// The survey of a GPT disk that denotes this table, with this wrong with the copies, or nothing.
+fn survey_table<const B: usize, D: Disk<B>>(
+    alloc: Global,
+    disk: &mut D,
+    head: Head,
+    table: Table,
+    primary: bool,
+    broken: Option<Finding>,
+) -> Result<Survey, Failure>
+    requires size { IsSectorSize B }
+    requires head { D.tells → HeadOf (D.told disk.old).seen head }
+    requires body { D.tells → BodyIs B (D.told disk.old).seen (Gpt table) }
+    requires primary { D.tells → IsTrue primary ↔ HasCopy B (D.told disk.old).seen Primary }
+    requires broken { D.tells → BrokenIs B (D.told disk.old).seen (Gpt table) broken }
+    ensures same { OnlyReads D.Disk disk.old disk.new }
+    ensures blames { Blames fault_of result (D.faults disk.old) (D.faults disk.new) }
+    ensures place { D.tells → IfErr result (FailedIn (VerdictReads B (D.told disk.old).seen)) }
+    ensures numbers { IfOk result (λ x. IfOk x.found Numbers) }
+    ensures ok { D.tells → IfOk result (IsSurvey B (D.told disk.old).seen) }
+{
+    let _sectors = disk.sectors();
+    let placed = with_labels(alloc, disk, table)?;
+    let finding = judge_after(alloc, disk, &placed.layout, broken)?;
+    Ok(Survey {
+        head,
+        found: Ok(placed.layout),
+        finding,
+        primary,
+        guarded: placed.places,
+    })
+}
+
+// The survey of a disk with room for a GPT that isn't an MBR disk.
+fn survey_halves<const B: usize, D: Disk<B>>(
+    alloc: Global,
+    disk: &mut D,
+    head: Head,
+    halves: Halves,
+) -> Result<Survey, Failure>
+    requires size { IsSectorSize B }
+    requires room { HasRoom B (D.count disk.old) }
+    requires head { D.tells → HeadOf (D.told disk.old).seen head }
+    requires plain { D.tells → ¬ IsMbrDisk (D.told disk.old).seen }
+    requires halves { D.tells → HalvesAre B (D.told disk.old).seen halves }
+    ensures same { OnlyReads D.Disk disk.old disk.new }
+    ensures blames { Blames fault_of result (D.faults disk.old) (D.faults disk.new) }
+    ensures place { D.tells → IfErr result (FailedIn (VerdictReads B (D.told disk.old).seen)) }
+    ensures numbers { IfOk result (λ x. IfOk x.found Numbers) }
+    ensures ok { D.tells → IfOk result (IsSurvey B (D.told disk.old).seen) }
+{
+    let sectors = disk.sectors();
+    match halves {
+        Halves::Both(primary, backup) => {
+            let broken = broken_pair(sectors, head, &primary, &backup);
+            survey_table(alloc, disk, head, primary.table, true, broken)
+        }
+        Halves::OnlyPrimary(primary, e) => {
+            let broken = Some(Finding::BackupCopy(e));
+            survey_table(alloc, disk, head, primary.table, true, broken)
+        }
+        Halves::OnlyBackup(e, backup) => {
+            let broken = Some(Finding::PrimaryCopy(e));
+            survey_table(alloc, disk, head, backup.table, false, broken)
+        }
+        Halves::Neither(e, f) => Ok(nothing(head, NoTable::NoCopy(e, f), Trace::new(alloc))),
+    }
+}
+
+// The survey of a disk that isn't an MBR disk.
+fn survey_gpt<const B: usize, D: Disk<B>>(
+    alloc: Global,
+    disk: &mut D,
+    head: Head,
+) -> Result<Survey, Failure>
+    requires size { IsSectorSize B }
+    requires head { D.tells → HeadOf (D.told disk.old).seen head }
+    requires plain { D.tells → ¬ IsMbrDisk (D.told disk.old).seen }
+    ensures same { OnlyReads D.Disk disk.old disk.new }
+    ensures blames { Blames fault_of result (D.faults disk.old) (D.faults disk.new) }
+    ensures place { D.tells → IfErr result (FailedIn (VerdictReads B (D.told disk.old).seen)) }
+    ensures numbers { IfOk result (λ x. IfOk x.found Numbers) }
+    ensures ok { D.tells → IfOk result (IsSurvey B (D.told disk.old).seen) }
+{
+    let sectors = disk.sectors();
+    if sectors < 2 * array_sectors::<B>() + 4 {
+        return Ok(nothing(head, NoTable::TooSmall, Trace::new(alloc)));
+    }
+    let halves = read_halves(alloc, disk)?;
+    survey_halves(alloc, disk, head, halves)
+}
+
+// The survey of an MBR disk.
+fn survey_mbr<const B: usize, D: Disk<B>>(alloc: Global, disk: &mut D) -> Result<Survey, Failure>
+    requires size { IsSectorSize B }
+    requires mbr { D.tells → IsMbrDisk (D.told disk.old).seen }
+    ensures same { OnlyReads D.Disk disk.old disk.new }
+    ensures blames { Blames fault_of result (D.faults disk.old) (D.faults disk.new) }
+    ensures place { D.tells → IfErr result (FailedIn (VerdictReads B (D.told disk.old).seen)) }
+    ensures numbers { IfOk result (λ x. IfOk x.found Numbers) }
+    ensures ok { D.tells → IfOk result (IsSurvey B (D.told disk.old).seen) }
+{
+    let _sectors = disk.sectors();
+    let (found, guarded) = recover_traced(alloc, disk);
+    match found {
+        Ok(layout) => {
+            let finding = judge(alloc, disk, &layout)?;
+            Ok(Survey {
+                head: Head::Mbr,
+                found: Ok(layout),
+                finding,
+                primary: false,
+                guarded,
+            })
+        }
+        Err(reason) => match reason.failure() {
+            Some(failure) => Err(failure),
+            None => Ok(nothing(Head::Mbr, reason, guarded)),
+        },
+    }
+}
+
+/// Reads a disk once, and tells all that it says of its layout and its health.
+///
+/// Of a disk that isn't an MBR disk it reads sector 0, the two sides of a GPT and the label places of its layout, once
+/// each; a layout with nothing else wrong has its label places read once more. Of an MBR disk it reads sector 0 twice.
+pub fn survey_disk<const B: usize, D: Disk<B>>(
+    alloc: Global,
+    disk: &mut D,
+) -> Result<Survey, Failure>
+    requires size { IsSectorSize B }
+    ensures same { OnlyReads D.Disk disk.old disk.new }
+    ensures blames { Blames fault_of result (D.faults disk.old) (D.faults disk.new) }
+    ensures place { D.tells → IfErr result (FailedIn (VerdictReads B (D.told disk.old).seen)) }
+    ensures numbers { IfOk result (λ x. IfOk x.found Numbers) }
+    ensures ok { D.tells → IfOk result (IsSurvey B (D.told disk.old).seen) }
+{
+    if disk.sectors() == 0 {
+        return Ok(nothing(Head::Unprotected, NoTable::TooSmall, Trace::new(alloc)));
+    }
+    let head = read_head(disk)?;
+    match head {
+        Head::Mbr => survey_mbr(alloc, disk),
+        _ => survey_gpt(alloc, disk, head),
+    }
+}

@@ -1,0 +1,100 @@
+//! From a disk and a wanted layout to the targets of its label places.
+
+ghost use Rattle.std.specs.Prelude.{◌≡◌, length, IfOk};
+ghost use Rattle.pt_sector.specs.Calls.{Blames};
+ghost use Rattle.pt_sector.specs.Reads.{OnlyReads, fault_of};
+ghost use Rattle.pt_sector.specs.Sectors.{IsSectorSize};
+ghost use Rattle.pt_recover.specs.Denotes.{Denotes};
+ghost use Rattle.pt_layout.specs.OnePath.{HasFour};
+ghost use Rattle.pt_places.specs.Answers.{PlacesAnswer};
+ghost use Rattle.pt_places.specs.Places.{OldAre, AnswerOf, AreWithin};
+
+use crate::answer::LabelTargets;
+use crate::place::Place;
+use crate::reading::read_places;
+use crate::spots::spots;
+use crate::targets::{first_left, targets};
+use pt_mbr::Record;
+use pt_recover::{Body, Layout, Slice, label_places};
+use pt_sector::{Disk, Failure};
+use std::alloc::{AllocError, Global};
+
+fn are_four(records: &[Option<Record>; 4])
+    ensures { length «records».now ≡ 4 }
+{
+    let _count = records.len();
+}
+
+// That an MBR has four records. Its type says so; contracts see a body without types.
+fn has_four(body: &Body)
+    ensures { HasFour body.now }
+{
+    match body {
+        Body::Mbr { records, .. } => are_four(records),
+        Body::Gpt(_) => {}
+    }
+}
+
+// The slices of the old layout that have a label place.
+fn old_places<const B: usize>(
+    alloc: Global,
+    sectors: u64,
+    old: &Option<Layout>,
+) -> Result<Vec<Slice>, AllocError>
+    requires { IsSectorSize B }
+    ensures { IfOk result (λ v. OldAre B sectors old.now v.items) }
+{
+    match old {
+        Some(layout) => label_places::<B>(alloc, sectors, &layout.body),
+        None => Ok(Vec::new(alloc)),
+    }
+}
+
+// The answer for places that were read.
+fn answer<const B: usize>(
+    alloc: Global,
+    places: &[Place<B>],
+    old: &[Slice],
+) -> Result<LabelTargets<B>, AllocError>
+    requires { IsSectorSize B }
+    ensures { IfOk result (AnswerOf old.now places.now) }
+{
+    if let Some(number) = first_left(places) {
+        return Ok(LabelTargets::Foreign(number));
+    }
+    let found = targets(alloc, places, old)?;
+    match found {
+        Some(targets) => Ok(LabelTargets::Targets(targets)),
+        None => Ok(LabelTargets::Unreadable),
+    }
+}
+
+/// What the label places of a wanted layout must hold, on a disk that denotes the old one. It reads each place once.
+///
+/// A failed read and a lack of memory are errors; all else is an answer.
+pub fn label_targets<const B: usize, D: Disk<B>>(
+    alloc: Global,
+    disk: &mut D,
+    old: &Option<Layout>,
+    wanted: &Layout,
+) -> Result<LabelTargets<B>, Failure>
+    requires size { IsSectorSize B }
+    requires sectors { wanted.now.sectors ≡ D.count disk.old }
+    requires old { D.tells → Denotes B (D.told disk.old).seen old.now }
+    ensures same { OnlyReads D.Disk disk.old disk.new }
+    ensures blames { Blames fault_of result (D.faults disk.old) (D.faults disk.new) }
+    ensures answer { D.tells → IfOk result (λ a. PlacesAnswer (D.told disk.old).seen old.now wanted.now a) }
+    ensures in_range { IfOk result (AreWithin (D.count disk.old)) }
+{
+    let sectors = disk.sectors();
+    has_four(&wanted.body);
+    let slices = label_places::<B>(alloc, sectors, &wanted.body)?;
+    let found = spots(alloc, &slices, wanted.labels.as_slice())?;
+    let Some(spots) = found else {
+        return Ok(LabelTargets::Misplaced);
+    };
+    let places = read_places(alloc, disk, &spots)?;
+    let old_slices = old_places::<B>(alloc, sectors, old)?;
+    let answer = answer(alloc, &places, &old_slices)?;
+    Ok(answer)
+}

@@ -1,0 +1,176 @@
+-- From the parts of a plan to the planner's answer.
+use Rattle.std.proofs.Common.{◌≡◌, ◌↔◌, ◌⊎◌, inl, inr, ℕ, zero, suc, ◌+◌, ◌*◌, ◌<◌, ◌≤◌, List, [], ◌∷◌, length, Bool, true, false, Option, Some, None, Result, Ok, Err, IfOk, IfErr, IsTrue, All, refl, sym, subst, arith}
+use Rattle.std.specs.Prelude.{Contains, get_or}
+use Rattle.pt_sector.specs.Sectors.{Sectors}
+use Rattle.pt_gpt.specs.Copy.{HasCopy}
+use Rattle.pt_gpt.specs.declared.table.Side.TheVariants.{Primary}
+use Rattle.pt_gpt.specs.declared.table.Table.{Table}
+use Rattle.pt_mbr.specs.declared.ebr.Ebr.{Ebr}
+use Rattle.pt_mbr.specs.declared.record.Record.{Record}
+use Rattle.pt_recover.specs.Denotes.{Denotes, BodyIs}
+use Rattle.pt_recover.specs.Laws.{denotes_one_lem}
+use Rattle.pt_recover.specs.Mbr.{extended_of, IsMbrDisk}
+use Rattle.pt_recover.specs.declared.layout.Body.{Body}
+use Rattle.pt_recover.specs.declared.layout.Body.TheVariants.{Mbr, Gpt}
+use Rattle.pt_recover.specs.declared.layout.Layout.{Layout}
+use Rattle.pt_layout.specs.Findings.{IsFinding, IsBodyBroken, IsLayoutFinding}
+use Rattle.pt_layout.specs.Healthy.{IsHealthy, IsBodyWhole}
+use Rattle.pt_layout.specs.Sound.{Sound}
+use Rattle.pt_layout.specs.Surveys.{HeadOf}
+use Rattle.pt_layout.specs.declared.finding.Finding.{Finding}
+use Rattle.pt_layout.specs.declared.finding.Finding.TheVariants as finding
+use Rattle.pt_layout.specs.declared.health.Head.{Head}
+use Rattle.pt_layout.specs.declared.health.Head.TheVariants as head
+use Rattle.pt_cases.specs.Cases.{ChangesLabels}
+use Rattle.pt_cases.specs.Causes.{MayBe, MayHave, WasMbr}
+use Rattle.pt_cases.specs.Copies.{FitsTable}
+use Rattle.pt_cases.specs.Records.{IsLinked}
+use Rattle.pt_places.specs.Answers.{LabelsFit, IsFirstLeft, HasUnreadable}
+use Rattle.pt_tables.specs.Starts.{OrderIs, HeadIs, CopiesStart}
+use Rattle.pt_tables.specs.declared.order.Order.{Order}
+use Rattle.pt_tables.specs.declared.order.Order.TheVariants.{BackupFirst, PrimaryFirst, FromMbr}
+use Rattle.pt_targets.specs.Causes.{HasNoTurn, HasNoCopies}
+use Rattle.pt_targets.specs.Starts.{Start, StopsBy}
+use Rattle.pt_targets.specs.Targets.{AreLabelTargets, AreMbrTargets}
+use Rattle.pt_targets.specs.declared.error.PlanError.{PlanError}
+use Rattle.pt_targets.specs.declared.error.PlanError.TheVariants.{NotOneSwitch, ReusedInOneBatch, NeedsRepair, Unsound, Device, Memory}
+use Rattle.pt_targets.specs.declared.target.Target.{Target}
+use Rattle.pt_turns.specs.Turns.{MbrStart, LabelStart, Unbroken}
+use Rattle.pt_planner.specs.Known.{WrongIs, IsKnown}
+use Rattle.pt_planner.specs.State.{IsBrokenBy, OrderOf, PlacesStop}
+use Rattle.pt_planner.specs.Unplanned.{NoSwitch, other_disk, misplaced, unreadable, unmade, turn, copies, Hindered, Unplanned, Stops}
+use Rattle.pt_planner.specs.declared.known.Known.{Known}
+
+pub ok_so : {A E : Type 0} (r : Result A E) (P Q : A → Type 0) → ((x : A) → P x → Q x) → IfOk r P → IfOk r Q
+ok_so (Ok x) P Q so is = so x is
+ok_so (Err e) P Q so is = tt
+
+pub err_so : {A E : Type 0} (r : Result A E) (P Q : E → Type 0) → ((e : E) → P e → Q e) → IfErr r P → IfErr r Q
+err_so (Ok x) P Q so is = tt
+err_so (Err e) P Q so is = so e is
+
+default_free : {X : Type 0} (xs : List X) (k : ℕ) (d e : X) → k < length xs → get_or xs k d ≡ get_or xs k e
+default_free [] k d e lt = absurd (omega (arith, lt))
+default_free (x ∷ xs) zero d e lt = refl
+default_free (x ∷ xs) (suc k) d e lt = default_free xs k d e (omega (arith, lt))
+
+pub all_of : {X : Type 0} (P : X → Type 0) (xs : List X) → ((x : X) → Contains xs x → P x) → All P xs
+all_of P xs each = λ k d lt. each (get_or xs k d) (k, lt, default_free xs k (get_or xs k d) d lt)
+
+pub isnt : {P : Type 0} (holds : Bool) → holds ≡ false → IsTrue holds ↔ P → ¬ P
+isnt holds low same is = absurd (let high : holds ≡ true = same.1 is in cc)
+
+-- what the parts answer, in the planner's words
+pub turn_hinders : (b : ℕ) (d : Sectors) (o : Option Layout) (p : Layout) (e : PlanError) → StopsBy b d o p (HasNoTurn b d o p) e → Hindered b d o p e
+turn_hinders b d o p NotOneSwitch is = turn is
+turn_hinders b d o p ReusedInOneBatch is = is
+turn_hinders b d o p NeedsRepair is = is
+turn_hinders b d o p Memory is = tt
+turn_hinders b d o p (Device fault) is = absurd is
+turn_hinders b d o p (Unsound f) is = absurd is
+
+pub copies_hinder : (b : ℕ) (d : Sectors) (o : Option Layout) (p : Layout) (e : PlanError) → StopsBy b d o p (HasNoCopies b d o p) e → Hindered b d o p e
+copies_hinder b d o p NotOneSwitch is = copies is
+copies_hinder b d o p ReusedInOneBatch is = is
+copies_hinder b d o p NeedsRepair is = is
+copies_hinder b d o p Memory is = tt
+copies_hinder b d o p (Device fault) is = absurd is
+copies_hinder b d o p (Unsound f) is = absurd is
+
+-- a disk with this old layout, on which only labels are to change: the finding tells whether the copies are whole
+module _ (b : ℕ) (d : Sectors) (o : Layout) (from : Denotes b d (Some o)) where
+  same_here : (q : Layout) → Denotes b d (Some q) → q ≡ o
+  same_here q is = let both : Some q ≡ Some o = denotes_one_lem b d (Some q) (Some o) is from in cc
+
+  broken_here : (f : Finding) (broken : Bool) → (q : Layout) × Denotes b d (Some q) × IsBodyBroken b d q.body f → broken ≡ true → Unbroken b d o broken
+  broken_here f broken (q, is, breaks) so = rw so (f, subst (λ (l : Layout). IsBodyBroken b d l.body f) (same_here q is) breaks)
+
+  whole_here : (L : Layout → Type 0) (broken : Bool) → ((q : Layout) → L q → IsBodyWhole b d q.body) → (q : Layout) × Denotes b d (Some q) × L q → broken ≡ false → Unbroken b d o broken
+  whole_here L broken whole (q, is, more) so = rw so (subst (λ (l : Layout). IsBodyWhole b d l.body) (same_here q is) (whole q more))
+
+  unbroken_by : (finding : Option Finding) (broken : Bool) → WrongIs b d (Some o) finding → IsBrokenBy finding broken → Unbroken b d o broken
+  unbroken_by None broken healthy so = rw so healthy.whole
+  unbroken_by (Some (finding.NoTable e)) broken is so = (let both : None ≡ Some o = denotes_one_lem b d None (Some o) is.0 from in absurd cc)
+  unbroken_by (Some (finding.PrimaryCopy e)) broken is so = broken_here (finding.PrimaryCopy e) broken is so
+  unbroken_by (Some (finding.BackupCopy e)) broken is so = broken_here (finding.BackupCopy e) broken is so
+  unbroken_by (Some finding.CopiesDiffer) broken is so = broken_here finding.CopiesDiffer broken is so
+  unbroken_by (Some (finding.Alternate side)) broken is so = broken_here (finding.Alternate side) broken is so
+  unbroken_by (Some finding.Protective) broken is so = broken_here finding.Protective broken is so
+  unbroken_by (Some (finding.OutsideUsable q)) broken is so = whole_here (λ l. IsLayoutFinding b d l (finding.OutsideUsable q)) broken (λ l more. more.0) is so
+  unbroken_by (Some (finding.Overlap q r)) broken is so = whole_here (λ l. IsLayoutFinding b d l (finding.Overlap q r)) broken (λ l more. more.0) is so
+  unbroken_by (Some (finding.OnTable q s)) broken is so = whole_here (λ l. IsLayoutFinding b d l (finding.OnTable q s)) broken (λ l more. more.0) is so
+  unbroken_by (Some (finding.SameGuid i j)) broken is so = whole_here (λ l. IsLayoutFinding b d l (finding.SameGuid i j)) broken (λ l more. more.0) is so
+  unbroken_by (Some (finding.ForeignLabel q)) broken is so = whole_here (λ l. IsLayoutFinding b d l (finding.ForeignLabel q)) broken (λ l more. more.0) is so
+
+pub label_start : {b : ℕ} (d : Sectors) (x : Known) (p : Layout) (t : Table) (broken : Bool) (places : List (Target b)) → IsKnown b d x → Start b d x.old p → p.body ≡ Gpt t → ChangesLabels x.old p
+    → IsBrokenBy x.finding broken → AreLabelTargets d x.old p places → LabelStart d x.old p broken places
+label_start {b = b} d x p t broken places known start body changes is are = record {
+  start = start;
+  table = t;
+  body = body;
+  changes = changes;
+  unbroken = unbroken_by b d changes.old (subst (Denotes b d) changes.is_old known.old) x.finding broken (subst (λ (o : Option Layout). WrongIs b d o x.finding) changes.is_old known.finding) is;
+  places = are;
+}
+
+order_by : (b : ℕ) (d : Sectors) (h : Head) (primary : Bool) (order : Order) → HeadOf d h → (¬ IsMbrDisk d → IsTrue primary ↔ HasCopy b d Primary) → OrderOf h primary order → OrderIs b d order
+order_by b d head.Mbr primary order is has so = rw so is
+order_by b d head.Protected true order is has so = rw so (is.0, (has is.0).0 refl)
+order_by b d head.Protected false order is has so = rw so (is.0, λ there. (let low : false ≡ true = (has is.0).1 there in absurd cc))
+order_by b d head.Unprotected true order is has so = rw so (is.0, (has is.0).0 refl)
+order_by b d head.Unprotected false order is has so = rw so (is.0, λ there. (let low : false ≡ true = (has is.0).1 there in absurd cc))
+
+pub copies_start : {b : ℕ} (d : Sectors) (x : Known) (p : Layout) (t : Table) (order : Order) (given : Option (List ℕ)) (places : List (Target b)) → IsKnown b d x → Start b d x.old p → p.body ≡ Gpt t
+    → FitsTable b (length d) t → ¬ ChangesLabels x.old p → OrderOf x.head x.primary order → HeadIs d given → AreLabelTargets d x.old p places → CopiesStart d x.old p t order x.guarded given places
+copies_start {b = b} d x p t order given places known start body fits other so head are = record {
+  start = start;
+  body = body;
+  fits = fits;
+  other = other;
+  order = order_by b d x.head x.primary order known.head (λ plain. known.primary plain fits.room) so;
+  head = head;
+  guards = known.guarded;
+  places = are;
+}
+
+pub mbr_start : {b : ℕ} (d : Sectors) (x : Known) (p old : Layout) (old_records records : List (Option Record)) (old_chain chain : List Ebr) (heads places : List (Target b)) → IsKnown b d x → Start b d x.old p
+    → x.old ≡ Some old → old.body ≡ Mbr old_records old_chain → p.body ≡ Mbr records chain → length records ≡ 4 → IsLinked (length d) (extended_of records) chain
+    → AreMbrTargets d old_records old_chain records chain heads → AreLabelTargets d x.old p places → MbrStart d x.old p x.guarded heads places
+mbr_start d x p old old_records records old_chain chain heads places known start is_old old_body body four linked are labels = record {
+  start = start;
+  was = record { old = old; records = old_records; chain = old_chain; is_old = is_old; body = old_body };
+  records = records;
+  chain = chain;
+  body = body;
+  four = four;
+  linked = linked;
+  guards = known.guarded;
+  heads = are;
+  places = labels;
+}
+
+-- the planner's answer, once the layout was found sound and not there yet
+module _ (b : ℕ) (d : Sectors) (o : Option Layout) (p : Layout) (from : Denotes b d o) (sound : Sound b p) (not_done : ¬ IsHealthy b d p) where
+  pub hindered : (e : PlanError) → Hindered b d o p e → Unplanned b d p e
+  hindered NotOneSwitch is = record { sound = sound; not_done = not_done; old = o; from = from; cause = is }
+  hindered ReusedInOneBatch is = record { sound = sound; not_done = not_done; old = o; from = from; cause = is }
+  hindered NeedsRepair is = record { sound = sound; not_done = not_done; old = o; from = from; cause = is }
+  hindered (Unsound f) is = absurd is
+  hindered (Device fault) is = tt
+  hindered Memory is = tt
+
+  pub no_places : (e : PlanError) → PlacesStop b d o p e → Unplanned b d p e
+  no_places NotOneSwitch (inl unfit) = record { sound = sound; not_done = not_done; old = o; from = from; cause = misplaced unfit }
+  no_places NotOneSwitch (inr none) = record { sound = sound; not_done = not_done; old = o; from = from; cause = unreadable none }
+  no_places ReusedInOneBatch is = absurd is
+  no_places NeedsRepair is = absurd is
+  no_places (Unsound f) is = inr (record { sound = sound; number = is.0; first = is.1; is = is.2 })
+  no_places (Device fault) is = tt
+  no_places Memory is = tt
+
+  pub none_of_disk : ¬ MayBe b d o p → Unplanned b d p NotOneSwitch
+  none_of_disk isnt = record { sound = sound; not_done = not_done; old = o; from = from; cause = other_disk isnt }
+
+-- a disk that denotes an MBR has a sector
+pub has_sectors : (b : ℕ) (d : Sectors) (o : Option Layout) (old : Layout) (records : List (Option Record)) (chain : List Ebr) → Denotes b d o → o ≡ Some old → old.body ≡ Mbr records chain → 0 < length d
+has_sectors b d o old records chain from is body = (subst (BodyIs b d) body (subst (Denotes b d) is from).1).0.0.0

@@ -1,0 +1,11 @@
+//! The planner: plans that lead from what a disk denotes to another layout.
+#![tactic(auto)]
+
+mod known;
+mod plans;
+mod planner;
+mod state;
+
+pub use known::{Known, read_known};
+pub use planner::{make_plan, plan_from};
+pub use pt_targets::PlanError;

@@ -1,0 +1,97 @@
+//! Plans that lead from what a disk denotes to another layout.
+
+ghost use Rattle.std.specs.Prelude.{◌≡◌, ◌⊎◌, ◌<◌, ◌≤◌, All, Some, length, OnOk, IfOk, IfErr};
+ghost use Rattle.pt_sector.specs.Calls.{Blames};
+ghost use Rattle.pt_sector.specs.Reads.{OnlyReads};
+ghost use Rattle.pt_sector.specs.Sectors.{IsSectorSize};
+ghost use Rattle.pt_apply.specs.Plans.{phases_of, InRange};
+ghost use Rattle.pt_layout.specs.Sound.{Sound};
+ghost use Rattle.pt_cases.specs.Cases.{IsPlan};
+ghost use Rattle.pt_targets.specs.Errors.{fault_in};
+ghost use Rattle.pt_planner.specs.Known.{IsKnown};
+ghost use Rattle.pt_planner.specs.State.{IsUnsoundBy};
+ghost use Rattle.pt_planner.specs.Unplanned.{Unplanned};
+
+use crate::known::{Known, read_known};
+use crate::plans::{places_of, to_gpt, to_mbr};
+use crate::state::{is_done, is_same, may_be};
+use pt_apply::Plan;
+use pt_layout::{Body, Layout, unsound};
+use pt_sector::Disk;
+use pt_targets::PlanError;
+use std::alloc::Global;
+
+/// That the layout is sound.
+fn be_sound<const B: usize>(alloc: Global, wanted: &Layout) -> Result<(), PlanError>
+    requires { IsSectorSize B }
+    ensures ok { OnOk result (Sound B wanted.now) }
+    ensures err { IfErr result (IsUnsoundBy B wanted.now) }
+{
+    let broken = unsound::<B>(alloc, wanted)?;
+    match broken {
+        Some(finding) => Err(PlanError::Unsound(finding)),
+        None => Ok(()),
+    }
+}
+
+/// The plan for a layout, by what is known of the disk.
+///
+/// See [`make_plan`].
+pub fn plan_from<const B: usize, D: Disk<B>>(
+    alloc: Global,
+    disk: &mut D,
+    known: &Known,
+    wanted: &Layout,
+) -> Result<Plan<B>, PlanError>
+    requires size { IsSectorSize B }
+    requires known { D.tells → IsKnown B (D.told disk.old).seen known.now }
+    ensures same { OnlyReads D.Disk disk.old disk.new }
+    ensures blames { Blames fault_in result (D.faults disk.old) (D.faults disk.new) }
+    ensures in_range { IfOk result (InRange (D.count disk.old)) }
+    ensures some { IfOk result (λ plan. All (λ p. 0 < length p.items) plan.phases.items) }
+    ensures plan { D.tells → IfOk result (λ plan. IsPlan B (D.told disk.old).seen wanted.now (phases_of plan)) }
+    ensures err { D.tells → IfErr result (Unplanned B (D.told disk.old).seen wanted.now) }
+{
+    be_sound::<B>(alloc, wanted)?;
+    if is_done::<B>(known, wanted) {
+        return Ok(Plan {
+            phases: Vec::new(alloc),
+        });
+    }
+    if !may_be::<B>(disk.sectors(), &known.old, wanted) {
+        return Err(PlanError::NotOneSwitch);
+    }
+    let places = places_of(alloc, disk, &known.old, wanted)?;
+    match &wanted.body {
+        Body::Mbr { records, chain } => {
+            to_mbr(alloc, disk, known, wanted, records, chain, places)
+        }
+        Body::Gpt(table) => to_gpt(alloc, disk, known, wanted, table, places),
+    }
+}
+
+/// A plan that makes the disk healthy with the wanted layout: without phases where it is so already.
+///
+/// Where a table is written (a GPT, whether its entries change or its copies need mending), a disk with a primary copy
+/// gets new labels and the backup copy first; then sector 1 is zeroed, with which the disk turns; then come the primary
+/// array and the primary header. A disk without a primary copy gets sector 1 zeroed, the primary array and new labels,
+/// the primary header, with which it turns, and the backup copy. An MBR disk gets both copies and new labels, and turns
+/// with sector 0. Sector 0 comes last where it isn't protective yet. Arrays are written whole, and the writes of a phase
+/// ascend. Where an MBR becomes another one, or labels alone change, the changed sectors that recovery doesn't read come
+/// first, and then the one that it reads, alone.
+pub fn make_plan<const B: usize, D: Disk<B>>(
+    alloc: Global,
+    disk: &mut D,
+    wanted: &Layout,
+) -> Result<Plan<B>, PlanError>
+    requires size { IsSectorSize B }
+    ensures same { OnlyReads D.Disk disk.old disk.new }
+    ensures blames { Blames fault_in result (D.faults disk.old) (D.faults disk.new) }
+    ensures in_range { IfOk result (InRange (D.count disk.old)) }
+    ensures some { IfOk result (λ plan. All (λ p. 0 < length p.items) plan.phases.items) }
+    ensures plan { D.tells → IfOk result (λ plan. IsPlan B (D.told disk.old).seen wanted.now (phases_of plan)) }
+    ensures err { D.tells → IfErr result (Unplanned B (D.told disk.old).seen wanted.now) }
+{
+    let (known, _reason) = read_known(alloc, disk)?;
+    plan_from(alloc, disk, &known, wanted)
+}

@@ -1,0 +1,172 @@
+//! The targets of a wanted layout, and the plan that they make.
+
+ghost use Rattle.std.specs.Prelude.{◌≡◌, ◌<◌, All, None, length, IfOk, IfErr};
+ghost use Rattle.pt_sector.specs.Calls.{Blames};
+ghost use Rattle.pt_sector.specs.Reads.{OnlyReads, read_of};
+ghost use Rattle.pt_sector.specs.Sectors.{IsSectorSize};
+ghost use Rattle.pt_apply.specs.Plans.{phases_of, InRange};
+ghost use Rattle.pt_recover.specs.declared.layout.Body.TheVariants.{Mbr, Gpt};
+ghost use Rattle.pt_recover.specs.Mbr.{extended_of};
+ghost use Rattle.pt_cases.specs.Cases.{IsPlan};
+ghost use Rattle.pt_cases.specs.Causes.{WasMbr};
+ghost use Rattle.pt_cases.specs.Copies.{FitsTable};
+ghost use Rattle.pt_cases.specs.Records.{IsLinked};
+ghost use Rattle.pt_tables.specs.Starts.{HeadIs};
+ghost use Rattle.pt_layout.specs.Surveys.{HeadOf};
+ghost use Rattle.pt_layout.specs.declared.health.Head.TheVariants as kind;
+ghost use Rattle.pt_recover.specs.Denotes.{Denotes};
+ghost use Rattle.pt_targets.specs.Errors.{fault_in};
+ghost use Rattle.pt_targets.specs.Starts.{Start};
+ghost use Rattle.pt_targets.specs.Targets.{AreLabelTargets};
+ghost use Rattle.pt_planner.specs.Known.{IsKnown};
+ghost use Rattle.pt_planner.specs.State.{PlacesStop};
+ghost use Rattle.pt_planner.specs.Unplanned.{Hindered};
+
+use crate::known::Known;
+use crate::state::{changes_labels, is_broken, order_of};
+use pt_apply::Plan;
+use pt_chains::mbr_targets;
+use pt_tables::{Setting, both_copies};
+use pt_gpt::Table;
+use pt_layout::{Body, Ebrs, Finding, Head, Layout, Path};
+use pt_mbr::Record;
+use pt_places::{LabelTargets, label_targets};
+use pt_sector::{Disk, FailedRead, Lba, Sector, read_sector};
+use pt_targets::{PlanError, Target};
+use pt_turns::{one_label, within_mbr};
+use std::alloc::Global;
+
+/// What the label places of the wanted layout must hold.
+pub(crate) fn places_of<const B: usize, D: Disk<B>>(
+    alloc: Global,
+    disk: &mut D,
+    old: &Option<Layout>,
+    wanted: &Layout,
+) -> Result<Vec<Target<B>>, PlanError>
+    requires size { IsSectorSize B }
+    requires sectors { wanted.now.sectors ≡ D.count disk.old }
+    requires old { D.tells → Denotes B (D.told disk.old).seen old.now }
+    ensures same { OnlyReads D.Disk disk.old disk.new }
+    ensures blames { Blames fault_in result (D.faults disk.old) (D.faults disk.new) }
+    ensures in_range { IfOk result (λ ts. All (λ t. t.at.0 < D.count disk.old) ts.items) }
+    ensures ok { D.tells → IfOk result (λ ts. AreLabelTargets (D.told disk.old).seen old.now wanted.now ts.items) }
+    ensures err { D.tells → IfErr result (PlacesStop B (D.told disk.old).seen old.now wanted.now) }
+{
+    let answer = label_targets(alloc, disk, old, wanted)?;
+    match answer {
+        LabelTargets::Targets(targets) => Ok(targets),
+        LabelTargets::Foreign(number) => {
+            Err(PlanError::Unsound(Finding::ForeignLabel(Path {
+                number,
+                letter: None,
+            })))
+        }
+        LabelTargets::Misplaced | LabelTargets::Unreadable => Err(PlanError::NotOneSwitch),
+    }
+}
+
+// That there are four. The type says so; contracts see a list.
+fn are_four(records: &[Option<Record>; 4])
+    ensures { length «records».now ≡ 4 }
+{
+    let _count = records.len();
+}
+
+/// The plan for an MBR, on an MBR disk.
+pub(crate) fn to_mbr<const B: usize, D: Disk<B>>(
+    alloc: Global,
+    disk: &mut D,
+    known: &Known,
+    wanted: &Layout,
+    records: &[Option<Record>; 4],
+    chain: &Ebrs,
+    places: Vec<Target<B>>,
+) -> Result<Plan<B>, PlanError>
+    requires size { IsSectorSize B }
+    requires body { wanted.now.body ≡ Mbr records.now chain.now }
+    requires linked { IsLinked (D.count disk.old) (extended_of records.now) chain.now }
+    requires in_range { All (λ t. t.at.0 < D.count disk.old) places.items }
+    requires known { D.tells → IsKnown B (D.told disk.old).seen known.now }
+    requires start { D.tells → Start B (D.told disk.old).seen known.now.old wanted.now }
+    requires places { D.tells → AreLabelTargets (D.told disk.old).seen known.now.old wanted.now places.items }
+    ensures same { OnlyReads D.Disk disk.old disk.new }
+    ensures blames { Blames fault_in result (D.faults disk.old) (D.faults disk.new) }
+    ensures in_range { IfOk result (InRange (D.count disk.old)) }
+    ensures some { IfOk result (λ plan. All (λ p. 0 < length p.items) plan.phases.items) }
+    ensures plan { D.tells → IfOk result (λ plan. IsPlan B (D.told disk.old).seen wanted.now (phases_of plan)) }
+    ensures err { D.tells → WasMbr known.now.old → IfErr result (Hindered B (D.told disk.old).seen known.now.old wanted.now) }
+{
+    let layout = match &known.old {
+        Some(layout) => layout,
+        None => return Err(PlanError::NotOneSwitch),
+    };
+    let (old_records, old_chain) = match &layout.body {
+        Body::Mbr { records, chain } => (records, chain),
+        Body::Gpt(_) => return Err(PlanError::NotOneSwitch),
+    };
+    are_four(records);
+    if disk.sectors() == 0 {
+        return Err(PlanError::NotOneSwitch);
+    }
+    let heads = match mbr_targets(alloc, disk, old_records, old_chain, records, chain)? {
+        Some(heads) => heads,
+        None => return Err(PlanError::NotOneSwitch),
+    };
+    within_mbr(alloc, &known.old, &known.guarded, heads, places)
+}
+
+/// Sector 0, where both copies of a table are to be written and it may have to be written with them.
+fn head_of<const B: usize, D: Disk<B>>(
+    disk: &mut D,
+    head: Head,
+) -> Result<Option<Sector<B>>, FailedRead>
+    requires some { 0 < D.count disk.old }
+    requires head { D.tells → HeadOf (D.told disk.old).seen head }
+    ensures same { OnlyReads D.Disk disk.old disk.new }
+    ensures blames { Blames read_of result (D.faults disk.old) (D.faults disk.new) }
+    ensures given { head ≡ kind.Mbr → IfOk result (λ bytes. ¬ (bytes ≡ None)) }
+    ensures ok { D.tells → IfOk result (HeadIs (D.told disk.old).seen) }
+{
+    if head == Head::Protected {
+        return Ok(None);
+    }
+    let mut bytes = [0; B];
+    read_sector(disk, Lba(0), &mut bytes)?;
+    Ok(Some(bytes))
+}
+
+/// The plan for a GPT.
+pub(crate) fn to_gpt<const B: usize, D: Disk<B>>(
+    alloc: Global,
+    disk: &mut D,
+    known: &Known,
+    wanted: &Layout,
+    table: &Table,
+    places: Vec<Target<B>>,
+) -> Result<Plan<B>, PlanError>
+    requires size { IsSectorSize B }
+    requires body { wanted.now.body ≡ Gpt table.now }
+    requires fits { FitsTable B (D.count disk.old) table.now }
+    requires in_range { All (λ t. t.at.0 < D.count disk.old) places.items }
+    requires known { D.tells → IsKnown B (D.told disk.old).seen known.now }
+    requires start { D.tells → Start B (D.told disk.old).seen known.now.old wanted.now }
+    requires places { D.tells → AreLabelTargets (D.told disk.old).seen known.now.old wanted.now places.items }
+    ensures same { OnlyReads D.Disk disk.old disk.new }
+    ensures blames { Blames fault_in result (D.faults disk.old) (D.faults disk.new) }
+    ensures in_range { IfOk result (InRange (D.count disk.old)) }
+    ensures some { IfOk result (λ plan. All (λ p. 0 < length p.items) plan.phases.items) }
+    ensures plan { D.tells → IfOk result (λ plan. IsPlan B (D.told disk.old).seen wanted.now (phases_of plan)) }
+    ensures err { D.tells → IfErr result (Hindered B (D.told disk.old).seen known.now.old wanted.now) }
+{
+    if changes_labels(&known.old, wanted) {
+        return one_label(alloc, &known.old, is_broken(&known.finding), places);
+    }
+    let head = head_of(disk, known.head)?;
+    let setting = Setting {
+        sectors: disk.sectors(),
+        old: &known.old,
+        guarded: &known.guarded,
+        head,
+    };
+    both_copies(alloc, order_of(known.head, known.primary), &setting, table, places)
+}

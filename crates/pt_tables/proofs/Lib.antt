@@ -1,0 +1,4 @@
+pub mod Labels
+pub mod Plans
+pub mod Shapes
+pub mod Touching

@@ -1,0 +1,54 @@
+//! The words of an edit, and the fresh GUIDs that they take.
+
+use crate::texts::Failure;
+use pt_edit::{Edit, EditError, parse_edit};
+use pt_guid::{Guid, fresh as fresh_guid};
+use std::alloc::Global;
+
+/// How many hexadecimal digits a fresh GUID takes.
+const DIGITS: usize = 32;
+
+/// The GUIDs of groups of 32 hexadecimal digits, none where there is no text.
+pub fn fresh_guids(alloc: Global, text: Option<&String>) -> Result<Vec<Guid>, Failure> {
+    let text = match text {
+        Some(text) => text.as_str(),
+        None => return Ok(Vec::new(alloc)),
+    };
+    if text.len() % DIGITS != 0 {
+        return Err(Failure::BadFresh);
+    }
+    let mut guids = Vec::new(alloc);
+    for group in text.as_bytes().chunks(DIGITS) {
+        let mut drawn = [0; 16];
+        if hex::decode_to_slice(group, &mut drawn).is_err() {
+            return Err(Failure::BadFresh);
+        }
+        if guids.push(fresh_guid(drawn)).is_err() {
+            return Err(Failure::Memory);
+        }
+    }
+    Ok(guids)
+}
+
+fn bad_word(alloc: Global, word: &str) -> Failure {
+    match String::from_str(alloc, word) {
+        Ok(text) => Failure::BadWord(text),
+        Err(_) => Failure::Memory,
+    }
+}
+
+/// The edits of words, or the first word that is none.
+pub fn edits_of(alloc: Global, words: &[String]) -> Result<Vec<Edit>, Failure> {
+    let mut edits = Vec::new(alloc);
+    for word in words {
+        let edit = match parse_edit(alloc, word.as_str()) {
+            Ok(edit) => edit,
+            Err(EditError::Memory) => return Err(Failure::Memory),
+            Err(_) => return Err(bad_word(alloc, word.as_str())),
+        };
+        if edits.push(edit).is_err() {
+            return Err(Failure::Memory);
+        }
+    }
+    Ok(edits)
+}
