@@ -15,8 +15,7 @@ use Rattle.pt_apply.specs.Promises.{Keeps}
 use Rattle.pt_recover.specs.declared.error.NoTable.{NoTable as Reason}
 use Rattle.pt_recover.specs.declared.layout.Layout.{Layout}
 use Rattle.pt_words.specs.declared.error.Refusal.{Refusal}
-use Rattle.pt_check.specs.declared.answer.Answer.{Answer}
-use Rattle.pt_plan.specs.declared.error.PlanError.{PlanError}
+use Rattle.pt_targets.specs.declared.error.PlanError.{PlanError}
 use Rattle.pt_plan.specs.declared.error.CommitError.{CommitError}
 use Rattle.pt_plan.specs.declared.error.CommitError.TheVariants.{NoTable, Edit, Plan, Check, Device, Memory}
 use Rattle.pt_plan.specs.Calls.{settled_leaves}
@@ -52,18 +51,17 @@ met_read Memory old new one came = tt
 
 module _ {W : Type 0} (denotes : Sectors → Option Layout → Type 0) (reason : Sectors → Reason → Type 0) (makes : W → Type 0)
     (edited : Option Layout → W → Result Layout Refusal → Type 0) (plans : Sectors → Layout → List Writes → Type 0)
-    (unplanned : Sectors → Layout → PlanError → Type 0) (answers : Sectors → List Writes → Answer → Type 0)
-    (healthy : Sectors → Type 0) (table owned : Option Layout → ℕ → Type 0) (words : W) where
+    (unplanned : Sectors → Layout → PlanError → Type 0) (healthy : Sectors → Type 0) (table owned : Option Layout → ℕ → Type 0) (words : W) where
   Says : Result Unit (CommitError) → Told → Told → Type 0
-  Says result old new = Committed denotes reason makes edited plans unplanned answers healthy table owned words result old new
+  Says result old new = Committed denotes reason makes edited plans unplanned healthy table owned words result old new
 
-  pub at_failed_flush : (fault : Fault) (old new : Told) → fault ≡ Flush → FailedFlush old new → Committed denotes reason makes edited plans unplanned answers healthy table owned words (Err (Device fault)) old new
+  pub at_failed_flush : (fault : Fault) (old new : Told) → fault ≡ Flush → FailedFlush old new → Committed denotes reason makes edited plans unplanned healthy table owned words (Err (Device fault)) old new
   at_failed_flush fault old new is failed = record {
     history = record {
       any_moment = λ o calls start. leaves_once old new _ failed.time (λ c may. inl (failed_flush_leaves old new failed c may));
       at_return = λ o calls start c may. has_either denotes edited words calls o c (start c (failed_flush_leaves old new failed c may));
     };
-    ends = subst (λ (f : Fault). EndsBy denotes reason makes edited plans unplanned answers healthy table owned words f old new) (sym is) (inl failed);
+    ends = subst (λ (f : Fault). EndsBy denotes reason makes edited plans unplanned healthy table owned words f old new) (sym is) (inl failed);
     bounds = leaves_once old new _ failed.time (λ c may. inl (failed_flush_leaves old new failed c may));
   }
 
@@ -75,21 +73,21 @@ module _ {W : Type 0} (denotes : Sectors → Option Layout → Type 0) (reason :
   has_refused (Device fault) calls o c has = has_either denotes edited words calls o c has
   has_refused Memory calls o c has = has_unchanged denotes edited calls o c has
 
-  ends_met : (fault : Fault) (old new : Told) → IsReadIn (λ s. Unit {0}) fault → Flushed old new → EndsBy denotes reason makes edited plans unplanned answers healthy table owned words fault old new
+  ends_met : (fault : Fault) (old new : Told) → IsReadIn (λ s. Unit {0}) fault → Flushed old new → EndsBy denotes reason makes edited plans unplanned healthy table owned words fault old new
   ends_met (Read at) old new read flushed = flushed
   ends_met (Write at) old new read flushed = absurd read
   ends_met Flush old new read flushed = absurd read
 
-  ends_writing : (fault : Fault) (old new : Told) → FailedWriting denotes reason makes edited plans unplanned answers healthy table owned words old new fault → EndsBy denotes reason makes edited plans unplanned answers healthy table owned words fault old new
+  ends_writing : (fault : Fault) (old new : Told) → FailedWriting denotes reason makes edited plans unplanned healthy table owned words old new fault → EndsBy denotes reason makes edited plans unplanned healthy table owned words fault old new
   ends_writing (Read at) old new writing = absurd (reads_nothing (slice_index_or writing.phases writing.failed.phase []) writing.failed.call at writing.failed.is)
   ends_writing (Write at) old new writing = writing
   ends_writing Flush old new writing = inr writing
 
-  ends_refused : (e : CommitError) (old mid new : Told) → mid.seen ≡ old.seen → MetRead e → Flushed old new → Refuses denotes reason makes edited plans unplanned answers healthy table owned words mid.seen e → Ends denotes reason makes edited plans unplanned answers healthy table owned words (Err e) old new
+  ends_refused : (e : CommitError) (old mid new : Told) → mid.seen ≡ old.seen → MetRead e → Flushed old new → Refuses denotes reason makes edited plans unplanned healthy table owned words mid.seen e → Ends denotes reason makes edited plans unplanned healthy table owned words (Err e) old new
   ends_refused (NoTable e) old mid new a read is why = (is, rw a at why)
   ends_refused (Edit r) old mid new a read is why = (is, rw a at why)
   ends_refused (Plan e) old mid new a read is why = (is, rw a at why)
-  ends_refused (Check w) old mid new a read is why = (is, rw a at why)
+  ends_refused (Check w) old mid new a read is why = absurd why
   ends_refused (Device fault) old mid new a read is why = ends_met fault old new read is
   ends_refused Memory old mid new a read is why = (is, tt)
 
@@ -100,7 +98,7 @@ module _ {W : Type 0} (denotes : Sectors → Option Layout → Type 0) (reason :
     pub so_far : (P : Sectors → Type 0) → LeavesOnly old now P
     so_far P = rw same (leaves_once old mid P flush.time (λ c may. inl (flush_leaves old mid seen flush c may)))
 
-    pub at_refused : (e : CommitError) → MetRead e → Refuses denotes reason makes edited plans unplanned answers healthy table owned words mid.seen e → Committed denotes reason makes edited plans unplanned answers healthy table owned words (Err e) old now
+    pub at_refused : (e : CommitError) → MetRead e → Refuses denotes reason makes edited plans unplanned healthy table owned words mid.seen e → Committed denotes reason makes edited plans unplanned healthy table owned words (Err e) old now
     at_refused e read why = record {
       history = record {
         any_moment = λ o calls start. so_far _;
@@ -111,13 +109,13 @@ module _ {W : Type 0} (denotes : Sectors → Option Layout → Type 0) (reason :
     }
 
     module _ (one : (d : Sectors) (o p : Option Layout) → denotes d o → denotes d p → o ≡ p)
-        (phases : List Writes) (ready : Ready denotes reason makes edited plans unplanned answers healthy table owned words mid.seen phases) (new : Told)
+        (phases : List Writes) (ready : Ready denotes reason makes edited plans unplanned healthy table owned words mid.seen phases) (new : Told)
         (run : LeavesOnly now new (StoppedSomewhere phases now.seen)) where
       at_seen : now.seen ≡ old.seen
       at_seen = (ap (λ (x : Told). x.seen) same) ∙ flush.seen
 
-      leads : Leads denotes reason makes edited plans unplanned answers healthy table owned words old.seen ready.old ready.new
-      leads = subst (λ (d : Sectors). Leads denotes reason makes edited plans unplanned answers healthy table owned words d ready.old ready.new) flush.seen ready.leads
+      leads : Leads denotes reason makes edited plans unplanned healthy table owned words old.seen ready.old ready.new
+      leads = subst (λ (d : Sectors). Leads denotes reason makes edited plans unplanned healthy table owned words d ready.old ready.new) flush.seen ready.leads
 
       stopped_at : (c : Sectors) → StoppedSomewhere phases now.seen c → StoppedSomewhere phases mid.seen c
       stopped_at c stopped = subst (λ (d : Sectors). StoppedSomewhere phases d c) (ap (λ (x : Told). x.seen) same) stopped
@@ -135,7 +133,7 @@ module _ {W : Type 0} (denotes : Sectors → Option Layout → Type 0) (reason :
           (has_new denotes edited one words calls o ready.old ready.new old.seen c leads.from leads.to (start old.seen seen))
           (stopped_means c stopped)
 
-      stopped_bounded : (c : Sectors) → StoppedSomewhere phases now.seen c → Bounded denotes reason makes edited plans unplanned answers healthy table owned words old.seen c
+      stopped_bounded : (c : Sectors) → StoppedSomewhere phases now.seen c → Bounded denotes reason makes edited plans unplanned healthy table owned words old.seen c
       stopped_bounded c stopped =
           let at : StoppedSomewhere phases mid.seen c = stopped_at c stopped in (
             ready.old,
@@ -151,11 +149,11 @@ module _ {W : Type 0} (denotes : Sectors → Option Layout → Type 0) (reason :
           (so_far _)
           (leaves_weaker now new _ _ (stopped_has o calls start) run)
 
-      bounded : LeavesOnly old new (Bounded denotes reason makes edited plans unplanned answers healthy table owned words old.seen)
+      bounded : LeavesOnly old new (Bounded denotes reason makes edited plans unplanned healthy table owned words old.seen)
       bounded = leaves_through old now new _ (so_far _) (leaves_weaker now new _ _ stopped_bounded run)
 
       pub at_failed : (fault : Fault) → FailedIn phases now.seen now new fault
-          → Committed denotes reason makes edited plans unplanned answers healthy table owned words (Err (Device fault)) old new
+          → Committed denotes reason makes edited plans unplanned healthy table owned words (Err (Device fault)) old new
       at_failed fault failed = record {
         history = record {
           any_moment = moments;
@@ -174,7 +172,7 @@ module _ {W : Type 0} (denotes : Sectors → Option Layout → Type 0) (reason :
         bounds = bounded;
       }
 
-      pub at_done : Settled new (after phases now.seen) → Committed denotes reason makes edited plans unplanned answers healthy table owned words (Ok tt) old new
+      pub at_done : Settled new (after phases now.seen) → Committed denotes reason makes edited plans unplanned healthy table owned words (Ok tt) old new
       at_done settled =
           let finished : Settled new (after phases mid.seen) = subst (λ (d : Sectors). Settled new (after phases d)) (ap (λ (x : Told). x.seen) same) settled in
           record {

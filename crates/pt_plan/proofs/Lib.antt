@@ -1,7 +1,3 @@
 pub mod Histories
 pub mod Exits
 pub mod Starting
-pub mod Assembling
-pub mod Surveying
-pub mod Planned
-pub mod Finishing

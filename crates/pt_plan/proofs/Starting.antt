@@ -1,14 +1,19 @@
 -- The steps before a commit's first write.
-use Rattle.std.proofs.Common.{◌≡◌, ◌∙◌, ℕ, zero, suc, ◌+◌, ◌<◌, List, [], ◌∷◌, length, drop, get_or, Option, Some, None, Ok, Err, refl, sym, ap, subst, arith, add-one}
-use Rattle.pt_sector.specs.Sectors.{Sectors}
+use Rattle.std.proofs.Common.{◌≡◌, ◌∙◌, ℕ, zero, suc, ◌+◌, ◌<◌, List, [], ◌∷◌, length, drop, get_or, Option, Some, None, Ok, Err, Bool, true, false, IsTrue, ◌↔◌, refl, sym, ap, subst, arith, add-one}
+use Rattle.pt_sector.specs.Sectors.{Sectors, IsSectorSize}
 use Rattle.pt_sector.specs.Writes.{Writes, after}
-use Rattle.pt_recover.specs.Answers.{IsReason}
+use Rattle.pt_recover.specs.Answers.{IsReason, failure_in}
+use Rattle.pt_recover.specs.declared.error.NoTable.{NoTable as NoTableReason}
+use Rattle.pt_recover.specs.declared.error.NoTable.TheVariants as reason
 use Rattle.pt_layout.specs.Healthy.{Healthy}
-use Rattle.pt_check.specs.Answers.{Answers, TableOf, OwnedOf}
-use Rattle.pt_plan.specs.Batches.{Batch, Makes, EditedBy, IsReady, IsRefusal}
+use Rattle.pt_check.specs.Answers.{TableOf, OwnedOf}
+use Rattle.pt_cases.specs.Accepted.{plan_finishes, plan_not_refused}
+use Rattle.pt_cases.specs.Cases.{IsPlan}
+use Rattle.pt_planner.specs.Known.{ReasonIs}
+use Rattle.pt_planner.specs.Unplanned.{Unplanned}
+use Rattle.pt_plan.specs.Batches.{Batch, Makes, EditedBy, IsPlanned, IsReady, IsRefusal}
 use Rattle.pt_plan.specs.Commits.{Leads}
-use Rattle.pt_plan.specs.Plans.{IsPlan, Unplanned}
-use Rattle.pt_plan.specs.Steps.{sectors_in, StartsFrom, NotEdited, NotPlanned, IsSafe, NotSafe}
+use Rattle.pt_plan.specs.Steps.{sectors_in, StartsFrom, NoStart, NotEdited, NotPlanned, IsSafe, NotSafe}
 use Rattle.pt_plan.specs.declared.error.CommitError.{CommitError}
 use Rattle.pt_plan.specs.declared.error.CommitError.TheVariants.{NoTable, Edit, Plan, Check, Device, Memory}
 use Rattle.pt_recover.specs.Denotes.{Denotes}
@@ -38,7 +43,7 @@ module _ (b n : ℕ) (batch : Batch) (d : Sectors) (sized : length d ≡ n) (o :
   not_edited Memory is = tt
 
   module _ (l : Layout) (to : EditedBy b (sectors_in o m) o batch (Ok l)) where
-    leads : Leads (Denotes b) (IsReason b) Makes (EditedBy b n) (IsPlan b) (Unplanned b) (Answers b) (Healthy b) (TableOf b) (OwnedOf b) batch d o l
+    leads : Leads (Denotes b) (IsReason b) Makes (EditedBy b n) (IsPlan b) (Unplanned b) (Healthy b) (TableOf b) (OwnedOf b) batch d o l
     leads = record { from = starts.from; may = starts.may; to = subst (λ (k : ℕ). EditedBy b k o batch (Ok l)) here to }
 
     pub not_planned : (e : CommitError) → NotPlanned b d l e → IsRefusal b n batch d e
@@ -49,13 +54,46 @@ module _ (b n : ℕ) (batch : Batch) (d : Sectors) (sized : length d ≡ n) (o :
     not_planned (Device fault) is = tt
     not_planned Memory is = tt
 
-    pub not_safe : (phases : List Writes) → IsPlan b d l phases → (e : CommitError) → NotSafe b d phases e → IsRefusal b n batch d e
-    not_safe phases planned (NoTable e) none = absurd none
-    not_safe phases planned (Edit r) none = absurd none
-    not_safe phases planned (Plan e) none = absurd none
-    not_safe phases planned (Check why) is = (o, l, leads, record { phases = phases; planned = planned; because = is })
-    not_safe phases planned (Device fault) is = tt
-    not_safe phases planned Memory is = tt
+    pub planned : (phases : List Writes) → IsPlan b d l phases → IsPlanned b n batch d phases
+    planned phases is = record { old = o; new = l; leads = leads; planned = is }
 
-    pub ready : (phases : List Writes) → Denotes b (after phases d) (Some l) → IsSafe b d phases → IsReady b n batch d phases
-    ready phases finished is = record { old = o; new = l; leads = leads; finished = finished; switch = is.switch; safe = is.safe }
+-- a plan is never refused by the checker
+pub not_safe : (b n : ℕ) (batch : Batch) (d : Sectors) (phases : List Writes) → IsSectorSize b → IsPlanned b n batch d phases → (e : CommitError) → NotSafe b d phases e → IsRefusal b n batch d e
+not_safe b n batch d phases size is (NoTable e) none = absurd none
+not_safe b n batch d phases size is (Edit r) none = absurd none
+not_safe b n batch d phases size is (Plan e) none = absurd none
+not_safe b n batch d phases size is (Check why) against = absurd (plan_not_refused b d is.new phases why size is.planned against)
+not_safe b n batch d phases size is (Device fault) failed = tt
+not_safe b n batch d phases size is Memory failed = tt
+
+pub ready : (b n : ℕ) (batch : Batch) (d : Sectors) (phases : List Writes) → IsSectorSize b → IsPlanned b n batch d phases → IsSafe b d phases → IsReady b n batch d phases
+ready b n batch d phases size is safe = record {
+  old = is.old;
+  new = is.new;
+  leads = is.leads;
+  planned = is.planned;
+  finished = (plan_finishes b d is.new phases size is.planned).denotes;
+  switch = safe.switch;
+  safe = safe.safe;
+}
+
+pub never : (x : Bool) (X : Type 0) → x ≡ false → (IsTrue x ↔ X) → X → ⊥
+never true X is both holds = absurd cc
+never false X is both holds = let yes : IsTrue false = both.1 holds in absurd cc
+
+-- a disk that denotes nothing
+pub no_start : (b : ℕ) (batch : Batch) (d : Sectors) (o : Option Layout) (r : NoTableReason) → Denotes b d o → ReasonIs b d o (Some r) → (Makes batch → ⊥) → NoStart b batch d (NoTable r)
+no_start b batch d None r from reason never = (from, reason, never)
+no_start b batch d (Some l) r from reason never = absurd reason
+
+-- its reason is no failure
+pub reason_inside : (b : ℕ) (d : Sectors) (o : Option Layout) (r : NoTableReason) → ReasonIs b d o (Some r) → failure_in r ≡ None
+reason_inside b d (Some l) r reason = absurd reason
+reason_inside b d None (reason.Device at) reason = absurd reason
+reason_inside b d None reason.Memory reason = absurd reason
+reason_inside b d None _ reason = refl
+
+-- a disk that denotes a layout
+pub some_start : (b : ℕ) (batch : Batch) (d : Sectors) (o : Option Layout) → Denotes b d o → ReasonIs b d o None → StartsFrom b batch d o
+some_start b batch d None from reason = absurd reason
+some_start b batch d (Some l) from reason = record { from = from; may = λ none. absurd cc }

@@ -12,12 +12,13 @@ use Rattle.pt_edit.specs.Edited.{Edited}
 use Rattle.pt_words.specs.declared.error.Refusal.{Refusal}
 use Rattle.pt_words.specs.declared.word.Edit.{Edit}
 use Rattle.pt_words.specs.declared.word.Edit.TheVariants.{Align, Empty}
-use Rattle.pt_check.specs.Answers.{Answers, TableOf, OwnedOf}
+use Rattle.pt_check.specs.Answers.{TableOf, OwnedOf}
+use Rattle.pt_cases.specs.Cases.{IsPlan}
+use Rattle.pt_planner.specs.Unplanned.{Unplanned}
 use Rattle.pt_plan.specs.declared.error.CommitError.{CommitError}
 use Rattle.pt_plan.specs.Calls.{Call, CarryOn}
-use Rattle.pt_plan.specs.Commits.{past, Committed, Ready, Refuses}
+use Rattle.pt_plan.specs.Commits.{past, Committed, Planned, Ready, Refuses}
 use Rattle.pt_plan.specs.History.{Either, Carries}
-use Rattle.pt_plan.specs.Plans.{IsPlan, Unplanned}
 
 -- the words of a commit, and the GUIDs that they may take
 pub record Batch : Type 0 where
@@ -40,15 +41,19 @@ EditedBy b n old batch result = Edited b n old batch.edits batch.guids result
 
 -- a commit of the batch to a disk of n sectors of b bytes
 abbrev pub Commits : ℕ → ℕ → Batch → Result Unit CommitError → Told → Told → Type 0
-Commits b n = Committed (Denotes b) (IsReason b) Makes (EditedBy b n) (IsPlan b) (Unplanned b) (Answers b) (Healthy b) (TableOf b) (OwnedOf b)
+Commits b n = Committed (Denotes b) (IsReason b) Makes (EditedBy b n) (IsPlan b) (Unplanned b) (Healthy b) (TableOf b) (OwnedOf b)
+
+-- a plan for the batch
+abbrev pub IsPlanned : ℕ → ℕ → Batch → Sectors → List Writes → Type 0
+IsPlanned b n = Planned (Denotes b) (IsReason b) Makes (EditedBy b n) (IsPlan b) (Unplanned b) (Healthy b) (TableOf b) (OwnedOf b)
 
 -- a checked plan for the batch
 abbrev pub IsReady : ℕ → ℕ → Batch → Sectors → List Writes → Type 0
-IsReady b n = Ready (Denotes b) (IsReason b) Makes (EditedBy b n) (IsPlan b) (Unplanned b) (Answers b) (Healthy b) (TableOf b) (OwnedOf b)
+IsReady b n = Ready (Denotes b) (IsReason b) Makes (EditedBy b n) (IsPlan b) (Unplanned b) (Healthy b) (TableOf b) (OwnedOf b)
 
 -- why the batch is refused
 abbrev pub IsRefusal : ℕ → ℕ → Batch → Sectors → CommitError → Type 0
-IsRefusal b n = Refuses (Denotes b) (IsReason b) Makes (EditedBy b n) (IsPlan b) (Unplanned b) (Answers b) (Healthy b) (TableOf b) (OwnedOf b)
+IsRefusal b n = Refuses (Denotes b) (IsReason b) Makes (EditedBy b n) (IsPlan b) (Unplanned b) (Healthy b) (TableOf b) (OwnedOf b)
 
 -- a commit of the batch that answered so, as a call
 abbrev pub call_of : Batch → Result Unit CommitError → Call Batch

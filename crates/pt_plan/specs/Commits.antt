@@ -1,4 +1,4 @@
--- What a commit of words does to a disk, over what a disk denotes, what words make of it, and what planner and checker say.
+-- What a commit of words does to a disk, over what a disk denotes, what words make of it, and what the planner says.
 use Rattle.std.specs.Prelude.{◌≡◌, ◌⊎◌, ℕ, List, Option, Some, None, Result, Ok, Err}
 use Rattle.pt_sector.specs.Sectors.{Sectors}
 use Rattle.pt_sector.specs.Writes.{Writes, after}
@@ -11,10 +11,7 @@ use Rattle.pt_apply.specs.Promises.{Keeps, Safe}
 use Rattle.pt_recover.specs.declared.error.NoTable.{NoTable as Reason}
 use Rattle.pt_recover.specs.declared.layout.Layout.{Layout}
 use Rattle.pt_words.specs.declared.error.Refusal.{Refusal}
-use Rattle.pt_check.specs.declared.answer.Answer.{Answer}
-use Rattle.pt_check.specs.declared.answer.Answer.TheVariants.{No}
-use Rattle.pt_check.specs.declared.answer.Why.{Why}
-use Rattle.pt_plan.specs.declared.error.PlanError.{PlanError}
+use Rattle.pt_targets.specs.declared.error.PlanError.{PlanError}
 use Rattle.pt_plan.specs.declared.error.CommitError.{CommitError}
 use Rattle.pt_plan.specs.declared.error.CommitError.TheVariants.{NoTable, Edit, Plan, Check, Device, Memory}
 use Rattle.pt_plan.specs.History.{Past, Done, Unchanged, Either, Carries}
@@ -35,26 +32,26 @@ past words (Err e) = refused words e
 
 module _ {W : Type 0} (denotes : Sectors → Option Layout → Type 0) (reason : Sectors → Reason → Type 0) (makes : W → Type 0)
     (edited : Option Layout → W → Result Layout Refusal → Type 0) (plans : Sectors → Layout → List Writes → Type 0)
-    (unplanned : Sectors → Layout → PlanError → Type 0) (answers : Sectors → List Writes → Answer → Type 0)
-    (healthy : Sectors → Type 0) (table owned : Option Layout → ℕ → Type 0) where
+    (unplanned : Sectors → Layout → PlanError → Type 0) (healthy : Sectors → Type 0) (table owned : Option Layout → ℕ → Type 0) where
   -- the words lead from what d denotes to the layout l
   pub record Leads (words : W) (d : Sectors) (o : Option Layout) (l : Layout) : Type 0 where
     pub from : denotes d o
     pub may : o ≡ None → makes words
     pub to : edited o words (Ok l)
 
-  -- a plan for the layout isn't safe, for this reason
-  pub record Unsafe (d : Sectors) (l : Layout) (why : Why) : Type 0 where
-    pub phases : List Writes
-    pub planned : plans d l phases
-    pub because : answers d phases (No why)
+  -- a plan for the words
+  pub record Planned (words : W) (d : Sectors) (phases : List Writes) : Type 0 where
+    pub old : Option Layout
+    pub new : Layout
+    pub leads : Leads words d old new
+    pub planned : plans d new phases
 
-  -- why the words are refused on d
+  -- why the words are refused on d: never because the checker refuses their plan
   abbrev pub Refuses : W → Sectors → CommitError → Type 0
   Refuses words d (NoTable e) = denotes d None × reason d e × (makes words → ⊥)
   Refuses words d (Edit r) = (o : Option Layout) × denotes d o × (o ≡ None → makes words) × edited o words (Err r)
   Refuses words d (Plan e) = (o : Option Layout) × (l : Layout) × Leads words d o l × unplanned d l e
-  Refuses words d (Check why) = (o : Option Layout) × (l : Layout) × Leads words d o l × Unsafe d l why
+  Refuses words d (Check why) = ⊥
   Refuses words d (Device fault) = Unit {0}
   Refuses words d Memory = Unit {0}
 
@@ -67,6 +64,7 @@ module _ {W : Type 0} (denotes : Sectors → Option Layout → Type 0) (reason :
     pub old : Option Layout
     pub new : Layout
     pub leads : Leads words d old new
+    pub planned : plans d new phases
     pub finished : denotes (after phases d) (Some new)
     pub switch : ℕ
     pub safe : Safe denotes healthy table owned phases d switch

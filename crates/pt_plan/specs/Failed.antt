@@ -1,4 +1,4 @@
--- Errors of the planner and of a commit: their numbers, and the failures of the device that go with them.
+-- Errors of a commit: their numbers, and the failures of the device that go with them.
 use Rattle.std.specs.Prelude.{◌≢◌, ℕ, Option, Some, None}
 use Rattle.pt_sector.specs.declared.disk.Fault.{Fault}
 use Rattle.pt_sector.specs.declared.disk.Fault.TheVariants.{Read}
@@ -9,19 +9,11 @@ use Rattle.pt_words.specs.declared.error.Refusal.{Refusal}
 use Rattle.pt_words.specs.declared.error.Refusal.TheVariants as refusal
 use Rattle.pt_check.specs.declared.error.CheckError.{CheckError}
 use Rattle.pt_check.specs.declared.error.CheckError.TheVariants as check
-use Rattle.pt_plan.specs.declared.error.PlanError.{PlanError}
-use Rattle.pt_plan.specs.declared.error.PlanError.TheVariants as plan
+use Rattle.pt_targets.specs.Errors.{IsFailure}
+use Rattle.pt_targets.specs.declared.error.PlanError.{PlanError}
+use Rattle.pt_targets.specs.declared.error.PlanError.TheVariants as plan
 use Rattle.pt_plan.specs.declared.error.CommitError.{CommitError}
 use Rattle.pt_plan.specs.declared.error.CommitError.TheVariants as commit
-
-abbrev pub plan_error_number : PlanError → ℕ
-plan_error_number plan.NotOneSwitch = 1
-plan_error_number plan.ReusedInOneBatch = 2
-plan_error_number plan.NeedsRepair = 3
-plan_error_number (plan.Unsound f) = 4
-plan_error_number (plan.Device fault) = 5
-plan_error_number plan.Memory = 6
-plan_error_number plan.NotYet = 0
 
 abbrev pub commit_error_number : CommitError → ℕ
 commit_error_number (commit.NoTable e) = 1
@@ -31,18 +23,7 @@ commit_error_number (commit.Check why) = 4
 commit_error_number (commit.Device fault) = 5
 commit_error_number commit.Memory = 6
 
--- a failure of the device or of memory, and no cause in the disk or in the layout
-abbrev pub IsFailure : PlanError → Type 0
-IsFailure (plan.Device fault) = Unit {0}
-IsFailure plan.Memory = Unit {0}
-IsFailure _ = ⊥
-
--- the fault that the planner's error carries
-abbrev pub plan_fault_in : PlanError → Option Fault
-plan_fault_in (plan.Device fault) = Some fault
-plan_fault_in _ = None
-
--- and a commit's
+-- the fault that a commit's error carries
 abbrev pub commit_fault_in : CommitError → Option Fault
 commit_fault_in (commit.Device fault) = Some fault
 commit_fault_in _ = None
@@ -53,11 +34,6 @@ HidesNoFailure (commit.NoTable e) = ¬ IsOutside e
 HidesNoFailure (commit.Edit r) = r ≢ refusal.Memory
 HidesNoFailure (commit.Plan e) = ¬ IsFailure e
 HidesNoFailure _ = Unit {0}
-
--- what the planner tells of a failure
-abbrev pub plan_failure : Failure → PlanError
-plan_failure (failure.Device at) = plan.Device (Read at)
-plan_failure failure.Memory = plan.Memory
 
 -- what a commit tells of a failure, of an edit's refusal, and of the planner's and the checker's errors
 abbrev pub commit_failure : Failure → CommitError

@@ -1,72 +1,14 @@
-//! Why there is no plan, and why a commit did nothing.
+//! Why a commit did nothing.
 
 ghost use Rattle.std.specs.Prelude.{◌≡◌};
-ghost use Rattle.pt_plan.specs.Failed.{plan_error_number, commit_error_number, plan_failure, commit_failure, commit_unedited, commit_unplanned, commit_unchecked};
-ghost use Rattle.pt_plan.specs.declared.error.PlanError.TheVariants as plan;
+ghost use Rattle.pt_plan.specs.Failed.{commit_error_number, commit_failure, commit_unedited, commit_unplanned, commit_unchecked};
 ghost use Rattle.pt_plan.specs.declared.error.CommitError.TheVariants as commit;
 
 use pt_check::{CheckError, Why};
 use pt_edit::Refusal;
-use pt_layout::{Finding, NoTable};
+use pt_layout::NoTable;
+use pt_planner::PlanError;
 use pt_sector::{Failure, Fault};
-use std::alloc::AllocError;
-
-/// Why there is no plan for a layout.
-#[derive(Clone, Copy, Debug, PartialEq, Eq)]
-pub enum PlanError {
-    /// No plan leads there by one switch: more sectors that decide what the disk denotes would have to change than
-    /// the one that switches; or the layout is none of a disk of this size.
-    NotOneSwitch,
-    /// A sector that would be written is owned by a partition of the disk's present layout. To come: meanwhile the
-    /// checker refuses such a plan.
-    ReusedInOneBatch,
-    /// Only a label changes, and the disk isn't healthy. To come, with plans for labels.
-    NeedsRepair,
-    /// The layout isn't sound: the first thing that is wrong with it.
-    Unsound(Finding),
-    /// The device failed.
-    Device(Fault),
-    /// Memory was refused.
-    Memory,
-    /// Such plans are to come: for an MBR, on an MBR disk, or where a label changes or is new.
-    NotYet,
-}
-
-impl PlanError {
-    /// The number that stands for it, from 1 to 6 in the order of the variants; 0 for `NotYet`.
-    pub fn number(self) -> u8
-        ensures { result ≡ plan_error_number self }
-    {
-        match self {
-            PlanError::NotOneSwitch => 1,
-            PlanError::ReusedInOneBatch => 2,
-            PlanError::NeedsRepair => 3,
-            PlanError::Unsound(_) => 4,
-            PlanError::Device(_) => 5,
-            PlanError::Memory => 6,
-            PlanError::NotYet => 0,
-        }
-    }
-}
-
-impl From<Failure> for PlanError {
-    ghost from_gives = { λ failure e. e ≡ plan_failure failure };
-
-    fn from(failure: Failure) -> PlanError {
-        match failure {
-            Failure::Device(at) => PlanError::Device(Fault::Read(at)),
-            Failure::Memory => PlanError::Memory,
-        }
-    }
-}
-
-impl From<AllocError> for PlanError {
-    ghost from_gives = { λ _ e. e ≡ plan.Memory };
-
-    fn from(_e: AllocError) -> PlanError {
-        PlanError::Memory
-    }
-}
 
 /// Why a commit isn't done. A fault of the device in any step is `Device`, and want of memory in any step is `Memory`,
 /// never within another error. After all but `Device` the first flush was done and nothing else.
@@ -78,7 +20,7 @@ pub enum CommitError {
     Edit(Refusal),
     /// There is no plan for what the words make.
     Plan(PlanError),
-    /// The plan is refused.
+    /// The plan is refused. A commit never tells it: the checker accepts each plan of the planner.
     Check(Why),
     /// The device failed. After a failed read the first flush was done and nothing else. Otherwise the words may have
     /// been done or not: each disk that a crash may leave denotes the layout before or the one after.

@@ -1,23 +1,25 @@
 //! The steps of a commit before its first write.
 
-ghost use Rattle.std.specs.Prelude.{◌≡◌, Ok, Some, OnOk, IfOk, IfErr, IsTrue, ◌↔◌};
+ghost use Rattle.std.specs.Prelude.{◌≡◌, ◌↔◌, ◌<◌, All, length, Ok, None, OnOk, IfOk, IfErr, IsTrue};
 ghost use Rattle.pt_sector.specs.Sectors.{IsSectorSize};
 ghost use Rattle.pt_sector.specs.Calls.{Blames};
 ghost use Rattle.pt_sector.specs.Reads.{OnlyReads};
-ghost use Rattle.pt_apply.specs.Plans.{phases_of, finished, InRange};
-ghost use Rattle.pt_recover.specs.Denotes.{Denotes};
-ghost use Rattle.pt_plan.specs.Batches.{IsReady, IsRefusal, MakesTable, EditedBy};
+ghost use Rattle.pt_apply.specs.Plans.{phases_of, InRange};
+ghost use Rattle.pt_recover.specs.Answers.{failure_in};
+ghost use Rattle.pt_cases.specs.Cases.{IsPlan};
+ghost use Rattle.pt_planner.specs.Known.{IsKnown};
+ghost use Rattle.pt_plan.specs.Batches.{IsPlanned, IsReady, IsRefusal, MakesTable, EditedBy};
 ghost use Rattle.pt_plan.specs.Failed.{commit_fault_in as fault_in, HidesNoFailure};
-ghost use Rattle.pt_plan.specs.Plans.{IsPlan};
 ghost use Rattle.pt_plan.specs.Steps.{sectors_in, StartsFrom, NoStart, NotEdited, NotPlanned, IsSafe, NotSafe};
+ghost use Rattle.pt_plan.specs.declared.error.CommitError.TheVariants as commit;
 
 use crate::error::CommitError;
-use crate::planner::make_plan;
 use pt_apply::Plan;
 use pt_check::{Answer, check};
 use pt_edit::{Edit, edit};
 use pt_guid::Guid;
-use pt_layout::{Layout, recover};
+use pt_layout::{Layout, NoTable};
+use pt_planner::{Known, plan_from, read_known};
 use pt_sector::Disk;
 use std::alloc::Global;
 
@@ -35,32 +37,43 @@ fn makes_table(edits: &[Edit]) -> bool
     false
 }
 
-/// What the disk denotes, where the words may start from it.
+/// What is told of a disk that denotes nothing. The reason is what the disk holds, and no failure; where it were one,
+/// want of memory would be told.
+fn no_table(reason: NoTable) -> CommitError
+    ensures hides { HidesNoFailure result }
+    ensures blames { fault_in result ≡ None }
+    ensures told { failure_in reason ≡ None → result ≡ commit.NoTable reason }
+{
+    match reason.failure() {
+        Some(_) => CommitError::Memory,
+        None => CommitError::NoTable(reason),
+    }
+}
+
+/// What is known of the disk, where the words may start from what it denotes.
 fn start<const B: usize, D: Disk<B>>(
     alloc: Global,
     disk: &mut D,
     edits: &[Edit],
     guids: &[Guid],
-) -> Result<Option<Layout>, CommitError>
+) -> Result<Known, CommitError>
     requires size { IsSectorSize B }
     ensures same { OnlyReads D.Disk disk.old disk.new }
     ensures blames { Blames fault_in result (D.faults disk.old) (D.faults disk.new) }
     ensures hides { IfErr result HidesNoFailure }
-    ensures ok { D.tells → IfOk result (StartsFrom B (record { edits = edits.now; guids = guids.now }) (D.told disk.old).seen) }
+    ensures ok { D.tells → IfOk result (λ known. IsKnown B (D.told disk.old).seen known × StartsFrom B (record { edits = edits.now; guids = guids.now }) (D.told disk.old).seen known.old) }
     ensures err { D.tells → IfErr result (NoStart B (record { edits = edits.now; guids = guids.now }) (D.told disk.old).seen) }
 {
-    let reason = match recover(alloc, disk) {
-        Ok(layout) => return Ok(Some(layout)),
-        Err(reason) => reason,
-    };
-    match reason.failure() {
-        Some(failure) => return Err(CommitError::from(failure)),
-        None => {}
-    }
-    if makes_table(edits) {
-        Ok(None)
-    } else {
-        Err(CommitError::NoTable(reason))
+    let (known, reason) = read_known(alloc, disk)?;
+    match reason {
+        None => Ok(known),
+        Some(reason) => {
+            if makes_table(edits) {
+                Ok(known)
+            } else {
+                Err(no_table(reason))
+            }
+        }
     }
 }
 
@@ -84,22 +97,24 @@ fn edited<const B: usize>(
     Ok(made)
 }
 
-/// The plan for a layout.
+/// The plan for a layout, by what is known of the disk.
 fn planned<const B: usize, D: Disk<B>>(
     alloc: Global,
     disk: &mut D,
+    known: &Known,
     wanted: &Layout,
 ) -> Result<Plan<B>, CommitError>
     requires size { IsSectorSize B }
+    requires known { D.tells → IsKnown B (D.told disk.old).seen known.now }
     ensures same { OnlyReads D.Disk disk.old disk.new }
     ensures blames { Blames fault_in result (D.faults disk.old) (D.faults disk.new) }
     ensures hides { IfErr result HidesNoFailure }
     ensures in_range { IfOk result (InRange (D.count disk.old)) }
+    ensures some { IfOk result (λ plan. All (λ p. 0 < length p.items) plan.phases.items) }
     ensures plan { D.tells → IfOk result (λ plan. IsPlan B (D.told disk.old).seen wanted.now (phases_of plan)) }
-    ensures finished { D.tells → IfOk result (λ plan. Denotes B (finished plan (D.told disk.old).seen) (Some wanted.now)) }
     ensures err { D.tells → IfErr result (NotPlanned B (D.told disk.old).seen wanted.now) }
 {
-    let plan = make_plan(alloc, disk, wanted)?;
+    let plan = plan_from(alloc, disk, known, wanted)?;
     Ok(plan)
 }
 
@@ -123,8 +138,8 @@ fn checked<const B: usize, D: Disk<B>>(
     }
 }
 
-/// The plan that leads from what the disk denotes to what the words make of it, unchecked. Nothing is flushed or
-/// written. It is refused as `commit` refuses, and `Check` is never told.
+/// The plan that leads from what the disk denotes to what the words make of it. Nothing is flushed or written. It is
+/// refused as `commit` refuses, and `Check` is never told; the checker is not asked, and accepts each such plan.
 pub fn plan_for<const B: usize, D: Disk<B>>(
     alloc: Global,
     disk: &mut D,
@@ -136,10 +151,13 @@ pub fn plan_for<const B: usize, D: Disk<B>>(
     ensures blames { Blames fault_in result (D.faults disk.old) (D.faults disk.new) }
     ensures hides { IfErr result HidesNoFailure }
     ensures in_range { IfOk result (InRange (D.count disk.old)) }
+    ensures phases { IfOk result (λ plan. All (λ p. 0 < length p.items) plan.phases.items) }
+    ensures planned { D.tells → IfOk result (λ plan. IsPlanned B (D.count disk.old) (record { edits = edits.now; guids = guids.now }) (D.told disk.old).seen (phases_of plan)) }
+    ensures refused { D.tells → IfErr result (IsRefusal B (D.count disk.old) (record { edits = edits.now; guids = guids.now }) (D.told disk.old).seen) }
 {
-    let old = start(alloc, disk, edits, guids)?;
-    let wanted = edited::<B>(alloc, &old, disk.sectors(), edits, guids)?;
-    let plan = planned(alloc, disk, &wanted)?;
+    let known = start(alloc, disk, edits, guids)?;
+    let wanted = edited::<B>(alloc, &known.old, disk.sectors(), edits, guids)?;
+    let plan = planned(alloc, disk, &known, &wanted)?;
     Ok(plan)
 }
 
@@ -158,9 +176,7 @@ pub(crate) fn prepare<const B: usize, D: Disk<B>>(
     ensures ready { D.tells → IfOk result (λ plan. IsReady B (D.count disk.old) (record { edits = edits.now; guids = guids.now }) (D.told disk.old).seen (phases_of plan)) }
     ensures refused { D.tells → IfErr result (IsRefusal B (D.count disk.old) (record { edits = edits.now; guids = guids.now }) (D.told disk.old).seen) }
 {
-    let old = start(alloc, disk, edits, guids)?;
-    let wanted = edited::<B>(alloc, &old, disk.sectors(), edits, guids)?;
-    let plan = planned(alloc, disk, &wanted)?;
+    let plan = plan_for(alloc, disk, edits, guids)?;
     checked(alloc, disk, &plan)?;
     Ok(plan)
 }

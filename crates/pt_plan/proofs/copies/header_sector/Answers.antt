@@ -1,4 +1,0 @@
-use Rattle.pt_plan.proofs.copies.header_sector.Goals as goal
-
-pub returns-clause-fit : goal.returns-clause-fit
-returns-clause-fit g c = rw c.as_slice.ensures at c.array_crc.ensures.fits
