@@ -29,7 +29,8 @@ PARTS = (rows_gpt, rows_mbr, rows_labels, rows_edit, rows_place, rows_plan, rows
 def run(rows, ptab):
     """How many answers were compared."""
     before = Command.checked
-    with tempfile.TemporaryDirectory() as folder:
+    memory = "/dev/shm" if os.access("/dev/shm", os.W_OK) else None
+    with tempfile.TemporaryDirectory(dir=memory) as folder:
         rows(Command(ptab, f"{folder}/image"))
     return Command.checked - before
 
