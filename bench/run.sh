@@ -10,4 +10,4 @@ bench/crc.sh
 python3 bench/tools.py "$ptab"
 python3 bench/edits.py "$ptab"
 python3 bench/records.py "$ptab"
-python3 bench/plans.py "$ptab"
+python3 bench/checks.py "$ptab"

@@ -1,7 +1,7 @@
 #!/usr/bin/env python3
 """Plans, checks and applies the same edits and long plans with ptab; prints one table.
 
-usage: bench/plans.py PTAB
+usage: bench/checks.py PTAB
 
 The long plans write 4,096 sectors, as many as a plan may have: in one phase, and in 4,096 phases. Their writes are those of sectors
 of the table with the bytes that stand there, so that check goes through all of them and says yes. It ends with status 1 where a
