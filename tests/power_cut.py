@@ -1,7 +1,7 @@
 #!/usr/bin/env python3
-"""Cuts the power in each phase of real edits. The writes and syncs of the built command on an image are taken down by
-strace; then, for each phase, images that hold the phases before and any choice of this phase's writes are shown: the old
-layout before the phase that switches, the new one after it, one of the two in it.
+"""Cuts the power in each phase of real edits, of every kind of table. The writes and syncs of the built command on an image are
+taken down by strace; then, for each phase, images that hold the phases before and any choice of this phase's writes are shown: the
+old layout (or none, where there was none) before the phase that switches, the new one after it, one of the two in it.
 
 usage: tests/power_cut.py PTAB
 """
@@ -13,18 +13,19 @@ import sys
 import tempfile
 
 import images
-from images import SMALL, entry, one_partition
+from images import FREEBSD, LARGE, SMALL, ebr, entry, label, one_partition, record
 
-FRESH = ["--fresh", "000102030405060708090a0b0c0d0e0f" + "0" * 32]
+FRESH = "--fresh 000102030405060708090a0b0c0d0e0f" + "0" * 32
+MORE = FRESH + "".join(f"{number:032x}" for number in range(1, 4))
 CALL = re.compile(r'(openat|lseek|write|fsync)\((.*)\) += (\d+)$')
 checked = 0
 
 
-def recorded(ptab, path, words):
+def recorded(ptab, path, words, sectors):
     """The phases of an edit: the writes, as (sector, bytes), between its syncs."""
     log = f"{path}.log"
-    done = subprocess.run(["strace", "-e", "trace=openat,lseek,write,fsync", "-xx", "-s", str(2 * SMALL.size), "-o", log,
-                           ptab, "edit", path, *words], capture_output=True, text=True)
+    done = subprocess.run(["strace", "-e", "trace=openat,lseek,write,fsync", "-xx", "-s", str(2 * sectors.size), "-o", log,
+                           ptab, "edit", path, "--sector-size", str(sectors.size), *words], capture_output=True, text=True)
     if done.returncode != 0:
         sys.exit(f"{words}: status {done.returncode}: {done.stderr}")
     phases, writes, fd, at = [], [], None, 0
@@ -42,7 +43,7 @@ def recorded(ptab, path, words):
                 at = int(answer)
             elif call == "write":
                 content = bytes.fromhex(re.search(r'"([^"]*)"', arguments).group(1).replace("\\x", ""))
-                writes.append((at // SMALL.size, content))
+                writes.append((at // sectors.size, content))
                 at += len(content)
             else:
                 phases.append(writes)
@@ -52,72 +53,187 @@ def recorded(ptab, path, words):
     return [phase for phase in phases if phase]
 
 
-def written(image, writes):
+def written(image, writes, sectors):
     image = bytearray(image)
     for lba, content in writes:
-        SMALL.put(image, lba, content)
+        sectors.put(image, lba, content)
     return image
 
 
-def shown(ptab, path, image):
+def shown(ptab, path, image, sectors, command="show"):
     with open(path, "wb") as it:
         it.write(image)
-    done = subprocess.run([ptab, "show", path], capture_output=True, text=True)
+    done = subprocess.run([ptab, command, path, "--sector-size", str(sectors.size)], capture_output=True, text=True)
     return done.stdout, done.stderr, done.returncode
 
 
 def choices(rng, phase):
-    """Some choices of a phase's writes: none, all, each alone left out or done at either end, and random ones."""
+    """Choices of a phase's writes: all there are of a few, else none, all, each alone left out or done at either end, and random ones."""
+    if len(phase) <= 3:
+        return [[write for k, write in enumerate(phase) if number >> k & 1] for number in range(2 ** len(phase))]
     picked = [[], phase, phase[:1], phase[-1:], phase[1:], phase[:-1]]
     picked += [[write for write in phase if rng.randrange(2)] for _ in range(12)]
     return picked
 
 
-def cut(ptab, folder, name, image, words, counts, switch):
+def cut(ptab, folder, name, image, words, counts, switch, sectors=SMALL):
     """Edits the image, and stops it in each phase."""
     global checked
     path = f"{folder}/image"
     with open(path, "wb") as it:
         it.write(image)
-    phases = recorded(ptab, path, words)
+    phases = recorded(ptab, path, words, sectors)
     with open(path, "rb") as it:
         after = it.read()
     if [len(phase) for phase in phases] != counts:
         sys.exit(f"{name}: phases of {[len(phase) for phase in phases]} writes, not of {counts}")
-    old, new = shown(ptab, path, image), shown(ptab, path, after)
-    if old == new:
-        sys.exit(f"{name}: nothing changed")
+    old, new = shown(ptab, path, image, sectors), shown(ptab, path, after, sectors)
+    if old == new or shown(ptab, path, after, sectors, "verify")[0] != "yes\n":
+        sys.exit(f"{name}: nothing changed, or the image isn't healthy")
     rng = random.Random(1)
     before = bytes(image)
     for number, phase in enumerate(phases, 1):
         allowed = (old,) if number < switch else (new,) if number > switch else (old, new)
         for writes in choices(rng, phase):
-            found = shown(ptab, path, written(before, writes))
+            found = shown(ptab, path, written(before, writes, sectors), sectors)
             if found not in allowed:
                 sys.exit(f"{name}: stopped in phase {number} by {[lba for lba, _ in writes]}: {found}")
             checked += 1
-        before = bytes(written(before, phase))
+        before = bytes(written(before, phase, sectors))
     if before != after:
         sys.exit(f"{name}: the writes don't make the image")
 
 
-def main():
-    ptab = os.path.abspath(sys.argv[1])
+def on_gpt():
+    """(name, image, words, the number of writes in each phase, the phase that switches)"""
     whole = one_partition()
     broken = bytearray(whole)
     broken[SMALL.size] ^= 0xFF
     sloppy = bytearray(whole)
     sloppy[446 + 5] = 0xFE
-    with tempfile.TemporaryDirectory() as folder:
-        cut(ptab, folder, "a name", whole, ["c:1:data"], [33, 1, 32, 1], 2)
-        cut(ptab, folder, "a name from the backup", broken, ["c:1:data"], [1, 32, 1, 33], 3)
-        cut(ptab, folder, "a name over a sloppy protective record", sloppy, ["c:1:data"], [33, 1, 32, 1, 1], 2)
-        cut(ptab, folder, "a new table", SMALL.zeros(2048), [*FRESH, "o"], [1, 32, 1, 33, 1], 3)
-        cut(ptab, folder, "a new table with a partition", SMALL.zeros(2048), [*FRESH, "o", "a:1", "n:1:0:0"], [1, 32, 1, 33, 1], 3)
-        cut(ptab, folder, "a new partition", whole, [*FRESH, "a:1", "n:2:100:200", "c:2:new"], [33, 1, 32, 1], 2)
-        cut(ptab, folder, "a grown disk", whole + SMALL.zeros(1000), ["e"], [33, 1, 32, 1, 1], 2)
-        two = SMALL.gpt(4096, {1: entry(2048, 3000), 2: entry(3001, 4000, unique=images.DISK)})
-        cut(ptab, folder, "a deletion", two, ["d:1", "t:2:8200"], [33, 1, 32, 1], 2)
+    yield "a name", whole, "c:1:data", [33, 1, 32, 1], 2
+    yield "a name from the backup", broken, "c:1:data", [1, 32, 1, 33], 3
+    yield "a name over a sloppy protective record", sloppy, "c:1:data", [33, 1, 32, 1, 1], 2
+    yield "a new table", SMALL.zeros(2048), f"{FRESH} o", [1, 32, 1, 33, 1], 3
+    yield "a new table with a partition", SMALL.zeros(2048), f"{FRESH} o a:1 n:1:0:0", [1, 32, 1, 33, 1], 3
+    yield "a new table over another", whole, f"{FRESH} o", [33, 1, 32, 1], 2
+    yield "a new partition", whole, f"{FRESH} a:1 n:2:100:200 c:2:new", [33, 1, 32, 1], 2
+    yield "a grown disk", whole + SMALL.zeros(1000), "e", [33, 1, 32, 1, 1], 2
+    two = SMALL.gpt(4096, {1: entry(2048, 3000), 2: entry(3001, 4000, unique=images.DISK)})
+    yield "a deletion", two, "d:1 t:2:8200", [33, 1, 32, 1], 2
+
+
+def on_slices_of_gpt():
+    sliced = SMALL.gpt(2048, {1: entry(100, 1099, FREEBSD)})
+    SMALL.put(sliced, 101, label(1000, {0: (100, 16, 7)}))
+    stale = SMALL.gpt(2048, {})
+    SMALL.put(stale, 101, label(1000, {0: (100, 16, 7)}))
+    broken = bytearray(sliced)
+    broken[SMALL.size] ^= 0xFF
+    yield "a slice", SMALL.gpt(2048, {}), f"{FRESH} a:1 n:1:100:1099:A500 n:1.a:0:0", [34, 1, 32, 1], 2
+    yield "a slice where a label lies", stale, f"{FRESH} a:1 n:1:100:1099:A500", [34, 1, 32, 1], 2
+    yield "a table with a slice", SMALL.zeros(2048), f"{FRESH} o a:1 n:1:100:1099:A500", [1, 33, 1, 33, 1], 3
+    yield "a slice from the backup", broken, f"{FRESH} a:1 n:2:1100:1199:A500", [1, 33, 1, 33], 3
+    yield "a deleted slice", sliced, "d:1", [33, 1, 32, 1], 2
+    yield "a named slice on a grown disk", sliced + SMALL.zeros(100), "c:1:bsd e", [33, 1, 32, 1, 1], 2
+    yield "a label's new partition", sliced, "a:1 n:1.b:216:0", [1], 1
+    yield "a label's changed partition", sliced, "t:1.a:01", [1], 1
+    yield "a label's deleted partition", sliced, "d:1.a", [1], 1
+
+
+def on_mbr():
+    one = SMALL.mbr(1024, [record(0x83, 100, 100)])
+    sliced = SMALL.mbr(1024, [record(0xA5, 100, 500)])
+    SMALL.put(sliced, 101, label(500, {0: (100, 16, 7)}))
+    stale = SMALL.mbr(1024, [])
+    SMALL.put(stale, 101, label(499, {0: (100, 16, 7)}))
+    again = SMALL.mbr(1024, [])
+    SMALL.put(again, 101, label(500, {}))
+    covering = SMALL.mbr(1024, [record(0x05, 100, 100)])
+    yield "a primary", SMALL.mbr(1024, []), "a:1 n:1:100:199", [1], 1
+    yield "a second primary", one, "a:1 n:2:200:299 t:1:07", [1], 1
+    yield "a deleted primary", one, "d:1", [1], 1
+    yield "an MBR to a GPT", one, f"{FRESH} g", [66, 1], 2
+    yield "an MBR with a slice to a GPT", sliced, f"{FRESH} g", [66, 1], 2
+    yield "an MBR to a GPT with a new slice", one, f"{MORE} g a:1 n:2:300:399:A500", [67, 1], 2
+    yield "a new table over an MBR", one, f"{FRESH} o", [66, 1], 2
+    yield "a new table over an MBR with a slice", sliced, f"{FRESH} o", [66, 1], 2
+    yield "a new table over a broken chain", covering, f"{FRESH} o", [66, 1], 2
+    yield "a slice", SMALL.mbr(1024, []), "a:1 n:1:100:599:A5", [1, 1], 2
+    yield "a slice with a partition", SMALL.mbr(1024, []), "a:1 n:1:100:599:A5 n:1.a:0:0", [1, 1], 2
+    yield "a slice where another label lies", stale, "a:1 n:1:100:599:A5", [1, 1], 2
+    yield "a slice where its label lies", again, "a:1 n:1:100:599:A5", [1], 1
+    yield "two slices", SMALL.mbr(1024, []), "a:1 n:1:100:599:A5 n:2:600:0:A5", [2, 1], 2
+    yield "a deleted slice", sliced, "d:1", [1], 1
+    yield "a label's new partition", sliced, "a:1 n:1.b:216:0", [1], 1
+    yield "a label's changed partition", sliced, "t:1.a:01", [1], 1
+    yield "a label's deleted partition", sliced, "d:1.a", [1], 1
+
+
+def chain(*ebrs, extended=True):
+    """1024 sectors with an extended partition of 800 from 100 on, and the boot records (sector, bytes) where it is or was."""
+    image = SMALL.mbr(1024, [record(0x83, 1, 50), record(0x05, 100, 800)] if extended else [record(0x83, 1, 50)])
+    for lba, content in ebrs:
+        SMALL.put(image, lba, content)
+    return image
+
+
+def on_chains():
+    empty = (100, ebr())
+    one = ((100, ebr(link=record(0x05, 99, 101))), (199, ebr(record(0x83, 1, 100))))
+    two = ((100, ebr(link=record(0x05, 99, 101))), (199, ebr(record(0x83, 1, 100), record(0x05, 299, 51))), (399, ebr(record(0x83, 1, 50))))
+    sliced = chain((100, ebr(link=record(0x05, 99, 101))), (199, ebr(record(0xA5, 1, 100))), (201, label(100, {0: (20, 16, 7)})))
+    yield "an extended partition", chain(extended=False), "a:1 n:2:100:899:05", [1, 1], 2
+    yield "an extended partition with a logical", chain(extended=False), "a:1 n:2:100:899:05 n:5:200:299", [2, 1], 2
+    yield "an extended partition with two logicals", chain(extended=False), "a:1 n:2:100:899:05 n:5:200:299 n:5:400:449", [3, 1], 2
+    yield "a first logical", chain(empty), "a:1 n:5:200:299", [1, 1], 2
+    yield "a first logical in the first boot record", chain(empty), "a:1 n:5:101:299", [1], 1
+    yield "a second logical", chain(*one), "a:1 n:5:400:449", [1, 1], 2
+    yield "a logical before another", chain(*one), "a:1 n:5:150:159", [1, 1], 2
+    yield "two logicals behind another", chain(*one), "a:1 n:5:400:449 n:5:500:549:82", [2, 1], 2
+    yield "a logical between two", chain(*two), "a:1 n:5:350:359", [1, 1], 2
+    yield "a deleted first logical", chain(*two), "d:5", [1], 1
+    yield "a deleted last logical", chain(*two), "d:6", [1], 1
+    gone = ((100, two[0][1]), (199, ebr(link=record(0x05, 299, 51))), (399, two[2][1]))
+    yield "a logical made again in its boot record", chain(*gone), "a:1 n:5:200:299", [1], 1
+    yield "a logical where a stale boot record lies", chain(empty, *two[1:]), "a:1 n:5:200:299", [1, 1], 2
+    yield "a logical where its own boot record lies", chain(empty, *one[1:]), "a:1 n:5:200:299", [1], 1
+    yield "a chain where a stale one lies", chain(*two, extended=False), "a:1 n:2:100:899:05 n:5:200:298", [2, 1], 2
+    yield "a chain where half of it lies", chain(*two, extended=False), "a:1 n:2:100:899:05 n:5:200:299", [1, 1], 2
+    yield "a longer extended partition over a stale chain", chain(*two, extended=False), "a:1 n:2:100:999:05", [1, 1], 2
+    yield "a logical's type", chain(*two), "t:5:07", [1], 1
+    yield "a deleted extended partition", chain(*two), "d:2", [1], 1
+    image = chain(*two)
+    image[446:462] = record(0x83, 40, 50)
+    yield "logicals to a GPT", image, f"{MORE} g", [66, 1], 2
+    yield "a new table over logicals", image, f"{FRESH} o", [66, 1], 2
+    yield "a logical slice", chain(empty), "a:1 n:5:200:299:A5", [2, 1], 2
+    yield "a label's new partition in a logical", sliced, "a:1 n:5.b:236:0", [1], 1
+    yield "a label's changed partition in a logical", sliced, "t:5.a:01", [1], 1
+    yield "a label's deleted partition in a logical", sliced, "d:5.a", [1], 1
+    yield "a logical before a slice", sliced, "a:1 n:5:101:110", [1], 1
+    yield "a deleted logical slice", sliced, "d:5", [1], 1
+
+
+def on_large_sectors():
+    whole = LARGE.gpt(64, {1: entry(6, 40)})
+    mbr = LARGE.mbr(64, [record(0x83, 6, 10), record(0x05, 20, 30)])
+    LARGE.put(mbr, 20, ebr())
+    yield "a name", whole, "c:1:data", [5, 1, 4, 1], 2
+    yield "a new table", LARGE.zeros(64), f"{FRESH} o", [1, 4, 1, 5, 1], 3
+    yield "a grown disk", whole + LARGE.zeros(10), "e", [5, 1, 4, 1, 1], 2
+    yield "a logical", mbr, "a:1 n:5:30:39", [1, 1], 2
+    yield "an MBR to a GPT", mbr, f"{FRESH} g", [10, 1], 2
+
+
+def main():
+    ptab = os.path.abspath(sys.argv[1])
+    memory = "/dev/shm" if os.access("/dev/shm", os.W_OK) else None
+    with tempfile.TemporaryDirectory(dir=memory) as folder:
+        for sectors, tables in ((SMALL, (on_gpt, on_slices_of_gpt, on_mbr, on_chains)), (LARGE, (on_large_sectors,))):
+            for table in tables:
+                for name, image, words, counts, switch in table():
+                    cut(ptab, folder, name, image, words.split(" "), counts, switch, sectors)
     print(f"power cuts: {checked} passed, 0 failed")
 
 

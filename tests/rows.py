@@ -15,15 +15,22 @@ import rows_labels
 import rows_mbr
 import rows_place
 import rows_plan
+import rows_records
+import rows_slices
+import rows_switches
+import rows_turns
+import rows_words
 from command import Command
 
-PARTS = (rows_gpt, rows_mbr, rows_labels, rows_edit, rows_place, rows_plan, rows_help)
+PARTS = (rows_gpt, rows_mbr, rows_labels, rows_edit, rows_place, rows_plan, rows_turns, rows_records, rows_slices, rows_switches,
+         rows_words, rows_help)
 
 
 def run(rows, ptab):
     """How many answers were compared."""
     before = Command.checked
-    with tempfile.TemporaryDirectory() as folder:
+    memory = "/dev/shm" if os.access("/dev/shm", os.W_OK) else None
+    with tempfile.TemporaryDirectory(dir=memory) as folder:
         rows(Command(ptab, f"{folder}/image"))
     return Command.checked - before
 

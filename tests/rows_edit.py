@@ -133,11 +133,12 @@ def slices(command):
     line = f"1 2048 6143 A500 0000000000000000 {images.FIRST}"
     command.on(image).edited("c:1:bsd").shows(f"gpt 8192 34 8158 {images.DISK}", line + " bsd", "1.d 2064 2163 01").healthy()
     command.refused("edit 8", "t:1:8300").refused("edit 8", "d:1.c").refused("edit 1", "d:1.a").refused("edit 6", "t:1.d:8300")
-    command.refused("not yet", "d:1.d").refused("not yet", "t:1.d:07")
+    command.edited("t:1.d:07").shows(f"gpt 8192 34 8158 {images.DISK}", line + " bsd", "1.d 2064 2163 07").healthy()
+    command.edited("d:1.d").shows(f"gpt 8192 34 8158 {images.DISK}", line + " bsd").healthy()
     command.edited("d:1").healthy().shows(f"gpt 8192 34 8158 {images.DISK}")
     foreign = SMALL.gpt(8192, {1: entry(2048, 6143, FREEBSD)})
     SMALL.put(foreign, 2049, label(4000, {}))
-    command.on(foreign).unhealthy("11 foreign label 1").edited("d:1").healthy()
+    command.on(foreign).unhealthy("11 foreign label 1").refused("plan 4", "c:1:x").edited("d:1").healthy()
 
 
 def not_for_mbr(command):

@@ -140,21 +140,11 @@ def far_labels(command):
     sectors = 2 ** 32 + 5000
     pieces = SMALL.gpt_pieces(sectors, {1: entry(4294967200, 4294968199, FREEBSD)})
     pieces[4294967201] = label(1000, {}, raw_offset=4294967200)
-    command.on_sparse(sectors, pieces).refused("edit 15", "a:1", "n:1.a:4294967300:+10").refused("not yet", "a:1", "n:1.a:4294967290:+10")
+    lines = (f"gpt {sectors} 34 {sectors - 34} {images.DISK}", f"1 4294967200 4294968199 A500 0000000000000000 {images.FIRST}")
+    command.on_sparse(sectors, pieces).refused("edit 15", "a:1", "n:1.a:4294967300:+10").edited("a:1", "n:1.a:4294967290:+10")
+    command.shows(*lines, "1.a 4294967290 4294967299 07").healthy()
     pieces[4294967201] = label(1000, {})
-    command.on_sparse(sectors, pieces).refused("not yet", "a:1", "n:1.a:4294967300:+10")
+    command.on_sparse(sectors, pieces).edited("a:1", "n:1.a:4294967300:+10").shows(*lines, "1.a 4294967300 4294967309 07").healthy()
 
 
-def not_yet(command):
-    """Edits that this version knows and doesn't plan; nothing is written."""
-    command.on(SMALL.mbr(16384, [])).refused("not yet", "n:2:4096:12287:05", "n:5:0:+1000").refused("not yet", "n:0:2048:4095", "n:0:0:0")
-    command.on(SMALL.mbr(8192, [])).refused("not yet", "n:1:2048:6143:A5")
-    labelled = SMALL.mbr(8192, [record(0xA5, 2048, 4096)])
-    SMALL.put(labelled, 2049, label(4096, {}))
-    command.on(labelled).refused("not yet", "a:1", "n:1.a:2064:4063")
-    command.on(SMALL.mbr(4096, [record(0x83, 2048, 2015)])).refused("not yet", *BOTH, "g").refused("not yet", "d:1")
-    command.refused("not yet", "t:1:07")
-    command.on(one_partition()).refused("not yet", *NEXT, "a:1", "n:2:100:200:A500")
-
-
-ROWS = (beside_one, from_nothing, blocks, on_mbr, to_gpt, no_slices, in_labels, far_labels, not_yet)
+ROWS = (beside_one, from_nothing, blocks, on_mbr, to_gpt, no_slices, in_labels, far_labels)

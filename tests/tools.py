@@ -54,11 +54,15 @@ def attributes_of(text):
 
 
 def by_sfdisk(image):
-    """All lines, on sectors of 512 bytes."""
-    table = json.loads(must("sfdisk", "--json", image))["partitiontable"]
+    """All lines, on sectors of 512 bytes. Of a chain whose boot records aren't all used it says so before the braces, or tells the
+    only one as a partition of no sectors."""
+    told = must("sfdisk", "--json", image)
+    table = json.loads(told[told.index("{"):])["partitiontable"]
     sectors = os.path.getsize(image) // 512
     lines = [f"gpt {sectors} {table['firstlba']} {table['lastlba']} {table['id'].lower()}" if table["label"] == "gpt" else f"mbr {sectors}"]
     for part in table.get("partitions", []):
+        if part["size"] == 0:
+            continue
         number = part["node"][len(image):].lstrip("p")
         place = f"{number} {part['start']} {part['start'] + part['size'] - 1}"
         if table["label"] == "gpt":
@@ -86,7 +90,7 @@ def by_fdisk(image, size):
         number, first, last, kind, *rest = line[len(image):].lstrip("p").split()
         if is_gpt:
             lines.append(f"{number} {first} {last} {TYPES.get(kind, kind.lower())} {rest[0].lower()}")
-        else:
+        elif int(kind, 16) != 0:
             lines.append(f"{number} {first} {last} {int(kind, 16):02X} {'80' if rest else '00'}")
     return lines
 
