@@ -26,7 +26,7 @@ use crate::known::Known;
 use crate::state::{changes_labels, is_broken, order_of};
 use pt_apply::Plan;
 use pt_chains::mbr_targets;
-use pt_tables::{Ground, both_copies};
+use pt_tables::{Setting, both_copies};
 use pt_gpt::Table;
 use pt_layout::{Body, Ebrs, Finding, Head, Layout, Path};
 use pt_mbr::Record;
@@ -162,11 +162,11 @@ pub(crate) fn to_gpt<const B: usize, D: Disk<B>>(
         return one_label(alloc, &known.old, is_broken(&known.finding), places);
     }
     let head = head_of(disk, known.head)?;
-    let ground = Ground {
+    let setting = Setting {
         sectors: disk.sectors(),
         old: &known.old,
         guarded: &known.guarded,
         head,
     };
-    both_copies(alloc, order_of(known.head, known.primary), &ground, table, places)
+    both_copies(alloc, order_of(known.head, known.primary), &setting, table, places)
 }

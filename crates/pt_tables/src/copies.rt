@@ -15,7 +15,7 @@ ghost use Rattle.pt_tables.specs.Starts.{CopiesStart};
 ghost use Rattle.pt_tables.specs.declared.order.Order.TheVariants.{FromMbr};
 ghost use Rattle.pt_copies.specs.Written.{last_of};
 
-use crate::ground::Ground;
+use crate::setting::Setting;
 use crate::order::Order;
 use crate::refusal::accept;
 use pt_apply::{Plan, Write};
@@ -40,28 +40,28 @@ fn last_sector<const B: usize>(sectors: u64, head: &Option<Sector<B>>) -> Option
 fn arranged<const B: usize>(
     alloc: Global,
     order: Order,
-    ground: &Ground<B>,
+    setting: &Setting<B>,
     table: &Table,
     labels: Vec<Write<B>>,
 ) -> Result<Plan<B>, AllocError>
     requires size { IsSectorSize B }
-    requires room { 2 * array_len B + 4 ≤ ground.now.sectors }
+    requires room { 2 * array_len B + 4 ≤ setting.now.sectors }
     requires few { length table.now.entries ≤ 128 }
-    requires head { order ≡ FromMbr → ¬ (ground.now.head ≡ None) }
-    requires labels_in_range { PhaseInRange ground.now.sectors labels.items }
-    ensures phases { IfOk result (λ plan. Arranged B ground.now.sectors table.now ground.now.head (writes_of labels.entry.items) order (phases_of plan)) }
-    ensures in_range { IfOk result (InRange ground.now.sectors) }
+    requires head { order ≡ FromMbr → ¬ (setting.now.head ≡ None) }
+    requires labels_in_range { PhaseInRange setting.now.sectors labels.items }
+    ensures phases { IfOk result (λ plan. Arranged B setting.now.sectors table.now setting.now.head (writes_of labels.entry.items) order (phases_of plan)) }
+    ensures in_range { IfOk result (InRange setting.now.sectors) }
     ensures some { IfOk result (λ plan. All (λ p. 0 < length p.items) plan.phases.items) }
     ensures short { IfOk result (λ plan. length plan.phases.items ≤ 5) }
     ensures count { IfOk result (λ plan. length (writes_in (phases_of plan)) ≤ 2 * array_len B + 4 + length labels.entry.items) }
 {
-    let sectors = ground.sectors;
-    let last = last_sector(sectors, &ground.head);
+    let sectors = setting.sectors;
+    let last = last_sector(sectors, &setting.head);
     match order {
         Order::BackupFirst => backup_first(alloc, sectors, table, labels, &last),
         Order::PrimaryFirst => primary_first(alloc, sectors, table, labels, &last),
         Order::FromMbr => {
-            let head = ground.head.unwrap_or([0; B]);
+            let head = setting.head.unwrap_or([0; B]);
             from_mbr(
                 alloc,
                 sectors,
@@ -80,18 +80,18 @@ fn arranged<const B: usize>(
 pub fn both_copies<const B: usize>(
     alloc: Global,
     order: Order,
-    ground: &Ground<B>,
+    setting: &Setting<B>,
     table: &Table,
     places: Vec<Target<B>>,
 ) -> Result<Plan<B>, PlanError>
     requires size { IsSectorSize B }
-    requires room { 2 * array_len B + 4 ≤ ground.now.sectors }
+    requires room { 2 * array_len B + 4 ≤ setting.now.sectors }
     requires few { length table.now.entries ≤ 128 }
-    requires head { order ≡ FromMbr → ¬ (ground.now.head ≡ None) }
-    requires in_range { All (λ t. t.at.0 < ground.now.sectors) places.items }
-    ensures plan { IfOk result (λ plan. (d : Sectors) (p : Layout) → length d ≡ ground.now.sectors → CopiesStart d ground.now.old.now p table.now order ground.now.guarded.now ground.now.head places.entry.items → IsPlan B d p (phases_of plan)) }
-    ensures err { IfErr result (λ e. (d : Sectors) (p : Layout) → length d ≡ ground.now.sectors → CopiesStart d ground.now.old.now p table.now order ground.now.guarded.now ground.now.head places.entry.items → StopsBy B d ground.now.old.now p (HasNoCopies B d ground.now.old.now p) e) }
-    ensures in_range { IfOk result (InRange ground.now.sectors) }
+    requires head { order ≡ FromMbr → ¬ (setting.now.head ≡ None) }
+    requires in_range { All (λ t. t.at.0 < setting.now.sectors) places.items }
+    ensures plan { IfOk result (λ plan. (d : Sectors) (p : Layout) → length d ≡ setting.now.sectors → CopiesStart d setting.now.old.now p table.now order setting.now.guarded.now setting.now.head places.entry.items → IsPlan B d p (phases_of plan)) }
+    ensures err { IfErr result (λ e. (d : Sectors) (p : Layout) → length d ≡ setting.now.sectors → CopiesStart d setting.now.old.now p table.now order setting.now.guarded.now setting.now.head places.entry.items → StopsBy B d setting.now.old.now p (HasNoCopies B d setting.now.old.now p) e) }
+    ensures in_range { IfOk result (InRange setting.now.sectors) }
     ensures some { IfOk result (λ plan. All (λ p. 0 < length p.items) plan.phases.items) }
     ensures faultless { IfErr result (λ e. fault_in e ≡ None) }
     ensures short { IfOk result (λ plan. length plan.phases.items ≤ 5) }
@@ -101,8 +101,8 @@ pub fn both_copies<const B: usize>(
         None => return Err(PlanError::NotOneSwitch),
         Some(targets) => targets,
     };
-    let labels = new_writes(alloc, &targets, ground.guarded)?;
-    let plan = arranged(alloc, order, ground, table, labels)?;
-    accept(order, ground.old, ground.guarded, &targets, &plan)?;
+    let labels = new_writes(alloc, &targets, setting.guarded)?;
+    let plan = arranged(alloc, order, setting, table, labels)?;
+    accept(order, setting.old, setting.guarded, &targets, &plan)?;
     Ok(plan)
 }

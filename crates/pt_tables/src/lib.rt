@@ -2,7 +2,7 @@
 #![tactic(auto)]
 
 mod copies;
-mod ground;
+mod setting;
 mod order;
 mod refusal;
 mod reserved;
@@ -10,5 +10,5 @@ mod reserved;
 mod tests;
 
 pub use copies::both_copies;
-pub use ground::Ground;
+pub use setting::Setting;
 pub use order::Order;

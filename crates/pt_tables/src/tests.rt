@@ -3,7 +3,7 @@
 ghost use Rattle.std.specs.Prelude.{◌≡◌, ◌<◌, ◌≤◌, All, None, length, IfOk};
 ghost use Rattle.pt_tables.specs.declared.order.Order.TheVariants.{FromMbr};
 
-use crate::{Ground, Order, both_copies};
+use crate::{Setting, Order, both_copies};
 use pt_gpt::{Entries, Table};
 use pt_guid::Guid;
 use pt_layout::{Body, Ebrs, Labels, Layout, Trace};
@@ -67,14 +67,14 @@ fn two(alloc: Global, first: u64, second: u64) -> Result<Vec<Target<512>>, Alloc
 fn counts(
     alloc: Global,
     order: Order,
-    ground: &Ground<512>,
+    setting: &Setting<512>,
     places: Vec<Target<512>>,
 ) -> Result<[usize; 5], PlanError>
-    requires sectors { ground.now.sectors ≡ 4096 }
-    requires head { order ≡ FromMbr → ¬ (ground.now.head ≡ None) }
+    requires sectors { setting.now.sectors ≡ 4096 }
+    requires head { order ≡ FromMbr → ¬ (setting.now.head ≡ None) }
     requires in_range { All (λ t. t.at.0 < 4096) places.items }
 {
-    let plan = both_copies(alloc, order, ground, &table(alloc)?, places)?;
+    let plan = both_copies(alloc, order, setting, &table(alloc)?, places)?;
     let mut counts = [0; 5];
     for i in 0..plan.phases.len() {
         if i < 5 {
@@ -85,15 +85,15 @@ fn counts(
 }
 
 /// A disk that denotes this, with these guarded sectors and a sector 0 of zeros.
-fn ground<'a>(
+fn setting<'a>(
     old: &'a Option<Layout>,
     guarded: &'a Trace,
     head: Option<Sector<512>>,
-) -> Ground<'a, 512>
+) -> Setting<'a, 512>
     ensures sectors { result.sectors ≡ 4096 }
     ensures head { result.head ≡ head }
 {
-    Ground {
+    Setting {
         sectors: SECTORS,
         old,
         guarded,
@@ -125,8 +125,8 @@ fn one_partition(alloc: Global) -> Layout {
 fn orders_of_both_copies(rt: HostRuntime) -> Result<(), Fail> {
     let alloc = rt.alloc();
     let guarded = Trace::new(alloc);
-    let blank = ground(&None, &guarded, Some(ZEROS));
-    let protected = ground(&None, &guarded, None);
+    let blank = setting(&None, &guarded, Some(ZEROS));
+    let protected = setting(&None, &guarded, None);
     let no_primary = counts(alloc, Order::PrimaryFirst, &blank, Vec::new(alloc));
     assert!(rt; no_primary == Ok([1, 32, 1, 33, 1]));
     let labelled = counts(
@@ -152,7 +152,7 @@ fn sectors_that_are_refused(rt: HostRuntime) -> Result<(), Fail> {
     guarded.add_one(1)?;
     guarded.add_one(50)?;
     let old = Some(one_partition(alloc));
-    let disk = ground(&old, &guarded, None);
+    let disk = setting(&old, &guarded, None);
     let shared = counts(alloc, Order::BackupFirst, &disk, two(alloc, 100, 100)?);
     assert!(rt; shared == Err(PlanError::NotOneSwitch));
     let owned = counts(

@@ -5,7 +5,7 @@ use pt_sector::Sector;
 
 /// What the writes of both copies meet on a disk.
 #[derive(Clone, Copy)]
-pub struct Ground<'a, const B: usize> {
+pub struct Setting<'a, const B: usize> {
     /// How many sectors the disk has.
     pub sectors: u64,
     /// What it denotes.
