@@ -111,8 +111,10 @@ plan_few b d p phases t body (backup_first o u is) = with_labels b d o p u phase
   where
     n : ℕ
     n = length d
+
     P : Writes
     P = array_phase b n u Primary
+
     counted : length (writes_in (labels_and_backup b n u is.copies.backup is.copies.labels ∷ closing b ∷ P ∷ one_write 1 is.copies.primary ∷ is.last)) ≤ 2 * array_len b + 4 + length is.copies.labels
     counted =
         let first = length-append (labels_and_backup b n u is.copies.backup is.copies.labels) (closing b ++ (P ++ (one_write 1 is.copies.primary ++ writes_in is.last))) in
@@ -123,8 +125,10 @@ plan_few b d p phases t body (primary_first o u is) = with_labels b d o p u phas
   where
     n : ℕ
     n = length d
+
     P : Writes
     P = array_phase b n u Primary
+
     counted : length (writes_in (closing b ∷ primary_and_labels b n u is.copies.labels ∷ one_write 1 is.copies.primary ∷ backup_phase b n u is.copies.backup ∷ is.last)) ≤ 2 * array_len b + 4 + length is.copies.labels
     counted =
         let H = backup_phase b n u is.copies.backup in
@@ -136,8 +140,10 @@ plan_few b d p phases t body (from_mbr o u is) = with_labels b d o p u phases is
   where
     n : ℕ
     n = length d
+
     P : Writes
     P = array_phase b n u Primary
+
     counted : length (writes_in (copies_and_labels b n u is.copies.primary is.copies.backup is.copies.labels ∷ one_write 0 is.head ∷ [])) ≤ 2 * array_len b + 4 + length is.copies.labels
     counted =
         let H = backup_phase b n u is.copies.backup in

@@ -48,7 +48,19 @@ impl<const B: usize> Objection<B> for OtherBootCode<'_> {
     }
 }
 
-/// The number of the first write that changes the disk's boot code, from 1.
+/// Against writes of sector 0.
+#[derive(Clone, Copy)]
+struct OfSector0;
+
+impl<const B: usize> Objection<B> for OfSector0 {
+    ghost against = { λ _ w. w.0 ≡ 0 };
+
+    fn objects(&self, write: &Write<B>) -> bool {
+        write.lba.0 == 0
+    }
+}
+
+/// The number of the first write that changes the disk's boot code, from 1. Sector 0 is read where the plan writes it.
 pub(crate) fn other_boot_code<const B: usize, D: Disk<B>>(
     disk: &mut D,
     plan: &Plan<B>,
@@ -61,6 +73,9 @@ pub(crate) fn other_boot_code<const B: usize, D: Disk<B>>(
     ensures found { D.tells → IfOk result (λ n. NumberIs (phases_of plan.now) (ChangesBoot (D.told disk.old).seen) n) }
 {
     if disk.sectors() == 0 {
+        return Ok(None);
+    }
+    if first_in_plan(&OfSector0, plan).is_none() {
         return Ok(None);
     }
     let mut head = [0; B];

@@ -456,8 +456,8 @@ fn rename_with_failure(alloc: Global, call: u64) -> Result<Result<(), CommitErro
     Ok(commit(alloc, &mut disk, &rename(alloc, 1, "b")?, &[]))
 }
 
-// The first call is a flush, and then come 141 reads: the planner reads sector 0 and both sides of the table once (67),
-// the checker sector 0 and the primary side twice (68), and six times sector 0 alone. There are 67 writes, and a flush
+// The first call is a flush, and then come 140 reads: the planner reads sector 0 and both sides of the table once (67),
+// the checker sector 0 and the primary side twice (68), and five times sector 0 alone. There are 67 writes, and a flush
 // follows each of the four phases.
 #[test]
 fn a_commit_reads_little(rt: HostRuntime) -> Result<(), Fail> {
@@ -467,11 +467,11 @@ fn a_commit_reads_little(rt: HostRuntime) -> Result<(), Fail> {
         Ok(plan) => assert_eq!(rt; counts(&plan), [33, 1, 32, 1, 0]),
         Err(_) => assert!(rt; false),
     }
-    let after_reads = match rename_with_failure(rt.alloc(), 143)? {
+    let after_reads = match rename_with_failure(rt.alloc(), 142)? {
         Err(CommitError::Device(Fault::Write(_))) => true,
         _ => false,
     };
     assert!(rt; after_reads);
-    assert_eq!(rt; rename_with_failure(rt.alloc(), 214)?, Ok(()));
+    assert_eq!(rt; rename_with_failure(rt.alloc(), 213)?, Ok(()));
     Ok(())
 }

@@ -2,8 +2,8 @@
 #![tactic(auto)]
 
 mod known;
-mod plans;
 mod planner;
+mod plans;
 mod state;
 
 pub use known::{Known, read_known};

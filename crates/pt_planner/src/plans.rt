@@ -26,12 +26,12 @@ use crate::known::Known;
 use crate::state::{changes_labels, is_broken, order_of};
 use pt_apply::Plan;
 use pt_chains::mbr_targets;
-use pt_tables::{Setting, both_copies};
 use pt_gpt::Table;
 use pt_layout::{Body, Ebrs, Finding, Head, Layout, Path};
 use pt_mbr::Record;
 use pt_places::{LabelTargets, label_targets};
 use pt_sector::{Disk, FailedRead, Lba, Sector, read_sector};
+use pt_tables::{Setting, both_copies};
 use pt_targets::{PlanError, Target};
 use pt_turns::{one_label, within_mbr};
 use std::alloc::Global;
@@ -168,5 +168,11 @@ pub(crate) fn to_gpt<const B: usize, D: Disk<B>>(
         guarded: &known.guarded,
         head,
     };
-    both_copies(alloc, order_of(known.head, known.primary), &setting, table, places)
+    both_copies(
+        alloc,
+        order_of(known.head, known.primary),
+        &setting,
+        table,
+        places,
+    )
 }

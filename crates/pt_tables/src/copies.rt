@@ -15,9 +15,9 @@ ghost use Rattle.pt_tables.specs.Starts.{CopiesStart};
 ghost use Rattle.pt_tables.specs.declared.order.Order.TheVariants.{FromMbr};
 ghost use Rattle.pt_copies.specs.Written.{last_of};
 
-use crate::setting::Setting;
 use crate::order::Order;
 use crate::refusal::accept;
+use crate::setting::Setting;
 use pt_apply::{Plan, Write};
 use pt_copies::{backup_first, from_mbr, primary_first, protected_head, protecting};
 use pt_gpt::Table;

@@ -2,13 +2,13 @@
 #![tactic(auto)]
 
 mod copies;
-mod setting;
 mod order;
 mod refusal;
 mod reserved;
+mod setting;
 #[cfg(test)]
 mod tests;
 
 pub use copies::both_copies;
-pub use setting::Setting;
 pub use order::Order;
+pub use setting::Setting;

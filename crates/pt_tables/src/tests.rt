@@ -3,7 +3,7 @@
 ghost use Rattle.std.specs.Prelude.{◌≡◌, ◌<◌, ◌≤◌, All, None, length, IfOk};
 ghost use Rattle.pt_tables.specs.declared.order.Order.TheVariants.{FromMbr};
 
-use crate::{Setting, Order, both_copies};
+use crate::{Order, Setting, both_copies};
 use pt_gpt::{Entries, Table};
 use pt_guid::Guid;
 use pt_layout::{Body, Ebrs, Labels, Layout, Trace};

@@ -76,10 +76,8 @@ impl Failure {
             | Failure::BadFresh
             | Failure::BadPath
             | Failure::BadNumber => Status::Usage,
-            Failure::Edit(_)
-            | Failure::Plan(_)
-            | Failure::Check(_)
-            | Failure::PlanText(_) => Status::Refused,
+            Failure::Edit(_) | Failure::Plan(_) | Failure::Check(_) | Failure::PlanText(_) =>
+                Status::Refused,
             Failure::NoTable(NoTable::Device(_)) | Failure::Device => Status::Device,
             Failure::NoTable(NoTable::Memory) | Failure::Memory => Status::Memory,
             Failure::NoTable(_) => Status::NoTable,

@@ -38,8 +38,7 @@ returns-in_err-places-clause-err g c = λ tells.
 pub to_mbr-requires : goal.to_mbr-requires
 to_mbr-requires g c =
     let of = of_disk g.row.B c.sectors.result c.args.known.now.old c.args.wanted.now c.may_be.result c.may_be.ensures c.if-not-may_be.false in
-    let count = c.sectors.ensures ∙ sym c.in_ok-places.ensures.same.same_count in
-    (
+    let count = c.sectors.ensures ∙ sym c.in_ok-places.ensures.same.same_count in (
       omega arith,
       (
         omega arith,
@@ -55,8 +54,8 @@ to_mbr-requires g c =
                   λ tells. rw (c.in_ok-places.ensures.same.same tells) (c.requires.known tells),
                   (
                     λ tells. rw (c.in_ok-places.ensures.same.same tells) (starts g.row.B (g.D.Disk.told c.args.disk.now).seen c.args.known.now c.args.wanted.now (c.requires.known tells) c.in_ok-be_sound.ensures.ok
-                    (of.sectors ∙ c.sectors.ensures ∙ sym (g.met.D.Disk.sized c.args.disk.now tells)) c.is_done.ensures.stays
-                    (isnt c.is_done.result c.if-is_done.false (c.is_done.ensures.done (g.D.Disk.told c.args.disk.now).seen (c.requires.known tells)))),
+                        (of.sectors ∙ c.sectors.ensures ∙ sym (g.met.D.Disk.sized c.args.disk.now tells)) c.is_done.ensures.stays
+                        (isnt c.is_done.result c.if-is_done.false (c.is_done.ensures.done (g.D.Disk.told c.args.disk.now).seen (c.requires.known tells)))),
                     λ tells. rw (c.in_ok-places.ensures.same.same tells) (c.in_ok-places.ensures.ok tells),
                   ),
                 ),
@@ -70,8 +69,7 @@ to_mbr-requires g c =
 pub to_gpt-requires : goal.to_gpt-requires
 to_gpt-requires g c =
     let of = of_disk g.row.B c.sectors.result c.args.known.now.old c.args.wanted.now c.may_be.result c.may_be.ensures c.if-not-may_be.false in
-    let count = c.sectors.ensures ∙ sym c.in_ok-places.ensures.same.same_count in
-    (
+    let count = c.sectors.ensures ∙ sym c.in_ok-places.ensures.same.same_count in (
       omega arith,
       (
         omega arith,
@@ -87,8 +85,8 @@ to_gpt-requires g c =
                   λ tells. rw (c.in_ok-places.ensures.same.same tells) (c.requires.known tells),
                   (
                     λ tells. rw (c.in_ok-places.ensures.same.same tells) (starts g.row.B (g.D.Disk.told c.args.disk.now).seen c.args.known.now c.args.wanted.now (c.requires.known tells) c.in_ok-be_sound.ensures.ok
-                    (of.sectors ∙ c.sectors.ensures ∙ sym (g.met.D.Disk.sized c.args.disk.now tells)) c.is_done.ensures.stays
-                    (isnt c.is_done.result c.if-is_done.false (c.is_done.ensures.done (g.D.Disk.told c.args.disk.now).seen (c.requires.known tells)))),
+                        (of.sectors ∙ c.sectors.ensures ∙ sym (g.met.D.Disk.sized c.args.disk.now tells)) c.is_done.ensures.stays
+                        (isnt c.is_done.result c.if-is_done.false (c.is_done.ensures.done (g.D.Disk.told c.args.disk.now).seen (c.requires.known tells)))),
                     λ tells. rw (c.in_ok-places.ensures.same.same tells) (c.in_ok-places.ensures.ok tells),
                   ),
                 ),
