@@ -23,8 +23,8 @@ use std::io::Write;
 
 /// Flushes the disk, so that what a read gives is durable, checks the plan, and applies it after a yes.
 ///
-/// A crash within the call leaves what it could leave before, or a disk stopped in a plan that is safe. After every
-/// error but a failed write or flush, and after a no, the first flush was done and nothing else.
+/// A crash within the call leaves what it could leave before, or a disk stopped in a plan that is safe. After a no the
+/// first flush was done and nothing else.
 fn apply_checked<const B: usize, D: Disk<B>>(
     alloc: Global,
     disk: &mut D,
