@@ -11,7 +11,7 @@ use Rattle.pt_cases.specs.Accepted.{plan_finishes, plan_not_refused}
 use Rattle.pt_cases.specs.Cases.{IsPlan}
 use Rattle.pt_planner.specs.Known.{ReasonIs}
 use Rattle.pt_planner.specs.Unplanned.{Unplanned}
-use Rattle.pt_plan.specs.Batches.{Batch, Makes, EditedBy, IsPlanned, IsReady, IsRefusal}
+use Rattle.pt_plan.specs.Batches.{Words, Makes, EditedBy, IsPlanned, IsReady, IsRefusal}
 use Rattle.pt_plan.specs.Commits.{Leads}
 use Rattle.pt_plan.specs.Steps.{sectors_in, StartsFrom, NoStart, NotEdited, NotPlanned, IsSafe, NotSafe}
 use Rattle.pt_plan.specs.declared.error.CommitError.{CommitError}
@@ -30,7 +30,7 @@ sectors_are b n d sized None is = refl
 sectors_are b n d sized (Some o) is = is.0 ∙ sized
 
 -- from the batch's start on
-module _ (b n : ℕ) (batch : Batch) (d : Sectors) (sized : length d ≡ n) (o : Option Layout) (starts : StartsFrom b batch d o) (m : ℕ) (same : m ≡ n) where
+module _ (b n : ℕ) (batch : Words) (d : Sectors) (sized : length d ≡ n) (o : Option Layout) (starts : StartsFrom b batch d o) (m : ℕ) (same : m ≡ n) where
   here : sectors_in o m ≡ n
   here = ap (sectors_in o) same ∙ sectors_are b n d sized o starts.from
 
@@ -58,7 +58,7 @@ module _ (b n : ℕ) (batch : Batch) (d : Sectors) (sized : length d ≡ n) (o :
     planned phases is = record { old = o; new = l; leads = leads; planned = is }
 
 -- a plan is never refused by the checker
-pub not_safe : (b n : ℕ) (batch : Batch) (d : Sectors) (phases : List Writes) → IsSectorSize b → IsPlanned b n batch d phases → (e : CommitError) → NotSafe b d phases e → IsRefusal b n batch d e
+pub not_safe : (b n : ℕ) (batch : Words) (d : Sectors) (phases : List Writes) → IsSectorSize b → IsPlanned b n batch d phases → (e : CommitError) → NotSafe b d phases e → IsRefusal b n batch d e
 not_safe b n batch d phases size is (NoTable e) none = absurd none
 not_safe b n batch d phases size is (Edit r) none = absurd none
 not_safe b n batch d phases size is (Plan e) none = absurd none
@@ -66,7 +66,7 @@ not_safe b n batch d phases size is (Check why) against = absurd (plan_not_refus
 not_safe b n batch d phases size is (Device fault) failed = tt
 not_safe b n batch d phases size is Memory failed = tt
 
-pub ready : (b n : ℕ) (batch : Batch) (d : Sectors) (phases : List Writes) → IsSectorSize b → IsPlanned b n batch d phases → IsSafe b d phases → IsReady b n batch d phases
+pub ready : (b n : ℕ) (batch : Words) (d : Sectors) (phases : List Writes) → IsSectorSize b → IsPlanned b n batch d phases → IsSafe b d phases → IsReady b n batch d phases
 ready b n batch d phases size is safe = record {
   old = is.old;
   new = is.new;
@@ -82,7 +82,7 @@ never true X is both holds = absurd cc
 never false X is both holds = let yes : IsTrue false = both.1 holds in absurd cc
 
 -- a disk that denotes nothing
-pub no_start : (b : ℕ) (batch : Batch) (d : Sectors) (o : Option Layout) (r : NoTableReason) → Denotes b d o → ReasonIs b d o (Some r) → (Makes batch → ⊥) → NoStart b batch d (NoTable r)
+pub no_start : (b : ℕ) (batch : Words) (d : Sectors) (o : Option Layout) (r : NoTableReason) → Denotes b d o → ReasonIs b d o (Some r) → (Makes batch → ⊥) → NoStart b batch d (NoTable r)
 no_start b batch d None r from reason never = (from, reason, never)
 no_start b batch d (Some l) r from reason never = absurd reason
 
@@ -94,6 +94,6 @@ reason_inside b d None reason.Memory reason = absurd reason
 reason_inside b d None _ reason = refl
 
 -- a disk that denotes a layout
-pub some_start : (b : ℕ) (batch : Batch) (d : Sectors) (o : Option Layout) → Denotes b d o → ReasonIs b d o None → StartsFrom b batch d o
+pub some_start : (b : ℕ) (batch : Words) (d : Sectors) (o : Option Layout) → Denotes b d o → ReasonIs b d o None → StartsFrom b batch d o
 some_start b batch d None from reason = absurd reason
 some_start b batch d (Some l) from reason = record { from = from; may = λ none. absurd cc }

@@ -14,14 +14,21 @@ use Rattle.pt_words.specs.declared.word.Edit.{Edit}
 use Rattle.pt_words.specs.declared.word.Edit.TheVariants.{Align, Empty}
 use Rattle.pt_check.specs.Answers.{TableOf, OwnedOf}
 use Rattle.pt_cases.specs.Cases.{IsPlan}
+use Rattle.pt_planner.specs.Unmendable.{IsUnmendable}
 use Rattle.pt_planner.specs.Unplanned.{Unplanned}
 use Rattle.pt_plan.specs.declared.error.CommitError.{CommitError}
+use Rattle.pt_plan.specs.declared.repair_error.RepairError.{RepairError}
+use Rattle.pt_plan.specs.declared.session.Batch.{Batch}
+use Rattle.pt_plan.specs.declared.session.Reply.{Reply}
 use Rattle.pt_plan.specs.Calls.{Call, CarryOn}
 use Rattle.pt_plan.specs.Commits.{past, Committed, Planned, Ready, Refuses}
-use Rattle.pt_plan.specs.History.{Either, Carries}
+use Rattle.pt_plan.specs.History.{Unchanged, Either, Carries}
+use Rattle.pt_plan.specs.Repairs.{Repaired, MendPlanned, ReadyToMend, RefusesToMend}
+use Rattle.pt_plan.specs.Running.{Step, Ran}
+use Rattle.pt_plan.specs.Sessions.{Session}
 
 -- the words of a commit, and the GUIDs that they may take
-pub record Batch : Type 0 where
+pub record Words : Type 0 where
   pub edits : List Edit
   pub guids : List Guid
 
@@ -32,36 +39,64 @@ MakesTable (Align k ∷ words) = MakesTable words
 MakesTable (Empty ∷ words) = Unit {0}
 MakesTable (word ∷ words) = ⊥
 
-abbrev pub Makes : Batch → Type 0
+abbrev pub Makes : Words → Type 0
 Makes batch = MakesTable batch.edits
 
 -- what a batch makes of what a disk of n sectors denotes
-abbrev pub EditedBy : ℕ → ℕ → Option Layout → Batch → Result Layout Refusal → Type 0
+abbrev pub EditedBy : ℕ → ℕ → Option Layout → Words → Result Layout Refusal → Type 0
 EditedBy b n old batch result = Edited b n old batch.edits batch.guids result
 
 -- a commit of the batch to a disk of n sectors of b bytes
-abbrev pub Commits : ℕ → ℕ → Batch → Result Unit CommitError → Told → Told → Type 0
+abbrev pub Commits : ℕ → ℕ → Words → Result Unit CommitError → Told → Told → Type 0
 Commits b n = Committed (Denotes b) (IsReason b) Makes (EditedBy b n) (IsPlan b) (Unplanned b) (Healthy b) (TableOf b) (OwnedOf b)
 
 -- a plan for the batch
-abbrev pub IsPlanned : ℕ → ℕ → Batch → Sectors → List Writes → Type 0
+abbrev pub IsPlanned : ℕ → ℕ → Words → Sectors → List Writes → Type 0
 IsPlanned b n = Planned (Denotes b) (IsReason b) Makes (EditedBy b n) (IsPlan b) (Unplanned b) (Healthy b) (TableOf b) (OwnedOf b)
 
 -- a checked plan for the batch
-abbrev pub IsReady : ℕ → ℕ → Batch → Sectors → List Writes → Type 0
+abbrev pub IsReady : ℕ → ℕ → Words → Sectors → List Writes → Type 0
 IsReady b n = Ready (Denotes b) (IsReason b) Makes (EditedBy b n) (IsPlan b) (Unplanned b) (Healthy b) (TableOf b) (OwnedOf b)
 
 -- why the batch is refused
-abbrev pub IsRefusal : ℕ → ℕ → Batch → Sectors → CommitError → Type 0
+abbrev pub IsRefusal : ℕ → ℕ → Words → Sectors → CommitError → Type 0
 IsRefusal b n = Refuses (Denotes b) (IsReason b) Makes (EditedBy b n) (IsPlan b) (Unplanned b) (Healthy b) (TableOf b) (OwnedOf b)
 
 -- a commit of the batch that answered so, as a call
-abbrev pub call_of : Batch → Result Unit CommitError → Call Batch
+abbrev pub call_of : Words → Result Unit CommitError → Call Words
 call_of batch result = record { inside = Either batch; done = past batch result }
 
 -- a call carries every history on, and so do calls in order
-abbrev pub CallCarries : ℕ → ℕ → Call Batch → Told → Told → Type 0
+abbrev pub CallCarries : ℕ → ℕ → Call Words → Told → Told → Type 0
 CallCarries b n call = Carries (Denotes b) (EditedBy b n) call.inside call.done
 
-abbrev pub CallsCarry : ℕ → ℕ → List (Call Batch) → Told → Told → Type 0
+abbrev pub CallsCarry : ℕ → ℕ → List (Call Words) → Told → Told → Type 0
 CallsCarry b n = CarryOn (Denotes b) (EditedBy b n)
+
+-- the words of a batch of the code
+abbrev pub batch_of : Batch → Words
+batch_of batch = record { edits = batch.edits.items; guids = batch.guids.items }
+
+-- a repair of a disk of n sectors of b bytes
+abbrev pub Repairs : ℕ → ℕ → Result Unit RepairError → Told → Told → Type 0
+Repairs b n = Repaired (Denotes b) (IsReason b) (EditedBy b n) (IsPlan b) (IsUnmendable b) (Healthy b) (TableOf b) (OwnedOf b)
+
+-- a plan for a repair
+abbrev pub IsMendPlan : ℕ → Sectors → List Writes → Type 0
+IsMendPlan b = MendPlanned (Denotes b) (IsPlan b) (IsUnmendable b)
+
+-- a checked plan for a repair
+abbrev pub IsReadyToMend : ℕ → Sectors → List Writes → Type 0
+IsReadyToMend b = ReadyToMend (Denotes b) (IsPlan b) (IsUnmendable b) (Healthy b) (TableOf b) (OwnedOf b)
+
+-- why a disk isn't repaired
+abbrev pub IsMendRefusal : ℕ → Sectors → RepairError → Type 0
+IsMendRefusal b = RefusesToMend (Denotes b) (IsReason b) (IsUnmendable b)
+
+-- a session of batches on a disk of n sectors of b bytes
+abbrev pub SessionOf : ℕ → ℕ → List Words → List Reply → Told → Told → Type 0
+SessionOf b n = Session (Commits b n)
+
+-- calls in order, on such a disk
+abbrev pub RunOf : ℕ → ℕ → List (Step Words) → Told → Told → Type 0
+RunOf b n = Ran (Commits b n) (Repairs b n)

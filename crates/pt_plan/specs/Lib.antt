@@ -3,4 +3,8 @@ pub mod Calls
 pub mod Commits
 pub mod Failed
 pub mod History
+pub mod Mending
+pub mod Repairs
+pub mod Running
+pub mod Sessions
 pub mod Steps

@@ -11,7 +11,7 @@ use Rattle.pt_words.specs.declared.error.Refusal.TheVariants as refusal
 use Rattle.pt_check.specs.Answers.{Answers, TableOf, OwnedOf}
 use Rattle.pt_check.specs.declared.answer.Answer.TheVariants.{No}
 use Rattle.pt_planner.specs.Unplanned.{Unplanned}
-use Rattle.pt_plan.specs.Batches.{Batch, Makes, EditedBy}
+use Rattle.pt_plan.specs.Batches.{Words, Makes, EditedBy}
 use Rattle.pt_plan.specs.declared.error.CommitError.{CommitError}
 use Rattle.pt_plan.specs.declared.error.CommitError.TheVariants.{NoTable, Edit, Plan, Check, Device, Memory}
 
@@ -27,17 +27,17 @@ sectors_in None n = n
 sectors_in (Some o) n = o.sectors
 
 -- what the disk denotes, from which the batch may start
-pub record StartsFrom (b : ℕ) (batch : Batch) (d : Sectors) (o : Option Layout) : Type 0 where
+pub record StartsFrom (b : ℕ) (batch : Words) (d : Sectors) (o : Option Layout) : Type 0 where
   pub from : Denotes b d o
   pub may : o ≡ None → Makes batch
 
 -- why it may not start
-abbrev pub NoStart : ℕ → Batch → Sectors → CommitError → Type 0
+abbrev pub NoStart : ℕ → Words → Sectors → CommitError → Type 0
 NoStart b batch d (NoTable e) = Denotes b d None × IsReason b d e × (Makes batch → ⊥)
 NoStart b batch d e = IsCommitFailure e
 
 -- why the words make no layout
-abbrev pub NotEdited : ℕ → ℕ → Option Layout → Batch → CommitError → Type 0
+abbrev pub NotEdited : ℕ → ℕ → Option Layout → Words → CommitError → Type 0
 NotEdited b n o batch (Edit r) = (r ≢ refusal.Memory) × EditedBy b n o batch (Err r)
 NotEdited b n o batch Memory = Unit {0}
 NotEdited b n o batch _ = ⊥

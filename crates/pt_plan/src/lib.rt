@@ -1,10 +1,13 @@
-//! Commits of edits to a disk.
+//! Commits of edits to a disk, sessions of them, and repairs.
 #![tactic(auto)]
 
 mod commits;
 mod error;
 mod laws;
 mod prepare;
+mod repair;
+mod repair_error;
+mod session;
 #[cfg(test)]
 mod tests;
 
@@ -13,3 +16,6 @@ pub use error::CommitError;
 pub use laws::{calls_carry_on, commit_carries, history_begins, no_calls_carry, two_calls_carry};
 pub use prepare::plan_for;
 pub use pt_planner::PlanError;
+pub use repair::{plan_for_repair, repair};
+pub use repair_error::RepairError;
+pub use session::{Batch, Reply, session};

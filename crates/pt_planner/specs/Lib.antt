@@ -1,3 +1,4 @@
 pub mod Known
 pub mod State
+pub mod Unmendable
 pub mod Unplanned

@@ -1,9 +1,9 @@
 //! What the command says of itself, each page within a screen of 24 lines of 80 characters.
 
 pub const ABOUT: &str = "\
-Reads, verifies and edits partition tables (GPT, MBR with extended partitions,
-BSD labels) in a disk image. A power cut during an edit leaves the old table or
-the new one.";
+Reads, verifies, edits and repairs partition tables (GPT, MBR with extended
+partitions, BSD labels) in a disk image. A power cut during an edit leaves the
+old table or the new one.";
 
 pub const STATUSES: &str = "\
 Exit status: 0 done or yes, 1 the answer is no, 2 usage or an unreadable word,
@@ -81,3 +81,13 @@ is written.
 
 Exit status: 0 done, 1 no, 2 usage, 3 not a plan, 5 a file can't be opened, read
 or written, 6 no memory. After 1, 2, 3 and 6 nothing was written.";
+
+pub const REPAIR: &str = "\
+Writes both copies of a GPT and the protective record anew, and keeps all
+partitions: it mends findings 2 to 6 of `verify`. A stop at any moment leaves
+the same partitions. On a healthy image nothing is written.
+  refused: repair 2   a finding from 7 to 11: `verify` tells it once the copies
+                      agree, and `edit` mends it
+
+Exit status: 0 done, 2 usage, 3 refused, 4 no table, 5 the image can't be
+opened, read or written, 6 no memory. After 2, 3, 4 and 6 nothing was written.";

@@ -1,6 +1,6 @@
 //! The command line.
 
-use crate::help::{ABOUT, APPLY, CHECK, EDIT, LOCATE, PLAN, SHOW, STATUSES, VERIFY};
+use crate::help::{ABOUT, APPLY, CHECK, EDIT, LOCATE, PLAN, REPAIR, SHOW, STATUSES, VERIFY};
 use clap::error::ErrorKind;
 use clap::{Arg, ArgAction, ArgMatches, Command};
 use std::alloc::{AllocError, Global};
@@ -53,6 +53,9 @@ pub enum Job {
     Apply {
         image: String,
         file: String,
+    },
+    Repair {
+        image: String,
     },
 }
 
@@ -186,6 +189,14 @@ fn apply_command<'a>(alloc: Global) -> Result<Command<'a>, AllocError> {
         .arg(sector_size(alloc))
 }
 
+fn repair_command<'a>(alloc: Global) -> Result<Command<'a>, AllocError> {
+    Command::new(alloc, "repair")
+        .about("Makes the image healthy, and keeps its partitions as they are")
+        .after_help(REPAIR)
+        .arg(image(alloc))?
+        .arg(sector_size(alloc))
+}
+
 fn command<'a>(alloc: Global) -> Result<Command<'a>, AllocError> {
     Command::new(alloc, "ptab")
         .about(ABOUT)
@@ -197,7 +208,8 @@ fn command<'a>(alloc: Global) -> Result<Command<'a>, AllocError> {
         .subcommand(edit_command(alloc)?)?
         .subcommand(plan_command(alloc)?)?
         .subcommand(check_command(alloc)?)?
-        .subcommand(apply_command(alloc)?)
+        .subcommand(apply_command(alloc)?)?
+        .subcommand(repair_command(alloc)?)
 }
 
 fn text_of(alloc: Global, matches: &ArgMatches<'_>, id: &str) -> Result<String, AllocError> {
@@ -256,6 +268,9 @@ fn job_of(alloc: Global, name: &str, inner: &ArgMatches<'_>) -> Result<Job, Line
         "apply" => Ok(Job::Apply {
             image: text_of(alloc, inner, "IMAGE")?,
             file: text_of(alloc, inner, "PLANFILE")?,
+        }),
+        "repair" => Ok(Job::Repair {
+            image: text_of(alloc, inner, "IMAGE")?,
         }),
         _ => Err(LineError::Usage(String::new(alloc))),
     }

@@ -1,4 +1,4 @@
-//! The command `ptab`: shows, verifies and edits the partition table of a disk image, and plans and checks such edits.
+//! The command `ptab`: shows, verifies, edits and repairs the partition table of a disk image, and plans and checks edits.
 #![tactic(auto)]
 
 mod apply;
@@ -9,6 +9,7 @@ mod help;
 mod line;
 mod plan;
 mod plan_file;
+mod repair;
 mod run;
 mod show;
 mod texts;

@@ -8,6 +8,7 @@ use crate::edit::edit;
 use crate::file_disk::{Access, open};
 use crate::line::{Job, Line, LineError, SectorSize, read_line};
 use crate::plan::plan;
+use crate::repair::repair;
 use crate::show::print_layout;
 use crate::texts::{Failure, Status, print_finding};
 use pt_layout::{Path, Verdict, VerifyError, locate, parse_number, parse_path, recover, verify};
@@ -113,6 +114,7 @@ fn answer<const B: usize, R: Files<File = File> + AllocGlobal, O: Write>(
         } => plan::<B, R, O>(rt, image.as_str(), fresh.as_ref(), words.as_slice(), out),
         Job::Check { image, file } => check::<B, R, O>(rt, image.as_str(), file.as_str(), out),
         Job::Apply { image, file } => apply::<B, R, O>(rt, image.as_str(), file.as_str(), out),
+        Job::Repair { image } => repair::<B, R, O>(rt, image.as_str(), out),
     }
 }
 

@@ -6,7 +6,7 @@ use pt_check::CheckError;
 use pt_gpt::Side;
 use pt_layout::{Finding, NoTable, Path};
 use pt_mbr::ChainError;
-use pt_plan::CommitError;
+use pt_plan::{CommitError, RepairError};
 use std::alloc::AllocError;
 use std::io;
 use std::io::Write;
@@ -60,6 +60,8 @@ pub enum Failure {
     Plan(u8),
     /// A plan was refused by the checker, with this number.
     Check(u8),
+    /// A repair was refused with this number.
+    Repair(u8),
     /// A text is no plan's: its first bad line, counted from 1; 0 where it is too long or no UTF-8.
     PlanText(u64),
     NoTable(NoTable),
@@ -76,8 +78,11 @@ impl Failure {
             | Failure::BadFresh
             | Failure::BadPath
             | Failure::BadNumber => Status::Usage,
-            Failure::Edit(_) | Failure::Plan(_) | Failure::Check(_) | Failure::PlanText(_) =>
-                Status::Refused,
+            Failure::Edit(_)
+            | Failure::Plan(_)
+            | Failure::Check(_)
+            | Failure::Repair(_)
+            | Failure::PlanText(_) => Status::Refused,
             Failure::NoTable(NoTable::Device(_)) | Failure::Device => Status::Device,
             Failure::NoTable(NoTable::Memory) | Failure::Memory => Status::Memory,
             Failure::NoTable(_) => Status::NoTable,
@@ -95,6 +100,7 @@ impl Failure {
             Failure::Edit(number) => writeln!(err, "refused: edit {number}"),
             Failure::Plan(number) => writeln!(err, "refused: plan {number}"),
             Failure::Check(number) => writeln!(err, "refused: check {number}"),
+            Failure::Repair(number) => writeln!(err, "refused: repair {number}"),
             Failure::PlanText(line) => writeln!(err, "refused: plan text {line}"),
             Failure::NoTable(why) => print_no_table(err, *why),
             Failure::Device => writeln!(err, "device"),
@@ -133,6 +139,17 @@ impl From<CommitError> for Failure {
             CommitError::Check(why) => Failure::Check(number_of(why)),
             CommitError::Device(_) => Failure::Device,
             CommitError::Memory => Failure::Memory,
+        }
+    }
+}
+
+impl From<RepairError> for Failure {
+    fn from(error: RepairError) -> Failure {
+        match error {
+            RepairError::NoTable(why) => Failure::NoTable(why),
+            RepairError::Device(_) => Failure::Device,
+            RepairError::Memory => Failure::Memory,
+            refusal => Failure::Repair(refusal.number()),
         }
     }
 }

@@ -1,0 +1,97 @@
+//! Repairs of a disk, which keep its layout.
+
+ghost use Rattle.std.specs.Prelude.{◌≡◌, ◌<◌, All, length, OnOk, IfOk, IfErr};
+ghost use Rattle.pt_sector.specs.Sectors.{IsSectorSize};
+ghost use Rattle.pt_sector.specs.Calls.{Blames};
+ghost use Rattle.pt_sector.specs.Reads.{OnlyReads};
+ghost use Rattle.pt_apply.specs.Plans.{phases_of, InRange};
+ghost use Rattle.pt_plan.specs.Batches.{IsMendPlan, IsReadyToMend, IsMendRefusal, Repairs};
+ghost use Rattle.pt_plan.specs.Mending.{repair_fault_in as fault_in, MendHidesNoFailure};
+
+use crate::repair_error::RepairError;
+use pt_apply::{Plan, apply};
+use pt_check::{Answer, check};
+use pt_layout::NoTable;
+use pt_planner::{plan_from, read_known};
+use pt_sector::Disk;
+use std::alloc::Global;
+
+/// What is told of a disk that denotes nothing. The reason is what the disk holds, and no failure; where it were one,
+/// want of memory would be told.
+fn no_layout(reason: Option<NoTable>) -> RepairError {
+    match reason {
+        Some(reason) => match reason.failure() {
+            Some(_) => RepairError::Memory,
+            None => RepairError::NoTable(reason),
+        },
+        None => RepairError::Memory,
+    }
+}
+
+/// The plan that makes the disk healthy with the layout that it denotes: without phases where it is so already. Nothing
+/// is flushed or written. It is refused as `repair` refuses, and `Plan` and `Check` are never told; the checker is not
+/// asked, and accepts each such plan.
+pub fn plan_for_repair<const B: usize, D: Disk<B>>(
+    alloc: Global,
+    disk: &mut D,
+) -> Result<Plan<B>, RepairError>
+    requires size { IsSectorSize B }
+    ensures same { OnlyReads D.Disk disk.old disk.new }
+    ensures blames { Blames fault_in result (D.faults disk.old) (D.faults disk.new) }
+    ensures hides { IfErr result MendHidesNoFailure }
+    ensures in_range { IfOk result (InRange (D.count disk.old)) }
+    ensures phases { IfOk result (λ plan. All (λ p. 0 < length p.items) plan.phases.items) }
+    ensures planned { D.tells → IfOk result (λ plan. IsMendPlan B (D.told disk.old).seen (phases_of plan)) }
+    ensures refused { D.tells → IfErr result (IsMendRefusal B (D.told disk.old).seen) }
+{
+    let (known, reason) = read_known(alloc, disk)?;
+    match &known.old {
+        Some(layout) => {
+            let plan = plan_from(alloc, disk, &known, layout)?;
+            Ok(plan)
+        }
+        None => Err(no_layout(reason)),
+    }
+}
+
+/// The same, checked.
+fn prepare_repair<const B: usize, D: Disk<B>>(
+    alloc: Global,
+    disk: &mut D,
+) -> Result<Plan<B>, RepairError>
+    requires size { IsSectorSize B }
+    ensures same { OnlyReads D.Disk disk.old disk.new }
+    ensures blames { Blames fault_in result (D.faults disk.old) (D.faults disk.new) }
+    ensures hides { IfErr result MendHidesNoFailure }
+    ensures in_range { IfOk result (InRange (D.count disk.old)) }
+    ensures ready { D.tells → IfOk result (λ plan. IsReadyToMend B (D.told disk.old).seen (phases_of plan)) }
+    ensures refused { D.tells → IfErr result (IsMendRefusal B (D.told disk.old).seen) }
+{
+    let plan = plan_for_repair(alloc, disk)?;
+    match check(alloc, disk, &plan)? {
+        Answer::Yes { .. } => Ok(plan),
+        Answer::No(why) => Err(RepairError::Check(why)),
+    }
+}
+
+/// Makes the disk healthy, and keeps its layout: both copies of a GPT and the protective record are written anew.
+///
+/// The disk is flushed first, so that what a read gives is durable; then a plan is made for the layout that the disk
+/// denotes, checked, and applied phase by phase. Whatever was on the disk and whatever calls went before: each disk that
+/// a crash within the call may leave denotes that layout; after `Ok` nothing is pending and the disk is healthy. On a
+/// healthy disk nothing is written. After every error but `Device`, and after `Device` for a read, the first flush was
+/// done and nothing else. Sectors that partitions own, the boot code (bytes 0 to 439 of sector 0) and all that is no
+/// table stay.
+pub fn repair<const B: usize, D: Disk<B>>(alloc: Global, disk: &mut D) -> Result<(), RepairError>
+    requires size { IsSectorSize B }
+    ensures count { D.count disk.new ≡ D.count disk.old }
+    ensures name { D.name disk.new ≡ D.name disk.old }
+    ensures blames { Blames fault_in result (D.faults disk.old) (D.faults disk.new) }
+    ensures hides { IfErr result MendHidesNoFailure }
+    ensures repairs { D.tells → Repairs B (D.count disk.old) result (D.told disk.old) (D.told disk.new) }
+{
+    disk.flush()?;
+    let plan = prepare_repair(alloc, disk)?;
+    apply(disk, &plan)?;
+    Ok(())
+}

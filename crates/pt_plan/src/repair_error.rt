@@ -1,0 +1,89 @@
+//! Why a repair did nothing.
+
+ghost use Rattle.std.specs.Prelude.{◌≡◌};
+ghost use Rattle.pt_plan.specs.Mending.{repair_error_number, repair_failure, repair_unplanned, repair_unchecked};
+ghost use Rattle.pt_plan.specs.declared.repair_error.RepairError.TheVariants as repair;
+
+use pt_check::{CheckError, Why};
+use pt_layout::{Finding, NoTable};
+use pt_planner::PlanError;
+use pt_sector::{Failure, Fault};
+
+/// Why a disk isn't repaired. A fault of the device in any step is `Device`, and want of memory in any step is `Memory`,
+/// never within another error. After all but `Device` the first flush was done and nothing else.
+#[derive(Clone, Copy, Debug, PartialEq, Eq)]
+pub enum RepairError {
+    /// The disk denotes nothing, for this reason: there is no layout to keep.
+    NoTable(NoTable),
+    /// The layout isn't sound, or a slice has a foreign label: the first of these findings, which writing the copies of
+    /// a table anew wouldn't mend.
+    Unsound(Finding),
+    /// The device failed. After a failed read the first flush was done and nothing else. Otherwise copies may have been
+    /// written or not: each disk that a crash may leave denotes the same layout as before.
+    Device(Fault),
+    /// Memory was refused.
+    Memory,
+    /// There is no plan for the disk's own layout. A repair never tells it.
+    Plan(PlanError),
+    /// The plan is refused. A repair never tells it: the checker accepts each plan of the planner.
+    Check(Why),
+}
+
+impl RepairError {
+    /// The number that stands for it, from 1 to 6 in the order of the variants.
+    pub fn number(self) -> u8
+        ensures { result ≡ repair_error_number self }
+    {
+        match self {
+            RepairError::NoTable(_) => 1,
+            RepairError::Unsound(_) => 2,
+            RepairError::Device(_) => 3,
+            RepairError::Memory => 4,
+            RepairError::Plan(_) => 5,
+            RepairError::Check(_) => 6,
+        }
+    }
+}
+
+impl From<Failure> for RepairError {
+    ghost from_gives = { λ failure e. e ≡ repair_failure failure };
+
+    fn from(failure: Failure) -> RepairError {
+        match failure {
+            Failure::Device(at) => RepairError::Device(Fault::Read(at)),
+            Failure::Memory => RepairError::Memory,
+        }
+    }
+}
+
+impl From<Fault> for RepairError {
+    ghost from_gives = { λ fault e. e ≡ repair.Device fault };
+
+    fn from(fault: Fault) -> RepairError {
+        RepairError::Device(fault)
+    }
+}
+
+impl From<PlanError> for RepairError {
+    ghost from_gives = { λ error e. e ≡ repair_unplanned error };
+
+    fn from(error: PlanError) -> RepairError {
+        match error {
+            PlanError::Unsound(finding) => RepairError::Unsound(finding),
+            PlanError::Device(fault) => RepairError::Device(fault),
+            PlanError::Memory => RepairError::Memory,
+            error => RepairError::Plan(error),
+        }
+    }
+}
+
+impl From<CheckError> for RepairError {
+    ghost from_gives = { λ error e. e ≡ repair_unchecked error };
+
+    fn from(error: CheckError) -> RepairError {
+        match error {
+            CheckError::Device(fault) => RepairError::Device(fault),
+            CheckError::Memory => RepairError::Memory,
+        }
+    }
+}
