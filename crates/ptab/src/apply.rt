@@ -8,7 +8,7 @@ ghost use Rattle.pt_apply.specs.Plans.{phases_of};
 ghost use Rattle.pt_plan.specs.Failed.{commit_fault_in as fault_in};
 ghost use Rattle.ptab.specs.Applied.{Applied, SafelyStopped};
 
-use crate::file_disk::{Access, open};
+use pt_file::{Access, FileDisk};
 use crate::plan_file::read_plan_file;
 use crate::run::{Answer, printed};
 use crate::texts::Status;
@@ -58,7 +58,7 @@ pub fn apply<const B: usize, R: Files<File = File> + AllocGlobal, O: Write>(
     requires { IsSectorSize B }
 {
     let plan = read_plan_file::<B, R>(rt, file)?;
-    let mut disk = open::<R, B>(rt, image, Access::Write)?;
+    let mut disk = FileDisk::<B>::open(rt, image, Access::Write)?;
     match apply_checked(rt.alloc(), &mut disk, &plan)? {
         Checked::Yes { .. } => printed(writeln!(out, "done"), Status::Done),
         Checked::No(why) => printed(print_no(out, why), Status::No),

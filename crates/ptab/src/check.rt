@@ -2,7 +2,7 @@
 
 ghost use Rattle.pt_sector.specs.Sectors.{IsSectorSize};
 
-use crate::file_disk::{Access, open};
+use pt_file::{Access, FileDisk};
 use crate::plan_file::read_plan_file;
 use crate::run::{Answer, printed};
 use crate::texts::Status;
@@ -21,7 +21,7 @@ pub fn check<const B: usize, R: Files<File = File> + AllocGlobal, O: Write>(
     requires { IsSectorSize B }
 {
     let plan = read_plan_file::<B, R>(rt, file)?;
-    let mut disk = open::<R, B>(rt, image, Access::Read)?;
+    let mut disk = FileDisk::<B>::open(rt, image, Access::Read)?;
     match pt_check::check(rt.alloc(), &mut disk, &plan)? {
         Checked::Yes { switch } => printed(writeln!(out, "yes {switch}"), Status::Done),
         Checked::No(why) => printed(print_no(out, why), Status::No),

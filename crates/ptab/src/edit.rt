@@ -2,7 +2,7 @@
 
 ghost use Rattle.pt_sector.specs.Sectors.{IsSectorSize};
 
-use crate::file_disk::{Access, open};
+use pt_file::{Access, FileDisk};
 use crate::run::{Answer, printed};
 use crate::texts::Status;
 use crate::words::{edits_of, fresh_guids};
@@ -23,7 +23,7 @@ pub fn edit<const B: usize, R: Files<File = File> + AllocGlobal, O: Write>(
     let alloc = rt.alloc();
     let guids = fresh_guids(alloc, fresh)?;
     let edits = edits_of(alloc, words)?;
-    let mut disk = open::<R, B>(rt, image, Access::Write)?;
+    let mut disk = FileDisk::<B>::open(rt, image, Access::Write)?;
     commit::<B, _>(alloc, &mut disk, edits.as_slice(), guids.as_slice())?;
     printed(writeln!(out, "done"), Status::Done)
 }

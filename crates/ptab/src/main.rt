@@ -4,7 +4,6 @@
 mod apply;
 mod check;
 mod edit;
-mod file_disk;
 mod help;
 mod line;
 mod plan;

@@ -2,7 +2,7 @@
 
 ghost use Rattle.pt_sector.specs.Sectors.{IsSectorSize};
 
-use crate::file_disk::{Access, open};
+use pt_file::{Access, FileDisk};
 use crate::run::{Answer, printed};
 use crate::texts::{Failure, Status};
 use crate::words::{edits_of, fresh_guids};
@@ -24,7 +24,7 @@ pub fn plan<const B: usize, R: Files<File = File> + AllocGlobal, O: io::Write>(
     let alloc = rt.alloc();
     let guids = fresh_guids(alloc, fresh)?;
     let edits = edits_of(alloc, words)?;
-    let mut disk = open::<R, B>(rt, image, Access::Read)?;
+    let mut disk = FileDisk::<B>::open(rt, image, Access::Read)?;
     let plan = plan_for::<B, _>(alloc, &mut disk, edits.as_slice(), guids.as_slice())?;
     let text = plan_text(alloc, &plan)?;
     printed(write!(out, "{text}"), Status::Done)

@@ -5,7 +5,7 @@ ghost use Rattle.pt_sector.specs.Sectors.{IsSectorSize};
 use crate::apply::apply;
 use crate::check::check;
 use crate::edit::edit;
-use crate::file_disk::{Access, open};
+use pt_file::{Access, FileDisk};
 use crate::line::{Job, Line, LineError, SectorSize, read_line};
 use crate::plan::plan;
 use crate::repair::repair;
@@ -34,7 +34,7 @@ fn show<const B: usize, R: Files<File = File> + AllocGlobal, O: Write>(
 ) -> Answer
     requires { IsSectorSize B }
 {
-    let mut disk = open::<R, B>(rt, image, Access::Read)?;
+    let mut disk = FileDisk::<B>::open(rt, image, Access::Read)?;
     match recover::<B, _>(rt.alloc(), &mut disk) {
         Ok(layout) => printed(print_layout(out, &layout), Status::Done),
         Err(why) => Err(Failure::NoTable(why)),
@@ -48,7 +48,7 @@ fn verify_image<const B: usize, R: Files<File = File> + AllocGlobal, O: Write>(
 ) -> Answer
     requires { IsSectorSize B }
 {
-    let mut disk = open::<R, B>(rt, image, Access::Read)?;
+    let mut disk = FileDisk::<B>::open(rt, image, Access::Read)?;
     match verify::<B, _>(rt.alloc(), &mut disk) {
         Ok(Verdict::Yes(_)) => printed(writeln!(out, "yes"), Status::Done),
         Ok(Verdict::No(finding)) => printed(print_finding(out, &finding), Status::No),
@@ -76,7 +76,7 @@ fn locate_in<const B: usize, R: Files<File = File> + AllocGlobal, O: Write>(
 ) -> Answer
     requires { IsSectorSize B }
 {
-    let mut disk = open::<R, B>(rt, image, Access::Read)?;
+    let mut disk = FileDisk::<B>::open(rt, image, Access::Read)?;
     let layout = match recover::<B, _>(rt.alloc(), &mut disk) {
         Ok(layout) => layout,
         Err(why) => return Err(Failure::NoTable(why)),

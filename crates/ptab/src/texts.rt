@@ -1,6 +1,6 @@
 //! What the command answers: its texts and its exit statuses (docs/commands.md).
 
-use crate::file_disk::NoFile;
+use pt_file::NoFile;
 use crate::why::number_of;
 use pt_check::CheckError;
 use pt_gpt::Side;

@@ -1,7 +1,7 @@
 //! A disk in a file.
 
-ghost use Rattle.std.specs.Prelude.{◌≡◌, ◌≤◌, ◌<◌, ◌*◌, ◌+◌, ◌^◌, ◌∷◌, [], ◌++◌, length};
-ghost use Rattle.ptab.specs.Untold.{untold, in_bound};
+ghost use Rattle.std.specs.Prelude.{◌≡◌, ◌≤◌, ◌<◌, ◌*◌, ◌+◌, ◌^◌, ◌∷◌, [], ◌++◌, length, IfOk};
+ghost use Rattle.pt_file.specs.Untold.{untold, in_bound};
 ghost use Rattle.pt_sector.specs.Calls.{untouched_same, untouched_on};
 
 use pt_sector::{Disk, Fault, Lba, Moments};
@@ -10,7 +10,8 @@ use std::io::{Read, Seek, SeekFrom, Write};
 
 /// A plain file as a disk with sectors of `B` bytes; a tail shorter than a sector is never touched.
 ///
-/// It tells nothing of its content: that a file keeps the model of a device is a premise.
+/// It tells nothing of its content: that a file keeps the model of a device (docs/model.md) is a premise. A flush syncs the
+/// file, data and length. Nothing is cached: each call seeks and reads, or writes.
 #[derive(Drop)]
 pub struct FileDisk<const B: usize> {
     file: File,
@@ -19,7 +20,7 @@ pub struct FileDisk<const B: usize> {
     ghost fits: { sectors * B < 2 ^ 63 },
 }
 
-/// What a file is opened for.
+/// What a file is opened for: reading alone, or reading and writing.
 #[derive(Clone, Copy, Debug, PartialEq, Eq)]
 pub enum Access {
     Read,
@@ -52,27 +53,31 @@ pub fn open_plain<R: Files<File = File>>(
     }
 }
 
-/// Opens a plain file as a disk.
-pub fn open<R: Files<File = File>, const B: usize>(
-    rt: &R,
-    path: &str,
-    access: Access,
-) -> Result<FileDisk<B>, NoFile>
-    requires { 0 < B }
-{
-    let file = open_plain(rt, path, access)?;
-    let bytes = match file.metadata() {
-        Ok(found) => found.len(),
-        Err(_) => return Err(NoFile),
-    };
-    if bytes >= 1 << 63 {
-        return Err(NoFile);
+impl<const B: usize> FileDisk<B> {
+    /// Opens a plain file as a disk with as many whole sectors as the file has now. `NoFile` for what isn't a plain file,
+    /// can't be opened so, or has 2^63 bytes or more.
+    pub fn open<R: Files<File = File>>(
+        rt: &R,
+        path: &str,
+        access: Access,
+    ) -> Result<FileDisk<B>, NoFile>
+        requires size { 0 < B }
+        ensures unfailed { IfOk result (λ disk. disk.failed.items ≡ []) }
+    {
+        let file = open_plain(rt, path, access)?;
+        let bytes = match file.metadata() {
+            Ok(found) => found.len(),
+            Err(_) => return Err(NoFile),
+        };
+        if bytes >= 1 << 63 {
+            return Err(NoFile);
+        }
+        Ok(FileDisk {
+            file,
+            sectors: bytes / B as u64,
+            failed: Moments::new(),
+        })
     }
-    Ok(FileDisk {
-        file,
-        sectors: bytes / B as u64,
-        failed: Moments::new(),
-    })
 }
 
 impl<const B: usize> Disk<B> for FileDisk<B> {

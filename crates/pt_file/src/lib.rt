@@ -1,0 +1,6 @@
+//! A disk in a plain file.
+#![tactic(auto)]
+
+mod file_disk;
+
+pub use file_disk::{Access, FileDisk, NoFile, open_plain};
