@@ -1,5 +1,5 @@
 -- What a survey makes known, and what follows for a wanted layout.
-use Rattle.std.proofs.Common.{◌≡◌, ◌↔◌, ◌⊎◌, inl, inr, ℕ, ◌<◌, List, length, Bool, true, false, Option, Some, None, Result, Ok, Err, IfOk, IfErr, IsTrue, All, refl, sym, ap, ◌∙◌, subst, arith}
+use Rattle.std.proofs.Common.{◌≡◌, ◌↔◌, ◌⊎◌, inl, inr, ℕ, Bool, true, false, Option, Some, None, Result, Ok, Err, IfOk, IsTrue, refl, sym, ap, ◌∙◌, subst}
 use Rattle.std.specs.Prelude.{is_some, not, IfSome}
 use Rattle.pt_sector.specs.Sectors.{Sectors}
 use Rattle.pt_recover.specs.Denotes.{Denotes}
@@ -7,7 +7,6 @@ use Rattle.pt_recover.specs.Laws.{denotes_one_lem}
 use Rattle.pt_recover.specs.Numbers.{Numbers}
 use Rattle.pt_recover.specs.declared.error.NoTable.{NoTable}
 use Rattle.pt_recover.specs.declared.layout.Layout.{Layout}
-use Rattle.pt_layout.specs.Findings.{IsFinding}
 use Rattle.pt_layout.specs.Healthy.{IsHealthy}
 use Rattle.pt_layout.specs.Laws.{finding_excludes_lem}
 use Rattle.pt_layout.specs.Surveys.{FoundIs, FindingIs, IsSurvey}

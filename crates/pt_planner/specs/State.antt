@@ -1,5 +1,5 @@
 -- What the planner finds before it makes a plan.
-use Rattle.std.specs.Prelude.{◌≡◌, ◌⊎◌, ℕ, Bool, true, false, Option, Some, None}
+use Rattle.std.specs.Prelude.{◌≡◌, ◌⊎◌, ℕ, Bool, true, false, Option, Some}
 use Rattle.pt_sector.specs.Sectors.{Sectors}
 use Rattle.pt_recover.specs.declared.layout.Layout.{Layout}
 use Rattle.pt_layout.specs.Members.{number_path}

@@ -1,4 +1,4 @@
-use Rattle.std.proofs.Common.{◌∙◌, ◌<◌, ◌≡◌, ℕ, sym, subst, arith}
+use Rattle.std.proofs.Common.{◌∙◌, ℕ, sym, subst, arith}
 use Rattle.std.proofs.lemmas.Result.{err_from_is_err_and}
 use Rattle.pt_recover.specs.Mbr.{extended_of}
 use Rattle.pt_cases.specs.Copies.{FitsTable}
