@@ -14,10 +14,12 @@ ghost use Rattle.pt_planner.specs.Unplanned.{Unplanned};
 /// Where a disk's own layout has no plan, the cause is a finding that writing both copies anew can't mend, or a failure
 /// of the device or of memory.
 pub fn repair_is_planned()
-    ensures { (b : ℕ) (d : Sectors) (o : Layout) (e : PlanError) → IsSectorSize b → Denotes b d (Some o) → Unplanned b d o e → IsUnmendableBy b d o e }
+    ensures { (b : ℕ) (d : Sectors) (o : Layout) (e : PlanError) → IsSectorSize b → Denotes b d (Some o)
+        → Unplanned b d o e → IsUnmendableBy b d o e }
 {}
 
 /// And where it has a plan, no such finding is there.
 pub fn mendable_by_plan()
-    ensures { (b : ℕ) (d : Sectors) (o : Layout) (phases : List Writes) (f : Finding) → IsSectorSize b → Denotes b d (Some o) → IsPlan b d o phases → ¬ IsUnmendable b d o f }
+    ensures { (b : ℕ) (d : Sectors) (o : Layout) (phases : List Writes) (f : Finding) → IsSectorSize b → Denotes b d (Some o)
+        → IsPlan b d o phases → ¬ IsUnmendable b d o f }
 {}
