@@ -3,3 +3,5 @@ pub mod Keeps
 pub mod Laws
 pub mod Denoted
 pub mod Slots
+pub mod SliceMembers
+pub mod LabelPlaces

@@ -1,17 +1,16 @@
 -- Where the records, the entries and the logical partitions of a sound layout lie.
-use Rattle.std.specs.Prelude.{◌≡◌, ◌≢◌, ◌<◌, ◌≤◌, ◌+◌, ◌++◌, ◌∷◌, [], ℕ, List, Contains, length, flat_map}
+use Rattle.std.specs.Prelude.{◌≡◌, ◌≢◌, ◌<◌, ◌++◌, ◌∷◌, [], ℕ, List, Contains, length, flat_map}
 use Rattle.std.proofs.Common.{get_or, refl, sym, ap, subst, ◌∙◌, arith, inl, inr}
 use Rattle.std.proofs.lemmas.Bool.{cases_lt}
 use Rattle.std.proofs.lemmas.List.{get_or_default}
 use Rattle.std.proofs.lemmas.List.Elements.{Contains-append_left, Contains-append_right}
 use Rattle.pt_mbr.specs.declared.record.Record.{Record}
-use Rattle.pt_mbr.specs.declared.ebr.Ebr.{Ebr}
 use Rattle.pt_recover.specs.Mbr.{extended_of}
 use Rattle.pt_recover.specs.declared.layout.Layout.{Layout}
 use Rattle.pt_recover.specs.declared.layout.Labelled.{Labelled}
 use Rattle.pt_recover.specs.declared.layout.Body.{Body}
 use Rattle.pt_recover.specs.declared.layout.Body.TheVariants.{Mbr, Gpt}
-use Rattle.pt_layout.specs.declared.member.Kind.TheVariants.{Slice, Extended}
+use Rattle.pt_layout.specs.declared.member.Kind.TheVariants.{Extended}
 use Rattle.pt_layout.specs.declared.member.Member.{Member}
 use Rattle.pt_layout.specs.Members.{Holds, Group, group_of, groups_of, group_in, top_group, strays, present, slots, tops, logicals, logicals_as}
 use Rattle.pt_layout.specs.Overlaps.{IsApart}
@@ -92,11 +91,11 @@ pub slot_usable_lem : (b : ℕ) (o : Layout) (m : Member) → Sound b o → AtPl
 slot_usable_lem b o m sound at = elim (present_split (tops b o.body) (logicals b o.body) m at) as (λ _. IsInside (top_group b o.sectors o.body) m) [
   | inl top ↦ sound.inside (top_group b o.sectors o.body) m (top_of b o m top)
   | inr logical ↦ (
-    let e = extending b o m sound logical in
-    let outer = sound.inside (top_group b o.sectors o.body) e.member (top_of b o e.member e.at) in
-    let inner = logical_inside b o e.member m sound e.at e.kind logical in
-    record { exists = inner.exists; low = omega (arith, outer.low, inner.low); high = omega (arith, outer.high, inner.high) }
-  )
+      let e = extending b o m sound logical in
+      let outer = sound.inside (top_group b o.sectors o.body) e.member (top_of b o e.member e.at) in
+      let inner = logical_inside b o e.member m sound e.at e.kind logical in
+      record { exists = inner.exists; low = omega (arith, outer.low, inner.low); high = omega (arith, outer.high, inner.high) }
+      )
 ]
 
 -- of siblings that are apart, one has the sector
@@ -137,8 +136,8 @@ slot_one b o s x y sound at_x at_y u v p q = elim (present_split (tops b o.body)
   | inr logical ↦ elim (present_split (tops b o.body) (logicals b o.body) y at_y) as (λ _. x ≡ y) [
     | inl top ↦ absurd (mixed_none b o s y x sound top logical v q p)
     | inr other ↦ (
-      let e = extending b o x sound logical in
-      same_sibling b o s (extended_group b o e.member) x y sound (logical_of b o e.member x e.at e.kind logical) (logical_of b o e.member y e.at e.kind other) p q
-    )
+        let e = extending b o x sound logical in
+        same_sibling b o s (extended_group b o e.member) x y sound (logical_of b o e.member x e.at e.kind logical) (logical_of b o e.member y e.at e.kind other) p q
+        )
   ]
 ]
