@@ -5,3 +5,4 @@ pub mod Denoted
 pub mod Slots
 pub mod SliceMembers
 pub mod LabelPlaces
+pub mod Stands

@@ -3,4 +3,7 @@
 
 mod laws;
 
-pub use laws::{denoted_is_shaped, keeps_itself, keeps_on};
+pub use laws::{
+    denoted_is_shaped, ebr_is_no_place, ebr_lies, keeps_itself, keeps_on, place_in_gpt,
+    places_apart, places_are_second, slices_are_members, slices_lie,
+};
