@@ -6,3 +6,5 @@ pub mod Slots
 pub mod SliceMembers
 pub mod LabelPlaces
 pub mod Stands
+pub mod Ascending
+pub mod Along
