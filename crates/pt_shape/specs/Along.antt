@@ -93,3 +93,7 @@ places_walk b o shaped sound =
 pub along_labels_lem : (b : ℕ) (o : Layout) → Shaped b o → Sound b o → Along (λ w l. FitsPlace w l × (label_of o.labels w.number ≡ l)) (places_of b o.sectors o.body) o.labels
 along_labels_lem b o shaped sound =
     along_numbers FitsPlace 1 (places_of b o.sectors o.body) o.labels (places_ascend_lem b o.sectors o.body (fits_four b o.sectors o.body shaped.body)) (places_walk b o shaped sound)
+
+-- so each label goes with a label place
+pub labels_fit_lem : (b : ℕ) (o : Layout) → Shaped b o → Sound b o → Along (λ w l. Unit {0}) (places_of b o.sectors o.body) o.labels
+labels_fit_lem b o shaped sound = along_map FitsPlace (λ w l. Unit {0}) (places_of b o.sectors o.body) o.labels (λ w l fits. tt) (places_walk b o shaped sound)

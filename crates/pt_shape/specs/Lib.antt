@@ -8,3 +8,4 @@ pub mod LabelPlaces
 pub mod Stands
 pub mod Ascending
 pub mod Along
+pub mod Links

@@ -71,7 +71,7 @@ abbrev layout_of : ℕ → Body → List Labelled → Layout
 layout_of n y ls = record { sectors = n; body = y; labels = ls }
 
 -- an extended partition lies on the disk, past sector 0
-extended_lies : (b n : ℕ) (rs : List (Option Record)) (chain : List Ebr) (ls : List Labelled) (r : Record) (es : List Record) → Sound b (layout_of n (Mbr rs chain) ls) → extended_of rs ≡ r ∷ es → (1 ≤ r.start) × (r.start + r.size - 1 ≤ n - 1)
+pub extended_lies : (b n : ℕ) (rs : List (Option Record)) (chain : List Ebr) (ls : List Labelled) (r : Record) (es : List Record) → Sound b (layout_of n (Mbr rs chain) ls) → extended_of rs ≡ r ∷ es → (1 ≤ r.start) × (r.start + r.size - 1 ≤ n - 1)
 unfolding tops top_group
 extended_lies b n rs chain ls r es sound e =
     let o : Layout = layout_of n (Mbr rs chain) ls in
