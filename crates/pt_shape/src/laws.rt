@@ -1,16 +1,20 @@
 //! What holds of layouts that edits make.
 
-ghost use Rattle.std.specs.Prelude.{◌≡◌, ◌<◌, ◌≤◌, ◌+◌, ◌-◌, ◌↔◌, ℕ, Contains, Option, Some, true};
+ghost use Rattle.std.specs.Prelude.{◌≡◌, ◌<◌, ◌≤◌, ◌+◌, ◌-◌, ◌↔◌, ◌∷◌, [], ℕ, List, Contains, get_or, Option, Some, None, true};
 ghost use Rattle.pt_sector.specs.Sectors.{Sectors};
 ghost use Rattle.pt_recover.specs.Denotes.{Denotes};
 ghost use Rattle.pt_recover.specs.Numbers.{Numbers};
 ghost use Rattle.pt_recover.specs.Labels.{slices_of, places_of, place_of, has_place, IsPlace};
 ghost use Rattle.pt_recover.specs.declared.layout.Slice.{Slice};
 ghost use Rattle.pt_recover.specs.declared.layout.Layout.{Layout};
-ghost use Rattle.pt_recover.specs.declared.layout.Body.TheVariants.{Gpt};
+ghost use Rattle.pt_recover.specs.declared.layout.Body.TheVariants.{Mbr, Gpt};
+ghost use Rattle.pt_recover.specs.Mbr.{extended_of};
+ghost use Rattle.pt_mbr.specs.Changes.{IsPlainRecord, IsPlainLogical, FitsLink};
+ghost use Rattle.pt_mbr.specs.declared.record.Record.{Record};
+ghost use Rattle.pt_mbr.specs.declared.ebr.Ebr.{Ebr};
 ghost use Rattle.pt_gpt.specs.Array.{array_len};
 ghost use Rattle.pt_gpt.specs.declared.table.Table.{Table};
-ghost use Rattle.pt_layout.specs.Members.{IsMember};
+ghost use Rattle.pt_layout.specs.Members.{IsMember, label_of};
 ghost use Rattle.pt_layout.specs.declared.member.Member.{Member};
 ghost use Rattle.pt_layout.specs.Sound.{Sound};
 ghost use Rattle.pt_layout.specs.Tables.{IsEbr};
@@ -18,6 +22,9 @@ ghost use Rattle.pt_shape.specs.Shape.{Shaped};
 ghost use Rattle.pt_shape.specs.Keeps.{Keeps};
 ghost use Rattle.pt_shape.specs.SliceMembers.{IsSliceOf, LiesUsable};
 ghost use Rattle.pt_shape.specs.LabelPlaces.{EndsOnDisk};
+ghost use Rattle.pt_shape.specs.Ascending.{IsAscending};
+ghost use Rattle.pt_shape.specs.Along.{Along, FitsPlace};
+ghost use Rattle.pt_shape.specs.Links.{AllLeadOn, Climbs};
 
 /// What a disk denotes is shaped, if its records' numbers have 32 bits: recovery gives no other layout.
 pub fn denoted_is_shaped()
@@ -68,4 +75,44 @@ pub fn ebr_lies()
 pub fn place_in_gpt()
     ensures { (b : ℕ) (o : Layout) (t : Table) (s : ℕ) → Shaped b o → Sound b o → o.body ≡ Gpt t → IsPlace (places_of b o.sectors o.body) s
         → (array_len b + 2 < s) × (s ≤ o.sectors - (array_len b + 2)) }
+{}
+
+/// The slices of a shaped layout ascend by their numbers.
+pub fn slices_ascend()
+    ensures { (b : ℕ) (o : Layout) → Shaped b o → IsAscending 1 (slices_of b o.body) }
+{}
+
+/// The walk over the label places of a shaped and sound layout meets each with the label of its slice's number, which
+/// fits it, or with none where the number has none, and uses up the labels.
+pub fn along_labels()
+    ensures { (b : ℕ) (o : Layout) → Shaped b o → Sound b o
+        → Along (λ w l. FitsPlace w l × (label_of o.labels w.number ≡ l)) (places_of b o.sectors o.body) o.labels }
+{}
+
+/// The records of a shaped MBR are such as sector 0 may have: written there, they are read again.
+pub fn records_are_plain()
+    ensures { (b : ℕ) (o : Layout) (rs : List (Option Record)) (chain : List Ebr) → Shaped b o → o.body ≡ Mbr rs chain
+        → (k : ℕ) → k < 4 → IsPlainRecord (get_or rs k None) }
+{}
+
+/// Its logical partitions are such as an extended boot record may have.
+pub fn logicals_are_plain()
+    ensures { (b : ℕ) (o : Layout) (rs : List (Option Record)) (chain : List Ebr) (e : Ebr) → Shaped b o → o.body ≡ Mbr rs chain
+        → Contains chain e → IsPlainLogical e.logical }
+{}
+
+/// Its extended boot records lead each to the one behind it, and the last to none.
+pub fn chain_leads()
+    ensures { (b : ℕ) (o : Layout) (rs : List (Option Record)) (chain : List Ebr) → Shaped b o → o.body ≡ Mbr rs chain → AllLeadOn chain }
+{}
+
+/// And each stands above the one before it.
+pub fn chain_climbs()
+    ensures { (b : ℕ) (o : Layout) (rs : List (Option Record)) (chain : List Ebr) → Shaped b o → o.body ≡ Mbr rs chain → Climbs 0 chain }
+{}
+
+/// Where the layout is sound too, the link to each of them can be made: its numbers fit 32 bits.
+pub fn links_fit()
+    ensures { (b : ℕ) (o : Layout) (rs : List (Option Record)) (chain : List Ebr) (x : Record) (e : Ebr) → Shaped b o → Sound b o → o.body ≡ Mbr rs chain
+        → extended_of rs ≡ x ∷ [] → Contains chain e → FitsLink x.start e }
 {}
