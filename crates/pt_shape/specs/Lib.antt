@@ -2,3 +2,10 @@ pub mod Shape
 pub mod Keeps
 pub mod Laws
 pub mod Denoted
+pub mod Slots
+pub mod SliceMembers
+pub mod LabelPlaces
+pub mod Stands
+pub mod Ascending
+pub mod Along
+pub mod Links

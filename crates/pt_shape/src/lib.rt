@@ -3,4 +3,8 @@
 
 mod laws;
 
-pub use laws::{denoted_is_shaped, keeps_itself, keeps_on};
+pub use laws::{
+    along_labels, chain_climbs, chain_leads, denoted_is_shaped, ebr_is_no_place, ebr_lies,
+    keeps_itself, keeps_on, links_fit, logicals_are_plain, place_in_gpt, places_apart,
+    places_are_second, records_are_plain, slices_are_members, slices_ascend, slices_lie,
+};

@@ -1,0 +1,5 @@
+use Rattle.pt_shape.specs.Links.{shaped_logical_lem}
+use Rattle.pt_shape.proofs.laws.logicals_are_plain.Goals as goal
+
+pub returns : goal.returns
+returns c = shaped_logical_lem

@@ -1,0 +1,99 @@
+-- The label places of a layout and its labels, side by side.
+use Rattle.std.specs.Prelude.{◌≡◌, ◌≢◌, ◌⊎◌, ◌<◌, ◌≤◌, ◌+◌, ◌∷◌, [], ℕ, Bool, true, false, List, Contains, filter, Option, Some, None}
+use Rattle.std.proofs.Common.{refl, sym, ap, subst, ◌∙◌, arith, inl, inr}
+use Rattle.std.proofs.lemmas.Bool.{eq-eqb, ne_eqb}
+use Rattle.pt_bsd.specs.declared.label.Label.{Label}
+use Rattle.pt_recover.specs.Labels.{slices_of, places_of, has_place}
+use Rattle.pt_recover.specs.declared.layout.Slice.{Slice}
+use Rattle.pt_recover.specs.declared.layout.Labelled.{Labelled}
+use Rattle.pt_recover.specs.declared.layout.Layout.{Layout}
+use Rattle.pt_layout.specs.Members.{label_of}
+use Rattle.pt_layout.specs.Sound.{Sound}
+use Rattle.pt_layout.specs.Grouped.{contains_head, contains_tail}
+use Rattle.pt_shape.specs.Shape.{FitsLabel, AreLabelsOf, Shaped}
+use Rattle.pt_shape.specs.Ascending.{IsAscending, places_ascend_lem, fits_four}
+use Rattle.pt_shape.specs.LabelPlaces.{slice_has_place_lem}
+use Rattle.pt_shape.specs.Stands.{fits_ends}
+
+-- slices in order, each with its label among these or with none
+abbrev pub Along : (Slice → Option Label → Type 0) → List Slice → List Labelled → Type 0
+Along P [] labels = labels ≡ []
+Along P (w ∷ ws) labels =
+    ((l : Label) × (rest : List Labelled) × (labels ≡ record { number = w.number; label = l } ∷ rest) × P w (Some l)
+    × Along P ws rest)
+    ⊎ (P w None × Along P ws labels)
+
+-- a label fits the slice, and so does none
+abbrev pub FitsPlace : Slice → Option Label → Type 0
+FitsPlace w None = Unit {0}
+FitsPlace w (Some l) = FitsLabel w l
+
+-- slices that ascend, as far as their numbers tell
+pub along_above : (P Q : Slice → Option Label → Type 0) (low : ℕ) (ws : List Slice) (labels : List Labelled) → IsAscending low ws → ((w : Slice) (l : Option Label) → low ≤ w.number → P w l → Q w l) → Along P ws labels → Along Q ws labels
+along_above P Q low [] labels up each is = is
+along_above P Q low (w ∷ ws) labels up each (inl (l, rest, same, it, later)) =
+    inl (l, rest, same, each w (Some l) up.0 it, along_above P Q (w.number + 1) ws rest up.1 (λ v m at. each v m (omega (arith, at, up.0))) later)
+along_above P Q low (w ∷ ws) labels up each (inr (it, later)) =
+    inr (each w None up.0 it, along_above P Q (w.number + 1) ws labels up.1 (λ v m at. each v m (omega (arith, at, up.0))) later)
+
+pub along_map : (P Q : Slice → Option Label → Type 0) (ws : List Slice) (labels : List Labelled) → ((w : Slice) (l : Option Label) → P w l → Q w l) → Along P ws labels → Along Q ws labels
+along_map P Q [] labels each is = is
+along_map P Q (w ∷ ws) labels each (inl (l, rest, same, it, later)) = inl (l, rest, same, each w (Some l) it, along_map P Q ws rest each later)
+along_map P Q (w ∷ ws) labels each (inr (it, later)) = inr (each w None it, along_map P Q ws labels each later)
+
+first_label : (n : ℕ) (l : Label) (rest labels : List Labelled) → labels ≡ record { number = n; label = l } ∷ rest → label_of labels n ≡ Some l
+unfolding label_of
+first_label n l rest labels same = ap (λ (ls : List Labelled). label_of ls n) same ∙ rw (eq-eqb n n refl, label_of) refl
+
+later_label : (n m : ℕ) (l : Label) (rest labels : List Labelled) → n ≢ m → labels ≡ record { number = n; label = l } ∷ rest → label_of labels m ≡ label_of rest m
+unfolding label_of
+later_label n m l rest labels other same = ap (λ (ls : List Labelled). label_of ls m) same ∙ rw (ne_eqb n m other, label_of) refl
+
+-- a number below those of the slices has no label
+none_below : (P : Slice → Option Label → Type 0) (n low : ℕ) (ws : List Slice) (labels : List Labelled) → IsAscending low ws → n < low → Along P ws labels → label_of labels n ≡ None
+unfolding label_of
+none_below P n low [] labels up below is = rw (is, label_of) refl
+none_below P n low (w ∷ ws) labels up below (inl (l, rest, same, it, later)) =
+    later_label w.number n l rest labels (λ e. omega (arith, e, up.0, below)) same ∙ none_below P n (w.number + 1) ws rest up.1 (omega (arith, up.0, below)) later
+none_below P n low (w ∷ ws) labels up below (inr (it, later)) = none_below P n (w.number + 1) ws labels up.1 (omega (arith, up.0, below)) later
+
+-- ascending slices go each with the label of its number
+pub along_numbers : (P : Slice → Option Label → Type 0) (low : ℕ) (ws : List Slice) (labels : List Labelled) → IsAscending low ws → Along P ws labels → Along (λ w l. P w l × (label_of labels w.number ≡ l)) ws labels
+along_numbers P low [] labels up is = is
+along_numbers P low (w ∷ ws) labels up (inl (l, rest, same, it, later)) =
+    inl (
+      l,
+      rest,
+      same,
+      (it, first_label w.number l rest labels same),
+      along_above (λ v m. P v m × (label_of rest v.number ≡ m)) (λ v m. P v m × (label_of labels v.number ≡ m)) (w.number + 1) ws rest up.1
+          (λ v m at has. (has.0, later_label w.number v.number l rest labels (λ e. omega (arith, e, at)) same ∙ has.1)) (along_numbers P (w.number + 1) ws rest up.1 later),
+    )
+along_numbers P low (w ∷ ws) labels up (inr (it, later)) =
+    inr ((it, none_below P w.number (w.number + 1) ws labels up.1 (omega arith) later), along_numbers P (w.number + 1) ws labels up.1 later)
+
+-- the labels of slices are those of the slices that have a place, where each that may have a label has one
+walk_one : (n : ℕ) (s : Slice) (ss : List Slice) (labels : List Labelled) → Along FitsPlace (filter (has_place n) ss) labels → (c : Bool) → has_place n s ≡ c → Along FitsPlace (filter (has_place n) (s ∷ ss)) labels
+walk_one n s ss labels later true so = (let kept : filter (has_place n) (s ∷ ss) ≡ s ∷ filter (has_place n) ss = rw (so, filter) refl in subst (λ (l : List Slice). Along FitsPlace l labels) (sym kept) (inr (tt, later)))
+walk_one n s ss labels later false so = (let left : filter (has_place n) (s ∷ ss) ≡ filter (has_place n) ss = rw (so, filter) refl in subst (λ (l : List Slice). Along FitsPlace l labels) (sym left) later)
+
+walk : (n : ℕ) (ss : List Slice) (labels : List Labelled) → ((s : Slice) → Contains ss s → 2 ≤ s.len → has_place n s ≡ true) → AreLabelsOf ss labels → Along FitsPlace (filter (has_place n) ss) labels
+walk n [] labels long are = are
+walk n (s ∷ ss) labels long (inl (l, rest, same, fits, later)) =
+    let kept : filter (has_place n) (s ∷ ss) ≡ s ∷ filter (has_place n) ss = rw (long s (contains_head s ss) fits.second, filter) refl in
+    subst (λ (x : List Slice). Along FitsPlace x labels) (sym kept) (inl (l, rest, same, fits, walk n ss rest (λ t has. long t (contains_tail s ss t has)) later))
+walk n (s ∷ ss) labels long (inr later) = walk_one n s ss labels (walk n ss labels (λ t has. long t (contains_tail s ss t has)) later) (has_place n s) refl
+
+places_walk : (b : ℕ) (o : Layout) → Shaped b o → Sound b o → Along FitsPlace (places_of b o.sectors o.body) o.labels
+unfolding places_of
+places_walk b o shaped sound =
+    walk o.sectors (slices_of b o.body) o.labels (λ s has long. slice_has_place_lem b o s sound (fits_ends b o.sectors o.body shaped.body) has long) shaped.labels
+
+-- the walk over the label places meets each with its number's label, which fits it, and uses up the labels
+pub along_labels_lem : (b : ℕ) (o : Layout) → Shaped b o → Sound b o → Along (λ w l. FitsPlace w l × (label_of o.labels w.number ≡ l)) (places_of b o.sectors o.body) o.labels
+along_labels_lem b o shaped sound =
+    along_numbers FitsPlace 1 (places_of b o.sectors o.body) o.labels (places_ascend_lem b o.sectors o.body (fits_four b o.sectors o.body shaped.body)) (places_walk b o shaped sound)
+
+-- so each label goes with a label place
+pub labels_fit_lem : (b : ℕ) (o : Layout) → Shaped b o → Sound b o → Along (λ w l. Unit {0}) (places_of b o.sectors o.body) o.labels
+labels_fit_lem b o shaped sound = along_map FitsPlace (λ w l. Unit {0}) (places_of b o.sectors o.body) o.labels (λ w l fits. tt) (places_walk b o shaped sound)
