@@ -2,7 +2,7 @@
 
 ghost use Rattle.pt_sector.specs.Sectors.{IsSectorSize};
 
-use crate::file_disk::{Access, open};
+use pt_file::{Access, FileDisk};
 use crate::run::{Answer, printed};
 use crate::texts::Status;
 use std::fs::{File, Files};
@@ -16,7 +16,7 @@ pub fn repair<const B: usize, R: Files<File = File> + AllocGlobal, O: Write>(
 ) -> Answer
     requires { IsSectorSize B }
 {
-    let mut disk = open::<R, B>(rt, image, Access::Write)?;
+    let mut disk = FileDisk::<B>::open(rt, image, Access::Write)?;
     pt_plan::repair::<B, _>(rt.alloc(), &mut disk)?;
     printed(writeln!(out, "done"), Status::Done)
 }
