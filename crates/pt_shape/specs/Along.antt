@@ -1,5 +1,5 @@
 -- The label places of a layout and its labels, side by side.
-use Rattle.std.specs.Prelude.{◌≡◌, ◌≢◌, ◌⊎◌, ◌<◌, ◌≤◌, ◌+◌, ◌∷◌, [], ℕ, Bool, true, false, List, Contains, filter, Option, Some, None}
+use Rattle.std.specs.Prelude.{zero, suc, ◌≡◌, ◌≢◌, ◌⊎◌, ◌<◌, ◌≤◌, ◌+◌, ◌∷◌, [], ℕ, Bool, true, false, List, Contains, filter, Option, Some, None}
 use Rattle.std.proofs.Common.{refl, sym, ap, subst, ◌∙◌, arith, inl, inr}
 use Rattle.std.proofs.lemmas.Bool.{eq-eqb, ne_eqb}
 use Rattle.pt_bsd.specs.declared.label.Label.{Label}
@@ -71,6 +71,19 @@ along_numbers P low (w ∷ ws) labels up (inl (l, rest, same, it, later)) =
     )
 along_numbers P low (w ∷ ws) labels up (inr (it, later)) =
     inr ((it, none_below P w.number (w.number + 1) ws labels up.1 (omega arith) later), along_numbers P (w.number + 1) ws labels up.1 later)
+
+along_in : (P : Slice → Option Label → Type 0) (ws : List Slice) (labels : List Labelled) (w : Slice) → Along P ws labels → Contains ws w → (l : Option Label) × P w l
+along_in P [] labels w is (k, lt, at) = absurd (omega (arith, lt))
+along_in P (v ∷ ws) labels w (inl (l, rest, same, it, later)) (zero, lt, at) = (Some l, subst (λ (x : Slice). P x (Some l)) at it)
+along_in P (v ∷ ws) labels w (inl (l, rest, same, it, later)) (suc k, lt, at) = along_in P ws rest w later (k, omega (arith, lt), at)
+along_in P (v ∷ ws) labels w (inr (it, later)) (zero, lt, at) = (None, subst (λ (x : Slice). P x None) at it)
+along_in P (v ∷ ws) labels w (inr (it, later)) (suc k, lt, at) = along_in P ws labels w later (k, omega (arith, lt), at)
+
+-- one of them, with the label of its number
+pub along_at : (P : Slice → Option Label → Type 0) (low : ℕ) (ws : List Slice) (labels : List Labelled) (w : Slice) → IsAscending low ws → Along P ws labels → Contains ws w → P w (label_of labels w.number)
+along_at P low ws labels w up is has =
+    let h = along_in (λ v l. P v l × (label_of labels v.number ≡ l)) ws labels w (along_numbers P low ws labels up is) has in
+    subst (λ (l : Option Label). P w l) (sym h.1.1) h.1.0
 
 -- the labels of slices are those of the slices that have a place, where each that may have a label has one
 walk_one : (n : ℕ) (s : Slice) (ss : List Slice) (labels : List Labelled) → Along FitsPlace (filter (has_place n) ss) labels → (c : Bool) → has_place n s ≡ c → Along FitsPlace (filter (has_place n) (s ∷ ss)) labels

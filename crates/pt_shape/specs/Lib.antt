@@ -9,3 +9,6 @@ pub mod Stands
 pub mod Ascending
 pub mod Along
 pub mod Links
+pub mod StandsOn
+pub mod Differ
+pub mod Covers

@@ -1,10 +1,10 @@
 -- The records, the extended boot records and the links of a shaped MBR.
 use Rattle.std.specs.Prelude.{◌≡◌, ◌<◌, ◌≤◌, ◌^◌, ◌+◌, ◌-◌, ◌∷◌, [], ℕ, zero, suc, Bool, true, false, List, Contains, length, get_or, Option, Some, None, option_map, is_some, if◌then◌else◌}
 use Rattle.std.proofs.Common.{refl, sym, ap, subst, ◌∙◌, arith, inl, inr}
-use Rattle.pt_sector.specs.Sectors.{Span}
+use Rattle.pt_sector.specs.Sectors.{Span, InSpan}
 use Rattle.pt_sector.specs.declared.address.Lba.{Lba}
-use Rattle.pt_mbr.specs.Chain.{IsUpward, StandsAt, lba}
-use Rattle.pt_mbr.specs.Changes.{IsPlainRecord, ArePlain, IsPlainLogical, reach_of, FitsLink}
+use Rattle.pt_mbr.specs.Chain.{IsInside, IsUpward, StandsAt, lba}
+use Rattle.pt_mbr.specs.Changes.{IsPlainRecord, ArePlain, IsPlainLogical, LinksTo, reach_of, FitsLink}
 use Rattle.pt_mbr.specs.declared.record.Record.{Record}
 use Rattle.pt_mbr.specs.declared.ebr.Ebr.{Ebr}
 use Rattle.pt_recover.specs.Mbr.{is_extended, extended_of, extent_of}
@@ -15,9 +15,10 @@ use Rattle.pt_recover.specs.declared.layout.Body.TheVariants.{Mbr}
 use Rattle.pt_layout.specs.Members.{record_member, logical_member, logicals_as, tops, logicals}
 use Rattle.pt_layout.specs.Search.{AtPlace}
 use Rattle.pt_layout.specs.Sound.{Sound}
+use Rattle.pt_layout.specs.Grouped.{contains_head, contains_tail}
 use Rattle.pt_shape.specs.Shape.{FitsRecord, FitsSlot, FitsLogical, Linked, FitsChain, FitsExtended, FitsMbr, FitsBody, Shaped}
 use Rattle.pt_shape.specs.Slots.{logical_inside}
-use Rattle.pt_shape.specs.Stands.{extended_slot, linked_in}
+use Rattle.pt_shape.specs.Stands.{extended_slot, extended_lies, linked_in}
 
 fits_mbr : (b : ℕ) (o : Layout) (rs : List (Option Record)) (chain : List Ebr) → Shaped b o → o.body ≡ Mbr rs chain → FitsMbr rs chain
 fits_mbr b o rs chain shaped is = subst (λ (y : Body). FitsBody b o.sectors y) is shaped.body
@@ -183,3 +184,72 @@ sound_as b o y is sound = subst (λ (z : Body). Sound b (layout_of o.sectors z o
 -- the link to each extended boot record fits its fields
 pub links_fit_lem : (b : ℕ) (o : Layout) (rs : List (Option Record)) (chain : List Ebr) (x : Record) (e : Ebr) → Shaped b o → Sound b o → o.body ≡ Mbr rs chain → extended_of rs ≡ x ∷ [] → Contains chain e → FitsLink x.start e
 links_fit_lem b o rs chain x e shaped sound is extended has = link_fits b o.sectors rs chain o.labels x e (fits_mbr b o rs chain shaped is) (sound_as b o (Mbr rs chain) is sound) extended has
+
+-- each stands where the one before it links to, inside and upward, and the last links to none
+abbrev pub LinkedOn : Span → ℕ → Option Lba → List Ebr → Type 0
+LinkedOn x n None [] = Unit {0}
+LinkedOn x n (Some at) [] = ⊥
+LinkedOn x n None (e ∷ es) = ⊥
+LinkedOn x n (Some at) (e ∷ es) = (e.at ≡ at) × IsInside x n at × IsUpward at e.next × LinkedOn x n e.next es
+
+-- a chain of the lone extended record of n sectors, or none
+abbrev pub IsLinked : ℕ → List Record → List Ebr → Type 0
+IsLinked n [] chain = chain ≡ []
+IsLinked n (r ∷ []) chain = (length chain ≤ 128) × LinkedOn (extent_of r) n (Some (lba (extent_of r).first)) chain
+IsLinked n (r ∷ s ∷ rs) chain = ⊥
+
+linked_on : (x : Span) (n : ℕ) (from : Option Lba) (chain : List Ebr) → ((s : ℕ) → InSpan x s → s < n) → Linked x from chain → LinkedOn x n from chain
+linked_on x n None [] below linked = tt
+linked_on x n (Some f) [] below linked = absurd linked
+linked_on x n None (e ∷ es) below linked = absurd linked
+linked_on x n (Some f) (e ∷ es) below linked = (linked.0, (linked.1, below f.0 linked.1), linked.2, linked_on x n e.next es below linked.4)
+
+is_linked : (b n : ℕ) (rs : List (Option Record)) (chain : List Ebr) (ls : List Labelled) (es : List Record) → Sound b (layout_of n (Mbr rs chain) ls) → extended_of rs ≡ es → FitsExtended es chain → IsLinked n es chain
+is_linked b n rs chain ls [] sound extended fits = fits
+is_linked b n rs chain ls (r ∷ []) sound extended fits =
+    let lies = extended_lies b n rs chain ls r [] sound extended in
+    (fits.few, linked_on (extent_of r) n (Some (lba (extent_of r).first)) chain (λ s has. omega (arith, lies, has)) fits.linked)
+is_linked b n rs chain ls (r ∷ s ∷ es) sound extended fits = absurd fits
+
+-- the chain stands on the disk
+pub chain_is_linked_lem : (b : ℕ) (o : Layout) (rs : List (Option Record)) (chain : List Ebr) → Shaped b o → Sound b o → o.body ≡ Mbr rs chain → IsLinked o.sectors (extended_of rs) chain
+chain_is_linked_lem b o rs chain shaped sound is =
+    is_linked b o.sectors rs chain o.labels (extended_of rs) (sound_as b o (Mbr rs chain) is sound) refl (fits_mbr b o rs chain shaped is).extended
+
+-- the link to the first of these, in an extended partition from `first` on
+abbrev pub link_to : ℕ → List Ebr → Option Record
+link_to first [] = None
+link_to first (e ∷ es) = Some (record {
+  boot = 0;
+  start_chs = 0xFE ∷ 0xFF ∷ 0xFF ∷ [];
+  kind = 0x05;
+  end_chs = 0xFE ∷ 0xFF ∷ 0xFF ∷ [];
+  start = e.at.0 - first;
+  size = reach_of e.logical;
+})
+
+-- each leads to the one behind it by the link to that one
+abbrev pub AllLinkOn : ℕ → List Ebr → Type 0
+AllLinkOn first [] = Unit {0}
+AllLinkOn first (e ∷ es) = LinksTo first e.next (link_to first es) × AllLinkOn first es
+
+link_leads : (first : ℕ) (next : Option Lba) (es : List Ebr) → next ≡ start_of es → ((e : Ebr) → Contains es e → FitsLink first e) → LinksTo first next (link_to first es)
+link_leads first None [] same fits = tt
+link_leads first (Some at) [] same fits = absurd cc
+link_leads first None (e ∷ es) same fits = absurd cc
+link_leads first (Some at) (e ∷ es) same fits =
+    let link = fits e (contains_head e es) in
+    let here : at ≡ e.at = cc in
+    let place : at.0 ≡ e.at.0 = ap (λ (l : Lba). l.0) here in
+    record { boot = inl refl; extended = inl refl; sized = λ none. omega (arith, none, link.some); there = omega (arith, place, link.above) }
+
+all_link : (first : ℕ) (chain : List Ebr) → AllLeadOn chain → ((e : Ebr) → Contains chain e → FitsLink first e) → AllLinkOn first chain
+all_link first [] leads fits = tt
+all_link first (e ∷ es) leads fits =
+    let more : (f : Ebr) → Contains es f → FitsLink first f = λ f has. fits f (contains_tail e es f has) in
+    (link_leads first e.next es leads.0 more, all_link first es leads.1 more)
+
+-- the links of the chain lead where they should
+pub links_lead_lem : (b : ℕ) (o : Layout) (rs : List (Option Record)) (chain : List Ebr) (x : Record) → Shaped b o → Sound b o → o.body ≡ Mbr rs chain → extended_of rs ≡ x ∷ [] → AllLinkOn x.start chain
+links_lead_lem b o rs chain x shaped sound is extended =
+    all_link x.start chain (chain_leads_lem b o rs chain shaped is) (λ e has. links_fit_lem b o rs chain x e shaped sound is extended has)

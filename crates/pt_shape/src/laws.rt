@@ -1,10 +1,10 @@
 //! What holds of layouts that edits make.
 
-ghost use Rattle.std.specs.Prelude.{◌≡◌, ◌<◌, ◌≤◌, ◌+◌, ◌-◌, ◌↔◌, ◌∷◌, [], ℕ, List, Contains, get_or, Option, Some, None, true};
+ghost use Rattle.std.specs.Prelude.{◌≡◌, ◌<◌, ◌≤◌, ◌+◌, ◌-◌, ◌↔◌, ◌≢◌, ◌∷◌, [], ℕ, List, Contains, length, get_or, Option, Some, None, true};
 ghost use Rattle.pt_sector.specs.Sectors.{Sectors};
 ghost use Rattle.pt_recover.specs.Denotes.{Denotes};
 ghost use Rattle.pt_recover.specs.Numbers.{Numbers};
-ghost use Rattle.pt_recover.specs.Labels.{slices_of, places_of, place_of, has_place, IsPlace};
+ghost use Rattle.pt_recover.specs.Labels.{slices_of, places_of, place_of, has_place, HasLabel, IsPlace};
 ghost use Rattle.pt_recover.specs.declared.layout.Slice.{Slice};
 ghost use Rattle.pt_recover.specs.declared.layout.Layout.{Layout};
 ghost use Rattle.pt_recover.specs.declared.layout.Body.TheVariants.{Mbr, Gpt};
@@ -24,7 +24,10 @@ ghost use Rattle.pt_shape.specs.SliceMembers.{IsSliceOf, LiesUsable};
 ghost use Rattle.pt_shape.specs.LabelPlaces.{EndsOnDisk};
 ghost use Rattle.pt_shape.specs.Ascending.{IsAscending};
 ghost use Rattle.pt_shape.specs.Along.{Along, FitsPlace};
-ghost use Rattle.pt_shape.specs.Links.{AllLeadOn, Climbs};
+ghost use Rattle.pt_shape.specs.StandsOn.{StandsOn};
+ghost use Rattle.pt_shape.specs.Links.{AllLeadOn, Climbs, IsLinked, AllLinkOn};
+ghost use Rattle.pt_shape.specs.Differ.{AllDiffer, own_sectors};
+ghost use Rattle.pt_shape.specs.Covers.{IsAt, Covers};
 
 /// What a disk denotes is shaped, if its records' numbers have 32 bits: recovery gives no other layout.
 pub fn denoted_is_shaped()
@@ -85,8 +88,8 @@ pub fn slices_ascend()
 /// The walk over the label places of a shaped and sound layout meets each with the label of its slice's number, which
 /// fits it, or with none where the number has none, and uses up the labels.
 pub fn along_labels()
-    ensures { (b : ℕ) (o : Layout) → Shaped b o → Sound b o
-        → Along (λ w l. FitsPlace w l × (label_of o.labels w.number ≡ l)) (places_of b o.sectors o.body) o.labels }
+    ensures { (b : ℕ) (o : Layout) → Shaped b o → Sound b o → Along (λ w l. FitsPlace w l × (label_of o.labels w.number ≡ l))
+        (places_of b o.sectors o.body) o.labels }
 {}
 
 /// The records of a shaped MBR are such as sector 0 may have: written there, they are read again.
@@ -115,4 +118,39 @@ pub fn chain_climbs()
 pub fn links_fit()
     ensures { (b : ℕ) (o : Layout) (rs : List (Option Record)) (chain : List Ebr) (x : Record) (e : Ebr) → Shaped b o → Sound b o → o.body ≡ Mbr rs chain
         → extended_of rs ≡ x ∷ [] → Contains chain e → FitsLink x.start e }
+{}
+
+/// And it leads to that extended boot record, from the one before it.
+pub fn links_lead()
+    ensures { (b : ℕ) (o : Layout) (rs : List (Option Record)) (chain : List Ebr) (x : Record) → Shaped b o → Sound b o → o.body ≡ Mbr rs chain
+        → extended_of rs ≡ x ∷ [] → AllLinkOn x.start chain }
+{}
+
+/// The chain of a shaped and sound MBR stands on the disk.
+pub fn chain_is_linked()
+    ensures { (b : ℕ) (o : Layout) (rs : List (Option Record)) (chain : List Ebr) → Shaped b o → Sound b o → o.body ≡ Mbr rs chain
+        → IsLinked o.sectors (extended_of rs) chain }
+{}
+
+/// Sector 0 and the extended boot records of an MBR, and the label places, are different sectors.
+pub fn own_sectors_differ()
+    ensures { (b : ℕ) (o : Layout) → Shaped b o → Sound b o → AllDiffer (own_sectors b o.sectors o.body) }
+{}
+
+/// Of as many numbers as there are different ones, with each of those among them, no two are the same.
+pub fn covering_differs()
+    ensures { (ys xs : List ℕ) → AllDiffer ys → Covers (λ x. x) xs ys → length xs ≡ length ys
+        → (i j s t : ℕ) → i < j → IsAt xs i s → IsAt xs j t → s ≢ t }
+{}
+
+/// On a disk that denotes a layout a label place has the label of its slice's number.
+pub fn label_at_place()
+    ensures { (b : ℕ) (d : Sectors) (o : Layout) (w : Slice) → Denotes b d (Some o) → Contains (places_of b o.sectors o.body) w
+        → StandsOn d w (label_of o.labels w.number) }
+{}
+
+/// So the number has no label exactly where the place has none.
+pub fn no_label_there()
+    ensures { (b : ℕ) (d : Sectors) (o : Layout) (w : Slice) → Denotes b d (Some o) → Contains (places_of b o.sectors o.body) w
+        → (label_of o.labels w.number ≡ None) ↔ (¬ HasLabel d w) }
 {}

@@ -1,0 +1,5 @@
+use Rattle.pt_shape.specs.StandsOn.{label_at_place_lem}
+use Rattle.pt_shape.proofs.laws.label_at_place.Goals as goal
+
+pub returns : goal.returns
+returns c = label_at_place_lem

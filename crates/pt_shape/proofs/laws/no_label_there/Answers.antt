@@ -1,0 +1,5 @@
+use Rattle.pt_shape.specs.StandsOn.{no_label_there_lem}
+use Rattle.pt_shape.proofs.laws.no_label_there.Goals as goal
+
+pub returns : goal.returns
+returns c = no_label_there_lem

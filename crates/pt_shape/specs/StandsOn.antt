@@ -1,0 +1,46 @@
+-- The labels of a layout at their places, on a disk that denotes it.
+use Rattle.std.specs.Prelude.{◌≡◌, ◌↔◌, ◌∷◌, [], ℕ, List, Contains, Option, Some, None}
+use Rattle.std.proofs.Common.{refl, sym, subst, inl, inr}
+use Rattle.pt_sector.specs.Sectors.{Sectors}
+use Rattle.pt_bsd.specs.declared.label.Label.{Label}
+use Rattle.pt_recover.specs.Labels.{places_of, LabelAt, HasLabel, LabelsAre}
+use Rattle.pt_recover.specs.Denotes.{BodyIs, Denotes}
+use Rattle.pt_recover.specs.declared.layout.Slice.{Slice}
+use Rattle.pt_recover.specs.declared.layout.Labelled.{Labelled}
+use Rattle.pt_recover.specs.declared.layout.Layout.{Layout}
+use Rattle.pt_recover.specs.declared.layout.Body.{Body}
+use Rattle.pt_recover.specs.declared.layout.Body.TheVariants.{Mbr, Gpt}
+use Rattle.pt_layout.specs.Members.{label_of}
+use Rattle.pt_layout.specs.OnePath.{HasFour}
+use Rattle.pt_shape.specs.Ascending.{places_ascend_lem}
+use Rattle.pt_shape.specs.Along.{Along, along_at}
+
+-- the slice has this label on the disk, or none
+abbrev pub StandsOn : Sectors → Slice → Option Label → Type 0
+StandsOn d w None = ¬ HasLabel d w
+StandsOn d w (Some l) = LabelAt d w l
+
+-- labels at their places are labels side by side with them
+pub along_labels_are : (d : Sectors) (ws : List Slice) (labels : List Labelled) → LabelsAre d ws labels → Along (StandsOn d) ws labels
+along_labels_are d [] labels are = are
+along_labels_are d (w ∷ ws) labels (inl (l, rest, same, stands, later)) = inl (l, rest, same, stands, along_labels_are d ws rest later)
+along_labels_are d (w ∷ ws) labels (inr (none, later)) = inr (none, along_labels_are d ws labels later)
+
+denoted_four : (b : ℕ) (d : Sectors) (y : Body) → BodyIs b d y → HasFour y
+denoted_four b d (Mbr rs chain) is = is.0.1.four
+denoted_four b d (Gpt t) is = tt
+
+-- on a disk that denotes a layout a label place has the label of its slice's number
+pub label_at_place_lem : (b : ℕ) (d : Sectors) (o : Layout) (w : Slice) → Denotes b d (Some o) → Contains (places_of b o.sectors o.body) w → StandsOn d w (label_of o.labels w.number)
+label_at_place_lem b d o w denotes has =
+    let are : LabelsAre d (places_of b o.sectors o.body) o.labels = subst (λ (n : ℕ). LabelsAre d (places_of b n o.body) o.labels) (sym denotes.0) denotes.2 in
+    let up = places_ascend_lem b o.sectors o.body (denoted_four b d o.body denotes.1) in
+    along_at (StandsOn d) 1 (places_of b o.sectors o.body) o.labels w up (along_labels_are d (places_of b o.sectors o.body) o.labels are) has
+
+none_or_some : (d : Sectors) (w : Slice) (l : Option Label) → StandsOn d w l → (l ≡ None) ↔ (¬ HasLabel d w)
+none_or_some d w None stands = (λ e. stands, λ none. refl)
+none_or_some d w (Some l) stands = (λ e. absurd cc, λ none. absurd (none (l, stands)))
+
+-- so the number has no label exactly where the place has none
+pub no_label_there_lem : (b : ℕ) (d : Sectors) (o : Layout) (w : Slice) → Denotes b d (Some o) → Contains (places_of b o.sectors o.body) w → (label_of o.labels w.number ≡ None) ↔ (¬ HasLabel d w)
+no_label_there_lem b d o w denotes has = none_or_some d w (label_of o.labels w.number) (label_at_place_lem b d o w denotes has)
