@@ -1,0 +1,1 @@
+//! Each call of the device fails in turn, and the disk is stopped.
