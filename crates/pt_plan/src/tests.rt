@@ -2,6 +2,7 @@
 
 mod commits;
 mod images;
+mod recoveries;
 mod renames;
 mod repairs;
 mod sessions;

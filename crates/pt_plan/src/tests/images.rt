@@ -40,10 +40,7 @@ pub(crate) fn words(alloc: Global, texts: &[&str]) -> Result<Vec<Edit>, Fail> {
 }
 
 /// A sector; zeros where there is none.
-pub(crate) fn sector<const B: usize, D: Disk<B>>(
-    disk: &mut D,
-    lba: u64,
-) -> Result<Sector<B>, Fault>
+pub(crate) fn sector<const B: usize, D: Disk<B>>(disk: &mut D, lba: u64) -> Result<Sector<B>, Fault>
     requires { IsSectorSize B }
     ensures count { D.count disk.new ≡ D.count disk.old }
     ensures name { D.name disk.new ≡ D.name disk.old }

@@ -80,10 +80,18 @@ fn broken_copies_are_mended(rt: HostRuntime) -> Result<(), Fail> {
     let alloc = rt.alloc();
     for way in 0..10u8 {
         let mut small: MemDisk<512> = broken(alloc, way)?;
-        assert_eq!(rt; finding(alloc, &mut small)?, FOUND[way as usize], "512 {way}");
+        assert_eq!(rt;
+            finding(alloc, &mut small)?,
+            FOUND[way as usize],
+            "512 {way}"
+        );
         assert!(rt; mends(alloc, &mut small)?, "512 {way}");
         let mut large: MemDisk<4096> = broken(alloc, way)?;
-        assert_eq!(rt; finding(alloc, &mut large)?, FOUND[way as usize], "4096 {way}");
+        assert_eq!(rt;
+            finding(alloc, &mut large)?,
+            FOUND[way as usize],
+            "4096 {way}"
+        );
         assert!(rt; mends(alloc, &mut large)?, "4096 {way}");
     }
     Ok(())
@@ -117,7 +125,12 @@ fn grown(alloc: Global, disk: &mut MemDisk<512>) -> Result<MemDisk<512>, Fail> {
 /// The first and last usable sector of a healthy GPT disk.
 fn usable<D: Disk<512>>(alloc: Global, disk: &mut D) -> Result<Option<(u64, u64)>, Fail> {
     match verify(alloc, disk)? {
-        Verdict::Yes(Layout { body: Body::Gpt(table), .. }) => Ok(Some((table.first, table.last))),
+        Verdict::Yes(
+            Layout {
+                body: Body::Gpt(table),
+                ..
+            },
+        ) => Ok(Some((table.first, table.last))),
         _ => Ok(None),
     }
 }
@@ -187,8 +200,16 @@ fn unsound_tables_are_refused(rt: HostRuntime) -> Result<(), Fail> {
         ((1, 90), (2, 130, 140), outside),
         ((90, 80), (2, 130, 140), outside),
         ((100, 1 << 63), (2, 130, 140), outside),
-        ((100, 150), (2, 150, 160), Finding::Overlap(path(1), path(2))),
-        ((150, 160), (2, 100, 150), Finding::Overlap(path(2), path(1))),
+        (
+            (100, 150),
+            (2, 150, 160),
+            Finding::Overlap(path(1), path(2)),
+        ),
+        (
+            (150, 160),
+            (2, 100, 150),
+            Finding::Overlap(path(2), path(1)),
+        ),
         ((100, 120), (1, 130, 140), Finding::SameGuid(1, 2)),
     ];
     for (first, second, found) in rows {
@@ -211,7 +232,10 @@ fn a_record_of_the_chain_in_a_partition_is_refused(rt: HostRuntime) -> Result<()
     put(&mut disk, 7000, &encode_mbr(&empty, &[0; 512]))?;
     let on_table = Finding::OnTable(path(5), Lba(7000));
     assert_eq!(rt; finding(alloc, &mut disk)?, Some(on_table));
-    assert_eq!(rt; refused(alloc, &mut disk)?, Some(RepairError::Unsound(on_table)));
+    assert_eq!(rt;
+        refused(alloc, &mut disk)?,
+        Some(RepairError::Unsound(on_table))
+    );
     Ok(())
 }
 
@@ -234,10 +258,16 @@ fn labels_that_are_outside_or_foreign_are_refused(rt: HostRuntime) -> Result<(),
         number: 1,
         letter: Some(0),
     });
-    assert_eq!(rt; refused(alloc, &mut disk)?, Some(RepairError::Unsound(outside)));
+    assert_eq!(rt;
+        refused(alloc, &mut disk)?,
+        Some(RepairError::Unsound(outside))
+    );
     change(&mut disk, 2049, 136, 0xFF)?;
     let foreign = Finding::ForeignLabel(path(1));
-    assert_eq!(rt; refused(alloc, &mut disk)?, Some(RepairError::Unsound(foreign)));
+    assert_eq!(rt;
+        refused(alloc, &mut disk)?,
+        Some(RepairError::Unsound(foreign))
+    );
     Ok(())
 }
 
@@ -251,7 +281,10 @@ fn nothings<const B: usize>(alloc: Global) -> Result<[Option<RepairError>; 6], F
     let mut headless: MemDisk<B> = broken(alloc, 1)?;
     change(&mut headless, 255, 20, 1)?;
     let mut two: MemDisk<B> = MemDisk::new(alloc, 256)?;
-    put_mbr(&mut two, [record(5, 64, 8), record(0x0F, 96, 8), None, None])?;
+    put_mbr(
+        &mut two,
+        [record(5, 64, 8), record(0x0F, 96, 8), None, None],
+    )?;
     let mut chain: MemDisk<B> = MemDisk::new(alloc, 256)?;
     put_mbr(&mut chain, [None, record(5, 64, 8), None, None])?;
     Ok([

@@ -27,7 +27,10 @@ fn a_refused_batch_stops_no_session(rt: HostRuntime) -> Result<(), Fail> {
     let three = batches(alloc, &["c:1:a", "c:9:b", "c:1:d"])?;
     let replies = session(alloc, &mut disk, &three)?;
     let refused = Reply::Refused(CommitError::Edit(Refusal::NoSuchPartition));
-    assert_eq!(rt; replies.as_slice(), [Reply::Done, refused, Reply::Done].as_slice());
+    assert_eq!(rt;
+        replies.as_slice(),
+        [Reply::Done, refused, Reply::Done].as_slice()
+    );
     assert!(rt; name_is(alloc, &mut disk, "d")?);
     let none = session(alloc, &mut disk, &[])?;
     assert!(rt; none.is_empty());
