@@ -240,7 +240,12 @@ pub(crate) fn crash_disk<const B: usize>(
 ) -> Result<CrashDisk<B>, Fail>
     requires { IsSectorSize B }
 {
-    let mut disk: CrashDisk<B> = CrashDisk::new(alloc, image.sectors.min(16384), 80)?;
+    let sectors = if image.sectors < 16384 {
+        image.sectors
+    } else {
+        16384
+    };
+    let mut disk: CrashDisk<B> = CrashDisk::new(alloc, sectors, 80)?;
     for write in &image.writes {
         put(&mut disk, write.lba.0, &write.bytes)?;
     }

@@ -1,13 +1,13 @@
 //! Repairs of disks with each finding.
 
 ghost use Rattle.pt_sector.specs.Sectors.{IsSectorSize};
-ghost use Rattle.std.specs.Prelude.{◌≡◌};
 
 use super::images::{
     change, crash_disk, entry, gpt_disk, holds, image_of, made, put, put_copy, put_mbr, record,
     sector, table_disk, words,
 };
-use super::renames::{counts, is_healthy, name_is};
+use super::renames::{counts, is_healthy};
+use super::stops::faults;
 use crate::{CommitError, PlanError, RepairError, commit, plan_for, plan_for_repair, repair};
 use pt_bsd::{LabelEntry, empty_label, encode_label};
 use pt_gpt::{CopyError, Side};
@@ -314,5 +314,75 @@ fn disks_that_denote_nothing_are_refused(rt: HostRuntime) -> Result<(), Fail> {
         assert_eq!(rt; small[k], Some(RepairError::NoTable(want[k])));
         assert_eq!(rt; large[k], Some(RepairError::NoTable(want[k])));
     }
+    Ok(())
+}
+
+/// Whether each call of a repair that fails is told: the first flush, the reads, and then those of its plan. After a
+/// failed read no byte is changed.
+fn tells_each_fault<const B: usize>(alloc: Global, mut disk: MemDisk<B>) -> Result<bool, Fail>
+    requires { IsSectorSize B }
+{
+    let image = image_of(alloc, &mut disk)?;
+    let plan = plan_for_repair(alloc, &mut disk)?;
+    let faults = faults(alloc, &plan)?;
+    let mut next = 0;
+    for call in 1..1000u64 {
+        let mut failing = crash_disk(alloc, &image)?;
+        failing.fail_at(call, false);
+        let good = match repair(alloc, &mut failing) {
+            Ok(()) => return Ok(next == faults.len()),
+            Err(RepairError::Device(Fault::Read(at))) => {
+                next == 0 && call > 1 && at.0 < disk.sectors() && holds(&mut failing, &image)?
+            }
+            Err(RepairError::Device(Fault::Flush)) if call == 1 => true,
+            Err(RepairError::Device(fault)) if next < faults.len() => {
+                next += 1;
+                faults[next - 1] == fault
+            }
+            Err(_) => false,
+        };
+        if !good {
+            return Ok(false);
+        }
+    }
+    Ok(false)
+}
+
+#[test]
+fn each_call_of_a_repair_that_fails_is_told(rt: HostRuntime) -> Result<(), Fail> {
+    let alloc = rt.alloc();
+    for way in [0, 1, 5, 8] {
+        assert!(rt;
+            tells_each_fault::<512>(alloc, broken(alloc, way)?)?,
+            "512 {way}"
+        );
+        assert!(rt;
+            tells_each_fault::<4096>(alloc, broken(alloc, way)?)?,
+            "4096 {way}"
+        );
+    }
+    let chain = made(alloc, 128, true, &["a:1", "n:2:40:120:05", "n:5:64:+20"])?;
+    assert!(rt; tells_each_fault::<512>(alloc, chain)?);
+    Ok(())
+}
+
+#[test]
+fn a_label_waits_for_a_repair(rt: HostRuntime) -> Result<(), Fail> {
+    let alloc = rt.alloc();
+    let mut disk: MemDisk<512> = made(alloc, 4096, false, &["o", "n:1:2048:4062:A500"])?;
+    change(&mut disk, 4095, 0, 0)?;
+    let edits = words(alloc, &["a:1", "n:1.a:2064:2163"])?;
+    let refused = Err(CommitError::Plan(PlanError::NeedsRepair));
+    assert_eq!(rt; commit(alloc, &mut disk, &edits, &[]), refused);
+    assert!(rt; mends(alloc, &mut disk)?);
+    let plan = plan_for(alloc, &mut disk, &edits, &[])?;
+    assert_eq!(rt; counts(&plan), [1, 0, 0, 0, 0]);
+    for phase in &plan.phases {
+        for write in phase {
+            assert_eq!(rt; write.lba, Lba(2049));
+        }
+    }
+    assert_eq!(rt; commit(alloc, &mut disk, &edits, &[]), Ok(()));
+    assert_eq!(rt; finding(alloc, &mut disk)?, None);
     Ok(())
 }

@@ -2,8 +2,10 @@
 
 use super::images::{crash_disk, gpt_disk, holds, image_of, words};
 use super::renames::name_is;
+use super::stops::{Stop, small_rename, stops_at};
 use crate::{Batch, CommitError, Reply, session};
-use pt_edit::Refusal;
+use pt_edit::{Refusal, edit};
+use pt_layout::{Layout, recover};
 use pt_sector::Fault;
 use std::alloc::Global;
 use std::test::Fail;
@@ -51,5 +53,79 @@ fn nothing_is_done_after_a_first_call_that_fails(rt: HostRuntime) -> Result<(), 
         [fault, Reply::NotTried, Reply::NotTried].as_slice()
     );
     assert!(rt; holds(&mut disk, &before)?);
+    Ok(())
+}
+
+/// The layouts that three names lead to, one after the other, from this one on.
+fn steps(alloc: Global, batches: &[Batch], old: &Layout) -> Result<Vec<Layout>, Fail> {
+    let mut layouts = Vec::new(alloc);
+    let mut now = old.copy(alloc)?;
+    for batch in batches {
+        let next = edit::<512>(alloc, Some(&now), now.sectors, &batch.edits, &[])?;
+        layouts.push(now)?;
+        now = next;
+    }
+    layouts.push(now)?;
+    Ok(layouts)
+}
+
+/// How many batches are done where a session stops, and whether one met a fault; none for other replies.
+fn done(replies: &[Reply]) -> Option<(usize, bool)> {
+    let mut done = 0;
+    let mut faulted = false;
+    for reply in replies {
+        match reply {
+            Reply::Done if !faulted => done = done.saturating_add(1),
+            Reply::Fault(_) if !faulted => faulted = true,
+            Reply::NotTried if faulted => {}
+            _ => return None,
+        }
+    }
+    Some((done, faulted))
+}
+
+/// The first of the stops, so many calls apart, that leaves another layout than that of the batches done, or with the
+/// one that met the fault.
+fn bad_session(alloc: Global, step: u64) -> Result<Option<Stop>, Fail> {
+    let case = small_rename(alloc)?;
+    let batches = batches(alloc, &["c:1:a", "c:1:b", "c:1:d"])?;
+    let layouts = steps(alloc, &batches, &case.old)?;
+    let mut call = 1;
+    for _ in 0..1000 {
+        let mut ended = false;
+        for stop in stops_at(call) {
+            let mut disk = crash_disk(alloc, &case.image)?;
+            disk.fail_at(stop.call, stop.kept);
+            let replies = session(alloc, &mut disk, &batches)?;
+            let found = recover(alloc, &mut disk.stop(&stop.choices()))?;
+            let good = match done(&replies) {
+                None => false,
+                Some((done, faulted)) => {
+                    ended = !faulted;
+                    let next = if faulted {
+                        done.saturating_add(1)
+                    } else {
+                        done
+                    };
+                    done < layouts.len()
+                        && next < layouts.len()
+                        && (found.same(&layouts[done]) || found.same(&layouts[next]))
+                }
+            };
+            if !good {
+                return Ok(Some(stop));
+            }
+        }
+        if ended {
+            return Ok(None);
+        }
+        call = call.saturating_add(step);
+    }
+    Ok(None)
+}
+
+#[test]
+fn sessions_stop_after_whole_batches(rt: HostRuntime) -> Result<(), Fail> {
+    assert_eq!(rt; bad_session(rt.alloc(), 17)?, None);
     Ok(())
 }

@@ -41,7 +41,7 @@ pub(crate) enum Left {
     Neither,
 }
 
-fn left<D: Disk<512>>(alloc: Global, case: &Case, disk: &mut D) -> Result<Left, Fail> {
+fn denoted<D: Disk<512>>(alloc: Global, case: &Case, disk: &mut D) -> Result<Left, Fail> {
     let layout = recover(alloc, disk)?;
     Ok(if layout.same(&case.new) {
         Left::New
@@ -105,7 +105,10 @@ pub(crate) fn applied(
 }
 
 /// The fault of each call of a plan, in order.
-fn faults(alloc: Global, plan: &Plan<512>) -> Result<Vec<Fault>, AllocError> {
+pub(crate) fn faults<const B: usize>(
+    alloc: Global,
+    plan: &Plan<B>,
+) -> Result<Vec<Fault>, AllocError> {
     let mut faults = Vec::new(alloc);
     for phase in &plan.phases {
         for write in phase {
@@ -145,7 +148,7 @@ fn bad_stop(
     for fault in &faults {
         for stop in stops_at(call) {
             let (disk, answer) = applied(alloc, case, stop)?;
-            let left = left(alloc, case, &mut disk.stop(&stop.choices()))?;
+            let left = denoted(alloc, case, &mut disk.stop(&stop.choices()))?;
             if answer != Err(*fault) || !may_denote(call, turn, left) {
                 return Ok(Some(stop));
             }
@@ -154,7 +157,7 @@ fn bad_stop(
     }
     for stop in stops_at(call) {
         let (disk, answer) = applied(alloc, case, stop)?;
-        let left = left(alloc, case, &mut disk.stop(&stop.choices()))?;
+        let left = denoted(alloc, case, &mut disk.stop(&stop.choices()))?;
         if answer != Ok(()) || left != Left::New || faults.len() != calls {
             return Ok(Some(stop));
         }
@@ -202,7 +205,7 @@ fn committed(
     let mut disk = crash_disk(alloc, &case.image)?;
     disk.fail_at(stop.call, stop.kept);
     let answer = commit(alloc, &mut disk, &case.edits, &guids());
-    let left = left(alloc, case, &mut disk.stop(&stop.choices()))?;
+    let left = denoted(alloc, case, &mut disk.stop(&stop.choices()))?;
     Ok((answer, left))
 }
 
