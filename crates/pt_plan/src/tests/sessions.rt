@@ -2,7 +2,7 @@
 
 use super::images::{crash_disk, gpt_disk, holds, image_of, words};
 use super::renames::name_is;
-use super::stops::{Stop, small_rename, stops_at};
+use super::stops::{Case, Stop, small_rename, stops_at};
 use crate::{Batch, CommitError, Reply, session};
 use pt_edit::{Refusal, edit};
 use pt_layout::{Layout, recover};
@@ -84,39 +84,46 @@ fn done(replies: &[Reply]) -> Option<(usize, bool)> {
     Some((done, faulted))
 }
 
-/// The first of the stops, so many calls apart, that leaves another layout than that of the batches done, or with the
-/// one that met the fault.
+/// Whether a session meets a fault where one of its calls fails; none where the disk, stopped, denotes another layout than
+/// that of the batches done, or with the one that met the fault.
+fn meets_fault(
+    alloc: Global,
+    case: &Case,
+    batches: &[Batch],
+    stop: Stop,
+) -> Result<Option<bool>, Fail> {
+    let layouts = steps(alloc, batches, &case.old)?;
+    let mut disk = crash_disk(alloc, &case.image)?;
+    disk.fail_at(stop.call, stop.kept);
+    let replies = session(alloc, &mut disk, batches)?;
+    let found = recover(alloc, &mut disk.stop(&stop.choices()))?;
+    let mut at = layouts.len();
+    for k in 0..layouts.len() {
+        if found.same(&layouts[k]) {
+            at = k;
+        }
+    }
+    Ok(match done(&replies) {
+        Some((done, true)) if at == done || at == done.saturating_add(1) => Some(true),
+        Some((done, false)) if at == done && done == batches.len() => Some(false),
+        _ => None,
+    })
+}
+
+/// The first of the stops, so many calls apart, after which the disk isn't as it may be.
 fn bad_session(alloc: Global, step: u64) -> Result<Option<Stop>, Fail> {
     let case = small_rename(alloc)?;
     let batches = batches(alloc, &["c:1:a", "c:1:b", "c:1:d"])?;
-    let layouts = steps(alloc, &batches, &case.old)?;
     let mut call = 1;
     for _ in 0..1000 {
-        let mut ended = false;
+        let mut met = false;
         for stop in stops_at(call) {
-            let mut disk = crash_disk(alloc, &case.image)?;
-            disk.fail_at(stop.call, stop.kept);
-            let replies = session(alloc, &mut disk, &batches)?;
-            let found = recover(alloc, &mut disk.stop(&stop.choices()))?;
-            let good = match done(&replies) {
-                None => false,
-                Some((done, faulted)) => {
-                    ended = !faulted;
-                    let next = if faulted {
-                        done.saturating_add(1)
-                    } else {
-                        done
-                    };
-                    done < layouts.len()
-                        && next < layouts.len()
-                        && (found.same(&layouts[done]) || found.same(&layouts[next]))
-                }
-            };
-            if !good {
-                return Ok(Some(stop));
+            match meets_fault(alloc, &case, &batches, stop)? {
+                Some(fault) => met = fault,
+                None => return Ok(Some(stop)),
             }
         }
-        if ended {
+        if !met {
             return Ok(None);
         }
         call = call.saturating_add(step);
