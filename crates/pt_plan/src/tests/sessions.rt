@@ -71,7 +71,7 @@ fn steps(alloc: Global, batches: &[Batch], old: &Layout) -> Result<Vec<Layout>, 
 
 /// How many batches are done where a session stops, and whether one met a fault; none for other replies.
 fn done(replies: &[Reply]) -> Option<(usize, bool)> {
-    let mut done = 0;
+    let mut done: usize = 0;
     let mut faulted = false;
     for reply in replies {
         match reply {
