@@ -213,9 +213,9 @@ fn bad_pairs(
 fn repairs_after_faults(rt: HostRuntime) -> Result<(), Fail> {
     let alloc = rt.alloc();
     let rename = small_rename(alloc)?;
-    assert_eq!(rt; bad_pairs(alloc, &rename, 71, (3, 29), None)?, None);
+    assert_eq!(rt; bad_pairs(alloc, &rename, 71, (5, 37), None)?, None);
     for flush in [34, 36, 69, 71] {
-        assert_eq!(rt; bad_pair(alloc, &rename, flush, 5, None)?, None);
+        assert_eq!(rt; bad_pair(alloc, &rename, flush, 7, None)?, None);
     }
     let conversion = small_conversion(alloc)?;
     assert_eq!(rt; bad_pairs(alloc, &conversion, 69, (17, 29), None)?, None);
@@ -231,9 +231,9 @@ fn commits_after_faults(rt: HostRuntime) -> Result<(), Fail> {
     let alloc = rt.alloc();
     let other = words(alloc, &["c:1:other"])?;
     let rename = small_rename(alloc)?;
-    assert_eq!(rt; bad_pairs(alloc, &rename, 71, (3, 29), Some(&other))?, None);
+    assert_eq!(rt; bad_pairs(alloc, &rename, 71, (5, 37), Some(&other))?, None);
     for flush in [34, 36, 69, 71] {
-        assert_eq!(rt; bad_pair(alloc, &rename, flush, 5, Some(&other))?, None);
+        assert_eq!(rt; bad_pair(alloc, &rename, flush, 7, Some(&other))?, None);
     }
     let conversion = small_conversion(alloc)?;
     assert_eq!(rt;
