@@ -1,0 +1,388 @@
+//! Repairs of disks with each finding.
+
+ghost use Rattle.pt_sector.specs.Sectors.{IsSectorSize};
+
+use super::images::{
+    change, crash_disk, entry, gpt_disk, holds, image_of, made, put, put_copy, put_mbr, record,
+    sector, table_disk, words,
+};
+use super::renames::{counts, is_healthy};
+use super::stops::faults;
+use crate::{CommitError, PlanError, RepairError, commit, plan_for, plan_for_repair, repair};
+use pt_bsd::{LabelEntry, empty_label, encode_label};
+use pt_gpt::{CopyError, Side};
+use pt_layout::{Body, Finding, Layout, NoTable, Path, Verdict, recover, verify};
+use pt_mbr::{ChainError, Mbr, encode_mbr, put_record};
+use pt_sector::{Disk, Fault, Lba, MemDisk, Sector};
+use std::alloc::Global;
+use std::test::Fail;
+
+/// The first finding; none on a healthy disk.
+fn finding<const B: usize, D: Disk<B>>(alloc: Global, disk: &mut D) -> Result<Option<Finding>, Fail>
+    requires { IsSectorSize B }
+{
+    match verify(alloc, disk)? {
+        Verdict::Yes(_) => Ok(None),
+        Verdict::No(found) => Ok(Some(found)),
+    }
+}
+
+/// Whether a repair makes the disk healthy with the layout that it denoted, and one more changes no byte.
+fn mends<const B: usize, D: Disk<B>>(alloc: Global, disk: &mut D) -> Result<bool, Fail>
+    requires { IsSectorSize B }
+{
+    let layout = recover(alloc, disk)?;
+    repair(alloc, disk)?;
+    let mended = is_healthy(alloc, disk, &layout)?;
+    let image = image_of(alloc, disk)?;
+    repair(alloc, disk)?;
+    Ok(mended && holds(disk, &image)?)
+}
+
+/// A GPT disk of 256 sectors, and a way to break it: 0 leaves it as it is.
+fn broken<const B: usize>(alloc: Global, way: u8) -> Result<MemDisk<B>, Fail>
+    requires { IsSectorSize B }
+{
+    let entries = [entry(1, 100, 120), None, entry(3, 130, 140), None];
+    let fewer = [entry(1, 100, 120), None, None, None];
+    let mut disk: MemDisk<B> = table_disk(alloc, &entries)?;
+    match way {
+        1 => change(&mut disk, 1, 0, 0)?,
+        2 => change(&mut disk, 2, 511, 1)?,
+        3 => change(&mut disk, 2, 0, 1)?,
+        4 => change(&mut disk, 255, 0, 0)?,
+        5 => put_copy(&mut disk, Side::Backup, &fewer, 1)?,
+        6 => put_copy(&mut disk, Side::Primary, &entries, 254)?,
+        7 => put_copy(&mut disk, Side::Backup, &entries, 0)?,
+        8 => put(&mut disk, 0, &[0; B])?,
+        9 => change(&mut disk, 0, 462, 1)?,
+        _ => {}
+    }
+    Ok(disk)
+}
+
+/// What each way to break a disk is found as.
+const FOUND: [Option<Finding>; 10] = [
+    None,
+    Some(Finding::PrimaryCopy(CopyError::Signature)),
+    Some(Finding::PrimaryCopy(CopyError::ArrayCrc)),
+    Some(Finding::PrimaryCopy(CopyError::ArrayCrc)),
+    Some(Finding::BackupCopy(CopyError::Signature)),
+    Some(Finding::CopiesDiffer),
+    Some(Finding::Alternate(Side::Primary)),
+    Some(Finding::Alternate(Side::Backup)),
+    Some(Finding::Protective),
+    Some(Finding::Protective),
+];
+
+#[test]
+fn broken_copies_are_mended(rt: HostRuntime) -> Result<(), Fail> {
+    let alloc = rt.alloc();
+    for way in 0..10u8 {
+        let mut small: MemDisk<512> = broken(alloc, way)?;
+        assert_eq!(rt;
+            finding(alloc, &mut small)?,
+            FOUND[way as usize],
+            "512 {way}"
+        );
+        assert!(rt; mends(alloc, &mut small)?, "512 {way}");
+        let mut large: MemDisk<4096> = broken(alloc, way)?;
+        assert_eq!(rt;
+            finding(alloc, &mut large)?,
+            FOUND[way as usize],
+            "4096 {way}"
+        );
+        assert!(rt; mends(alloc, &mut large)?, "4096 {way}");
+    }
+    Ok(())
+}
+
+#[test]
+fn the_primary_is_mended_in_four_phases(rt: HostRuntime) -> Result<(), Fail> {
+    let alloc = rt.alloc();
+    let mut disk = gpt_disk(alloc)?;
+    change(&mut disk, 2, 200, 1)?;
+    let found = finding(alloc, &mut disk)?;
+    assert_eq!(rt; found, Some(Finding::PrimaryCopy(CopyError::ArrayCrc)));
+    let plan = plan_for_repair(alloc, &mut disk)?;
+    assert_eq!(rt; counts(&plan), [1, 32, 1, 33, 0]);
+    assert!(rt; mends(alloc, &mut disk)?);
+    let healthy = plan_for_repair(alloc, &mut disk)?;
+    assert_eq!(rt; counts(&healthy), [0; 5]);
+    Ok(())
+}
+
+/// The same disk with 1000 sectors more, all zero.
+fn grown(alloc: Global, disk: &mut MemDisk<512>) -> Result<MemDisk<512>, Fail> {
+    let mut larger: MemDisk<512> = MemDisk::new(alloc, 5096)?;
+    for lba in 0..disk.sectors() {
+        let bytes: Sector<512> = sector(disk, lba)?;
+        put(&mut larger, lba, &bytes)?;
+    }
+    Ok(larger)
+}
+
+/// The first and last usable sector of a healthy GPT disk.
+fn usable<D: Disk<512>>(alloc: Global, disk: &mut D) -> Result<Option<(u64, u64)>, Fail> {
+    match verify(alloc, disk)? {
+        Verdict::Yes(
+            Layout {
+                body: Body::Gpt(table),
+                ..
+            },
+        ) => Ok(Some((table.first, table.last))),
+        _ => Ok(None),
+    }
+}
+
+#[test]
+fn a_disk_that_grew_keeps_its_usable_sectors(rt: HostRuntime) -> Result<(), Fail> {
+    let alloc = rt.alloc();
+    let mut disk = grown(alloc, &mut gpt_disk(alloc)?)?;
+    let found = finding(alloc, &mut disk)?;
+    assert_eq!(rt; found, Some(Finding::BackupCopy(CopyError::Signature)));
+    let plan = plan_for_repair(alloc, &mut disk)?;
+    assert_eq!(rt; counts(&plan), [33, 1, 32, 1, 1]);
+    assert!(rt; mends(alloc, &mut disk)?);
+    assert_eq!(rt; usable(alloc, &mut disk)?, Some((34, 4062)));
+    commit(alloc, &mut disk, &words(alloc, &["e"])?, &[])?;
+    assert_eq!(rt; usable(alloc, &mut disk)?, Some((34, 5062)));
+    Ok(())
+}
+
+/// What a repair says of a disk that it may not change, if it changes no byte.
+fn refused<const B: usize, D: Disk<B>>(
+    alloc: Global,
+    disk: &mut D,
+) -> Result<Option<RepairError>, Fail>
+    requires { IsSectorSize B }
+{
+    let image = image_of(alloc, disk)?;
+    let answer = repair(alloc, disk);
+    if !holds(disk, &image)? {
+        return Ok(None);
+    }
+    Ok(answer.err())
+}
+
+const fn path(number: u64) -> Path {
+    Path {
+        number,
+        letter: None,
+    }
+}
+
+/// What a repair says of a GPT disk with these entries, with and without a backup copy.
+fn unsound_table<const B: usize>(
+    alloc: Global,
+    first: (u64, u64),
+    second: (u8, u64, u64),
+) -> Result<[Option<RepairError>; 2], Fail>
+    requires { IsSectorSize B }
+{
+    let entries = [
+        entry(1, first.0, first.1),
+        entry(second.0, second.1, second.2),
+        None,
+        None,
+    ];
+    let mut disk: MemDisk<B> = table_disk(alloc, &entries)?;
+    let whole = refused(alloc, &mut disk)?;
+    change(&mut disk, 255, 0, 0)?;
+    Ok([whole, refused(alloc, &mut disk)?])
+}
+
+#[test]
+fn unsound_tables_are_refused(rt: HostRuntime) -> Result<(), Fail> {
+    let alloc = rt.alloc();
+    let outside = Finding::OutsideUsable(path(1));
+    let rows = [
+        ((1, 90), (2, 130, 140), outside),
+        ((90, 80), (2, 130, 140), outside),
+        ((100, 1 << 63), (2, 130, 140), outside),
+        (
+            (100, 150),
+            (2, 150, 160),
+            Finding::Overlap(path(1), path(2)),
+        ),
+        (
+            (150, 160),
+            (2, 100, 150),
+            Finding::Overlap(path(2), path(1)),
+        ),
+        ((100, 120), (1, 130, 140), Finding::SameGuid(1, 2)),
+    ];
+    for (first, second, found) in rows {
+        let want = [Some(RepairError::Unsound(found)); 2];
+        assert_eq!(rt; unsound_table::<512>(alloc, first, second)?, want);
+        assert_eq!(rt; unsound_table::<4096>(alloc, first, second)?, want);
+    }
+    Ok(())
+}
+
+#[test]
+fn a_record_of_the_chain_in_a_partition_is_refused(rt: HostRuntime) -> Result<(), Fail> {
+    let alloc = rt.alloc();
+    let mut disk: MemDisk<512> = made(alloc, 16384, true, &["n:2:4096:12287:05", "n:5:0:+1000"])?;
+    assert!(rt; mends(alloc, &mut disk)?);
+    let link = record(0x05, 2904, 1);
+    let linked = put_record(&sector(&mut disk, 6143)?, 1, link.as_ref());
+    put(&mut disk, 6143, &linked)?;
+    let empty = Mbr { records: [None; 4] };
+    put(&mut disk, 7000, &encode_mbr(&empty, &[0; 512]))?;
+    let on_table = Finding::OnTable(path(5), Lba(7000));
+    assert_eq!(rt; finding(alloc, &mut disk)?, Some(on_table));
+    assert_eq!(rt;
+        refused(alloc, &mut disk)?,
+        Some(RepairError::Unsound(on_table))
+    );
+    Ok(())
+}
+
+#[test]
+fn labels_that_are_outside_or_foreign_are_refused(rt: HostRuntime) -> Result<(), Fail> {
+    let alloc = rt.alloc();
+    let mut disk: MemDisk<512> = made(alloc, 8192, true, &["n:1:2048:6143:A5"])?;
+    assert!(rt; mends(alloc, &mut disk)?);
+    let mut label = empty_label(4096);
+    label.entries[0] = Some(LabelEntry {
+        size: 2000,
+        offset: 0,
+        fragment: 0,
+        fstype: 7,
+        frag: 0,
+        cpg: 0,
+    });
+    put(&mut disk, 2049, &encode_label(&label, &[0; 512]))?;
+    let outside = Finding::OutsideUsable(Path {
+        number: 1,
+        letter: Some(0),
+    });
+    assert_eq!(rt;
+        refused(alloc, &mut disk)?,
+        Some(RepairError::Unsound(outside))
+    );
+    change(&mut disk, 2049, 136, 0xFF)?;
+    let foreign = Finding::ForeignLabel(path(1));
+    assert_eq!(rt;
+        refused(alloc, &mut disk)?,
+        Some(RepairError::Unsound(foreign))
+    );
+    Ok(())
+}
+
+/// What a repair says of disks that denote nothing.
+fn nothings<const B: usize>(alloc: Global) -> Result<[Option<RepairError>; 6], Fail>
+    requires { IsSectorSize B }
+{
+    let mut no_sectors: MemDisk<B> = MemDisk::new(alloc, 0)?;
+    let mut small: MemDisk<B> = MemDisk::new(alloc, 11)?;
+    let mut zeros: MemDisk<B> = MemDisk::new(alloc, 256)?;
+    let mut headless: MemDisk<B> = broken(alloc, 1)?;
+    change(&mut headless, 255, 20, 1)?;
+    let mut two: MemDisk<B> = MemDisk::new(alloc, 256)?;
+    put_mbr(
+        &mut two,
+        [record(5, 64, 8), record(0x0F, 96, 8), None, None],
+    )?;
+    let mut chain: MemDisk<B> = MemDisk::new(alloc, 256)?;
+    put_mbr(&mut chain, [None, record(5, 64, 8), None, None])?;
+    Ok([
+        refused(alloc, &mut no_sectors)?,
+        refused(alloc, &mut small)?,
+        refused(alloc, &mut zeros)?,
+        refused(alloc, &mut headless)?,
+        refused(alloc, &mut two)?,
+        refused(alloc, &mut chain)?,
+    ])
+}
+
+#[test]
+fn disks_that_denote_nothing_are_refused(rt: HostRuntime) -> Result<(), Fail> {
+    let alloc = rt.alloc();
+    let want = [
+        NoTable::TooSmall,
+        NoTable::TooSmall,
+        NoTable::NoCopy(CopyError::Signature, CopyError::Signature),
+        NoTable::NoCopy(CopyError::Signature, CopyError::HeaderCrc),
+        NoTable::TwoExtended,
+        NoTable::Chain(ChainError::NoSignature(Lba(64))),
+    ];
+    let small = nothings::<512>(alloc)?;
+    let large = nothings::<4096>(alloc)?;
+    for k in 0..6usize {
+        assert_eq!(rt; small[k], Some(RepairError::NoTable(want[k])));
+        assert_eq!(rt; large[k], Some(RepairError::NoTable(want[k])));
+    }
+    Ok(())
+}
+
+/// Whether each call of a repair that fails is told: the first flush, the reads, and then those of its plan. After a
+/// failed read no byte is changed.
+fn tells_each_fault<const B: usize>(alloc: Global, mut disk: MemDisk<B>) -> Result<bool, Fail>
+    requires { IsSectorSize B }
+{
+    let image = image_of(alloc, &mut disk)?;
+    let plan = plan_for_repair(alloc, &mut disk)?;
+    let faults = faults(alloc, &plan)?;
+    let mut next = 0;
+    for call in 1..1000u64 {
+        let mut failing = crash_disk(alloc, &image)?;
+        failing.fail_at(call, false);
+        let good = match repair(alloc, &mut failing) {
+            Ok(()) => return Ok(next == faults.len()),
+            Err(RepairError::Device(Fault::Read(at))) => {
+                next == 0 && call > 1 && at.0 < disk.sectors() && holds(&mut failing, &image)?
+            }
+            Err(RepairError::Device(Fault::Flush)) if call == 1 => true,
+            Err(RepairError::Device(fault)) if next < faults.len() => {
+                next += 1;
+                faults[next - 1] == fault
+            }
+            Err(_) => false,
+        };
+        if !good {
+            return Ok(false);
+        }
+    }
+    Ok(false)
+}
+
+#[test]
+fn each_call_of_a_repair_that_fails_is_told(rt: HostRuntime) -> Result<(), Fail> {
+    let alloc = rt.alloc();
+    for way in [0, 1, 5, 8] {
+        assert!(rt;
+            tells_each_fault::<512>(alloc, broken(alloc, way)?)?,
+            "512 {way}"
+        );
+        assert!(rt;
+            tells_each_fault::<4096>(alloc, broken(alloc, way)?)?,
+            "4096 {way}"
+        );
+    }
+    let chain = made(alloc, 128, true, &["a:1", "n:2:40:120:05", "n:5:64:+20"])?;
+    assert!(rt; tells_each_fault::<512>(alloc, chain)?);
+    Ok(())
+}
+
+#[test]
+fn a_label_waits_for_a_repair(rt: HostRuntime) -> Result<(), Fail> {
+    let alloc = rt.alloc();
+    let mut disk: MemDisk<512> = made(alloc, 4096, false, &["o", "n:1:2048:4062:A500"])?;
+    change(&mut disk, 4095, 0, 0)?;
+    let edits = words(alloc, &["a:1", "n:1.a:2064:2163"])?;
+    let refused = Err(CommitError::Plan(PlanError::NeedsRepair));
+    assert_eq!(rt; commit(alloc, &mut disk, &edits, &[]), refused);
+    assert!(rt; mends(alloc, &mut disk)?);
+    let plan = plan_for(alloc, &mut disk, &edits, &[])?;
+    assert_eq!(rt; counts(&plan), [1, 0, 0, 0, 0]);
+    for phase in &plan.phases {
+        for write in phase {
+            assert_eq!(rt; write.lba, Lba(2049));
+        }
+    }
+    assert_eq!(rt; commit(alloc, &mut disk, &edits, &[]), Ok(()));
+    assert_eq!(rt; finding(alloc, &mut disk)?, None);
+    Ok(())
+}
