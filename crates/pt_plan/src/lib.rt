@@ -8,8 +8,6 @@ mod prepare;
 mod repair;
 mod repair_error;
 mod session;
-#[cfg(test)]
-mod tests;
 
 pub use commits::commit;
 pub use error::CommitError;

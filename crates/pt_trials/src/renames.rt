@@ -2,7 +2,7 @@
 
 ghost use Rattle.pt_sector.specs.Sectors.{IsSectorSize};
 
-use super::images::words;
+use crate::images::words;
 use pt_apply::Plan;
 use pt_edit::edit;
 use pt_layout::{Layout, Verdict, verify};

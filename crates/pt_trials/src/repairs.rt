@@ -2,17 +2,17 @@
 
 ghost use Rattle.pt_sector.specs.Sectors.{IsSectorSize};
 
-use super::images::{
+use crate::images::{
     change, crash_disk, entry, gpt_disk, holds, image_of, made, put, put_copy, put_mbr, record,
     sector, table_disk, words,
 };
-use super::renames::{counts, is_healthy};
-use super::stops::faults;
-use crate::{CommitError, PlanError, RepairError, commit, plan_for, plan_for_repair, repair};
+use crate::renames::{counts, is_healthy};
+use crate::stops::faults;
 use pt_bsd::{LabelEntry, empty_label, encode_label};
 use pt_gpt::{CopyError, Side};
 use pt_layout::{Body, Finding, Layout, NoTable, Path, Verdict, recover, verify};
 use pt_mbr::{ChainError, Mbr, encode_mbr, put_record};
+use pt_plan::{CommitError, PlanError, RepairError, commit, plan_for, plan_for_repair, repair};
 use pt_sector::{Disk, Fault, Lba, MemDisk, Sector};
 use std::alloc::Global;
 use std::test::Fail;

@@ -1,15 +1,15 @@
 //! What follows a fault: a repair or another commit, each call of which fails in turn.
 
-use super::images::{gpt_disk, holds, image_of, words};
-use super::renames::{counts, is_healthy, name_is};
-use super::stops::{
+use crate::images::{gpt_disk, holds, image_of, words};
+use crate::renames::{counts, is_healthy, name_is};
+use crate::stops::{
     Case, Stop, applied, case_of, small_chain, small_conversion, small_label, small_rename,
     stops_at,
 };
-use crate::{CommitError, RepairError, commit, plan_for, repair};
 use pt_edit::{Edit, Refusal, edit};
 use pt_gpt::CopyError;
 use pt_layout::{Finding, Layout, Verdict, recover, verify};
+use pt_plan::{CommitError, RepairError, commit, plan_for, repair};
 use pt_sector::{Disk, Fault};
 use std::alloc::Global;
 use std::test::Fail;

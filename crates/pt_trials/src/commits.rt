@@ -3,15 +3,15 @@
 ghost use Rattle.std.specs.Prelude.{◌≡◌, ◌≤◌};
 ghost use Rattle.pt_sector.specs.Sectors.{IsSectorSize};
 
-use super::images::{DISK, LINUX};
-use super::renames::counts;
-use crate::{CommitError, PlanError, commit, plan_for};
+use crate::images::{DISK, LINUX};
+use crate::renames::counts;
 use pt_apply::{Plan, Write};
 use pt_check::{Answer, Why, check};
 use pt_edit::{Code, Edit, End, Refusal};
 use pt_gpt::{CopyError, Entries, Entry, Table, array_sectors};
 use pt_guid::Guid;
 use pt_layout::{Body, Finding, Labels, Layout, NoTable, Path, Verdict, recover, verify};
+use pt_plan::{CommitError, PlanError, commit, plan_for};
 use pt_planner::make_plan;
 use pt_sector::{CrashDisk, Disk, Fault, Lba, MemDisk, Sector};
 use std::alloc::{AllocError, Global};

@@ -1,10 +1,10 @@
 //! Each call of the device fails in turn, and the disk is stopped: plans and whole commits.
 
-use super::images::{Image, crash_disk, gpt_disk, guids, image_of, made, words};
-use crate::{CommitError, commit, plan_for};
+use crate::images::{Image, crash_disk, gpt_disk, guids, image_of, made, words};
 use pt_apply::{Plan, apply};
 use pt_edit::Edit;
 use pt_layout::{Layout, recover};
+use pt_plan::{CommitError, commit, plan_for};
 use pt_sector::{CrashDisk, Disk, Fault, MemDisk};
 use std::alloc::{AllocError, Global};
 use std::test::Fail;

@@ -3,7 +3,6 @@
 ghost use Rattle.std.specs.Prelude.{◌≡◌, ◌≤◌, ◌<◌};
 ghost use Rattle.pt_sector.specs.Sectors.{IsSectorSize};
 
-use crate::commit;
 use pt_apply::Write;
 use pt_edit::{Edit, parse_edit};
 use pt_gpt::{
@@ -12,6 +11,7 @@ use pt_gpt::{
 };
 use pt_guid::{Guid, fresh};
 use pt_mbr::{Mbr, Record, encode_mbr, protective};
+use pt_plan::commit;
 use pt_sector::{CrashDisk, Disk, Fault, Lba, MemDisk, Sector};
 use std::alloc::Global;
 use std::test::Fail;

@@ -1,11 +1,11 @@
 //! Sessions of three renames.
 
-use super::images::{crash_disk, gpt_disk, holds, image_of, words};
-use super::renames::name_is;
-use super::stops::{Case, Stop, small_rename, stops_at};
-use crate::{Batch, CommitError, Reply, session};
+use crate::images::{crash_disk, gpt_disk, holds, image_of, words};
+use crate::renames::name_is;
+use crate::stops::{Case, Stop, small_rename, stops_at};
 use pt_edit::{Refusal, edit};
 use pt_layout::{Layout, recover};
+use pt_plan::{Batch, CommitError, Reply, session};
 use pt_sector::Fault;
 use std::alloc::Global;
 use std::test::Fail;
