@@ -1,5 +1,5 @@
 -- What stands once a layout was found to be one of the disk, and sound.
-use Rattle.std.proofs.Common.{◌≡◌, ◌∙◌, ◌↔◌, ◌⊎◌, ℕ, zero, suc, List, [], ◌∷◌, length, replicate, Bool, true, false, IsTrue, Option, Some, refl, sym, ap, subst}
+use Rattle.std.proofs.Common.{◌≡◌, ◌∙◌, ◌↔◌, ◌⊎◌, ℕ, zero, suc, List, [], length, replicate, Bool, true, IsTrue, Option, Some, refl, ap, subst}
 use Rattle.pt_sector.specs.Sectors.{Sectors}
 use Rattle.pt_gpt.specs.declared.table.Table.{Table}
 use Rattle.pt_mbr.specs.declared.ebr.Ebr.{Ebr}

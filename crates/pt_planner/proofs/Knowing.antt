@@ -1,18 +1,18 @@
 -- What a survey makes known, and what follows for a wanted layout.
-use Rattle.std.proofs.Common.{◌≡◌, ◌↔◌, ◌⊎◌, inl, inr, ℕ, ◌<◌, List, length, Bool, true, false, Option, Some, None, Result, Ok, Err, IfOk, IfErr, IsTrue, All, refl, sym, ap, ◌∙◌, subst, arith}
-use Rattle.std.specs.Prelude.{is_some, not}
+use Rattle.std.proofs.Common.{◌≡◌, ◌↔◌, ◌⊎◌, inl, inr, ℕ, Bool, true, false, Option, Some, None, Result, Ok, Err, IfOk, IsTrue, refl, sym, ap, ◌∙◌, subst}
+use Rattle.std.specs.Prelude.{is_some, not, IfSome}
 use Rattle.pt_sector.specs.Sectors.{Sectors}
 use Rattle.pt_recover.specs.Denotes.{Denotes}
 use Rattle.pt_recover.specs.Laws.{denotes_one_lem}
+use Rattle.pt_recover.specs.Numbers.{Numbers}
 use Rattle.pt_recover.specs.declared.error.NoTable.{NoTable}
 use Rattle.pt_recover.specs.declared.layout.Layout.{Layout}
-use Rattle.pt_layout.specs.Findings.{IsFinding}
 use Rattle.pt_layout.specs.Healthy.{IsHealthy}
 use Rattle.pt_layout.specs.Laws.{finding_excludes_lem}
 use Rattle.pt_layout.specs.Surveys.{FoundIs, FindingIs, IsSurvey}
 use Rattle.pt_layout.specs.declared.finding.Finding.{Finding}
 use Rattle.pt_layout.specs.declared.survey.Survey.{Survey}
-use Rattle.pt_planner.specs.Known.{WrongIs, IsKnown, IsKnownOf, FoundAs, ReasonIs}
+use Rattle.pt_planner.specs.Known.{WrongIs, IsEither, IsKnown, IsKnownOf, FoundAs, ReasonIs}
 use Rattle.pt_planner.specs.declared.known.Known.{Known}
 
 old_is : (b : ℕ) (d : Sectors) (found : Result Layout NoTable) (old : Option Layout) (reason : Option NoTable) → FoundAs found old reason → FoundIs b d found → Denotes b d old
@@ -27,6 +27,15 @@ wrong_is b d (Err e) old reason None found_as is = absurd is
 pub reason_is : (b : ℕ) (d : Sectors) (found : Result Layout NoTable) (old : Option Layout) (reason : Option NoTable) → FoundAs found old reason → FoundIs b d found → ReasonIs b d old reason
 reason_is b d (Ok o) old reason found_as is = rw (found_as.0, found_as.1) tt
 reason_is b d (Err e) old reason found_as is = rw (found_as.0, found_as.1) is.1
+
+-- a survey finds a layout, with numbers of 32 bits, or tells a reason
+pub either_is : (found : Result Layout NoTable) (old : Option Layout) (reason : Option NoTable) → FoundAs found old reason → IsEither old reason
+either_is (Ok o) old reason found_as = rw (found_as.0, found_as.1) tt
+either_is (Err e) old reason found_as = rw (found_as.0, found_as.1) tt
+
+pub numbers_are : (found : Result Layout NoTable) (old : Option Layout) (reason : Option NoTable) → FoundAs found old reason → IfOk found Numbers → IfSome old Numbers
+numbers_are (Ok o) old reason found_as numbers = rw found_as.0 numbers
+numbers_are (Err e) old reason found_as numbers = rw found_as.0 tt
 
 pub known_is : (b : ℕ) (d : Sectors) (read : Survey) (x : Known) (reason : Option NoTable) → IsKnownOf read x reason → IsSurvey b d read → IsKnown b d x
 known_is b d read x reason found_as is = record {

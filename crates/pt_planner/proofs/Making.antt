@@ -1,5 +1,5 @@
 -- From the parts of a plan to the planner's answer.
-use Rattle.std.proofs.Common.{◌≡◌, ◌↔◌, ◌⊎◌, inl, inr, ℕ, zero, suc, ◌+◌, ◌*◌, ◌<◌, ◌≤◌, List, [], ◌∷◌, length, Bool, true, false, Option, Some, None, Result, Ok, Err, IfOk, IfErr, IsTrue, All, refl, sym, subst, arith}
+use Rattle.std.proofs.Common.{◌≡◌, ◌↔◌, inl, inr, ℕ, zero, suc, ◌<◌, List, [], ◌∷◌, length, Bool, true, false, Option, Some, None, Result, Ok, Err, IfOk, IfErr, IsTrue, All, refl, subst, arith}
 use Rattle.std.specs.Prelude.{Contains, get_or}
 use Rattle.pt_sector.specs.Sectors.{Sectors}
 use Rattle.pt_gpt.specs.Copy.{HasCopy}
@@ -10,10 +10,9 @@ use Rattle.pt_mbr.specs.declared.record.Record.{Record}
 use Rattle.pt_recover.specs.Denotes.{Denotes, BodyIs}
 use Rattle.pt_recover.specs.Laws.{denotes_one_lem}
 use Rattle.pt_recover.specs.Mbr.{extended_of, IsMbrDisk}
-use Rattle.pt_recover.specs.declared.layout.Body.{Body}
 use Rattle.pt_recover.specs.declared.layout.Body.TheVariants.{Mbr, Gpt}
 use Rattle.pt_recover.specs.declared.layout.Layout.{Layout}
-use Rattle.pt_layout.specs.Findings.{IsFinding, IsBodyBroken, IsLayoutFinding}
+use Rattle.pt_layout.specs.Findings.{IsBodyBroken, IsLayoutFinding}
 use Rattle.pt_layout.specs.Healthy.{IsHealthy, IsBodyWhole}
 use Rattle.pt_layout.specs.Sound.{Sound}
 use Rattle.pt_layout.specs.Surveys.{HeadOf}
@@ -22,13 +21,12 @@ use Rattle.pt_layout.specs.declared.finding.Finding.TheVariants as finding
 use Rattle.pt_layout.specs.declared.health.Head.{Head}
 use Rattle.pt_layout.specs.declared.health.Head.TheVariants as head
 use Rattle.pt_cases.specs.Cases.{ChangesLabels}
-use Rattle.pt_cases.specs.Causes.{MayBe, MayHave, WasMbr}
+use Rattle.pt_cases.specs.Causes.{MayBe}
 use Rattle.pt_cases.specs.Copies.{FitsTable}
 use Rattle.pt_cases.specs.Records.{IsLinked}
-use Rattle.pt_places.specs.Answers.{LabelsFit, IsFirstLeft, HasUnreadable}
+use Rattle.pt_places.specs.Answers.{NoneLeft}
 use Rattle.pt_tables.specs.Starts.{OrderIs, HeadIs, CopiesStart}
 use Rattle.pt_tables.specs.declared.order.Order.{Order}
-use Rattle.pt_tables.specs.declared.order.Order.TheVariants.{BackupFirst, PrimaryFirst, FromMbr}
 use Rattle.pt_targets.specs.Causes.{HasNoTurn, HasNoCopies}
 use Rattle.pt_targets.specs.Starts.{Start, StopsBy}
 use Rattle.pt_targets.specs.Targets.{AreLabelTargets, AreMbrTargets}
@@ -38,7 +36,7 @@ use Rattle.pt_targets.specs.declared.target.Target.{Target}
 use Rattle.pt_turns.specs.Turns.{MbrStart, LabelStart, Unbroken}
 use Rattle.pt_planner.specs.Known.{WrongIs, IsKnown}
 use Rattle.pt_planner.specs.State.{IsBrokenBy, OrderOf, PlacesStop}
-use Rattle.pt_planner.specs.Unplanned.{NoSwitch, other_disk, misplaced, unreadable, unmade, turn, copies, Hindered, Unplanned, Stops}
+use Rattle.pt_planner.specs.Unplanned.{other_disk, misplaced, targets, unreadable, turn, copies, Hindered, Unplanned}
 use Rattle.pt_planner.specs.declared.known.Known.{Known}
 
 pub ok_so : {A E : Type 0} (r : Result A E) (P Q : A → Type 0) → ((x : A) → P x → Q x) → IfOk r P → IfOk r Q
@@ -151,17 +149,17 @@ mbr_start d x p old old_records records old_chain chain heads places known start
 
 -- the planner's answer, once the layout was found sound and not there yet
 module _ (b : ℕ) (d : Sectors) (o : Option Layout) (p : Layout) (from : Denotes b d o) (sound : Sound b p) (not_done : ¬ IsHealthy b d p) where
-  pub hindered : (e : PlanError) → Hindered b d o p e → Unplanned b d p e
-  hindered NotOneSwitch is = record { sound = sound; not_done = not_done; old = o; from = from; cause = is }
-  hindered ReusedInOneBatch is = record { sound = sound; not_done = not_done; old = o; from = from; cause = is }
-  hindered NeedsRepair is = record { sound = sound; not_done = not_done; old = o; from = from; cause = is }
-  hindered (Unsound f) is = absurd is
-  hindered (Device fault) is = tt
-  hindered Memory is = tt
+  pub hindered : NoneLeft b d p → (e : PlanError) → Hindered b d o p e → Unplanned b d p e
+  hindered none NotOneSwitch is = record { sound = sound; not_done = not_done; old = o; from = from; cause = targets none is }
+  hindered none ReusedInOneBatch is = record { sound = sound; not_done = not_done; old = o; from = from; cause = (none, is) }
+  hindered none NeedsRepair is = record { sound = sound; not_done = not_done; old = o; from = from; cause = (none, is) }
+  hindered none (Unsound f) is = absurd is
+  hindered none (Device fault) is = tt
+  hindered none Memory is = tt
 
   pub no_places : (e : PlanError) → PlacesStop b d o p e → Unplanned b d p e
   no_places NotOneSwitch (inl unfit) = record { sound = sound; not_done = not_done; old = o; from = from; cause = misplaced unfit }
-  no_places NotOneSwitch (inr none) = record { sound = sound; not_done = not_done; old = o; from = from; cause = unreadable none }
+  no_places NotOneSwitch (inr (none, stuck)) = record { sound = sound; not_done = not_done; old = o; from = from; cause = targets none (unreadable stuck) }
   no_places ReusedInOneBatch is = absurd is
   no_places NeedsRepair is = absurd is
   no_places (Unsound f) is = inr (record { sound = sound; number = is.0; first = is.1; is = is.2 })

@@ -38,6 +38,13 @@ ReasonIs b d None (Some e) = IsReason b d e
 ReasonIs b d (Some o) (Some e) = ⊥
 ReasonIs b d None None = ⊥
 
+-- a layout, or a reason why there is none
+abbrev pub IsEither : Option Layout → Option NoTable → Type 0
+IsEither (Some o) None = Unit {0}
+IsEither None (Some e) = Unit {0}
+IsEither (Some o) (Some e) = ⊥
+IsEither None None = ⊥
+
 -- the layout found, or the reason why none was
 abbrev pub FoundAs : Result Layout NoTable → Option Layout → Option NoTable → Type 0
 FoundAs (Ok o) old reason = (old ≡ Some o) × (reason ≡ None)

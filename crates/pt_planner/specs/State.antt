@@ -1,5 +1,5 @@
 -- What the planner finds before it makes a plan.
-use Rattle.std.specs.Prelude.{◌≡◌, ◌⊎◌, ℕ, Bool, true, false, Option, Some, None}
+use Rattle.std.specs.Prelude.{◌≡◌, ◌⊎◌, ℕ, Bool, true, false, Option, Some}
 use Rattle.pt_sector.specs.Sectors.{Sectors}
 use Rattle.pt_recover.specs.declared.layout.Layout.{Layout}
 use Rattle.pt_layout.specs.Members.{number_path}
@@ -10,7 +10,7 @@ use Rattle.pt_layout.specs.declared.health.Head.{Head}
 use Rattle.pt_layout.specs.declared.health.Head.TheVariants as head
 use Rattle.pt_tables.specs.declared.order.Order.{Order}
 use Rattle.pt_tables.specs.declared.order.Order.TheVariants.{BackupFirst, PrimaryFirst, FromMbr}
-use Rattle.pt_places.specs.Answers.{LabelsFit, IsFirstLeft, HasUnreadable}
+use Rattle.pt_places.specs.Answers.{LabelsFit, IsFirstLeft, HasUnreadable, NoneLeft}
 use Rattle.pt_targets.specs.declared.error.PlanError.{PlanError}
 use Rattle.pt_targets.specs.declared.error.PlanError.TheVariants.{NotOneSwitch, ReusedInOneBatch, NeedsRepair, Unsound, Device, Memory}
 
@@ -33,7 +33,7 @@ OrderOf head.Unprotected false order = order ≡ PrimaryFirst
 
 -- why the label places of p have no targets
 abbrev pub PlacesStop : ℕ → Sectors → Option Layout → Layout → PlanError → Type 0
-PlacesStop b d o p NotOneSwitch = (¬ LabelsFit b p) ⊎ HasUnreadable b d o p
+PlacesStop b d o p NotOneSwitch = (¬ LabelsFit b p) ⊎ (NoneLeft b d p × HasUnreadable b d o p)
 PlacesStop b d o p (Unsound f) = (n : ℕ) × IsFirstLeft b d p n × (f ≡ ForeignLabel (number_path n))
 PlacesStop b d o p Memory = Unit {0}
 PlacesStop b d o p (Device fault) = Unit {0}

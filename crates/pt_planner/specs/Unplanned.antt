@@ -13,25 +13,30 @@ use Rattle.pt_layout.specs.declared.finding.Finding.{Finding}
 use Rattle.pt_layout.specs.declared.finding.Finding.TheVariants.{ForeignLabel}
 use Rattle.pt_cases.specs.Causes.{MayBe, WasMbr}
 use Rattle.pt_targets.specs.Causes.{IsReused, HasNoTurn, HasNoCopies, IsUnmended}
-use Rattle.pt_places.specs.Answers.{LabelsFit, IsFirstLeft, HasUnreadable}
+use Rattle.pt_places.specs.Answers.{LabelsFit, IsFirstLeft, HasUnreadable, NoneLeft}
 use Rattle.pt_chains.specs.Unmade.{HasUnmade}
 use Rattle.pt_targets.specs.declared.error.PlanError.{PlanError}
 use Rattle.pt_targets.specs.declared.error.PlanError.TheVariants.{NotOneSwitch, ReusedInOneBatch, NeedsRepair, Unsound, Device, Memory}
 
--- why no plan has one switch: the layout may not be one of this disk, or its sectors would not read back as written;
--- or what recovery reads would change beside the switch, or before it
+-- why the sectors of p don't come with one switch: one would not read back as written; or what recovery reads would
+-- change beside the switch, or before it
+pub data HasNoSwitch (b : ℕ) (d : Sectors) (o : Option Layout) (p : Layout) : Type 0 where
+  unreadable : HasUnreadable b d o p → HasNoSwitch b d o p
+  unmade : (records : List (Option Record)) (chain : List Ebr) → p.body ≡ Mbr records chain → (was : WasMbr o) → HasUnmade b d was.records was.chain records chain → HasNoSwitch b d o p
+  turn : HasNoTurn b d o p → HasNoSwitch b d o p
+  copies : HasNoCopies b d o p → HasNoSwitch b d o p
+
+-- why no plan has one switch: the layout may not be one of this disk, or its labels don't go with its slices; or, where
+-- no foreign label would remain, its sectors don't come with one
 pub data NoSwitch (b : ℕ) (d : Sectors) (o : Option Layout) (p : Layout) : Type 0 where
   other_disk : ¬ MayBe b d o p → NoSwitch b d o p
   misplaced : ¬ LabelsFit b p → NoSwitch b d o p
-  unreadable : HasUnreadable b d o p → NoSwitch b d o p
-  unmade : (records : List (Option Record)) (chain : List Ebr) → p.body ≡ Mbr records chain → (was : WasMbr o) → HasUnmade b d was.records was.chain records chain → NoSwitch b d o p
-  turn : HasNoTurn b d o p → NoSwitch b d o p
-  copies : HasNoCopies b d o p → NoSwitch b d o p
+  targets : NoneLeft b d p → HasNoSwitch b d o p → NoSwitch b d o p
 
 -- why the targets of p make no plan
 abbrev pub Hindered : ℕ → Sectors → Option Layout → Layout → PlanError → Type 0
 Hindered b d o p ReusedInOneBatch = IsReused b d o p
-Hindered b d o p NotOneSwitch = NoSwitch b d o p
+Hindered b d o p NotOneSwitch = HasNoSwitch b d o p
 Hindered b d o p NeedsRepair = IsUnmended b d o p
 Hindered b d o p (Device fault) = Unit {0}
 Hindered b d o p Memory = Unit {0}
@@ -52,11 +57,11 @@ pub record Stops (b : ℕ) (d : Sectors) (p : Layout) (C : Option Layout → Typ
   pub from : Denotes b d old
   pub cause : C old
 
--- why there is no plan
+-- why there is no plan. Foreign labels are told before what hinders the targets
 abbrev pub Unplanned : ℕ → Sectors → Layout → PlanError → Type 0
 Unplanned b d p (Unsound f) = IsUnsound b p f ⊎ LeavesForeign b d p f
-Unplanned b d p ReusedInOneBatch = Stops b d p (λ o. IsReused b d o p)
+Unplanned b d p ReusedInOneBatch = Stops b d p (λ o. NoneLeft b d p × IsReused b d o p)
 Unplanned b d p NotOneSwitch = Stops b d p (λ o. NoSwitch b d o p)
-Unplanned b d p NeedsRepair = Stops b d p (λ o. IsUnmended b d o p)
+Unplanned b d p NeedsRepair = Stops b d p (λ o. NoneLeft b d p × IsUnmended b d o p)
 Unplanned b d p (Device fault) = Unit {0}
 Unplanned b d p Memory = Unit {0}

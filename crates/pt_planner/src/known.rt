@@ -5,7 +5,8 @@ ghost use Rattle.pt_sector.specs.Calls.{Blames};
 ghost use Rattle.pt_sector.specs.Reads.{OnlyReads, fault_of};
 ghost use Rattle.pt_sector.specs.Sectors.{IsSectorSize};
 ghost use Rattle.pt_recover.specs.Answers.{IsReason};
-ghost use Rattle.pt_planner.specs.Known.{IsKnown, IsKnownOf, ReasonIs};
+ghost use Rattle.pt_recover.specs.Numbers.{Numbers};
+ghost use Rattle.pt_planner.specs.Known.{IsEither, IsKnown, IsKnownOf, ReasonIs};
 
 use pt_layout::{Finding, Head, Layout, NoTable, Survey, Trace, survey_disk};
 use pt_sector::{Disk, Failure};
@@ -34,6 +35,8 @@ pub fn read_known<const B: usize, D: Disk<B>>(
     requires size { IsSectorSize B }
     ensures same { OnlyReads D.Disk disk.old disk.new }
     ensures blames { Blames fault_of result (D.faults disk.old) (D.faults disk.new) }
+    ensures either { IfOk result (λ r. IsEither r.0.old r.1) }
+    ensures numbers { IfOk result (λ r. IfSome r.0.old Numbers) }
     ensures known { D.tells → IfOk result (λ r. IsKnown B (D.told disk.old).seen r.0) }
     ensures reason { D.tells → IfOk result (λ r. ReasonIs B (D.told disk.old).seen r.0.old r.1) }
 {

@@ -18,6 +18,7 @@ ghost use Rattle.pt_recover.specs.Denotes.{Denotes};
 ghost use Rattle.pt_targets.specs.Errors.{fault_in};
 ghost use Rattle.pt_targets.specs.Starts.{Start};
 ghost use Rattle.pt_targets.specs.Targets.{AreLabelTargets};
+ghost use Rattle.pt_places.specs.Answers.{NoneLeft};
 ghost use Rattle.pt_planner.specs.Known.{IsKnown};
 ghost use Rattle.pt_planner.specs.State.{PlacesStop};
 ghost use Rattle.pt_planner.specs.Unplanned.{Hindered};
@@ -50,6 +51,7 @@ pub(crate) fn places_of<const B: usize, D: Disk<B>>(
     ensures blames { Blames fault_in result (D.faults disk.old) (D.faults disk.new) }
     ensures in_range { IfOk result (λ ts. All (λ t. t.at.0 < D.count disk.old) ts.items) }
     ensures ok { D.tells → IfOk result (λ ts. AreLabelTargets (D.told disk.old).seen old.now wanted.now ts.items) }
+    ensures none_left { D.tells → IfOk result (λ ts. NoneLeft B (D.told disk.old).seen wanted.now) }
     ensures err { D.tells → IfErr result (PlacesStop B (D.told disk.old).seen old.now wanted.now) }
 {
     let answer = label_targets(alloc, disk, old, wanted)?;

@@ -1,4 +1,4 @@
-use Rattle.std.proofs.Common.{◌∙◌, ◌<◌, ◌≡◌, ℕ, sym, subst, arith}
+use Rattle.std.proofs.Common.{◌∙◌, ℕ, sym, subst, arith}
 use Rattle.std.proofs.lemmas.Result.{err_from_is_err_and}
 use Rattle.pt_recover.specs.Mbr.{extended_of}
 use Rattle.pt_cases.specs.Copies.{FitsTable}
@@ -103,7 +103,7 @@ returns-in-Mbr-clause-err g c = λ tells.
     let known = c.requires.known tells in
     let of = of_disk g.row.B c.sectors.result c.args.known.now.old c.args.wanted.now c.may_be.result c.may_be.ensures c.if-not-may_be.false in
     err_so c.to_mbr.result _ _ (hindered g.row.B d c.args.known.now.old c.args.wanted.now known.old c.in_ok-be_sound.ensures.ok
-    (isnt c.is_done.result c.if-is_done.false (c.is_done.ensures.done d known)))
+    (isnt c.is_done.result c.if-is_done.false (c.is_done.ensures.done d known)) (c.in_ok-places.ensures.none_left tells))
     (rw (c.in_ok-places.ensures.same.same tells) at (c.to_mbr.ensures.err tells (of.mbr c.in-Mbr.records c.in-Mbr.chain c.in-Mbr.is).0))
 
 pub returns-in-Gpt-clause-err : goal.returns-in-Gpt-clause-err
@@ -111,5 +111,5 @@ returns-in-Gpt-clause-err g c = λ tells.
     let d = (g.D.Disk.told c.args.disk.now).seen in
     let known = c.requires.known tells in
     err_so c.to_gpt.result _ _ (hindered g.row.B d c.args.known.now.old c.args.wanted.now known.old c.in_ok-be_sound.ensures.ok
-    (isnt c.is_done.result c.if-is_done.false (c.is_done.ensures.done d known)))
+    (isnt c.is_done.result c.if-is_done.false (c.is_done.ensures.done d known)) (c.in_ok-places.ensures.none_left tells))
     (rw (c.in_ok-places.ensures.same.same tells) at (c.to_gpt.ensures.err tells))

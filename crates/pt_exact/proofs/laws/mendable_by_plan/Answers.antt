@@ -1,0 +1,5 @@
+use Rattle.pt_exact.specs.Mended.{mendable_by_plan_lem}
+use Rattle.pt_exact.proofs.laws.mendable_by_plan.Goals as goal
+
+pub returns : goal.returns
+returns c = mendable_by_plan_lem

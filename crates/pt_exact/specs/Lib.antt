@@ -1,0 +1,4 @@
+pub mod Apart
+pub mod Differ
+pub mod Mended
+pub mod Own
