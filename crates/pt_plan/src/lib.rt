@@ -5,8 +5,8 @@ mod commits;
 mod error;
 mod laws;
 mod prepare;
-mod repairs;
 mod repair_error;
+mod repairs;
 mod sessions;
 #[cfg(test)]
 mod tests;
@@ -16,6 +16,6 @@ pub use error::CommitError;
 pub use laws::{calls_carry_on, commit_carries, history_begins, no_calls_carry, two_calls_carry};
 pub use prepare::plan_for;
 pub use pt_planner::PlanError;
-pub use repairs::{plan_for_repair, repair};
 pub use repair_error::RepairError;
+pub use repairs::{plan_for_repair, repair};
 pub use sessions::{Batch, Reply, session};
