@@ -1,5 +1,5 @@
 -- The exits of a commit.
-use Rattle.std.proofs.Common.{◌≡◌, ◌∙◌, ◌⊎◌, inl, inr, ⊎_elim, ℕ, zero, suc, ◌+◌, List, [], ◌∷◌, ◌++◌, refl, sym, ap, subst, Option, Some, Result, Ok, Err, slice_get, slice_index_or}
+use Rattle.std.proofs.Common.{◌≡◌, ◌∙◌, ◌⊎◌, inl, inr, ⊎_elim, ℕ, zero, suc, List, [], ◌∷◌, ◌++◌, refl, sym, ap, subst, Option, Some, None, Result, Ok, Err, slice_get, slice_index_or}
 use Rattle.std.proofs.lemmas.List.{append_cancel_left}
 use Rattle.pt_sector.specs.Sectors.{Sectors}
 use Rattle.pt_sector.specs.Writes.{Writes, after}
@@ -22,32 +22,28 @@ use Rattle.pt_plan.specs.Calls.{settled_leaves}
 use Rattle.pt_plan.specs.Failed.{commit_fault_in}
 use Rattle.pt_plan.specs.History.{Past, Either, Has}
 use Rattle.pt_plan.specs.Commits.{Leads, Refuses, Bounded, Ready, FailedWriting, EndsBy, Ends, refused, Committed}
-use Rattle.pt_plan.proofs.Histories.{one_of, has_either, has_unchanged, has_done, has_new, has_old, flush_leaves, failed_flush_leaves}
+use Rattle.pt_plan.proofs.Histories.{has_either, has_unchanged, has_done, has_new, has_old, failed_flush_leaves, still, so_far, stopped_means, stopped_keeps}
 
 -- no call of a phase reads
-reads_nothing : (ws : Writes) (call : ℕ) (at : Lba) → slice_get (faults_of ws) call ≡ Some (Read at) → ⊥
+pub reads_nothing : (ws : Writes) (call : ℕ) (at : Lba) → slice_get (faults_of ws) call ≡ Some (Read at) → ⊥
 reads_nothing [] zero at is = absurd cc
 reads_nothing [] (suc call) at is = absurd cc
 reads_nothing (w ∷ ws) zero at is = absurd cc
 reads_nothing (w ∷ ws) (suc call) at is = reads_nothing ws call at is
 
 -- the fault that an error carries is a read's
-abbrev pub MetRead : CommitError → Type 0
-MetRead (Device fault) = IsReadIn (λ s. Unit {0}) fault
-MetRead _ = Unit {0}
+abbrev pub MetRead : Option Fault → Type 0
+MetRead (Some fault) = IsReadIn (λ s. Unit {0}) fault
+MetRead None = Unit {0}
 
 came_one : (old new : List Fault) (f : Fault) → new ≡ old ++ f ∷ [] → ReadFaults old new → IsReadIn (λ s. Unit {0}) f
 unfolding ReadFaults
 came_one old new f one (more, come, reads) = (subst AreReads (append_cancel_left old more (f ∷ []) (sym come ∙ one)) reads).0
 
 -- where only reads failed, it is so
-pub met_read : (e : CommitError) (old new : List Fault) → new ≡ with_fault old (commit_fault_in e) → ReadFaults old new → MetRead e
-met_read (NoTable e) old new one came = tt
-met_read (Edit r) old new one came = tt
-met_read (Plan e) old new one came = tt
-met_read (Check why) old new one came = tt
-met_read (Device fault) old new one came = came_one old new fault one came
-met_read Memory old new one came = tt
+pub met_read : (fault : Option Fault) (old new : List Fault) → new ≡ with_fault old fault → ReadFaults old new → MetRead fault
+met_read (Some fault) old new one came = came_one old new fault one came
+met_read None old new one came = tt
 
 module _ {W : Type 0} (denotes : Sectors → Option Layout → Type 0) (reason : Sectors → Reason → Type 0) (makes : W → Type 0)
     (edited : Option Layout → W → Result Layout Refusal → Type 0) (plans : Sectors → Layout → List Writes → Type 0)
@@ -83,7 +79,7 @@ module _ {W : Type 0} (denotes : Sectors → Option Layout → Type 0) (reason :
   ends_writing (Write at) old new writing = writing
   ends_writing Flush old new writing = inr writing
 
-  ends_refused : (e : CommitError) (old mid new : Told) → mid.seen ≡ old.seen → MetRead e → Flushed old new → Refuses denotes reason makes edited plans unplanned healthy table owned words mid.seen e → Ends denotes reason makes edited plans unplanned healthy table owned words (Err e) old new
+  ends_refused : (e : CommitError) (old mid new : Told) → mid.seen ≡ old.seen → MetRead (commit_fault_in e) → Flushed old new → Refuses denotes reason makes edited plans unplanned healthy table owned words mid.seen e → Ends denotes reason makes edited plans unplanned healthy table owned words (Err e) old new
   ends_refused (NoTable e) old mid new a read is why = (is, rw a at why)
   ends_refused (Edit r) old mid new a read is why = (is, rw a at why)
   ends_refused (Plan e) old mid new a read is why = (is, rw a at why)
@@ -92,65 +88,53 @@ module _ {W : Type 0} (denotes : Sectors → Option Layout → Type 0) (reason :
   ends_refused Memory old mid new a read is why = (is, tt)
 
   module _ (old mid now : Told) (seen : MayLeave old old.seen) (flush : Flushed old mid) (same : now ≡ mid) where
-    pub still : (c : Sectors) → MayLeave now c → MayLeave old c
-    still c may = flush_leaves old mid seen flush c (subst (λ (x : Told). MayLeave x c) same may)
-
-    pub so_far : (P : Sectors → Type 0) → LeavesOnly old now P
-    so_far P = rw same (leaves_once old mid P flush.time (λ c may. inl (flush_leaves old mid seen flush c may)))
-
-    pub at_refused : (e : CommitError) → MetRead e → Refuses denotes reason makes edited plans unplanned healthy table owned words mid.seen e → Committed denotes reason makes edited plans unplanned healthy table owned words (Err e) old now
+    pub at_refused : (e : CommitError) → MetRead (commit_fault_in e) → Refuses denotes reason makes edited plans unplanned healthy table owned words mid.seen e → Committed denotes reason makes edited plans unplanned healthy table owned words (Err e) old now
     at_refused e read why = record {
       history = record {
-        any_moment = λ o calls start. so_far _;
-        at_return = λ o calls start c may. has_refused e calls o c (start c (still c may));
+        any_moment = λ o calls start. so_far old mid now seen flush same _;
+        at_return = λ o calls start c may. has_refused e calls o c (start c (still old mid now seen flush same c may));
       };
       ends = ends_refused e old mid now flush.seen read (subst (λ (x : Told). Flushed old x) (sym same) flush) why;
-      bounds = so_far _;
+      bounds = so_far old mid now seen flush same _;
     }
 
     module _ (one : (d : Sectors) (o p : Option Layout) → denotes d o → denotes d p → o ≡ p)
         (phases : List Writes) (ready : Ready denotes reason makes edited plans unplanned healthy table owned words mid.seen phases) (new : Told)
         (run : LeavesOnly now new (StoppedSomewhere phases now.seen)) where
-      at_seen : now.seen ≡ old.seen
-      at_seen = (ap (λ (x : Told). x.seen) same) ∙ flush.seen
-
       leads : Leads denotes reason makes edited plans unplanned healthy table owned words old.seen ready.old ready.new
       leads = subst (λ (d : Sectors). Leads denotes reason makes edited plans unplanned healthy table owned words d ready.old ready.new) flush.seen ready.leads
 
       stopped_at : (c : Sectors) → StoppedSomewhere phases now.seen c → StoppedSomewhere phases mid.seen c
       stopped_at c stopped = subst (λ (d : Sectors). StoppedSomewhere phases d c) (ap (λ (x : Told). x.seen) same) stopped
 
-      stopped_means : (c : Sectors) → StoppedSomewhere phases now.seen c → denotes c ready.old ⊎ denotes c (Some ready.new)
-      stopped_means c stopped =
-          let at : StoppedSomewhere phases mid.seen c = stopped_at c stopped in
-          one_of (denotes c) ready.old (Some ready.new) ready.switch (at.phase + 1)
-          (ready.safe.which ready.old (Some ready.new) ready.leads.from ready.finished at.phase at.within c at.stopped)
+      is_one_of : (c : Sectors) → StoppedSomewhere phases now.seen c → denotes c ready.old ⊎ denotes c (Some ready.new)
+      is_one_of c stopped =
+          stopped_means denotes healthy table owned phases mid.seen ready.switch ready.safe ready.old (Some ready.new) ready.leads.from ready.finished c (stopped_at c stopped)
 
       stopped_has : (o : Option Layout) (calls : List (Past W)) → ((c : Sectors) → MayLeave old c → Has denotes edited o calls c)
           → (c : Sectors) → StoppedSomewhere phases now.seen c → Has denotes edited o (calls ++ Either words ∷ []) c
       stopped_has o calls start c stopped = ⊎_elim
           (has_old denotes edited one words calls o ready.old ready.new old.seen c leads.from leads.to (start old.seen seen))
           (has_new denotes edited one words calls o ready.old ready.new old.seen c leads.from leads.to (start old.seen seen))
-          (stopped_means c stopped)
+          (is_one_of c stopped)
 
       stopped_bounded : (c : Sectors) → StoppedSomewhere phases now.seen c → Bounded denotes reason makes edited plans unplanned healthy table owned words old.seen c
-      stopped_bounded c stopped =
-          let at : StoppedSomewhere phases mid.seen c = stopped_at c stopped in (
-            ready.old,
-            ready.new,
-            leads,
-            subst (λ (d : Sectors). Keeps denotes healthy table owned ready.old (Some ready.new) d c) flush.seen
-                (ready.safe.stays ready.old (Some ready.new) ready.leads.from ready.finished at.phase at.within c at.stopped),
-          )
+      stopped_bounded c stopped = (
+        ready.old,
+        ready.new,
+        leads,
+        subst (λ (d : Sectors). Keeps denotes healthy table owned ready.old (Some ready.new) d c) flush.seen
+            (stopped_keeps denotes healthy table owned phases mid.seen ready.switch ready.safe ready.old (Some ready.new) ready.leads.from ready.finished c (stopped_at c stopped)),
+      )
 
       moments : (o : Option Layout) (calls : List (Past W)) → ((c : Sectors) → MayLeave old c → Has denotes edited o calls c)
           → LeavesOnly old new (Has denotes edited o (calls ++ Either words ∷ []))
       moments o calls start = leaves_through old now new _
-          (so_far _)
+          (so_far old mid now seen flush same _)
           (leaves_weaker now new _ _ (stopped_has o calls start) run)
 
       bounded : LeavesOnly old new (Bounded denotes reason makes edited plans unplanned healthy table owned words old.seen)
-      bounded = leaves_through old now new _ (so_far _) (leaves_weaker now new _ _ stopped_bounded run)
+      bounded = leaves_through old now new _ (so_far old mid now seen flush same _) (leaves_weaker now new _ _ stopped_bounded run)
 
       pub at_failed : (fault : Fault) → FailedIn phases now.seen now new fault
           → Committed denotes reason makes edited plans unplanned healthy table owned words (Err (Device fault)) old new
@@ -158,7 +142,7 @@ module _ {W : Type 0} (denotes : Sectors → Option Layout → Type 0) (reason :
         history = record {
           any_moment = moments;
           at_return = λ o calls start c may. ⊎_elim
-              (λ before. has_either denotes edited words calls o c (start c (still c before)))
+              (λ before. has_either denotes edited words calls o c (start c (still old mid now seen flush same c before)))
               (λ stopped. stopped_has o calls start c stopped)
               (run.at_end c may);
         };

@@ -1,3 +1,5 @@
 pub mod Histories
 pub mod Exits
+pub mod Mendable
+pub mod Mended
 pub mod Starting

@@ -1,5 +1,5 @@
 -- What a repair does to a disk, over what a disk denotes, and what the planner says.
-use Rattle.std.specs.Prelude.{◌≡◌, ◌⊎◌, ℕ, List, Option, Some, None, Result, Ok, Err}
+use Rattle.std.specs.Prelude.{◌⊎◌, ℕ, List, Option, Some, None, Result, Ok, Err}
 use Rattle.pt_sector.specs.Sectors.{Sectors}
 use Rattle.pt_sector.specs.Writes.{Writes, after}
 use Rattle.pt_sector.specs.Device.{Told, Flushed, FailedFlush}

@@ -8,7 +8,7 @@ use Rattle.pt_plan.specs.History.{Past, Unchanged, Either}
 use Rattle.pt_plan.specs.Sessions.{Session, calls_of}
 use Rattle.pt_plan.specs.declared.error.CommitError.{CommitError}
 use Rattle.pt_plan.specs.declared.repair_error.RepairError.{RepairError}
-use Rattle.pt_plan.specs.declared.session.Reply.{Reply}
+use Rattle.pt_plan.specs.declared.sessions.Reply.{Reply}
 
 -- a call, with what it answered. A session that got no memory for its replies did nothing
 pub data Step (W : Type 0) : Type 0 where

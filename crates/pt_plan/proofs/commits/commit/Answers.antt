@@ -1,5 +1,6 @@
 use Rattle.std.proofs.lemmas.Result.{err_from_is_err_and}
 use Rattle.pt_recover.specs.Laws.{denotes_one_lem}
+use Rattle.pt_plan.specs.Failed.{commit_fault_in}
 use Rattle.pt_plan.proofs.Exits.{at_failed_flush, at_refused, at_failed, at_done, met_read}
 use Rattle.pt_plan.proofs.commits.commit.Goals as goal
 
@@ -12,7 +13,7 @@ pub returns-in_err-plan-clause-commits : goal.returns-in_err-plan-clause-commits
 returns-in_err-plan-clause-commits g c = λ tells.
     let p = err_from_is_err_and c.from_residual-in_err-plan.result c.from_residual-in_err-plan.ensures.1 in
     rw (p.1, p.2) (at_refused _ _ _ _ _ _ _ _ _ _ _ _ _ (g.met.D.Disk.may_be_seen _ tells) (c.in_ok-flush.ensures.done tells) (c.in_err-plan.ensures.same.same tells) c.in_err-plan.field-0.0
-    (met_read c.in_err-plan.field-0.0 _ _ c.in_err-plan.ensures.blames c.in_err-plan.ensures.same.came) (rw c.flush.ensures.count at (c.in_err-plan.ensures.refused tells)))
+    (met_read (commit_fault_in c.in_err-plan.field-0.0) _ _ c.in_err-plan.ensures.blames c.in_err-plan.ensures.same.came) (rw c.flush.ensures.count at (c.in_err-plan.ensures.refused tells)))
 
 pub returns-clause-commits : goal.returns-clause-commits
 returns-clause-commits g c = λ tells.

@@ -1,12 +1,15 @@
 //! Repairs of a disk, which keep its layout.
 
-ghost use Rattle.std.specs.Prelude.{◌≡◌, ◌<◌, All, length, OnOk, IfOk, IfErr};
+ghost use Rattle.std.specs.Prelude.{◌≡◌, ◌<◌, All, length, Some, None, IfOk, IfErr};
 ghost use Rattle.pt_sector.specs.Sectors.{IsSectorSize};
 ghost use Rattle.pt_sector.specs.Calls.{Blames};
 ghost use Rattle.pt_sector.specs.Reads.{OnlyReads};
 ghost use Rattle.pt_apply.specs.Plans.{phases_of, InRange};
 ghost use Rattle.pt_plan.specs.Batches.{IsMendPlan, IsReadyToMend, IsMendRefusal, Repairs};
 ghost use Rattle.pt_plan.specs.Mending.{repair_fault_in as fault_in, MendHidesNoFailure};
+ghost use Rattle.pt_plan.specs.declared.repair_error.RepairError.TheVariants as repair_error;
+ghost use Rattle.pt_recover.specs.Answers.{failure_in};
+ghost use Rattle.pt_recover.specs.declared.error.NoTable.{NoTable as Reason};
 
 use crate::repair_error::RepairError;
 use pt_apply::{Plan, apply};
@@ -18,7 +21,11 @@ use std::alloc::Global;
 
 /// What is told of a disk that denotes nothing. The reason is what the disk holds, and no failure; where it were one,
 /// want of memory would be told.
-fn no_layout(reason: Option<NoTable>) -> RepairError {
+fn no_layout(reason: Option<NoTable>) -> RepairError
+    ensures hides { MendHidesNoFailure result }
+    ensures blames { fault_in result ≡ None }
+    ensures told { (r : Reason) → reason ≡ Some r → failure_in r ≡ None → result ≡ repair_error.NoTable r }
+{
     match reason {
         Some(reason) => match reason.failure() {
             Some(_) => RepairError::Memory,

@@ -1,0 +1,89 @@
+-- The steps before a repair's first write.
+use Rattle.std.proofs.Common.{◌≡◌, ℕ, List, [], Option, Some, None, refl, sym, subst}
+use Rattle.pt_sector.specs.Sectors.{Sectors, IsSectorSize}
+use Rattle.pt_sector.specs.Writes.{Writes}
+use Rattle.pt_recover.specs.Answers.{IsReason, failure_in}
+use Rattle.pt_recover.specs.Denotes.{Denotes}
+use Rattle.pt_recover.specs.Laws.{denotes_one_lem}
+use Rattle.pt_recover.specs.declared.error.NoTable.{NoTable as Reason}
+use Rattle.pt_recover.specs.declared.error.NoTable.TheVariants as reason
+use Rattle.pt_recover.specs.declared.layout.Layout.{Layout}
+use Rattle.pt_layout.specs.Healthy.{Healthy, IsHealthy}
+use Rattle.pt_layout.specs.declared.finding.Finding.{Finding}
+use Rattle.pt_check.specs.Answers.{Answers, TableOf, OwnedOf}
+use Rattle.pt_check.specs.declared.answer.Answer.TheVariants.{No}
+use Rattle.pt_check.specs.declared.answer.Why.{Why}
+use Rattle.pt_apply.specs.Promises.{Safe}
+use Rattle.pt_cases.specs.Accepted.{plan_finishes, plan_not_refused}
+use Rattle.pt_cases.specs.Cases.{IsPlan, idle, backup_first, primary_first, from_mbr, one_label, within_mbr}
+use Rattle.pt_exact.specs.Mended.{repair_is_planned_lem, mendable_by_plan_lem}
+use Rattle.pt_planner.specs.Known.{ReasonIs}
+use Rattle.pt_planner.specs.Unmendable.{IsUnmendable, IsUnmendableBy}
+use Rattle.pt_planner.specs.Unplanned.{Unplanned}
+use Rattle.pt_targets.specs.declared.error.PlanError.{PlanError}
+use Rattle.pt_targets.specs.declared.error.PlanError.TheVariants as plan
+use Rattle.pt_plan.specs.Batches.{IsMendPlan, IsReadyToMend, IsMendRefusal}
+use Rattle.pt_plan.specs.Mending.{repair_unplanned}
+use Rattle.pt_plan.specs.declared.repair_error.RepairError.{RepairError}
+use Rattle.pt_plan.specs.declared.repair_error.RepairError.TheVariants.{NoTable, Unsound, Device, Memory, Plan, Check}
+
+-- of a disk that is healthy no plan for its layout has phases
+pub none_of_healthy : (b : ℕ) (d : Sectors) (o : Layout) (phases : List Writes) → Denotes b d (Some o) → IsPlan b d o phases → Healthy b d → phases ≡ []
+none_of_healthy b d o phases from planned (p, well) =
+    by_case planned (subst (IsHealthy b d) (let same = denotes_one_lem b d (Some p) (Some o) well.denotes from in cc) well)
+  where
+    by_case : IsPlan b d o phases → IsHealthy b d o → phases ≡ []
+    by_case (idle healthy none) here = none
+    by_case (backup_first q t is) here = absurd (is.common.not_done here)
+    by_case (primary_first q t is) here = absurd (is.common.not_done here)
+    by_case (from_mbr q t is) here = absurd (is.common.not_done here)
+    by_case (one_label q t is) here = absurd (is.common.not_done here)
+    by_case (within_mbr q records chain is) here = absurd (is.common.not_done here)
+
+module _ (b : ℕ) (d : Sectors) (size : IsSectorSize b) where
+  -- a disk that denotes a layout
+  module _ (old : Option Layout) (from : Denotes b d old) (o : Layout) (is : old ≡ Some o) where
+    here : Denotes b d (Some o)
+    here = subst (Denotes b d) is from
+
+    pub mend_planned : (phases : List Writes) → IsPlan b d o phases → IsMendPlan b d phases
+    mend_planned phases planned = record {
+      layout = o;
+      mendable = record { from = here; may = λ f. mendable_by_plan_lem b d o phases f size here planned };
+      planned = planned;
+    }
+
+    refuses : (e : PlanError) → IsUnmendableBy b d o e → IsMendRefusal b d (repair_unplanned e)
+    refuses plan.NotOneSwitch none = absurd none
+    refuses plan.ReusedInOneBatch none = absurd none
+    refuses plan.NeedsRepair none = absurd none
+    refuses (plan.Unsound f) unmendable = (o, here, unmendable)
+    refuses (plan.Device fault) is = tt
+    refuses plan.Memory is = tt
+
+    pub mend_refused : (e : PlanError) → Unplanned b d o e → IsMendRefusal b d (repair_unplanned e)
+    mend_refused e unplanned = refuses e (repair_is_planned_lem b d o e size here unplanned)
+
+  -- a plan, once the checker accepts it, which it does
+  module _ (phases : List Writes) (is : IsMendPlan b d phases) where
+    pub ready_to_mend : (switch : ℕ) → Safe (Denotes b) (Healthy b) (TableOf b) (OwnedOf b) phases d switch → IsReadyToMend b d phases
+    ready_to_mend switch safe = record {
+      layout = is.layout;
+      mendable = is.mendable;
+      planned = is.planned;
+      finished = (plan_finishes b d is.layout phases size is.planned).denotes;
+      switch = switch;
+      safe = safe;
+    }
+
+    pub never_refused : (why : Why) → Answers b d phases (No why) → IsMendRefusal b d (Check why)
+    never_refused why against = absurd (plan_not_refused b d is.layout phases why size is.planned against)
+
+-- a disk that denotes nothing
+pub nothing_to_mend : (b : ℕ) (d : Sectors) (old : Option Layout) (r : Option Reason) → old ≡ None → Denotes b d old → ReasonIs b d old r → (e : RepairError)
+    → ((x : Reason) → r ≡ Some x → failure_in x ≡ None → e ≡ NoTable x) → IsMendRefusal b d e
+nothing_to_mend b d (Some o) r none from is e told = absurd cc
+nothing_to_mend b d None None none from is e told = absurd is
+nothing_to_mend b d None (Some (reason.Device at)) none from is e told = absurd is
+nothing_to_mend b d None (Some reason.Memory) none from is e told = absurd is
+nothing_to_mend b d None (Some x) none from is e told = subst (IsMendRefusal b d) (sym (told x refl refl)) (from, is)
