@@ -173,7 +173,8 @@ def usage(ptab, image):
                   ["plan"], ["plan", image], ["check"], ["check", image], ["check", image, image, image], ["check", "--fresh", "", image, image],
                   ["apply", image], ["apply", image, image, "c:1:x"], ["plan", image, "--fresh"], ["edit", image, "--fresh"],
                   ["edit", image, "--fresh", "", "--fresh", "", "c:1:x"], ["show", "--fresh", "", image],
-                  ["repair"], ["repair", image, image], ["repair", image, "c:1:x"], ["repair", "--fresh", "", image], ["repair", "--force", image]):
+                  ["repair"], ["repair", image, image], ["repair", image, "c:1:x"], ["repair", "--fresh", "", image],
+                  ["repair", "--force", image]):
         expect(ptab, words, image, "", None, 2)
     for words in commands:
         for size in ("1024", "0512", "0", "", "8192", "512 "):

@@ -91,7 +91,8 @@ def headers(gpt, side):
     for fault, name, changes in (
             (1, "signature", [(0, "<B", 0x65)]), (2, "revision", [(8, "<I", 0x20000)]), (2, "revision 0.1", [(8, "<I", 1)]),
             (3, "header of 91 bytes", [(12, "<I", 91)]), (5, "MyLBA 2", [(24, "<Q", 2)]),
-            (5, "the other's MyLBA", [(24, "<Q", gpt.count - 1 if side == "primary" else 1)]), (5, "MyLBA past all", [(24, "<Q", 2 ** 64 - 1)]),
+            (5, "the other's MyLBA", [(24, "<Q", gpt.count - 1 if side == "primary" else 1)]),
+            (5, "MyLBA past all", [(24, "<Q", 2 ** 64 - 1)]),
             (6, "array beside its place", [(72, "<Q", beside)]), (6, "array past all", [(72, "<Q", 2 ** 64 - 1)]),
             (7, "no entries", [(80, "<I", 0)]), (7, "129 entries", [(80, "<I", 129)]), (7, "all the entries", [(80, "<I", 2 ** 32 - 1)]),
             (7, "entries of 256 bytes", [(84, "<I", 256)]), (7, "entries of no bytes", [(84, "<I", 0)]),
@@ -99,9 +100,10 @@ def headers(gpt, side):
             (8, "usable to the end of all", [(48, "<Q", 2 ** 64 - 1)]), (8, "none usable", [(40, "<Q", last), (48, "<Q", last - 1)]),
             (9, "array CRC", [(88, "<I", 0x12345678)])):
         yield fault, name, with_header(gpt, side, *changes)
-    for fault, name, change in ((3, "header longer than a sector", (12, "<I", sectors.size + 1)), (3, "header of all bytes", (12, "<I", 2 ** 32 - 1)),
-                                (3, "header of no bytes", (12, "<I", 0)), (4, "header CRC", (16, "<I", 0x12345678)),
-                                (4, "disk GUID without its CRC", (56, "<B", 0x5A)), (4, "alternate without its CRC", (32, "<Q", 77))):
+    for fault, name, change in (
+            (3, "header longer than a sector", (12, "<I", sectors.size + 1)), (3, "header of all bytes", (12, "<I", 2 ** 32 - 1)),
+            (3, "header of no bytes", (12, "<I", 0)), (4, "header CRC", (16, "<I", 0x12345678)),
+            (4, "disk GUID without its CRC", (56, "<B", 0x5A)), (4, "alternate without its CRC", (32, "<Q", 77))):
         yield fault, name, with_header(gpt, side, change, right=False)
 
 
@@ -113,7 +115,8 @@ def lost(gpt, side):
     other = place(gpt, whole, "backup" if side == "primary" else "primary")
     for fault, name, pieces in (
             (1, "header zeroed", {at: bytes(size)}), (1, "all zeroed", {at: bytes(size), array: bytes(size * sectors.array)}),
-            (1, "header of FF", {at: b"\xff" * size}), (1, "noise", {at: random.Random(7).randbytes(size), array: b"\xa5" * size * sectors.array}),
+            (1, "header of FF", {at: b"\xff" * size}),
+            (1, "noise", {at: random.Random(7).randbytes(size), array: b"\xa5" * size * sectors.array}),
             (5, "the other's header", {at: sectors.sector(whole, other)}), (9, "a byte of the array", {array: b"\x77"}),
             (9, "the array zeroed but one byte", {array: bytes(size * sectors.array - 1) + b"\1"})):
         image = bytearray(whole)
@@ -225,7 +228,7 @@ def full(sectors, count):
     first = sectors.array + 2
     step = (count - sectors.array - 1 - first) // 128
     return Gpt(f"128 entries, {sectors.size}", sectors, count,
-               {k: entry(first + (k - 1) * step, first + k * step - 1, kinds[k % 4], guid(k), k, f"part {k}") for k in range(1, 129)})
+               {k: entry(first + (k - 1) * step, first + k * step - 1, kinds[k % 4], guid(k), k % 8 + (k % 5 << 60), f"part {k}") for k in range(1, 129)})
 
 
 def small_tables():
@@ -241,5 +244,5 @@ def small_tables():
 
 def large_tables():
     yield Gpt("one of 4096 sectors", SMALL, 4096, {1: entry(2048, 4062)})
-    yield full(SMALL, 20000)
+    yield full(SMALL, 3000)
     yield full(LARGE, 1000)

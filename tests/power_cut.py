@@ -1,8 +1,9 @@
 #!/usr/bin/env python3
 """Cuts the power in each phase of real edits, of every kind of table. The writes and syncs of the built command on an image are
 taken down by strace; then, for each phase, images that hold the phases before and any choice of this phase's writes are shown: the
-old layout (or none, where there was none) before the phase that switches, the new one after it, one of the two in it. Repairs of every
-kind of damage are cut the same way: each such image has the layout that was there, and a repair of it ends as the whole one.
+old layout (or none, where there was none) before the phase that switches, the new one after it, one of the two in it; and a repair of
+them keeps what they show and leaves them healthy. Repairs of every kind of damage are cut the same way: each such image has the layout
+that was there, and a repair of it ends as the whole one.
 
 usage: tests/power_cut.py PTAB
 """
@@ -26,8 +27,20 @@ checked = 0
 def shown(ptab, path, image, sectors, command="show"):
     with open(path, "wb") as it:
         it.write(image)
+    return said(ptab, path, sectors, command)
+
+
+def said(ptab, path, sectors, command):
     done = subprocess.run([ptab, command, path, "--sector-size", str(sectors.size)], capture_output=True, text=True)
     return done.stdout, done.stderr, done.returncode
+
+
+def repaired(ptab, path, sectors, found):
+    """Whether a repair of the image, which shows what was found, leaves it healthy with that; where that is no table it is refused."""
+    done = said(ptab, path, sectors, "repair")
+    if found[2] != 0:
+        return done == found
+    return (done, said(ptab, path, sectors, "show"), said(ptab, path, sectors, "verify")) == (("done\n", "", 0), found, ("yes\n", "", 0))
 
 
 def cut(ptab, folder, name, image, words, counts, switch, sectors=SMALL):
@@ -52,7 +65,9 @@ def cut(ptab, folder, name, image, words, counts, switch, sectors=SMALL):
             found = shown(ptab, path, written(before, writes, sectors), sectors)
             if found not in allowed:
                 sys.exit(f"{name}: stopped in phase {number} by {[lba for lba, _ in writes]}: {found}")
-            checked += 1
+            if not repaired(ptab, path, sectors, found):
+                sys.exit(f"{name}: stopped in phase {number} by {[lba for lba, _ in writes]}: not repaired")
+            checked += 2
         before = bytes(written(before, phase, sectors))
     if before != after:
         sys.exit(f"{name}: the writes don't make the image")
@@ -258,7 +273,7 @@ def main():
     with ProcessPoolExecutor() as pool:
         tables = [(SMALL, table) for table in (on_gpt, on_slices_of_gpt, on_mbr, on_chains)] + [(LARGE, on_large_sectors)]
         done = [pool.submit(counted, cut_edits, ptab, sectors, table) for sectors, table in tables]
-        done += [pool.submit(counted, cut_repairs, ptab, part, 16) for part in range(16)]
+        done += [pool.submit(counted, cut_repairs, ptab, part, 8) for part in range(8)]
         print(f"power cuts: {sum(it.result() for it in done)} passed, 0 failed")
 
 

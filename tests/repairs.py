@@ -12,6 +12,7 @@ import subprocess
 import sys
 import tempfile
 from concurrent.futures import ProcessPoolExecutor
+from itertools import islice
 
 import images
 from damages import damages, large_tables, small_tables
@@ -89,7 +90,7 @@ def mended(ptab, number, part):
         it.writes_nothing(gpt.name, "done\n")
         shown = it.run("show")
         accepted(it, gpt.name, shown[0].splitlines(), seen)
-        for damage in list(damages(gpt))[part::WORKERS]:
+        for damage in islice(damages(gpt), part, None, WORKERS):
             lines = shown[0].replace(f"gpt {gpt.count} ", f"gpt {gpt.sectors.count(damage.image)} ")
             it.put(damage.image)
             it.gives(damage.name, "verify", f"no {damage.finding}\n", status=1)
