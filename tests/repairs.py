@@ -186,7 +186,7 @@ def refused(ptab, size):
             it.gives("", "verify", f"no {name}\n", status=1)
             it.writes_nothing(name, "", "refused: repair 2\n", 3)
         for name, image in unsound_gpts(sectors):
-            for at, byte, finding in ((1, 0, "2 primary copy 1"), (199, 0, "3 backup copy 1"), (199, 33, "3 backup copy 4"), (0, 450, "6 protective record")):
+            for at, byte, finding in ((1, 0, "2 primary copy 1"), (199, 0, "3 backup copy 1"), (199, 33, "3 backup copy 4"), (0, 450, "")):
                 damaged = bytearray(image)
                 damaged[at * size + byte] ^= 1 if at else 0x11
                 it.put(damaged)

@@ -87,7 +87,8 @@ def nothing_to_mend(command):
     """MBR disks: nothing is written on them, whether there are copies of a GPT or not."""
     for it, sectors in ((command, SMALL), (command.large(), LARGE)):
         it.on(sectors.mbr(200, [record(0x83, 100, 50, 0x80)])).writes_nothing(["repair"], "done\n")
-        it.on(chained({4096: ebr(link=record(0x05, 2047, 1001)), 6143: ebr(record(0x83, 1, 1000))}, sectors)).writes_nothing(["repair"], "done\n")
+        chain = {4096: ebr(link=record(0x05, 2047, 1001)), 6143: ebr(record(0x83, 1, 1000))}
+        it.on(chained(chain, sectors)).writes_nothing(["repair"], "done\n")
         it.on(sectors.mbr(1, [])).writes_nothing(["repair"], "done\n")
         it.on(sectors.mbr(200, [record(0x83, 100, 101)])).unhealthy("7 outside 1").not_repaired()
         it.on(sectors.mbr(200, [record(0x83, 100, 20), record(0x07, 119, 5)])).unhealthy("8 overlap 1 2").not_repaired()

@@ -9,8 +9,9 @@ CALL = re.compile(r'(openat|lseek|write|pwrite64|ftruncate|fsync)\((.*)\) += (\d
 def recorded(ptab, path, command, words, sectors):
     """The writes, as (sector, bytes), before each sync of the command on the image."""
     log = f"{path}.log"
-    done = subprocess.run(["strace", "-e", "trace=openat,lseek,write,pwrite64,ftruncate,fsync", "-xx", "-s", str(2 * sectors.size), "-o", log,
-                           ptab, command, path, "--sector-size", str(sectors.size), *words], capture_output=True, text=True)
+    calls = "trace=openat,lseek,write,pwrite64,ftruncate,fsync"
+    done = subprocess.run(["strace", "-e", calls, "-xx", "-s", str(2 * sectors.size), "-o", log, ptab, command, path,
+                           "--sector-size", str(sectors.size), *words], capture_output=True, text=True)
     if (done.stdout, done.returncode) != ("done\n", 0):
         sys.exit(f"{command} {words}: status {done.returncode}: {done.stdout}{done.stderr}")
     phases, writes, fd, at = [], [], None, 0
