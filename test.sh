@@ -1,6 +1,6 @@
 #!/usr/bin/env bash
 # The whole gate: every proof from nothing, the edits that the prover must refuse, the tests and the programs; then the proved command
-# on real images, beside sgdisk and sfdisk, on bad input, on hostile images and under power cuts. It ends with the line of `rt ci`.
+# on real images, beside sgdisk and sfdisk, on damaged tables, on bad input, on hostile images and under power cuts. It ends with the line of `rt ci`.
 set -euo pipefail
 cd "$(dirname "$0")"
 export PATH="$PATH:/usr/sbin:/sbin"
@@ -14,6 +14,7 @@ if [ ! -x "$ptab" ]; then ptab=$(./build.sh); fi
 python3 tests/real_images.py "$ptab"
 python3 tests/against_sgdisk.py "$ptab"
 python3 tests/against_sfdisk.py "$ptab"
+python3 tests/repairs.py "$ptab"
 python3 tests/bad_input.py "$ptab"
 python3 tests/rows.py "$ptab"
 python3 tests/session.py "$ptab"

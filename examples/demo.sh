@@ -1,6 +1,6 @@
 #!/usr/bin/env bash
 # Builds the command and shows it at work: a GPT made on an empty image, and one that sgdisk made, shown, renamed, located in, and,
-# with its primary copy damaged, shown from the backup and renamed, which mends it.
+# with its primary copy damaged, shown from the backup and renamed, which mends it; then with its backup copy lost, repaired.
 set -euo pipefail
 cd "$(dirname "$0")/.."
 export PATH="$PATH:/usr/sbin:/sbin"
@@ -32,6 +32,11 @@ ptab verify disk.img
 ptab show disk.img
 ptab edit disk.img c:2:"rescued archive"
 ptab show disk.img
+ptab verify disk.img
+echo "\$ # the backup header is overwritten with zeros"
+dd if=/dev/zero of=disk.img bs=512 seek=131071 count=1 conv=notrunc status=none
+ptab verify disk.img
+ptab repair disk.img
 ptab verify disk.img
 echo "\$ sgdisk -v disk.img"
 sgdisk -v disk.img | grep -v '^$'

@@ -5,6 +5,7 @@ usage: tests/bad_input.py PTAB
 """
 import hashlib
 import os
+import shutil
 import subprocess
 import sys
 import tempfile
@@ -54,7 +55,7 @@ def not_images(ptab, folder):
     plan = file_of(folder, "no_plan", b"")
     for path in (missing, folder, "/dev/null", f"{folder}/a/b"):
         for command in (["show", path], ["verify", path], ["locate", path, "1", "0"], ["edit", path, "c:1:x"], ["plan", path, "c:1:x"],
-                        ["check", path, plan], ["apply", path, plan]):
+                        ["check", path, plan], ["apply", path, plan], ["repair", path]):
             expect(ptab, command, path, "", "device\n", 5)
     for command in ("edit", "plan"):
         expect(ptab, [command, missing, "--fresh", "0", "x"], missing, "", "bad fresh\n", 2)
@@ -65,13 +66,14 @@ def not_images(ptab, folder):
         path = file_of(folder, name, content)
         expect(ptab, ["show", path], path, "", "no table: too small\n", 4)
         expect(ptab, ["verify", path], path, "no 1 no table\n", "", 1)
-        for command in ("edit", "plan"):
-            expect(ptab, [command, path, "c:1:x"], path, "", "no table: too small\n", 4)
+        for command in (["edit", path, "c:1:x"], ["plan", path, "c:1:x"], ["repair", path]):
+            expect(ptab, command, path, "", "no table: too small\n", 4)
         expect(ptab, ["check", path, plan], path, "no 8 1\n", "", 1)
         expect(ptab, ["apply", path, plan], path, "no 8 1\n", "", 1)
     text = file_of(folder, "long_text", b"no table here either, but more of it\n" * 4000)
     expect(ptab, ["show", text], text, "", "no table: copies 1 1\n", 4)
     expect(ptab, ["edit", text, "c:1:x"], text, "", "no table: copies 1 1\n", 4)
+    expect(ptab, ["repair", text], text, "", "no table: copies 1 1\n", 4)
 
 
 WORDS = ("", "x", "z:1:x", "cc:1:x", "N:1:0:0",
@@ -165,12 +167,14 @@ def plans(ptab, folder):
 
 def usage(ptab, image):
     commands = (["show", image], ["verify", image], ["locate", image, "1", "0"], ["edit", image, "c:1:x"], ["plan", image, "c:1:x"],
-                ["check", image, image], ["apply", image, image])
+                ["check", image, image], ["apply", image, image], ["repair", image])
     for words in ([], ["show"], ["verify"], ["locate", image], ["locate", image, "1"], ["locate", image, "1", "0", "0"],
                   ["edit", image], ["nothing"], ["nothing", image], ["show", image, image], ["show", "--depth", image],
                   ["plan"], ["plan", image], ["check"], ["check", image], ["check", image, image, image], ["check", "--fresh", "", image, image],
                   ["apply", image], ["apply", image, image, "c:1:x"], ["plan", image, "--fresh"], ["edit", image, "--fresh"],
-                  ["edit", image, "--fresh", "", "--fresh", "", "c:1:x"], ["show", "--fresh", "", image]):
+                  ["edit", image, "--fresh", "", "--fresh", "", "c:1:x"], ["show", "--fresh", "", image],
+                  ["repair"], ["repair", image, image], ["repair", image, "c:1:x"], ["repair", "--fresh", "", image],
+                  ["repair", "--force", image]):
         expect(ptab, words, image, "", None, 2)
     for words in commands:
         for size in ("1024", "0512", "0", "", "8192", "512 "):
@@ -179,9 +183,35 @@ def usage(ptab, image):
         expect(ptab, [*words, "--sector-size", "512", "--sector-size", "512"], image, "", None, 2)
 
 
+def read_only(ptab, folder):
+    """An image that may be read and not written: `edit`, `apply` and `repair` can't open it, also where they would write nothing. Root may
+    write every file, so what root tests is run as nobody, who has to reach the program and the image."""
+    global checked
+    image = file_of(folder, "read_only", one_partition())
+    plan = file_of(folder, "no_plan", b"")
+    program, who = ptab, {}
+    if os.geteuid() == 0:
+        program, who = shutil.copy(ptab, f"{folder}/ptab"), {"user": 65534, "group": 65534, "extra_groups": []}
+        os.chmod(folder, 0o755)
+    os.chmod(plan, 0o444)
+    for mode, status in ((0o444, 0), (0o000, 5)):
+        os.chmod(image, mode)
+        for words, refused in ((["show", image], False), (["verify", image], False), (["locate", image, "1", "0"], False),
+                               (["plan", image, "c:1:x"], False), (["check", image, plan], False), (["edit", image, "c:1:x"], True),
+                               (["edit", image, "a:1"], True), (["apply", image, plan], True), (["repair", image], True)):
+            done = subprocess.run([program, *words], capture_output=True, text=True, **who)
+            if done.returncode != (5 if refused else status) or done.returncode == 5 and (done.stdout, done.stderr) != ("", "device\n"):
+                sys.exit(f"ptab {' '.join(words)} of an image with mode {mode:o}: {done.stdout}{done.stderr}status {done.returncode}")
+            checked += 1
+    os.chmod(image, 0o600)
+    if digest(image) != hashlib.sha256(one_partition()).hexdigest():
+        sys.exit("an image that is for reading was changed")
+
+
 def main():
     ptab = os.path.abspath(sys.argv[1])
     with tempfile.TemporaryDirectory() as folder:
+        read_only(ptab, folder)
         not_images(ptab, folder)
         image = gpt(folder)
         bad_words(ptab, image)

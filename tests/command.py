@@ -5,6 +5,8 @@ import sys
 
 from images import LARGE, SMALL
 
+LONG_AGO = 1_000_000_000
+
 
 class Command:
     """The command on one image file; `checked` counts the runs."""
@@ -45,6 +47,10 @@ class Command:
             found = os.fstat(it.fileno())
             return found.st_size, found.st_blocks, [os.pread(it.fileno(), self.sectors.size, lba * self.sectors.size) for lba in self.sparse]
 
+    def sector_at(self, lba):
+        with open(self.path, "rb") as it:
+            return os.pread(it.fileno(), self.sectors.size, lba * self.sectors.size)
+
     def run(self, *words):
         """(output, errors, status) of the words, the image's path put second."""
         size = [] if self.sectors is SMALL else ["--sector-size", str(self.sectors.size)]
@@ -56,7 +62,7 @@ class Command:
         found = self.run(*words)
         if found != (out, err, status):
             sys.exit(f"{' '.join(words)}:\n  found  {found}\n  wanted {(out, err, status)}")
-        if (words[0] not in ("edit", "apply") or status != 0) and self.image() != before:
+        if (words[0] not in ("edit", "apply", "repair") or status != 0) and self.image() != before:
             sys.exit(f"{' '.join(words)} changed the image")
         Command.checked += 1
         return self
@@ -83,6 +89,23 @@ class Command:
 
     def edited(self, *words):
         return self.gives(["edit", *words], "done\n")
+
+    def writes_nothing(self, words, out, err="", status=0):
+        """The same of a command that may write, and the file is not written to: not even with the bytes that are there."""
+        os.utime(self.path, ns=(LONG_AGO, LONG_AGO))
+        before = self.image()
+        self.gives(words, out, err, status)
+        if os.stat(self.path).st_mtime_ns != LONG_AGO or self.image() != before:
+            sys.exit(f"{' '.join(words)} wrote to the image")
+        return self
+
+    def repaired(self):
+        """A repair, after which the image is healthy; another one writes nothing."""
+        self.gives(["repair"], "done\n").healthy()
+        return self.writes_nothing(["repair"], "done\n")
+
+    def not_repaired(self):
+        return self.writes_nothing(["repair"], "", "refused: repair 2\n", 3)
 
     def refused(self, why, *words):
         """An edit that is refused with that text, and writes nothing."""

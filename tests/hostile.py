@@ -1,7 +1,7 @@
 #!/usr/bin/env python3
 """Shows, verifies and locates in images that are valid but for bytes, sectors, sums and lengths changed at random by a fixed
 seed, half of them with their sums mended: every run ends in a named answer, the three answers go together, and no image is
-changed. The images are of every kind: GPT from either copy, MBR, chains, labels of both forms, both sector sizes.
+changed. Then each is repaired: it ends healthy with the partitions that it had and nothing else changed, or is refused and stays. The images are of every kind: GPT from either copy, MBR, chains, labels of both forms, both sector sizes.
 
 usage: tests/hostile.py PTAB [COUNT [WORKERS]]
 """
@@ -192,6 +192,27 @@ def place(shown, sectors, rng):
     return number + (letter or ""), k, (0, f"{first + k}\n", "") if inside else (1, "none\n", "")
 
 
+def repair_fault(it, sectors, image, shown, verified):
+    """What is wrong with a repair of the image, or None. Findings 7 to 11 of an image whose first one a repair mends may be seen by nobody
+    yet: then it may be refused."""
+    found = it.run("repair", sectors)
+    with open(it.path, "rb") as file:
+        after = file.read()
+    refused = (3, "", "refused: repair 2\n")
+    number = 0 if verified[1] == "yes\n" else int(verified[1].split(" ")[1])
+    allowed = [shown] if number == 1 else [(0, "done\n", "")] if number == 0 else [refused] if number >= 7 else [(0, "done\n", ""), refused]
+    if found not in allowed:
+        return f"{found}"
+    if number in (0, 1) or found == refused:
+        return None if after == image else f"{found}: the image was changed"
+    again = it.run("show", sectors), it.run("verify", sectors)
+    if again != (shown, (0, "yes\n", "")):
+        return f"{found}: then {again}"
+    tables, end = (sectors.array + 2) * sectors.size, (sectors.count(image) - sectors.array - 1) * sectors.size
+    kept = slice(0, 446), slice(tables, end), slice(sectors.count(image) * sectors.size, None), slice(512, sectors.size)
+    return None if len(after) == len(image) and all(after[part] == image[part] for part in kept) else "more than the tables was changed"
+
+
 def batch(job):
     ptab, seed, count, path = job
     rng = random.Random(seed)
@@ -211,6 +232,9 @@ def batch(job):
         with open(path, "rb") as file:
             if file.read() != image:
                 return f"{which}: the image was changed"
+        fault = repair_fault(it, sectors, image, shown, verified)
+        if fault:
+            return f"{which}: {shown} {verified}: repair: {fault}"
     for stream in it.streams:
         os.close(stream)
     os.remove(path)

@@ -1,79 +1,46 @@
 #!/usr/bin/env python3
 """Cuts the power in each phase of real edits, of every kind of table. The writes and syncs of the built command on an image are
 taken down by strace; then, for each phase, images that hold the phases before and any choice of this phase's writes are shown: the
-old layout (or none, where there was none) before the phase that switches, the new one after it, one of the two in it.
+old layout (or none, where there was none) before the phase that switches, the new one after it, one of the two in it; and a repair of
+them keeps what they show and leaves them healthy. Repairs of every kind of damage are cut the same way: each such image has the layout
+that was there, and a repair of it ends as the whole one.
 
 usage: tests/power_cut.py PTAB
 """
 import os
 import random
-import re
 import subprocess
 import sys
 import tempfile
+from concurrent.futures import ProcessPoolExecutor
 
 import images
-from images import FREEBSD, LARGE, SMALL, ebr, entry, label, one_partition, record
+from damages import Gpt, damages, sliced
+from images import FREEBSD, LARGE, SMALL, ebr, entry, guid, label, one_partition, record
+from writes import choices, recorded, written
 
 FRESH = "--fresh 000102030405060708090a0b0c0d0e0f" + "0" * 32
 MORE = FRESH + "".join(f"{number:032x}" for number in range(1, 4))
-CALL = re.compile(r'(openat|lseek|write|fsync)\((.*)\) += (\d+)$')
 checked = 0
-
-
-def recorded(ptab, path, words, sectors):
-    """The phases of an edit: the writes, as (sector, bytes), between its syncs."""
-    log = f"{path}.log"
-    done = subprocess.run(["strace", "-e", "trace=openat,lseek,write,fsync", "-xx", "-s", str(2 * sectors.size), "-o", log,
-                           ptab, "edit", path, "--sector-size", str(sectors.size), *words], capture_output=True, text=True)
-    if done.returncode != 0:
-        sys.exit(f"{words}: status {done.returncode}: {done.stderr}")
-    phases, writes, fd, at = [], [], None, 0
-    with open(log, encoding="ascii") as it:
-        for line in it:
-            found = CALL.search(line.strip())
-            if not found:
-                continue
-            call, arguments, answer = found.groups()
-            if call == "openat":
-                fd = answer if "O_RDWR" in arguments else fd
-            elif arguments.split(",")[0] != fd:
-                continue
-            elif call == "lseek":
-                at = int(answer)
-            elif call == "write":
-                content = bytes.fromhex(re.search(r'"([^"]*)"', arguments).group(1).replace("\\x", ""))
-                writes.append((at // sectors.size, content))
-                at += len(content)
-            else:
-                phases.append(writes)
-                writes = []
-    if writes:
-        sys.exit(f"{words}: writes after the last sync")
-    return [phase for phase in phases if phase]
-
-
-def written(image, writes, sectors):
-    image = bytearray(image)
-    for lba, content in writes:
-        sectors.put(image, lba, content)
-    return image
 
 
 def shown(ptab, path, image, sectors, command="show"):
     with open(path, "wb") as it:
         it.write(image)
+    return said(ptab, path, sectors, command)
+
+
+def said(ptab, path, sectors, command):
     done = subprocess.run([ptab, command, path, "--sector-size", str(sectors.size)], capture_output=True, text=True)
     return done.stdout, done.stderr, done.returncode
 
 
-def choices(rng, phase):
-    """Choices of a phase's writes: all there are of a few, else none, all, each alone left out or done at either end, and random ones."""
-    if len(phase) <= 3:
-        return [[write for k, write in enumerate(phase) if number >> k & 1] for number in range(2 ** len(phase))]
-    picked = [[], phase, phase[:1], phase[-1:], phase[1:], phase[:-1]]
-    picked += [[write for write in phase if rng.randrange(2)] for _ in range(12)]
-    return picked
+def repaired(ptab, path, sectors, found):
+    """Whether a repair of the image, which shows what was found, leaves it healthy with that; where that is no table it is refused."""
+    done = said(ptab, path, sectors, "repair")
+    if found[2] != 0:
+        return done == found
+    return (done, said(ptab, path, sectors, "show"), said(ptab, path, sectors, "verify")) == (("done\n", "", 0), found, ("yes\n", "", 0))
 
 
 def cut(ptab, folder, name, image, words, counts, switch, sectors=SMALL):
@@ -82,7 +49,7 @@ def cut(ptab, folder, name, image, words, counts, switch, sectors=SMALL):
     path = f"{folder}/image"
     with open(path, "wb") as it:
         it.write(image)
-    phases = recorded(ptab, path, words, sectors)
+    phases = [phase for phase in recorded(ptab, path, "edit", words, sectors) if phase]
     with open(path, "rb") as it:
         after = it.read()
     if [len(phase) for phase in phases] != counts:
@@ -98,7 +65,9 @@ def cut(ptab, folder, name, image, words, counts, switch, sectors=SMALL):
             found = shown(ptab, path, written(before, writes, sectors), sectors)
             if found not in allowed:
                 sys.exit(f"{name}: stopped in phase {number} by {[lba for lba, _ in writes]}: {found}")
-            checked += 1
+            if not repaired(ptab, path, sectors, found):
+                sys.exit(f"{name}: stopped in phase {number} by {[lba for lba, _ in writes]}: not repaired")
+            checked += 2
         before = bytes(written(before, phase, sectors))
     if before != after:
         sys.exit(f"{name}: the writes don't make the image")
@@ -226,15 +195,86 @@ def on_large_sectors():
     yield "an MBR to a GPT", mbr, f"{FRESH} g", [10, 1], 2
 
 
-def main():
-    ptab = os.path.abspath(sys.argv[1])
+def repair_cut(ptab, folder, damage, sectors):
+    """Repairs a damaged image, stops that in each phase, and repairs what is left."""
+    global checked
+    path = f"{folder}/image"
+    old = shown(ptab, path, damage.image, sectors)
+    phases = recorded(ptab, path, "repair", [], sectors)
+    if old[2] != 0 or [len(phase) for phase in phases] != [0, *damage.phases(sectors)]:
+        sys.exit(f"{damage.name}: {old}, phases of {[len(phase) for phase in phases]} writes, not of {[0, *damage.phases(sectors)]}")
+    rng = random.Random(1)
+    before, seen = bytes(damage.image), set()
+    for number, phase in enumerate(phases, 1):
+        for writes in choices(rng, phase):
+            image = bytes(written(before, writes, sectors))
+            if image in seen:
+                continue
+            seen.add(image)
+            what = f"{damage.name}: stopped in phase {number} by {[lba for lba, _ in writes]}"
+            if shown(ptab, path, image, sectors) != old:
+                sys.exit(f"{what}: another layout")
+            if shown(ptab, path, image, sectors, "repair") != ("done\n", "", 0):
+                sys.exit(f"{what}: not repaired")
+            with open(path, "rb") as it:
+                if it.read() != damage.mended:
+                    sys.exit(f"{what}: not the image that a whole repair makes")
+            checked += 2
+        before = bytes(written(before, phase, sectors))
+    if before != damage.mended or shown(ptab, path, before, sectors, "verify")[0] != "yes\n":
+        sys.exit(f"{damage.name}: the writes don't make the image, or it isn't healthy")
+
+
+def kinds(tables):
+    """A damage of each finding, and of each fault of each copy; of the findings 4 to 6 all damages."""
+    met = set()
+    for gpt in tables:
+        for damage in damages(gpt):
+            kind = damage.finding if damage.finding[0] in "23" else damage.name
+            if "grown" in damage.name or "zeroed" in damage.name:
+                kind = damage.name
+            if kind not in met:
+                met.add(kind)
+                yield damage, gpt.sectors
+
+
+def repairs():
+    """Every damage whose repair is cut. The second table has only some of them cut again."""
+    small = Gpt("two", SMALL, 100, {1: entry(34, 50, name="data"), 2: entry(51, 60, unique=guid(2))})
+    large = Gpt("two large", LARGE, 30, {1: entry(6, 10, name="data"), 2: entry(11, 20, FREEBSD, guid(2))})
+    return [*kinds([small]), *kinds([large]), *list(kinds([sliced()]))[::5]]
+
+
+def cut_repairs(ptab, part, parts):
+    """How many stopped images were looked at."""
     memory = "/dev/shm" if os.access("/dev/shm", os.W_OK) else None
     with tempfile.TemporaryDirectory(dir=memory) as folder:
-        for sectors, tables in ((SMALL, (on_gpt, on_slices_of_gpt, on_mbr, on_chains)), (LARGE, (on_large_sectors,))):
-            for table in tables:
-                for name, image, words, counts, switch in table():
-                    cut(ptab, folder, name, image, words.split(" "), counts, switch, sectors)
-    print(f"power cuts: {checked} passed, 0 failed")
+        for damage, sectors in repairs()[part::parts]:
+            repair_cut(ptab, folder, damage, sectors)
+    return checked
+
+
+def cut_edits(ptab, sectors, table):
+    """The same."""
+    memory = "/dev/shm" if os.access("/dev/shm", os.W_OK) else None
+    with tempfile.TemporaryDirectory(dir=memory) as folder:
+        for name, image, words, counts, switch in table():
+            cut(ptab, folder, name, image, words.split(" "), counts, switch, sectors)
+    return checked
+
+
+def counted(call, *words):
+    before = checked
+    return call(*words) - before
+
+
+def main():
+    ptab = os.path.abspath(sys.argv[1])
+    with ProcessPoolExecutor() as pool:
+        tables = [(SMALL, table) for table in (on_gpt, on_slices_of_gpt, on_mbr, on_chains)] + [(LARGE, on_large_sectors)]
+        done = [pool.submit(counted, cut_edits, ptab, sectors, table) for sectors, table in tables]
+        done += [pool.submit(counted, cut_repairs, ptab, part, 8) for part in range(8)]
+        print(f"power cuts: {sum(it.result() for it in done)} passed, 0 failed")
 
 
 main()

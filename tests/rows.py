@@ -16,6 +16,7 @@ import rows_mbr
 import rows_place
 import rows_plan
 import rows_records
+import rows_repair
 import rows_slices
 import rows_switches
 import rows_turns
@@ -23,7 +24,7 @@ import rows_words
 from command import Command
 
 PARTS = (rows_gpt, rows_mbr, rows_labels, rows_edit, rows_place, rows_plan, rows_turns, rows_records, rows_slices, rows_switches,
-         rows_words, rows_help)
+         rows_words, rows_help, rows_repair)
 
 
 def run(rows, ptab):

@@ -1,0 +1,58 @@
+"""The writes and syncs of the built command on an image, taken down by strace; and images that a stop among them leaves."""
+import re
+import subprocess
+import sys
+
+CALL = re.compile(r'(openat|lseek|write|pwrite64|ftruncate|fsync)\((.*)\) += (\d+)$')
+
+
+def recorded(ptab, path, command, words, sectors):
+    """The writes, as (sector, bytes), before each sync of the command on the image."""
+    log = f"{path}.log"
+    calls = "trace=openat,lseek,write,pwrite64,ftruncate,fsync"
+    done = subprocess.run(["strace", "-e", calls, "-xx", "-s", str(2 * sectors.size), "-o", log, ptab, command, path,
+                           "--sector-size", str(sectors.size), *words], capture_output=True, text=True)
+    if (done.stdout, done.returncode) != ("done\n", 0):
+        sys.exit(f"{command} {words}: status {done.returncode}: {done.stdout}{done.stderr}")
+    phases, writes, fd, at = [], [], None, 0
+    with open(log, encoding="ascii") as it:
+        for line in it:
+            found = CALL.search(line.strip())
+            if not found:
+                continue
+            call, arguments, answer = found.groups()
+            if call == "openat":
+                fd = answer if "O_RDWR" in arguments else fd
+            elif arguments.split(",")[0] != fd:
+                continue
+            elif call == "lseek":
+                at = int(answer)
+            elif call == "write":
+                content = bytes.fromhex(re.search(r'"([^"]*)"', arguments).group(1).replace("\\x", ""))
+                writes.append((at // sectors.size, content))
+                at += len(content)
+            elif call == "fsync":
+                phases.append(writes)
+                writes = []
+            else:
+                sys.exit(f"{command} {words}: {call}")
+    if writes or fd is None:
+        sys.exit(f"{command} {words}: writes after the last sync, or an image that isn't opened for them")
+    return phases
+
+
+def written(image, writes, sectors):
+    image = bytearray(image)
+    for lba, content in writes:
+        sectors.put(image, lba, content)
+    return image
+
+
+def choices(rng, phase):
+    """Choices of a phase's writes: all there are of a few, else none, all, every other one, each alone left out or done at either end,
+    and random ones."""
+    if len(phase) <= 3:
+        return [[write for k, write in enumerate(phase) if number >> k & 1] for number in range(2 ** len(phase))]
+    picked = [[], phase, phase[:1], phase[-1:], phase[1:], phase[:-1], phase[::2], phase[1::2]]
+    picked += [[write for write in phase if rng.randrange(2)] for _ in range(12)]
+    return picked
