@@ -1,3 +1,4 @@
 pub mod Histories
 pub mod Exits
 pub mod Starting
+pub mod Replying

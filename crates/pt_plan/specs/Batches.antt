@@ -18,11 +18,11 @@ use Rattle.pt_planner.specs.Unmendable.{IsUnmendable}
 use Rattle.pt_planner.specs.Unplanned.{Unplanned}
 use Rattle.pt_plan.specs.declared.error.CommitError.{CommitError}
 use Rattle.pt_plan.specs.declared.repair_error.RepairError.{RepairError}
-use Rattle.pt_plan.specs.declared.session.Batch.{Batch}
-use Rattle.pt_plan.specs.declared.session.Reply.{Reply}
+use Rattle.pt_plan.specs.declared.sessions.Batch.{Batch}
+use Rattle.pt_plan.specs.declared.sessions.Reply.{Reply}
 use Rattle.pt_plan.specs.Calls.{Call, CarryOn}
 use Rattle.pt_plan.specs.Commits.{past, Committed, Planned, Ready, Refuses}
-use Rattle.pt_plan.specs.History.{Unchanged, Either, Carries}
+use Rattle.pt_plan.specs.History.{Either, Carries}
 use Rattle.pt_plan.specs.Repairs.{Repaired, MendPlanned, ReadyToMend, RefusesToMend}
 use Rattle.pt_plan.specs.Running.{Step, Ran}
 use Rattle.pt_plan.specs.Sessions.{Session}
