@@ -3,3 +3,4 @@ pub mod Exits
 pub mod Mendable
 pub mod Mended
 pub mod Starting
+pub mod Replying

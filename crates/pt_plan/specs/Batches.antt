@@ -22,7 +22,7 @@ use Rattle.pt_plan.specs.declared.sessions.Batch.{Batch}
 use Rattle.pt_plan.specs.declared.sessions.Reply.{Reply}
 use Rattle.pt_plan.specs.Calls.{Call, CarryOn}
 use Rattle.pt_plan.specs.Commits.{past, Committed, Planned, Ready, Refuses}
-use Rattle.pt_plan.specs.History.{Unchanged, Either, Carries}
+use Rattle.pt_plan.specs.History.{Either, Carries}
 use Rattle.pt_plan.specs.Repairs.{Repaired, MendPlanned, ReadyToMend, RefusesToMend}
 use Rattle.pt_plan.specs.Running.{Step, Ran}
 use Rattle.pt_plan.specs.Sessions.{Session}

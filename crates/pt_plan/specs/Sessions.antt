@@ -4,9 +4,9 @@ use Rattle.pt_sector.specs.Device.{Told}
 use Rattle.pt_sector.specs.declared.disk.Fault.{Fault}
 use Rattle.pt_plan.specs.Calls.{Call}
 use Rattle.pt_plan.specs.Commits.{past}
-use Rattle.pt_plan.specs.History.{Past, Unchanged, Either}
+use Rattle.pt_plan.specs.History.{Unchanged, Either}
 use Rattle.pt_plan.specs.declared.error.CommitError.{CommitError}
-use Rattle.pt_plan.specs.declared.error.CommitError.TheVariants.{NoTable, Edit, Plan, Check, Device, Memory}
+use Rattle.pt_plan.specs.declared.error.CommitError.TheVariants.{Device}
 use Rattle.pt_plan.specs.declared.sessions.Reply.{Reply}
 use Rattle.pt_plan.specs.declared.sessions.Reply.TheVariants as reply
 

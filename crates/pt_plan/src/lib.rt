@@ -11,7 +11,11 @@ mod sessions;
 
 pub use commits::commit;
 pub use error::CommitError;
-pub use laws::{calls_carry_on, commit_carries, history_begins, no_calls_carry, two_calls_carry};
+pub use laws::{
+    calls_carry_on, commit_carries, crash_begins_again, history_begins, lives_keep_history,
+    no_calls_carry, repair_carries, run_carries, run_keeps_history, second_repair_is_idle,
+    session_carries, two_calls_carry,
+};
 pub use prepare::plan_for;
 pub use pt_planner::PlanError;
 pub use repair_error::RepairError;

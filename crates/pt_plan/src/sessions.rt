@@ -1,8 +1,9 @@
 //! Sessions: batches of edits, committed one after the other.
 
-ghost use Rattle.std.specs.Prelude.{◌≡◌, ◌++◌, map, IfOk, OnErr};
+ghost use Rattle.std.specs.Prelude.{◌≡◌, [], ◌∷◌, ◌++◌, map, IfOk, OnErr};
 ghost use Rattle.pt_sector.specs.Sectors.{IsSectorSize};
-ghost use Rattle.pt_plan.specs.Batches.{batch_of, SessionOf};
+ghost use Rattle.pt_plan.specs.Batches.{batch_of, Commits, SessionOf};
+ghost use Rattle.pt_plan.specs.Replying.{Replied, Tried};
 ghost use Rattle.pt_plan.specs.Sessions.{AreReplies, faults_in};
 
 use crate::commits::commit;
@@ -32,25 +33,33 @@ pub enum Reply {
     NotTried,
 }
 
-/// Commits one batch, unless there was a fault.
+/// Commits the words of one batch, unless there was a fault.
 fn attempt<const B: usize, D: Disk<B>>(
     alloc: Global,
     disk: &mut D,
-    batch: &Batch,
+    edits: &[Edit],
+    guids: &[Guid],
     faulted: &mut bool,
 ) -> Reply
     requires size { IsSectorSize B }
+    ensures count { D.count disk.new ≡ D.count disk.old }
+    ensures name { D.name disk.new ≡ D.name disk.old }
+    ensures replied { Replied faulted.old result faulted.new }
+    ensures blames { D.faults disk.new ≡ D.faults disk.old ++ faults_in (result ∷ []) }
+    ensures tried { D.tells → Tried (Commits B (D.count disk.old)) (record { edits = edits.now; guids = guids.now }) result (D.told disk.old) (D.told disk.new) }
 {
     if *faulted {
         return Reply::NotTried;
     }
-    match commit(alloc, disk, batch.edits.as_slice(), batch.guids.as_slice()) {
+    match commit(alloc, disk, edits, guids) {
         Ok(()) => Reply::Done,
-        Err(CommitError::Device(fault)) => {
-            *faulted = true;
-            Reply::Fault(fault)
-        }
-        Err(error) => Reply::Refused(error),
+        Err(error) => match error {
+            CommitError::Device(fault) => {
+                *faulted = true;
+                Reply::Fault(fault)
+            }
+            error => Reply::Refused(error),
+        },
     }
 }
 
@@ -73,7 +82,13 @@ pub fn session<const B: usize, D: Disk<B>>(
     let mut replies = Vec::with_capacity(alloc, batches.len())?;
     let mut faulted = false;
     for batch in batches {
-        let reply = attempt(alloc, disk, batch, &mut faulted);
+        let reply = attempt(
+            alloc,
+            disk,
+            batch.edits.as_slice(),
+            batch.guids.as_slice(),
+            &mut faulted,
+        );
         replies.push_reserved(reply);
     }
     Ok(replies)
