@@ -1,0 +1,58 @@
+-- A plan that was checked, and not applied to its end: how it failed.
+use Rattle.std.proofs.Common.{◌≡◌, inr, ℕ, zero, suc, List, [], ◌∷◌, sym, subst, Some, slice_get, slice_index_or}
+use Rattle.pt_sector.specs.Sectors.{Sectors}
+use Rattle.pt_sector.specs.Writes.{Writes}
+use Rattle.pt_sector.specs.Device.{Told, Flushed}
+use Rattle.pt_sector.specs.Calls.{IsReadIn, ReadFaults, with_fault}
+use Rattle.pt_sector.specs.declared.address.Lba.{Lba}
+use Rattle.pt_sector.specs.declared.disk.Fault.{Fault}
+use Rattle.pt_sector.specs.declared.disk.Fault.TheVariants.{Read, Write, Flush}
+use Rattle.pt_apply.specs.Plans.{faults_of}
+use Rattle.pt_apply.specs.Runs.{FailedIn}
+use Rattle.pt_check.specs.Answers.{Answers, Promises}
+use Rattle.pt_check.specs.Failed.{fault_in}
+use Rattle.pt_check.specs.declared.answer.Answer.{Answer}
+use Rattle.pt_check.specs.declared.answer.Answer.TheVariants.{Yes}
+use Rattle.pt_check.specs.declared.error.CheckError.{CheckError}
+use Rattle.pt_check.specs.declared.error.CheckError.TheVariants.{Device, Memory}
+use Rattle.pt_plan.specs.Failed.{commit_unchecked}
+use Rattle.pt_plan.specs.declared.error.CommitError.TheVariants as commit
+use Rattle.pt_plan.proofs.Exits.{met_read}
+use Rattle.ptab.specs.Applied.{FailedApplying, FailsBy, ApplyFailed}
+
+-- no call of a phase reads
+reads_nothing : (ws : Writes) (call : ℕ) (at : Lba) → slice_get (faults_of ws) call ≡ Some (Read at) → ⊥
+reads_nothing [] zero at is = absurd cc
+reads_nothing [] (suc call) at is = absurd cc
+reads_nothing (w ∷ ws) zero at is = absurd cc
+reads_nothing (w ∷ ws) (suc call) at is = reads_nothing ws call at is
+
+module _ (b : ℕ) (phases : List Writes) (old : Told) where
+  by_read : (fault : Fault) (new : Told) → IsReadIn (λ s. Unit {0}) fault → Flushed old new → FailsBy b phases fault old new
+  by_read (Read at) new read flushed = flushed
+  by_read (Write at) new read flushed = absurd read
+  by_read Flush new read flushed = absurd read
+
+  by_call : (fault : Fault) (new : Told) → FailedApplying b phases old new fault → FailsBy b phases fault old new
+  by_call (Read at) new applying = absurd (reads_nothing (slice_index_or phases applying.failed.phase []) applying.failed.call at applying.failed.is)
+  by_call (Write at) new applying = applying
+  by_call Flush new applying = inr applying
+
+  module _ (mid now : Told) (flush : Flushed old mid) (same : now ≡ mid) where
+    -- the checker failed, by reads alone
+    pub unchecked : (e : CheckError) (before after : List Fault) → after ≡ with_fault before (fault_in e) → ReadFaults before after
+        → ApplyFailed b phases old now (commit_unchecked e)
+    unchecked (Device fault) before after blames came =
+        by_read fault now (met_read (commit.Device fault) before after blames came) (subst (λ (x : Told). Flushed old x) (sym same) flush)
+    unchecked Memory before after blames came = subst (λ (x : Told). Flushed old x) (sym same) flush
+
+    pub unapplied : (switch : ℕ) (answer : Answer) → answer ≡ Yes switch → Answers b mid.seen phases answer → Promises b mid.seen phases answer
+        → (new : Told) (fault : Fault) → FailedIn phases now.seen now new fault → FailsBy b phases fault old new
+    unapplied switch answer is right safe new fault failed = by_call fault new (record {
+      mid = mid;
+      flushed = flush;
+      switch = switch;
+      answers = subst (λ (d : Sectors). Answers b d phases (Yes switch)) flush.seen (subst (λ (a : Answer). Answers b mid.seen phases a) is right);
+      safe = subst (λ (d : Sectors). Promises b d phases (Yes switch)) flush.seen (subst (λ (a : Answer). Promises b mid.seen phases a) is safe);
+      failed = subst (λ (x : Told). FailedIn phases x.seen x new fault) same failed;
+    })
