@@ -4,3 +4,5 @@ pub mod Mendable
 pub mod Mended
 pub mod Starting
 pub mod Replying
+pub mod Applying
+pub mod Failing

@@ -1,3 +1,4 @@
+pub mod Applied
 pub mod Batches
 pub mod Calls
 pub mod Carried

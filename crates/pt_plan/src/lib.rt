@@ -1,6 +1,7 @@
-//! Commits of edits to a disk, sessions of them, and repairs.
+//! Commits of edits to a disk, sessions of them, repairs, and plans from anywhere that are checked and applied.
 #![tactic(auto)]
 
+mod checked;
 mod commits;
 mod error;
 mod laws;
@@ -9,6 +10,7 @@ mod repair_error;
 mod repairs;
 mod sessions;
 
+pub use checked::apply_checked;
 pub use commits::commit;
 pub use error::CommitError;
 pub use laws::{

@@ -1,8 +1,8 @@
 use Rattle.std.proofs.lemmas.Result.{err_from_is_err_and}
 use Rattle.pt_apply.specs.Plans.{phases_of}
-use Rattle.ptab.proofs.Applying.{failed_flush, so_far, refused, goes_on, done}
-use Rattle.ptab.proofs.Failing.{unchecked, unapplied}
-use Rattle.ptab.proofs.apply.apply_checked.Goals as goal
+use Rattle.pt_plan.proofs.Applying.{failed_flush, so_far, refused, goes_on, done}
+use Rattle.pt_plan.proofs.Failing.{unchecked, unapplied}
+use Rattle.pt_plan.proofs.checked.apply_checked.Goals as goal
 
 pub returns-in_err-flush-clause-any_moment : goal.returns-in_err-flush-clause-any_moment
 returns-in_err-flush-clause-any_moment g c = λ tells. failed_flush _ _ _ (c.in_err-flush.ensures.failed tells)

@@ -19,15 +19,15 @@ pub record SafelyStopped (b : ℕ) (phases : List Writes) (d c : Sectors) : Type
   pub stopped : StoppedSomewhere phases d c
 
 -- after a no only a flush was done; after a yes the finished disk is durable
-abbrev pub Ends : List Writes → Answer → Told → Told → Type 0
-Ends phases (No why) old new = Flushed old new
-Ends phases (Yes switch) old new = Settled new (after phases old.seen)
+abbrev pub AppliedEnds : List Writes → Answer → Told → Told → Type 0
+AppliedEnds phases (No why) old new = Flushed old new
+AppliedEnds phases (Yes switch) old new = Settled new (after phases old.seen)
 
 -- the answer is right of what a read gave at first, and was acted upon
 pub record Applied (b : ℕ) (phases : List Writes) (old new : Told) (answer : Answer) : Type 0 where
   pub answers : Answers b old.seen phases answer
   pub promises : Promises b old.seen phases answer
-  pub ends : Ends phases answer old new
+  pub ends : AppliedEnds phases answer old new
 
 -- the first flush was done, the checker said yes, and then a call of the plan failed, by this fault: how far the calls came
 pub record FailedApplying (b : ℕ) (phases : List Writes) (old new : Told) (fault : Fault) : Type 0 where

@@ -17,15 +17,8 @@ use Rattle.pt_check.specs.declared.error.CheckError.{CheckError}
 use Rattle.pt_check.specs.declared.error.CheckError.TheVariants.{Device, Memory}
 use Rattle.pt_plan.specs.Failed.{commit_unchecked}
 use Rattle.pt_plan.specs.declared.error.CommitError.TheVariants as commit
-use Rattle.pt_plan.proofs.Exits.{met_read}
-use Rattle.ptab.specs.Applied.{FailedApplying, FailsBy, ApplyFailed}
-
--- no call of a phase reads
-reads_nothing : (ws : Writes) (call : ℕ) (at : Lba) → slice_get (faults_of ws) call ≡ Some (Read at) → ⊥
-reads_nothing [] zero at is = absurd cc
-reads_nothing [] (suc call) at is = absurd cc
-reads_nothing (w ∷ ws) zero at is = absurd cc
-reads_nothing (w ∷ ws) (suc call) at is = reads_nothing ws call at is
+use Rattle.pt_plan.proofs.Exits.{met_read, reads_nothing}
+use Rattle.pt_plan.specs.Applied.{FailedApplying, FailsBy, ApplyFailed}
 
 module _ (b : ℕ) (phases : List Writes) (old : Told) where
   by_read : (fault : Fault) (new : Told) → IsReadIn (λ s. Unit {0}) fault → Flushed old new → FailsBy b phases fault old new

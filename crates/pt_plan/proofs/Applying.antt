@@ -10,7 +10,7 @@ use Rattle.pt_check.specs.declared.answer.Answer.{Answer}
 use Rattle.pt_check.specs.declared.answer.Answer.TheVariants.{No, Yes}
 use Rattle.pt_check.specs.declared.answer.Why.{Why}
 use Rattle.pt_plan.proofs.Histories.{flush_leaves, failed_flush_leaves}
-use Rattle.ptab.specs.Applied.{SafelyStopped, Applied}
+use Rattle.pt_plan.specs.Applied.{SafelyStopped, Applied}
 
 pub failed_flush : (old new : Told) (P : Sectors → Type 0) → FailedFlush old new → LeavesOnly old new P
 failed_flush old new P failed = leaves_once old new P failed.time (λ c may. inl (failed_flush_leaves old new failed c may))
