@@ -56,12 +56,14 @@ pub fn slices_lie()
 
 /// So it has a label place exactly where it has a second sector, if the usable sectors end on the disk.
 pub fn places_are_second()
-    ensures { (b : ℕ) (o : Layout) (s : Slice) → Sound b o → EndsOnDisk o.sectors o.body → Contains (slices_of b o.body) s → (has_place o.sectors s ≡ true) ↔ (2 ≤ s.len) }
+    ensures { (b : ℕ) (o : Layout) (s : Slice) → Sound b o → EndsOnDisk o.sectors o.body → Contains (slices_of b o.body) s
+        → (has_place o.sectors s ≡ true) ↔ (2 ≤ s.len) }
 {}
 
 /// In a sound layout two slices with one label place are one.
 pub fn places_apart()
-    ensures { (b : ℕ) (o : Layout) (s t : Slice) → Sound b o → Contains (slices_of b o.body) s → Contains (slices_of b o.body) t → place_of s ≡ place_of t → s ≡ t }
+    ensures { (b : ℕ) (o : Layout) (s t : Slice) → Sound b o → Contains (slices_of b o.body) s → Contains (slices_of b o.body) t
+        → place_of s ≡ place_of t → s ≡ t }
 {}
 
 /// In a sound layout no extended boot record is a label place.
@@ -116,14 +118,14 @@ pub fn chain_climbs()
 
 /// Where the layout is sound too, the link to each of them can be made: its numbers fit 32 bits.
 pub fn links_fit()
-    ensures { (b : ℕ) (o : Layout) (rs : List (Option Record)) (chain : List Ebr) (x : Record) (e : Ebr) → Shaped b o → Sound b o → o.body ≡ Mbr rs chain
-        → extended_of rs ≡ x ∷ [] → Contains chain e → FitsLink x.start e }
+    ensures { (b : ℕ) (o : Layout) (rs : List (Option Record)) (chain : List Ebr)
+        (x : Record) (e : Ebr) → Shaped b o → Sound b o → o.body ≡ Mbr rs chain → extended_of rs ≡ x ∷ [] → Contains chain e → FitsLink x.start e }
 {}
 
 /// And it leads to that extended boot record, from the one before it.
 pub fn links_lead()
-    ensures { (b : ℕ) (o : Layout) (rs : List (Option Record)) (chain : List Ebr) (x : Record) → Shaped b o → Sound b o → o.body ≡ Mbr rs chain
-        → extended_of rs ≡ x ∷ [] → AllLinkOn x.start chain }
+    ensures { (b : ℕ) (o : Layout) (rs : List (Option Record)) (chain : List Ebr)
+        (x : Record) → Shaped b o → Sound b o → o.body ≡ Mbr rs chain → extended_of rs ≡ x ∷ [] → AllLinkOn x.start chain }
 {}
 
 /// The chain of a shaped and sound MBR stands on the disk.
