@@ -1,6 +1,7 @@
 //! What holds of layouts that edits make.
 
-ghost use Rattle.std.specs.Prelude.{◌≡◌, ◌<◌, ◌≤◌, ◌+◌, ◌-◌, ◌↔◌, ◌≢◌, ◌∷◌, [], ℕ, List, Contains, length, get_or, Option, Some, None, true};
+ghost use Rattle.std.specs.Prelude.{◌≡◌, ◌<◌, ◌≤◌, ◌+◌, ◌-◌, ◌↔◌, ◌≢◌, ◌∷◌, [], ℕ, List, Contains, length, get_or};
+ghost use Rattle.std.specs.Prelude.{Option, Some, None, true};
 ghost use Rattle.pt_sector.specs.Sectors.{Sectors};
 ghost use Rattle.pt_recover.specs.Denotes.{Denotes};
 ghost use Rattle.pt_recover.specs.Numbers.{Numbers};
@@ -119,7 +120,8 @@ pub fn chain_climbs()
 /// Where the layout is sound too, the link to each of them can be made: its numbers fit 32 bits.
 pub fn links_fit()
     ensures { (b : ℕ) (o : Layout) (rs : List (Option Record)) (chain : List Ebr)
-        (x : Record) (e : Ebr) → Shaped b o → Sound b o → o.body ≡ Mbr rs chain → extended_of rs ≡ x ∷ [] → Contains chain e → FitsLink x.start e }
+        (x : Record) (e : Ebr) → Shaped b o → Sound b o → o.body ≡ Mbr rs chain
+        → extended_of rs ≡ x ∷ [] → Contains chain e → FitsLink x.start e }
 {}
 
 /// And it leads to that extended boot record, from the one before it.
