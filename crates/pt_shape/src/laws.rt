@@ -19,7 +19,8 @@ ghost use Rattle.pt_layout.specs.Members.{IsMember, label_of};
 ghost use Rattle.pt_layout.specs.declared.member.Member.{Member};
 ghost use Rattle.pt_layout.specs.Sound.{Sound};
 ghost use Rattle.pt_layout.specs.Tables.{IsEbr};
-ghost use Rattle.pt_shape.specs.Shape.{Shaped};
+ghost use Rattle.pt_bsd.specs.declared.label.Label.{Label};
+ghost use Rattle.pt_shape.specs.Shape.{FitsLabel, Shaped};
 ghost use Rattle.pt_shape.specs.Keeps.{Keeps};
 ghost use Rattle.pt_shape.specs.SliceMembers.{IsSliceOf, LiesUsable};
 ghost use Rattle.pt_shape.specs.LabelPlaces.{EndsOnDisk};
@@ -93,6 +94,12 @@ pub fn slices_ascend()
 pub fn along_labels()
     ensures { (b : ℕ) (o : Layout) → Shaped b o → Sound b o → Along (λ w l. FitsPlace w l × (label_of o.labels w.number ≡ l))
         (places_of b o.sectors o.body) o.labels }
+{}
+
+/// So a label fits the slice of its number: its entries are counted, and entry c is the slice.
+pub fn labels_fit_places()
+    ensures { (b : ℕ) (o : Layout) (w : Slice) (l : Label) → Shaped b o → Sound b o → Contains (places_of b o.sectors o.body) w
+        → Contains o.labels (record { number = w.number; label = l }) → FitsLabel w l }
 {}
 
 /// The records of a shaped MBR are such as sector 0 may have: written there, they are read again.
