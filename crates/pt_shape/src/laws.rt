@@ -19,6 +19,8 @@ ghost use Rattle.pt_layout.specs.Members.{IsMember, label_of};
 ghost use Rattle.pt_layout.specs.declared.member.Member.{Member};
 ghost use Rattle.pt_layout.specs.Sound.{Sound};
 ghost use Rattle.pt_layout.specs.Tables.{IsEbr};
+ghost use Rattle.pt_bsd.specs.Counted.{FitsSlice};
+ghost use Rattle.pt_bsd.specs.Label.{LabelBytes};
 ghost use Rattle.pt_bsd.specs.declared.label.Label.{Label};
 ghost use Rattle.pt_shape.specs.Shape.{FitsLabel, Shaped};
 ghost use Rattle.pt_shape.specs.Keeps.{Keeps};
@@ -164,4 +166,9 @@ pub fn label_at_place()
 pub fn no_label_there()
     ensures { (b : ℕ) (d : Sectors) (o : Layout) (w : Slice) → Denotes b d (Some o) → Contains (places_of b o.sectors o.body) w
         → (label_of o.labels w.number ≡ None) ↔ (¬ HasLabel d w) }
+{}
+
+/// A label of a slice is read in each slice from the same first sector that it fits: such a slice is as long.
+pub fn label_stays_read()
+    ensures { (l : Label) (first m n : ℕ) (bytes : List ℕ) → LabelBytes l first m bytes → FitsSlice l first n → LabelBytes l first n bytes }
 {}
