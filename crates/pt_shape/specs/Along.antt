@@ -1,5 +1,5 @@
 -- The label places of a layout and its labels, side by side.
-use Rattle.std.specs.Prelude.{zero, suc, ◌≡◌, ◌≢◌, ◌⊎◌, ◌<◌, ◌≤◌, ◌+◌, ◌∷◌, [], ℕ, Bool, true, false, List, Contains, filter, Option, Some, None}
+use Rattle.std.specs.Prelude.{zero, suc, ◌≡◌, ◌≢◌, ◌⊎◌, ◌<◌, ◌≤◌, ◌+◌, ◌∷◌, [], ℕ, Bool, true, false, List, Contains, length, filter, Option, Some, None}
 use Rattle.std.proofs.Common.{refl, sym, ap, subst, ◌∙◌, arith, inl, inr}
 use Rattle.std.proofs.lemmas.Bool.{eq-eqb, ne_eqb}
 use Rattle.pt_bsd.specs.declared.label.Label.{Label}
@@ -110,3 +110,27 @@ along_labels_lem b o shaped sound =
 -- so each label goes with a label place
 pub labels_fit_lem : (b : ℕ) (o : Layout) → Shaped b o → Sound b o → Along (λ w l. Unit {0}) (places_of b o.sectors o.body) o.labels
 labels_fit_lem b o shaped sound = along_map FitsPlace (λ w l. Unit {0}) (places_of b o.sectors o.body) o.labels (λ w l fits. tt) (places_walk b o shaped sound)
+
+-- a label of ascending slices is the one of its number
+label_there : (P : Slice → Option Label → Type 0) (low : ℕ) (ws : List Slice) (labels : List Labelled) (x : Labelled) → IsAscending low ws → Along P ws labels → Contains labels x → label_of labels x.number ≡ Some x.label
+label_there P low [] labels x up is has = (let none : length labels ≡ 0 = ap (λ (l : List Labelled). length l) is in absurd (omega (arith, none, has.1)))
+label_there P low (w ∷ ws) labels x up (inl (l, rest, same, it, later)) has = by_index (subst (λ (ls : List Labelled). Contains ls x) same has) (label_there P (w.number + 1) ws rest x up.1 later) where
+  by_index : Contains (record { number = w.number; label = l } ∷ rest) x → (Contains rest x → label_of rest x.number ≡ Some x.label) → label_of labels x.number ≡ Some x.label
+  by_index (zero, lt, at) more =
+      let number : w.number ≡ x.number = ap (λ (y : Labelled). y.number) at in
+      let label : l ≡ x.label = ap (λ (y : Labelled). y.label) at in
+      ap (λ (n : ℕ). label_of labels n) (sym number) ∙ (first_label w.number l rest labels same ∙ ap (λ (m : Label). Some m) label)
+  by_index (suc k, lt, at) more =
+      let there = more (k, omega (arith, lt), at) in
+      let none = none_below P w.number (w.number + 1) ws rest up.1 (omega arith) later in
+      let other : w.number ≢ x.number = λ e. (let both : None ≡ Some x.label = sym none ∙ (ap (λ (n : ℕ). label_of rest n) e ∙ there) in absurd cc) in
+      later_label w.number x.number l rest labels other same ∙ there
+label_there P low (w ∷ ws) labels x up (inr (it, later)) has = label_there P (w.number + 1) ws labels x up.1 later has
+
+-- each label fits the slice of its number
+pub label_fits_lem : (b : ℕ) (o : Layout) (w : Slice) (l : Label) → Shaped b o → Sound b o → Contains (places_of b o.sectors o.body) w → Contains o.labels (record { number = w.number; label = l }) → FitsLabel w l
+label_fits_lem b o w l shaped sound stands has =
+    let up = places_ascend_lem b o.sectors o.body (fits_four b o.sectors o.body shaped.body) in
+    let is = places_walk b o shaped sound in
+    let label : label_of o.labels w.number ≡ Some l = label_there FitsPlace 1 (places_of b o.sectors o.body) o.labels (record { number = w.number; label = l }) up is has in
+    subst (λ (m : Option Label). FitsPlace w m) label (along_at FitsPlace 1 (places_of b o.sectors o.body) o.labels w up is stands)

@@ -123,7 +123,7 @@ entry_none : (o : Option LabelEntry) (k : ℕ) (bytes : List ℕ) → IsEntry o 
 entry_none None k bytes is le = refl
 entry_none (Some e) k bytes is le = absurd (omega (arith, is.0, le))
 
-raw_is : (o : Option LabelEntry) (first len : ℕ) (bytes : List ℕ) → IsEntry o 2 bytes → 3 ≤ counted_in bytes → HasRaw first len bytes → IsRaw o first len
+pub raw_is : (o : Option LabelEntry) (first len : ℕ) (bytes : List ℕ) → IsEntry o 2 bytes → 3 ≤ counted_in bytes → HasRaw first len bytes → IsRaw o first len
 raw_is None first len bytes is least raw = absurd (omega (arith, is, least))
 raw_is (Some e) first len bytes is least raw = (sym is.1.size ∙ raw.size, elim raw.start [ inl none ↦ inl (sym is.1.offset ∙ none) | inr start ↦ inr (sym is.1.offset ∙ start) ])
 

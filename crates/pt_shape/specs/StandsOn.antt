@@ -1,8 +1,11 @@
 -- The labels of a layout at their places, on a disk that denotes it.
 use Rattle.std.specs.Prelude.{◌≡◌, ◌↔◌, ◌∷◌, [], ℕ, List, Contains, Option, Some, None}
-use Rattle.std.proofs.Common.{refl, sym, subst, inl, inr}
+use Rattle.std.proofs.Common.{refl, sym, subst, ◌∙◌, arith, inl, inr}
 use Rattle.pt_sector.specs.Sectors.{Sectors}
+use Rattle.pt_bsd.specs.Label.{LabelBytes, entry_of}
+use Rattle.pt_bsd.specs.Counted.{IsRaw, FitsSlice}
 use Rattle.pt_bsd.specs.declared.label.Label.{Label}
+use Rattle.pt_bsd.specs.declared.label.LabelEntry.{LabelEntry}
 use Rattle.pt_recover.specs.Labels.{places_of, LabelAt, HasLabel, LabelsAre}
 use Rattle.pt_recover.specs.Denotes.{BodyIs, Denotes}
 use Rattle.pt_recover.specs.declared.layout.Slice.{Slice}
@@ -13,6 +16,7 @@ use Rattle.pt_recover.specs.declared.layout.Body.TheVariants.{Mbr, Gpt}
 use Rattle.pt_layout.specs.Members.{label_of}
 use Rattle.pt_layout.specs.OnePath.{HasFour}
 use Rattle.pt_shape.specs.Ascending.{places_ascend_lem}
+use Rattle.pt_shape.specs.Denoted.{raw_is}
 use Rattle.pt_shape.specs.Along.{Along, along_at}
 
 -- the slice has this label on the disk, or none
@@ -44,3 +48,13 @@ none_or_some d w (Some l) stands = (λ e. absurd cc, λ none. absurd (none (l, s
 -- so the number has no label exactly where the place has none
 pub no_label_there_lem : (b : ℕ) (d : Sectors) (o : Layout) (w : Slice) → Denotes b d (Some o) → Contains (places_of b o.sectors o.body) w → (label_of o.labels w.number ≡ None) ↔ (¬ HasLabel d w)
 no_label_there_lem b d o w denotes has = none_or_some d w (label_of o.labels w.number) (label_at_place_lem b d o w denotes has)
+
+one_length : (o : Option LabelEntry) (first m n : ℕ) → IsRaw o first m → IsRaw o first n → m ≡ n
+one_length None first m n is also = absurd is
+one_length (Some e) first m n is also = sym is.0 ∙ also.0
+
+-- a label of a slice is read in each slice from its first sector that it fits: that is as long
+pub label_stays_lem : (l : Label) (first m n : ℕ) (bytes : List ℕ) → LabelBytes l first m bytes → FitsSlice l first n → LabelBytes l first n bytes
+label_stays_lem l first m n bytes is fits =
+    let raw : IsRaw (entry_of l 2) first m = raw_is (entry_of l 2) first m bytes (is.entries.each 2 (omega arith)) is.count.least is.raw in
+    subst (λ (k : ℕ). LabelBytes l first k bytes) (one_length (entry_of l 2) first m n raw fits) is

@@ -1,6 +1,7 @@
 //! What holds of layouts that edits make.
 
-ghost use Rattle.std.specs.Prelude.{◌≡◌, ◌<◌, ◌≤◌, ◌+◌, ◌-◌, ◌↔◌, ◌≢◌, ◌∷◌, [], ℕ, List, Contains, length, get_or, Option, Some, None, true};
+ghost use Rattle.std.specs.Prelude.{◌≡◌, ◌<◌, ◌≤◌, ◌+◌, ◌-◌, ◌↔◌, ◌≢◌, ◌∷◌, [], ℕ, List, Contains, length, get_or};
+ghost use Rattle.std.specs.Prelude.{Option, Some, None, true};
 ghost use Rattle.pt_sector.specs.Sectors.{Sectors};
 ghost use Rattle.pt_recover.specs.Denotes.{Denotes};
 ghost use Rattle.pt_recover.specs.Numbers.{Numbers};
@@ -18,7 +19,10 @@ ghost use Rattle.pt_layout.specs.Members.{IsMember, label_of};
 ghost use Rattle.pt_layout.specs.declared.member.Member.{Member};
 ghost use Rattle.pt_layout.specs.Sound.{Sound};
 ghost use Rattle.pt_layout.specs.Tables.{IsEbr};
-ghost use Rattle.pt_shape.specs.Shape.{Shaped};
+ghost use Rattle.pt_bsd.specs.Counted.{FitsSlice};
+ghost use Rattle.pt_bsd.specs.Label.{LabelBytes};
+ghost use Rattle.pt_bsd.specs.declared.label.Label.{Label};
+ghost use Rattle.pt_shape.specs.Shape.{FitsLabel, Shaped};
 ghost use Rattle.pt_shape.specs.Keeps.{Keeps};
 ghost use Rattle.pt_shape.specs.SliceMembers.{IsSliceOf, LiesUsable};
 ghost use Rattle.pt_shape.specs.LabelPlaces.{EndsOnDisk};
@@ -56,12 +60,14 @@ pub fn slices_lie()
 
 /// So it has a label place exactly where it has a second sector, if the usable sectors end on the disk.
 pub fn places_are_second()
-    ensures { (b : ℕ) (o : Layout) (s : Slice) → Sound b o → EndsOnDisk o.sectors o.body → Contains (slices_of b o.body) s → (has_place o.sectors s ≡ true) ↔ (2 ≤ s.len) }
+    ensures { (b : ℕ) (o : Layout) (s : Slice) → Sound b o → EndsOnDisk o.sectors o.body → Contains (slices_of b o.body) s
+        → (has_place o.sectors s ≡ true) ↔ (2 ≤ s.len) }
 {}
 
 /// In a sound layout two slices with one label place are one.
 pub fn places_apart()
-    ensures { (b : ℕ) (o : Layout) (s t : Slice) → Sound b o → Contains (slices_of b o.body) s → Contains (slices_of b o.body) t → place_of s ≡ place_of t → s ≡ t }
+    ensures { (b : ℕ) (o : Layout) (s t : Slice) → Sound b o → Contains (slices_of b o.body) s → Contains (slices_of b o.body) t
+        → place_of s ≡ place_of t → s ≡ t }
 {}
 
 /// In a sound layout no extended boot record is a label place.
@@ -92,6 +98,12 @@ pub fn along_labels()
         (places_of b o.sectors o.body) o.labels }
 {}
 
+/// So a label fits the slice of its number: its entries are counted, and entry c is the slice.
+pub fn labels_fit_places()
+    ensures { (b : ℕ) (o : Layout) (w : Slice) (l : Label) → Shaped b o → Sound b o → Contains (places_of b o.sectors o.body) w
+        → Contains o.labels (record { number = w.number; label = l }) → FitsLabel w l }
+{}
+
 /// The records of a shaped MBR are such as sector 0 may have: written there, they are read again.
 pub fn records_are_plain()
     ensures { (b : ℕ) (o : Layout) (rs : List (Option Record)) (chain : List Ebr) → Shaped b o → o.body ≡ Mbr rs chain
@@ -116,14 +128,15 @@ pub fn chain_climbs()
 
 /// Where the layout is sound too, the link to each of them can be made: its numbers fit 32 bits.
 pub fn links_fit()
-    ensures { (b : ℕ) (o : Layout) (rs : List (Option Record)) (chain : List Ebr) (x : Record) (e : Ebr) → Shaped b o → Sound b o → o.body ≡ Mbr rs chain
+    ensures { (b : ℕ) (o : Layout) (rs : List (Option Record)) (chain : List Ebr)
+        (x : Record) (e : Ebr) → Shaped b o → Sound b o → o.body ≡ Mbr rs chain
         → extended_of rs ≡ x ∷ [] → Contains chain e → FitsLink x.start e }
 {}
 
 /// And it leads to that extended boot record, from the one before it.
 pub fn links_lead()
-    ensures { (b : ℕ) (o : Layout) (rs : List (Option Record)) (chain : List Ebr) (x : Record) → Shaped b o → Sound b o → o.body ≡ Mbr rs chain
-        → extended_of rs ≡ x ∷ [] → AllLinkOn x.start chain }
+    ensures { (b : ℕ) (o : Layout) (rs : List (Option Record)) (chain : List Ebr)
+        (x : Record) → Shaped b o → Sound b o → o.body ≡ Mbr rs chain → extended_of rs ≡ x ∷ [] → AllLinkOn x.start chain }
 {}
 
 /// The chain of a shaped and sound MBR stands on the disk.
@@ -153,4 +166,9 @@ pub fn label_at_place()
 pub fn no_label_there()
     ensures { (b : ℕ) (d : Sectors) (o : Layout) (w : Slice) → Denotes b d (Some o) → Contains (places_of b o.sectors o.body) w
         → (label_of o.labels w.number ≡ None) ↔ (¬ HasLabel d w) }
+{}
+
+/// A label of a slice is read in each slice from the same first sector that it fits: such a slice is as long.
+pub fn label_stays_read()
+    ensures { (l : Label) (first m n : ℕ) (bytes : List ℕ) → LabelBytes l first m bytes → FitsSlice l first n → LabelBytes l first n bytes }
 {}
