@@ -20,6 +20,7 @@ from plans import phases_of
 ALL = 2 ** 32 - 1
 FAILS, DONE_AND_FAILS, ONE_BYTE, NOTHING = range(4)
 DEVICE = ("", "device\n", 5)
+COMMANDS = ("edit", "apply", "repair", "plan", "check", "verify", "show", "locate")
 # What can come of a call, by its letter: how it fails, and errno. The others of `MORE` come at fewer calls, but with `all`. Of a plan's
 # file a read of nothing is its end.
 FAULTS = {"s": ((FAILS, errno.EIO),), "o": ((FAILS, errno.EIO),), "l": ((FAILS, errno.EIO),), "r": ((FAILS, errno.EIO),), "c": (),
@@ -77,6 +78,16 @@ class Run:
         return answer, self.calls(), self.it.image()
 
 
+def ends_well(run, told, left, words, shows):
+    """An edit of the image that is left ends in a healthy one, which shows that layout, where one is told."""
+    it = run.it
+    it.put(left)
+    found = it.run(("edit", *run.size, it.path, *words))
+    shown, verified = run.shown(), it.run(("verify", *run.size, it.path))
+    if found != ("done\n", "", 0) or verified != ("yes\n", "", 0) or shows not in (None, shown):
+        fail(f"{told}, then edit {' '.join(words)}", (found, verified, shown), ("done, yes", shows))
+
+
 def after_a_write(run, told, left, phase):
     """The image that is left denotes the old layout or the new one; repaired, or edited again, it is healthy."""
     it = run.it
@@ -91,12 +102,10 @@ def after_a_write(run, told, left, phase):
     verified, repaired = it.run(("verify", *run.size, it.path)), it.image()
     if wanted[2] == 0 and verified != ("yes\n", "", 0) or it.run(line) != wanted or it.image() != repaired:
         fail(f"{told}, then two repairs", verified, "yes, and no change by the second")
-    if run.line[0] != "edit" or shown != run.old:
-        return
-    it.put(left)
-    found = it.run(run.line)
-    if found != run.wanted or run.shown() != run.new or it.run(("verify", *run.size, it.path))[0] != "yes\n":
-        fail(f"{told}, then the same edit", (found, run.shown()), (run.wanted, run.new))
+    if run.line[0] == "edit" and shown == run.old:
+        ends_well(run, told, left, run.line[4:], run.new)
+    if shown[0].startswith("gpt "):
+        ends_well(run, told, left, ("c:1:other",), None)
 
 
 def one_fault(run, on, log, first, last, how, error):
@@ -149,36 +158,33 @@ def fail_each(run, on, step, whole):
 
 def lines(words):
     """(command, what follows the image, the words whose plan it writes) of all eight commands."""
-    return (("show", (), ()), ("verify", (), ()), ("locate", ("1", "0"), ()), ("plan", words, ()), ("check", None, ()), ("edit", words, words),
-            ("apply", None, words), ("repair", (), ("a:1",)))
+    return (("show", (), ()), ("verify", (), ()), ("locate", ("1", "0"), ()), ("plan", words, ()), ("check", None, ()),
+            ("edit", words, words), ("apply", None, words), ("repair", (), ("a:1",)))
 
 
-def on_disk(ptab, loaded, disk, step, whole):
+def on_disk(ptab, loaded, disk, command, step, whole):
+    """The same of one command on one disk, on its image and on the file of its plan."""
     name, sectors, image, words = disk
-    image, done = bytes(image), []
+    image, size = bytes(image), ("--sector-size", str(sectors.size))
+    rest, writing = next((rest, writing) for found, rest, writing in lines(words) if found == command)
     with tempfile.TemporaryDirectory(dir=faults.place()) as folder:
         it = Failing(ptab, loaded, folder)
-        for command, rest, writing in lines(words):
-            it.put(image)
-            if rest is None:
-                it.write_plan(it.run(("plan", "--sector-size", str(sectors.size), it.path, *words))[0])
-            if command == "repair" and it.run(("show", "--sector-size", str(sectors.size), it.path))[2] != 0:
-                writing = ()
-            line = (command, "--sector-size", str(sectors.size), it.path, *((it.plan,) if rest is None else rest))
-            run = Run(it, name, sectors, image, line, writing)
-            done.append(fail_each(run, it.path, step, whole))
-            if rest is None:
-                done.append(fail_each(run, it.plan, step, whole))
-    return done
+        it.put(image)
+        if rest is None:
+            it.write_plan(it.run(("plan", *size, it.path, *words))[0])
+        if command == "repair" and it.run(("show", *size, it.path))[2] != 0:
+            writing = ()
+        run = Run(it, name, sectors, image, (command, *size, it.path, *((it.plan,) if rest is None else rest)), writing)
+        return [fail_each(run, on, step, whole) for on in ((it.path, it.plan) if rest is None else (it.path,))]
 
 
 def main():
     ptab, whole = os.path.abspath(sys.argv[1]), sys.argv[2:] == ["all"]
     with tempfile.TemporaryDirectory() as folder, ProcessPoolExecutor() as pool:
         loaded = faults.library("no_device", folder)
-        jobs = [pool.submit(on_disk, ptab, loaded, disk, 1, whole) for disk in faults.disks()]
-        others = (*faults.damaged_disks(), *faults.more_disks())
-        jobs += [pool.submit(on_disk, ptab, loaded, disk, 1 if whole else 17, whole) for disk in others]
+        disks = [(disk, 1) for disk in faults.disks()]
+        disks += [(disk, 1 if whole else 17) for disk in (*faults.damaged_disks(), *faults.more_disks())]
+        jobs = [pool.submit(on_disk, ptab, loaded, disk, command, step, whole) for disk, step in disks for command in COMMANDS]
         done = [it for job in jobs for it in job.result()]
     print(f"no device: {sum(runs for _, runs in done)} passed, 0 failed, of {sum(calls for calls, _ in done)} calls")
 
