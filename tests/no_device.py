@@ -2,13 +2,15 @@
 """Has each call of the built command on an image fail in turn, and each on a plan's file. The answer is always `device`, status 5, and
 no call follows but the closing. After a call that only reads no byte has changed; after a write, a sync or a seek between them the image
 has the plan's writes up to there and no other, and shows the old layout or the new one, as the phase says; a repair, or the same edit
-again, then ends in a healthy image. Calls that a signal interrupts and reads and writes of one byte change nothing.
+again, then ends in a healthy image. Calls that a signal interrupts and reads and writes of one byte change nothing. An output or an
+error stream that takes nothing gives status 5, and what was done stands.
 
 usage: tests/no_device.py PTAB [all]
 Without `all` every so many calls fail on damaged disks and those of other kinds, and the rarer ways of failing come at fewer calls.
 """
 import errno
 import os
+import subprocess
 import sys
 import tempfile
 from concurrent.futures import ProcessPoolExecutor
@@ -20,7 +22,6 @@ from plans import phases_of
 ALL = 2 ** 32 - 1
 FAILS, DONE_AND_FAILS, ONE_BYTE, NOTHING = range(4)
 DEVICE = ("", "device\n", 5)
-COMMANDS = ("edit", "apply", "repair", "plan", "check", "verify", "show", "locate")
 # What can come of a call, by its letter: how it fails, and errno. The others of `MORE` come at fewer calls, but with `all`. Of a plan's
 # file a read of nothing is its end.
 FAULTS = {"s": ((FAILS, errno.EIO),), "o": ((FAILS, errno.EIO),), "l": ((FAILS, errno.EIO),), "r": ((FAILS, errno.EIO),), "c": (),
@@ -156,17 +157,42 @@ def fail_each(run, on, step, whole):
     return len(log), runs
 
 
+def full_streams(ptab, disk):
+    """How many runs were compared: each command with an output, and refusals with an error stream, that take nothing: status 5, and
+    what was done stands."""
+    name, _, image, words = disk
+    image, runs = bytes(image), 0
+    with tempfile.TemporaryDirectory(dir=faults.place()) as folder, open("/dev/full", "wb") as full:
+        it = Failing(ptab, "", folder)
+        it.put(image)
+        it.write_plan(it.run(("plan", it.path, *words))[0])
+        for command, (rest, writing) in lines(words).items():
+            line = (command, it.path, *((it.plan,) if rest is None else rest))
+            it.put(image)
+            it.run(line)
+            after = it.image()
+            it.put(image)
+            done = subprocess.run([ptab, *line], stdout=full, stderr=subprocess.PIPE, text=True)
+            if done.returncode != 5 or done.stderr not in ("", "device\n") or it.image() != after:
+                fail(f"{name}: {command} with a full output", (done.stderr, done.returncode), 5)
+            refused = subprocess.run([ptab, command, f"{folder}/missing", *line[2:]], stdout=subprocess.PIPE, stderr=full, text=True)
+            if (refused.stdout, refused.returncode) != ("", 5):
+                fail(f"{name}: {command} with full errors", (refused.stdout, refused.returncode), ("", 5))
+            runs += 2
+    return runs
+
+
 def lines(words):
-    """(command, what follows the image, the words whose plan it writes) of all eight commands."""
-    return (("show", (), ()), ("verify", (), ()), ("locate", ("1", "0"), ()), ("plan", words, ()), ("check", None, ()),
-            ("edit", words, words), ("apply", None, words), ("repair", (), ("a:1",)))
+    """Of each command what follows the image, None for the file of the words' plan, and the words whose plan it writes."""
+    return {"edit": (words, words), "apply": (None, words), "repair": ((), ("a:1",)), "plan": (words, ()), "check": (None, ()),
+            "verify": ((), ()), "show": ((), ()), "locate": (("1", "0"), ())}
 
 
 def on_disk(ptab, loaded, disk, command, step, whole):
     """The same of one command on one disk, on its image and on the file of its plan."""
     name, sectors, image, words = disk
     image, size = bytes(image), ("--sector-size", str(sectors.size))
-    rest, writing = next((rest, writing) for found, rest, writing in lines(words) if found == command)
+    rest, writing = lines(words)[command]
     with tempfile.TemporaryDirectory(dir=faults.place()) as folder:
         it = Failing(ptab, loaded, folder)
         it.put(image)
@@ -184,9 +210,10 @@ def main():
         loaded = faults.library("no_device", folder)
         disks = [(disk, 1) for disk in faults.disks()]
         disks += [(disk, 1 if whole else 17) for disk in (*faults.damaged_disks(), *faults.more_disks())]
-        jobs = [pool.submit(on_disk, ptab, loaded, disk, command, step, whole) for disk, step in disks for command in COMMANDS]
+        jobs = [pool.submit(on_disk, ptab, loaded, disk, command, step, whole) for disk, step in disks for command in lines(())]
+        streams = sum(full_streams(ptab, disk) for disk in faults.disks())
         done = [it for job in jobs for it in job.result()]
-    print(f"no device: {sum(runs for _, runs in done)} passed, 0 failed, of {sum(calls for calls, _ in done)} calls")
+    print(f"no device: {sum(runs for _, runs in done) + streams} passed, 0 failed, of {sum(calls for calls, _ in done)} calls")
 
 
 main()
