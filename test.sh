@@ -1,6 +1,11 @@
 #!/usr/bin/env bash
 # The whole gate: every proof from nothing, the edits that the prover must refuse, the tests and the programs; then the proved command
+<<<<<<< HEAD
 # on real images, beside sgdisk and sfdisk, on damaged tables, on bad input, on hostile images and under power cuts. It ends with the line of `rt ci`.
+=======
+# on real images, beside sgdisk and sfdisk, on bad input, on hostile images, under power cuts, and with memory refused and calls on the
+# image failing. It ends with the line of `rt ci`.
+>>>>>>> faults
 set -euo pipefail
 cd "$(dirname "$0")"
 export PATH="$PATH:/usr/sbin:/sbin"
@@ -18,6 +23,10 @@ python3 tests/repairs.py "$ptab"
 python3 tests/bad_input.py "$ptab"
 python3 tests/rows.py "$ptab"
 python3 tests/session.py "$ptab"
+python3 tests/rows_4096.py "$ptab"
+python3 tests/malicious.py "$ptab"
 python3 tests/power_cut.py "$ptab"
+python3 tests/no_memory.py "$ptab"
+python3 tests/no_device.py "$ptab"
 python3 tests/hostile.py "$ptab" 8000
 tail -n 1 "$said"

@@ -51,9 +51,11 @@ def tables(command):
 def faults(table):
     """(fields of a header whose sum is right, changes after the sum, the fault)"""
     size, array = table.sectors.size, table.sectors.array
-    yield from (({"size": 91}, (), 3), ({"size": size + 1}, (), 3), ({}, ((12, b"\xff" * 4),), 3), ({"my": 2}, (), 5), ({"array": 3}, (), 6),
-                ({"array": 2 ** 64 - 1}, (), 6), ({"count": 0}, (), 7), ({"count": 129}, (), 7), ({"count": 2 ** 32 - 1}, (), 7),
-                ({"entry_size": 256}, (), 7), ({"first": array + 1}, (), 8), ({"last": table.last + 1}, (), 8))
+    yield {}, ((12, b"\xff" * 4),), 3
+    for fields, number in (({"size": 91}, 3), ({"size": size + 1}, 3), ({"my": 2}, 5), ({"array": 3}, 6), ({"array": 2 ** 64 - 1}, 6),
+                           ({"count": 0}, 7), ({"count": 129}, 7), ({"count": 2 ** 32 - 1}, 7), ({"entry_size": 256}, 7),
+                           ({"first": array + 1}, 8), ({"last": table.last + 1}, 8)):
+        yield fields, (), number
 
 
 def in_the_primary(command):
@@ -138,9 +140,10 @@ def plan_texts(command):
         it, file = table.command, f"{command.path}.plan"
         damaged = table.whole()
         damaged[table.sectors.size] ^= 0xFF
-        texts = [(write_of(2 ** 64 - 1, table.sectors), "no 2 1\n", "", 1), (write_of(2 ** 64, table.sectors), "", "refused: plan text 1\n", 3),
-                 (b"\n" * (MOST + 1), "", "refused: plan text 0\n", 3), (b"\xff\n", "", "refused: plan text 0\n", 3),
-                 (write_of(1, table.sectors) + b"\xc0\x80", "", "refused: plan text 0\n", 3), (b"\0" * (MOST + 1), "", "refused: plan text 0\n", 3)]
+        texts = [(write_of(2 ** 64 - 1, table.sectors), "no 2 1\n", "", 1),
+                 (write_of(2 ** 64, table.sectors), "", "refused: plan text 1\n", 3)]
+        for text in (b"\n" * (MOST + 1), b"\0" * (MOST + 1), b"\xff\n", write_of(1, table.sectors) + b"\xc0\x80"):
+            texts.append((text, "", "refused: plan text 0\n", 3))
         for image in (table.whole(), damaged, bytes(511), table.sectors.zeros(table.count), table.sectors.mbr(table.count, [])):
             it.on(bytes(image))
             for text, out, err, status in texts:

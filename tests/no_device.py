@@ -2,13 +2,15 @@
 """Has each call of the built command on an image fail in turn, and each on a plan's file. The answer is always `device`, status 5, and
 no call follows but the closing. After a call that only reads no byte has changed; after a write, a sync or a seek between them the image
 has the plan's writes up to there and no other, and shows the old layout or the new one, as the phase says; a repair, or the same edit
-again, then ends in a healthy image. Calls that a signal interrupts and reads and writes of one byte change nothing.
+again, then ends in a healthy image. Calls that a signal interrupts and reads and writes of one byte change nothing. An output or an
+error stream that takes nothing gives status 5, and what was done stands.
 
 usage: tests/no_device.py PTAB [all]
 Without `all` every so many calls fail on damaged disks and those of other kinds, and the rarer ways of failing come at fewer calls.
 """
 import errno
 import os
+import subprocess
 import sys
 import tempfile
 from concurrent.futures import ProcessPoolExecutor
@@ -77,6 +79,16 @@ class Run:
         return answer, self.calls(), self.it.image()
 
 
+def ends_well(run, told, left, words, shows):
+    """An edit of the image that is left ends in a healthy one, which shows that layout, where one is told."""
+    it = run.it
+    it.put(left)
+    found = it.run(("edit", *run.size, it.path, *words))
+    shown, verified = run.shown(), it.run(("verify", *run.size, it.path))
+    if found != ("done\n", "", 0) or verified != ("yes\n", "", 0) or shows not in (None, shown):
+        fail(f"{told}, then edit {' '.join(words)}", (found, verified, shown), ("done, yes", shows))
+
+
 def after_a_write(run, told, left, phase):
     """The image that is left denotes the old layout or the new one; repaired, or edited again, it is healthy."""
     it = run.it
@@ -91,12 +103,10 @@ def after_a_write(run, told, left, phase):
     verified, repaired = it.run(("verify", *run.size, it.path)), it.image()
     if wanted[2] == 0 and verified != ("yes\n", "", 0) or it.run(line) != wanted or it.image() != repaired:
         fail(f"{told}, then two repairs", verified, "yes, and no change by the second")
-    if run.line[0] != "edit" or shown != run.old:
-        return
-    it.put(left)
-    found = it.run(run.line)
-    if found != run.wanted or run.shown() != run.new or it.run(("verify", *run.size, it.path))[0] != "yes\n":
-        fail(f"{told}, then the same edit", (found, run.shown()), (run.wanted, run.new))
+    if run.line[0] == "edit" and shown == run.old:
+        ends_well(run, told, left, run.line[4:], run.new)
+    if shown[0].startswith("gpt "):
+        ends_well(run, told, left, ("c:1:other",), None)
 
 
 def one_fault(run, on, log, first, last, how, error):
@@ -147,40 +157,63 @@ def fail_each(run, on, step, whole):
     return len(log), runs
 
 
+def full_streams(ptab, disk):
+    """How many runs were compared: each command with an output, and refusals with an error stream, that take nothing: status 5, and
+    what was done stands."""
+    name, _, image, words = disk
+    image, runs = bytes(image), 0
+    with tempfile.TemporaryDirectory(dir=faults.place()) as folder, open("/dev/full", "wb") as full:
+        it = Failing(ptab, "", folder)
+        it.put(image)
+        it.write_plan(it.run(("plan", it.path, *words))[0])
+        for command, (rest, writing) in lines(words).items():
+            line = (command, it.path, *((it.plan,) if rest is None else rest))
+            it.put(image)
+            it.run(line)
+            after = it.image()
+            it.put(image)
+            done = subprocess.run([ptab, *line], stdout=full, stderr=subprocess.PIPE, text=True)
+            if done.returncode != 5 or done.stderr not in ("", "device\n") or it.image() != after:
+                fail(f"{name}: {command} with a full output", (done.stderr, done.returncode), 5)
+            refused = subprocess.run([ptab, command, f"{folder}/missing", *line[2:]], stdout=subprocess.PIPE, stderr=full, text=True)
+            if (refused.stdout, refused.returncode) != ("", 5):
+                fail(f"{name}: {command} with full errors", (refused.stdout, refused.returncode), ("", 5))
+            runs += 2
+    return runs
+
+
 def lines(words):
-    """(command, what follows the image, the words whose plan it writes) of all eight commands."""
-    return (("show", (), ()), ("verify", (), ()), ("locate", ("1", "0"), ()), ("plan", words, ()), ("check", None, ()), ("edit", words, words),
-            ("apply", None, words), ("repair", (), ("a:1",)))
+    """Of each command what follows the image, None for the file of the words' plan, and the words whose plan it writes."""
+    return {"edit": (words, words), "apply": (None, words), "repair": ((), ("a:1",)), "plan": (words, ()), "check": (None, ()),
+            "verify": ((), ()), "show": ((), ()), "locate": (("1", "0"), ())}
 
 
-def on_disk(ptab, loaded, disk, step, whole):
+def on_disk(ptab, loaded, disk, command, step, whole):
+    """The same of one command on one disk, on its image and on the file of its plan."""
     name, sectors, image, words = disk
-    image, done = bytes(image), []
+    image, size = bytes(image), ("--sector-size", str(sectors.size))
+    rest, writing = lines(words)[command]
     with tempfile.TemporaryDirectory(dir=faults.place()) as folder:
         it = Failing(ptab, loaded, folder)
-        for command, rest, writing in lines(words):
-            it.put(image)
-            if rest is None:
-                it.write_plan(it.run(("plan", "--sector-size", str(sectors.size), it.path, *words))[0])
-            if command == "repair" and it.run(("show", "--sector-size", str(sectors.size), it.path))[2] != 0:
-                writing = ()
-            line = (command, "--sector-size", str(sectors.size), it.path, *((it.plan,) if rest is None else rest))
-            run = Run(it, name, sectors, image, line, writing)
-            done.append(fail_each(run, it.path, step, whole))
-            if rest is None:
-                done.append(fail_each(run, it.plan, step, whole))
-    return done
+        it.put(image)
+        if rest is None:
+            it.write_plan(it.run(("plan", *size, it.path, *words))[0])
+        if command == "repair" and it.run(("show", *size, it.path))[2] != 0:
+            writing = ()
+        run = Run(it, name, sectors, image, (command, *size, it.path, *((it.plan,) if rest is None else rest)), writing)
+        return [fail_each(run, on, step, whole) for on in ((it.path, it.plan) if rest is None else (it.path,))]
 
 
 def main():
     ptab, whole = os.path.abspath(sys.argv[1]), sys.argv[2:] == ["all"]
     with tempfile.TemporaryDirectory() as folder, ProcessPoolExecutor() as pool:
         loaded = faults.library("no_device", folder)
-        jobs = [pool.submit(on_disk, ptab, loaded, disk, 1, whole) for disk in faults.disks()]
-        others = (*faults.damaged_disks(), *faults.more_disks())
-        jobs += [pool.submit(on_disk, ptab, loaded, disk, 1 if whole else 17, whole) for disk in others]
+        disks = [(disk, 1) for disk in faults.disks()]
+        disks += [(disk, 1 if whole else 17) for disk in (*faults.damaged_disks(), *faults.more_disks())]
+        jobs = [pool.submit(on_disk, ptab, loaded, disk, command, step, whole) for disk, step in disks for command in lines(())]
+        streams = sum(full_streams(ptab, disk) for disk in faults.disks())
         done = [it for job in jobs for it in job.result()]
-    print(f"no device: {sum(runs for _, runs in done)} passed, 0 failed, of {sum(calls for calls, _ in done)} calls")
+    print(f"no device: {sum(runs for _, runs in done) + streams} passed, 0 failed, of {sum(calls for calls, _ in done)} calls")
 
 
 main()

@@ -7,7 +7,7 @@ import sys
 
 import images
 from eight import not_repaired, nothing, repaired, run_all, stands
-from images import FREEBSD, LARGE, SMALL, chained, ebr, entry, guid, label, one_partition, record
+from images import FREEBSD, LARGE, SMALL, ebr, entry, guid, label, one_partition, record
 from plans import both_copies, checks, lay, plan_of, primary_first, refused, same, turns
 
 FRESH = "--fresh 000102030405060708090a0b0c0d0e0f" + "0" * 32
@@ -55,8 +55,9 @@ def mended(command):
     """Copies and sector 0 that are damaged: what each command makes of them."""
     it = command.large()
     whole_plan = plan_of(lay(it, whole()), "c:1:data")
-    for lba, byte, finding in ((1, 0, "2 primary copy 1"), (1, 40, "2 primary copy 4"), (5, 4095, "2 primary copy 9"), (255, 0, "3 backup copy 1"),
-                               (251, 9, "3 backup copy 9"), (0, 451, "6 protective record"), (0, 510, "6 protective record")):
+    for lba, byte, finding in ((1, 0, "2 primary copy 1"), (1, 40, "2 primary copy 4"), (5, 4095, "2 primary copy 9"),
+                               (255, 0, "3 backup copy 1"), (251, 9, "3 backup copy 9"),
+                               (0, 451, "6 protective record"), (0, 510, "6 protective record")):
         image = whole()
         image[lba * 4096 + byte] ^= 0x40
         stands(it, image, [HEAD, ONE], finding, 6)
@@ -72,7 +73,10 @@ def mended(command):
     nothing(it, both, "copies 1 1")
     grown = whole() + LARGE.zeros(10)
     stands(it, grown, [HEAD.replace("256", "266"), ONE], "3 backup copy 1", 6)
-    repaired(it, grown, LARGE.gpt(266, {1: entry(6, 250)}, last=250))
+    left = bytearray(grown)
+    for lba, content in LARGE.gpt_pieces(266, {1: entry(6, 250)}, last=250).items():
+        LARGE.put(left, lba, content)
+    repaired(it, grown, left)
     nothing(it, whole()[:200 * 4096], "copies 8 1")
 
 
@@ -81,11 +85,13 @@ def reasons(command):
     it = command.large()
     it.on(whole())
     zeros, first, header = bytes(4096), bytearray(LARGE.sector(whole(), 0)), [(1, LARGE.sector(whole(), 1))]
-    for at, answer in ((0, "no 3 1"), (439, "no 3 1"), (440, "yes 0"), (445, "yes 0"), (446, "no 8 6"), (509, "no 8 6"), (512, "yes 0"), (4095, "yes 0")):
+    for at, answer in ((0, "no 3 1"), (439, "no 3 1"), (440, "yes 0"), (445, "yes 0"), (446, "no 8 6"), (509, "no 8 6"),
+                       (512, "yes 0"), (4095, "yes 0")):
         changed = bytearray(first)
         changed[at] ^= 0x80
         checks(it, [[(0, changed)]], answer)
-    for plan, answer in (([[(256, zeros)]], "no 2 1"), ([[(2 ** 64 - 1, zeros)]], "no 2 1"), ([[(1, zeros)], [(2, zeros), (256, zeros)]], "no 2 3"),
+    for plan, answer in (([[(256, zeros)]], "no 2 1"), ([[(2 ** 64 - 1, zeros)]], "no 2 1"),
+                         ([[(1, zeros)], [(2, zeros), (256, zeros)]], "no 2 3"),
                          ([[(1, zeros), (2, zeros)]], "no 4 1 1"), ([[(3, zeros), (2, zeros)]], "no 4 1 3"),
                          ([[(1, zeros)], [(255, zeros)], header], "no 5 2"), ([[(1, zeros)], header], "yes 0"),
                          ([[(100, zeros)]], "no 6 100"), ([[(0, zeros)]], "no 8 6"), ([[(255, zeros)], [(1, zeros)]], "no 8 1"),
@@ -104,27 +110,29 @@ def on_mbr(command):
     unsound = LARGE.mbr(256, [record(0x83, 6, 251)])
     stands(it, unsound, ["mbr 256", "1 6 256 83 00"], "7 outside 1", 6)
     not_repaired(it, unsound)
-    chain = chained({4096: ebr(link=record(0x05, 2047, 1001)), 6143: ebr(record(0x83, 1, 1000))}, LARGE)
-    lines = ["mbr 16384", "2 4096 12287 05 00", "5 6144 7143 83 00"]
-    stands(it, chain, lines).located("5", 999, 7143)
+    chain = LARGE.mbr(512, [bytes(16), record(0x05, 100, 400)])
+    LARGE.put(chain, 100, ebr(link=record(0x05, 50, 101)))
+    LARGE.put(chain, 150, ebr(record(0x83, 1, 100)))
+    lines = ["mbr 512", "2 100 499 05 00", "5 151 250 83 00"]
+    stands(it, chain, lines).located("5", 99, 250)
     repaired(it, chain, chain)
-    turns(it, chain, "a:1 n:5:8192:+10", "8191 | 6143", 2, [*lines, "6 8192 8201 83 00"])
-    LARGE.put(chain, 6143, ebr(record(0x83, 1, 1000), record(0x05, 0, 1)))
-    nothing(it, chain, "chain 3 6143")
+    turns(it, chain, "a:1 n:5:300:+10", "299 | 150", 2, [*lines, "6 300 309 83 00"])
+    LARGE.put(chain, 150, ebr(record(0x83, 1, 100), record(0x05, 0, 1)))
+    nothing(it, chain, "chain 3 150")
 
 
 def no_labels(command):
     """With sectors of 4096 bytes A5 and A500 are types like others, whatever stands in their second sector."""
     it = command.large()
-    for content in (label(4096, {}), label(4096, {0: (2000, 2064, 7)}, raw_offset=2048), label(4096, {}, raw_offset=2049)):
-        image = LARGE.mbr(8192, [record(0xA5, 2048, 4096)])
-        LARGE.put(image, 2049, content)
-        stands(it, image, SLICE, None, 2048).nowhere("1.a", 0)
+    for content in (label(400, {}), label(400, {0: (200, 120, 7)}, raw_offset=100), label(400, {}, raw_offset=101)):
+        image = LARGE.mbr(512, [record(0xA5, 100, 400)])
+        LARGE.put(image, 101, content)
+        stands(it, image, ["mbr 512", "1 100 499 A5 00"], None, 100).nowhere("1.a", 0)
         repaired(it, image, image)
-        for words in ("a:1 n:1.a:2064:4063", "d:1.a", "t:1.a:07", "n:1.c:0:0"):
+        for words in ("a:1 n:1.a:120:200", "d:1.a", "t:1.a:07", "n:1.c:0:0"):
             refused(it, "edit 1", words)
-        turns(it, image, "t:1:83", "0", 1, ["mbr 8192", "1 2048 6143 83 00"])
-        turns(it, None, "a:1 n:2:100:100:A5", "0", 1, ["mbr 8192", "1 2048 6143 83 00", "2 100 100 A5 00"])
+        turns(it, image, "t:1:83", "0", 1, ["mbr 512", "1 100 499 83 00"])
+        turns(it, None, "a:1 n:2:50:50:A5", "0", 1, ["mbr 512", "1 100 499 83 00", "2 50 50 A5 00"])
     gpt = LARGE.gpt(256, {1: entry(6, 250, FREEBSD)})
     LARGE.put(gpt, 7, label(245, {}, checksum=1))
     stands(it, gpt, [HEAD, ONE.replace("8300", "A500")], None, 6)

@@ -19,7 +19,7 @@ use run::run;
 use std::io::BufWriter;
 use std::process::ExitCode;
 use std::{env, io};
-use texts::Status;
+use texts::{Failure, Status};
 
 /// Runs the words after the program's name on its two output streams.
 fn on_streams(rt: &HostRuntime, words: &[String]) -> io::Result<u8> {
@@ -36,9 +36,17 @@ fn status_of(rt: &HostRuntime) -> io::Result<u8> {
     on_streams(rt, words.as_slice())
 }
 
+/// Says that memory was refused before the command line could be taken.
+fn no_memory(rt: &HostRuntime) -> ExitCode {
+    match Failure::Memory.print(&mut rt.stderr()) {
+        Ok(()) => ExitCode::from(Status::Memory.code()),
+        Err(_) => ExitCode::from(Status::Device.code()),
+    }
+}
+
 fn main(rt: HostRuntime) -> ExitCode {
     match status_of(&rt) {
         Ok(code) => ExitCode::from(code),
-        Err(_) => ExitCode::from(Status::Memory.code()),
+        Err(_) => no_memory(&rt),
     }
 }
