@@ -1,11 +1,7 @@
 #!/usr/bin/env bash
 # The whole gate: every proof from nothing, the edits that the prover must refuse, the tests and the programs; then the proved command
-<<<<<<< HEAD
-# on real images, beside sgdisk and sfdisk, on damaged tables, on bad input, on hostile images and under power cuts. It ends with the line of `rt ci`.
-=======
-# on real images, beside sgdisk and sfdisk, on bad input, on hostile images, under power cuts, and with memory refused and calls on the
-# image failing. It ends with the line of `rt ci`.
->>>>>>> faults
+# on real images, beside sgdisk and sfdisk, on damaged tables, on bad input, on hostile images, under power cuts, and with memory
+# refused and calls on the image failing. It ends with the line of `rt ci`.
 set -euo pipefail
 cd "$(dirname "$0")"
 export PATH="$PATH:/usr/sbin:/sbin"
