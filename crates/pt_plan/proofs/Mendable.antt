@@ -2,14 +2,13 @@
 use Rattle.std.proofs.Common.{◌≡◌, ℕ, List, [], Option, Some, None, refl, sym, subst}
 use Rattle.pt_sector.specs.Sectors.{Sectors, IsSectorSize}
 use Rattle.pt_sector.specs.Writes.{Writes}
-use Rattle.pt_recover.specs.Answers.{IsReason, failure_in}
+use Rattle.pt_recover.specs.Answers.{failure_in}
 use Rattle.pt_recover.specs.Denotes.{Denotes}
 use Rattle.pt_recover.specs.Laws.{denotes_one_lem}
 use Rattle.pt_recover.specs.declared.error.NoTable.{NoTable as Reason}
 use Rattle.pt_recover.specs.declared.error.NoTable.TheVariants as reason
 use Rattle.pt_recover.specs.declared.layout.Layout.{Layout}
 use Rattle.pt_layout.specs.Healthy.{Healthy, IsHealthy}
-use Rattle.pt_layout.specs.declared.finding.Finding.{Finding}
 use Rattle.pt_check.specs.Answers.{Answers, TableOf, OwnedOf}
 use Rattle.pt_check.specs.declared.answer.Answer.TheVariants.{No}
 use Rattle.pt_check.specs.declared.answer.Why.{Why}
@@ -18,14 +17,14 @@ use Rattle.pt_cases.specs.Accepted.{plan_finishes, plan_not_refused}
 use Rattle.pt_cases.specs.Cases.{IsPlan, idle, backup_first, primary_first, from_mbr, one_label, within_mbr}
 use Rattle.pt_exact.specs.Mended.{repair_is_planned_lem, mendable_by_plan_lem}
 use Rattle.pt_planner.specs.Known.{ReasonIs}
-use Rattle.pt_planner.specs.Unmendable.{IsUnmendable, IsUnmendableBy}
+use Rattle.pt_planner.specs.Unmendable.{IsUnmendableBy}
 use Rattle.pt_planner.specs.Unplanned.{Unplanned}
 use Rattle.pt_targets.specs.declared.error.PlanError.{PlanError}
 use Rattle.pt_targets.specs.declared.error.PlanError.TheVariants as plan
 use Rattle.pt_plan.specs.Batches.{IsMendPlan, IsReadyToMend, IsMendRefusal}
 use Rattle.pt_plan.specs.Mending.{repair_unplanned}
 use Rattle.pt_plan.specs.declared.repair_error.RepairError.{RepairError}
-use Rattle.pt_plan.specs.declared.repair_error.RepairError.TheVariants.{NoTable, Unsound, Device, Memory, Plan, Check}
+use Rattle.pt_plan.specs.declared.repair_error.RepairError.TheVariants.{NoTable, Check}
 
 -- of a disk that is healthy no plan for its layout has phases
 pub none_of_healthy : (b : ℕ) (d : Sectors) (o : Layout) (phases : List Writes) → Denotes b d (Some o) → IsPlan b d o phases → Healthy b d → phases ≡ []
