@@ -36,7 +36,7 @@ def gpt_by_sgdisk(ptab, path, size, count):
     for number in range(1, count + 1):
         words += ["-n", f"{number}:{2048 * number}:+1000K", "-c", f"{number}:part {number}"]
     subprocess.run([*words, path], check=True, capture_output=True)
-    subprocess.run([ptab, "edit", path, "a:2048"], check=True, capture_output=True)
+    subprocess.run([ptab, "repair", path], check=True, capture_output=True)
 
 
 def chain(path, size, count):
