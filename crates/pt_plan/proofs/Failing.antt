@@ -16,7 +16,6 @@ use Rattle.pt_check.specs.declared.answer.Answer.TheVariants.{Yes}
 use Rattle.pt_check.specs.declared.error.CheckError.{CheckError}
 use Rattle.pt_check.specs.declared.error.CheckError.TheVariants.{Device, Memory}
 use Rattle.pt_plan.specs.Failed.{commit_unchecked}
-use Rattle.pt_plan.specs.declared.error.CommitError.TheVariants as commit
 use Rattle.pt_plan.proofs.Exits.{met_read, reads_nothing}
 use Rattle.pt_plan.specs.Applied.{FailedApplying, FailsBy, ApplyFailed}
 
@@ -36,7 +35,7 @@ module _ (b : ℕ) (phases : List Writes) (old : Told) where
     pub unchecked : (e : CheckError) (before after : List Fault) → after ≡ with_fault before (fault_in e) → ReadFaults before after
         → ApplyFailed b phases old now (commit_unchecked e)
     unchecked (Device fault) before after blames came =
-        by_read fault now (met_read (commit.Device fault) before after blames came) (subst (λ (x : Told). Flushed old x) (sym same) flush)
+        by_read fault now (met_read (Some fault) before after blames came) (subst (λ (x : Told). Flushed old x) (sym same) flush)
     unchecked Memory before after blames came = subst (λ (x : Told). Flushed old x) (sym same) flush
 
     pub unapplied : (switch : ℕ) (answer : Answer) → answer ≡ Yes switch → Answers b mid.seen phases answer → Promises b mid.seen phases answer
