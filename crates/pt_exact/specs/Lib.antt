@@ -1,4 +1,8 @@
 pub mod Apart
+pub mod Both
 pub mod Differ
+pub mod Each
 pub mod Mended
 pub mod Own
+pub mod Planned
+pub mod Tables
