@@ -18,13 +18,13 @@ use Rattle.pt_exact.specs.Own.{foreign_left}
 use Rattle.pt_exact.specs.Planned.{planned_fits}
 
 -- from an MBR no labels change alone
-mbr_changes : (b : ℕ) (d : Sectors) (o : Option Layout) (p : Layout) (t : Table) (phases : List Writes) → IsFromMbr b d o p t phases → ¬ ChangesLabels o p
+pub mbr_changes : (b : ℕ) (d : Sectors) (o : Option Layout) (p : Layout) (t : Table) (phases : List Writes) → IsFromMbr b d o p t phases → ¬ ChangesLabels o p
 mbr_changes b d o p t phases is changes =
     let there : BodyIs b d (Gpt t) = subst (BodyIs b d) (changes.same ∙ is.copies.body) (subst (Denotes b d) changes.is_old is.common.from).1 in
     there.0 is.mbr
 
 -- one label changes where the labels differ
-label_changes : (b : ℕ) (d : Sectors) (o : Option Layout) (p : Layout) (t : Table) (phases : List Writes) → IsOneLabel b d o p t phases → ChangesLabels o p
+pub label_changes : (b : ℕ) (d : Sectors) (o : Option Layout) (p : Layout) (t : Table) (phases : List Writes) → IsOneLabel b d o p t phases → ChangesLabels o p
 label_changes b d o p t phases is = record {
   old = is.old;
   is_old = is.is_old;
@@ -74,7 +74,7 @@ module _ (b : ℕ) (d : Sectors) (o : Option Layout) (p : Layout) (phases : List
   both_frees (within_mbr q records chain is) cause = (let two : Gpt both.table ≡ Mbr records chain = sym both.body ∙ is.body in cc)
 
 -- where a plan has one switch, nothing speaks against it
-no_cause : (b : ℕ) (d : Sectors) (o : Option Layout) (p : Layout) (phases : List Writes) → Denotes b d o → IsPlan b d p phases → ¬ HasNoSwitch b d o p → ¬ NoSwitch b d o p
+pub no_cause : (b : ℕ) (d : Sectors) (o : Option Layout) (p : Layout) (phases : List Writes) → Denotes b d o → IsPlan b d p phases → ¬ HasNoSwitch b d o p → ¬ NoSwitch b d o p
 no_cause b d o p phases from plan none (other_disk isnt) = isnt (plan_may_be b d o p phases from plan)
 no_cause b d o p phases from plan none (misplaced isnt) = isnt (planned_fits b d o p phases from plan)
 no_cause b d o p phases from plan none (targets left is) = none is

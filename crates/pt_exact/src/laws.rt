@@ -1,12 +1,14 @@
 //! Laws of repairs. The functions do nothing: their contracts are the laws.
 
-ghost use Rattle.std.specs.Prelude.{ℕ, List, Option, Some};
+ghost use Rattle.std.specs.Prelude.{◌≡◌, ℕ, List, Option, Some};
 ghost use Rattle.pt_sector.specs.Sectors.{Sectors, IsSectorSize};
 ghost use Rattle.pt_sector.specs.Writes.{Writes};
+ghost use Rattle.pt_gpt.specs.declared.table.Table.{Table};
 ghost use Rattle.pt_recover.specs.Denotes.{Denotes};
+ghost use Rattle.pt_recover.specs.declared.layout.Body.TheVariants.{Gpt};
 ghost use Rattle.pt_recover.specs.declared.layout.Layout.{Layout};
 ghost use Rattle.pt_layout.specs.declared.finding.Finding.{Finding};
-ghost use Rattle.pt_cases.specs.Cases.{IsPlan};
+ghost use Rattle.pt_cases.specs.Cases.{ChangesLabels, IsPlan};
 ghost use Rattle.pt_cases.specs.Causes.{MayBe};
 ghost use Rattle.pt_targets.specs.Causes.{WritesBoth};
 ghost use Rattle.pt_targets.specs.declared.error.PlanError.{PlanError};
@@ -61,4 +63,12 @@ pub fn both_copies_come_with_one_switch()
 pub fn both_copies_take_free_sectors()
     ensures { (b : ℕ) (d : Sectors) (o : Option Layout) (p : Layout) (phases : List Writes) → Denotes b d o → IsPlan b d p phases
         → WritesBoth o p → NoneThere b d o p → ¬ Unplanned b d p ReusedInOneBatch }
+{}
+
+/// A plan of a GPT whose labels alone change has one switch, and no sector that would be written is owned.
+pub fn label_change_is_planned()
+    ensures one_switch { (b : ℕ) (d : Sectors) (o : Option Layout) (p : Layout) (t : Table) (phases : List Writes) → Denotes b d o
+        → IsPlan b d p phases → ChangesLabels o p → p.body ≡ Gpt t → ¬ Unplanned b d p NotOneSwitch }
+    ensures free { (b : ℕ) (d : Sectors) (o : Option Layout) (p : Layout) (t : Table) (phases : List Writes) → Denotes b d o
+        → IsPlan b d p phases → ChangesLabels o p → p.body ≡ Gpt t → ¬ Unplanned b d p ReusedInOneBatch }
 {}
