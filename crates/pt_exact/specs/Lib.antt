@@ -1,4 +1,10 @@
 pub mod Apart
+pub mod Both
+pub mod Changes
 pub mod Differ
+pub mod Each
 pub mod Mended
+pub mod OneLabel
 pub mod Own
+pub mod Planned
+pub mod Tables

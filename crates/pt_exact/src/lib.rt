@@ -3,4 +3,7 @@
 
 mod laws;
 
-pub use laws::{mendable_by_plan, repair_is_planned};
+pub use laws::{
+    both_copies_come_with_one_switch, both_copies_take_free_sectors, mendable_by_plan,
+    planned_fits_its_disk, planned_is_sound, planned_needs_no_repair, repair_is_planned,
+};
