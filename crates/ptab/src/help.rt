@@ -1,9 +1,9 @@
 //! What the command says of itself, each page within a screen of 24 lines of 80 characters.
 
 pub const ABOUT: &str = "\
-Reads, verifies and edits partition tables (GPT, MBR with extended partitions,
-BSD labels) in a disk image. A power cut during an edit leaves the old table or
-the new one.";
+Reads, verifies, edits and repairs partition tables (GPT, MBR with extended
+partitions, BSD labels) in a disk image. A power cut during an edit leaves the
+old table or the new one.";
 
 pub const STATUSES: &str = "\
 Exit status: 0 done or yes, 1 the answer is no, 2 usage or an unreadable word,
@@ -81,3 +81,30 @@ is written.
 
 Exit status: 0 done, 1 no, 2 usage, 3 not a plan, 5 a file can't be opened, read
 or written, 6 no memory. After 1, 2, 3 and 6 nothing was written.";
+
+pub const REPAIR: &str = "\
+Writes both copies of a GPT and the protective record anew, and keeps all
+partitions: it mends findings 2 to 6 of `verify`. A stop at any moment leaves
+the same partitions. On a healthy image nothing is written.
+  refused: repair 2   a finding from 7 to 11: `verify` tells it once the copies
+                      agree, and `edit` mends it
+
+Exit status: 0 done, 2 usage, 3 refused, 4 no table, 5 the image can't be
+opened, read or written, 6 no memory. After 2, 3, 4 and 6 nothing was written.";
+
+pub const SHOW_ABOUT: &str = "Prints the image's partitions, a line each";
+
+pub const VERIFY_ABOUT: &str = "Prints `yes` where the image is healthy, else what is wrong";
+
+pub const LOCATE_ABOUT: &str = "Prints where on the disk sector K of a partition is";
+
+pub const EDIT_ABOUT: &str = "Edits the table by words, as one change: all of them or none";
+
+pub const PLAN_ABOUT: &str = "Prints the plan of what `edit` would write, and writes nothing";
+
+pub const CHECK_ABOUT: &str =
+    "Answers whether a plan may be applied to the image, and writes nothing";
+
+pub const APPLY_ABOUT: &str = "Applies a plan to the image, where `check` says yes";
+
+pub const REPAIR_ABOUT: &str = "Makes the image healthy, and keeps its partitions as they are";

@@ -1,6 +1,17 @@
 //! The command line.
 
-use crate::help::{ABOUT, APPLY, CHECK, EDIT, LOCATE, PLAN, SHOW, STATUSES, VERIFY};
+ghost use Rattle.std.specs.Prelude.{◌≡◌, ◌∷◌, [], Result, true, IfOk, IfErr, codes, map, string_bytes};
+ghost use Rattle.std.specs.Borrow.{Bor};
+ghost use Rattle.clap.specs.Walk.{texts as slice_texts};
+ghost use Rattle.clap.specs.Words.{found_of, kind_of, new_app, rows_of, subcommand_rows_of};
+ghost use Rattle.ptab.specs.CommandLine as spec;
+ghost use Rattle.ptab.specs.declared.line.LineError.TheVariants.{Memory};
+ghost use Rattle.ptab.specs.Lines.{AddsRules, GivesIf, IfJob, IsArg, IsCommand, IsSizeNamed, IsSizeOrLess, Means, MeansJob, Tells, text_in, texts_in};
+
+use crate::help::{
+    ABOUT, APPLY, APPLY_ABOUT, CHECK, CHECK_ABOUT, EDIT, EDIT_ABOUT, LOCATE, LOCATE_ABOUT, PLAN,
+    PLAN_ABOUT, REPAIR, REPAIR_ABOUT, SHOW, SHOW_ABOUT, STATUSES, VERIFY, VERIFY_ABOUT,
+};
 use clap::error::ErrorKind;
 use clap::{Arg, ArgAction, ArgMatches, Command};
 use std::alloc::{AllocError, Global};
@@ -54,6 +65,9 @@ pub enum Job {
         image: String,
         file: String,
     },
+    Repair {
+        image: String,
+    },
 }
 
 /// Why a command line is no job.
@@ -67,23 +81,48 @@ pub enum LineError {
 }
 
 impl From<AllocError> for LineError {
+    ghost from_gives = { λ _ e. e ≡ Memory };
+
     fn from(_error: AllocError) -> LineError {
         LineError::Memory
     }
 }
 
-fn image<'a>(alloc: Global) -> Arg<'a> {
-    Arg::new(alloc, "IMAGE")
+/// The sizes of a sector as they are written.
+static SIZES: [&str; 2] = ["512", "4096"];
+
+fn needed<'a>(alloc: Global, id: &'a str, help: &'a str) -> Arg<'a>
+    ensures { IsArg (spec.needed id.entry.now) result }
+{
+    Arg::new(alloc, id)
         .required(true)
         .action(ArgAction::Set)
-        .help("The disk image, a plain file")
+        .help(help)
 }
 
-fn sector_size<'a>(alloc: Global) -> Arg<'a> {
+fn image<'a>(alloc: Global) -> Arg<'a>
+    ensures { IsArg (spec.needed (codes "IMAGE")) result }
+{
+    needed(alloc, "IMAGE", "The disk image, a plain file")
+}
+
+fn plan_file<'a>(alloc: Global) -> Arg<'a>
+    ensures { IsArg (spec.needed (codes "PLANFILE")) result }
+{
+    needed(
+        alloc,
+        "PLANFILE",
+        "A plan as `ptab plan` prints it, a plain file of 8 MiB at most",
+    )
+}
+
+fn sector_size<'a>(alloc: Global, sizes: &'a [&'a str]) -> Arg<'a>
+    ensures { IsArg (spec.sector_size sizes.entry) result }
+{
     Arg::new(alloc, "sector-size")
         .long("sector-size")
         .value_name("BYTES")
-        .value_parser(["512", "4096"].as_slice())
+        .value_parser(sizes)
         .default_value("512")
         .hide_default_value(true)
         .hide_possible_values(true)
@@ -91,41 +130,9 @@ fn sector_size<'a>(alloc: Global) -> Arg<'a> {
         .help("The size of a sector: 512 (the default) or 4096")
 }
 
-fn show_command<'a>(alloc: Global) -> Result<Command<'a>, AllocError> {
-    Command::new(alloc, "show")
-        .about("Prints the image's partitions, a line each")
-        .after_help(SHOW)
-        .arg(image(alloc))?
-        .arg(sector_size(alloc))
-}
-
-fn verify_command<'a>(alloc: Global) -> Result<Command<'a>, AllocError> {
-    Command::new(alloc, "verify")
-        .about("Prints `yes` where the image is healthy, else what is wrong")
-        .after_help(VERIFY)
-        .arg(image(alloc))?
-        .arg(sector_size(alloc))
-}
-
-fn locate_command<'a>(alloc: Global) -> Result<Command<'a>, AllocError> {
-    let path = Arg::new(alloc, "PATH")
-        .required(true)
-        .action(ArgAction::Set)
-        .help("A partition, as 3, 5 or 2.a");
-    let place = Arg::new(alloc, "K")
-        .required(true)
-        .action(ArgAction::Set)
-        .help("A sector of the partition, from 0 on");
-    Command::new(alloc, "locate")
-        .about("Prints where on the disk sector K of a partition is")
-        .after_help(LOCATE)
-        .arg(image(alloc))?
-        .arg(path)?
-        .arg(place)?
-        .arg(sector_size(alloc))
-}
-
-fn fresh<'a>(alloc: Global) -> Arg<'a> {
+fn fresh<'a>(alloc: Global) -> Arg<'a>
+    ensures { IsArg spec.fresh result }
+{
     Arg::new(alloc, "fresh")
         .long("fresh")
         .value_name("HEX")
@@ -133,7 +140,9 @@ fn fresh<'a>(alloc: Global) -> Arg<'a> {
         .help("Fresh GUIDs, 32 hexadecimal digits each")
 }
 
-fn words<'a>(alloc: Global) -> Arg<'a> {
+fn words<'a>(alloc: Global) -> Arg<'a>
+    ensures { IsArg spec.edit_words result }
+{
     Arg::new(alloc, "WORD")
         .required(true)
         .num_args(1..)
@@ -141,92 +150,147 @@ fn words<'a>(alloc: Global) -> Arg<'a> {
         .help("Edit words, taken in order")
 }
 
-fn edit_command<'a>(alloc: Global) -> Result<Command<'a>, AllocError> {
-    Command::new(alloc, "edit")
-        .about("Edits the table by words, as one change: all of them or none")
-        .after_help(EDIT)
-        .arg(image(alloc))?
+/// A command with its texts, and no argument yet.
+fn page<'a>(alloc: Global, name: &'a str, about: &'a str, after: &'a str) -> Command<'a>
+    ensures { IsCommand (new_app name.entry.now) result }
+{
+    Command::new(alloc, name).about(about).after_help(after)
+}
+
+fn top<'a>(alloc: Global) -> Command<'a>
+    ensures { IsCommand spec.top result }
+{
+    page(alloc, "ptab", ABOUT, STATUSES).subcommand_required(true)
+}
+
+fn on_image<'a>(
+    alloc: Global,
+    sizes: &'a [&'a str],
+    page: Command<'a>,
+) -> Result<Command<'a>, AllocError>
+    ensures { IfOk result (AddsRules (spec.image_rules sizes.entry) page.entry) }
+{
+    page.arg(image(alloc))?.arg(sector_size(alloc, sizes))
+}
+
+fn on_place<'a>(
+    alloc: Global,
+    sizes: &'a [&'a str],
+    page: Command<'a>,
+) -> Result<Command<'a>, AllocError>
+    ensures { IfOk result (AddsRules (spec.place_rules sizes.entry) page.entry) }
+{
+    page.arg(image(alloc))?
+        .arg(needed(alloc, "PATH", "A partition, as 3, 5 or 2.a"))?
+        .arg(needed(alloc, "K", "A sector of the partition, from 0 on"))?
+        .arg(sector_size(alloc, sizes))
+}
+
+fn on_words<'a>(
+    alloc: Global,
+    sizes: &'a [&'a str],
+    page: Command<'a>,
+) -> Result<Command<'a>, AllocError>
+    ensures { IfOk result (AddsRules (spec.word_rules sizes.entry) page.entry) }
+{
+    page.arg(image(alloc))?
         .arg(fresh(alloc))?
-        .arg(sector_size(alloc))?
+        .arg(sector_size(alloc, sizes))?
         .arg(words(alloc))
 }
 
-fn plan_command<'a>(alloc: Global) -> Result<Command<'a>, AllocError> {
-    Command::new(alloc, "plan")
-        .about("Prints the plan of what `edit` would write, and writes nothing")
-        .after_help(PLAN)
-        .arg(image(alloc))?
-        .arg(fresh(alloc))?
-        .arg(sector_size(alloc))?
-        .arg(words(alloc))
-}
-
-fn plan_file<'a>(alloc: Global) -> Arg<'a> {
-    Arg::new(alloc, "PLANFILE")
-        .required(true)
-        .action(ArgAction::Set)
-        .help("A plan as `ptab plan` prints it, a plain file of 8 MiB at most")
-}
-
-fn check_command<'a>(alloc: Global) -> Result<Command<'a>, AllocError> {
-    Command::new(alloc, "check")
-        .about("Answers whether a plan may be applied to the image, and writes nothing")
-        .after_help(CHECK)
-        .arg(image(alloc))?
+fn on_plan<'a>(
+    alloc: Global,
+    sizes: &'a [&'a str],
+    page: Command<'a>,
+) -> Result<Command<'a>, AllocError>
+    ensures { IfOk result (AddsRules (spec.plan_rules sizes.entry) page.entry) }
+{
+    page.arg(image(alloc))?
         .arg(plan_file(alloc))?
-        .arg(sector_size(alloc))
+        .arg(sector_size(alloc, sizes))
 }
 
-fn apply_command<'a>(alloc: Global) -> Result<Command<'a>, AllocError> {
-    Command::new(alloc, "apply")
-        .about("Applies a plan to the image, where `check` says yes")
-        .after_help(APPLY)
-        .arg(image(alloc))?
-        .arg(plan_file(alloc))?
-        .arg(sector_size(alloc))
+fn command<'a>(alloc: Global, sizes: &'a [&'a str]) -> Result<Command<'a>, AllocError>
+    ensures { IfOk result (IsCommand (spec.ptab sizes.entry)) }
+{
+    let show = page(alloc, "show", SHOW_ABOUT, SHOW);
+    let verify = page(alloc, "verify", VERIFY_ABOUT, VERIFY);
+    let locate = page(alloc, "locate", LOCATE_ABOUT, LOCATE);
+    let edit = page(alloc, "edit", EDIT_ABOUT, EDIT);
+    let plan = page(alloc, "plan", PLAN_ABOUT, PLAN);
+    let check = page(alloc, "check", CHECK_ABOUT, CHECK);
+    let apply = page(alloc, "apply", APPLY_ABOUT, APPLY);
+    let repair = page(alloc, "repair", REPAIR_ABOUT, REPAIR);
+    top(alloc)
+        .subcommand(on_image(alloc, sizes, show)?)?
+        .subcommand(on_image(alloc, sizes, verify)?)?
+        .subcommand(on_place(alloc, sizes, locate)?)?
+        .subcommand(on_words(alloc, sizes, edit)?)?
+        .subcommand(on_words(alloc, sizes, plan)?)?
+        .subcommand(on_plan(alloc, sizes, check)?)?
+        .subcommand(on_plan(alloc, sizes, apply)?)?
+        .subcommand(on_image(alloc, sizes, repair)?)
 }
 
-fn command<'a>(alloc: Global) -> Result<Command<'a>, AllocError> {
-    Command::new(alloc, "ptab")
-        .about(ABOUT)
-        .after_help(STATUSES)
-        .subcommand_required(true)
-        .subcommand(show_command(alloc)?)?
-        .subcommand(verify_command(alloc)?)?
-        .subcommand(locate_command(alloc)?)?
-        .subcommand(edit_command(alloc)?)?
-        .subcommand(plan_command(alloc)?)?
-        .subcommand(check_command(alloc)?)?
-        .subcommand(apply_command(alloc)?)
-}
-
-fn text_of(alloc: Global, matches: &ArgMatches<'_>, id: &str) -> Result<String, AllocError> {
-    String::from_str(alloc, matches.get_str(id).unwrap_or(""))
-}
-
-fn texts_of(alloc: Global, matches: &ArgMatches<'_>, id: &str) -> Result<Vec<String>, AllocError> {
-    let mut texts = Vec::new(alloc);
-    for text in matches.get_strs(id).unwrap_or(&[]) {
-        texts.push(String::from_str(alloc, text)?)?;
+fn text_of(alloc: Global, matches: &ArgMatches<'_>, id: &str) -> Result<String, AllocError>
+    ensures { IfOk result (λ text. string_bytes text ≡ text_in (rows_of (found_of matches.now)) id.now) }
+{
+    match matches.get_str(id) {
+        Some(text) => String::from_str(alloc, text),
+        None => Ok(String::new(alloc)),
     }
-    Ok(texts)
 }
 
-fn fresh_of(alloc: Global, matches: &ArgMatches<'_>) -> Result<Option<String>, AllocError> {
+fn copied(alloc: Global, texts: &[&str]) -> Result<Vec<String>, AllocError>
+    ensures { IfOk result (λ list. map string_bytes list.items ≡ slice_texts texts.now) }
+{
+    let mut list = Vec::new(alloc);
+    for text in texts {
+        list.push(String::from_str(alloc, text)?)?;
+    }
+    Ok(list)
+}
+
+fn texts_of(alloc: Global, matches: &ArgMatches<'_>, id: &str) -> Result<Vec<String>, AllocError>
+    ensures { IfOk result (λ list. map string_bytes list.items ≡ texts_in (rows_of (found_of matches.now)) id.now) }
+{
+    match matches.get_strs(id) {
+        Some(texts) => copied(alloc, texts),
+        None => Ok(Vec::new(alloc)),
+    }
+}
+
+fn fresh_of(alloc: Global, matches: &ArgMatches<'_>) -> Result<Option<String>, AllocError>
+    ensures { IfOk result (GivesIf (rows_of (found_of matches.now)) (codes "fresh")) }
+{
     match matches.get_str("fresh") {
         Some(text) => Ok(Some(String::from_str(alloc, text)?)),
         None => Ok(None),
     }
 }
 
-fn size_of(matches: &ArgMatches<'_>) -> SectorSize {
-    match matches.get_str("sector-size") {
-        Some("4096") => SectorSize::Bytes4096,
+fn size_named(text: &str) -> SectorSize
+    ensures { IsSizeNamed text.now result }
+{
+    match text {
+        "4096" => SectorSize::Bytes4096,
         _ => SectorSize::Bytes512,
     }
 }
 
-fn job_of(alloc: Global, name: &str, inner: &ArgMatches<'_>) -> Result<Job, LineError> {
+fn size_of(matches: &ArgMatches<'_>) -> SectorSize
+    ensures { IsSizeOrLess (rows_of (found_of matches.now)) result }
+{
+    match matches.get_str("sector-size") {
+        Some(text) => size_named(text),
+        None => SectorSize::Bytes512,
+    }
+}
+
+fn job_of(alloc: Global, name: &str, inner: &ArgMatches<'_>) -> Result<Job, LineError>
+    ensures { IfJob name.now (rows_of (found_of inner.now)) result }
+{
     match name {
         "show" => Ok(Job::Show {
             image: text_of(alloc, inner, "IMAGE")?,
@@ -257,11 +321,16 @@ fn job_of(alloc: Global, name: &str, inner: &ArgMatches<'_>) -> Result<Job, Line
             image: text_of(alloc, inner, "IMAGE")?,
             file: text_of(alloc, inner, "PLANFILE")?,
         }),
+        "repair" => Ok(Job::Repair {
+            image: text_of(alloc, inner, "IMAGE")?,
+        }),
         _ => Err(LineError::Usage(String::new(alloc))),
     }
 }
 
-fn line_of(alloc: Global, matches: &ArgMatches<'_>) -> Result<Line, LineError> {
+fn line_of(alloc: Global, matches: &ArgMatches<'_>) -> Result<Line, LineError>
+    ensures { MeansJob (subcommand_rows_of matches.now) result }
+{
     match matches.subcommand() {
         Some((name, inner)) => Ok(Line {
             job: job_of(alloc, name, inner)?,
@@ -271,7 +340,9 @@ fn line_of(alloc: Global, matches: &ArgMatches<'_>) -> Result<Line, LineError> {
     }
 }
 
-fn failed(alloc: Global, error: &clap::Error) -> Result<Line, LineError> {
+fn failed(alloc: Global, error: &clap::Error) -> Result<Line, LineError>
+    ensures { Tells (kind_of error.now) result }
+{
     match error.kind() {
         ErrorKind::OutOfMemory => Err(LineError::Memory),
         ErrorKind::DisplayHelp => Ok(Line {
@@ -282,21 +353,24 @@ fn failed(alloc: Global, error: &clap::Error) -> Result<Line, LineError> {
     }
 }
 
-fn with_name<'a>(alloc: Global, words: &[&'a str]) -> Result<Vec<&'a str>, AllocError> {
+fn with_name<'a>(alloc: Global, words: &[&'a str]) -> Result<Vec<&'a str>, AllocError>
+    ensures { IfOk result (λ line. slice_texts line.items ≡ codes "ptab" ∷ slice_texts words.now) }
+{
     let mut line = Vec::new(alloc);
     line.push("ptab")?;
-    for word in words {
-        line.push(*word)?;
-    }
+    line.extend_from_slice(words)?;
     Ok(line)
 }
 
 /// Reads the words after the program's name.
 ///
 /// `Usage` has `clap`'s text for words that are no command; `Memory` is want of memory.
-pub fn read_line(alloc: Global, words: &[&str]) -> Result<Line, LineError> {
+pub fn read_line(alloc: Global, words: &[&str]) -> Result<Line, LineError>
+    ensures means { Means (slice_texts words.now) result }
+{
     let line = with_name(alloc, words)?;
-    match command(alloc)?.try_get_matches_from(line.as_slice()) {
+    let command = command(alloc, SIZES.as_slice())?;
+    match command.try_get_matches_from(line.as_slice()) {
         Ok(matches) => line_of(alloc, &matches),
         Err(error) => failed(alloc, &error),
     }
