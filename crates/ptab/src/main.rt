@@ -4,8 +4,6 @@
 mod apply;
 mod check;
 mod edit;
-mod help;
-mod line;
 mod plan;
 mod plan_file;
 mod repair;

@@ -6,7 +6,7 @@ use crate::apply::apply;
 use crate::check::check;
 use crate::edit::edit;
 use pt_file::{Access, FileDisk};
-use crate::line::{Job, Line, LineError, SectorSize, read_line};
+use pt_line::{Job, Line, LineError, SectorSize, read_line};
 use crate::plan::plan;
 use crate::repair::repair;
 use crate::show::print_layout;

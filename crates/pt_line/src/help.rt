@@ -91,3 +91,20 @@ the same partitions. On a healthy image nothing is written.
 
 Exit status: 0 done, 2 usage, 3 refused, 4 no table, 5 the image can't be
 opened, read or written, 6 no memory. After 2, 3, 4 and 6 nothing was written.";
+
+pub const SHOW_ABOUT: &str = "Prints the image's partitions, a line each";
+
+pub const VERIFY_ABOUT: &str = "Prints `yes` where the image is healthy, else what is wrong";
+
+pub const LOCATE_ABOUT: &str = "Prints where on the disk sector K of a partition is";
+
+pub const EDIT_ABOUT: &str = "Edits the table by words, as one change: all of them or none";
+
+pub const PLAN_ABOUT: &str = "Prints the plan of what `edit` would write, and writes nothing";
+
+pub const CHECK_ABOUT: &str =
+    "Answers whether a plan may be applied to the image, and writes nothing";
+
+pub const APPLY_ABOUT: &str = "Applies a plan to the image, where `check` says yes";
+
+pub const REPAIR_ABOUT: &str = "Makes the image healthy, and keeps its partitions as they are";

@@ -1,0 +1,6 @@
+pub mod Commands
+pub mod Values
+pub mod Rows
+pub mod Walks
+pub mod Taken
+pub mod Asked

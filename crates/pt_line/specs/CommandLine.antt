@@ -1,0 +1,73 @@
+-- The command `ptab` as its parser has it: its subcommands and their arguments.
+use Rattle.std.specs.Prelude.{List, [], ◌∷◌, Some, true, false, codes}
+use Rattle.std.specs.Borrow.{Bor}
+use Rattle.clap.specs.Lexer.{usize_max}
+use Rattle.clap.specs.Words.{App, Rule, Shape, Text, new_rule}
+use Rattle.clap.specs.Simple.{new_shape}
+use Rattle.clap.specs.declared.builder.action.ArgAction.TheVariants.{Set, Append}
+use Rattle.clap.specs.declared.builder.value_parser.ValueParser.TheVariants.{Names}
+
+-- an argument that is required, and has one value
+abbrev pub needed : Text → Rule
+needed id = record (new_rule id) { required = true; action = Some Set }
+
+-- `--sector-size BYTES`, which has one of these texts as its value, and 512 where it isn't given
+abbrev pub sector_size : Bor (List (Bor Text)) → Rule
+sector_size sizes = record (new_rule (codes "sector-size")) {
+  long = Some (codes "sector-size");
+  value_names = 1;
+  parser = Some (Names sizes);
+  defaults = codes "512" ∷ [];
+  action = Some Set;
+}
+
+-- `--fresh HEX`
+abbrev pub fresh : Rule
+fresh = record (new_rule (codes "fresh")) {
+  long = Some (codes "fresh");
+  value_names = 1;
+  action = Some Set;
+}
+
+-- one word or more
+abbrev pub edit_words : Rule
+edit_words = record (new_rule (codes "WORD")) {
+  required = true;
+  range = Some (record { start_inclusive = 1; end_inclusive = usize_max });
+  action = Some Append;
+}
+
+-- the arguments of a command on an image alone, on a place in it, on words, and on a plan's file
+abbrev pub image_rules : Bor (List (Bor Text)) → List Rule
+image_rules sizes = needed (codes "IMAGE") ∷ sector_size sizes ∷ []
+
+abbrev pub place_rules : Bor (List (Bor Text)) → List Rule
+place_rules sizes = needed (codes "IMAGE") ∷ needed (codes "PATH") ∷ needed (codes "K") ∷ sector_size sizes ∷ []
+
+abbrev pub word_rules : Bor (List (Bor Text)) → List Rule
+word_rules sizes = needed (codes "IMAGE") ∷ fresh ∷ sector_size sizes ∷ edit_words ∷ []
+
+abbrev pub plan_rules : Bor (List (Bor Text)) → List Rule
+plan_rules sizes = needed (codes "IMAGE") ∷ needed (codes "PLANFILE") ∷ sector_size sizes ∷ []
+
+abbrev pub subcommand : Text → List Rule → Shape
+subcommand name rules = record (new_shape name) { rules = rules }
+
+-- the command but for its subcommands, of which one is required
+abbrev pub top : App
+top = record { top = record (new_shape (codes "ptab")) { subcommand_required = true }; subs = [] }
+
+-- the command, where these are the texts of the sector's sizes
+abbrev pub ptab : Bor (List (Bor Text)) → App
+ptab sizes = record {
+  top = record top.top { is_leaf = false };
+  subs = subcommand (codes "show") (image_rules sizes)
+      ∷ subcommand (codes "verify") (image_rules sizes)
+      ∷ subcommand (codes "locate") (place_rules sizes)
+      ∷ subcommand (codes "edit") (word_rules sizes)
+      ∷ subcommand (codes "plan") (word_rules sizes)
+      ∷ subcommand (codes "check") (plan_rules sizes)
+      ∷ subcommand (codes "apply") (plan_rules sizes)
+      ∷ subcommand (codes "repair") (image_rules sizes)
+      ∷ [];
+}

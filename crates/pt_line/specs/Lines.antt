@@ -1,0 +1,140 @@
+-- What a command line asks for, by `clap`'s meaning of its words at the command.
+use Rattle.std.specs.Prelude.{◌≡◌, ◌≢◌, ◌⊎◌, false, List, [], ◌∷◌, map, Option, Some, None, Result, Ok, Err, String, string_bytes, codes, unwrap_or, option_map}
+use Rattle.std.specs.Borrow.{Bor}
+use Rattle.std.specs.declared.alloc.Global.{Global}
+use Rattle.clap.specs.Walk.{texts}
+use Rattle.clap.specs.Words.{App, IsAmong, Kinds, Row, Rule, Text, all_of, app_of, fault_of, first_of, new_app, rule_of, subcommand_of}
+use Rattle.clap.specs.declared.builder.arg.Arg.{Arg}
+use Rattle.clap.specs.declared.builder.command.Command.{Command}
+use Rattle.clap.specs.declared.builder.command.Command.TheViews.{out-Command}
+use Rattle.clap.specs.declared.error.kind.ErrorKind.{ErrorKind}
+use Rattle.clap.specs.declared.error.kind.ErrorKind.TheVariants.{DisplayHelp, OutOfMemory}
+use Rattle.pt_line.specs.CommandLine.{ptab, subcommand}
+use Rattle.pt_line.specs.declared.line.Job.{Job}
+use Rattle.pt_line.specs.declared.line.Job.TheVariants as job
+use Rattle.pt_line.specs.declared.line.Line.{Line}
+use Rattle.pt_line.specs.declared.line.LineError.{LineError}
+use Rattle.pt_line.specs.declared.line.LineError.TheVariants.{Usage, Memory}
+use Rattle.pt_line.specs.declared.line.SectorSize.{SectorSize}
+use Rattle.pt_line.specs.declared.line.SectorSize.TheVariants.{Bytes512, Bytes4096}
+
+-- ---- the command
+
+pub record IsArg (r : Rule) (a : Arg) : Type 0 where
+  pub rule : rule_of a ≡ r
+  pub local : a.global ≡ false
+
+pub record IsCommand (a : App) (c : Command) : Type 0 where
+  pub app : app_of c ≡ a
+  pub local : (out-Command c).has_globals ≡ false
+
+-- a command that had no argument has these
+abbrev pub AddsRules : List Rule → Command → Command → Type 0
+AddsRules rules old new = (name : Text) → IsCommand (new_app name) old → IsCommand (record { top = subcommand name rules; subs = [] }) new
+
+-- ---- the job
+
+-- the job of the subcommand with this name: `one` says what text an argument gives, and `all` what texts
+abbrev pub IsJobBy : (Text → Text → Type 0) → (Text → List Text → Type 0) → Text → List Row → Job → Type 0
+IsJobBy one all name rows (job.Help text) = ⊥
+IsJobBy one all name rows (job.Show image) = (name ≡ codes "show") × one (codes "IMAGE") (string_bytes image)
+IsJobBy one all name rows (job.Verify image) = (name ≡ codes "verify") × one (codes "IMAGE") (string_bytes image)
+IsJobBy one all name rows (job.Locate image path place) = (name ≡ codes "locate") × one (codes "IMAGE") (string_bytes image)
+    × one (codes "PATH") (string_bytes path) × one (codes "K") (string_bytes place)
+IsJobBy one all name rows (job.Edit image fresh list) = (name ≡ codes "edit") × one (codes "IMAGE") (string_bytes image)
+    × (option_map string_bytes fresh ≡ first_of (codes "fresh") rows) × all (codes "WORD") (map string_bytes list.items)
+IsJobBy one all name rows (job.Plan image fresh list) = (name ≡ codes "plan") × one (codes "IMAGE") (string_bytes image)
+    × (option_map string_bytes fresh ≡ first_of (codes "fresh") rows) × all (codes "WORD") (map string_bytes list.items)
+IsJobBy one all name rows (job.Check image file) = (name ≡ codes "check") × one (codes "IMAGE") (string_bytes image) × one (codes "PLANFILE") (string_bytes file)
+IsJobBy one all name rows (job.Apply image file) = (name ≡ codes "apply") × one (codes "IMAGE") (string_bytes image) × one (codes "PLANFILE") (string_bytes file)
+IsJobBy one all name rows (job.Repair image) = (name ≡ codes "repair") × one (codes "IMAGE") (string_bytes image)
+
+-- its texts are the values of its arguments, which have them
+abbrev pub IsJob : Text → List Row → Job → Type 0
+IsJob name rows = IsJobBy (λ id text. first_of id rows ≡ Some text) (λ id list. all_of id rows ≡ Some list) name rows
+
+-- the same, where an argument with no value gives nothing
+abbrev pub text_in : List Row → Text → Text
+text_in rows id = unwrap_or (first_of id rows) []
+
+abbrev pub texts_in : List Row → Text → List Text
+texts_in rows id = unwrap_or (all_of id rows) []
+
+abbrev pub IsJobOrEmpty : Text → List Row → Job → Type 0
+IsJobOrEmpty name rows = IsJobBy (λ id text. text ≡ text_in rows id) (λ id list. list ≡ texts_in rows id) name rows
+
+abbrev pub GivesIf : List Row → Text → Option (String Global) → Type 0
+GivesIf rows id text = option_map string_bytes text ≡ first_of id rows
+
+-- the size is the value of its argument
+abbrev pub IsSize : List Row → SectorSize → Type 0
+IsSize rows Bytes512 = first_of (codes "sector-size") rows ≡ Some (codes "512")
+IsSize rows Bytes4096 = first_of (codes "sector-size") rows ≡ Some (codes "4096")
+
+abbrev pub IsSizeNamed : Text → SectorSize → Type 0
+IsSizeNamed text Bytes512 = text ≢ codes "4096"
+IsSizeNamed text Bytes4096 = text ≡ codes "4096"
+
+-- the same, where every other value stands for 512
+abbrev pub IsSizeOrLess : List Row → SectorSize → Type 0
+IsSizeOrLess rows Bytes512 = first_of (codes "sector-size") rows ≢ Some (codes "4096")
+IsSizeOrLess rows Bytes4096 = first_of (codes "sector-size") rows ≡ Some (codes "4096")
+
+abbrev pub IsLineOf : Option (Text × List Row) → Line → Type 0
+IsLineOf None line = ⊥
+IsLineOf (Some p) line = IsJob p.0 p.1 line.job × IsSize p.1 line.size
+
+-- no command has this name
+abbrev pub IsUnknown : Text → Type 0
+IsUnknown name = (name ≢ codes "show") × (name ≢ codes "verify") × (name ≢ codes "locate") × (name ≢ codes "edit")
+    × (name ≢ codes "plan") × (name ≢ codes "check") × (name ≢ codes "apply") × (name ≢ codes "repair")
+
+-- what the name and the values come to
+abbrev pub IfJob : Text → List Row → Result Job LineError → Type 0
+IfJob name rows (Ok job) = IsJobOrEmpty name rows job
+IfJob name rows (Err Memory) = Unit {0}
+IfJob name rows (Err (Usage text)) = IsUnknown name
+
+abbrev pub HasNoJob : Option (Text × List Row) → Type 0
+HasNoJob None = Unit {0}
+HasNoJob (Some p) = IsUnknown p.0
+
+abbrev pub IsLineOrEmpty : Option (Text × List Row) → Line → Type 0
+IsLineOrEmpty None line = ⊥
+IsLineOrEmpty (Some p) line = IsJobOrEmpty p.0 p.1 line.job × IsSizeOrLess p.1 line.size
+
+abbrev pub MeansJob : Option (Text × List Row) → Result Line LineError → Type 0
+MeansJob met (Ok line) = IsLineOrEmpty met line
+MeansJob met (Err Memory) = Unit {0}
+MeansJob met (Err (Usage text)) = HasNoJob met
+
+-- ---- what is told of `clap`'s error
+
+abbrev pub IsHelp : Job → Type 0
+IsHelp (job.Help text) = Unit {0}
+IsHelp _ = ⊥
+
+abbrev pub Tells : ErrorKind → Result Line LineError → Type 0
+Tells k (Ok line) = (k ≡ DisplayHelp) × IsHelp line.job
+Tells k (Err Memory) = Unit {0}
+Tells k (Err (Usage text)) = (k ≢ DisplayHelp) × (k ≢ OutOfMemory)
+
+-- ---- the answer
+
+-- the words are refused, by a kind of error that is no call for help
+abbrev pub IsUsage : Kinds → Type 0
+IsUsage kinds = (k : ErrorKind) × IsAmong k kinds × (k ≢ DisplayHelp) × (k ≢ OutOfMemory)
+
+-- at a command, these being all the words. A call for help gives the help's text; words without fault give the job of their
+-- subcommand, by the values of its arguments; `Usage` comes only for words with a fault. Memory may always be wanted
+abbrev pub MeansAt : App → List Text → Result Line LineError → Type 0
+MeansAt app words (Ok line) = (IsHelp line.job × IsAmong DisplayHelp (fault_of app words))
+    ⊎ ((fault_of app words ≡ []) × IsLineOf (subcommand_of app words) line)
+MeansAt app words (Err Memory) = Unit {0}
+MeansAt app words (Err (Usage text)) = IsUsage (fault_of app words)
+
+-- the command is that with the two sizes, and its words are the program's name and these. Where the texts of the sizes lie
+-- in memory is left open, and means nothing to the command
+abbrev pub Means : List Text → Result Line LineError → Type 0
+Means words result = (sizes : Bor (List (Bor Text))) × (texts sizes.now ≡ codes "512" ∷ codes "4096" ∷ [])
+    × MeansAt (ptab sizes) (codes "ptab" ∷ words) result

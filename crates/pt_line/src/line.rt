@@ -1,0 +1,377 @@
+//! The command line.
+
+ghost use Rattle.std.specs.Prelude.{◌≡◌, ◌∷◌, [], Result, true, IfOk, IfErr, codes, map, string_bytes};
+ghost use Rattle.std.specs.Borrow.{Bor};
+ghost use Rattle.clap.specs.Walk.{texts as slice_texts};
+ghost use Rattle.clap.specs.Words.{found_of, kind_of, new_app, rows_of, subcommand_rows_of};
+ghost use Rattle.pt_line.specs.CommandLine as spec;
+ghost use Rattle.pt_line.specs.declared.line.LineError.TheVariants.{Memory};
+ghost use Rattle.pt_line.specs.Lines.{AddsRules, GivesIf, IfJob, IsArg, IsCommand, IsSizeNamed, IsSizeOrLess, Means, MeansJob, Tells, text_in, texts_in};
+
+use crate::help::{
+    ABOUT, APPLY, APPLY_ABOUT, CHECK, CHECK_ABOUT, EDIT, EDIT_ABOUT, LOCATE, LOCATE_ABOUT, PLAN,
+    PLAN_ABOUT, REPAIR, REPAIR_ABOUT, SHOW, SHOW_ABOUT, STATUSES, VERIFY, VERIFY_ABOUT,
+};
+use clap::error::ErrorKind;
+use clap::{Arg, ArgAction, ArgMatches, Command};
+use std::alloc::{AllocError, Global};
+use thiserror::Error;
+
+/// How many bytes the sectors of the image have.
+#[derive(Clone, Copy, Debug, PartialEq, Eq)]
+pub enum SectorSize {
+    Bytes512,
+    Bytes4096,
+}
+
+/// A command line that was read.
+#[derive(Debug, Drop)]
+pub struct Line {
+    pub job: Job,
+    pub size: SectorSize,
+}
+
+/// What a command line asks for, with its texts as they were given.
+#[derive(Debug, Drop)]
+pub enum Job {
+    /// A help text, which is to be printed.
+    Help(String),
+    Show {
+        image: String,
+    },
+    Verify {
+        image: String,
+    },
+    Locate {
+        image: String,
+        path: String,
+        place: String,
+    },
+    Edit {
+        image: String,
+        fresh: Option<String>,
+        words: Vec<String>,
+    },
+    Plan {
+        image: String,
+        fresh: Option<String>,
+        words: Vec<String>,
+    },
+    Check {
+        image: String,
+        file: String,
+    },
+    Apply {
+        image: String,
+        file: String,
+    },
+    Repair {
+        image: String,
+    },
+}
+
+/// Why a command line is no job.
+#[derive(Debug, Drop, Error)]
+pub enum LineError {
+    /// The words are not those of a command; the text is `clap`'s.
+    #[error("{0}")]
+    Usage(String),
+    #[error("memory")]
+    Memory,
+}
+
+impl From<AllocError> for LineError {
+    ghost from_gives = { λ _ e. e ≡ Memory };
+
+    fn from(_error: AllocError) -> LineError {
+        LineError::Memory
+    }
+}
+
+/// The sizes of a sector as they are written.
+static SIZES: [&str; 2] = ["512", "4096"];
+
+fn needed<'a>(alloc: Global, id: &'a str, help: &'a str) -> Arg<'a>
+    ensures { IsArg (spec.needed id.entry.now) result }
+{
+    Arg::new(alloc, id)
+        .required(true)
+        .action(ArgAction::Set)
+        .help(help)
+}
+
+fn image<'a>(alloc: Global) -> Arg<'a>
+    ensures { IsArg (spec.needed (codes "IMAGE")) result }
+{
+    needed(alloc, "IMAGE", "The disk image, a plain file")
+}
+
+fn plan_file<'a>(alloc: Global) -> Arg<'a>
+    ensures { IsArg (spec.needed (codes "PLANFILE")) result }
+{
+    needed(
+        alloc,
+        "PLANFILE",
+        "A plan as `ptab plan` prints it, a plain file of 8 MiB at most",
+    )
+}
+
+fn sector_size<'a>(alloc: Global, sizes: &'a [&'a str]) -> Arg<'a>
+    ensures { IsArg (spec.sector_size sizes.entry) result }
+{
+    Arg::new(alloc, "sector-size")
+        .long("sector-size")
+        .value_name("BYTES")
+        .value_parser(sizes)
+        .default_value("512")
+        .hide_default_value(true)
+        .hide_possible_values(true)
+        .action(ArgAction::Set)
+        .help("The size of a sector: 512 (the default) or 4096")
+}
+
+fn fresh<'a>(alloc: Global) -> Arg<'a>
+    ensures { IsArg spec.fresh result }
+{
+    Arg::new(alloc, "fresh")
+        .long("fresh")
+        .value_name("HEX")
+        .action(ArgAction::Set)
+        .help("Fresh GUIDs, 32 hexadecimal digits each")
+}
+
+fn words<'a>(alloc: Global) -> Arg<'a>
+    ensures { IsArg spec.edit_words result }
+{
+    Arg::new(alloc, "WORD")
+        .required(true)
+        .num_args(1..)
+        .action(ArgAction::Append)
+        .help("Edit words, taken in order")
+}
+
+/// A command with its texts, and no argument yet.
+fn page<'a>(alloc: Global, name: &'a str, about: &'a str, after: &'a str) -> Command<'a>
+    ensures { IsCommand (new_app name.entry.now) result }
+{
+    Command::new(alloc, name).about(about).after_help(after)
+}
+
+fn top<'a>(alloc: Global) -> Command<'a>
+    ensures { IsCommand spec.top result }
+{
+    page(alloc, "ptab", ABOUT, STATUSES).subcommand_required(true)
+}
+
+fn on_image<'a>(
+    alloc: Global,
+    sizes: &'a [&'a str],
+    page: Command<'a>,
+) -> Result<Command<'a>, AllocError>
+    ensures { IfOk result (AddsRules (spec.image_rules sizes.entry) page.entry) }
+{
+    page.arg(image(alloc))?.arg(sector_size(alloc, sizes))
+}
+
+fn on_place<'a>(
+    alloc: Global,
+    sizes: &'a [&'a str],
+    page: Command<'a>,
+) -> Result<Command<'a>, AllocError>
+    ensures { IfOk result (AddsRules (spec.place_rules sizes.entry) page.entry) }
+{
+    page.arg(image(alloc))?
+        .arg(needed(alloc, "PATH", "A partition, as 3, 5 or 2.a"))?
+        .arg(needed(alloc, "K", "A sector of the partition, from 0 on"))?
+        .arg(sector_size(alloc, sizes))
+}
+
+fn on_words<'a>(
+    alloc: Global,
+    sizes: &'a [&'a str],
+    page: Command<'a>,
+) -> Result<Command<'a>, AllocError>
+    ensures { IfOk result (AddsRules (spec.word_rules sizes.entry) page.entry) }
+{
+    page.arg(image(alloc))?
+        .arg(fresh(alloc))?
+        .arg(sector_size(alloc, sizes))?
+        .arg(words(alloc))
+}
+
+fn on_plan<'a>(
+    alloc: Global,
+    sizes: &'a [&'a str],
+    page: Command<'a>,
+) -> Result<Command<'a>, AllocError>
+    ensures { IfOk result (AddsRules (spec.plan_rules sizes.entry) page.entry) }
+{
+    page.arg(image(alloc))?
+        .arg(plan_file(alloc))?
+        .arg(sector_size(alloc, sizes))
+}
+
+fn command<'a>(alloc: Global, sizes: &'a [&'a str]) -> Result<Command<'a>, AllocError>
+    ensures { IfOk result (IsCommand (spec.ptab sizes.entry)) }
+{
+    let show = page(alloc, "show", SHOW_ABOUT, SHOW);
+    let verify = page(alloc, "verify", VERIFY_ABOUT, VERIFY);
+    let locate = page(alloc, "locate", LOCATE_ABOUT, LOCATE);
+    let edit = page(alloc, "edit", EDIT_ABOUT, EDIT);
+    let plan = page(alloc, "plan", PLAN_ABOUT, PLAN);
+    let check = page(alloc, "check", CHECK_ABOUT, CHECK);
+    let apply = page(alloc, "apply", APPLY_ABOUT, APPLY);
+    let repair = page(alloc, "repair", REPAIR_ABOUT, REPAIR);
+    top(alloc)
+        .subcommand(on_image(alloc, sizes, show)?)?
+        .subcommand(on_image(alloc, sizes, verify)?)?
+        .subcommand(on_place(alloc, sizes, locate)?)?
+        .subcommand(on_words(alloc, sizes, edit)?)?
+        .subcommand(on_words(alloc, sizes, plan)?)?
+        .subcommand(on_plan(alloc, sizes, check)?)?
+        .subcommand(on_plan(alloc, sizes, apply)?)?
+        .subcommand(on_image(alloc, sizes, repair)?)
+}
+
+fn text_of(alloc: Global, matches: &ArgMatches<'_>, id: &str) -> Result<String, AllocError>
+    ensures { IfOk result (λ text. string_bytes text ≡ text_in (rows_of (found_of matches.now)) id.now) }
+{
+    match matches.get_str(id) {
+        Some(text) => String::from_str(alloc, text),
+        None => Ok(String::new(alloc)),
+    }
+}
+
+fn copied(alloc: Global, texts: &[&str]) -> Result<Vec<String>, AllocError>
+    ensures { IfOk result (λ list. map string_bytes list.items ≡ slice_texts texts.now) }
+{
+    let mut list = Vec::new(alloc);
+    for text in texts {
+        list.push(String::from_str(alloc, text)?)?;
+    }
+    Ok(list)
+}
+
+fn texts_of(alloc: Global, matches: &ArgMatches<'_>, id: &str) -> Result<Vec<String>, AllocError>
+    ensures { IfOk result (λ list. map string_bytes list.items ≡ texts_in (rows_of (found_of matches.now)) id.now) }
+{
+    match matches.get_strs(id) {
+        Some(texts) => copied(alloc, texts),
+        None => Ok(Vec::new(alloc)),
+    }
+}
+
+fn fresh_of(alloc: Global, matches: &ArgMatches<'_>) -> Result<Option<String>, AllocError>
+    ensures { IfOk result (GivesIf (rows_of (found_of matches.now)) (codes "fresh")) }
+{
+    match matches.get_str("fresh") {
+        Some(text) => Ok(Some(String::from_str(alloc, text)?)),
+        None => Ok(None),
+    }
+}
+
+fn size_named(text: &str) -> SectorSize
+    ensures { IsSizeNamed text.now result }
+{
+    match text {
+        "4096" => SectorSize::Bytes4096,
+        _ => SectorSize::Bytes512,
+    }
+}
+
+fn size_of(matches: &ArgMatches<'_>) -> SectorSize
+    ensures { IsSizeOrLess (rows_of (found_of matches.now)) result }
+{
+    match matches.get_str("sector-size") {
+        Some(text) => size_named(text),
+        None => SectorSize::Bytes512,
+    }
+}
+
+fn job_of(alloc: Global, name: &str, inner: &ArgMatches<'_>) -> Result<Job, LineError>
+    ensures { IfJob name.now (rows_of (found_of inner.now)) result }
+{
+    match name {
+        "show" => Ok(Job::Show {
+            image: text_of(alloc, inner, "IMAGE")?,
+        }),
+        "verify" => Ok(Job::Verify {
+            image: text_of(alloc, inner, "IMAGE")?,
+        }),
+        "locate" => Ok(Job::Locate {
+            image: text_of(alloc, inner, "IMAGE")?,
+            path: text_of(alloc, inner, "PATH")?,
+            place: text_of(alloc, inner, "K")?,
+        }),
+        "edit" => Ok(Job::Edit {
+            image: text_of(alloc, inner, "IMAGE")?,
+            fresh: fresh_of(alloc, inner)?,
+            words: texts_of(alloc, inner, "WORD")?,
+        }),
+        "plan" => Ok(Job::Plan {
+            image: text_of(alloc, inner, "IMAGE")?,
+            fresh: fresh_of(alloc, inner)?,
+            words: texts_of(alloc, inner, "WORD")?,
+        }),
+        "check" => Ok(Job::Check {
+            image: text_of(alloc, inner, "IMAGE")?,
+            file: text_of(alloc, inner, "PLANFILE")?,
+        }),
+        "apply" => Ok(Job::Apply {
+            image: text_of(alloc, inner, "IMAGE")?,
+            file: text_of(alloc, inner, "PLANFILE")?,
+        }),
+        "repair" => Ok(Job::Repair {
+            image: text_of(alloc, inner, "IMAGE")?,
+        }),
+        _ => Err(LineError::Usage(String::new(alloc))),
+    }
+}
+
+fn line_of(alloc: Global, matches: &ArgMatches<'_>) -> Result<Line, LineError>
+    ensures { MeansJob (subcommand_rows_of matches.now) result }
+{
+    match matches.subcommand() {
+        Some((name, inner)) => Ok(Line {
+            job: job_of(alloc, name, inner)?,
+            size: size_of(inner),
+        }),
+        None => Err(LineError::Usage(String::new(alloc))),
+    }
+}
+
+fn failed(alloc: Global, error: &clap::Error) -> Result<Line, LineError>
+    ensures { Tells (kind_of error.now) result }
+{
+    match error.kind() {
+        ErrorKind::OutOfMemory => Err(LineError::Memory),
+        ErrorKind::DisplayHelp => Ok(Line {
+            job: Job::Help(format!(in alloc; "{error}")?),
+            size: SectorSize::Bytes512,
+        }),
+        _ => Err(LineError::Usage(format!(in alloc; "{error}")?)),
+    }
+}
+
+fn with_name<'a>(alloc: Global, words: &[&'a str]) -> Result<Vec<&'a str>, AllocError>
+    ensures { IfOk result (λ line. slice_texts line.items ≡ codes "ptab" ∷ slice_texts words.now) }
+{
+    let mut line = Vec::new(alloc);
+    line.push("ptab")?;
+    line.extend_from_slice(words)?;
+    Ok(line)
+}
+
+/// Reads the words after the program's name.
+///
+/// `Usage` has `clap`'s text for words that are no command; `Memory` is want of memory.
+pub fn read_line(alloc: Global, words: &[&str]) -> Result<Line, LineError>
+    ensures means { Means (slice_texts words.now) result }
+{
+    let line = with_name(alloc, words)?;
+    let command = command(alloc, SIZES.as_slice())?;
+    match command.try_get_matches_from(line.as_slice()) {
+        Ok(matches) => line_of(alloc, &matches),
+        Err(error) => failed(alloc, &error),
+    }
+}
