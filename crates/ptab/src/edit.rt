@@ -2,10 +2,10 @@
 
 ghost use Rattle.pt_sector.specs.Sectors.{IsSectorSize};
 
-use pt_file::{Access, FileDisk};
 use crate::run::{Answer, printed};
 use crate::texts::Status;
 use crate::words::{edits_of, fresh_guids};
+use pt_file::{Access, FileDisk};
 use pt_plan::commit;
 use std::fs::{File, Files};
 use std::io::Write;

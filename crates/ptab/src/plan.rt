@@ -2,10 +2,10 @@
 
 ghost use Rattle.pt_sector.specs.Sectors.{IsSectorSize};
 
-use pt_file::{Access, FileDisk};
 use crate::run::{Answer, printed};
 use crate::texts::{Failure, Status};
 use crate::words::{edits_of, fresh_guids};
+use pt_file::{Access, FileDisk};
 use pt_plan::plan_for;
 use pt_text::plan_text;
 use std::fs::{File, Files};

@@ -6,9 +6,9 @@ ghost use Rattle.pt_sector.specs.Sectors.{IsSectorSize};
 ghost use Rattle.pt_apply.specs.Plans.{phases_of};
 ghost use Rattle.pt_text.specs.PlanTexts.{PlanText};
 
-use pt_file::{Access, open_plain};
 use crate::texts::Failure;
 use pt_apply::Plan;
+use pt_file::{Access, open_plain};
 use pt_text::{PlanTextError, read_plan};
 use std::alloc::Global;
 use std::fs::{File, Files};

@@ -2,9 +2,9 @@
 
 ghost use Rattle.pt_sector.specs.Sectors.{IsSectorSize};
 
-use pt_file::{Access, FileDisk};
 use crate::run::{Answer, printed};
 use crate::texts::Status;
+use pt_file::{Access, FileDisk};
 use std::fs::{File, Files};
 use std::io::Write;
 

@@ -1,8 +1,8 @@
 //! What the command answers: its texts and its exit statuses (docs/commands.md).
 
-use pt_file::NoFile;
 use crate::why::number_of;
 use pt_check::CheckError;
+use pt_file::NoFile;
 use pt_gpt::Side;
 use pt_layout::{Finding, NoTable, Path};
 use pt_mbr::ChainError;
