@@ -362,9 +362,11 @@ fn with_name<'a>(alloc: Global, words: &[&'a str]) -> Result<Vec<&'a str>, Alloc
     Ok(line)
 }
 
-/// Reads the words after the program's name.
+/// Reads the words after the program's name, as `clap` means them at the command.
 ///
-/// `Usage` has `clap`'s text for words that are no command; `Memory` is want of memory.
+/// A job is that of the subcommand which the words name, and its texts are the values of its arguments. A call for help
+/// gives `Help`. `Usage` has `clap`'s text for words that are no command, and comes for no others; `Memory` is want of
+/// memory.
 pub fn read_line(alloc: Global, words: &[&str]) -> Result<Line, LineError>
     ensures means { Means (slice_texts words.now) result }
 {
