@@ -125,7 +125,7 @@ fn grown(alloc: Global, disk: &mut MemDisk<512>) -> Result<MemDisk<512>, Fail> {
 /// The first and last usable sector of a healthy GPT disk.
 fn usable<D: Disk<512>>(alloc: Global, disk: &mut D) -> Result<Option<(u64, u64)>, Fail> {
     match verify(alloc, disk)? {
-        Verdict::Yes(layout) => match layout.body {
+        Verdict::Yes(layout) => match &layout.body {
             Body::Gpt(table) => Ok(Some((table.first, table.last))),
             Body::Mbr { .. } => Ok(None),
         },
