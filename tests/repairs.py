@@ -63,14 +63,15 @@ class Image:
 
 def accepted(it, what, lines, seen):
     """The other tools find no fault in the image, and tell its partitions; each image is asked about once. sgdisk and sfdisk take no
-    file with sectors of 4096 bytes, and parted knows no table on a disk of very few sectors."""
+    file with sectors of 4096 bytes, and parted knows no table with one usable sector."""
     digest = hashlib.sha256(it.bytes()).digest()
     if digest in seen:
         return
     seen.add(digest)
     lines = [line for line in lines if "." not in line.split(" ")[0]]
     parts = [line.split(" ", 6) for line in lines[1:]]
-    if os.path.getsize(it.path) >= 100 * it.sectors.size:
+    _, _, first, last, _ = lines[0].split(" ")
+    if first != last:
         same(f"parted, {what}", [part[:3] for part in by_parted(it.path, it.sectors.size)], [tuple(words[:3]) for words in parts])
     same(f"fdisk, {what}", by_fdisk(it.path, it.sectors.size), [lines[0], *(" ".join(words[:4] + words[5:6]) for words in parts)])
     if it.sectors is SMALL:
