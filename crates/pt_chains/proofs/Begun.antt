@@ -10,7 +10,7 @@ use Rattle.pt_cases.specs.Records.{IsEbrTarget, link_to}
 use Rattle.pt_targets.specs.Targets.{HasEbrs}
 use Rattle.pt_targets.specs.declared.target.Target.{Target}
 use Rattle.pt_chains.specs.Steps.{IsEbrOf, AreChainTargets}
-use Rattle.pt_chains.specs.Unmade.{HasUnmadeEbr}
+use Rattle.pt_targets.specs.Unmade.{HasUnmadeEbr}
 use Rattle.pt_chains.proofs.Lone.{opened}
 
 -- one of them stands where it stands

@@ -10,7 +10,7 @@ use Rattle.pt_cases.specs.Records.{IsEbrOver, IsEbrMade, IsEbrTarget, IsLinked}
 use Rattle.pt_targets.specs.Targets.{HasChain, HasEbrs, AreMbrTargets}
 use Rattle.pt_targets.specs.declared.target.Target.{Target}
 use Rattle.pt_chains.specs.Steps.{StartsAt, IsHeadOf, AreChainTargets}
-use Rattle.pt_chains.specs.Unmade.{HasUnmadeEbr, HasUnmadeIn}
+use Rattle.pt_targets.specs.Unmade.{HasUnmadeEbr, HasUnmadeIn}
 
 -- what a call gives, weakened
 pub some_weaker : {T E : Type 0} (r : Result (Option T) E) (P Q : T → Type 0) → ((x : T) → P x → Q x) → IfOk r (λ o. IfSome o P) → IfOk r (λ o. IfSome o Q)

@@ -11,7 +11,7 @@ ghost use Rattle.pt_cases.specs.Records.{IsHeadTarget, IsEbrTarget, IsLinked, li
 ghost use Rattle.pt_targets.specs.Targets.{AreMbrTargets};
 ghost use Rattle.pt_targets.specs.declared.target.Target.{Target};
 ghost use Rattle.pt_chains.specs.Steps.{IsHeadOf, IsEbrOf, AreChainTargets};
-ghost use Rattle.pt_chains.specs.Unmade.{HasUnmade, HasUnmadeEbr};
+ghost use Rattle.pt_targets.specs.Unmade.{HasUnmade, HasUnmadeEbr};
 
 use crate::ebrs::{ebr_made, ebr_over};
 use crate::extended::extended_first;

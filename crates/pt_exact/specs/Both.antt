@@ -31,22 +31,9 @@ use Rattle.pt_cases.specs.Targets.{Had, IsEncoded, IsLabelSet, stood, set, there
 use Rattle.pt_targets.specs.Causes.{IsLabelled, IsNewLabel, IsOtherLabel, WouldPrecede, ToWrite, TargetsIn, TargetsOf, IsReused, HasNoTurn, HasNoCopies, SharesSector}
 use Rattle.pt_targets.specs.Causes as cause
 use Rattle.pt_targets.specs.declared.target.Target.{Target}
-use Rattle.pt_planner.specs.Unplanned.{HasNoSwitch, unreadable, unmade, turn, copies}
+use Rattle.pt_targets.specs.Unplanned.{HasNoSwitch, unreadable, unmade, turn, copies}
 use Rattle.pt_exact.specs.Each.{one_each}
 use Rattle.pt_exact.specs.Planned.{labels_readable}
-
--- sector s is the place of a label of p that o has not, and it stands there already: recovery of d reads it
-pub record IsReadThere (b : ℕ) (d : Sectors) (o : Option Layout) (p : Layout) (s : ℕ) : Type 0 where
-  pub slice : Slice
-  pub label : Label
-  pub labelled : IsLabelled b p s slice label
-  pub none : (m : Label) → ¬ Had b d o s m
-  pub reads : Reads b d s
-  pub encoded : IsEncoded label slice (replicate b 0) (sector d s)
-
--- no label of p does
-abbrev pub NoneThere : ℕ → Sectors → Option Layout → Layout → Type 0
-NoneThere b d o p = (s : ℕ) → ¬ IsReadThere b d o p s
 
 array_put : (b : ℕ) (es : List (Option Entry)) (at k j : ℕ) → j < k → Puts (array_writes b es at k) (at + j) (array_sector b es j)
 array_put b es at zero j lt = absurd (omega (arith, lt))
@@ -82,8 +69,8 @@ primary_any b n t header more s some lt = ⊎_elim
     (it.0, puts_right (one_write 1 header) (array_phase b n t Primary ++ more) s it.0 (puts_left (array_phase b n t Primary) more s it.0 it.1)))
     (cases_lt s 2)
 
--- a plan that writes both copies, on a disk where no new label is read already
-module _ (b : ℕ) (d : Sectors) (o : Option Layout) (p : Layout) (t : Table) (sound : Sound b p) (made : Copies b d o p t) (not_labels : ¬ ChangesLabels o p) (clear : NoneThere b d o p) where
+-- a plan that writes both copies
+module _ (b : ℕ) (d : Sectors) (o : Option Layout) (p : Layout) (t : Table) (sound : Sound b p) (made : Copies b d o p t) (not_labels : ¬ ChangesLabels o p) where
   four : HasFour p.body
   four = subst HasFour (sym made.body) tt
 
@@ -95,7 +82,7 @@ module _ (b : ℕ) (d : Sectors) (o : Option Layout) (p : Layout) (t : Table) (s
   no_shares (ts, inr is, two) = one_each b d o p t sound made.body ts is.1 two
 
   no_turn : ¬ HasNoTurn b d o p
-  no_turn (inl (ts, is, none)) = no_targets ts is
+  no_turn (inl (ts, is, free, none)) = no_targets ts is
   no_turn (inr shares) = no_shares shares
 
   no_other : (s : ℕ) → ¬ IsOtherLabel b d o p s
@@ -108,28 +95,20 @@ module _ (b : ℕ) (d : Sectors) (o : Option Layout) (p : Layout) (t : Table) (s
       by_set : IsLabelSet b d o made.labels is.slice is.label → (v : List ℕ) × Puts made.labels s v
       by_set (stood had reads never) = absurd (is.none is.label (subst (λ (k : ℕ). Had b d o k is.label) is.labelled.place had))
       by_set (set v none encoded unread puts) = (v, subst (λ (k : ℕ). Puts made.labels k v) is.labelled.place puts)
-      by_set (there none encoded reads never) = absurd (clear s (record {
-        slice = is.slice;
-        label = is.label;
-        labelled = is.labelled;
-        none = is.none;
-        reads = subst (Reads b d) is.labelled.place reads;
-        encoded = subst (λ (k : ℕ). IsEncoded is.label is.slice (replicate b 0) (sector d k)) is.labelled.place encoded;
-      }))
+      by_set (there none encoded reads never) = absurd (is.unread (
+        subst (Reads b d) is.labelled.place reads,
+        subst (λ (k : ℕ). IsEncoded is.label is.slice (replicate b 0) (sector d k)) is.labelled.place encoded,
+      ))
 
   would : (s : ℕ) → cause.WouldWrite b d o p s → reused.WouldWrite b d o p s
   would s (cause.copy some table) = of_copy some table
   would s (cause.head first why) = of_head first why
   would s (cause.new is) = of_label is.slice is.label is.labelled.stands is.labelled.wanted is.labelled.place
       (λ m had. is.none m (subst (λ (k : ℕ). Had b d o k m) is.labelled.place had))
-      (λ both. clear s (record {
-        slice = is.slice;
-        label = is.label;
-        labelled = is.labelled;
-        none = is.none;
-        reads = subst (Reads b d) is.labelled.place both.0;
-        encoded = subst (λ (k : ℕ). IsEncoded is.label is.slice (replicate b 0) (sector d k)) is.labelled.place both.1;
-      }))
+      (λ both. is.unread (
+        subst (Reads b d) is.labelled.place both.0,
+        subst (λ (k : ℕ). IsEncoded is.label is.slice (replicate b 0) (sector d k)) is.labelled.place both.1,
+      ))
   would s (cause.other is) = absurd (no_other s is)
 
   no_reused : ((s : ℕ) → reused.WouldWrite b d o p s → ¬ OwnedOf b o s) → ¬ IsReused b d o p
@@ -137,9 +116,8 @@ module _ (b : ℕ) (d : Sectors) (o : Option Layout) (p : Layout) (t : Table) (s
   no_reused free (s, cause.target ts x is change at, owned) = no_targets ts is
 
   no_copies : ((s : ℕ) → WouldPrecede b d o p s → ¬ IsGuarded b d s) → ¬ HasNoCopies b d o p
-  no_copies quiet (inl (s, both, other)) = no_other s other
-  no_copies quiet (inr (inl (s, both, before, guarded))) = quiet s before guarded
-  no_copies quiet (inr (inr shares)) = no_shares shares
+  no_copies quiet (inl is) = ⊎_elim (λ other. no_other is.place other) (λ before. quiet is.place before.0 before.1) is.amiss
+  no_copies quiet (inr shares) = no_shares shares
 
   no_switch : ((s : ℕ) → WouldPrecede b d o p s → ¬ IsGuarded b d s) → ¬ HasNoSwitch b d o p
   no_switch quiet (unreadable is) = labels_readable b d o p (record { writes = made.labels; four = four; met = labels_set_met b d o p made.labels made.writes }) is
@@ -147,7 +125,7 @@ module _ (b : ℕ) (d : Sectors) (o : Option Layout) (p : Layout) (t : Table) (s
   no_switch quiet (turn is) = no_turn is
   no_switch quiet (copies is) = no_copies quiet is
 
-module _ (b : ℕ) (d : Sectors) (o : Option Layout) (p : Layout) (t : Table) (phases : List Writes) (clear : NoneThere b d o p) where
+module _ (b : ℕ) (d : Sectors) (o : Option Layout) (p : Layout) (t : Table) (phases : List Writes) where
   backup_quiet : IsBackupFirst b d o p t phases → (s : ℕ) → WouldPrecede b d o p s → ¬ IsGuarded b d s
   backup_quiet is s (cause.backup plain has ge lt) =
       let room = is.copies.fits.room in
@@ -156,7 +134,7 @@ module _ (b : ℕ) (d : Sectors) (o : Option Layout) (p : Layout) (t : Table) (p
   backup_quiet is s (cause.primary plain none some lt) = absurd (none is.has_primary)
   backup_quiet is s (cause.both mbr some table) = absurd (is.plain mbr)
   backup_quiet is s (cause.new label) =
-      let it = new_put b d o p t is.common.sound is.copies is.other clear s label in
+      let it = new_put b d o p t is.common.sound is.copies is.other s label in
       is.unguarded s it.0 (puts_left is.copies.labels (backup_phase b (length d) t is.copies.backup) s it.0 it.1)
 
   primary_quiet : IsPrimaryFirst b d o p t phases → (s : ℕ) → WouldPrecede b d o p s → ¬ IsGuarded b d s
@@ -166,7 +144,7 @@ module _ (b : ℕ) (d : Sectors) (o : Option Layout) (p : Layout) (t : Table) (p
       is.unguarded s it.0 it.1
   primary_quiet is s (cause.both mbr some table) = absurd (is.plain mbr)
   primary_quiet is s (cause.new label) =
-      let it = new_put b d o p t is.common.sound is.copies is.other clear s label in
+      let it = new_put b d o p t is.common.sound is.copies is.other s label in
       is.unguarded s it.0 (puts_right (closing b) (primary_and_labels b (length d) t is.copies.labels) s it.0 (puts_right (array_phase b (length d) t Primary) is.copies.labels s it.0 it.1))
 
   in_mbr : (is : IsFromMbr b d o p t phases) (s : ℕ) (v : List ℕ) → Puts (is.copies.labels ++ backup_phase b (length d) t is.copies.backup) s v → Puts (copies_and_labels b (length d) t is.copies.primary is.copies.backup is.copies.labels) s v
@@ -185,25 +163,25 @@ module _ (b : ℕ) (d : Sectors) (o : Option Layout) (p : Layout) (t : Table) (p
       let it = backup_any b (length d) t is.copies.backup s (omega (arith, room)) high.0 high.1 in
       is.unguarded s it.0 (in_mbr is s it.0 (puts_right is.copies.labels (backup_phase b (length d) t is.copies.backup) s it.0 it.1))
   mbr_quiet is not_labels s (cause.new label) =
-      let it = new_put b d o p t is.common.sound is.copies not_labels clear s label in
+      let it = new_put b d o p t is.common.sound is.copies not_labels s label in
       is.unguarded s it.0 (in_mbr is s it.0 (puts_left is.copies.labels (backup_phase b (length d) t is.copies.backup) s it.0 it.1))
 
   -- so nothing keeps such a plan from having one switch
   pub backup_first_switch : IsBackupFirst b d o p t phases → ¬ HasNoSwitch b d o p
-  backup_first_switch is = no_switch b d o p t is.common.sound is.copies is.other clear (backup_quiet is)
+  backup_first_switch is = no_switch b d o p t is.common.sound is.copies is.other (backup_quiet is)
 
   pub primary_first_switch : IsPrimaryFirst b d o p t phases → ¬ HasNoSwitch b d o p
-  primary_first_switch is = no_switch b d o p t is.common.sound is.copies is.other clear (primary_quiet is)
+  primary_first_switch is = no_switch b d o p t is.common.sound is.copies is.other (primary_quiet is)
 
   pub from_mbr_switch : IsFromMbr b d o p t phases → ¬ ChangesLabels o p → ¬ HasNoSwitch b d o p
-  from_mbr_switch is not_labels = no_switch b d o p t is.common.sound is.copies not_labels clear (mbr_quiet is not_labels)
+  from_mbr_switch is not_labels = no_switch b d o p t is.common.sound is.copies not_labels (mbr_quiet is not_labels)
 
   -- and nothing that it would write is owned
   pub backup_first_frees : IsBackupFirst b d o p t phases → ¬ IsReused b d o p
-  backup_first_frees is = no_reused b d o p t is.common.sound is.copies is.other clear (λ s it. backup_first_would_free b d o p t phases s is it)
+  backup_first_frees is = no_reused b d o p t is.common.sound is.copies is.other (λ s it. backup_first_would_free b d o p t phases s is it)
 
   pub primary_first_frees : IsPrimaryFirst b d o p t phases → ¬ IsReused b d o p
-  primary_first_frees is = no_reused b d o p t is.common.sound is.copies is.other clear (λ s it. primary_first_would_free b d o p t phases s is it)
+  primary_first_frees is = no_reused b d o p t is.common.sound is.copies is.other (λ s it. primary_first_would_free b d o p t phases s is it)
 
   pub from_mbr_frees : IsFromMbr b d o p t phases → ¬ ChangesLabels o p → ¬ IsReused b d o p
-  from_mbr_frees is not_labels = no_reused b d o p t is.common.sound is.copies not_labels clear (λ s it. from_mbr_would_free b d o p t phases s is it)
+  from_mbr_frees is not_labels = no_reused b d o p t is.common.sound is.copies not_labels (λ s it. from_mbr_would_free b d o p t phases s is it)

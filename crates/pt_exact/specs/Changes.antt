@@ -11,7 +11,7 @@ use Rattle.pt_layout.specs.Healthy.{IsHealthy}
 use Rattle.pt_cases.specs.Cases.{IsPlan, idle, backup_first, primary_first, from_mbr, one_label, within_mbr, ChangesLabels}
 use Rattle.pt_targets.specs.Causes.{IsReused}
 use Rattle.pt_targets.specs.declared.error.PlanError.TheVariants.{NotOneSwitch, ReusedInOneBatch}
-use Rattle.pt_planner.specs.Unplanned.{NoSwitch, HasNoSwitch, Unplanned}
+use Rattle.pt_targets.specs.Unplanned.{NoSwitch, HasNoSwitch, Unplanned}
 use Rattle.pt_exact.specs.OneLabel.{label_switch, label_frees}
 use Rattle.pt_exact.specs.Tables.{mbr_changes, no_cause}
 

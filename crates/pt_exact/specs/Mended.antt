@@ -32,9 +32,9 @@ use Rattle.pt_targets.specs.Causes as cause
 use Rattle.pt_targets.specs.declared.error.PlanError.{PlanError}
 use Rattle.pt_targets.specs.declared.error.PlanError.TheVariants.{NotOneSwitch, ReusedInOneBatch, NeedsRepair, Unsound, Device, Memory}
 use Rattle.pt_targets.specs.declared.target.Target.{Target}
-use Rattle.pt_places.specs.Answers.{IsFirstLeft, NoneLeft}
-use Rattle.pt_planner.specs.Unmendable.{IsUnmendable, IsUnmendableBy}
-use Rattle.pt_planner.specs.Unplanned.{NoSwitch, other_disk, misplaced, targets, HasNoSwitch, unreadable, unmade, turn, copies, Stops, Unplanned}
+use Rattle.pt_targets.specs.Misfits.{IsFirstLeft, NoneLeft}
+use Rattle.pt_targets.specs.Unmendable.{IsUnmendable, IsUnmendableBy}
+use Rattle.pt_targets.specs.Unplanned.{NoSwitch, other_disk, misplaced, targets, HasNoSwitch, unreadable, unmade, turn, copies, Stops, Unplanned}
 use Rattle.pt_exact.specs.Each.{one_each}
 use Rattle.pt_exact.specs.Own.{own_may_be, own_fit, own_readable, own_not_new, own_not_other, own_stays, foreign_left, left_foreign}
 
@@ -66,7 +66,7 @@ module _ (b : ℕ) (d : Sectors) (o : Layout) (t : Table) (from : Denotes b d (S
   own_shares (ts, inr is, two) = one_each b d (Some o) o t sound body ts is.1 two
 
   own_turn : ¬ HasNoTurn b d (Some o) o
-  own_turn (inl (ts, is, none)) = own_targets ts is
+  own_turn (inl (ts, is, free, none)) = own_targets ts is
   own_turn (inr shares) = own_shares shares
 
   precedes : (s : ℕ) → WouldPrecede b d (Some o) o s → ¬ IsGuarded b d s
@@ -76,9 +76,8 @@ module _ (b : ℕ) (d : Sectors) (o : Layout) (t : Table) (from : Denotes b d (S
   precedes s (cause.new label) = absurd (own_not_new b d o from s label)
 
   own_copies : ¬ HasNoCopies b d (Some o) o
-  own_copies (inl (s, both, other)) = own_not_other b d o from s other
-  own_copies (inr (inl (s, both, before, guarded))) = precedes s before guarded
-  own_copies (inr (inr shares)) = own_shares shares
+  own_copies (inl is) = ⊎_elim (λ other. own_not_other b d o from is.place other) (λ before. precedes is.place before.0 before.1) is.amiss
+  own_copies (inr shares) = own_shares shares
 
   writes : (s : ℕ) → WouldWrite b d (Some o) o s → ¬ OwnedOf b (Some o) s
   writes s (copy some table) = table_free s table
@@ -158,7 +157,7 @@ repair_is_planned_lem b d o ReusedInOneBatch size from is =
     reuses b d o from is.sound is.not_done why.0 o.body refl why.1
 repair_is_planned_lem b d o NeedsRepair size from is =
     let why = stopped b d o (λ x. NoneLeft b d o × IsUnmended b d x o) from is in
-    own_stays o why.1.0
+    own_stays o why.1.changes
 repair_is_planned_lem b d o (Device fault) size from is = tt
 repair_is_planned_lem b d o Memory size from is = tt
 

@@ -29,7 +29,7 @@ use Rattle.pt_targets.specs.Causes.{TargetsIn, TargetsOf, IsReused, HasNoTurn, S
 use Rattle.pt_targets.specs.Causes as cause
 use Rattle.pt_targets.specs.Targets.{AreLabelTargets, HasTwoOfOne, IsChange, IsPlaceTarget, Targeted, sector_of}
 use Rattle.pt_targets.specs.declared.target.Target.{Target}
-use Rattle.pt_planner.specs.Unplanned.{HasNoSwitch, unreadable, unmade, turn, copies}
+use Rattle.pt_targets.specs.Unplanned.{HasNoSwitch, unreadable, unmade, turn, copies}
 use Rattle.pt_exact.specs.Each.{one_each}
 use Rattle.pt_exact.specs.Planned.{labels_readable}
 use Rattle.pt_exact.specs.Tables.{label_changes}
@@ -119,12 +119,12 @@ module _ (b : ℕ) (d : Sectors) (o : Option Layout) (p : Layout) (t : Table) (p
   unheld : (w : Slice) (l : Label) (x : Target b) → IsPlaceTarget d o w (Some l) x → x.bytes ≢ x.under → ¬ Had b d o (place_of w) l
   unheld w l x (inl (kind, had, reads, same)) diff h = diff same
   unheld w l x (inr (inl (kind, (m, had, other), encoded))) diff h = other (had_one b d o (place_of w) m l had h)
-  unheld w l x (inr (inr (kind, none, encoded))) diff h = none l h
+  unheld w l x (inr (inr (kind, none, encoded, unique))) diff h = none l h
 
   differs : (w : Slice) (l : Label) (x : Target b) → Contains (places_of b p.sectors p.body) w → x.under ≡ sector d (place_of w) → ¬ Had b d o (place_of w) l → IsPlaceTarget d o w (Some l) x → x.bytes ≢ x.under
   differs w l x stands under none (inl (kind, had, reads, same)) alike = none had
   differs w l x stands under none (inr (inl (kind, it, encoded))) alike = none (labels_had w l stands (subst (LabelBytes l w.first w.len) (alike ∙ under) encoded.reads))
-  differs w l x stands under none (inr (inr (kind, it, encoded))) alike = none (labels_had w l stands (subst (LabelBytes l w.first w.len) (alike ∙ under) encoded.reads))
+  differs w l x stands under none (inr (inr (kind, it, encoded, unique))) alike = none (labels_had w l stands (subst (LabelBytes l w.first w.len) (alike ∙ under) encoded.reads))
 
   -- and so is what the plan writes
   met_put : (w : Slice) (l : Label) → Contains (places_of b p.sectors p.body) w → ¬ Had b d o (place_of w) l → Met b d o (one_write is.loud.0 is.loud.1) w (Some l) → place_of w ≡ is.loud.0
@@ -180,8 +180,8 @@ module _ (b : ℕ) (d : Sectors) (o : Option Layout) (p : Layout) (t : Table) (p
   label_shares (ts, inr x, two) = x.0.other (label_changes b d o p t phases is)
 
   label_turn : ¬ HasNoTurn b d o p
-  label_turn (inl (ts, x, inl none)) = (let it = loud_change ts (label_targets ts x) in none it.0 it.1 (subst (IsGuarded b d) (sym it.2) guarded))
-  label_turn (inl (ts, x, inr (u, v, first, second, g, h, less))) =
+  label_turn (inl (ts, x, free, inl none)) = (let it = loud_change ts (label_targets ts x) in none it.0 it.1 (subst (IsGuarded b d) (sym it.2) guarded))
+  label_turn (inl (ts, x, free, inr (u, v, first, second, g, h, less))) =
       let are = label_targets ts x in
       omega (arith, less, change_at ts u are first, change_at ts v are second)
   label_turn (inr shares) = label_shares shares
@@ -190,9 +190,8 @@ module _ (b : ℕ) (d : Sectors) (o : Option Layout) (p : Layout) (t : Table) (p
   label_switch (unreadable x) = labels_readable b d o p (record { writes = one_write is.loud.0 is.loud.1; four = subst HasFour (sym is.body) tt; met = is.met }) x
   label_switch (unmade records chain x was none) = (let two : Gpt t ≡ Mbr records chain = sym is.body ∙ x in cc)
   label_switch (turn x) = label_turn x
-  label_switch (copies (inl (s, both, x))) = both.other (label_changes b d o p t phases is)
-  label_switch (copies (inr (inl (s, both, before, held)))) = both.other (label_changes b d o p t phases is)
-  label_switch (copies (inr (inr shares))) = label_shares shares
+  label_switch (copies (inl x)) = x.both.other (label_changes b d o p t phases is)
+  label_switch (copies (inr shares)) = label_shares shares
 
   pub label_frees : ¬ IsReused b d o p
   label_frees (s, cause.both both x, owned) = both.other (label_changes b d o p t phases is)

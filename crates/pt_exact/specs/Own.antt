@@ -17,7 +17,7 @@ use Rattle.pt_cases.specs.Causes.{MayBe, IsLeft, There, are_along, there_may, ha
 use Rattle.pt_cases.specs.Numbers.{along_at, along_without, places_rise}
 use Rattle.pt_cases.specs.Targets.{Along, Had, kept}
 use Rattle.pt_targets.specs.Causes.{IsNewLabel, IsOtherLabel}
-use Rattle.pt_places.specs.Answers.{LabelsFit, HasUnreadable}
+use Rattle.pt_targets.specs.Misfits.{LabelsFit, HasUnreadable}
 
 four_there : (b : ℕ) (d : Sectors) (y : Body) → BodyIs b d y → HasFour y
 four_there b d (Mbr records chain) is = is.0.1.four

@@ -18,8 +18,8 @@ use Rattle.pt_cases.specs.Met.{labels_set_met}
 use Rattle.pt_cases.specs.Numbers.{along_at, places_rise}
 use Rattle.pt_cases.specs.Targets.{Met, LabelsMet}
 use Rattle.pt_targets.specs.declared.error.PlanError.TheVariants.{NeedsRepair, Unsound}
-use Rattle.pt_places.specs.Answers.{LabelsFit, HasUnreadable}
-use Rattle.pt_planner.specs.Unplanned.{Unplanned}
+use Rattle.pt_targets.specs.Misfits.{LabelsFit, HasUnreadable}
+use Rattle.pt_targets.specs.Unplanned.{Unplanned}
 use Rattle.pt_exact.specs.Own.{along_all, own_fit, own_readable}
 
 -- where there is a plan nothing is unsound, and no foreign label would remain
@@ -31,7 +31,7 @@ planned_is_sound b d p phases f plan (inr foreign) = plan_none_left b d p phases
 pub planned_needs_no_repair : (b : ℕ) (d : Sectors) (p : Layout) (phases : List Writes) → IsPlan b d p phases → ¬ Unplanned b d p NeedsRepair
 planned_needs_no_repair b d p phases plan is =
     let why = is.cause.1 in
-    plan_of_whole b d is.old p phases why.1 is.from why.0 why.2 plan
+    plan_of_whole b d is.old p phases why.finding is.from why.changes why.broken plan
 
 -- how a plan's labels come out on a disk that denotes o
 pub record MeetsLabels (b : ℕ) (d : Sectors) (o : Option Layout) (p : Layout) : Type 0 where

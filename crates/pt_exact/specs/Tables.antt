@@ -12,8 +12,8 @@ use Rattle.pt_cases.specs.Cases.{IsPlan, idle, backup_first, primary_first, from
 use Rattle.pt_cases.specs.Causes.{plan_may_be, plan_none_left}
 use Rattle.pt_targets.specs.Causes.{WritesBoth, IsReused}
 use Rattle.pt_targets.specs.declared.error.PlanError.TheVariants.{NotOneSwitch, ReusedInOneBatch}
-use Rattle.pt_planner.specs.Unplanned.{NoSwitch, other_disk, misplaced, targets, HasNoSwitch, Unplanned}
-use Rattle.pt_exact.specs.Both.{NoneThere, backup_first_switch, primary_first_switch, from_mbr_switch, backup_first_frees, primary_first_frees, from_mbr_frees}
+use Rattle.pt_targets.specs.Unplanned.{NoSwitch, other_disk, misplaced, targets, HasNoSwitch, Unplanned}
+use Rattle.pt_exact.specs.Both.{backup_first_switch, primary_first_switch, from_mbr_switch, backup_first_frees, primary_first_frees, from_mbr_frees}
 use Rattle.pt_exact.specs.Own.{foreign_left}
 use Rattle.pt_exact.specs.Planned.{planned_fits}
 
@@ -48,15 +48,15 @@ label_changes b d o p t phases is = record {
       }
 
 -- what writes both copies and has a plan
-module _ (b : ℕ) (d : Sectors) (o : Option Layout) (p : Layout) (phases : List Writes) (from : Denotes b d o) (not_done : ¬ IsHealthy b d p) (both : WritesBoth o p) (clear : NoneThere b d o p) where
+module _ (b : ℕ) (d : Sectors) (o : Option Layout) (p : Layout) (phases : List Writes) (from : Denotes b d o) (not_done : ¬ IsHealthy b d p) (both : WritesBoth o p) where
   both_switch : IsPlan b d p phases → ¬ HasNoSwitch b d o p
   both_switch (idle healthy none) cause = not_done healthy
   both_switch (backup_first q t is) cause = (let same = denotes_one_lem b d o q from is.common.from in
-      backup_first_switch b d q p t phases (subst (λ (x : Option Layout). NoneThere b d x p) same clear) is (subst (λ (x : Option Layout). HasNoSwitch b d x p) same cause))
+      backup_first_switch b d q p t phases is (subst (λ (x : Option Layout). HasNoSwitch b d x p) same cause))
   both_switch (primary_first q t is) cause = (let same = denotes_one_lem b d o q from is.common.from in
-      primary_first_switch b d q p t phases (subst (λ (x : Option Layout). NoneThere b d x p) same clear) is (subst (λ (x : Option Layout). HasNoSwitch b d x p) same cause))
+      primary_first_switch b d q p t phases is (subst (λ (x : Option Layout). HasNoSwitch b d x p) same cause))
   both_switch (from_mbr q t is) cause = (let same = denotes_one_lem b d o q from is.common.from in
-      from_mbr_switch b d q p t phases (subst (λ (x : Option Layout). NoneThere b d x p) same clear) is (mbr_changes b d q p t phases is) (subst (λ (x : Option Layout). HasNoSwitch b d x p) same cause))
+      from_mbr_switch b d q p t phases is (mbr_changes b d q p t phases is) (subst (λ (x : Option Layout). HasNoSwitch b d x p) same cause))
   both_switch (one_label q t is) cause = (let same = denotes_one_lem b d o q from is.common.from in
       both.other (subst (λ (x : Option Layout). ChangesLabels x p) (sym same) (label_changes b d q p t phases is)))
   both_switch (within_mbr q records chain is) cause = (let two : Gpt both.table ≡ Mbr records chain = sym both.body ∙ is.body in cc)
@@ -64,11 +64,11 @@ module _ (b : ℕ) (d : Sectors) (o : Option Layout) (p : Layout) (phases : List
   both_frees : IsPlan b d p phases → ¬ IsReused b d o p
   both_frees (idle healthy none) cause = not_done healthy
   both_frees (backup_first q t is) cause = (let same = denotes_one_lem b d o q from is.common.from in
-      backup_first_frees b d q p t phases (subst (λ (x : Option Layout). NoneThere b d x p) same clear) is (subst (λ (x : Option Layout). IsReused b d x p) same cause))
+      backup_first_frees b d q p t phases is (subst (λ (x : Option Layout). IsReused b d x p) same cause))
   both_frees (primary_first q t is) cause = (let same = denotes_one_lem b d o q from is.common.from in
-      primary_first_frees b d q p t phases (subst (λ (x : Option Layout). NoneThere b d x p) same clear) is (subst (λ (x : Option Layout). IsReused b d x p) same cause))
+      primary_first_frees b d q p t phases is (subst (λ (x : Option Layout). IsReused b d x p) same cause))
   both_frees (from_mbr q t is) cause = (let same = denotes_one_lem b d o q from is.common.from in
-      from_mbr_frees b d q p t phases (subst (λ (x : Option Layout). NoneThere b d x p) same clear) is (mbr_changes b d q p t phases is) (subst (λ (x : Option Layout). IsReused b d x p) same cause))
+      from_mbr_frees b d q p t phases is (mbr_changes b d q p t phases is) (subst (λ (x : Option Layout). IsReused b d x p) same cause))
   both_frees (one_label q t is) cause = (let same = denotes_one_lem b d o q from is.common.from in
       both.other (subst (λ (x : Option Layout). ChangesLabels x p) (sym same) (label_changes b d q p t phases is)))
   both_frees (within_mbr q records chain is) cause = (let two : Gpt both.table ≡ Mbr records chain = sym both.body ∙ is.body in cc)
@@ -80,12 +80,12 @@ no_cause b d o p phases from plan none (misplaced isnt) = isnt (planned_fits b d
 no_cause b d o p phases from plan none (targets left is) = none is
 
 -- a plan of both copies has one switch
-pub both_planned_switch : (b : ℕ) (d : Sectors) (o : Option Layout) (p : Layout) (phases : List Writes) → Denotes b d o → IsPlan b d p phases → WritesBoth o p → NoneThere b d o p → ¬ Unplanned b d p NotOneSwitch
-both_planned_switch b d o p phases from plan both clear is =
+pub both_planned_switch : (b : ℕ) (d : Sectors) (o : Option Layout) (p : Layout) (phases : List Writes) → Denotes b d o → IsPlan b d p phases → WritesBoth o p → ¬ Unplanned b d p NotOneSwitch
+both_planned_switch b d o p phases from plan both is =
     let why = subst (λ (x : Option Layout). NoSwitch b d x p) (denotes_one_lem b d is.old o is.from from) is.cause in
-    no_cause b d o p phases from plan (both_switch b d o p phases from is.not_done both clear plan) why
+    no_cause b d o p phases from plan (both_switch b d o p phases from is.not_done both plan) why
 
 -- and writes no sector that is owned
-pub both_planned_frees : (b : ℕ) (d : Sectors) (o : Option Layout) (p : Layout) (phases : List Writes) → Denotes b d o → IsPlan b d p phases → WritesBoth o p → NoneThere b d o p → ¬ Unplanned b d p ReusedInOneBatch
-both_planned_frees b d o p phases from plan both clear is =
-    both_frees b d o p phases from is.not_done both clear plan (subst (λ (x : Option Layout). IsReused b d x p) (denotes_one_lem b d is.old o is.from from) is.cause.1)
+pub both_planned_frees : (b : ℕ) (d : Sectors) (o : Option Layout) (p : Layout) (phases : List Writes) → Denotes b d o → IsPlan b d p phases → WritesBoth o p → ¬ Unplanned b d p ReusedInOneBatch
+both_planned_frees b d o p phases from plan both is =
+    both_frees b d o p phases from is.not_done both plan (subst (λ (x : Option Layout). IsReused b d x p) (denotes_one_lem b d is.old o is.from from) is.cause.1)

@@ -15,7 +15,8 @@ use Rattle.pt_cases.specs.Numbers.{Rise, along_at, along_without}
 use Rattle.pt_cases.specs.Targets.{Along, Had, IsEncoded, IsLabelTarget, kept, changed, new}
 use Rattle.pt_targets.specs.Targets.{IsPlaceTarget, Targeted, AreLabelTargets}
 use Rattle.pt_targets.specs.declared.target.Target.{Target}
-use Rattle.pt_places.specs.Answers.{LabelsFit, IsFirstLeft, HasUnreadable, NoneLeft, PlacesAnswer}
+use Rattle.pt_targets.specs.Misfits.{LabelsFit, IsFirstLeft, HasUnreadable, NoneLeft}
+use Rattle.pt_places.specs.Answers.{PlacesAnswer}
 use Rattle.pt_places.specs.Places.{IsAt, IsRead, IsLeftAt, IsFirstAt, OldAre, HadAt, IsOf, IsBytes, stood, other, fresh, IsTarget, keeps, changes, sets, IsTargetOf, AreTargets, HasNone, NoneIsLeft, AnswerOf, AreWithin}
 use Rattle.pt_places.specs.declared.answer.LabelTargets.{LabelTargets}
 use Rattle.pt_places.specs.declared.answer.LabelTargets.TheVariants.{Misplaced, Foreign, Unreadable, Targets}

@@ -17,8 +17,8 @@ use Rattle.pt_cases.specs.Accepted.{plan_finishes, plan_not_refused}
 use Rattle.pt_cases.specs.Cases.{IsPlan, idle, backup_first, primary_first, from_mbr, one_label, within_mbr}
 use Rattle.pt_exact.specs.Mended.{repair_is_planned_lem, mendable_by_plan_lem}
 use Rattle.pt_planner.specs.Known.{ReasonIs}
-use Rattle.pt_planner.specs.Unmendable.{IsUnmendableBy}
-use Rattle.pt_planner.specs.Unplanned.{Unplanned}
+use Rattle.pt_targets.specs.Unmendable.{IsUnmendableBy}
+use Rattle.pt_targets.specs.Unplanned.{Unplanned}
 use Rattle.pt_targets.specs.declared.error.PlanError.{PlanError}
 use Rattle.pt_targets.specs.declared.error.PlanError.TheVariants as plan
 use Rattle.pt_plan.specs.Batches.{IsMendPlan, IsReadyToMend, IsMendRefusal}

@@ -10,7 +10,7 @@ use Rattle.pt_check.specs.Answers.{TableOf, OwnedOf}
 use Rattle.pt_cases.specs.Accepted.{plan_finishes, plan_not_refused}
 use Rattle.pt_cases.specs.Cases.{IsPlan}
 use Rattle.pt_planner.specs.Known.{ReasonIs}
-use Rattle.pt_planner.specs.Unplanned.{Unplanned}
+use Rattle.pt_targets.specs.Unplanned.{Unplanned}
 use Rattle.pt_plan.specs.Batches.{Words, Makes, EditedBy, IsPlanned, IsReady, IsRefusal}
 use Rattle.pt_plan.specs.Commits.{Leads}
 use Rattle.pt_plan.specs.Steps.{sectors_in, StartsFrom, NoStart, NotEdited, NotPlanned, IsSafe, NotSafe}

@@ -14,8 +14,8 @@ use Rattle.pt_words.specs.declared.word.Edit.{Edit}
 use Rattle.pt_words.specs.declared.word.Edit.TheVariants.{Align, Empty}
 use Rattle.pt_check.specs.Answers.{TableOf, OwnedOf}
 use Rattle.pt_cases.specs.Cases.{IsPlan}
-use Rattle.pt_planner.specs.Unmendable.{IsUnmendable}
-use Rattle.pt_planner.specs.Unplanned.{Unplanned}
+use Rattle.pt_targets.specs.Unmendable.{IsUnmendable}
+use Rattle.pt_targets.specs.Unplanned.{Unplanned}
 use Rattle.pt_plan.specs.declared.error.CommitError.{CommitError}
 use Rattle.pt_plan.specs.declared.repair_error.RepairError.{RepairError}
 use Rattle.pt_plan.specs.declared.sessions.Batch.{Batch}

@@ -10,7 +10,7 @@ use Rattle.pt_layout.specs.Healthy.{Healthy}
 use Rattle.pt_words.specs.declared.error.Refusal.TheVariants as refusal
 use Rattle.pt_check.specs.Answers.{Answers, TableOf, OwnedOf}
 use Rattle.pt_check.specs.declared.answer.Answer.TheVariants.{No}
-use Rattle.pt_planner.specs.Unplanned.{Unplanned}
+use Rattle.pt_targets.specs.Unplanned.{Unplanned}
 use Rattle.pt_plan.specs.Batches.{Words, Makes, EditedBy}
 use Rattle.pt_plan.specs.declared.error.CommitError.{CommitError}
 use Rattle.pt_plan.specs.declared.error.CommitError.TheVariants.{NoTable, Edit, Plan, Check, Device, Memory}

@@ -24,7 +24,7 @@ use Rattle.pt_cases.specs.Cases.{ChangesLabels}
 use Rattle.pt_cases.specs.Causes.{MayBe}
 use Rattle.pt_cases.specs.Copies.{FitsTable}
 use Rattle.pt_cases.specs.Records.{IsLinked}
-use Rattle.pt_places.specs.Answers.{NoneLeft}
+use Rattle.pt_targets.specs.Misfits.{NoneLeft}
 use Rattle.pt_tables.specs.Starts.{OrderIs, HeadIs, CopiesStart}
 use Rattle.pt_tables.specs.declared.order.Order.{Order}
 use Rattle.pt_targets.specs.Causes.{HasNoTurn, HasNoCopies}
@@ -36,7 +36,7 @@ use Rattle.pt_targets.specs.declared.target.Target.{Target}
 use Rattle.pt_turns.specs.Turns.{MbrStart, LabelStart, Unbroken}
 use Rattle.pt_planner.specs.Known.{WrongIs, IsKnown}
 use Rattle.pt_planner.specs.State.{IsBrokenBy, OrderOf, PlacesStop}
-use Rattle.pt_planner.specs.Unplanned.{other_disk, misplaced, targets, unreadable, turn, copies, Hindered, Unplanned}
+use Rattle.pt_targets.specs.Unplanned.{other_disk, misplaced, targets, unreadable, turn, copies, Hindered, Unplanned}
 use Rattle.pt_planner.specs.declared.known.Known.{Known}
 
 pub ok_so : {A E : Type 0} (r : Result A E) (P Q : A → Type 0) → ((x : A) → P x → Q x) → IfOk r P → IfOk r Q

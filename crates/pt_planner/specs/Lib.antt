@@ -1,4 +1,2 @@
 pub mod Known
 pub mod State
-pub mod Unmendable
-pub mod Unplanned

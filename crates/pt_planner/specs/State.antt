@@ -10,7 +10,7 @@ use Rattle.pt_layout.specs.declared.health.Head.{Head}
 use Rattle.pt_layout.specs.declared.health.Head.TheVariants as head
 use Rattle.pt_tables.specs.declared.order.Order.{Order}
 use Rattle.pt_tables.specs.declared.order.Order.TheVariants.{BackupFirst, PrimaryFirst, FromMbr}
-use Rattle.pt_places.specs.Answers.{LabelsFit, IsFirstLeft, HasUnreadable, NoneLeft}
+use Rattle.pt_targets.specs.Misfits.{LabelsFit, IsFirstLeft, HasUnreadable, NoneLeft}
 use Rattle.pt_targets.specs.declared.error.PlanError.{PlanError}
 use Rattle.pt_targets.specs.declared.error.PlanError.TheVariants.{NotOneSwitch, ReusedInOneBatch, NeedsRepair, Unsound, Device, Memory}
 

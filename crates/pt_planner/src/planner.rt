@@ -10,7 +10,7 @@ ghost use Rattle.pt_cases.specs.Cases.{IsPlan};
 ghost use Rattle.pt_targets.specs.Errors.{fault_in};
 ghost use Rattle.pt_planner.specs.Known.{IsKnown};
 ghost use Rattle.pt_planner.specs.State.{IsUnsoundBy};
-ghost use Rattle.pt_planner.specs.Unplanned.{Unplanned};
+ghost use Rattle.pt_targets.specs.Unplanned.{Unplanned};
 
 use crate::known::{Known, read_known};
 use crate::plans::{places_of, to_gpt, to_mbr};

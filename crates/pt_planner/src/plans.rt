@@ -18,10 +18,10 @@ ghost use Rattle.pt_recover.specs.Denotes.{Denotes};
 ghost use Rattle.pt_targets.specs.Errors.{fault_in};
 ghost use Rattle.pt_targets.specs.Starts.{Start};
 ghost use Rattle.pt_targets.specs.Targets.{AreLabelTargets};
-ghost use Rattle.pt_places.specs.Answers.{NoneLeft};
+ghost use Rattle.pt_targets.specs.Misfits.{NoneLeft};
 ghost use Rattle.pt_planner.specs.Known.{IsKnown};
 ghost use Rattle.pt_planner.specs.State.{PlacesStop};
-ghost use Rattle.pt_planner.specs.Unplanned.{Hindered};
+ghost use Rattle.pt_targets.specs.Unplanned.{Hindered};
 
 use crate::known::Known;
 use crate::state::{changes_labels, is_broken, order_of};

@@ -1,5 +1,5 @@
 -- The targets of label places: which labels they stand for, and that a guarded one is read.
-use Rattle.std.proofs.Common.{◌≡◌, ◌∙◌, ◌⊎◌, ◌↔◌, inl, inr, ⊎_elim, ℕ, ◌+◌, ◌-◌, ◌<◌, ◌≤◌, List, [], ◌∷◌, length, refl, sym, ap, subst, arith, Option, Some, None}
+use Rattle.std.proofs.Common.{◌≡◌, ◌∙◌, ◌⊎◌, ◌↔◌, inl, inr, ⊎_elim, ℕ, ◌+◌, ◌-◌, ◌<◌, ◌≤◌, List, [], ◌∷◌, length, replicate, refl, sym, ap, subst, arith, Option, Some, None}
 use Rattle.std.specs.Prelude.{Contains}
 use Rattle.pt_sector.specs.Sectors.{Sectors, sector, IsSectorSize}
 use Rattle.pt_sector.specs.Writes.{Writes, Puts}
@@ -23,7 +23,7 @@ use Rattle.pt_layout.specs.Guarded.{IsGuarded, place, guarded_reads, reads_guard
 use Rattle.pt_layout.specs.Sound.{Sound}
 use Rattle.pt_cases.specs.Copies.{FitsTable}
 use Rattle.pt_cases.specs.Places.{place_usable}
-use Rattle.pt_cases.specs.Targets.{Along, Had, WritesLabels}
+use Rattle.pt_cases.specs.Targets.{Along, Had, IsEncoded, WritesLabels}
 use Rattle.pt_cases.specs.Within.{reads_gpt, side_within}
 use Rattle.pt_targets.specs.Causes.{IsNewLabel, IsOtherLabel, WritesBoth}
 use Rattle.pt_targets.specs.Counts.{few_gpt_places}
@@ -146,14 +146,12 @@ module _ {b : ℕ} (d : Sectors) (o : Option Layout) (p : Layout) (t : Table) (c
         by_target : (l : Label) → Contains p.labels (record { number = w.number; label = l }) → IsPlaceTarget d o w (Some l) it.0 → IsNewLabel b d o p s
         by_target l has (inl stays) = absurd (let no : Stays ≡ New = sym stays.0 ∙ it.2 in cc)
         by_target l has (inr (inl changes)) = absurd (let no : Changes ≡ New = sym changes.0 ∙ it.2 in cc)
-        by_target l has (inr (inr (kind, none, encoded))) = record {
+        by_target l has (inr (inr (kind, none, encoded, unique))) = record {
           slice = w;
           label = l;
           labelled = record { stands = at_place.stands; wanted = has; place = sym at_place.at ∙ it.3 };
           none = λ m had. none m (subst (λ (k : ℕ). Had b d o k m) (sym it.3 ∙ at_place.at) had);
-          bytes = it.0.bytes;
-          encoded = encoded;
-          other = λ both. it.5 (both.1 ∙ sym under, (reads_is s is_place).0 both.0);
+          unread = λ both. it.5 (unique (subst (IsEncoded l w (replicate b 0)) (sym under) both.1), (reads_is s is_place).0 both.0);
         }
 
         by_goes : ((l : Label) × Contains p.labels (record { number = w.number; label = l }) × Targeted d o ts w (Some l)) ⊎ Targeted d o ts w None → IsNewLabel b d o p s

@@ -52,7 +52,9 @@ Alters P ts = (t : Target _) × Contains ts t × (t.kind ≡ Changes) × P t.at.
 -- why phases with these targets are no plan
 abbrev pub RefusedBy : {b : ℕ} → Option Layout → List Run → Order → List (Target b) → List Writes → PlanError → Type 0
 RefusedBy {b = b} old guarded order ts phases ReusedInOneBatch = Touches (OwnedOf b old) (writes_in phases) ⊎ Alters (OwnedOf b old) ts
-RefusedBy old guarded order ts phases NotOneSwitch = Alters (λ s. Unit {0}) ts ⊎ Touches (IsIn guarded) (writes_before order phases)
+RefusedBy {b = b} old guarded order ts phases NotOneSwitch =
+    (¬ Touches (OwnedOf b old) (writes_in phases)) × (¬ Alters (OwnedOf b old) ts)
+    × (Alters (λ s. Unit {0}) ts ⊎ Touches (IsIn guarded) (writes_before order phases))
 RefusedBy old guarded order ts phases NeedsRepair = ⊥
 RefusedBy old guarded order ts phases Memory = ⊥
 RefusedBy old guarded order ts phases (Device fault) = ⊥

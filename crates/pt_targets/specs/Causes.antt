@@ -31,15 +31,13 @@ pub record IsLabelled (b : ℕ) (p : Layout) (s : ℕ) (w : Slice) (l : Label) :
   pub wanted : Contains p.labels (record { number = w.number; label = l })
   pub place : place_of w ≡ s
 
--- a label comes where o has none: over zeros, and recovery of d doesn't read it there already
+-- a label comes where o has none, and it doesn't stand there already, over zeros, for recovery of d to read
 pub record IsNewLabel (b : ℕ) (d : Sectors) (o : Option Layout) (p : Layout) (s : ℕ) : Type 0 where
   pub slice : Slice
   pub label : Label
   pub labelled : IsLabelled b p s slice label
   pub none : (m : Label) → ¬ Had b d o s m
-  pub bytes : List ℕ
-  pub encoded : IsEncoded label slice (replicate b 0) bytes
-  pub other : ¬ (Reads b d s × (bytes ≡ sector d s))
+  pub unread : ¬ (Reads b d s × IsEncoded label slice (replicate b 0) (sector d s))
 
 -- a label comes where o has another one
 pub record IsOtherLabel (b : ℕ) (d : Sectors) (o : Option Layout) (p : Layout) (s : ℕ) : Type 0 where
@@ -100,16 +98,46 @@ SharesSector b d o p = (ts : List (Target b)) × (TargetsOf b d o p ts ⊎ (Writ
 abbrev pub IsReused : ℕ → Sectors → Option Layout → Layout → Type 0
 IsReused b d o p = (s : ℕ) × ToWrite b d o p s × OwnedOf b o s
 
--- of the sectors that change in the turn, none or two are guarded; or two targets are of one sector
+-- no sector that changes is owned in o
+abbrev pub NoneOwned : {b : _} → Option Layout → List (Target b) → Type 0
+NoneOwned {b = b} o ts = (t : Target b) → IsChange ts t → ¬ OwnedOf b o t.at.0
+
+-- no sector that would be written with both copies is
+abbrev pub NoneTaken : ℕ → Sectors → Option Layout → Layout → Type 0
+NoneTaken b d o p = (s : ℕ) → WouldWrite b d o p s → ¬ OwnedOf b o s
+
+-- of the sectors that change in the turn none is owned, and none or two are guarded
+abbrev pub TurnsAmiss : ℕ → Sectors → Option Layout → Layout → Type 0
+TurnsAmiss b d o p = (ts : List (Target b)) × TargetsOf b d o p ts × NoneOwned o ts × NotOneTurn b d ts
+
+-- so it is; or two targets are of one sector
 abbrev pub HasNoTurn : ℕ → Sectors → Option Layout → Layout → Type 0
-HasNoTurn b d o p = ((ts : List (Target b)) × TargetsOf b d o p ts × NotOneTurn b d ts) ⊎ SharesSector b d o p
+HasNoTurn b d o p = TurnsAmiss b d o p ⊎ SharesSector b d o p
 
--- a label changes beside the turn, a guarded sector would be written before it, or two labels have one sector
+-- both copies are to be written, and of what would be written nothing is owned; but a label changes beside the turn, or a
+-- guarded sector would be written before it
+pub record CopiesAmiss (b : ℕ) (d : Sectors) (o : Option Layout) (p : Layout) : Type 0 where
+  pub both : WritesBoth o p
+  pub free : NoneTaken b d o p
+  pub place : ℕ
+  pub amiss : IsOtherLabel b d o p place ⊎ (WouldPrecede b d o p place × IsGuarded b d place)
+
+-- so it is; or two labels have one sector
 abbrev pub HasNoCopies : ℕ → Sectors → Option Layout → Layout → Type 0
-HasNoCopies b d o p =
-    ((s : ℕ) × WritesBoth o p × IsOtherLabel b d o p s)
-    ⊎ (((s : ℕ) × WritesBoth o p × WouldPrecede b d o p s × IsGuarded b d s) ⊎ SharesSector b d o p)
+HasNoCopies b d o p = CopiesAmiss b d o p ⊎ SharesSector b d o p
 
--- only labels change, and a copy is broken
-abbrev pub IsUnmended : ℕ → Sectors → Option Layout → Layout → Type 0
-IsUnmended b d o p = (changes : ChangesLabels o p) × (f : Finding) × IsBodyBroken b d changes.old.body f
+-- one sector changes, it isn't owned, and all that changes is there
+pub record IsLoneChange {b : _} (o : Option Layout) (ts : List (Target b)) (t : Target b) : Type 0 where
+  pub change : IsChange ts t
+  pub free : ¬ OwnedOf b o t.at.0
+  pub one : (u : Target b) → IsChange ts u → u.at.0 ≡ t.at.0
+
+-- only labels change, in one sector, and a copy is broken
+pub record IsUnmended (b : ℕ) (d : Sectors) (o : Option Layout) (p : Layout) : Type 0 where
+  pub changes : ChangesLabels o p
+  pub finding : Finding
+  pub broken : IsBodyBroken b d changes.old.body finding
+  pub items : List (Target b)
+  pub places : AreLabelTargets d o p items
+  pub target : Target b
+  pub lone : IsLoneChange o items target

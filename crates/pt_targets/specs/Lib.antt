@@ -8,3 +8,7 @@ pub mod Firsts
 pub mod Splits
 pub mod Lifts
 pub mod Counts
+pub mod Misfits
+pub mod Unmade
+pub mod Unmendable
+pub mod Unplanned

@@ -16,7 +16,8 @@ use Rattle.pt_targets.specs.Causes.{TargetsIn, TargetsOf, NotOneTurn, HasNoTurn,
 use Rattle.pt_targets.specs.Causes as causes
 use Rattle.pt_targets.specs.Lifts.{labels_met}
 use Rattle.pt_targets.specs.Starts.{StopsBy}
-use Rattle.pt_targets.specs.Targets.{TellDisk, InOrder, IsOneChange, NotOneChange}
+use Rattle.pt_cases.specs.Targets.{Ends}
+use Rattle.pt_targets.specs.Targets.{TellDisk, InOrder, IsChange, IsOneChange, NotOneChange}
 use Rattle.pt_targets.specs.declared.error.PlanError.{PlanError}
 use Rattle.pt_targets.specs.declared.error.PlanError.TheVariants.{NotOneSwitch, ReusedInOneBatch, NeedsRepair, Unsound, Device, Memory}
 use Rattle.pt_targets.specs.declared.target.Target.{Target}
@@ -83,7 +84,8 @@ module _ {b : ℕ} (d : Sectors) (o : Option Layout) (p : Layout) (broken : Bool
   -- where there is none, that has a cause
   pub label_stops : (e : PlanError) → NoLoneTurn o places e → StopsBy b d o p (HasNoTurn b d o p) e
   label_stops NotOneSwitch (inl twice) = inr (places, inl targets_of, twice)
-  label_stops NotOneSwitch (inr (sorted, order, none)) = inl (places, targets_of, no_turn sorted order none)
+  label_stops NotOneSwitch (inr (sorted, free, none)) =
+      inl (places, targets_of, (λ t change. free.free t (free.order.all t change.0, change.1)), no_turn sorted free.order none)
   label_stops ReusedInOneBatch owned = (owned.target.at.0, causes.target places owned.target targets_of owned.change refl, owned.owned)
   label_stops NeedsRepair never = absurd never
   label_stops (Unsound f) never = absurd never
@@ -91,5 +93,27 @@ module _ {b : ℕ} (d : Sectors) (o : Option Layout) (p : Layout) (broken : Bool
   label_stops Memory any = tt
 
   -- broken copies are to be mended first
-  pub label_unmended : broken ≡ true → IsUnmended b d o p
-  label_unmended so = (let there : Unbroken b d is.changes.old true = subst (Unbroken b d is.changes.old) so is.unbroken in (is.changes, there.0, there.1))
+  pub label_unmended : broken ≡ true → (loud : ℕ × List ℕ) → IsLoneTurn o places loud → IsUnmended b d o p
+  label_unmended so loud turn = record {
+    changes = is.changes;
+    finding = there.0;
+    broken = there.1;
+    items = places;
+    places = is.places;
+    target = one.target;
+    lone = record {
+      change = (turn.free.order.only one.target one.change.0, one.change.1);
+      free = turn.free.free one.target one.change;
+      one = λ u change. loud_only u change (one.ends u (turn.free.order.all u change.0));
+    };
+  } where
+    there : Unbroken b d is.changes.old true
+    there = subst (Unbroken b d is.changes.old) so is.unbroken
+
+    one : IsOneChange d turn.sorted loud
+    one = turn.change d (tell_sorted turn.sorted turn.free.order)
+
+    loud_only : (u : Target b) → IsChange places u → Ends d (one_write loud.0 loud.1) u.at.0 u.bytes → u.at.0 ≡ one.target.at.0
+    loud_only u change (inl (inl here)) = sym here.0 ∙ sym one.at
+    loud_only u change (inl (inr none)) = absurd none
+    loud_only u change (inr stays) = absurd (change.1 (stays.0 ∙ sym (is.places.tell u change.0)))

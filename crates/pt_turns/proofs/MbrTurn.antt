@@ -20,7 +20,7 @@ use Rattle.pt_cases.specs.Frames.{puts_right}
 use Rattle.pt_cases.specs.FromMbr.{reads_guarded}
 use Rattle.pt_cases.specs.Guards.{guarded_is_read}
 use Rattle.pt_cases.specs.Records.{IsLinked}
-use Rattle.pt_targets.specs.Causes.{TargetsIn, TargetsOf, NotOneTurn, SharesSector, IsReused, HasNoTurn, ToWrite}
+use Rattle.pt_targets.specs.Causes.{NoneOwned, TargetsIn, TargetsOf, NotOneTurn, SharesSector, IsReused, HasNoTurn, ToWrite}
 use Rattle.pt_targets.specs.Causes as causes
 use Rattle.pt_targets.specs.Counts.{most_mbr_places}
 use Rattle.pt_targets.specs.Lifts.{labels_met, mbr_met}
@@ -29,7 +29,7 @@ use Rattle.pt_targets.specs.Targets.{TellDisk, InOrder, IsSplit, NotOneLoud}
 use Rattle.pt_targets.specs.declared.error.PlanError.{PlanError}
 use Rattle.pt_targets.specs.declared.error.PlanError.TheVariants.{NotOneSwitch, ReusedInOneBatch, NeedsRepair, Unsound, Device, Memory}
 use Rattle.pt_targets.specs.declared.target.Target.{Target}
-use Rattle.pt_turns.specs.Outcomes.{NoneOwned, IsTurn, NoTurn}
+use Rattle.pt_turns.specs.Outcomes.{IsTurn, NoTurn}
 use Rattle.pt_turns.specs.Turns.{MbrStart}
 
 -- a chain of a lone extended record is short
@@ -145,7 +145,8 @@ module _ {b : ℕ} (d : Sectors) (o : Option Layout) (p : Layout) (guarded : Lis
   -- where there is none, that has a cause
   pub mbr_stops : (e : PlanError) → NoTurn o guarded both e → StopsBy b d o p (HasNoTurn b d o p) e
   mbr_stops NotOneSwitch (inl twice) = inr (both, inl targets_of, twice)
-  mbr_stops NotOneSwitch (inr (sorted, order, none)) = inl (both, targets_of, no_turn sorted order none)
+  mbr_stops NotOneSwitch (inr (sorted, free, none)) =
+      inl (both, targets_of, (λ t change. free.free t (free.order.all t change.0, change.1)), no_turn sorted free.order none)
   mbr_stops ReusedInOneBatch owned = (owned.target.at.0, causes.target both owned.target targets_of owned.change refl, owned.owned)
   mbr_stops NeedsRepair never = absurd never
   mbr_stops (Unsound f) never = absurd never

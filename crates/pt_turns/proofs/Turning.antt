@@ -38,7 +38,7 @@ module _ {b : ℕ} (o : Option Layout) (guarded : List Run) (ts sorted now : Lis
   pub split_stops : s ≡ NotOne → NoTurn o guarded ts NotOneSwitch
   split_stops none =
       let there : SplitIs guarded sorted NotOne = subst (λ (l : List (Target b)). SplitIs guarded l NotOne) same (subst (SplitIs guarded now) none is) in
-      inr (sorted, free.order, there)
+      inr (sorted, free, there)
 
 module _ {b : ℕ} (o : Option Layout) (guarded : List Run) (heads places now ts : List (Target b)) (joined : ts ≡ heads ++ now) (same : now ≡ places) where
   parts : ts ≡ heads ++ places

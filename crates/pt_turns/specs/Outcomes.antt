@@ -6,14 +6,11 @@ use Rattle.pt_check.specs.Answers.{OwnedOf}
 use Rattle.pt_recover.specs.declared.layout.Layout.{Layout}
 use Rattle.pt_recover.specs.declared.trace.Run.{Run}
 use Rattle.pt_cases.specs.Cases.{within_mbr_phases}
+use Rattle.pt_targets.specs.Causes.{NoneOwned}
 use Rattle.pt_targets.specs.Targets.{TellDisk, HasTwoOfOne, InOrder, IsChange, IsSplit, NotOneLoud, IsOneChange, NotOneChange}
 use Rattle.pt_targets.specs.declared.error.PlanError.{PlanError}
 use Rattle.pt_targets.specs.declared.error.PlanError.TheVariants.{NotOneSwitch, ReusedInOneBatch, Memory}
 use Rattle.pt_targets.specs.declared.target.Target.{Target}
-
--- no sector that changes is owned in o
-abbrev pub NoneOwned : {b : _} → Option Layout → List (Target b) → Type 0
-NoneOwned {b = b} o ts = (t : Target b) → IsChange ts t → ¬ OwnedOf b o t.at.0
 
 -- one is
 pub record OneOwned {b : _} (o : Option Layout) (ts : List (Target b)) : Type 0 where
@@ -44,7 +41,7 @@ pub record IsTurn {b : _} (o : Option Layout) (guarded : List Run) (ts : List (T
 
 -- why there is none
 abbrev pub NoTurn : {b : _} → Option Layout → List Run → List (Target b) → PlanError → Type 0
-NoTurn o guarded ts NotOneSwitch = HasTwoOfOne ts ⊎ ((sorted : List (Target _)) × InOrder ts sorted × NotOneLoud guarded sorted)
+NoTurn o guarded ts NotOneSwitch = HasTwoOfOne ts ⊎ ((sorted : List (Target _)) × AreFree o ts sorted × NotOneLoud guarded sorted)
 NoTurn o guarded ts ReusedInOneBatch = OneOwned o ts
 NoTurn o guarded ts Memory = Unit {0}
 NoTurn o guarded ts _ = ⊥
@@ -57,7 +54,7 @@ pub record IsLoneTurn {b : _} (o : Option Layout) (ts : List (Target b)) (loud :
 
 -- why there is none
 abbrev pub NoLoneTurn : {b : _} → Option Layout → List (Target b) → PlanError → Type 0
-NoLoneTurn o ts NotOneSwitch = HasTwoOfOne ts ⊎ ((sorted : List (Target _)) × InOrder ts sorted × NotOneChange sorted)
+NoLoneTurn o ts NotOneSwitch = HasTwoOfOne ts ⊎ ((sorted : List (Target _)) × AreFree o ts sorted × NotOneChange sorted)
 NoLoneTurn o ts ReusedInOneBatch = OneOwned o ts
 NoLoneTurn o ts Memory = Unit {0}
 NoLoneTurn o ts _ = ⊥

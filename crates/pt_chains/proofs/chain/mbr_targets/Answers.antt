@@ -7,7 +7,7 @@ use Rattle.pt_mbr.specs.declared.ebr.Ebr.{Ebr}
 use Rattle.pt_recover.specs.Mbr.{extended_of}
 use Rattle.pt_targets.specs.declared.target.Target.{Target}
 use Rattle.pt_chains.specs.Steps.{IsHeadOf, AreChainTargets}
-use Rattle.pt_chains.specs.Unmade.{HasUnmadeEbr}
+use Rattle.pt_targets.specs.Unmade.{HasUnmadeEbr}
 use Rattle.pt_chains.proofs.Linking.{all_on_disk, stands_on_disk}
 use Rattle.pt_chains.proofs.Whole.{some_weaker, none_weaker, are_targets, has_unmade}
 use Rattle.pt_chains.proofs.chain.mbr_targets.Goals as goal

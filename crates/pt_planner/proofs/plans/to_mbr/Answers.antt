@@ -2,10 +2,10 @@ use Rattle.std.proofs.Common.{◌<◌, ℕ, sym, subst}
 use Rattle.std.specs.Prelude.{Contains}
 use Rattle.pt_recover.specs.Mbr.{extended_of}
 use Rattle.pt_cases.specs.Records.{IsLinked}
-use Rattle.pt_chains.specs.Unmade.{HasUnmade}
+use Rattle.pt_targets.specs.Unmade.{HasUnmade}
 use Rattle.pt_targets.specs.Targets.{AreMbrTargets}
 use Rattle.pt_targets.specs.declared.target.Target.{Target}
-use Rattle.pt_planner.specs.Unplanned.{unmade}
+use Rattle.pt_targets.specs.Unplanned.{unmade}
 use Rattle.pt_planner.proofs.Making.{ok_so, err_so, all_of, turn_hinders, mbr_start}
 use Rattle.pt_planner.proofs.plans.to_mbr.Goals as goal
 

@@ -9,7 +9,7 @@ returns-in_err-loud-clause-err g c =
     rw (p.1, p.2) (λ d p start. label_stops d c.args.old.now p c.args.broken c.args.places.items start c.in_err-loud.field-0.0 c.in_err-loud.ensures.err)
 
 pub returns-then-broken-clause-err : goal.returns-then-broken-clause-err
-returns-then-broken-clause-err g c = λ d p start. label_unmended d c.args.old.now p c.args.broken c.args.places.items start c.if-broken.true
+returns-then-broken-clause-err g c = λ d p start. label_unmended d c.args.old.now p c.args.broken c.args.places.items start c.if-broken.true (c.in_ok-loud.loud.lba.0, c.in_ok-loud.loud.bytes) c.in_ok-loud.ensures.ok
 
 pub returns-clause-plan : goal.returns-clause-plan
 returns-clause-plan g c =

@@ -13,8 +13,8 @@ use Rattle.pt_layout.specs.declared.finding.Finding.{Finding}
 use Rattle.pt_layout.specs.declared.finding.Finding.TheVariants.{ForeignLabel}
 use Rattle.pt_cases.specs.Causes.{MayBe, WasMbr}
 use Rattle.pt_targets.specs.Causes.{IsReused, HasNoTurn, HasNoCopies, IsUnmended}
-use Rattle.pt_places.specs.Answers.{LabelsFit, IsFirstLeft, HasUnreadable, NoneLeft}
-use Rattle.pt_chains.specs.Unmade.{HasUnmade}
+use Rattle.pt_targets.specs.Misfits.{LabelsFit, IsFirstLeft, HasUnreadable, NoneLeft}
+use Rattle.pt_targets.specs.Unmade.{HasUnmade}
 use Rattle.pt_targets.specs.declared.error.PlanError.{PlanError}
 use Rattle.pt_targets.specs.declared.error.PlanError.TheVariants.{NotOneSwitch, ReusedInOneBatch, NeedsRepair, Unsound, Device, Memory}
 
