@@ -35,7 +35,7 @@ IsPlaceTarget {b = b} d o w (Some l) t =
     ((t.kind ≡ Stays) × Had b d o (place_of w) l × LabelBytes l w.first w.len t.bytes × (t.bytes ≡ t.under))
     ⊎ (((t.kind ≡ Changes) × ((m : Label) × Had b d o (place_of w) m × (m ≢ l)) × IsEncoded l w t.under t.bytes)
     ⊎ ((t.kind ≡ New) × ((m : Label) → ¬ Had b d o (place_of w) m) × IsEncoded l w (replicate b 0) t.bytes
-        × (IsEncoded l w (replicate b 0) t.under → t.bytes ≡ t.under)))
+    × (IsEncoded l w (replicate b 0) t.under → t.bytes ≡ t.under)))
 IsPlaceTarget d o w None t = (t.kind ≡ Stays) × (¬ HasMagic t.under) × (t.bytes ≡ t.under)
 
 -- it is among the targets
