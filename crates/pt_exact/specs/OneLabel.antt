@@ -119,12 +119,12 @@ module _ (b : ℕ) (d : Sectors) (o : Option Layout) (p : Layout) (t : Table) (p
   unheld : (w : Slice) (l : Label) (x : Target b) → IsPlaceTarget d o w (Some l) x → x.bytes ≢ x.under → ¬ Had b d o (place_of w) l
   unheld w l x (inl (kind, had, reads, same)) diff h = diff same
   unheld w l x (inr (inl (kind, (m, had, other), encoded))) diff h = other (had_one b d o (place_of w) m l had h)
-  unheld w l x (inr (inr (kind, none, encoded, unique))) diff h = none l h
+  unheld w l x (inr (inr (kind, none, fresh))) diff h = none l h
 
   differs : (w : Slice) (l : Label) (x : Target b) → Contains (places_of b p.sectors p.body) w → x.under ≡ sector d (place_of w) → ¬ Had b d o (place_of w) l → IsPlaceTarget d o w (Some l) x → x.bytes ≢ x.under
   differs w l x stands under none (inl (kind, had, reads, same)) alike = none had
   differs w l x stands under none (inr (inl (kind, it, encoded))) alike = none (labels_had w l stands (subst (LabelBytes l w.first w.len) (alike ∙ under) encoded.reads))
-  differs w l x stands under none (inr (inr (kind, it, encoded, unique))) alike = none (labels_had w l stands (subst (LabelBytes l w.first w.len) (alike ∙ under) encoded.reads))
+  differs w l x stands under none (inr (inr (kind, it, fresh))) alike = none (labels_had w l stands (subst (LabelBytes l w.first w.len) (alike ∙ under) fresh.encoded.reads))
 
   -- and so is what the plan writes
   met_put : (w : Slice) (l : Label) → Contains (places_of b p.sectors p.body) w → ¬ Had b d o (place_of w) l → Met b d o (one_write is.loud.0 is.loud.1) w (Some l) → place_of w ≡ is.loud.0

@@ -140,18 +140,21 @@ module _ {b : ℕ} (d : Sectors) (o : Option Layout) (p : Layout) (t : Table) (c
         is_place : IsPlace (places_of b p.sectors p.body) s
         is_place = subst (IsPlace (places_of b p.sectors p.body)) it.3 (start.places.each it.0 (order.only it.0 it.1))
 
+        here : s ≡ place_of w
+        here = sym it.3 ∙ at_place.at
+
         under : it.0.under ≡ sector d s
         under = start.places.tell it.0 (order.only it.0 it.1) ∙ ap (λ (k : ℕ). sector d k) it.3
 
         by_target : (l : Label) → Contains p.labels (record { number = w.number; label = l }) → IsPlaceTarget d o w (Some l) it.0 → IsNewLabel b d o p s
         by_target l has (inl stays) = absurd (let no : Stays ≡ New = sym stays.0 ∙ it.2 in cc)
         by_target l has (inr (inl changes)) = absurd (let no : Changes ≡ New = sym changes.0 ∙ it.2 in cc)
-        by_target l has (inr (inr (kind, none, encoded, unique))) = record {
+        by_target l has (inr (inr (kind, none, fresh))) = record {
           slice = w;
           label = l;
           labelled = record { stands = at_place.stands; wanted = has; place = sym at_place.at ∙ it.3 };
           none = λ m had. none m (subst (λ (k : ℕ). Had b d o k m) (sym it.3 ∙ at_place.at) had);
-          unread = λ both. it.5 (unique (subst (IsEncoded l w (replicate b 0)) (sym under) both.1), (reads_is s is_place).0 both.0);
+          unread = λ both. it.5 (fresh.one (subst (λ (k : ℕ). IsEncoded l w (replicate b 0) (sector d k)) here both.1) ∙ ap (sector d) (sym here) ∙ sym under, (reads_is s is_place).0 both.0);
         }
 
         by_goes : ((l : Label) × Contains p.labels (record { number = w.number; label = l }) × Targeted d o ts w (Some l)) ⊎ Targeted d o ts w None → IsNewLabel b d o p s

@@ -27,7 +27,7 @@ use Rattle.pt_targets.specs.declared.target.Target.{Target}
 pub label_target : {b : ℕ} (d : Sectors) (o : Option Layout) (w : Slice) (l : Label) (t : Target b) → t.under ≡ sector d (place_of w) → IsPlaceTarget d o w (Some l) t → IsLabelTarget b d o w l t.bytes
 label_target d o w l t under (inl (kind, had, reads, same)) = kept had reads (same ∙ under)
 label_target d o w l t under (inr (inl (kind, (m, had, other), is))) = changed m had other (subst (λ (u : List ℕ). IsEncoded l w u t.bytes) under is)
-label_target d o w l t under (inr (inr (kind, none, is, unique))) = new none is
+label_target d o w l t under (inr (inr (kind, none, is))) = new none is
 
 module _ {b : ℕ} (d : Sectors) (o : Option Layout) (ws : Writes) (ts among : List (Target b)) (all : (t : Target b) → Contains ts t → Contains among t)
     (ends : (t : Target b) → Contains among t → Ends d ws t.at.0 t.bytes)
@@ -79,10 +79,10 @@ module _ {b : ℕ} (d : Sectors) (o : Option Layout) (p : Layout) (ts sorted : L
   place_set w (Some l) (t, has, at, under, inl (kind, had, label, same)) =
       stood had (subst (λ (v : List ℕ). LabelBytes l w.first w.len v) (same ∙ under) label) (never w t has at (λ is. (let no : Stays ≡ New = sym kind ∙ is in absurd cc)))
   place_set w (Some l) (t, has, at, under, inr (inl (kind, other, is))) = absurd (settled t has kind)
-  place_set w (Some l) (t, has, at, under, inr (inr (kind, none, is, unique))) = ⊎_elim
+  place_set w (Some l) (t, has, at, under, inr (inr (kind, none, is))) = ⊎_elim
       (λ same. ⊎_elim
       (λ is_in. there none
-      (subst (λ (v : List ℕ). IsEncoded l w (replicate b 0) v) (same ∙ under) is)
+      (subst (λ (v : List ℕ). IsEncoded l w (replicate b 0) v) (same ∙ under) is.encoded)
       ((reads (place_of w) at_place).1 (subst (IsIn guarded) at is_in))
       (λ x puts. news.there t (order.all t has) kind (same, is_in) x (subst (λ (s : ℕ). Puts ws s x) (sym at) puts)))
       (λ not_in. written (λ both. not_in both.1))

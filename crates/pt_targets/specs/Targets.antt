@@ -16,7 +16,7 @@ use Rattle.pt_recover.specs.declared.layout.Slice.{Slice}
 use Rattle.pt_recover.specs.declared.trace.Run.{Run}
 use Rattle.pt_cases.specs.Copies.{one_write}
 use Rattle.pt_cases.specs.Records.{IsHeadTarget, IsEbrTarget, link_to}
-use Rattle.pt_cases.specs.Targets.{Had, IsEncoded, Along, Ends}
+use Rattle.pt_cases.specs.Targets.{Had, IsEncoded, IsFresh, Along, Ends}
 use Rattle.pt_targets.specs.declared.target.Kind.TheVariants.{Stays, New, Changes}
 use Rattle.pt_targets.specs.declared.target.Target.{Target}
 
@@ -28,14 +28,12 @@ targeted ts = map (λ (t : Target _). (t.at.0, t.bytes)) ts
 abbrev pub TellDisk : {b : _} → Sectors → List (Target b) → Type 0
 TellDisk d ts = (t : Target _) → Contains ts t → t.under ≡ sector d t.at.0
 
--- what the label place of a slice needs, with this label or with none: a label that is kept, changed, or new over zeros.
--- A new one has one encoding: where one stands there already, it is that
+-- what the label place of a slice needs, with this label or with none: a label that is kept, changed, or new over zeros
 abbrev pub IsPlaceTarget : {b : _} → Sectors → Option Layout → Slice → Option Label → Target b → Type 0
 IsPlaceTarget {b = b} d o w (Some l) t =
     ((t.kind ≡ Stays) × Had b d o (place_of w) l × LabelBytes l w.first w.len t.bytes × (t.bytes ≡ t.under))
     ⊎ (((t.kind ≡ Changes) × ((m : Label) × Had b d o (place_of w) m × (m ≢ l)) × IsEncoded l w t.under t.bytes)
-    ⊎ ((t.kind ≡ New) × ((m : Label) → ¬ Had b d o (place_of w) m) × IsEncoded l w (replicate b 0) t.bytes
-    × (IsEncoded l w (replicate b 0) t.under → t.bytes ≡ t.under)))
+    ⊎ ((t.kind ≡ New) × ((m : Label) → ¬ Had b d o (place_of w) m) × IsFresh b d l w t.bytes))
 IsPlaceTarget d o w None t = (t.kind ≡ Stays) × (¬ HasMagic t.under) × (t.bytes ≡ t.under)
 
 -- it is among the targets
