@@ -10,7 +10,7 @@ use Rattle.pt_cases.specs.Records.{IsEbrTarget, link_to}
 use Rattle.pt_targets.specs.Targets.{HasEbrs}
 use Rattle.pt_targets.specs.declared.target.Target.{Target}
 use Rattle.pt_chains.specs.Steps.{IsEbrOf, AreChainTargets}
-use Rattle.pt_targets.specs.Unmade.{HasUnmadeEbr}
+use Rattle.pt_targets.specs.Unmade.{HasUnmadeEbr, IsUnmadeEbr}
 use Rattle.pt_chains.proofs.Lone.{opened}
 
 -- one of them stands where it stands
@@ -35,12 +35,12 @@ rest_of chain k = take_all (length chain - (k + 1)) (drop (k + 1) chain) (let e 
 
 -- one that no bytes would do for
 pub unmade_at : (b : ℕ) (d : Sectors) (old : List Ebr) (first : ℕ) (chain : List Ebr) (k : ℕ) (z : Ebr) (rest : List Ebr) → k < length chain → rest ≡ drop (k + 1) chain
-    → ((v : List ℕ) → ¬ IsEbrTarget b d old first (get_or chain k z) (link_to first rest) v) → HasUnmadeEbr b d old first chain
-unmade_at b d old first [] k z rest lt behind none = absurd (omega (arith, lt))
-unmade_at b d old first (e ∷ es) zero z rest lt behind none = inl (subst (λ (l : List Ebr). (v : List ℕ) → ¬ IsEbrTarget b d old first e (link_to first l) v) behind none)
-unmade_at b d old first (e ∷ es) (suc k) z rest lt behind none =
+    → IsUnmadeEbr b d old first (get_or chain k z) rest → HasUnmadeEbr b d old first chain
+unmade_at b d old first [] k z rest lt behind unmade = absurd (omega (arith, lt))
+unmade_at b d old first (e ∷ es) zero z rest lt behind unmade = inl (subst (λ (l : List Ebr). IsUnmadeEbr b d old first e l) behind unmade)
+unmade_at b d old first (e ∷ es) (suc k) z rest lt behind unmade =
     let on : suc k + 1 ≡ suc (k + 1) = omega arith in
-    inr (unmade_at b d old first es k z rest (omega (arith, lt)) (behind ∙ ap (λ (n : ℕ). drop n (e ∷ es)) on) none)
+    inr (unmade_at b d old first es k z rest (omega (arith, lt)) (behind ∙ ap (λ (n : ℕ). drop n (e ∷ es)) on) unmade)
 
 -- the targets of the first k, behind that of sector 0
 pub record IsBegun {b : _} (d : Sectors) (head : Target b) (old : List Ebr) (first : ℕ) (chain : List Ebr) (k : ℕ) (ts : List (Target b)) : Type 0 where

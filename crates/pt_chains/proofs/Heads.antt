@@ -1,11 +1,11 @@
 -- Sector 0 with its records changed.
-use Rattle.std.proofs.Common.{◌≡◌, ℕ, ◌<◌, ◌≤◌, ◌⊎◌, List, take, get_or, Option, None, Bool, true, false, not, ◌+◌, refl, sym, subst, ◌∙◌, arith, inl, inr}
+use Rattle.std.proofs.Common.{◌≡◌, ℕ, ◌<◌, ◌≤◌, ◌⊎◌, List, length, take, get_or, Option, None, Bool, true, false, not, ◌+◌, refl, sym, subst, ◌∙◌, arith, inl, inr}
 use Rattle.std.specs.Prelude.{IsTrue, slice_index}
 use Rattle.std.specs.Prelude.{◌↔◌}
 use Rattle.std.proofs.lemmas.Bool.{false≢true}
 use Rattle.pt_mbr.specs.Bytes.{HasSignature}
 use Rattle.pt_mbr.specs.Mbr.{IsBootIndicator, HasBootIndicators, AreRecords, MbrBytes, BearsProtective}
-use Rattle.pt_mbr.specs.Changes.{IsChanged}
+use Rattle.pt_mbr.specs.Changes.{IsChanged, mbr_of}
 use Rattle.pt_mbr.specs.declared.record.Record.{Record}
 use Rattle.pt_mbr.specs.declared.mbr.Mbr.{Mbr}
 use Rattle.pt_recover.specs.Mbr.{IsMbrSector}
@@ -21,6 +21,10 @@ reads_so m rs b false is same told = (
   (λ at. refl),
 )
 
+-- an MBR of these records that is no protective one
+pub is_mbr : (rs : List (Option Record)) (b : List ℕ) → MbrBytes (mbr_of rs) b → ¬ BearsProtective b → IsMbrSector b × AreRecords rs b
+is_mbr rs b read plain = (record { formed = read.formed; plain = plain }, read.records)
+
 -- the facts of a sector whose records were changed
 module _ (old new : List (Option Record)) (under c : List ℕ)
     (other : (i : ℕ) → (i < 446) ⊎ (510 ≤ i) → slice_index c i ≡ slice_index under i) (boot : take 440 c ≡ take 440 under)
@@ -28,8 +32,8 @@ module _ (old new : List (Option Record)) (under c : List ℕ)
   target_at : (k : ℕ) → k < 4 → IsRecordTarget (get_or old k None) (get_or new k None) k under c
   target_at k few = target_of (get_or old k None) (get_or new k None) k under c (each k few)
 
-  pub head_some : IsMbrSector c × AreRecords new c → IsHeadTarget old new under c
-  head_some is = record { formed = is.0; records = is.1; boot = boot; other = other; each = target_at }
+  pub head_some : length c ≡ length under → IsMbrSector c × AreRecords new c → IsHeadTarget old new under c
+  head_some count is = record { formed = is.0; records = is.1; boot = boot; count = count; other = other; each = target_at }
 
   -- another target is read the same way
   module _ (v : List ℕ) (is : IsHeadTarget old new under v) where

@@ -56,8 +56,8 @@ module _ (first : ℕ) (e w : Ebr) (link spec : Option Record) (under c : List �
     by_case (inl stays) = inl stays
     by_case (inr new) = inr (new.0, new.1 ∙ bytes)
 
-  pub over_some : EbrBytes first e.at e c → IsEbrOver first e w spec under c
-  over_some reads = record { was = was; reads = reads; other = other; logical = logical_target; next = next_target }
+  pub over_some : length c ≡ length under → EbrBytes first e.at e c → IsEbrOver first e w spec under c
+  over_some count reads = record { was = was; reads = reads; count = count; other = other; logical = logical_target; next = next_target }
 
   next_both : (v : List ℕ)
       → ((w.next ≡ e.next) × (record_at 1 v ≡ record_at 1 under)) ⊎ ((w.next ≢ e.next) × (record_at 1 v ≡ record_bytes spec))

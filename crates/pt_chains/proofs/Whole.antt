@@ -2,15 +2,18 @@
 use Rattle.std.proofs.Common.{◌≡◌, ℕ, ◌⊎◌, List, [], ◌∷◌, Option, Some, None, Result, Ok, Err, sym, ap, subst, ◌∙◌, inl, inr}
 use Rattle.std.specs.Prelude.{IfOk, IfSome, IfNone}
 use Rattle.pt_sector.specs.Sectors.{Sectors, sector}
+use Rattle.pt_mbr.specs.Changes.{ArePlain, mbr_of}
 use Rattle.pt_mbr.specs.Chain.{StandsAt}
+use Rattle.pt_mbr.specs.Ebr.{EbrBytes}
+use Rattle.pt_mbr.specs.Mbr.{MbrBytes, BearsProtective}
 use Rattle.pt_mbr.specs.declared.ebr.Ebr.{Ebr}
 use Rattle.pt_mbr.specs.declared.record.Record.{Record}
 use Rattle.pt_recover.specs.Mbr.{extended_of}
-use Rattle.pt_cases.specs.Records.{IsEbrOver, IsEbrMade, IsEbrTarget, IsLinked}
+use Rattle.pt_cases.specs.Records.{IsHeadTarget, IsEbrOver, IsEbrMade, IsEbrTarget, IsLinked, link_to}
 use Rattle.pt_targets.specs.Targets.{HasChain, HasEbrs, AreMbrTargets}
 use Rattle.pt_targets.specs.declared.target.Target.{Target}
-use Rattle.pt_chains.specs.Steps.{StartsAt, IsHeadOf, AreChainTargets}
-use Rattle.pt_targets.specs.Unmade.{HasUnmadeEbr, HasUnmadeIn}
+use Rattle.pt_chains.specs.Steps.{StartsAt, IsHeadOf, AreChainTargets, AreMbr, AreEbr}
+use Rattle.pt_targets.specs.Unmade.{FitsEbr, IsUnmadeHead, IsUnmadeEbr, HasUnmadeEbr, HasUnmadeIn}
 
 -- what a call gives, weakened
 pub some_weaker : {T E : Type 0} (r : Result (Option T) E) (P Q : T → Type 0) → ((x : T) → P x → Q x) → IfOk r (λ o. IfSome o P) → IfOk r (λ o. IfSome o Q)
@@ -30,6 +33,36 @@ over_is b d old first e link under v holds stands is = IsEbrTarget.over is.0 sta
 
 pub made_is : (b : ℕ) (d : Sectors) (old : List Ebr) (first : ℕ) (e : Ebr) (link : Option Record) (v : List ℕ) → ¬ StandsAt e.at.0 old → IsEbrMade b first e link v → IsEbrTarget b d old first e link v
 made_is b d old first e link v nowhere is = IsEbrTarget.made nowhere is
+
+-- sector 0, where it has no target
+pub head_unmade : (d : Sectors) (old new : List (Option Record)) (under : List ℕ) → under ≡ sector d 0
+    → ((v : List ℕ) → ¬ IsHeadTarget old new under v) → ¬ (ArePlain new × AreMbr old under) → IsUnmadeHead d old new
+head_unmade d old new under holds none unfit = record {
+  none = subst (λ (u : List ℕ). (v : List ℕ) → ¬ IsHeadTarget old new u v) holds none;
+  unfit = λ fit. unfit (fit.0, (subst (λ (u : List ℕ). MbrBytes (mbr_of old) u) (sym holds) fit.1.bytes, subst (λ (u : List ℕ). ¬ BearsProtective u) (sym holds) fit.1.plain));
+}
+
+-- an extended boot record that stood there, and has no target
+pub over_unmade : (b : ℕ) (d : Sectors) (old : List Ebr) (first : ℕ) (e : Ebr) (es : List Ebr) (under : List ℕ) → under ≡ sector d e.at.0 → StandsAt e.at.0 old
+    → ((w : Ebr) (v : List ℕ) → ¬ IsEbrOver first e w (link_to first es) under v) → ¬ (FitsEbr first e es × AreEbr e under) → IsUnmadeEbr b d old first e es
+over_unmade b d old first e es under holds stands none unfit = record {
+  none = refuse;
+  unfit = λ fit. (let some = fit.1 stands in unfit (fit.0, (some.0, some.1, subst (λ (u : List ℕ). EbrBytes some.0 e.at some.1 u) (sym holds) some.2)));
+} where
+  refuse : (v : List ℕ) → ¬ IsEbrTarget b d old first e (link_to first es) v
+  refuse v (IsEbrTarget.over w there is) = none w v (subst (λ (u : List ℕ). IsEbrOver first e w (link_to first es) u v) (sym holds) is)
+  refuse v (IsEbrTarget.made nowhere is) = nowhere stands
+
+-- a new one that has none
+pub made_unmade : (b : ℕ) (d : Sectors) (old : List Ebr) (first : ℕ) (e : Ebr) (es : List Ebr) → ¬ StandsAt e.at.0 old
+    → ((v : List ℕ) → ¬ IsEbrMade b first e (link_to first es) v) → ¬ FitsEbr first e es → IsUnmadeEbr b d old first e es
+made_unmade b d old first e es nowhere none unfit = record {
+  none = refuse;
+  unfit = λ fit. unfit fit.0;
+} where
+  refuse : (v : List ℕ) → ¬ IsEbrTarget b d old first e (link_to first es) v
+  refuse v (IsEbrTarget.over w there is) = nowhere there
+  refuse v (IsEbrTarget.made other is) = none v is
 
 -- of the lone extended record
 has_chain : (b n : ℕ) (d : Sectors) (old : List Ebr) (rs : List Record) (first : ℕ) (chain : List Ebr) (ts : List (Target b)) → StartsAt rs first → IsLinked n rs chain → HasEbrs d old first chain ts → HasChain d old rs chain ts

@@ -2,6 +2,9 @@
 use Rattle.std.specs.Prelude.{◌≡◌, ◌⊎◌, ◌+◌, ℕ, List, [], ◌∷◌, length, Option, Contains}
 use Rattle.pt_sector.specs.Sectors.{Sectors, sector}
 use Rattle.pt_mbr.specs.Chain.{StandsAt}
+use Rattle.pt_mbr.specs.Changes.{mbr_of}
+use Rattle.pt_mbr.specs.Ebr.{EbrBytes}
+use Rattle.pt_mbr.specs.Mbr.{MbrBytes, BearsProtective}
 use Rattle.pt_mbr.specs.declared.ebr.Ebr.{Ebr}
 use Rattle.pt_mbr.specs.declared.record.Record.{Record}
 use Rattle.pt_recover.specs.Mbr.{extent_of}
@@ -22,6 +25,14 @@ abbrev pub StartsAt : List Record → ℕ → Type 0
 StartsAt [] first = Unit {0}
 StartsAt (r ∷ []) first = first ≡ (extent_of r).first
 StartsAt (r ∷ s ∷ rs) first = Unit {0}
+
+-- these bytes are an MBR of these records, and no protective one
+abbrev pub AreMbr : List (Option Record) → List ℕ → Type 0
+AreMbr records b = MbrBytes (mbr_of records) b × (¬ BearsProtective b)
+
+-- these bytes are an extended boot record in the place of this one, under some first sector
+abbrev pub AreEbr : Ebr → List ℕ → Type 0
+AreEbr e b = (first : ℕ) × (w : Ebr) × EbrBytes first e.at w b
 
 -- the target of sector 0
 pub record IsHeadOf {b : _} (d : Sectors) (old new : List (Option Record)) (t : Target b) : Type 0 where

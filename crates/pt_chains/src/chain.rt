@@ -1,17 +1,17 @@
 //! The targets of sector 0 and of a chain.
 
-ghost use Rattle.std.specs.Prelude.{◌≡◌, ◌<◌, ◌^◌, ◌↔◌, ◌⊎◌, ◌++◌, ◌∷◌, [], ℕ, List, All, Contains, IfOk, OnOk, IfSome, IfNone, IsTrue};
+ghost use Rattle.std.specs.Prelude.{◌≡◌, ◌<◌, ◌^◌, ◌↔◌, ◌⊎◌, ◌++◌, ◌∷◌, [], All, Contains, IfOk, OnOk, IfSome, IfNone, IsTrue};
 ghost use Rattle.pt_sector.specs.Calls.{Blames};
 ghost use Rattle.pt_sector.specs.Reads.{OnlyReads, fault_of, read_of};
-ghost use Rattle.pt_sector.specs.Sectors.{IsSectorSize, sector};
+ghost use Rattle.pt_sector.specs.Sectors.{IsSectorSize};
 ghost use Rattle.pt_mbr.specs.Chain.{StandsAt};
 ghost use Rattle.pt_mbr.specs.declared.ebr.Ebr.{Ebr};
 ghost use Rattle.pt_recover.specs.Mbr.{extended_of};
-ghost use Rattle.pt_cases.specs.Records.{IsHeadTarget, IsEbrTarget, IsLinked, link_to};
+ghost use Rattle.pt_cases.specs.Records.{IsLinked};
 ghost use Rattle.pt_targets.specs.Targets.{AreMbrTargets};
 ghost use Rattle.pt_targets.specs.declared.target.Target.{Target};
 ghost use Rattle.pt_chains.specs.Steps.{IsHeadOf, IsEbrOf, AreChainTargets};
-ghost use Rattle.pt_targets.specs.Unmade.{HasUnmade, HasUnmadeEbr};
+ghost use Rattle.pt_targets.specs.Unmade.{HasUnmade, HasUnmadeEbr, IsUnmadeHead, IsUnmadeEbr};
 
 use crate::ebrs::{ebr_made, ebr_over};
 use crate::extended::extended_first;
@@ -46,7 +46,7 @@ fn head_at<const B: usize, D: Disk<B>>(
     ensures blames { Blames read_of result (D.faults disk.old) (D.faults disk.new) }
     ensures place { IfOk result (λ o. IfSome o (λ t. t.at.0 ≡ 0)) }
     ensures some { D.tells → IfOk result (λ o. IfSome o (λ t. IsHeadOf (D.told disk.old).seen old.now new.now t)) }
-    ensures none { D.tells → IfOk result (λ o. IfNone o ((v : List ℕ) → ¬ IsHeadTarget old.now new.now (sector (D.told disk.old).seen 0) v)) }
+    ensures none { D.tells → IfOk result (λ o. IfNone o (IsUnmadeHead (D.told disk.old).seen old.now new.now)) }
 {
     let mut under = [0; B];
     read_sector(disk, Lba(0), &mut under)?;
@@ -76,7 +76,7 @@ fn ebr_at<const B: usize, D: Disk<B>>(
     ensures blames { Blames read_of result (D.faults disk.old) (D.faults disk.new) }
     ensures place { IfOk result (λ o. IfSome o (λ t. t.at.0 ≡ ebr.now.at.0)) }
     ensures some { D.tells → IfOk result (λ o. IfSome o (λ t. IsEbrOf (D.told disk.old).seen old.now first.0 ebr.now rest.now t)) }
-    ensures none { D.tells → IfOk result (λ o. IfNone o ((v : List ℕ) → ¬ IsEbrTarget B (D.told disk.old).seen old.now first.0 ebr.now (link_to first.0 rest.now) v)) }
+    ensures none { D.tells → IfOk result (λ o. IfNone o (IsUnmadeEbr B (D.told disk.old).seen old.now first.0 ebr.now rest.now)) }
 {
     let mut under = [0; B];
     read_sector(disk, ebr.at, &mut under)?;

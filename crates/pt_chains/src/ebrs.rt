@@ -1,11 +1,15 @@
 //! What an extended boot record must hold.
 
-ghost use Rattle.std.specs.Prelude.{◌≡◌, ◌<◌, ◌%◌, ◌^◌, ◌↔◌, ℕ, List, IfSome, IfNone, IsTrue};
+ghost use Rattle.std.specs.Prelude.{◌≡◌, ◌<◌, ◌%◌, ◌^◌, ◌↔◌, ℕ, List, Option, IfSome, IfNone, IsTrue};
 ghost use Rattle.pt_sector.specs.Sectors.{IsSectorSize};
+ghost use Rattle.pt_sector.specs.declared.address.Lba.{Lba};
+ghost use Rattle.pt_mbr.specs.Changes.{LinksTo};
 ghost use Rattle.pt_mbr.specs.Ebr.{EbrBytes};
 ghost use Rattle.pt_mbr.specs.Record.{record_bytes};
 ghost use Rattle.pt_mbr.specs.declared.ebr.Ebr.{Ebr};
 ghost use Rattle.pt_cases.specs.Records.{IsEbrOver, IsEbrMade, link_to, reach};
+ghost use Rattle.pt_targets.specs.Unmade.{LeadsOn, FitsEbr};
+ghost use Rattle.pt_chains.specs.Steps.{AreEbr};
 
 use pt_mbr::{Ebr, Record, change_ebr, decode_ebr, new_ebr};
 use pt_sector::{Lba, Sector};
@@ -29,7 +33,8 @@ fn low_bits(number: u64) -> u32
 // The link to the first of these, none where there is none. Of a start and of a size it has the low 32 bits; what reads
 // the sector back tells whether it leads there.
 fn link_for(first: Lba, rest: &[Ebr]) -> Option<Record>
-    ensures { record_bytes result ≡ record_bytes (link_to first.0 rest.now) }
+    ensures bytes { record_bytes result ≡ record_bytes (link_to first.0 rest.now) }
+    ensures leads { (next : Option Lba) → LeadsOn first.0 next rest.now → LinksTo first.0 next result }
 {
     if rest.is_empty() {
         return None;
@@ -69,6 +74,7 @@ pub(crate) fn ebr_over<const B: usize>(
     requires small { first.0 < 2 ^ 63 }
     ensures some { IfSome result (λ v. (w : Ebr) × IsEbrOver first.0 ebr.now w (link_to first.0 rest.now) under.now v) }
     ensures none { IfNone result ((w : Ebr) (v : List ℕ) → ¬ IsEbrOver first.0 ebr.now w (link_to first.0 rest.now) under.now v) }
+    ensures unfit { IfNone result (¬ (FitsEbr first.0 ebr.now rest.now × AreEbr ebr.now under.now)) }
 {
     let was = match decode_ebr(under, first, ebr.at) {
         Ok(was) => was,
@@ -89,6 +95,7 @@ pub(crate) fn ebr_made<const B: usize>(first: Lba, ebr: &Ebr, rest: &[Ebr]) -> O
     requires small { first.0 < 2 ^ 63 }
     ensures some { IfSome result (λ v. IsEbrMade B first.0 ebr.now (link_to first.0 rest.now) v) }
     ensures none { IfNone result ((v : List ℕ) → ¬ IsEbrMade B first.0 ebr.now (link_to first.0 rest.now) v) }
+    ensures unfit { IfNone result (¬ FitsEbr first.0 ebr.now rest.now) }
 {
     let made = new_ebr(ebr, &link_for(first, rest));
     if reads_as(&made, first, ebr) {

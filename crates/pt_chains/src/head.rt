@@ -4,7 +4,9 @@ ghost use Rattle.std.specs.Prelude.{◌≡◌, ◌↔◌, ℕ, List, IfSome, IfN
 ghost use Rattle.pt_sector.specs.Sectors.{IsSectorSize};
 ghost use Rattle.pt_mbr.specs.Mbr.{AreRecords};
 ghost use Rattle.pt_recover.specs.Mbr.{IsMbrSector};
+ghost use Rattle.pt_mbr.specs.Changes.{ArePlain};
 ghost use Rattle.pt_cases.specs.Records.{IsHeadTarget};
+ghost use Rattle.pt_chains.specs.Steps.{AreMbr};
 
 use pt_mbr::{Record, bears_protective, change_records, decode_mbr};
 use pt_sector::Sector;
@@ -29,6 +31,7 @@ pub(crate) fn head_target<const B: usize>(
     requires size { IsSectorSize B }
     ensures some { IfSome result (λ v. IsHeadTarget old.now new.now under.now v) }
     ensures none { IfNone result ((v : List ℕ) → ¬ IsHeadTarget old.now new.now under.now v) }
+    ensures unfit { IfNone result (¬ (ArePlain new.now × AreMbr old.now under.now)) }
 {
     let changed = change_records(under, old, new);
     if reads_as(&changed, new) {

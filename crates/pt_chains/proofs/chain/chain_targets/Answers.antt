@@ -3,8 +3,8 @@ use Rattle.std.specs.Prelude.{IfSome, IfNone}
 use Rattle.pt_sector.specs.Sectors.{Sectors}
 use Rattle.pt_sector.specs.Device.{Told}
 use Rattle.pt_mbr.specs.declared.ebr.Ebr.{Ebr}
-use Rattle.pt_cases.specs.Records.{IsEbrTarget, link_to}
 use Rattle.pt_targets.specs.declared.target.Target.{Target}
+use Rattle.pt_targets.specs.Unmade.{IsUnmadeEbr}
 use Rattle.pt_chains.specs.Steps.{IsEbrOf}
 use Rattle.pt_chains.proofs.Begun.{rest_of, unmade_at, begun_more, placed_more}
 use Rattle.pt_chains.proofs.chain.chain_targets.Goals as goal
@@ -16,10 +16,10 @@ returns-in-None-clause-none g c = λ tells.
     let chain : List Ebr = c.args.chain.now in
     let rest : List Ebr = take (length chain - (c.loop-k.k + 1)) (drop (c.loop-k.k + 1) chain) in
     let first : ℕ = c.args.first.0 in
-    let none : (v : List ℕ) → ¬ IsEbrTarget g.row.B (g.D.Disk.told c.loop-k.disk).seen c.args.old.now first (get_or chain c.loop-k.k z) (link_to first rest) v =
-    subst (λ (o : Option (Target g.row.B)). IfNone o ((v : List ℕ) → ¬ IsEbrTarget g.row.B (g.D.Disk.told c.loop-k.disk).seen c.args.old.now first (get_or chain c.loop-k.k z) (link_to first rest) v)) c.in-None.is (c.in_ok-target.ensures.none tells) in
+    let unmade : IsUnmadeEbr g.row.B (g.D.Disk.told c.loop-k.disk).seen c.args.old.now first (get_or chain c.loop-k.k z) rest =
+    subst (λ (o : Option (Target g.row.B)). IfNone o (IsUnmadeEbr g.row.B (g.D.Disk.told c.loop-k.disk).seen c.args.old.now first (get_or chain c.loop-k.k z) rest)) c.in-None.is (c.in_ok-target.ensures.none tells) in
     unmade_at g.row.B d c.args.old.now first chain c.loop-k.k z rest c.loop-k-test.true (rest_of chain c.loop-k.k)
-    (subst (λ (t : Told). (v : List ℕ) → ¬ IsEbrTarget g.row.B t.seen c.args.old.now first (get_or chain c.loop-k.k z) (link_to first rest) v) (c.loop-k.invariant.same.same tells) none)
+    (subst (λ (t : Told). IsUnmadeEbr g.row.B t.seen c.args.old.now first (get_or chain c.loop-k.k z) rest) (c.loop-k.invariant.same.same tells) unmade)
 
 pub loop-k-preserved : goal.loop-k-preserved
 loop-k-preserved g c =
