@@ -9,7 +9,7 @@ use Rattle.pt_mbr.specs.Mbr.{MbrBytes, BearsProtective}
 use Rattle.pt_mbr.specs.declared.ebr.Ebr.{Ebr}
 use Rattle.pt_mbr.specs.declared.record.Record.{Record}
 use Rattle.pt_recover.specs.Mbr.{extended_of}
-use Rattle.pt_cases.specs.Records.{IsHeadTarget, IsEbrOver, IsEbrMade, IsEbrTarget, IsLinked, link_to}
+use Rattle.pt_cases.specs.Records.{IsHeadTarget, IsEbrOver, IsEbrMade, IsEbrTarget, over, made, IsLinked, link_to}
 use Rattle.pt_targets.specs.Targets.{HasChain, HasEbrs, AreMbrTargets}
 use Rattle.pt_targets.specs.declared.target.Target.{Target}
 use Rattle.pt_chains.specs.Steps.{StartsAt, IsHeadOf, AreChainTargets, AreMbr, AreEbr}
@@ -50,8 +50,8 @@ over_unmade b d old first e es under holds stands none unfit = record {
   unfit = λ fit. (let some = fit.1 stands in unfit (fit.0, (some.0, some.1, subst (λ (u : List ℕ). EbrBytes some.0 e.at some.1 u) (sym holds) some.2)));
 } where
   refuse : (v : List ℕ) → ¬ IsEbrTarget b d old first e (link_to first es) v
-  refuse v (IsEbrTarget.over w there is) = none w v (subst (λ (u : List ℕ). IsEbrOver first e w (link_to first es) u v) (sym holds) is)
-  refuse v (IsEbrTarget.made nowhere is) = nowhere stands
+  refuse v (over w there is) = none w v (subst (λ (u : List ℕ). IsEbrOver first e w (link_to first es) u v) (sym holds) is)
+  refuse v (made nowhere is) = nowhere stands
 
 -- a new one that has none
 pub made_unmade : (b : ℕ) (d : Sectors) (old : List Ebr) (first : ℕ) (e : Ebr) (es : List Ebr) → ¬ StandsAt e.at.0 old
@@ -61,8 +61,8 @@ made_unmade b d old first e es nowhere none unfit = record {
   unfit = λ fit. unfit fit.0;
 } where
   refuse : (v : List ℕ) → ¬ IsEbrTarget b d old first e (link_to first es) v
-  refuse v (IsEbrTarget.over w there is) = nowhere there
-  refuse v (IsEbrTarget.made other is) = none v is
+  refuse v (over w there is) = nowhere there
+  refuse v (made other is) = none v is
 
 -- of the lone extended record
 has_chain : (b n : ℕ) (d : Sectors) (old : List Ebr) (rs : List Record) (first : ℕ) (chain : List Ebr) (ts : List (Target b)) → StartsAt rs first → IsLinked n rs chain → HasEbrs d old first chain ts → HasChain d old rs chain ts

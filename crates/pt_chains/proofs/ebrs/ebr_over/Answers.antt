@@ -22,7 +22,7 @@ returns-else-reads_as-clause-none g c w v is =
 pub returns-in-Err-clause-unfit : goal.returns-in-Err-clause-unfit
 returns-in-Err-clause-unfit g c fit =
     let under = ebr_rebased_lem fit.1.0 c.args.first.0 c.args.ebr.now.at fit.1.1 c.args.under.now fit.1.2 in
-    fault_has_no_ebr c.args.first.0 c.args.ebr.now.at under.0 c.in-Err.e c.args.under.now c.in-Err.ensures.err under.1
+    fault_has_no_ebr c.args.first.0 c.args.ebr.now.at under.0 c.in-Err.field-0 c.args.under.now c.in-Err.ensures.err under.1
 
 -- what leads on with a link of 32 bits is read again
 pub returns-else-reads_as-clause-unfit : goal.returns-else-reads_as-clause-unfit
