@@ -18,6 +18,11 @@ returns-else-reads_as-clause-none g c w v is =
     false≢true (sym c.if-reads_as.false ∙ c.reads_as.ensures.1 (over_same c.args.first.0 c.args.ebr.now c.in-Ok.was c.link_for.result (link_to c.args.first.0 c.args.rest.now) c.args.under.now c.change_ebr-changed.result
     c.in-Ok.ensures.ok c.change_ebr-changed.ensures.other c.change_ebr-changed.ensures.logical c.change_ebr-changed.ensures.link c.link_for.ensures.bytes w v (omega arith) (omega arith) is))
 
+-- what isn't an extended boot record under this first sector has no other over it
+pub returns-in-Err-clause-none : goal.returns-in-Err-clause-none
+returns-in-Err-clause-none g c w v is =
+    fault_has_no_ebr c.args.first.0 c.args.ebr.now.at w c.in-Err.field-0 c.args.under.now c.in-Err.ensures.err is.was
+
 -- an extended boot record under some first sector is one under this
 pub returns-in-Err-clause-unfit : goal.returns-in-Err-clause-unfit
 returns-in-Err-clause-unfit g c fit =
