@@ -137,7 +137,8 @@ fn chain_targets<const B: usize, D: Disk<B>>(
 }
 
 /// What sector 0 and the extended boot records must hold for these records and this chain, on an MBR disk that has the
-/// old ones: first that of sector 0, then those of the chain in its order. None where no bytes would do for one of them.
+/// old ones: first that of sector 0, then those of the chain in its order. None where no bytes would do for one of them:
+/// its sector isn't as the old ones say, or what is wanted there isn't read again as it is written.
 ///
 /// A record that stays keeps its bytes, and one that becomes unused is zeros. A link is written anew where it would lead
 /// elsewhere from the wanted extended partition's first sector, with the low 32 bits of its start and of its size; what
