@@ -60,7 +60,8 @@ ebrs_cover d old first (e ∷ es) ts is s (suc k, lt, at) = ebrs_cover d old fir
 
 chain_covers : {b : ℕ} (d : Sectors) (old : List Ebr) (n : ℕ) (rs : List Record) (chain : List Ebr) (ts : List (Target b))
     → IsLinked n rs chain → HasChain d old rs chain ts → Covers place ts (chain_sectors chain)
-chain_covers d old n [] chain ts linked is = subst (λ (c : List Ebr). Covers place ts (chain_sectors c)) (sym linked) (λ s has. absurd (omega (arith, has.1)))
+chain_covers d old n [] chain ts linked is =
+    subst (λ (c : List Ebr). Covers place ts (chain_sectors c)) (sym linked) (λ s has. absurd (omega (arith, has.1)))
 chain_covers d old n (r ∷ rs) chain ts linked is = ebrs_cover d old (extent_of r).first chain ts is
 
 -- one sector before others
@@ -84,19 +85,24 @@ module _ (b : ℕ) (d : Sectors) (o : Option Layout) (p : Layout) (shaped : Shap
   -- the targets of the label places
   labels_apart : (ts : List (Target b)) → AreLabelTargets d o p ts → ¬ HasTwoOfOne ts
   labels_apart ts are =
-      none_share (label_sectors places) ts (labels_differ_lem b p shaped sound) (labels_cover d o ts places p.labels are.has) (are.count ∙ sym (length-map places (λ (w : Slice). place_of w)))
+      none_share (label_sectors places) ts (labels_differ_lem b p shaped sound) (labels_cover d o ts places p.labels are.has)
+      (are.count ∙ sym (length-map places (λ (w : Slice). place_of w)))
 
   -- with those of sector 0 and of the chain
   mbr_apart : (old_records records : List (Option Record)) (old chain : List Ebr) (heads labels : List (Target b))
       → p.body ≡ Mbr records chain
       → AreMbrTargets d old_records old records chain heads → AreLabelTargets d o p labels → ¬ HasTwoOfOne (heads ++ labels)
   mbr_apart old_records records old chain heads labels is are_heads are_labels =
-      let own : AllDiffer (own_sectors b p.sectors (Mbr records chain)) = subst (λ (y : Body). AllDiffer (own_sectors b p.sectors y)) is (own_differ_lem b p shaped sound) in
+      let own : AllDiffer (own_sectors b p.sectors (Mbr records chain)) =
+      subst (λ (y : Body). AllDiffer (own_sectors b p.sectors y)) is (own_differ_lem b p shaped sound) in
       let same : places_of b p.sectors (Mbr records chain) ≡ places = ap (λ (y : Body). places_of b p.sectors y) (sym is) in
-      let differ : AllDiffer (0 ∷ (chain_sectors chain ++ label_sectors places)) = subst (λ (ws : List Slice). AllDiffer (0 ∷ (chain_sectors chain ++ label_sectors ws))) same own in
-      let ebrs = chain_covers d old p.sectors (extended_of records) chain heads (chain_is_linked_lem b p records chain shaped sound is) are_heads.ebrs in
+      let differ : AllDiffer (0 ∷ (chain_sectors chain ++ label_sectors places)) =
+      subst (λ (ws : List Slice). AllDiffer (0 ∷ (chain_sectors chain ++ label_sectors ws))) same own in
+      let linked = chain_is_linked_lem b p records chain shaped sound is in
+      let ebrs = chain_covers d old p.sectors (extended_of records) chain heads linked are_heads.ebrs in
       let first = covers_first 0 (chain_sectors chain) heads are_heads.head.target are_heads.head.contains are_heads.head.at ebrs in
-      let covers = covers_both (0 ∷ chain_sectors chain) (label_sectors places) heads labels first (labels_cover d o labels places p.labels are_labels.has) in
+      let others = labels_cover d o labels places p.labels are_labels.has in
+      let covers = covers_both (0 ∷ chain_sectors chain) (label_sectors places) heads labels first others in
       let many : length (heads ++ labels) ≡ length (0 ∷ (chain_sectors chain ++ label_sectors places)) = omega (
         arith,
         length-append heads labels,

@@ -31,7 +31,8 @@ walk_holds d x (Some f) [] e walk stands = absurd stands
 walk_holds d x None (w ∷ ws) e walk stands = absurd walk
 walk_holds d x (Some f) (w ∷ ws) e walk (inl here) =
     let there : f.0 ≡ e.at.0 = sym (ap (λ (l : Lba). l.0) walk.0.bytes.place) ∙ sym here in
-    let bytes : EbrBytes x.first e.at w (sector d e.at.0) = subst (λ (l : Lba). EbrBytes x.first l w (sector d l.0)) (same_place f e.at there) walk.0.bytes in
+    let bytes : EbrBytes x.first e.at w (sector d e.at.0) =
+    subst (λ (l : Lba). EbrBytes x.first l w (sector d l.0)) (same_place f e.at there) walk.0.bytes in
     (x.first, w, bytes)
 walk_holds d x (Some f) (w ∷ ws) e walk (inr later) = walk_holds d x w.next ws e walk.2 later
 
@@ -71,7 +72,8 @@ chain_made : (b : ℕ) (d : Sectors) (p : Layout) (records : List (Option Record
     → ((e : Ebr) → StandsAt e.at.0 old → HoldsEbr d e) → Shaped b p → Sound b p → p.body ≡ Mbr records chain → ¬ HasUnmadeIn b d old es chain
 chain_made b d p records chain old [] lone holds shaped sound is unmade = unmade
 chain_made b d p records chain old (r ∷ []) lone holds shaped sound is unmade =
-    ebrs_made b d old (extent_of r).first chain holds (chain_leads_lem b p records chain shaped is) (λ e has. links_fit_lem b p records chain r e shaped sound is lone has)
+    ebrs_made b d old (extent_of r).first chain holds (chain_leads_lem b p records chain shaped is)
+    (λ e has. links_fit_lem b p records chain r e shaped sound is lone has)
     (λ e has. shaped_logical_lem b p records chain e shaped is has) unmade
 chain_made b d p records chain old (r ∷ s ∷ es) lone holds shaped sound is unmade =
     absurd (subst (λ (l : List Record). IsLinked p.sectors l chain) lone (chain_is_linked_lem b p records chain shaped sound is))
@@ -84,4 +86,5 @@ edit_made b d o p records chain size from keeps sound is was (inl head) =
     head.unfit (shaped_plain_lem b p records chain keeps.shaped is, old_records b d o from was)
 edit_made b d o p records chain size from keeps sound is was (inr unmade) =
     let there = old_there b d o from was in
-    chain_made b d p records chain was.chain (extended_of records) refl (λ e stands. chain_holds d (extended_of was.records) was.chain e there.1 stands) keeps.shaped sound is unmade
+    let holds : (e : Ebr) → StandsAt e.at.0 was.chain → HoldsEbr d e = λ e stands. chain_holds d (extended_of was.records) was.chain e there.1 stands in
+    chain_made b d p records chain was.chain (extended_of records) refl holds keeps.shaped sound is unmade
