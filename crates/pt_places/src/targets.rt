@@ -2,7 +2,7 @@
 
 ghost use Rattle.std.specs.Prelude.{◌≡◌, ◌↔◌, IsTrue, IfOk, MatchOption};
 ghost use Rattle.pt_sector.specs.Sectors.{IsSectorSize};
-ghost use Rattle.pt_places.specs.Places.{IsLeftAt, FirstIs, StaysAt, KeptIs, WrittenIs, LabelledIs, TargetIs, AreTargets, HasNone};
+ghost use Rattle.pt_places.specs.Places.{IsLeftAt, FirstIs, StaysAt, KeptIs, IsArray, WrittenIs, LabelledIs, TargetIs, AreTargets, HasNone};
 
 use crate::had::had_label;
 use crate::place::Place;
@@ -63,6 +63,13 @@ fn kept<const B: usize>(place: &Place<B>, label: &Label) -> Option<Target<B>>
     }
 }
 
+// That a sector is an array of bytes. Its type says so; contracts see lists of numbers.
+fn is_array<const B: usize>(bytes: &Sector<B>)
+    ensures { IsArray B bytes.now }
+{
+    let _count = bytes.len();
+}
+
 // A label over these bytes, if it reads back.
 fn written<const B: usize>(
     place: &Place<B>,
@@ -75,12 +82,16 @@ fn written<const B: usize>(
 {
     let slice = place.spot.slice;
     match encode_for(label, slice.first, slice.len, under) {
-        Some(bytes) => Some(Target {
-            at: place.at,
-            bytes,
-            under: place.bytes,
-            kind,
-        }),
+        Some(bytes) => {
+            is_array(&bytes);
+            is_array(&place.bytes);
+            Some(Target {
+                at: place.at,
+                bytes,
+                under: place.bytes,
+                kind,
+            })
+        }
         None => None,
     }
 }
