@@ -11,7 +11,6 @@ use Rattle.pt_bsd.specs.declared.label.Label.{Label}
 use Rattle.pt_bsd.specs.declared.label.LabelEntry.{LabelEntry}
 use Rattle.pt_recover.specs.declared.layout.Slice.{Slice}
 use Rattle.pt_cases.specs.Targets.{IsEncoded}
-use Rattle.pt_places.specs.Places.{IsArray}
 use Rattle.pt_places.proofs.SameBytes.{AreBytes, Same, join, number_same, range_same, drop_same}
 use Rattle.pt_places.proofs.Sums.{sum_same}
 
@@ -79,7 +78,7 @@ module _ (v u : List ℕ) (bv : AreBytes v) (bu : AreBytes u) where
 
   -- the first c entries
   entries : (l : Label) (c : ℕ) → c ≤ 8 → c ≤ counted_in v → HasEntries l v → HasEntries l u → Same 148 (place_of c) v u
-  entries l zero most counts x y k le lt = absurd (omega arith)
+  entries l zero most counts x y = λ k le lt. absurd (omega arith)
   entries l (suc c) most counts x y =
       next 148 (place_of c) (place_of (suc c)) (entries l c (omega arith) (omega arith) x y)
       (λ k le lt. entry (entry_of l c) c (x.each c (omega arith)) (y.each c (omega arith)) (omega arith) k le (omega arith))
@@ -118,7 +117,7 @@ large b (inl is) = omega arith
 large b (inr is) = omega arith
 
 -- so are two sectors
-pub sector_one : (b : ℕ) (v u : List ℕ) (l : Label) (w : Slice) (over : List ℕ) → IsSectorSize b → IsArray b v → IsArray b u → IsEncoded l w over v → IsEncoded l w over u → v ≡ u
-sector_one b v u l w over size a c x y =
+pub sector_one : (b : ℕ) (v u : List ℕ) (l : Label) (w : Slice) (over : List ℕ) → IsSectorSize b → AreBytes v → AreBytes u → length v ≡ b → length u ≡ b → IsEncoded l w over v → IsEncoded l w over u → v ≡ u
+sector_one b v u l w over size bv bu cv cu x y =
     let wide = large b size in
-    one_encoding v u a.small c.small l w over (a.count ∙ sym c.count) (omega (arith, wide, a.count)) x y
+    one_encoding v u bv bu l w over (cv ∙ sym cu) (omega (arith, wide, cv)) x y

@@ -1,5 +1,5 @@
 -- Label places that were read, and what each must hold, told by bytes alone.
-use Rattle.std.specs.Prelude.{◌≡◌, ◌≢◌, ◌⊎◌, ◌<◌, ℕ, List, [], ◌∷◌, ◌++◌, length, replicate, slice_index, All, Contains, Option, Some, None}
+use Rattle.std.specs.Prelude.{◌≡◌, ◌≢◌, ◌⊎◌, ◌<◌, ℕ, List, [], ◌∷◌, ◌++◌, replicate, All, Contains, Option, Some, None}
 use Rattle.pt_sector.specs.Sectors.{Sectors, sector}
 use Rattle.pt_bsd.specs.Counted.{IsCounted, FitsSlice}
 use Rattle.pt_bsd.specs.Label.{LabelBytes, HasMagic}
@@ -86,11 +86,6 @@ KeptIs p l None = ¬ Reads p l p.bytes
 -- the label can be written for the slice of the place
 abbrev pub Fits : {b : _} → Place b → Label → Type 0
 Fits p l = IsCounted l × FitsSlice l p.spot.slice.first p.spot.slice.len
-
--- an array of so many bytes
-pub record IsArray (n : ℕ) (v : List ℕ) : Type 0 where
-  pub count : length v ≡ n
-  pub small : (i : ℕ) → slice_index v i < 256
 
 -- a label that was written over these bytes. If it stands there already as it would be written, it is written just so
 pub record IsWritten {b : _} (p : Place b) (l : Label) (over : List ℕ) (kind : Kind) (t : Target b) : Type 0 where

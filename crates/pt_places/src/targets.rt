@@ -1,8 +1,8 @@
 //! What each label place must hold.
 
-ghost use Rattle.std.specs.Prelude.{◌≡◌, ◌↔◌, IsTrue, IfOk, MatchOption};
+ghost use Rattle.std.specs.Prelude.{◌≡◌, ◌↔◌, ◌<◌, ℕ, IsTrue, IfOk, MatchOption, length, slice_index};
 ghost use Rattle.pt_sector.specs.Sectors.{IsSectorSize};
-ghost use Rattle.pt_places.specs.Places.{IsLeftAt, FirstIs, StaysAt, KeptIs, IsArray, WrittenIs, LabelledIs, TargetIs, AreTargets, HasNone};
+ghost use Rattle.pt_places.specs.Places.{IsLeftAt, FirstIs, StaysAt, KeptIs, WrittenIs, LabelledIs, TargetIs, AreTargets, HasNone};
 
 use crate::had::had_label;
 use crate::place::Place;
@@ -63,11 +63,18 @@ fn kept<const B: usize>(place: &Place<B>, label: &Label) -> Option<Target<B>>
     }
 }
 
-// That a sector is an array of bytes. Its type says so; contracts see lists of numbers.
-fn is_array<const B: usize>(bytes: &Sector<B>)
-    ensures { IsArray B bytes.now }
+fn are_bytes(bytes: &[u8])
+    ensures { (i : ℕ) → slice_index bytes.now i < 256 }
 {
     let _count = bytes.len();
+}
+
+// That a sector is an array of bytes. Its type says so; contracts see lists of numbers.
+fn is_array<const B: usize>(bytes: &Sector<B>)
+    ensures count { length bytes.now ≡ B }
+    ensures small { (i : ℕ) → slice_index bytes.now i < 256 }
+{
+    are_bytes(&bytes[..]);
 }
 
 // A label over these bytes, if it reads back.
