@@ -1,10 +1,10 @@
 -- A label has one encoding over the same bytes.
-use Rattle.std.proofs.Common.{◌≡◌, ℕ, zero, suc, ◌+◌, ◌*◌, ◌<◌, ◌≤◌, List, length, get_or, take, drop, Option, Some, None, refl, sym, ap, subst, ◌∙◌, arith, inl, inr, ext_get_or}
+use Rattle.std.proofs.Common.{◌≡◌, ℕ, zero, suc, ◌+◌, ◌<◌, ◌≤◌, List, length, get_or, take, drop, Option, Some, None, refl, sym, ap, subst, ◌∙◌, arith, inl, inr, ext_get_or}
 use Rattle.std.proofs.lemmas.Bool.{cases_lt}
 use Rattle.pt_sector.specs.Sectors.{IsSectorSize}
 use Rattle.pt_sum.specs.Words.{xor_of}
 use Rattle.pt_bsd.specs.Bytes.{number_at}
-use Rattle.pt_bsd.specs.Counted.{count_of, end_of}
+use Rattle.pt_bsd.specs.Counted.{count_of}
 use Rattle.pt_bsd.specs.Label.{LabelBytes, HasSum, HasEntries, IsEntry, counted_in, entry_of, geometry_at, place_of}
 use Rattle.pt_bsd.specs.Laws.{label_count}
 use Rattle.pt_bsd.specs.declared.label.Label.{Label}
