@@ -1,3 +1,6 @@
+pub mod SameBytes
+pub mod Sums
+pub mod Encodings
 pub mod Sides
 pub mod Pieces
 pub mod Lists

@@ -1,5 +1,5 @@
 -- From what the places hold to what the disk does.
-use Rattle.std.proofs.Common.{◌≡◌, ◌+◌, ◌∙◌, ⊎_elim, ℕ, List, ◌∷◌, ◌++◌, length, All, Option, Some, None, refl, sym, ap, subst, arith, inl, inr}
+use Rattle.std.proofs.Common.{◌≡◌, ◌+◌, ◌∙◌, ⊎_elim, ℕ, List, ◌∷◌, ◌++◌, length, replicate, All, Option, Some, None, refl, sym, ap, subst, arith, inl, inr}
 use Rattle.std.specs.Prelude.{Contains}
 use Rattle.std.proofs.lemmas.List.Elements.{All-contains, Contains-append_right, Contains-append_cases}
 use Rattle.pt_sector.specs.Sectors.{Sectors, sector}
@@ -141,7 +141,7 @@ module _ {b : ℕ} (d : Sectors) (o : Option Layout) (p : Layout) (old : List Sl
   bytes_from : (q : Place b) → Contains places q → (l : Label) (v : List ℕ) → IsLabelTarget b d o q.spot.slice l v → IsBytes old q l v
   bytes_from q has l v (kept had is same) = stood (had_to q has l had) is (same ∙ sym (bytes_of q has))
   bytes_from q has l v (changed m had differ is) = other m (had_to q has m had) differ (subst (λ (u : List ℕ). IsEncoded l q.spot.slice u v) (sym (bytes_of q has)) is)
-  bytes_from q has l v (new none is) = fresh (λ m had. none m (had_from q has m had)) is
+  bytes_from q has l v (new none is) = fresh (λ m had. none m (had_from q has m had)) is.encoded
 
   unreadable : HasNone old places → HasUnreadable b d o p
   unreadable (q, has, (l, is, none)) = record {
@@ -149,7 +149,8 @@ module _ {b : ℕ} (d : Sectors) (o : Option Layout) (p : Layout) (old : List Sl
     label = l;
     stands = stands q has;
     wanted = subst (λ (ls : List Labelled). Contains ls (record { number = q.spot.slice.number; label = l })) labels (label_in places q l has is);
-    none = λ v target. none v (bytes_from q has l v target);
+    none = λ v target. none.none v (bytes_from q has l v target);
+    unfit = none.unfit;
   }
 
   -- the target of a place with this label
@@ -165,7 +166,14 @@ module _ {b : ℕ} (d : Sectors) (o : Option Layout) (p : Layout) (old : List Sl
     (m, had_from q has m had, differ),
     subst (λ (u : List ℕ). IsEncoded l q.spot.slice u t.bytes) (sym written.of_place.under) written.encoded,
   ))
-  labelled_target q t l has (sets none written) = inr (inr (written.kind_is, λ m had. none m (had_to q has m had), written.encoded))
+  labelled_target q t l has (sets none written) = inr (inr (
+    written.kind_is,
+    λ m had. none m (had_to q has m had),
+    record {
+      encoded = written.encoded;
+      one = λ is. written.one (subst (λ (v : List ℕ). IsEncoded l q.spot.slice (replicate b 0) v) (sym (bytes_of q has)) is) ∙ bytes_of q has;
+    },
+  ))
 
   place_target : NoneIsLeft places → (q : Place b) (t : Target b) → Contains places q → IsTargetOf old q t → IsPlaceTarget d o q.spot.slice q.spot.label t
   place_target none q t has (inl (l, is, target)) = subst (λ (x : Option Label). IsPlaceTarget d o q.spot.slice x t) (sym is) (labelled_target q t l has target)

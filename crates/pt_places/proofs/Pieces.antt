@@ -2,13 +2,16 @@
 use Rattle.std.proofs.Common.{◌≡◌, ◌≢◌, ◌<◌, ◌+◌, ◌∙◌, ℕ, List, [], ◌∷◌, ◌++◌, length, get_or, take, drop, map, replicate, All, Option, Some, None, sym, ap, subst}
 use Rattle.std.proofs.lemmas.List.{take_more, drop_more, get_or_default, map_push, take-append-drop}
 use Rattle.std.proofs.lemmas.List.Elements.{All-contains, All-more, All-push}
-use Rattle.pt_bsd.specs.Laws.{label_one}
+use Rattle.pt_bsd.specs.Counted.{IsRaw, FitsSlice}
+use Rattle.pt_bsd.specs.Label.{LabelBytes, entry_of}
+use Rattle.pt_bsd.specs.Laws.{label_one, label_counted, label_fits}
 use Rattle.pt_bsd.specs.declared.label.Label.{Label}
+use Rattle.pt_bsd.specs.declared.label.LabelEntry.{LabelEntry}
 use Rattle.pt_recover.specs.declared.layout.Slice.{Slice}
 use Rattle.pt_targets.specs.declared.target.Target.{Target}
 use Rattle.pt_targets.specs.declared.target.Kind.TheVariants.{New, Changes}
 use Rattle.pt_places.specs.declared.place.Spot.{Spot}
-use Rattle.pt_places.specs.Places.{spot_of, OneHad, HadBytes, HadAt, Reads, IsBytes, stood, other, fresh, IsTargetOf, AreTargets, LabelledIs, IsLeftAt, IsFirstAt, keeps, changes, sets, KeptIs, WrittenIs}
+use Rattle.pt_places.specs.Places.{spot_of, OneHad, HadBytes, HadAt, Reads, IsBytes, stood, other, fresh, IsTargetOf, AreTargets, LabelledIs, IsLeftAt, IsFirstAt, keeps, changes, sets, KeptIs, WrittenIs, Fits}
 use Rattle.pt_places.specs.declared.place.Place.{Place}
 
 abbrev pub NotHad : ℕ → List ℕ → Slice → Type 0
@@ -21,29 +24,54 @@ none_had olds first bytes none m had = All-contains (NotHad first bytes) olds ha
 pub had_same : (olds : List Slice) (first : ℕ) (bytes : List ℕ) (l m : Label) → HadBytes olds first bytes l → HadBytes olds first bytes m → l ≡ m
 had_same olds first bytes l m x y = label_one l m x.slice.first x.slice.len y.slice.first y.slice.len bytes x.label y.label
 
+one_length : (o : Option LabelEntry) (first m n : ℕ) → IsRaw o first m → IsRaw o first n → m ≡ n
+one_length None first m n is also = absurd is
+one_length (Some e) first m n is also = sym is.0 ∙ also.0
+
+-- a label of a slice is read in each slice from its first sector that it fits: that is as long
+stays_read : (l : Label) (first m n : ℕ) (bytes : List ℕ) → LabelBytes l first m bytes → FitsSlice l first n → LabelBytes l first n bytes
+stays_read l first m n bytes is fits =
+    subst (λ (k : ℕ). LabelBytes l first k bytes) (one_length (entry_of l 2) first m n (label_fits l first m bytes is) fits) is
+
 module _ {b : ℕ} (old : List Slice) (p : Place b) where
+  -- a label that stands there is one for the slice where it fits that
+  unfit_kept : (l : Label) → HadAt old p l → ¬ Reads p l p.bytes → ¬ Fits p l
+  unfit_kept l had not fits =
+      let first = p.spot.slice.first in
+      let here : LabelBytes l first had.slice.len p.bytes = subst (λ (s : ℕ). LabelBytes l s had.slice.len p.bytes) had.start had.label in
+      not (stays_read l first had.slice.len p.spot.slice.len p.bytes here fits.1)
+
+  -- a label that doesn't fit is read from no bytes
+  unread : (l : Label) → ¬ Fits p l → (v : List ℕ) → ¬ Reads p l v
+  unread l unfit v reads =
+      let s = p.spot.slice in
+      unfit (label_counted l s.first s.len v reads, label_fits l s.first s.len v reads)
+
   -- a label that stands there and isn't one for the slice has no right bytes
-  pub stuck_kept : (l : Label) → HadAt old p l → ¬ Reads p l p.bytes → (v : List ℕ) → ¬ IsBytes old p l v
+  stuck_kept : (l : Label) → HadAt old p l → ¬ Reads p l p.bytes → (v : List ℕ) → ¬ IsBytes old p l v
   stuck_kept l had not v (stood has reads same) = not (subst (λ (x : List ℕ). Reads p l x) same reads)
   stuck_kept l had not v (other m has differ is) = differ (had_same old p.spot.slice.first p.bytes m l has had)
   stuck_kept l had not v (fresh none is) = none l had
 
-  pub stuck_written : (l : Label) → ¬ HadAt old p l → ((v : List ℕ) → ¬ Reads p l v) → (v : List ℕ) → ¬ IsBytes old p l v
-  stuck_written l had not v (stood has reads same) = had has
-  stuck_written l had not v (other m has differ is) = not v is.reads
-  stuck_written l had not v (fresh none is) = not v is.reads
+  stuck_written : (l : Label) → ¬ HadAt old p l → ¬ Fits p l → (v : List ℕ) → ¬ IsBytes old p l v
+  stuck_written l had unfit v (stood has reads same) = had has
+  stuck_written l had unfit v (other m has differ is) = unread l unfit v is.reads
+  stuck_written l had unfit v (fresh none is) = unread l unfit v is.reads
 
   pub kept_is : (l : Label) (o : Option (Target b)) → HadAt old p l → KeptIs p l o → LabelledIs old p l o
   kept_is l (Some t) had (stays, reads) = keeps stays had reads
-  kept_is l None had not = stuck_kept l had not
+  kept_is l None had not = record { none = stuck_kept l had not; unfit = unfit_kept l had not }
 
   pub changed_is : (m l : Label) (o : Option (Target b)) → HadAt old p m → m ≢ l → WrittenIs p l p.bytes Changes o → LabelledIs old p l o
   changed_is m l (Some t) had differ is = changes m had differ is
-  changed_is m l None had differ not = stuck_written l (λ has. differ (had_same old p.spot.slice.first p.bytes m l had has)) not
+  changed_is m l None had differ not = record {
+    none = stuck_written l (λ has. differ (had_same old p.spot.slice.first p.bytes m l had has)) not;
+    unfit = not;
+  }
 
   pub new_is : (l : Label) (o : Option (Target b)) → ((m : Label) → ¬ HadAt old p m) → WrittenIs p l (replicate b 0) New o → LabelledIs old p l o
   new_is l (Some t) none is = sets none is
-  new_is l None none not = stuck_written l (none l) not
+  new_is l None none not = record { none = stuck_written l (none l) not; unfit = not }
 
 pub targets_push : {b : ℕ} (old : List Slice) (ps : List (Place b)) (ts : List (Target b)) (p : Place b) (t : Target b) → AreTargets old ps ts → IsTargetOf old p t → AreTargets old (ps ++ p ∷ []) (ts ++ t ∷ [])
 targets_push old [] [] p t are is = (is, tt)

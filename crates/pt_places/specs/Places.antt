@@ -1,6 +1,7 @@
 -- Label places that were read, and what each must hold, told by bytes alone.
 use Rattle.std.specs.Prelude.{◌≡◌, ◌≢◌, ◌⊎◌, ◌<◌, ℕ, List, [], ◌∷◌, ◌++◌, replicate, All, Contains, Option, Some, None}
 use Rattle.pt_sector.specs.Sectors.{Sectors, sector}
+use Rattle.pt_bsd.specs.Counted.{IsCounted, FitsSlice}
 use Rattle.pt_bsd.specs.Label.{LabelBytes, HasMagic}
 use Rattle.pt_bsd.specs.declared.label.Label.{Label}
 use Rattle.pt_recover.specs.Labels.{places_of, place_of}
@@ -82,15 +83,20 @@ abbrev pub KeptIs : {b : _} → Place b → Label → Option (Target b) → Type
 KeptIs p l (Some t) = StaysAt p t × Reads p l p.bytes
 KeptIs p l None = ¬ Reads p l p.bytes
 
--- a label that was written over these bytes
+-- the label can be written for the slice of the place
+abbrev pub Fits : {b : _} → Place b → Label → Type 0
+Fits p l = IsCounted l × FitsSlice l p.spot.slice.first p.spot.slice.len
+
+-- a label that was written over these bytes. If it stands there already as it would be written, it is written just so
 pub record IsWritten {b : _} (p : Place b) (l : Label) (over : List ℕ) (kind : Kind) (t : Target b) : Type 0 where
   pub of_place : IsOf p t
   pub kind_is : t.kind ≡ kind
   pub encoded : IsEncoded l p.spot.slice over t.bytes
+  pub one : IsEncoded l p.spot.slice over p.bytes → t.bytes ≡ p.bytes
 
 abbrev pub WrittenIs : {b : _} → Place b → Label → List ℕ → Kind → Option (Target b) → Type 0
 WrittenIs p l over kind (Some t) = IsWritten p l over kind t
-WrittenIs p l over kind None = (v : List ℕ) → ¬ Reads p l v
+WrittenIs p l over kind None = ¬ Fits p l
 
 abbrev pub HadAt : {b : _} → List Slice → Place b → Label → Type 0
 HadAt old p m = HadBytes old p.spot.slice.first p.bytes m
@@ -107,16 +113,21 @@ pub data IsTarget {b : _} (old : List Slice) (p : Place b) (l : Label) (t : Targ
   changes : (m : Label) → HadAt old p m → m ≢ l → IsWritten p l p.bytes Changes t → IsTarget old p l t
   sets : ((m : Label) → ¬ HadAt old p m) → IsWritten p l (replicate b 0) New t → IsTarget old p l t
 
+-- no bytes are right for the label, since it doesn't fit
+pub record HasNoBytes {b : _} (old : List Slice) (p : Place b) (l : Label) : Type 0 where
+  pub none : (v : List ℕ) → ¬ IsBytes old p l v
+  pub unfit : ¬ Fits p l
+
 abbrev pub LabelledIs : {b : _} → List Slice → Place b → Label → Option (Target b) → Type 0
 LabelledIs old p l (Some t) = IsTarget old p l t
-LabelledIs old p l None = (v : List ℕ) → ¬ IsBytes old p l v
+LabelledIs old p l None = HasNoBytes old p l
 
 abbrev pub IsTargetOf : {b : _} → List Slice → Place b → Target b → Type 0
 IsTargetOf old p t = ((l : Label) × (p.spot.label ≡ Some l) × IsTarget old p l t) ⊎ ((p.spot.label ≡ None) × StaysAt p t)
 
 -- no bytes are right for its label
 abbrev pub IsStuck : {b : _} → List Slice → Place b → Type 0
-IsStuck old p = (l : Label) × (p.spot.label ≡ Some l) × ((v : List ℕ) → ¬ IsBytes old p l v)
+IsStuck old p = (l : Label) × (p.spot.label ≡ Some l) × HasNoBytes old p l
 
 abbrev pub TargetIs : {b : _} → List Slice → Place b → Option (Target b) → Type 0
 TargetIs old p (Some t) = IsTargetOf old p t

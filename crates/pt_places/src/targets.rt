@@ -1,6 +1,6 @@
 //! What each label place must hold.
 
-ghost use Rattle.std.specs.Prelude.{◌≡◌, ◌↔◌, IsTrue, IfOk, MatchOption};
+ghost use Rattle.std.specs.Prelude.{◌≡◌, ◌↔◌, ◌<◌, ℕ, IsTrue, IfOk, MatchOption, length, slice_index};
 ghost use Rattle.pt_sector.specs.Sectors.{IsSectorSize};
 ghost use Rattle.pt_places.specs.Places.{IsLeftAt, FirstIs, StaysAt, KeptIs, WrittenIs, LabelledIs, TargetIs, AreTargets, HasNone};
 
@@ -63,6 +63,20 @@ fn kept<const B: usize>(place: &Place<B>, label: &Label) -> Option<Target<B>>
     }
 }
 
+fn are_bytes(bytes: &[u8])
+    ensures { (i : ℕ) → slice_index bytes.now i < 256 }
+{
+    let _count = bytes.len();
+}
+
+// That a sector is an array of bytes. Its type says so; contracts see lists of numbers.
+fn is_array<const B: usize>(bytes: &Sector<B>)
+    ensures count { length bytes.now ≡ B }
+    ensures small { (i : ℕ) → slice_index bytes.now i < 256 }
+{
+    are_bytes(&bytes[..]);
+}
+
 // A label over these bytes, if it reads back.
 fn written<const B: usize>(
     place: &Place<B>,
@@ -75,12 +89,16 @@ fn written<const B: usize>(
 {
     let slice = place.spot.slice;
     match encode_for(label, slice.first, slice.len, under) {
-        Some(bytes) => Some(Target {
-            at: place.at,
-            bytes,
-            under: place.bytes,
-            kind,
-        }),
+        Some(bytes) => {
+            is_array(&bytes);
+            is_array(&place.bytes);
+            Some(Target {
+                at: place.at,
+                bytes,
+                under: place.bytes,
+                kind,
+            })
+        }
         None => None,
     }
 }

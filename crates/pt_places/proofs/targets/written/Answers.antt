@@ -1,7 +1,18 @@
-use Rattle.pt_bsd.specs.Laws.{label_counted, label_fits}
+use Rattle.std.proofs.Common.{refl}
+use Rattle.pt_cases.specs.Targets.{IsEncoded}
+use Rattle.pt_places.proofs.Encodings.{sector_one}
 use Rattle.pt_places.proofs.targets.written.Goals as goal
 
-pub returns-in-None : goal.returns-in-None
-returns-in-None g c = λ v reads.
-    let s = c.args.place.now.spot.slice in
-    c.in-None.ensures.none (label_counted c.args.label.now s.first s.len v reads, label_fits c.args.label.now s.first s.len v reads)
+pub returns-in-Some : goal.returns-in-Some
+returns-in-Some g c =
+    let p = c.args.place.now in
+    let l = c.args.label.now in
+    let over = c.args.under.now in
+    let v = c.in-Some.bytes in
+    let encoded : IsEncoded l p.spot.slice over v = record { reads = c.in-Some.ensures.some; rest = c.in-Some.ensures.rest } in
+    record {
+      of_place = record { at = refl; under = refl };
+      kind_is = refl;
+      encoded = encoded;
+      one = λ is. sector_one g.row.B v p.bytes l p.spot.slice over c.requires c.is_array.ensures.small c.is_array-in-Some.ensures.small c.is_array.ensures.count c.is_array-in-Some.ensures.count encoded is;
+    }
