@@ -1,5 +1,5 @@
 -- Each sector that would be written with both copies is written by their phases, or its label changes.
-use Rattle.std.proofs.Common.{◌≡◌, ◌∙◌, ◌⊎◌, inl, inr, ⊎_elim, ℕ, zero, suc, ◌+◌, ◌-◌, ◌<◌, ◌≤◌, List, [], ◌∷◌, ◌++◌, length, replicate, refl, sym, ap, subst, arith, Option, Some, None}
+use Rattle.std.proofs.Common.{◌≡◌, ◌∙◌, ◌⊎◌, inl, inr, ⊎_elim, ℕ, zero, suc, ◌+◌, ◌-◌, ◌<◌, ◌≤◌, List, [], ◌∷◌, ◌++◌, length, replicate, refl, sym, ap, subst, arith, Option, Some}
 use Rattle.std.specs.Prelude.{Contains}
 use Rattle.std.proofs.lemmas.Bool.{cases_order, cases_lt}
 use Rattle.pt_sector.specs.Sectors.{Sectors, sector, IsSectorSize}
@@ -11,7 +11,7 @@ use Rattle.pt_gpt.specs.declared.entry.Entry.{Entry}
 use Rattle.pt_gpt.specs.declared.table.Side.TheVariants.{Primary, Backup}
 use Rattle.pt_gpt.specs.declared.table.Table.{Table}
 use Rattle.pt_recover.specs.Denotes.{Reads}
-use Rattle.pt_recover.specs.Labels.{places_of, place_of, IsPlace}
+use Rattle.pt_recover.specs.Labels.{places_of, IsPlace}
 use Rattle.pt_recover.specs.Mbr.{IsMbrDisk}
 use Rattle.pt_recover.specs.Spans.{IsIn}
 use Rattle.pt_recover.specs.declared.layout.Layout.{Layout}
@@ -188,8 +188,11 @@ module _ {b : ℕ} (d : Sectors) (o : Option Layout) (p : Layout) (t : Table) (c
       by_kind : IsPlaceTarget d o w (Some l) x → (v : List ℕ) × Puts labels s v
       by_kind (inl stays) = absurd (is.none l (subst (λ (k : ℕ). Had b d o k l) is.labelled.place stays.1))
       by_kind (inr (inl (kind, (m, had, differ), encoded))) = absurd (is.none m (subst (λ (k : ℕ). Had b d o k m) is.labelled.place had))
-      by_kind (inr (inr (kind, none, fresh))) = (x.bytes, subst (λ (k : ℕ). Puts labels k x.bytes) at
-          (news.all x (order.all x target.1) kind (λ both. is.unread (reads both.1, stands fresh.encoded both.0))))
+      by_kind (inr (inr (kind, none, fresh))) = (
+        x.bytes,
+        subst (λ (k : ℕ). Puts labels k x.bytes) at
+            (news.all x (order.all x target.1) kind (λ both. is.unread (reads both.1, stands fresh.encoded both.0))),
+      )
 
   -- another label is of a target that changes
   pub other_alters : (s : ℕ) → IsOtherLabel b d o p s → Alters (λ k. k ≡ s) sorted
