@@ -1,3 +1,4 @@
+pub mod Every
 pub mod Labels
 pub mod Plans
 pub mod Shapes

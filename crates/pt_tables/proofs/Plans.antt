@@ -1,5 +1,5 @@
 -- From phases of both copies to the plan, or to why there is none.
-use Rattle.std.proofs.Common.{◌≡◌, ◌∙◌, inl, inr, ⊎_elim, ℕ, List, [], ◌++◌, length, refl, sym, subst, arith, Option, Some, None}
+use Rattle.std.proofs.Common.{◌≡◌, ◌∙◌, ◌⊎◌, inl, inr, ⊎_elim, ℕ, List, [], ◌++◌, length, refl, sym, subst, arith, Option, Some, None}
 use Rattle.pt_sector.specs.Sectors.{Sectors, sector, IsSectorSize}
 use Rattle.pt_sector.specs.Writes.{Writes, Puts}
 use Rattle.pt_gpt.specs.Array.{array_len}
@@ -8,6 +8,7 @@ use Rattle.pt_gpt.specs.declared.table.Table.{Table}
 use Rattle.pt_recover.specs.declared.layout.Layout.{Layout}
 use Rattle.pt_recover.specs.declared.trace.Run.{Run}
 use Rattle.pt_layout.specs.Guarded.{IsGuarded}
+use Rattle.pt_check.specs.Answers.{OwnedOf}
 use Rattle.pt_check.specs.First.{writes_in}
 use Rattle.pt_cases.specs.Cases.{IsPlan, backup_first, primary_first, from_mbr, Common, Copies, labels_and_backup, backup_first_phases, primary_and_labels, primary_first_phases, copies_and_labels, from_mbr_phases}
 use Rattle.pt_cases.specs.Copies.{array_phase, closing, backup_phase, IsProtectedFrom, Protects}
@@ -15,17 +16,18 @@ use Rattle.pt_cases.specs.Frames.{one_is, puts_split, puts_left, puts_right}
 use Rattle.pt_cases.specs.Sides.{puts_array, puts_backup}
 use Rattle.pt_copies.specs.Written.{WroteCopies}
 use Rattle.pt_copies.specs.Reached.{Reaches, copies_and_labels_reached, backup_first_reached, primary_first_reached, from_mbr_reached, protects_reached}
-use Rattle.pt_targets.specs.Causes.{WouldWrite, copy, head, WouldPrecede, backup, primary, HasNoCopies}
+use Rattle.pt_targets.specs.Causes.{WouldWrite, copy, head, WouldPrecede, backup, primary, NoneTaken, HasNoCopies}
 use Rattle.pt_targets.specs.Causes as cause
 use Rattle.pt_targets.specs.Starts.{StopsBy}
 use Rattle.pt_targets.specs.Targets.{AreNewWrites, InOrder, HasTwoOfOne}
 use Rattle.pt_targets.specs.declared.error.PlanError.{PlanError}
 use Rattle.pt_targets.specs.declared.error.PlanError.TheVariants.{NotOneSwitch, ReusedInOneBatch, NeedsRepair, Unsound, Device, Memory}
 use Rattle.pt_targets.specs.declared.target.Target.{Target}
-use Rattle.pt_tables.specs.Phases.{Closes, Arranged, writes_before, RefusedBy, Passes}
+use Rattle.pt_tables.specs.Phases.{Closes, Arranged, writes_before, Touches, Alters, RefusedBy, Passes}
 use Rattle.pt_tables.specs.Starts.{CopiesStart, OrderIs, HeadIs}
 use Rattle.pt_tables.specs.declared.order.Order.{Order}
 use Rattle.pt_tables.specs.declared.order.Order.TheVariants.{BackupFirst, PrimaryFirst, FromMbr}
+use Rattle.pt_tables.proofs.Every.{Asked, backup_first_puts, primary_first_puts, from_mbr_puts, new_put, other_alters}
 use Rattle.pt_tables.proofs.Labels.{labels_are, new_label, other_label, writes_both}
 
 -- a last phase over sector 0 as it was given is one over sector 0
@@ -108,16 +110,52 @@ module _ {b : ℕ} (d : Sectors) (o : Option Layout) (p : Layout) (t : Table) (c
       both_precede (subst (λ (x : Order). OrderIs b d x) is start.order) wrote.primary wrote.backup s v
       (nothing_more (copies_and_labels b n t wrote.primary wrote.backup labels) s v (subst (λ (x : List Writes). Puts (writes_before FromMbr x) s v) wrote.is puts))
 
+  -- what would be written is asked of the phases, or is a label that changes
+  asked_or_altered : (s : ℕ) → WouldWrite b d o p s → Asked b d labels s ⊎ Alters (λ k. k ≡ s) sorted
+  asked_or_altered s (copy some table) = inl (inl (some, table))
+  asked_or_altered s (head zero_is why) = inl (inr (inl (zero_is, why)))
+  asked_or_altered s (cause.new is) = inl (inr (inr (new_put d o p t chosen guarded given ts sorted size start order labels news s is)))
+  asked_or_altered s (cause.other is) = inr (other_alters d o p t chosen guarded given ts sorted size start order s is)
+
+  -- the phases write what is asked of them
+  put_all : (phases : List Writes) → (is : Order) → chosen ≡ is → Arranged b n t given labels is phases → (s : ℕ) → Asked b d labels s → (v : List ℕ) × Puts (writes_in phases) s v
+  put_all phases BackupFirst is (last, closes, wrote) s asked =
+      let plain = (subst (λ (x : Order). OrderIs b d x) is start.order).0 in
+      let it = backup_first_puts b d t start.fits wrote.primary wrote.backup labels last plain (closes_protects d given last start.head closes) s asked in
+      (it.0, subst (λ (x : List Writes). Puts (writes_in x) s it.0) (sym wrote.is) it.1)
+  put_all phases PrimaryFirst is (last, closes, wrote) s asked =
+      let plain = (subst (λ (x : Order). OrderIs b d x) is start.order).0 in
+      let it = primary_first_puts b d t start.fits wrote.primary wrote.backup labels last plain (closes_protects d given last start.head closes) s asked in
+      (it.0, subst (λ (x : List Writes). Puts (writes_in x) s it.0) (sym wrote.is) it.1)
+  put_all phases FromMbr is (old, new, same, protected, wrote) s asked =
+      let it = from_mbr_puts b d t start.fits wrote.primary wrote.backup labels new s asked in
+      (it.0, subst (λ (x : List Writes). Puts (writes_in x) s it.0) (sym wrote.is) it.1)
+
+  -- so where they touch nothing that is owned, and no such label changes, nothing that would be written is owned
+  none_taken : (phases : List Writes) → Arranged b n t given labels chosen phases → ¬ Touches (OwnedOf b o) (writes_in phases) → ¬ Alters (OwnedOf b o) sorted → NoneTaken b d o p
+  none_taken phases are untouched unaltered s would owned = ⊎_elim
+      (λ asked. let it = put_all phases chosen refl are s asked in untouched (s, it.0, it.1, owned))
+      (λ altered. unaltered (altered.0, altered.1, altered.2, subst (OwnedOf b o) (sym altered.3) owned))
+      (asked_or_altered s would)
+
   -- what there is against the phases is why there is no plan
   pub refused_stops : (phases : List Writes) → Arranged b n t given labels chosen phases → (e : PlanError) → RefusedBy o guarded chosen sorted phases e → StopsBy b d o p (HasNoCopies b d o p) e
   refused_stops phases are ReusedInOneBatch (inl (s, v, puts, owned)) =
       (s, cause.both (writes_both d o p t chosen guarded given ts size start) (would_write phases chosen refl are s v puts), owned)
   refused_stops phases are ReusedInOneBatch (inr (x, has, kind, owned)) =
       (x.at.0, cause.both (writes_both d o p t chosen guarded given ts size start) (cause.other (other_label d o p t chosen guarded given ts size start sorted order x has kind)), owned)
-  refused_stops phases are NotOneSwitch (inl (x, has, kind, any)) =
-      inl (x.at.0, writes_both d o p t chosen guarded given ts size start, other_label d o p t chosen guarded given ts size start sorted order x has kind)
-  refused_stops phases are NotOneSwitch (inr (s, v, puts, is)) =
-      inr (inl (s, writes_both d o p t chosen guarded given ts size start, would_precede phases chosen refl are s v puts, (start.guards s).0 is))
+  refused_stops phases are NotOneSwitch (untouched, unaltered, inl (x, has, kind, any)) = inl (record {
+    both = writes_both d o p t chosen guarded given ts size start;
+    free = none_taken phases are untouched unaltered;
+    place = x.at.0;
+    amiss = inl (other_label d o p t chosen guarded given ts size start sorted order x has kind);
+  })
+  refused_stops phases are NotOneSwitch (untouched, unaltered, inr (s, v, puts, is)) = inl (record {
+    both = writes_both d o p t chosen guarded given ts size start;
+    free = none_taken phases are untouched unaltered;
+    place = s;
+    amiss = inr (would_precede phases chosen refl are s v puts, (start.guards s).0 is);
+  })
   refused_stops phases are NeedsRepair never = absurd never
   refused_stops phases are Memory never = absurd never
   refused_stops phases are (Device fault) never = absurd never
@@ -204,7 +242,7 @@ module _ {b : ℕ} (d : Sectors) (o : Option Layout) (p : Layout) (t : Table) (c
 -- two targets of one sector are a cause
 pub shared_stops : {b : ℕ} (d : Sectors) (o : Option Layout) (p : Layout) (t : Table) (chosen : Order) (guarded : List Run) (given : Option (List ℕ)) (ts : List (Target b))
     → IsSectorSize b → CopiesStart d o p t chosen guarded given ts → HasTwoOfOne ts → StopsBy b d o p (HasNoCopies b d o p) NotOneSwitch
-shared_stops d o p t chosen guarded given ts size start two = inr (inr (ts, inr (writes_both d o p t chosen guarded given ts size start, start.places), two))
+shared_stops d o p t chosen guarded given ts size start two = inr (ts, inr (writes_both d o p t chosen guarded given ts size start, start.places), two)
 
 module _ {b : ℕ} (n : ℕ) (o : Option Layout) (t : Table) (chosen : Order) (guarded : List Run) (given : Option (List ℕ)) (ts sorted first second : List (Target b)) (labels : Writes) (phases : List Writes)
     (size : IsSectorSize b) (order : InOrder ts sorted) (first_is : first ≡ sorted) (second_is : second ≡ sorted) (news : AreNewWrites guarded first labels) (are : Arranged b n t given labels chosen phases) where
