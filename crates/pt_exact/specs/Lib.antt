@@ -5,6 +5,12 @@ pub mod Differ
 pub mod Each
 pub mod Mended
 pub mod OneLabel
+pub mod Order
 pub mod Own
 pub mod Planned
+pub mod SameBytes
+pub mod SameHeads
+pub mod SameLabels
+pub mod SameTargets
 pub mod Tables
+pub mod Turns
