@@ -3,6 +3,9 @@ pub mod Both
 pub mod Changes
 pub mod Differ
 pub mod Each
+pub mod Fits
+pub mod FitsApart
+pub mod FitsMade
 pub mod Mended
 pub mod OneLabel
 pub mod Order
