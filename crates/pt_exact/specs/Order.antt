@@ -1,9 +1,6 @@
 -- Of several causes the planner tells the first, so two of its errors are one.
-use Rattle.std.proofs.Common.{◌≡◌, ◌∙◌, ◌⊎◌, inl, inr, ℕ, ◌≤◌, List, [], ◌∷◌, length, Option, Some, refl, sym, ap, subst, arith}
+use Rattle.std.proofs.Common.{◌≡◌, ◌∙◌, ◌⊎◌, inl, inr, ℕ, ◌≤◌, List, [], ◌∷◌, Option, Some, refl, sym, ap, subst, arith}
 use Rattle.pt_sector.specs.Sectors.{Sectors}
-use Rattle.pt_mbr.specs.declared.ebr.Ebr.{Ebr}
-use Rattle.pt_mbr.specs.declared.record.Record.{Record}
-use Rattle.pt_gpt.specs.declared.table.Table.{Table}
 use Rattle.pt_recover.specs.Denotes.{Denotes, BodyIs}
 use Rattle.pt_recover.specs.Labels.{places_of, IsPlace, slices_of}
 use Rattle.pt_recover.specs.Laws.{denotes_one_lem}
@@ -17,7 +14,7 @@ use Rattle.pt_layout.specs.Guarded.{IsGuarded, place}
 use Rattle.pt_layout.specs.Laws.{unsound_excludes_lem}
 use Rattle.pt_layout.specs.Members.{number_path}
 use Rattle.pt_layout.specs.OneFinding.{HasEight, unsound_one}
-use Rattle.pt_layout.specs.Sound.{Sound, IsUnsound}
+use Rattle.pt_layout.specs.Sound.{Sound}
 use Rattle.pt_layout.specs.declared.finding.Finding.{Finding}
 use Rattle.pt_layout.specs.declared.finding.Finding.TheVariants.{ForeignLabel}
 use Rattle.pt_shape.specs.Shape.{AreLabelsOf, Shaped}
@@ -52,7 +49,8 @@ foreign_once b d p f g x y =
     y.is ∙ ap (λ (n : ℕ). ForeignLabel (number_path n)) one ∙ sym x.is
 
 -- one finding is the first
-unsound_once : (b : ℕ) (d : Sectors) (p : Layout) (f g : Finding) → HasEight p.labels → Unplanned b d p (Unsound f) → Unplanned b d p (Unsound g) → g ≡ f
+unsound_once : (b : ℕ) (d : Sectors) (p : Layout) (f g : Finding) → HasEight p.labels → Unplanned b d p (Unsound f)
+    → Unplanned b d p (Unsound g) → g ≡ f
 unsound_once b d p f g eight (inl x) (inl y) = unsound_one b p g f eight y x
 unsound_once b d p f g eight (inl x) (inr y) = absurd (unsound_excludes_lem b p f x y.sound)
 unsound_once b d p f g eight (inr x) (inl y) = absurd (unsound_excludes_lem b p g y x.sound)
@@ -70,7 +68,8 @@ none_stays b d o p fits (misplaced isnt) = absurd (isnt fits.labels)
 none_stays b d o p fits (targets none why) = none
 
 -- and of those there are two: the turn is amiss, or the copies are
-causes_left : (b : ℕ) (d : Sectors) (o : Option Layout) (p : Layout) → Fitting b d o p → HasNoSwitch b d o p → TurnsAmiss b d o p ⊎ CopiesAmiss b d o p
+causes_left : (b : ℕ) (d : Sectors) (o : Option Layout) (p : Layout) → Fitting b d o p → HasNoSwitch b d o p
+    → TurnsAmiss b d o p ⊎ CopiesAmiss b d o p
 causes_left b d o p fits (unreadable x) = absurd (fits.readable x)
 causes_left b d o p fits (unmade records chain body was x) = absurd (fits.made records chain body was x)
 causes_left b d o p fits (turn (inl x)) = inl x
@@ -78,13 +77,15 @@ causes_left b d o p fits (turn (inr shares)) = absurd (fits.apart shares)
 causes_left b d o p fits (copies (inl x)) = inr x
 causes_left b d o p fits (copies (inr shares)) = absurd (fits.apart shares)
 
-switch_left : (b : ℕ) (d : Sectors) (o : Option Layout) (p : Layout) → Fitting b d o p → NoSwitch b d o p → TurnsAmiss b d o p ⊎ CopiesAmiss b d o p
+switch_left : (b : ℕ) (d : Sectors) (o : Option Layout) (p : Layout) → Fitting b d o p → NoSwitch b d o p
+    → TurnsAmiss b d o p ⊎ CopiesAmiss b d o p
 switch_left b d o p fits (other_disk isnt) = absurd (isnt fits.may)
 switch_left b d o p fits (misplaced isnt) = absurd (isnt fits.labels)
 switch_left b d o p fits (targets none why) = causes_left b d o p fits why
 
 -- an unsound layout, or a foreign label, is told first
-pub unsound_first_lem : (b : ℕ) (d : Sectors) (o : Option Layout) (p : Layout) (f : Finding) (e : PlanError) → HasEight p.labels → Denotes b d o → (Sound b p → Fitting b d o p) → Unplanned b d p (Unsound f) → Unplanned b d p e → ¬ IsFailure e → e ≡ Unsound f
+pub unsound_first_lem : (b : ℕ) (d : Sectors) (o : Option Layout) (p : Layout) (f : Finding) (e : PlanError) → HasEight p.labels
+    → Denotes b d o → (Sound b p → Fitting b d o p) → Unplanned b d p (Unsound f) → Unplanned b d p e → ¬ IsFailure e → e ≡ Unsound f
 unsound_first_lem b d o p f (Unsound g) eight from fits first is real = ap Unsound (unsound_once b d p f g eight first is)
 unsound_first_lem b d o p f NotOneSwitch eight from fits first is real =
     let why = subst (λ (x : Option Layout). NoSwitch b d x p) (denotes_one_lem b d is.old o is.from from) is.cause in
@@ -109,15 +110,18 @@ copies_free b d o p is (s, cause.both both would, owned) = is.free s would owned
 copies_free b d o p is (s, cause.target us t of change at, owned) = both_or_targets b d o p us is.both of
 
 -- labels alone change in a GPT, so their targets are those of the layout
-unmended_targets : (b : ℕ) (d : Sectors) (o : Option Layout) (p : Layout) (y : Body) (is : IsUnmended b d o p) → p.body ≡ y → TargetsIn b d o p y is.items
+unmended_targets : (b : ℕ) (d : Sectors) (o : Option Layout) (p : Layout) (y : Body) (is : IsUnmended b d o p) → p.body ≡ y
+    → TargetsIn b d o p y is.items
 unmended_targets b d o p (Gpt t) is body = (is.changes, is.places)
-unmended_targets b d o p (Mbr records chain) is body = absurd (subst (λ (y : Body). IsBodyBroken b d y is.finding) (is.changes.same ∙ body) is.broken)
+unmended_targets b d o p (Mbr records chain) is body =
+    absurd (subst (λ (y : Body). IsBodyBroken b d y is.finding) (is.changes.same ∙ body) is.broken)
 
 unmended_are : (b : ℕ) (d : Sectors) (o : Option Layout) (p : Layout) (is : IsUnmended b d o p) → TargetsOf b d o p is.items
 unmended_are b d o p is = unmended_targets b d o p p.body is refl
 
 -- the sector that changes then is where all changes are
-lone_at : (b : ℕ) (d : Sectors) (o : Option Layout) (p : Layout) (is : IsUnmended b d o p) (ts : List (Target b)) (t : Target b) → Fitting b d o p → TargetsOf b d o p ts → IsChange ts t → t.at.0 ≡ is.target.at.0
+lone_at : (b : ℕ) (d : Sectors) (o : Option Layout) (p : Layout) (is : IsUnmended b d o p) (ts : List (Target b)) (t : Target b)
+    → Fitting b d o p → TargetsOf b d o p ts → IsChange ts t → t.at.0 ≡ is.target.at.0
 lone_at b d o p is ts t fits are change =
     let u = targets_one b d o p ts is.items t fits are (unmended_are b d o p is) change in
     sym u.2 ∙ is.lone.one u.0 u.1
@@ -128,7 +132,8 @@ unmended_frees b d o p fits is (s, cause.target ts t are change at, owned) =
     is.lone.free (subst (OwnedOf b o) (sym at ∙ lone_at b d o p is ts t fits are change) owned)
 
 -- a sector in use is told before a switch that isn't one, and before a repair
-pub reused_first_lem : (b : ℕ) (d : Sectors) (o : Option Layout) (p : Layout) → Denotes b d o → (Sound b p → Fitting b d o p) → Unplanned b d p NotOneSwitch ⊎ Unplanned b d p NeedsRepair → ¬ IsReused b d o p
+pub reused_first_lem : (b : ℕ) (d : Sectors) (o : Option Layout) (p : Layout) → Denotes b d o → (Sound b p → Fitting b d o p)
+    → Unplanned b d p NotOneSwitch ⊎ Unplanned b d p NeedsRepair → ¬ IsReused b d o p
 reused_first_lem b d o p from fits (inl is) reused =
     let why = subst (λ (x : Option Layout). NoSwitch b d x p) (denotes_one_lem b d is.old o is.from from) is.cause in
     by_cause (switch_left b d o p (fits is.sound) why)
@@ -141,12 +146,14 @@ reused_first_lem b d o p from fits (inr is) reused =
     unmended_frees b d o p (fits is.sound) why reused
 
 -- the one sector that changes is a label place, with which the disk turns
-lone_guarded : (b : ℕ) (d : Sectors) (o : Option Layout) (p : Layout) (is : IsUnmended b d o p) → Denotes b d o → Fitting b d o p → IsGuarded b d is.target.at.0
+lone_guarded : (b : ℕ) (d : Sectors) (o : Option Layout) (p : Layout) (is : IsUnmended b d o p) → Denotes b d o → Fitting b d o p
+    → IsGuarded b d is.target.at.0
 lone_guarded b d o p is from fits =
     let old : Denotes b d (Some is.changes.old) = subst (Denotes b d) is.changes.is_old from in
     place p.body (subst (BodyIs b d) is.changes.same old.1) (subst (λ (n : ℕ). IsPlace (places_of b n p.body) is.target.at.0) fits.may.sectors (is.places.each is.target is.lone.change.0))
 
-unmended_turns : (b : ℕ) (d : Sectors) (o : Option Layout) (p : Layout) → Denotes b d o → Fitting b d o p → IsUnmended b d o p → ¬ TurnsAmiss b d o p
+unmended_turns : (b : ℕ) (d : Sectors) (o : Option Layout) (p : Layout) → Denotes b d o → Fitting b d o p → IsUnmended b d o p
+    → ¬ TurnsAmiss b d o p
 unmended_turns b d o p from fits is (ts, are, free, inl none) =
     let u = targets_one b d o p is.items ts is.target fits (unmended_are b d o p is) are is.lone.change in
     none u.0 u.1 (subst (IsGuarded b d) (sym u.2) (lone_guarded b d o p is from fits))
@@ -154,7 +161,8 @@ unmended_turns b d o p from fits is (ts, are, free, inr (t, u, first, second, g,
     omega (arith, less, lone_at b d o p is ts t fits are first, lone_at b d o p is ts u fits are second)
 
 -- and that there isn't one switch, before a repair
-pub switch_first_lem : (b : ℕ) (d : Sectors) (o : Option Layout) (p : Layout) → Denotes b d o → (Sound b p → Fitting b d o p) → Unplanned b d p NeedsRepair → ¬ NoSwitch b d o p
+pub switch_first_lem : (b : ℕ) (d : Sectors) (o : Option Layout) (p : Layout) → Denotes b d o → (Sound b p → Fitting b d o p)
+    → Unplanned b d p NeedsRepair → ¬ NoSwitch b d o p
 switch_first_lem b d o p from fits is cause = by_cause (switch_left b d o p (fits is.sound) cause)
   where
     why : IsUnmended b d o p
@@ -165,15 +173,19 @@ switch_first_lem b d o p from fits is cause = by_cause (switch_left b d o p (fit
     by_cause (inr x) = x.both.other why.changes
 
 -- so two errors are one, but for failures
-module _ (b : ℕ) (d : Sectors) (o : Option Layout) (p : Layout) (eight : HasEight p.labels) (from : Denotes b d o) (fits : Sound b p → Fitting b d o p) where
+module _ (b : ℕ) (d : Sectors) (o : Option Layout) (p : Layout) (eight : HasEight p.labels) (from : Denotes b d o)
+    (fits : Sound b p → Fitting b d o p) where
   no_two_switch : Unplanned b d p NotOneSwitch → ¬ Unplanned b d p ReusedInOneBatch
-  no_two_switch x y = reused_first_lem b d o p from fits (inl x) (subst (λ (q : Option Layout). IsReused b d q p) (denotes_one_lem b d y.old o y.from from) y.cause.1)
+  no_two_switch x y =
+      reused_first_lem b d o p from fits (inl x) (subst (λ (q : Option Layout). IsReused b d q p) (denotes_one_lem b d y.old o y.from from) y.cause.1)
 
   no_two_repair : Unplanned b d p NeedsRepair → ¬ Unplanned b d p ReusedInOneBatch
-  no_two_repair x y = reused_first_lem b d o p from fits (inr x) (subst (λ (q : Option Layout). IsReused b d q p) (denotes_one_lem b d y.old o y.from from) y.cause.1)
+  no_two_repair x y =
+      reused_first_lem b d o p from fits (inr x) (subst (λ (q : Option Layout). IsReused b d q p) (denotes_one_lem b d y.old o y.from from) y.cause.1)
 
   no_two_last : Unplanned b d p NeedsRepair → ¬ Unplanned b d p NotOneSwitch
-  no_two_last x y = switch_first_lem b d o p from fits x (subst (λ (q : Option Layout). NoSwitch b d q p) (denotes_one_lem b d y.old o y.from from) y.cause)
+  no_two_last x y =
+      switch_first_lem b d o p from fits x (subst (λ (q : Option Layout). NoSwitch b d q p) (denotes_one_lem b d y.old o y.from from) y.cause)
 
   pub error_once : (e f : PlanError) → Unplanned b d p e → Unplanned b d p f → ¬ IsFailure e → ¬ IsFailure f → e ≡ f
   error_once (Unsound g) f x y first second = sym (unsound_first_lem b d o p g f eight from fits x y second)

@@ -25,24 +25,31 @@ pub record Fitting (b : ℕ) (d : Sectors) (o : Option Layout) (p : Layout) : Ty
   pub may : MayBe b d o p
   pub labels : LabelsFit b p
   pub readable : ¬ HasUnreadable b d o p
-  pub made : (records : List (Option Record)) (chain : List Ebr) → p.body ≡ Mbr records chain → (was : WasMbr o) → ¬ HasUnmade b d was.records was.chain records chain
+  pub made : (records : List (Option Record)) (chain : List Ebr) → p.body ≡ Mbr records chain → (was : WasMbr o)
+      → ¬ HasUnmade b d was.records was.chain records chain
   pub apart : ¬ SharesSector b d o p
 
 -- its chain is linked
-pub fitting_linked : (b : ℕ) (d : Sectors) (o : Option Layout) (p : Layout) (records : List (Option Record)) (chain : List Ebr) → Fitting b d o p → p.body ≡ Mbr records chain → IsLinked (length d) (extended_of records) chain
-fitting_linked b d o p records chain fits body = let may : MayHave b d o (Mbr records chain) = subst (MayHave b d o) body fits.may.body in may.1
+pub fitting_linked : (b : ℕ) (d : Sectors) (o : Option Layout) (p : Layout) (records : List (Option Record)) (chain : List Ebr)
+    → Fitting b d o p → p.body ≡ Mbr records chain → IsLinked (length d) (extended_of records) chain
+fitting_linked b d o p records chain fits body =
+    let may : MayHave b d o (Mbr records chain) = subst (MayHave b d o) body fits.may.body in may.1
 
 -- each sector has one target of it
-pub one_of_each : (b : ℕ) (d : Sectors) (o : Option Layout) (p : Layout) (ts : List (Target b)) → Fitting b d o p → TargetsOf b d o p ts → ¬ HasTwoOfOne ts
+pub one_of_each : (b : ℕ) (d : Sectors) (o : Option Layout) (p : Layout) (ts : List (Target b)) → Fitting b d o p → TargetsOf b d o p ts
+    → ¬ HasTwoOfOne ts
 one_of_each b d o p ts fits are two = let shares : SharesSector b d o p = (ts, inl are, two) in fits.apart shares
 
-by_body : (b : ℕ) (d : Sectors) (o : Option Layout) (p : Layout) (y : Body) (ts us : List (Target b)) (t : Target b) → Fitting b d o p → p.body ≡ y → TargetsIn b d o p y ts → TargetsIn b d o p y us → ¬ HasTwoOfOne ts → IsChange ts t
+by_body : (b : ℕ) (d : Sectors) (o : Option Layout) (p : Layout) (y : Body) (ts us : List (Target b)) (t : Target b) → Fitting b d o p
+    → p.body ≡ y → TargetsIn b d o p y ts → TargetsIn b d o p y us → ¬ HasTwoOfOne ts → IsChange ts t
     → (u : Target b) × IsChange us u × (u.at.0 ≡ t.at.0)
 by_body b d o p (Gpt table) ts us t fits body are others one change = labels_one b d o p ts us t fits.four are.1 others.1 one change
 by_body b d o p (Mbr records chain) ts us t fits body are others one change =
     mbr_targets_one b d o p records chain ts us t fits.four (fitting_linked b d o p records chain fits body) are others one change
 
 -- a target that changes has one of any other list, in the same sector, that changes
-pub targets_one : (b : ℕ) (d : Sectors) (o : Option Layout) (p : Layout) (ts us : List (Target b)) (t : Target b) → Fitting b d o p → TargetsOf b d o p ts → TargetsOf b d o p us → IsChange ts t
+pub targets_one : (b : ℕ) (d : Sectors) (o : Option Layout) (p : Layout) (ts us : List (Target b)) (t : Target b) → Fitting b d o p
+    → TargetsOf b d o p ts → TargetsOf b d o p us → IsChange ts t
     → (u : Target b) × IsChange us u × (u.at.0 ≡ t.at.0)
-targets_one b d o p ts us t fits are others change = by_body b d o p p.body ts us t fits refl are others (one_of_each b d o p ts fits are) change
+targets_one b d o p ts us t fits are others change =
+    by_body b d o p p.body ts us t fits refl are others (one_of_each b d o p ts fits are) change

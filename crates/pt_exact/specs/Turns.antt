@@ -15,7 +15,7 @@ use Rattle.pt_layout.specs.Healthy.{IsHealthy}
 use Rattle.pt_layout.specs.Sound.{Sound}
 use Rattle.pt_check.specs.First.{writes_in}
 use Rattle.pt_cases.specs.Cases.{IsNeeded, IsPlan, idle, backup_first, primary_first, from_mbr, one_label, within_mbr, IsWithinMbr}
-use Rattle.pt_cases.specs.Causes.{WasMbr, plan_is_sound}
+use Rattle.pt_cases.specs.Causes.{WasMbr}
 use Rattle.pt_cases.specs.Copies.{one_write}
 use Rattle.pt_cases.specs.Frames.{one_is, puts_right, puts_split}
 use Rattle.pt_cases.specs.Records.{IsLinked}
@@ -36,7 +36,8 @@ use Rattle.pt_exact.specs.SameLabels.{Held, changed_other, change_of}
 use Rattle.pt_exact.specs.SameTargets.{Fitting, fitting_linked, one_of_each}
 use Rattle.pt_exact.specs.Tables.{mbr_changes, no_cause}
 
-module _ (b : ℕ) (d : Sectors) (o : Option Layout) (p : Layout) (records : List (Option Record)) (chain : List Ebr) (phases : List Writes) (fits : Fitting b d o p) (is : IsWithinMbr b d o p records chain phases) where
+module _ (b : ℕ) (d : Sectors) (o : Option Layout) (p : Layout) (records : List (Option Record)) (chain : List Ebr) (phases : List Writes)
+    (fits : Fitting b d o p) (is : IsWithinMbr b d o p records chain phases) where
   abbrev last : Writes
   last = one_write is.loud.0 is.loud.1
 
@@ -131,14 +132,18 @@ module _ (b : ℕ) (d : Sectors) (o : Option Layout) (p : Layout) (records : Lis
       is.common.free s put.0 (in_phases s put.0 (subst (λ (k : ℕ). Puts all k put.0) at put.1)) owned
 
 -- what has a plan has one switch
-module _ (b : ℕ) (d : Sectors) (o : Option Layout) (p : Layout) (phases : List Writes) (from : Denotes b d o) (fits : Fitting b d o p) (not_done : ¬ IsHealthy b d p) where
+module _ (b : ℕ) (d : Sectors) (o : Option Layout) (p : Layout) (phases : List Writes) (from : Denotes b d o) (fits : Fitting b d o p)
+    (not_done : ¬ IsHealthy b d p) where
   planned_switch : IsPlan b d p phases → ¬ HasNoSwitch b d o p
   planned_switch (idle healthy none) why = not_done healthy
-  planned_switch (backup_first q t is) why = backup_first_switch b d q p t phases is (subst (λ (x : Option Layout). HasNoSwitch b d x p) (denotes_one_lem b d o q from is.common.from) why)
-  planned_switch (primary_first q t is) why = primary_first_switch b d q p t phases is (subst (λ (x : Option Layout). HasNoSwitch b d x p) (denotes_one_lem b d o q from is.common.from) why)
+  planned_switch (backup_first q t is) why =
+      backup_first_switch b d q p t phases is (subst (λ (x : Option Layout). HasNoSwitch b d x p) (denotes_one_lem b d o q from is.common.from) why)
+  planned_switch (primary_first q t is) why =
+      primary_first_switch b d q p t phases is (subst (λ (x : Option Layout). HasNoSwitch b d x p) (denotes_one_lem b d o q from is.common.from) why)
   planned_switch (from_mbr q t is) why =
       from_mbr_switch b d q p t phases is (mbr_changes b d q p t phases is) (subst (λ (x : Option Layout). HasNoSwitch b d x p) (denotes_one_lem b d o q from is.common.from) why)
-  planned_switch (one_label q t is) why = label_switch b d q p t phases is (subst (λ (x : Option Layout). HasNoSwitch b d x p) (denotes_one_lem b d o q from is.common.from) why)
+  planned_switch (one_label q t is) why =
+      label_switch b d q p t phases is (subst (λ (x : Option Layout). HasNoSwitch b d x p) (denotes_one_lem b d o q from is.common.from) why)
   planned_switch (within_mbr q records chain is) why =
       let same = denotes_one_lem b d o q from is.common.from in
       within_switch b d q p records chain phases (subst (λ (x : Option Layout). Fitting b d x p) same fits) is (subst (λ (x : Option Layout). HasNoSwitch b d x p) same why)
@@ -146,17 +151,21 @@ module _ (b : ℕ) (d : Sectors) (o : Option Layout) (p : Layout) (phases : List
   -- and writes nothing that is owned
   planned_frees : IsPlan b d p phases → ¬ IsReused b d o p
   planned_frees (idle healthy none) why = not_done healthy
-  planned_frees (backup_first q t is) why = backup_first_frees b d q p t phases is (subst (λ (x : Option Layout). IsReused b d x p) (denotes_one_lem b d o q from is.common.from) why)
-  planned_frees (primary_first q t is) why = primary_first_frees b d q p t phases is (subst (λ (x : Option Layout). IsReused b d x p) (denotes_one_lem b d o q from is.common.from) why)
+  planned_frees (backup_first q t is) why =
+      backup_first_frees b d q p t phases is (subst (λ (x : Option Layout). IsReused b d x p) (denotes_one_lem b d o q from is.common.from) why)
+  planned_frees (primary_first q t is) why =
+      primary_first_frees b d q p t phases is (subst (λ (x : Option Layout). IsReused b d x p) (denotes_one_lem b d o q from is.common.from) why)
   planned_frees (from_mbr q t is) why =
       from_mbr_frees b d q p t phases is (mbr_changes b d q p t phases is) (subst (λ (x : Option Layout). IsReused b d x p) (denotes_one_lem b d o q from is.common.from) why)
-  planned_frees (one_label q t is) why = label_frees b d q p t phases is (subst (λ (x : Option Layout). IsReused b d x p) (denotes_one_lem b d o q from is.common.from) why)
+  planned_frees (one_label q t is) why =
+      label_frees b d q p t phases is (subst (λ (x : Option Layout). IsReused b d x p) (denotes_one_lem b d o q from is.common.from) why)
   planned_frees (within_mbr q records chain is) why =
       let same = denotes_one_lem b d o q from is.common.from in
       within_frees b d q p records chain phases (subst (λ (x : Option Layout). Fitting b d x p) same fits) is (subst (λ (x : Option Layout). IsReused b d x p) same why)
 
 -- so, where a layout that fits has a plan, what the planner may tell is a failure
-pub planned_no_error_lem : (b : ℕ) (d : Sectors) (o : Option Layout) (p : Layout) (phases : List Writes) (e : PlanError) → Denotes b d o → (Sound b p → Fitting b d o p) → IsPlan b d p phases → Unplanned b d p e → IsFailure e
+pub planned_no_error_lem : (b : ℕ) (d : Sectors) (o : Option Layout) (p : Layout) (phases : List Writes) (e : PlanError) → Denotes b d o
+    → (Sound b p → Fitting b d o p) → IsPlan b d p phases → Unplanned b d p e → IsFailure e
 planned_no_error_lem b d o p phases (Unsound f) from fits plan is = planned_is_sound b d p phases f plan is
 planned_no_error_lem b d o p phases NeedsRepair from fits plan is = planned_needs_no_repair b d p phases plan is
 planned_no_error_lem b d o p phases NotOneSwitch from fits plan is =
