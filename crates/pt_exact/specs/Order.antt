@@ -30,6 +30,7 @@ use Rattle.pt_targets.specs.declared.error.PlanError.TheVariants.{NotOneSwitch, 
 use Rattle.pt_targets.specs.declared.target.Target.{Target}
 use Rattle.pt_exact.specs.SameTargets.{Fitting, targets_one}
 
+-- each label of a shaped layout has places for eight entries
 labels_eight : (ss : List Slice) (labels : List Labelled) → AreLabelsOf ss labels → HasEight labels
 unfolding HasEight
 labels_eight [] labels are = subst HasEight (sym are) tt
@@ -77,6 +78,7 @@ causes_left b d o p fits (turn (inr shares)) = absurd (fits.apart shares)
 causes_left b d o p fits (copies (inl x)) = inr x
 causes_left b d o p fits (copies (inr shares)) = absurd (fits.apart shares)
 
+-- and so it is with any cause
 switch_left : (b : ℕ) (d : Sectors) (o : Option Layout) (p : Layout) → Fitting b d o p → NoSwitch b d o p
     → TurnsAmiss b d o p ⊎ CopiesAmiss b d o p
 switch_left b d o p fits (other_disk isnt) = absurd (isnt fits.may)
@@ -99,12 +101,14 @@ unsound_first_lem b d o p f Memory eight from fits first is real = absurd (real 
 both_or_targets : (b : ℕ) (d : Sectors) (o : Option Layout) (p : Layout) (ts : List (Target b)) → WritesBoth o p → ¬ TargetsOf b d o p ts
 both_or_targets b d o p ts both are = both.other (subst (λ (y : Body). TargetsIn b d o p y ts) both.body are).0
 
+-- where the turn alone is amiss, nothing that would be written is owned
 turn_frees : (b : ℕ) (d : Sectors) (o : Option Layout) (p : Layout) → Fitting b d o p → TurnsAmiss b d o p → ¬ IsReused b d o p
 turn_frees b d o p fits (ts, are, free, none) (s, cause.both both would, owned) = both_or_targets b d o p ts both are
 turn_frees b d o p fits (ts, are, free, none) (s, cause.target us t of change at, owned) =
     let u = targets_one b d o p us ts t fits of are change in
     free u.0 u.1 (subst (OwnedOf b o) (sym (u.2 ∙ at)) owned)
 
+-- nor where the copies are
 copies_free : (b : ℕ) (d : Sectors) (o : Option Layout) (p : Layout) → CopiesAmiss b d o p → ¬ IsReused b d o p
 copies_free b d o p is (s, cause.both both would, owned) = is.free s would owned
 copies_free b d o p is (s, cause.target us t of change at, owned) = both_or_targets b d o p us is.both of
@@ -116,6 +120,7 @@ unmended_targets b d o p (Gpt t) is body = (is.changes, is.places)
 unmended_targets b d o p (Mbr records chain) is body =
     absurd (subst (λ (y : Body). IsBodyBroken b d y is.finding) (is.changes.same ∙ body) is.broken)
 
+-- so those that it has are the targets of p
 unmended_are : (b : ℕ) (d : Sectors) (o : Option Layout) (p : Layout) (is : IsUnmended b d o p) → TargetsOf b d o p is.items
 unmended_are b d o p is = unmended_targets b d o p p.body is refl
 
@@ -126,6 +131,7 @@ lone_at b d o p is ts t fits are change =
     let u = targets_one b d o p ts is.items t fits are (unmended_are b d o p is) change in
     sym u.2 ∙ is.lone.one u.0 u.1
 
+-- so nothing that would be written is owned there
 unmended_frees : (b : ℕ) (d : Sectors) (o : Option Layout) (p : Layout) → Fitting b d o p → IsUnmended b d o p → ¬ IsReused b d o p
 unmended_frees b d o p fits is (s, cause.both both would, owned) = both.other is.changes
 unmended_frees b d o p fits is (s, cause.target ts t are change at, owned) =
@@ -150,8 +156,11 @@ lone_guarded : (b : ℕ) (d : Sectors) (o : Option Layout) (p : Layout) (is : Is
     → IsGuarded b d is.target.at.0
 lone_guarded b d o p is from fits =
     let old : Denotes b d (Some is.changes.old) = subst (Denotes b d) is.changes.is_old from in
-    place p.body (subst (BodyIs b d) is.changes.same old.1) (subst (λ (n : ℕ). IsPlace (places_of b n p.body) is.target.at.0) fits.may.sectors (is.places.each is.target is.lone.change.0))
+    let at = is.places.each is.target is.lone.change.0 in
+    let here = subst (λ (n : ℕ). IsPlace (places_of b n p.body) is.target.at.0) fits.may.sectors at in
+    place p.body (subst (BodyIs b d) is.changes.same old.1) here
 
+-- so the turn is one
 unmended_turns : (b : ℕ) (d : Sectors) (o : Option Layout) (p : Layout) → Denotes b d o → Fitting b d o p → IsUnmended b d o p
     → ¬ TurnsAmiss b d o p
 unmended_turns b d o p from fits is (ts, are, free, inl none) =
@@ -175,17 +184,22 @@ switch_first_lem b d o p from fits is cause = by_cause (switch_left b d o p (fit
 -- so two errors are one, but for failures
 module _ (b : ℕ) (d : Sectors) (o : Option Layout) (p : Layout) (eight : HasEight p.labels) (from : Denotes b d o)
     (fits : Sound b p → Fitting b d o p) where
+  -- what is told of a sector in use holds of what the disk denotes
+  reused_of : Unplanned b d p ReusedInOneBatch → IsReused b d o p
+  reused_of is = subst (λ (q : Option Layout). IsReused b d q p) (denotes_one_lem b d is.old o is.from from) is.cause.1
+
+  -- and so does what is told of the switch
+  switch_of : Unplanned b d p NotOneSwitch → NoSwitch b d o p
+  switch_of is = subst (λ (q : Option Layout). NoSwitch b d q p) (denotes_one_lem b d is.old o is.from from) is.cause
+
   no_two_switch : Unplanned b d p NotOneSwitch → ¬ Unplanned b d p ReusedInOneBatch
-  no_two_switch x y =
-      reused_first_lem b d o p from fits (inl x) (subst (λ (q : Option Layout). IsReused b d q p) (denotes_one_lem b d y.old o y.from from) y.cause.1)
+  no_two_switch x y = reused_first_lem b d o p from fits (inl x) (reused_of y)
 
   no_two_repair : Unplanned b d p NeedsRepair → ¬ Unplanned b d p ReusedInOneBatch
-  no_two_repair x y =
-      reused_first_lem b d o p from fits (inr x) (subst (λ (q : Option Layout). IsReused b d q p) (denotes_one_lem b d y.old o y.from from) y.cause.1)
+  no_two_repair x y = reused_first_lem b d o p from fits (inr x) (reused_of y)
 
   no_two_last : Unplanned b d p NeedsRepair → ¬ Unplanned b d p NotOneSwitch
-  no_two_last x y =
-      switch_first_lem b d o p from fits x (subst (λ (q : Option Layout). NoSwitch b d q p) (denotes_one_lem b d y.old o y.from from) y.cause)
+  no_two_last x y = switch_first_lem b d o p from fits x (switch_of y)
 
   pub error_once : (e f : PlanError) → Unplanned b d p e → Unplanned b d p f → ¬ IsFailure e → ¬ IsFailure f → e ≡ f
   error_once (Unsound g) f x y first second = sym (unsound_first_lem b d o p g f eight from fits x y second)

@@ -30,6 +30,7 @@ record_target_one old new k under v x (inl p) (inr q) = absurd (q.0 p.0)
 record_target_one old new k under v x (inr p) (inl q) = absurd (p.0 q.0)
 record_target_one old new k under v x (inr p) (inr q) = p.1 ∙ sym q.1
 
+-- a byte of equal records
 in_record : (k i : ℕ) (v x : List ℕ) → record_at k v ≡ record_at k x → 446 + 16 * k ≤ i → i < 462 + 16 * k
     → slice_index v i ≡ slice_index x i
 in_record k i v x same ge lt = in_part (446 + 16 * k) (462 + 16 * k) i v x same ge lt

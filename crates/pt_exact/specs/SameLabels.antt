@@ -28,7 +28,13 @@ pub record Pair (d : Sectors) (P Q : ℕ → List ℕ → Type 0) (s : ℕ) : Ty
 
 -- equal bytes are such a pair
 pub same_pair : (d : Sectors) (P Q : ℕ → List ℕ → Type 0) (s : ℕ) (v x : List ℕ) → v ≡ x → P s v → Q s x → Pair d P Q s
-same_pair d P Q s v x same has also = record { first = v; second = x; has = has; also = also; alike = λ differ there. differ (same ∙ there) }
+same_pair d P Q s v x same has also = record {
+  first = v;
+  second = x;
+  has = has;
+  also = also;
+  alike = λ differ there. differ (same ∙ there);
+}
 
 -- what a label's place needs stands there for all its bytes, or for none
 label_alike : (b : ℕ) (d : Sectors) (o : Option Layout) (w : Slice) (l : Label) (v x : List ℕ) → IsLabelTarget b d o w l v
@@ -39,7 +45,8 @@ label_alike b d o w l v x (changed m had differs encoded) (kept again reads same
 label_alike b d o w l v x (changed m had differs encoded) (changed k again also over) differ there =
     let old = had.2 in
     let stands : LabelBytes l w.first w.len (sector d (place_of w)) = subst (LabelBytes l w.first w.len) there over.reads in
-    let was : LabelBytes m old.slice.first old.slice.len (sector d (place_of w)) = subst (λ (s : ℕ). LabelBytes m old.slice.first old.slice.len (sector d s)) old.place old.label in
+    let was : LabelBytes m old.slice.first old.slice.len (sector d (place_of w)) =
+    subst (λ (s : ℕ). LabelBytes m old.slice.first old.slice.len (sector d s)) old.place old.label in
     differs (label_one m l old.slice.first old.slice.len w.first w.len (sector d (place_of w)) was stands)
 label_alike b d o w l v x (changed m had differs encoded) (new none fresh) differ there = none m had
 label_alike b d o w l v x (new none fresh) (kept had reads same) differ there = none l had
@@ -52,9 +59,16 @@ abbrev pub PlaceHas : ℕ → Sectors → Option Layout → (ℕ → List ℕ �
 PlaceHas b d o Q w (Some l) = (v : List ℕ) × IsLabelTarget b d o w l v × Q (place_of w) v
 PlaceHas b d o Q w None = Q (place_of w) (sector d (place_of w))
 
+-- two that bring it about are a pair there
 place_pair : (b : ℕ) (d : Sectors) (o : Option Layout) (P Q : ℕ → List ℕ → Type 0) (w : Slice) (l : Option Label) → PlaceHas b d o P w l
     → PlaceHas b d o Q w l → Pair d P Q (place_of w)
-place_pair b d o P Q w (Some l) (v, target, has) (x, other, also) = record { first = v; second = x; has = has; also = also; alike = label_alike b d o w l v x target other }
+place_pair b d o P Q w (Some l) (v, target, has) (x, other, also) = record {
+  first = v;
+  second = x;
+  has = has;
+  also = also;
+  alike = label_alike b d o w l v x target other;
+}
 place_pair b d o P Q w None has also = same_pair d P Q (place_of w) (sector d (place_of w)) (sector d (place_of w)) refl has also
 
 -- so it is with each label place of p
@@ -66,13 +80,15 @@ pub places_pair : (b : ℕ) (d : Sectors) (o : Option Layout) (p : Layout) (P Q 
     → PlacesHave b d o p P → PlacesHave b d o p Q → IsPlace (places_of b p.sectors p.body) s → Pair d P Q s
 places_pair b d o p P Q s four has also at =
     let w = slice_of (places_of b p.sectors p.body) s at in
-    let zip = zipped (PlaceHas b d o P) (PlaceHas b d o Q) 1 (places_of b p.sectors p.body) p.labels w.0 (places_rise b p.sectors p.body four) has also w.1 in
+    let rise = places_rise b p.sectors p.body four in
+    let zip = zipped (PlaceHas b d o P) (PlaceHas b d o Q) 1 (places_of b p.sectors p.body) p.labels w.0 rise has also w.1 in
     subst (Pair d P Q) w.2 (place_pair b d o P Q w.0 zip.label zip.first zip.second)
 
 -- one of these targets is of sector s and has these bytes
 abbrev pub Held : {b : _} → Sectors → List (Target b) → ℕ → List ℕ → Type 0
 Held d ts s v = (t : Target _) × Contains ts t × (t.at.0 ≡ s) × (t.under ≡ sector d s) × (t.bytes ≡ v)
 
+-- a target of a label place brings about what it needs
 targeted_has : (b : ℕ) (d : Sectors) (o : Option Layout) (ts : List (Target b)) (w : Slice) (l : Option Label) → Targeted d o ts w l
     → PlaceHas b d o (Held d ts) w l
 targeted_has b d o ts w None (t, has, at, under, is) = (t, has, at, under, is.2 ∙ under)
@@ -88,6 +104,7 @@ pub labels_have : (b : ℕ) (d : Sectors) (o : Option Layout) (p : Layout) (ts :
 labels_have b d o p ts are =
     along_all (Targeted d o ts) (PlaceHas b d o (Held d ts)) (places_of b p.sectors p.body) p.labels (targeted_has b d o ts) are.has
 
+-- a write that meets it does so too
 met_has : (b : ℕ) (d : Sectors) (o : Option Layout) (ws : Writes) (w : Slice) (l : Option Label) → Met b d o ws w l
     → PlaceHas b d o (Ends d ws) w l
 met_has b d o ws w (Some l) is = is
@@ -117,6 +134,8 @@ pub labels_one : (b : ℕ) (d : Sectors) (o : Option Layout) (p : Layout) (ts us
     → AreLabelTargets d o p ts → AreLabelTargets d o p us → ¬ HasTwoOfOne ts → IsChange ts t
     → (u : Target b) × IsChange us u × (u.at.0 ≡ t.at.0)
 labels_one b d o p ts us t four are others one change =
-    let pair = places_pair b d o p (Held d ts) (Held d us) t.at.0 four (labels_have b d o p ts are) (labels_have b d o p us others) (are.each t change.0) in
+    let has = labels_have b d o p ts are in
+    let also = labels_have b d o p us others in
+    let pair = places_pair b d o p (Held d ts) (Held d us) t.at.0 four has also (are.each t change.0) in
     let x = changed_other b d ts t (Held d us) one change pair in
     change_of b d us t.at.0 x.0 x.1 x.2

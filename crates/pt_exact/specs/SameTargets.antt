@@ -40,6 +40,7 @@ pub one_of_each : (b : ℕ) (d : Sectors) (o : Option Layout) (p : Layout) (ts :
     → ¬ HasTwoOfOne ts
 one_of_each b d o p ts fits are two = let shares : SharesSector b d o p = (ts, inl are, two) in fits.apart shares
 
+-- so it is with a GPT and with an MBR
 by_body : (b : ℕ) (d : Sectors) (o : Option Layout) (p : Layout) (y : Body) (ts us : List (Target b)) (t : Target b) → Fitting b d o p
     → p.body ≡ y → TargetsIn b d o p y ts → TargetsIn b d o p y us → ¬ HasTwoOfOne ts → IsChange ts t
     → (u : Target b) × IsChange us u × (u.at.0 ≡ t.at.0)

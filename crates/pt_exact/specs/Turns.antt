@@ -65,16 +65,19 @@ module _ (b : ℕ) (d : Sectors) (o : Option Layout) (p : Layout) (records : Lis
   end_put s v (inl puts) differs = puts
   end_put s v (inr (same, never)) differs = absurd (differs same)
 
+  -- a target that changes is written
   change_put : (ts : List (Target b)) (t : Target b) → TargetsOf b d o p ts → IsChange ts t → (v : List ℕ) × Puts all t.at.0 v
   change_put ts t are change =
       let needed = target_needed b d o p records chain ts t (listed ts are) change.0 in
-      let pair = mbr_pair b d o p is.old_records is.old_chain records chain (Held d ts) (Ends d all) fits.four linked (list_has ts are) plan_has t.at.0 needed in
+      let has = list_has ts are in
+      let pair = mbr_pair b d o p is.old_records is.old_chain records chain (Held d ts) (Ends d all) fits.four linked has plan_has t.at.0 needed in
       let x = changed_other b d ts t (Ends d all) (one_of_each b d o p ts fits are) change pair in
       (x.0, end_put t.at.0 x.0 x.1 x.2)
 
   loud_put : Puts all is.loud.0 is.loud.1
   loud_put = puts_right is.quiet last is.loud.0 is.loud.1 (inl (refl, refl))
 
+  -- what comes to stand in the last sector isn't there yet
   put_differs : (v : List ℕ) → Ends d all is.loud.0 v → v ≢ sector d is.loud.0
   put_differs v (inl puts) same = (is.each is.loud.0 v puts).1 same
   put_differs v (inr (there, never)) same = never is.loud.1 loud_put
@@ -83,7 +86,8 @@ module _ (b : ℕ) (d : Sectors) (o : Option Layout) (p : Layout) (records : Lis
   loud_change : (ts : List (Target b)) → TargetsOf b d o p ts → (t : Target b) × IsChange ts t × (t.at.0 ≡ is.loud.0)
   loud_change ts are =
       let needed : IsNeeded b p chain is.loud.0 = (is.each is.loud.0 is.loud.1 loud_put).0 in
-      let pair = mbr_pair b d o p is.old_records is.old_chain records chain (Ends d all) (Held d ts) fits.four linked plan_has (list_has ts are) is.loud.0 needed in
+      let also = list_has ts are in
+      let pair = mbr_pair b d o p is.old_records is.old_chain records chain (Ends d all) (Held d ts) fits.four linked plan_has also is.loud.0 needed in
       change_of b d ts is.loud.0 pair.second pair.also (pair.alike (put_differs pair.first pair.has))
 
   mbr : IsMbrDisk d
@@ -99,6 +103,7 @@ module _ (b : ℕ) (d : Sectors) (o : Option Layout) (p : Layout) (records : Lis
       (λ loud. one_is is.loud.0 s is.loud.1 v loud)
       (puts_split is.quiet last s v puts)
 
+  -- so the turn is one
   within_turns : ¬ TurnsAmiss b d o p
   within_turns (ts, are, free, inl none) = (let t = loud_change ts are in none t.0 t.1 (subst (IsGuarded b d) (sym t.2) loud_guarded))
   within_turns (ts, are, free, inr (t, u, first, second, g, h, less)) =
@@ -118,6 +123,7 @@ module _ (b : ℕ) (d : Sectors) (o : Option Layout) (p : Layout) (records : Lis
   within_switch (copies (inl x)) = no_copies x.both
   within_switch (copies (inr shares)) = fits.apart shares
 
+  -- all of it is written in the phases
   in_phases : (s : ℕ) (v : List ℕ) → Puts all s v → Puts (writes_in phases) s v
   in_phases s v puts = ⊎_elim
       (λ one. subst (λ (ps : List Writes). Puts (writes_in ps) s v) (sym one.1) (subst (λ (q : Writes). Puts (q ++ last) s v) one.0 puts))
@@ -131,37 +137,40 @@ module _ (b : ℕ) (d : Sectors) (o : Option Layout) (p : Layout) (records : Lis
       let put = change_put ts t are change in
       is.common.free s put.0 (in_phases s put.0 (subst (λ (k : ℕ). Puts all k put.0) at put.1)) owned
 
--- what has a plan has one switch
+-- a layout that fits and has a plan
 module _ (b : ℕ) (d : Sectors) (o : Option Layout) (p : Layout) (phases : List Writes) (from : Denotes b d o) (fits : Fitting b d o p)
     (not_done : ¬ IsHealthy b d p) where
+  -- a disk denotes one layout, so the causes are of the plan's own
+  moved_switch : (q : Option Layout) → Denotes b d q → HasNoSwitch b d o p → HasNoSwitch b d q p
+  moved_switch q there = subst (λ (x : Option Layout). HasNoSwitch b d x p) (denotes_one_lem b d o q from there)
+
+  moved_reused : (q : Option Layout) → Denotes b d q → IsReused b d o p → IsReused b d q p
+  moved_reused q there = subst (λ (x : Option Layout). IsReused b d x p) (denotes_one_lem b d o q from there)
+
+  moved_fits : (q : Option Layout) → Denotes b d q → Fitting b d q p
+  moved_fits q there = subst (λ (x : Option Layout). Fitting b d x p) (denotes_one_lem b d o q from there) fits
+
+  -- each plan has one switch
   planned_switch : IsPlan b d p phases → ¬ HasNoSwitch b d o p
   planned_switch (idle healthy none) why = not_done healthy
-  planned_switch (backup_first q t is) why =
-      backup_first_switch b d q p t phases is (subst (λ (x : Option Layout). HasNoSwitch b d x p) (denotes_one_lem b d o q from is.common.from) why)
-  planned_switch (primary_first q t is) why =
-      primary_first_switch b d q p t phases is (subst (λ (x : Option Layout). HasNoSwitch b d x p) (denotes_one_lem b d o q from is.common.from) why)
+  planned_switch (backup_first q t is) why = backup_first_switch b d q p t phases is (moved_switch q is.common.from why)
+  planned_switch (primary_first q t is) why = primary_first_switch b d q p t phases is (moved_switch q is.common.from why)
   planned_switch (from_mbr q t is) why =
-      from_mbr_switch b d q p t phases is (mbr_changes b d q p t phases is) (subst (λ (x : Option Layout). HasNoSwitch b d x p) (denotes_one_lem b d o q from is.common.from) why)
-  planned_switch (one_label q t is) why =
-      label_switch b d q p t phases is (subst (λ (x : Option Layout). HasNoSwitch b d x p) (denotes_one_lem b d o q from is.common.from) why)
+      from_mbr_switch b d q p t phases is (mbr_changes b d q p t phases is) (moved_switch q is.common.from why)
+  planned_switch (one_label q t is) why = label_switch b d q p t phases is (moved_switch q is.common.from why)
   planned_switch (within_mbr q records chain is) why =
-      let same = denotes_one_lem b d o q from is.common.from in
-      within_switch b d q p records chain phases (subst (λ (x : Option Layout). Fitting b d x p) same fits) is (subst (λ (x : Option Layout). HasNoSwitch b d x p) same why)
+      within_switch b d q p records chain phases (moved_fits q is.common.from) is (moved_switch q is.common.from why)
 
   -- and writes nothing that is owned
   planned_frees : IsPlan b d p phases → ¬ IsReused b d o p
   planned_frees (idle healthy none) why = not_done healthy
-  planned_frees (backup_first q t is) why =
-      backup_first_frees b d q p t phases is (subst (λ (x : Option Layout). IsReused b d x p) (denotes_one_lem b d o q from is.common.from) why)
-  planned_frees (primary_first q t is) why =
-      primary_first_frees b d q p t phases is (subst (λ (x : Option Layout). IsReused b d x p) (denotes_one_lem b d o q from is.common.from) why)
+  planned_frees (backup_first q t is) why = backup_first_frees b d q p t phases is (moved_reused q is.common.from why)
+  planned_frees (primary_first q t is) why = primary_first_frees b d q p t phases is (moved_reused q is.common.from why)
   planned_frees (from_mbr q t is) why =
-      from_mbr_frees b d q p t phases is (mbr_changes b d q p t phases is) (subst (λ (x : Option Layout). IsReused b d x p) (denotes_one_lem b d o q from is.common.from) why)
-  planned_frees (one_label q t is) why =
-      label_frees b d q p t phases is (subst (λ (x : Option Layout). IsReused b d x p) (denotes_one_lem b d o q from is.common.from) why)
+      from_mbr_frees b d q p t phases is (mbr_changes b d q p t phases is) (moved_reused q is.common.from why)
+  planned_frees (one_label q t is) why = label_frees b d q p t phases is (moved_reused q is.common.from why)
   planned_frees (within_mbr q records chain is) why =
-      let same = denotes_one_lem b d o q from is.common.from in
-      within_frees b d q p records chain phases (subst (λ (x : Option Layout). Fitting b d x p) same fits) is (subst (λ (x : Option Layout). IsReused b d x p) same why)
+      within_frees b d q p records chain phases (moved_fits q is.common.from) is (moved_reused q is.common.from why)
 
 -- so, where a layout that fits has a plan, what the planner may tell is a failure
 pub planned_no_error_lem : (b : ℕ) (d : Sectors) (o : Option Layout) (p : Layout) (phases : List Writes) (e : PlanError) → Denotes b d o
