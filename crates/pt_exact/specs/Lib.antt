@@ -1,3 +1,4 @@
+pub mod Answers
 pub mod Apart
 pub mod Both
 pub mod Changes
@@ -8,6 +9,12 @@ pub mod FitsApart
 pub mod FitsMade
 pub mod Mended
 pub mod OneLabel
+pub mod Order
 pub mod Own
 pub mod Planned
+pub mod SameBytes
+pub mod SameHeads
+pub mod SameLabels
+pub mod SameTargets
 pub mod Tables
+pub mod Turns

@@ -54,10 +54,10 @@ abbrev labelled : ℕ → Label → Labelled
 labelled n l = record { number = n; label = l }
 
 -- what holds along slices and labels, twice, holds of one and the same label of a slice
-record Zip (P Q : Slice → Option Label → Type 0) (w : Slice) : Type 0 where
-  label : Option Label
-  first : P w label
-  second : Q w label
+pub record Zip (P Q : Slice → Option Label → Type 0) (w : Slice) : Type 0 where
+  pub label : Option Label
+  pub first : P w label
+  pub second : Q w label
 
 first_label : (n : ℕ) (l m : Label) (rest others : List Labelled) → labelled n l ∷ rest ≡ labelled n m ∷ others → m ≡ l
 first_label n l m rest others both = let one : labelled n l ≡ labelled n m = cc in sym (ap (λ (y : Labelled). y.label) one)
@@ -69,7 +69,7 @@ zip_here : (P Q : Slice → Option Label → Type 0) (v : Slice) (ps : List Slic
 zip_here P Q v ps w it later (zero, lt, at) = subst (Zip P Q) at it
 zip_here P Q v ps w it later (suc k, lt, at) = later (k, omega (arith, lt), at)
 
-zipped : (P Q : Slice → Option Label → Type 0) (low : ℕ) (ps : List Slice) (labels : List Labelled) (w : Slice) → Rise low ps → Along P ps labels → Along Q ps labels → Contains ps w → Zip P Q w
+pub zipped : (P Q : Slice → Option Label → Type 0) (low : ℕ) (ps : List Slice) (labels : List Labelled) (w : Slice) → Rise low ps → Along P ps labels → Along Q ps labels → Contains ps w → Zip P Q w
 zipped P Q low [] labels w rise p q has = absurd (omega (arith, has.1))
 zipped P Q low (v ∷ ps) labels w rise (inl (l, rest, same, it, later)) (inl (m, others, so, also, on)) has =
     let both = sym same ∙ so in
@@ -90,7 +90,7 @@ sector_here (y ∷ ts) x zero lt at = ap (λ (z : Target _). z.at.0) at
 sector_here (y ∷ ts) x (suc i) lt at = sector_here ts x i (omega (arith, lt)) at
 
 -- where no two targets are of one sector, a sector tells its target
-same_target : {b : ℕ} (ts : List (Target b)) (x y : Target b) → ¬ HasTwoOfOne ts → Contains ts x → Contains ts y → x.at.0 ≡ y.at.0 → x ≡ y
+pub same_target : {b : ℕ} (ts : List (Target b)) (x y : Target b) → ¬ HasTwoOfOne ts → Contains ts x → Contains ts y → x.at.0 ≡ y.at.0 → x ≡ y
 same_target ts x y one (i, i_lt, at) (j, j_lt, to) same =
     let x_at = sector_here ts x i i_lt at in
     let y_at = sector_here ts y j j_lt to in
