@@ -19,6 +19,3 @@ pub use laws::{
     changed_label_fits, empty_label_fits, fault_is_no_label, fitting_label_has_form,
     label_fault_is_one, label_is_one, read_label_fits,
 };
-
-#[cfg(test)]
-mod tests;

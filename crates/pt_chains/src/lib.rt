@@ -6,8 +6,6 @@ mod ebrs;
 mod extended;
 mod head;
 mod linked;
-#[cfg(test)]
-mod tests;
 
 pub use chain::mbr_targets;
 pub use linked::is_linked;

@@ -11,8 +11,6 @@ mod laws;
 mod partition;
 mod partitions;
 mod room;
-#[cfg(test)]
-mod tests;
 mod twins;
 
 pub use convert::to_gpt;

@@ -6,8 +6,6 @@ mod laws;
 mod parts;
 mod phases;
 mod protect;
-#[cfg(test)]
-mod tests;
 
 pub use fits::fits_table;
 pub use laws::{all_writes_are_reached, first_writes_are_reached, last_writes_are_of_the_head};

@@ -19,6 +19,3 @@ mod tables;
 pub use fold::edit;
 pub use laws::{edit_answers, edited_one, memory_is_no_answer};
 pub use pt_words::{Code, Edit, EditError, End, Refusal, fault_is_no_word, parse_edit};
-
-#[cfg(test)]
-mod tests;

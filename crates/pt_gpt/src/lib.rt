@@ -28,6 +28,3 @@ pub use laws::{
 pub use place::{array_at, array_sectors, counted_sectors, header_at};
 pub use table::{Entries, Side, Table};
 pub use view::EntryView;
-
-#[cfg(test)]
-mod tests;

@@ -8,6 +8,3 @@ mod guid;
 
 pub use codes::{code_of_type, codes_differ, type_of_code};
 pub use guid::{Guid, GuidError, fresh, mixed_twice, one_value, parse, text_reads_back};
-
-#[cfg(test)]
-mod tests;

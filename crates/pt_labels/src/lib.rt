@@ -6,8 +6,6 @@ mod lists;
 mod new;
 mod parts;
 mod slices;
-#[cfg(test)]
-mod tests;
 
 pub use laws::{
     part_deleted_answers, part_deleted_excludes, part_deleted_one, part_new_answers,

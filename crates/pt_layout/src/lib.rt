@@ -10,8 +10,6 @@ mod foreign;
 mod groups;
 mod halves;
 mod health;
-#[cfg(test)]
-mod images;
 mod laws;
 mod member;
 mod number;
@@ -20,16 +18,12 @@ mod owned;
 mod ownership;
 mod path;
 mod places;
-#[cfg(test)]
-mod plain;
 mod search;
 mod slots;
 mod soundness;
 mod spot;
 mod survey;
 mod tables;
-#[cfg(test)]
-mod tests;
 
 pub use finding::{Finding, Verdict};
 pub use health::{Head, verify};

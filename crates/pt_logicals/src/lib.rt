@@ -21,6 +21,3 @@ pub use laws::{
     logical_typed_is_taken,
 };
 pub use types::{is_container_type, is_slice_kind, new_type_of, record_type_of};
-
-#[cfg(test)]
-mod tests;

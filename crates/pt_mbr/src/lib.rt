@@ -13,8 +13,6 @@ mod laws;
 mod mbr;
 mod protection;
 mod record;
-#[cfg(test)]
-mod tests;
 
 pub use chain::{ChainError, read_chain, walk_chain};
 pub use change::{change_ebr, change_records, link_to, new_ebr};

@@ -8,8 +8,6 @@ mod place;
 mod reading;
 mod spots;
 mod targets;
-#[cfg(test)]
-mod tests;
 
 pub use answer::LabelTargets;
 pub use labels::label_targets;

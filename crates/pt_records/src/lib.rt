@@ -21,6 +21,3 @@ pub use laws::{
     typed_is_one, typed_is_taken,
 };
 pub use parts::MbrParts;
-
-#[cfg(test)]
-mod tests;

@@ -15,8 +15,6 @@ mod numbers;
 mod recovery;
 mod slices;
 mod tables;
-#[cfg(test)]
-mod tests;
 mod trace;
 
 pub use body::read_records;

@@ -16,8 +16,6 @@ mod put;
 mod reading;
 mod room;
 mod stop;
-#[cfg(test)]
-mod tests;
 
 pub use address::{Extent, Lba, Sector};
 pub use crash::CrashDisk;

@@ -15,6 +15,3 @@ pub use laws::{
 };
 pub use placement::place;
 pub use space::{Lead, Run, Space};
-
-#[cfg(test)]
-mod tests;

@@ -6,8 +6,6 @@ mod order;
 mod refusal;
 mod reserved;
 mod setting;
-#[cfg(test)]
-mod tests;
 
 pub use copies::both_copies;
 pub use order::Order;

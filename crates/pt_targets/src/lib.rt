@@ -9,8 +9,6 @@ mod fresh;
 mod order;
 mod split;
 mod target;
-#[cfg(test)]
-mod tests;
 
 pub use change::one_change;
 pub use choice::{is_change, is_unread_new};

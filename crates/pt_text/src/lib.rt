@@ -8,8 +8,6 @@
 mod error;
 mod laws;
 mod read;
-#[cfg(test)]
-mod tests;
 mod write;
 
 pub use error::PlanTextError;

@@ -4,8 +4,6 @@
 mod label;
 mod order;
 mod phases;
-#[cfg(test)]
-mod tests;
 mod within;
 
 pub use label::one_label;

@@ -16,6 +16,3 @@ pub use laws::{
 };
 pub use parse::parse_edit;
 pub use word::{Code, Edit, End};
-
-#[cfg(test)]
-mod tests;

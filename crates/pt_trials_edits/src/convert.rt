@@ -1,0 +1,244 @@
+//! What `g` makes of MBR layouts, and when it is refused, as docs/commands.md tells it.
+
+ghost use Rattle.pt_sector.specs.Sectors.{IsSectorSize};
+
+use pt_bsd::{LabelEntry, empty_label};
+use pt_convert::{guids_for, to_gpt};
+use pt_gpt::{Entries, Entry, Table};
+use pt_guid::{Guid, type_of_code};
+use pt_layout::{Body, Ebrs, Labelled, Labels, Layout};
+use pt_mbr::{Ebr, Record};
+use pt_sector::Lba;
+use std::alloc::Global;
+use std::test::Fail;
+
+/// Four fresh GUIDs.
+const FRESH: [Guid; 4] = [Guid([1; 16]), Guid([2; 16]), Guid([3; 16]), Guid([4; 16])];
+
+/// A record of this type, start and size.
+fn record(kind: u8, start: u32, size: u32) -> Option<Record> {
+    Some(Record {
+        boot: 0,
+        start_chs: [0; 3],
+        kind,
+        end_chs: [0; 3],
+        start,
+        size,
+    })
+}
+
+/// An MBR without labels.
+fn mbr(
+    alloc: Global,
+    sectors: u64,
+    records: [Option<Record>; 4],
+    chain: &[Ebr],
+) -> Result<Layout, Fail> {
+    Ok(Layout {
+        sectors,
+        body: Body::Mbr {
+            records,
+            chain: Ebrs::new(Vec::from_slice(alloc, chain)?),
+        },
+        labels: Labels::new(Vec::new(alloc)),
+    })
+}
+
+/// The number of the refusal, or 0.
+fn refused<const B: usize>(alloc: Global, layout: Layout, guids: &[Guid]) -> u8
+    requires { IsSectorSize B }
+{
+    match to_gpt::<B>(alloc, layout, guids) {
+        Ok(_) => 0,
+        Err(refusal) => refusal.number(),
+    }
+}
+
+/// An entry of this type code, GUID and sectors.
+fn entry(code: u16, unique: Guid, first: u64, last: u64) -> Option<Entry> {
+    match type_of_code(code) {
+        Some(kind) => Some(Entry {
+            kind,
+            unique,
+            first,
+            last,
+            attributes: 0,
+            name: [0; 36],
+        }),
+        None => None,
+    }
+}
+
+/// Whether the layout becomes a GPT with these entries first, of these first and last usable sectors.
+fn becomes<const B: usize>(
+    alloc: Global,
+    layout: Layout,
+    entries: &[Option<Entry>],
+    usable: (u64, u64),
+) -> Result<bool, Fail>
+    requires { IsSectorSize B }
+{
+    let mut all = Vec::from_slice(alloc, &[None; 128])?;
+    for (place, entry) in all.iter_mut().zip(entries) {
+        *place = *entry;
+    }
+    let wanted = Layout {
+        sectors: layout.sectors,
+        body: Body::Gpt(Table {
+            disk: FRESH[0],
+            first: usable.0,
+            last: usable.1,
+            entries: Entries::new(all),
+        }),
+        labels: layout.labels.copy(alloc)?,
+    };
+    match to_gpt::<B>(alloc, layout, &FRESH) {
+        Ok(made) => Ok(made.same(&wanted)),
+        Err(_) => Ok(false),
+    }
+}
+
+/// A disk of so many sectors with partition 1 of this type, from sector 2048 on.
+fn lone(alloc: Global, sectors: u64, kind: u8, size: u32) -> Result<Layout, Fail> {
+    mbr(
+        alloc,
+        sectors,
+        [record(kind, 2048, size), None, None, None],
+        &[],
+    )
+}
+
+#[test]
+fn a_partition_keeps_its_sectors(rt: HostRuntime) -> Result<(), Fail> {
+    let alloc = rt.alloc();
+    let wanted = [entry(0x8300, FRESH[1], 2048, 4062)];
+    assert!(rt; becomes::<512>(alloc, lone(alloc, 4096, 0x83, 2015)?, &wanted, (34, 4062))?);
+    assert_eq!(rt; guids_for(&lone(alloc, 4096, 0x83, 2015)?), 2);
+    Ok(())
+}
+
+#[test]
+fn too_little_room(rt: HostRuntime) -> Result<(), Fail> {
+    let alloc = rt.alloc();
+    assert_eq!(rt;
+        refused::<512>(alloc, lone(alloc, 4096, 0x83, 2016)?, &FRESH),
+        12
+    );
+    assert_eq!(rt;
+        refused::<512>(alloc, mbr(alloc, 67, [None; 4], &[])?, &FRESH),
+        12
+    );
+    assert_eq!(rt;
+        refused::<512>(alloc, mbr(alloc, 68, [None; 4], &[])?, &FRESH),
+        0
+    );
+    assert_eq!(rt; refused::<512>(alloc, lone(alloc, 67, 0x0B, 1)?, &FRESH), 6);
+    Ok(())
+}
+
+/// An extended boot record with a logical partition of one sector in the sector behind it, or none.
+fn ebr(at: u64, kind: Option<u8>, next: Option<u64>) -> Ebr {
+    Ebr {
+        at: Lba(at),
+        logical: match kind {
+            Some(kind) => record(kind, 1, 1),
+            None => None,
+        },
+        next: match next {
+            Some(next) => Some(Lba(next)),
+            None => None,
+        },
+    }
+}
+
+/// A disk with partition 1, the extended one as number 2, and logical partitions 5 and 6 behind an empty extended boot record.
+fn chained(alloc: Global, first: u32) -> Result<Layout, Fail> {
+    let at = u64::from(first);
+    let chain = [
+        ebr(at, None, Some(5000)),
+        ebr(5000, Some(0x82), Some(5002)),
+        ebr(5002, Some(0x07), None),
+    ];
+    let records = [
+        record(0xEF, 2048, 8),
+        record(0x0F, first, 16000),
+        None,
+        None,
+    ];
+    mbr(alloc, 16384, records, &chain)
+}
+
+#[test]
+fn logical_partitions_keep_their_numbers(rt: HostRuntime) -> Result<(), Fail> {
+    let alloc = rt.alloc();
+    let wanted = [
+        entry(0xEF00, FRESH[1], 2048, 2055),
+        None,
+        None,
+        None,
+        entry(0x8200, FRESH[2], 5001, 5001),
+        entry(0x0700, FRESH[3], 5003, 5003),
+    ];
+    assert!(rt; becomes::<512>(alloc, chained(alloc, 4096)?, &wanted, (34, 16350))?);
+    assert_eq!(rt; guids_for(&chained(alloc, 4096)?), 4);
+    assert_eq!(rt; refused::<512>(alloc, chained(alloc, 33)?, &FRESH), 12);
+    Ok(())
+}
+
+#[test]
+fn sectors_of_4096_bytes(rt: HostRuntime) -> Result<(), Fail> {
+    let alloc = rt.alloc();
+    let records = [None, record(0xA5, 6, 89), None, None];
+    let wanted = [None, entry(0xA500, FRESH[1], 6, 94)];
+    assert!(rt; becomes::<4096>(alloc, mbr(alloc, 100, records, &[])?, &wanted, (6, 94))?);
+    Ok(())
+}
+
+#[test]
+fn fresh_guids(rt: HostRuntime) -> Result<(), Fail> {
+    let alloc = rt.alloc();
+    let disk = FRESH[0];
+    let first = FRESH[1];
+    assert_eq!(rt;
+        refused::<512>(alloc, chained(alloc, 4096)?, &[disk, first, first]),
+        10
+    );
+    assert_eq!(rt;
+        refused::<512>(alloc, chained(alloc, 4096)?, &[disk, disk, first, first]),
+        11
+    );
+    assert_eq!(rt;
+        refused::<512>(alloc, lone(alloc, 4096, 0x83, 8)?, &[disk, disk]),
+        0
+    );
+    assert_eq!(rt;
+        refused::<512>(alloc, lone(alloc, 4096, 0x83, 8)?, &[disk]),
+        10
+    );
+    Ok(())
+}
+
+/// A disk with a slice whose label has one partition, at an offset in the slice.
+fn sliced(alloc: Global, offset: u32) -> Result<Layout, Fail> {
+    let mut label = empty_label(1024);
+    label.entries[0] = Some(LabelEntry {
+        size: 8,
+        offset,
+        fragment: 0,
+        fstype: 7,
+        frag: 0,
+        cpg: 0,
+    });
+    let mut layout = lone(alloc, 4096, 0xA5, 1024)?;
+    layout.labels = Labels::new(Vec::from_slice(alloc, &[Labelled { number: 1, label }])?);
+    Ok(layout)
+}
+
+#[test]
+fn a_slice_keeps_its_label(rt: HostRuntime) -> Result<(), Fail> {
+    let alloc = rt.alloc();
+    let wanted = [entry(0xA500, FRESH[1], 2048, 3071)];
+    assert!(rt; becomes::<512>(alloc, sliced(alloc, 16)?, &wanted, (34, 4062))?);
+    assert_eq!(rt; refused::<512>(alloc, sliced(alloc, 2008)?, &FRESH), 12);
+    Ok(())
+}

@@ -1,0 +1,14 @@
+//! Tests of disks, GUIDs, boot records, labels and copies of a GPT. They stand in a crate of their own, so that
+//! what they test isn't proved twice.
+#![tactic(auto)]
+
+#[cfg(test)]
+mod bsd;
+#[cfg(test)]
+mod gpt;
+#[cfg(test)]
+mod guid;
+#[cfg(test)]
+mod mbr;
+#[cfg(test)]
+mod sector;

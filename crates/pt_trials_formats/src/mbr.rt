@@ -1,0 +1,369 @@
+ghost use Rattle.std.specs.Prelude.{◌≡◌, ◌<◌, ◌≤◌, ◌*◌, ◌^◌, ◌⊎◌, IfOk};
+ghost use Rattle.pt_sector.specs.Sectors.{IsSectorSize};
+
+use arrayvec::ArrayVec;
+use pt_mbr::{
+    ChainError, Ebr, Mbr, Record, bears_protective, change_ebr, change_records, decode_ebr,
+    decode_mbr, encode_mbr, is_protective, link_to, new_ebr, protective, put_record, read_chain,
+    walk_chain,
+};
+use pt_sector::{CrashDisk, Disk, Extent, Fault, Lba, MemDisk, Sector};
+use std::alloc::Global;
+use std::test::Fail;
+
+/// A record as this project writes it.
+fn record_of(kind: u8, start: u32, size: u32) -> Record {
+    Record {
+        boot: 0,
+        start_chs: [0xFE, 0xFF, 0xFF],
+        kind,
+        end_chs: [0xFE, 0xFF, 0xFF],
+        start,
+        size,
+    }
+}
+
+/// A sector of zeros but for these records and the signature.
+fn boot_record<const B: usize>(records: [Option<Record>; 2]) -> Sector<B>
+    requires { IsSectorSize B }
+{
+    let mut sector = [0; B];
+    sector[510] = 0x55;
+    sector[511] = 0xAA;
+    let sector = put_record(&sector, 0, records[0].as_ref());
+    put_record(&sector, 1, records[1].as_ref())
+}
+
+fn link(kind: u8, start: u32, size: u32) -> [Option<Record>; 2] {
+    [None, Some(record_of(kind, start, size))]
+}
+
+const EMPTY: [Option<Record>; 2] = [None; 2];
+
+fn extended() -> Extent {
+    Extent::new(Lba(4096), Lba(12287)).unwrap()
+}
+
+/// How many extended boot records the chain has, and how many of them hold a logical partition.
+fn counts(list: &ArrayVec<Ebr, 128>) -> (usize, usize) {
+    (
+        list.len(),
+        list.iter().filter(|ebr| ebr.logical.is_some()).count(),
+    )
+}
+
+/// The answer for a chain from 4096 on, with an empty extended boot record in 6143.
+fn answer<const B: usize>(
+    alloc: Global,
+    first: &Sector<B>,
+) -> Result<Result<(usize, usize), ChainError>, Fail>
+    requires { IsSectorSize B }
+{
+    let mut disk: MemDisk<B> = MemDisk::new(alloc, 16384)?;
+    disk.write(Lba(4096), first)?;
+    disk.write(Lba(6143), &boot_record(EMPTY))?;
+    Ok(match read_chain(&mut disk, extended()) {
+        Ok(list) => Ok(counts(&list)),
+        Err(e) => Err(e),
+    })
+}
+
+#[test]
+fn links_are_judged(rt: HostRuntime) -> Result<(), Fail> {
+    let rows = [
+        (link(0x05, 2047, 1), Ok((2, 0))),
+        (link(0x0F, 2047, 1), Ok((2, 0))),
+        (link(0x05, 2047, 0), Ok((1, 0))),
+        (link(0x05, 0, 1), Err(ChainError::NotUpward(Lba(4096)))),
+        (
+            link(0x05, 8192, 1),
+            Err(ChainError::OutsideExtended(Lba(12288))),
+        ),
+        (link(0x05, 2048, 1), Err(ChainError::NoSignature(Lba(6144)))),
+        (link(0x83, 2047, 1), Err(ChainError::BadRecord(Lba(4096)))),
+        (
+            [Some(record_of(0x05, 1, 1)), None],
+            Err(ChainError::BadRecord(Lba(4096))),
+        ),
+        ([Some(record_of(0x05, 1, 0)), None], Ok((1, 0))),
+        ([Some(record_of(0x83, 1, 1000)), None], Ok((1, 1))),
+    ];
+    for (records, want) in rows {
+        assert_eq!(rt; answer::<512>(rt.alloc(), &boot_record(records))?, want);
+    }
+    assert_eq!(rt;
+        answer::<4096>(rt.alloc(), &boot_record(link(0x05, 2047, 1)))?,
+        Ok((2, 0))
+    );
+    Ok(())
+}
+
+#[test]
+fn bytes_are_judged_in_order(rt: HostRuntime) -> Result<(), Fail> {
+    let mut first: Sector<512> = boot_record(EMPTY);
+    first[479] = 1;
+    assert_eq!(rt;
+        answer(rt.alloc(), &first)?,
+        Err(ChainError::BadRecord(Lba(4096)))
+    );
+    first[510] = 0;
+    first[511] = 0;
+    assert_eq!(rt;
+        answer(rt.alloc(), &first)?,
+        Err(ChainError::NoSignature(Lba(4096)))
+    );
+    Ok(())
+}
+
+/// Extended boot records in 4096, 4098, and so on, each but the last linking to the next.
+fn write_chain<D: Disk<512>>(disk: &mut D, count: u32) -> Result<(), Fault>
+    requires { count ≤ 129 }
+{
+    for i in 0..count {
+        let records = if i + 1 < count {
+            link(0x05, 2 * (i + 1), 1)
+        } else {
+            EMPTY
+        };
+        let lba = Lba(4096 + 2 * u64::from(i));
+        if lba.0 < disk.sectors() {
+            disk.write(lba, &boot_record(records))?;
+        }
+    }
+    Ok(())
+}
+
+#[test]
+fn a_chain_has_128_at_most(rt: HostRuntime) -> Result<(), Fail> {
+    let mut disk: MemDisk<512> = MemDisk::new(rt.alloc(), 16384)?;
+    write_chain(&mut disk, 128)?;
+    let list = read_chain(&mut disk, extended());
+    assert!(rt; matches!(&list, Ok(list) if list.len() == 128));
+    let mut disk: MemDisk<512> = MemDisk::new(rt.alloc(), 16384)?;
+    write_chain(&mut disk, 129)?;
+    let mut list = ArrayVec::new();
+    assert_eq!(rt;
+        walk_chain(&mut disk, &extended(), &mut list),
+        Err(ChainError::TooLong)
+    );
+    assert_eq!(rt; list.len(), 128);
+    Ok(())
+}
+
+#[test]
+fn a_failed_read_is_the_device(rt: HostRuntime) -> Result<(), Fail> {
+    let mut disk: CrashDisk<512> = CrashDisk::new(rt.alloc(), 16384, 2)?;
+    disk.write(Lba(4096), &boot_record(link(0x05, 2047, 1)))?;
+    disk.write(Lba(6143), &boot_record(EMPTY))?;
+    disk.fail_at(2, false);
+    let mut list = ArrayVec::new();
+    assert_eq!(rt;
+        walk_chain(&mut disk, &extended(), &mut list),
+        Err(ChainError::Device(Lba(6143)))
+    );
+    assert_eq!(rt; list.len(), 1);
+    assert!(rt; read_chain(&mut disk, extended()).is_ok());
+    Ok(())
+}
+
+#[test]
+fn an_extended_partition_may_lie_past_the_disk(rt: HostRuntime) -> Result<(), Fail> {
+    let mut disk: MemDisk<4096> = MemDisk::new(rt.alloc(), 8)?;
+    assert!(rt;
+        matches!(
+            read_chain(&mut disk, extended()),
+            Err(ChainError::OutsideExtended(Lba(4096)))
+        )
+    );
+    Ok(())
+}
+
+#[test]
+fn records_are_sixteen_bytes(rt: HostRuntime) -> Result<(), Fail> {
+    let logical = record_of(0x83, 1, 1000);
+    let next = record_of(0x05, 2047, 1001);
+    let sector: Sector<512> = put_record(&[7; 512], 0, Some(&logical));
+    assert_eq!(rt;
+        &sector[446..462],
+        b"\x00\xfe\xff\xff\x83\xfe\xff\xff\x01\x00\x00\x00\xe8\x03\x00\x00".as_slice()
+    );
+    let sector = put_record(&sector, 1, Some(&next));
+    assert_eq!(rt;
+        &sector[462..478],
+        b"\x00\xfe\xff\xff\x05\xfe\xff\xff\xff\x07\x00\x00\xe9\x03\x00\x00".as_slice()
+    );
+    assert_eq!(rt; sector[445], 7);
+    assert_eq!(rt; sector[478], 7);
+    let sector = put_record(&put_record(&sector, 2, None), 3, None);
+    assert_eq!(rt; &sector[478..510], [0; 32].as_slice());
+    assert_eq!(rt; decode_mbr(&sector), None);
+    let mut sector = sector;
+    sector[510] = 0x55;
+    sector[511] = 0xAA;
+    let records = decode_mbr(&sector).map(|m| m.records);
+    assert_eq!(rt; records, Some([Some(logical), Some(next), None, None]));
+    sector[494] = 1;
+    assert_eq!(rt; decode_mbr(&sector), None);
+    Ok(())
+}
+
+/// What these records decode to once they are written over bytes of 7.
+fn written<const B: usize>(records: [Option<Record>; 4]) -> Option<[Option<Record>; 4]>
+    requires { IsSectorSize B }
+{
+    let sector: Sector<B> = encode_mbr(&Mbr { records }, &[7; B]);
+    if sector[445] != 7 || (B > 512 && sector[B - 1] != 7) {
+        return None;
+    }
+    match decode_mbr(&sector) {
+        Some(mbr) => Some(mbr.records),
+        None => None,
+    }
+}
+
+#[test]
+fn what_is_written_is_read(rt: HostRuntime) -> Result<(), Fail> {
+    let mut bootable = record_of(0xA5, 2048, 4096);
+    bootable.boot = 0x80;
+    let records = [
+        None,
+        Some(bootable),
+        Some(record_of(0x0F, u32::MAX, 1)),
+        None,
+    ];
+    assert_eq!(rt; written::<512>(records), Some(records));
+    assert_eq!(rt; written::<4096>(records), Some(records));
+    bootable.boot = 0x81;
+    assert_eq!(rt; written::<512>([Some(bootable), None, None, None]), None);
+    let unused = record_of(0x83, 7, 0);
+    assert_eq!(rt;
+        written::<512>([Some(unused), None, None, None]),
+        Some([None; 4])
+    );
+    Ok(())
+}
+
+/// The record that protects a disk, or none where the sector does not protect it alone.
+fn protection<const B: usize>(sectors: u64, under: u8) -> Option<[u8; 16]>
+    requires { IsSectorSize B }
+{
+    let sector: Sector<B> = protective(sectors, &[under; B]);
+    if !is_protective(sectors, &sector)
+        || is_protective(sectors, &[0; B])
+        || !bears_protective(&sector)
+        || sector[445] != under
+        || sector[B - 1] != if B == 512 { 0xAA } else { under }
+    {
+        return None;
+    }
+    let mut bytes = [0; 16];
+    for i in 0..16usize {
+        bytes[i] = sector[446 + i];
+    }
+    Some(bytes)
+}
+
+#[test]
+fn the_first_record_protects(rt: HostRuntime) -> Result<(), Fail> {
+    let all = b"\x00\x00\x02\x00\xee\xff\xff\xff\x01\x00\x00\x00\xff\xff\xff\xff";
+    assert_eq!(rt;
+        protection::<512>(2048, 9),
+        Some(*b"\x00\x00\x02\x00\xee\xff\xff\xff\x01\x00\x00\x00\xff\x07\x00\x00")
+    );
+    assert_eq!(rt;
+        protection::<4096>(256, 9),
+        Some(*b"\x00\x00\x02\x00\xee\xff\xff\xff\x01\x00\x00\x00\xff\x00\x00\x00")
+    );
+    assert_eq!(rt; protection::<512>(4294967296, 0), Some(*all));
+    assert_eq!(rt; protection::<512>(4294967297, 0), Some(*all));
+    Ok(())
+}
+
+#[test]
+fn an_empty_record_may_bear_the_protective_type(rt: HostRuntime) -> Result<(), Fail> {
+    for k in 0..4usize {
+        let sector: Sector<4096> = put_record(&[0; 4096], k, Some(&record_of(0xEE, 1, 0)));
+        assert!(rt; bears_protective(&sector));
+    }
+    assert!(rt; !bears_protective(&[0; 4096]));
+    Ok(())
+}
+
+/// An extended boot record at a place, with a logical partition of 1000 sectors behind it.
+fn ebr_at(at: u64, next: Option<Lba>) -> Ebr {
+    Ebr {
+        at: Lba(at),
+        logical: Some(record_of(0x83, 1, 1000)),
+        next,
+    }
+}
+
+const LINK_BYTES: [u8; 16] = [
+    0x00, 0xFE, 0xFF, 0xFF, 0x05, 0xFE, 0xFF, 0xFF, 0xFF, 0x07, 0x00, 0x00, 0xE9, 0x03, 0x00, 0x00,
+];
+
+const OTHER_LINK_BYTES: [u8; 16] = [
+    0x00, 0xFE, 0xFF, 0xFF, 0x05, 0xFE, 0xFF, 0xFF, 0xFF, 0x0F, 0x00, 0x00, 0xE9, 0x03, 0x00, 0x00,
+];
+
+#[test]
+fn links_have_known_bytes(rt: HostRuntime) -> Result<(), Fail> {
+    let link = link_to(Lba(4096), &ebr_at(6143, None));
+    let first = ebr_at(4096, Some(Lba(6143)));
+    let sector: Sector<512> = new_ebr(&first, &link);
+    assert_eq!(rt; &sector[462..478], LINK_BYTES.as_slice());
+    assert_eq!(rt; decode_ebr(&sector, Lba(4096), Lba(4096)), Ok(first));
+    let moved = ebr_at(4096, Some(Lba(8191)));
+    let other = link_to(Lba(4096), &ebr_at(8191, None));
+    let changed = change_ebr(&sector, &first, &moved, &other);
+    assert_eq!(rt; &changed[462..478], OTHER_LINK_BYTES.as_slice());
+    assert_eq!(rt; changed[0..462], sector[0..462]);
+    assert_eq!(rt; decode_ebr(&changed, Lba(4096), Lba(4096)), Ok(moved));
+    Ok(())
+}
+
+#[test]
+fn links_fit_their_fields(rt: HostRuntime) -> Result<(), Fail> {
+    let empty = Ebr {
+        at: Lba(4096 + 0xFFFF_FFFF),
+        logical: None,
+        next: None,
+    };
+    assert_eq!(rt;
+        link_to(Lba(4096), &empty),
+        Some(record_of(0x05, 0xFFFF_FFFF, 1))
+    );
+    assert_eq!(rt; link_to(Lba(4095), &empty), None);
+    assert_eq!(rt; link_to(Lba(4096), &ebr_at(4095, None)), None);
+    let mut long = ebr_at(6143, None);
+    long.logical = Some(record_of(0x83, 1, 0xFFFF_FFFE));
+    assert_eq!(rt;
+        link_to(Lba(4096), &long),
+        Some(record_of(0x05, 2047, 0xFFFF_FFFF))
+    );
+    long.logical = Some(record_of(0x83, 2, 0xFFFF_FFFE));
+    assert_eq!(rt; link_to(Lba(4096), &long), None);
+    Ok(())
+}
+
+#[test]
+fn kept_records_keep_their_bytes(rt: HostRuntime) -> Result<(), Fail> {
+    let mut sector: Sector<512> = boot_record([Some(record_of(0x83, 2048, 100)), None]);
+    // an unused record may hold any bytes
+    sector[463] = 7;
+    let old = [Some(record_of(0x83, 2048, 100)), None, None, None];
+    let added = Some(record_of(0x07, 4096, 100));
+    let changed = change_records(&sector, &old, &[old[0], None, added, None]);
+    assert_eq!(rt; changed[0..478], sector[0..478]);
+    assert_eq!(rt; changed[494..512], sector[494..512]);
+    assert_eq!(rt;
+        decode_mbr(&changed),
+        Some(Mbr {
+            records: [old[0], None, added, None]
+        })
+    );
+    let cleared = change_records(&changed, &[old[0], None, added, None], &[None; 4]);
+    assert_eq!(rt; &cleared[446..462], [0; 16].as_slice());
+    assert_eq!(rt; cleared[463], 7);
+    Ok(())
+}

@@ -1,0 +1,295 @@
+//! Layouts made by hand, and small disks. Layouts on disks are tested with the command.
+
+ghost use Rattle.std.specs.Prelude.{◌<◌};
+ghost use Rattle.pt_sector.specs.Sectors.{IsSectorSize};
+
+use crate::images::put;
+use pt_bsd::{Label, LabelEntry, empty_label};
+use pt_gpt::{
+    CopyError, Entry, Header, Side, array_at, array_crc, array_sectors, encode_header, header_at,
+};
+use pt_guid::Guid;
+use pt_layout::{
+    Body, Ebrs, Finding, Head, Labelled, Labels, Layout, NoTable, Owner, Path, Verdict, is_owned,
+    is_table, locate, owner, parse_path, survey_disk, unsound, verify,
+};
+use pt_mbr::{Ebr, Record, protective};
+use pt_sector::{CrashDisk, Disk, Lba, MemDisk, Sector};
+use std::alloc::Global;
+use std::test::Fail;
+
+fn record(kind: u8, start: u32, size: u32) -> Option<Record> {
+    Some(Record {
+        boot: 0,
+        start_chs: [0; 3],
+        kind,
+        end_chs: [0; 3],
+        start,
+        size,
+    })
+}
+
+fn number(number: u64) -> Path {
+    Path {
+        number,
+        letter: None,
+    }
+}
+
+/// An MBR of 16,384 sectors with these records, and in its second one, if that is extended, a logical partition from
+/// 6144 to 7143 and an empty extended boot record at `end`.
+fn mbr(alloc: Global, records: [Option<Record>; 4], end: Option<u64>) -> Result<Layout, Fail> {
+    let mut chain = Vec::new(alloc);
+    if let Some(at) = end {
+        chain.push(Ebr {
+            at: Lba(6143),
+            logical: record(0x83, 1, 1000),
+            next: Some(Lba(at)),
+        })?;
+        chain.push(Ebr {
+            at: Lba(at),
+            logical: None,
+            next: None,
+        })?;
+    }
+    Ok(Layout {
+        sectors: 16384,
+        body: Body::Mbr {
+            records,
+            chain: Ebrs::new(chain),
+        },
+        labels: Labels::new(Vec::new(alloc)),
+    })
+}
+
+fn finding_of<const B: usize>(alloc: Global, layout: &Layout) -> Result<Option<Finding>, Fail>
+    requires { IsSectorSize B }
+{
+    Ok(unsound::<B>(alloc, layout)?)
+}
+
+#[test]
+fn findings_in_their_order(rt: HostRuntime) -> Result<(), Fail> {
+    let past = mbr(
+        rt.alloc(),
+        [
+            record(0x83, u32::MAX, u32::MAX),
+            record(0x83, 1, 1),
+            record(0x83, 1, 1),
+            None,
+        ],
+        None,
+    )?;
+    assert_eq!(rt;
+        finding_of::<512>(rt.alloc(), &past)?,
+        Some(Finding::OutsideUsable(number(1)))
+    );
+    let shared = mbr(
+        rt.alloc(),
+        [
+            record(0x83, 4096, 8),
+            record(0x83, 1, 4096),
+            record(0x83, 1, 1),
+            None,
+        ],
+        None,
+    )?;
+    assert_eq!(rt;
+        finding_of::<512>(rt.alloc(), &shared)?,
+        Some(Finding::Overlap(number(2), number(3)))
+    );
+    let buried = mbr(
+        rt.alloc(),
+        [None, record(0x05, 4096, 8192), None, None],
+        Some(7000),
+    )?;
+    assert_eq!(rt;
+        finding_of::<4096>(rt.alloc(), &buried)?,
+        Some(Finding::OnTable(number(5), Lba(7000)))
+    );
+    let sound = mbr(
+        rt.alloc(),
+        [record(0xA5, 1, 1), record(0x05, 4096, 8192), None, None],
+        Some(7144),
+    )?;
+    assert_eq!(rt; finding_of::<512>(rt.alloc(), &sound)?, None);
+    assert_eq!(rt; finding_of::<4096>(rt.alloc(), &sound)?, None);
+    Ok(())
+}
+
+/// A slice from 2048 to 6143 whose label has a partition a from 2064 to 4063.
+fn sliced(alloc: Global) -> Result<Layout, Fail> {
+    let mut label: Label = empty_label(4096);
+    label.entries[0] = Some(LabelEntry {
+        size: 2000,
+        offset: 16,
+        fragment: 0,
+        fstype: 7,
+        frag: 0,
+        cpg: 0,
+    });
+    let mut labels = Vec::new(alloc);
+    labels.push(Labelled { number: 1, label })?;
+    Ok(Layout {
+        sectors: 8192,
+        body: Body::Mbr {
+            records: [record(0xA5, 2048, 4096), None, None, None],
+            chain: Ebrs::new(Vec::new(alloc)),
+        },
+        labels: Labels::new(labels),
+    })
+}
+
+#[test]
+fn owners_in_a_slice(rt: HostRuntime) -> Result<(), Fail> {
+    let layout = sliced(rt.alloc())?;
+    let a = Path {
+        number: 1,
+        letter: Some(0),
+    };
+    assert_eq!(rt; finding_of::<512>(rt.alloc(), &layout)?, None);
+    assert_eq!(rt; owner::<512>(&layout, Lba(0)), Owner::Table);
+    assert_eq!(rt; owner::<512>(&layout, Lba(2048)), Owner::Reserved);
+    assert_eq!(rt; owner::<512>(&layout, Lba(2049)), Owner::Table);
+    assert_eq!(rt; owner::<512>(&layout, Lba(2064)), Owner::Partition(a));
+    assert_eq!(rt; owner::<512>(&layout, Lba(4064)), Owner::Reserved);
+    assert_eq!(rt; owner::<512>(&layout, Lba(6144)), Owner::Free);
+    assert_eq!(rt; locate::<512>(&layout, &a, 1999), Some(Lba(4063)));
+    assert_eq!(rt; locate::<512>(&layout, &a, 2000), None);
+    assert_eq!(rt; locate::<512>(&layout, &number(1), 0), None);
+    assert_eq!(rt; is_table::<4096>(&layout, Lba(2049)), false);
+    assert_eq!(rt; is_owned::<4096>(&layout, Lba(2049)), true);
+    assert_eq!(rt;
+        owner::<4096>(&layout, Lba(6143)),
+        Owner::Partition(number(1))
+    );
+    Ok(())
+}
+
+/// What `verify` finds on a disk of zero sectors but for this sector 0; no finding where it is healthy.
+fn verdict<const B: usize>(
+    alloc: Global,
+    sectors: u64,
+    zeroth: &Sector<B>,
+) -> Result<Option<Finding>, Fail>
+    requires size { IsSectorSize B }
+    requires few { sectors < 100 }
+{
+    let mut disk: MemDisk<B> = MemDisk::new(alloc, sectors)?;
+    if sectors > 0 {
+        let _ = disk.write(Lba(0), zeroth);
+    }
+    match verify(alloc, &mut disk) {
+        Ok(Verdict::Yes(_)) => Ok(None),
+        Ok(Verdict::No(finding)) => Ok(Some(finding)),
+        Err(_) => Ok(Some(Finding::CopiesDiffer)),
+    }
+}
+
+#[test]
+fn verdicts_on_small_disks(rt: HostRuntime) -> Result<(), Fail> {
+    let mut signed = [0; 512];
+    signed[510] = 0x55;
+    signed[511] = 0xAA;
+    let none = Finding::NoTable(NoTable::NoCopy(CopyError::Signature, CopyError::Signature));
+    assert_eq!(rt; verdict::<512>(rt.alloc(), 1, &signed)?, None);
+    assert_eq!(rt;
+        verdict::<512>(rt.alloc(), 0, &[0; 512])?,
+        Some(Finding::NoTable(NoTable::TooSmall))
+    );
+    assert_eq!(rt;
+        verdict::<512>(rt.alloc(), 67, &[0; 512])?,
+        Some(Finding::NoTable(NoTable::TooSmall))
+    );
+    assert_eq!(rt; verdict::<512>(rt.alloc(), 68, &[0; 512])?, Some(none));
+    assert_eq!(rt;
+        verdict::<4096>(rt.alloc(), 11, &[0; 4096])?,
+        Some(Finding::NoTable(NoTable::TooSmall))
+    );
+    assert_eq!(rt; verdict::<4096>(rt.alloc(), 12, &[0; 4096])?, Some(none));
+    Ok(())
+}
+
+/// A healthy GPT disk of 200 sectors whose 128 entries are unused.
+fn empty_gpt<const B: usize>(alloc: Global) -> Result<CrashDisk<B>, Fail>
+    requires { IsSectorSize B }
+{
+    let mut disk: CrashDisk<B> = CrashDisk::new(alloc, 200, 3)?;
+    let edge = array_sectors::<B>() + 2;
+    let entries: [Option<Entry>; 128] = [None; 128];
+    for (side, other) in [(Side::Primary, Side::Backup), (Side::Backup, Side::Primary)] {
+        let header = Header {
+            my: header_at(side, 200),
+            alternate: header_at(other, 200),
+            first: edge,
+            last: 200 - edge,
+            disk: Guid([2; 16]),
+            array: array_at::<B>(side, 200),
+            count: 128,
+            entry_size: 128,
+            array_crc: array_crc(&entries),
+        };
+        put(&mut disk, header_at(side, 200), &encode_header(&header));
+    }
+    put(&mut disk, 0, &protective(200, &[0; B]));
+    Ok(disk)
+}
+
+/// How many sectors a survey of a disk reads, where those are fewer than 200: the first read that fails unseen is past
+/// its last.
+fn survey_reads<const B: usize>(alloc: Global, disk: &mut CrashDisk<B>) -> u64
+    requires { IsSectorSize B }
+{
+    for k in 0..200 {
+        disk.fail_at(k + 1, false);
+        if survey_disk(alloc, disk).is_ok() {
+            return k;
+        }
+    }
+    200
+}
+
+#[test]
+fn a_survey_reads_once(rt: HostRuntime) -> Result<(), Fail> {
+    let mut disk = empty_gpt::<512>(rt.alloc())?;
+    assert_eq!(rt; survey_reads(rt.alloc(), &mut disk), 67);
+    let mut large = empty_gpt::<4096>(rt.alloc())?;
+    assert_eq!(rt; survey_reads(rt.alloc(), &mut large), 11);
+    disk.fail_at(0, false);
+    match survey_disk(rt.alloc(), &mut disk) {
+        Ok(told) => {
+            assert_eq!(rt; told.head, Head::Protected);
+            assert_eq!(rt; told.finding, None);
+            assert!(rt; told.found.is_ok());
+            assert!(rt; told.primary);
+            assert!(rt; !told.guarded.contains(Lba(0)));
+        }
+        Err(_) => assert!(rt; false),
+    }
+    Ok(())
+}
+
+#[test]
+fn paths_as_texts(rt: HostRuntime) {
+    assert_eq!(rt; parse_path("3"), Some(number(3)));
+    assert_eq!(rt;
+        parse_path("2.a"),
+        Some(Path {
+            number: 2,
+            letter: Some(0)
+        })
+    );
+    assert_eq!(rt;
+        parse_path("18446744073709551615.h"),
+        Some(Path {
+            number: u64::MAX,
+            letter: Some(7)
+        })
+    );
+    assert_eq!(rt; parse_path("18446744073709551616"), None);
+    assert_eq!(rt; parse_path("0"), None);
+    assert_eq!(rt; parse_path("03"), None);
+    assert_eq!(rt; parse_path("2.i"), None);
+    assert_eq!(rt; parse_path("2."), None);
+    assert_eq!(rt; parse_path(""), None);
+}
