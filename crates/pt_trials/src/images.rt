@@ -186,7 +186,7 @@ pub(crate) fn table_disk<const B: usize>(
 /// What a disk holds: its sectors but those of zeros, in order.
 #[derive(Drop)]
 pub(crate) struct Image<const B: usize> {
-    sectors: u64,
+    pub(crate) sectors: u64,
     writes: Vec<Write<B>>,
 }
 
@@ -250,5 +250,19 @@ pub(crate) fn crash_disk<const B: usize>(
         put(&mut disk, write.lba.0, &write.bytes)?;
     }
     disk.flush()?;
+    Ok(disk)
+}
+
+/// A disk in memory that holds this.
+pub(crate) fn disk_of(alloc: Global, image: &Image<512>) -> Result<MemDisk<512>, Fail> {
+    let sectors = if image.sectors < 16384 {
+        image.sectors
+    } else {
+        16384
+    };
+    let mut disk: MemDisk<512> = MemDisk::new(alloc, sectors)?;
+    for write in &image.writes {
+        put(&mut disk, write.lba.0, &write.bytes)?;
+    }
     Ok(disk)
 }

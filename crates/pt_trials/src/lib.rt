@@ -3,9 +3,19 @@
 #![tactic(auto)]
 
 #[cfg(test)]
+mod answers;
+#[cfg(test)]
+mod calls;
+#[cfg(test)]
 mod commits;
 #[cfg(test)]
+mod faults;
+#[cfg(test)]
+mod huge;
+#[cfg(test)]
 mod images;
+#[cfg(test)]
+mod plain;
 #[cfg(test)]
 mod recoveries;
 #[cfg(test)]
