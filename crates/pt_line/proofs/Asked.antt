@@ -252,10 +252,13 @@ module _ (sizes : Bor (List (Bor Text))) (are : texts sizes.now ≡ codes "512" 
         (λ is. (let bad : DisplayHelp ≡ OutOfMemory = sym is ∙ memory in cc))
         (λ is. (let bad : DisplayVersion ≡ OutOfMemory = sym is ∙ memory in cc))
         tells.0)
-    by_error e (Ok line) (inr among) tells = inl (tells.1, ⊎_elim
-        (λ is. inl (subst (λ (k : ErrorKind). IsAmong k (fault_of (ptab sizes) words)) is among))
-        (λ is. inr (subst (λ (k : ErrorKind). IsAmong k (fault_of (ptab sizes) words)) is among))
-        tells.0)
+    by_error e (Ok line) (inr among) tells = inl (
+      tells.1,
+      ⊎_elim
+          (λ is. inl (subst (λ (k : ErrorKind). IsAmong k (fault_of (ptab sizes) words)) is among))
+          (λ is. inr (subst (λ (k : ErrorKind). IsAmong k (fault_of (ptab sizes) words)) is among))
+          tells.0,
+    )
     by_error e (Err Memory) kind tells = tt
     by_error e (Err (Usage text)) (inl memory) tells = absurd (tells.2 memory)
     by_error e (Err (Usage text)) (inr among) tells = (kind_of e, among, tells.0, tells.1, tells.2)
