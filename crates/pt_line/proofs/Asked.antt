@@ -12,7 +12,7 @@ use Rattle.clap.specs.Walk.{Row, Rule, Text, all_of, first_of, has_row, texts}
 use Rattle.clap.specs.Words.{IsAmong, fault_of, kind_of, subcommand_of}
 use Rattle.clap.specs.declared.error.Error.{Error}
 use Rattle.clap.specs.declared.error.kind.ErrorKind.{ErrorKind}
-use Rattle.clap.specs.declared.error.kind.ErrorKind.TheVariants.{DisplayHelp, OutOfMemory}
+use Rattle.clap.specs.declared.error.kind.ErrorKind.TheVariants.{DisplayHelp, DisplayVersion, OutOfMemory}
 use Rattle.clap.proofs.WalkLemmas.{list_any-map}
 use Rattle.pt_line.specs.CommandLine.{image_rules, place_rules, plan_rules, ptab, word_rules}
 use Rattle.pt_line.specs.Lines.{IsJob, IsJobOrEmpty, IsLineOf, IsLineOrEmpty, IsSize, IsSizeOrLess, IsUnknown, HasNoJob, MeansAt, MeansJob, Tells}
@@ -248,11 +248,20 @@ module _ (sizes : Bor (List (Bor Text))) (are : texts sizes.now ≡ codes "512" 
 
   module _ (words : List Text) where
     pub by_error : (e : Error) (result : Result Line LineError) → HasKind (fault_of (ptab sizes) words) e → Tells (kind_of e) result → MeansAt (ptab sizes) words result
-    by_error e (Ok line) (inl memory) tells = absurd (let bad : DisplayHelp ≡ OutOfMemory = sym tells.0 ∙ memory in cc)
-    by_error e (Ok line) (inr among) tells = inl (tells.1, subst (λ (k : ErrorKind). IsAmong k (fault_of (ptab sizes) words)) tells.0 among)
+    by_error e (Ok line) (inl memory) tells = absurd (⊎_elim
+        (λ is. (let bad : DisplayHelp ≡ OutOfMemory = sym is ∙ memory in cc))
+        (λ is. (let bad : DisplayVersion ≡ OutOfMemory = sym is ∙ memory in cc))
+        tells.0)
+    by_error e (Ok line) (inr among) tells = inl (
+      tells.1,
+      ⊎_elim
+          (λ is. inl (subst (λ (k : ErrorKind). IsAmong k (fault_of (ptab sizes) words)) is among))
+          (λ is. inr (subst (λ (k : ErrorKind). IsAmong k (fault_of (ptab sizes) words)) is among))
+          tells.0,
+    )
     by_error e (Err Memory) kind tells = tt
-    by_error e (Err (Usage text)) (inl memory) tells = absurd (tells.1 memory)
-    by_error e (Err (Usage text)) (inr among) tells = (kind_of e, among, tells.0, tells.1)
+    by_error e (Err (Usage text)) (inl memory) tells = absurd (tells.2 memory)
+    by_error e (Err (Usage text)) (inr among) tells = (kind_of e, among, tells.0, tells.1, tells.2)
 
     pub by_matches : (result : Result Line LineError) → fault_of (ptab sizes) words ≡ [] → MeansJob (subcommand_of (ptab sizes) words) result → MeansAt (ptab sizes) words result
     by_matches result none means = go result (taken MayBe IsRead (built (ptab sizes)) (argument_words (ptab sizes) words) ((tt, tt), tt) each_good refl refl none) means

@@ -55,7 +55,7 @@ subcommand name rules = record (new_shape name) { rules = rules }
 
 -- the command but for its subcommands, of which one is required
 abbrev pub top : App
-top = record { top = record (new_shape (codes "ptab")) { subcommand_required = true }; subs = [] }
+top = record { top = record (new_shape (codes "ptab")) { has_version = true; subcommand_required = true }; subs = [] }
 
 -- the command, where these are the texts of the sector's sizes
 abbrev pub ptab : Bor (List (Bor Text)) → App

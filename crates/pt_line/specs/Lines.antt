@@ -8,7 +8,7 @@ use Rattle.clap.specs.declared.builder.arg.Arg.{Arg}
 use Rattle.clap.specs.declared.builder.command.Command.{Command}
 use Rattle.clap.specs.declared.builder.command.Command.TheViews.{out-Command}
 use Rattle.clap.specs.declared.error.kind.ErrorKind.{ErrorKind}
-use Rattle.clap.specs.declared.error.kind.ErrorKind.TheVariants.{DisplayHelp, OutOfMemory}
+use Rattle.clap.specs.declared.error.kind.ErrorKind.TheVariants.{DisplayHelp, DisplayVersion, OutOfMemory}
 use Rattle.pt_line.specs.CommandLine.{ptab, subcommand}
 use Rattle.pt_line.specs.declared.line.Job.{Job}
 use Rattle.pt_line.specs.declared.line.Job.TheVariants as job
@@ -115,20 +115,20 @@ IsHelp (job.Help text) = Unit {0}
 IsHelp _ = ⊥
 
 abbrev pub Tells : ErrorKind → Result Line LineError → Type 0
-Tells k (Ok line) = (k ≡ DisplayHelp) × IsHelp line.job
+Tells k (Ok line) = ((k ≡ DisplayHelp) ⊎ (k ≡ DisplayVersion)) × IsHelp line.job
 Tells k (Err Memory) = Unit {0}
-Tells k (Err (Usage text)) = (k ≢ DisplayHelp) × (k ≢ OutOfMemory)
+Tells k (Err (Usage text)) = (k ≢ DisplayHelp) × (k ≢ DisplayVersion) × (k ≢ OutOfMemory)
 
 -- ---- the answer
 
--- the words are refused, by a kind of error that is no call for help
+-- the words are refused, by a kind of error that is no call for help or for the version
 abbrev pub IsUsage : Kinds → Type 0
-IsUsage kinds = (k : ErrorKind) × IsAmong k kinds × (k ≢ DisplayHelp) × (k ≢ OutOfMemory)
+IsUsage kinds = (k : ErrorKind) × IsAmong k kinds × (k ≢ DisplayHelp) × (k ≢ DisplayVersion) × (k ≢ OutOfMemory)
 
--- at a command, these being all the words. A call for help gives the help's text; words without fault give the job of their
+-- at a command, these being all the words. A call for help, or for the version, gives its text; words without fault give the job of their
 -- subcommand, by the values of its arguments; `Usage` comes only for words with a fault. Memory may always be wanted
 abbrev pub MeansAt : App → List Text → Result Line LineError → Type 0
-MeansAt app words (Ok line) = (IsHelp line.job × IsAmong DisplayHelp (fault_of app words))
+MeansAt app words (Ok line) = (IsHelp line.job × (IsAmong DisplayHelp (fault_of app words) ⊎ IsAmong DisplayVersion (fault_of app words)))
     ⊎ ((fault_of app words ≡ []) × IsLineOf (subcommand_of app words) line)
 MeansAt app words (Err Memory) = Unit {0}
 MeansAt app words (Err (Usage text)) = IsUsage (fault_of app words)

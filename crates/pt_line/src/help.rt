@@ -1,5 +1,8 @@
 //! What the command says of itself, each page within a screen of 24 lines of 80 characters.
 
+/// The version that `--version` prints behind the program's name.
+pub const VERSION: &str = "0.9.0";
+
 pub const ABOUT: &str = "\
 Reads, verifies, edits and repairs partition tables (GPT, MBR with extended
 partitions, BSD labels) in a disk image. A power cut during an edit leaves the

@@ -10,7 +10,7 @@ ghost use Rattle.pt_line.specs.Lines.{AddsRules, GivesIf, IfJob, IsArg, IsComman
 
 use crate::help::{
     ABOUT, APPLY, APPLY_ABOUT, CHECK, CHECK_ABOUT, EDIT, EDIT_ABOUT, LOCATE, LOCATE_ABOUT, PLAN,
-    PLAN_ABOUT, REPAIR, REPAIR_ABOUT, SHOW, SHOW_ABOUT, STATUSES, VERIFY, VERIFY_ABOUT,
+    PLAN_ABOUT, REPAIR, REPAIR_ABOUT, SHOW, SHOW_ABOUT, STATUSES, VERIFY, VERIFY_ABOUT, VERSION,
 };
 use clap::error::ErrorKind;
 use clap::{Arg, ArgAction, ArgMatches, Command};
@@ -34,7 +34,7 @@ pub struct Line {
 /// What a command line asks for, with its texts as they were given.
 #[derive(Debug, Drop)]
 pub enum Job {
-    /// A help text, which is to be printed.
+    /// A help text, or the version, which is to be printed.
     Help(String),
     Show {
         image: String,
@@ -160,7 +160,9 @@ fn page<'a>(alloc: Global, name: &'a str, about: &'a str, after: &'a str) -> Com
 fn top<'a>(alloc: Global) -> Command<'a>
     ensures { IsCommand spec.top result }
 {
-    page(alloc, "ptab", ABOUT, STATUSES).subcommand_required(true)
+    page(alloc, "ptab", ABOUT, STATUSES)
+        .version(VERSION)
+        .subcommand_required(true)
 }
 
 fn on_image<'a>(
@@ -345,7 +347,7 @@ fn failed(alloc: Global, error: &clap::Error) -> Result<Line, LineError>
 {
     match error.kind() {
         ErrorKind::OutOfMemory => Err(LineError::Memory),
-        ErrorKind::DisplayHelp => Ok(Line {
+        ErrorKind::DisplayHelp | ErrorKind::DisplayVersion => Ok(Line {
             job: Job::Help(format!(in alloc; "{error}")?),
             size: SectorSize::Bytes512,
         }),
@@ -364,8 +366,8 @@ fn with_name<'a>(alloc: Global, words: &[&'a str]) -> Result<Vec<&'a str>, Alloc
 
 /// Reads the words after the program's name, as `clap` means them at the command.
 ///
-/// A job is that of the subcommand which the words name, and its texts are the values of its arguments. A call for help
-/// gives `Help`. `Usage` has `clap`'s text for words that are no command, and comes for no others; `Memory` is want of
+/// A job is that of the subcommand which the words name, and its texts are the values of its arguments. A call for help,
+/// or for the version, gives `Help`. `Usage` has `clap`'s text for words that are no command, and comes for no others; `Memory` is want of
 /// memory.
 pub fn read_line(alloc: Global, words: &[&str]) -> Result<Line, LineError>
     ensures means { Means (slice_texts words.now) result }
