@@ -174,27 +174,24 @@ fn differing(alloc: Global, case: &Case) -> Result<Option<Change>, Fail> {
 
 #[test]
 fn checkers_of_a_rename(rt: HostRuntime) -> Result<(), Fail> {
-    assert_eq!(rt; differing(rt.alloc(), &small_rename(rt.alloc())?)?, None);
+    assert!(rt; differing(rt.alloc(), &small_rename(rt.alloc())?)? == None);
     Ok(())
 }
 
 #[test]
 fn checkers_of_a_conversion(rt: HostRuntime) -> Result<(), Fail> {
-    assert_eq!(rt;
-        differing(rt.alloc(), &small_conversion(rt.alloc())?)?,
-        None
-    );
+    assert!(rt; differing(rt.alloc(), &small_conversion(rt.alloc())?)? == None);
     Ok(())
 }
 
 #[test]
 fn checkers_of_a_chain(rt: HostRuntime) -> Result<(), Fail> {
-    assert_eq!(rt; differing(rt.alloc(), &small_chain(rt.alloc())?)?, None);
+    assert!(rt; differing(rt.alloc(), &small_chain(rt.alloc())?)? == None);
     Ok(())
 }
 
 #[test]
 fn checkers_of_a_label(rt: HostRuntime) -> Result<(), Fail> {
-    assert_eq!(rt; differing(rt.alloc(), &small_label(rt.alloc())?)?, None);
+    assert!(rt; differing(rt.alloc(), &small_label(rt.alloc())?)? == None);
     Ok(())
 }

@@ -26,18 +26,18 @@ fn a_fault_at_the_switch(rt: HostRuntime) -> Result<(), Fail> {
     let alloc = rt.alloc();
     let case = case_of(alloc, gpt_disk(alloc)?, &["c:1:data"])?;
     let (mut disk, answer) = applied(alloc, &case, SWITCH)?;
-    assert_eq!(rt; answer, Err(Fault::Flush));
+    assert!(rt; answer == Err(Fault::Flush));
     assert!(rt; recover(alloc, &mut disk)?.same(&case.new));
     match verify(alloc, &mut disk)? {
         Verdict::Yes(_) => assert!(rt; false),
         Verdict::No(found) => {
-            assert_eq!(rt; found, Finding::PrimaryCopy(CopyError::Signature));
+            assert!(rt; found == Finding::PrimaryCopy(CopyError::Signature));
         }
     }
-    assert_eq!(rt; repair(alloc, &mut disk), Ok(()));
+    assert!(rt; repair(alloc, &mut disk) == Ok(()));
     assert!(rt; is_healthy(alloc, &mut disk, &case.new)?);
     let mended = image_of(alloc, &mut disk)?;
-    assert_eq!(rt; repair(alloc, &mut disk), Ok(()));
+    assert!(rt; repair(alloc, &mut disk) == Ok(()));
     assert!(rt; holds(&mut disk, &mended)?);
     Ok(())
 }
@@ -49,8 +49,8 @@ fn another_name_after_that_fault(rt: HostRuntime) -> Result<(), Fail> {
     let (mut disk, _answer) = applied(alloc, &case, SWITCH)?;
     let other = words(alloc, &["c:1:other"])?;
     let plan = plan_for(alloc, &mut disk, &other, &[])?;
-    assert_eq!(rt; counts(&plan), [1, 32, 1, 33, 0]);
-    assert_eq!(rt; commit(alloc, &mut disk, &other, &[]), Ok(()));
+    assert!(rt; counts(&plan) == [1, 32, 1, 33, 0]);
+    assert!(rt; commit(alloc, &mut disk, &other, &[]) == Ok(()));
     assert!(rt; name_is(alloc, &mut disk, "other")?);
     Ok(())
 }
@@ -298,13 +298,10 @@ const LABEL: Calls = Calls {
 #[test]
 fn repairs_after_faults(rt: HostRuntime) -> Result<(), Fail> {
     let alloc = rt.alloc();
-    assert_eq!(rt; bad_pair(alloc, &small_rename(alloc)?, RENAME, None)?, None);
-    assert_eq!(rt;
-        bad_pair(alloc, &small_conversion(alloc)?, CONVERSION, None)?,
-        None
-    );
-    assert_eq!(rt; bad_pair(alloc, &small_chain(alloc)?, CHAIN, None)?, None);
-    assert_eq!(rt; bad_pair(alloc, &small_label(alloc)?, LABEL, None)?, None);
+    assert!(rt; bad_pair(alloc, &small_rename(alloc)?, RENAME, None)? == None);
+    assert!(rt; bad_pair(alloc, &small_conversion(alloc)?, CONVERSION, None)? == None);
+    assert!(rt; bad_pair(alloc, &small_chain(alloc)?, CHAIN, None)? == None);
+    assert!(rt; bad_pair(alloc, &small_label(alloc)?, LABEL, None)? == None);
     Ok(())
 }
 
@@ -313,16 +310,10 @@ fn commits_after_faults(rt: HostRuntime) -> Result<(), Fail> {
     let alloc = rt.alloc();
     let other = words(alloc, &["c:1:other"])?;
     let edits = Some(other.as_slice());
-    assert_eq!(rt;
-        bad_pair(alloc, &small_rename(alloc)?, RENAME, edits)?,
-        None
-    );
-    assert_eq!(rt;
-        bad_pair(alloc, &small_conversion(alloc)?, CONVERSION, edits)?,
-        None
-    );
-    assert_eq!(rt; bad_pair(alloc, &small_chain(alloc)?, CHAIN, edits)?, None);
-    assert_eq!(rt; bad_pair(alloc, &small_label(alloc)?, LABEL, edits)?, None);
+    assert!(rt; bad_pair(alloc, &small_rename(alloc)?, RENAME, edits)? == None);
+    assert!(rt; bad_pair(alloc, &small_conversion(alloc)?, CONVERSION, edits)? == None);
+    assert!(rt; bad_pair(alloc, &small_chain(alloc)?, CHAIN, edits)? == None);
+    assert!(rt; bad_pair(alloc, &small_label(alloc)?, LABEL, edits)? == None);
     Ok(())
 }
 
@@ -332,8 +323,8 @@ fn faults_of_flushes(rt: HostRuntime) -> Result<(), Fail> {
     let rename = small_rename(alloc)?;
     let other = words(alloc, &["c:1:other"])?;
     for flush in [34, 36, 69, 71] {
-        assert_eq!(rt; bad_second(alloc, &rename, flush, 7, None)?, None);
-        assert_eq!(rt; bad_second(alloc, &rename, flush, 7, Some(&other))?, None);
+        assert!(rt; bad_second(alloc, &rename, flush, 7, None)? == None);
+        assert!(rt; bad_second(alloc, &rename, flush, 7, Some(&other))? == None);
     }
     Ok(())
 }

@@ -80,19 +80,11 @@ fn broken_copies_are_mended(rt: HostRuntime) -> Result<(), Fail> {
     let alloc = rt.alloc();
     for way in 0..10u8 {
         let mut small: MemDisk<512> = broken(alloc, way)?;
-        assert_eq!(rt;
-            finding(alloc, &mut small)?,
-            FOUND[way as usize],
-            "512 {way}"
-        );
-        assert!(rt; mends(alloc, &mut small)?, "512 {way}");
+        assert!(rt; finding(alloc, &mut small)? == FOUND[way as usize]);
+        assert!(rt; mends(alloc, &mut small)?);
         let mut large: MemDisk<4096> = broken(alloc, way)?;
-        assert_eq!(rt;
-            finding(alloc, &mut large)?,
-            FOUND[way as usize],
-            "4096 {way}"
-        );
-        assert!(rt; mends(alloc, &mut large)?, "4096 {way}");
+        assert!(rt; finding(alloc, &mut large)? == FOUND[way as usize]);
+        assert!(rt; mends(alloc, &mut large)?);
     }
     Ok(())
 }
@@ -103,12 +95,12 @@ fn the_primary_is_mended_in_four_phases(rt: HostRuntime) -> Result<(), Fail> {
     let mut disk = gpt_disk(alloc)?;
     change(&mut disk, 2, 200, 1)?;
     let found = finding(alloc, &mut disk)?;
-    assert_eq!(rt; found, Some(Finding::PrimaryCopy(CopyError::ArrayCrc)));
+    assert!(rt; found == Some(Finding::PrimaryCopy(CopyError::ArrayCrc)));
     let plan = plan_for_repair(alloc, &mut disk)?;
-    assert_eq!(rt; counts(&plan), [1, 32, 1, 33, 0]);
+    assert!(rt; counts(&plan) == [1, 32, 1, 33, 0]);
     assert!(rt; mends(alloc, &mut disk)?);
     let healthy = plan_for_repair(alloc, &mut disk)?;
-    assert_eq!(rt; counts(&healthy), [0; 5]);
+    assert!(rt; counts(&healthy) == [0; 5]);
     Ok(())
 }
 
@@ -138,13 +130,13 @@ fn a_disk_that_grew_keeps_its_usable_sectors(rt: HostRuntime) -> Result<(), Fail
     let alloc = rt.alloc();
     let mut disk = grown(alloc, &mut gpt_disk(alloc)?)?;
     let found = finding(alloc, &mut disk)?;
-    assert_eq!(rt; found, Some(Finding::BackupCopy(CopyError::Signature)));
+    assert!(rt; found == Some(Finding::BackupCopy(CopyError::Signature)));
     let plan = plan_for_repair(alloc, &mut disk)?;
-    assert_eq!(rt; counts(&plan), [33, 1, 32, 1, 1]);
+    assert!(rt; counts(&plan) == [33, 1, 32, 1, 1]);
     assert!(rt; mends(alloc, &mut disk)?);
-    assert_eq!(rt; usable(alloc, &mut disk)?, Some((34, 4062)));
+    assert!(rt; usable(alloc, &mut disk)? == Some((34, 4062)));
     commit(alloc, &mut disk, &words(alloc, &["e"])?, &[])?;
-    assert_eq!(rt; usable(alloc, &mut disk)?, Some((34, 5062)));
+    assert!(rt; usable(alloc, &mut disk)? == Some((34, 5062)));
     Ok(())
 }
 
@@ -212,8 +204,8 @@ fn unsound_tables_are_refused(rt: HostRuntime) -> Result<(), Fail> {
     ];
     for (first, second, found) in rows {
         let want = [Some(RepairError::Unsound(found)); 2];
-        assert_eq!(rt; unsound_table::<512>(alloc, first, second)?, want);
-        assert_eq!(rt; unsound_table::<4096>(alloc, first, second)?, want);
+        assert!(rt; (unsound_table::<512>(alloc, first, second)?) == want);
+        assert!(rt; (unsound_table::<4096>(alloc, first, second)?) == want);
     }
     Ok(())
 }
@@ -229,11 +221,8 @@ fn a_record_of_the_chain_in_a_partition_is_refused(rt: HostRuntime) -> Result<()
     let empty = Mbr { records: [None; 4] };
     put(&mut disk, 7000, &encode_mbr(&empty, &[0; 512]))?;
     let on_table = Finding::OnTable(path(5), Lba(7000));
-    assert_eq!(rt; finding(alloc, &mut disk)?, Some(on_table));
-    assert_eq!(rt;
-        refused(alloc, &mut disk)?,
-        Some(RepairError::Unsound(on_table))
-    );
+    assert!(rt; finding(alloc, &mut disk)? == Some(on_table));
+    assert!(rt; refused(alloc, &mut disk)? == Some(RepairError::Unsound(on_table)));
     Ok(())
 }
 
@@ -256,16 +245,10 @@ fn labels_that_are_outside_or_foreign_are_refused(rt: HostRuntime) -> Result<(),
         number: 1,
         letter: Some(0),
     });
-    assert_eq!(rt;
-        refused(alloc, &mut disk)?,
-        Some(RepairError::Unsound(outside))
-    );
+    assert!(rt; refused(alloc, &mut disk)? == Some(RepairError::Unsound(outside)));
     change(&mut disk, 2049, 136, 0xFF)?;
     let foreign = Finding::ForeignLabel(path(1));
-    assert_eq!(rt;
-        refused(alloc, &mut disk)?,
-        Some(RepairError::Unsound(foreign))
-    );
+    assert!(rt; refused(alloc, &mut disk)? == Some(RepairError::Unsound(foreign)));
     Ok(())
 }
 
@@ -309,8 +292,8 @@ fn disks_that_denote_nothing_are_refused(rt: HostRuntime) -> Result<(), Fail> {
     let small = nothings::<512>(alloc)?;
     let large = nothings::<4096>(alloc)?;
     for k in 0..6usize {
-        assert_eq!(rt; small[k], Some(RepairError::NoTable(want[k])));
-        assert_eq!(rt; large[k], Some(RepairError::NoTable(want[k])));
+        assert!(rt; small[k] == Some(RepairError::NoTable(want[k])));
+        assert!(rt; large[k] == Some(RepairError::NoTable(want[k])));
     }
     Ok(())
 }
@@ -350,14 +333,8 @@ fn tells_each_fault<const B: usize>(alloc: Global, mut disk: MemDisk<B>) -> Resu
 fn each_call_of_a_repair_that_fails_is_told(rt: HostRuntime) -> Result<(), Fail> {
     let alloc = rt.alloc();
     for way in [0, 1, 5, 8] {
-        assert!(rt;
-            tells_each_fault::<512>(alloc, broken(alloc, way)?)?,
-            "512 {way}"
-        );
-        assert!(rt;
-            tells_each_fault::<4096>(alloc, broken(alloc, way)?)?,
-            "4096 {way}"
-        );
+        assert!(rt; tells_each_fault::<512>(alloc, broken(alloc, way)?)?);
+        assert!(rt; tells_each_fault::<4096>(alloc, broken(alloc, way)?)?);
     }
     let chain = made(alloc, 128, true, &["a:1", "n:2:40:120:05", "n:5:64:+20"])?;
     assert!(rt; tells_each_fault::<512>(alloc, chain)?);
@@ -371,16 +348,16 @@ fn a_label_waits_for_a_repair(rt: HostRuntime) -> Result<(), Fail> {
     change(&mut disk, 4095, 0, 0)?;
     let edits = words(alloc, &["a:1", "n:1.a:2064:2163"])?;
     let refused = Err(CommitError::Plan(PlanError::NeedsRepair));
-    assert_eq!(rt; commit(alloc, &mut disk, &edits, &[]), refused);
+    assert!(rt; commit(alloc, &mut disk, &edits, &[]) == refused);
     assert!(rt; mends(alloc, &mut disk)?);
     let plan = plan_for(alloc, &mut disk, &edits, &[])?;
-    assert_eq!(rt; counts(&plan), [1, 0, 0, 0, 0]);
+    assert!(rt; counts(&plan) == [1, 0, 0, 0, 0]);
     for phase in &plan.phases {
         for write in phase {
-            assert_eq!(rt; write.lba, Lba(2049));
+            assert!(rt; write.lba == Lba(2049));
         }
     }
-    assert_eq!(rt; commit(alloc, &mut disk, &edits, &[]), Ok(()));
-    assert_eq!(rt; finding(alloc, &mut disk)?, None);
+    assert!(rt; commit(alloc, &mut disk, &edits, &[]) == Ok(()));
+    assert!(rt; finding(alloc, &mut disk)? == None);
     Ok(())
 }

@@ -31,10 +31,7 @@ fn a_refused_batch_stops_no_session(rt: HostRuntime) -> Result<(), Fail> {
     let three = batches(alloc, &["c:1:a", "c:9:b", "c:1:d"])?;
     let replies = session(alloc, &mut disk, &three)?;
     let refused = Reply::Refused(CommitError::Edit(Refusal::NoSuchPartition));
-    assert_eq!(rt;
-        replies.as_slice(),
-        [Reply::Done, refused, Reply::Done].as_slice()
-    );
+    assert!(rt; replies.as_slice() == [Reply::Done, refused, Reply::Done].as_slice());
     assert!(rt; name_is(alloc, &mut disk, "d")?);
     let none = session(alloc, &mut disk, &[])?;
     assert!(rt; none.is_empty());
@@ -50,10 +47,7 @@ fn nothing_is_done_after_a_first_call_that_fails(rt: HostRuntime) -> Result<(), 
     let three = batches(alloc, &["c:1:a", "c:9:b", "c:1:d"])?;
     let replies = session(alloc, &mut disk, &three)?;
     let fault = Reply::Fault(Fault::Flush);
-    assert_eq!(rt;
-        replies.as_slice(),
-        [fault, Reply::NotTried, Reply::NotTried].as_slice()
-    );
+    assert!(rt; replies.as_slice() == [fault, Reply::NotTried, Reply::NotTried].as_slice());
     assert!(rt; holds(&mut disk, &before)?);
     Ok(())
 }
@@ -164,6 +158,6 @@ fn sessions_stop_after_whole_batches(rt: HostRuntime) -> Result<(), Fail> {
             call = call.saturating_add(17);
         }
     }
-    assert_eq!(rt; met, Some(false));
+    assert!(rt; met == Some(false));
     Ok(())
 }

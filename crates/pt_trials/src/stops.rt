@@ -167,12 +167,12 @@ fn bad_stop(
 fn a_plan_backup_first(rt: HostRuntime) -> Result<(), Fail> {
     let case = case_of(rt.alloc(), gpt_disk(rt.alloc())?, &["c:1:data"])?;
     let faults = plan_faults(rt.alloc(), &case)?;
-    assert_eq!(rt; faults.len(), 71);
+    assert!(rt; faults.len() == 71);
     let turn = Turn {
         first: 35,
         last: 36,
     };
-    assert_eq!(rt; bad_stop(rt.alloc(), &case, &faults, turn)?, None);
+    assert!(rt; bad_stop(rt.alloc(), &case, &faults, turn)? == None);
     Ok(())
 }
 
@@ -181,9 +181,9 @@ fn a_plan_of_a_chain(rt: HostRuntime) -> Result<(), Fail> {
     let disk = made(rt.alloc(), 16384, true, &[])?;
     let case = case_of(rt.alloc(), disk, &["n:2:4096:12287:05", "n:5:0:+1000"])?;
     let faults = plan_faults(rt.alloc(), &case)?;
-    assert_eq!(rt; faults.len(), 5);
+    assert!(rt; faults.len() == 5);
     let turn = Turn { first: 4, last: 5 };
-    assert_eq!(rt; bad_stop(rt.alloc(), &case, &faults, turn)?, None);
+    assert!(rt; bad_stop(rt.alloc(), &case, &faults, turn)? == None);
     Ok(())
 }
 
@@ -192,9 +192,9 @@ fn a_plan_of_a_label(rt: HostRuntime) -> Result<(), Fail> {
     let disk = made(rt.alloc(), 8192, true, &["n:1:2048:6143:A5"])?;
     let case = case_of(rt.alloc(), disk, &["a:1", "n:1.a:2064:4063"])?;
     let faults = plan_faults(rt.alloc(), &case)?;
-    assert_eq!(rt; faults.len(), 2);
+    assert!(rt; faults.len() == 2);
     let turn = Turn { first: 1, last: 2 };
-    assert_eq!(rt; bad_stop(rt.alloc(), &case, &faults, turn)?, None);
+    assert!(rt; bad_stop(rt.alloc(), &case, &faults, turn)? == None);
     Ok(())
 }
 
@@ -203,11 +203,11 @@ fn a_plan_from_an_mbr(rt: HostRuntime) -> Result<(), Fail> {
     let disk = made(rt.alloc(), 4096, true, &["n:1:2048:4062:83"])?;
     let case = case_of(rt.alloc(), disk, &["g"])?;
     let faults = plan_faults(rt.alloc(), &case)?;
-    assert_eq!(rt; faults.len(), 69);
+    assert!(rt; faults.len() == 69);
     let turn = Turn {
         first: 68,
         last: 69,
     };
-    assert_eq!(rt; bad_stop(rt.alloc(), &case, &faults, turn)?, None);
+    assert!(rt; bad_stop(rt.alloc(), &case, &faults, turn)? == None);
     Ok(())
 }

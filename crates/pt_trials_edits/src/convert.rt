@@ -113,26 +113,17 @@ fn a_partition_keeps_its_sectors(rt: HostRuntime) -> Result<(), Fail> {
     let alloc = rt.alloc();
     let wanted = [entry(0x8300, FRESH[1], 2048, 4062)];
     assert!(rt; becomes::<512>(alloc, lone(alloc, 4096, 0x83, 2015)?, &wanted, (34, 4062))?);
-    assert_eq!(rt; guids_for(&lone(alloc, 4096, 0x83, 2015)?), 2);
+    assert!(rt; guids_for(&lone(alloc, 4096, 0x83, 2015)?) == 2);
     Ok(())
 }
 
 #[test]
 fn too_little_room(rt: HostRuntime) -> Result<(), Fail> {
     let alloc = rt.alloc();
-    assert_eq!(rt;
-        refused::<512>(alloc, lone(alloc, 4096, 0x83, 2016)?, &FRESH),
-        12
-    );
-    assert_eq!(rt;
-        refused::<512>(alloc, mbr(alloc, 67, [None; 4], &[])?, &FRESH),
-        12
-    );
-    assert_eq!(rt;
-        refused::<512>(alloc, mbr(alloc, 68, [None; 4], &[])?, &FRESH),
-        0
-    );
-    assert_eq!(rt; refused::<512>(alloc, lone(alloc, 67, 0x0B, 1)?, &FRESH), 6);
+    assert!(rt; refused::<512>(alloc, lone(alloc, 4096, 0x83, 2016)?, &FRESH) == 12);
+    assert!(rt; refused::<512>(alloc, mbr(alloc, 67, [None; 4], &[])?, &FRESH) == 12);
+    assert!(rt; refused::<512>(alloc, mbr(alloc, 68, [None; 4], &[])?, &FRESH) == 0);
+    assert!(rt; refused::<512>(alloc, lone(alloc, 67, 0x0B, 1)?, &FRESH) == 6);
     Ok(())
 }
 
@@ -180,8 +171,8 @@ fn logical_partitions_keep_their_numbers(rt: HostRuntime) -> Result<(), Fail> {
         entry(0x0700, FRESH[3], 5003, 5003),
     ];
     assert!(rt; becomes::<512>(alloc, chained(alloc, 4096)?, &wanted, (34, 16350))?);
-    assert_eq!(rt; guids_for(&chained(alloc, 4096)?), 4);
-    assert_eq!(rt; refused::<512>(alloc, chained(alloc, 33)?, &FRESH), 12);
+    assert!(rt; guids_for(&chained(alloc, 4096)?) == 4);
+    assert!(rt; refused::<512>(alloc, chained(alloc, 33)?, &FRESH) == 12);
     Ok(())
 }
 
@@ -199,22 +190,10 @@ fn fresh_guids(rt: HostRuntime) -> Result<(), Fail> {
     let alloc = rt.alloc();
     let disk = FRESH[0];
     let first = FRESH[1];
-    assert_eq!(rt;
-        refused::<512>(alloc, chained(alloc, 4096)?, &[disk, first, first]),
-        10
-    );
-    assert_eq!(rt;
-        refused::<512>(alloc, chained(alloc, 4096)?, &[disk, disk, first, first]),
-        11
-    );
-    assert_eq!(rt;
-        refused::<512>(alloc, lone(alloc, 4096, 0x83, 8)?, &[disk, disk]),
-        0
-    );
-    assert_eq!(rt;
-        refused::<512>(alloc, lone(alloc, 4096, 0x83, 8)?, &[disk]),
-        10
-    );
+    assert!(rt; refused::<512>(alloc, chained(alloc, 4096)?, &[disk, first, first]) == 10);
+    assert!(rt; refused::<512>(alloc, chained(alloc, 4096)?, &[disk, disk, first, first]) == 11);
+    assert!(rt; refused::<512>(alloc, lone(alloc, 4096, 0x83, 8)?, &[disk, disk]) == 0);
+    assert!(rt; refused::<512>(alloc, lone(alloc, 4096, 0x83, 8)?, &[disk]) == 10);
     Ok(())
 }
 
@@ -239,6 +218,6 @@ fn a_slice_keeps_its_label(rt: HostRuntime) -> Result<(), Fail> {
     let alloc = rt.alloc();
     let wanted = [entry(0xA500, FRESH[1], 2048, 3071)];
     assert!(rt; becomes::<512>(alloc, sliced(alloc, 16)?, &wanted, (34, 4062))?);
-    assert_eq!(rt; refused::<512>(alloc, sliced(alloc, 2008)?, &FRESH), 12);
+    assert!(rt; refused::<512>(alloc, sliced(alloc, 2008)?, &FRESH) == 12);
     Ok(())
 }

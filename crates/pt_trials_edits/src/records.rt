@@ -88,28 +88,13 @@ fn another_type_alone(rt: HostRuntime) -> Result<(), Fail> {
 fn refused_types(rt: HostRuntime) -> Result<(), Fail> {
     let alloc = rt.alloc();
     for kind in [0x00, 0xEE] {
-        assert_eq!(rt;
-            not_typed(alloc, 1, Code::Two(kind))?,
-            Some(Refusal::UnknownCode)
-        );
+        assert!(rt; not_typed(alloc, 1, Code::Two(kind))? == Some(Refusal::UnknownCode));
     }
-    assert_eq!(rt;
-        not_typed(alloc, 4, Code::Four(0x8300))?,
-        Some(Refusal::UnknownCode)
-    );
-    assert_eq!(rt;
-        not_typed(alloc, 1, Code::Two(0x05))?,
-        Some(Refusal::ContainerType)
-    );
-    assert_eq!(rt;
-        not_typed(alloc, 5, Code::Two(0x83))?,
-        Some(Refusal::ContainerType)
-    );
+    assert!(rt; not_typed(alloc, 4, Code::Four(0x8300))? == Some(Refusal::UnknownCode));
+    assert!(rt; not_typed(alloc, 1, Code::Two(0x05))? == Some(Refusal::ContainerType));
+    assert!(rt; not_typed(alloc, 5, Code::Two(0x83))? == Some(Refusal::ContainerType));
     for number in [0, 3, 6] {
-        assert_eq!(rt;
-            not_typed(alloc, number, Code::Two(0x83))?,
-            Some(Refusal::NoSuchPartition)
-        );
+        assert!(rt; not_typed(alloc, number, Code::Two(0x83))? == Some(Refusal::NoSuchPartition));
     }
     Ok(())
 }
@@ -125,10 +110,7 @@ fn an_extended_partition_goes_with_its_chain(rt: HostRuntime) -> Result<(), Fail
     let wanted = parts(rt.alloc(), records, &[], &[labelled(1, 2048)])?;
     let made = delete(three(rt.alloc())?, 2);
     assert!(rt; made.is_ok_and(|made| made.same(&wanted.whole())));
-    assert_eq!(rt;
-        delete(three(rt.alloc())?, 3).err(),
-        Some(Refusal::NoSuchPartition)
-    );
+    assert!(rt; delete(three(rt.alloc())?, 3).err() == Some(Refusal::NoSuchPartition));
     Ok(())
 }
 
@@ -258,33 +240,12 @@ fn not_new(
 fn refused_partitions(rt: HostRuntime) -> Result<(), Fail> {
     let alloc = rt.alloc();
     let end = End::Block;
-    assert_eq!(rt;
-        not_new(alloc, false, 6, end, Code::Two(0x83))?,
-        Some(Refusal::NoSuchPartition)
-    );
-    assert_eq!(rt;
-        not_new(alloc, true, 5, end, Code::Two(0x83))?,
-        Some(Refusal::NoSuchPartition)
-    );
-    assert_eq!(rt;
-        not_new(alloc, false, 1, end, Code::Four(0x8300))?,
-        Some(Refusal::NumberTaken)
-    );
-    assert_eq!(rt;
-        not_new(alloc, true, 0, end, Code::Four(0x8300))?,
-        Some(Refusal::NoSpace)
-    );
-    assert_eq!(rt;
-        not_new(alloc, false, 0, end, Code::Four(0x8300))?,
-        Some(Refusal::UnknownCode)
-    );
-    assert_eq!(rt;
-        not_new(alloc, false, 3, end, Code::Two(0x0F))?,
-        Some(Refusal::ContainerType)
-    );
-    assert_eq!(rt;
-        not_new(alloc, false, 3, end, Code::Two(0x83))?,
-        Some(Refusal::Overlap)
-    );
+    assert!(rt; not_new(alloc, false, 6, end, Code::Two(0x83))? == Some(Refusal::NoSuchPartition));
+    assert!(rt; not_new(alloc, true, 5, end, Code::Two(0x83))? == Some(Refusal::NoSuchPartition));
+    assert!(rt; not_new(alloc, false, 1, end, Code::Four(0x8300))? == Some(Refusal::NumberTaken));
+    assert!(rt; not_new(alloc, true, 0, end, Code::Four(0x8300))? == Some(Refusal::NoSpace));
+    assert!(rt; not_new(alloc, false, 0, end, Code::Four(0x8300))? == Some(Refusal::UnknownCode));
+    assert!(rt; not_new(alloc, false, 3, end, Code::Two(0x0F))? == Some(Refusal::ContainerType));
+    assert!(rt; not_new(alloc, false, 3, end, Code::Two(0x83))? == Some(Refusal::Overlap));
     Ok(())
 }

@@ -27,78 +27,60 @@ fn a_word_of_each_letter(rt: HostRuntime) {
         number: 2,
         letter: Some(1),
     };
-    assert_eq!(rt; parse_edit(rt.alloc(), "a:65536"), Ok(Edit::Align(65536)));
-    assert_eq!(rt;
-        parse_edit(rt.alloc(), "n:0:0:0"),
-        Ok(Edit::New {
-            path: Path {
-                number: 0,
-                letter: None
-            },
-            start: 0,
-            end: End::Block,
-            code: None
-        })
+    assert!(rt; parse_edit(rt.alloc(), "a:65536") == Ok(Edit::Align(65536)));
+    assert!(rt;
+        parse_edit(rt.alloc(), "n:0:0:0")
+            == Ok(Edit::New {
+                path: Path {
+                    number: 0,
+                    letter: None
+                },
+                start: 0,
+                end: End::Block,
+                code: None
+            })
     );
-    assert_eq!(rt;
+    assert!(rt;
         parse_edit(
             rt.alloc(),
             "n:2.b:18446744073709551615:+18446744073709551615:a5"
-        ),
-        Ok(Edit::New {
+        ) == Ok(Edit::New {
             path: second_of_two,
             start: u64::MAX,
             end: End::Length(u64::MAX),
             code: Some(Code::Two(0xA5))
         })
     );
-    assert_eq!(rt;
-        parse_edit(rt.alloc(), "n:1:2048:4062:Ef00"),
-        Ok(Edit::New {
-            path: one,
-            start: 2048,
-            end: End::At(4062),
-            code: Some(Code::Four(0xEF00))
-        })
+    assert!(rt;
+        parse_edit(rt.alloc(), "n:1:2048:4062:Ef00")
+            == Ok(Edit::New {
+                path: one,
+                start: 2048,
+                end: End::At(4062),
+                code: Some(Code::Four(0xEF00))
+            })
     );
-    assert_eq!(rt;
-        parse_edit(rt.alloc(), "d:2.b"),
-        Ok(Edit::Delete(second_of_two))
+    assert!(rt; parse_edit(rt.alloc(), "d:2.b") == Ok(Edit::Delete(second_of_two)));
+    assert!(rt; parse_edit(rt.alloc(), "t:1:0c") == Ok(Edit::SetKind(one, Code::Two(12))));
+    assert!(rt;
+        parse_edit(rt.alloc(), "u:1:00010203-0405-4607-8809-0A0b0C0d0E0f")
+            == Ok(Edit::SetUnique(1, FRESH))
     );
-    assert_eq!(rt;
-        parse_edit(rt.alloc(), "t:1:0c"),
-        Ok(Edit::SetKind(one, Code::Two(12)))
+    assert!(rt;
+        parse_edit(rt.alloc(), "U:00010203-0405-4607-8809-0a0b0c0d0e0f") == Ok(Edit::SetDisk(FRESH))
     );
-    assert_eq!(rt;
-        parse_edit(rt.alloc(), "u:1:00010203-0405-4607-8809-0A0b0C0d0E0f"),
-        Ok(Edit::SetUnique(1, FRESH))
-    );
-    assert_eq!(rt;
-        parse_edit(rt.alloc(), "U:00010203-0405-4607-8809-0a0b0c0d0e0f"),
-        Ok(Edit::SetDisk(FRESH))
-    );
-    assert_eq!(rt;
-        parse_edit(rt.alloc(), "A:1:63:1"),
-        Ok(Edit::SetBit(1, 63, true))
-    );
-    assert_eq!(rt;
-        parse_edit(rt.alloc(), "A:1:0:0"),
-        Ok(Edit::SetBit(1, 0, false))
-    );
-    assert_eq!(rt; parse_edit(rt.alloc(), "e"), Ok(Edit::Extend));
-    assert_eq!(rt; parse_edit(rt.alloc(), "g"), Ok(Edit::ToGpt));
-    assert_eq!(rt; parse_edit(rt.alloc(), "o"), Ok(Edit::Empty));
+    assert!(rt; parse_edit(rt.alloc(), "A:1:63:1") == Ok(Edit::SetBit(1, 63, true)));
+    assert!(rt; parse_edit(rt.alloc(), "A:1:0:0") == Ok(Edit::SetBit(1, 0, false)));
+    assert!(rt; parse_edit(rt.alloc(), "e") == Ok(Edit::Extend));
+    assert!(rt; parse_edit(rt.alloc(), "g") == Ok(Edit::ToGpt));
+    assert!(rt; parse_edit(rt.alloc(), "o") == Ok(Edit::Empty));
 }
 
 #[test]
 fn names_are_the_rest(rt: HostRuntime) -> Result<(), Fail> {
     for (text, wanted) in [("c:1:data", "data"), ("c:1:", ""), ("c:1:a:b::", "a:b::")] {
         let name = String::from_str(rt.alloc(), wanted)?;
-        assert_eq!(rt;
-            parse_edit(rt.alloc(), text),
-            Ok(Edit::SetName(1, name)),
-            "at {text}"
-        );
+        assert!(rt; parse_edit(rt.alloc(), text) == Ok(Edit::SetName(1, name)));
     }
     Ok(())
 }
@@ -107,7 +89,7 @@ fn names_are_the_rest(rt: HostRuntime) -> Result<(), Fail> {
 fn each_error(rt: HostRuntime) {
     let unknown = ["", "x", "x:1", "aa:1", "a ", "N:1:0:0", ":1", "é:1"];
     for text in unknown {
-        assert_eq!(rt; error_of(rt.alloc(), text), 1, "at {text}");
+        assert!(rt; error_of(rt.alloc(), text) == 1);
     }
     let counts = [
         "a",
@@ -127,7 +109,7 @@ fn each_error(rt: HostRuntime) {
         "o::",
     ];
     for text in counts {
-        assert_eq!(rt; error_of(rt.alloc(), text), 2, "at {text}");
+        assert!(rt; error_of(rt.alloc(), text) == 2);
     }
     let numbers = [
         "a:0",
@@ -167,7 +149,7 @@ fn each_error(rt: HostRuntime) {
         "A:1:1:2",
     ];
     for text in numbers {
-        assert_eq!(rt; error_of(rt.alloc(), text), 3, "at {text}");
+        assert!(rt; error_of(rt.alloc(), text) == 3);
     }
     let guids = [
         "u:1:",
@@ -176,7 +158,7 @@ fn each_error(rt: HostRuntime) {
         "U:{00010203-0405-4607-8809-0a0b0c0d0e0f}",
     ];
     for text in guids {
-        assert_eq!(rt; error_of(rt.alloc(), text), 4, "at {text}");
+        assert!(rt; error_of(rt.alloc(), text) == 4);
     }
     let codes = [
         "t:1:",
@@ -189,7 +171,7 @@ fn each_error(rt: HostRuntime) {
         "n:1:0:0:",
     ];
     for text in codes {
-        assert_eq!(rt; error_of(rt.alloc(), text), 5, "at {text}");
+        assert!(rt; error_of(rt.alloc(), text) == 5);
     }
-    assert_eq!(rt; EditError::Memory.number(), 6);
+    assert!(rt; EditError::Memory.number() == 6);
 }

@@ -45,24 +45,12 @@ fn changed(at: usize, bytes: [u8; 2], checksum: [u8; 2]) -> [u8; 512]
 fn empty_labels_have_one_checksum(rt: HostRuntime) {
     for n in [0, 1, 4096, 4294967295] {
         let small: [u8; 512] = encode_label(&empty_label(n), &[255; 512]);
-        assert_eq!(rt; [small[136], small[137]], [0x08, 0x22], "at {n}");
-        assert_eq!(rt;
-            [small[275], small[276], small[511]],
-            [0, 255, 255],
-            "at {n}"
-        );
-        assert_eq!(rt;
-            decode_label(&small, 7, n as u64),
-            Ok(empty_label(n)),
-            "at {n}"
-        );
+        assert!(rt; [small[136], small[137]] == [0x08, 0x22]);
+        assert!(rt; [small[275], small[276], small[511]] == [0, 255, 255]);
+        assert!(rt; decode_label(&small, 7, n as u64) == Ok(empty_label(n)));
         let large: [u8; 4096] = encode_label(&empty_label(n), &[0; 4096]);
-        assert_eq!(rt; [large[136], large[137]], [0x08, 0x22], "at {n}");
-        assert_eq!(rt;
-            decode_label(&large, 7, n as u64),
-            Ok(empty_label(n)),
-            "at {n}"
-        );
+        assert!(rt; [large[136], large[137]] == [0x08, 0x22]);
+        assert!(rt; decode_label(&large, 7, n as u64) == Ok(empty_label(n)));
     }
 }
 
@@ -73,50 +61,36 @@ fn three_entries(rt: HostRuntime) {
         label.entries[k] = None;
     }
     let sector: [u8; 512] = encode_label(&label, &[9; 512]);
-    assert_eq!(rt; [sector[136], sector[137], sector[138]], [0x03, 0x22, 3]);
-    assert_eq!(rt;
-        [sector[195], sector[196], sector[275], sector[511]],
-        [0, 9, 9, 9]
-    );
-    assert_eq!(rt; decode_label(&sector, 2048, 4096), Ok(label));
+    assert!(rt; [sector[136], sector[137], sector[138]] == [0x03, 0x22, 3]);
+    assert!(rt; [sector[195], sector[196], sector[275], sector[511]] == [0, 9, 9, 9]);
+    assert!(rt; decode_label(&sector, 2048, 4096) == Ok(label));
 }
 
 #[test]
 fn first_broken_rule(rt: HostRuntime) {
     let empty = encode_label(&empty_label(4096), &[0u8; 512]);
-    assert_eq!(rt;
-        decode_label(&empty, 2048, 4097),
-        Err(LabelError::RawPartition)
-    );
-    assert_eq!(rt;
-        decode_label(&empty, 2048, 4294971392),
-        Err(LabelError::RawPartition)
-    );
+    assert!(rt; decode_label(&empty, 2048, 4097) == Err(LabelError::RawPartition));
+    assert!(rt; decode_label(&empty, 2048, 4294971392) == Err(LabelError::RawPartition));
     for count in [[2, 0], [9, 0], [255, 255]] {
-        assert_eq!(rt;
-            decode_label(&changed(138, count, [0, 0]), 2048, 4096),
-            Err(LabelError::Count)
+        assert!(rt;
+            decode_label(&changed(138, count, [0, 0]), 2048, 4096) == Err(LabelError::Count)
         );
     }
-    assert_eq!(rt;
-        decode_label(&changed(40, [0, 8], [0x08, 0x28]), 2048, 4096),
-        Err(LabelError::SectorSize)
+    assert!(rt;
+        decode_label(&changed(40, [0, 8], [0x08, 0x28]), 2048, 4096) == Err(LabelError::SectorSize)
     );
-    assert_eq!(rt;
-        decode_label(&changed(132, [0x56, 0x45], [0x09, 0x22]), 2048, 4096),
-        Err(LabelError::Magic)
+    assert!(rt;
+        decode_label(&changed(132, [0x56, 0x45], [0x09, 0x22]), 2048, 4096)
+            == Err(LabelError::Magic)
     );
-    assert_eq!(rt;
-        decode_label(&changed(0, [0x56, 0x45], [0x09, 0x22]), 2048, 4096),
-        Err(LabelError::Magic)
+    assert!(rt;
+        decode_label(&changed(0, [0x56, 0x45], [0x09, 0x22]), 2048, 4096) == Err(LabelError::Magic)
     );
-    assert_eq!(rt;
-        decode_label(&changed(138, [8, 0], [0x09, 0x22]), 2048, 4096),
-        Err(LabelError::Checksum)
+    assert!(rt;
+        decode_label(&changed(138, [8, 0], [0x09, 0x22]), 2048, 4096) == Err(LabelError::Checksum)
     );
-    assert_eq!(rt;
-        decode_label(&changed(138, [8, 0], [0x08, 0x22]), 2048, 4096),
-        Ok(empty_label(4096))
+    assert!(rt;
+        decode_label(&changed(138, [8, 0], [0x08, 0x22]), 2048, 4096) == Ok(empty_label(4096))
     );
 }
 
@@ -125,57 +99,50 @@ fn relative_label(rt: HostRuntime) {
     let mut label = empty_label(4096);
     label.entries[0] = Some(partition(16, 2000));
     let first: [u8; 512] = encode_label(&label, &[0; 512]);
-    assert_eq!(rt; [first[136], first[137]], [0xCF, 0x25]);
+    assert!(rt; [first[136], first[137]] == [0xCF, 0x25]);
     label.entries[1] = Some(partition(2016, 1000));
     let second: [u8; 512] = encode_label(&label, &first);
-    assert_eq!(rt; [second[136], second[137]], [0xC0, 0x21]);
-    assert_eq!(rt; decode_label(&second, 2048, 4096), Ok(label));
-    assert_eq!(rt; label.form(), Form::Relative);
-    assert_eq!(rt; label.entry_first(2048, &partition(2016, 1000)), 4064);
-    assert_eq!(rt;
-        label.entry_first(4294967296, &partition(4294967295, 1)),
-        8589934591
-    );
+    assert!(rt; [second[136], second[137]] == [0xC0, 0x21]);
+    assert!(rt; decode_label(&second, 2048, 4096) == Ok(label));
+    assert!(rt; label.form() == Form::Relative);
+    assert!(rt; label.entry_first(2048, &partition(2016, 1000)) == 4064);
+    assert!(rt; label.entry_first(4294967296, &partition(4294967295, 1)) == 8589934591);
 }
 
 #[test]
 fn absolute_label(rt: HostRuntime) {
     let mut label = absolute();
     let empty: [u8; 512] = encode_label(&label, &[0; 512]);
-    assert_eq!(rt; [empty[136], empty[137]], [0x08, 0x2A]);
-    assert_eq!(rt; decode_label(&empty, 2048, 4096), Ok(label));
+    assert!(rt; [empty[136], empty[137]] == [0x08, 0x2A]);
+    assert!(rt; decode_label(&empty, 2048, 4096) == Ok(label));
     label.entries[0] = Some(partition(2064, 2000));
     let first: [u8; 512] = encode_label(&label, &empty);
-    assert_eq!(rt; [first[136], first[137]], [0xCF, 0x25]);
+    assert!(rt; [first[136], first[137]] == [0xCF, 0x25]);
     label.entries[1] = Some(partition(4064, 1000));
     let second: [u8; 4096] = encode_label(&label, &[0; 4096]);
-    assert_eq!(rt; [second[136], second[137]], [0xC0, 0x29]);
-    assert_eq!(rt; decode_label(&second, 2048, 4096), Ok(label));
-    assert_eq!(rt; label.form(), Form::Absolute);
-    assert_eq!(rt; label.entry_first(2048, &partition(4064, 1000)), 4064);
+    assert!(rt; [second[136], second[137]] == [0xC0, 0x29]);
+    assert!(rt; decode_label(&second, 2048, 4096) == Ok(label));
+    assert!(rt; label.form() == Form::Absolute);
+    assert!(rt; label.entry_first(2048, &partition(4064, 1000)) == 4064);
 }
 
 #[test]
 fn absolute_label_elsewhere(rt: HostRuntime) {
     let sector = encode_label(&absolute(), &[0u8; 512]);
     for first in [0, 2047, 2049, 4294969344] {
-        assert_eq!(rt;
-            decode_label(&sector, first, 4096),
-            Err(LabelError::RawPartition),
-            "at {first}"
-        );
+        assert!(rt; decode_label(&sector, first, 4096) == Err(LabelError::RawPartition));
     }
 }
 
 #[test]
 fn offsets(rt: HostRuntime) {
-    assert_eq!(rt; Form::Relative.offset_of(2048, 4064), Some(2016));
-    assert_eq!(rt; Form::Absolute.offset_of(2048, 4064), Some(4064));
-    assert_eq!(rt; Form::Relative.offset_of(4294967200, 4294967300), Some(100));
-    assert_eq!(rt; Form::Absolute.offset_of(4294967200, 4294967300), None);
-    assert_eq!(rt; Form::Relative.offset_of(2048, 2047), None);
-    assert_eq!(rt; Form::Relative.sector_at(2048, 2016), 4064);
-    assert_eq!(rt; Form::Absolute.sector_at(2048, 4064), 4064);
+    assert!(rt; Form::Relative.offset_of(2048, 4064) == Some(2016));
+    assert!(rt; Form::Absolute.offset_of(2048, 4064) == Some(4064));
+    assert!(rt; Form::Relative.offset_of(4294967200, 4294967300) == Some(100));
+    assert!(rt; Form::Absolute.offset_of(4294967200, 4294967300) == None);
+    assert!(rt; Form::Relative.offset_of(2048, 2047) == None);
+    assert!(rt; Form::Relative.sector_at(2048, 2016) == 4064);
+    assert!(rt; Form::Absolute.sector_at(2048, 4064) == 4064);
 }
 
 #[test]
@@ -191,13 +158,10 @@ fn magic(rt: HostRuntime) {
 fn labels_are_read_back(rt: HostRuntime) {
     let sector = [7u8; 512];
     let label = absolute();
-    assert_eq!(rt;
-        encode_for(&label, 2048, 4096, &sector),
-        Some(encode_label(&label, &sector))
-    );
-    assert_eq!(rt; encode_for(&label, 2049, 4096, &sector), None);
-    assert_eq!(rt; encode_for(&label, 2048, 4095, &sector), None);
+    assert!(rt; encode_for(&label, 2048, 4096, &sector) == Some(encode_label(&label, &sector)));
+    assert!(rt; encode_for(&label, 2049, 4096, &sector) == None);
+    assert!(rt; encode_for(&label, 2048, 4095, &sector) == None);
     let mut gap = label;
     gap.entries[1] = None;
-    assert_eq!(rt; encode_for(&gap, 2048, 4096, &sector), None);
+    assert!(rt; encode_for(&gap, 2048, 4096, &sector) == None);
 }

@@ -177,14 +177,14 @@ fn g_entries() -> [Option<Entry>; 128]
 
 #[test]
 fn bytes_that_other_programs_write(rt: HostRuntime) {
-    assert_eq!(rt; array_crc(&[None; 128]), 0xab54_d286);
+    assert!(rt; array_crc(&[None; 128]) == 0xab54_d286);
     let entries = g_entries();
-    assert_eq!(rt; array_crc(&entries), 0xc604_7f7f);
+    assert!(rt; array_crc(&entries) == 0xc604_7f7f);
     let header = header_of::<512>(Side::Primary, 4096, &entries, 128);
     let sector: Sector<512> = encode_header(&header);
     assert!(rt; begins(&sector, G_HEADER));
-    assert_eq!(rt; decode_header(&sector), Ok(header));
-    assert_eq!(rt; header_reads_back::<4096>(&header), Ok(header));
+    assert!(rt; decode_header(&sector) == Ok(header));
+    assert!(rt; header_reads_back::<4096>(&header) == Ok(header));
 
     let entry = Entry {
         name: [0xd83d; 36],
@@ -194,9 +194,9 @@ fn bytes_that_other_programs_write(rt: HostRuntime) {
     assert!(rt; &bytes[..16] == LINUX.0.as_slice());
     assert!(rt; &bytes[32..40] == [0, 8, 0, 0, 0, 0, 0, 0].as_slice());
     assert!(rt; &bytes[126..] == [0x3d, 0xd8].as_slice());
-    assert_eq!(rt; entry_reads_back(&entry), Some(entry));
-    assert_eq!(rt; encode_entry(None), [0; 128]);
-    assert_eq!(rt; decode_entry(&[0; 128]), None);
+    assert!(rt; entry_reads_back(&entry) == Some(entry));
+    assert!(rt; encode_entry(None) == [0; 128]);
+    assert!(rt; decode_entry(&[0; 128]) == None);
 }
 
 /// The number that reading the primary copy of a disk of 4,096 sectors tells, with this header in sector 1, and this
@@ -214,9 +214,9 @@ fn primary_number(alloc: Global, header: &Header, size: Option<[u8; 4]>) -> Resu
 #[test]
 fn headers_that_no_copy_has(rt: HostRuntime) -> Result<(), Fail> {
     let good = header_of::<512>(Side::Primary, 4096, &[None; 128], 128);
-    assert_eq!(rt; primary_number(rt.alloc(), &good, None)?, 0);
+    assert!(rt; primary_number(rt.alloc(), &good, None)? == 0);
     for size in [[91, 0, 0, 0], [1, 2, 0, 0], [0xff; 4]] {
-        assert_eq!(rt; primary_number(rt.alloc(), &good, Some(size))?, 3);
+        assert!(rt; primary_number(rt.alloc(), &good, Some(size))? == 3);
     }
     let rows = [
         (Header { my: 2, ..good }, 5),
@@ -262,11 +262,7 @@ fn headers_that_no_copy_has(rt: HostRuntime) -> Result<(), Fail> {
         ),
     ];
     for (header, want) in rows {
-        assert_eq!(rt;
-            primary_number(rt.alloc(), &header, None)?,
-            want,
-            "{header:?}"
-        );
+        assert!(rt; primary_number(rt.alloc(), &header, None)? == want);
     }
     Ok(())
 }
@@ -288,11 +284,11 @@ fn only_counted_bytes_count(rt: HostRuntime) -> Result<(), Fail> {
     assert!(rt; table.entries.as_slice() == entries.as_slice());
     sector[383] = 1;
     assert!(rt; put(&mut disk, 2, &sector));
-    assert_eq!(rt; number_of(rt.alloc(), &mut disk), 9);
+    assert!(rt; number_of(rt.alloc(), &mut disk) == 9);
     let mut header_sector: Sector<512> = encode_header(&header);
     header_sector[0] = 0;
     assert!(rt; put(&mut disk, 1, &header_sector));
-    assert_eq!(rt; number_of(rt.alloc(), &mut disk), 1);
+    assert!(rt; number_of(rt.alloc(), &mut disk) == 1);
     Ok(())
 }
 
@@ -309,24 +305,12 @@ fn failing_read<const B: usize>(alloc: Global, k: u64) -> Result<Option<CopyErro
 
 #[test]
 fn a_failed_read_is_the_device_s(rt: HostRuntime) -> Result<(), Fail> {
-    assert_eq!(rt; failing_read::<512>(rt.alloc(), 0)?, None);
-    assert_eq!(rt;
-        failing_read::<512>(rt.alloc(), 1)?,
-        Some(CopyError::Device(Lba(127)))
-    );
-    assert_eq!(rt;
-        failing_read::<512>(rt.alloc(), 2)?,
-        Some(CopyError::Device(Lba(95)))
-    );
-    assert_eq!(rt;
-        failing_read::<512>(rt.alloc(), 33)?,
-        Some(CopyError::Device(Lba(126)))
-    );
-    assert_eq!(rt;
-        failing_read::<4096>(rt.alloc(), 2)?,
-        Some(CopyError::Device(Lba(123)))
-    );
-    assert_eq!(rt; failing_read::<4096>(rt.alloc(), 6)?, None);
+    assert!(rt; (failing_read::<512>(rt.alloc(), 0)?) == None);
+    assert!(rt; (failing_read::<512>(rt.alloc(), 1)?) == Some(CopyError::Device(Lba(127))));
+    assert!(rt; (failing_read::<512>(rt.alloc(), 2)?) == Some(CopyError::Device(Lba(95))));
+    assert!(rt; (failing_read::<512>(rt.alloc(), 33)?) == Some(CopyError::Device(Lba(126))));
+    assert!(rt; (failing_read::<4096>(rt.alloc(), 2)?) == Some(CopyError::Device(Lba(123))));
+    assert!(rt; (failing_read::<4096>(rt.alloc(), 6)?) == None);
     Ok(())
 }
 
@@ -345,8 +329,8 @@ fn tables_are_copied_and_changed(rt: HostRuntime) -> Result<(), Fail> {
     assert!(rt; other.same(&table));
     other.entries.set(1, Some(partition(2, 51, 60)));
     assert!(rt; !other.same(&table));
-    assert_eq!(rt; other.entries.get(1), Some(partition(2, 51, 60)));
-    assert_eq!(rt; other.entries.iter().count(), 2);
-    assert_eq!(rt; other.entries.into_vec().len(), 2);
+    assert!(rt; other.entries.get(1) == Some(partition(2, 51, 60)));
+    assert!(rt; other.entries.iter().count() == 2);
+    assert!(rt; other.entries.into_vec().len() == 2);
     Ok(())
 }

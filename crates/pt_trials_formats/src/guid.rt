@@ -10,10 +10,10 @@ fn stored_order(rt: HostRuntime) {
         0x28, 0x73, 0x2A, 0xC1, 0x1F, 0xF8, 0xD2, 0x11, 0xBA, 0x4B, 0x00, 0xA0, 0xC9, 0x3E, 0xC9,
         0x3B,
     ]);
-    assert_eq!(rt; parse(EFI_SYSTEM), Ok(stored));
-    assert_eq!(rt; parse("C12A7328-F81F-11D2-BA4B-00A0C93EC93B"), Ok(stored));
+    assert!(rt; parse(EFI_SYSTEM) == Ok(stored));
+    assert!(rt; parse("C12A7328-F81F-11D2-BA4B-00A0C93EC93B") == Ok(stored));
     let mut buffer = [0; 36];
-    assert_eq!(rt; stored.to_text(&mut buffer), EFI_SYSTEM);
+    assert!(rt; stored.to_text(&mut buffer) == EFI_SYSTEM);
 }
 
 #[test]
@@ -25,7 +25,7 @@ fn other_texts(rt: HostRuntime) {
         "c12a7328-f81f-11d2-ba4b-00a0c93ec93g",
         "",
     ] {
-        assert_eq!(rt; parse(text), Err(GuidError::NotAGuid), "at {text}");
+        assert!(rt; parse(text) == Err(GuidError::NotAGuid));
     }
 }
 
@@ -33,10 +33,7 @@ fn other_texts(rt: HostRuntime) {
 fn fresh_guid(rt: HostRuntime) {
     let drawn = [0, 1, 2, 3, 4, 5, 6, 7, 8, 9, 10, 11, 12, 13, 14, 15];
     let mut buffer = [0; 36];
-    assert_eq!(rt;
-        fresh(drawn).to_text(&mut buffer),
-        "00010203-0405-4607-8809-0a0b0c0d0e0f"
-    );
+    assert!(rt; fresh(drawn).to_text(&mut buffer) == "00010203-0405-4607-8809-0a0b0c0d0e0f");
 }
 
 #[test]
@@ -51,10 +48,10 @@ fn six_codes(rt: HostRuntime) {
     ] {
         match parse(text) {
             Ok(guid) => {
-                assert_eq!(rt; type_of_code(code), Some(guid), "at {text}");
-                assert_eq!(rt; code_of_type(&guid), Some(code), "at {text}");
+                assert!(rt; type_of_code(code) == Some(guid));
+                assert!(rt; code_of_type(&guid) == Some(code));
             }
-            Err(_) => assert!(rt; false, "no GUID: {text}"),
+            Err(_) => assert!(rt; false),
         }
     }
 }
@@ -65,9 +62,9 @@ fn other_codes(rt: HostRuntime) {
         0xAF, 0x3D, 0xC6, 0x0F, 0x83, 0x84, 0x72, 0x47, 0x8E, 0x79, 0x3D, 0x69, 0xD8, 0x47, 0x7D,
         0xE4,
     ]);
-    assert_eq!(rt; type_of_code(0x8300), Some(linux_filesystem));
-    assert_eq!(rt; type_of_code(0x8301), None);
-    assert_eq!(rt; code_of_type(&Guid([0; 16])), None);
+    assert!(rt; type_of_code(0x8300) == Some(linux_filesystem));
+    assert!(rt; type_of_code(0x8301) == None);
+    assert!(rt; code_of_type(&Guid([0; 16])) == None);
     assert!(rt; Guid([0; 16]).is_zero());
     assert!(rt; !linux_filesystem.is_zero());
 }

@@ -89,12 +89,9 @@ fn links_are_judged(rt: HostRuntime) -> Result<(), Fail> {
         ([Some(record_of(0x83, 1, 1000)), None], Ok((1, 1))),
     ];
     for (records, want) in rows {
-        assert_eq!(rt; answer::<512>(rt.alloc(), &boot_record(records))?, want);
+        assert!(rt; (answer::<512>(rt.alloc(), &boot_record(records))?) == want);
     }
-    assert_eq!(rt;
-        answer::<4096>(rt.alloc(), &boot_record(link(0x05, 2047, 1)))?,
-        Ok((2, 0))
-    );
+    assert!(rt; (answer::<4096>(rt.alloc(), &boot_record(link(0x05, 2047, 1)))?) == Ok((2, 0)));
     Ok(())
 }
 
@@ -102,16 +99,10 @@ fn links_are_judged(rt: HostRuntime) -> Result<(), Fail> {
 fn bytes_are_judged_in_order(rt: HostRuntime) -> Result<(), Fail> {
     let mut first: Sector<512> = boot_record(EMPTY);
     first[479] = 1;
-    assert_eq!(rt;
-        answer(rt.alloc(), &first)?,
-        Err(ChainError::BadRecord(Lba(4096)))
-    );
+    assert!(rt; answer(rt.alloc(), &first)? == Err(ChainError::BadRecord(Lba(4096))));
     first[510] = 0;
     first[511] = 0;
-    assert_eq!(rt;
-        answer(rt.alloc(), &first)?,
-        Err(ChainError::NoSignature(Lba(4096)))
-    );
+    assert!(rt; answer(rt.alloc(), &first)? == Err(ChainError::NoSignature(Lba(4096))));
     Ok(())
 }
 
@@ -142,11 +133,8 @@ fn a_chain_has_128_at_most(rt: HostRuntime) -> Result<(), Fail> {
     let mut disk: MemDisk<512> = MemDisk::new(rt.alloc(), 16384)?;
     write_chain(&mut disk, 129)?;
     let mut list = ArrayVec::new();
-    assert_eq!(rt;
-        walk_chain(&mut disk, &extended(), &mut list),
-        Err(ChainError::TooLong)
-    );
-    assert_eq!(rt; list.len(), 128);
+    assert!(rt; walk_chain(&mut disk, &extended(), &mut list) == Err(ChainError::TooLong));
+    assert!(rt; list.len() == 128);
     Ok(())
 }
 
@@ -157,11 +145,10 @@ fn a_failed_read_is_the_device(rt: HostRuntime) -> Result<(), Fail> {
     disk.write(Lba(6143), &boot_record(EMPTY))?;
     disk.fail_at(2, false);
     let mut list = ArrayVec::new();
-    assert_eq!(rt;
-        walk_chain(&mut disk, &extended(), &mut list),
-        Err(ChainError::Device(Lba(6143)))
+    assert!(rt;
+        walk_chain(&mut disk, &extended(), &mut list) == Err(ChainError::Device(Lba(6143)))
     );
-    assert_eq!(rt; list.len(), 1);
+    assert!(rt; list.len() == 1);
     assert!(rt; read_chain(&mut disk, extended()).is_ok());
     Ok(())
 }
@@ -183,27 +170,27 @@ fn records_are_sixteen_bytes(rt: HostRuntime) -> Result<(), Fail> {
     let logical = record_of(0x83, 1, 1000);
     let next = record_of(0x05, 2047, 1001);
     let sector: Sector<512> = put_record(&[7; 512], 0, Some(&logical));
-    assert_eq!(rt;
-        &sector[446..462],
-        b"\x00\xfe\xff\xff\x83\xfe\xff\xff\x01\x00\x00\x00\xe8\x03\x00\x00".as_slice()
+    assert!(rt;
+        &sector[446..462]
+            == b"\x00\xfe\xff\xff\x83\xfe\xff\xff\x01\x00\x00\x00\xe8\x03\x00\x00".as_slice()
     );
     let sector = put_record(&sector, 1, Some(&next));
-    assert_eq!(rt;
-        &sector[462..478],
-        b"\x00\xfe\xff\xff\x05\xfe\xff\xff\xff\x07\x00\x00\xe9\x03\x00\x00".as_slice()
+    assert!(rt;
+        &sector[462..478]
+            == b"\x00\xfe\xff\xff\x05\xfe\xff\xff\xff\x07\x00\x00\xe9\x03\x00\x00".as_slice()
     );
-    assert_eq!(rt; sector[445], 7);
-    assert_eq!(rt; sector[478], 7);
+    assert!(rt; sector[445] == 7);
+    assert!(rt; sector[478] == 7);
     let sector = put_record(&put_record(&sector, 2, None), 3, None);
-    assert_eq!(rt; &sector[478..510], [0; 32].as_slice());
-    assert_eq!(rt; decode_mbr(&sector), None);
+    assert!(rt; &sector[478..510] == [0; 32].as_slice());
+    assert!(rt; decode_mbr(&sector) == None);
     let mut sector = sector;
     sector[510] = 0x55;
     sector[511] = 0xAA;
     let records = decode_mbr(&sector).map(|m| m.records);
-    assert_eq!(rt; records, Some([Some(logical), Some(next), None, None]));
+    assert!(rt; records == Some([Some(logical), Some(next), None, None]));
     sector[494] = 1;
-    assert_eq!(rt; decode_mbr(&sector), None);
+    assert!(rt; decode_mbr(&sector) == None);
     Ok(())
 }
 
@@ -231,15 +218,12 @@ fn what_is_written_is_read(rt: HostRuntime) -> Result<(), Fail> {
         Some(record_of(0x0F, u32::MAX, 1)),
         None,
     ];
-    assert_eq!(rt; written::<512>(records), Some(records));
-    assert_eq!(rt; written::<4096>(records), Some(records));
+    assert!(rt; written::<512>(records) == Some(records));
+    assert!(rt; written::<4096>(records) == Some(records));
     bootable.boot = 0x81;
-    assert_eq!(rt; written::<512>([Some(bootable), None, None, None]), None);
+    assert!(rt; written::<512>([Some(bootable), None, None, None]) == None);
     let unused = record_of(0x83, 7, 0);
-    assert_eq!(rt;
-        written::<512>([Some(unused), None, None, None]),
-        Some([None; 4])
-    );
+    assert!(rt; written::<512>([Some(unused), None, None, None]) == Some([None; 4]));
     Ok(())
 }
 
@@ -266,16 +250,16 @@ fn protection<const B: usize>(sectors: u64, under: u8) -> Option<[u8; 16]>
 #[test]
 fn the_first_record_protects(rt: HostRuntime) -> Result<(), Fail> {
     let all = b"\x00\x00\x02\x00\xee\xff\xff\xff\x01\x00\x00\x00\xff\xff\xff\xff";
-    assert_eq!(rt;
-        protection::<512>(2048, 9),
-        Some(*b"\x00\x00\x02\x00\xee\xff\xff\xff\x01\x00\x00\x00\xff\x07\x00\x00")
+    assert!(rt;
+        protection::<512>(2048, 9)
+            == Some(*b"\x00\x00\x02\x00\xee\xff\xff\xff\x01\x00\x00\x00\xff\x07\x00\x00")
     );
-    assert_eq!(rt;
-        protection::<4096>(256, 9),
-        Some(*b"\x00\x00\x02\x00\xee\xff\xff\xff\x01\x00\x00\x00\xff\x00\x00\x00")
+    assert!(rt;
+        protection::<4096>(256, 9)
+            == Some(*b"\x00\x00\x02\x00\xee\xff\xff\xff\x01\x00\x00\x00\xff\x00\x00\x00")
     );
-    assert_eq!(rt; protection::<512>(4294967296, 0), Some(*all));
-    assert_eq!(rt; protection::<512>(4294967297, 0), Some(*all));
+    assert!(rt; protection::<512>(4294967296, 0) == Some(*all));
+    assert!(rt; protection::<512>(4294967297, 0) == Some(*all));
     Ok(())
 }
 
@@ -311,14 +295,14 @@ fn links_have_known_bytes(rt: HostRuntime) -> Result<(), Fail> {
     let link = link_to(Lba(4096), &ebr_at(6143, None));
     let first = ebr_at(4096, Some(Lba(6143)));
     let sector: Sector<512> = new_ebr(&first, &link);
-    assert_eq!(rt; &sector[462..478], LINK_BYTES.as_slice());
-    assert_eq!(rt; decode_ebr(&sector, Lba(4096), Lba(4096)), Ok(first));
+    assert!(rt; &sector[462..478] == LINK_BYTES.as_slice());
+    assert!(rt; decode_ebr(&sector, Lba(4096), Lba(4096)) == Ok(first));
     let moved = ebr_at(4096, Some(Lba(8191)));
     let other = link_to(Lba(4096), &ebr_at(8191, None));
     let changed = change_ebr(&sector, &first, &moved, &other);
-    assert_eq!(rt; &changed[462..478], OTHER_LINK_BYTES.as_slice());
-    assert_eq!(rt; changed[0..462], sector[0..462]);
-    assert_eq!(rt; decode_ebr(&changed, Lba(4096), Lba(4096)), Ok(moved));
+    assert!(rt; &changed[462..478] == OTHER_LINK_BYTES.as_slice());
+    assert!(rt; changed[0..462] == sector[0..462]);
+    assert!(rt; decode_ebr(&changed, Lba(4096), Lba(4096)) == Ok(moved));
     Ok(())
 }
 
@@ -329,20 +313,14 @@ fn links_fit_their_fields(rt: HostRuntime) -> Result<(), Fail> {
         logical: None,
         next: None,
     };
-    assert_eq!(rt;
-        link_to(Lba(4096), &empty),
-        Some(record_of(0x05, 0xFFFF_FFFF, 1))
-    );
-    assert_eq!(rt; link_to(Lba(4095), &empty), None);
-    assert_eq!(rt; link_to(Lba(4096), &ebr_at(4095, None)), None);
+    assert!(rt; link_to(Lba(4096), &empty) == Some(record_of(0x05, 0xFFFF_FFFF, 1)));
+    assert!(rt; link_to(Lba(4095), &empty) == None);
+    assert!(rt; link_to(Lba(4096), &ebr_at(4095, None)) == None);
     let mut long = ebr_at(6143, None);
     long.logical = Some(record_of(0x83, 1, 0xFFFF_FFFE));
-    assert_eq!(rt;
-        link_to(Lba(4096), &long),
-        Some(record_of(0x05, 2047, 0xFFFF_FFFF))
-    );
+    assert!(rt; link_to(Lba(4096), &long) == Some(record_of(0x05, 2047, 0xFFFF_FFFF)));
     long.logical = Some(record_of(0x83, 2, 0xFFFF_FFFE));
-    assert_eq!(rt; link_to(Lba(4096), &long), None);
+    assert!(rt; link_to(Lba(4096), &long) == None);
     Ok(())
 }
 
@@ -354,16 +332,16 @@ fn kept_records_keep_their_bytes(rt: HostRuntime) -> Result<(), Fail> {
     let old = [Some(record_of(0x83, 2048, 100)), None, None, None];
     let added = Some(record_of(0x07, 4096, 100));
     let changed = change_records(&sector, &old, &[old[0], None, added, None]);
-    assert_eq!(rt; changed[0..478], sector[0..478]);
-    assert_eq!(rt; changed[494..512], sector[494..512]);
-    assert_eq!(rt;
-        decode_mbr(&changed),
-        Some(Mbr {
-            records: [old[0], None, added, None]
-        })
+    assert!(rt; changed[0..478] == sector[0..478]);
+    assert!(rt; changed[494..512] == sector[494..512]);
+    assert!(rt;
+        decode_mbr(&changed)
+            == Some(Mbr {
+                records: [old[0], None, added, None]
+            })
     );
     let cleared = change_records(&changed, &[old[0], None, added, None], &[None; 4]);
-    assert_eq!(rt; &cleared[446..462], [0; 16].as_slice());
-    assert_eq!(rt; cleared[463], 7);
+    assert!(rt; &cleared[446..462] == [0; 16].as_slice());
+    assert!(rt; cleared[463] == 7);
     Ok(())
 }

@@ -71,11 +71,11 @@ fn an_overlay_keeps_its_room(rt: HostRuntime) -> Result<(), Fail> {
     let mut memory: MemDisk<512> = MemDisk::new(rt.alloc(), 8)?;
     let room = Room::new(rt.alloc(), 1)?;
     let mut overlay = Overlay::new(&mut memory, room);
-    assert_eq!(rt; overlay.write(Lba(3), &[7; 512]), Ok(()));
-    assert_eq!(rt; overlay.write(Lba(3), &[9; 512]), Ok(()));
-    assert_eq!(rt; overlay.write(Lba(4), &[7; 512]), Err(Fault::Write(Lba(4))));
-    assert_eq!(rt; byte_at(&mut overlay, 3)?, Some(9));
-    assert_eq!(rt; byte_at(&mut overlay, 4)?, Some(0));
+    assert!(rt; overlay.write(Lba(3), &[7; 512]) == Ok(()));
+    assert!(rt; overlay.write(Lba(3), &[9; 512]) == Ok(()));
+    assert!(rt; overlay.write(Lba(4), &[7; 512]) == Err(Fault::Write(Lba(4))));
+    assert!(rt; byte_at(&mut overlay, 3)? == Some(9));
+    assert!(rt; byte_at(&mut overlay, 4)? == Some(0));
     Ok(())
 }
 
@@ -87,10 +87,10 @@ fn puts_in_any_order_are_found(rt: HostRuntime) -> Result<(), Fail> {
     overlay.put(Lba(6), &[6; 512]);
     overlay.put(Lba(1), &[1; 512]);
     overlay.put(Lba(4), &[4; 512]);
-    assert_eq!(rt; byte_at(&mut overlay, 1)?, Some(1));
-    assert_eq!(rt; byte_at(&mut overlay, 4)?, Some(4));
-    assert_eq!(rt; byte_at(&mut overlay, 6)?, Some(6));
-    assert_eq!(rt; byte_at(&mut overlay, 5)?, Some(0));
+    assert!(rt; byte_at(&mut overlay, 1)? == Some(1));
+    assert!(rt; byte_at(&mut overlay, 4)? == Some(4));
+    assert!(rt; byte_at(&mut overlay, 6)? == Some(6));
+    assert!(rt; byte_at(&mut overlay, 5)? == Some(0));
     Ok(())
 }
 
@@ -119,9 +119,9 @@ fn a_stop_takes_one_choice_for_each_sector(rt: HostRuntime) -> Result<(), Fail> 
     ];
     for (choices, second, fifth) in rows {
         let mut left = with_pending(rt.alloc())?.stop(choices);
-        assert_eq!(rt; byte_at(&mut left, 2)?, Some(second));
-        assert_eq!(rt; byte_at(&mut left, 5)?, Some(fifth));
-        assert_eq!(rt; byte_at(&mut left, 1)?, Some(0));
+        assert!(rt; byte_at(&mut left, 2)? == Some(second));
+        assert!(rt; byte_at(&mut left, 5)? == Some(fifth));
+        assert!(rt; byte_at(&mut left, 1)? == Some(0));
     }
     Ok(())
 }
@@ -132,15 +132,15 @@ fn the_call_that_is_set_fails(rt: HostRuntime) -> Result<(), Fail> {
         let mut disk: CrashDisk<512> = CrashDisk::new(rt.alloc(), 8, 2)?;
         disk.fail_at(1, kept);
         disk.fail_at(3, kept);
-        assert_eq!(rt; disk.write(Lba(2), &[7; 512]), Ok(()));
-        assert_eq!(rt; byte_at(&mut disk, 2)?, Some(7));
-        assert_eq!(rt; disk.write(Lba(2), &[9; 512]), Err(Fault::Write(Lba(2))));
-        assert_eq!(rt; byte_at(&mut disk, 2)?, Some(reads));
-        assert_eq!(rt; disk.write(Lba(2), &[1; 512]), Err(Fault::Write(Lba(2))));
+        assert!(rt; disk.write(Lba(2), &[7; 512]) == Ok(()));
+        assert!(rt; byte_at(&mut disk, 2)? == Some(7));
+        assert!(rt; disk.write(Lba(2), &[9; 512]) == Err(Fault::Write(Lba(2))));
+        assert!(rt; byte_at(&mut disk, 2)? == Some(reads));
+        assert!(rt; disk.write(Lba(2), &[1; 512]) == Err(Fault::Write(Lba(2))));
         disk.fail_at(1, kept);
-        assert_eq!(rt; disk.flush(), Err(Fault::Flush));
+        assert!(rt; disk.flush() == Err(Fault::Flush));
         let mut left = disk.stop(&[2]);
-        assert_eq!(rt; byte_at(&mut left, 2)?, Some(9));
+        assert!(rt; byte_at(&mut left, 2)? == Some(9));
     }
     Ok(())
 }
@@ -149,11 +149,11 @@ fn the_call_that_is_set_fails(rt: HostRuntime) -> Result<(), Fail> {
 fn a_read_fails_where_it_is_set(rt: HostRuntime) -> Result<(), Fail> {
     let mut disk: CrashDisk<4096> = CrashDisk::new(rt.alloc(), 4, 1)?;
     disk.fail_at(2, false);
-    assert_eq!(rt; byte_at(&mut disk, 3), Ok(Some(0)));
-    assert_eq!(rt; byte_at(&mut disk, 3), Err(Fault::Read(Lba(3))));
-    assert_eq!(rt; byte_at(&mut disk, 3), Ok(Some(0)));
+    assert!(rt; byte_at(&mut disk, 3) == Ok(Some(0)));
+    assert!(rt; byte_at(&mut disk, 3) == Err(Fault::Read(Lba(3))));
+    assert!(rt; byte_at(&mut disk, 3) == Ok(Some(0)));
     disk.fail_at(0, false);
-    assert_eq!(rt; disk.flush(), Ok(()));
+    assert!(rt; disk.flush() == Ok(()));
     Ok(())
 }
 
@@ -168,11 +168,7 @@ fn extents_end_below_two_to_the_63(rt: HostRuntime) -> Result<(), Fail> {
         (0, top + 1, false),
     ];
     for (first, last, exists) in rows {
-        assert_eq!(rt;
-            Extent::new(Lba(first), Lba(last)).is_some(),
-            exists,
-            "{first} {last}"
-        );
+        assert!(rt; Extent::new(Lba(first), Lba(last)).is_some() == exists);
     }
     Ok(())
 }
@@ -194,9 +190,9 @@ fn extents_are_sets_of_sectors(rt: HostRuntime) -> Result<(), Fail> {
             Extent::new(Lba(10), Lba(20)),
             Extent::new(Lba(first), Lba(last)),
         ) {
-            assert_eq!(rt; other.len(), len);
-            assert_eq!(rt; one.meets(&other), meets);
-            assert_eq!(rt; other.inside(&one), inside);
+            assert!(rt; other.len() == len);
+            assert!(rt; one.meets(&other) == meets);
+            assert!(rt; other.inside(&one) == inside);
             assert!(rt; other.contains(other.first()) && other.contains(other.last()));
             assert!(rt; !other.contains(Lba(31)));
         }

@@ -148,11 +148,8 @@ fn to_many(alloc: Global, count: usize) -> Result<Answer, Fail> {
 
 #[test]
 fn more_than_4096_writes(rt: HostRuntime) -> Result<(), Fail> {
-    assert_eq!(rt;
-        to_many(rt.alloc(), 4096)?,
-        Answer::No(Why::NotATable(Lba(2)))
-    );
-    assert_eq!(rt; to_many(rt.alloc(), 4097)?, Answer::No(Why::TooManyWrites));
+    assert!(rt; to_many(rt.alloc(), 4096)? == Answer::No(Why::NotATable(Lba(2))));
+    assert!(rt; to_many(rt.alloc(), 4097)? == Answer::No(Why::TooManyWrites));
     Ok(())
 }
 
@@ -160,9 +157,9 @@ fn more_than_4096_writes(rt: HostRuntime) -> Result<(), Fail> {
 fn a_disk_without_sectors(rt: HostRuntime) -> Result<(), Fail> {
     let mut disk: MemDisk<512> = MemDisk::new(rt.alloc(), 0)?;
     let plan = one_by_one(rt.alloc(), &[])?;
-    assert_eq!(rt;
-        check(rt.alloc(), &mut disk, &plan)?,
-        Answer::No(Why::Final(Finding::NoTable(NoTable::TooSmall)))
+    assert!(rt;
+        check(rt.alloc(), &mut disk, &plan)?
+            == Answer::No(Why::Final(Finding::NoTable(NoTable::TooSmall)))
     );
     Ok(())
 }
@@ -173,12 +170,11 @@ fn a_failed_read(rt: HostRuntime) -> Result<(), Fail> {
     let plan = one_by_one(rt.alloc(), &[of_head(0, 0)])?;
     for call in 1..5 {
         disk.fail_at(call, false);
-        assert_eq!(rt; check(rt.alloc(), &mut disk, &plan).is_err(), true);
+        assert!(rt; check(rt.alloc(), &mut disk, &plan).is_err() == true);
     }
     disk.fail_at(1, false);
-    assert_eq!(rt;
-        check(rt.alloc(), &mut disk, &plan),
-        Err(CheckError::Device(Fault::Read(Lba(0))))
+    assert!(rt;
+        check(rt.alloc(), &mut disk, &plan) == Err(CheckError::Device(Fault::Read(Lba(0))))
     );
     Ok(())
 }

@@ -80,10 +80,7 @@ fn findings_in_their_order(rt: HostRuntime) -> Result<(), Fail> {
         ],
         None,
     )?;
-    assert_eq!(rt;
-        finding_of::<512>(rt.alloc(), &past)?,
-        Some(Finding::OutsideUsable(number(1)))
-    );
+    assert!(rt; (finding_of::<512>(rt.alloc(), &past)?) == Some(Finding::OutsideUsable(number(1))));
     let shared = mbr(
         rt.alloc(),
         [
@@ -94,26 +91,24 @@ fn findings_in_their_order(rt: HostRuntime) -> Result<(), Fail> {
         ],
         None,
     )?;
-    assert_eq!(rt;
-        finding_of::<512>(rt.alloc(), &shared)?,
-        Some(Finding::Overlap(number(2), number(3)))
+    assert!(rt;
+        (finding_of::<512>(rt.alloc(), &shared)?) == Some(Finding::Overlap(number(2), number(3)))
     );
     let buried = mbr(
         rt.alloc(),
         [None, record(0x05, 4096, 8192), None, None],
         Some(7000),
     )?;
-    assert_eq!(rt;
-        finding_of::<4096>(rt.alloc(), &buried)?,
-        Some(Finding::OnTable(number(5), Lba(7000)))
+    assert!(rt;
+        (finding_of::<4096>(rt.alloc(), &buried)?) == Some(Finding::OnTable(number(5), Lba(7000)))
     );
     let sound = mbr(
         rt.alloc(),
         [record(0xA5, 1, 1), record(0x05, 4096, 8192), None, None],
         Some(7144),
     )?;
-    assert_eq!(rt; finding_of::<512>(rt.alloc(), &sound)?, None);
-    assert_eq!(rt; finding_of::<4096>(rt.alloc(), &sound)?, None);
+    assert!(rt; (finding_of::<512>(rt.alloc(), &sound)?) == None);
+    assert!(rt; (finding_of::<4096>(rt.alloc(), &sound)?) == None);
     Ok(())
 }
 
@@ -147,22 +142,19 @@ fn owners_in_a_slice(rt: HostRuntime) -> Result<(), Fail> {
         number: 1,
         letter: Some(0),
     };
-    assert_eq!(rt; finding_of::<512>(rt.alloc(), &layout)?, None);
-    assert_eq!(rt; owner::<512>(&layout, Lba(0)), Owner::Table);
-    assert_eq!(rt; owner::<512>(&layout, Lba(2048)), Owner::Reserved);
-    assert_eq!(rt; owner::<512>(&layout, Lba(2049)), Owner::Table);
-    assert_eq!(rt; owner::<512>(&layout, Lba(2064)), Owner::Partition(a));
-    assert_eq!(rt; owner::<512>(&layout, Lba(4064)), Owner::Reserved);
-    assert_eq!(rt; owner::<512>(&layout, Lba(6144)), Owner::Free);
-    assert_eq!(rt; locate::<512>(&layout, &a, 1999), Some(Lba(4063)));
-    assert_eq!(rt; locate::<512>(&layout, &a, 2000), None);
-    assert_eq!(rt; locate::<512>(&layout, &number(1), 0), None);
-    assert_eq!(rt; is_table::<4096>(&layout, Lba(2049)), false);
-    assert_eq!(rt; is_owned::<4096>(&layout, Lba(2049)), true);
-    assert_eq!(rt;
-        owner::<4096>(&layout, Lba(6143)),
-        Owner::Partition(number(1))
-    );
+    assert!(rt; (finding_of::<512>(rt.alloc(), &layout)?) == None);
+    assert!(rt; owner::<512>(&layout, Lba(0)) == Owner::Table);
+    assert!(rt; owner::<512>(&layout, Lba(2048)) == Owner::Reserved);
+    assert!(rt; owner::<512>(&layout, Lba(2049)) == Owner::Table);
+    assert!(rt; owner::<512>(&layout, Lba(2064)) == Owner::Partition(a));
+    assert!(rt; owner::<512>(&layout, Lba(4064)) == Owner::Reserved);
+    assert!(rt; owner::<512>(&layout, Lba(6144)) == Owner::Free);
+    assert!(rt; locate::<512>(&layout, &a, 1999) == Some(Lba(4063)));
+    assert!(rt; locate::<512>(&layout, &a, 2000) == None);
+    assert!(rt; locate::<512>(&layout, &number(1), 0) == None);
+    assert!(rt; is_table::<4096>(&layout, Lba(2049)) == false);
+    assert!(rt; is_owned::<4096>(&layout, Lba(2049)) == true);
+    assert!(rt; owner::<4096>(&layout, Lba(6143)) == Owner::Partition(number(1)));
     Ok(())
 }
 
@@ -192,21 +184,18 @@ fn verdicts_on_small_disks(rt: HostRuntime) -> Result<(), Fail> {
     signed[510] = 0x55;
     signed[511] = 0xAA;
     let none = Finding::NoTable(NoTable::NoCopy(CopyError::Signature, CopyError::Signature));
-    assert_eq!(rt; verdict::<512>(rt.alloc(), 1, &signed)?, None);
-    assert_eq!(rt;
-        verdict::<512>(rt.alloc(), 0, &[0; 512])?,
-        Some(Finding::NoTable(NoTable::TooSmall))
+    assert!(rt; (verdict::<512>(rt.alloc(), 1, &signed)?) == None);
+    assert!(rt;
+        (verdict::<512>(rt.alloc(), 0, &[0; 512])?) == Some(Finding::NoTable(NoTable::TooSmall))
     );
-    assert_eq!(rt;
-        verdict::<512>(rt.alloc(), 67, &[0; 512])?,
-        Some(Finding::NoTable(NoTable::TooSmall))
+    assert!(rt;
+        (verdict::<512>(rt.alloc(), 67, &[0; 512])?) == Some(Finding::NoTable(NoTable::TooSmall))
     );
-    assert_eq!(rt; verdict::<512>(rt.alloc(), 68, &[0; 512])?, Some(none));
-    assert_eq!(rt;
-        verdict::<4096>(rt.alloc(), 11, &[0; 4096])?,
-        Some(Finding::NoTable(NoTable::TooSmall))
+    assert!(rt; (verdict::<512>(rt.alloc(), 68, &[0; 512])?) == Some(none));
+    assert!(rt;
+        (verdict::<4096>(rt.alloc(), 11, &[0; 4096])?) == Some(Finding::NoTable(NoTable::TooSmall))
     );
-    assert_eq!(rt; verdict::<4096>(rt.alloc(), 12, &[0; 4096])?, Some(none));
+    assert!(rt; (verdict::<4096>(rt.alloc(), 12, &[0; 4096])?) == Some(none));
     Ok(())
 }
 
@@ -252,14 +241,14 @@ fn survey_reads<const B: usize>(alloc: Global, disk: &mut CrashDisk<B>) -> u64
 #[test]
 fn a_survey_reads_once(rt: HostRuntime) -> Result<(), Fail> {
     let mut disk = empty_gpt::<512>(rt.alloc())?;
-    assert_eq!(rt; survey_reads(rt.alloc(), &mut disk), 67);
+    assert!(rt; survey_reads(rt.alloc(), &mut disk) == 67);
     let mut large = empty_gpt::<4096>(rt.alloc())?;
-    assert_eq!(rt; survey_reads(rt.alloc(), &mut large), 11);
+    assert!(rt; survey_reads(rt.alloc(), &mut large) == 11);
     disk.fail_at(0, false);
     match survey_disk(rt.alloc(), &mut disk) {
         Ok(told) => {
-            assert_eq!(rt; told.head, Head::Protected);
-            assert_eq!(rt; told.finding, None);
+            assert!(rt; told.head == Head::Protected);
+            assert!(rt; told.finding == None);
             assert!(rt; told.found.is_ok());
             assert!(rt; told.primary);
             assert!(rt; !told.guarded.contains(Lba(0)));
@@ -271,25 +260,25 @@ fn a_survey_reads_once(rt: HostRuntime) -> Result<(), Fail> {
 
 #[test]
 fn paths_as_texts(rt: HostRuntime) {
-    assert_eq!(rt; parse_path("3"), Some(number(3)));
-    assert_eq!(rt;
-        parse_path("2.a"),
-        Some(Path {
-            number: 2,
-            letter: Some(0)
-        })
+    assert!(rt; parse_path("3") == Some(number(3)));
+    assert!(rt;
+        parse_path("2.a")
+            == Some(Path {
+                number: 2,
+                letter: Some(0)
+            })
     );
-    assert_eq!(rt;
-        parse_path("18446744073709551615.h"),
-        Some(Path {
-            number: u64::MAX,
-            letter: Some(7)
-        })
+    assert!(rt;
+        parse_path("18446744073709551615.h")
+            == Some(Path {
+                number: u64::MAX,
+                letter: Some(7)
+            })
     );
-    assert_eq!(rt; parse_path("18446744073709551616"), None);
-    assert_eq!(rt; parse_path("0"), None);
-    assert_eq!(rt; parse_path("03"), None);
-    assert_eq!(rt; parse_path("2.i"), None);
-    assert_eq!(rt; parse_path("2."), None);
-    assert_eq!(rt; parse_path(""), None);
+    assert!(rt; parse_path("18446744073709551616") == None);
+    assert!(rt; parse_path("0") == None);
+    assert!(rt; parse_path("03") == None);
+    assert!(rt; parse_path("2.i") == None);
+    assert!(rt; parse_path("2.") == None);
+    assert!(rt; parse_path("") == None);
 }

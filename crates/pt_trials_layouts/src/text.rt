@@ -37,7 +37,7 @@ fn short_texts(rt: HostRuntime) {
         ("W 1 00\n", Some(PlanTextError::BadLine(1))),
         ("\u{feff}F\n", Some(PlanTextError::BadLine(1))),
     ] {
-        assert_eq!(rt; fault(rt.alloc(), text), want, "of {text}");
+        assert!(rt; fault(rt.alloc(), text) == want);
     }
 }
 
@@ -99,11 +99,7 @@ fn lines_of_writes(rt: HostRuntime) -> Result<(), Fail> {
         ),
     ] {
         let text = lines(rt.alloc(), start, pair, count, end)?;
-        assert_eq!(rt;
-            fault(rt.alloc(), &text),
-            want,
-            "{start}{pair}.. {count} {end}"
-        );
+        assert!(rt; fault(rt.alloc(), &text) == want);
     }
     Ok(())
 }
@@ -149,18 +145,18 @@ fn there_and_back<const B: usize>(alloc: Global) -> Result<(String, String), Fai
 #[test]
 fn plans_come_back(rt: HostRuntime) -> Result<(), Fail> {
     let (text, again) = there_and_back::<512>(rt.alloc())?;
-    assert_eq!(rt; text.len(), 3111);
+    assert!(rt; text.len() == 3111);
     assert!(rt; text.starts_with("W 34 abab"));
     assert!(rt; text.ends_with("f0f0\nF\n"));
-    assert_eq!(rt; text.as_str(), again.as_str());
+    assert!(rt; text.as_str() == again.as_str());
     let (text, again) = there_and_back::<4096>(rt.alloc())?;
-    assert_eq!(rt; text.as_str(), again.as_str());
+    assert!(rt; text.as_str() == again.as_str());
     Ok(())
 }
 
 #[test]
 fn numbers_of_errors(rt: HostRuntime) {
-    assert_eq!(rt; PlanTextError::BadLine(7).number(), 1);
-    assert_eq!(rt; PlanTextError::NoFinalFlush.number(), 2);
-    assert_eq!(rt; PlanTextError::Memory.number(), 3);
+    assert!(rt; PlanTextError::BadLine(7).number() == 1);
+    assert!(rt; PlanTextError::NoFinalFlush.number() == 2);
+    assert!(rt; PlanTextError::Memory.number() == 3);
 }

@@ -183,16 +183,16 @@ fn first_chain<const B: usize>(alloc: Global) -> Result<Option<Vec<Target<B>>>, 
 #[test]
 fn a_first_chain_has_known_bytes(rt: HostRuntime) -> Result<(), Fail> {
     let targets = first_chain::<512>(rt.alloc())?.unwrap_or(Vec::new(rt.alloc()));
-    assert_eq!(rt; targets.len(), 3);
-    assert_eq!(rt; shown(&targets, 0, 462).0, 0);
-    assert_eq!(rt; shown(&targets, 0, 462).1[4], 0x05);
-    assert_eq!(rt; shown(&targets, 0, 0).1[7], 0xEB);
-    assert_eq!(rt; shown(&targets, 1, 462), (4096, LINK));
-    assert_eq!(rt; shown(&targets, 2, 446), (6143, LOGICAL));
-    assert_eq!(rt; shown(&targets, 2, 0), (6143, [0; 16]));
+    assert!(rt; targets.len() == 3);
+    assert!(rt; shown(&targets, 0, 462).0 == 0);
+    assert!(rt; shown(&targets, 0, 462).1[4] == 0x05);
+    assert!(rt; shown(&targets, 0, 0).1[7] == 0xEB);
+    assert!(rt; shown(&targets, 1, 462) == (4096, LINK));
+    assert!(rt; shown(&targets, 2, 446) == (6143, LOGICAL));
+    assert!(rt; shown(&targets, 2, 0) == (6143, [0; 16]));
     let targets = first_chain::<4096>(rt.alloc())?.unwrap_or(Vec::new(rt.alloc()));
-    assert_eq!(rt; targets.len(), 3);
-    assert_eq!(rt; shown(&targets, 1, 462), (4096, LINK));
+    assert!(rt; targets.len() == 3);
+    assert!(rt; shown(&targets, 1, 462) == (4096, LINK));
     Ok(())
 }
 
@@ -204,15 +204,15 @@ fn one_more_changes_the_last_link_alone(rt: HostRuntime) -> Result<(), Fail> {
     assert!(rt; put_targets(alloc, &mut disk, &without(alloc), &one).is_some());
     put(&mut disk, Lba(8191), &[7; 512]);
     let targets = put_targets(alloc, &mut disk, &one, &with_two(alloc)?).unwrap_or(Vec::new(alloc));
-    assert_eq!(rt; targets.len(), 4);
+    assert!(rt; targets.len() == 4);
     for k in 0..2usize {
         assert!(rt; k < targets.len() && targets[k].bytes == targets[k].under);
     }
-    assert_eq!(rt; shown(&targets, 2, 446), (6143, LOGICAL));
-    assert_eq!(rt; shown(&targets, 2, 462), (6143, NEW_LINK));
-    assert_eq!(rt; shown(&targets, 3, 446), (8191, LOGICAL));
-    assert_eq!(rt; shown(&targets, 3, 462), (8191, [0; 16]));
-    assert_eq!(rt; shown(&targets, 3, 0), (8191, [0; 16]));
+    assert!(rt; shown(&targets, 2, 446) == (6143, LOGICAL));
+    assert!(rt; shown(&targets, 2, 462) == (6143, NEW_LINK));
+    assert!(rt; shown(&targets, 3, 446) == (8191, LOGICAL));
+    assert!(rt; shown(&targets, 3, 462) == (8191, [0; 16]));
+    assert!(rt; shown(&targets, 3, 0) == (8191, [0; 16]));
     Ok(())
 }
 
@@ -232,9 +232,9 @@ fn links_count_from_the_wanted_first_sector(rt: HostRuntime) -> Result<(), Fail>
         ],
     )?;
     let targets = put_targets(alloc, &mut disk, &one, &lower).unwrap_or(Vec::new(alloc));
-    assert_eq!(rt; targets.len(), 4);
-    assert_eq!(rt; shown(&targets, 2, 462), (4096, REBASED));
-    assert_eq!(rt; shown(&targets, 3, 446), (6143, LOGICAL));
+    assert!(rt; targets.len() == 4);
+    assert!(rt; shown(&targets, 2, 462) == (4096, REBASED));
+    assert!(rt; shown(&targets, 3, 446) == (6143, LOGICAL));
     Ok(())
 }
 
@@ -290,7 +290,7 @@ fn a_failed_read_is_told(rt: HostRuntime) -> Result<(), Fail> {
             Err(Failure::Device(at)) => at.0,
             _ => 1,
         };
-        assert_eq!(rt; failed, places[k]);
+        assert!(rt; failed == places[k]);
     }
     assert!(rt; matches!(targets_of(alloc, &mut disk, &none, &one), Ok(Some(_))));
     Ok(())

@@ -99,26 +99,26 @@ fn kept_changed_new_and_none(rt: HostRuntime) -> Result<(), Fail> {
     let mut disk = disk(rt.alloc())?;
     let labels = labelled(rt.alloc(), &[(1, label(1)), (2, label(3)), (3, label(4))])?;
     let Some(LabelTargets::Targets(targets)) = answer(rt.alloc(), &mut disk, labels)? else {
-        assert!(rt; false, "there are targets");
+        assert!(rt; false);
         return Ok(());
     };
     let [kept, changed, new, none] = targets.as_slice() else {
-        assert!(rt; false, "there are four");
+        assert!(rt; false);
         return Ok(());
     };
-    assert_eq!(rt; kept.kind, Kind::Stays);
-    assert_eq!(rt; kept.at, Lba(9));
+    assert!(rt; kept.kind == Kind::Stays);
+    assert!(rt; kept.at == Lba(9));
     assert!(rt; kept.bytes == encode_label(&label(1), &[0x22; 512]));
-    assert_eq!(rt; changed.kind, Kind::Changes);
-    assert_eq!(rt; changed.at, Lba(17));
+    assert!(rt; changed.kind == Kind::Changes);
+    assert!(rt; changed.at == Lba(17));
     assert!(rt; changed.bytes == encode_label(&label(3), &[0x22; 512]));
     assert!(rt; changed.under == encode_label(&label(2), &[0x22; 512]));
-    assert_eq!(rt; new.kind, Kind::New);
-    assert_eq!(rt; new.at, Lba(25));
+    assert!(rt; new.kind == Kind::New);
+    assert!(rt; new.at == Lba(25));
     assert!(rt; new.bytes == encode_label(&label(4), &[0; 512]));
     assert!(rt; new.under == [0x22; 512]);
-    assert_eq!(rt; none.kind, Kind::Stays);
-    assert_eq!(rt; none.at, Lba(33));
+    assert!(rt; none.kind == Kind::Stays);
+    assert!(rt; none.at == Lba(33));
     assert!(rt; none.bytes == [0; 512]);
     Ok(())
 }

@@ -129,11 +129,11 @@ fn one_guarded_sector_is_one_phase(rt: HostRuntime) -> Result<(), Fail> {
 #[test]
 fn not_one_guarded_sector_is_no_switch(rt: HostRuntime) -> Result<(), Fail> {
     let none = turned(rt.alloc(), &[kept(0), changed(70)], &[kept(65)])?;
-    assert_eq!(rt; none.err(), Some(PlanError::NotOneSwitch));
+    assert!(rt; none.err() == Some(PlanError::NotOneSwitch));
     let two = turned(rt.alloc(), &[changed(0), changed(70)], &[changed(65)])?;
-    assert_eq!(rt; two.err(), Some(PlanError::NotOneSwitch));
+    assert!(rt; two.err() == Some(PlanError::NotOneSwitch));
     let shared = turned(rt.alloc(), &[changed(0), changed(70)], &[kept(70)])?;
-    assert_eq!(rt; shared.err(), Some(PlanError::NotOneSwitch));
+    assert!(rt; shared.err() == Some(PlanError::NotOneSwitch));
     Ok(())
 }
 
@@ -141,11 +141,11 @@ fn not_one_guarded_sector_is_no_switch(rt: HostRuntime) -> Result<(), Fail> {
 fn a_partition_keeps_its_sectors(rt: HostRuntime) -> Result<(), Fail> {
     let heads = [changed(0), kept(63)];
     let reused = turned(rt.alloc(), &heads, &[changed(199)])?;
-    assert_eq!(rt; reused.err(), Some(PlanError::ReusedInOneBatch));
+    assert!(rt; reused.err() == Some(PlanError::ReusedInOneBatch));
     let beside = turned(rt.alloc(), &heads, &[kept(199), changed(200)])?;
     assert!(rt; beside.is_ok());
     let label = labelled(rt.alloc(), false, &[kept(65), changed(100)])?;
-    assert_eq!(rt; label.err(), Some(PlanError::ReusedInOneBatch));
+    assert!(rt; label.err() == Some(PlanError::ReusedInOneBatch));
     Ok(())
 }
 
@@ -165,10 +165,10 @@ fn one_label_is_one_write(rt: HostRuntime) -> Result<(), Fail> {
 #[test]
 fn one_label_wants_one_change_and_whole_copies(rt: HostRuntime) -> Result<(), Fail> {
     let none = labelled(rt.alloc(), false, &[kept(65), kept(66)])?;
-    assert_eq!(rt; none.err(), Some(PlanError::NotOneSwitch));
+    assert!(rt; none.err() == Some(PlanError::NotOneSwitch));
     let two = labelled(rt.alloc(), true, &[changed(65), changed(66)])?;
-    assert_eq!(rt; two.err(), Some(PlanError::NotOneSwitch));
+    assert!(rt; two.err() == Some(PlanError::NotOneSwitch));
     let broken = labelled(rt.alloc(), true, &[changed(65), kept(66)])?;
-    assert_eq!(rt; broken.err(), Some(PlanError::NeedsRepair));
+    assert!(rt; broken.err() == Some(PlanError::NeedsRepair));
     Ok(())
 }
