@@ -2,8 +2,6 @@
 #![tactic(auto)]
 
 mod buried;
-#[cfg(test)]
-mod compared;
 mod faults;
 mod finding;
 mod foreign;

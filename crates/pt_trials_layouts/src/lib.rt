@@ -7,6 +7,8 @@ mod apply;
 #[cfg(test)]
 mod check;
 #[cfg(test)]
+mod compared;
+#[cfg(test)]
 mod images;
 #[cfg(test)]
 mod layout;

@@ -4,8 +4,8 @@ ghost use Rattle.pt_sector.specs.Sectors.{IsSectorSize};
 
 use crate::images::{Dice, gpt_image, mbr_image};
 use crate::plain::{plain_places, plain_trace, plain_verify};
-use crate::{Finding, Head, NoTable, Survey, Verdict, recover_traced, survey_disk, verify};
 use pt_gpt::{Side, array_sectors, read_copy};
+use pt_layout::{Finding, Head, NoTable, Survey, Verdict, recover_traced, survey_disk, verify};
 use pt_sector::{Disk, Lba, MemDisk};
 use std::alloc::Global;
 use std::test::Fail;
@@ -98,8 +98,8 @@ fn compare_all<const B: usize>(alloc: Global, images: u64) -> Result<Option<[boo
 fn plain_answers(rt: HostRuntime) -> Result<(), Fail> {
     let mut all = [true; 16];
     all[1] = false;
-    assert_eq!(rt; compare_all::<512>(rt.alloc(), 1000)?, Some(all));
+    assert!(rt; (compare_all::<512>(rt.alloc(), 1000)?) == Some(all));
     all[11] = false;
-    assert_eq!(rt; compare_all::<4096>(rt.alloc(), 400)?, Some(all));
+    assert!(rt; (compare_all::<4096>(rt.alloc(), 400)?) == Some(all));
     Ok(())
 }
