@@ -15,7 +15,8 @@ import time
 
 TOP = os.path.abspath(os.path.join(os.path.dirname(os.path.abspath(__file__)), ".."))
 KIT = "kit-of-the-test logic 0123456789abcdef"
-EPOCH = 1_750_000_000
+# a time to come: dpkg-deb itself turns later times into this one, and not earlier ones
+EPOCH = 4_000_000_000
 FOLDERS = ("", "usr/", "usr/bin/", "usr/share/", "usr/share/bash-completion/", "usr/share/bash-completion/completions/", "usr/share/doc/",
            "usr/share/doc/ptab/", "usr/share/man/", "usr/share/man/man8/")
 FILES = {"usr/bin/ptab": "-rwxr-xr-x", "usr/share/bash-completion/completions/ptab": "-rw-r--r--",
