@@ -97,7 +97,8 @@ def answers(images, what, cell):
     if words[0].endswith(".sh"):
         same(f"{what}: {words[0]}", os.access(f"{TOP}/examples/recipes/{words[0]}", os.X_OK), True)
         with open(f"{TOP}/examples/recipes/{words[0]}", encoding="utf-8") as it:
-            same(f"{what}: the arguments of {words[0]}", len(re.search(r"# usage: \S+ (.*)", it.read()).group(1).split("  ")[0].split()) > 0, True)
+            same(f"{what}: the arguments of {words[0]}",
+                 len(re.search(r"# usage: \S+ (.*)", it.read()).group(1).split("  ")[0].split()) > 0, True)
         return
     path = images("IMAGE")
     if words[0] == "ptab":

@@ -76,7 +76,8 @@ def refused(folder, ptab):
     for words, status in (([], 2), ([""], 2), (["--help"], 2), (["/a", "/b"], 2)):
         done = subprocess.run([f"{TOP}/install.sh", *words], cwd=folder, capture_output=True, text=True, env={**os.environ, "PTAB": ptab})
         same(f"install.sh {words}", (done.returncode, done.stdout), (status, ""))
-    done = subprocess.run([f"{TOP}/install.sh", f"{folder}/x"], capture_output=True, text=True, env={**os.environ, "PTAB": f"{folder}/none"})
+    done = subprocess.run([f"{TOP}/install.sh", f"{folder}/x"], capture_output=True, text=True,
+                          env={**os.environ, "PTAB": f"{folder}/none"})
     same("a program that isn't there", (done.returncode, done.stdout, os.path.exists(f"{folder}/x")), (1, "", False))
 
 
@@ -85,7 +86,8 @@ def completions(folder, script):
     for name in ("a.img", "b.raw", "notes", "folder/c.img"):
         with open(f"{folder}/images/{name}", "wb"):
             pass
-    line = 'source "$1"; shift; COMP_WORDS=("$@"); COMP_CWORD=$(($# - 1)); _ptab; [ ${#COMPREPLY[@]} = 0 ] || printf "%s\\n" "${COMPREPLY[@]}"'
+    line = ('source "$1"; shift; COMP_WORDS=("$@"); COMP_CWORD=$(($# - 1)); _ptab; '
+            '[ ${#COMPREPLY[@]} = 0 ] || printf "%s\\n" "${COMPREPLY[@]}"')
     for words, wanted in COMPLETIONS:
         done = subprocess.run(["bash", "-c", line, "bash", script, *words], cwd=f"{folder}/images", capture_output=True, text=True)
         same(f"completing {words}: {done.stderr}", sorted(done.stdout.splitlines()), sorted(wanted))

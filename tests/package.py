@@ -90,11 +90,13 @@ def unpacked(ptab, deb, folder, commit, fields, sum_of):
     same("the man page", gzip.decompress(content(f"{tree}/usr/share/man/man8/ptab.8.gz")) == content(f"{TOP}/man/ptab.8"), True)
     same("the completion", content(f"{tree}/usr/share/bash-completion/completions/ptab") == content(f"{TOP}/completion/ptab.bash"), True)
     built = content(f"{tree}/usr/share/doc/ptab/BUILD").decode()
-    same("BUILD", built.splitlines()[:5], ["program: /usr/bin/ptab", f"sha256: {sum_of}", f"commit: {commit}", f"kit: {KIT}", f"time: {EPOCH}"])
+    same("BUILD", built.splitlines()[:5],
+         ["program: /usr/bin/ptab", f"sha256: {sum_of}", f"commit: {commit}", f"kit: {KIT}", f"time: {EPOCH}"])
     changes = gzip.decompress(content(f"{tree}/usr/share/doc/ptab/changelog.gz")).decode().splitlines()
     same("the changelog's first line", changes[0], f"ptab ({fields['Version']}) unstable; urgency=medium")
-    same("the changelog's last line", changes[-1],
-         f" -- {run('git', '-C', TOP, 'log', '-1', '--format=%an <%ae>').strip()}  {time.strftime('%a, %d %b %Y %H:%M:%S +0000', time.gmtime(EPOCH))}")
+    author = run("git", "-C", TOP, "log", "-1", "--format=%an <%ae>").strip()
+    hour = time.strftime("%a, %d %b %Y %H:%M:%S +0000", time.gmtime(EPOCH))
+    same("the changelog's last line", changes[-1], f" -- {author}  {hour}")
     same("the changelog tells the commit", f"(commit {commit.removesuffix('-changed')})" in " ".join(changes), True)
     same("the copyright file", content(f"{tree}/usr/share/doc/ptab/copyright").decode().splitlines()[0],
          "Format: https://www.debian.org/doc/packaging-manuals/copyright-format/1.0/")
@@ -109,7 +111,8 @@ def unpacked(ptab, deb, folder, commit, fields, sum_of):
 
 def refused(ptab, folder):
     for words, more, status in (([], {}, 2), (["-x"], {}, 2), (["a", "b"], {}, 2), ([f"{folder}/no.deb"], {"PTAB": f"{folder}/none"}, 1)):
-        done = subprocess.run([f"{TOP}/packaging/debian.sh", *words], capture_output=True, text=True, env={**os.environ, "PTAB": ptab, "KIT": KIT, **more})
+        done = subprocess.run([f"{TOP}/packaging/debian.sh", *words], capture_output=True, text=True,
+                              env={**os.environ, "PTAB": ptab, "KIT": KIT, **more})
         same(f"debian.sh {words}", (done.stdout, done.returncode), ("", status))
     same("no package", os.path.exists(f"{folder}/no.deb"), False)
 

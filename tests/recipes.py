@@ -130,7 +130,8 @@ def dump_and_restore(folder):
     dumped = recipe("dump", large, SECTOR_SIZE="4096")
     same("dump.sh, sectors of 4096 bytes", dumped, (
         "# the table of 2048 sectors of 4096 bytes, as words; and as ptab show prints it:\n"
-        f"# show gpt 2048 6 2042 {DISK}\n# show 1 256 511 A500 0000000000000000 {FIRST}\n# show 2 512 2042 8300 0000000000000000 {SECOND}\n"
+        f"# show gpt 2048 6 2042 {DISK}\n# show 1 256 511 A500 0000000000000000 {FIRST}\n"
+        f"# show 2 512 2042 8300 0000000000000000 {SECOND}\n"
         f"o\nU:{DISK}\na:1\nn:1:256:511:A500\nu:1:{FIRST}\nn:2:512:2042:8300\nu:2:{SECOND}\n", "", 0))
     with open(table, "w", encoding="utf-8") as it:
         it.write(dumped[0])
@@ -154,7 +155,8 @@ def not_dumped(folder):
     image_of(path, 16384)
     subprocess.run(["sgdisk", "-n", "1:2048:4095", "-t", "1:a500", path], check=True, capture_output=True, env=WHERE)
     same("a slice without a label", recipe("dump", path), ("", "dump.sh: slice 1 has no label, and a new one gets one\n", 1))
-    subprocess.run(["sfdisk", "-q", path], input="label: gpt\nfirst-lba: 2048\nlast-lba: 16000\n2048,1024\n", check=True, text=True, env=WHERE)
+    script = "label: gpt\nfirst-lba: 2048\nlast-lba: 16000\n2048,1024\n"
+    subprocess.run(["sfdisk", "-q", path], input=script, check=True, text=True, env=WHERE)
     out, err, status = recipe("dump", path)
     same("other usable sectors", (err, status),
          ("dump.sh: the usable sectors 2048 to 16000 aren't kept: a new table has all, 34 to 16350\n", 0))
@@ -220,7 +222,8 @@ def built_image(folder):
         same("image.sh with mkfs.fat", (out, err, status), ("1 2048 67583\n2 67584 131038\nyes\n", "", 0))
         same("mkfs.fat's signature", content(path)[2048 * 512 + 510:2048 * 512 + 512], b"\x55\xaa")
     else:
-        same("image.sh without mkfs.fat", (out, err, status), ("", "image.sh: no mkfs.fat here: give a file with a FAT filesystem as ESP\n", 1))
+        same("image.sh without mkfs.fat", (out, err, status),
+             ("", "image.sh: no mkfs.fat here: give a file with a FAT filesystem as ESP\n", 1))
 
 
 def renamed(folder):
@@ -232,7 +235,8 @@ def renamed(folder):
         same("while another program holds the lock", recipe("rename", path, "1", "new", WAIT="0.1"),
              ("", f"rename.sh: another program holds the lock of {path}\n", 1))
         same("nothing is written", content(path) == before, True)
-        waiting = subprocess.Popen([f"{TOP}/examples/recipes/rename.sh", path, "1", "a: new name"], env=WHERE, stdout=subprocess.PIPE, text=True)
+        waiting = subprocess.Popen([f"{TOP}/examples/recipes/rename.sh", path, "1", "a: new name"], env=WHERE, stdout=subprocess.PIPE,
+                                   text=True)
         try:
             waiting.wait(0.3)
             sys.exit("rename.sh didn't wait for the lock")
@@ -253,9 +257,11 @@ def renamed(folder):
 
 SIZES = ((512, "n:0:0:+16M:EF00", "n:0:0:+32768:EF00"), (4096, "n:0:0:+16M:EF00", "n:0:0:+4096:EF00"), (512, "n:1:1M:+1K", "n:1:2048:+2"),
          (512, "n:2:1G:+3T:83", "n:2:2097152:+6442450944:83"), (512, "n:2.b:4K:0", "n:2.b:8:0"), (512, "a:4K", "a:8"),
-         (4096, "a:1M", "a:256"), (512, "c:1:+16M", "c:1:+16M"), (512, "c:1:n:1:1M:1M", "c:1:n:1:1M:1M"), (512, "n:1:0:+100", "n:1:0:+100"),
+         (4096, "a:1M", "a:256"), (512, "c:1:+16M", "c:1:+16M"), (512, "c:1:n:1:1M:1M", "c:1:n:1:1M:1M"),
+         (512, "n:1:0:+100", "n:1:0:+100"),
          (512, "n:1:2048:4095", "n:1:2048:4095"), (512, "n:1:2048:16M", "n:1:2048:16M"), (512, "o", "o"), (512, "t:1:EF00", "t:1:EF00"))
-NO_SIZES = ((4096, "n:1:0:+1K", "+1K isn't a number of sectors of 4096 bytes"), (512, "n:1:0:+01M", "bad size 01M"), (512, "a:M", "bad size M"),
+NO_SIZES = ((4096, "n:1:0:+1K", "1K isn't a number of sectors of 4096 bytes"), (512, "n:1:0:+01M", "bad size 01M"),
+            (512, "a:M", "bad size M"),
             (512, "n:1:xM:0", "bad size xM"), (512, "n:1:0:+12345678G", "bad size 12345678G"))
 
 
@@ -263,13 +269,13 @@ def sized(folder):
     for size, word, wanted in SIZES:
         same(f"{word} in sectors of {size}", recipe("sizes", "none", word, SECTOR_SIZE=str(size), SIZES_ONLY="1"), (f"{wanted}\n", "", 0))
     for size, word, wanted in NO_SIZES:
-        out, err, status = recipe("sizes", "none", word, SECTOR_SIZE=str(size), SIZES_ONLY="1")
-        same(word, (out, err.replace("+1K", "1K"), status), ("", f"sizes.sh: {wanted.replace('+1K', '1K')}\n", 1))
+        same(word, recipe("sizes", "none", word, SECTOR_SIZE=str(size), SIZES_ONLY="1"), ("", f"sizes.sh: {wanted}\n", 1))
     path = f"{folder}/sizes.img"
     drawn = set()
     for _ in range(2):
         image_of(path, 131072)
-        same("sizes.sh", recipe("sizes", path, "o", "n:0:0:+16M:EF00", "c:1:boot", "a:4K", "n:0:20M:+8M:8200", "n:0:0:0"), ("done\n", "", 0))
+        same("sizes.sh", recipe("sizes", path, "o", "n:0:0:+16M:EF00", "c:1:boot", "a:4K", "n:0:20M:+8M:8200", "n:0:0:0"),
+             ("done\n", "", 0))
         lines = ptab("show", path)[0].splitlines()
         same("the table of sizes", [re.sub(r"[0-9a-f-]{36}", "GUID", line) for line in lines], [
             "gpt 131072 34 131038 GUID", "1 2048 34815 EF00 0000000000000000 GUID boot", "2 40960 57343 8200 0000000000000000 GUID",
@@ -362,7 +368,8 @@ def as_json(folder):
         if wanted is not None:
             same(f"json.sh {path}", out, wanted.replace("IMAGE", path))
         if shutil.which("sfdisk", path=WHERE["PATH"]):
-            same(f"sfdisk --json {path}", out, subprocess.run(["sfdisk", "--json", path], capture_output=True, text=True, env=WHERE).stdout)
+            same(f"sfdisk --json {path}", out,
+                 subprocess.run(["sfdisk", "--json", path], capture_output=True, text=True, env=WHERE).stdout)
     same("json.sh of no table", (image_of(path, 8192), recipe("json", path))[1], ("", "no table: copies 1 1\n", 4))
 
 
