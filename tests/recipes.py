@@ -10,6 +10,7 @@ import hashlib
 import os
 import re
 import shutil
+import struct
 import subprocess
 import sys
 import tempfile
@@ -220,7 +221,13 @@ def built_image(folder):
     out, err, status = recipe("image", path, f"{folder}/fat")
     if shutil.which("mkfs.fat", path=WHERE["PATH"]):
         same("image.sh with mkfs.fat", (out, err, status), ("1 2048 67583\n2 67584 131038\nyes\n", "", 0))
-        same("mkfs.fat's signature", content(path)[2048 * 512 + 510:2048 * 512 + 512], b"\x55\xaa")
+        with open(f"{folder}/esp.fat", "wb") as it:
+            it.write(content(path)[2048 * 512:67584 * 512])
+        done = subprocess.run(["fsck.fat", "-n", f"{folder}/esp.fat"], capture_output=True, text=True, env=WHERE)
+        same(f"fsck.fat: {done.stdout}", done.returncode, 0)
+        same("what it says of its place and length", (struct.unpack_from("<I", content(path), 2048 * 512 + 28)[0],
+                                                      max(struct.unpack_from("<H", content(path), 2048 * 512 + 19)[0],
+                                                          struct.unpack_from("<I", content(path), 2048 * 512 + 32)[0])), (2048, 65536))
     else:
         same("image.sh without mkfs.fat", (out, err, status),
              ("", "image.sh: no mkfs.fat here: give a file with a FAT filesystem as ESP\n", 1))

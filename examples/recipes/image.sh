@@ -37,7 +37,9 @@ put() {
 if [ -n "$esp" ]; then
   put 1 "$esp"
 elif command -v mkfs.fat >/dev/null; then
-  mkfs.fat -n ESP --offset "$("$ptab" locate "$out" 1 0)" "$out" $(($(length_of 1) / 2)) >/dev/null
+  start=$("$ptab" locate "$out" 1 0)
+  # it warns that the file is longer than the filesystem
+  if ! said=$(mkfs.fat -n ESP -h "$start" --offset "$start" "$out" $(($(length_of 1) / 2)) 2>&1); then fail "$said"; fi
 else
   fail "no mkfs.fat here: give a file with a FAT filesystem as ESP"
 fi
