@@ -96,8 +96,8 @@ Installed-Size: $bytes
 Maintainer: ${MAINTAINER:-$author}
 Description: show, verify, edit and repair partition tables of disk images
  Works on GPT, MBR with extended partitions, and BSD labels in slices. A power
- cut at any moment of an edit leaves the old table or the new one: that is
- proved, under the conditions in ptab(8).
+ cut at any moment of an edit leaves the old table or the new one: the library
+ that does this is proved to, under the conditions in ptab(8).
  .
  Commit: $commit
  Kit: $kit
