@@ -72,6 +72,29 @@ def runs(folder, prefix):
         same("man -w", done.stdout.strip(), f"{prefix}/share/man/man8/ptab.8")
 
 
+def which_program(folder, ptab):
+    """Without PTAB it is the built program; where there is none build.sh is asked, here one that tells another program's path."""
+    top = f"{folder}/top"
+    os.makedirs(f"{top}/crates/ptab/out")
+    for name in ("install.sh", "man", "completion"):
+        (shutil.copytree if os.path.isdir(f"{TOP}/{name}") else shutil.copy)(f"{TOP}/{name}", f"{top}/{name}")
+    with open(f"{top}/build.sh", "w", encoding="utf-8") as it:
+        it.write(f"#!/bin/sh\necho asked >>{folder}/asked\necho {ptab}\n")
+    os.chmod(f"{top}/build.sh", 0o755)
+    where = {key: value for key, value in os.environ.items() if key not in ("PTAB", "DESTDIR")}
+    for built, asked in ((False, 1), (True, 1)):
+        if built:
+            with open(f"{top}/crates/ptab/out/ptab", "w", encoding="utf-8") as it:
+                it.write("the built one")
+            os.chmod(f"{top}/crates/ptab/out/ptab", 0o755)
+        done = subprocess.run([f"{top}/install.sh", f"{folder}/which"], capture_output=True, text=True, env=where)
+        same("install.sh without PTAB", (done.returncode, done.stderr), (0, ""))
+        wanted = f"{top}/crates/ptab/out/ptab" if built else ptab
+        same("the program that it takes", filecmp.cmp(f"{folder}/which/bin/ptab", wanted, shallow=False), True)
+        with open(f"{folder}/asked", encoding="utf-8") as it:
+            same("how often build.sh is asked", len(it.readlines()), asked)
+
+
 def refused(folder, ptab):
     for words, status in (([], 2), ([""], 2), (["--help"], 2), (["/a", "/b"], 2)):
         done = subprocess.run([f"{TOP}/install.sh", *words], cwd=folder, capture_output=True, text=True, env={**os.environ, "PTAB": ptab})
@@ -105,6 +128,7 @@ def main():
         install(folder, ["/usr"], f"{folder}/stage/usr", PTAB=ptab, DESTDIR=f"{folder}/stage")
         install(folder, [f"{folder}/own"], f"{folder}/own", PTAB=ptab, DESTDIR="")
         runs(folder, f"{folder}/own")
+        which_program(folder, ptab)
         refused(folder, ptab)
         completions(folder, f"{folder}/own/share/bash-completion/completions/ptab")
     print(f"installing: {checked} passed, 0 failed")
