@@ -1,0 +1,32 @@
+#!/usr/bin/env bash
+# Installs the program, its man page and its completion under PREFIX, and says so in one line a file. It needs no root for a PREFIX of
+# one's own.
+#
+# usage: ./install.sh PREFIX
+#   PTAB=FILE     installs this program; else the built one, which ./build.sh proves and builds where it isn't there
+#   DESTDIR=DIR   puts all of it below DIR, as packagers do; the program is to run with PREFIX
+set -euo pipefail
+if [ $# != 1 ] || [ -z "$1" ] || [ "${1#-}" != "$1" ]; then
+  echo "usage: [PTAB=FILE] [DESTDIR=DIR] ./install.sh PREFIX" >&2
+  exit 2
+fi
+here=$(cd "$(dirname "$0")" && pwd)
+prefix=${1%/}
+if [ -n "$prefix" ] && [ "${prefix#/}" = "$prefix" ]; then prefix=$PWD/$prefix; fi
+ptab=${PTAB:-}
+if [ -z "$ptab" ]; then
+  ptab=$here/crates/ptab/out/ptab
+  if [ ! -x "$ptab" ]; then ptab=$("$here/build.sh"); fi
+fi
+if [ ! -f "$ptab" ]; then
+  echo "install.sh: no program at $ptab" >&2
+  exit 1
+fi
+put() { # MODE FILE PLACE
+  install -d -m 755 "$(dirname "${DESTDIR:-}$prefix/$3")"
+  install -m "$1" "$2" "${DESTDIR:-}$prefix/$3"
+  echo "installed ${DESTDIR:-}$prefix/$3"
+}
+put 755 "$ptab" bin/ptab
+put 644 "$here/man/ptab.8" share/man/man8/ptab.8
+put 644 "$here/completion/ptab.bash" share/bash-completion/completions/ptab

@@ -1,0 +1,137 @@
+#!/usr/bin/env python3
+"""Runs install.sh into a folder of its own, with and without DESTDIR, and checks the files, their modes, that the installed program
+runs, and what the completion completes.
+
+usage: tests/install.py PTAB
+"""
+import filecmp
+import os
+import shutil
+import stat
+import subprocess
+import sys
+import tempfile
+
+TOP = os.path.abspath(os.path.join(os.path.dirname(os.path.abspath(__file__)), ".."))
+PLACES = {"bin/ptab": (None, 0o755), "share/man/man8/ptab.8": ("man/ptab.8", 0o644),
+          "share/bash-completion/completions/ptab": ("completion/ptab.bash", 0o644)}
+COMMANDS = ["show", "verify", "locate", "edit", "plan", "check", "apply", "repair"]
+WORDS = ["a:", "o", "n:", "d:", "t:", "c:", "u:", "U:", "A:", "e", "g"]
+# the words before the cursor, as bash divides them, and what is completed
+COMPLETIONS = (
+    (["ptab", ""], [*COMMANDS, "help"]), (["ptab", "re"], ["repair"]), (["ptab", "--h"], ["--help"]), (["ptab", "help", "ch"], ["check"]),
+    (["ptab", "help", "check", ""], []), (["ptab", "show", ""], ["folder", "a.img", "b.raw"]), (["ptab", "show", "a"], ["a.img"]),
+    (["ptab", "show", "n"], ["notes"]), (["ptab", "show", "folder/"], ["folder/c.img"]), (["ptab", "show", "a.img", ""], []),
+    (["ptab", "edit", "--"], ["--fresh", "--sector-size", "--help"]), (["ptab", "show", "--"], ["--sector-size", "--help"]),
+    (["ptab", "edit", "--sector-size", ""], ["512", "4096"]), (["ptab", "edit", "--sector-size", "=", "4"], ["4096"]),
+    (["ptab", "edit", "--sector-size", "="], ["512", "4096"]),
+    (["ptab", "edit", "--sector-size", "4096", ""], ["folder", "a.img", "b.raw"]), (["ptab", "edit", "--fresh", ""], []),
+    (["ptab", "edit", "a.img", ""], WORDS), (["ptab", "edit", "a.img", "--fresh", "00", "u"], ["u:"]),
+    (["ptab", "plan", "--sector-size", "=", "512", "a.img", "e"], ["e"]), (["ptab", "edit", "a.img", "n", ":", ""], []),
+    (["ptab", "edit", "a.img", "n", ":"], []), (["ptab", "edit", "a.img", "n", ":", "1", ":", "0", ":", "0", "c"], ["c:"]),
+    (["ptab", "check", "a.img", "n"], ["notes"]), (["ptab", "apply", "a.img", "no"], ["notes"]),
+    (["ptab", "check", "a.img", "notes", ""], []), (["ptab", "locate", "a.img", "1", ""], []), (["ptab", "nonsense", ""], []),
+)
+checked = 0
+
+
+def same(what, found, wanted):
+    global checked
+    checked += 1
+    if found != wanted:
+        sys.exit(f"{what}:\n  found  {found}\n  wanted {wanted}")
+
+
+def files(folder):
+    return sorted(os.path.relpath(os.path.join(at, name), folder) for at, _, names in os.walk(folder) for name in names)
+
+
+def install(folder, words, wanted, **more):
+    """What install.sh says; its files stand in `wanted`, which holds no others, each with its bytes and its mode."""
+    done = subprocess.run([f"{TOP}/install.sh", *words], cwd=folder, capture_output=True, text=True, env={**os.environ, **more})
+    same(f"install.sh {words}", (done.returncode, done.stderr), (0, ""))
+    same("a line a file", done.stdout.splitlines(), [f"installed {wanted}/{place}" for place in PLACES])
+    same("the files", files(wanted), sorted(PLACES))
+    for place, (source, mode) in PLACES.items():
+        path = f"{wanted}/{place}"
+        same(f"the mode of {place}", stat.S_IMODE(os.stat(path).st_mode), mode)
+        same(f"the mode of its folder, {place}", stat.S_IMODE(os.stat(os.path.dirname(path)).st_mode), 0o755)
+        same(f"the bytes of {place}", filecmp.cmp(path, more["PTAB"] if source is None else f"{TOP}/{source}", shallow=False), True)
+
+
+def runs(folder, prefix):
+    """The installed program makes a table, and man finds its page."""
+    path = f"{folder}/made.img"
+    with open(path, "wb") as it:
+        it.truncate(1 << 20)
+    done = subprocess.run([f"{prefix}/bin/ptab", "edit", path, "--fresh", "0" * 32, "o"], capture_output=True, text=True)
+    same("the installed program", (done.returncode, done.stdout, done.stderr), (0, "done\n", ""))
+    if shutil.which("man"):
+        where = {key: value for key, value in os.environ.items() if key != "MANPATH"}
+        done = subprocess.run(["man", "-M", f"{prefix}/share/man", "-w", "8", "ptab"], capture_output=True, text=True, env=where)
+        same("man -w", done.stdout.strip(), f"{prefix}/share/man/man8/ptab.8")
+
+
+def which_program(folder, ptab):
+    """Without PTAB it is the built program; where there is none build.sh is asked, here one that tells another program's path."""
+    top = f"{folder}/top"
+    os.makedirs(f"{top}/crates/ptab/out")
+    for name in ("install.sh", "man", "completion"):
+        (shutil.copytree if os.path.isdir(f"{TOP}/{name}") else shutil.copy)(f"{TOP}/{name}", f"{top}/{name}")
+    with open(f"{top}/build.sh", "w", encoding="utf-8") as it:
+        it.write(f"#!/bin/sh\necho asked >>{folder}/asked\necho {ptab}\n")
+    os.chmod(f"{top}/build.sh", 0o755)
+    where = {key: value for key, value in os.environ.items() if key not in ("PTAB", "DESTDIR")}
+    for built, asked in ((False, 1), (True, 1)):
+        if built:
+            with open(f"{top}/crates/ptab/out/ptab", "w", encoding="utf-8") as it:
+                it.write("the built one")
+            os.chmod(f"{top}/crates/ptab/out/ptab", 0o755)
+        done = subprocess.run([f"{top}/install.sh", f"{folder}/which"], capture_output=True, text=True, env=where)
+        same("install.sh without PTAB", (done.returncode, done.stderr), (0, ""))
+        wanted = f"{top}/crates/ptab/out/ptab" if built else ptab
+        same("the program that it takes", filecmp.cmp(f"{folder}/which/bin/ptab", wanted, shallow=False), True)
+        with open(f"{folder}/asked", encoding="utf-8") as it:
+            same("how often build.sh is asked", len(it.readlines()), asked)
+
+
+def refused(folder, ptab):
+    for words, status in (([], 2), ([""], 2), (["--help"], 2), (["/a", "/b"], 2)):
+        done = subprocess.run([f"{TOP}/install.sh", *words], cwd=folder, capture_output=True, text=True, env={**os.environ, "PTAB": ptab})
+        same(f"install.sh {words}", (done.returncode, done.stdout), (status, ""))
+    done = subprocess.run([f"{TOP}/install.sh", f"{folder}/x"], capture_output=True, text=True,
+                          env={**os.environ, "PTAB": f"{folder}/none"})
+    same("a program that isn't there", (done.returncode, done.stdout, os.path.exists(f"{folder}/x")), (1, "", False))
+
+
+def completions(folder, script):
+    os.makedirs(f"{folder}/images/folder")
+    for name in ("a.img", "b.raw", "notes", "folder/c.img"):
+        with open(f"{folder}/images/{name}", "wb"):
+            pass
+    line = ('source "$1"; shift; COMP_WORDS=("$@"); COMP_CWORD=$(($# - 1)); _ptab; '
+            '[ ${#COMPREPLY[@]} = 0 ] || printf "%s\\n" "${COMPREPLY[@]}"')
+    for words, wanted in COMPLETIONS:
+        done = subprocess.run(["bash", "-c", line, "bash", script, *words], cwd=f"{folder}/images", capture_output=True, text=True)
+        same(f"completing {words}: {done.stderr}", sorted(done.stdout.splitlines()), sorted(wanted))
+    line = 'source "$1"; complete -p ptab'
+    done = subprocess.run(["bash", "-c", line, "bash", script], capture_output=True, text=True)
+    same("complete -p", done.stdout, "complete -F _ptab ptab\n")
+
+
+def main():
+    ptab = os.path.abspath(sys.argv[1])
+    os.umask(0o077)
+    with tempfile.TemporaryDirectory() as folder:
+        install(folder, [f"{folder}/own"], f"{folder}/own", PTAB=ptab, DESTDIR="")
+        install(folder, ["near/by/"], f"{folder}/near/by", PTAB=ptab, DESTDIR="")
+        install(folder, ["/usr"], f"{folder}/stage/usr", PTAB=ptab, DESTDIR=f"{folder}/stage")
+        install(folder, [f"{folder}/own"], f"{folder}/own", PTAB=ptab, DESTDIR="")
+        runs(folder, f"{folder}/own")
+        which_program(folder, ptab)
+        refused(folder, ptab)
+        completions(folder, f"{folder}/own/share/bash-completion/completions/ptab")
+    print(f"installing: {checked} passed, 0 failed")
+
+
+main()
