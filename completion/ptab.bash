@@ -45,7 +45,7 @@ _ptab() {
   done
   if [ -z "$command" ]; then
     case $current in
-      -*) _ptab_of "$current" --help -h ;;
+      -*) _ptab_of "$current" --help -h --version -V ;;
       *) _ptab_of "$current" show verify locate edit plan check apply repair help ;;
     esac
     return
