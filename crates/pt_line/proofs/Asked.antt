@@ -264,7 +264,7 @@ module _ (sizes : Bor (List (Bor Text))) (are : texts sizes.now ≡ codes "512" 
     by_error e (Err (Usage text)) (inr among) tells = (kind_of e, among, tells.0, tells.1, tells.2)
 
     pub by_matches : (result : Result Line LineError) → fault_of (ptab sizes) words ≡ [] → MeansJob (subcommand_of (ptab sizes) words) result → MeansAt (ptab sizes) words result
-    by_matches result none means = go result (taken MayBe IsRead (built (ptab sizes)) (argument_words (ptab sizes) words) ((tt, tt), tt) each_good refl refl none) means
+    by_matches result none means = go result (taken MayBe IsRead (built (ptab sizes)) (argument_words (ptab sizes) words) ((tt, tt), ((tt, tt), tt)) each_good refl refl none) means
       where
         go : (r : Result Line LineError) → HasEntered MayBe IsRead (subcommand_of (ptab sizes) words) → MeansJob (subcommand_of (ptab sizes) words) r
             → MeansAt (ptab sizes) words r

@@ -11,7 +11,7 @@ use Rattle.clap.specs.Walk.{Held, Row, Rule, Text, action_of, arg_by_id, at_row,
 use Rattle.clap.specs.Takes.{value_passes}
 use Rattle.clap.specs.Faults.{action_fault, react_fault, repeat_fault, settle_fault, use_fault, values_fault}
 use Rattle.clap.specs.declared.builder.action.ArgAction.{ArgAction}
-use Rattle.clap.specs.declared.builder.action.ArgAction.TheVariants.{Set, Append, Help}
+use Rattle.clap.specs.declared.builder.action.ArgAction.TheVariants.{Set, Append, Help, Version}
 use Rattle.clap.specs.declared.error.kind.ErrorKind.TheVariants as kind
 use Rattle.clap.specs.declared.builder.value_parser.Reading.{Reading}
 use Rattle.clap.specs.declared.parser.matches.ValueSource.{ValueSource}
@@ -126,11 +126,12 @@ module _ (P : Text → Text → Type 0) where
   abbrev pub MayHave : Rule → Type 0
   MayHave a = (v : Text) → value_passes a v ≡ true → P a.id v
 
-  -- an argument whose uses give it values that may be, or ask for help
+  -- an argument whose uses give it values that may be, or ask for help or for the version
   abbrev pub Acts : ArgAction → Rule → Type 0
   Acts Set a = (1 ≤ (unwrap_or_range a.range).start_inclusive) × MayHave a
   Acts Append a = (1 ≤ (unwrap_or_range a.range).start_inclusive) × MayHave a
   Acts Help a = Unit {0}
+  Acts Version a = Unit {0}
   Acts _ a = ⊥
 
   abbrev pub IsSound : Rule → Type 0
@@ -164,6 +165,7 @@ module _ (P : Text → Text → Type 0) where
           absurd cc
       go (v ∷ vs) Append acts range fault = values_full a.id (reading_by a) CommandLine (v ∷ vs) rows all (omega arith) (values_ok a (v ∷ vs) acts.1 fault)
       go vs Help acts range fault = all
+      go vs Version acts range fault = all
       go vs _ acts range fault = absurd acts
 
   module _ (c : List Rule) (again : Bool) (sound : Each IsSound c) where

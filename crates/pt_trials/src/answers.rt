@@ -72,7 +72,7 @@ fn changed(item: Numbered, number: usize, change: Change) -> Option<Numbered> {
 }
 
 /// The writes of a plan, with the numbers of their phases.
-fn numbered(alloc: Global, plan: &Plan<512>) -> Result<Vec<Numbered>, AllocError> {
+fn writes_of(alloc: Global, plan: &Plan<512>) -> Result<Vec<Numbered>, AllocError> {
     let mut items = Vec::new(alloc);
     let mut phase: usize = 0;
     for writes in &plan.phases {
@@ -160,7 +160,7 @@ fn changes_at(k: usize) -> [Change; 7] {
 fn differing(alloc: Global, case: &Case) -> Result<Option<Change>, Fail> {
     let mut disk = crash_disk(alloc, &case.image)?;
     let plan = plan_for(alloc, &mut disk, &case.edits, &guids())?;
-    let items = numbered(alloc, &plan)?;
+    let items = writes_of(alloc, &plan)?;
     let phases = plan.phases.len().saturating_add(1);
     for k in 0..items.len().saturating_add(1) {
         for change in changes_at(k) {

@@ -47,19 +47,19 @@ fn in_turn() -> [usize; 80] {
     choices
 }
 
-const fn stop(call: u64, kept: bool, way: Way) -> Stop {
+const fn stop_of(call: u64, kept: bool, way: Way) -> Stop {
     Stop { call, kept, way }
 }
 
 /// The failures of one call: a write kept and not, each with the three stops.
 pub(crate) fn stops_at(call: u64) -> [Stop; 6] {
     [
-        stop(call, false, Way::Oldest),
-        stop(call, false, Way::Newest),
-        stop(call, false, Way::InTurn),
-        stop(call, true, Way::Oldest),
-        stop(call, true, Way::Newest),
-        stop(call, true, Way::InTurn),
+        stop_of(call, false, Way::Oldest),
+        stop_of(call, false, Way::Newest),
+        stop_of(call, false, Way::InTurn),
+        stop_of(call, true, Way::Oldest),
+        stop_of(call, true, Way::Newest),
+        stop_of(call, true, Way::InTurn),
     ]
 }
 

@@ -2,7 +2,7 @@
 
 use crate::calls::{Stop, Way, committed, fail, stops_at};
 use crate::images::{crash_disk, made};
-use crate::stops::{Case, Left, Turn, case_of, left, plan_faults};
+use crate::stops::{Case, Left, Turn, case_of, left_by, plan_faults};
 use pt_plan::CommitError;
 use pt_sector::Fault;
 use std::alloc::Global;
@@ -17,7 +17,7 @@ fn outcome(
     let mut disk = crash_disk(alloc, &case.image)?;
     fail(&mut disk, stop);
     let answer = committed(alloc, &mut disk, &case.edits);
-    let left = left(alloc, case, disk, stop)?;
+    let left = left_by(alloc, case, disk, stop)?;
     Ok((answer, left))
 }
 

@@ -114,7 +114,7 @@ enum Led {
 }
 
 /// The first phase after which the disk denotes the new layout, 0 where that is the old one; or what is wrong with one.
-fn led(
+fn where_led(
     alloc: Global,
     image: &Image<512>,
     plan: &Plan<512>,
@@ -204,7 +204,7 @@ pub(crate) fn plain_check(
     let old = look(alloc, &mut disk_of(alloc, image)?).layout;
     let mut end = finished(alloc, image, plan)?;
     let new = look(alloc, &mut end).layout;
-    let switch = match led(alloc, image, plan, &old, &new)? {
+    let switch = match where_led(alloc, image, plan, &old, &new)? {
         Led::To(switch) => switch,
         Led::No(why) => return Ok(Answer::No(why)),
     };

@@ -76,7 +76,7 @@ enum Ended {
 }
 
 /// How a session ended, by its replies.
-fn ended(replies: &[Reply]) -> Ended {
+fn how_it_ended(replies: &[Reply]) -> Ended {
     let mut ended = Ended::Whole(0);
     for reply in replies {
         ended = match (ended, *reply) {
@@ -113,7 +113,7 @@ fn outcome(
     let replies = served(alloc, &mut disk, batches)?;
     let mut left = stopped(disk, stop);
     let found = denoted(alloc, &mut left)?;
-    Ok((ended(&replies), place_of(layouts, &found)))
+    Ok((how_it_ended(&replies), place_of(layouts, &found)))
 }
 
 /// Whether a session that ended so may leave this layout of three steps.

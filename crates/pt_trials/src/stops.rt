@@ -54,7 +54,7 @@ pub(crate) fn which(case: &Case, layout: &Layout) -> Left {
 }
 
 /// Which layout the disk denotes where it is stopped.
-pub(crate) fn left(
+pub(crate) fn left_by(
     alloc: Global,
     case: &Case,
     disk: CrashDisk<512>,
@@ -124,7 +124,7 @@ impl Turn {
 /// What a stop of a plan leaves, and what `apply` answered.
 fn outcome(alloc: Global, case: &Case, stop: Stop) -> Result<(Result<(), Fault>, Left), Fail> {
     let (disk, answer) = applied(alloc, case, stop)?;
-    let left = left(alloc, case, disk, stop)?;
+    let left = left_by(alloc, case, disk, stop)?;
     Ok((answer, left))
 }
 
