@@ -165,10 +165,11 @@ def commands(ptab, page, docs):
         same(f"docs/commands.md on {name}", arguments(told), arguments(line.replace(" [--sector-size BYTES]", "").removeprefix("ptab ")))
         statuses = re.search(r"Exit status: ([\d, ]+)\.", described[name]).group(1).replace(", ", "")
         same(f"the statuses of {name}", statuses, digits(text))
-    same("the options of OPTIONS", set(tagged(page["OPTIONS"])), options | {"-h, --help"})
+    same("the options of OPTIONS", set(tagged(page["OPTIONS"])), options | {"-h, --help", "-V, --version"})
     for option in options:
         holds("docs/commands.md", docs, option.split()[0])
     holds("ptab --help", flat(whole), "-h, --help")
+    holds("ptab --help", flat(whole), "-V, --version")
     for size in ("512", "4096"):
         holds("OPTIONS", tagged(page["OPTIONS"])["--sector-size BYTES"], size)
 
