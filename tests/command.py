@@ -12,6 +12,8 @@ class Command:
     """The command on one image file; `checked` counts the runs."""
 
     checked = 0
+    # plain versions of what is read and checked, asked before each run where they are given
+    doubles = None
 
     def __init__(self, ptab, path, sectors=SMALL):
         self.ptab = ptab
@@ -53,6 +55,11 @@ class Command:
 
     def run(self, *words):
         """(output, errors, status) of the words, the image's path put second."""
+        if Command.doubles:
+            Command.doubles.before(self, words)
+        return self.answer(*words)
+
+    def answer(self, *words):
         size = [] if self.sectors is SMALL else ["--sector-size", str(self.sectors.size)]
         done = subprocess.run([self.ptab, words[0], *size, self.path, *words[1:]], capture_output=True)
         return done.stdout.decode("utf-8"), done.stderr.decode("utf-8"), done.returncode

@@ -4,6 +4,7 @@ import tempfile
 from concurrent.futures import ProcessPoolExecutor
 
 from command import Command
+from doubles import Doubles
 from plans import checks, lay, plan_file, same
 
 
@@ -43,17 +44,19 @@ def not_repaired(command, image):
     return lay(command, image).gives(["repair"], "", "refused: repair 2\n", 3)
 
 
-def run(rows, ptab):
-    """How many answers were compared."""
-    before = Command.checked
+def run(rows, ptab, doubles):
+    """How many answers were compared, with what the rows say and with the plain versions'."""
+    Command.checked = 0
+    Command.doubles = Doubles(doubles) if doubles else None
     memory = "/dev/shm" if os.access("/dev/shm", os.W_OK) else None
     with tempfile.TemporaryDirectory(dir=memory) as folder:
         rows(Command(ptab, f"{folder}/image"))
-    return Command.checked - before
+    return Command.checked, Command.doubles.checked if doubles else 0
 
 
-def run_all(name, rows, ptab):
+def run_all(name, rows, ptab, doubles=None):
     """Runs the functions beside each other, and prints how many answers were compared."""
     with ProcessPoolExecutor() as pool:
-        done = [pool.submit(run, it, os.path.abspath(ptab)) for it in rows]
-        print(f"{name}: {sum(it.result() for it in done)} passed, 0 failed")
+        done = [pool.submit(run, it, os.path.abspath(ptab), doubles) for it in rows]
+        passed, beside = (sum(it) for it in zip(*(it.result() for it in done)))
+    print(f"{name}: {passed} passed, 0 failed" + (f"; {beside} answers as plain versions give them" if doubles else ""))

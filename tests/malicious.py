@@ -2,7 +2,7 @@
 """Images and plan files that mean harm, by all eight commands: headers with right sums and wrong numbers, entries past all ends, plans
 of sectors past all numbers, files of odd sizes. Each answer is a named one, and what is refused changes no byte.
 
-usage: tests/malicious.py PTAB
+usage: tests/malicious.py PTAB [DOUBLES]
 """
 import struct
 import sys
@@ -189,7 +189,7 @@ ROWS = (in_the_primary, in_the_backup, in_both, past_all_ends, one_guid_twice, p
 
 
 def main():
-    run_all("malicious images and plans", ROWS, sys.argv[1])
+    run_all("malicious images and plans", ROWS, *sys.argv[1:3])
 
 
 main()

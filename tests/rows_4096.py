@@ -1,7 +1,7 @@
 #!/usr/bin/env python3
 """Images with sectors of 4096 bytes, and labels that count the disk's sectors, by all eight commands.
 
-usage: tests/rows_4096.py PTAB
+usage: tests/rows_4096.py PTAB [DOUBLES]
 """
 import sys
 
@@ -177,7 +177,7 @@ ROWS = (new_tables, of_another_size, mended, reasons, on_mbr, no_labels, absolut
 
 
 def main():
-    run_all("large sectors and absolute labels", ROWS, sys.argv[1])
+    run_all("large sectors and absolute labels", ROWS, *sys.argv[1:3])
 
 
 main()

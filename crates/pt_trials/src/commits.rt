@@ -3,7 +3,6 @@
 ghost use Rattle.std.specs.Prelude.{◌≡◌, ◌≤◌};
 ghost use Rattle.pt_sector.specs.Sectors.{IsSectorSize};
 
-use crate::images::{DISK, LINUX};
 use crate::renames::counts;
 use pt_apply::{Plan, Write};
 use pt_check::{Answer, Why, check};
@@ -13,6 +12,7 @@ use pt_guid::Guid;
 use pt_layout::{Body, Finding, Labels, Layout, NoTable, Path, Verdict, recover, verify};
 use pt_plan::{CommitError, PlanError, commit, plan_for};
 use pt_planner::make_plan;
+use pt_samples::{DISK, LINUX};
 use pt_sector::{CrashDisk, Disk, Fault, Lba, MemDisk, Sector};
 use std::alloc::{AllocError, Global};
 use std::test::Fail;

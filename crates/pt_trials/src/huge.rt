@@ -4,10 +4,10 @@ ghost use Rattle.std.specs.Prelude.{◌*◌, ◌<◌, ◌^◌};
 ghost use Rattle.pt_file.specs.Untold.{untold, in_bound};
 ghost use Rattle.pt_sector.specs.Calls.{untouched_same, untouched_on};
 
-use crate::images::{guids, words};
 use pt_apply::Write;
 use pt_layout::{Body, Verdict, verify};
 use pt_plan::commit;
+use pt_samples::{guids, words};
 use pt_sector::{Disk, Fault, Lba, Moments};
 use std::alloc::Global;
 use std::test::Fail;

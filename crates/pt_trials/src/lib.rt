@@ -3,21 +3,9 @@
 #![tactic(auto)]
 
 #[cfg(test)]
-mod answers;
-#[cfg(test)]
-mod calls;
-#[cfg(test)]
 mod commits;
 #[cfg(test)]
-mod faults;
-#[cfg(test)]
 mod huge;
-#[cfg(test)]
-mod images;
-#[cfg(test)]
-mod plain;
-#[cfg(test)]
-mod recoveries;
 #[cfg(test)]
 mod renames;
 #[cfg(test)]
@@ -25,4 +13,4 @@ mod repairs;
 #[cfg(test)]
 mod sessions;
 #[cfg(test)]
-mod stops;
+mod switch;

@@ -2,10 +2,10 @@
 
 ghost use Rattle.pt_sector.specs.Sectors.{IsSectorSize};
 
-use crate::images::words;
 use pt_apply::Plan;
 use pt_edit::edit;
 use pt_layout::{Layout, Verdict, verify};
+use pt_samples::words;
 use pt_sector::Disk;
 use std::alloc::Global;
 use std::test::Fail;

@@ -2,20 +2,32 @@
 
 ghost use Rattle.pt_sector.specs.Sectors.{IsSectorSize};
 
-use crate::images::{
-    change, crash_disk, entry, gpt_disk, holds, image_of, made, put, put_copy, put_mbr, record,
-    sector, table_disk, words,
-};
 use crate::renames::{counts, is_healthy};
-use crate::stops::faults;
+use pt_apply::Plan;
 use pt_bsd::{LabelEntry, empty_label, encode_label};
 use pt_gpt::{CopyError, Side};
 use pt_layout::{Body, Finding, Layout, NoTable, Path, Verdict, recover, verify};
 use pt_mbr::{ChainError, Mbr, encode_mbr, put_record};
 use pt_plan::{CommitError, PlanError, RepairError, commit, plan_for, plan_for_repair, repair};
+use pt_samples::{
+    change, crash_disk, entry, gpt_disk, holds, image_of, made, put, put_copy, put_mbr, record,
+    sector, table_disk, words,
+};
 use pt_sector::{Disk, Fault, Lba, MemDisk, Sector};
 use std::alloc::Global;
 use std::test::Fail;
+
+/// The fault of each call of a plan, in order.
+fn faults<const B: usize>(alloc: Global, plan: &Plan<B>) -> Result<Vec<Fault>, Fail> {
+    let mut faults = Vec::new(alloc);
+    for phase in &plan.phases {
+        for write in phase {
+            faults.push(Fault::Write(write.lba))?;
+        }
+        faults.push(Fault::Flush)?;
+    }
+    Ok(faults)
+}
 
 /// The first finding; none on a healthy disk.
 fn finding<const B: usize, D: Disk<B>>(alloc: Global, disk: &mut D) -> Result<Option<Finding>, Fail>

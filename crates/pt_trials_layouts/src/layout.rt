@@ -3,7 +3,6 @@
 ghost use Rattle.std.specs.Prelude.{◌<◌};
 ghost use Rattle.pt_sector.specs.Sectors.{IsSectorSize};
 
-use crate::images::put;
 use pt_bsd::{Label, LabelEntry, empty_label};
 use pt_gpt::{
     CopyError, Entry, Header, Side, array_at, array_crc, array_sectors, encode_header, header_at,
@@ -17,6 +16,13 @@ use pt_mbr::{Ebr, Record, protective};
 use pt_sector::{CrashDisk, Disk, Lba, MemDisk, Sector};
 use std::alloc::Global;
 use std::test::Fail;
+
+/// Writes a sector, where there is one.
+fn put<const B: usize, D: Disk<B>>(disk: &mut D, at: u64, bytes: &Sector<B>) {
+    if at < disk.sectors() {
+        let _ = disk.write(Lba(at), bytes);
+    }
+}
 
 fn record(kind: u8, start: u32, size: u32) -> Option<Record> {
     Some(Record {

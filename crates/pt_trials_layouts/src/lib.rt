@@ -7,13 +7,7 @@ mod apply;
 #[cfg(test)]
 mod check;
 #[cfg(test)]
-mod compared;
-#[cfg(test)]
-mod images;
-#[cfg(test)]
 mod layout;
-#[cfg(test)]
-mod plain;
 #[cfg(test)]
 mod recover;
 #[cfg(test)]

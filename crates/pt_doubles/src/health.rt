@@ -1,5 +1,5 @@
 //! Soundness, health and what recovery reads, straight from the definitions: every pair of siblings is compared, and
-//! what is read is a list of single sectors. Tests hold the real answers to these.
+//! what is read is a list of single sectors.
 
 ghost use Rattle.std.specs.Prelude.{◌≡◌, ◌≤◌, ◌<◌, ◌+◌, ◌*◌, IfSome};
 ghost use Rattle.pt_sector.specs.Sectors.{IsSectorSize};
@@ -18,7 +18,7 @@ use std::test::Fail;
 
 /// A member, the number of what holds it (0 for the disk itself), and the usable sectors there.
 #[derive(Clone, Copy)]
-pub(crate) struct Plain {
+pub struct Plain {
     parent: u64,
     low: u128,
     high: u128,
@@ -230,10 +230,9 @@ fn place(m: &Member, sectors: u64) -> Option<u64>
     ensures { IfSome result (λ s. s < sectors) }
 {
     if m.kind == Kind::Slice && exists(m) && m.first < m.last {
-        for s in 0..sectors {
-            if u128::from(s) == m.first.saturating_add(1) {
-                return Some(s);
-            }
+        let place = u64::try_from(m.first.saturating_add(1)).unwrap_or(sectors);
+        if place < sectors {
+            return Some(place);
         }
     }
     None
@@ -320,7 +319,7 @@ fn same_guid(layout: &Layout) -> Option<Finding> {
 }
 
 /// The first of findings 7 to 10.
-pub(crate) fn plain_unsound<const B: usize>(
+pub fn plain_unsound<const B: usize>(
     alloc: Global,
     layout: &Layout,
 ) -> Result<Option<Finding>, Fail>
@@ -397,7 +396,7 @@ fn foreign<const B: usize, D: Disk<B>>(disk: &mut D, members: &[Plain]) -> Optio
 }
 
 /// What is wrong with a disk; none where it is healthy.
-pub(crate) fn plain_verify<const B: usize, D: Disk<B>>(
+pub fn plain_verify<const B: usize, D: Disk<B>>(
     alloc: Global,
     disk: &mut D,
 ) -> Result<Option<Finding>, Fail>
@@ -504,7 +503,7 @@ fn read_sides<const B: usize, D: Disk<B>>(
 }
 
 /// The label places of what a disk denotes.
-pub(crate) fn plain_places<const B: usize, D: Disk<B>>(
+pub fn plain_places<const B: usize, D: Disk<B>>(
     alloc: Global,
     disk: &mut D,
 ) -> Result<Vec<u64>, Fail>
@@ -523,7 +522,7 @@ pub(crate) fn plain_places<const B: usize, D: Disk<B>>(
 }
 
 /// The sectors that recovery reads, one by one.
-pub(crate) fn plain_trace<const B: usize, D: Disk<B>>(
+pub fn plain_trace<const B: usize, D: Disk<B>>(
     alloc: Global,
     disk: &mut D,
 ) -> Result<Vec<u64>, Fail>

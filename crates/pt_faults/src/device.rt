@@ -1,26 +1,27 @@
-//! The calls that are tested, without their contracts. Their tests are proved to be safe, and assert what they look for:
-//! they need to know nothing of what they call.
+//! Calls on a disk in memory that stops and fails.
+//!
+//! Each stands here without its contract: what is tried is proved to be safe, and looks at what comes of it, so it needs
+//! to know nothing of what it calls.
 
-use crate::images::guids;
-use crate::renames::is_healthy;
 use pt_edit::Edit;
-use pt_layout::{Layout, recover};
+use pt_layout::{Layout, Verdict, recover, verify};
 use pt_plan::{Batch, CommitError, RepairError, Reply, commit, repair, session};
+use pt_samples::guids;
 use pt_sector::{CrashDisk, MemDisk};
 use std::alloc::{AllocError, Global};
 use std::test::Fail;
 
-/// The call that fails, whether a write that fails reads as written, and which of three stops follows.
+/// A call that fails, counted from 1, whether a write that fails reads as written, and which of three stops follows.
 #[derive(Clone, Copy, Debug, PartialEq, Eq)]
-pub(crate) struct Stop {
-    pub(crate) call: u64,
-    pub(crate) kept: bool,
-    pub(crate) way: Way,
+pub struct Stop {
+    pub call: u64,
+    pub kept: bool,
+    pub way: Way,
 }
 
 /// What is chosen for the sectors with pending writes.
 #[derive(Clone, Copy, Debug, PartialEq, Eq)]
-pub(crate) enum Way {
+pub enum Way {
     /// What is durable.
     Oldest,
     /// What was written last.
@@ -52,7 +53,7 @@ const fn stop_of(call: u64, kept: bool, way: Way) -> Stop {
 }
 
 /// The failures of one call: a write kept and not, each with the three stops.
-pub(crate) fn stops_at(call: u64) -> [Stop; 6] {
+pub fn stops_at(call: u64) -> [Stop; 6] {
     [
         stop_of(call, false, Way::Oldest),
         stop_of(call, false, Way::Newest),
@@ -63,37 +64,36 @@ pub(crate) fn stops_at(call: u64) -> [Stop; 6] {
     ]
 }
 
-/// From now on this call fails.
-pub(crate) fn fail(disk: &mut CrashDisk<512>, stop: Stop) {
+/// From now on this call fails; none does where it is call 0.
+pub fn fail(disk: &mut CrashDisk<512>, stop: Stop) {
     disk.fail_at(stop.call, stop.kept);
 }
 
 /// What the disk holds where it is stopped.
-pub(crate) fn stopped(disk: CrashDisk<512>, stop: Stop) -> MemDisk<512> {
+pub fn stopped(disk: CrashDisk<512>, stop: Stop) -> MemDisk<512> {
     disk.stop(&stop.way.choices())
 }
 
 /// What the disk denotes.
-pub(crate) fn seen(alloc: Global, disk: &mut CrashDisk<512>) -> Result<Layout, Fail> {
+pub fn seen(alloc: Global, disk: &mut CrashDisk<512>) -> Result<Layout, Fail> {
     Ok(recover(alloc, disk)?)
 }
 
 /// What a stopped disk denotes.
-pub(crate) fn denoted(alloc: Global, disk: &mut MemDisk<512>) -> Result<Layout, Fail> {
+pub fn denoted(alloc: Global, disk: &mut MemDisk<512>) -> Result<Layout, Fail> {
     Ok(recover(alloc, disk)?)
 }
 
 /// Whether a stopped disk is healthy with this layout.
-pub(crate) fn healthy(
-    alloc: Global,
-    disk: &mut MemDisk<512>,
-    layout: &Layout,
-) -> Result<bool, Fail> {
-    is_healthy(alloc, disk, layout)
+pub fn is_healthy(alloc: Global, disk: &mut MemDisk<512>, layout: &Layout) -> Result<bool, Fail> {
+    match verify(alloc, disk)? {
+        Verdict::Yes(found) => Ok(found.same(layout)),
+        Verdict::No(_) => Ok(false),
+    }
 }
 
 /// A commit.
-pub(crate) fn committed(
+pub fn committed(
     alloc: Global,
     disk: &mut CrashDisk<512>,
     edits: &[Edit],
@@ -102,12 +102,12 @@ pub(crate) fn committed(
 }
 
 /// A repair.
-pub(crate) fn repaired(alloc: Global, disk: &mut CrashDisk<512>) -> Result<(), RepairError> {
+pub fn repaired(alloc: Global, disk: &mut CrashDisk<512>) -> Result<(), RepairError> {
     repair(alloc, disk)
 }
 
 /// A session.
-pub(crate) fn served(
+pub fn served(
     alloc: Global,
     disk: &mut CrashDisk<512>,
     batches: &[Batch],

@@ -1,4 +1,4 @@
-//! Disks that the tests begin with.
+//! Small disks, and what they hold.
 
 ghost use Rattle.std.specs.Prelude.{◌≡◌, ◌≤◌, ◌<◌};
 ghost use Rattle.pt_sector.specs.Sectors.{IsSectorSize};
@@ -17,21 +17,21 @@ use std::alloc::Global;
 use std::test::Fail;
 
 /// 0fc63daf-8483-4772-8e79-3d69d8477de4, the type of a Linux filesystem, as it is stored.
-pub(crate) const LINUX: Guid = Guid([
+pub const LINUX: Guid = Guid([
     0xaf, 0x3d, 0xc6, 0x0f, 0x83, 0x84, 0x72, 0x47, 0x8e, 0x79, 0x3d, 0x69, 0xd8, 0x47, 0x7d, 0xe4,
 ]);
 
 /// 00010203-0405-4607-8809-0a0b0c0d0e0f, as it is stored.
-pub(crate) const DISK: Guid = Guid([3, 2, 1, 0, 5, 4, 7, 0x46, 0x88, 9, 10, 11, 12, 13, 14, 15]);
+pub const DISK: Guid = Guid([3, 2, 1, 0, 5, 4, 7, 0x46, 0x88, 9, 10, 11, 12, 13, 14, 15]);
 
 /// Two fresh GUIDs: of the bytes from 0 to 15, and of zeros.
-pub(crate) fn guids() -> [Guid; 2] {
+pub fn guids() -> [Guid; 2] {
     let counted = [0, 1, 2, 3, 4, 5, 6, 7, 8, 9, 10, 11, 12, 13, 14, 15];
     [fresh(counted), fresh([0; 16])]
 }
 
 /// The words of a command line.
-pub(crate) fn words(alloc: Global, texts: &[&str]) -> Result<Vec<Edit>, Fail> {
+pub fn words(alloc: Global, texts: &[&str]) -> Result<Vec<Edit>, Fail> {
     let mut edits = Vec::new(alloc);
     for text in texts {
         edits.push(parse_edit(alloc, text)?)?;
@@ -40,7 +40,7 @@ pub(crate) fn words(alloc: Global, texts: &[&str]) -> Result<Vec<Edit>, Fail> {
 }
 
 /// A sector; zeros where there is none.
-pub(crate) fn sector<const B: usize, D: Disk<B>>(disk: &mut D, lba: u64) -> Result<Sector<B>, Fault>
+pub fn sector<const B: usize, D: Disk<B>>(disk: &mut D, lba: u64) -> Result<Sector<B>, Fault>
     requires { IsSectorSize B }
     ensures count { D.count disk.new ≡ D.count disk.old }
     ensures name { D.name disk.new ≡ D.name disk.old }
@@ -53,7 +53,7 @@ pub(crate) fn sector<const B: usize, D: Disk<B>>(disk: &mut D, lba: u64) -> Resu
 }
 
 /// Writes a sector, where there is one.
-pub(crate) fn put<const B: usize, D: Disk<B>>(
+pub fn put<const B: usize, D: Disk<B>>(
     disk: &mut D,
     lba: u64,
     bytes: &Sector<B>,
@@ -69,7 +69,7 @@ pub(crate) fn put<const B: usize, D: Disk<B>>(
 }
 
 /// Another byte in a sector.
-pub(crate) fn change<const B: usize, D: Disk<B>>(
+pub fn change<const B: usize, D: Disk<B>>(
     disk: &mut D,
     lba: u64,
     at: usize,
@@ -84,7 +84,7 @@ pub(crate) fn change<const B: usize, D: Disk<B>>(
 }
 
 /// A disk of so many sectors on which words were committed: over zeros, or over an MBR without partitions.
-pub(crate) fn made<const B: usize>(
+pub fn made<const B: usize>(
     alloc: Global,
     sectors: u64,
     with_mbr: bool,
@@ -102,12 +102,12 @@ pub(crate) fn made<const B: usize>(
 }
 
 /// 4096 sectors of 512 bytes, with partition 1 from sector 2048 to 4062 in a GPT.
-pub(crate) fn gpt_disk(alloc: Global) -> Result<MemDisk<512>, Fail> {
+pub fn gpt_disk(alloc: Global) -> Result<MemDisk<512>, Fail> {
     made(alloc, 4096, false, &["o", "n:1:0:0"])
 }
 
 /// A record of this type.
-pub(crate) fn record(kind: u8, start: u32, size: u32) -> Option<Record> {
+pub fn record(kind: u8, start: u32, size: u32) -> Option<Record> {
     Some(Record {
         boot: 0,
         start_chs: [0; 3],
@@ -119,7 +119,7 @@ pub(crate) fn record(kind: u8, start: u32, size: u32) -> Option<Record> {
 }
 
 /// An MBR with these records in sector 0.
-pub(crate) fn put_mbr<const B: usize, D: Disk<B>>(
+pub fn put_mbr<const B: usize, D: Disk<B>>(
     disk: &mut D,
     records: [Option<Record>; 4],
 ) -> Result<(), Fault>
@@ -129,7 +129,7 @@ pub(crate) fn put_mbr<const B: usize, D: Disk<B>>(
 }
 
 /// An entry of this number on these sectors.
-pub(crate) fn entry(number: u8, first: u64, last: u64) -> Option<Entry> {
+pub fn entry(number: u8, first: u64, last: u64) -> Option<Entry> {
     Some(Entry {
         kind: LINUX,
         unique: Guid([number; 16]),
@@ -141,7 +141,7 @@ pub(crate) fn entry(number: u8, first: u64, last: u64) -> Option<Entry> {
 }
 
 /// A side's copy of a table with these entries, whose header names this sector as the other header's.
-pub(crate) fn put_copy<const B: usize, D: Disk<B>>(
+pub fn put_copy<const B: usize, D: Disk<B>>(
     disk: &mut D,
     side: Side,
     entries: &[Option<Entry>; 4],
@@ -170,7 +170,7 @@ pub(crate) fn put_copy<const B: usize, D: Disk<B>>(
 }
 
 /// A GPT disk of 256 sectors with these entries.
-pub(crate) fn table_disk<const B: usize>(
+pub fn table_disk<const B: usize>(
     alloc: Global,
     entries: &[Option<Entry>; 4],
 ) -> Result<MemDisk<B>, Fail>
@@ -185,16 +185,13 @@ pub(crate) fn table_disk<const B: usize>(
 
 /// What a disk holds: its sectors but those of zeros, in order.
 #[derive(Drop)]
-pub(crate) struct Image<const B: usize> {
-    pub(crate) sectors: u64,
+pub struct Image<const B: usize> {
+    pub sectors: u64,
     writes: Vec<Write<B>>,
 }
 
 /// What a disk holds.
-pub(crate) fn image_of<const B: usize, D: Disk<B>>(
-    alloc: Global,
-    disk: &mut D,
-) -> Result<Image<B>, Fail>
+pub fn image_of<const B: usize, D: Disk<B>>(alloc: Global, disk: &mut D) -> Result<Image<B>, Fail>
     requires { IsSectorSize B }
 {
     let sectors = disk.sectors();
@@ -212,10 +209,7 @@ pub(crate) fn image_of<const B: usize, D: Disk<B>>(
 }
 
 /// Whether a disk holds just this.
-pub(crate) fn holds<const B: usize, D: Disk<B>>(
-    disk: &mut D,
-    image: &Image<B>,
-) -> Result<bool, Fault>
+pub fn holds<const B: usize, D: Disk<B>>(disk: &mut D, image: &Image<B>) -> Result<bool, Fault>
     requires { IsSectorSize B }
 {
     let mut next = 0;
@@ -234,10 +228,7 @@ pub(crate) fn holds<const B: usize, D: Disk<B>>(
 }
 
 /// A disk that holds this durably, with room for 80 pending writes.
-pub(crate) fn crash_disk<const B: usize>(
-    alloc: Global,
-    image: &Image<B>,
-) -> Result<CrashDisk<B>, Fail>
+pub fn crash_disk<const B: usize>(alloc: Global, image: &Image<B>) -> Result<CrashDisk<B>, Fail>
     requires { IsSectorSize B }
 {
     let sectors = if image.sectors < 16384 {
@@ -250,19 +241,5 @@ pub(crate) fn crash_disk<const B: usize>(
         put(&mut disk, write.lba.0, &write.bytes)?;
     }
     disk.flush()?;
-    Ok(disk)
-}
-
-/// A disk in memory that holds this.
-pub(crate) fn disk_of(alloc: Global, image: &Image<512>) -> Result<MemDisk<512>, Fail> {
-    let sectors = if image.sectors < 16384 {
-        image.sectors
-    } else {
-        16384
-    };
-    let mut disk: MemDisk<512> = MemDisk::new(alloc, sectors)?;
-    for write in &image.writes {
-        put(&mut disk, write.lba.0, &write.bytes)?;
-    }
     Ok(disk)
 }

@@ -1,11 +1,14 @@
-//! A checker that copies the disk and looks at one thing after the other, for tests.
+//! A checker that copies the disk and looks at one thing after the other.
 
-use crate::images::{Image, disk_of, put};
+ghost use Rattle.pt_sector.specs.Sectors.{IsSectorSize};
+
+use crate::disks::copied;
 use pt_apply::{Plan, Write};
 use pt_check::{Answer, Why};
 use pt_layout::{Layout, Verdict, is_owned, is_table, verify};
 use pt_recover::{Trace, recover_traced};
-use pt_sector::{Lba, MemDisk};
+use pt_samples::{put, sector};
+use pt_sector::{Disk, Lba, MemDisk, Sector};
 use std::alloc::Global;
 use std::test::Fail;
 
@@ -16,7 +19,9 @@ struct Seen {
     trace: Trace,
 }
 
-fn look(alloc: Global, disk: &mut MemDisk<512>) -> Seen {
+fn look<const B: usize>(alloc: Global, disk: &mut MemDisk<B>) -> Seen
+    requires { IsSectorSize B }
+{
     let (answer, trace) = recover_traced(alloc, disk);
     Seen {
         layout: answer.ok(),
@@ -32,7 +37,7 @@ fn are_same(one: &Option<Layout>, other: &Option<Layout>) -> bool {
     }
 }
 
-fn too_many(plan: &Plan<512>) -> bool {
+fn too_many<const B: usize>(plan: &Plan<B>) -> bool {
     let mut count: usize = 0;
     for phase in &plan.phases {
         count = count.saturating_add(phase.len());
@@ -40,7 +45,7 @@ fn too_many(plan: &Plan<512>) -> bool {
     count > 4096
 }
 
-fn out_of_range(plan: &Plan<512>, sectors: u64) -> Option<u64> {
+fn out_of_range<const B: usize>(plan: &Plan<B>, sectors: u64) -> Option<u64> {
     let mut number: u64 = 0;
     for phase in &plan.phases {
         for write in phase {
@@ -53,7 +58,9 @@ fn out_of_range(plan: &Plan<512>, sectors: u64) -> Option<u64> {
     None
 }
 
-fn is_boot_code(write: &Write<512>, head: &[u8; 512]) -> bool {
+fn is_boot_code<const B: usize>(write: &Write<B>, head: &Sector<B>) -> bool
+    requires { IsSectorSize B }
+{
     if write.lba.0 != 0 {
         return false;
     }
@@ -65,7 +72,9 @@ fn is_boot_code(write: &Write<512>, head: &[u8; 512]) -> bool {
     false
 }
 
-fn boot_code(plan: &Plan<512>, head: &[u8; 512]) -> Option<u64> {
+fn boot_code<const B: usize>(plan: &Plan<B>, head: &Sector<B>) -> Option<u64>
+    requires { IsSectorSize B }
+{
     let mut number: u64 = 0;
     for phase in &plan.phases {
         for write in phase {
@@ -79,7 +88,7 @@ fn boot_code(plan: &Plan<512>, head: &[u8; 512]) -> Option<u64> {
 }
 
 /// The first write of a phase of several that is of a sector that was read.
-fn read_in(phase: &[Write<512>], trace: &Trace) -> Option<Lba> {
+fn read_in<const B: usize>(phase: &[Write<B>], trace: &Trace) -> Option<Lba> {
     if phase.len() < 2 {
         return None;
     }
@@ -91,7 +100,9 @@ fn read_in(phase: &[Write<512>], trace: &Trace) -> Option<Lba> {
     None
 }
 
-fn write_phase(disk: &mut MemDisk<512>, phase: &[Write<512>]) -> Result<(), Fail> {
+fn write_phase<const B: usize>(disk: &mut MemDisk<B>, phase: &[Write<B>]) -> Result<(), Fail>
+    requires { IsSectorSize B }
+{
     for write in phase {
         put(disk, write.lba.0, &write.bytes)?;
     }
@@ -99,12 +110,18 @@ fn write_phase(disk: &mut MemDisk<512>, phase: &[Write<512>]) -> Result<(), Fail
 }
 
 /// The disk with the whole plan written.
-fn finished(alloc: Global, image: &Image<512>, plan: &Plan<512>) -> Result<MemDisk<512>, Fail> {
-    let mut disk = disk_of(alloc, image)?;
+fn finished<const B: usize>(
+    alloc: Global,
+    disk: &mut MemDisk<B>,
+    plan: &Plan<B>,
+) -> Result<MemDisk<B>, Fail>
+    requires { IsSectorSize B }
+{
+    let mut end = copied(alloc, disk)?;
     for phase in &plan.phases {
-        write_phase(&mut disk, phase)?;
+        write_phase(&mut end, phase)?;
     }
-    Ok(disk)
+    Ok(end)
 }
 
 /// Where the phases lead.
@@ -114,24 +131,26 @@ enum Led {
 }
 
 /// The first phase after which the disk denotes the new layout, 0 where that is the old one; or what is wrong with one.
-fn where_led(
+fn where_led<const B: usize>(
     alloc: Global,
-    image: &Image<512>,
-    plan: &Plan<512>,
+    disk: &mut MemDisk<B>,
+    plan: &Plan<B>,
     old: &Option<Layout>,
     new: &Option<Layout>,
-) -> Result<Led, Fail> {
-    let mut disk = disk_of(alloc, image)?;
+) -> Result<Led, Fail>
+    requires { IsSectorSize B }
+{
+    let mut now = copied(alloc, disk)?;
     let mut switch = 0;
     let mut number: u64 = 0;
     for phase in &plan.phases {
         number = number.saturating_add(1);
-        let before = look(alloc, &mut disk);
+        let before = look(alloc, &mut now);
         if let Some(lba) = read_in(phase, &before.trace) {
             return Ok(Led::No(Why::ReadSector(number, lba)));
         }
-        write_phase(&mut disk, phase)?;
-        let after = look(alloc, &mut disk);
+        write_phase(&mut now, phase)?;
+        let after = look(alloc, &mut now);
         if are_same(&after.layout, old) && switch == 0 {
             continue;
         }
@@ -145,31 +164,41 @@ fn where_led(
     Ok(Led::To(switch))
 }
 
-fn is_in_tables(layout: &Option<Layout>, lba: Lba) -> bool {
+fn is_in_tables<const B: usize>(layout: &Option<Layout>, lba: Lba) -> bool
+    requires { IsSectorSize B }
+{
     match layout {
-        Some(layout) => is_table::<512>(layout, lba),
+        Some(layout) => is_table::<B>(layout, lba),
         None => false,
     }
 }
 
-fn is_in_use(layout: &Option<Layout>, lba: Lba) -> bool {
+fn is_in_use<const B: usize>(layout: &Option<Layout>, lba: Lba) -> bool
+    requires { IsSectorSize B }
+{
     match layout {
-        Some(layout) => is_owned::<512>(layout, lba),
+        Some(layout) => is_owned::<B>(layout, lba),
         None => false,
     }
 }
 
-fn misplaced(plan: &Plan<512>, old: &Option<Layout>, new: &Option<Layout>) -> Option<Why> {
+fn misplaced<const B: usize>(
+    plan: &Plan<B>,
+    old: &Option<Layout>,
+    new: &Option<Layout>,
+) -> Option<Why>
+    requires { IsSectorSize B }
+{
     for phase in &plan.phases {
         for write in phase {
-            if !is_in_tables(old, write.lba) && !is_in_tables(new, write.lba) {
+            if !is_in_tables::<B>(old, write.lba) && !is_in_tables::<B>(new, write.lba) {
                 return Some(Why::NotATable(write.lba));
             }
         }
     }
     for phase in &plan.phases {
         for write in phase {
-            if is_in_use(old, write.lba) || is_in_use(new, write.lba) {
+            if is_in_use::<B>(old, write.lba) || is_in_use::<B>(new, write.lba) {
                 return Some(Why::Owned(write.lba));
             }
         }
@@ -178,7 +207,9 @@ fn misplaced(plan: &Plan<512>, old: &Option<Layout>, new: &Option<Layout>) -> Op
 }
 
 /// What there is against a plan before its phases are tried.
-fn at_once(plan: &Plan<512>, sectors: u64, head: &[u8; 512]) -> Option<Why> {
+fn at_once<const B: usize>(plan: &Plan<B>, sectors: u64, head: &Sector<B>) -> Option<Why>
+    requires { IsSectorSize B }
+{
     if too_many(plan) {
         return Some(Why::TooManyWrites);
     }
@@ -191,20 +222,22 @@ fn at_once(plan: &Plan<512>, sectors: u64, head: &[u8; 512]) -> Option<Why> {
     }
 }
 
-/// The answer to a plan on a disk that holds this, whose sector 0 is `head`.
-pub(crate) fn plain_check(
+/// The answer to a plan on a disk of at most `MOST` sectors.
+pub fn plain_check<const B: usize>(
     alloc: Global,
-    image: &Image<512>,
-    head: &[u8; 512],
-    plan: &Plan<512>,
-) -> Result<Answer, Fail> {
-    if let Some(why) = at_once(plan, image.sectors, head) {
+    disk: &mut MemDisk<B>,
+    plan: &Plan<B>,
+) -> Result<Answer, Fail>
+    requires { IsSectorSize B }
+{
+    let head: Sector<B> = sector(disk, 0)?;
+    if let Some(why) = at_once(plan, disk.sectors(), &head) {
         return Ok(Answer::No(why));
     }
-    let old = look(alloc, &mut disk_of(alloc, image)?).layout;
-    let mut end = finished(alloc, image, plan)?;
+    let old = look(alloc, disk).layout;
+    let mut end = finished(alloc, disk, plan)?;
     let new = look(alloc, &mut end).layout;
-    let switch = match where_led(alloc, image, plan, &old, &new)? {
+    let switch = match where_led(alloc, disk, plan, &old, &new)? {
         Led::To(switch) => switch,
         Led::No(why) => return Ok(Answer::No(why)),
     };

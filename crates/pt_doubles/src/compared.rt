@@ -1,9 +1,12 @@
-//! The real `verify`, survey and trace beside the plain ones, on images of every kind.
+//! The real `verify`, survey, trace and `check` beside the plain ones.
 
 ghost use Rattle.pt_sector.specs.Sectors.{IsSectorSize};
 
-use crate::images::{Dice, gpt_image, mbr_image};
-use crate::plain::{plain_places, plain_trace, plain_verify};
+use crate::checker::plain_check;
+use crate::drawn::{Dice, gpt_image, mbr_image};
+use crate::health::{plain_places, plain_trace, plain_verify};
+use pt_apply::Plan;
+use pt_check::check;
 use pt_gpt::{Side, array_sectors, read_copy};
 use pt_layout::{Finding, Head, NoTable, Survey, Verdict, recover_traced, survey_disk, verify};
 use pt_sector::{Disk, Lba, MemDisk};
@@ -48,7 +51,7 @@ fn surveyed<const B: usize>(
 }
 
 /// What `verify` finds, where the plain one finds the same, both traces are one and the survey is right.
-fn compared<const B: usize>(
+pub fn compared<const B: usize>(
     alloc: Global,
     disk: &mut MemDisk<B>,
 ) -> Result<Option<Option<Finding>>, Fail>
@@ -74,8 +77,8 @@ fn compared<const B: usize>(
     Ok(if plain == found { Some(found) } else { None })
 }
 
-/// Compares on so many images of each kind, and answers which findings were seen.
-fn compare_all<const B: usize>(alloc: Global, images: u64) -> Result<Option<[bool; 16]>, Fail>
+/// Compares on so many drawn images, and answers which findings were seen; nothing where two answers differ.
+pub fn compare_all<const B: usize>(alloc: Global, images: u64) -> Result<Option<[bool; 16]>, Fail>
     requires { IsSectorSize B }
 {
     let mut seen = [false; 16];
@@ -94,12 +97,14 @@ fn compare_all<const B: usize>(alloc: Global, images: u64) -> Result<Option<[boo
     Ok(Some(seen))
 }
 
-#[test]
-fn plain_answers(rt: HostRuntime) -> Result<(), Fail> {
-    let mut all = [true; 16];
-    all[1] = false;
-    assert!(rt; (compare_all::<512>(rt.alloc(), 1000)?) == Some(all));
-    all[11] = false;
-    assert!(rt; (compare_all::<4096>(rt.alloc(), 400)?) == Some(all));
-    Ok(())
+/// Whether both checkers answer a plan with the same.
+pub fn agrees<const B: usize>(
+    alloc: Global,
+    disk: &mut MemDisk<B>,
+    plan: &Plan<B>,
+) -> Result<bool, Fail>
+    requires { IsSectorSize B }
+{
+    let plain = plain_check(alloc, disk, plan)?;
+    Ok(check(alloc, disk, plan)? == plain)
 }

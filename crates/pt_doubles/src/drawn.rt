@@ -16,8 +16,8 @@ use std::test::Fail;
 
 /// Numbers that look drawn, the same for a seed.
 #[derive(Drop)]
-pub(crate) struct Dice {
-    pub(crate) state: u64,
+pub struct Dice {
+    pub state: u64,
 }
 
 impl Dice {
@@ -42,7 +42,7 @@ impl Dice {
 }
 
 /// Writes a sector, where there is one.
-pub(crate) fn put<const B: usize, D: Disk<B>>(disk: &mut D, at: u64, bytes: &Sector<B>) {
+pub fn put<const B: usize, D: Disk<B>>(disk: &mut D, at: u64, bytes: &Sector<B>) {
     if at < disk.sectors() {
         let _ = disk.write(Lba(at), bytes);
     }
@@ -117,7 +117,7 @@ fn put_chain<const B: usize, D: Disk<B>>(disk: &mut D, dice: &mut Dice, first: u
 }
 
 /// An MBR disk of 400 sectors.
-pub(crate) fn mbr_image<const B: usize>(alloc: Global, dice: &mut Dice) -> Result<MemDisk<B>, Fail>
+pub fn mbr_image<const B: usize>(alloc: Global, dice: &mut Dice) -> Result<MemDisk<B>, Fail>
     requires { IsSectorSize B }
 {
     let mut disk: MemDisk<B> = MemDisk::new(alloc, 400)?;
@@ -213,7 +213,7 @@ fn put_copy<const B: usize, D: Disk<B>>(
 }
 
 /// A GPT disk of so many sectors.
-pub(crate) fn gpt_image<const B: usize>(alloc: Global, dice: &mut Dice) -> Result<MemDisk<B>, Fail>
+pub fn gpt_image<const B: usize>(alloc: Global, dice: &mut Dice) -> Result<MemDisk<B>, Fail>
     requires { IsSectorSize B }
 {
     let sectors = if dice.rarely(20) { 11 } else { 200 };
