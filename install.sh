@@ -4,10 +4,12 @@
 #
 # usage: ./install.sh PREFIX
 #   PTAB=FILE     installs this program; else the built one, which ./build.sh proves and builds where it isn't there
+#   LIBRARY=FILE  installs the library for callers in C too: header, archive, shared object and a pkg-config file. FILE is the proved
+#                 archive, crates/pt_c/out/libpt_c.a by `rt lib` in crates/pt_c; a C compiler links it
 #   DESTDIR=DIR   puts all of it below DIR, as packagers do; the program is to run with PREFIX
 set -euo pipefail
 if [ $# != 1 ] || [ -z "$1" ] || [ "${1#-}" != "$1" ]; then
-  echo "usage: [PTAB=FILE] [DESTDIR=DIR] ./install.sh PREFIX" >&2
+  echo "usage: [PTAB=FILE] [LIBRARY=FILE] [DESTDIR=DIR] ./install.sh PREFIX" >&2
   exit 2
 fi
 here=$(cd "$(dirname "$0")" && pwd)
@@ -30,3 +32,25 @@ put() { # MODE FILE PLACE
 put 755 "$ptab" bin/ptab
 put 644 "$here/man/ptab.8" share/man/man8/ptab.8
 put 644 "$here/completion/ptab.bash" share/bash-completion/completions/ptab
+if [ -n "${LIBRARY:-}" ]; then
+  made=$(mktemp -d)
+  trap 'rm -rf "$made"' EXIT
+  "$here/bindings/c/build.sh" "$LIBRARY" "$made"
+  {
+    echo "prefix=$prefix"
+    echo 'includedir=${prefix}/include'
+    echo 'libdir=${prefix}/lib'
+    echo
+    echo 'Name: ptab'
+    echo 'Description: partition tables: what they say, and checked plans of edits and repairs'
+    echo 'Version: 1'
+    echo 'Cflags: -I${includedir}'
+    echo 'Libs: -L${libdir} -lptab'
+  } >"$made/ptab.pc"
+  put 644 "$here/include/ptab.h" include/ptab.h
+  put 644 "$made/libptab.a" lib/libptab.a
+  put 644 "$made/libptab.so.1" lib/libptab.so.1
+  ln -sf libptab.so.1 "${DESTDIR:-}$prefix/lib/libptab.so"
+  echo "installed ${DESTDIR:-}$prefix/lib/libptab.so"
+  put 644 "$made/ptab.pc" lib/pkgconfig/ptab.pc
+fi

@@ -9,10 +9,12 @@ need sfdisk fdisk
 need parted parted
 need strace strace
 need gcc gcc
+need c++ g++
+need valgrind valgrind
 [ -e /usr/include/stdlib.h ] || missing+=(libc6-dev)
 for word in "$@"; do
   case "$word" in
-    bench) need valgrind valgrind; need cgpt cgpt; [ -e /usr/include/zlib.h ] || missing+=(zlib1g-dev) ;;
+    bench) need cgpt cgpt; [ -e /usr/include/zlib.h ] || missing+=(zlib1g-dev) ;;
     *) echo "usage: tests/install.sh [bench]" >&2; exit 2 ;;
   esac
 done

@@ -199,7 +199,7 @@ def statuses(ptab, page, docs):
 
 
 def diagnostics(ptab, page, docs, text):
-    """Every text that is printed, by number and name, and the rules of a copy."""
+    """Every text that is printed, by number and name, and the faults of a copy."""
     described = tagged(page["DIAGNOSTICS"])
     wanted = texts(docs) | {"memory"}
     same("docs/commands.md, but not DIAGNOSTICS", sorted(wanted - set(described)), [])
@@ -220,10 +220,9 @@ def diagnostics(ptab, page, docs, text):
         same(f"finding {number} of --help", any(tag.startswith(f"no {number} {in_help.split(' P')[0]}") for tag in described), True)
     rules = [(cells[0], flat(re.sub("`", "", cells[1]))) for head, cells in tables(docs) if head == "E"]
     lines = dict(re.findall(r"^\\fB(\d)\\fR  (.*)$", "\n".join(page["DIAGNOSTICS"]), re.MULTILINE))
-    same("the rules of a copy", list(lines), [number for number, _ in rules])
+    same("the faults of a copy", list(lines), [number for number, _ in rules])
     for number, rule in rules:
-        first = re.split(r"[ ,]+", rule)[:3]
-        same(f"rule {number}", [word for word in first if word.removesuffix("'s") not in lines[number].replace("names", "tells")], [])
+        same(f"fault {number}", lines[number], rule.replace("isn't", "is not").replace("aren't", "are not"))
 
 
 def examples(ptab, page):

@@ -1,5 +1,6 @@
 -- The write at an index, and the phase at an index.
-use Rattle.std.proofs.Common.{◌≡◌, ◌∙◌, inl, inr, ℕ, zero, suc, ◌+◌, ◌<◌, ◌≤◌, List, [], ◌∷◌, length, slice_get, Some, drop, take, get_or, refl, sym, ap, arith, add-one, Vec}
+use Rattle.std.proofs.Common.{◌≡◌, ◌∙◌, inl, inr, ℕ, zero, suc, ◌+◌, ◌<◌, ◌≤◌, List, [], ◌∷◌, length, slice_get, Some, drop, take}
+use Rattle.std.proofs.Common.{get_or, refl, sym, ap, arith, add-one, Vec}
 use Rattle.std.specs.Prelude.{Result, IfErr}
 use Rattle.std.proofs.Common.{Ok, Err}
 use Rattle.std.specs.declared.alloc.Global.{Global}
@@ -10,12 +11,8 @@ use Rattle.pt_sector.specs.declared.disk.Fault.TheVariants as fault
 use Rattle.pt_apply.specs.Plans.{writes_of, phases_in, faults_of}
 use Rattle.pt_apply.specs.declared.plan.Write.{Write}
 
-pub drop-writes : {b : _} (ws : List (Write b)) (i : ℕ) (w : Write b) → i < length ws → w ≡ get_or ws i w → drop i (writes_of ws) ≡ (w.lba.0, w.bytes) ∷ drop (i + 1) (writes_of ws)
-drop-writes [] i w lt is = absurd (omega (arith, lt))
-drop-writes (x ∷ ws) zero w lt is = ap (λ (y : Write _). (y.lba.0, y.bytes) ∷ writes_of ws) (sym is)
-drop-writes (x ∷ ws) (suc i) w lt is = rw add-one (rw add-one at (drop-writes ws i w (omega (arith, lt)) is))
-
-pub puts-write : {b : _} (ws : List (Write b)) (i : ℕ) (w : Write b) → i < length ws → w ≡ get_or ws i w → Puts (writes_of ws) w.lba.0 w.bytes
+pub puts-write : {b : _} (ws : List (Write b)) (i : ℕ) (w : Write b) → i < length ws → w ≡ get_or ws i w
+    → Puts (writes_of ws) w.lba.0 w.bytes
 puts-write [] i w lt is = absurd (omega (arith, lt))
 puts-write (x ∷ ws) zero w lt is = inl (ap (λ (y : Write _). y.lba.0) (sym is), ap (λ (y : Write _). y.bytes) (sym is))
 puts-write (x ∷ ws) (suc i) w lt is = inr (puts-write ws i w (omega (arith, lt)) is)
@@ -32,12 +29,8 @@ drop-all_writes [] (suc i) le = refl
 drop-all_writes (x ∷ ws) zero le = absurd (omega (arith, le))
 drop-all_writes (x ∷ ws) (suc i) le = drop-all_writes ws i (omega (arith, le))
 
-pub phase-at : {b : _} (ps : List (Vec (Write b) Global)) (i : ℕ) (p : Vec (Write b) Global) → i < length ps → p ≡ get_or ps i p → get_or (phases_in ps) i [] ≡ writes_of p.items
-phase-at [] i p lt is = absurd (omega (arith, lt))
-phase-at (x ∷ ps) zero p lt is = ap (λ (y : Vec (Write _) Global). writes_of y.items) (sym is)
-phase-at (x ∷ ps) (suc i) p lt is = phase-at ps i p (omega (arith, lt)) is
-
-pub after-more : (ps : List Writes) (i : ℕ) (d : Sectors) → i < length ps → after (take (i + 1) ps) d ≡ written (get_or ps i []) (after (take i ps) d)
+pub after-more : (ps : List Writes) (i : ℕ) (d : Sectors) → i < length ps
+    → after (take (i + 1) ps) d ≡ written (get_or ps i []) (after (take i ps) d)
 after-more [] i d lt = absurd (omega (arith, lt))
 after-more (p ∷ ps) zero d lt = refl
 after-more (p ∷ ps) (suc i) d lt = rw add-one (rw add-one at (after-more ps i (written p d) (omega (arith, lt))))
@@ -52,19 +45,24 @@ take-all [] (suc i) le = refl
 take-all (x ∷ xs) zero le = absurd (omega (arith, le))
 take-all (x ∷ xs) (suc i) le = ap (λ l. x ∷ l) (take-all xs i (omega (arith, le)))
 
-pub fault-of-write : {b : _} (ws : List (Write b)) (i : ℕ) (w : Write b) (e : Fault) → i < length ws → w ≡ get_or ws i w → e ≡ fault.Write w.lba → slice_get (faults_of (writes_of ws)) i ≡ Some e
+pub fault-of-write : {b : _} (ws : List (Write b)) (i : ℕ) (w : Write b) (e : Fault) → i < length ws → w ≡ get_or ws i w
+    → e ≡ fault.Write w.lba → slice_get (faults_of (writes_of ws)) i ≡ Some e
 fault-of-write [] i w e lt is tells = absurd (omega (arith, lt))
-fault-of-write (x ∷ ws) zero w e lt is tells = ap (λ (y : Write _). Some (fault.Write (record { 0 = y.lba.0 }))) (sym is) ∙ ap (λ (f : Fault). Some f) (sym tells)
+fault-of-write (x ∷ ws) zero w e lt is tells =
+    ap (λ (y : Write _). Some (fault.Write (record { 0 = y.lba.0 }))) (sym is) ∙ ap (λ (f : Fault). Some f) (sym tells)
 fault-of-write (x ∷ ws) (suc i) w e lt is tells = fault-of-write ws i w e (omega (arith, lt)) is tells
 
 flush_last : {b : _} (ws : List (Write b)) → slice_get (faults_of (writes_of ws)) (length ws) ≡ Some fault.Flush
 flush_last [] = refl
 flush_last (x ∷ ws) = flush_last ws
 
-pub fault-of-flush : {b : _} (ws : List (Write b)) (n : ℕ) (e : Fault) → n ≡ length ws → e ≡ fault.Flush → slice_get (faults_of (writes_of ws)) n ≡ Some e
-fault-of-flush ws n e is tells = ap (λ (m : ℕ). slice_get (faults_of (writes_of ws)) m) is ∙ flush_last ws ∙ ap (λ (f : Fault). Some f) (sym tells)
+pub fault-of-flush : {b : _} (ws : List (Write b)) (n : ℕ) (e : Fault) → n ≡ length ws → e ≡ fault.Flush
+    → slice_get (faults_of (writes_of ws)) n ≡ Some e
+fault-of-flush ws n e is tells =
+    ap (λ (m : ℕ). slice_get (faults_of (writes_of ws)) m) is ∙ flush_last ws ∙ ap (λ (f : Fault). Some f) (sym tells)
 
-pub some_fault : {b : _} {T : Type 0} (ws : List (Write b)) (r : Result T Fault) → IfErr r (λ e. e ≡ fault.Flush) → IfErr r (λ e. (call : ℕ) × (slice_get (faults_of (writes_of ws)) call ≡ Some e))
+pub some_fault : {b : _} {T : Type 0} (ws : List (Write b)) (r : Result T Fault) → IfErr r (λ e. e ≡ fault.Flush)
+    → IfErr r (λ e. (call : ℕ) × (slice_get (faults_of (writes_of ws)) call ≡ Some e))
 some_fault ws (Ok x) tells = tt
 some_fault ws (Err e) tells = (length ws, fault-of-flush ws (length ws) e refl tells)
 

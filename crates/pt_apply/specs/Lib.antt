@@ -1,4 +1,6 @@
+pub mod Items
 pub mod Moments
 pub mod Plans
-pub mod Runs
 pub mod Promises
+pub mod Puts
+pub mod Runs

@@ -1,5 +1,5 @@
 -- Plans as a disk takes them.
-use Rattle.std.specs.Prelude.{ℕ, ◌<◌, List, [], ◌∷◌, map, All, Vec}
+use Rattle.std.specs.Prelude.{◌≡◌, ℕ, ◌<◌, List, [], ◌∷◌, flat_map, map, slice_get, All, Some, Vec}
 use Rattle.std.specs.declared.alloc.Global.{Global}
 use Rattle.pt_sector.specs.Sectors.{Sectors}
 use Rattle.pt_sector.specs.Writes.{Writes, after}
@@ -18,6 +18,14 @@ phases_in ps = map (λ (p : Vec (Write _) Global). writes_of p.items) ps
 -- the phases of a plan
 abbrev pub phases_of : {b : _} → Plan b → List Writes
 phases_of plan = phases_in plan.phases.items
+
+-- the writes of all phases, in order
+abbrev pub writes_in : List Writes → Writes
+writes_in phases = flat_map (λ (p : Writes). p) phases
+
+-- P holds of none of these
+abbrev pub NoneIs : {X : Type 0} → (X → Type 0) → List X → Type 0
+NoneIs P xs = (k : ℕ) (x : _) → slice_get xs k ≡ Some x → ¬ P x
 
 -- the disk once the whole plan is written
 abbrev pub finished : {b : _} → Plan b → Sectors → Sectors

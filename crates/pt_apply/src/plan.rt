@@ -35,8 +35,10 @@ pub fn apply<const B: usize, D: Disk<B>>(disk: &mut D, plan: &Plan<B>) -> Result
     ensures blames { Blames Some result (D.faults disk.old) (D.faults disk.new) }
     ensures fault { IfErr result (FaultOf (phases_of plan.now)) }
     ensures done { D.tells → OnOk result (Settled (D.told disk.new) (finished plan.now (D.told disk.old).seen)) }
-    ensures any_moment { D.tells → LeavesOnly (D.told disk.old) (D.told disk.new) (StoppedSomewhere (phases_of plan.now) (D.told disk.old).seen) }
-    ensures passed { D.tells → OnOk result (Reached (phases_of plan.now) (D.told disk.old).seen (length (phases_of plan.now)) 0 (D.told disk.old) (D.told disk.new)) }
+    ensures any_moment { D.tells → LeavesOnly (D.told disk.old) (D.told disk.new)
+        (StoppedSomewhere (phases_of plan.now) (D.told disk.old).seen) }
+    ensures passed { D.tells → OnOk result
+        (Reached (phases_of plan.now) (D.told disk.old).seen (length (phases_of plan.now)) 0 (D.told disk.old) (D.told disk.new)) }
     ensures failed { D.tells → IfErr result (FailedIn (phases_of plan.now) (D.told disk.old).seen (D.told disk.old) (D.told disk.new)) }
 {
     for phase in &plan.phases {
@@ -55,7 +57,8 @@ fn write_phase<const B: usize, D: Disk<B>>(disk: &mut D, phase: &[Write<B>]) -> 
     ensures blames { Blames Some result (D.faults disk.old) (D.faults disk.new) }
     ensures fault { IfErr result (λ e. (call : ℕ) × (slice_get (faults_of (writes_of phase.now)) call ≡ Some e)) }
     ensures done { D.tells → OnOk result (Settled (D.told disk.new) (written (writes_of phase.now) (D.told disk.old).seen)) }
-    ensures passed { D.tells → OnOk result (Within (Stopped (D.told disk.old).seen (writes_of phase.now)) (length phase.now + 1) (D.told disk.old) (D.told disk.new)) }
+    ensures passed { D.tells → OnOk result
+        (Within (Stopped (D.told disk.old).seen (writes_of phase.now)) (length phase.now + 1) (D.told disk.old) (D.told disk.new)) }
     ensures failed { D.tells → IfErr result (Ended (D.told disk.old).seen (writes_of phase.now) (D.told disk.old) (D.told disk.new)) }
 {
     for write in phase {

@@ -18,11 +18,14 @@ behind_kept i kept rest long = rw long at (drop-append-add {A = ℕ} kept rest i
 four : (a b c d w x y z : ℕ) → w ≡ a → x ≡ b → y ≡ c → z ≡ d → w ∷ x ∷ y ∷ z ∷ [] ≡ a ∷ b ∷ c ∷ d ∷ []
 four a b c d w x y z e f g h = λ i. e i ∷ f i ∷ g i ∷ h i ∷ []
 
-pub is_front : (l : Label) (n : ℕ) (a b g kept rest : List ℕ) → a ≡ l.type_name → b ≡ l.pack_name → g ≡ l.geometry → kept ≡ l.kept → length kept ≡ 68
+pub is_front : (l : Label) (n : ℕ) (a b g kept rest : List ℕ) → a ≡ l.type_name → b ≡ l.pack_name → g ≡ l.geometry → kept ≡ l.kept
+    → length kept ≡ 68
     → ((i : ℕ) → slice_index g i < 2 ^ 32) → HeadFits l → TailFits l → n < 2 ^ 16
     → HasFront l n (head_from l a b g ++ (kept ++ (tail_from l n ++ rest)))
 unfolding head_from tail_from put_at
-is_front l n (x0 ∷ x1 ∷ x2 ∷ x3 ∷ x4 ∷ x5 ∷ x6 ∷ x7 ∷ x8 ∷ x9 ∷ xa ∷ xb ∷ xc ∷ xd ∷ xe ∷ xf ∷ []) (y0 ∷ y1 ∷ y2 ∷ y3 ∷ y4 ∷ y5 ∷ y6 ∷ y7 ∷ y8 ∷ y9 ∷ ya ∷ yb ∷ yc ∷ yd ∷ ye ∷ yf ∷ []) (g0 ∷ g1 ∷ g2 ∷ g3 ∷ []) kept rest ea eb eg ek long numbers fits ends small =
+is_front l n (x0 ∷ x1 ∷ x2 ∷ x3 ∷ x4 ∷ x5 ∷ x6 ∷ x7 ∷ x8 ∷ x9 ∷ xa ∷ xb ∷ xc ∷ xd ∷ xe ∷ xf ∷ [])
+    (y0 ∷ y1 ∷ y2 ∷ y3 ∷ y4 ∷ y5 ∷ y6 ∷ y7 ∷ y8 ∷ y9 ∷ ya ∷ yb ∷ yc ∷ yd ∷ ye ∷ yf ∷ [])
+    (g0 ∷ g1 ∷ g2 ∷ g3 ∷ []) kept rest ea eb eg ek long numbers fits ends small =
     let tail = tail_from l n in
     record {
       magics = record { first = refl; second = ap (λ (t : List ℕ). little_number 4 (take 4 t)) (behind_kept 0 kept (tail ++ rest) long) };
@@ -34,11 +37,16 @@ is_front l n (x0 ∷ x1 ∷ x2 ∷ x3 ∷ x4 ∷ x5 ∷ x6 ∷ x7 ∷ x8 ∷ x9 
         subtype = read_back 2 l.subtype fits.subtype;
         type_name = ea;
         pack_name = eb;
-        geometry = four g0 g1 g2 g3 _ _ _ _ (read_back 4 g0 (numbers 0)) (read_back 4 g1 (numbers 1)) (read_back 4 g2 (numbers 2)) (read_back 4 g3 (numbers 3)) ∙ eg;
+        geometry =
+            four g0 g1 g2 g3 _ _ _ _ (read_back 4 g0 (numbers 0)) (read_back 4 g1 (numbers 1)) (read_back 4 g2 (numbers 2))
+            (read_back 4 g3 (numbers 3)) ∙ eg;
         unit = read_back 4 l.unit fits.unit;
         kept = take_at kept (tail ++ rest) 68 long ∙ ek;
-        bbsize = ap (λ (t : List ℕ). little_number 4 (take 4 t)) (behind_kept 8 kept (tail ++ rest) long) ∙ read_back 4 l.bbsize ends.bbsize;
-        sbsize = ap (λ (t : List ℕ). little_number 4 (take 4 t)) (behind_kept 12 kept (tail ++ rest) long) ∙ read_back 4 l.sbsize ends.sbsize;
+        bbsize =
+            ap (λ (t : List ℕ). little_number 4 (take 4 t)) (behind_kept 8 kept (tail ++ rest) long) ∙ read_back 4 l.bbsize ends.bbsize;
+        sbsize =
+            ap (λ (t : List ℕ). little_number 4 (take 4 t)) (behind_kept 12 kept (tail ++ rest) long) ∙ read_back 4 l.sbsize ends.sbsize;
       };
     }
-is_front l n a b g kept rest ea eb eg ek long numbers fits ends small = absurd (omega (arith, ap length ea, ap length eb, ap length eg, fits.type_name, fits.pack_name, fits.geometry))
+is_front l n a b g kept rest ea eb eg ek long numbers fits ends small =
+    absurd (omega (arith, ap length ea, ap length eb, ap length eg, fits.type_name, fits.pack_name, fits.geometry))

@@ -1,14 +1,17 @@
 -- Bytes of which a part changes.
-use Rattle.std.proofs.Common.{◌≡◌, ◌⊎◌, ℕ, ◌+◌, ◌-◌, ◌≤◌, List, [], ◌++◌, length, take, drop, refl, sym, ap, ◌∙◌, arith, inl, inr, append_assoc, length-append, length-drop}
+use Rattle.std.proofs.Common.{◌≡◌, ◌⊎◌, ℕ, ◌+◌, ◌-◌, ◌≤◌, List, [], ◌++◌, length, take, drop, refl, sym, ap, ◌∙◌, arith, inl, inr}
+use Rattle.std.proofs.Common.{append_assoc, length-append, length-drop}
 use Rattle.std.specs.Prelude.{slice_range}
 use Rattle.std.proofs.lemmas.List.{take-take, drop-drop, drop-take, drop_at, take_at, length-take-le}
 use Rattle.pt_bsd.specs.Writing.{put_at, ChangesOnly}
 
 -- a part behind what stands already
-pub put_next : (i : ℕ) (part front behind : List ℕ) → length front ≡ i → put_at i part (front ++ behind) ≡ front ++ (part ++ drop (length part) behind)
+pub put_next : (i : ℕ) (part front behind : List ℕ) → length front ≡ i
+    → put_at i part (front ++ behind) ≡ front ++ (part ++ drop (length part) behind)
 unfolding put_at
 put_next i part front behind long =
-    let rest : drop (i + length part) (front ++ behind) ≡ drop (length part) behind = sym (drop-drop (length part) i (front ++ behind)) ∙ ap (drop (length part)) (drop_at front behind i long) in
+    let rest : drop (i + length part) (front ++ behind) ≡ drop (length part) behind =
+    sym (drop-drop (length part) i (front ++ behind)) ∙ ap (drop (length part)) (drop_at front behind i long) in
     rw (take_at front behind i long, rest) refl
 
 -- three parts, one behind the other
@@ -34,7 +37,8 @@ take-put_at : (i : ℕ) (part bytes : List ℕ) → i + length part ≤ length b
 unfolding put_at
 take-put_at i part bytes within = take_at (take i bytes) (part ++ drop (i + length part) bytes) i (length-take-le i bytes (omega arith))
 
-drop-put_at : (i : ℕ) (part bytes : List ℕ) → i + length part ≤ length bytes → drop (i + length part) (put_at i part bytes) ≡ drop (i + length part) bytes
+drop-put_at : (i : ℕ) (part bytes : List ℕ) → i + length part ≤ length bytes
+    → drop (i + length part) (put_at i part bytes) ≡ drop (i + length part) bytes
 unfolding put_at
 drop-put_at i part bytes within =
     let behind = drop (i + length part) bytes in
@@ -73,10 +77,12 @@ pub changes_none : (i j : ℕ) (a : List ℕ) → ChangesOnly i j a a
 changes_none i j a = record { count = refl; before = refl; behind = refl }
 
 pub changes_both : (i j : ℕ) (a b c : List ℕ) → ChangesOnly i j a b → ChangesOnly i j b c → ChangesOnly i j a c
-changes_both i j a b c first second = record { count = second.count ∙ first.count; before = second.before ∙ first.before; behind = second.behind ∙ first.behind }
+changes_both i j a b c first second =
+    record { count = second.count ∙ first.count; before = second.before ∙ first.before; behind = second.behind ∙ first.behind }
 
 -- what doesn't meet the change stays
-pub range_kept : (i j p q : ℕ) (old new : List ℕ) → ChangesOnly i j old new → p ≤ q → (q ≤ i) ⊎ (j ≤ p) → slice_range new p q ≡ slice_range old p q
+pub range_kept : (i j p q : ℕ) (old new : List ℕ) → ChangesOnly i j old new → p ≤ q → (q ≤ i) ⊎ (j ≤ p)
+    → slice_range new p q ≡ slice_range old p q
 range_kept i j p q old new only up (inl before) =
     let at : p + (q - p) ≡ q = omega arith in
     sym (drop-take p (q - p) new) ∙ ap (drop p) (take_less (p + (q - p)) i new old (omega arith) only.before) ∙ drop-take p (q - p) old

@@ -101,4 +101,5 @@ IsLabelFault Magic first len bytes = ¬ HasMagics bytes
 IsLabelFault Count first len bytes = HasMagics bytes × (¬ HasCount bytes)
 IsLabelFault Checksum first len bytes = HasMagics bytes × HasCount bytes × (¬ HasSum bytes)
 IsLabelFault SectorSize first len bytes = HasMagics bytes × HasCount bytes × HasSum bytes × (¬ HasSectorSize bytes)
-IsLabelFault RawPartition first len bytes = HasMagics bytes × HasCount bytes × HasSum bytes × HasSectorSize bytes × (¬ HasRaw first len bytes)
+IsLabelFault RawPartition first len bytes =
+    HasMagics bytes × HasCount bytes × HasSum bytes × HasSectorSize bytes × (¬ HasRaw first len bytes)

@@ -1,5 +1,6 @@
 -- Laws of labels, as terms that definitions and proofs above can cite.
-use Rattle.std.specs.Prelude.{Bool, false, ◌==◌, if◌then◌else◌, ◌≡◌, ◌≢◌, ◌<◌, ◌≤◌, ◌⊎◌, ℕ, zero, suc, List, [], ◌∷◌, Option, Some, None, length, slice_set, slice_index_or}
+use Rattle.std.specs.Prelude.{Bool, false, ◌==◌, if◌then◌else◌, ◌≡◌, ◌≢◌, ◌<◌, ◌≤◌, ◌⊎◌, ℕ, zero, suc, List, [], ◌∷◌, Option, Some, None}
+use Rattle.std.specs.Prelude.{length, slice_set, slice_index_or}
 use Rattle.std.proofs.Common.{refl, sym, ap, subst, ◌∙◌, arith, lit≤, rules, inl, inr}
 use Rattle.std.proofs.lemmas.List.{ext_get_or, length-set, get_or-set_other}
 use Rattle.pt_bsd.specs.Label.{HasEntry, HasEntries, HasRaw, IsEntry, counted_in, entry_of, place_of, LabelBytes, HasLabel, IsLabelFault}
@@ -12,12 +13,15 @@ use Rattle.pt_bsd.specs.declared.label.LabelEntry.{LabelEntry}
 use Rattle.pt_bsd.specs.declared.label.LabelError.{LabelError}
 use Rattle.pt_bsd.specs.declared.label.LabelError.TheVariants.{Magic, Count, Checksum, SectorSize, RawPartition}
 
-entry_ext : (e f : LabelEntry) → e.size ≡ f.size → e.offset ≡ f.offset → e.fragment ≡ f.fragment → e.fstype ≡ f.fstype → e.frag ≡ f.frag → e.cpg ≡ f.cpg → e ≡ f
+entry_ext : (e f : LabelEntry) → e.size ≡ f.size → e.offset ≡ f.offset → e.fragment ≡ f.fragment → e.fstype ≡ f.fstype
+    → e.frag ≡ f.frag → e.cpg ≡ f.cpg → e ≡ f
 entry_ext e f a b c d g h = λ i. record { size = a i; offset = b i; fragment = c i; fstype = d i; frag = g i; cpg = h i }
 
 -- the bytes at a place are one entry at most
 pub entry_one : (e f : LabelEntry) (place : ℕ) (bytes : List ℕ) → HasEntry e place bytes → HasEntry f place bytes → e ≡ f
-entry_one e f place bytes p q = entry_ext e f (sym p.size ∙ q.size) (sym p.offset ∙ q.offset) (sym p.fragment ∙ q.fragment) (sym p.fstype ∙ q.fstype) (sym p.frag ∙ q.frag) (sym p.cpg ∙ q.cpg)
+entry_one e f place bytes p q =
+    entry_ext e f (sym p.size ∙ q.size) (sym p.offset ∙ q.offset) (sym p.fragment ∙ q.fragment) (sym p.fstype ∙ q.fstype)
+    (sym p.frag ∙ q.frag) (sym p.cpg ∙ q.cpg)
 
 slot_one : (o p : Option LabelEntry) (k : ℕ) (bytes : List ℕ) → IsEntry o k bytes → IsEntry p k bytes → o ≡ p
 slot_one None None k bytes u v = refl
@@ -31,7 +35,8 @@ entries_one l m bytes p q = ext_get_or None l.entries m.entries (p.places ∙ sy
     slot_one (entry_of l k) (entry_of m k) k bytes (p.each k small) (q.each k small))
 
 -- bytes are one label at most, whatever the slice
-pub label_one : (l m : Label) (first len start count : ℕ) (bytes : List ℕ) → LabelBytes l first len bytes → LabelBytes m start count bytes → l ≡ m
+pub label_one : (l m : Label) (first len start count : ℕ) (bytes : List ℕ) → LabelBytes l first len bytes
+    → LabelBytes m start count bytes → l ≡ m
 label_one l m first len start count bytes p q =
     let x = p.fields in
     let y = q.fields in
@@ -50,7 +55,8 @@ label_one l m first len start count bytes p q =
     }
 
 -- bytes that break a rule are no label
-pub label_none : (e : LabelError) (l : Label) (first len : ℕ) (bytes : List ℕ) → IsLabelFault e first len bytes → LabelBytes l first len bytes → ⊥
+pub label_none : (e : LabelError) (l : Label) (first len : ℕ) (bytes : List ℕ) → IsLabelFault e first len bytes
+    → LabelBytes l first len bytes → ⊥
 label_none Magic l first len bytes broken is = broken is.magics
 label_none Count l first len bytes (magics, broken) is = broken is.count
 label_none Checksum l first len bytes (magics, count, broken) is = broken is.sum
@@ -62,7 +68,8 @@ pub no_label : (e : LabelError) (first len : ℕ) (bytes : List ℕ) → IsLabel
 no_label e first len bytes fault has = label_none e has.0 first len bytes fault has.1
 
 -- and they break one rule first
-pub fault_one : (e f : LabelError) (first len : ℕ) (bytes : List ℕ) → IsLabelFault e first len bytes → IsLabelFault f first len bytes → e ≡ f
+pub fault_one : (e f : LabelError) (first len : ℕ) (bytes : List ℕ) → IsLabelFault e first len bytes
+    → IsLabelFault f first len bytes → e ≡ f
 fault_one Magic Magic first len bytes p q = refl
 fault_one Magic Count first len bytes p q = absurd (p q.0)
 fault_one Magic Checksum first len bytes p q = absurd (p q.0)
@@ -93,18 +100,21 @@ none_there : (o : Option LabelEntry) → o ≡ None → ¬ IsThere o
 none_there o none there = subst IsThere none there
 
 -- the entries before the first that isn't there are counted
-count_at : (entries : List (Option LabelEntry)) (n : ℕ) → n ≤ length entries → ((k : ℕ) → k < n → IsThere (slice_index_or entries k None)) → (n < length entries → slice_index_or entries n None ≡ None) → count_of entries ≡ n
+count_at : (entries : List (Option LabelEntry)) (n : ℕ) → n ≤ length entries
+    → ((k : ℕ) → k < n → IsThere (slice_index_or entries k None)) → (n < length entries → slice_index_or entries n None ≡ None)
+    → count_of entries ≡ n
 count_at [] n le there none = omega arith
 count_at (None ∷ entries) zero le there none = refl
 count_at (None ∷ entries) (suc n) le there none = absurd (there 0 (omega arith))
 count_at (Some e ∷ entries) zero le there none = absurd (none_there (Some e) (none (omega arith)) tt)
-count_at (Some e ∷ entries) (suc n) le there none = ap suc (count_at entries n (omega arith) (λ k lt. there (suc k) (omega arith)) (λ lt. none (omega arith)))
+count_at (Some e ∷ entries) (suc n) le there none =
+    ap suc (count_at entries n (omega arith) (λ k lt. there (suc k) (omega arith)) (λ lt. none (omega arith)))
 
-slot_there : (o : Option LabelEntry) (k : ℕ) (bytes : List ℕ) → IsEntry o k bytes → k < counted_in bytes → IsThere o
+pub slot_there : (o : Option LabelEntry) (k : ℕ) (bytes : List ℕ) → IsEntry o k bytes → k < counted_in bytes → IsThere o
 slot_there None k bytes is lt = absurd (omega (arith, is, lt))
 slot_there (Some e) k bytes is lt = tt
 
-slot_none : (o : Option LabelEntry) (k : ℕ) (bytes : List ℕ) → IsEntry o k bytes → counted_in bytes ≤ k → o ≡ None
+pub slot_none : (o : Option LabelEntry) (k : ℕ) (bytes : List ℕ) → IsEntry o k bytes → counted_in bytes ≤ k → o ≡ None
 slot_none None k bytes is le = refl
 slot_none (Some e) k bytes is le = absurd (omega (arith, is.0, le))
 
@@ -115,7 +125,8 @@ label_count l first len bytes is =
     let most = is.count.most in
     count_at l.entries (counted_in bytes) (omega (arith, places, most))
     (λ k lt. slot_there (entry_of l k) k bytes (is.entries.each k (omega (arith, lt, most))) lt)
-    (λ lt. slot_none (entry_of l (counted_in bytes)) (counted_in bytes) bytes (is.entries.each (counted_in bytes) (omega (arith, lt, places))) (omega arith))
+    (λ lt. slot_none (entry_of l (counted_in bytes)) (counted_in bytes) bytes
+    (is.entries.each (counted_in bytes) (omega (arith, lt, places))) (omega arith))
 
 -- what is read can be written
 pub label_counted : (l : Label) (first len : ℕ) (bytes : List ℕ) → LabelBytes l first len bytes → IsCounted l
@@ -127,10 +138,17 @@ label_counted l first len bytes is =
       others = λ k above lt. slot_none (entry_of l k) k bytes (is.entries.each k lt) (omega (arith, count, above));
     }
 
-raw_fits : (o : Option LabelEntry) (first len : ℕ) (bytes : List ℕ) → IsEntry o 2 bytes → IsThere o → HasRaw first len bytes → IsRaw o first len
+raw_fits : (o : Option LabelEntry) (first len : ℕ) (bytes : List ℕ) → IsEntry o 2 bytes → IsThere o → HasRaw first len bytes
+    → IsRaw o first len
 raw_fits None first len bytes is there raw = there
-raw_fits (Some e) first len bytes (counts, here) there raw =
-    (sym here.size ∙ raw.size, elim raw.start [ inl relative ↦ inl (sym here.offset ∙ relative) | inr absolute ↦ inr (sym here.offset ∙ absolute) ])
+raw_fits (Some e) first len bytes (counts, here) there raw = (
+  sym here.size ∙ raw.size,
+  elim raw.start [
+    | inl relative ↦ inl (sym here.offset ∙ relative)
+    | inr absolute ↦ inr
+        (sym here.offset ∙ absolute)
+  ],
+)
 
 -- what is read fits its slice
 pub label_fits : (l : Label) (first len : ℕ) (bytes : List ℕ) → LabelBytes l first len bytes → FitsSlice l first len
@@ -146,7 +164,8 @@ empty_counted n = record { places = refl; least = lit≤ tt; others = λ k above
 pub empty_fits : (n first : ℕ) → FitsSlice (empty_of n) first n
 empty_fits n first = (refl, inl refl)
 
-count-set : (entries : List (Option LabelEntry)) (k : ℕ) (e : LabelEntry) → k < count_of entries → count_of (slice_set entries k (Some e)) ≡ count_of entries
+count-set : (entries : List (Option LabelEntry)) (k : ℕ) (e : LabelEntry) → k < count_of entries
+    → count_of (slice_set entries k (Some e)) ≡ count_of entries
 count-set [] k e lt = absurd (omega arith)
 count-set (None ∷ entries) k e lt = absurd (omega arith)
 count-set (Some f ∷ entries) zero e lt = refl
@@ -159,14 +178,17 @@ with_entry_counted l k e counted lt =
     record {
       places = length-set l.entries k (Some e) ∙ counted.places;
       least = omega (arith, count, counted.least);
-      others = λ i above small. get_or-set_other l.entries k i (Some e) None (omega (arith, above, count, lt)) ∙ counted.others i (omega (arith, above, count)) small;
+      others =
+          λ i above small. get_or-set_other l.entries k i (Some e) None (omega (arith, above, count, lt))
+          ∙ counted.others i (omega (arith, above, count)) small;
     }
 
 other_entry : (l : Label) (k : ℕ) (e : LabelEntry) → k ≢ 2 → entry_of (with_entry l k e) 2 ≡ entry_of l 2
 other_entry l k e other = get_or-set_other l.entries k 2 (Some e) None (omega (arith, other))
 
 -- and, where it isn't c, the slices that the label fits
-pub with_entry_fits : (l : Label) (k first len : ℕ) (e : LabelEntry) → k ≢ 2 → FitsSlice l first len → FitsSlice (with_entry l k e) first len
+pub with_entry_fits : (l : Label) (k first len : ℕ) (e : LabelEntry) → k ≢ 2 → FitsSlice l first len
+    → FitsSlice (with_entry l k e) first len
 with_entry_fits l k first len e other fits = rw (other_entry l k e other) fits
 
 -- and the form
@@ -181,7 +203,8 @@ nat_eq-suc : (n : ℕ) → (suc n == 0) ≡ false
 nat_eq-suc n = search rules
 
 form_by : (offset first : ℕ) → (offset ≡ 0) ⊎ (offset ≡ first)
-    → (((offset ≡ 0) × (form_at offset ≡ Relative)) ⊎ ((offset ≢ 0) × (offset ≡ first) × (form_at offset ≡ Absolute))) × (sector_by (form_at offset) first offset ≡ first)
+    → (((offset ≡ 0) × (form_at offset ≡ Relative)) ⊎ ((offset ≢ 0) × (offset ≡ first) × (form_at offset ≡ Absolute)))
+    × (sector_by (form_at offset) first offset ≡ first)
 form_by zero first start = (inl (refl, refl), omega arith)
 form_by (suc n) first (inl none) = absurd (omega arith)
 form_by (suc n) first (inr same) =

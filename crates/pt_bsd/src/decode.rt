@@ -3,7 +3,8 @@
 ghost use Rattle.std.specs.Prelude.{◌≡◌, ◌<◌, ◌≤◌, ◌+◌, ◌↔◌, ℕ, [], ◌∷◌, None, IfOk, IfErr, IsTrue, length, slice_range, slice_index_or};
 ghost use Rattle.pt_sector.specs.Sectors.{IsSectorSize};
 ghost use Rattle.pt_bsd.specs.Bytes.{number_at};
-ghost use Rattle.pt_bsd.specs.Label.{geometry_at, counted_in, HasMagic, HasMagics, HasCount, HasSum, HasSectorSize, HasRaw, HasFields, HasEntry, HasEntries, IsEntry, LabelBytes, IsLabelFault};
+ghost use Rattle.pt_bsd.specs.Label.{geometry_at, counted_in, HasMagic, HasMagics, HasCount, HasSum, HasSectorSize, HasRaw, HasFields};
+ghost use Rattle.pt_bsd.specs.Label.{HasEntry, HasEntries, IsEntry, LabelBytes, IsLabelFault};
 
 use crate::label::{Label, LabelEntry, LabelError};
 use byteorder::{ByteOrder, LittleEndian};

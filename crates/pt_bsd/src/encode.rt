@@ -1,6 +1,7 @@
 //! Writing a label over a slice's second sector.
 
-ghost use Rattle.std.specs.Prelude.{◌≡◌, ◌<◌, ◌≤◌, ◌+◌, ◌*◌, ◌^◌, ℕ, List, [], ◌∷◌, ◌++◌, None, IfSome, IfNone, length, take, drop, replicate, slice_index, slice_index_or};
+ghost use Rattle.std.specs.Prelude.{◌≡◌, ◌<◌, ◌≤◌, ◌+◌, ◌*◌, ◌^◌, ℕ, List, [], ◌∷◌, ◌++◌, None, IfSome, IfNone, length, take, drop};
+ghost use Rattle.std.specs.Prelude.{replicate, slice_index, slice_index_or};
 ghost use Rattle.std.specs.List.{flat_map};
 ghost use Rattle.byteorder.specs.Endian.{little_bytes};
 ghost use Rattle.pt_sector.specs.Sectors.{IsSectorSize};
@@ -8,7 +9,8 @@ ghost use Rattle.pt_sum.specs.Words.{xor_of};
 ghost use Rattle.pt_bsd.specs.Bytes.{number_at};
 ghost use Rattle.pt_bsd.specs.Label.{LabelBytes, HasEntry, place_of};
 ghost use Rattle.pt_bsd.specs.Counted.{end_of, count_of, IsCounted, FitsSlice};
-ghost use Rattle.pt_bsd.specs.Writing.{put_at, ChangesOnly, head_from, HeadFits, tail_from, TailFits, entry_from, EntryFits, HasFront, IsPut, PutSoFar};
+ghost use Rattle.pt_bsd.specs.Writing.{put_at, ChangesOnly, head_from, HeadFits, tail_from, TailFits, entry_from, EntryFits, HasFront};
+ghost use Rattle.pt_bsd.specs.Writing.{IsPut, PutSoFar};
 
 use crate::decode::{ENTRIES, ENTRY, MAGIC, decode_label};
 use crate::label::{Label, LabelEntry};

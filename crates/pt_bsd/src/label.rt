@@ -1,5 +1,8 @@
 //! Labels as values.
 
+use std::error::Error;
+use std::fmt;
+
 /// The label of a slice. Numbers are kept as read, also those that nothing here interprets.
 #[derive(Clone, Copy, Debug, PartialEq, Eq)]
 pub struct Label {
@@ -42,6 +45,12 @@ pub struct LabelEntry {
     pub cpg: u16,
 }
 
+/// The place of entry c, the raw entry, which is the whole slice.
+pub const RAW: usize = 2;
+
+/// How many sectors at a slice's start no partition of its label may have.
+pub const RESERVED: u32 = 16;
+
 /// Why a sector has no label for a slice: the first of these rules, in this order, that it breaks.
 #[derive(Clone, Copy, Debug, PartialEq, Eq)]
 pub enum LabelError {
@@ -56,3 +65,17 @@ pub enum LabelError {
     /// Entry c doesn't have the slice's length, or starts neither at 0 nor at the slice's first sector.
     RawPartition,
 }
+
+impl fmt::Display for LabelError {
+    fn fmt<W: fmt::Write>(&self, f: &mut fmt::Formatter<W>) -> fmt::Result {
+        f.write_str(match self {
+            LabelError::Magic => "the label lacks one of its two magic numbers",
+            LabelError::Count => "the label doesn't count 3 to 8 entries",
+            LabelError::Checksum => "the label's checksum is wrong",
+            LabelError::SectorSize => "the label's sectors don't have 512 bytes",
+            LabelError::RawPartition => "the label's entry c isn't the slice",
+        })
+    }
+}
+
+impl Error for LabelError {}

@@ -1,5 +1,6 @@
 -- Sector 0 with its records changed.
-use Rattle.std.proofs.Common.{◌≡◌, ℕ, ◌<◌, ◌≤◌, ◌⊎◌, List, length, take, get_or, Option, None, Bool, true, false, not, ◌+◌, refl, sym, subst, ◌∙◌, arith, inl, inr}
+use Rattle.std.proofs.Common.{◌≡◌, ℕ, ◌<◌, ◌≤◌, ◌⊎◌, List, length, take, get_or, Option, None, Bool, true, false, not, ◌+◌, refl, sym}
+use Rattle.std.proofs.Common.{subst, ◌∙◌, arith, inl, inr}
 use Rattle.std.specs.Prelude.{IsTrue, slice_index}
 use Rattle.std.specs.Prelude.{◌↔◌}
 use Rattle.std.proofs.lemmas.Bool.{false≢true}
@@ -13,11 +14,15 @@ use Rattle.pt_cases.specs.Records.{IsHeadTarget, IsRecordTarget, record_at}
 use Rattle.pt_chains.proofs.Parts.{part, index_same, record_same, target_of, both}
 
 -- what a sector is read as, by a test of the protective type
-pub reads_so : (m : Mbr) (rs : List (Option Record)) (b : List ℕ) (bears : Bool) → MbrBytes m b → m.records ≡ rs → (IsTrue bears ↔ BearsProtective b)
+pub reads_so : (m : Mbr) (rs : List (Option Record)) (b : List ℕ) (bears : Bool) → MbrBytes m b → m.records ≡ rs
+    → (IsTrue bears ↔ BearsProtective b)
     → (IsTrue (not bears) ↔ (IsMbrSector b × AreRecords rs b))
 reads_so m rs b true is same told = ((λ free. absurd (false≢true free)), (λ at. absurd (at.0.plain (told.0 refl))))
 reads_so m rs b false is same told = (
-  (λ free. (record { formed = is.formed; plain = λ bears. false≢true (told.1 bears) }, subst (λ (r : List (Option Record)). AreRecords r b) same is.records)),
+  (λ free. (
+    record { formed = is.formed; plain = λ bears. false≢true (told.1 bears) },
+    subst (λ (r : List (Option Record)). AreRecords r b) same is.records,
+  )),
   (λ at. refl),
 )
 
@@ -70,7 +75,11 @@ module _ (old new : List (Option Record)) (under c : List ℕ)
     head_same = (
       record {
         formed = record {
-          signature = (else_same 510 (omega arith) ∙ is.formed.formed.signature.0, else_same 511 (omega arith) ∙ is.formed.formed.signature.1);
+          signature = (
+            else_same 510 (omega arith) ∙ is.formed.formed.signature.0,
+            else_same 511 (omega arith)
+                ∙ is.formed.formed.signature.1,
+          );
           boots = (
             indicator 446 p0 is.formed.formed.boots.0,
             indicator 462 p1 is.formed.formed.boots.1,

@@ -3,7 +3,6 @@ mod Equal
 mod Heads
 mod Linking
 mod Links
-mod Lone
 mod Made
 mod Over
 mod Parts

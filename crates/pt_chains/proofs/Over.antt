@@ -1,5 +1,6 @@
 -- An extended boot record over one that stands there.
-use Rattle.std.proofs.Common.{◌≡◌, ◌≢◌, ℕ, ◌+◌, ◌<◌, ◌≤◌, ◌⊎◌, List, length, take, drop, get_or, Option, Some, None, refl, sym, ap, subst, ◌∙◌, arith, inl, inr}
+use Rattle.std.proofs.Common.{◌≡◌, ◌≢◌, ℕ, ◌+◌, ◌<◌, ◌≤◌, ◌⊎◌, List, length, take, drop, get_or, Option, Some, None, refl, sym, ap}
+use Rattle.std.proofs.Common.{subst, ◌∙◌, arith, inl, inr}
 use Rattle.std.specs.Prelude.{slice_index}
 use Rattle.std.proofs.lemmas.List.{ext_get_or, get_or-drop, get_or-take, length-drop, length-take-le}
 use Rattle.pt_sector.specs.declared.address.Lba.{Lba}
@@ -15,18 +16,23 @@ use Rattle.pt_cases.specs.Records.{IsEbrOver, IsRecordTarget, record_at}
 use Rattle.pt_chains.proofs.Parts.{part, index_same, number_same, used_same, record_same, target_of, both}
 
 -- bytes that are the same one by one
-same_part : (at n : ℕ) (b c : List ℕ) → at + n ≤ length b → length c ≡ length b → ((i : ℕ) → at ≤ i → slice_index c i ≡ slice_index b i) → take n (drop at c) ≡ take n (drop at b)
+same_part : (at n : ℕ) (b c : List ℕ) → at + n ≤ length b → length c ≡ length b → ((i : ℕ) → at ≤ i → slice_index c i ≡ slice_index b i)
+    → take n (drop at c) ≡ take n (drop at b)
 same_part at n b c long count same =
-    ext_get_or 0 (take n (drop at c)) (take n (drop at b)) (all c (omega (arith, long, count)) ∙ sym (all b long)) (λ i lt. each i (let e = all c (omega (arith, long, count)) in omega (arith, lt, e))) where
+    ext_get_or 0 (take n (drop at c)) (take n (drop at b)) (all c (omega (arith, long, count)) ∙ sym (all b long))
+    (λ i lt. each i (let e = all c (omega (arith, long, count)) in omega (arith, lt, e))) where
       all : (x : List ℕ) → at + n ≤ length x → length (take n (drop at x)) ≡ n
       all x fits = length-take-le n (drop at x) (let e = length-drop at x in omega (arith, fits, e))
 
       each : (i : ℕ) → i < n → get_or (take n (drop at c)) i 0 ≡ get_or (take n (drop at b)) i 0
-      each i below = get_or-take n (drop at c) i 0 below ∙ get_or-drop at c i 0 ∙ same (at + i) (omega arith) ∙ sym (get_or-drop at b i 0) ∙ sym (get_or-take n (drop at b) i 0 below)
+      each i below =
+          get_or-take n (drop at c) i 0 below ∙ get_or-drop at c i 0 ∙ same (at + i) (omega arith) ∙ sym (get_or-drop at b i 0)
+          ∙ sym (get_or-take n (drop at b) i 0 below)
 
 next_same : (first : ℕ) (o : Option Lba) (b c : List ℕ) → part 462 b ≡ part 462 c → NextIs first o b → NextIs first o c
 next_same first None b c same unused = λ used. unused (used_same 462 c b (sym same) used)
-next_same first (Some y) b c same is = (used_same 462 b c same is.0, is.1 ∙ ap (λ (n : ℕ). first + n) (number_same 462 8 b c (omega arith) same))
+next_same first (Some y) b c same is =
+    (used_same 462 b c same is.0, is.1 ∙ ap (λ (n : ℕ). first + n) (number_same 462 8 b c (omega arith) same))
 
 logical_kept : (b c : List ℕ) → part 446 b ≡ part 446 c → HasBadLogical c → HasBadLogical b
 unfolding HasBadLogical
@@ -40,7 +46,10 @@ logical_kept b c same bad = (used_same 446 c b (sym same) bad.0, kinds bad.1) wh
 
 link_kept : (b c : List ℕ) → part 462 b ≡ part 462 c → HasBadLink c → HasBadLink b
 unfolding HasBadLink
-link_kept b c same bad = (used_same 462 c b (sym same) bad.0, λ extended. bad.1 (subst (λ (n : ℕ). IsExtendedKind n) (index_same 462 4 b c (omega arith) same) extended))
+link_kept b c same bad = (
+  used_same 462 c b (sym same) bad.0,
+  λ extended. bad.1 (subst (λ (n : ℕ). IsExtendedKind n) (index_same 462 4 b c (omega arith) same) extended),
+)
 
 -- the facts of a sector whose extended boot record was changed
 module _ (first : ℕ) (e w : Ebr) (link spec : Option Record) (under c : List ℕ) (was : EbrBytes first e.at w under)
@@ -52,7 +61,8 @@ module _ (first : ℕ) (e w : Ebr) (link spec : Option Record) (under c : List �
 
   next_target : ((w.next ≡ e.next) × (record_at 1 c ≡ record_at 1 under)) ⊎ ((w.next ≢ e.next) × (record_at 1 c ≡ record_bytes spec))
   next_target = by_case next where
-    by_case : IsChanged (w.next ≡ e.next) link 1 under c → ((w.next ≡ e.next) × (record_at 1 c ≡ record_at 1 under)) ⊎ ((w.next ≢ e.next) × (record_at 1 c ≡ record_bytes spec))
+    by_case : IsChanged (w.next ≡ e.next) link 1 under c
+        → ((w.next ≡ e.next) × (record_at 1 c ≡ record_at 1 under)) ⊎ ((w.next ≢ e.next) × (record_at 1 c ≡ record_bytes spec))
     by_case (inl stays) = inl stays
     by_case (inr new) = inr (new.0, new.1 ∙ bytes)
 
@@ -95,6 +105,7 @@ module _ (first : ℕ) (e w : Ebr) (link spec : Option Record) (under c : List �
     p1 : part 462 v ≡ part 462 c
     p1 = next_both v is.next next_target
 
-  pub over_same : (x : Ebr) (v : List ℕ) → 512 ≤ length under → length c ≡ length under → IsEbrOver first e x spec under v → EbrBytes first e.at e c
+  pub over_same : (x : Ebr) (v : List ℕ) → 512 ≤ length under → length c ≡ length under → IsEbrOver first e x spec under v
+      → EbrBytes first e.at e c
   over_same x v long count is =
       over_as v long count (subst (λ (y : Ebr). IsEbrOver first e y spec under v) (ebr_one first e.at x w under is.was was) is)

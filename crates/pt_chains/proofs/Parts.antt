@@ -1,5 +1,6 @@
 -- What sixteen bytes are read as.
-use Rattle.std.proofs.Common.{◌≡◌, ℕ, ◌+◌, ◌-◌, ◌*◌, ◌<◌, ◌≤◌, List, take, drop, get_or, Option, Some, None, refl, sym, ap, subst, ◌∙◌, arith, inl, inr}
+use Rattle.std.proofs.Common.{◌≡◌, ℕ, ◌+◌, ◌-◌, ◌*◌, ◌<◌, ◌≤◌, List, take, drop, get_or, Option, Some, None, refl, sym, ap, subst, ◌∙◌}
+use Rattle.std.proofs.Common.{arith, inl, inr}
 use Rattle.std.specs.Prelude.{slice_index, slice_range}
 use Rattle.std.proofs.lemmas.List.{drop-drop, drop-take, take-take, get_or-take, get_or-drop}
 use Rattle.byteorder.specs.Endian.{little_number}
@@ -31,7 +32,8 @@ first_same at b c same =
     let e : at + 0 ≡ at = omega arith in
     subst (λ (n : ℕ). slice_index b n ≡ slice_index c n) e (index_same at 0 b c (omega arith) same)
 
-range_same : (at i n high : ℕ) (b c : List ℕ) → i + n ≤ 16 → high ≡ at + i + n → part at b ≡ part at c → slice_range b (at + i) high ≡ slice_range c (at + i) high
+range_same : (at i n high : ℕ) (b c : List ℕ) → i + n ≤ 16 → high ≡ at + i + n → part at b ≡ part at c
+    → slice_range b (at + i) high ≡ slice_range c (at + i) high
 range_same at i n high b c fits ends same =
     let count : high - (at + i) ≡ n = omega (arith, ends) in
     ap (λ (m : ℕ). take m (drop (at + i) b)) count
@@ -72,7 +74,8 @@ target_of o n k b c (inl stays) = inl (stays.0, ends k c ∙ stays.1 ∙ sym (en
 target_of o n k b c (inr new) = inr (new.0, ends k c ∙ new.1)
 
 -- and what it holds is told
-pub both : (o n : Option Record) (k : ℕ) (b v c : List ℕ) → IsRecordTarget o n k b v → IsRecordTarget o n k b c → record_at k v ≡ record_at k c
+pub both : (o n : Option Record) (k : ℕ) (b v c : List ℕ) → IsRecordTarget o n k b v → IsRecordTarget o n k b c
+    → record_at k v ≡ record_at k c
 both o n k b v c (inl p) (inl q) = p.1 ∙ sym q.1
 both o n k b v c (inl p) (inr q) = absurd (q.0 p.0)
 both o n k b v c (inr p) (inl q) = absurd (p.0 q.0)

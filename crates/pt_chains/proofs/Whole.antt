@@ -9,14 +9,16 @@ use Rattle.pt_mbr.specs.Mbr.{MbrBytes, BearsProtective}
 use Rattle.pt_mbr.specs.declared.ebr.Ebr.{Ebr}
 use Rattle.pt_mbr.specs.declared.record.Record.{Record}
 use Rattle.pt_recover.specs.Mbr.{extended_of}
-use Rattle.pt_cases.specs.Records.{IsHeadTarget, IsEbrOver, IsEbrMade, IsEbrTarget, over, made, IsLinked, link_to}
+use Rattle.pt_shape.specs.Links.{IsLinked, link_to}
+use Rattle.pt_cases.specs.Records.{IsHeadTarget, IsEbrOver, IsEbrMade, IsEbrTarget, over, made}
 use Rattle.pt_targets.specs.Targets.{HasChain, HasEbrs, AreMbrTargets}
 use Rattle.pt_targets.specs.declared.target.Target.{Target}
 use Rattle.pt_chains.specs.Steps.{StartsAt, IsHeadOf, AreChainTargets, AreMbr, AreEbr}
 use Rattle.pt_targets.specs.Unmade.{FitsEbr, IsUnmadeHead, IsUnmadeEbr, HasUnmadeEbr, HasUnmadeIn}
 
 -- what a call gives, weakened
-pub some_weaker : {T E : Type 0} (r : Result (Option T) E) (P Q : T → Type 0) → ((x : T) → P x → Q x) → IfOk r (λ o. IfSome o P) → IfOk r (λ o. IfSome o Q)
+pub some_weaker : {T E : Type 0} (r : Result (Option T) E) (P Q : T → Type 0) → ((x : T) → P x → Q x) → IfOk r (λ o. IfSome o P)
+    → IfOk r (λ o. IfSome o Q)
 some_weaker (Ok (Some x)) P Q weaker p = weaker x p
 some_weaker (Ok None) P Q weaker p = p
 some_weaker (Err e) P Q weaker p = p
@@ -27,11 +29,14 @@ none_weaker (Ok None) P Q weaker p = weaker p
 none_weaker (Err e) P Q weaker p = p
 
 -- one that stood there
-pub over_is : (b : ℕ) (d : Sectors) (old : List Ebr) (first : ℕ) (e : Ebr) (link : Option Record) (under v : List ℕ) → under ≡ sector d e.at.0 → StandsAt e.at.0 old
+pub over_is : (b : ℕ) (d : Sectors) (old : List Ebr) (first : ℕ) (e : Ebr) (link : Option Record) (under v : List ℕ)
+    → under ≡ sector d e.at.0 → StandsAt e.at.0 old
     → (w : Ebr) × IsEbrOver first e w link under v → IsEbrTarget b d old first e link v
-over_is b d old first e link under v holds stands is = IsEbrTarget.over is.0 stands (subst (λ (u : List ℕ). IsEbrOver first e is.0 link u v) holds is.1)
+over_is b d old first e link under v holds stands is =
+    IsEbrTarget.over is.0 stands (subst (λ (u : List ℕ). IsEbrOver first e is.0 link u v) holds is.1)
 
-pub made_is : (b : ℕ) (d : Sectors) (old : List Ebr) (first : ℕ) (e : Ebr) (link : Option Record) (v : List ℕ) → ¬ StandsAt e.at.0 old → IsEbrMade b first e link v → IsEbrTarget b d old first e link v
+pub made_is : (b : ℕ) (d : Sectors) (old : List Ebr) (first : ℕ) (e : Ebr) (link : Option Record) (v : List ℕ) → ¬ StandsAt e.at.0 old
+    → IsEbrMade b first e link v → IsEbrTarget b d old first e link v
 made_is b d old first e link v nowhere is = IsEbrTarget.made nowhere is
 
 -- sector 0, where it has no target
@@ -39,15 +44,24 @@ pub head_unmade : (d : Sectors) (old new : List (Option Record)) (under : List �
     → ((v : List ℕ) → ¬ IsHeadTarget old new under v) → ¬ (ArePlain new × AreMbr old under) → IsUnmadeHead d old new
 head_unmade d old new under holds none unfit = record {
   none = subst (λ (u : List ℕ). (v : List ℕ) → ¬ IsHeadTarget old new u v) holds none;
-  unfit = λ fit. unfit (fit.0, (subst (λ (u : List ℕ). MbrBytes (mbr_of old) u) (sym holds) fit.1.bytes, subst (λ (u : List ℕ). ¬ BearsProtective u) (sym holds) fit.1.plain));
+  unfit = λ fit. unfit (
+    fit.0,
+    (
+      subst (λ (u : List ℕ). MbrBytes (mbr_of old) u) (sym holds) fit.1.bytes,
+      subst (λ (u : List ℕ). ¬ BearsProtective u) (sym holds) fit.1.plain,
+    ),
+  );
 }
 
 -- an extended boot record that stood there, and has no target
-pub over_unmade : (b : ℕ) (d : Sectors) (old : List Ebr) (first : ℕ) (e : Ebr) (es : List Ebr) (under : List ℕ) → under ≡ sector d e.at.0 → StandsAt e.at.0 old
-    → ((w : Ebr) (v : List ℕ) → ¬ IsEbrOver first e w (link_to first es) under v) → ¬ (FitsEbr first e es × AreEbr e under) → IsUnmadeEbr b d old first e es
+pub over_unmade : (b : ℕ) (d : Sectors) (old : List Ebr) (first : ℕ) (e : Ebr) (es : List Ebr) (under : List ℕ)
+    → under ≡ sector d e.at.0 → StandsAt e.at.0 old
+    → ((w : Ebr) (v : List ℕ) → ¬ IsEbrOver first e w (link_to first es) under v) → ¬ (FitsEbr first e es × AreEbr e under)
+    → IsUnmadeEbr b d old first e es
 over_unmade b d old first e es under holds stands none unfit = record {
   none = refuse;
-  unfit = λ fit. (let some = fit.1 stands in unfit (fit.0, (some.0, some.1, subst (λ (u : List ℕ). EbrBytes some.0 e.at some.1 u) (sym holds) some.2)));
+  unfit = λ fit. (let some = fit.1 stands in
+      unfit (fit.0, (some.0, some.1, subst (λ (u : List ℕ). EbrBytes some.0 e.at some.1 u) (sym holds) some.2)));
 } where
   refuse : (v : List ℕ) → ¬ IsEbrTarget b d old first e (link_to first es) v
   refuse v (over w there is) = none w v (subst (λ (u : List ℕ). IsEbrOver first e w (link_to first es) u v) (sym holds) is)
@@ -65,19 +79,23 @@ made_unmade b d old first e es nowhere none unfit = record {
   refuse v (made other is) = none v is
 
 -- of the lone extended record
-has_chain : (b n : ℕ) (d : Sectors) (old : List Ebr) (rs : List Record) (first : ℕ) (chain : List Ebr) (ts : List (Target b)) → StartsAt rs first → IsLinked n rs chain → HasEbrs d old first chain ts → HasChain d old rs chain ts
+has_chain : (b n : ℕ) (d : Sectors) (old : List Ebr) (rs : List Record) (first : ℕ) (chain : List Ebr) (ts : List (Target b))
+    → StartsAt rs first → IsLinked n rs chain → HasEbrs d old first chain ts → HasChain d old rs chain ts
 has_chain b n d old [] first chain ts starts linked has = tt
 has_chain b n d old (r ∷ []) first chain ts starts linked has = subst (λ (f : ℕ). HasEbrs d old f chain ts) starts has
 has_chain b n d old (r ∷ s ∷ rs) first chain ts starts linked has = absurd linked
 
-pub has_unmade : (b n : ℕ) (d : Sectors) (old : List Ebr) (rs : List Record) (first : ℕ) (chain : List Ebr) → StartsAt rs first → IsLinked n rs chain → HasUnmadeEbr b d old first chain → HasUnmadeIn b d old rs chain
+pub has_unmade : (b n : ℕ) (d : Sectors) (old : List Ebr) (rs : List Record) (first : ℕ) (chain : List Ebr) → StartsAt rs first
+    → IsLinked n rs chain → HasUnmadeEbr b d old first chain → HasUnmadeIn b d old rs chain
 has_unmade b n d old [] first chain starts linked none = subst (λ (l : List Ebr). HasUnmadeEbr b d old first l) linked none
 has_unmade b n d old (r ∷ []) first chain starts linked none = subst (λ (f : ℕ). HasUnmadeEbr b d old f chain) starts none
 has_unmade b n d old (r ∷ s ∷ rs) first chain starts linked none = absurd linked
 
 -- sector 0 and the chain
-pub are_targets : (b n : ℕ) (d : Sectors) (old_records records : List (Option Record)) (old chain : List Ebr) (head : Target b) (first : ℕ) (ts : List (Target b))
-    → IsHeadOf d old_records records head → StartsAt (extended_of records) first → IsLinked n (extended_of records) chain → AreChainTargets d head old first chain ts → AreMbrTargets d old_records old records chain ts
+pub are_targets : (b n : ℕ) (d : Sectors) (old_records records : List (Option Record)) (old chain : List Ebr) (head : Target b)
+    (first : ℕ) (ts : List (Target b))
+    → IsHeadOf d old_records records head → StartsAt (extended_of records) first → IsLinked n (extended_of records) chain
+    → AreChainTargets d head old first chain ts → AreMbrTargets d old_records old records chain ts
 are_targets b n d old_records records old chain head first ts is starts linked all = record {
   head = record { target = head; contains = all.start; at = is.at; under = is.under; is = is.is };
   ebrs = has_chain b n d old (extended_of records) first chain ts starts linked all.ebrs;

@@ -8,17 +8,10 @@ use Rattle.pt_mbr.specs.Mbr.{MbrBytes, BearsProtective}
 use Rattle.pt_mbr.specs.declared.ebr.Ebr.{Ebr}
 use Rattle.pt_mbr.specs.declared.record.Record.{Record}
 use Rattle.pt_recover.specs.Mbr.{extent_of}
-use Rattle.pt_cases.specs.Records.{IsHeadTarget, IsEbrTarget, link_to}
+use Rattle.pt_shape.specs.Links.{link_to}
+use Rattle.pt_cases.specs.Records.{IsHeadTarget, IsEbrTarget}
 use Rattle.pt_targets.specs.Targets.{HasEbrs}
 use Rattle.pt_targets.specs.declared.target.Target.{Target}
-use Rattle.pt_chains.specs.declared.extended.Extended.{Extended}
-use Rattle.pt_chains.specs.declared.extended.Extended.TheVariants.{Nothing, One, Two}
-
--- no extended record, one, or more than one
-abbrev pub ExtendedIs : List Record → Extended → Type 0
-ExtendedIs rs Nothing = rs ≡ []
-ExtendedIs rs (One r) = rs ≡ r ∷ []
-ExtendedIs rs Two = (r s : Record) × (more : List Record) × (rs ≡ r ∷ s ∷ more)
 
 -- where there is an extended record alone, it starts there
 abbrev pub StartsAt : List Record → ℕ → Type 0
@@ -47,7 +40,8 @@ pub record IsEbrOf {b : _} (d : Sectors) (old : List Ebr) (first : ℕ) (e : Ebr
   pub is : IsEbrTarget b d old first e (link_to first es) t.bytes
 
 -- a target and, behind it, those of a chain
-pub record AreChainTargets {b : _} (d : Sectors) (head : Target b) (old : List Ebr) (first : ℕ) (chain : List Ebr) (ts : List (Target b)) : Type 0 where
+pub record AreChainTargets {b : _} (d : Sectors) (head : Target b) (old : List Ebr) (first : ℕ) (chain : List Ebr)
+    (ts : List (Target b)) : Type 0 where
   pub start : Contains ts head
   pub ebrs : HasEbrs d old first chain ts
   pub each : (t : Target b) → Contains ts t → (t ≡ head) ⊎ ((t.under ≡ sector d t.at.0) × StandsAt t.at.0 chain)

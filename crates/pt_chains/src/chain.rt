@@ -7,7 +7,7 @@ ghost use Rattle.pt_sector.specs.Sectors.{IsSectorSize};
 ghost use Rattle.pt_mbr.specs.Chain.{StandsAt};
 ghost use Rattle.pt_mbr.specs.declared.ebr.Ebr.{Ebr};
 ghost use Rattle.pt_recover.specs.Mbr.{extended_of};
-ghost use Rattle.pt_cases.specs.Records.{IsLinked};
+ghost use Rattle.pt_shape.specs.Links.{IsLinked};
 ghost use Rattle.pt_targets.specs.Targets.{AreMbrTargets};
 ghost use Rattle.pt_targets.specs.declared.target.Target.{Target};
 ghost use Rattle.pt_chains.specs.Steps.{IsHeadOf, IsEbrOf, AreChainTargets};
@@ -121,8 +121,10 @@ fn chain_targets<const B: usize, D: Disk<B>>(
     requires within { All (λ e. e.at.0 < D.count disk.old) chain.now }
     ensures same { OnlyReads D.Disk disk.old disk.new }
     ensures blames { Blames fault_of result (D.faults disk.old) (D.faults disk.new) }
-    ensures place { IfOk result (λ o. IfSome o (λ ts. (t : Target B) → Contains ts.items t → (t.at.0 ≡ head.entry.at.0) ⊎ StandsAt t.at.0 chain.now)) }
-    ensures some { D.tells → IfOk result (λ o. IfSome o (λ ts. AreChainTargets (D.told disk.old).seen head.entry old.now first.0 chain.now ts.items)) }
+    ensures place { IfOk result (λ o. IfSome o
+        (λ ts. (t : Target B) → Contains ts.items t → (t.at.0 ≡ head.entry.at.0) ⊎ StandsAt t.at.0 chain.now)) }
+    ensures some { D.tells → IfOk result
+        (λ o. IfSome o (λ ts. AreChainTargets (D.told disk.old).seen head.entry old.now first.0 chain.now ts.items)) }
     ensures none { D.tells → IfOk result (λ o. IfNone o (HasUnmadeEbr B (D.told disk.old).seen old.now first.0 chain.now)) }
 {
     let mut targets = Vec::new(alloc);
@@ -158,8 +160,10 @@ pub fn mbr_targets<const B: usize, D: Disk<B>>(
     ensures same { OnlyReads D.Disk disk.old disk.new }
     ensures blames { Blames fault_of result (D.faults disk.old) (D.faults disk.new) }
     ensures in_range { IfOk result (λ o. IfSome o (λ ts. (t : Target B) → Contains ts.items t → t.at.0 < D.count disk.old)) }
-    ensures some { D.tells → IfOk result (λ o. IfSome o (λ ts. AreMbrTargets (D.told disk.old).seen old_records.now old_chain.now records.now chain.now ts.items)) }
-    ensures none { D.tells → IfOk result (λ o. IfNone o (HasUnmade B (D.told disk.old).seen old_records.now old_chain.now records.now chain.now)) }
+    ensures some { D.tells → IfOk result
+        (λ o. IfSome o (λ ts. AreMbrTargets (D.told disk.old).seen old_records.now old_chain.now records.now chain.now ts.items)) }
+    ensures none { D.tells → IfOk result
+        (λ o. IfNone o (HasUnmade B (D.told disk.old).seen old_records.now old_chain.now records.now chain.now)) }
 {
     let head = match head_at(disk, old_records, records)? {
         Some(head) => head,

@@ -3,11 +3,12 @@
 ghost use Rattle.std.specs.Prelude.{◌≡◌, ◌<◌, ◌%◌, ◌^◌, ◌↔◌, ℕ, List, Option, IfSome, IfNone, IsTrue};
 ghost use Rattle.pt_sector.specs.Sectors.{IsSectorSize};
 ghost use Rattle.pt_sector.specs.declared.address.Lba.{Lba};
-ghost use Rattle.pt_mbr.specs.Changes.{LinksTo};
+ghost use Rattle.pt_mbr.specs.Changes.{LinksTo, reach_of};
 ghost use Rattle.pt_mbr.specs.Ebr.{EbrBytes};
 ghost use Rattle.pt_mbr.specs.Record.{record_bytes};
 ghost use Rattle.pt_mbr.specs.declared.ebr.Ebr.{Ebr};
-ghost use Rattle.pt_cases.specs.Records.{IsEbrOver, IsEbrMade, link_to, reach};
+ghost use Rattle.pt_shape.specs.Links.{link_to};
+ghost use Rattle.pt_cases.specs.Records.{IsEbrOver, IsEbrMade};
 ghost use Rattle.pt_targets.specs.Unmade.{LeadsOn, FitsEbr};
 ghost use Rattle.pt_chains.specs.Steps.{AreEbr};
 
@@ -15,8 +16,8 @@ use pt_mbr::{Ebr, Record, change_ebr, decode_ebr, new_ebr};
 use pt_sector::{Lba, Sector};
 
 // How many sectors there are from an extended boot record to the end of its logical partition.
-fn reach_of(logical: &Option<Record>) -> u64
-    ensures { result ≡ reach logical.now }
+fn reach(logical: &Option<Record>) -> u64
+    ensures { result ≡ reach_of logical.now }
 {
     match logical {
         Some(part) => u64::from(part.start) + u64::from(part.size),
@@ -46,7 +47,7 @@ fn link_for(first: Lba, rest: &[Ebr]) -> Option<Record>
         kind: 0x05,
         end_chs: [0xFE, 0xFF, 0xFF],
         start: low_bits(next.at.0.saturating_sub(first.0)),
-        size: low_bits(reach_of(&next.logical)),
+        size: low_bits(reach(&next.logical)),
     })
 }
 

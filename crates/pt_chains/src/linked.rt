@@ -2,11 +2,10 @@
 
 ghost use Rattle.std.specs.Prelude.{◌≡◌, ◌↔◌, ◌≤◌, [], length, Some, IsTrue};
 ghost use Rattle.pt_mbr.specs.Chain.{IsInside, IsUpward, lba};
-ghost use Rattle.pt_recover.specs.Mbr.{extended_of, extent_of};
-ghost use Rattle.pt_cases.specs.Records.{IsLinked, LinkedOn};
+ghost use Rattle.pt_mbr.specs.Extended.{extended_of, extent_of};
+ghost use Rattle.pt_shape.specs.Links.{IsLinked, LinkedOn};
 
-use crate::extended::{Extended, lone_extended};
-use pt_mbr::{Ebr, Record};
+use pt_mbr::{Ebr, Extended, Record, extended_of};
 use pt_recover::Ebrs;
 use pt_sector::Lba;
 
@@ -29,7 +28,8 @@ fn is_upward(ebr: &Ebr) -> bool
 
 // Whether the extended boot record stands at a place that leads to it, inside the extended partition, and links upward.
 fn is_link(extended: &Record, sectors: u64, to: Option<Lba>, ebr: &Ebr) -> bool
-    ensures { IsTrue result ↔ ((to ≡ Some ebr.now.at) × IsInside (extent_of extended.now) sectors ebr.now.at × IsUpward ebr.now.at ebr.now.next) }
+    ensures { IsTrue result ↔ ((to ≡ Some ebr.now.at) × IsInside (extent_of extended.now) sectors ebr.now.at
+        × IsUpward ebr.now.at ebr.now.next) }
 {
     to == Some(ebr.at) && is_inside(extended, sectors, ebr.at) && is_upward(ebr)
 }
@@ -56,9 +56,9 @@ pub fn is_linked(sectors: u64, records: &[Option<Record>; 4], chain: &Ebrs) -> b
     ensures { IsTrue result ↔ IsLinked sectors (extended_of records.now) chain.now }
 {
     let chain = chain.as_slice();
-    match lone_extended(records) {
+    match extended_of(records) {
         Extended::Nothing => chain.is_empty(),
         Extended::One(extended) => chain.len() <= 128 && links_on(&extended, sectors, chain),
-        Extended::Two => false,
+        Extended::More(_) => false,
     }
 }

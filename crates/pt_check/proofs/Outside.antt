@@ -18,11 +18,14 @@ inside TooSmall is = λ none. none
 inside (Device at) is = absurd cc
 inside Memory is = absurd cc
 
-pub recovered_ok : (b : ℕ) (d : Sectors) (r : Result Layout NoTable) (o : Layout) (runs : _) → r ≡ Ok o → IfOk r (λ l. Denotes b d (Some l)) → OnOk r (IsTraceOf b d runs) → IsOf b d (record { layout = Some o; trace = runs })
-recovered_ok b d (Ok l) o runs is denotes traced = let same : l ≡ o = cc in record { denotes = subst (λ (x : Layout). Denotes b d (Some x)) same denotes; reads = traced }
+pub recovered_ok : (b : ℕ) (d : Sectors) (r : Result Layout NoTable) (o : Layout) (runs : _) → r ≡ Ok o
+    → IfOk r (λ l. Denotes b d (Some l)) → OnOk r (IsTraceOf b d runs) → IsOf b d (record { layout = Some o; trace = runs })
+recovered_ok b d (Ok l) o runs is denotes traced =
+    let same : l ≡ o = cc in record { denotes = subst (λ (x : Layout). Denotes b d (Some x)) same denotes; reads = traced }
 recovered_ok b d (Err e) o runs is denotes traced = absurd cc
 
-pub recovered_none : (b : ℕ) (d : Sectors) (r : Result Layout NoTable) (e : NoTable) (runs : _) → r ≡ Err e → failure_in e ≡ None → IfErr r (λ f. TellsNothing b d f)
+pub recovered_none : (b : ℕ) (d : Sectors) (r : Result Layout NoTable) (e : NoTable) (runs : _) → r ≡ Err e → failure_in e ≡ None
+    → IfErr r (λ f. TellsNothing b d f)
     → IfErr r (λ f. IsOutside f ⊎ IsTraceOf b d runs) → IsOf b d (record { layout = None; trace = runs })
 recovered_none b d (Ok l) e runs is no_failure told traced = absurd cc
 recovered_none b d (Err f) e runs is no_failure told traced =

@@ -6,25 +6,14 @@ use Rattle.pt_apply.specs.Plans.{InRange}
 use Rattle.pt_apply.specs.Promises.{Safe}
 use Rattle.pt_apply.specs.declared.plan.Plan.{Plan}
 use Rattle.pt_recover.specs.Denotes.{Denotes, Reads}
-use Rattle.pt_recover.specs.declared.layout.Layout.{Layout}
 use Rattle.pt_layout.specs.declared.finding.Finding.{Finding}
 use Rattle.pt_layout.specs.Findings.{IsFinding}
 use Rattle.pt_layout.specs.Healthy.{Healthy}
-use Rattle.pt_layout.specs.Owned.{Owns}
-use Rattle.pt_layout.specs.Tables.{IsTable}
+use Rattle.pt_layout.specs.Owned.{OwnedOf}
+use Rattle.pt_layout.specs.Tables.{TableOf}
 use Rattle.pt_check.specs.Reasons.{IsAnswer}
 use Rattle.pt_check.specs.declared.answer.Answer.{Answer}
 use Rattle.pt_check.specs.declared.answer.Answer.TheVariants.{No, Yes}
-
--- a sector of the tables of what is denoted; nothing has none
-abbrev pub TableOf : ℕ → Option Layout → ℕ → Type 0
-TableOf b None s = ⊥
-TableOf b (Some o) s = IsTable b o s
-
--- a sector that is owned in it; nothing owns none
-abbrev pub OwnedOf : ℕ → Option Layout → ℕ → Type 0
-OwnedOf b None s = ⊥
-OwnedOf b (Some o) s = Owns b o s
 
 -- the first thing that is wrong with d, none where it is healthy
 abbrev pub WrongIs : ℕ → Sectors → Option Finding → Type 0

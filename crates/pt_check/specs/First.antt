@@ -1,15 +1,8 @@
 -- The first write of which something holds.
-use Rattle.std.specs.Prelude.{◌≡◌, ℕ, ◌+◌, ◌<◌, List, flat_map, slice_get, Option, Some, None}
+use Rattle.std.specs.Prelude.{◌≡◌, ℕ, ◌+◌, ◌<◌, List, slice_get, Option, Some, None}
 use Rattle.pt_sector.specs.Writes.{Writes}
+use Rattle.pt_apply.specs.Plans.{NoneIs}
 use Rattle.pt_check.specs.declared.objection.Found.{Found}
-
--- the writes of all phases, in order
-abbrev pub writes_in : List Writes → Writes
-writes_in phases = flat_map (λ (p : Writes). p) phases
-
--- P holds of none of these
-abbrev pub NoneIs : {X : Type 0} → (X → Type 0) → List X → Type 0
-NoneIs P xs = (k : ℕ) (x : _) → slice_get xs k ≡ Some x → ¬ P x
 
 -- x stands at k, counted from 0, and is the first of which P holds
 pub record IsFirst {X : Type 0} (P : X → Type 0) (xs : List X) (k : ℕ) (x : X) : Type 0 where

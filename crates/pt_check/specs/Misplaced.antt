@@ -2,8 +2,10 @@
 use Rattle.std.specs.Prelude.{◌≡◌, ◌⊎◌, ℕ, List, Option, Some, None}
 use Rattle.pt_sector.specs.Writes.{Writes}
 use Rattle.pt_recover.specs.declared.layout.Layout.{Layout}
-use Rattle.pt_check.specs.Answers.{TableOf, OwnedOf}
-use Rattle.pt_check.specs.First.{NoneIs, FirstWriteIs}
+use Rattle.pt_layout.specs.Owned.{OwnedOf}
+use Rattle.pt_layout.specs.Tables.{TableOf}
+use Rattle.pt_apply.specs.Plans.{NoneIs}
+use Rattle.pt_check.specs.First.{FirstWriteIs}
 use Rattle.pt_check.specs.declared.answer.Why.{Why}
 use Rattle.pt_check.specs.declared.answer.Why.TheVariants.{NotATable, Owned}
 use Rattle.pt_check.specs.declared.objection.Found.{Found}
@@ -20,5 +22,6 @@ InOwned b old new w = OwnedOf b old w.0 ⊎ OwnedOf b new w.0
 abbrev pub MisplacedIs : ℕ → Writes → Option Layout → Option Layout → Option Why → Type 0
 MisplacedIs b ws old new None = NoneIs (InNoTable b old new) ws × NoneIs (InOwned b old new) ws
 MisplacedIs b ws old new (Some (NotATable lba)) = (f : Found) × (f.lba ≡ lba) × FirstWriteIs (InNoTable b old new) ws (Some f)
-MisplacedIs b ws old new (Some (Owned lba)) = NoneIs (InNoTable b old new) ws × ((f : Found) × (f.lba ≡ lba) × FirstWriteIs (InOwned b old new) ws (Some f))
+MisplacedIs b ws old new (Some (Owned lba)) =
+    NoneIs (InNoTable b old new) ws × ((f : Found) × (f.lba ≡ lba) × FirstWriteIs (InOwned b old new) ws (Some f))
 MisplacedIs b ws old new (Some _) = ⊥

@@ -5,11 +5,13 @@ use Rattle.pt_sector.specs.Writes.{Writes, after}
 use Rattle.pt_apply.specs.Promises.{boot_code}
 use Rattle.pt_layout.specs.declared.finding.Finding.{Finding}
 use Rattle.pt_check.specs.Course.{phase_at, disk_after}
-use Rattle.pt_check.specs.First.{writes_in, NoneIs, IsFirst}
+use Rattle.pt_apply.specs.Plans.{writes_in, NoneIs}
+use Rattle.pt_check.specs.First.{IsFirst}
 use Rattle.pt_check.specs.declared.answer.Answer.{Answer}
 use Rattle.pt_check.specs.declared.answer.Answer.TheVariants.{No, Yes}
 use Rattle.pt_check.specs.declared.answer.Why.{Why}
-use Rattle.pt_check.specs.declared.answer.Why.TheVariants.{TooManyWrites, OutOfRange, BootCode, ReadSector, Neither, NotATable, Owned, Final}
+use Rattle.pt_check.specs.declared.answer.Why.TheVariants.{TooManyWrites, OutOfRange, BootCode, ReadSector, Neither, NotATable, Owned}
+use Rattle.pt_check.specs.declared.answer.Why.TheVariants.{Final}
 
 -- how many writes a plan may have
 abbrev pub most_writes : ℕ

@@ -4,7 +4,8 @@ use Rattle.pt_sector.specs.Sectors.{Sectors}
 use Rattle.pt_sector.specs.Writes.{Writes}
 use Rattle.pt_sector.specs.declared.address.Lba.{Lba}
 use Rattle.pt_check.specs.Course.{Course, IsCalm}
-use Rattle.pt_check.specs.First.{NoneIs, IsFirst}
+use Rattle.pt_apply.specs.Plans.{NoneIs}
+use Rattle.pt_check.specs.First.{IsFirst}
 use Rattle.pt_check.specs.Reasons.{IsNeither, ReadsSector}
 use Rattle.pt_check.specs.declared.answer.Why.TheVariants.{ReadSector, Neither}
 use Rattle.pt_check.specs.declared.trial.Trial.{Trial}
@@ -20,7 +21,8 @@ TouchedIs S ws (Some lba) = (1 < length ws) × ((k : ℕ) × (w : ℕ × List �
 -- the switch so far, which is the phase of this number where it gave the new layout as the first; or neither layout
 abbrev pub StepIs : {L : Type 0} → Option L → Option L → Option L → Option ℕ → ℕ → Step → Type 0
 StepIs found old new switch number (step.Goes None) = (found ≡ old) × (switch ≡ None)
-StepIs found old new switch number (step.Goes (Some s)) = (¬ (found ≡ old)) × (found ≡ new) × ((switch ≡ Some s) ⊎ ((switch ≡ None) × (s ≡ number)))
+StepIs found old new switch number (step.Goes (Some s)) =
+    (¬ (found ≡ old)) × (found ≡ new) × ((switch ≡ Some s) ⊎ ((switch ≡ None) × (s ≡ number)))
 StepIs found old new switch number step.Neither = ((found ≡ old) × IsSome switch) ⊎ ((¬ (found ≡ old)) × (¬ (found ≡ new)))
 
 module _ {L : Type 0} (denotes : Sectors → Option L → Type 0) (reads : Sectors → ℕ → Type 0) (phases : List Writes) (d : Sectors) where

@@ -1,7 +1,12 @@
 //! What the checker answers.
 
+ghost use Rattle.std.specs.Prelude.{◌≡◌};
+ghost use Rattle.pt_check.specs.Numbers.{why_number};
+
 use pt_layout::Finding;
 use pt_sector::Lba;
+use std::error::Error;
+use std::fmt;
 
 /// Why a plan is refused: the first of these that holds. Phases and writes are counted from 1, writes over the whole
 /// plan.
@@ -26,6 +31,61 @@ pub enum Why {
     /// The disk with the whole plan written isn't healthy: the first finding.
     Final(Finding),
 }
+
+impl Why {
+    /// The number that stands for it in what is printed, from 1 to 8 in the order of the variants.
+    pub fn number(self) -> u8
+        ensures { result ≡ why_number self }
+    {
+        match self {
+            Why::TooManyWrites => 1,
+            Why::OutOfRange(_) => 2,
+            Why::BootCode(_) => 3,
+            Why::ReadSector(_, _) => 4,
+            Why::Neither(_) => 5,
+            Why::NotATable(_) => 6,
+            Why::Owned(_) => 7,
+            Why::Final(_) => 8,
+        }
+    }
+}
+
+impl fmt::Display for Why {
+    fn fmt<W: fmt::Write>(&self, f: &mut fmt::Formatter<W>) -> fmt::Result {
+        match self {
+            Why::TooManyWrites => f.write_str("more than 4096 writes"),
+            Why::OutOfRange(write) => write!(f, "write {write} is of a sector past the last"),
+            Why::BootCode(write) => {
+                write!(
+                    f,
+                    "write {write} changes boot code, bytes 0 to 439 of sector 0"
+                )
+            }
+            Why::ReadSector(phase, at) => write!(
+                f,
+                "phase {phase} has several writes, and sector {} is one that decides the layout",
+                at.0
+            ),
+            Why::Neither(phase) => write!(
+                f,
+                "after phase {phase} the layout is neither the old nor the new one"
+            ),
+            Why::NotATable(at) => write!(
+                f,
+                "sector {} is written, and is in the tables of neither layout",
+                at.0
+            ),
+            Why::Owned(at) => write!(
+                f,
+                "sector {} is written, and a partition of the old or the new layout owns it",
+                at.0
+            ),
+            Why::Final(finding) => write!(f, "the finished disk isn't healthy: {finding}"),
+        }
+    }
+}
+
+impl Error for Why {}
 
 /// The answer to a plan.
 #[derive(Clone, Copy, Debug, PartialEq, Eq)]

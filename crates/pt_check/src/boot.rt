@@ -4,8 +4,7 @@ ghost use Rattle.std.specs.Prelude.{◌≡◌, ◌≤◌, ◌<◌, ◌↔◌, Is
 ghost use Rattle.pt_sector.specs.Calls.{Blames};
 ghost use Rattle.pt_sector.specs.Reads.{OnlyReads, read_of};
 ghost use Rattle.pt_sector.specs.Sectors.{IsSectorSize};
-ghost use Rattle.pt_apply.specs.Plans.{phases_of};
-ghost use Rattle.pt_check.specs.First.{writes_in, NoneIs};
+ghost use Rattle.pt_apply.specs.Plans.{phases_of, writes_in, NoneIs};
 ghost use Rattle.pt_check.specs.Reasons.{ChangesBoot, NumberIs};
 
 use crate::objection::{Objection, first_in_plan};

@@ -4,11 +4,10 @@ ghost use Rattle.std.specs.Prelude.{◌≡◌, ◌≤◌, length, IfOk};
 ghost use Rattle.pt_sector.specs.Calls.{Blames};
 ghost use Rattle.pt_sector.specs.Reads.{OnlyReads};
 ghost use Rattle.pt_sector.specs.Sectors.{IsSectorSize};
-ghost use Rattle.pt_apply.specs.Plans.{phases_of};
+ghost use Rattle.pt_apply.specs.Plans.{phases_of, writes_in};
 ghost use Rattle.pt_check.specs.Answers.{Answers, Promises, Fits};
 ghost use Rattle.pt_check.specs.Course.{switch_number};
 ghost use Rattle.pt_check.specs.Failed.{fault_in};
-ghost use Rattle.pt_check.specs.First.{writes_in};
 ghost use Rattle.pt_check.specs.Misplaced.{MisplacedIs};
 ghost use Rattle.pt_check.specs.Reasons.{IsFit};
 

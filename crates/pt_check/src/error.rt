@@ -7,6 +7,8 @@ ghost use Rattle.pt_check.specs.declared.error.CheckError.TheVariants.{Device, M
 
 use pt_sector::{FailedRead, Failure, Fault};
 use std::alloc::AllocError;
+use std::error::Error;
+use std::fmt;
 
 /// Why there is no answer.
 #[derive(Clone, Copy, Debug, PartialEq, Eq)]
@@ -16,6 +18,17 @@ pub enum CheckError {
     /// Memory was refused.
     Memory,
 }
+
+impl fmt::Display for CheckError {
+    fn fmt<W: fmt::Write>(&self, f: &mut fmt::Formatter<W>) -> fmt::Result {
+        match self {
+            CheckError::Device(fault) => write!(f, "{fault}"),
+            CheckError::Memory => f.write_str("out of memory"),
+        }
+    }
+}
+
+impl Error for CheckError {}
 
 impl From<FailedRead> for CheckError {
     ghost from_gives = { λ failed e. e ≡ Device (Read failed.0) };

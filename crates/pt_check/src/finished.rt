@@ -6,10 +6,9 @@ ghost use Rattle.pt_sector.specs.Reads.{OnlyReads};
 ghost use Rattle.pt_sector.specs.Sectors.{IsSectorSize};
 ghost use Rattle.pt_sector.specs.Writes.{after};
 ghost use Rattle.pt_sector.specs.Overlays.{room_left};
-ghost use Rattle.pt_apply.specs.Plans.{phases_of, finished};
+ghost use Rattle.pt_apply.specs.Plans.{phases_of, finished, writes_in};
 ghost use Rattle.pt_recover.specs.Denotes.{Denotes};
 ghost use Rattle.pt_check.specs.Failed.{fault_in};
-ghost use Rattle.pt_check.specs.First.{writes_in};
 ghost use Rattle.pt_check.specs.Answers.{WrongIs};
 
 use crate::error::CheckError;
@@ -27,7 +26,8 @@ fn put_plan<'a, const B: usize, D: Disk<B>>(over: &mut Overlay<'a, D, B>, plan: 
     ensures same_reference { over.new.disk.ghost_name ≡ over.old.disk.ghost_name }
     ensures disk { over.new.disk.now ≡ over.old.disk.now }
     ensures faults { over.new.failed ≡ over.old.failed }
-    ensures seen { (⟦<Overlay<'a, D, B> as Disk<B>>⟧.told over.new).seen ≡ after (phases_of plan.now) (⟦<Overlay<'a, D, B> as Disk<B>>⟧.told over.old).seen }
+    ensures seen { (⟦<Overlay<'a, D, B> as Disk<B>>⟧.told over.new).seen ≡ after (phases_of plan.now)
+        (⟦<Overlay<'a, D, B> as Disk<B>>⟧.told over.old).seen }
 {
     for phase in &plan.phases {
         put_phase(over, phase);

@@ -6,11 +6,10 @@ ghost use Rattle.pt_sector.specs.Reads.{OnlyReads};
 ghost use Rattle.pt_sector.specs.Sectors.{IsSectorSize};
 ghost use Rattle.pt_sector.specs.Writes.{written};
 ghost use Rattle.pt_sector.specs.Overlays.{room_left};
-ghost use Rattle.pt_apply.specs.Plans.{writes_of, phases_of};
+ghost use Rattle.pt_apply.specs.Plans.{writes_of, phases_of, writes_in};
 ghost use Rattle.pt_recover.specs.Denotes.{Denotes, Reads};
 ghost use Rattle.pt_recover.specs.Spans.{IsIn};
 ghost use Rattle.pt_check.specs.Failed.{fault_in};
-ghost use Rattle.pt_check.specs.First.{writes_in};
 ghost use Rattle.pt_check.specs.Recovered.{IsOf};
 ghost use Rattle.pt_check.specs.Trials.{TouchedIs, StepIs, TrialIs};
 
@@ -103,7 +102,8 @@ pub(crate) fn put_phase<'a, const B: usize, D: Disk<B>>(
     ensures disk { over.new.disk.now ≡ over.old.disk.now }
     ensures faults { over.new.failed ≡ over.old.failed }
     ensures room { room_left over.old.own ≤ room_left over.new.own + length phase.now }
-    ensures seen { (⟦<Overlay<'a, D, B> as Disk<B>>⟧.told over.new).seen ≡ written (writes_of phase.now) (⟦<Overlay<'a, D, B> as Disk<B>>⟧.told over.old).seen }
+    ensures seen { (⟦<Overlay<'a, D, B> as Disk<B>>⟧.told over.new).seen ≡ written (writes_of phase.now)
+        (⟦<Overlay<'a, D, B> as Disk<B>>⟧.told over.old).seen }
 {
     for write in phase {
         over.put(write.lba, &write.bytes);
@@ -125,7 +125,8 @@ pub(crate) fn try_phases<const B: usize, D: Disk<B>>(
     requires old { D.tells → IsOf B (D.told disk.old).seen (record { layout = layouts.now.old; trace = trace }) }
     ensures same { OnlyReads D.Disk disk.old disk.new }
     ensures blames { Blames fault_in result (D.faults disk.old) (D.faults disk.new) }
-    ensures tried { D.tells → IfOk result (λ t. TrialIs (Denotes B) (Reads B) (phases_of plan.now) (D.told disk.old).seen layouts.now.old layouts.now.new t) }
+    ensures tried { D.tells → IfOk result
+        (λ t. TrialIs (Denotes B) (Reads B) (phases_of plan.now) (D.told disk.old).seen layouts.now.old layouts.now.new t) }
 {
     let room = Room::new(alloc, count)?;
     let mut over = Overlay::new(disk, room);

@@ -1,6 +1,5 @@
 ghost use Rattle.std.specs.Prelude.{◌≡◌, ◌<◌, ◌≤◌, length, IfSome, IsNone};
-ghost use Rattle.pt_apply.specs.Plans.{phases_of};
-ghost use Rattle.pt_check.specs.First.{writes_in};
+ghost use Rattle.pt_apply.specs.Plans.{phases_of, writes_in};
 
 use pt_apply::Plan;
 

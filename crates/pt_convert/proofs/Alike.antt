@@ -6,7 +6,8 @@ use Rattle.pt_guid.specs.declared.guid.Guid.{Guid}
 use Rattle.pt_convert.specs.Converted.{HasTwins}
 use Rattle.pt_convert.specs.Twins.{IsSame, HasTwin}
 
-pub same_of : (guids : List Guid) (i j : ℕ) (z : Guid) → i < length guids → j < length guids → get_or guids i z ≡ get_or guids j z → IsSame guids i j
+pub same_of : (guids : List Guid) (i j : ℕ) (z : Guid) → i < length guids → j < length guids → get_or guids i z ≡ get_or guids j z
+    → IsSame guids i j
 same_of guids i j z low high same = (
   get_or guids i z,
   (low, get_or_default guids i (get_or guids i z) z low),
@@ -24,10 +25,12 @@ none_more P n none here i lt = elim (cases_lt i n) as (λ _. ¬ P i) [
 ]
 
 pub twice_of : (guids : List Guid) (count j : ℕ) → j < count → HasTwin guids j → HasTwins guids count
-twice_of guids count j within (i, below, same) = (i, j, record { guid = same.0; order = below; within = within; lower = same.1; higher = same.2 })
+twice_of guids count j within (i, below, same) =
+    (i, j, record { guid = same.0; order = below; within = within; lower = same.1; higher = same.2 })
 
 pub no_twins : (guids : List Guid) (count k : ℕ) → count ≤ k → ((j : ℕ) → j < k → ¬ HasTwin guids j) → HasTwins guids count → ⊥
-no_twins guids count k past none (i, j, twice) = none j (omega (arith, twice.within)) (i, twice.order, (twice.guid, twice.lower, twice.higher))
+no_twins guids count k past none (i, j, twice) =
+    none j (omega (arith, twice.within)) (i, twice.order, (twice.guid, twice.lower, twice.higher))
 
 pub no_twin : (guids : List Guid) (j k : ℕ) → j ≤ k → ((i : ℕ) → i < k → ¬ IsSame guids (1 + i) (1 + j)) → HasTwin guids j → ⊥
 no_twin guids j k past none (i, below, same) = none i (omega arith) same

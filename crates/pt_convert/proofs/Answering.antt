@@ -1,5 +1,6 @@
 -- The word `g` makes a GPT of each layout of a GPT or of four records, or is refused for a reason.
-use Rattle.std.specs.Prelude.{◌≡◌, ◌<◌, ◌≤◌, ◌⊎◌, ◌+◌, ◌-◌, ◌*◌, ℕ, zero, suc, List, [], ◌∷◌, length, replicate, Contains, Option, Some, None}
+use Rattle.std.specs.Prelude.{◌≡◌, ◌<◌, ◌≤◌, ◌⊎◌, ◌+◌, ◌-◌, ◌*◌, ℕ, zero, suc, List, [], ◌∷◌, length, replicate, Contains, Option, Some}
+use Rattle.std.specs.Prelude.{None}
 use Rattle.std.proofs.Common.{refl, ap, subst, inl, inr, arith, get_or}
 use Rattle.std.proofs.lemmas.Bool.{cases_lt}
 use Rattle.std.proofs.Math.ListN.{set}
@@ -19,12 +20,14 @@ use Rattle.pt_layout.specs.Members.{Group, groups_of, IsMember}
 use Rattle.pt_layout.specs.declared.member.Kind.{Kind}
 use Rattle.pt_layout.specs.declared.member.Kind.TheVariants.{Leaf, Slice, Extended}
 use Rattle.pt_layout.specs.declared.member.Member.{Member}
-use Rattle.pt_words.specs.Searches.{Decided, both_decided, either_decided, not_decided, alike_decided, le_decided, lt_decided, numbers_decided, search_below, search_list}
+use Rattle.pt_words.specs.Searches.{Decided, both_decided, either_decided, not_decided, alike_decided, le_decided, lt_decided}
+use Rattle.pt_words.specs.Searches.{numbers_decided, search_below, search_list}
 use Rattle.pt_words.specs.declared.error.Refusal.{Refusal}
 use Rattle.pt_words.specs.declared.error.Refusal.TheVariants.{NotForThisTable, UnknownCode, NoRoomForGpt, NoFreshGuid, SameGuid}
 use Rattle.pt_convert.specs.Partitions.{HasFour, partitions, logicals}
 use Rattle.pt_convert.specs.Room.{edge, IsOutside, IsOutsider, NoRoom, small, partition, ebr, many}
-use Rattle.pt_convert.specs.Converted.{HasRecords, new_type, HasUnknown, entry_of, guids_taken, HasTwins, IsGptOf, MayConvert, Converted, NotConverted, no_mbr, unknown, no_room, too_few, twins}
+use Rattle.pt_convert.specs.Converted.{HasRecords, new_type, HasUnknown, entry_of, guids_taken, HasTwins, IsGptOf, MayConvert, Converted}
+use Rattle.pt_convert.specs.Converted.{NotConverted, no_mbr, unknown, no_room, too_few, twins}
 use Rattle.pt_convert.specs.Twins.{IsSame, HasTwin}
 use Rattle.pt_convert.specs.Placed.{Placeable}
 use Rattle.pt_convert.specs.declared.partition.Partition.{Partition}
@@ -37,10 +40,12 @@ absent_decided None = inl refl
 absent_decided (Some x) = inr (λ e. absurd cc)
 
 unknown_decided : (ps : List Partition) → Decided (HasUnknown ps)
-unknown_decided ps = elim (search_list (λ (p : Partition). new_type p.kind ≡ None) (λ p. absent_decided (new_type p.kind)) ps) as (λ _. Decided (HasUnknown ps)) [
-  | inl found ↦ inl found
-  | inr none ↦ inr (λ has. none has.0 has.1 has.2)
-]
+unknown_decided ps =
+    elim (search_list (λ (p : Partition). new_type p.kind ≡ None) (λ p. absent_decided (new_type p.kind)) ps)
+    as (λ _. Decided (HasUnknown ps)) [
+      | inl found ↦ inl found
+      | inr none ↦ inr (λ has. none has.0 has.1 has.2)
+    ]
 
 extended_decided : (k : Kind) → Decided (k ≡ Extended)
 extended_decided Leaf = inr (λ e. absurd cc)
@@ -61,16 +66,18 @@ abbrev IsOutsideIn : ℕ → Layout → Group → Type 0
 IsOutsideIn b o g = (m : Member) × Contains g.members m × IsOutsider b o.sectors m
 
 in_group_decided : (b : ℕ) (o : Layout) (g : Group) → Decided (IsOutsideIn b o g)
-in_group_decided b o g = elim (search_list (IsOutsider b o.sectors) (outsider_decided b o.sectors) g.members) as (λ _. Decided (IsOutsideIn b o g)) [
-  | inl found ↦ inl found
-  | inr none ↦ inr (λ has. none has.0 has.1 has.2)
-]
+in_group_decided b o g =
+    elim (search_list (IsOutsider b o.sectors) (outsider_decided b o.sectors) g.members) as (λ _. Decided (IsOutsideIn b o g)) [
+      | inl found ↦ inl found
+      | inr none ↦ inr (λ has. none has.0 has.1 has.2)
+    ]
 
 member_outside_decided : (b : ℕ) (o : Layout) → Decided (HasOutside b o)
-member_outside_decided b o = elim (search_list (IsOutsideIn b o) (in_group_decided b o) (groups_of b o)) as (λ _. Decided (HasOutside b o)) [
-  | inl found ↦ inl (found.2.0, record { group = found.0; stands = found.1; sibling = found.2.1 }, found.2.2)
-  | inr none ↦ inr (λ has. none has.1.group has.1.stands (has.0, has.1.sibling, has.2))
-]
+member_outside_decided b o =
+    elim (search_list (IsOutsideIn b o) (in_group_decided b o) (groups_of b o)) as (λ _. Decided (HasOutside b o)) [
+      | inl found ↦ inl (found.2.0, record { group = found.0; stands = found.1; sibling = found.2.1 }, found.2.2)
+      | inr none ↦ inr (λ has. none has.1.group has.1.stands (has.0, has.1.sibling, has.2))
+    ]
 
 -- an extended boot record that lies outside
 abbrev StandsOutside : ℕ → ℕ → List Ebr → Type 0
@@ -95,18 +102,21 @@ ebr_decided b n (Mbr records chain) = stands_decided b n chain
 ebr_decided b n (Gpt t) = inr (λ has. has.1)
 
 room_decided : (b : ℕ) (o : Layout) → Decided (NoRoom b o)
-room_decided b o = joined (le_decided (2 * array_len b + 4) o.sectors) (member_outside_decided b o) (ebr_decided b o.sectors o.body) (lt_decided 124 (length (logicals o.body))) where
-  joined : Decided (HasRoom b o.sectors) → Decided (HasOutside b o) → Decided (EbrOutside b o.sectors o.body) → Decided (124 < length (logicals o.body)) → Decided (NoRoom b o)
-  joined (inr less) out chain more = inl (small less)
-  joined (inl enough) (inl out) chain more = inl (partition out.0 out.1 out.2)
-  joined (inl enough) (inr in_all) (inl chain) more = inl (ebr chain.0 chain.1 chain.2)
-  joined (inl enough) (inr in_all) (inr stand) (inl more) = inl (many more)
-  joined (inl enough) (inr in_all) (inr stand) (inr few) = inr refused where
-    refused : NoRoom b o → ⊥
-    refused (small less) = less enough
-    refused (partition m at out) = in_all (m, at, out)
-    refused (ebr s at out) = stand (s, at, out)
-    refused (many more) = few more
+room_decided b o =
+    joined (le_decided (2 * array_len b + 4) o.sectors) (member_outside_decided b o) (ebr_decided b o.sectors o.body)
+    (lt_decided 124 (length (logicals o.body))) where
+      joined : Decided (HasRoom b o.sectors) → Decided (HasOutside b o) → Decided (EbrOutside b o.sectors o.body)
+          → Decided (124 < length (logicals o.body)) → Decided (NoRoom b o)
+      joined (inr less) out chain more = inl (small less)
+      joined (inl enough) (inl out) chain more = inl (partition out.0 out.1 out.2)
+      joined (inl enough) (inr in_all) (inl chain) more = inl (ebr chain.0 chain.1 chain.2)
+      joined (inl enough) (inr in_all) (inr stand) (inl more) = inl (many more)
+      joined (inl enough) (inr in_all) (inr stand) (inr few) = inr refused where
+        refused : NoRoom b o → ⊥
+        refused (small less) = less enough
+        refused (partition m at out) = in_all (m, at, out)
+        refused (ebr s at out) = stand (s, at, out)
+        refused (many more) = few more
 
 -- two GUIDs are one or not
 abbrev guid_from : List ℕ → Guid
@@ -119,18 +129,23 @@ no_guid : Guid
 no_guid = record { 0 = [] }
 
 same_decided : (guids : List Guid) (i j : ℕ) → Decided (IsSame guids i j)
-same_decided guids i j = joined (lt_decided i (length guids)) (lt_decided j (length guids)) (guids_decided (get_or guids i no_guid) (get_or guids j no_guid)) where
-  joined : Decided (i < length guids) → Decided (j < length guids) → Decided (get_or guids i no_guid ≡ get_or guids j no_guid) → Decided (IsSame guids i j)
-  joined (inl low) (inl high) (inl same) = inl (same_of guids i j no_guid low high same)
-  joined (inl low) (inl high) (inr other) = inr (λ is. other (of_same guids i j no_guid is))
-  joined (inl low) (inr past) same = inr (λ is. past is.2.0)
-  joined (inr past) high same = inr (λ is. past is.1.0)
+same_decided guids i j =
+    joined (lt_decided i (length guids)) (lt_decided j (length guids))
+    (guids_decided (get_or guids i no_guid) (get_or guids j no_guid)) where
+      joined : Decided (i < length guids) → Decided (j < length guids) → Decided (get_or guids i no_guid ≡ get_or guids j no_guid)
+          → Decided (IsSame guids i j)
+      joined (inl low) (inl high) (inl same) = inl (same_of guids i j no_guid low high same)
+      joined (inl low) (inl high) (inr other) = inr (λ is. other (of_same guids i j no_guid is))
+      joined (inl low) (inr past) same = inr (λ is. past is.2.0)
+      joined (inr past) high same = inr (λ is. past is.1.0)
 
 twin_decided : (guids : List Guid) (j : ℕ) → Decided (HasTwin guids j)
-twin_decided guids j = elim (search_below (λ i. IsSame guids (1 + i) (1 + j)) (λ i. same_decided guids (1 + i) (1 + j)) j) as (λ _. Decided (HasTwin guids j)) [
-  | inl found ↦ inl (found.place, found.within, found.holds)
-  | inr none ↦ inr (λ has. none has.0 has.1 has.2)
-]
+twin_decided guids j =
+    elim (search_below (λ i. IsSame guids (1 + i) (1 + j)) (λ i. same_decided guids (1 + i) (1 + j)) j)
+    as (λ _. Decided (HasTwin guids j)) [
+      | inl found ↦ inl (found.place, found.within, found.holds)
+      | inr none ↦ inr (λ has. none has.0 has.1 has.2)
+    ]
 
 twins_decided : (guids : List Guid) (count : ℕ) → Decided (HasTwins guids count)
 twins_decided guids count = elim (search_below (HasTwin guids) (twin_decided guids) count) as (λ _. Decided (HasTwins guids count)) [
@@ -147,16 +162,19 @@ no_partition : Partition
 no_partition = record { number = 0; kind = 0; first = 0; last = 0 }
 
 abbrev with_next : List Guid → List Partition → ℕ → List (Option Entry) → List (Option Entry)
-with_next guids ps k entries = set entries ((get_or ps k no_partition).number - 1) (entry_of (get_or guids (1 + k) no_guid) (get_or ps k no_partition))
+with_next guids ps k entries =
+    set entries ((get_or ps k no_partition).number - 1) (entry_of (get_or guids (1 + k) no_guid) (get_or ps k no_partition))
 
-filled : (n : ℕ) (guids : List Guid) (ps : List Partition) (k : ℕ) → Placeable n ps → 1 + length ps ≤ length guids → k ≤ length ps → Filled guids ps k
+filled : (n : ℕ) (guids : List Guid) (ps : List Partition) (k : ℕ) → Placeable n ps → 1 + length ps ≤ length guids → k ≤ length ps
+    → Filled guids ps k
 filled n guids ps zero fit enough within = record { entries = replicate 128 None; is = none_placed guids ps }
 filled n guids ps (suc k) fit enough within = one (filled n guids ps k fit enough (omega arith)) where
   one : Filled guids ps k → Filled guids ps (suc k)
   one before =
       let at = at_place ps k no_partition (omega arith) in
       let some = at_place guids (1 + k) no_guid (omega arith) in
-      let next = one_placed_on n guids ps k before.entries (get_or ps k no_partition) (get_or guids (1 + k) no_guid) fit before.is at some in
+      let next = one_placed_on n guids ps k before.entries (get_or ps k no_partition) (get_or guids (1 + k) no_guid) fit
+      before.is at some in
       let same : k + 1 ≡ suc k = omega arith in
       let entries = with_next guids ps k before.entries in
       record { entries = entries; is = subst (λ (m : ℕ). UpTo guids ps m entries) same next }
@@ -195,20 +213,27 @@ abbrev ConvertedOr : ℕ → List Guid → Layout → Type 0
 ConvertedOr b guids o = ((p : Layout) × Converted b guids o p) ⊎ ((r : Refusal) × NotConverted b guids o r)
 
 -- each layout of a GPT or of four records becomes a GPT, or there is a reason why not
-pub convert_answers_lem : (b : ℕ) (guids : List Guid) (o : Layout) → bodies.HasFour o.body → ((p : Layout) × Converted b guids o p) ⊎ ((r : Refusal) × NotConverted b guids o r)
+pub convert_answers_lem : (b : ℕ) (guids : List Guid) (o : Layout) → bodies.HasFour o.body
+    → ((p : Layout) × Converted b guids o p) ⊎ ((r : Refusal) × NotConverted b guids o r)
 convert_answers_lem b guids o four =
-    joined (records_decided o.body) (unknown_decided (partitions o.body)) (room_decided b o) (cases_lt (length guids) (guids_taken o)) (twins_decided guids (length (partitions o.body))) where
+    joined (records_decided o.body) (unknown_decided (partitions o.body)) (room_decided b o)
+    (cases_lt (length guids) (guids_taken o)) (twins_decided guids (length (partitions o.body))) where
       made : MayConvert b guids o → ConvertedOr b guids o
       made may =
           let fit = placed b o (four_of o.body four may.is_mbr) may.room in
           let t = tabled b o.sectors guids (partitions o.body) fit may.enough in
-          inl (record { sectors = o.sectors; body = Gpt t.table; labels = o.labels }, record { table = t.table; may = may; is_table = t.is; made = refl })
+          inl (
+            record { sectors = o.sectors; body = Gpt t.table; labels = o.labels },
+            record { table = t.table; may = may; is_table = t.is; made = refl },
+          )
 
-      joined : Decided (HasRecords o.body) → Decided (HasUnknown (partitions o.body)) → Decided (NoRoom b o) → (length guids < guids_taken o) ⊎ (guids_taken o ≤ length guids) → Decided (HasTwins guids (length (partitions o.body)))
+      joined : Decided (HasRecords o.body) → Decided (HasUnknown (partitions o.body)) → Decided (NoRoom b o)
+          → (length guids < guids_taken o) ⊎ (guids_taken o ≤ length guids) → Decided (HasTwins guids (length (partitions o.body)))
           → ConvertedOr b guids o
       joined (inr not) strange room few twice = inr (NotForThisTable, no_mbr not refl)
       joined (inl is) (inl strange) room few twice = inr (UnknownCode, unknown is strange refl)
       joined (inl is) (inr known) (inl room) few twice = inr (NoRoomForGpt, no_room is known room refl)
       joined (inl is) (inr known) (inr room) (inl few) twice = inr (NoFreshGuid, too_few is known room few refl)
       joined (inl is) (inr known) (inr room) (inr enough) (inl twice) = inr (SameGuid, twins is known room enough twice refl)
-      joined (inl is) (inr known) (inr room) (inr enough) (inr distinct) = made (record { is_mbr = is; known = known; room = room; enough = enough; distinct = distinct })
+      joined (inl is) (inr known) (inr room) (inr enough) (inr distinct) =
+          made (record { is_mbr = is; known = known; room = room; enough = enough; distinct = distinct })

@@ -1,5 +1,6 @@
 -- The searches for what lies outside, one place at a time.
-use Rattle.std.proofs.Common.{◌≡◌, ◌<◌, ◌≤◌, ◌+◌, ℕ, zero, suc, Bool, true, false, List, [], ◌∷◌, length, get_or, drop, Option, Some, None, refl, sym, ap, ◌∙◌, subst, arith, inl, inr}
+use Rattle.std.proofs.Common.{◌≡◌, ◌<◌, ◌≤◌, ◌+◌, ℕ, zero, suc, Bool, true, false, List, [], ◌∷◌, length, get_or, drop, Option, Some, None}
+use Rattle.std.proofs.Common.{refl, sym, ap, ◌∙◌, subst, arith, inl, inr}
 use Rattle.std.proofs.lemmas.List.{drop_all}
 use Rattle.pt_mbr.specs.Chain.{StandsAt}
 use Rattle.pt_mbr.specs.declared.ebr.Ebr.{Ebr}
@@ -21,7 +22,8 @@ stands (e ∷ es) zero z lt = inl refl
 stands (e ∷ es) (suc k) z lt = inr (stands es k z (omega arith))
 
 -- where this one doesn't lie outside, another one after it does
-pub next_ebr : (b n : ℕ) (es : List Ebr) (k : ℕ) (z : Ebr) → k < length es → ¬ IsOutside b n (get_or es k z).at.0 (get_or es k z).at.0 → HasEbr b n (drop k es) → HasEbr b n (drop (k + 1) es)
+pub next_ebr : (b n : ℕ) (es : List Ebr) (k : ℕ) (z : Ebr) → k < length es
+    → ¬ IsOutside b n (get_or es k z).at.0 (get_or es k z).at.0 → HasEbr b n (drop k es) → HasEbr b n (drop (k + 1) es)
 next_ebr b n es k z lt inside has = by_place (subst (HasEbr b n) (opened es k z lt) has) where
   by_place : HasEbr b n (get_or es k z ∷ drop (k + 1) es) → HasEbr b n (drop (k + 1) es)
   by_place (s, inl same, outside) = absurd (inside (subst (λ (x : ℕ). IsOutside b n x x) same outside))
@@ -49,10 +51,12 @@ pub not_true : (c : Bool) → c ≡ false → c ≡ true → ⊥
 not_true c off on = let e : ◌≡◌ {A = Bool} true false = sym on ∙ off in cc
 
 -- none of the places before the end lies outside, so none does
-pub none_outside : (b n : ℕ) (places : List (Option Member)) (k : ℕ) → length places ≤ k → ((j : ℕ) (x : Member) → j < k → get_or places j None ≡ Some x → ¬ IsOutsider b n x) → HasOutsider b n places → ⊥
+pub none_outside : (b n : ℕ) (places : List (Option Member)) (k : ℕ) → length places ≤ k
+    → ((j : ℕ) (x : Member) → j < k → get_or places j None ≡ Some x → ¬ IsOutsider b n x) → HasOutsider b n places → ⊥
 none_outside b n places k past none (x, at, out) = none at.0 x (omega (arith, at.1)) at.2 out
 
-pub nowhere_outside : (b : ℕ) (o : Layout) (k : ℕ) → length (slots b o.body) ≤ k → ((j : ℕ) (m : Member) → j < k → get_or (slots b o.body) j None ≡ Some m → ¬ HasNear b o m) → HasAny b o → ⊥
+pub nowhere_outside : (b : ℕ) (o : Layout) (k : ℕ) → length (slots b o.body) ≤ k
+    → ((j : ℕ) (m : Member) → j < k → get_or (slots b o.body) j None ≡ Some m → ¬ HasNear b o m) → HasAny b o → ⊥
 nowhere_outside b o k past none (x, (m, at, near), out) = none at.0 m (omega (arith, at.1)) at.2 (x, near, out)
 
 pub empty_outside : (b n : ℕ) (places : List (Option Member)) → length places ≡ 0 → HasOutsider b n places → ⊥

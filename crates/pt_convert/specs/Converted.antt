@@ -1,6 +1,6 @@
 -- What `g` makes of a layout, or why not.
-use Rattle.std.specs.Prelude.{◌≡◌, ◌≢◌, ◌<◌, ◌≤◌, ◌+◌, ◌-◌, ◌==◌, ℕ, List, length, slice_index_or, replicate, Contains, Option, None, option_map, if◌then◌else◌}
-use Rattle.pt_guid.specs.Codes.{type_of}
+use Rattle.std.specs.Prelude.{◌≡◌, ◌≢◌, ◌<◌, ◌≤◌, ◌+◌, ◌-◌, ℕ, List, length, slice_index_or, replicate, Contains, Option, None, option_map}
+use Rattle.pt_guid.specs.Codes.{type_of_record}
 use Rattle.pt_guid.specs.declared.guid.Guid.{Guid}
 use Rattle.pt_gpt.specs.declared.entry.Entry.{Entry}
 use Rattle.pt_gpt.specs.declared.table.Table.{Table}
@@ -20,15 +20,9 @@ HasRecords (Gpt t) = ⊥
 
 -- the type GUID that an entry has in place of a record's type
 abbrev pub new_type : ℕ → Option (List ℕ)
-new_type kind =
-    if kind == 0xEF then type_of 0xEF00
-    else if kind == 0x83 then type_of 0x8300
-    else if kind == 0x82 then type_of 0x8200
-    else if kind == 0x07 then type_of 0x0700
-    else if kind == 0xA5 then type_of 0xA500
-    else None
+new_type = type_of_record
 
--- a partition has another type
+-- a partition has a type that no entry has
 abbrev pub HasUnknown : List Partition → Type 0
 HasUnknown ps = (p : Partition) × Contains ps p × (new_type p.kind ≡ None)
 

@@ -1,5 +1,6 @@
 -- The partitions of an MBR are its members but the extended one.
-use Rattle.std.specs.Prelude.{◌≡◌, ◌+◌, ◌-◌, ℕ, Bool, true, false, cond, List, [], ◌∷◌, ◌++◌, map, filter, option_map, option_to_list, is_some, Option, Some, None, if◌then◌else◌, nat_eq, ◌&&◌}
+use Rattle.std.specs.Prelude.{◌≡◌, ◌+◌, ◌-◌, ℕ, Bool, true, false, cond, List, [], ◌∷◌, ◌++◌, map, filter, option_map, option_to_list}
+use Rattle.std.specs.Prelude.{is_some, Option, Some, None, if◌then◌else◌, nat_eq, ◌&&◌}
 use Rattle.std.proofs.Common.{refl, sym, ap, ◌∙◌, arith}
 use Rattle.std.proofs.lemmas.List.{map-append}
 use Rattle.std.proofs.lemmas.List.Elements.{filter-append}
@@ -12,7 +13,8 @@ use Rattle.pt_recover.specs.declared.layout.Body.TheVariants.{Mbr}
 use Rattle.pt_layout.specs.declared.member.Kind.{Kind}
 use Rattle.pt_layout.specs.declared.member.Kind.TheVariants.{Leaf, Slice, Extended}
 use Rattle.pt_layout.specs.declared.member.Member.{Member}
-use Rattle.pt_layout.specs.Members.{number_path, record_kind, logical_kind, record_member, logical_member, records_as, logicals_as, present, slots, tops, logicals}
+use Rattle.pt_layout.specs.Members.{number_path, record_kind, logical_kind, record_member, logical_member, records_as, logicals_as, present}
+use Rattle.pt_layout.specs.Members.{slots, tops, logicals}
 use Rattle.pt_convert.specs.Partitions.{partition_of, primary, primaries, logical, logicals_from, partitions}
 use Rattle.pt_convert.specs.declared.partition.Partition.{Partition}
 
@@ -60,26 +62,32 @@ same_member b n r is =
     ap (λ (k : Kind). record { path = number_path n; kind = k; first = r.start; last = r.start + r.size - 1 }) (other_kind b r.kind is)
     ∙ ap (λ (s : ℕ). record { path = number_path n; kind = logical_kind b r.kind; first = s; last = s + r.size - 1 }) start
 
-one_record : (b n : ℕ) (r : Option Record) → filter is_kept (option_to_list (option_map (record_member b n) r)) ≡ map (member_of b) (primary n r)
+one_record : (b n : ℕ) (r : Option Record)
+    → filter is_kept (option_to_list (option_map (record_member b n) r)) ≡ map (member_of b) (primary n r)
 unfolding primary
 one_record b n None = refl
 one_record b n (Some r) = by_case (is_extended r.kind) refl where
-  by_case : (c : Bool) → is_extended r.kind ≡ c → filter is_kept (option_to_list (option_map (record_member b n) (Some r))) ≡ map (member_of b) (primary n (Some r))
+  by_case : (c : Bool) → is_extended r.kind ≡ c
+      → filter is_kept (option_to_list (option_map (record_member b n) (Some r))) ≡ map (member_of b) (primary n (Some r))
   by_case true is =
-      dropped_list (record_member b n r) (extended_kind b r.kind is) ∙ sym (ap (λ (c : Bool). map (member_of b) (if c then [] else partition_of n 0 r ∷ [])) is)
+      dropped_list (record_member b n r) (extended_kind b r.kind is)
+      ∙ sym (ap (λ (c : Bool). map (member_of b) (if c then [] else partition_of n 0 r ∷ [])) is)
   by_case false is =
       let kept : is_kept (record_member b n r) ≡ true = ap is_kept_kind (other_kind b r.kind is) ∙ logical_kept b r.kind in
       kept_list b n (record_member b n r) kept
-      ∙ (ap (λ (m : Member). m ∷ []) (same_member b n r is) ∙ sym (ap (λ (c : Bool). map (member_of b) (if c then [] else partition_of n 0 r ∷ [])) is))
+      ∙ (ap (λ (m : Member). m ∷ []) (same_member b n r is)
+      ∙ sym (ap (λ (c : Bool). map (member_of b) (if c then [] else partition_of n 0 r ∷ [])) is))
 
 abbrev logical_in : ℕ → ℕ → Option Record → List Partition
 logical_in n at o = elim o as (λ o. List Partition) [ None ↦ [] | Some r ↦ partition_of n at r ∷ [] ]
 
-one_logical : (b n at : ℕ) (o : Option Record) → filter is_kept (option_to_list (option_map (logical_member b n at) o)) ≡ map (member_of b) (logical_in n at o)
+one_logical : (b n at : ℕ) (o : Option Record)
+    → filter is_kept (option_to_list (option_map (logical_member b n at) o)) ≡ map (member_of b) (logical_in n at o)
 one_logical b n at None = refl
 one_logical b n at (Some r) = kept_list b n (logical_member b n at r) (logical_kept b r.kind)
 
-one_ebr : (b n : ℕ) (e : Ebr) → filter is_kept (option_to_list (option_map (logical_member b n e.at.0) e.logical)) ≡ map (member_of b) (logical n e)
+one_ebr : (b n : ℕ) (e : Ebr)
+    → filter is_kept (option_to_list (option_map (logical_member b n e.at.0) e.logical)) ≡ map (member_of b) (logical n e)
 unfolding logical
 one_ebr b n e = one_logical b n e.at.0 e.logical
 
@@ -96,7 +104,8 @@ records_kept b n [] = refl
 records_kept b n (r ∷ rs) =
     filter-append is_kept (option_to_list (option_map (record_member b n) r)) (present (records_as b (n + 1) rs))
     ∙ (ap (λ (l : List Member). l ++ filter is_kept (present (records_as b (n + 1) rs))) (one_record b n r)
-    ∙ (ap (λ (l : List Member). map (member_of b) (primary n r) ++ l) (records_kept b (n + 1) rs) ∙ sym (map-append (member_of b) (primary n r) (primaries (n + 1) rs))))
+    ∙ (ap (λ (l : List Member). map (member_of b) (primary n r) ++ l) (records_kept b (n + 1) rs)
+    ∙ sym (map-append (member_of b) (primary n r) (primaries (n + 1) rs))))
 
 chain_kept : (b n : ℕ) (es : List Ebr) → filter is_kept (present (logicals_as b n es)) ≡ map (member_of b) (logicals_from n es)
 unfolding logicals_as logicals_from
@@ -110,10 +119,12 @@ chain_kept b n (e ∷ es) =
     ∙ sym (map-append (member_of b) (logical n e) (logicals_from (next_number n e) es)))))
 
 -- the members without a letter but the extended partition, in order
-pub kept_lem : (b : ℕ) (rs : List (Option Record)) (chain : List Ebr) → filter is_kept (present (slots b (Mbr rs chain))) ≡ map (member_of b) (partitions (Mbr rs chain))
+pub kept_lem : (b : ℕ) (rs : List (Option Record)) (chain : List Ebr)
+    → filter is_kept (present (slots b (Mbr rs chain))) ≡ map (member_of b) (partitions (Mbr rs chain))
 unfolding tops logicals
 kept_lem b rs chain =
     ap (filter is_kept) (flat_map-append option_to_list (records_as b 1 rs) (logicals_as b 5 chain))
     ∙ (filter-append is_kept (present (records_as b 1 rs)) (present (logicals_as b 5 chain))
     ∙ (ap (λ (l : List Member). l ++ filter is_kept (present (logicals_as b 5 chain))) (records_kept b 1 rs)
-    ∙ (ap (λ (l : List Member). map (member_of b) (primaries 1 rs) ++ l) (chain_kept b 5 chain) ∙ sym (map-append (member_of b) (primaries 1 rs) (logicals_from 5 chain)))))
+    ∙ (ap (λ (l : List Member). map (member_of b) (primaries 1 rs) ++ l) (chain_kept b 5 chain)
+    ∙ sym (map-append (member_of b) (primaries 1 rs) (logicals_from 5 chain)))))

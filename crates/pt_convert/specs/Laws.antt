@@ -1,5 +1,6 @@
 -- The laws of `g`, as terms that definitions and proofs above can cite.
-use Rattle.std.specs.Prelude.{◌≡◌, ◌≢◌, ◌<◌, ◌≤◌, ◌+◌, ◌-◌, ◌⊎◌, ℕ, zero, suc, List, [], ◌∷◌, length, slice_index_or, Contains, Option, None}
+use Rattle.std.specs.Prelude.{◌≡◌, ◌≢◌, ◌<◌, ◌≤◌, ◌+◌, ◌-◌, ◌⊎◌, ℕ, zero, suc, List, [], ◌∷◌, length, slice_index_or, Contains, Option}
+use Rattle.std.specs.Prelude.{None}
 use Rattle.std.proofs.Common.{refl, sym, ap, ◌∙◌, subst, inl, inr, arith}
 use Rattle.std.proofs.lemmas.List.{get_or_default}
 use Rattle.std.proofs.lemmas.Bool.{cases_lt}
@@ -18,7 +19,8 @@ one_at : {X : Type 0} (xs : List X) (k : ℕ) (x y : X) → IsAt xs k x → IsAt
 one_at xs k x y a b = sym a.1 ∙ (get_or_default xs k x y a.0 ∙ b.1)
 
 -- lists of one length that agree in each place are one
-same_lists : {X : Type 0} (xs ys : List X) (d : X) → length xs ≡ length ys → ((k : ℕ) → k < length xs → slice_index_or xs k d ≡ slice_index_or ys k d) → xs ≡ ys
+same_lists : {X : Type 0} (xs ys : List X) (d : X) → length xs ≡ length ys
+    → ((k : ℕ) → k < length xs → slice_index_or xs k d ≡ slice_index_or ys k d) → xs ≡ ys
 same_lists [] [] d len same = refl
 same_lists [] (y ∷ ys) d len same = absurd (omega arith)
 same_lists (x ∷ xs) [] d len same = absurd (omega arith)
@@ -34,7 +36,8 @@ Numbered ps n = (k : ℕ) × (p : Partition) × IsAt ps k p × (p.number ≡ n)
 abbrev Spare : List Partition → ℕ → Type 0
 Spare ps n = (p : Partition) → Contains ps p → p.number ≢ n
 
-spare_more : (q : Partition) (qs : List Partition) (n : ℕ) → q.number ≢ n → Spare qs n → (p : Partition) → Contains (q ∷ qs) p → p.number ≢ n
+spare_more : (q : Partition) (qs : List Partition) (n : ℕ) → q.number ≢ n → Spare qs n → (p : Partition) → Contains (q ∷ qs) p
+    → p.number ≢ n
 spare_more q qs n other none p (zero, lt, at) = λ same. other (ap (λ (x : Partition). x.number) at ∙ same)
 spare_more q qs n other none p (suc k, lt, at) = none p (k, omega arith, at)
 
@@ -55,24 +58,28 @@ numbered_or (q ∷ qs) n = elim (cases_eq q.number n) as (λ _. Numbered (q ∷ 
 ]
 
 -- a table has one entry of a number
-one_entry : (b n : ℕ) (guids : List Guid) (ps : List Partition) (t u : Table) → IsGptOf b n guids ps t → IsGptOf b n guids ps u → 1 + length ps ≤ length guids → (k : ℕ) → k < length t.entries
+one_entry : (b n : ℕ) (guids : List Guid) (ps : List Partition) (t u : Table) → IsGptOf b n guids ps t → IsGptOf b n guids ps u
+    → 1 + length ps ≤ length guids → (k : ℕ) → k < length t.entries
     → slice_index_or t.entries k None ≡ slice_index_or u.entries k None
-one_entry b n guids ps t u x y enough k lt = elim (numbered_or ps (k + 1)) as (λ _. slice_index_or t.entries k None ≡ slice_index_or u.entries k None) [
-  | inl (i, p, at, is) ↦ (
-      let guid : Guid = slice_index_or guids (1 + i) t.disk in
-      let some : IsAt guids (1 + i) guid = (omega (arith, at.0), get_or_default guids (1 + i) guid t.disk (omega (arith, at.0))) in
-      let place : p.number - 1 ≡ k = omega arith in
-      let one = subst (λ (m : ℕ). slice_index_or t.entries m None ≡ entry_of guid p) place (x.each i p guid at some) in
-      let other = subst (λ (m : ℕ). slice_index_or u.entries m None ≡ entry_of guid p) place (y.each i p guid at some) in
-      one ∙ sym other
-      )
-  | inr spare ↦ (
-      let place : (k + 1) - 1 ≡ k = omega arith in
-      let one = subst (λ (m : ℕ). slice_index_or t.entries m None ≡ None) place (x.others (k + 1) (omega arith) (omega (arith, x.count)) spare) in
-      let other = subst (λ (m : ℕ). slice_index_or u.entries m None ≡ None) place (y.others (k + 1) (omega arith) (omega (arith, x.count)) spare) in
-      one ∙ sym other
-      )
-]
+one_entry b n guids ps t u x y enough k lt =
+    elim (numbered_or ps (k + 1)) as (λ _. slice_index_or t.entries k None ≡ slice_index_or u.entries k None) [
+      | inl (i, p, at, is) ↦ (
+          let guid : Guid = slice_index_or guids (1 + i) t.disk in
+          let some : IsAt guids (1 + i) guid = (omega (arith, at.0), get_or_default guids (1 + i) guid t.disk (omega (arith, at.0))) in
+          let place : p.number - 1 ≡ k = omega arith in
+          let one = subst (λ (m : ℕ). slice_index_or t.entries m None ≡ entry_of guid p) place (x.each i p guid at some) in
+          let other = subst (λ (m : ℕ). slice_index_or u.entries m None ≡ entry_of guid p) place (y.each i p guid at some) in
+          one ∙ sym other
+          )
+      | inr spare ↦ (
+          let place : (k + 1) - 1 ≡ k = omega arith in
+          let one = subst (λ (m : ℕ). slice_index_or t.entries m None ≡ None) place
+          (x.others (k + 1) (omega arith) (omega (arith, x.count)) spare) in
+          let other = subst (λ (m : ℕ). slice_index_or u.entries m None ≡ None) place
+          (y.others (k + 1) (omega arith) (omega (arith, x.count)) spare) in
+          one ∙ sym other
+          )
+    ]
 
 same_tables : (t u : Table) → t.disk ≡ u.disk → t.first ≡ u.first → t.last ≡ u.last → t.entries ≡ u.entries → t ≡ u
 same_tables t u disk first last entries =
@@ -81,7 +88,8 @@ same_tables t u disk first last entries =
     ∙ (ap (λ (s : ℕ). record { disk = u.disk; first = u.first; last = s; entries = t.entries }) last
     ∙ ap (λ (es : List (Option Entry)). record { disk = u.disk; first = u.first; last = u.last; entries = es }) entries))
 
-one_table : (b n : ℕ) (guids : List Guid) (ps : List Partition) (t u : Table) → IsGptOf b n guids ps t → IsGptOf b n guids ps u → 1 + length ps ≤ length guids → t ≡ u
+one_table : (b n : ℕ) (guids : List Guid) (ps : List Partition) (t u : Table) → IsGptOf b n guids ps t → IsGptOf b n guids ps u
+    → 1 + length ps ≤ length guids → t ≡ u
 one_table b n guids ps t u x y enough =
     same_tables t u (one_at guids 0 t.disk u.disk x.disk y.disk) (x.first ∙ sym y.first) (x.last ∙ sym y.last)
     (same_lists t.entries u.entries None (x.count ∙ sym y.count) (one_entry b n guids ps t u x y enough))
@@ -101,7 +109,8 @@ converted_taken_lem b guids o p r a (too_few mbr known room few is) = let enough
 converted_taken_lem b guids o p r a (twins mbr known room enough bad is) = a.may.distinct bad
 
 -- it is refused for one reason
-pub not_converted_one_lem : (b : ℕ) (guids : List Guid) (o : Layout) (r q : Refusal) → NotConverted b guids o r → NotConverted b guids o q → r ≡ q
+pub not_converted_one_lem : (b : ℕ) (guids : List Guid) (o : Layout) (r q : Refusal) → NotConverted b guids o r
+    → NotConverted b guids o q → r ≡ q
 not_converted_one_lem b guids o r q (no_mbr not is) (no_mbr also so) = is ∙ sym so
 not_converted_one_lem b guids o r q (no_mbr not is) (unknown mbr bad so) = absurd (not mbr)
 not_converted_one_lem b guids o r q (no_mbr not is) (no_room mbr known bad so) = absurd (not mbr)

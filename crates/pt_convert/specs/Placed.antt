@@ -16,5 +16,7 @@ pub record Placeable (n : ℕ) (ps : List Partition) : Type 0 where
 -- the entries of these partitions, each with the GUID of its place, and no others
 pub record ArePlaced (guids : List Guid) (ps : List Partition) (entries : List (Option Entry)) : Type 0 where
   pub count : length entries ≡ 128
-  pub each : (k : ℕ) (p : Partition) (guid : Guid) → IsAt ps k p → IsAt guids (1 + k) guid → slice_index_or entries (p.number - 1) None ≡ entry_of guid p
-  pub others : (number : ℕ) → 1 ≤ number → number ≤ 128 → ((p : Partition) → Contains ps p → p.number ≢ number) → slice_index_or entries (number - 1) None ≡ None
+  pub each : (k : ℕ) (p : Partition) (guid : Guid) → IsAt ps k p → IsAt guids (1 + k) guid
+      → slice_index_or entries (p.number - 1) None ≡ entry_of guid p
+  pub others : (number : ℕ) → 1 ≤ number → number ≤ 128 → ((p : Partition) → Contains ps p → p.number ≢ number)
+      → slice_index_or entries (number - 1) None ≡ None

@@ -28,12 +28,7 @@ fn partitions_in(alloc: Global, body: &Body) -> Result<Vec<Partition>, Refusal>
     ensures err { IfErr result (λ refusal. refusal ≢ Refusal.Memory → ¬ HasRecords body.now) }
 {
     match body {
-        Body::Mbr { records, chain } => {
-            match partitions_of(alloc, records, chain.as_slice()) {
-                Ok(partitions) => Ok(partitions),
-                Err(_) => Err(Refusal::Memory),
-            }
-        }
+        Body::Mbr { records, chain } => Ok(partitions_of(alloc, records, chain.as_slice())?),
         Body::Gpt(_) => Err(Refusal::NotForThisTable),
     }
 }
@@ -106,20 +101,12 @@ pub fn to_gpt<const B: usize>(
     ensures ok { IfOk result (λ made. Converted B guids.now layout made) }
     ensures err { IfErr result (λ refusal. refusal ≢ Refusal.Memory → NotConverted B guids.now layout refusal) }
 {
-    let partitions = match partitions_in(alloc, &layout.body) {
-        Ok(partitions) => partitions,
-        Err(refusal) => return Err(refusal),
-    };
-    match may_convert::<B>(&layout, &partitions, guids) {
-        Ok(()) => {}
-        Err(refusal) => return Err(refusal),
-    }
-    match table_for::<B>(alloc, layout.sectors, &partitions, guids) {
-        Ok(table) => Ok(Layout {
-            sectors: layout.sectors,
-            body: Body::Gpt(table),
-            labels: layout.labels,
-        }),
-        Err(_) => Err(Refusal::Memory),
-    }
+    let partitions = partitions_in(alloc, &layout.body)?;
+    may_convert::<B>(&layout, &partitions, guids)?;
+    let table = table_for::<B>(alloc, layout.sectors, &partitions, guids)?;
+    Ok(Layout {
+        sectors: layout.sectors,
+        body: Body::Gpt(table),
+        labels: layout.labels,
+    })
 }

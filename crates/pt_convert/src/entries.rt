@@ -4,10 +4,9 @@ ghost use Rattle.std.specs.Prelude.{◌≡◌, ◌<◌, ◌≤◌, ◌+◌, ◌^
 ghost use Rattle.pt_convert.specs.Converted.{entry_of};
 ghost use Rattle.pt_convert.specs.Placed.{Placeable, ArePlaced};
 
-use crate::kinds::new_type_of;
 use crate::partition::Partition;
 use pt_gpt::Entry;
-use pt_guid::Guid;
+use pt_guid::{Guid, type_of_record};
 use std::alloc::{AllocError, Global};
 
 /// How many entries a new GPT has.
@@ -19,7 +18,7 @@ fn entry_for(partition: &Partition, unique: &Guid) -> Option<Entry>
     requires last { partition.now.last < 2 ^ 64 }
     ensures { result ≡ entry_of unique.now partition.now }
 {
-    match new_type_of(partition.kind) {
+    match type_of_record(partition.kind) {
         Some(kind) => Some(Entry {
             kind,
             unique: *unique,

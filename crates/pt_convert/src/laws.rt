@@ -30,10 +30,12 @@ pub fn converted_taken()
 
 /// The partitions that are kept are the records and logical partitions of the layout, in order, but for the extended one.
 pub fn partitions_kept()
-    ensures { (b : ℕ) (records : List (Option Record)) (chain : List Ebr) → filter is_kept (present (slots b (Mbr records chain))) ≡ map (member_of b) (partitions (Mbr records chain)) }
+    ensures { (b : ℕ) (records : List (Option Record)) (chain : List Ebr)
+        → filter is_kept (present (slots b (Mbr records chain))) ≡ map (member_of b) (partitions (Mbr records chain)) }
 {}
 
 /// A layout of a GPT or of four records becomes a GPT, or there is a reason why it doesn't.
 pub fn convert_answers()
-    ensures { (b : ℕ) (guids : List Guid) (o : Layout) → HasFour o.body → ((p : Layout) × Converted b guids o p) ⊎ ((r : Refusal) × NotConverted b guids o r) }
+    ensures { (b : ℕ) (guids : List Guid) (o : Layout) → HasFour o.body → ((p : Layout) × Converted b guids o p)
+        ⊎ ((r : Refusal) × NotConverted b guids o r) }
 {}

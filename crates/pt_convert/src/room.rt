@@ -113,8 +113,8 @@ fn has_ebr_outside<const B: usize>(sectors: u64, chain: &[Ebr]) -> bool
     requires size { IsSectorSize B }
     ensures { IsTrue result ↔ HasEbr B sectors chain.now }
 {
-    for k in 0..chain.len() {
-        if is_ebr_outside::<B>(sectors, &chain[k]) {
+    for ebr in chain {
+        if is_ebr_outside::<B>(sectors, ebr) {
             return true;
         }
     }

@@ -6,19 +6,13 @@ ghost use Rattle.pt_convert.specs.Twins.{HasTwin, IsSame};
 
 use pt_guid::Guid;
 
-fn equal(a: &Guid, b: &Guid) -> bool
-    ensures { IsTrue result ↔ (a.now ≡ b.now) }
-{
-    a == b
-}
-
 // Whether the GUIDs in two places are equal.
 fn is_same(guids: &[Guid], i: usize, j: usize) -> bool
     requires lower { i < length guids.now }
     requires higher { j < length guids.now }
     ensures { IsTrue result ↔ IsSame guids.now i j }
 {
-    equal(&guids[i], &guids[j])
+    guids[i] == guids[j]
 }
 
 // Whether one of the partitions before partition `j`, both counted from 0, has its GUID.

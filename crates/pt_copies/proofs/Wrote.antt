@@ -1,17 +1,18 @@
 -- What phases that write both copies have: they are in range, none is empty, and they are few writes.
-use Rattle.std.proofs.Common.{◌≡◌, ◌∙◌, ◌⊎◌, inl, inr, ℕ, ◌+◌, ◌*◌, ◌<◌, ◌≤◌, List, [], ◌∷◌, ◌++◌, length, slice_index_or, ◌-◌, Option, Some, None, sym, ap, subst, arith, length-append, Vec}
+use Rattle.std.proofs.Common.{◌≡◌, ◌∙◌, ◌⊎◌, inl, inr, ℕ, ◌+◌, ◌*◌, ◌<◌, ◌≤◌, List, [], ◌∷◌, ◌++◌, length, slice_index_or, ◌-◌, Option}
+use Rattle.std.proofs.Common.{Some, None, sym, ap, subst, arith, length-append, Vec}
 use Rattle.std.specs.declared.alloc.Global.{Global}
 use Rattle.pt_sector.specs.Sectors.{IsSectorSize}
 use Rattle.pt_sector.specs.Writes.{Writes, Puts}
-use Rattle.pt_apply.specs.Plans.{writes_of, phases_in, PhaseInRange, PhasesInRange}
+use Rattle.pt_apply.specs.Plans.{writes_of, phases_in, PhaseInRange, PhasesInRange, writes_in}
 use Rattle.pt_apply.specs.declared.plan.Write.{Write}
-use Rattle.pt_check.specs.First.{writes_in}
 use Rattle.pt_gpt.specs.Array.{array_len}
 use Rattle.pt_gpt.specs.Copy.{array_place}
 use Rattle.pt_gpt.specs.declared.table.Side.{Side}
 use Rattle.pt_gpt.specs.declared.table.Side.TheVariants.{Primary, Backup}
 use Rattle.pt_gpt.specs.declared.table.Table.{Table}
-use Rattle.pt_cases.specs.Cases.{backup_first_phases, primary_first_phases, from_mbr_phases, labels_and_backup, primary_and_labels, copies_and_labels}
+use Rattle.pt_cases.specs.Cases.{backup_first_phases, primary_first_phases, from_mbr_phases, labels_and_backup, primary_and_labels}
+use Rattle.pt_cases.specs.Cases.{copies_and_labels}
 use Rattle.pt_cases.specs.Copies.{array_phase, one_write, closing, backup_phase}
 use Rattle.pt_cases.specs.Sides.{array_count}
 use Rattle.pt_copies.specs.Written.{last_of, WroteCopies}
@@ -31,13 +32,17 @@ backup_length b n t header =
     let array = array_length b n t Backup in
     omega (arith, all, array)
 
-front_length : (b n : ℕ) (t : Table) (backup : List ℕ) (labels : Writes) → length (labels_and_backup b n t backup labels) ≡ length labels + (array_len b + 1)
-front_length b n t backup labels = length-append labels (backup_phase b n t backup) ∙ ap (λ (k : ℕ). length labels + k) (backup_length b n t backup)
+front_length : (b n : ℕ) (t : Table) (backup : List ℕ) (labels : Writes)
+    → length (labels_and_backup b n t backup labels) ≡ length labels + (array_len b + 1)
+front_length b n t backup labels =
+    length-append labels (backup_phase b n t backup) ∙ ap (λ (k : ℕ). length labels + k) (backup_length b n t backup)
 
 middle_length : (b n : ℕ) (t : Table) (labels : Writes) → length (primary_and_labels b n t labels) ≡ array_len b + length labels
-middle_length b n t labels = length-append (array_phase b n t Primary) labels ∙ ap (λ (k : ℕ). k + length labels) (array_length b n t Primary)
+middle_length b n t labels =
+    length-append (array_phase b n t Primary) labels ∙ ap (λ (k : ℕ). k + length labels) (array_length b n t Primary)
 
-all_length : (b n : ℕ) (t : Table) (primary backup : List ℕ) (labels : Writes) → length (copies_and_labels b n t primary backup labels) ≡ 1 + (array_len b + (length labels + (array_len b + 1)))
+all_length : (b n : ℕ) (t : Table) (primary backup : List ℕ) (labels : Writes)
+    → length (copies_and_labels b n t primary backup labels) ≡ 1 + (array_len b + (length labels + (array_len b + 1)))
 all_length b n t primary backup labels =
     let first = length-append (one_write 1 primary) (array_phase b n t Primary ++ labels_and_backup b n t backup labels) in
     let second = length-append (array_phase b n t Primary) (labels_and_backup b n t backup labels) in
@@ -53,7 +58,8 @@ last_length : (last : Option (List ℕ)) → length (writes_in (last_of last)) �
 last_length None = omega arith
 last_length (Some v) = omega arith
 
-four_lengths : (p q r s : Writes) (last : List Writes) → length (writes_in (p ∷ q ∷ r ∷ s ∷ last)) ≡ length p + (length q + (length r + (length s + length (writes_in last))))
+four_lengths : (p q r s : Writes) (last : List Writes)
+    → length (writes_in (p ∷ q ∷ r ∷ s ∷ last)) ≡ length p + (length q + (length r + (length s + length (writes_in last))))
 four_lengths p q r s last =
     let first = count_more p (q ∷ r ∷ s ∷ last) in
     let second = count_more q (r ∷ s ∷ last) in
@@ -61,11 +67,13 @@ four_lengths p q r s last =
     let fourth = count_more s last in
     omega (arith, first, second, third, fourth)
 
-module _ (b n : ℕ) (t : Table) (labels : List (Write b)) (ps : List (Vec (Write b) Global)) (size : IsSectorSize b) (room : 2 * array_len b + 4 ≤ n) (below : PhaseInRange n labels) where
+module _ (b n : ℕ) (t : Table) (labels : List (Write b)) (ps : List (Vec (Write b) Global)) (size : IsSectorSize b)
+    (room : 2 * array_len b + 4 ≤ n) (below : PhaseInRange n labels) where
   reached_below : (s : ℕ) (v : List ℕ) → Reaches b n (writes_of labels) s v → s < n
   reached_below s v reached = reaches_below b n (writes_of labels) s v room (λ k x puts. puts_below n labels k x below puts) reached
 
-  end_below : (last : Option (List ℕ)) (s : ℕ) (v : List ℕ) → Puts (writes_in (last_of last)) s v ⊎ Reaches b n (writes_of labels) s v → s < n
+  end_below : (last : Option (List ℕ)) (s : ℕ) (v : List ℕ) → Puts (writes_in (last_of last)) s v ⊎ Reaches b n (writes_of labels) s v
+      → s < n
   end_below last s v (inl end) = let zero_is = (last_reached last s v end).0 in omega (arith, zero_is, room)
   end_below last s v (inr reached) = reached_below s v reached
 
@@ -73,49 +81,71 @@ module _ (b n : ℕ) (t : Table) (labels : List (Write b)) (ps : List (Vec (Writ
   head_below head s v (inl end) = let zero_is = end.0 in omega (arith, zero_is, room)
   head_below head s v (inr reached) = reached_below s v reached
 
-  module _ (last : Option (List ℕ)) (is : WroteCopies b n t (λ p k. backup_first_phases b n t p k (writes_of labels) (last_of last)) (phases_in ps)) where
+  module _ (last : Option (List ℕ))
+      (is : WroteCopies b n t (λ p k. backup_first_phases b n t p k (writes_of labels) (last_of last)) (phases_in ps)) where
     pub backup_first_in_range : PhasesInRange n ps
-    backup_first_in_range = phases_below n ps (λ s v puts. end_below last s v (backup_first_reached b n t is.primary is.backup (writes_of labels) (last_of last) s v room (subst (λ (x : List Writes). Puts (writes_in x) s v) is.is puts)))
+    backup_first_in_range =
+        phases_below n ps
+        (λ s v puts. end_below last s v
+        (backup_first_reached b n t is.primary is.backup (writes_of labels) (last_of last) s v room
+        (subst (λ (x : List Writes). Puts (writes_in x) s v) is.is puts)))
 
     pub backup_first_some : (k : ℕ) (d : Vec (Write b) Global) → k < length ps → 0 < length (slice_index_or ps k d).items
     backup_first_some =
         let front = front_length b n t is.backup (writes_of labels) in
         let array = array_length b n t Primary in
         let some = array_some b size in
-        phases_some ps (subst NoneEmpty (sym is.is) (omega (arith, front), (omega arith, (omega (arith, array, some), (omega arith, last_some last)))))
+        phases_some ps (subst NoneEmpty (sym is.is)
+        (omega (arith, front), (omega arith, (omega (arith, array, some), (omega arith, last_some last)))))
 
     pub backup_first_count : length (writes_in (phases_in ps)) ≤ 2 * array_len b + 4 + length labels
     backup_first_count =
-        let all = four_lengths (labels_and_backup b n t is.backup (writes_of labels)) (closing b) (array_phase b n t Primary) (one_write 1 is.primary) (last_of last) in
+        let all =
+        four_lengths (labels_and_backup b n t is.backup (writes_of labels)) (closing b) (array_phase b n t Primary)
+        (one_write 1 is.primary) (last_of last) in
         let front = front_length b n t is.backup (writes_of labels) in
         let array = array_length b n t Primary in
         let end = last_length last in
         let few = length_writes labels in
-        subst (λ (x : List Writes). length (writes_in x) ≤ 2 * array_len b + 4 + length labels) (sym is.is) (omega (arith, all, front, array, end, few))
+        subst (λ (x : List Writes). length (writes_in x) ≤ 2 * array_len b + 4 + length labels) (sym is.is)
+        (omega (arith, all, front, array, end, few))
 
-  module _ (last : Option (List ℕ)) (is : WroteCopies b n t (λ p k. primary_first_phases b n t p k (writes_of labels) (last_of last)) (phases_in ps)) where
+  module _ (last : Option (List ℕ))
+      (is : WroteCopies b n t (λ p k. primary_first_phases b n t p k (writes_of labels) (last_of last)) (phases_in ps)) where
     pub primary_first_in_range : PhasesInRange n ps
-    primary_first_in_range = phases_below n ps (λ s v puts. end_below last s v (primary_first_reached b n t is.primary is.backup (writes_of labels) (last_of last) s v room (subst (λ (x : List Writes). Puts (writes_in x) s v) is.is puts)))
+    primary_first_in_range =
+        phases_below n ps
+        (λ s v puts. end_below last s v
+        (primary_first_reached b n t is.primary is.backup (writes_of labels) (last_of last) s v room
+        (subst (λ (x : List Writes). Puts (writes_in x) s v) is.is puts)))
 
     pub primary_first_some : (k : ℕ) (d : Vec (Write b) Global) → k < length ps → 0 < length (slice_index_or ps k d).items
     primary_first_some =
         let middle = middle_length b n t (writes_of labels) in
         let copy = backup_length b n t is.backup in
         let some = array_some b size in
-        phases_some ps (subst NoneEmpty (sym is.is) (omega arith, (omega (arith, middle, some), (omega arith, (omega (arith, copy), last_some last)))))
+        phases_some ps (subst NoneEmpty (sym is.is)
+        (omega arith, (omega (arith, middle, some), (omega arith, (omega (arith, copy), last_some last)))))
 
     pub primary_first_count : length (writes_in (phases_in ps)) ≤ 2 * array_len b + 4 + length labels
     primary_first_count =
-        let all = four_lengths (closing b) (primary_and_labels b n t (writes_of labels)) (one_write 1 is.primary) (backup_phase b n t is.backup) (last_of last) in
+        let all =
+        four_lengths (closing b) (primary_and_labels b n t (writes_of labels)) (one_write 1 is.primary) (backup_phase b n t is.backup)
+        (last_of last) in
         let middle = middle_length b n t (writes_of labels) in
         let copy = backup_length b n t is.backup in
         let end = last_length last in
         let few = length_writes labels in
-        subst (λ (x : List Writes). length (writes_in x) ≤ 2 * array_len b + 4 + length labels) (sym is.is) (omega (arith, all, middle, copy, end, few))
+        subst (λ (x : List Writes). length (writes_in x) ≤ 2 * array_len b + 4 + length labels) (sym is.is)
+        (omega (arith, all, middle, copy, end, few))
 
   module _ (head : List ℕ) (is : WroteCopies b n t (λ p k. from_mbr_phases b n t p k (writes_of labels) head) (phases_in ps)) where
     pub from_mbr_in_range : PhasesInRange n ps
-    from_mbr_in_range = phases_below n ps (λ s v puts. head_below head s v (from_mbr_reached b n t is.primary is.backup (writes_of labels) head s v room (subst (λ (x : List Writes). Puts (writes_in x) s v) is.is puts)))
+    from_mbr_in_range =
+        phases_below n ps
+        (λ s v puts. head_below head s v
+        (from_mbr_reached b n t is.primary is.backup (writes_of labels) head s v room
+        (subst (λ (x : List Writes). Puts (writes_in x) s v) is.is puts)))
 
     pub from_mbr_some : (k : ℕ) (d : Vec (Write b) Global) → k < length ps → 0 < length (slice_index_or ps k d).items
     from_mbr_some =

@@ -2,8 +2,7 @@
 
 ghost use Rattle.std.specs.Prelude.{◌≡◌, ◌+◌, ◌*◌, ◌<◌, ◌≤◌, ◌++◌, length, All, IfOk, OnOk};
 ghost use Rattle.pt_sector.specs.Sectors.{IsSectorSize};
-ghost use Rattle.pt_apply.specs.Plans.{writes_of, phases_of, phases_in, InRange, PhaseInRange};
-ghost use Rattle.pt_check.specs.First.{writes_in};
+ghost use Rattle.pt_apply.specs.Plans.{writes_of, phases_of, phases_in, InRange, PhaseInRange, writes_in};
 ghost use Rattle.pt_gpt.specs.Array.{array_len};
 ghost use Rattle.pt_cases.specs.Cases.{backup_first_phases, primary_first_phases, from_mbr_phases, primary_and_labels};
 ghost use Rattle.pt_copies.specs.Added.{ArePrimary};
@@ -46,7 +45,8 @@ fn push_primary<const B: usize>(
     requires size { IsSectorSize B }
     requires room { 2 * array_len B + 4 ≤ sectors }
     requires few { length table.now.entries ≤ 128 }
-    ensures { OnOk result (ArePrimary B sectors table.now (writes_of array.entry.items) (phases_in phases.old.items) (phases_in phases.new.items)) }
+    ensures { OnOk result (ArePrimary B sectors table.now (writes_of array.entry.items) (phases_in phases.old.items)
+        (phases_in phases.new.items)) }
 {
     phases.push(single(alloc, 1, &[0; B])?)?;
     phases.push(array)?;
@@ -82,7 +82,8 @@ pub fn backup_first<const B: usize>(
     requires room { 2 * array_len B + 4 ≤ sectors }
     requires few { length table.now.entries ≤ 128 }
     requires labels_in_range { PhaseInRange sectors labels.items }
-    ensures phases { IfOk result (λ plan. WroteCopies B sectors table.now (λ p k. backup_first_phases B sectors table.now p k (writes_of labels.entry.items) (last_of last.now)) (phases_of plan)) }
+    ensures phases { IfOk result (λ plan. WroteCopies B sectors table.now
+        (λ p k. backup_first_phases B sectors table.now p k (writes_of labels.entry.items) (last_of last.now)) (phases_of plan)) }
     ensures in_range { IfOk result (InRange sectors) }
     ensures some { IfOk result (λ plan. All (λ p. 0 < length p.items) plan.phases.items) }
     ensures count { IfOk result (λ plan. length (writes_in (phases_of plan)) ≤ 2 * array_len B + 4 + length labels.entry.items) }
@@ -111,7 +112,8 @@ pub fn primary_first<const B: usize>(
     requires room { 2 * array_len B + 4 ≤ sectors }
     requires few { length table.now.entries ≤ 128 }
     requires labels_in_range { PhaseInRange sectors labels.items }
-    ensures phases { IfOk result (λ plan. WroteCopies B sectors table.now (λ p k. primary_first_phases B sectors table.now p k (writes_of labels.entry.items) (last_of last.now)) (phases_of plan)) }
+    ensures phases { IfOk result (λ plan. WroteCopies B sectors table.now
+        (λ p k. primary_first_phases B sectors table.now p k (writes_of labels.entry.items) (last_of last.now)) (phases_of plan)) }
     ensures in_range { IfOk result (InRange sectors) }
     ensures some { IfOk result (λ plan. All (λ p. 0 < length p.items) plan.phases.items) }
     ensures count { IfOk result (λ plan. length (writes_in (phases_of plan)) ≤ 2 * array_len B + 4 + length labels.entry.items) }
@@ -138,7 +140,8 @@ pub fn from_mbr<const B: usize>(
     requires room { 2 * array_len B + 4 ≤ sectors }
     requires few { length table.now.entries ≤ 128 }
     requires labels_in_range { PhaseInRange sectors labels.items }
-    ensures phases { IfOk result (λ plan. WroteCopies B sectors table.now (λ p k. from_mbr_phases B sectors table.now p k (writes_of labels.entry.items) head.now) (phases_of plan)) }
+    ensures phases { IfOk result (λ plan. WroteCopies B sectors table.now
+        (λ p k. from_mbr_phases B sectors table.now p k (writes_of labels.entry.items) head.now) (phases_of plan)) }
     ensures in_range { IfOk result (InRange sectors) }
     ensures some { IfOk result (λ plan. All (λ p. 0 < length p.items) plan.phases.items) }
     ensures count { IfOk result (λ plan. length (writes_in (phases_of plan)) ≤ 2 * array_len B + 4 + length labels.entry.items) }

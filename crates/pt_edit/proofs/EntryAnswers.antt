@@ -1,25 +1,33 @@
 -- Each word on an entry of a GPT makes a layout of each, or is refused for a reason.
-use Rattle.std.specs.Prelude.{◌≡◌, ◌≢◌, ◌≤◌, ◌⊎◌, ◌+◌, ◌-◌, ℕ, true, false, List, [], ◌∷◌, length, slice_index_or, slice_set, Option, Some, None}
+use Rattle.std.specs.Prelude.{◌≡◌, ◌≢◌, ◌≤◌, ◌⊎◌, ◌+◌, ◌-◌, ℕ, List, [], ◌∷◌, length, slice_index_or, slice_set, Option, Some}
+use Rattle.std.specs.Prelude.{None}
 use Rattle.std.proofs.Common.{refl, sym, subst, inl, inr, arith}
-use Rattle.std.proofs.lemmas.Bool.{cases_lt, cases_eq, cases_Bool}
+use Rattle.std.proofs.lemmas.Bool.{cases_lt, cases_eq}
 use Rattle.pt_guid.specs.declared.guid.Guid.{Guid}
 use Rattle.pt_gpt.specs.declared.entry.Entry.{Entry}
 use Rattle.pt_gpt.specs.declared.table.Table.{Table}
 use Rattle.pt_recover.specs.declared.layout.Layout.{Layout}
 use Rattle.pt_recover.specs.declared.layout.Body.{Body}
 use Rattle.pt_recover.specs.declared.layout.Body.TheVariants.{Mbr, Gpt}
-use Rattle.pt_words.specs.Searches.{Decided, both_decided, either_decided, alike_decided, le_decided, lt_decided, eq_decided, true_decided, option_cases, search_below}
+use Rattle.pt_words.specs.Searches.{Decided, both_decided, either_decided, alike_decided, le_decided, lt_decided, eq_decided, true_decided}
+use Rattle.pt_words.specs.Searches.{option_cases, search_below}
 use Rattle.pt_words.specs.declared.error.Refusal.{Refusal}
-use Rattle.pt_words.specs.declared.error.Refusal.TheVariants.{NoSuchPartition, NumberTaken, NoSpace, UnknownCode, ContainerType, NotForThisTable, NoFreshGuid, SameGuid}
+use Rattle.pt_words.specs.declared.error.Refusal.TheVariants.{NoSuchPartition, NumberTaken, NoSpace, UnknownCode, ContainerType}
+use Rattle.pt_words.specs.declared.error.Refusal.TheVariants.{NotForThisTable, NoFreshGuid, SameGuid}
 use Rattle.pt_words.specs.declared.word.Code.{Code}
 use Rattle.pt_space.specs.declared.space.Run.{Run}
 use Rattle.pt_space.specs.Answers.{PlacedOr, place_answers_lem}
 use Rattle.pt_labels.specs.Lists.{without_label}
 use Rattle.pt_convert.proofs.Answering.{guids_decided}
-use Rattle.pt_edit.specs.Changes.{IsGpt, HasEntry, with_entry, with_body, Changed, Missing, no_gpt, no_entry, NotChanged, missing, barred, IsElsewhere, Elsewhere, TableMade, NoTable}
-use Rattle.pt_edit.specs.Spots.{is_slice, entry_type, EntryTyped, EntryNotTyped, no_such_entry, unknown_code, is_container, EntryDeleted, EntryNotDeleted}
-use Rattle.pt_edit.specs.NewEntry.{IsUnused, TakesNumber, given, lowest, NoNumber, no_such_number, taken, all_taken, new_type, table_area, HasPlace, NoPlace, no_number, no_type, no_sectors, run_length, IsWrongSize, with_new_entry, EntryMade, EntryNotMade, no_place, wrong_size, no_guid, same_guid}
-use Rattle.pt_edit.specs.declared.asked.Asked.{Asked}
+use Rattle.pt_edit.specs.Changes.{IsGpt, HasEntry, with_entry, with_body, Changed, Missing, no_gpt, no_entry, NotChanged, missing, barred}
+use Rattle.pt_edit.specs.Changes.{IsElsewhere, Elsewhere, TableMade, NoTable}
+use Rattle.pt_labels.specs.Retyped.{IsRetyped, retyped_or}
+use Rattle.pt_edit.specs.Spots.{is_slice, entry_type, EntryTyped, EntryNotTyped, EntryDeleted}
+use Rattle.pt_edit.specs.Spots.{EntryNotDeleted}
+use Rattle.pt_edit.specs.NewEntry.{IsUnused, TakesNumber, given, lowest, NoNumber, no_such_number, taken, all_taken, new_type, table_area}
+use Rattle.pt_edit.specs.NewEntry.{HasPlace, NoPlace, no_number, no_type, no_sectors, run_length, IsWrongSize, with_new_entry, EntryMade}
+use Rattle.pt_edit.specs.NewEntry.{EntryNotMade, no_place, wrong_size, no_guid, same_guid}
+use Rattle.pt_words.specs.declared.asked.Asked.{Asked}
 
 absent_decided : {X : Type 0} (o : Option X) → Decided (o ≡ None)
 absent_decided None = inl refl
@@ -30,12 +38,15 @@ abbrev EntryOr : Table → ℕ → Type 0
 EntryOr t number = ((e : Entry) × HasEntry t number e) ⊎ ((e : Entry) → ¬ HasEntry t number e)
 
 entry_or : (t : Table) (number : ℕ) → EntryOr t number
-entry_or t number = joined (le_decided 1 number) (le_decided number (length t.entries)) (option_cases (slice_index_or t.entries (number - 1) None)) where
-  joined : Decided (1 ≤ number) → Decided (number ≤ length t.entries) → ((e : Entry) × (slice_index_or t.entries (number - 1) None ≡ Some e)) ⊎ (slice_index_or t.entries (number - 1) None ≡ None) → EntryOr t number
-  joined (inr not) last used = inr (λ e has. not has.first)
-  joined (inl first) (inr not) used = inr (λ e has. not has.last)
-  joined (inl first) (inl last) (inr none) = inr (λ e has. (let used_by = has.used in absurd cc))
-  joined (inl first) (inl last) (inl used) = inl (used.0, record { first = first; last = last; used = used.1 })
+entry_or t number =
+    joined (le_decided 1 number) (le_decided number (length t.entries)) (option_cases (slice_index_or t.entries (number - 1) None)) where
+      joined : Decided (1 ≤ number) → Decided (number ≤ length t.entries)
+          → ((e : Entry) × (slice_index_or t.entries (number - 1) None ≡ Some e)) ⊎ (slice_index_or t.entries (number - 1) None ≡ None)
+          → EntryOr t number
+      joined (inr not) last used = inr (λ e has. not has.first)
+      joined (inl first) (inr not) used = inr (λ e has. not has.last)
+      joined (inl first) (inl last) (inr none) = inr (λ e has. (let used_by = has.used in absurd cc))
+      joined (inl first) (inl last) (inl used) = inl (used.0, record { first = first; last = last; used = used.1 })
 
 -- the layout is of a GPT with such an entry, or there is a reason why not
 record EntryOf (number : ℕ) (o : Layout) : Type 0 where
@@ -57,10 +68,12 @@ missing_or number o = by_body o.body refl where
   ]
 
 -- an entry changes where that is allowed, or is refused where it is barred
-pub changed_or : (number : ℕ) (Allowed Barred : Table → Type 0) (change : Entry → Entry) (why : Refusal) (o : Layout) → ((t : Table) → Allowed t ⊎ Barred t)
+pub changed_or : (number : ℕ) (Allowed Barred : Table → Type 0) (change : Entry → Entry) (why : Refusal) (o : Layout)
+    → ((t : Table) → Allowed t ⊎ Barred t)
     → ((p : Layout) × Changed number Allowed change o p) ⊎ ((r : Refusal) × NotChanged number Barred why o r)
 changed_or number Allowed Barred change why o decide = joined (missing_or number o) where
-  allowed_or : (x : EntryOf number o) → Allowed x.table ⊎ Barred x.table → ((p : Layout) × Changed number Allowed change o p) ⊎ ((r : Refusal) × NotChanged number Barred why o r)
+  allowed_or : (x : EntryOf number o) → Allowed x.table ⊎ Barred x.table
+      → ((p : Layout) × Changed number Allowed change o p) ⊎ ((r : Refusal) × NotChanged number Barred why o r)
   allowed_or x (inr bar) = inr (why, barred x.table x.entry x.is x.has bar refl)
   allowed_or x (inl free) = inl (
     with_body o (Gpt (with_entry x.table number (change x.entry))),
@@ -79,21 +92,18 @@ changed_or number Allowed Barred change why o decide = joined (missing_or number
   joined (inl x) = allowed_or x (decide x.table)
 
 -- it changes, where nothing bars it
-pub changed_freely_or : (number : ℕ) (change : Entry → Entry) (o : Layout) → ((p : Layout) × Changed number (λ t. Unit {0}) change o p) ⊎ ((r : Refusal) × Missing number o r)
-changed_freely_or number change o = joined (missing_or number o) where
-  joined : MissingOr number o → ((p : Layout) × Changed number (λ t. Unit {0}) change o p) ⊎ ((r : Refusal) × Missing number o r)
-  joined (inr none) = inr none
-  joined (inl x) = inl (
-    with_body o (Gpt (with_entry x.table number (change x.entry))),
-    record {
-      table = x.table;
-      entry = x.entry;
-      is_table = x.is;
-      is_entry = x.has;
-      allowed = tt;
-      made = refl;
-    },
-  )
+pub changed_freely_or : (number : ℕ) (change : Entry → Entry) (o : Layout)
+    → ((p : Layout) × Changed number (λ t. Unit {0}) change o p) ⊎ ((r : Refusal) × Missing number o r)
+changed_freely_or number change o =
+    told (changed_or number (λ t. Unit {0}) (λ t. ⊥) change NoSuchPartition o (λ t. inl tt)) where
+      absent : (r : Refusal) → NotChanged number (λ t. ⊥) NoSuchPartition o r → Missing number o r
+      absent r (missing none) = none
+      absent r (barred t e table has bad is) = absurd bad
+
+      told : ((p : Layout) × Changed number (λ t. Unit {0}) change o p) ⊎ ((r : Refusal) × NotChanged number (λ t. ⊥) NoSuchPartition o r)
+          → ((p : Layout) × Changed number (λ t. Unit {0}) change o p) ⊎ ((r : Refusal) × Missing number o r)
+      told (inl made) = inl made
+      told (inr why) = inr (why.0, absent why.0 why.1)
 
 -- the table changes, or there is none
 pub table_made_or : (change : Table → Table) (o : Layout) → ((p : Layout) × TableMade change o p) ⊎ ((r : Refusal) × NoTable o r)
@@ -117,54 +127,58 @@ elsewhere_at_decided t number guid k = joined (entry_or t k) where
   same_or : (e : Entry) → HasEntry t k e → Decided (k ≡ number) → Decided (e.unique ≡ guid) → Decided (IsElsewhereAt t number guid k)
   same_or e has (inl here) same = inr (λ x. x.1.other here)
   same_or e has (inr other) (inl same) = inl (e, record { is_entry = has; other = other; same = same })
-  same_or e has (inr other) (inr not) = inr (λ x. (let f = one_entry e x.0 has x.1.is_entry in not (subst (λ (y : Entry). y.unique ≡ guid) (sym f) x.1.same)))
+  same_or e has (inr other) (inr not) = inr (λ x.
+      (let f = one_entry e x.0 has x.1.is_entry in not (subst (λ (y : Entry). y.unique ≡ guid) (sym f) x.1.same)))
 
   joined : EntryOr t k → Decided (IsElsewhereAt t number guid k)
   joined (inr none) = inr (λ x. none x.0 x.1.is_entry)
   joined (inl has) = same_or has.0 has.1 (eq_decided k number) (guids_decided has.0.unique guid)
 
 pub elsewhere_decided : (t : Table) (number : ℕ) (guid : Guid) → Decided (Elsewhere t number guid)
-elsewhere_decided t number guid = elim (search_below (IsElsewhereAt t number guid) (elsewhere_at_decided t number guid) (length t.entries + 1)) as (λ _. Decided (Elsewhere t number guid)) [
-  | inl found ↦ inl (found.place, found.holds.0, found.holds.1)
-  | inr none ↦ inr (λ x. none x.0 (omega (arith, x.2.is_entry.last)) (x.1, x.2))
-]
+elsewhere_decided t number guid =
+    elim (search_below (IsElsewhereAt t number guid) (elsewhere_at_decided t number guid) (length t.entries + 1))
+    as (λ _. Decided (Elsewhere t number guid)) [
+      | inl found ↦ inl (found.place, found.holds.0, found.holds.1)
+      | inr none ↦ inr (λ x. none x.0 (omega (arith, x.2.is_entry.last)) (x.1, x.2))
+    ]
 
 -- `t` of an entry
 abbrev TypedOr : ℕ → Table → ℕ → Code → Layout → Type 0
 TypedOr b t number code o = ((p : Layout) × EntryTyped b t number code o p) ⊎ ((r : Refusal) × EntryNotTyped b t number code r)
 
-type_entry : (b : ℕ) (t : Table) (number : ℕ) (code : Code) (o : Layout) (e : Entry) (kind : List ℕ) → HasEntry t number e → entry_type code ≡ Some kind → TypedOr b t number code o
-type_entry b t number code o e kind has known = joined (cases_Bool (is_slice b e.kind.0)) (cases_Bool (is_slice b kind)) where
-  joined : (is_slice b e.kind.0 ≡ true) ⊎ (is_slice b e.kind.0 ≡ false) → (is_slice b kind ≡ true) ⊎ (is_slice b kind ≡ false) → TypedOr b t number code o
-  joined (inl old) new = inr (ContainerType, is_container e kind has known (inl old) refl)
-  joined (inr old) (inl new) = inr (ContainerType, is_container e kind has known (inr new) refl)
-  joined (inr old) (inr new) = inl (
-    with_body o (Gpt (with_entry t number (record e { kind = record { 0 = kind } }))),
-    record {
-      entry = e;
-      kind = kind;
-      is_entry = has;
-      known = known;
-      old = old;
-      new = new;
-      made = refl;
-    },
-  )
-
-pub entry_typed_or : (b : ℕ) (t : Table) (number : ℕ) (code : Code) (o : Layout) → ((p : Layout) × EntryTyped b t number code o p) ⊎ ((r : Refusal) × EntryNotTyped b t number code r)
-entry_typed_or b t number code o = joined (entry_or t number) (option_cases (entry_type code)) where
-  joined : EntryOr t number → ((k : List ℕ) × (entry_type code ≡ Some k)) ⊎ (entry_type code ≡ None) → TypedOr b t number code o
-  joined (inr none) known = inr (NoSuchPartition, no_such_entry none refl)
-  joined (inl has) (inr strange) = inr (UnknownCode, unknown_code has.0 has.1 strange refl)
-  joined (inl has) (inl kind) = type_entry b t number code o has.0 kind.0 has.1 kind.1
+pub entry_typed_or : (b : ℕ) (t : Table) (number : ℕ) (code : Code) (o : Layout)
+    → ((p : Layout) × EntryTyped b t number code o p) ⊎ ((r : Refusal) × EntryNotTyped b t number code r)
+entry_typed_or b t number code o =
+    told (retyped_or (HasEntry t number) (entry_type code) (λ (e : Entry). e.kind.0) (is_slice b) (entry_or t number)
+    (option_cases (entry_type code))) where
+      told : IsRetyped (HasEntry t number) (entry_type code) (λ (e : Entry). e.kind.0) (is_slice b)
+          ⊎ ((r : Refusal) × EntryNotTyped b t number code r) → TypedOr b t number code o
+      told (inr why) = inr why
+      told (inl (e, kind, has, known, old, new)) = inl (
+        with_body o (Gpt (with_entry t number (record e { kind = record { 0 = kind } }))),
+        record {
+          entry = e;
+          kind = kind;
+          is_entry = has;
+          known = known;
+          old = old;
+          new = new;
+          made = refl;
+        },
+      )
 
 -- `d` of an entry
-pub entry_deleted_or : (t : Table) (number : ℕ) (o : Layout) → ((p : Layout) × EntryDeleted t number o p) ⊎ ((r : Refusal) × EntryNotDeleted t number r)
+pub entry_deleted_or : (t : Table) (number : ℕ) (o : Layout)
+    → ((p : Layout) × EntryDeleted t number o p) ⊎ ((r : Refusal) × EntryNotDeleted t number r)
 entry_deleted_or t number o = joined (entry_or t number) where
   joined : EntryOr t number → ((p : Layout) × EntryDeleted t number o p) ⊎ ((r : Refusal) × EntryNotDeleted t number r)
   joined (inr none) = inr (NoSuchPartition, record { none = none; is = refl })
   joined (inl has) = inl (
-    record { sectors = o.sectors; body = Gpt (record t { entries = slice_set t.entries (number - 1) None }); labels = without_label number o.labels },
+    record {
+      sectors = o.sectors;
+      body = Gpt (record t { entries = slice_set t.entries (number - 1) None });
+      labels = without_label number o.labels;
+    },
     record {
       entry = has.0;
       is_entry = has.1;
@@ -178,20 +192,26 @@ unused_decided t number =
     alike_decided
     (λ x. record { first = x.0.0; last = x.0.1; none = x.1 })
     (λ u. ((u.first, u.last), u.none))
-    (both_decided (both_decided (le_decided 1 number) (le_decided number (length t.entries))) (absent_decided (slice_index_or t.entries (number - 1) None)))
+    (both_decided (both_decided (le_decided 1 number) (le_decided number (length t.entries)))
+    (absent_decided (slice_index_or t.entries (number - 1) None)))
 
 abbrev NumberOr : Table → ℕ → Type 0
 NumberOr t wanted = ((number : ℕ) × TakesNumber t wanted number) ⊎ ((r : Refusal) × NoNumber t wanted r)
 
 lowest_or : (t : Table) (wanted : ℕ) → wanted ≡ 0 → NumberOr t wanted
 lowest_or t wanted is = elim (search_below (IsUnused t) (unused_decided t) (length t.entries + 1)) as (λ _. NumberOr t wanted) [
-  | inl found ↦ inl (found.place, lowest is found.holds (λ k free. elim (cases_lt k found.place) as (λ _. found.place ≤ k) [ inl less ↦ absurd (found.first k less free) | inr le ↦ le ]))
+  | inl found ↦ inl (
+    found.place,
+    lowest is found.holds
+        (λ k free. elim (cases_lt k found.place) as (λ _. found.place ≤ k) [ inl less ↦ absurd (found.first k less free) | inr le ↦ le ]),
+  )
   | inr none ↦ inr (NoSpace, all_taken is (λ k free. none k (omega (arith, free.last)) free) refl)
 ]
 
 given_or : (t : Table) (wanted : ℕ) → wanted ≢ 0 → wanted ≤ length t.entries → NumberOr t wanted
 given_or t wanted some within = joined (option_cases (slice_index_or t.entries (wanted - 1) None)) where
-  joined : ((e : Entry) × (slice_index_or t.entries (wanted - 1) None ≡ Some e)) ⊎ (slice_index_or t.entries (wanted - 1) None ≡ None) → NumberOr t wanted
+  joined : ((e : Entry) × (slice_index_or t.entries (wanted - 1) None ≡ Some e))
+      ⊎ (slice_index_or t.entries (wanted - 1) None ≡ None) → NumberOr t wanted
   joined (inl used) = inr (NumberTaken, taken used.0 (record { first = omega arith; last = within; used = used.1 }) refl)
   joined (inr none) = inl (wanted, given some (record { first = omega arith; last = within; none = none }) refl)
 
@@ -209,25 +229,29 @@ abbrev PlaceOr : Table → Asked → Type 0
 PlaceOr t a = ((number : ℕ) × (kind : List ℕ) × (run : Run) × HasPlace t a number kind run) ⊎ ((r : Refusal) × NoPlace t a r)
 
 place_or : (t : Table) (a : Asked) → PlaceOr t a
-place_or t a = joined (number_or t a.number) (option_cases (new_type a.code)) (place_answers_lem (table_area t) a.alignment a.start a.end) where
-  joined : NumberOr t a.number → ((k : List ℕ) × (new_type a.code ≡ Some k)) ⊎ (new_type a.code ≡ None) → PlacedOr (table_area t) a.alignment a.start a.end → PlaceOr t a
-  joined (inr why) known run = inr (why.0, no_number why.1)
-  joined (inl number) (inr strange) run = inr (UnknownCode, no_type number.0 number.1 strange refl)
-  joined (inl number) (inl kind) (inr why) = inr (why.0, no_sectors number.0 kind.0 number.1 kind.1 why.1)
-  joined (inl number) (inl kind) (inl run) = inl (number.0, kind.0, run.0, record { takes = number.1; known = kind.1; placed = run.1 })
+place_or t a =
+    joined (number_or t a.number) (option_cases (new_type a.code)) (place_answers_lem (table_area t) a.alignment a.start a.end) where
+      joined : NumberOr t a.number → ((k : List ℕ) × (new_type a.code ≡ Some k)) ⊎ (new_type a.code ≡ None)
+          → PlacedOr (table_area t) a.alignment a.start a.end → PlaceOr t a
+      joined (inr why) known run = inr (why.0, no_number why.1)
+      joined (inl number) (inr strange) run = inr (UnknownCode, no_type number.0 number.1 strange refl)
+      joined (inl number) (inl kind) (inr why) = inr (why.0, no_sectors number.0 kind.0 number.1 kind.1 why.1)
+      joined (inl number) (inl kind) (inl run) = inl (number.0, kind.0, run.0, record { takes = number.1; known = kind.1; placed = run.1 })
 
 size_decided : (b : ℕ) (kind : List ℕ) (run : Run) → Decided (IsWrongSize b kind run)
 size_decided b kind run =
     alike_decided
     (λ x. record { is_slice = x.0; wrong = x.1 })
     (λ w. (w.is_slice, w.wrong))
-    (both_decided (true_decided (is_slice b kind)) (either_decided (lt_decided (run_length run) 2) (lt_decided 4294967295 (run_length run))))
+    (both_decided (true_decided (is_slice b kind))
+    (either_decided (lt_decided (run_length run) 2) (lt_decided 4294967295 (run_length run))))
 
 -- `n` of an entry
 abbrev MadeOr : ℕ → Table → Asked → List Guid → Layout → Type 0
 MadeOr b t a fresh o = ((p : Layout) × EntryMade b t a fresh o p) ⊎ ((r : Refusal) × EntryNotMade b t a fresh r)
 
-with_guid : (b : ℕ) (t : Table) (a : Asked) (fresh : List Guid) (o : Layout) (number : ℕ) (kind : List ℕ) (run : Run) → HasPlace t a number kind run → ¬ IsWrongSize b kind run
+with_guid : (b : ℕ) (t : Table) (a : Asked) (fresh : List Guid) (o : Layout) (number : ℕ) (kind : List ℕ) (run : Run)
+    → HasPlace t a number kind run → ¬ IsWrongSize b kind run
     → (l : List Guid) → fresh ≡ l → MadeOr b t a fresh o
 with_guid b t a fresh o number kind run has size [] is = inr (NoFreshGuid, no_guid number kind run has size is refl)
 with_guid b t a fresh o number kind run has size (guid ∷ rest) is = elim (elsewhere_decided t number guid) as (λ _. MadeOr b t a fresh o) [
@@ -249,7 +273,8 @@ with_guid b t a fresh o number kind run has size (guid ∷ rest) is = elim (else
   )
 ]
 
-pub entry_made_or : (b : ℕ) (t : Table) (a : Asked) (fresh : List Guid) (o : Layout) → ((p : Layout) × EntryMade b t a fresh o p) ⊎ ((r : Refusal) × EntryNotMade b t a fresh r)
+pub entry_made_or : (b : ℕ) (t : Table) (a : Asked) (fresh : List Guid) (o : Layout)
+    → ((p : Layout) × EntryMade b t a fresh o p) ⊎ ((r : Refusal) × EntryNotMade b t a fresh r)
 entry_made_or b t a fresh o = joined (place_or t a) where
   sized : (number : ℕ) (kind : List ℕ) (run : Run) → HasPlace t a number kind run → Decided (IsWrongSize b kind run) → MadeOr b t a fresh o
   sized number kind run has (inl wrong) = inr (ContainerType, wrong_size number kind run has wrong refl)

@@ -6,7 +6,8 @@ use Rattle.pt_words.specs.declared.error.Refusal.{Refusal}
 use Rattle.pt_words.specs.declared.word.Edit.{Edit}
 
 -- a word that is refused ends it
-pub refused_at : (b n : ℕ) (words : List Edit) (i : ℕ) (w : Edit) (s : State) (r : Refusal) → i < length words → w ≡ get_or words i w → Refuses b n w s r → EditedFrom b n (drop i words) s (Err r)
+pub refused_at : (b n : ℕ) (words : List Edit) (i : ℕ) (w : Edit) (s : State) (r : Refusal) → i < length words
+    → w ≡ get_or words i w → Refuses b n w s r → EditedFrom b n (drop i words) s (Err r)
 refused_at b n words i w s r within is refused =
     let split = drop-cons words i w within ∙ ap (λ (x : Edit). x ∷ drop (suc i) words) (sym is) in
     subst (λ (ws : List Edit). EditedFrom b n ws s (Err r)) (sym split) (inr (r, refused, refl))

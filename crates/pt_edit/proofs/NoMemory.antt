@@ -13,9 +13,12 @@ use Rattle.pt_words.specs.declared.error.Refusal.TheVariants.{Memory}
 use Rattle.pt_words.specs.declared.word.Code.{Code}
 use Rattle.pt_words.specs.declared.word.End.{End}
 use Rattle.pt_words.specs.declared.word.Edit.{Edit}
-use Rattle.pt_words.specs.declared.word.Edit.TheVariants.{Align, New, Delete, SetKind, SetName, SetUnique, SetDisk, SetBit, Extend, ToGpt, Empty}
+use Rattle.pt_words.specs.declared.word.Edit.TheVariants.{Align, New, Delete, SetKind, SetName, SetUnique, SetDisk, SetBit, Extend, ToGpt}
+use Rattle.pt_words.specs.declared.word.Edit.TheVariants.{Empty}
 use Rattle.pt_space.specs.Area.{Area}
-use Rattle.pt_space.specs.Placed.{NotLed, record_outside, record_taken, NotStarted, no_room, not_usable, not_free, not_led, NotEnded, before_start, past_usable, past_block, NotPlaced, no_start, no_end}
+use Rattle.pt_space.specs.Placed.{NotLed, record_outside, record_taken, NotStarted, no_room, not_usable, not_free, not_led, NotEnded}
+use Rattle.pt_space.specs.Placed.{before_start, past_usable, past_block, NotPlaced, no_start, no_end}
+use Rattle.pt_labels.specs.Retyped.{not_retyped_real}
 use Rattle.pt_labels.specs.Parts as parts
 use Rattle.pt_labels.specs.New as partitions
 use Rattle.pt_logicals.specs.Chains as chains
@@ -30,9 +33,10 @@ use Rattle.pt_convert.specs.Converted as converted
 use Rattle.pt_edit.specs.Changes as changes
 use Rattle.pt_edit.specs.Spots as spots
 use Rattle.pt_edit.specs.NewEntry as entries
-use Rattle.pt_edit.specs.Edited.{State, initial, EmptyRefused, InKind, NotTyped, NotDeleted, NotMade, asked_for, RefusesOn, RefusedOf, Refuses, Ends, EditedFrom, Edited}
+use Rattle.pt_edit.specs.Edited.{State, initial, EmptyRefused, InKind, NotTyped, NotDeleted, NotMade, asked_for, RefusesOn, RefusedOf}
+use Rattle.pt_edit.specs.Edited.{Refuses, Ends, EditedFrom, Edited}
 use Rattle.pt_edit.specs.Edited as edited
-use Rattle.pt_edit.specs.declared.asked.Asked.{Asked}
+use Rattle.pt_words.specs.declared.asked.Asked.{Asked}
 use Rattle.pt_edit.proofs.FourRecords.{either_kind}
 
 -- places
@@ -75,17 +79,17 @@ unused : (b : ℕ) (o : Layout) (number letter : ℕ) (r : Refusal) → partitio
 unused b o number letter r (partitions.missing x) e = entry b o number letter r x e
 unused b o number letter r (partitions.taken m l f x y is) e = absurd cc
 
-part_new : (b number letter alignment start : ℕ) (end : End) (code : Option Code) (o : Layout) (r : Refusal) → partitions.PartNotNew b number letter alignment start end code o r → r ≡ Memory → ⊥
+part_new : (b number letter alignment start : ℕ) (end : End) (code : Option Code) (o : Layout) (r : Refusal)
+    → partitions.PartNotNew b number letter alignment start end code o r → r ≡ Memory → ⊥
 part_new b number letter alignment start end code o r (partitions.no_unused x) e = unused b o number letter r x e
 part_new b number letter alignment start end code o r (partitions.no_type m l f x y is) e = absurd cc
 part_new b number letter alignment start end code o r (partitions.no_place m l f kind x y z) e = placed _ alignment start end r z e
 part_new b number letter alignment start end code o r (partitions.no_offset m l f kind run x y z u is) e = absurd cc
 
 -- logical partitions
-logical_typed : (b number : ℕ) (code : Code) (chain : List Ebr) (r : Refusal) → chains.LogicalNotTyped b number code chain r → r ≡ Memory → ⊥
-logical_typed b number code chain r (chains.no_such x is) e = absurd cc
-logical_typed b number code chain r (chains.unknown x y is) e = absurd cc
-logical_typed b number code chain r (chains.contains k kind p x y z is) e = absurd cc
+logical_typed : (b number : ℕ) (code : Code) (chain : List Ebr) (r : Refusal) → chains.LogicalNotTyped b number code chain r
+    → r ≡ Memory → ⊥
+logical_typed b number code chain r x e = not_retyped_real _ _ _ _ r x e
 
 logical_deleted : (number : ℕ) (chain : List Ebr) (r : Refusal) → chains.LogicalNotDeleted number chain r → r ≡ Memory → ⊥
 logical_deleted number chain r x e =
@@ -96,7 +100,8 @@ kind_new : (code : Option Code) (r : Refusal) → logicals.NoKind code r → r �
 kind_new code r (logicals.unknown_code x is) e = absurd cc
 kind_new code r (logicals.extended_code kind x y is) e = absurd cc
 
-logical_new : (b : ℕ) (extended : Option Record) (chain : List Ebr) (alignment start : ℕ) (end : End) (code : Option Code) (r : Refusal) → logicals.LogicalNotNew b extended chain alignment start end code r → r ≡ Memory → ⊥
+logical_new : (b : ℕ) (extended : Option Record) (chain : List Ebr) (alignment start : ℕ) (end : End) (code : Option Code)
+    (r : Refusal) → logicals.LogicalNotNew b extended chain alignment start end code r → r ≡ Memory → ⊥
 logical_new b extended chain alignment start end code r (logicals.no_parent x is) e = absurd cc
 logical_new b extended chain alignment start end code r (logicals.no_kind p x y) e = kind_new code r y e
 logical_new b extended chain alignment start end code r (logicals.no_place p kind x y z) e = placed _ alignment start end r z e
@@ -104,20 +109,22 @@ logical_new b extended chain alignment start end code r (logicals.misfit p kind 
 logical_new b extended chain alignment start end code r (logicals.full p kind run x y z u v is) e = absurd cc
 
 -- records
-in_records : {C : Type 0} (y : Body) (Holds : List (Option Record) → List Ebr → Type 0) → OfMbr y Holds → ((rs : List (Option Record)) (chain : List Ebr) → Holds rs chain → C) → C
+in_records : {C : Type 0} (y : Body) (Holds : List (Option Record) → List Ebr → Type 0) → OfMbr y Holds
+    → ((rs : List (Option Record)) (chain : List Ebr) → Holds rs chain → C) → C
 in_records (Mbr rs chain) Holds x then = then rs chain x
 in_records (Gpt t) Holds x then = absurd x
 
-primary_typed : (b number : ℕ) (code : Code) (rs : List (Option Record)) (r : Refusal) → typed.PrimaryNotTyped b number code rs r → r ≡ Memory → ⊥
-primary_typed b number code rs r (typed.no_record x is) e = absurd cc
-primary_typed b number code rs r (typed.strange_code p x y is) e = absurd cc
-primary_typed b number code rs r (typed.container p kind x y z is) e = absurd cc
+primary_typed : (b number : ℕ) (code : Code) (rs : List (Option Record)) (r : Refusal) → typed.PrimaryNotTyped b number code rs r
+    → r ≡ Memory → ⊥
+primary_typed b number code rs r x e = not_retyped_real _ _ _ _ r x e
 
-typed_in : (b number : ℕ) (code : Code) (rs : List (Option Record)) (chain : List Ebr) (r : Refusal) → typed.NotTypedIn b number code rs chain r → r ≡ Memory → ⊥
+typed_in : (b number : ℕ) (code : Code) (rs : List (Option Record)) (chain : List Ebr) (r : Refusal)
+    → typed.NotTypedIn b number code rs chain r → r ≡ Memory → ⊥
 typed_in b number code rs chain r (typed.record_not_typed x y) e = primary_typed b number code rs r y e
 typed_in b number code rs chain r (typed.logical_not_typed x y) e = logical_typed b number code chain r y e
 
-deleted_in : (number : ℕ) (rs : List (Option Record)) (chain : List Ebr) (r : Refusal) → deleted.NotDeletedIn number rs chain r → r ≡ Memory → ⊥
+deleted_in : (number : ℕ) (rs : List (Option Record)) (chain : List Ebr) (r : Refusal) → deleted.NotDeletedIn number rs chain r
+    → r ≡ Memory → ⊥
 deleted_in number rs chain r (deleted.record_not_deleted x y) e =
     let is = y.is in
     absurd cc
@@ -133,12 +140,14 @@ chosen rs asked code r (records.not_numbered x) e = numbered rs asked r x e
 chosen rs asked code r (records.unknown number x y is) e = absurd cc
 chosen rs asked code r (records.second number kind x y z is) e = absurd cc
 
-record_new : (b asked alignment start : ℕ) (end : End) (code : Option Code) (n : ℕ) (rs : List (Option Record)) (r : Refusal) → records.RecordNotMade b asked alignment start end code n rs r → r ≡ Memory → ⊥
+record_new : (b asked alignment start : ℕ) (end : End) (code : Option Code) (n : ℕ) (rs : List (Option Record)) (r : Refusal)
+    → records.RecordNotMade b asked alignment start end code n rs r → r ≡ Memory → ⊥
 record_new b asked alignment start end code n rs r (records.not_chosen x) e = chosen rs asked code r x e
 record_new b asked alignment start end code n rs r (records.not_placed number kind x y) e = placed _ alignment start end r y e
 record_new b asked alignment start end code n rs r (records.too_short number kind run x y z is) e = absurd cc
 
-new_in : (b asked alignment start : ℕ) (end : End) (code : Option Code) (n : ℕ) (rs : List (Option Record)) (chain : List Ebr) (r : Refusal) → created.NotNewIn b asked alignment start end code n rs chain r → r ≡ Memory → ⊥
+new_in : (b asked alignment start : ℕ) (end : End) (code : Option Code) (n : ℕ) (rs : List (Option Record)) (chain : List Ebr)
+    (r : Refusal) → created.NotNewIn b asked alignment start end code n rs chain r → r ≡ Memory → ⊥
 new_in b asked alignment start end code n rs chain r (created.no_new_record x y) e = record_new b asked alignment start end code n rs r y e
 new_in b asked alignment start end code n rs chain r (created.no_new_logical x y) e = logical_new b _ chain alignment start end code r y e
 
@@ -155,16 +164,15 @@ absent : (number : ℕ) (o : Layout) (r : Refusal) → changes.Missing number o 
 absent number o r (changes.no_gpt x is) e = absurd cc
 absent number o r (changes.no_entry t x y is) e = absurd cc
 
-changed : (number : ℕ) (Barred : Table → Type 0) (why : Refusal) (o : Layout) (r : Refusal) → (why ≡ Memory → ⊥) → changes.NotChanged number Barred why o r → r ≡ Memory → ⊥
+changed : (number : ℕ) (Barred : Table → Type 0) (why : Refusal) (o : Layout) (r : Refusal) → (why ≡ Memory → ⊥)
+    → changes.NotChanged number Barred why o r → r ≡ Memory → ⊥
 changed number Barred why o r other (changes.missing x) e = absent number o r x e
 changed number Barred why o r other (changes.barred t f x y z is) e =
     let same : why ≡ Memory = cc in
     other same
 
 entry_typed : (b : ℕ) (t : Table) (number : ℕ) (code : Code) (r : Refusal) → spots.EntryNotTyped b t number code r → r ≡ Memory → ⊥
-entry_typed b t number code r (spots.no_such_entry x is) e = absurd cc
-entry_typed b t number code r (spots.unknown_code f x y is) e = absurd cc
-entry_typed b t number code r (spots.is_container f kind x y z is) e = absurd cc
+entry_typed b t number code r x e = not_retyped_real _ _ _ _ r x e
 
 entry_numbered : (t : Table) (wanted : ℕ) (r : Refusal) → entries.NoNumber t wanted r → r ≡ Memory → ⊥
 entry_numbered t wanted r (entries.no_such_number x is) e = absurd cc
@@ -199,17 +207,21 @@ not_deleted b number None o r x e =
     (λ t y. (let is = y.is in absurd cc))
     x
 
-not_made : (b : ℕ) (letter : Option ℕ) (a : Asked) (fresh : List Guid) (o : Layout) (r : Refusal) → NotMade b letter a fresh o r → r ≡ Memory → ⊥
+not_made : (b : ℕ) (letter : Option ℕ) (a : Asked) (fresh : List Guid) (o : Layout) (r : Refusal) → NotMade b letter a fresh o r
+    → r ≡ Memory → ⊥
 not_made b (Some letter) a fresh o r x e = part_new b a.number letter a.alignment a.start a.end a.code o r x e
 not_made b None a fresh o r x e =
     either_kind o.body (created.RecordNotNew b a.number a.alignment a.start a.end a.code o r) (λ t. entries.EntryNotMade b t a fresh r)
-    (λ y. in_records o.body (λ rs chain. created.NotNewIn b a.number a.alignment a.start a.end a.code o.sectors rs chain r) y (λ rs chain z. new_in b a.number a.alignment a.start a.end a.code o.sectors rs chain r z e))
+    (λ y. in_records o.body (λ rs chain. created.NotNewIn b a.number a.alignment a.start a.end a.code o.sectors rs chain r) y
+    (λ rs chain z. new_in b a.number a.alignment a.start a.end a.code o.sectors rs chain r z e))
     (λ t y. entry_new b t a fresh r y e)
     x
 
-refuses_on : (b alignment : ℕ) (fresh : List Guid) (w : Edit) (o : Layout) (r : Refusal) → RefusesOn b alignment fresh w o r → r ≡ Memory → ⊥
+refuses_on : (b alignment : ℕ) (fresh : List Guid) (w : Edit) (o : Layout) (r : Refusal) → RefusesOn b alignment fresh w o r
+    → r ≡ Memory → ⊥
 refuses_on b alignment fresh (Align k) o r x e = absurd cc
-refuses_on b alignment fresh (New path start end code) o r x e = not_made b path.letter (asked_for path.number alignment start end code) fresh o r x e
+refuses_on b alignment fresh (New path start end code) o r x e =
+    not_made b path.letter (asked_for path.number alignment start end code) fresh o r x e
 refuses_on b alignment fresh (Delete path) o r x e = not_deleted b path.number path.letter o r x e
 refuses_on b alignment fresh (SetKind path code) o r x e = not_typed b path.number path.letter code o r x e
 refuses_on b alignment fresh (SetName number name) o r x e = changed number _ _ o r (λ same. absurd cc) x e
@@ -224,7 +236,8 @@ refuses_on b alignment fresh Extend o r x e =
 refuses_on b alignment fresh ToGpt o r x e = conversion b fresh o r x e
 refuses_on b alignment fresh Empty o r x e = absurd cc
 
-refused_of : (b : ℕ) (w : Edit) (alignment : ℕ) (fresh : List Guid) (o : Option Layout) (r : Refusal) → RefusedOf b w alignment fresh o r → r ≡ Memory → ⊥
+refused_of : (b : ℕ) (w : Edit) (alignment : ℕ) (fresh : List Guid) (o : Option Layout) (r : Refusal)
+    → RefusedOf b w alignment fresh o r → r ≡ Memory → ⊥
 refused_of b w alignment fresh None r x e = absurd cc
 refused_of b w alignment fresh (Some o) r x e = refuses_on b alignment fresh w o r x e
 
@@ -257,5 +270,6 @@ from b n (w ∷ ws) s r (inr (f, x, is)) e =
     refuses b n w s f x same
 
 -- words are never refused for want of memory
-pub memory_is_no_answer_lem : (b n : ℕ) (old : Option Layout) (words : List Edit) (guids : List Guid) → Edited b n old words guids (Err Memory) → ⊥
+pub memory_is_no_answer_lem : (b n : ℕ) (old : Option Layout) (words : List Edit) (guids : List Guid)
+    → Edited b n old words guids (Err Memory) → ⊥
 memory_is_no_answer_lem b n old words guids x = from b n words (initial b old guids) (Err Memory) x refl

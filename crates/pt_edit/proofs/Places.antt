@@ -1,5 +1,6 @@
 -- What a place of a new entry is, and what a word takes.
-use Rattle.std.proofs.Common.{◌≡◌, ◌≢◌, ◌≤◌, ◌↔◌, IsTrue, ℕ, Bool, true, false, List, [], ◌∷◌, length, get_or, drop, Option, Some, None, arith, ◌∙◌, sym, refl}
+use Rattle.std.proofs.Common.{◌≡◌, ◌≢◌, ◌≤◌, ◌↔◌, IsTrue, ℕ, Bool, true, false, List, [], ◌∷◌, length, get_or, drop, Option, Some, None}
+use Rattle.std.proofs.Common.{arith, ◌∙◌, sym, refl}
 use Rattle.pt_guid.specs.declared.guid.Guid.{Guid}
 use Rattle.pt_gpt.specs.declared.table.Table.{Table}
 use Rattle.pt_recover.specs.declared.layout.Layout.{Layout}
@@ -11,10 +12,11 @@ use Rattle.pt_space.specs.Placed.{Placed}
 use Rattle.pt_space.specs.Laws.{placed_is_free_lem}
 use Rattle.pt_words.specs.declared.word.End.{End}
 use Rattle.pt_words.specs.declared.word.Edit.{Edit}
-use Rattle.pt_words.specs.declared.word.Edit.TheVariants.{Align, New, Delete, SetKind, SetName, SetUnique, SetDisk, SetBit, Extend, ToGpt, Empty}
+use Rattle.pt_words.specs.declared.word.Edit.TheVariants.{Align, New, Delete, SetKind, SetName, SetUnique, SetDisk, SetBit, Extend, ToGpt}
+use Rattle.pt_words.specs.declared.word.Edit.TheVariants.{Empty}
 use Rattle.pt_edit.specs.NewEntry.{EntryMade}
 use Rattle.pt_edit.specs.Edited.{InKind, Made, MakesOn, asked_for, taken_by, taken_by_new}
-use Rattle.pt_edit.specs.declared.asked.Asked.{Asked}
+use Rattle.pt_words.specs.declared.asked.Asked.{Asked}
 
 -- what is placed ends where it may
 pub last_within : (a : Area) (alignment start : ℕ) (end : End) (r : Run) → Placed a alignment start end r → r.last ≤ a.high
@@ -37,13 +39,16 @@ new_taken : (y : Body) (M : Type 0) (G : Table → Type 0) (n : ℕ) → ((t : T
 new_taken (Mbr records chain) M G n one x = omega arith
 new_taken (Gpt t) M G n one x = one t x
 
-made_taken : (b : ℕ) (letter : Option ℕ) (a : Asked) (fresh : List Guid) (o p : Layout) → Made b letter a fresh o p → taken_by_new letter o.body ≤ length fresh
+made_taken : (b : ℕ) (letter : Option ℕ) (a : Asked) (fresh : List Guid) (o p : Layout) → Made b letter a fresh o p
+    → taken_by_new letter o.body ≤ length fresh
 made_taken b (Some letter) a fresh o p x = omega arith
 made_taken b None a fresh o p x = new_taken o.body _ _ (length fresh) (λ t. entry_taken b t a fresh o p) x
 
 -- a word takes no more GUIDs than are left
-pub enough_left : (b alignment : ℕ) (fresh : List Guid) (w : Edit) (o p : Layout) → MakesOn b alignment fresh w o p → taken_by w o ≤ length fresh
-enough_left b alignment fresh (New path start end code) o p x = made_taken b path.letter (asked_for path.number alignment start end code) fresh o p x
+pub enough_left : (b alignment : ℕ) (fresh : List Guid) (w : Edit) (o p : Layout) → MakesOn b alignment fresh w o p
+    → taken_by w o ≤ length fresh
+enough_left b alignment fresh (New path start end code) o p x =
+    made_taken b path.letter (asked_for path.number alignment start end code) fresh o p x
 enough_left b alignment fresh ToGpt o p x = x.may.enough
 enough_left b alignment fresh (Delete path) o p x = omega arith
 enough_left b alignment fresh (SetKind path code) o p x = omega arith

@@ -7,7 +7,8 @@ use Rattle.pt_gpt.specs.declared.entry.Entry.{Entry}
 use Rattle.pt_space.specs.declared.space.Run.{Run}
 use Rattle.pt_edit.specs.NewEntry.{entry_runs}
 
-pub runs_more : (es : List (Option Entry)) (k : ℕ) (runs now : List Run) → k < length es → runs ≡ flat_map entry_runs (take k es) → now ≡ runs ++ entry_runs (get_or es k None) → now ≡ flat_map entry_runs (take (k + 1) es)
+pub runs_more : (es : List (Option Entry)) (k : ℕ) (runs now : List Run) → k < length es → runs ≡ flat_map entry_runs (take k es)
+    → now ≡ runs ++ entry_runs (get_or es k None) → now ≡ flat_map entry_runs (take (k + 1) es)
 runs_more es k runs now within so_far more =
     let split : take (k + 1) es ≡ take k es ++ get_or es k None ∷ [] = take_more es k None within in
     more ∙ (ap (λ (rs : List Run). rs ++ entry_runs (get_or es k None)) so_far

@@ -1,5 +1,6 @@
 -- Names unit by unit.
-use Rattle.std.proofs.Common.{◌≡◌, ◌<◌, ◌-◌, ℕ, suc, List, [], ◌∷◌, ◌++◌, length, replicate, sym, ap, ◌∙◌, subst, arith, append_assoc, length-append, ◌⊎◌, inl, inr}
+use Rattle.std.proofs.Common.{◌≡◌, ◌<◌, ◌-◌, ℕ, suc, List, [], ◌∷◌, ◌++◌, length, replicate, sym, ap, ◌∙◌, subst, arith, append_assoc}
+use Rattle.std.proofs.Common.{length-append, ◌⊎◌, inl, inr}
 use Rattle.std.proofs.Math.ListN.{set}
 use Rattle.std.proofs.lemmas.List.{nil_from_length, append-nil}
 use Rattle.std.proofs.Math.Seq.{set-append_seam}
@@ -29,29 +30,34 @@ units_past_char bs rest c utf8 e = ap (flat_map encode_utf16) (chars_past_char b
 -- what the next unit x does: it was to come, or it is the first of the next character's
 abbrev pub Comes : List ℕ → List ℕ → ℕ → List ℕ → List ℕ → Type 0
 Comes pending rest x more left =
-    ((pending ≡ x ∷ []) × (more ≡ []) × (left ≡ rest)) ⊎ ((pending ≡ []) × ((c : ℕ) × (rest ≡ encode c ++ left) × (encode_utf16 c ≡ x ∷ more)))
+    ((pending ≡ x ∷ []) × (more ≡ []) × (left ≡ rest))
+    ⊎ ((pending ≡ []) × ((c : ℕ) × (rest ≡ encode c ++ left) × (encode_utf16 c ≡ x ∷ more)))
 
 -- the units that have come, those to come of the same character, and those of the text that is left are the text's
 abbrev pub SoFar : List ℕ → List ℕ → List ℕ → List ℕ → Type 0
 SoFar whole done pending rest = IsUtf8 rest × (whole ≡ done ++ (pending ++ units_of rest))
 
-pub so_far_more : (whole done pending rest : List ℕ) (x : ℕ) (more left : List ℕ) → IsUtf8 rest → whole ≡ done ++ (pending ++ units_of rest) → Comes pending rest x more left → SoFar whole (done ++ x ∷ []) more left
+pub so_far_more : (whole done pending rest : List ℕ) (x : ℕ) (more left : List ℕ) → IsUtf8 rest
+    → whole ≡ done ++ (pending ++ units_of rest) → Comes pending rest x more left → SoFar whole (done ++ x ∷ []) more left
 so_far_more whole done pending rest x more left utf8 so_far (inl h) = (
   subst IsUtf8 (sym h.2) utf8,
   so_far ∙ (rw (h.0, h.1, h.2) (sym (append_assoc done (x ∷ []) (units_of rest)))),
 )
 so_far_more whole done pending rest x more left utf8 so_far (inr (none, (c, is, units))) = (
   IsUtf8-past_char rest left c utf8 is,
-  so_far ∙ (rw (none) (ap (λ us. done ++ us) (units_past_char rest left c utf8 is ∙ ap (λ us. us ++ units_of left) units) ∙ sym (append_assoc done (x ∷ []) (more ++ units_of left)))),
+  so_far ∙ (rw (none) (ap (λ us. done ++ us) (units_past_char rest left c utf8 is ∙ ap (λ us. us ++ units_of left) units)
+      ∙ sym (append_assoc done (x ∷ []) (more ++ units_of left)))),
 )
 
 -- with nothing to come and no text left, all have come
-pub so_far_end : (whole done pending rest : List ℕ) → whole ≡ done ++ (pending ++ units_of rest) → pending ≡ [] → length rest ≡ 0 → whole ≡ done
+pub so_far_end : (whole done pending rest : List ℕ) → whole ≡ done ++ (pending ++ units_of rest) → pending ≡ [] → length rest ≡ 0
+    → whole ≡ done
 unfolding chars
 so_far_end whole done pending rest so_far none empty =
     so_far ∙ (rw (none, nil_from_length rest empty) (append-nil done))
 
 -- with 36 units so far and one more there are too many
-pub so_far_long : (whole done pending rest : List ℕ) (x : ℕ) (more left : List ℕ) → SoFar whole (done ++ x ∷ []) more left → length done ≡ 36 → 36 < length whole
+pub so_far_long : (whole done pending rest : List ℕ) (x : ℕ) (more left : List ℕ) → SoFar whole (done ++ x ∷ []) more left
+    → length done ≡ 36 → 36 < length whole
 so_far_long whole done pending rest x more left h full =
     rw h.1 (simp length-append (omega arith))

@@ -1,5 +1,6 @@
 -- What words change in a GPT.
-use Rattle.std.specs.Prelude.{◌≡◌, ◌≢◌, ◌≤◌, ◌<◌, ◌+◌, ◌-◌, ◌^◌, ℕ, Bool, List, length, slice_index_or, slice_set, Some, None, if◌then◌else◌, nat_lt, bit_or, bit_and}
+use Rattle.std.specs.Prelude.{◌≡◌, ◌≢◌, ◌≤◌, ◌<◌, ◌+◌, ◌-◌, ◌^◌, ℕ, Bool, List, length, slice_index_or, slice_set, Some, None}
+use Rattle.std.specs.Prelude.{if◌then◌else◌, nat_lt, bit_or, bit_and}
 use Rattle.pt_guid.specs.declared.guid.Guid.{Guid}
 use Rattle.pt_gpt.specs.Array.{array_len}
 use Rattle.pt_gpt.specs.declared.entry.Entry.{Entry}

@@ -16,13 +16,14 @@ use Rattle.pt_labels.specs.Parts.{PartTyped, PartNotTyped, PartDeleted, PartNotD
 use Rattle.pt_edit.specs.Changes.{Named, NameRefused, UniqueSet, UniqueRefused, BitSet, BitRefused, DiskSet, Extended, NoTable, edge}
 use Rattle.pt_edit.specs.Spots.{EntryTyped, EntryNotTyped, EntryDeleted, EntryNotDeleted}
 use Rattle.pt_edit.specs.NewEntry.{EntryMade, EntryNotMade}
-use Rattle.pt_edit.specs.declared.asked.Asked.{Asked}
+use Rattle.pt_words.specs.declared.asked.Asked.{Asked}
 use Rattle.pt_words.specs.declared.error.Refusal.{Refusal}
 use Rattle.pt_words.specs.declared.error.Refusal.TheVariants.{NotForThisTable, NoFreshGuid, NoRoomForGpt}
 use Rattle.pt_words.specs.declared.word.Code.{Code}
 use Rattle.pt_words.specs.declared.word.End.{End}
 use Rattle.pt_words.specs.declared.word.Edit.{Edit}
-use Rattle.pt_words.specs.declared.word.Edit.TheVariants.{Align, New, Delete, SetKind, SetName, SetUnique, SetDisk, SetBit, Extend, ToGpt, Empty}
+use Rattle.pt_words.specs.declared.word.Edit.TheVariants.{Align, New, Delete, SetKind, SetName, SetUnique, SetDisk, SetBit, Extend, ToGpt}
+use Rattle.pt_words.specs.declared.word.Edit.TheVariants.{Empty}
 
 -- what the words are folded over: the layout or nothing, the alignment of starts in sectors, the fresh GUIDs that are left
 pub record State : Type 0 where

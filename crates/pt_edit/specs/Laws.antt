@@ -8,19 +8,26 @@ use Rattle.pt_recover.specs.declared.layout.Layout.{Layout}
 use Rattle.pt_recover.specs.declared.layout.Body.{Body}
 use Rattle.pt_recover.specs.declared.layout.Body.TheVariants.{Mbr, Gpt}
 use Rattle.pt_convert.specs.Laws.{converted_one_lem, converted_taken_lem, not_converted_one_lem}
-use Rattle.pt_records.specs.Laws.{record_typed_one_lem, record_typed_taken_lem, record_not_typed_one_lem, record_deleted_one_lem, record_deleted_taken_lem, record_not_deleted_one_lem}
+use Rattle.pt_records.specs.Laws.{record_typed_one_lem, record_typed_taken_lem, record_not_typed_one_lem, record_deleted_one_lem}
+use Rattle.pt_records.specs.Laws.{record_deleted_taken_lem, record_not_deleted_one_lem}
 use Rattle.pt_records.specs.NewLaws.{record_new_one_lem, record_new_taken_lem, record_not_new_one_lem}
 use Rattle.pt_labels.specs.NewLaws.{new_one_lem, new_excludes_lem, not_new_one_lem}
-use Rattle.pt_labels.specs.Laws.{typed_one_lem, typed_excludes_lem, not_typed_one_lem, deleted_one_lem, deleted_excludes_lem, not_deleted_one_lem}
-use Rattle.pt_edit.specs.Spots.{is_slice, EntryTyped, EntryNotTyped, no_such_entry, unknown_code, is_container, EntryDeleted, EntryNotDeleted}
-use Rattle.pt_edit.specs.Changes.{IsGpt, HasEntry, Changed, Missing, no_gpt, no_entry, NotChanged, missing, barred, TableMade, NoTable, with_body}
-use Rattle.pt_edit.specs.NewLaws.{some_none, cons_some, entry_made_one, entry_made_taken, entry_not_made_one}
-use Rattle.pt_edit.specs.Edited.{State, InKind, Typed, NotTyped, Deleted, NotDeleted, Made, NotMade, asked_for, MakesOf, RefusedOf, MakesOn, RefusesOn, Emptied, EmptyRefused, no_room, no_guid, Takes, Refuses, Ends, EditedFrom, Edited, initial}
-use Rattle.pt_edit.specs.declared.asked.Asked.{Asked}
+use Rattle.pt_labels.specs.Laws.{typed_one_lem, typed_excludes_lem, not_typed_one_lem, deleted_one_lem, deleted_excludes_lem}
+use Rattle.pt_labels.specs.Laws.{not_deleted_one_lem}
+use Rattle.pt_labels.specs.Retyped.{not_retyped_one, retyped_taken}
+use Rattle.pt_edit.specs.Spots.{is_slice, entry_type, EntryTyped, EntryNotTyped, EntryDeleted}
+use Rattle.pt_edit.specs.Spots.{EntryNotDeleted}
+use Rattle.pt_edit.specs.Changes.{IsGpt, HasEntry, Changed, Missing, no_gpt, no_entry, NotChanged, missing, barred, TableMade, NoTable}
+use Rattle.pt_edit.specs.Changes.{with_body}
+use Rattle.pt_edit.specs.NewLaws.{cons_some, entry_made_one, entry_made_taken, entry_not_made_one}
+use Rattle.pt_edit.specs.Edited.{State, InKind, Typed, NotTyped, Deleted, NotDeleted, Made, NotMade, asked_for, MakesOf, RefusedOf, MakesOn}
+use Rattle.pt_edit.specs.Edited.{RefusesOn, Emptied, EmptyRefused, no_room, no_guid, Takes, Refuses, Ends, EditedFrom, Edited, initial}
+use Rattle.pt_words.specs.declared.asked.Asked.{Asked}
 use Rattle.pt_words.specs.declared.error.Refusal.{Refusal}
 use Rattle.pt_words.specs.declared.word.Code.{Code}
 use Rattle.pt_words.specs.declared.word.Edit.{Edit}
-use Rattle.pt_words.specs.declared.word.Edit.TheVariants.{Align, New, Delete, SetKind, SetName, SetUnique, SetDisk, SetBit, Extend, ToGpt, Empty}
+use Rattle.pt_words.specs.declared.word.Edit.TheVariants.{Align, New, Delete, SetKind, SetName, SetUnique, SetDisk, SetBit, Extend, ToGpt}
+use Rattle.pt_words.specs.declared.word.Edit.TheVariants.{Empty}
 
 -- a body is of one table
 one_table : (o : Body) (t u : Table) → o ≡ Gpt t → o ≡ Gpt u → t ≡ u
@@ -46,7 +53,8 @@ same_entry o number t u e f a b =
     one_entry t number e f a.is_entry (subst (λ (x : Table). HasEntry x number f) (sym (same_table o number t u e f a b)) b.is_entry)
 
 -- a layout with one entry changed is one
-changed_one : (number : ℕ) (Allowed : Table → Type 0) (change : Entry → Entry) (o p q : Layout) → Changed number Allowed change o p → Changed number Allowed change o q → p ≡ q
+changed_one : (number : ℕ) (Allowed : Table → Type 0) (change : Entry → Entry) (o p q : Layout) → Changed number Allowed change o p
+    → Changed number Allowed change o q → p ≡ q
 changed_one number Allowed change o p q a b =
     let x : EntryOf o number a.table a.entry = record { is_table = a.is_table; is_entry = a.is_entry } in
     let y : EntryOf o number b.table b.entry = record { is_table = b.is_table; is_entry = b.is_entry } in
@@ -55,9 +63,11 @@ changed_one number Allowed change o p q a b =
     a.made ∙ (rw (t, e) (sym b.made))
 
 -- what has a used entry misses none
-entry_there : (number : ℕ) (o : Layout) (t : Table) (e : Entry) (r : Refusal) → o.body ≡ Gpt t → HasEntry t number e → Missing number o r → ⊥
+entry_there : (number : ℕ) (o : Layout) (t : Table) (e : Entry) (r : Refusal) → o.body ≡ Gpt t → HasEntry t number e
+    → Missing number o r → ⊥
 entry_there number o t e r table entry (no_gpt not is) = not (gpt_is o.body t table)
-entry_there number o t e r table entry (no_entry u also none is) = none e (subst (λ (x : Table). HasEntry x number e) (one_table o.body t u table also) entry)
+entry_there number o t e r table entry (no_entry u also none is) =
+    none e (subst (λ (x : Table). HasEntry x number e) (one_table o.body t u table also) entry)
 
 -- what changes isn't refused
 changed_taken : (number : ℕ) (Allowed Barred : Table → Type 0) (change : Entry → Entry) (why : Refusal) (o p : Layout) (r : Refusal)
@@ -74,7 +84,8 @@ missing_one number o r q (no_entry t table none is) (no_gpt not so) = absurd (no
 missing_one number o r q (no_entry t table none is) (no_entry u also other so) = is ∙ sym so
 
 -- and a change refused for one
-not_changed_one : (number : ℕ) (Barred : Table → Type 0) (why : Refusal) (o : Layout) (r q : Refusal) → NotChanged number Barred why o r → NotChanged number Barred why o q → r ≡ q
+not_changed_one : (number : ℕ) (Barred : Table → Type 0) (why : Refusal) (o : Layout) (r q : Refusal)
+    → NotChanged number Barred why o r → NotChanged number Barred why o q → r ≡ q
 not_changed_one number Barred why o r q (missing m) (missing n) = missing_one number o r q m n
 not_changed_one number Barred why o r q (missing m) (barred t e table entry bad is) = absurd (entry_there number o t e r table entry m)
 not_changed_one number Barred why o r q (barred t e table entry bad is) (missing m) = absurd (entry_there number o t e q table entry m)
@@ -92,32 +103,23 @@ true_false : (c : Bool) → c ≡ true → c ≡ false → ⊥
 true_false c x y = let e : ◌≡◌ {A = Bool} true false = sym x ∙ y in cc
 
 -- an entry gets one type
-entry_typed_one : (b : ℕ) (t : Table) (number : ℕ) (code : Code) (o p q : Layout) → EntryTyped b t number code o p → EntryTyped b t number code o q → p ≡ q
+entry_typed_one : (b : ℕ) (t : Table) (number : ℕ) (code : Code) (o p q : Layout) → EntryTyped b t number code o p
+    → EntryTyped b t number code o q → p ≡ q
 entry_typed_one b t number code o p q x y =
     let e = one_entry t number x.entry y.entry x.is_entry y.is_entry in
     let k : x.kind ≡ y.kind = cc in
     x.made ∙ (rw (e, k) (sym y.made))
 
-entry_typed_taken : (b : ℕ) (t : Table) (number : ℕ) (code : Code) (o p : Layout) (r : Refusal) → EntryTyped b t number code o p → EntryNotTyped b t number code r → ⊥
-entry_typed_taken b t number code o p r x (no_such_entry none is) = none x.entry x.is_entry
-entry_typed_taken b t number code o p r x (unknown_code e entry none is) = some_none x.kind (sym x.known ∙ none)
-entry_typed_taken b t number code o p r x (is_container e kind entry known (inl old) is) =
-    let same = one_entry t number e x.entry entry x.is_entry in
-    true_false (is_slice b x.entry.kind.0) (subst (λ (y : Entry). is_slice b y.kind.0 ≡ true) same old) x.old
-entry_typed_taken b t number code o p r x (is_container e kind entry known (inr new) is) =
-    let same : kind ≡ x.kind = cc in
-    true_false (is_slice b x.kind) (subst (λ (y : List ℕ). is_slice b y ≡ true) same new) x.new
+entry_typed_taken : (b : ℕ) (t : Table) (number : ℕ) (code : Code) (o p : Layout) (r : Refusal) → EntryTyped b t number code o p
+    → EntryNotTyped b t number code r → ⊥
+entry_typed_taken b t number code o p r x y =
+    retyped_taken (HasEntry t number) (entry_type code) (λ (e : Entry). e.kind.0) (is_slice b) r
+    (λ u v has there. ap (λ (e : Entry). e.kind.0) (one_entry t number u v has there))
+    (x.entry, x.kind, x.is_entry, x.known, x.old, x.new) y
 
-entry_not_typed_one : (b : ℕ) (t : Table) (number : ℕ) (code : Code) (r q : Refusal) → EntryNotTyped b t number code r → EntryNotTyped b t number code q → r ≡ q
-entry_not_typed_one b t number code r q (no_such_entry none is) (no_such_entry nothing so) = is ∙ sym so
-entry_not_typed_one b t number code r q (no_such_entry none is) (unknown_code e entry known so) = absurd (none e entry)
-entry_not_typed_one b t number code r q (no_such_entry none is) (is_container e kind entry known why so) = absurd (none e entry)
-entry_not_typed_one b t number code r q (unknown_code e entry known is) (no_such_entry none so) = absurd (none e entry)
-entry_not_typed_one b t number code r q (unknown_code e entry known is) (unknown_code f also kind so) = is ∙ sym so
-entry_not_typed_one b t number code r q (unknown_code e entry none is) (is_container f kind also known why so) = absurd (some_none kind (sym known ∙ none))
-entry_not_typed_one b t number code r q (is_container e kind entry known why is) (no_such_entry none so) = absurd (none e entry)
-entry_not_typed_one b t number code r q (is_container e kind entry known why is) (unknown_code f also none so) = absurd (some_none kind (sym known ∙ none))
-entry_not_typed_one b t number code r q (is_container e kind entry known why is) (is_container f type also so2 reason so) = is ∙ sym so
+entry_not_typed_one : (b : ℕ) (t : Table) (number : ℕ) (code : Code) (r q : Refusal) → EntryNotTyped b t number code r
+    → EntryNotTyped b t number code q → r ≡ q
+entry_not_typed_one b t number code r q x y = not_retyped_one _ _ _ _ r q x y
 
 -- an entry goes in one way
 entry_deleted_one : (t : Table) (number : ℕ) (o p q : Layout) → EntryDeleted t number o p → EntryDeleted t number o q → p ≡ q
@@ -127,57 +129,80 @@ entry_deleted_taken : (t : Table) (number : ℕ) (o p : Layout) (r : Refusal) �
 entry_deleted_taken t number o p r x y = y.none x.entry x.is_entry
 
 -- what follows from two things in an MBR and in each table follows in a body
-in_kind : (y : Body) (M N : Type 0) (G H : Table → Type 0) (P : Type 0) → (M → N → P) → ((t : Table) → G t → H t → P) → InKind y M G → InKind y N H → P
+in_kind : (y : Body) (M N : Type 0) (G H : Table → Type 0) (P : Type 0) → (M → N → P) → ((t : Table) → G t → H t → P) → InKind y M G
+    → InKind y N H → P
 in_kind (Mbr records chain) M N G H P mbr gpt x y = mbr x y
 in_kind (Gpt t) M N G H P mbr gpt x y = gpt t x y
 
 -- `t` by whether the path has a letter
-typed_one : (b number : ℕ) (letter : Option ℕ) (code : Code) (o p q : Layout) → Typed b number letter code o p → Typed b number letter code o q → p ≡ q
+typed_one : (b number : ℕ) (letter : Option ℕ) (code : Code) (o p q : Layout) → Typed b number letter code o p
+    → Typed b number letter code o q → p ≡ q
 typed_one b number (Some letter) code o p q x y = typed_one_lem b number letter code o p q x y
-typed_one b number None code o p q x y = in_kind o.body _ _ _ _ (p ≡ q) (record_typed_one_lem b number code o p q) (λ t. entry_typed_one b t number code o p q) x y
+typed_one b number None code o p q x y =
+    in_kind o.body _ _ _ _ (p ≡ q) (record_typed_one_lem b number code o p q) (λ t. entry_typed_one b t number code o p q) x y
 
-typed_taken : (b number : ℕ) (letter : Option ℕ) (code : Code) (o p : Layout) (r : Refusal) → Typed b number letter code o p → NotTyped b number letter code o r → ⊥
+typed_taken : (b number : ℕ) (letter : Option ℕ) (code : Code) (o p : Layout) (r : Refusal) → Typed b number letter code o p
+    → NotTyped b number letter code o r → ⊥
 typed_taken b number (Some letter) code o p r x y = typed_excludes_lem b number letter code o p r x y
-typed_taken b number None code o p r x y = in_kind o.body _ _ _ _ ⊥ (record_typed_taken_lem b number code o p r) (λ t. entry_typed_taken b t number code o p r) x y
+typed_taken b number None code o p r x y =
+    in_kind o.body _ _ _ _ ⊥ (record_typed_taken_lem b number code o p r) (λ t. entry_typed_taken b t number code o p r) x y
 
-not_typed_one : (b number : ℕ) (letter : Option ℕ) (code : Code) (o : Layout) (r q : Refusal) → NotTyped b number letter code o r → NotTyped b number letter code o q → r ≡ q
+not_typed_one : (b number : ℕ) (letter : Option ℕ) (code : Code) (o : Layout) (r q : Refusal) → NotTyped b number letter code o r
+    → NotTyped b number letter code o q → r ≡ q
 not_typed_one b number (Some letter) code o r q x y = not_typed_one_lem b number letter code o r q x y
-not_typed_one b number None code o r q x y = in_kind o.body _ _ _ _ (r ≡ q) (record_not_typed_one_lem b number code o r q) (λ t. entry_not_typed_one b t number code r q) x y
+not_typed_one b number None code o r q x y =
+    in_kind o.body _ _ _ _ (r ≡ q) (record_not_typed_one_lem b number code o r q) (λ t. entry_not_typed_one b t number code r q) x y
 
 -- `d` likewise
 deleted_one : (b number : ℕ) (letter : Option ℕ) (o p q : Layout) → Deleted b number letter o p → Deleted b number letter o q → p ≡ q
 deleted_one b number (Some letter) o p q x y = deleted_one_lem b number letter o p q x y
-deleted_one b number None o p q x y = in_kind o.body _ _ _ _ (p ≡ q) (record_deleted_one_lem number o p q) (λ t. entry_deleted_one t number o p q) x y
+deleted_one b number None o p q x y =
+    in_kind o.body _ _ _ _ (p ≡ q) (record_deleted_one_lem number o p q) (λ t. entry_deleted_one t number o p q) x y
 
-deleted_taken : (b number : ℕ) (letter : Option ℕ) (o p : Layout) (r : Refusal) → Deleted b number letter o p → NotDeleted b number letter o r → ⊥
+deleted_taken : (b number : ℕ) (letter : Option ℕ) (o p : Layout) (r : Refusal) → Deleted b number letter o p
+    → NotDeleted b number letter o r → ⊥
 deleted_taken b number (Some letter) o p r x y = deleted_excludes_lem b number letter o p r x y
-deleted_taken b number None o p r x y = in_kind o.body _ _ _ _ ⊥ (record_deleted_taken_lem number o p r) (λ t. entry_deleted_taken t number o p r) x y
+deleted_taken b number None o p r x y =
+    in_kind o.body _ _ _ _ ⊥ (record_deleted_taken_lem number o p r) (λ t. entry_deleted_taken t number o p r) x y
 
-not_deleted_one : (b number : ℕ) (letter : Option ℕ) (o : Layout) (r q : Refusal) → NotDeleted b number letter o r → NotDeleted b number letter o q → r ≡ q
+not_deleted_one : (b number : ℕ) (letter : Option ℕ) (o : Layout) (r q : Refusal) → NotDeleted b number letter o r
+    → NotDeleted b number letter o q → r ≡ q
 not_deleted_one b number (Some letter) o r q x y = not_deleted_one_lem b number letter o r q x y
-not_deleted_one b number None o r q x y = in_kind o.body _ _ _ _ (r ≡ q) (record_not_deleted_one_lem number o r q) (λ t m n. m.is ∙ sym n.is) x y
+not_deleted_one b number None o r q x y =
+    in_kind o.body _ _ _ _ (r ≡ q) (record_not_deleted_one_lem number o r q) (λ t m n. m.is ∙ sym n.is) x y
 
 -- and `n`
-made_one : (b : ℕ) (letter : Option ℕ) (a : Asked) (fresh : List Guid) (o p q : Layout) → Made b letter a fresh o p → Made b letter a fresh o q → p ≡ q
+made_one : (b : ℕ) (letter : Option ℕ) (a : Asked) (fresh : List Guid) (o p q : Layout) → Made b letter a fresh o p
+    → Made b letter a fresh o q → p ≡ q
 made_one b (Some letter) a fresh o p q x y = new_one_lem b a.number letter a.alignment a.start a.end a.code o p q x y
-made_one b None a fresh o p q x y = in_kind o.body _ _ _ _ (p ≡ q) (record_new_one_lem b a.number a.alignment a.start a.end a.code o p q) (λ t. entry_made_one b t a fresh o p q) x y
+made_one b None a fresh o p q x y =
+    in_kind o.body _ _ _ _ (p ≡ q) (record_new_one_lem b a.number a.alignment a.start a.end a.code o p q)
+    (λ t. entry_made_one b t a fresh o p q) x y
 
-made_taken : (b : ℕ) (letter : Option ℕ) (a : Asked) (fresh : List Guid) (o p : Layout) (r : Refusal) → Made b letter a fresh o p → NotMade b letter a fresh o r → ⊥
+made_taken : (b : ℕ) (letter : Option ℕ) (a : Asked) (fresh : List Guid) (o p : Layout) (r : Refusal) → Made b letter a fresh o p
+    → NotMade b letter a fresh o r → ⊥
 made_taken b (Some letter) a fresh o p r x y = new_excludes_lem b a.number letter a.alignment a.start a.end a.code o p r x y
-made_taken b None a fresh o p r x y = in_kind o.body _ _ _ _ ⊥ (record_new_taken_lem b a.number a.alignment a.start a.end a.code o p r) (λ t. entry_made_taken b t a fresh o p r) x y
+made_taken b None a fresh o p r x y =
+    in_kind o.body _ _ _ _ ⊥ (record_new_taken_lem b a.number a.alignment a.start a.end a.code o p r)
+    (λ t. entry_made_taken b t a fresh o p r) x y
 
-not_made_one : (b : ℕ) (letter : Option ℕ) (a : Asked) (fresh : List Guid) (o : Layout) (r q : Refusal) → NotMade b letter a fresh o r → NotMade b letter a fresh o q → r ≡ q
+not_made_one : (b : ℕ) (letter : Option ℕ) (a : Asked) (fresh : List Guid) (o : Layout) (r q : Refusal)
+    → NotMade b letter a fresh o r → NotMade b letter a fresh o q → r ≡ q
 not_made_one b (Some letter) a fresh o r q x y = not_new_one_lem b a.number letter a.alignment a.start a.end a.code o r q x y
-not_made_one b None a fresh o r q x y = in_kind o.body _ _ _ _ (r ≡ q) (record_not_new_one_lem b a.number a.alignment a.start a.end a.code o r q) (λ t. entry_not_made_one b t a fresh r q) x y
+not_made_one b None a fresh o r q x y =
+    in_kind o.body _ _ _ _ (r ≡ q) (record_not_new_one_lem b a.number a.alignment a.start a.end a.code o r q)
+    (λ t. entry_not_made_one b t a fresh r q) x y
 
 -- a word makes one layout of another
-makes_on_one : (b alignment : ℕ) (fresh : List Guid) (w : Edit) (o p q : Layout) → MakesOn b alignment fresh w o p → MakesOn b alignment fresh w o q → p ≡ q
+makes_on_one : (b alignment : ℕ) (fresh : List Guid) (w : Edit) (o p q : Layout) → MakesOn b alignment fresh w o p
+    → MakesOn b alignment fresh w o q → p ≡ q
 makes_on_one b alignment fresh (SetName number name) o p q x y = changed_one number _ _ o p q x y
 makes_on_one b alignment fresh (SetUnique number guid) o p q x y = changed_one number _ _ o p q x y
 makes_on_one b alignment fresh (SetDisk guid) o p q x y = table_one _ o p q x y
 makes_on_one b alignment fresh (SetBit number bit value) o p q x y = changed_one number _ _ o p q x y
 makes_on_one b alignment fresh Extend o p q x y = table_one _ o p q x y
-makes_on_one b alignment fresh (New path start end code) o p q x y = made_one b path.letter (asked_for path.number alignment start end code) fresh o p q x y
+makes_on_one b alignment fresh (New path start end code) o p q x y =
+    made_one b path.letter (asked_for path.number alignment start end code) fresh o p q x y
 makes_on_one b alignment fresh (Delete path) o p q x y = deleted_one b path.number path.letter o p q x y
 makes_on_one b alignment fresh (SetKind path code) o p q x y = typed_one b path.number path.letter code o p q x y
 makes_on_one b alignment fresh ToGpt o p q x y = converted_one_lem b fresh o p q x y
@@ -185,13 +210,15 @@ makes_on_one b alignment fresh (Align k) o p q x y = absurd x
 makes_on_one b alignment fresh Empty o p q x y = absurd x
 
 -- or is refused there
-makes_on_taken : (b alignment : ℕ) (fresh : List Guid) (w : Edit) (o p : Layout) (r : Refusal) → MakesOn b alignment fresh w o p → RefusesOn b alignment fresh w o r → ⊥
+makes_on_taken : (b alignment : ℕ) (fresh : List Guid) (w : Edit) (o p : Layout) (r : Refusal) → MakesOn b alignment fresh w o p
+    → RefusesOn b alignment fresh w o r → ⊥
 makes_on_taken b alignment fresh (SetName number name) o p r x y = changed_taken number _ _ _ _ o p r (λ t short long. omega arith) x y
 makes_on_taken b alignment fresh (SetUnique number guid) o p r x y = changed_taken number _ _ _ _ o p r (λ t none some. none some) x y
 makes_on_taken b alignment fresh (SetDisk guid) o p r x y = table_taken _ o p r x y
 makes_on_taken b alignment fresh (SetBit number bit value) o p r x y = entry_there number o x.table x.entry r x.is_table x.is_entry y
 makes_on_taken b alignment fresh Extend o p r x y = table_taken _ o p r x y
-makes_on_taken b alignment fresh (New path start end code) o p r x y = made_taken b path.letter (asked_for path.number alignment start end code) fresh o p r x y
+makes_on_taken b alignment fresh (New path start end code) o p r x y =
+    made_taken b path.letter (asked_for path.number alignment start end code) fresh o p r x y
 makes_on_taken b alignment fresh (Delete path) o p r x y = deleted_taken b path.number path.letter o p r x y
 makes_on_taken b alignment fresh (SetKind path code) o p r x y = typed_taken b path.number path.letter code o p r x y
 makes_on_taken b alignment fresh ToGpt o p r x y = converted_taken_lem b fresh o p r x y
@@ -199,13 +226,15 @@ makes_on_taken b alignment fresh (Align k) o p r x y = x
 makes_on_taken b alignment fresh Empty o p r x y = x
 
 -- for one reason
-refuses_on_one : (b alignment : ℕ) (fresh : List Guid) (w : Edit) (o : Layout) (r q : Refusal) → RefusesOn b alignment fresh w o r → RefusesOn b alignment fresh w o q → r ≡ q
+refuses_on_one : (b alignment : ℕ) (fresh : List Guid) (w : Edit) (o : Layout) (r q : Refusal) → RefusesOn b alignment fresh w o r
+    → RefusesOn b alignment fresh w o q → r ≡ q
 refuses_on_one b alignment fresh (SetName number name) o r q x y = not_changed_one number _ _ o r q x y
 refuses_on_one b alignment fresh (SetUnique number guid) o r q x y = not_changed_one number _ _ o r q x y
 refuses_on_one b alignment fresh (SetDisk guid) o r q x y = x.1 ∙ sym y.1
 refuses_on_one b alignment fresh (SetBit number bit value) o r q x y = missing_one number o r q x y
 refuses_on_one b alignment fresh Extend o r q x y = x.1 ∙ sym y.1
-refuses_on_one b alignment fresh (New path start end code) o r q x y = not_made_one b path.letter (asked_for path.number alignment start end code) fresh o r q x y
+refuses_on_one b alignment fresh (New path start end code) o r q x y =
+    not_made_one b path.letter (asked_for path.number alignment start end code) fresh o r q x y
 refuses_on_one b alignment fresh (Delete path) o r q x y = not_deleted_one b path.number path.letter o r q x y
 refuses_on_one b alignment fresh (SetKind path code) o r q x y = not_typed_one b path.number path.letter code o r q x y
 refuses_on_one b alignment fresh ToGpt o r q x y = not_converted_one_lem b fresh o r q x y
@@ -222,9 +251,11 @@ makes_one b w s t u x y =
 
 makes_taken : (b : ℕ) (w : Edit) (s t : State) (r : Refusal) → MakesOf b w s t → RefusedOf b w s.alignment s.fresh s.layout r → ⊥
 makes_taken b w s t r x refused =
-    makes_on_taken b s.alignment s.fresh w x.old x.new r x.makes (subst (λ (o : Option Layout). RefusedOf b w s.alignment s.fresh o r) x.is refused)
+    makes_on_taken b s.alignment s.fresh w x.old x.new r x.makes
+    (subst (λ (o : Option Layout). RefusedOf b w s.alignment s.fresh o r) x.is refused)
 
-refused_of_one : (b : ℕ) (w : Edit) (alignment : ℕ) (fresh : List Guid) (o : Option Layout) (r q : Refusal) → RefusedOf b w alignment fresh o r → RefusedOf b w alignment fresh o q → r ≡ q
+refused_of_one : (b : ℕ) (w : Edit) (alignment : ℕ) (fresh : List Guid) (o : Option Layout) (r q : Refusal)
+    → RefusedOf b w alignment fresh o r → RefusedOf b w alignment fresh o q → r ≡ q
 refused_of_one b w alignment fresh None r q x y = x ∙ sym y
 refused_of_one b w alignment fresh (Some p) r q x y = refuses_on_one b alignment fresh w p r q x y
 
@@ -292,7 +323,8 @@ ends_one : (o : Option Layout) (r q : Result Layout Refusal) → Ends o r → En
 ends_one None r q a b = a ∙ sym b
 ends_one (Some o) r q a b = a ∙ sym b
 
-edited_from_one : (b n : ℕ) (ws : List Edit) (s : State) (r q : Result Layout Refusal) → EditedFrom b n ws s r → EditedFrom b n ws s q → r ≡ q
+edited_from_one : (b n : ℕ) (ws : List Edit) (s : State) (r q : Result Layout Refusal) → EditedFrom b n ws s r
+    → EditedFrom b n ws s q → r ≡ q
 edited_from_one b n [] s r q x y = ends_one s.layout r q x y
 edited_from_one b n (w ∷ ws) s r q (inl (t, takes, then)) (inl (u, also, after)) =
     edited_from_one b n ws t r q then (subst (λ (x : State). EditedFrom b n ws x q) (sym (takes_one b n w s t u takes also)) after)
@@ -302,5 +334,6 @@ edited_from_one b n (w ∷ ws) s r q (inr (e, refused, is)) (inr (f, also, so)) 
     is ∙ (ap (λ (x : Refusal). Err x) (refuses_one b n w s e f refused also) ∙ sym so)
 
 -- words make one thing of a layout or of nothing
-pub edited_one_lem : (b n : ℕ) (old : Option Layout) (words : List Edit) (guids : List Guid) (r q : Result Layout Refusal) → Edited b n old words guids r → Edited b n old words guids q → r ≡ q
+pub edited_one_lem : (b n : ℕ) (old : Option Layout) (words : List Edit) (guids : List Guid) (r q : Result Layout Refusal)
+    → Edited b n old words guids r → Edited b n old words guids q → r ≡ q
 edited_one_lem b n old words guids = edited_from_one b n words (initial b old guids)

@@ -1,5 +1,6 @@
 -- The word `n` without a letter, in a GPT: a new entry.
-use Rattle.std.specs.Prelude.{◌≡◌, ◌≢◌, ◌≤◌, ◌<◌, ◌⊎◌, ◌+◌, ◌-◌, ◌^◌, ℕ, true, List, [], ◌∷◌, flat_map, length, replicate, slice_index_or, Option, Some, None, if◌then◌else◌, nat_le, nat_lt, ◌&&◌}
+use Rattle.std.specs.Prelude.{◌≡◌, ◌≢◌, ◌≤◌, ◌<◌, ◌⊎◌, ◌+◌, ◌-◌, ◌^◌, ℕ, true, List, [], ◌∷◌, flat_map, length, replicate, slice_index_or}
+use Rattle.std.specs.Prelude.{Option, Some, None, if◌then◌else◌, nat_le, nat_lt, ◌&&◌}
 use Rattle.pt_guid.specs.declared.guid.Guid.{Guid}
 use Rattle.pt_gpt.specs.declared.entry.Entry.{Entry}
 use Rattle.pt_gpt.specs.declared.table.Table.{Table}
@@ -13,9 +14,10 @@ use Rattle.pt_space.specs.Placed.{Placed, NotPlaced}
 use Rattle.pt_labels.specs.Lists.{with_new_label}
 use Rattle.pt_edit.specs.Changes.{HasEntry, Elsewhere, with_entry}
 use Rattle.pt_edit.specs.Spots.{is_slice, entry_type}
-use Rattle.pt_edit.specs.declared.asked.Asked.{Asked}
+use Rattle.pt_words.specs.declared.asked.Asked.{Asked}
 use Rattle.pt_words.specs.declared.error.Refusal.{Refusal}
-use Rattle.pt_words.specs.declared.error.Refusal.TheVariants.{NoSuchPartition, NumberTaken, NoSpace, UnknownCode, ContainerType, NoFreshGuid, SameGuid}
+use Rattle.pt_words.specs.declared.error.Refusal.TheVariants.{NoSuchPartition, NumberTaken, NoSpace, UnknownCode, ContainerType}
+use Rattle.pt_words.specs.declared.error.Refusal.TheVariants.{NoFreshGuid, SameGuid}
 use Rattle.pt_words.specs.declared.word.Code.{Code}
 use Rattle.pt_words.specs.declared.word.Code.TheVariants.{Four}
 
@@ -60,7 +62,8 @@ pub record HasPlace (t : Table) (a : Asked) (number : ℕ) (kind : List ℕ) (ru
 pub data NoPlace (t : Table) (a : Asked) (r : Refusal) : Type 0 where
   no_number : NoNumber t a.number r → NoPlace t a r
   no_type : (number : ℕ) → TakesNumber t a.number number → new_type a.code ≡ None → r ≡ UnknownCode → NoPlace t a r
-  no_sectors : (number : ℕ) (kind : List ℕ) → TakesNumber t a.number number → new_type a.code ≡ Some kind → NotPlaced (table_area t) a.alignment a.start a.end r → NoPlace t a r
+  no_sectors : (number : ℕ) (kind : List ℕ) → TakesNumber t a.number number → new_type a.code ≡ Some kind
+      → NotPlaced (table_area t) a.alignment a.start a.end r → NoPlace t a r
 
 abbrev pub run_length : Run → ℕ
 run_length run = run.last - run.first + 1
@@ -109,6 +112,9 @@ pub record EntryMade (b : ℕ) (t : Table) (a : Asked) (fresh : List Guid) (o p 
 -- why there is none
 pub data EntryNotMade (b : ℕ) (t : Table) (a : Asked) (fresh : List Guid) (r : Refusal) : Type 0 where
   no_place : NoPlace t a r → EntryNotMade b t a fresh r
-  wrong_size : (number : ℕ) (kind : List ℕ) (run : Run) → HasPlace t a number kind run → IsWrongSize b kind run → r ≡ ContainerType → EntryNotMade b t a fresh r
-  no_guid : (number : ℕ) (kind : List ℕ) (run : Run) → HasPlace t a number kind run → ¬ IsWrongSize b kind run → fresh ≡ [] → r ≡ NoFreshGuid → EntryNotMade b t a fresh r
-  same_guid : (number : ℕ) (kind : List ℕ) (run : Run) (guid : Guid) (rest : List Guid) → HasPlace t a number kind run → ¬ IsWrongSize b kind run → fresh ≡ guid ∷ rest → Elsewhere t number guid → r ≡ SameGuid → EntryNotMade b t a fresh r
+  wrong_size : (number : ℕ) (kind : List ℕ) (run : Run) → HasPlace t a number kind run → IsWrongSize b kind run → r ≡ ContainerType
+      → EntryNotMade b t a fresh r
+  no_guid : (number : ℕ) (kind : List ℕ) (run : Run) → HasPlace t a number kind run → ¬ IsWrongSize b kind run → fresh ≡ []
+      → r ≡ NoFreshGuid → EntryNotMade b t a fresh r
+  same_guid : (number : ℕ) (kind : List ℕ) (run : Run) (guid : Guid) (rest : List Guid) → HasPlace t a number kind run
+      → ¬ IsWrongSize b kind run → fresh ≡ guid ∷ rest → Elsewhere t number guid → r ≡ SameGuid → EntryNotMade b t a fresh r

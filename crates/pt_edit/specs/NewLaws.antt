@@ -9,8 +9,10 @@ use Rattle.pt_recover.specs.declared.layout.Layout.{Layout}
 use Rattle.pt_space.specs.declared.space.Run.{Run}
 use Rattle.pt_space.specs.Laws.{placed_one_lem, placed_is_not_refused_lem, refused_one_lem}
 use Rattle.pt_edit.specs.Changes.{HasEntry, Elsewhere}
-use Rattle.pt_edit.specs.NewEntry.{IsUnused, TakesNumber, given, lowest, NoNumber, no_such_number, taken, all_taken, new_type, table_area, HasPlace, NoPlace, no_number, no_type, no_sectors, IsWrongSize, EntryMade, EntryNotMade, no_place, wrong_size, no_guid, same_guid}
-use Rattle.pt_edit.specs.declared.asked.Asked.{Asked}
+use Rattle.pt_edit.specs.NewEntry.{IsUnused, TakesNumber, given, lowest, NoNumber, no_such_number, taken, all_taken, new_type, table_area}
+use Rattle.pt_edit.specs.NewEntry.{HasPlace, NoPlace, no_number, no_type, no_sectors, IsWrongSize, EntryMade, EntryNotMade, no_place}
+use Rattle.pt_edit.specs.NewEntry.{wrong_size, no_guid, same_guid}
+use Rattle.pt_words.specs.declared.asked.Asked.{Asked}
 use Rattle.pt_words.specs.declared.error.Refusal.{Refusal}
 
 pub some_none : {A : Type 0} (x : A) → Some x ≡ None → ⊥
@@ -60,7 +62,8 @@ record IsSame (m n : ℕ) (kind type : List ℕ) (run other : Run) : Type 0 wher
   kinds : kind ≡ type
   runs : run ≡ other
 
-place_one : (t : Table) (a : Asked) (m n : ℕ) (kind type : List ℕ) (run other : Run) → HasPlace t a m kind run → HasPlace t a n type other → IsSame m n kind type run other
+place_one : (t : Table) (a : Asked) (m n : ℕ) (kind type : List ℕ) (run other : Run) → HasPlace t a m kind run
+    → HasPlace t a n type other → IsSame m n kind type run other
 place_one t a m n kind type run other x y = record {
   number = number_one t a.number m n x.takes y.takes;
   kinds = some_one (new_type a.code) kind type x.known y.known;
@@ -71,7 +74,8 @@ place_one t a m n kind type run other x y = record {
 place_taken : (t : Table) (a : Asked) (n : ℕ) (kind : List ℕ) (run : Run) (r : Refusal) → HasPlace t a n kind run → NoPlace t a r → ⊥
 place_taken t a n kind run r x (no_number none) = number_taken t a.number n r x.takes none
 place_taken t a n kind run r x (no_type m takes none is) = some_none kind (sym x.known ∙ none)
-place_taken t a n kind run r x (no_sectors m type takes known none) = placed_is_not_refused_lem (table_area t) a.alignment a.start a.end run r x.placed none
+place_taken t a n kind run r x (no_sectors m type takes known none) =
+    placed_is_not_refused_lem (table_area t) a.alignment a.start a.end run r x.placed none
 
 -- for one reason
 no_place_one : (t : Table) (a : Asked) (r q : Refusal) → NoPlace t a r → NoPlace t a q → r ≡ q
@@ -83,50 +87,66 @@ no_place_one t a r q (no_type m takes unknown is) (no_type n also strange so) = 
 no_place_one t a r q (no_type m takes unknown is) (no_sectors n type also known not) = absurd (some_none type (sym known ∙ unknown))
 no_place_one t a r q (no_sectors m type takes known not) (no_number none) = absurd (number_taken t a.number m q takes none)
 no_place_one t a r q (no_sectors m type takes known not) (no_type n also unknown is) = absurd (some_none type (sym known ∙ unknown))
-no_place_one t a r q (no_sectors m type takes known not) (no_sectors n other also too nor) = refused_one_lem (table_area t) a.alignment a.start a.end r q not nor
+no_place_one t a r q (no_sectors m type takes known not) (no_sectors n other also too nor) =
+    refused_one_lem (table_area t) a.alignment a.start a.end r q not nor
 
 -- a new entry makes one layout
-pub entry_made_one : (b : ℕ) (t : Table) (a : Asked) (fresh : List Guid) (o p q : Layout) → EntryMade b t a fresh o p → EntryMade b t a fresh o q → p ≡ q
+pub entry_made_one : (b : ℕ) (t : Table) (a : Asked) (fresh : List Guid) (o p q : Layout) → EntryMade b t a fresh o p
+    → EntryMade b t a fresh o q → p ≡ q
 entry_made_one b t a fresh o p q x y =
     let same = place_one t a x.number y.number x.kind y.kind x.run y.run x.place y.place in
     let lists = sym x.next ∙ y.next in
     let guid : x.guid ≡ y.guid = cc in
     x.made ∙ (rw (same.number, same.kinds, same.runs, guid) (sym y.made))
 
-wrong_there : (b : ℕ) (t : Table) (a : Asked) (m n : ℕ) (kind type : List ℕ) (run other : Run) → HasPlace t a m kind run → HasPlace t a n type other → ¬ IsWrongSize b kind run → IsWrongSize b type other → ⊥
+wrong_there : (b : ℕ) (t : Table) (a : Asked) (m n : ℕ) (kind type : List ℕ) (run other : Run) → HasPlace t a m kind run
+    → HasPlace t a n type other → ¬ IsWrongSize b kind run → IsWrongSize b type other → ⊥
 wrong_there b t a m n kind type run other x y size wrong =
     let same = place_one t a m n kind type run other x y in
     size (subst (λ (k : List ℕ). IsWrongSize b k run) (sym same.kinds) (subst (λ (r : Run). IsWrongSize b type r) (sym same.runs) wrong))
 
-elsewhere_there : (t : Table) (a : Asked) (m n : ℕ) (kind type : List ℕ) (run other : Run) (g h : Guid) (gs hs : List Guid) → g ∷ gs ≡ h ∷ hs → HasPlace t a m kind run → HasPlace t a n type other → ¬ Elsewhere t m g → Elsewhere t n h → ⊥
+elsewhere_there : (t : Table) (a : Asked) (m n : ℕ) (kind type : List ℕ) (run other : Run) (g h : Guid) (gs hs : List Guid)
+    → g ∷ gs ≡ h ∷ hs → HasPlace t a m kind run → HasPlace t a n type other → ¬ Elsewhere t m g → Elsewhere t n h → ⊥
 elsewhere_there t a m n kind type run other g h gs hs lists x y alone twice =
     let same = place_one t a m n kind type run other x y in
     let guid : g ≡ h = cc in
     alone (subst (λ (k : ℕ). Elsewhere t k g) (sym same.number) (subst (λ (u : Guid). Elsewhere t n u) (sym guid) twice))
 
 -- or it is refused
-pub entry_made_taken : (b : ℕ) (t : Table) (a : Asked) (fresh : List Guid) (o p : Layout) (r : Refusal) → EntryMade b t a fresh o p → EntryNotMade b t a fresh r → ⊥
+pub entry_made_taken : (b : ℕ) (t : Table) (a : Asked) (fresh : List Guid) (o p : Layout) (r : Refusal) → EntryMade b t a fresh o p
+    → EntryNotMade b t a fresh r → ⊥
 entry_made_taken b t a fresh o p r x (no_place none) = place_taken t a x.number x.kind x.run r x.place none
-entry_made_taken b t a fresh o p r x (wrong_size m kind run place wrong is) = wrong_there b t a x.number m x.kind kind x.run run x.place place x.size wrong
+entry_made_taken b t a fresh o p r x (wrong_size m kind run place wrong is) =
+    wrong_there b t a x.number m x.kind kind x.run run x.place place x.size wrong
 entry_made_taken b t a fresh o p r x (no_guid m kind run place size none is) = cons_some x.guid x.rest (sym x.next ∙ none)
 entry_made_taken b t a fresh o p r x (same_guid m kind run g gs place size next twice is) =
     elsewhere_there t a x.number m x.kind kind x.run run x.guid g x.rest gs (sym x.next ∙ next) x.place place x.alone twice
 
 -- for one reason
-pub entry_not_made_one : (b : ℕ) (t : Table) (a : Asked) (fresh : List Guid) (r q : Refusal) → EntryNotMade b t a fresh r → EntryNotMade b t a fresh q → r ≡ q
+pub entry_not_made_one : (b : ℕ) (t : Table) (a : Asked) (fresh : List Guid) (r q : Refusal) → EntryNotMade b t a fresh r
+    → EntryNotMade b t a fresh q → r ≡ q
 entry_not_made_one b t a fresh r q (no_place none) (no_place nothing) = no_place_one t a r q none nothing
 entry_not_made_one b t a fresh r q (no_place none) (wrong_size m kind run place wrong so) = absurd (place_taken t a m kind run r place none)
 entry_not_made_one b t a fresh r q (no_place none) (no_guid m kind run place size end so) = absurd (place_taken t a m kind run r place none)
-entry_not_made_one b t a fresh r q (no_place none) (same_guid m kind run g gs place size next twice so) = absurd (place_taken t a m kind run r place none)
+entry_not_made_one b t a fresh r q (no_place none) (same_guid m kind run g gs place size next twice so) =
+    absurd (place_taken t a m kind run r place none)
 entry_not_made_one b t a fresh r q (wrong_size m kind run place wrong is) (no_place none) = absurd (place_taken t a m kind run q place none)
 entry_not_made_one b t a fresh r q (wrong_size m kind run place wrong is) (wrong_size n type other spot bad so) = is ∙ sym so
-entry_not_made_one b t a fresh r q (wrong_size m kind run place wrong is) (no_guid n type other spot size end so) = absurd (wrong_there b t a n m type kind other run spot place size wrong)
-entry_not_made_one b t a fresh r q (wrong_size m kind run place wrong is) (same_guid n type other g gs spot size next twice so) = absurd (wrong_there b t a n m type kind other run spot place size wrong)
+entry_not_made_one b t a fresh r q (wrong_size m kind run place wrong is) (no_guid n type other spot size end so) =
+    absurd (wrong_there b t a n m type kind other run spot place size wrong)
+entry_not_made_one b t a fresh r q (wrong_size m kind run place wrong is) (same_guid n type other g gs spot size next twice so) =
+    absurd (wrong_there b t a n m type kind other run spot place size wrong)
 entry_not_made_one b t a fresh r q (no_guid m kind run place size end is) (no_place none) = absurd (place_taken t a m kind run q place none)
-entry_not_made_one b t a fresh r q (no_guid m kind run place size end is) (wrong_size n type other spot wrong so) = absurd (wrong_there b t a m n kind type run other place spot size wrong)
+entry_not_made_one b t a fresh r q (no_guid m kind run place size end is) (wrong_size n type other spot wrong so) =
+    absurd (wrong_there b t a m n kind type run other place spot size wrong)
 entry_not_made_one b t a fresh r q (no_guid m kind run place size end is) (no_guid n type other spot fits none so) = is ∙ sym so
-entry_not_made_one b t a fresh r q (no_guid m kind run place size end is) (same_guid n type other g gs spot fits next twice so) = absurd (cons_some g gs (sym next ∙ end))
-entry_not_made_one b t a fresh r q (same_guid m kind run g gs place size next twice is) (no_place none) = absurd (place_taken t a m kind run q place none)
-entry_not_made_one b t a fresh r q (same_guid m kind run g gs place size next twice is) (wrong_size n type other spot wrong so) = absurd (wrong_there b t a m n kind type run other place spot size wrong)
-entry_not_made_one b t a fresh r q (same_guid m kind run g gs place size next twice is) (no_guid n type other spot fits end so) = absurd (cons_some g gs (sym next ∙ end))
-entry_not_made_one b t a fresh r q (same_guid m kind run g gs place size next twice is) (same_guid n type other h hs spot fits also double so) = is ∙ sym so
+entry_not_made_one b t a fresh r q (no_guid m kind run place size end is) (same_guid n type other g gs spot fits next twice so) =
+    absurd (cons_some g gs (sym next ∙ end))
+entry_not_made_one b t a fresh r q (same_guid m kind run g gs place size next twice is) (no_place none) =
+    absurd (place_taken t a m kind run q place none)
+entry_not_made_one b t a fresh r q (same_guid m kind run g gs place size next twice is) (wrong_size n type other spot wrong so) =
+    absurd (wrong_there b t a m n kind type run other place spot size wrong)
+entry_not_made_one b t a fresh r q (same_guid m kind run g gs place size next twice is) (no_guid n type other spot fits end so) =
+    absurd (cons_some g gs (sym next ∙ end))
+entry_not_made_one b t a fresh r q (same_guid m kind run g gs place size next twice is)
+    (same_guid n type other h hs spot fits also double so) = is ∙ sym so

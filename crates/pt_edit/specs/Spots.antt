@@ -1,5 +1,5 @@
 -- The words `t` and `d` of an entry of a GPT.
-use Rattle.std.specs.Prelude.{◌≡◌, ◌⊎◌, ◌-◌, ℕ, Bool, true, false, List, slice_set, Option, Some, None, nat_eq, ◌&&◌}
+use Rattle.std.specs.Prelude.{◌≡◌, ◌-◌, ℕ, Bool, false, List, slice_set, Option, Some, None, nat_eq, ◌&&◌}
 use Rattle.pt_guid.specs.Codes.{type_of}
 use Rattle.pt_gpt.specs.declared.entry.Entry.{Entry}
 use Rattle.pt_gpt.specs.declared.table.Table.{Table}
@@ -7,9 +7,10 @@ use Rattle.pt_recover.specs.Labels.{is_slice_kind}
 use Rattle.pt_recover.specs.declared.layout.Layout.{Layout}
 use Rattle.pt_recover.specs.declared.layout.Body.TheVariants.{Gpt}
 use Rattle.pt_labels.specs.Lists.{without_label}
+use Rattle.pt_labels.specs.Retyped.{NotRetyped}
 use Rattle.pt_edit.specs.Changes.{HasEntry, with_entry, with_body}
 use Rattle.pt_words.specs.declared.error.Refusal.{Refusal}
-use Rattle.pt_words.specs.declared.error.Refusal.TheVariants.{NoSuchPartition, UnknownCode, ContainerType}
+use Rattle.pt_words.specs.declared.error.Refusal.TheVariants.{NoSuchPartition}
 use Rattle.pt_words.specs.declared.word.Code.{Code}
 use Rattle.pt_words.specs.declared.word.Code.TheVariants.{Two, Four}
 
@@ -33,10 +34,8 @@ pub record EntryTyped (b : ℕ) (t : Table) (number : ℕ) (code : Code) (o p : 
   pub made : p ≡ with_body o (Gpt (with_entry t number (record entry { kind = record { 0 = kind } })))
 
 -- why it hasn't
-pub data EntryNotTyped (b : ℕ) (t : Table) (number : ℕ) (code : Code) (r : Refusal) : Type 0 where
-  no_such_entry : ((e : Entry) → ¬ HasEntry t number e) → r ≡ NoSuchPartition → EntryNotTyped b t number code r
-  unknown_code : (e : Entry) → HasEntry t number e → entry_type code ≡ None → r ≡ UnknownCode → EntryNotTyped b t number code r
-  is_container : (e : Entry) (kind : List ℕ) → HasEntry t number e → entry_type code ≡ Some kind → (is_slice b e.kind.0 ≡ true) ⊎ (is_slice b kind ≡ true) → r ≡ ContainerType → EntryNotTyped b t number code r
+abbrev pub EntryNotTyped : ℕ → Table → ℕ → Code → Refusal → Type 0
+EntryNotTyped b t number code = NotRetyped (HasEntry t number) (entry_type code) (λ (e : Entry). e.kind.0) (is_slice b)
 
 -- `d`: an entry goes, with the label that it has as a slice
 pub record EntryDeleted (t : Table) (number : ℕ) (o p : Layout) : Type 0 where

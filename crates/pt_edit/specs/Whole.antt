@@ -21,6 +21,12 @@ layout_of (OfMbr m) = records.whole_of m
 abbrev pub without_spot : ℕ → Gpt → Layout
 without_spot number g = record {
   sectors = g.sectors;
-  body = body.Gpt (record { disk = g.table.disk; first = g.table.first; last = g.table.last; entries = slice_set g.table.entries (number - 1) None });
+  body = body.Gpt (record {
+    disk = g.table.disk;
+    first = g.table.first;
+    last = g.table.last;
+    entries =
+        slice_set g.table.entries (number - 1) None;
+  });
   labels = without_label number g.labels;
 }

@@ -15,10 +15,7 @@ pub(crate) fn rename(layout: Layout, number: u64, name: &str) -> Result<Layout, 
     ensures ok { IfOk result (λ made. Named number name.now layout made) }
     ensures err { IfErr result (λ refusal. NameRefused number name.now layout refusal) }
 {
-    let (gpt, mut entry) = match with_used(layout, number) {
-        Ok(found) => found,
-        Err(refusal) => return Err(refusal),
-    };
+    let (gpt, mut entry) = with_used(layout, number)?;
     entry.name = match padded_units(name) {
         Some(units) => units,
         None => return Err(Refusal::NameTooLong),
@@ -47,10 +44,7 @@ pub(crate) fn set_unique(layout: Layout, number: u64, guid: &Guid) -> Result<Lay
     ensures ok { IfOk result (λ made. UniqueSet number guid.now layout made) }
     ensures err { IfErr result (λ refusal. UniqueRefused number guid.now layout refusal) }
 {
-    let (gpt, mut entry) = match with_used(layout, number) {
-        Ok(found) => found,
-        Err(refusal) => return Err(refusal),
-    };
+    let (gpt, mut entry) = with_used(layout, number)?;
     if is_elsewhere(&gpt.table, number, guid) {
         return Err(Refusal::SameGuid);
     }
@@ -74,10 +68,7 @@ pub(crate) fn set_bit(layout: Layout, number: u64, bit: u8, value: bool) -> Resu
     ensures ok { IfOk result (λ made. BitSet number bit value layout made) }
     ensures err { IfErr result (λ refusal. BitRefused number layout refusal) }
 {
-    let (gpt, mut entry) = match with_used(layout, number) {
-        Ok(found) => found,
-        Err(refusal) => return Err(refusal),
-    };
+    let (gpt, mut entry) = with_used(layout, number)?;
     entry.attributes = put_bit(entry.attributes, bit, value);
     Ok(gpt.with_entry(number, entry))
 }

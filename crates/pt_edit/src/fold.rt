@@ -25,13 +25,11 @@ pub fn edit<const B: usize>(
     requires size { IsSectorSize B }
     requires same { IfSome old (λ o. o.now.sectors ≡ sectors) }
     ensures ok { IfOk result (λ made. Edited B sectors (option_map (λ o. o.now) old.entry) edits.now guids.now (Ok made)) }
-    ensures err { IfErr result (λ refusal. refusal ≢ Refusal.Memory → Edited B sectors (option_map (λ o. o.now) old.entry) edits.now guids.now (Err refusal)) }
+    ensures err { IfErr result (λ refusal. refusal ≢ Refusal.Memory
+        → Edited B sectors (option_map (λ o. o.now) old.entry) edits.now guids.now (Err refusal)) }
 {
     let layout = match old {
-        Some(layout) => match layout.copy(alloc) {
-            Ok(copy) => Some(copy),
-            Err(_) => return Err(Refusal::Memory),
-        },
+        Some(layout) => Some(layout.copy(alloc)?),
         None => None,
     };
     let mut state = State {
@@ -40,10 +38,7 @@ pub fn edit<const B: usize>(
         taken: 0,
     };
     for word in edits {
-        state = match take_word::<B>(alloc, state, word, sectors, guids) {
-            Ok(next) => next,
-            Err(refusal) => return Err(refusal),
-        };
+        state = take_word::<B>(alloc, state, word, sectors, guids)?;
     }
     match state.layout {
         Some(layout) => Ok(layout),

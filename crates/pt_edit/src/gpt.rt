@@ -97,10 +97,7 @@ pub(crate) fn with_used(layout: Layout, number: u64) -> Result<(Gpt, Entry), Ref
     ensures entry { IfOk result (λ r. HasEntry r.0.table number r.1) }
     ensures err { IfErr result (Missing number layout) }
 {
-    let gpt = match Gpt::of(layout) {
-        Ok(gpt) => gpt,
-        Err(refusal) => return Err(refusal),
-    };
+    let gpt = Gpt::of(layout)?;
     match used_entry(&gpt.table, number) {
         Some(entry) => Ok((gpt, entry)),
         None => Err(Refusal::NoSuchPartition),

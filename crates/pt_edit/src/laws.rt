@@ -11,12 +11,14 @@ ghost use Rattle.pt_words.specs.declared.error.Refusal.TheVariants.{Memory};
 
 /// Words make one layout of another or of nothing, or are refused for one reason.
 pub fn edited_one()
-    ensures { (b n : ℕ) (old : Option Layout) (words : List Edit) (guids : List Guid) (r q : Result Layout Refusal) → Edited b n old words guids r → Edited b n old words guids q → r ≡ q }
+    ensures { (b n : ℕ) (old : Option Layout) (words : List Edit) (guids : List Guid) (r q : Result Layout Refusal)
+        → Edited b n old words guids r → Edited b n old words guids q → r ≡ q }
 {}
 
 /// Words have an answer, of nothing and of each layout of a GPT or of four records: a layout, or a refusal.
 pub fn edit_answers()
-    ensures { (b n : ℕ) (old : Option Layout) (words : List Edit) (guids : List Guid) → IfSome old (λ o. HasFour o.body) → (r : Result Layout Refusal) × Edited b n old words guids r }
+    ensures { (b n : ℕ) (old : Option Layout) (words : List Edit) (guids : List Guid) → IfSome old (λ o. HasFour o.body)
+        → (r : Result Layout Refusal) × Edited b n old words guids r }
 {}
 
 /// No words are refused for want of memory: that refusal is the program's alone.

@@ -3,7 +3,6 @@
 //! docs/commands.md has the words, docs/model.md what they mean.
 #![tactic(auto)]
 
-mod asked;
 mod entries;
 mod fold;
 mod gpt;

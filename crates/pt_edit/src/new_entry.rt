@@ -1,11 +1,12 @@
 //! The word `n` without a letter, in a GPT: a new entry.
 
-ghost use Rattle.std.specs.Prelude.{◌≡◌, ◌≢◌, ◌≤◌, ◌<◌, ◌^◌, ◌↔◌, ℕ, [], IsTrue, IfOk, IfErr, IfSome, IfNone, ◌∷◌, drop, flat_map, option_to_list, Some, None};
+ghost use Rattle.std.specs.Prelude.{◌≡◌, ◌≢◌, ◌≤◌, ◌<◌, ◌^◌, ◌↔◌, ℕ, [], IsTrue, IfOk, IfErr, IfSome, IfNone, ◌∷◌, drop, flat_map};
+ghost use Rattle.std.specs.Prelude.{option_to_list, Some, None};
 ghost use Rattle.pt_space.specs.Area.{area_of};
-ghost use Rattle.pt_edit.specs.NewEntry.{IsUnused, TakesNumber, NoNumber, new_type, entry_runs, table_area, HasPlace, NoPlace, IsWrongSize, new_entry_of, new_labels, with_new_entry, EntryMade, EntryNotMade};
+ghost use Rattle.pt_edit.specs.NewEntry.{IsUnused, TakesNumber, NoNumber, new_type, entry_runs, table_area, HasPlace, NoPlace, IsWrongSize};
+ghost use Rattle.pt_edit.specs.NewEntry.{new_entry_of, new_labels, with_new_entry, EntryMade, EntryNotMade};
 ghost use Rattle.pt_edit.specs.Whole.{whole_of};
 
-use crate::asked::Asked;
 use crate::entries::is_elsewhere;
 use crate::gpt::{Gpt, used_entry};
 use crate::spots::{entry_type_of, is_slice_kind_of};
@@ -15,7 +16,7 @@ use pt_guid::Guid;
 use pt_labels::add_label;
 use pt_recover::{Labels, Layout};
 use pt_space::{Lead, Run, Space, place};
-use pt_words::{Code, Refusal};
+use pt_words::{Asked, Code, Refusal};
 use std::alloc::{AllocError, Global};
 
 /// The type of a new entry where the word has none: a Linux filesystem.
@@ -126,22 +127,13 @@ fn find_spot(alloc: Global, table: &Table, asked: &Asked) -> Result<Spot, Refusa
     ensures fits { IfOk result (λ s. s.run.last < 2 ^ 64) }
     ensures err { IfErr result (λ refusal. refusal ≢ Refusal.Memory → NoPlace table.now asked.now refusal) }
 {
-    let number = match number_for(table, asked.number) {
-        Ok(number) => number,
-        Err(refusal) => return Err(refusal),
-    };
+    let number = number_for(table, asked.number)?;
     let kind = match new_type_of(&asked.code) {
         Some(kind) => kind,
         None => return Err(Refusal::UnknownCode),
     };
-    let space = match table_space(alloc, table) {
-        Ok(space) => space,
-        Err(_) => return Err(Refusal::Memory),
-    };
-    let run = match place(space, asked.alignment, asked.start, asked.end) {
-        Ok(run) => run,
-        Err(refusal) => return Err(refusal),
-    };
+    let space = table_space(alloc, table)?;
+    let run = place(space, asked.alignment, asked.start, asked.end)?;
     Ok(Spot { number, kind, run })
 }
 
@@ -236,10 +228,7 @@ pub(crate) fn new_entry<const B: usize>(
     ensures ok { IfOk result (λ made. EntryMade B gpt.table asked.now fresh.now (whole_of gpt) made) }
     ensures err { IfErr result (λ refusal. refusal ≢ Refusal.Memory → EntryNotMade B gpt.table asked.now fresh.now refusal) }
 {
-    let spot = match find_spot(alloc, &gpt.table, asked) {
-        Ok(spot) => spot,
-        Err(refusal) => return Err(refusal),
-    };
+    let spot = find_spot(alloc, &gpt.table, asked)?;
     if is_wrong_size::<B>(&spot) {
         return Err(Refusal::ContainerType);
     }
@@ -250,8 +239,5 @@ pub(crate) fn new_entry<const B: usize>(
     if is_elsewhere(&gpt.table, spot.number, &guid) {
         return Err(Refusal::SameGuid);
     }
-    match put_new::<B>(alloc, gpt, &spot, &guid) {
-        Ok(layout) => Ok(layout),
-        Err(_) => Err(Refusal::Memory),
-    }
+    Ok(put_new::<B>(alloc, gpt, &spot, &guid)?)
 }

@@ -3,7 +3,6 @@
 ghost use Rattle.std.specs.Prelude.{◌≢◌, IfOk, IfErr};
 ghost use Rattle.pt_edit.specs.Edited.{Typed, NotTyped, Deleted, NotDeleted, Made, NotMade};
 
-use crate::asked::Asked;
 use crate::kinds::{Parts, parts_of};
 use crate::new_entry::new_entry;
 use crate::spots::{delete_entry, set_entry_kind};
@@ -11,7 +10,7 @@ use pt_guid::Guid;
 use pt_labels::{delete_part, new_part, set_part_kind};
 use pt_layout::Path;
 use pt_recover::Layout;
-use pt_words::{Code, Refusal};
+use pt_words::{Asked, Code, Refusal};
 use std::alloc::Global;
 
 // The layout with another type of what a path names.
@@ -58,27 +57,10 @@ pub(crate) fn new<const B: usize>(
     ensures err { IfErr result (λ refusal. refusal ≢ Refusal.Memory → NotMade B letter asked.now fresh.now layout refusal) }
 {
     match letter {
-        Some(letter) => new_part::<B>(
-            alloc,
-            layout,
-            asked.number,
-            letter,
-            asked.alignment,
-            asked.start,
-            asked.end,
-            &asked.code,
-        ),
+        Some(letter) => new_part::<B>(alloc, layout, letter, asked),
         None => match parts_of(layout) {
             Parts::OfGpt(gpt) => new_entry::<B>(alloc, gpt, asked, fresh),
-            Parts::OfMbr(parts) => pt_records::new::<B>(
-                alloc,
-                parts,
-                asked.number,
-                asked.alignment,
-                asked.start,
-                asked.end,
-                &asked.code,
-            ),
+            Parts::OfMbr(parts) => pt_records::new::<B>(alloc, parts, asked),
         },
     }
 }

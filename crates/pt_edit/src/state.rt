@@ -5,7 +5,6 @@ ghost use Rattle.pt_sector.specs.Sectors.{IsSectorSize};
 ghost use Rattle.pt_edit.specs.Edited.{Takes, Refuses, MakesOf, RefusedOf, MakesOn, RefusesOn, Emptied, EmptyRefused, taken_by};
 ghost use Rattle.pt_edit.specs.Fold.{state_of};
 
-use crate::asked::Asked;
 use crate::entries::{rename, set_bit, set_unique};
 use crate::paths::{delete, new, set_kind};
 use crate::tables::{empty, extend, set_disk};
@@ -13,7 +12,7 @@ use pt_convert::{guids_for, to_gpt};
 use pt_gpt::array_sectors;
 use pt_guid::Guid;
 use pt_recover::{Body, Layout};
-use pt_words::{Edit, Refusal};
+use pt_words::{Asked, Edit, Refusal};
 use std::alloc::Global;
 
 /// The alignment of starts before a word says another, in bytes.
@@ -46,14 +45,12 @@ fn take_empty<const B: usize>(
     if state.taken >= guids.len() {
         return Err(Refusal::NoFreshGuid);
     }
-    match empty::<B>(alloc, sectors, &guids[state.taken]) {
-        Ok(layout) => Ok(State {
-            layout: Some(layout),
-            alignment: state.alignment,
-            taken: state.taken + 1,
-        }),
-        Err(_) => Err(Refusal::Memory),
-    }
+    let layout = empty::<B>(alloc, sectors, &guids[state.taken])?;
+    Ok(State {
+        layout: Some(layout),
+        alignment: state.alignment,
+        taken: state.taken + 1,
+    })
 }
 
 // The layout after a word that needs one, with an alignment and the fresh GUIDs that are left.
@@ -118,7 +115,8 @@ fn take_layout<const B: usize>(
     requires size { IsSectorSize B }
     requires taken { state.taken ≤ length guids.now }
     ensures ok { IfOk result (λ made. MakesOf B word.now (state_of guids.now state) (state_of guids.now made)) }
-    ensures err { IfErr result (λ refusal. refusal ≢ Refusal.Memory → RefusedOf B word.now state.alignment (drop state.taken guids.now) state.layout refusal) }
+    ensures err { IfErr result (λ refusal. refusal ≢ Refusal.Memory
+        → RefusedOf B word.now state.alignment (drop state.taken guids.now) state.layout refusal) }
     ensures taken { IfOk result (λ made. made.taken ≤ length guids.now) }
 {
     let State {
@@ -131,14 +129,12 @@ fn take_layout<const B: usize>(
         None => return Err(Refusal::NotForThisTable),
     };
     let count = guids_of(word, &layout);
-    match take_on::<B>(alloc, layout, word, alignment, &guids[taken..]) {
-        Ok(layout) => Ok(State {
-            layout: Some(layout),
-            alignment,
-            taken: taken + count,
-        }),
-        Err(refusal) => Err(refusal),
-    }
+    let layout = take_on::<B>(alloc, layout, word, alignment, &guids[taken..])?;
+    Ok(State {
+        layout: Some(layout),
+        alignment,
+        taken: taken + count,
+    })
 }
 
 // The state after a word.

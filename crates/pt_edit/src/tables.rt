@@ -21,10 +21,7 @@ pub(crate) fn set_disk(layout: Layout, guid: &Guid) -> Result<Layout, Refusal>
     ensures ok { IfOk result (λ made. DiskSet guid.now layout made) }
     ensures err { IfErr result (NoTable layout) }
 {
-    let mut gpt = match Gpt::of(layout) {
-        Ok(gpt) => gpt,
-        Err(refusal) => return Err(refusal),
-    };
+    let mut gpt = Gpt::of(layout)?;
     gpt.table.disk = *guid;
     Ok(gpt.whole())
 }
@@ -43,10 +40,7 @@ pub(crate) fn extend<const B: usize>(layout: Layout) -> Result<Layout, Refusal>
     ensures ok { IfOk result (λ made. Extended B layout made) }
     ensures err { IfErr result (NoTable layout) }
 {
-    let mut gpt = match Gpt::of(layout) {
-        Ok(gpt) => gpt,
-        Err(refusal) => return Err(refusal),
-    };
+    let mut gpt = Gpt::of(layout)?;
     gpt.table.last = gpt.sectors.saturating_sub(first_usable::<B>());
     Ok(gpt.whole())
 }

@@ -8,37 +8,44 @@ use Rattle.pt_recover.specs.Laws.{denotes_one_lem}
 use Rattle.pt_recover.specs.declared.layout.Body.TheVariants.{Mbr, Gpt}
 use Rattle.pt_recover.specs.declared.layout.Layout.{Layout}
 use Rattle.pt_layout.specs.Healthy.{IsHealthy}
-use Rattle.pt_cases.specs.Cases.{IsPlan, idle, backup_first, primary_first, from_mbr, one_label, within_mbr, ChangesLabels}
+use Rattle.pt_cases.specs.Cases.{IsPlan, ChangesLabels}
 use Rattle.pt_targets.specs.Causes.{IsReused}
 use Rattle.pt_targets.specs.declared.error.PlanError.TheVariants.{NotOneSwitch, ReusedInOneBatch}
 use Rattle.pt_targets.specs.Unplanned.{NoSwitch, HasNoSwitch, Unplanned}
+use Rattle.pt_exact.specs.EachCase.{no_plan_has}
 use Rattle.pt_exact.specs.OneLabel.{label_switch, label_frees}
 use Rattle.pt_exact.specs.Tables.{mbr_changes, no_cause}
 
-module _ (b : ℕ) (d : Sectors) (o : Option Layout) (p : Layout) (t : Table) (phases : List Writes) (from : Denotes b d o) (not_done : ¬ IsHealthy b d p) (changes : ChangesLabels o p) (body : p.body ≡ Gpt t) where
+module _ (b : ℕ) (d : Sectors) (o : Option Layout) (p : Layout) (t : Table) (phases : List Writes) (from : Denotes b d o)
+    (not_done : ¬ IsHealthy b d p) (changes : ChangesLabels o p) (body : p.body ≡ Gpt t) where
   one_switch : IsPlan b d p phases → ¬ HasNoSwitch b d o p
-  one_switch (idle healthy none) why = not_done healthy
-  one_switch (backup_first q u is) why = is.other (subst (λ (x : Option Layout). ChangesLabels x p) (denotes_one_lem b d o q from is.common.from) changes)
-  one_switch (primary_first q u is) why = is.other (subst (λ (x : Option Layout). ChangesLabels x p) (denotes_one_lem b d o q from is.common.from) changes)
-  one_switch (from_mbr q u is) why = mbr_changes b d q p u phases is (subst (λ (x : Option Layout). ChangesLabels x p) (denotes_one_lem b d o q from is.common.from) changes)
-  one_switch (one_label q u is) why = label_switch b d q p u phases is (subst (λ (x : Option Layout). HasNoSwitch b d x p) (denotes_one_lem b d o q from is.common.from) why)
-  one_switch (within_mbr q records chain is) why = (let two : Gpt t ≡ Mbr records chain = sym body ∙ is.body in cc)
+  one_switch plan cause = no_plan_has b d o p phases from (λ (x : Option Layout). ChangesLabels x p × HasNoSwitch b d x p) not_done
+      (λ q u is why. is.other why.0)
+      (λ q u is why. is.other why.0)
+      (λ q u is why. mbr_changes b d q p u phases is why.0)
+      (λ q u is why. label_switch b d q p u phases is why.1)
+      (λ q records chain is why. (let two : Gpt t ≡ Mbr records chain = sym body ∙ is.body in cc))
+      plan (changes, cause)
 
   one_frees : IsPlan b d p phases → ¬ IsReused b d o p
-  one_frees (idle healthy none) why = not_done healthy
-  one_frees (backup_first q u is) why = is.other (subst (λ (x : Option Layout). ChangesLabels x p) (denotes_one_lem b d o q from is.common.from) changes)
-  one_frees (primary_first q u is) why = is.other (subst (λ (x : Option Layout). ChangesLabels x p) (denotes_one_lem b d o q from is.common.from) changes)
-  one_frees (from_mbr q u is) why = mbr_changes b d q p u phases is (subst (λ (x : Option Layout). ChangesLabels x p) (denotes_one_lem b d o q from is.common.from) changes)
-  one_frees (one_label q u is) why = label_frees b d q p u phases is (subst (λ (x : Option Layout). IsReused b d x p) (denotes_one_lem b d o q from is.common.from) why)
-  one_frees (within_mbr q records chain is) why = (let two : Gpt t ≡ Mbr records chain = sym body ∙ is.body in cc)
+  one_frees plan cause = no_plan_has b d o p phases from (λ (x : Option Layout). ChangesLabels x p × IsReused b d x p) not_done
+      (λ q u is why. is.other why.0)
+      (λ q u is why. is.other why.0)
+      (λ q u is why. mbr_changes b d q p u phases is why.0)
+      (λ q u is why. label_frees b d q p u phases is why.1)
+      (λ q records chain is why. (let two : Gpt t ≡ Mbr records chain = sym body ∙ is.body in cc))
+      plan (changes, cause)
 
 -- such a plan has one switch
-pub change_has_switch : (b : ℕ) (d : Sectors) (o : Option Layout) (p : Layout) (t : Table) (phases : List Writes) → Denotes b d o → IsPlan b d p phases → ChangesLabels o p → p.body ≡ Gpt t → ¬ Unplanned b d p NotOneSwitch
+pub change_has_switch : (b : ℕ) (d : Sectors) (o : Option Layout) (p : Layout) (t : Table) (phases : List Writes) → Denotes b d o
+    → IsPlan b d p phases → ChangesLabels o p → p.body ≡ Gpt t → ¬ Unplanned b d p NotOneSwitch
 change_has_switch b d o p t phases from plan changes body is =
     let why = subst (λ (x : Option Layout). NoSwitch b d x p) (denotes_one_lem b d is.old o is.from from) is.cause in
     no_cause b d o p phases from plan (one_switch b d o p t phases from is.not_done changes body plan) why
 
 -- and writes no sector that is owned
-pub change_frees : (b : ℕ) (d : Sectors) (o : Option Layout) (p : Layout) (t : Table) (phases : List Writes) → Denotes b d o → IsPlan b d p phases → ChangesLabels o p → p.body ≡ Gpt t → ¬ Unplanned b d p ReusedInOneBatch
+pub change_frees : (b : ℕ) (d : Sectors) (o : Option Layout) (p : Layout) (t : Table) (phases : List Writes) → Denotes b d o
+    → IsPlan b d p phases → ChangesLabels o p → p.body ≡ Gpt t → ¬ Unplanned b d p ReusedInOneBatch
 change_frees b d o p t phases from plan changes body is =
-    one_frees b d o p t phases from is.not_done changes body plan (subst (λ (x : Option Layout). IsReused b d x p) (denotes_one_lem b d is.old o is.from from) is.cause.1)
+    one_frees b d o p t phases from is.not_done changes body plan
+    (subst (λ (x : Option Layout). IsReused b d x p) (denotes_one_lem b d is.old o is.from from) is.cause.1)

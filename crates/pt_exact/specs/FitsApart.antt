@@ -1,5 +1,6 @@
 -- No two targets of a layout that words make of a disk's are of one sector.
-use Rattle.std.proofs.Common.{◌≡◌, ◌∙◌, ◌⊎◌, inl, inr, ℕ, zero, suc, ◌<◌, List, [], ◌∷◌, ◌++◌, length, Option, refl, sym, ap, subst, arith, length-append}
+use Rattle.std.proofs.Common.{◌≡◌, ◌∙◌, ◌⊎◌, inl, inr, ℕ, zero, suc, List, [], ◌∷◌, ◌++◌, length, Option, refl, sym, ap, subst, arith}
+use Rattle.std.proofs.Common.{length-append}
 use Rattle.std.specs.Prelude.{Contains}
 use Rattle.std.proofs.lemmas.List.{length-map}
 use Rattle.std.proofs.lemmas.List.Elements.{Contains-append_left, Contains-append_right, Contains-append_cases}
@@ -11,47 +12,21 @@ use Rattle.pt_recover.specs.Labels.{places_of, place_of}
 use Rattle.pt_recover.specs.Mbr.{extended_of, extent_of}
 use Rattle.pt_recover.specs.declared.layout.Body.{Body}
 use Rattle.pt_recover.specs.declared.layout.Body.TheVariants.{Mbr, Gpt}
-use Rattle.pt_recover.specs.declared.layout.Labelled.{Labelled}
 use Rattle.pt_recover.specs.declared.layout.Layout.{Layout}
 use Rattle.pt_recover.specs.declared.layout.Slice.{Slice}
 use Rattle.pt_layout.specs.Sound.{Sound}
-use Rattle.pt_shape.specs.Covers.{IsAt, Covers, covering_differs_lem}
-use Rattle.pt_shape.specs.Differ.{AllDiffer, label_sectors, chain_sectors, own_sectors, labels_differ_lem, own_differ_lem}
+use Rattle.pt_shape.specs.Ascending.{fits_four}
+use Rattle.pt_shape.specs.Covers.{Covers}
+use Rattle.pt_shape.specs.Differ.{AllDiffer, label_sectors, chain_sectors, own_sectors, own_differ_lem}
 use Rattle.pt_shape.specs.Keeps.{Keeps}
 use Rattle.pt_shape.specs.Links.{IsLinked, chain_is_linked_lem}
 use Rattle.pt_shape.specs.Shape.{Shaped}
-use Rattle.pt_cases.specs.Targets.{Along}
 use Rattle.pt_targets.specs.Causes.{SharesSector, TargetsIn, TargetsOf, WritesBoth}
-use Rattle.pt_targets.specs.Targets.{AreLabelTargets, AreMbrTargets, HasTwoOfOne, HasEbrs, HasChain, Targeted, sector_of}
+use Rattle.pt_targets.specs.Targets.{AreLabelTargets, AreMbrTargets, HasTwoOfOne, HasEbrs, HasChain}
 use Rattle.pt_targets.specs.declared.target.Target.{Target}
+use Rattle.pt_exact.specs.Each.{place, none_share, labels_cover, one_each}
 
--- the sector of a target
-abbrev place : {b : ℕ} → Target b → ℕ
-place t = t.at.0
-
--- target i of some
-target_at : {b : ℕ} (ts : List (Target b)) (i : ℕ) → i < length ts → (t : Target b) × IsAt ts i t × (place t ≡ sector_of ts i)
-target_at [] i lt = absurd (omega (arith, lt))
-target_at (t ∷ ts) zero lt = (t, (omega arith, refl), refl)
-target_at (t ∷ ts) (suc i) lt = (let more = target_at ts i (omega (arith, lt)) in (more.0, (omega (arith, more.1.0), more.1.1), more.2))
-
--- as many targets as different sectors, with one of each: no two are of one
-none_share : {b : ℕ} (ys : List ℕ) (ts : List (Target b)) → AllDiffer ys → Covers place ts ys → length ts ≡ length ys → ¬ HasTwoOfOne ts
-none_share ys ts differ covers count two =
-    let t = target_at ts two.i (omega (arith, two.order, two.within)) in
-    let u = target_at ts two.j two.within in
-    covering_differs_lem place ys ts differ covers count two.i two.j t.0 u.0 two.order t.1 u.1 (t.2 ∙ two.same ∙ sym u.2)
-
--- each label place has a target
-labels_cover : {b : ℕ} (d : Sectors) (o : Option Layout) (ts : List (Target b)) (ws : List Slice) (labels : List Labelled)
-    → Along (Targeted d o ts) ws labels → Covers place ts (label_sectors ws)
-labels_cover d o ts [] labels is s has = absurd (omega (arith, has.1))
-labels_cover d o ts (w ∷ ws) labels (inl (l, rest, same, here, later)) s (zero, lt, at) = (here.0, here.1, here.2 ∙ at)
-labels_cover d o ts (w ∷ ws) labels (inl (l, rest, same, here, later)) s (suc k, lt, at) = labels_cover d o ts ws rest later s (k, omega (arith, lt), at)
-labels_cover d o ts (w ∷ ws) labels (inr (here, later)) s (zero, lt, at) = (here.0, here.1, here.2 ∙ at)
-labels_cover d o ts (w ∷ ws) labels (inr (here, later)) s (suc k, lt, at) = labels_cover d o ts ws labels later s (k, omega (arith, lt), at)
-
--- so has each extended boot record
+-- each extended boot record has a target
 ebrs_cover : {b : ℕ} (d : Sectors) (old : List Ebr) (first : ℕ) (es : List Ebr) (ts : List (Target b)) → HasEbrs d old first es ts
     → Covers place ts (chain_sectors es)
 ebrs_cover d old first [] ts is s has = absurd (omega (arith, has.1))
@@ -73,22 +48,20 @@ covers_first y ys ts t has same covers s (suc k, lt, at) = covers s (k, omega (a
 -- some targets and others
 covers_both : {b : ℕ} (xs ys : List ℕ) (ts us : List (Target b)) → Covers place ts xs → Covers place us ys
     → Covers place (ts ++ us) (xs ++ ys)
-covers_both xs ys ts us first second s has = elim (Contains-append_cases xs ys s has) as (λ _. (t : Target _) × Contains (ts ++ us) t × (place t ≡ s)) [
-  | inl here ↦ (let t = first s here in (t.0, Contains-append_left ts us t.0 t.1, t.2))
-  | inr there ↦ (let t = second s there in (t.0, Contains-append_right ts us t.0 t.1, t.2))
-]
+covers_both xs ys ts us first second s has =
+    elim (Contains-append_cases xs ys s has) as (λ _. (t : Target _) × Contains (ts ++ us) t × (place t ≡ s)) [
+      | inl here ↦ (let t = first s here in (t.0, Contains-append_left ts us t.0 t.1, t.2))
+      | inr there ↦ (let t = second s there in (t.0, Contains-append_right ts us t.0 t.1, t.2))
+    ]
 
 module _ (b : ℕ) (d : Sectors) (o : Option Layout) (p : Layout) (shaped : Shaped b p) (sound : Sound b p) where
   abbrev places : List Slice
   places = places_of b p.sectors p.body
 
-  -- the targets of the label places
   labels_apart : (ts : List (Target b)) → AreLabelTargets d o p ts → ¬ HasTwoOfOne ts
-  labels_apart ts are =
-      none_share (label_sectors places) ts (labels_differ_lem b p shaped sound) (labels_cover d o ts places p.labels are.has)
-      (are.count ∙ sym (length-map places (λ (w : Slice). place_of w)))
+  labels_apart ts are = one_each b d o p (fits_four b p.sectors p.body shaped.body) sound ts are
 
-  -- with those of sector 0 and of the chain
+  -- the targets of sector 0 and of the chain with those of the label places
   mbr_apart : (old_records records : List (Option Record)) (old chain : List Ebr) (heads labels : List (Target b))
       → p.body ≡ Mbr records chain
       → AreMbrTargets d old_records old records chain heads → AreLabelTargets d o p labels → ¬ HasTwoOfOne (heads ++ labels)
@@ -117,7 +90,8 @@ module _ (b : ℕ) (d : Sectors) (o : Option Layout) (p : Layout) (shaped : Shap
   targets_apart : (y : Body) (ts : List (Target b)) → p.body ≡ y → TargetsIn b d o p y ts → ¬ HasTwoOfOne ts
   targets_apart (Gpt t) ts is are two = labels_apart ts are.1 two
   targets_apart (Mbr records chain) ts is (was, heads, labels, are_heads, are_labels, same) two =
-      mbr_apart was.records records was.chain chain heads labels is are_heads are_labels (subst (λ (us : List (Target b)). HasTwoOfOne us) same two)
+      mbr_apart was.records records was.chain chain heads labels is are_heads are_labels
+      (subst (λ (us : List (Target b)). HasTwoOfOne us) same two)
 
   all_apart : (ts : List (Target b)) → TargetsOf b d o p ts ⊎ (WritesBoth o p × AreLabelTargets d o p ts) → ¬ HasTwoOfOne ts
   all_apart ts (inl are) = targets_apart p.body ts refl are

@@ -15,7 +15,8 @@ use Rattle.pt_recover.specs.declared.layout.Layout.{Layout}
 use Rattle.pt_layout.specs.Grouped.{contains_head, contains_tail}
 use Rattle.pt_layout.specs.Sound.{Sound}
 use Rattle.pt_shape.specs.Keeps.{Keeps}
-use Rattle.pt_shape.specs.Links.{AllLeadOn, IsLinked, start_of, shaped_plain_lem, shaped_logical_lem, chain_leads_lem, links_fit_lem, chain_is_linked_lem}
+use Rattle.pt_shape.specs.Links.{AllLeadOn, IsLinked, start_of, shaped_plain_lem, shaped_logical_lem, chain_leads_lem, links_fit_lem}
+use Rattle.pt_shape.specs.Links.{chain_is_linked_lem}
 use Rattle.pt_shape.specs.Shape.{Shaped}
 use Rattle.pt_cases.specs.Causes.{WasMbr}
 use Rattle.pt_targets.specs.Unmade.{HoldsRecords, HoldsEbr, LeadsOn, HasUnmade, HasUnmadeEbr, HasUnmadeIn}
@@ -58,18 +59,21 @@ leads_on first next (e ∷ es) same fits = (same, fits e (contains_head e es))
 
 -- extended boot records that lead on, with links and logical partitions that fit, can be made over old ones that hold
 ebrs_made : (b : ℕ) (d : Sectors) (old : List Ebr) (first : ℕ) (es : List Ebr) → ((e : Ebr) → StandsAt e.at.0 old → HoldsEbr d e)
-    → AllLeadOn es → ((e : Ebr) → Contains es e → FitsLink first e) → ((e : Ebr) → Contains es e → IsPlainLogical e.logical) → ¬ HasUnmadeEbr b d old first es
+    → AllLeadOn es → ((e : Ebr) → Contains es e → FitsLink first e) → ((e : Ebr) → Contains es e → IsPlainLogical e.logical)
+    → ¬ HasUnmadeEbr b d old first es
 ebrs_made b d old first [] holds leads links plain unmade = unmade
 ebrs_made b d old first (e ∷ es) holds leads links plain (inl here) =
     let next = leads_on first e.next es leads.0 (λ f has. links f (contains_tail e es f has)) in
     here.unfit (record { logical = plain e (contains_head e es); next = next }, holds e)
 ebrs_made b d old first (e ∷ es) holds leads links plain (inr later) =
-    ebrs_made b d old first es holds leads.1 (λ f has. links f (contains_tail e es f has)) (λ f has. plain f (contains_tail e es f has)) later
+    ebrs_made b d old first es holds leads.1 (λ f has. links f (contains_tail e es f has))
+    (λ f has. plain f (contains_tail e es f has)) later
 
 -- so can the chain of a shaped and sound MBR
 chain_made : (b : ℕ) (d : Sectors) (p : Layout) (records : List (Option Record)) (chain old : List Ebr) (es : List Record)
     → extended_of records ≡ es
-    → ((e : Ebr) → StandsAt e.at.0 old → HoldsEbr d e) → Shaped b p → Sound b p → p.body ≡ Mbr records chain → ¬ HasUnmadeIn b d old es chain
+    → ((e : Ebr) → StandsAt e.at.0 old → HoldsEbr d e) → Shaped b p → Sound b p → p.body ≡ Mbr records chain
+    → ¬ HasUnmadeIn b d old es chain
 chain_made b d p records chain old [] lone holds shaped sound is unmade = unmade
 chain_made b d p records chain old (r ∷ []) lone holds shaped sound is unmade =
     ebrs_made b d old (extent_of r).first chain holds (chain_leads_lem b p records chain shaped is)
@@ -81,10 +85,12 @@ chain_made b d p records chain old (r ∷ s ∷ es) lone holds shaped sound is u
 -- sector 0 and each extended boot record has its target
 pub edit_made : (b : ℕ) (d : Sectors) (o : Option Layout) (p : Layout) (records : List (Option Record)) (chain : List Ebr)
     → IsSectorSize b → Denotes b d o
-    → Keeps b (length d) o p → Sound b p → p.body ≡ Mbr records chain → (was : WasMbr o) → ¬ HasUnmade b d was.records was.chain records chain
+    → Keeps b (length d) o p → Sound b p → p.body ≡ Mbr records chain → (was : WasMbr o)
+    → ¬ HasUnmade b d was.records was.chain records chain
 edit_made b d o p records chain size from keeps sound is was (inl head) =
     head.unfit (shaped_plain_lem b p records chain keeps.shaped is, old_records b d o from was)
 edit_made b d o p records chain size from keeps sound is was (inr unmade) =
     let there = old_there b d o from was in
-    let holds : (e : Ebr) → StandsAt e.at.0 was.chain → HoldsEbr d e = λ e stands. chain_holds d (extended_of was.records) was.chain e there.1 stands in
+    let holds : (e : Ebr) → StandsAt e.at.0 was.chain → HoldsEbr d e =
+    λ e stands. chain_holds d (extended_of was.records) was.chain e there.1 stands in
     chain_made b d p records chain was.chain (extended_of records) refl holds keeps.shaped sound is unmade

@@ -1,9 +1,8 @@
 pub mod Answers
-pub mod Apart
 pub mod Both
 pub mod Changes
-pub mod Differ
 pub mod Each
+pub mod EachCase
 pub mod Fits
 pub mod FitsApart
 pub mod FitsMade

@@ -17,24 +17,28 @@ use Rattle.pt_layout.specs.Guarded.{IsGuarded}
 use Rattle.pt_layout.specs.Healthy.{HasForeign, IsHealthy, IsBodyWhole}
 use Rattle.pt_layout.specs.Laws.{sound_frees_tables_lem}
 use Rattle.pt_layout.specs.Members.{number_path}
+use Rattle.pt_layout.specs.OnePath.{HasFour}
 use Rattle.pt_layout.specs.Sound.{Sound, IsUnsound}
 use Rattle.pt_layout.specs.Tables.{IsBodyTable, IsGptTable}
 use Rattle.pt_layout.specs.declared.finding.Finding.{Finding}
-use Rattle.pt_layout.specs.declared.finding.Finding.TheVariants.{NoTable, PrimaryCopy, BackupCopy, CopiesDiffer, Alternate, Protective, OutsideUsable, Overlap, OnTable, SameGuid, ForeignLabel}
-use Rattle.pt_check.specs.Answers.{OwnedOf}
+use Rattle.pt_layout.specs.declared.finding.Finding.TheVariants.{NoTable, PrimaryCopy, BackupCopy, CopiesDiffer, Alternate, Protective}
+use Rattle.pt_layout.specs.declared.finding.Finding.TheVariants.{OutsideUsable, Overlap, OnTable, SameGuid, ForeignLabel}
+use Rattle.pt_layout.specs.Owned.{OwnedOf}
 use Rattle.pt_cases.specs.Cases.{IsPlan}
 use Rattle.pt_cases.specs.Causes.{MayHave, plan_none_left, plan_not_unsound}
-use Rattle.pt_cases.specs.Copies.{FitsTable}
+use Rattle.pt_shape.specs.Shape.{FitsTable}
 use Rattle.pt_cases.specs.Guards.{unguarded_here}
-use Rattle.pt_cases.specs.Places.{place_usable}
-use Rattle.pt_targets.specs.Causes.{WouldWrite, WouldPrecede, backup, primary, copy, head, ToWrite, TargetsIn, TargetsOf, IsReused, HasNoTurn, HasNoCopies, IsUnmended, SharesSector}
+use Rattle.pt_shape.specs.Stands.{place_usable}
+use Rattle.pt_targets.specs.Causes.{WouldWrite, WouldPrecede, backup, primary, copy, head, ToWrite, TargetsIn, TargetsOf, IsReused}
+use Rattle.pt_targets.specs.Causes.{HasNoTurn, HasNoCopies, IsUnmended, SharesSector}
 use Rattle.pt_targets.specs.Causes as cause
 use Rattle.pt_targets.specs.declared.error.PlanError.{PlanError}
 use Rattle.pt_targets.specs.declared.error.PlanError.TheVariants.{NotOneSwitch, ReusedInOneBatch, NeedsRepair, Unsound, Device, Memory}
 use Rattle.pt_targets.specs.declared.target.Target.{Target}
 use Rattle.pt_targets.specs.Misfits.{IsFirstLeft, NoneLeft}
 use Rattle.pt_targets.specs.Unmendable.{IsUnmendable, IsUnmendableBy}
-use Rattle.pt_targets.specs.Unplanned.{NoSwitch, other_disk, misplaced, targets, HasNoSwitch, unreadable, unmade, turn, copies, Stops, Unplanned}
+use Rattle.pt_targets.specs.Unplanned.{NoSwitch, other_disk, misplaced, targets, HasNoSwitch, unreadable, unmade, turn, copies, Stops}
+use Rattle.pt_targets.specs.Unplanned.{Unplanned}
 use Rattle.pt_exact.specs.Each.{one_each}
 use Rattle.pt_exact.specs.Own.{own_may_be, own_fit, own_readable, own_not_new, own_not_other, own_stays, foreign_left, left_foreign}
 
@@ -50,8 +54,10 @@ module _ (b : ℕ) (d : Sectors) (o : Layout) (t : Table) (from : Denotes b d (S
   table_unguarded : (s : ℕ) → IsGptTable b (length d) s → ¬ IsGuarded b d s
   table_unguarded s table = unguarded_here b d (Some o) s plain from (λ l same at.
       let layouts : o ≡ l = cc in
-      let here : IsPlace (places_of b (length d) o.body) s = subst (λ (x : Layout). IsPlace (places_of b (length d) x.body) s) (sym layouts) at in
-      let mid = place_usable b o t (length d) s sound body fits (subst (λ (y : Body). IsPlace (places_of b (length d) y) s) body here) in
+      let here : IsPlace (places_of b (length d) o.body) s =
+      subst (λ (x : Layout). IsPlace (places_of b (length d) x.body) s) (sym layouts) at in
+      let mid =
+      place_usable b o t (length d) s from.0 sound body fits (subst (λ (m : ℕ). IsPlace (places_of b m o.body) s) (sym from.0) here) in
       ⊎_elim (λ low. omega (arith, low, mid.0)) (λ high. omega (arith, high.0, mid.1)) table)
 
   table_free : (s : ℕ) → IsGptTable b (length d) s → ¬ OwnedOf b (Some o) s
@@ -63,7 +69,7 @@ module _ (b : ℕ) (d : Sectors) (o : Layout) (t : Table) (from : Denotes b d (S
 
   own_shares : ¬ SharesSector b d (Some o) o
   own_shares (ts, inl is, two) = own_targets ts is
-  own_shares (ts, inr is, two) = one_each b d (Some o) o t sound body ts is.1 two
+  own_shares (ts, inr is, two) = one_each b d (Some o) o (subst HasFour (sym body) tt) sound ts is.1 two
 
   own_turn : ¬ HasNoTurn b d (Some o) o
   own_turn (inl (ts, is, free, none)) = own_targets ts is
@@ -99,7 +105,8 @@ module _ (b : ℕ) (d : Sectors) (o : Layout) (t : Table) (from : Denotes b d (S
   own_switch (copies is) = own_copies is
 
 -- a disk's own sound layout with which it isn't healthy, where no foreign label is
-module _ (b : ℕ) (d : Sectors) (o : Layout) (from : Denotes b d (Some o)) (sound : Sound b o) (not_done : ¬ IsHealthy b d o) (none : NoneLeft b d o) where
+module _ (b : ℕ) (d : Sectors) (o : Layout) (from : Denotes b d (Some o)) (sound : Sound b o) (not_done : ¬ IsHealthy b d o)
+    (none : NoneLeft b d o) where
   -- is no MBR
   no_mbr : (records : List (Option Record)) (chain : List Ebr) → ¬ (o.body ≡ Mbr records chain)
   no_mbr records chain body = not_done (record {
@@ -126,7 +133,8 @@ own_planned b d o from sound not_done (targets none is) = switches b d o from so
 stopped : (b : ℕ) (d : Sectors) (o : Layout) (C : Option Layout → Type 0) → Denotes b d (Some o) → (is : Stops b d o C) → C (Some o)
 stopped b d o C from is = subst C (denotes_one_lem b d is.old (Some o) is.from from) is.cause
 
-first_foreign : (b : ℕ) (d : Sectors) (o : Layout) (n : ℕ) → Denotes b d (Some o) → IsFirstLeft b d o n → IsFirstForeign b d o (number_path n)
+first_foreign : (b : ℕ) (d : Sectors) (o : Layout) (n : ℕ) → Denotes b d (Some o) → IsFirstLeft b d o n
+    → IsFirstForeign b d o (number_path n)
 first_foreign b d o n from is = record {
   whole_slice = refl;
   here = (let there = left_foreign b d o from is.slice is.left in subst (λ (k : ℕ). HasForeign b d o k) is.number there);
@@ -148,10 +156,13 @@ unsound_told b d o (SameGuid i j) is = is
 unsound_told b d o (ForeignLabel p) is = absurd is
 
 -- where a disk's own layout has no plan, something is unsound or a label foreign, or the device or memory failed
-pub repair_is_planned_lem : (b : ℕ) (d : Sectors) (o : Layout) (e : PlanError) → IsSectorSize b → Denotes b d (Some o) → Unplanned b d o e → IsUnmendableBy b d o e
+pub repair_is_planned_lem : (b : ℕ) (d : Sectors) (o : Layout) (e : PlanError) → IsSectorSize b → Denotes b d (Some o)
+    → Unplanned b d o e → IsUnmendableBy b d o e
 repair_is_planned_lem b d o (Unsound f) size from (inl unsound) = unsound_told b d o f unsound
-repair_is_planned_lem b d o (Unsound f) size from (inr foreign) = subst (IsUnmendable b d o) (sym foreign.is) (foreign.sound, first_foreign b d o foreign.number from foreign.first)
-repair_is_planned_lem b d o NotOneSwitch size from is = own_planned b d o from is.sound is.not_done (stopped b d o (λ x. NoSwitch b d x o) from is)
+repair_is_planned_lem b d o (Unsound f) size from (inr foreign) =
+    subst (IsUnmendable b d o) (sym foreign.is) (foreign.sound, first_foreign b d o foreign.number from foreign.first)
+repair_is_planned_lem b d o NotOneSwitch size from is =
+    own_planned b d o from is.sound is.not_done (stopped b d o (λ x. NoSwitch b d x o) from is)
 repair_is_planned_lem b d o ReusedInOneBatch size from is =
     let why = stopped b d o (λ x. NoneLeft b d o × IsReused b d x o) from is in
     reuses b d o from is.sound is.not_done why.0 o.body refl why.1
@@ -162,7 +173,8 @@ repair_is_planned_lem b d o (Device fault) size from is = tt
 repair_is_planned_lem b d o Memory size from is = tt
 
 -- and where it has a plan, there is no such thing
-pub mendable_by_plan_lem : (b : ℕ) (d : Sectors) (o : Layout) (phases : List Writes) (f : Finding) → IsSectorSize b → Denotes b d (Some o) → IsPlan b d o phases → ¬ IsUnmendable b d o f
+pub mendable_by_plan_lem : (b : ℕ) (d : Sectors) (o : Layout) (phases : List Writes) (f : Finding) → IsSectorSize b
+    → Denotes b d (Some o) → IsPlan b d o phases → ¬ IsUnmendable b d o f
 mendable_by_plan_lem b d o phases (ForeignLabel p) size from plan is =
     let left = foreign_left b d o from p.number is.1.here in
     plan_none_left b d o phases left.0 plan left.1

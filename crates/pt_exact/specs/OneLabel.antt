@@ -1,5 +1,6 @@
 -- Where a plan changes one label, nothing keeps it from having one switch, and what it writes isn't owned.
-use Rattle.std.proofs.Common.{◌≡◌, ◌≢◌, ◌∙◌, inl, inr, ⊎_elim, ℕ, zero, suc, ◌+◌, ◌<◌, ◌≤◌, List, [], ◌∷◌, length, Option, Some, None, refl, sym, ap, subst, arith}
+use Rattle.std.proofs.Common.{◌≡◌, ◌≢◌, ◌∙◌, inl, inr, ⊎_elim, ℕ, zero, suc, ◌<◌, List, [], ◌∷◌, length, Option, Some, None, refl, sym}
+use Rattle.std.proofs.Common.{ap, subst, arith}
 use Rattle.std.specs.Prelude.{Contains, get_or}
 use Rattle.std.proofs.lemmas.Bool.{cases_lt}
 use Rattle.std.proofs.lemmas.List.{get_or_default}
@@ -16,15 +17,18 @@ use Rattle.pt_recover.specs.declared.layout.Labelled.{Labelled}
 use Rattle.pt_recover.specs.declared.layout.Layout.{Layout}
 use Rattle.pt_recover.specs.declared.layout.Slice.{Slice}
 use Rattle.pt_layout.specs.Guarded.{IsGuarded, place}
+use Rattle.pt_layout.specs.Members.{label_of}
 use Rattle.pt_layout.specs.OnePath.{HasFour}
-use Rattle.pt_check.specs.First.{writes_in}
+use Rattle.pt_apply.specs.Plans.{writes_in}
+use Rattle.pt_shape.specs.LabelPlaces.{place_in}
 use Rattle.pt_cases.specs.Cases.{IsOneLabel}
 use Rattle.pt_cases.specs.Causes.{had_one}
 use Rattle.pt_cases.specs.Copies.{one_write}
 use Rattle.pt_cases.specs.Frames.{one_is}
 use Rattle.pt_cases.specs.Met.{target_reads}
-use Rattle.pt_cases.specs.Numbers.{Rise, places_rise}
-use Rattle.pt_cases.specs.Targets.{Along, Had, IsLabelTarget, kept, changed, new, Met}
+use Rattle.pt_shape.specs.Ascending.{IsAscending, places_ascend_lem}
+use Rattle.pt_shape.specs.Along.{Along, along_at}
+use Rattle.pt_cases.specs.Targets.{Had, IsLabelTarget, kept, changed, new, Met}
 use Rattle.pt_targets.specs.Causes.{TargetsIn, TargetsOf, IsReused, HasNoTurn, SharesSector}
 use Rattle.pt_targets.specs.Causes as cause
 use Rattle.pt_targets.specs.Targets.{AreLabelTargets, HasTwoOfOne, IsChange, IsPlaceTarget, Targeted, sector_of}
@@ -36,22 +40,7 @@ use Rattle.pt_exact.specs.Tables.{label_changes}
 
 -- the slice of a label place
 pub slice_of : (ps : List Slice) (s : ℕ) → IsPlace ps s → (w : Slice) × Contains ps w × (place_of w ≡ s)
-slice_of [] s is = absurd is
-slice_of (p ∷ ps) s (inl here) = (p, (0, omega arith, refl), sym here)
-slice_of (p ∷ ps) s (inr more) = (let it = slice_of ps s more in (it.0, (suc it.1.0, omega (arith, it.1.1), it.1.2), it.2))
-
--- labels that go with slices are numbered as those
-numbers : (P : Slice → Option Label → Type 0) (low : ℕ) (ps : List Slice) (labels rest : List Labelled) (x : Labelled) → Rise low ps → Along P ps labels → labels ≡ x ∷ rest → low ≤ x.number
-numbers P low [] labels rest x rise is same = absurd (omega (arith, ap length (sym is ∙ same)))
-numbers P low (q ∷ ps) labels rest x rise (inl (m, others, so, it, later)) same =
-    let both : record { number = q.number; label = m } ∷ others ≡ x ∷ rest = sym so ∙ same in
-    let first : record { number = q.number; label = m } ≡ x = cc in
-    let number : q.number ≡ x.number = ap (λ (y : Labelled). y.number) first in
-    omega (arith, rise.0, number)
-numbers P low (q ∷ ps) labels rest x rise (inr (it, later)) same = (let up = numbers P (q.number + 1) ps labels rest x rise.1 later same in omega (arith, rise.0, up))
-
-abbrev labelled : ℕ → Label → Labelled
-labelled n l = record { number = n; label = l }
+slice_of ps s is = let h = place_in ps s is in (h.0, h.1, sym h.2)
 
 -- what holds along slices and labels, twice, holds of one and the same label of a slice
 pub record Zip (P Q : Slice → Option Label → Type 0) (w : Slice) : Type 0 where
@@ -59,30 +48,13 @@ pub record Zip (P Q : Slice → Option Label → Type 0) (w : Slice) : Type 0 wh
   pub first : P w label
   pub second : Q w label
 
-first_label : (n : ℕ) (l m : Label) (rest others : List Labelled) → labelled n l ∷ rest ≡ labelled n m ∷ others → m ≡ l
-first_label n l m rest others both = let one : labelled n l ≡ labelled n m = cc in sym (ap (λ (y : Labelled). y.label) one)
-
-other_labels : (n : ℕ) (l m : Label) (rest others : List Labelled) → labelled n l ∷ rest ≡ labelled n m ∷ others → others ≡ rest
-other_labels n l m rest others both = cc
-
-zip_here : (P Q : Slice → Option Label → Type 0) (v : Slice) (ps : List Slice) (w : Slice) → Zip P Q v → (Contains ps w → Zip P Q w) → Contains (v ∷ ps) w → Zip P Q w
-zip_here P Q v ps w it later (zero, lt, at) = subst (Zip P Q) at it
-zip_here P Q v ps w it later (suc k, lt, at) = later (k, omega (arith, lt), at)
-
-pub zipped : (P Q : Slice → Option Label → Type 0) (low : ℕ) (ps : List Slice) (labels : List Labelled) (w : Slice) → Rise low ps → Along P ps labels → Along Q ps labels → Contains ps w → Zip P Q w
-zipped P Q low [] labels w rise p q has = absurd (omega (arith, has.1))
-zipped P Q low (v ∷ ps) labels w rise (inl (l, rest, same, it, later)) (inl (m, others, so, also, on)) has =
-    let both = sym same ∙ so in
-    let label_is : m ≡ l = first_label v.number l m rest others both in
-    zip_here P Q v ps w (record { label = Some l; first = it; second = subst (λ (x : Label). Q v (Some x)) label_is also })
-    (λ inner. zipped P Q (v.number + 1) ps rest w rise.1 later (subst (λ (x : List Labelled). Along Q ps x) (other_labels v.number l m rest others both) on) inner)
-    has
-zipped P Q low (v ∷ ps) labels w rise (inl (l, rest, same, it, later)) (inr (also, on)) has =
-    let up = numbers Q (v.number + 1) ps labels rest (record { number = v.number; label = l }) rise.1 on same in absurd (omega (arith, up))
-zipped P Q low (v ∷ ps) labels w rise (inr (it, later)) (inl (l, rest, same, also, on)) has =
-    let up = numbers P (v.number + 1) ps labels rest (record { number = v.number; label = l }) rise.1 later same in absurd (omega (arith, up))
-zipped P Q low (v ∷ ps) labels w rise (inr (it, later)) (inr (also, on)) (zero, lt, at) = subst (Zip P Q) at (record { label = None; first = it; second = also })
-zipped P Q low (v ∷ ps) labels w rise (inr (it, later)) (inr (also, on)) (suc k, lt, at) = zipped P Q (v.number + 1) ps labels w rise.1 later on (k, omega (arith, lt), at)
+pub zipped : (P Q : Slice → Option Label → Type 0) (low : ℕ) (ps : List Slice) (labels : List Labelled) (w : Slice)
+    → IsAscending low ps → Along P ps labels → Along Q ps labels → Contains ps w → Zip P Q w
+zipped P Q low ps labels w up first second has = record {
+  label = label_of labels w.number;
+  first = along_at P low ps labels w up first has;
+  second = along_at Q low ps labels w up second has;
+}
 
 sector_here : {b : ℕ} (ts : List (Target b)) (x : Target b) (i : ℕ) → i < length ts → get_or ts i x ≡ x → sector_of ts i ≡ x.at.0
 sector_here [] x i lt at = absurd (omega (arith, lt))
@@ -90,7 +62,8 @@ sector_here (y ∷ ts) x zero lt at = ap (λ (z : Target _). z.at.0) at
 sector_here (y ∷ ts) x (suc i) lt at = sector_here ts x i (omega (arith, lt)) at
 
 -- where no two targets are of one sector, a sector tells its target
-pub same_target : {b : ℕ} (ts : List (Target b)) (x y : Target b) → ¬ HasTwoOfOne ts → Contains ts x → Contains ts y → x.at.0 ≡ y.at.0 → x ≡ y
+pub same_target : {b : ℕ} (ts : List (Target b)) (x y : Target b) → ¬ HasTwoOfOne ts → Contains ts x → Contains ts y → x.at.0 ≡ y.at.0
+    → x ≡ y
 same_target ts x y one (i, i_lt, at) (j, j_lt, to) same =
     let x_at = sector_here ts x i i_lt at in
     let y_at = sector_here ts y j j_lt to in
@@ -98,18 +71,24 @@ same_target ts x y one (i, i_lt, at) (j, j_lt, to) same =
     (λ less. absurd (one (record { i = i; j = j; order = less; within = j_lt; same = x_at ∙ same ∙ sym y_at })))
     (λ no_less. ⊎_elim
     (λ more. absurd (one (record { i = j; j = i; order = more; within = i_lt; same = y_at ∙ sym same ∙ sym x_at })))
-    (λ no_more. (let index : i ≡ j = omega (arith, no_less, no_more) in sym at ∙ get_or_default ts i x y i_lt ∙ ap (λ (k : ℕ). get_or ts k y) index ∙ to))
+    (λ no_more. (let index : i ≡ j = omega (arith, no_less, no_more) in
+    sym at ∙ get_or_default ts i x y i_lt ∙ ap (λ (k : ℕ). get_or ts k y) index ∙ to))
     (cases_lt j i))
     (cases_lt i j)
 
 module _ (b : ℕ) (d : Sectors) (o : Option Layout) (p : Layout) (t : Table) (phases : List Writes) (is : IsOneLabel b d o p t phases) where
-  labels_had : (w : Slice) (l : Label) → Contains (places_of b p.sectors p.body) w → LabelBytes l w.first w.len (sector d (place_of w)) → Had b d o (place_of w) l
+  four : HasFour p.body
+  four = subst HasFour (sym is.body) tt
+
+  labels_had : (w : Slice) (l : Label) → Contains (places_of b p.sectors p.body) w → LabelBytes l w.first w.len (sector d (place_of w))
+      → Had b d o (place_of w) l
   labels_had w l stands bytes = (
     is.old,
     is.is_old,
     record {
       slice = w;
-      stands = subst (λ (y : Body). Contains (places_of b (length d) y) w) (sym is.same) (subst (λ (n : ℕ). Contains (places_of b n p.body) w) is.common.sectors stands);
+      stands = subst (λ (y : Body). Contains (places_of b (length d) y) w) (sym is.same)
+          (subst (λ (n : ℕ). Contains (places_of b n p.body) w) is.common.sectors stands);
       place = refl;
       label = bytes;
     },
@@ -121,30 +100,40 @@ module _ (b : ℕ) (d : Sectors) (o : Option Layout) (p : Layout) (t : Table) (p
   unheld w l x (inr (inl (kind, (m, had, other), encoded))) diff h = other (had_one b d o (place_of w) m l had h)
   unheld w l x (inr (inr (kind, none, fresh))) diff h = none l h
 
-  differs : (w : Slice) (l : Label) (x : Target b) → Contains (places_of b p.sectors p.body) w → x.under ≡ sector d (place_of w) → ¬ Had b d o (place_of w) l → IsPlaceTarget d o w (Some l) x → x.bytes ≢ x.under
+  differs : (w : Slice) (l : Label) (x : Target b) → Contains (places_of b p.sectors p.body) w → x.under ≡ sector d (place_of w)
+      → ¬ Had b d o (place_of w) l → IsPlaceTarget d o w (Some l) x → x.bytes ≢ x.under
   differs w l x stands under none (inl (kind, had, reads, same)) alike = none had
-  differs w l x stands under none (inr (inl (kind, it, encoded))) alike = none (labels_had w l stands (subst (LabelBytes l w.first w.len) (alike ∙ under) encoded.reads))
-  differs w l x stands under none (inr (inr (kind, it, fresh))) alike = none (labels_had w l stands (subst (LabelBytes l w.first w.len) (alike ∙ under) fresh.encoded.reads))
+  differs w l x stands under none (inr (inl (kind, it, encoded))) alike =
+      none (labels_had w l stands (subst (LabelBytes l w.first w.len) (alike ∙ under) encoded.reads))
+  differs w l x stands under none (inr (inr (kind, it, fresh))) alike =
+      none (labels_had w l stands (subst (LabelBytes l w.first w.len) (alike ∙ under) fresh.encoded.reads))
 
   -- and so is what the plan writes
-  met_put : (w : Slice) (l : Label) → Contains (places_of b p.sectors p.body) w → ¬ Had b d o (place_of w) l → Met b d o (one_write is.loud.0 is.loud.1) w (Some l) → place_of w ≡ is.loud.0
+  met_put : (w : Slice) (l : Label) → Contains (places_of b p.sectors p.body) w → ¬ Had b d o (place_of w) l
+      → Met b d o (one_write is.loud.0 is.loud.1) w (Some l) → place_of w ≡ is.loud.0
   met_put w l stands none (v, target, inl puts) = one_is is.loud.0 (place_of w) is.loud.1 v puts
-  met_put w l stands none (v, target, inr (same, never)) = absurd (none (labels_had w l stands (subst (LabelBytes l w.first w.len) same (target_reads b d o w l v target))))
+  met_put w l stands none (v, target, inr (same, never)) =
+      absurd (none (labels_had w l stands (subst (LabelBytes l w.first w.len) same (target_reads b d o w l v target))))
 
   put_unheld : (w : Slice) (l : Label) (v : List ℕ) → IsLabelTarget b d o w l v → v ≢ sector d (place_of w) → ¬ Had b d o (place_of w) l
   put_unheld w l v (kept had reads same) diff h = diff same
   put_unheld w l v (changed m had other encoded) diff h = other (had_one b d o (place_of w) m l had h)
   put_unheld w l v (new none encoded) diff h = none l h
 
-  of_slice : (ts : List (Target b)) → AreLabelTargets d o p ts → (w : Slice) → Contains (places_of b p.sectors p.body) w → Zip (Targeted d o ts) (Met b d o (one_write is.loud.0 is.loud.1)) w
-  of_slice ts are w stands = zipped (Targeted d o ts) (Met b d o (one_write is.loud.0 is.loud.1)) 1 (places_of b p.sectors p.body) p.labels w (places_rise b p.sectors p.body (subst HasFour (sym is.body) tt)) are.has is.met stands
+  of_slice : (ts : List (Target b)) → AreLabelTargets d o p ts → (w : Slice) → Contains (places_of b p.sectors p.body) w
+      → Zip (Targeted d o ts) (Met b d o (one_write is.loud.0 is.loud.1)) w
+  of_slice ts are w stands =
+      zipped (Targeted d o ts) (Met b d o (one_write is.loud.0 is.loud.1)) 1 (places_of b p.sectors p.body) p.labels w
+      (places_ascend_lem b p.sectors p.body four) are.has is.met stands
 
-  change_by : (ts : List (Target b)) (x : Target b) (w : Slice) (l : Option Label) → AreLabelTargets d o p ts → IsChange ts x → Contains (places_of b p.sectors p.body) w → place_of w ≡ x.at.0 → Targeted d o ts w l → Met b d o (one_write is.loud.0 is.loud.1) w l → x.at.0 ≡ is.loud.0
+  change_by : (ts : List (Target b)) (x : Target b) (w : Slice) (l : Option Label) → AreLabelTargets d o p ts → IsChange ts x
+      → Contains (places_of b p.sectors p.body) w → place_of w ≡ x.at.0 → Targeted d o ts w l
+      → Met b d o (one_write is.loud.0 is.loud.1) w l → x.at.0 ≡ is.loud.0
   change_by ts x w None are change stands at (y, has, y_at, under, it) met =
-      let same = same_target ts x y (one_each b d o p t is.common.sound is.body ts are) change.0 has (sym at ∙ sym y_at) in
+      let same = same_target ts x y (one_each b d o p four is.common.sound ts are) change.0 has (sym at ∙ sym y_at) in
       absurd (change.1 (subst (λ (z : Target b). z.bytes ≡ z.under) (sym same) it.2))
   change_by ts x w (Some l) are change stands at (y, has, y_at, under, it) met =
-      let same = same_target ts x y (one_each b d o p t is.common.sound is.body ts are) change.0 has (sym at ∙ sym y_at) in
+      let same = same_target ts x y (one_each b d o p four is.common.sound ts are) change.0 has (sym at ∙ sym y_at) in
       sym at ∙ met_put w l stands (unheld w l y it (subst (λ (z : Target b). z.bytes ≢ z.under) same change.1)) met
 
   -- a target that changes is of the sector that the plan writes
@@ -154,7 +143,8 @@ module _ (b : ℕ) (d : Sectors) (o : Option Layout) (p : Layout) (t : Table) (p
       let zip = of_slice ts are w.0 w.1 in
       change_by ts x w.0 zip.label are change w.1 w.2 zip.first zip.second
 
-  loud_by : (ts : List (Target b)) (w : Slice) (l : Option Label) → Contains (places_of b p.sectors p.body) w → place_of w ≡ is.loud.0 → Targeted d o ts w l → Met b d o (one_write is.loud.0 is.loud.1) w l → (x : Target b) × IsChange ts x × (x.at.0 ≡ is.loud.0)
+  loud_by : (ts : List (Target b)) (w : Slice) (l : Option Label) → Contains (places_of b p.sectors p.body) w → place_of w ≡ is.loud.0
+      → Targeted d o ts w l → Met b d o (one_write is.loud.0 is.loud.1) w l → (x : Target b) × IsChange ts x × (x.at.0 ≡ is.loud.0)
   loud_by ts w None stands at it met = absurd (met.1 is.loud.1 (inl (sym at, refl)))
   loud_by ts w (Some l) stands at (y, has, y_at, under, it) (v, target, inr (same, never)) = absurd (never is.loud.1 (inl (sym at, refl)))
   loud_by ts w (Some l) stands at (y, has, y_at, under, it) (v, target, inl puts) =
@@ -173,21 +163,24 @@ module _ (b : ℕ) (d : Sectors) (o : Option Layout) (p : Layout) (t : Table) (p
   label_targets ts x = (subst (λ (y : Body). TargetsIn b d o p y ts) is.body x).1
 
   guarded : IsGuarded b d is.loud.0
-  guarded = place p.body (subst (BodyIs b d) is.same (subst (Denotes b d) is.is_old is.common.from).1) (subst (λ (n : ℕ). IsPlace (places_of b n p.body) is.loud.0) is.common.sectors is.place)
+  guarded =
+      place p.body (subst (BodyIs b d) is.same (subst (Denotes b d) is.is_old is.common.from).1)
+      (subst (λ (n : ℕ). IsPlace (places_of b n p.body) is.loud.0) is.common.sectors is.place)
 
   label_shares : ¬ SharesSector b d o p
-  label_shares (ts, inl x, two) = one_each b d o p t is.common.sound is.body ts (label_targets ts x) two
+  label_shares (ts, inl x, two) = one_each b d o p four is.common.sound ts (label_targets ts x) two
   label_shares (ts, inr x, two) = x.0.other (label_changes b d o p t phases is)
 
   label_turn : ¬ HasNoTurn b d o p
-  label_turn (inl (ts, x, free, inl none)) = (let it = loud_change ts (label_targets ts x) in none it.0 it.1 (subst (IsGuarded b d) (sym it.2) guarded))
+  label_turn (inl (ts, x, free, inl none)) =
+      (let it = loud_change ts (label_targets ts x) in none it.0 it.1 (subst (IsGuarded b d) (sym it.2) guarded))
   label_turn (inl (ts, x, free, inr (u, v, first, second, g, h, less))) =
       let are = label_targets ts x in
       omega (arith, less, change_at ts u are first, change_at ts v are second)
   label_turn (inr shares) = label_shares shares
 
   pub label_switch : ¬ HasNoSwitch b d o p
-  label_switch (unreadable x) = labels_readable b d o p (record { writes = one_write is.loud.0 is.loud.1; four = subst HasFour (sym is.body) tt; met = is.met }) x
+  label_switch (unreadable x) = labels_readable b d o p (record { writes = one_write is.loud.0 is.loud.1; four = four; met = is.met }) x
   label_switch (unmade records chain x was none) = (let two : Gpt t ≡ Mbr records chain = sym is.body ∙ x in cc)
   label_switch (turn x) = label_turn x
   label_switch (copies (inl x)) = x.both.other (label_changes b d o p t phases is)

@@ -18,13 +18,14 @@ use Rattle.pt_layout.specs.Sound.{Sound}
 use Rattle.pt_layout.specs.declared.finding.Finding.{Finding}
 use Rattle.pt_layout.specs.declared.finding.Finding.TheVariants.{ForeignLabel}
 use Rattle.pt_shape.specs.Shape.{AreLabelsOf, Shaped}
-use Rattle.pt_check.specs.Answers.{OwnedOf}
+use Rattle.pt_layout.specs.Owned.{OwnedOf}
 use Rattle.pt_targets.specs.Causes.{WritesBoth, TargetsIn, TargetsOf, TurnsAmiss, CopiesAmiss, IsReused, IsUnmended}
 use Rattle.pt_targets.specs.Causes as cause
 use Rattle.pt_targets.specs.Errors.{IsFailure}
 use Rattle.pt_targets.specs.Misfits.{NoneLeft}
 use Rattle.pt_targets.specs.Targets.{IsChange}
-use Rattle.pt_targets.specs.Unplanned.{NoSwitch, other_disk, misplaced, targets, HasNoSwitch, unreadable, unmade, turn, copies, LeavesForeign, Unplanned}
+use Rattle.pt_targets.specs.Unplanned.{NoSwitch, other_disk, misplaced, targets, HasNoSwitch, unreadable, unmade, turn, copies}
+use Rattle.pt_targets.specs.Unplanned.{LeavesForeign, Unplanned}
 use Rattle.pt_targets.specs.declared.error.PlanError.{PlanError}
 use Rattle.pt_targets.specs.declared.error.PlanError.TheVariants.{NotOneSwitch, ReusedInOneBatch, NeedsRepair, Unsound, Device, Memory}
 use Rattle.pt_targets.specs.declared.target.Target.{Target}

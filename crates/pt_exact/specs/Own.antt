@@ -1,40 +1,31 @@
 -- What a disk's own layout is to the disk: it may have it, and each of its labels was there.
-use Rattle.std.proofs.Common.{◌≡◌, inl, inr, ℕ, List, [], ◌∷◌, Option, Some, None, refl, sym, ap, subst}
+use Rattle.std.proofs.Common.{◌≡◌, ℕ, Option, Some, refl, sym, ap, subst}
 use Rattle.std.specs.Prelude.{Contains}
 use Rattle.pt_sector.specs.Sectors.{Sectors, sector}
 use Rattle.pt_bsd.specs.declared.label.Label.{Label}
-use Rattle.pt_recover.specs.Denotes.{Denotes, BodyIs}
+use Rattle.pt_recover.specs.Denotes.{Denotes}
 use Rattle.pt_recover.specs.Labels.{places_of, place_of, LabelAt, LabelsAre}
-use Rattle.pt_recover.specs.declared.layout.Body.{Body}
-use Rattle.pt_recover.specs.declared.layout.Body.TheVariants.{Mbr, Gpt}
-use Rattle.pt_recover.specs.declared.layout.Labelled.{Labelled}
 use Rattle.pt_recover.specs.declared.layout.Layout.{Layout}
 use Rattle.pt_recover.specs.declared.layout.Slice.{Slice}
 use Rattle.pt_layout.specs.Healthy.{HasForeign}
 use Rattle.pt_layout.specs.OnePath.{HasFour}
+use Rattle.pt_shape.specs.Along.{Along, along_map, along_label, along_without}
+use Rattle.pt_shape.specs.Ascending.{places_ascend_lem}
+use Rattle.pt_shape.specs.StandsOn.{StandsOn, along_labels_are, denoted_four}
 use Rattle.pt_cases.specs.Cases.{ChangesLabels}
-use Rattle.pt_cases.specs.Causes.{MayBe, IsLeft, There, are_along, there_may, had_one}
-use Rattle.pt_cases.specs.Numbers.{along_at, along_without, places_rise}
-use Rattle.pt_cases.specs.Targets.{Along, Had, kept}
+use Rattle.pt_cases.specs.Causes.{MayBe, IsLeft, there_may, had_one}
+use Rattle.pt_cases.specs.Targets.{Had, kept}
 use Rattle.pt_targets.specs.Causes.{IsNewLabel, IsOtherLabel}
 use Rattle.pt_targets.specs.Misfits.{LabelsFit, HasUnreadable}
 
-four_there : (b : ℕ) (d : Sectors) (y : Body) → BodyIs b d y → HasFour y
-four_there b d (Mbr records chain) is = is.0.1.four
-four_there b d (Gpt t) is = tt
-
--- what holds along slices and labels holds along them in other words
-pub along_all : (P Q : Slice → Option Label → Type 0) (ws : List Slice) (labels : List Labelled) → ((w : Slice) (l : Option Label) → P w l → Q w l) → Along P ws labels → Along Q ws labels
-along_all P Q [] labels so is = is
-along_all P Q (w ∷ ws) labels so (inl (l, rest, same, here, later)) = inl (l, rest, same, so w (Some l) here, along_all P Q ws rest so later)
-along_all P Q (w ∷ ws) labels so (inr (here, later)) = inr (so w None here, along_all P Q ws labels so later)
-
 module _ (b : ℕ) (d : Sectors) (o : Layout) (from : Denotes b d (Some o)) where
   own_four : HasFour o.body
-  own_four = four_there b d o.body from.1
+  own_four = denoted_four b d o.body from.1
 
-  own_labels : Along (There d) (places_of b o.sectors o.body) o.labels
-  own_labels = are_along d (places_of b o.sectors o.body) o.labels (subst (λ (n : ℕ). LabelsAre d (places_of b n o.body) o.labels) (sym from.0) from.2)
+  own_labels : Along (StandsOn d) (places_of b o.sectors o.body) o.labels
+  own_labels =
+      along_labels_are d (places_of b o.sectors o.body) o.labels
+      (subst (λ (n : ℕ). LabelsAre d (places_of b n o.body) o.labels) (sym from.0) from.2)
 
   -- the disk may have it
   pub own_may_be : MayBe b d (Some o) o
@@ -42,37 +33,65 @@ module _ (b : ℕ) (d : Sectors) (o : Layout) (from : Denotes b d (Some o)) wher
 
   -- and its labels go with its slices
   pub own_fit : LabelsFit b o
-  own_fit = along_all (There d) (λ (w : Slice) (l : Option Label). Unit {0}) (places_of b o.sectors o.body) o.labels (λ w l is. tt) own_labels
+  own_fit =
+      along_map (StandsOn d) (λ (w : Slice) (l : Option Label). Unit {0}) (places_of b o.sectors o.body) o.labels (λ w l is. tt) own_labels
 
   -- a label of it stands in its place
-  own_label : (w : Slice) (l : Label) → Contains (places_of b o.sectors o.body) w → Contains o.labels (record { number = w.number; label = l }) → LabelAt d w l
-  own_label w l stands wanted = along_at (There d) 1 (places_of b o.sectors o.body) o.labels w l (places_rise b o.sectors o.body own_four) own_labels stands wanted
+  own_label : (w : Slice) (l : Label) → Contains (places_of b o.sectors o.body) w
+      → Contains o.labels (record { number = w.number; label = l }) → LabelAt d w l
+  own_label w l stands wanted =
+      along_label (StandsOn d) 1 (places_of b o.sectors o.body) o.labels w l
+      (places_ascend_lem b o.sectors o.body own_four) own_labels stands wanted
 
-  own_had : (w : Slice) (l : Label) → Contains (places_of b o.sectors o.body) w → Contains o.labels (record { number = w.number; label = l }) → Had b d (Some o) (place_of w) l
-  own_had w l stands wanted = (o, refl, record { slice = w; stands = subst (λ (n : ℕ). Contains (places_of b n o.body) w) from.0 stands; place = refl; label = own_label w l stands wanted })
+  own_had : (w : Slice) (l : Label) → Contains (places_of b o.sectors o.body) w
+      → Contains o.labels (record { number = w.number; label = l }) → Had b d (Some o) (place_of w) l
+  own_had w l stands wanted = (
+    o,
+    refl,
+    record {
+      slice = w;
+      stands = subst (λ (n : ℕ). Contains (places_of b n o.body) w) from.0 stands;
+      place = refl;
+      label = own_label w l stands wanted;
+    },
+  )
 
   -- so each of its labels is read back from what stands there
   pub own_readable : ¬ HasUnreadable b d (Some o) o
-  own_readable is = is.none (sector d (place_of is.slice)) (kept (own_had is.slice is.label is.stands is.wanted) (own_label is.slice is.label is.stands is.wanted) refl)
+  own_readable is =
+      is.none (sector d (place_of is.slice))
+      (kept (own_had is.slice is.label is.stands is.wanted) (own_label is.slice is.label is.stands is.wanted) refl)
 
   -- no label of it is new
   pub own_not_new : (s : ℕ) → ¬ IsNewLabel b d (Some o) o s
-  own_not_new s is = is.none is.label (subst (λ (k : ℕ). Had b d (Some o) k is.label) is.labelled.place (own_had is.slice is.label is.labelled.stands is.labelled.wanted))
+  own_not_new s is =
+      is.none is.label
+      (subst (λ (k : ℕ). Had b d (Some o) k is.label) is.labelled.place (own_had is.slice is.label is.labelled.stands is.labelled.wanted))
 
   -- and none another one
   pub own_not_other : (s : ℕ) → ¬ IsOtherLabel b d (Some o) o s
-  own_not_other s is = is.differ (had_one b d (Some o) s is.old is.label is.had (subst (λ (k : ℕ). Had b d (Some o) k is.label) is.labelled.place (own_had is.slice is.label is.labelled.stands is.labelled.wanted)))
+  own_not_other s is =
+      is.differ (had_one b d (Some o) s is.old is.label is.had
+      (subst (λ (k : ℕ). Had b d (Some o) k is.label) is.labelled.place (own_had is.slice is.label is.labelled.stands is.labelled.wanted)))
 
   -- a slice that has a label's magic and no label is one without a label of the layout, and the other way round
   pub foreign_left : (n : ℕ) → HasForeign b d o n → (w : Slice) × IsLeft b d o w × (w.number ≡ n)
-  foreign_left n is = (is.slice, record { stands = is.stands; without = λ l wanted. is.foreign.1 (l, own_label is.slice l is.stands wanted); magic = is.foreign.0 }, is.number)
+  foreign_left n is = (
+    is.slice,
+    record {
+      stands = is.stands;
+      without = λ l wanted. is.foreign.1 (l, own_label is.slice l is.stands wanted);
+      magic = is.foreign.0;
+    },
+    is.number,
+  )
 
   pub left_foreign : (w : Slice) → IsLeft b d o w → HasForeign b d o w.number
   left_foreign w is = record {
     slice = w;
     stands = is.stands;
     number = refl;
-    foreign = (is.magic, along_without (There d) (places_of b o.sectors o.body) o.labels w own_labels is.stands is.without);
+    foreign = (is.magic, along_without (StandsOn d) (places_of b o.sectors o.body) o.labels w own_labels is.stands is.without);
   }
 
 -- a layout's labels don't change to themselves

@@ -14,16 +14,18 @@ use Rattle.pt_recover.specs.declared.layout.Body.TheVariants.{Mbr}
 use Rattle.pt_recover.specs.declared.layout.Layout.{Layout}
 use Rattle.pt_recover.specs.declared.layout.Slice.{Slice}
 use Rattle.pt_layout.specs.OnePath.{HasFour}
+use Rattle.pt_shape.specs.Along.{along_map}
 use Rattle.pt_cases.specs.Cases.{IsNeeded, MbrMet}
 use Rattle.pt_cases.specs.Causes.{WasMbr}
-use Rattle.pt_cases.specs.Records.{IsHeadTarget, IsEbrTarget, IsLinked, link_to, EbrsEnd, ChainEnds}
+use Rattle.pt_shape.specs.Links.{IsLinked, link_to}
+use Rattle.pt_cases.specs.Records.{IsHeadTarget, IsEbrTarget, EbrsEnd, ChainEnds}
 use Rattle.pt_cases.specs.Targets.{Ends}
 use Rattle.pt_targets.specs.Causes.{TargetsIn}
 use Rattle.pt_targets.specs.Targets.{AreLabelTargets, AreMbrTargets, HasEbrs, HasChain, HasTwoOfOne, IsChange}
 use Rattle.pt_targets.specs.declared.target.Target.{Target}
 use Rattle.pt_exact.specs.SameBytes.{head_target_one, ebr_target_one}
-use Rattle.pt_exact.specs.SameLabels.{Pair, same_pair, PlaceHas, PlacesHave, places_pair, Held, labels_have, met_have, changed_other, change_of}
-use Rattle.pt_exact.specs.Own.{along_all}
+use Rattle.pt_exact.specs.SameLabels.{Pair, same_pair, PlaceHas, PlacesHave, places_pair, Held, labels_have, met_have, changed_other}
+use Rattle.pt_exact.specs.SameLabels.{change_of}
 
 -- Q holds of bytes that each of these extended boot records needs
 abbrev pub EbrsHave : ℕ → Sectors → List Ebr → (ℕ → List ℕ → Type 0) → ℕ → List Ebr → Type 0
@@ -91,7 +93,7 @@ place_so b d o P Q so w None has = so (place_of w) (sector d (place_of w)) has
 places_so : (b : ℕ) (d : Sectors) (o : Option Layout) (p : Layout) (P Q : ℕ → List ℕ → Type 0) → ((s : ℕ) (v : List ℕ) → P s v → Q s v)
     → PlacesHave b d o p P → PlacesHave b d o p Q
 places_so b d o p P Q so has =
-    along_all (PlaceHas b d o P) (PlaceHas b d o Q) (places_of b p.sectors p.body) p.labels (place_so b d o P Q so) has
+    along_map (PlaceHas b d o P) (PlaceHas b d o Q) (places_of b p.sectors p.body) p.labels (place_so b d o P Q so) has
 
 -- the targets of the extended boot records have what those need
 ebrs_have : (b : ℕ) (d : Sectors) (old : List Ebr) (heads places : List (Target b)) (first : ℕ) (chain : List Ebr)

@@ -11,12 +11,12 @@ use Rattle.pt_recover.specs.declared.layout.Layout.{Layout}
 use Rattle.pt_recover.specs.declared.layout.Slice.{Slice}
 use Rattle.pt_layout.specs.OnePath.{HasFour}
 use Rattle.pt_cases.specs.Causes.{had_one}
-use Rattle.pt_cases.specs.Numbers.{places_rise}
-use Rattle.pt_cases.specs.Targets.{Along, Ends, IsEncoded, IsLabelTarget, kept, changed, new, Met, LabelsMet}
+use Rattle.pt_shape.specs.Ascending.{places_ascend_lem}
+use Rattle.pt_shape.specs.Along.{Along, along_map}
+use Rattle.pt_cases.specs.Targets.{Ends, IsEncoded, IsLabelTarget, kept, changed, new, Met, LabelsMet}
 use Rattle.pt_targets.specs.Targets.{AreLabelTargets, HasTwoOfOne, IsChange, Targeted}
 use Rattle.pt_targets.specs.declared.target.Target.{Target}
 use Rattle.pt_exact.specs.OneLabel.{slice_of, same_target, zipped}
-use Rattle.pt_exact.specs.Own.{along_all}
 
 -- P and Q hold of bytes for sector s, and where the first aren't there yet, the second aren't there either
 pub record Pair (d : Sectors) (P Q : ℕ → List ℕ → Type 0) (s : ℕ) : Type 0 where
@@ -80,7 +80,7 @@ pub places_pair : (b : ℕ) (d : Sectors) (o : Option Layout) (p : Layout) (P Q 
     → PlacesHave b d o p P → PlacesHave b d o p Q → IsPlace (places_of b p.sectors p.body) s → Pair d P Q s
 places_pair b d o p P Q s four has also at =
     let w = slice_of (places_of b p.sectors p.body) s at in
-    let rise = places_rise b p.sectors p.body four in
+    let rise = places_ascend_lem b p.sectors p.body four in
     let zip = zipped (PlaceHas b d o P) (PlaceHas b d o Q) 1 (places_of b p.sectors p.body) p.labels w.0 rise has also w.1 in
     subst (Pair d P Q) w.2 (place_pair b d o P Q w.0 zip.label zip.first zip.second)
 
@@ -102,7 +102,7 @@ targeted_has b d o ts w (Some l) (t, has, at, under, inr (inr (kind, none, fresh
 pub labels_have : (b : ℕ) (d : Sectors) (o : Option Layout) (p : Layout) (ts : List (Target b)) → AreLabelTargets d o p ts
     → PlacesHave b d o p (Held d ts)
 labels_have b d o p ts are =
-    along_all (Targeted d o ts) (PlaceHas b d o (Held d ts)) (places_of b p.sectors p.body) p.labels (targeted_has b d o ts) are.has
+    along_map (Targeted d o ts) (PlaceHas b d o (Held d ts)) (places_of b p.sectors p.body) p.labels (targeted_has b d o ts) are.has
 
 -- a write that meets it does so too
 met_has : (b : ℕ) (d : Sectors) (o : Option Layout) (ws : Writes) (w : Slice) (l : Option Label) → Met b d o ws w l
@@ -113,7 +113,7 @@ met_has b d o ws w None is = inr (refl, is.1)
 -- and so do writes that meet them
 pub met_have : (b : ℕ) (d : Sectors) (o : Option Layout) (p : Layout) (ws : Writes) → LabelsMet b d o p ws → PlacesHave b d o p (Ends d ws)
 met_have b d o p ws met =
-    along_all (Met b d o ws) (PlaceHas b d o (Ends d ws)) (places_of b p.sectors p.body) p.labels (met_has b d o ws) met
+    along_map (Met b d o ws) (PlaceHas b d o (Ends d ws)) (places_of b p.sectors p.body) p.labels (met_has b d o ws) met
 
 -- a target that changes has bytes beside it that aren't there yet either
 pub changed_other : (b : ℕ) (d : Sectors) (ts : List (Target b)) (t : Target b) (Q : ℕ → List ℕ → Type 0) → ¬ HasTwoOfOne ts

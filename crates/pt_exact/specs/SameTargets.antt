@@ -9,7 +9,7 @@ use Rattle.pt_recover.specs.declared.layout.Body.TheVariants.{Mbr, Gpt}
 use Rattle.pt_recover.specs.declared.layout.Layout.{Layout}
 use Rattle.pt_layout.specs.OnePath.{HasFour}
 use Rattle.pt_cases.specs.Causes.{WasMbr, MayBe, MayHave}
-use Rattle.pt_cases.specs.Records.{IsLinked}
+use Rattle.pt_shape.specs.Links.{IsLinked}
 use Rattle.pt_targets.specs.Causes.{SharesSector, TargetsIn, TargetsOf}
 use Rattle.pt_targets.specs.Misfits.{LabelsFit, HasUnreadable}
 use Rattle.pt_targets.specs.Targets.{HasTwoOfOne, IsChange}

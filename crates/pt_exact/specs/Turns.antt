@@ -13,12 +13,13 @@ use Rattle.pt_recover.specs.declared.layout.Layout.{Layout}
 use Rattle.pt_layout.specs.Guarded.{IsGuarded, guarded_reads, reads_guarded}
 use Rattle.pt_layout.specs.Healthy.{IsHealthy}
 use Rattle.pt_layout.specs.Sound.{Sound}
-use Rattle.pt_check.specs.First.{writes_in}
-use Rattle.pt_cases.specs.Cases.{IsNeeded, IsPlan, idle, backup_first, primary_first, from_mbr, one_label, within_mbr, IsWithinMbr}
+use Rattle.pt_apply.specs.Plans.{writes_in}
+use Rattle.pt_cases.specs.Cases.{IsNeeded, IsPlan, IsWithinMbr}
 use Rattle.pt_cases.specs.Causes.{WasMbr}
 use Rattle.pt_cases.specs.Copies.{one_write}
-use Rattle.pt_cases.specs.Frames.{one_is, puts_right, puts_split}
-use Rattle.pt_cases.specs.Records.{IsLinked}
+use Rattle.pt_apply.specs.Puts.{puts_right, puts_split}
+use Rattle.pt_cases.specs.Frames.{one_is}
+use Rattle.pt_shape.specs.Links.{IsLinked}
 use Rattle.pt_cases.specs.Targets.{Ends}
 use Rattle.pt_targets.specs.Causes.{WritesBoth, TargetsIn, TargetsOf, TurnsAmiss, IsReused}
 use Rattle.pt_targets.specs.Causes as cause
@@ -28,7 +29,9 @@ use Rattle.pt_targets.specs.Unplanned.{NoSwitch, HasNoSwitch, unreadable, unmade
 use Rattle.pt_targets.specs.declared.error.PlanError.{PlanError}
 use Rattle.pt_targets.specs.declared.error.PlanError.TheVariants.{NotOneSwitch, ReusedInOneBatch, NeedsRepair, Unsound, Device, Memory}
 use Rattle.pt_targets.specs.declared.target.Target.{Target}
-use Rattle.pt_exact.specs.Both.{backup_first_switch, primary_first_switch, from_mbr_switch, backup_first_frees, primary_first_frees, from_mbr_frees}
+use Rattle.pt_exact.specs.Both.{backup_first_switch, primary_first_switch, from_mbr_switch, backup_first_frees, primary_first_frees}
+use Rattle.pt_exact.specs.Both.{from_mbr_frees}
+use Rattle.pt_exact.specs.EachCase.{no_plan_has}
 use Rattle.pt_exact.specs.OneLabel.{label_switch, label_frees}
 use Rattle.pt_exact.specs.Planned.{planned_is_sound, planned_needs_no_repair}
 use Rattle.pt_exact.specs.SameHeads.{MbrHas, mbr_pair, mbr_met_has, targets_have, target_needed}
@@ -70,7 +73,8 @@ module _ (b : ℕ) (d : Sectors) (o : Option Layout) (p : Layout) (records : Lis
   change_put ts t are change =
       let needed = target_needed b d o p records chain ts t (listed ts are) change.0 in
       let has = list_has ts are in
-      let pair = mbr_pair b d o p is.old_records is.old_chain records chain (Held d ts) (Ends d all) fits.four linked has plan_has t.at.0 needed in
+      let pair =
+      mbr_pair b d o p is.old_records is.old_chain records chain (Held d ts) (Ends d all) fits.four linked has plan_has t.at.0 needed in
       let x = changed_other b d ts t (Ends d all) (one_of_each b d o p ts fits are) change pair in
       (x.0, end_put t.at.0 x.0 x.1 x.2)
 
@@ -87,7 +91,8 @@ module _ (b : ℕ) (d : Sectors) (o : Option Layout) (p : Layout) (records : Lis
   loud_change ts are =
       let needed : IsNeeded b p chain is.loud.0 = (is.each is.loud.0 is.loud.1 loud_put).0 in
       let also = list_has ts are in
-      let pair = mbr_pair b d o p is.old_records is.old_chain records chain (Ends d all) (Held d ts) fits.four linked plan_has also is.loud.0 needed in
+      let pair =
+      mbr_pair b d o p is.old_records is.old_chain records chain (Ends d all) (Held d ts) fits.four linked plan_has also is.loud.0 needed in
       change_of b d ts is.loud.0 pair.second pair.also (pair.alike (put_differs pair.first pair.has))
 
   mbr : IsMbrDisk d
@@ -140,37 +145,25 @@ module _ (b : ℕ) (d : Sectors) (o : Option Layout) (p : Layout) (records : Lis
 -- a layout that fits and has a plan
 module _ (b : ℕ) (d : Sectors) (o : Option Layout) (p : Layout) (phases : List Writes) (from : Denotes b d o) (fits : Fitting b d o p)
     (not_done : ¬ IsHealthy b d p) where
-  -- a disk denotes one layout, so the causes are of the plan's own
-  moved_switch : (q : Option Layout) → Denotes b d q → HasNoSwitch b d o p → HasNoSwitch b d q p
-  moved_switch q there = subst (λ (x : Option Layout). HasNoSwitch b d x p) (denotes_one_lem b d o q from there)
-
-  moved_reused : (q : Option Layout) → Denotes b d q → IsReused b d o p → IsReused b d q p
-  moved_reused q there = subst (λ (x : Option Layout). IsReused b d x p) (denotes_one_lem b d o q from there)
-
-  moved_fits : (q : Option Layout) → Denotes b d q → Fitting b d q p
-  moved_fits q there = subst (λ (x : Option Layout). Fitting b d x p) (denotes_one_lem b d o q from there) fits
-
   -- each plan has one switch
   planned_switch : IsPlan b d p phases → ¬ HasNoSwitch b d o p
-  planned_switch (idle healthy none) why = not_done healthy
-  planned_switch (backup_first q t is) why = backup_first_switch b d q p t phases is (moved_switch q is.common.from why)
-  planned_switch (primary_first q t is) why = primary_first_switch b d q p t phases is (moved_switch q is.common.from why)
-  planned_switch (from_mbr q t is) why =
-      from_mbr_switch b d q p t phases is (mbr_changes b d q p t phases is) (moved_switch q is.common.from why)
-  planned_switch (one_label q t is) why = label_switch b d q p t phases is (moved_switch q is.common.from why)
-  planned_switch (within_mbr q records chain is) why =
-      within_switch b d q p records chain phases (moved_fits q is.common.from) is (moved_switch q is.common.from why)
+  planned_switch plan cause = no_plan_has b d o p phases from (λ (x : Option Layout). Fitting b d x p × HasNoSwitch b d x p) not_done
+      (λ q t is why. backup_first_switch b d q p t phases is why.1)
+      (λ q t is why. primary_first_switch b d q p t phases is why.1)
+      (λ q t is why. from_mbr_switch b d q p t phases is (mbr_changes b d q p t phases is) why.1)
+      (λ q t is why. label_switch b d q p t phases is why.1)
+      (λ q records chain is why. within_switch b d q p records chain phases why.0 is why.1)
+      plan (fits, cause)
 
   -- and writes nothing that is owned
   planned_frees : IsPlan b d p phases → ¬ IsReused b d o p
-  planned_frees (idle healthy none) why = not_done healthy
-  planned_frees (backup_first q t is) why = backup_first_frees b d q p t phases is (moved_reused q is.common.from why)
-  planned_frees (primary_first q t is) why = primary_first_frees b d q p t phases is (moved_reused q is.common.from why)
-  planned_frees (from_mbr q t is) why =
-      from_mbr_frees b d q p t phases is (mbr_changes b d q p t phases is) (moved_reused q is.common.from why)
-  planned_frees (one_label q t is) why = label_frees b d q p t phases is (moved_reused q is.common.from why)
-  planned_frees (within_mbr q records chain is) why =
-      within_frees b d q p records chain phases (moved_fits q is.common.from) is (moved_reused q is.common.from why)
+  planned_frees plan cause = no_plan_has b d o p phases from (λ (x : Option Layout). Fitting b d x p × IsReused b d x p) not_done
+      (λ q t is why. backup_first_frees b d q p t phases is why.1)
+      (λ q t is why. primary_first_frees b d q p t phases is why.1)
+      (λ q t is why. from_mbr_frees b d q p t phases is (mbr_changes b d q p t phases is) why.1)
+      (λ q t is why. label_frees b d q p t phases is why.1)
+      (λ q records chain is why. within_frees b d q p records chain phases why.0 is why.1)
+      plan (fits, cause)
 
 -- so, where a layout that fits has a plan, what the planner may tell is a failure
 pub planned_no_error_lem : (b : ℕ) (d : Sectors) (o : Option Layout) (p : Layout) (phases : List Writes) (e : PlanError) → Denotes b d o

@@ -5,6 +5,8 @@ ghost use Rattle.pt_file.specs.Untold.{untold, in_bound};
 ghost use Rattle.pt_sector.specs.Calls.{untouched_same, untouched_on};
 
 use pt_sector::{Disk, Fault, Lba, Moments};
+use std::error::Error;
+use std::fmt;
 use std::fs::{File, Files, OpenFile, OpenOptions};
 use std::io::{Read, Seek, SeekFrom, Write};
 
@@ -30,6 +32,14 @@ pub enum Access {
 /// A file that can't be opened, or isn't a plain one.
 #[derive(Clone, Copy, Debug, PartialEq, Eq)]
 pub struct NoFile;
+
+impl fmt::Display for NoFile {
+    fn fmt<W: fmt::Write>(&self, f: &mut fmt::Formatter<W>) -> fmt::Result {
+        f.write_str("the file can't be opened, or isn't a plain one")
+    }
+}
+
+impl Error for NoFile {}
 
 /// Opens a plain file.
 pub fn open_plain<R: Files<File = File>>(

@@ -9,7 +9,8 @@ use Rattle.pt_gpt.specs.Written.{number_back}
 use Rattle.pt_gpt.specs.declared.header.Header.{Header}
 
 -- a header with a rest behind it
-pub is_header : (b : ℕ) (h : Header) (d rest : List ℕ) → 92 ≤ b → length d ≡ 16 → d ≡ h.disk.0 → HeaderFits h → crc_of (unsummed_from h d) < 2 ^ 32
+pub is_header : (b : ℕ) (h : Header) (d rest : List ℕ) → 92 ≤ b → length d ≡ 16 → d ≡ h.disk.0 → HeaderFits h
+    → crc_of (unsummed_from h d) < 2 ^ 32
     → HeaderBytes b h (summed_from h d ++ rest)
 unfolding summed_from unsummed_from put_at
 is_header b h (x0 ∷ x1 ∷ x2 ∷ x3 ∷ x4 ∷ x5 ∷ x6 ∷ x7 ∷ x8 ∷ x9 ∷ xa ∷ xb ∷ xc ∷ xd ∷ xe ∷ xf ∷ []) rest room len same fits crc = record {
@@ -39,5 +40,6 @@ pub record Plain (bytes tail : List ℕ) : Type 0 where
 
 pub is_plain : (h : Header) (d rest : List ℕ) → length d ≡ 16 → Plain (summed_from h d ++ rest) rest
 unfolding summed_from unsummed_from put_at
-is_plain h (x0 ∷ x1 ∷ x2 ∷ x3 ∷ x4 ∷ x5 ∷ x6 ∷ x7 ∷ x8 ∷ x9 ∷ xa ∷ xb ∷ xc ∷ xd ∷ xe ∷ xf ∷ []) rest len = record { size = refl; reserved = refl; rest = refl }
+is_plain h (x0 ∷ x1 ∷ x2 ∷ x3 ∷ x4 ∷ x5 ∷ x6 ∷ x7 ∷ x8 ∷ x9 ∷ xa ∷ xb ∷ xc ∷ xd ∷ xe ∷ xf ∷ []) rest len =
+    record { size = refl; reserved = refl; rest = refl }
 is_plain h d rest len = absurd (omega arith)

@@ -5,7 +5,8 @@ use Rattle.pt_sector.specs.Sectors.{Sectors, sector}
 use Rattle.pt_sum.specs.Crc.{crc_of}
 use Rattle.pt_gpt.specs.Errors.{IsOutside, NeedsNoMemory, FailedIn, fault_in}
 use Rattle.pt_gpt.specs.Header.{HeaderBytes, IsHeaderFault}
-use Rattle.pt_gpt.specs.Copy.{header_place, IsPlaced, IsPlaceFault, IsHead, no_header, misplaced, no_head, other_crc, array_of, HasArrayCrc, CopyWith}
+use Rattle.pt_gpt.specs.Copy.{header_place, IsPlaced, IsPlaceFault, IsHead, no_header, misplaced, no_head, other_crc, array_of, HasArrayCrc}
+use Rattle.pt_gpt.specs.Copy.{CopyWith}
 use Rattle.pt_gpt.specs.Array.{AreEntries}
 use Rattle.pt_gpt.specs.Answers.{TellsHeadFault, TellsFault}
 use Rattle.pt_gpt.specs.declared.header.Header.{Header}
@@ -18,19 +19,24 @@ use Rattle.pt_gpt.specs.declared.table.Side.{Side}
 pub place_of : (d : Sectors) (side : Side) (at n : ℕ) → at ≡ header_place side n → n ≡ length d → at ≡ header_place side (length d)
 place_of d side at n place count = place ∙ ap (header_place side) count
 
-pub head_of : (b : ℕ) (d : Sectors) (side : Side) (h : Header) (at n : ℕ) → at ≡ header_place side n → n ≡ length d → HeaderBytes b h (sector d at) → IsPlaced b side n h → IsHead b d side h
+pub head_of : (b : ℕ) (d : Sectors) (side : Side) (h : Header) (at n : ℕ) → at ≡ header_place side n → n ≡ length d
+    → HeaderBytes b h (sector d at) → IsPlaced b side n h → IsHead b d side h
 head_of b d side h at n place count bytes placed = record {
   bytes = subst (λ (k : ℕ). HeaderBytes b h (sector d k)) (place_of d side at n place count) bytes;
   placed = subst (λ (k : ℕ). IsPlaced b side k h) count placed;
 }
 
-pub fault_of_header : (b : ℕ) (d : Sectors) (side : Side) (e : CopyError) (at n : ℕ) → at ≡ header_place side n → n ≡ length d → IsOutside e ⊎ IsHeaderFault b e (sector d at) → TellsHeadFault b d side e
+pub fault_of_header : (b : ℕ) (d : Sectors) (side : Side) (e : CopyError) (at n : ℕ) → at ≡ header_place side n → n ≡ length d
+    → IsOutside e ⊎ IsHeaderFault b e (sector d at) → TellsHeadFault b d side e
 fault_of_header b d side e at n place count (inl out) = inl out
-fault_of_header b d side e at n place count (inr fault) = inr (no_header e (subst (λ (k : ℕ). IsHeaderFault b e (sector d k)) (place_of d side at n place count) fault))
+fault_of_header b d side e at n place count (inr fault) =
+    inr (no_header e (subst (λ (k : ℕ). IsHeaderFault b e (sector d k)) (place_of d side at n place count) fault))
 
-pub fault_of_place : (b : ℕ) (d : Sectors) (side : Side) (h : Header) (e : CopyError) (at n : ℕ) → at ≡ header_place side n → n ≡ length d → HeaderBytes b h (sector d at) → IsPlaceFault b side n h e → TellsHeadFault b d side e
+pub fault_of_place : (b : ℕ) (d : Sectors) (side : Side) (h : Header) (e : CopyError) (at n : ℕ) → at ≡ header_place side n
+    → n ≡ length d → HeaderBytes b h (sector d at) → IsPlaceFault b side n h e → TellsHeadFault b d side e
 fault_of_place b d side h e at n place count bytes fault =
-    inr (misplaced h e (subst (λ (k : ℕ). HeaderBytes b h (sector d k)) (place_of d side at n place count) bytes) (subst (λ (k : ℕ). IsPlaceFault b side k h e) count fault))
+    inr (misplaced h e (subst (λ (k : ℕ). HeaderBytes b h (sector d k)) (place_of d side at n place count) bytes)
+    (subst (λ (k : ℕ). IsPlaceFault b side k h e) count fault))
 
 pub fault_of_head : (b : ℕ) (d : Sectors) (side : Side) (e : CopyError) → TellsHeadFault b d side e → TellsFault b d side e
 fault_of_head b d side e (inl out) = inl out
@@ -43,9 +49,11 @@ failed_in S T _ weaker here = tt
 pub other_crc_of : (b : ℕ) (d : Sectors) (side : Side) (h : Header) → IsHead b d side h → ¬ HasArrayCrc b d h → TellsFault b d side ArrayCrc
 other_crc_of b d side h head other = inr (other_crc h head other)
 
-pub table_of : (b : ℕ) (d : Sectors) (side : Side) (h : Header) (entries : List (Option Entry)) → IsHead b d side h → h.array_crc ≡ crc_of (array_of b d h) → length entries ≡ h.count → AreEntries entries (array_of b d h)
+pub table_of : (b : ℕ) (d : Sectors) (side : Side) (h : Header) (entries : List (Option Entry)) → IsHead b d side h
+    → h.array_crc ≡ crc_of (array_of b d h) → length entries ≡ h.count → AreEntries entries (array_of b d h)
     → CopyWith b d side h (record { disk = h.disk; first = h.first; last = h.last; entries = entries })
-table_of b d side h entries head crc count are = record { is_head = head; crc = crc; disk = refl; first = refl; last = refl; count = count; entries = are }
+table_of b d side h entries head crc count are =
+    record { is_head = head; crc = crc; disk = refl; first = refl; last = refl; count = count; entries = are }
 
 pub header_needs_none : (b : ℕ) (e : CopyError) (bytes : List ℕ) → IsHeaderFault b e bytes → NeedsNoMemory e
 header_needs_none b Memory bytes fault = fault

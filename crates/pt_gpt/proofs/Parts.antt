@@ -1,8 +1,10 @@
 -- Entries that come in parts.
-use Rattle.std.proofs.Common.{◌≡◌, ℕ, ◌/◌, zero-le, min, add-one, ◌∷◌, ◌+◌, ◌*◌, ◌-◌, ◌<◌, ◌≤◌, List, [], ◌++◌, length, get_or, take, drop, Option, None, refl, sym, ap, ◌∙◌, subst, arith, inl, inr, length-append, append_assoc}
+use Rattle.std.proofs.Common.{◌≡◌, ℕ, ◌/◌, zero-le, min, add-one, ◌∷◌, ◌+◌, ◌*◌, ◌-◌, ◌<◌, ◌≤◌, List, [], ◌++◌, length, get_or, take, drop}
+use Rattle.std.proofs.Common.{Option, None, refl, sym, ap, ◌∙◌, subst, arith, inl, inr, length-append, append_assoc}
 use Rattle.std.specs.Prelude.{slice_range}
 use Rattle.std.proofs.lemmas.Bool.{cases_lt}
-use Rattle.std.proofs.lemmas.List.{get_or_append_left, get_or-append_right, drop-append-le, take-append-le, length-drop, take_all, take_min, get_or_push, length_push, append-nil}
+use Rattle.std.proofs.lemmas.List.{get_or_append_left, get_or-append_right, drop-append-le, take-append-le, length-drop, take_all, take_min}
+use Rattle.std.proofs.lemmas.List.{get_or_push, length_push, append-nil}
 use Rattle.std.proofs.Math.Seq.{drop-append-add, take-append-add}
 use Rattle.std.proofs.Math.Nat.{add-mul, one-mul}
 use Rattle.pt_sum.specs.Crc.{after_bytes}
@@ -43,7 +45,8 @@ take_sector m i b x s long within =
     ap (λ (n : ℕ). take n (x ++ s)) e ∙ take-append-add x s (m - i * b)
 
 -- one entry more
-one_more : (es : List (Option Entry)) (x : Option Entry) (n : ℕ) (part : List ℕ) → length es ≡ n → ((j : ℕ) → j < n → EntryIs (get_or es j None) (slice_range part (j * 128) (j * 128 + 128)))
+one_more : (es : List (Option Entry)) (x : Option Entry) (n : ℕ) (part : List ℕ) → length es ≡ n
+    → ((j : ℕ) → j < n → EntryIs (get_or es j None) (slice_range part (j * 128) (j * 128 + 128)))
     → EntryIs x (slice_range part (n * 128) (n * 128 + 128))
     → (j : ℕ) → j < n + 1 → EntryIs (get_or (es ++ x ∷ []) j None) (slice_range part (j * 128) (j * 128 + 128))
 one_more es x n part long before here j lt = elim (cases_lt j n) [
@@ -91,20 +94,24 @@ streamed_none b m at d =
       long = omega arith;
     }
 
-pub streamed_more : (b m at i : ℕ) (d : Sectors) (register left : ℕ) (items es : List (Option Entry)) (s : List ℕ) → Streamed b m at i d register left items → i * b ≤ m
+pub streamed_more : (b m at i : ℕ) (d : Sectors) (register left : ℕ) (items es : List (Option Entry)) (s : List ℕ)
+    → Streamed b m at i d register left items → i * b ≤ m
     → s ≡ sector d (at + i) → length s ≡ b → AreEntries es (take (min left b) s)
     → Streamed b m at (i + 1) d (after_bytes register (take (min left b) s)) (left - min left b) (items ++ es)
 unfolding bytes_from
 streamed_more b m at i d register left items es s before within read long part =
     let x = bytes_from d at i in
     let whole : take m x ≡ x = take_all m x (omega (arith, before.long)) in
-    let cut : take (min left b) s ≡ take (m - i * b) s = ap (λ (n : ℕ). take (min left n) s) (sym long) ∙ take_min left s ∙ ap (λ (n : ℕ). take n s) before.left in
+    let cut : take (min left b) s ≡ take (m - i * b) s =
+    ap (λ (n : ℕ). take (min left n) s) (sym long) ∙ take_min left s ∙ ap (λ (n : ℕ). take n s) before.left in
     let next : take m (bytes_from d at (i + 1)) ≡ x ++ take (min left b) s =
     rw (add-one, ← read) (take_sector m i b x s before.long within ∙ ap (λ (t : List ℕ). x ++ t) (sym cut)) in
     let product : (i + 1) * b ≡ i * b + b = add-mul i 1 b ∙ ap (λ (n : ℕ). i * b + n) (one-mul b) in
     record {
-      sum = rw (next, after_bytes-append 0xFFFFFFFF x (take (min left b) s)) (ap (λ (r : ℕ). after_bytes r (take (min left b) s)) (before.sum ∙ ap (after_bytes 0xFFFFFFFF) whole));
-      entries = rw next (are_append items es x (take (min left b) s) (subst (λ (t : List ℕ). AreEntries items t) whole before.entries) part);
+      sum = rw (next, after_bytes-append 0xFFFFFFFF x (take (min left b) s))
+          (ap (λ (r : ℕ). after_bytes r (take (min left b) s)) (before.sum ∙ ap (after_bytes 0xFFFFFFFF) whole));
+      entries =
+          rw next (are_append items es x (take (min left b) s) (subst (λ (t : List ℕ). AreEntries items t) whole before.entries) part);
       left = omega (arith, product, before.left);
       long = rw add-one (omega (arith, length-append x (sector d (at + i)), ap length read, product, before.long));
     }
@@ -114,7 +121,8 @@ sector_within b m i (inl e) lt = let h = rw e at lt in rw e (omega arith)
 sector_within b m i (inr e) lt = let h = rw e at lt in rw e (omega arith)
 
 -- how many entries are there, and how many bytes are left, after one sector more
-pub pushed_more : (b n m left : ℕ) → IsSectorSize b → n * 128 + left ≡ m * 128 → (n + min left b / 128) * 128 + (left - min left b) ≡ m * 128
+pub pushed_more : (b n m left : ℕ) → IsSectorSize b → n * 128 + left ≡ m * 128
+    → (n + min left b / 128) * 128 + (left - min left b) ≡ m * 128
 pushed_more b n m left (inl e) before = rw e (omega arith)
 pushed_more b n m left (inr e) before = rw e (omega arith)
 

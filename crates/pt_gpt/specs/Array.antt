@@ -1,11 +1,20 @@
 -- An array of entries, in its bytes and in its sectors.
-use Rattle.std.specs.Prelude.{◌≡◌, ◌<◌, ℕ, zero, suc, ◌+◌, ◌-◌, ◌*◌, ◌/◌, List, [], ◌++◌, length, slice_range, slice_index_or, Option, None, IfSome}
+use Rattle.std.specs.Prelude.{◌≡◌, ◌<◌, ◌≤◌, ℕ, zero, suc, ◌+◌, ◌-◌, ◌*◌, ◌/◌, List, [], ◌++◌, length, slice_range, slice_index_or, Option}
+use Rattle.std.specs.Prelude.{None, IfSome}
 use Rattle.pt_gpt.specs.Entry.{EntryIs, EntryFits, IsTyped, entry_bytes}
 use Rattle.pt_gpt.specs.declared.entry.Entry.{Entry}
 
 -- how many sectors an array of 128 entries takes
 abbrev pub array_len : ℕ → ℕ
 array_len b = 16384 / b
+
+-- so many sectors have room for sector 0, both headers, both arrays and one usable sector
+abbrev pub HasRoom : ℕ → ℕ → Type 0
+HasRoom b n = 2 * array_len b + 4 ≤ n
+
+-- the first usable sector behind a header and a whole array, and as many at the disk's end
+abbrev pub edge : ℕ → ℕ
+edge b = array_len b + 2
 
 -- how many sectors this many entries take
 abbrev pub counted : ℕ → ℕ → ℕ

@@ -60,7 +60,8 @@ pub record IsHead (b : ℕ) (d : Sectors) (side : Side) (h : Header) : Type 0 wh
 -- the side has no such header: its sector is none, or one whose fields break a rule
 pub data IsHeadFault (b : ℕ) (d : Sectors) (side : Side) : CopyError → Type 0 where
   no_header : (e : CopyError) → IsHeaderFault b e (header_sector d side) → IsHeadFault b d side e
-  misplaced : (h : Header) (e : CopyError) → HeaderBytes b h (header_sector d side) → IsPlaceFault b side (length d) h e → IsHeadFault b d side e
+  misplaced : (h : Header) (e : CopyError) → HeaderBytes b h (header_sector d side) → IsPlaceFault b side (length d) h e
+      → IsHeadFault b d side e
 
 -- the bytes of n sectors from a place on
 unfoldable pub bytes_from : Sectors → ℕ → ℕ → List ℕ

@@ -49,7 +49,8 @@ pub record EntryFits (e : Entry) : Type 0 where
 -- the 128 bytes that an entry is written as
 unfoldable pub used_bytes : Entry → List ℕ
 used_bytes e =
-    e.kind.0 ++ (e.unique.0 ++ (little_bytes 8 e.first ++ (little_bytes 8 e.last ++ (little_bytes 8 e.attributes ++ flat_map (little_bytes 2) e.name))))
+    e.kind.0 ++ (e.unique.0 ++ (little_bytes 8 e.first ++ (little_bytes 8 e.last ++ (little_bytes 8 e.attributes ++ flat_map
+    (little_bytes 2) e.name))))
 
 -- and those of none
 abbrev pub entry_bytes : Option Entry → List ℕ

@@ -7,7 +7,8 @@ use Rattle.pt_gpt.specs.Copy.{header_sector, IsPlaceFault, IsHeadFault, no_heade
 use Rattle.pt_gpt.specs.Laws.{header_is_one_lem, no_header_lem, no_head_lem}
 use Rattle.pt_gpt.specs.declared.header.Header.{Header}
 use Rattle.pt_gpt.specs.declared.error.CopyError.{CopyError}
-use Rattle.pt_gpt.specs.declared.error.CopyError.TheVariants.{Signature, Revision, HeaderSize, HeaderCrc, MyLba, ArrayPlace, EntryShape, UsableRange}
+use Rattle.pt_gpt.specs.declared.error.CopyError.TheVariants.{Signature, Revision, HeaderSize, HeaderCrc, MyLba, ArrayPlace, EntryShape}
+use Rattle.pt_gpt.specs.declared.error.CopyError.TheVariants.{UsableRange}
 use Rattle.pt_gpt.specs.declared.table.Side.{Side}
 
 header_fault_one : (b : ℕ) (bytes : List ℕ) (e f : CopyError) → IsHeaderFault b e bytes → IsHeaderFault b f bytes → e ≡ f
@@ -33,7 +34,8 @@ header_fault_one b bytes HeaderCrc HeaderCrc p q = refl
 header_fault_one b bytes HeaderCrc _ p q = absurd q
 header_fault_one b bytes _ f p q = absurd p
 
-place_fault_one : (b : ℕ) (side : Side) (n : ℕ) (h : Header) (e f : CopyError) → IsPlaceFault b side n h e → IsPlaceFault b side n h f → e ≡ f
+place_fault_one : (b : ℕ) (side : Side) (n : ℕ) (h : Header) (e f : CopyError) → IsPlaceFault b side n h e
+    → IsPlaceFault b side n h f → e ≡ f
 place_fault_one b side n h MyLba MyLba p q = refl
 place_fault_one b side n h MyLba ArrayPlace p q = absurd (p q.0)
 place_fault_one b side n h MyLba EntryShape p q = absurd (p q.0)

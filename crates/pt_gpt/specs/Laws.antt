@@ -1,6 +1,7 @@
 -- Bytes are one header or entry at most; a side has one copy at most, and none where it has a fault;
 -- and the sectors that decide a side do decide it.
-use Rattle.std.specs.Prelude.{◌≡◌, ◌<◌, ◌≤◌, ◌⊎◌, ◌↔◌, ℕ, zero, suc, ◌+◌, ◌*◌, List, length, take, slice_range, slice_index_or, Option, Some, None, IfSome}
+use Rattle.std.specs.Prelude.{◌≡◌, ◌<◌, ◌≤◌, ◌⊎◌, ◌↔◌, ℕ, zero, suc, ◌+◌, ◌*◌, List, length, take, slice_range, slice_index_or, Option}
+use Rattle.std.specs.Prelude.{Some, None, IfSome}
 use Rattle.std.proofs.Common.{refl, sym, ap, ◌∙◌, subst, arith, inl, inr}
 use Rattle.std.proofs.lemmas.List.{ext_get_or}
 use Rattle.pt_sector.specs.Sectors.{Sectors, sector, Agrees}
@@ -8,15 +9,18 @@ use Rattle.pt_sum.specs.Crc.{crc_of}
 use Rattle.pt_gpt.specs.Header.{HeaderBytes, IsHeaderFault}
 use Rattle.pt_gpt.specs.Entry.{EntryBytes, EntryIs, IsTyped}
 use Rattle.pt_gpt.specs.Array.{counted, AreEntries, AllTyped}
-use Rattle.pt_gpt.specs.Copy.{header_place, header_sector, IsPlaced, IsPlaceFault, IsHead, IsHeadFault, no_header, misplaced, bytes_from, array_of, HasArrayCrc, CopyWith, Copy, HasCopy, IsCopyFault, no_head, other_crc, InArray, SideReads, SameSide}
+use Rattle.pt_gpt.specs.Copy.{header_place, header_sector, IsPlaced, IsPlaceFault, IsHead, IsHeadFault, no_header, misplaced, bytes_from}
+use Rattle.pt_gpt.specs.Copy.{array_of, HasArrayCrc, CopyWith, Copy, HasCopy, IsCopyFault, no_head, other_crc, InArray, SideReads, SameSide}
 use Rattle.pt_gpt.specs.declared.header.Header.{Header}
 use Rattle.pt_gpt.specs.declared.entry.Entry.{Entry}
 use Rattle.pt_gpt.specs.declared.error.CopyError.{CopyError}
-use Rattle.pt_gpt.specs.declared.error.CopyError.TheVariants.{Signature, Revision, HeaderSize, HeaderCrc, MyLba, ArrayPlace, EntryShape, UsableRange}
+use Rattle.pt_gpt.specs.declared.error.CopyError.TheVariants.{Signature, Revision, HeaderSize, HeaderCrc, MyLba, ArrayPlace, EntryShape}
+use Rattle.pt_gpt.specs.declared.error.CopyError.TheVariants.{UsableRange}
 use Rattle.pt_gpt.specs.declared.table.Side.{Side}
 use Rattle.pt_gpt.specs.declared.table.Table.{Table}
 
-header_ext : (h k : Header) → h.my ≡ k.my → h.alternate ≡ k.alternate → h.first ≡ k.first → h.last ≡ k.last → h.disk.0 ≡ k.disk.0 → h.array ≡ k.array → h.count ≡ k.count
+header_ext : (h k : Header) → h.my ≡ k.my → h.alternate ≡ k.alternate → h.first ≡ k.first → h.last ≡ k.last → h.disk.0 ≡ k.disk.0
+    → h.array ≡ k.array → h.count ≡ k.count
     → h.entry_size ≡ k.entry_size → h.array_crc ≡ k.array_crc → h ≡ k
 header_ext h k a b c d e f g i j = grind arith
 
@@ -25,18 +29,24 @@ pub header_is_one_lem : (b : ℕ) (h k : Header) (bytes : List ℕ) → HeaderBy
 header_is_one_lem b h k bytes p q =
     let x = p.fields in
     let y = q.fields in
-    header_ext h k (sym x.my ∙ y.my) (sym x.alternate ∙ y.alternate) (sym x.first ∙ y.first) (sym x.last ∙ y.last) (sym x.disk ∙ y.disk) (sym x.array ∙ y.array) (sym x.count ∙ y.count) (sym x.entry_size ∙ y.entry_size) (sym x.array_crc ∙ y.array_crc)
+    header_ext h k (sym x.my ∙ y.my) (sym x.alternate ∙ y.alternate) (sym x.first ∙ y.first) (sym x.last ∙ y.last)
+    (sym x.disk ∙ y.disk) (sym x.array ∙ y.array) (sym x.count ∙ y.count) (sym x.entry_size ∙ y.entry_size) (sym x.array_crc ∙ y.array_crc)
 
-pub entry_ext : (e f : Entry) → e.kind.0 ≡ f.kind.0 → e.unique.0 ≡ f.unique.0 → e.first ≡ f.first → e.last ≡ f.last → e.attributes ≡ f.attributes → e.name ≡ f.name → e ≡ f
-entry_ext e f a b c d g i = λ x. record { kind = record { 0 = a x }; unique = record { 0 = b x }; first = c x; last = d x; attributes = g x; name = i x }
+pub entry_ext : (e f : Entry) → e.kind.0 ≡ f.kind.0 → e.unique.0 ≡ f.unique.0 → e.first ≡ f.first → e.last ≡ f.last
+    → e.attributes ≡ f.attributes → e.name ≡ f.name → e ≡ f
+entry_ext e f a b c d g i =
+    λ x. record { kind = record { 0 = a x }; unique = record { 0 = b x }; first = c x; last = d x; attributes = g x; name = i x }
 
 -- the bytes are one entry at most
 pub entry_is_one_lem : (e f : Entry) (bytes : List ℕ) → EntryBytes e bytes → EntryBytes f bytes → e ≡ f
 entry_is_one_lem e f bytes x y =
     let p = x.fields in
     let q = y.fields in
-    let name : e.name ≡ f.name = ext_get_or 0 e.name f.name (p.name.0 ∙ sym q.name.0) (λ i lt. let small : i < 36 = omega arith in p.name.1 i small ∙ sym (q.name.1 i small)) in
-    entry_ext e f (sym p.kind ∙ q.kind) (sym p.unique ∙ q.unique) (sym p.first ∙ q.first) (sym p.last ∙ q.last) (sym p.attributes ∙ q.attributes) name
+    let name : e.name ≡ f.name =
+    ext_get_or 0 e.name f.name (p.name.0 ∙ sym q.name.0) (λ i lt. let small : i < 36 = omega arith in p.name.1 i small
+    ∙ sym (q.name.1 i small)) in
+    entry_ext e f (sym p.kind ∙ q.kind) (sym p.unique ∙ q.unique) (sym p.first ∙ q.first) (sym p.last ∙ q.last)
+    (sym p.attributes ∙ q.attributes) name
 
 pub entry_same : (e f : Option Entry) (bytes : List ℕ) → EntryIs e bytes → EntryIs f bytes → e ≡ f
 entry_same None None bytes p q = refl
@@ -91,7 +101,9 @@ copy_is_one_lem b d side t u x y =
     let p = x.stands in
     let q = y.stands in
     let same : x.head ≡ y.head = head_is_one_lem b d side x.head y.head p.is_head q.is_head in
-    let entries = entries_are_one_lem t.entries u.entries (array_of b d y.head) (subst (λ (h : Header). AreEntries t.entries (array_of b d h)) same p.entries) q.entries in
+    let entries =
+    entries_are_one_lem t.entries u.entries (array_of b d y.head)
+    (subst (λ (h : Header). AreEntries t.entries (array_of b d h)) same p.entries) q.entries in
     let disk : t.disk ≡ u.disk = p.disk ∙ ap (λ (h : Header). h.disk) same ∙ sym q.disk in
     let first : t.first ≡ u.first = p.first ∙ ap (λ (h : Header). h.first) same ∙ sym q.first in
     let last : t.last ≡ u.last = p.last ∙ ap (λ (h : Header). h.last) same ∙ sym q.last in
@@ -128,7 +140,8 @@ record SideAgrees (b : ℕ) (side : Side) (c d : Sectors) : Type 0 where
   header : header_sector c side ≡ header_sector d side
   array : (h : Header) → IsHead b d side h → array_of b c h ≡ array_of b d h
 
-head_same : (b : ℕ) (c d : Sectors) (side : Side) (h : Header) → length c ≡ length d → header_sector c side ≡ header_sector d side → IsHead b d side h → IsHead b c side h
+head_same : (b : ℕ) (c d : Sectors) (side : Side) (h : Header) → length c ≡ length d → header_sector c side ≡ header_sector d side
+    → IsHead b d side h → IsHead b c side h
 head_same b c d side h count header head = record {
   bytes = subst (λ (x : List ℕ). HeaderBytes b h x) (sym header) head.bytes;
   placed = subst (λ (n : ℕ). IsPlaced b side n h) (sym count) head.placed;
@@ -141,7 +154,8 @@ turned b c d side agrees = record {
   array = λ h head. sym (agrees.array h (head_same b d c side h (sym agrees.count) (sym agrees.header) head));
 }
 
-table_same : (b : ℕ) (c d : Sectors) (side : Side) (h : Header) (t : Table) → SideAgrees b side c d → CopyWith b d side h t → CopyWith b c side h t
+table_same : (b : ℕ) (c d : Sectors) (side : Side) (h : Header) (t : Table) → SideAgrees b side c d → CopyWith b d side h t
+    → CopyWith b c side h t
 table_same b c d side h t agrees copy =
     let same = sym (agrees.array h copy.is_head) in
     record {
@@ -161,10 +175,12 @@ copy_same b c d side t agrees copy = record {
   stands = table_same b c d side copy.head t agrees copy.stands;
 }
 
-head_fault_same : (b : ℕ) (c d : Sectors) (side : Side) (e : CopyError) → length c ≡ length d → header_sector c side ≡ header_sector d side → IsHeadFault b d side e → IsHeadFault b c side e
+head_fault_same : (b : ℕ) (c d : Sectors) (side : Side) (e : CopyError) → length c ≡ length d
+    → header_sector c side ≡ header_sector d side → IsHeadFault b d side e → IsHeadFault b c side e
 head_fault_same b c d side _ count header (no_header e fault) = no_header e (subst (λ (x : List ℕ). IsHeaderFault b e x) (sym header) fault)
 head_fault_same b c d side _ count header (misplaced h e bytes fault) =
-    misplaced h e (subst (λ (x : List ℕ). HeaderBytes b h x) (sym header) bytes) (subst (λ (n : ℕ). IsPlaceFault b side n h e) (sym count) fault)
+    misplaced h e (subst (λ (x : List ℕ). HeaderBytes b h x) (sym header) bytes)
+    (subst (λ (n : ℕ). IsPlaceFault b side n h e) (sym count) fault)
 
 fault_same : (b : ℕ) (c d : Sectors) (side : Side) (e : CopyError) → SideAgrees b side c d → IsCopyFault b d side e → IsCopyFault b c side e
 fault_same b c d side _ agrees (no_head e fault) = no_head e (head_fault_same b c d side e agrees.count agrees.header fault)
@@ -173,13 +189,15 @@ fault_same b c d side _ agrees (other_crc h head other) =
 
 side_reads_same : (b : ℕ) (c d : Sectors) (side : Side) (s : ℕ) → SideAgrees b side c d → SideReads b d side s → SideReads b c side s
 side_reads_same b c d side s agrees (inl here) = inl (here ∙ ap (header_place side) (sym agrees.count))
-side_reads_same b c d side s agrees (inr within) = inr (within.0, head_same b c d side within.0 agrees.count agrees.header within.1, within.2)
+side_reads_same b c d side s agrees (inr within) =
+    inr (within.0, head_same b c d side within.0 agrees.count agrees.header within.1, within.2)
 
 side_agrees : (b : ℕ) (c d : Sectors) (side : Side) → Agrees (SideReads b d side) c d → SideAgrees b side c d
 side_agrees b c d side agrees = record {
   count = agrees.count;
   header = ap (λ (n : ℕ). sector c (header_place side n)) agrees.count ∙ agrees.each (header_place side (length d)) (inl refl);
-  array = λ h head. ap (take (h.count * 128)) (bytes_same c d h.array (counted b h.count) (λ s low high. agrees.each s (inr (h, head, (low, high)))));
+  array = λ h head. ap (take (h.count * 128)) (bytes_same c d h.array (counted b h.count)
+      (λ s low high. agrees.each s (inr (h, head, (low, high)))));
 }
 
 -- a disk that agrees on the sectors that decide a side has the same there

@@ -1,5 +1,6 @@
 -- What is written is read back: entries, arrays, and so whole copies.
-use Rattle.std.specs.Prelude.{◌≡◌, ◌<◌, ◌≤◌, ◌^◌, ℕ, zero, suc, ◌+◌, ◌-◌, ◌*◌, ◌/◌, List, [], ◌∷◌, ◌++◌, length, take, drop, slice_range, slice_index_or, Option, Some, None, IfSome}
+use Rattle.std.specs.Prelude.{◌≡◌, ◌<◌, ◌≤◌, ◌^◌, ℕ, zero, suc, ◌+◌, ◌-◌, ◌*◌, ◌/◌, List, [], ◌∷◌, ◌++◌, length, take, drop, slice_range}
+use Rattle.std.specs.Prelude.{slice_index_or, Option, Some, None, IfSome}
 use Rattle.std.specs.List.{flat_map}
 use Rattle.std.proofs.Common.{get_or, refl, sym, ap, ◌∙◌, arith, inl, inr, append_assoc, length-append, zero-add}
 use Rattle.std.proofs.lemmas.Bool.{cases_lt}
@@ -28,7 +29,8 @@ unit_at (u ∷ units) rest (suc k) lt fits =
     let e : 2 * suc k ≡ suc (suc (2 * k)) = omega arith in
     rw e (unit_at units rest k (omega arith) (λ i. fits (suc i)))
 
-units_in : (s units rest : List ℕ) → drop 56 s ≡ flat_map (little_bytes 2) units ++ rest → length units ≡ 36 → ((i : ℕ) → get_or units i 0 < 2 ^ 16) → UnitsAt s units
+units_in : (s units rest : List ℕ) → drop 56 s ≡ flat_map (little_bytes 2) units ++ rest → length units ≡ 36
+    → ((i : ℕ) → get_or units i 0 < 2 ^ 16) → UnitsAt s units
 units_in s units rest at long fits = (
   long,
   λ k lt.
@@ -46,17 +48,21 @@ length_units (u ∷ units) = let e = length_units units in omega (arith, e)
 
 -- an entry's bytes, with those of its GUIDs named
 abbrev pub laid : Entry → List ℕ → List ℕ → List ℕ
-laid e kind unique = kind ++ (unique ++ (little_bytes 8 e.first ++ (little_bytes 8 e.last ++ (little_bytes 8 e.attributes ++ flat_map (little_bytes 2) e.name))))
+laid e kind unique =
+    kind ++ (unique ++ (little_bytes 8 e.first ++ (little_bytes 8 e.last ++ (little_bytes 8 e.attributes ++ flat_map
+    (little_bytes 2) e.name))))
 
-laid_fields : (e : Entry) (a b : List ℕ) → length a ≡ 16 → length b ≡ 16 → a ≡ e.kind.0 → b ≡ e.unique.0 → EntryFits e → EntryFields e (laid e a b)
-laid_fields e (x0 ∷ x1 ∷ x2 ∷ x3 ∷ x4 ∷ x5 ∷ x6 ∷ x7 ∷ x8 ∷ x9 ∷ xa ∷ xb ∷ xc ∷ xd ∷ xe ∷ xf ∷ []) (y0 ∷ y1 ∷ y2 ∷ y3 ∷ y4 ∷ y5 ∷ y6 ∷ y7 ∷ y8 ∷ y9 ∷ ya ∷ yb ∷ yc ∷ yd ∷ ye ∷ yf ∷ []) la lb ea eb fits = record {
-  kind = ea;
-  unique = eb;
-  first = number_back 8 e.first fits.first;
-  last = number_back 8 e.last fits.last;
-  attributes = number_back 8 e.attributes fits.attributes;
-  name = units_in _ e.name [] (sym (append-nil (flat_map (little_bytes 2) e.name))) fits.name fits.units;
-}
+laid_fields : (e : Entry) (a b : List ℕ) → length a ≡ 16 → length b ≡ 16 → a ≡ e.kind.0 → b ≡ e.unique.0 → EntryFits e
+    → EntryFields e (laid e a b)
+laid_fields e (x0 ∷ x1 ∷ x2 ∷ x3 ∷ x4 ∷ x5 ∷ x6 ∷ x7 ∷ x8 ∷ x9 ∷ xa ∷ xb ∷ xc ∷ xd ∷ xe ∷ xf ∷ [])
+    (y0 ∷ y1 ∷ y2 ∷ y3 ∷ y4 ∷ y5 ∷ y6 ∷ y7 ∷ y8 ∷ y9 ∷ ya ∷ yb ∷ yc ∷ yd ∷ ye ∷ yf ∷ []) la lb ea eb fits = record {
+      kind = ea;
+      unique = eb;
+      first = number_back 8 e.first fits.first;
+      last = number_back 8 e.last fits.last;
+      attributes = number_back 8 e.attributes fits.attributes;
+      name = units_in _ e.name [] (sym (append-nil (flat_map (little_bytes 2) e.name))) fits.name fits.units;
+    }
 laid_fields e a b la lb ea eb fits = absurd (omega arith)
 
 -- an entry's bytes have its fields
@@ -69,7 +75,8 @@ pub used_entry : (e : Entry) → EntryFits e → IsTyped e → EntryBytes e (use
 used_entry e fits typed = record { used = λ none. typed (sym (used_fields e fits).kind ∙ none); fields = used_fields e fits }
 
 length_laid : (e : Entry) (a b : List ℕ) → length a ≡ 16 → length b ≡ 16 → length e.name ≡ 36 → length (laid e a b) ≡ 128
-length_laid e (x0 ∷ x1 ∷ x2 ∷ x3 ∷ x4 ∷ x5 ∷ x6 ∷ x7 ∷ x8 ∷ x9 ∷ xa ∷ xb ∷ xc ∷ xd ∷ xe ∷ xf ∷ []) (y0 ∷ y1 ∷ y2 ∷ y3 ∷ y4 ∷ y5 ∷ y6 ∷ y7 ∷ y8 ∷ y9 ∷ ya ∷ yb ∷ yc ∷ yd ∷ ye ∷ yf ∷ []) la lb name =
+length_laid e (x0 ∷ x1 ∷ x2 ∷ x3 ∷ x4 ∷ x5 ∷ x6 ∷ x7 ∷ x8 ∷ x9 ∷ xa ∷ xb ∷ xc ∷ xd ∷ xe ∷ xf ∷ [])
+    (y0 ∷ y1 ∷ y2 ∷ y3 ∷ y4 ∷ y5 ∷ y6 ∷ y7 ∷ y8 ∷ y9 ∷ ya ∷ yb ∷ yc ∷ yd ∷ ye ∷ yf ∷ []) la lb name =
     let units = length_units e.name in omega (arith, units, name)
 length_laid e a b la lb name = absurd (omega arith)
 
@@ -89,7 +96,8 @@ fits_past es fits j = elim (cases_lt j (length es)) [ inl below ↦ fits j below
   none (e ∷ es) zero past = absurd (omega arith)
   none (e ∷ es) (suc j) past = none es j (omega arith)
 
-length_entries : (es : List (Option Entry)) (i n : ℕ) → ((j : ℕ) → IfSome (slice_index_or es j None) EntryFits) → length (entries_bytes es i n) ≡ n * 128
+length_entries : (es : List (Option Entry)) (i n : ℕ) → ((j : ℕ) → IfSome (slice_index_or es j None) EntryFits)
+    → length (entries_bytes es i n) ≡ n * 128
 unfolding entries_bytes
 length_entries es i zero fits = refl
 length_entries es i (suc n) fits =
@@ -114,7 +122,8 @@ entries_part es i (suc n) k fits lt =
       | inr above ↦
           let e : k ≡ n = omega arith in
           let d : drop (k * 128) (x ++ y) ≡ y = drop_at x y (k * 128) (omega arith) in
-          let t : take (k * 128 + 128 - k * 128) y ≡ y = take_all (k * 128 + 128 - k * 128) y (omega (arith, length_entry (slice_index_or es (i + n) None) (fits (i + n)))) in
+          let t : take (k * 128 + 128 - k * 128) y ≡ y =
+          take_all (k * 128 + 128 - k * 128) y (omega (arith, length_entry (slice_index_or es (i + n) None) (fits (i + n)))) in
           rw (d, t, e) refl
     ]
 
@@ -127,23 +136,32 @@ entries_split es i m zero =
 entries_split es i m (suc n) =
     let e : m + suc n ≡ suc (m + n) = omega arith in
     let at : i + (m + n) ≡ i + m + n = omega arith in
-    rw (e, at) (ap (λ (t : List ℕ). t ++ entry_bytes (slice_index_or es (i + m + n) None)) (entries_split es i m n) ∙ append_assoc (entries_bytes es i m) (entries_bytes es (i + m) n) (entry_bytes (slice_index_or es (i + m + n) None)))
+    rw (e, at) (ap (λ (t : List ℕ). t ++ entry_bytes (slice_index_or es (i + m + n) None)) (entries_split es i m n)
+    ∙ append_assoc (entries_bytes es i m) (entries_bytes es (i + m) n) (entry_bytes (slice_index_or es (i + m + n) None)))
 
 -- what entries are written as is those entries
 pub entries_back_lem : (es : List (Option Entry)) → AllFit es → AllTyped es → AreEntries es (array_bytes es)
 entries_back_lem es fits typed = record {
   count = length_entries es 0 (length es) (fits_past es fits);
   each = λ k lt.
-      let same = entries_part es 0 (length es) k (fits_past es fits) lt ∙ ap (λ (j : ℕ). entry_bytes (slice_index_or es j None)) (zero-add k) in
+      let same =
+      entries_part es 0 (length es) k (fits_past es fits) lt ∙ ap (λ (j : ℕ). entry_bytes (slice_index_or es j None)) (zero-add k) in
       rw same (entry_back (slice_index_or es k None) (fits k lt) (typed k lt));
 }
 
-sectors_of : (d : Sectors) (es : List (Option Entry)) (at n q : ℕ) → ((k : ℕ) → k < n → sector d (at + k) ≡ entries_bytes es (k * q) q) → bytes_from d at n ≡ entries_bytes es 0 (n * q)
+sectors_of : (d : Sectors) (es : List (Option Entry)) (at n q : ℕ)
+    → ((k : ℕ) → k < n → sector d (at + k) ≡ entries_bytes es (k * q) q) → bytes_from d at n ≡ entries_bytes es 0 (n * q)
 unfolding bytes_from entries_bytes
 sectors_of d es at zero q each = let e : 0 * q ≡ 0 = omega arith in rw e refl
 sectors_of d es at (suc n) q each =
     let product : suc n * q ≡ n * q + q = omega arith in
-    rw (product, entries_split es 0 (n * q) q, zero-add (n * q), each n (omega arith), sectors_of d es at n q (λ k lt. each k (omega arith))) refl
+    rw (
+      product,
+      entries_split es 0 (n * q) q,
+      zero-add (n * q),
+      each n (omega arith),
+      sectors_of d es at n q (λ k lt. each k (omega arith)),
+    ) refl
 
 enough : (b count : ℕ) → IsSectorSize b → count ≤ counted b count * (b / 128)
 enough b count (inl e) = rw e (omega arith)
@@ -159,12 +177,15 @@ array_back b d es at size fits each =
     let all = sectors_of d es at n (b / 128) each in
     let whole : n * (b / 128) ≡ length es + rest = omega (arith, enough b (length es) size) in
     let cut = entries_split es 0 (length es) rest in
-    rw (all, whole, cut) (take_at (array_bytes es) (entries_bytes es (0 + length es) rest) (length es * 128) (length_entries es 0 (length es) (fits_past es fits)))
+    rw (all, whole, cut) (take_at (array_bytes es) (entries_bytes es (0 + length es) rest) (length es * 128)
+    (length_entries es 0 (length es) (fits_past es fits)))
 
 -- a header, and an array that is written as a table's entries, are that table's copy
-pub written_is_copy_lem : (b : ℕ) (d : Sectors) (side : Side) (h : Header) (t : Table) → IsSectorSize b → AllFit t.entries → AllTyped t.entries → IsWritten b d side h t → CopyWith b d side h t
+pub written_is_copy_lem : (b : ℕ) (d : Sectors) (side : Side) (h : Header) (t : Table) → IsSectorSize b → AllFit t.entries
+    → AllTyped t.entries → IsWritten b d side h t → CopyWith b d side h t
 written_is_copy_lem b d side h t size fits typed is =
-    let bytes : array_of b d h ≡ array_bytes t.entries = rw (← is.count) (array_back b d t.entries h.array size fits (rw (← is.count) at is.array)) in
+    let bytes : array_of b d h ≡ array_bytes t.entries =
+    rw (← is.count) (array_back b d t.entries h.array size fits (rw (← is.count) at is.array)) in
     record {
       is_head = is.is_head;
       crc = is.crc ∙ ap crc_of (sym bytes);

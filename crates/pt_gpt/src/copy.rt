@@ -79,7 +79,6 @@ pub fn read_table<const B: usize, D: Disk<B>>(
     ensures err { D.tells → IfErr result (λ e. TellsFault B (D.told disk.old).seen side e) }
     ensures place { D.tells → IfErr result (FailedIn (SideReads B (D.told disk.old).seen side)) }
 {
-    let _sectors = disk.sectors();
     let (crc, entries) = read_entries(alloc, disk, header.array, header.count)?;
     if crc != header.array_crc {
         return Err(CopyError::ArrayCrc);

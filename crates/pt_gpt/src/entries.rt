@@ -1,6 +1,7 @@
 //! Reading the entries of an array, sector by sector.
 
-ghost use Rattle.std.specs.Prelude.{◌≡◌, ◌+◌, ◌*◌, ◌/◌, ◌<◌, ◌≤◌, ◌^◌, ◌++◌, IfOk, IfErr, OnOk, List, Option, length, take, vec_len, vec_capacity};
+ghost use Rattle.std.specs.Prelude.{◌≡◌, ◌+◌, ◌*◌, ◌/◌, ◌<◌, ◌≤◌, ◌^◌, ◌++◌, IfOk, IfErr, OnOk, List, Option, length, take, vec_len};
+ghost use Rattle.std.specs.Prelude.{vec_capacity};
 ghost use Rattle.pt_sum.specs.Crc.{crc_of};
 ghost use Rattle.pt_sector.specs.Sectors.{IsSectorSize};
 ghost use Rattle.pt_sector.specs.Calls.{Blames};
@@ -49,7 +50,8 @@ pub(crate) fn read_entries<const B: usize, D: Disk<B>>(
     ensures place { IfErr result (FailedIn (λ s. (at ≤ s) × (s < at + counted B count))) }
     ensures number { IfOk result (λ r. length r.1 ≡ count) }
     ensures crc { D.tells → IfOk result (λ r. r.0 ≡ crc_of (take (count * 128) (bytes_from (D.told disk.old).seen at (counted B count)))) }
-    ensures entries { D.tells → IfOk result (λ r. AreEntries r.1 (take (count * 128) (bytes_from (D.told disk.old).seen at (counted B count)))) }
+    ensures entries { D.tells → IfOk result (λ r. AreEntries r.1
+        (take (count * 128) (bytes_from (D.told disk.old).seen at (counted B count)))) }
 {
     let mut items = Vec::with_capacity(alloc, count as usize)?;
     let mut sum = Crc::new();

@@ -13,17 +13,17 @@ use pt_guid::Guid;
 /// A used entry (UEFI 2.10, 5.3.3). One whose type GUID is zero reads back as none.
 #[derive(Clone, Copy, Debug, PartialEq, Eq)]
 pub struct Entry {
-    /// The partition's type.
+    /// PartitionTypeGUID.
     pub kind: Guid,
-    /// The partition's own GUID.
+    /// UniquePartitionGUID: the partition's own.
     pub unique: Guid,
-    /// Its first sector.
+    /// StartingLBA: its first sector.
     pub first: u64,
-    /// Its last sector, inclusive.
+    /// EndingLBA: its last sector, inclusive.
     pub last: u64,
-    /// All 64 bits: 0 required, 1 no block IO protocol, 2 legacy BIOS bootable, 48 to 63 the type's own.
+    /// Attributes, all 64 bits: 0 required, 1 no block IO protocol, 2 legacy BIOS bootable, 48 to 63 the type's own.
     pub attributes: u64,
-    /// Its name in UTF-16, ended by a zero or by the last unit.
+    /// PartitionName: its name in UTF-16, ended by a zero or by the last unit.
     pub name: [u16; 36],
 }
 

@@ -6,6 +6,8 @@ ghost use Rattle.pt_gpt.specs.declared.error.CopyError.TheVariants.{Device, Memo
 
 use pt_sector::{FailedRead, Failure, Lba};
 use std::alloc::AllocError;
+use std::error::Error;
+use std::fmt;
 
 /// Why a copy of the table can't be read: of the first nine the first that holds, in this order.
 ///
@@ -36,6 +38,30 @@ pub enum CopyError {
     /// There was no memory for the entries.
     Memory,
 }
+
+impl fmt::Display for CopyError {
+    fn fmt<W: fmt::Write>(&self, f: &mut fmt::Formatter<W>) -> fmt::Result {
+        match self {
+            CopyError::Signature => f.write_str("the signature isn't EFI PART"),
+            CopyError::Revision => f.write_str("the revision isn't 1.0"),
+            CopyError::HeaderSize => {
+                f.write_str("the header's size isn't from 92 to that of a sector")
+            }
+            CopyError::HeaderCrc => f.write_str("the header's CRC is wrong"),
+            CopyError::MyLba => f.write_str("the header names another sector as its own"),
+            CopyError::ArrayPlace => f.write_str("the array isn't beside the header"),
+            CopyError::EntryShape => f.write_str("there aren't 1 to 128 entries of 128 bytes"),
+            CopyError::UsableRange => {
+                f.write_str("the usable sectors aren't in order and clear of both copies")
+            }
+            CopyError::ArrayCrc => f.write_str("the array's CRC is wrong"),
+            CopyError::Device(at) => write!(f, "sector {} can't be read", at.0),
+            CopyError::Memory => f.write_str("out of memory"),
+        }
+    }
+}
+
+impl Error for CopyError {}
 
 impl From<FailedRead> for CopyError {
     ghost from_gives = { λ failed e. e ≡ Device failed.0 };

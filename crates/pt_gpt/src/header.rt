@@ -29,19 +29,19 @@ pub struct Header {
     pub my: u64,
     /// AlternateLBA: where the other one stands.
     pub alternate: u64,
-    /// FirstUsableLBA.
+    /// FirstUsableLBA: the first sector that an entry may use.
     pub first: u64,
-    /// LastUsableLBA.
+    /// LastUsableLBA: the last one.
     pub last: u64,
-    /// The disk's GUID.
+    /// DiskGUID.
     pub disk: Guid,
     /// PartitionEntryLBA: the first sector of the array.
     pub array: u64,
-    /// How many entries the array has.
+    /// NumberOfPartitionEntries: how many entries the array has.
     pub count: u32,
-    /// How many bytes each of them has.
+    /// SizeOfPartitionEntry: how many bytes each of them has.
     pub entry_size: u32,
-    /// The CRC-32 of the array.
+    /// PartitionEntryArrayCRC32: the CRC-32 of the array.
     pub array_crc: u32,
 }
 

@@ -7,7 +7,8 @@ ghost use Rattle.pt_sector.specs.Sectors.{Sectors, Agrees, IsSectorSize};
 ghost use Rattle.pt_gpt.specs.Header.{HeaderBytes, IsHeaderFault};
 ghost use Rattle.pt_gpt.specs.Entry.{EntryBytes, IsTyped};
 ghost use Rattle.pt_gpt.specs.Array.{AreEntries, AllFit, AllTyped, array_bytes};
-ghost use Rattle.pt_gpt.specs.Copy.{header_place, IsHead, IsHeadFault, Copy, HasCopy, IsCopyFault, InArray, SideReads, SameSide, CopyWith, IsWritten};
+ghost use Rattle.pt_gpt.specs.Copy.{header_place, IsHead, IsHeadFault, Copy, HasCopy, IsCopyFault, InArray, SideReads, SameSide, CopyWith};
+ghost use Rattle.pt_gpt.specs.Copy.{IsWritten};
 ghost use Rattle.pt_gpt.specs.declared.header.Header.{Header};
 ghost use Rattle.pt_gpt.specs.declared.entry.Entry.{Entry};
 ghost use Rattle.pt_gpt.specs.declared.error.CopyError.{CopyError};
@@ -73,8 +74,10 @@ pub fn side_reads_decide()
 
 /// Which sectors decide a side: where its header stands, that one and the counted ones of its array; else that one.
 pub fn side_reads_are()
-    ensures head { (b : ℕ) (d : Sectors) (side : Side) (h : Header) → IsHead b d side h → (s : ℕ) → SideReads b d side s ↔ ((s ≡ header_place side (length d)) ⊎ InArray b h s) }
-    ensures fault { (b : ℕ) (d : Sectors) (side : Side) (e : CopyError) → IsHeadFault b d side e → (s : ℕ) → SideReads b d side s ↔ (s ≡ header_place side (length d)) }
+    ensures head { (b : ℕ) (d : Sectors) (side : Side) (h : Header) → IsHead b d side h → (s : ℕ)
+        → SideReads b d side s ↔ ((s ≡ header_place side (length d)) ⊎ InArray b h s) }
+    ensures fault { (b : ℕ) (d : Sectors) (side : Side) (e : CopyError) → IsHeadFault b d side e → (s : ℕ)
+        → SideReads b d side s ↔ (s ≡ header_place side (length d)) }
 {}
 
 /// A copy has from 1 to 128 entries, and each that is used has a type.
@@ -90,5 +93,6 @@ pub fn entries_read_back()
 
 /// A header, and an array that is written as a table's entries, are that table's copy.
 pub fn written_is_copy()
-    ensures { (b : ℕ) (d : Sectors) (side : Side) (h : Header) (t : Table) → IsSectorSize b → AllFit t.entries → AllTyped t.entries → IsWritten b d side h t → CopyWith b d side h t }
+    ensures { (b : ℕ) (d : Sectors) (side : Side) (h : Header) (t : Table) → IsSectorSize b → AllFit t.entries → AllTyped t.entries
+        → IsWritten b d side h t → CopyWith b d side h t }
 {}

@@ -25,6 +25,8 @@ pub use laws::{
     header_is_one, header_reads_back, no_copy, no_header, side_reads_are, side_reads_decide,
     written_is_copy,
 };
-pub use place::{array_at, array_sectors, counted_sectors, header_at};
+pub use place::{
+    MOST_ENTRIES, array_at, array_sectors, counted_sectors, first_usable, has_room, header_at,
+};
 pub use table::{Entries, Side, Table};
-pub use view::EntryView;
+pub use view::{ENTRY_SIZE, EntryView};

@@ -1,8 +1,8 @@
 //! Where the parts of a copy stand.
 
-ghost use Rattle.std.specs.Prelude.{◌≡◌, ◌+◌, ◌*◌, ◌≤◌, OnOk, IfErr};
+ghost use Rattle.std.specs.Prelude.{◌≡◌, ◌+◌, ◌*◌, ◌≤◌, ◌↔◌, IsTrue, OnOk, IfErr};
 ghost use Rattle.pt_sector.specs.Sectors.{IsSectorSize};
-ghost use Rattle.pt_gpt.specs.Array.{array_len, counted};
+ghost use Rattle.pt_gpt.specs.Array.{array_len, HasRoom, edge, counted};
 ghost use Rattle.pt_gpt.specs.Copy.{header_place, array_place, IsPlaced, IsPlaceFault};
 
 use crate::error::CopyError;
@@ -11,10 +11,10 @@ use crate::table::Side;
 use crate::view::ENTRY_SIZE;
 
 /// The most entries that a table has, and the number that this project makes.
-pub(crate) const MOST_ENTRIES: u32 = 128;
+pub const MOST_ENTRIES: usize = 128;
 
 /// How many bytes an array of that many entries takes.
-const ARRAY_SIZE: u64 = 16384;
+const ARRAY_SIZE: usize = MOST_ENTRIES * ENTRY_SIZE;
 
 /// How many sectors an array of 128 entries takes: 32 of 512 bytes, or 4 of 4096.
 pub fn array_sectors<const B: usize>() -> u64
@@ -22,7 +22,25 @@ pub fn array_sectors<const B: usize>() -> u64
     ensures value { result ≡ array_len B }
     ensures few { result ≤ 32 }
 {
-    ARRAY_SIZE / B as u64
+    (ARRAY_SIZE / B) as u64
+}
+
+/// Whether so many sectors have room for a GPT: for sector 0, both headers, both arrays and one usable sector.
+pub fn has_room<const B: usize>(sectors: u64) -> bool
+    requires { IsSectorSize B }
+    ensures { IsTrue result ↔ HasRoom B sectors }
+{
+    sectors >= 2 * array_sectors::<B>() + 4
+}
+
+/// The first usable sector of a new GPT, behind the primary header and a whole array. Its last usable sector is as far from
+/// the disk's end.
+pub fn first_usable<const B: usize>() -> u64
+    requires { IsSectorSize B }
+    ensures value { result ≡ edge B }
+    ensures few { result ≤ 34 }
+{
+    array_sectors::<B>() + 2
 }
 
 /// How many sectors an array of `count` entries takes.
@@ -77,10 +95,13 @@ pub(crate) fn check_place<const B: usize>(
     if header.array != array_at::<B>(side, sectors) {
         return Err(CopyError::ArrayPlace);
     }
-    if header.count < 1 || header.count > MOST_ENTRIES || header.entry_size != ENTRY_SIZE as u32 {
+    if header.count < 1
+        || header.count > MOST_ENTRIES as u32
+        || header.entry_size != ENTRY_SIZE as u32
+    {
         return Err(CopyError::EntryShape);
     }
-    let edge = array_sectors::<B>() + 2;
+    let edge = first_usable::<B>();
     if header.first < edge || header.first > header.last || header.last > sectors - edge {
         return Err(CopyError::UsableRange);
     }

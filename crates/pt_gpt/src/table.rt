@@ -101,11 +101,11 @@ impl Entries {
 /// A GUID partition table, without the places of its copies.
 #[derive(Drop)]
 pub struct Table {
-    /// The disk's GUID.
+    /// DiskGUID.
     pub disk: Guid,
-    /// The first usable sector.
+    /// FirstUsableLBA: the first sector that an entry may use.
     pub first: u64,
-    /// The last usable sector.
+    /// LastUsableLBA: the last one.
     pub last: u64,
     /// The entries, numbered from 1 in what is printed.
     pub entries: Entries,

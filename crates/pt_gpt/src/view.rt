@@ -11,7 +11,7 @@ use pt_guid::Guid;
 use std::marker::Model;
 
 /// The size of an entry in bytes.
-pub(crate) const ENTRY_SIZE: usize = 128;
+pub const ENTRY_SIZE: usize = 128;
 
 fn name_at(bytes: &[u8]) -> [u16; 36]
     requires { length bytes.now ≡ 128 }
@@ -61,42 +61,42 @@ impl<'a> EntryView<'a> {
         &self.bytes[..16] != [0; 16].as_slice()
     }
 
-    /// The partition's type.
+    /// PartitionTypeGUID.
     pub fn kind(&self) -> Guid
         ensures { result.0 ≡ slice_range self.now 0 16 }
     {
         guid_at(self.bytes, 0)
     }
 
-    /// The partition's own GUID.
+    /// UniquePartitionGUID: the partition's own.
     pub fn unique(&self) -> Guid
         ensures { result.0 ≡ slice_range self.now 16 32 }
     {
         guid_at(self.bytes, 16)
     }
 
-    /// Its first sector.
+    /// StartingLBA: its first sector.
     pub fn first(&self) -> u64
         ensures { result ≡ number_at 32 8 self.now }
     {
         LittleEndian::read_u64(&self.bytes[32..40])
     }
 
-    /// Its last sector, inclusive.
+    /// EndingLBA: its last sector, inclusive.
     pub fn last(&self) -> u64
         ensures { result ≡ number_at 40 8 self.now }
     {
         LittleEndian::read_u64(&self.bytes[40..48])
     }
 
-    /// Its attributes.
+    /// Attributes, all 64 bits.
     pub fn attributes(&self) -> u64
         ensures { result ≡ number_at 48 8 self.now }
     {
         LittleEndian::read_u64(&self.bytes[48..56])
     }
 
-    /// The 36 units of its name.
+    /// PartitionName: its 36 units of UTF-16.
     pub fn name(&self) -> [u16; 36]
         ensures { UnitsAt self.now result }
     {

@@ -1,5 +1,5 @@
 -- What the rearrangement, the texts and the codes keep.
-use Rattle.std.specs.Prelude.{◌≡◌, ◌<◌, ℕ, List, [], ◌∷◌, length, map, slice_index, All, Option, Some}
+use Rattle.std.specs.Prelude.{◌≡◌, ◌≢◌, ◌<◌, ℕ, List, [], ◌∷◌, length, map, replicate, slice_index, All, Option, Some}
 use Rattle.std.proofs.Common.{refl, sym, ap, ◌∙◌, arith, inl, inr, lit<}
 use Rattle.std.proofs.Math.ListN.{get_or-eq_default}
 use Rattle.std.proofs.lemmas.Bool.{cases_lt}
@@ -7,9 +7,9 @@ use Rattle.std.specs.Option.{option_map, unwrap_or}
 use Rattle.std.proofs.lemmas.List.Elements.{All-cons, All-nil}
 use Rattle.uuid.specs.Text.{lower}
 use Rattle.uuid.proofs.RoundTrips.{parses_hyphenated_text}
-use Rattle.std.proofs.lemmas.Bool.Decides.{nat_tests}
-use Rattle.pt_guid.specs.Codes.{type_of}
+use Rattle.pt_guid.specs.Codes.{rows, type_of}
 use Rattle.pt_guid.specs.Mixed.{mixed, stored_of, text_of}
+use Rattle.pt_guid.specs.Rows.{one_code, no_zero, rows_apart}
 
 -- sixteen bytes that are rearranged twice are as before
 pub mixed_twice : (bytes : List ℕ) → length bytes ≡ 16 → mixed (mixed bytes) ≡ bytes
@@ -47,4 +47,8 @@ text_reads_back stored len all =
 
 -- no two codes stand for one type
 pub codes_differ : (a b : ℕ) (stored : List ℕ) → type_of a ≡ Some stored → type_of b ≡ Some stored → a ≡ b
-codes_differ a b stored is_a is_b = grind (arith, nat_tests)
+codes_differ = one_code rows rows_apart
+
+-- no code stands for the type zero
+pub types_are_used : (code : ℕ) → type_of code ≢ Some (replicate 16 0)
+types_are_used = no_zero rows rows_apart

@@ -5,6 +5,8 @@ ghost use Rattle.uuid.specs.Text.{hyphenated_text, lower};
 ghost use Rattle.pt_guid.specs.Mixed.{mixed, stored_of, text_of};
 ghost use Rattle.pt_guid.specs.Fresh.{fresh_of};
 
+use std::error::Error;
+use std::fmt;
 use uuid::Uuid;
 use uuid::fmt::Hyphenated;
 
@@ -19,6 +21,16 @@ pub enum GuidError {
     /// The text isn't 32 hexadecimal digits in groups of 8, 4, 4, 4 and 12 with hyphens between.
     NotAGuid,
 }
+
+impl fmt::Display for GuidError {
+    fn fmt<W: fmt::Write>(&self, f: &mut fmt::Formatter<W>) -> fmt::Result {
+        match self {
+            GuidError::NotAGuid => f.write_str("not a GUID"),
+        }
+    }
+}
+
+impl Error for GuidError {}
 
 /// The GUID of a text such as `c12a7328-f81f-11d2-ba4b-00a0c93ec93b`. Digits may be of either case; there are no braces, and no hyphen
 /// is left out.

@@ -1,5 +1,6 @@
 -- The slices of a chain's logical partitions, when one of these goes or comes.
-use Rattle.std.specs.Prelude.{◌≡◌, ◌<◌, ◌≤◌, ◌+◌, ◌-◌, ◌++◌, ◌∷◌, [], ℕ, zero, suc, Bool, true, false, List, map, length, slice_index_or, slice_set, Option, Some, None, is_some, if◌then◌else◌, nat_eq, nat_lt}
+use Rattle.std.specs.Prelude.{◌≡◌, ◌<◌, ◌≤◌, ◌+◌, ◌-◌, ◌++◌, ◌∷◌, [], ℕ, zero, suc, Bool, true, false, List, map, length, slice_index_or}
+use Rattle.std.specs.Prelude.{slice_set, Option, Some, None, is_some, if◌then◌else◌, nat_eq, nat_lt}
 use Rattle.std.proofs.Common.{refl, sym, ap, ◌∙◌, arith}
 use Rattle.std.proofs.lemmas.Bool.{lt-ltb, le-ltb}
 use Rattle.std.proofs.lemmas.List.{map-append}
@@ -10,18 +11,21 @@ use Rattle.pt_recover.specs.Labels.{slice_from, record_slice, primary_slice, pri
 use Rattle.pt_recover.specs.declared.layout.Slice.{Slice}
 use Rattle.pt_kept.proofs.Lists.{slices_by, filter_in, filter_out}
 use Rattle.pt_kept.proofs.Entries.{is_not, is_not_true, is_not_false}
-use Rattle.pt_kept.proofs.Order.{IsAscending, logicals_ascend}
+use Rattle.pt_shape.specs.Ascending.{IsAscending}
+use Rattle.pt_kept.proofs.Order.{logicals_ascend}
 
 -- all numbers pass a test, or none does
 pub ascending_kept : (f : ℕ → Bool) (n : ℕ) (ss : List Slice) → ((m : ℕ) → n ≤ m → f m ≡ true) → IsAscending n ss → slices_by f ss ≡ ss
 ascending_kept f n [] all up = refl
 ascending_kept f n (s ∷ ss) all up =
-    filter_in (λ (x : Slice). f x.number) s ss (all s.number up.0) ∙ ap (λ (l : List Slice). s ∷ l) (ascending_kept f (s.number + 1) ss (λ m le. all m (omega (arith, le, up.0))) up.1)
+    filter_in (λ (x : Slice). f x.number) s ss (all s.number up.0)
+    ∙ ap (λ (l : List Slice). s ∷ l) (ascending_kept f (s.number + 1) ss (λ m le. all m (omega (arith, le, up.0))) up.1)
 
 pub ascending_gone : (f : ℕ → Bool) (n : ℕ) (ss : List Slice) → ((m : ℕ) → n ≤ m → f m ≡ false) → IsAscending n ss → slices_by f ss ≡ []
 ascending_gone f n [] all up = refl
 ascending_gone f n (s ∷ ss) all up =
-    filter_out (λ (x : Slice). f x.number) s ss (all s.number up.0) ∙ ascending_gone f (s.number + 1) ss (λ m le. all m (omega (arith, le, up.0))) up.1
+    filter_out (λ (x : Slice). f x.number) s ss (all s.number up.0)
+    ∙ ascending_gone f (s.number + 1) ss (λ m le. all m (omega (arith, le, up.0))) up.1
 
 -- all numbers are below a bound
 abbrev pub AreBelow : ℕ → List Slice → Type 0
@@ -50,7 +54,9 @@ pub primaries_below : (n top : ℕ) (rs : List (Option Record)) → n + length r
 unfolding primary_slices
 primaries_below n top [] le = tt
 primaries_below n top (r ∷ rs) le =
-    below_append top (primary_slice n r) (primary_slices (n + 1) rs) (below_more (n + 1) top (primary_slice n r) (omega (arith, le)) (below_primary n r)) (primaries_below (n + 1) top rs (omega (arith, le)))
+    below_append top (primary_slice n r) (primary_slices (n + 1) rs)
+    (below_more (n + 1) top (primary_slice n r) (omega (arith, le)) (below_primary n r))
+    (primaries_below (n + 1) top rs (omega (arith, le)))
 
 pub below_logical : (n : ℕ) (e : Ebr) (o : Option Record) → e.logical ≡ o → AreBelow (n + 1) (logical_slice n e)
 unfolding logical_slice
@@ -71,7 +77,8 @@ unfolding logical_slices
 logicals_below n top [] le = tt
 logicals_below n top (e ∷ es) le =
     let next = next_most n e e.logical refl in
-    below_append top (logical_slice n e) (logical_slices (next_number n e) es) (below_more (n + 1) top (logical_slice n e) (omega (arith, le)) (below_logical n e e.logical refl))
+    below_append top (logical_slice n e) (logical_slices (next_number n e) es)
+    (below_more (n + 1) top (logical_slice n e) (omega (arith, le)) (below_logical n e e.logical refl))
     (logicals_below (next_number n e) top es (omega (arith, le, next.1)))
 
 -- a slice under another number
@@ -81,11 +88,13 @@ renumbered h s = record { number = h s.number; first = s.first; len = s.len }
 pub map_below : (h : ℕ → ℕ) (top : ℕ) (ss : List Slice) → ((m : ℕ) → m < top → h m ≡ m) → AreBelow top ss → map (renumbered h) ss ≡ ss
 map_below h top [] same are = refl
 map_below h top (s ∷ ss) same are =
-    ap (λ (n : ℕ). record { number = n; first = s.first; len = s.len } ∷ map (renumbered h) ss) (same s.number are.0) ∙ ap (λ (l : List Slice). s ∷ l) (map_below h top ss same are.1)
+    ap (λ (n : ℕ). record { number = n; first = s.first; len = s.len } ∷ map (renumbered h) ss) (same s.number are.0)
+    ∙ ap (λ (l : List Slice). s ∷ l) (map_below h top ss same are.1)
 
 kept_below : (f : ℕ → Bool) (top : ℕ) (ss : List Slice) → ((m : ℕ) → m < top → f m ≡ true) → AreBelow top ss → slices_by f ss ≡ ss
 kept_below f top [] all are = refl
-kept_below f top (s ∷ ss) all are = filter_in (λ (x : Slice). f x.number) s ss (all s.number are.0) ∙ ap (λ (l : List Slice). s ∷ l) (kept_below f top ss all are.1)
+kept_below f top (s ∷ ss) all are =
+    filter_in (λ (x : Slice). f x.number) s ss (all s.number are.0) ∙ ap (λ (l : List Slice). s ∷ l) (kept_below f top ss all are.1)
 
 pub by_below : (f : ℕ → Bool) (top : ℕ) (ss : List Slice) → ((m : ℕ) → m < top → f m ≡ true) → AreBelow top ss → slices_by f ss ≡ ss
 by_below = kept_below
@@ -112,12 +121,14 @@ number_least n (suc k) (e ∷ es) =
     omega (arith, next.0, more)
 
 -- a record's slice under another number
-slice_moved : (h : ℕ → ℕ) (n m at : ℕ) (r : Record) (c : Bool) → nat_eq r.kind 0xA5 ≡ c → h n ≡ m → map (renumbered h) (record_slice n at r) ≡ record_slice m at r
+slice_moved : (h : ℕ → ℕ) (n m at : ℕ) (r : Record) (c : Bool) → nat_eq r.kind 0xA5 ≡ c → h n ≡ m
+    → map (renumbered h) (record_slice n at r) ≡ record_slice m at r
 unfolding record_slice
 slice_moved h n m at r true is to = rw is (ap (λ (k : ℕ). slice_from k (at + r.start) (at + r.start + r.size - 1) ∷ []) to)
 slice_moved h n m at r false is to = rw is refl
 
-logical_moved : (h : ℕ → ℕ) (n m : ℕ) (e : Ebr) (o : Option Record) → e.logical ≡ o → h n ≡ m → map (renumbered h) (logical_slice n e) ≡ logical_slice m e
+logical_moved : (h : ℕ → ℕ) (n m : ℕ) (e : Ebr) (o : Option Record) → e.logical ≡ o → h n ≡ m
+    → map (renumbered h) (logical_slice n e) ≡ logical_slice m e
 unfolding logical_slice
 logical_moved h n m e None is to = rw is refl
 logical_moved h n m e (Some r) is to = rw is (slice_moved h n m e.at.0 r (nat_eq r.kind 0xA5) refl to)
@@ -138,30 +149,41 @@ moves_next h n m top to i lt =
     let back : m + (1 + i) ≡ (m + 1) + i = omega arith in
     ap h at ∙ (to (1 + i) (omega (arith, lt)) ∙ back)
 
-moved_behind : (h : ℕ → ℕ) (n m top : ℕ) (e : Ebr) (es : List Ebr) → ((i j : ℕ) → Moves h i j top → i + length es ≤ top → map (renumbered h) (logical_slices i es) ≡ logical_slices j es)
-    → Moves h n m top → n + length (e ∷ es) ≤ top → (o : Option Record) → e.logical ≡ o → map (renumbered h) (logical_slices (next_number n e) es) ≡ logical_slices (next_number m e) es
+moved_behind : (h : ℕ → ℕ) (n m top : ℕ) (e : Ebr) (es : List Ebr)
+    → ((i j : ℕ) → Moves h i j top → i + length es ≤ top → map (renumbered h) (logical_slices i es) ≡ logical_slices j es)
+    → Moves h n m top → n + length (e ∷ es) ≤ top → (o : Option Record) → e.logical ≡ o
+    → map (renumbered h) (logical_slices (next_number n e) es) ≡ logical_slices (next_number m e) es
 moved_behind h n m top e es more to le None is =
-    ap (λ (k : ℕ). map (renumbered h) (logical_slices k es)) (next_of n e None is) ∙ (more n m to (omega (arith, le)) ∙ ap (λ (k : ℕ). logical_slices k es) (sym (next_of m e None is)))
+    ap (λ (k : ℕ). map (renumbered h) (logical_slices k es)) (next_of n e None is)
+    ∙ (more n m to (omega (arith, le)) ∙ ap (λ (k : ℕ). logical_slices k es) (sym (next_of m e None is)))
 moved_behind h n m top e es more to le (Some r) is =
     ap (λ (k : ℕ). map (renumbered h) (logical_slices k es)) (next_of n e (Some r) is)
-    ∙ (more (n + 1) (m + 1) (moves_next h n m top to) (omega (arith, le)) ∙ ap (λ (k : ℕ). logical_slices k es) (sym (next_of m e (Some r) is)))
+    ∙ (more (n + 1) (m + 1) (moves_next h n m top to) (omega (arith, le))
+    ∙ ap (λ (k : ℕ). logical_slices k es) (sym (next_of m e (Some r) is)))
 
 -- all the numbers of a chain move together
-pub chain_moved : (h : ℕ → ℕ) (n m top : ℕ) (es : List Ebr) → Moves h n m top → n + length es ≤ top → map (renumbered h) (logical_slices n es) ≡ logical_slices m es
+pub chain_moved : (h : ℕ → ℕ) (n m top : ℕ) (es : List Ebr) → Moves h n m top → n + length es ≤ top
+    → map (renumbered h) (logical_slices n es) ≡ logical_slices m es
 unfolding logical_slices
 chain_moved h n m top [] to le = refl
 chain_moved h n m top (e ∷ es) to le =
     map-append (renumbered h) (logical_slice n e) (logical_slices (next_number n e) es)
-    ∙ (ap (λ (l : List Slice). l ++ map (renumbered h) (logical_slices (next_number n e) es)) (logical_moved h n m e e.logical refl (moves_here h n m top to (omega (arith, le))))
+    ∙ (ap (λ (l : List Slice). l ++ map (renumbered h) (logical_slices (next_number n e) es))
+    (logical_moved h n m e e.logical refl (moves_here h n m top to (omega (arith, le))))
     ∙ ap (λ (l : List Slice). logical_slice m e ++ l) (moved_behind h n m top e es (λ i j. chain_moved h i j top es) to le e.logical refl))
 
 -- a chain with another extended boot record at a place, whose logical partition is no other slice
-pub chain_same : (n k : ℕ) (x : Ebr) (chain : List Ebr) → k < length chain → ((m : ℕ) (d : Ebr) → logical_slice m x ≡ logical_slice m (slice_index_or chain k d)) → ((m : ℕ) (d : Ebr) → next_number m x ≡ next_number m (slice_index_or chain k d))
+pub chain_same : (n k : ℕ) (x : Ebr) (chain : List Ebr) → k < length chain
+    → ((m : ℕ) (d : Ebr) → logical_slice m x ≡ logical_slice m (slice_index_or chain k d))
+    → ((m : ℕ) (d : Ebr) → next_number m x ≡ next_number m (slice_index_or chain k d))
     → logical_slices n (slice_set chain k x) ≡ logical_slices n chain
 unfolding logical_slices
 chain_same n k x [] lt same next = absurd (omega (arith, lt))
-chain_same n zero x (e ∷ es) lt same next = ap (λ (l : List Slice). l ++ logical_slices (next_number n x) es) (same n e) ∙ ap (λ (m : ℕ). logical_slice n e ++ logical_slices m es) (next n e)
-chain_same n (suc k) x (e ∷ es) lt same next = ap (λ (l : List Slice). logical_slice n e ++ l) (chain_same (next_number n e) k x es (omega (arith, lt)) same next)
+chain_same n zero x (e ∷ es) lt same next =
+    ap (λ (l : List Slice). l ++ logical_slices (next_number n x) es) (same n e)
+    ∙ ap (λ (m : ℕ). logical_slice n e ++ logical_slices m es) (next n e)
+chain_same n (suc k) x (e ∷ es) lt same next =
+    ap (λ (l : List Slice). logical_slice n e ++ l) (chain_same (next_number n e) k x es (omega (arith, lt)) same next)
 
 -- a number after the logical partition of number k went
 abbrev pub lower : ℕ → ℕ → ℕ
@@ -179,7 +201,8 @@ slices_lowered k ss = map (renumbered (lower k)) (slices_by (is_not k) ss)
 
 pub lowered_append : (k : ℕ) (ss ts : List Slice) → slices_lowered k (ss ++ ts) ≡ slices_lowered k ss ++ slices_lowered k ts
 lowered_append k ss ts =
-    ap (map (renumbered (lower k))) (filter-append (λ (s : Slice). is_not k s.number) ss ts) ∙ map-append (renumbered (lower k)) (slices_by (is_not k) ss) (slices_by (is_not k) ts)
+    ap (map (renumbered (lower k))) (filter-append (λ (s : Slice). is_not k s.number) ss ts)
+    ∙ map-append (renumbered (lower k)) (slices_by (is_not k) ss) (slices_by (is_not k) ts)
 
 -- slices of lower numbers stay
 pub lowered_low : (k top : ℕ) (ss : List Slice) → top ≤ k → AreBelow top ss → slices_lowered k ss ≡ ss
@@ -190,14 +213,17 @@ lowered_low k top ss le are =
 -- those behind it move down
 lowered_high : (k : ℕ) (es : List Ebr) → slices_lowered k (logical_slices (k + 1) es) ≡ logical_slices k es
 lowered_high k es =
-    ap (map (renumbered (lower k))) (ascending_kept (is_not k) (k + 1) (logical_slices (k + 1) es) (λ m le. is_not_true k m (omega (arith, le))) (logicals_ascend (k + 1) es))
+    ap (map (renumbered (lower k))) (ascending_kept (is_not k) (k + 1) (logical_slices (k + 1) es)
+    (λ m le. is_not_true k m (omega (arith, le))) (logicals_ascend (k + 1) es))
     ∙ chain_moved (lower k) (k + 1) k ((k + 1) + length es) es (λ i lt. moved i) (omega arith) where
       moved : (i : ℕ) → lower k ((k + 1) + i) ≡ k + i
       moved i = let at = lower_above k ((k + 1) + i) (omega arith) in omega (arith, at)
 
 lowered_here : (k at : ℕ) (r : Record) (c : Bool) → nat_eq r.kind 0xA5 ≡ c → slices_lowered k (record_slice k at r) ≡ []
 unfolding record_slice
-lowered_here k at r true is = rw is (ap (map (renumbered (lower k))) (filter_out (λ (s : Slice). is_not k s.number) (slice_from k (at + r.start) (at + r.start + r.size - 1)) [] (is_not_false k k refl)))
+lowered_here k at r true is =
+    rw is (ap (map (renumbered (lower k))) (filter_out (λ (s : Slice). is_not k s.number)
+    (slice_from k (at + r.start) (at + r.start + r.size - 1)) [] (is_not_false k k refl)))
 lowered_here k at r false is = rw is refl
 
 logical_gone : (k : ℕ) (e : Ebr) (r : Record) → e.logical ≡ Some r → slices_lowered k (logical_slice k e) ≡ []
@@ -209,7 +235,8 @@ unfolding logical_slice
 emptied n x none = rw none refl
 
 -- without the logical partition at a place its number is free, and each above is one lower
-pub chain_lowered : (n k : ℕ) (x : Ebr) (r : Record) (chain : List Ebr) → k < length chain → ((d : Ebr) → (slice_index_or chain k d).logical ≡ Some r) → x.logical ≡ None
+pub chain_lowered : (n k : ℕ) (x : Ebr) (r : Record) (chain : List Ebr) → k < length chain
+    → ((d : Ebr) → (slice_index_or chain k d).logical ≡ Some r) → x.logical ≡ None
     → logical_slices n (slice_set chain k x) ≡ slices_lowered (number_by n k chain) (logical_slices n chain)
 unfolding logical_slices
 chain_lowered n k x r [] lt has none = absurd (omega (arith, lt))
@@ -227,6 +254,8 @@ chain_lowered n (suc k) x r (e ∷ es) lt has none =
     ap (λ (l : List Slice). logical_slice n e ++ l) more
     ∙ sym (lowered_append top (logical_slice n e) (logical_slices (next_number n e) es)
     ∙ ap (λ (l : List Slice). l ++ slices_lowered top (logical_slices (next_number n e) es)) (low_here n top e e.logical refl least)) where
-      low_here : (n top : ℕ) (e : Ebr) (o : Option Record) → e.logical ≡ o → next_number n e ≤ top → slices_lowered top (logical_slice n e) ≡ logical_slice n e
+      low_here : (n top : ℕ) (e : Ebr) (o : Option Record) → e.logical ≡ o → next_number n e ≤ top
+          → slices_lowered top (logical_slice n e) ≡ logical_slice n e
       low_here n top e None is le = ap (slices_lowered top) (emptied n e is) ∙ sym (emptied n e is)
-      low_here n top e (Some r) is le = let next = next_of n e (Some r) is in lowered_low top (n + 1) (logical_slice n e) (omega (arith, next, le)) (below_logical n e (Some r) is)
+      low_here n top e (Some r) is le = let next = next_of n e (Some r) is in
+          lowered_low top (n + 1) (logical_slice n e) (omega (arith, next, le)) (below_logical n e (Some r) is)

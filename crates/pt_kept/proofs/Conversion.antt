@@ -3,7 +3,10 @@ use Rattle.std.specs.Prelude.{◌≡◌, ◌≢◌, ◌<◌, ◌≤◌, ◌⊎�
 use Rattle.std.proofs.Common.{refl, sym, ap, subst, ◌∙◌, inl, inr, arith}
 use Rattle.std.proofs.lemmas.Bool.{cases_lt, true≢false, eqb-true, eqb-false}
 use Rattle.std.proofs.lemmas.Grind.{flat_map-append}
-use Rattle.pt_guid.specs.Codes.{type_of}
+use Rattle.std.proofs.lemmas.Slice.Eq.{bytes_eq-Decides}
+use Rattle.pt_guid.specs.Codes.{freebsd, type_of}
+use Rattle.pt_guid.specs.Laws.{codes_differ}
+use Rattle.pt_guid.specs.Mixed.{mixed}
 use Rattle.pt_guid.specs.declared.guid.Guid.{Guid}
 use Rattle.pt_gpt.specs.Array.{array_len, AllTyped}
 use Rattle.pt_gpt.specs.Entry.{IsTyped}
@@ -179,23 +182,24 @@ record NewType (kind : ℕ) (stored : List ℕ) : Type 0 where
   slice : is_slice_kind stored ≡ nat_eq kind 0xA5
   typed : ¬ (stored ≡ replicate 16 0)
 
-as_type : (kind code : ℕ) (stored other : List ℕ) (c : Bool) → is_slice_kind stored ≡ c → nat_eq kind 0xA5 ≡ c → type_of code ≡ Some stored → Some stored ≡ Some other → NewType kind other
-as_type kind code stored other c slice is known same =
-    let one : stored ≡ other = cc in
-    subst (NewType kind) one (record { slice = slice ∙ sym is; typed = code_typed code stored known })
-
-not_a5 : (kind k : ℕ) → (kind == k) ≡ true → nat_eq k 0xA5 ≡ false → nat_eq kind 0xA5 ≡ false
-not_a5 kind k is other = ap (λ (n : ℕ). nat_eq n 0xA5) (eqb-true kind k is) ∙ other
-
+-- slices are of one type, which no other type becomes
 type_of_kind : (kind : ℕ) (stored : List ℕ) → new_type kind ≡ Some stored → NewType kind stored
-type_of_kind kind stored is = by_kind (kind == 0xEF) (kind == 0x83) (kind == 0x82) (kind == 0x07) (kind == 0xA5) refl refl refl refl refl where
-  by_kind : (p q r s t : Bool) → (kind == 0xEF) ≡ p → (kind == 0x83) ≡ q → (kind == 0x82) ≡ r → (kind == 0x07) ≡ s → (kind == 0xA5) ≡ t → NewType kind stored
-  by_kind true q r s t a b c d e = as_type kind 0xEF00 _ stored false refl (not_a5 kind 0xEF a refl) refl (sym (rw a refl) ∙ is)
-  by_kind false true r s t a b c d e = as_type kind 0x8300 _ stored false refl (not_a5 kind 0x83 b refl) refl (sym (rw (a, b) refl) ∙ is)
-  by_kind false false true s t a b c d e = as_type kind 0x8200 _ stored false refl (not_a5 kind 0x82 c refl) refl (sym (rw (a, b, c) refl) ∙ is)
-  by_kind false false false true t a b c d e = as_type kind 0x0700 _ stored false refl (not_a5 kind 0x07 d refl) refl (sym (rw (a, b, c, d) refl) ∙ is)
-  by_kind false false false false true a b c d e = as_type kind 0xA500 _ stored true refl e refl (sym (rw (a, b, c, d, e) refl) ∙ is)
-  by_kind false false false false false a b c d e = let none : None ≡ Some stored = sym (rw (a, b, c, d, e) refl) ∙ is in absurd cc
+type_of_kind kind stored is = record { slice = by_type (is_slice_kind stored) (nat_eq kind 0xA5) refl refl; typed = code_typed (kind * 256) stored is } where
+  of_slices : type_of 0xA500 ≡ Some (mixed freebsd)
+  of_slices = refl
+
+  by_type : (c d : Bool) → is_slice_kind stored ≡ c → nat_eq kind 0xA5 ≡ d → is_slice_kind stored ≡ nat_eq kind 0xA5
+  by_type true true slice same = slice ∙ sym same
+  by_type false false slice same = slice ∙ sym same
+  by_type true false slice other =
+      let stands : stored ≡ mixed freebsd = (bytes_eq-Decides stored (mixed freebsd)).0 slice in
+      let code : kind * 256 ≡ 0xA500 = codes_differ (kind * 256) 0xA500 stored is (of_slices ∙ ap (λ (l : List ℕ). Some l) (sym stands)) in
+      let one : kind ≡ 0xA5 = omega arith in
+      absurd (eqb-false kind 0xA5 other one)
+  by_type false true slice same =
+      let stands : Some (mixed freebsd) ≡ Some stored = sym (ap new_type (eqb-true kind 0xA5 same)) ∙ is in
+      let one : stored ≡ mixed freebsd = cc in
+      absurd (true≢false (sym ((bytes_eq-Decides stored (mixed freebsd)).1 one) ∙ slice))
 
 -- an entry that a partition becomes
 record BecomesEntry (p : Partition) (x : Option Entry) : Type 0 where

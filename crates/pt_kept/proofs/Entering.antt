@@ -7,7 +7,7 @@ use Rattle.pt_sector.specs.declared.address.Lba.{Lba}
 use Rattle.pt_mbr.specs.Chain.{IsUpward, lba}
 use Rattle.pt_mbr.specs.declared.record.Record.{Record}
 use Rattle.pt_mbr.specs.declared.ebr.Ebr.{Ebr}
-use Rattle.pt_recover.specs.Mbr.{is_extended, extended_of, extent_of}
+use Rattle.pt_mbr.specs.Extended.{is_extended, extended_of, extent_of}
 use Rattle.pt_space.specs.Area.{IsIn}
 use Rattle.pt_logicals.specs.Chains.{ebr_at}
 use Rattle.pt_logicals.specs.Entered.{IsEmptyIn}

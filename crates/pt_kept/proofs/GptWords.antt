@@ -1,10 +1,10 @@
 -- What the words of a GPT keep.
-use Rattle.std.specs.Prelude.{◌≡◌, ◌≢◌, ◌<◌, ◌≤◌, ◌+◌, ◌-◌, ◌*◌, ◌^◌, [], ◌==◌, ℕ, Bool, true, false, List, length, replicate, slice_index, Option, Some, None, IfSome, Contains, nat_eq, ◌&&◌}
+use Rattle.std.specs.Prelude.{◌≡◌, ◌≢◌, ◌<◌, ◌≤◌, ◌+◌, ◌-◌, ◌*◌, ◌^◌, [], ℕ, Bool, true, false, List, length, replicate, Option, Some, None, IfSome, Contains, nat_eq, ◌&&◌}
 use Rattle.std.proofs.Common.{refl, sym, ap, subst, ◌∙◌, inl, inr, arith}
 use Rattle.std.proofs.lemmas.Bool.{cases_lt, true≢false}
 use Rattle.std.proofs.lemmas.List.{length-replicate, get_or-replicate}
-use Rattle.pt_guid.specs.Codes.{type_of, efi_system, linux_filesystem, linux_swap, basic_data, freebsd, freebsd_ufs}
-use Rattle.pt_guid.specs.Mixed.{mixed}
+use Rattle.pt_guid.specs.Codes.{type_of}
+use Rattle.pt_guid.specs.Laws.{types_are_used}
 use Rattle.pt_guid.specs.declared.guid.Guid.{Guid}
 use Rattle.pt_gpt.specs.Array.{array_len, AllTyped}
 use Rattle.pt_gpt.specs.Entry.{IsTyped}
@@ -25,28 +25,15 @@ use Rattle.pt_edit.specs.Changes.{HasEntry, Changed, DiskSet, Extended, edge, wi
 use Rattle.pt_edit.specs.Spots.{is_slice, entry_type, EntryTyped, EntryDeleted}
 use Rattle.pt_edit.specs.NewEntry.{IsUnused, TakesNumber, given, lowest, new_type, table_area, run_length, new_entry_of, new_labels, with_new_entry, EntryMade}
 use Rattle.pt_edit.specs.Edited.{empty_gpt}
-use Rattle.pt_edit.specs.declared.asked.Asked.{Asked}
+use Rattle.pt_words.specs.declared.asked.Asked.{Asked}
 use Rattle.pt_shape.specs.Shape.{FitsTable, AreLabelsOf, Shaped}
 use Rattle.pt_shape.specs.Keeps.{Keeps}
 use Rattle.pt_kept.proofs.Entries.{entry_numbered, entries_many, many_none}
 use Rattle.pt_kept.proofs.Tables.{keeps_table, keeps_small, keeps_entry, keeps_without, keeps_leaf, keeps_slice, table_fits, slices_512, no_record, no_ebr}
 
 -- no type GUID of a code is zero
-first_byte : (stored kind : List ℕ) → slice_index stored 0 ≢ 0 → Some stored ≡ Some kind → ¬ (kind ≡ replicate 16 0)
-first_byte stored kind other same zeros =
-    let one : stored ≡ kind = cc in
-    other (ap (λ (l : List ℕ). slice_index l 0) (one ∙ zeros))
-
 pub code_typed : (code : ℕ) (kind : List ℕ) → type_of code ≡ Some kind → ¬ (kind ≡ replicate 16 0)
-code_typed code kind is = by_code (code == 0xEF00) (code == 0x8300) (code == 0x8200) (code == 0x0700) (code == 0xA500) (code == 0xA503) refl refl refl refl refl refl where
-  by_code : (p q r s t u : Bool) → (code == 0xEF00) ≡ p → (code == 0x8300) ≡ q → (code == 0x8200) ≡ r → (code == 0x0700) ≡ s → (code == 0xA500) ≡ t → (code == 0xA503) ≡ u → ¬ (kind ≡ replicate 16 0)
-  by_code true q r s t u a b c d e f = first_byte (mixed efi_system) kind (omega arith) (sym (rw a refl) ∙ is)
-  by_code false true r s t u a b c d e f = first_byte (mixed linux_filesystem) kind (omega arith) (sym (rw (a, b) refl) ∙ is)
-  by_code false false true s t u a b c d e f = first_byte (mixed linux_swap) kind (omega arith) (sym (rw (a, b, c) refl) ∙ is)
-  by_code false false false true t u a b c d e f = first_byte (mixed basic_data) kind (omega arith) (sym (rw (a, b, c, d) refl) ∙ is)
-  by_code false false false false true u a b c d e f = first_byte (mixed freebsd) kind (omega arith) (sym (rw (a, b, c, d, e) refl) ∙ is)
-  by_code false false false false false true a b c d e f = first_byte (mixed freebsd_ufs) kind (omega arith) (sym (rw (a, b, c, d, e, f) refl) ∙ is)
-  by_code false false false false false false a b c d e f = let none : None ≡ Some kind = sym (rw (a, b, c, d, e, f) refl) ∙ is in absurd cc
+code_typed code kind is zeros = types_are_used code (is ∙ ap (λ (l : List ℕ). Some l) zeros)
 
 pub type_typed : (code : Code) (kind : List ℕ) → entry_type code ≡ Some kind → ¬ (kind ≡ replicate 16 0)
 type_typed (Two n) kind is = absurd cc

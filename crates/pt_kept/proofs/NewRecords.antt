@@ -1,5 +1,6 @@
 -- What a new record of an MBR keeps.
-use Rattle.std.specs.Prelude.{◌≡◌, ◌<◌, ◌≤◌, ◌⊎◌, ◌+◌, ◌-◌, ◌++◌, ◌∷◌, [], ℕ, zero, suc, Bool, true, false, List, length, slice_index_or, slice_set, slice_get, Option, Some, None, Contains, nat_eq}
+use Rattle.std.specs.Prelude.{◌≡◌, ◌<◌, ◌≤◌, ◌⊎◌, ◌+◌, ◌-◌, ◌++◌, ◌∷◌, [], ℕ, zero, suc, Bool, true, false, List, length, slice_index_or}
+use Rattle.std.specs.Prelude.{slice_set, slice_get, Option, Some, None, Contains, nat_eq}
 use Rattle.std.proofs.Common.{refl, sym, ap, subst, ◌∙◌, inl, inr, arith, append_assoc}
 use Rattle.std.proofs.lemmas.Bool.{cases_lt, eqb-true, lt-ltb, le-ltb, true≢false}
 use Rattle.std.proofs.lemmas.List.{length-set, append-nil, length-append}
@@ -32,7 +33,8 @@ use Rattle.pt_kept.proofs.Order.{logicals_ascend}
 use Rattle.pt_kept.proofs.Chain.{ascending_kept, ascending_gone, emptied}
 use Rattle.pt_kept.proofs.Mbr.{mbr_of, slices_mbr, WasRecord, WasLogical, keeps_mbr, body_fits, old_labels, same_slice, same_logical}
 use Rattle.pt_kept.proofs.NewLogicals.{new_plain}
-use Rattle.pt_kept.proofs.Records.{extended_first, extended_same, extended_yes, extended_no, none_extended, extended_in, slots_set, set_records, within_four, leaf_record, no_record_slice}
+use Rattle.pt_kept.proofs.Records.{extended_first, extended_same, extended_yes, extended_no, none_extended, extended_in, slots_set}
+use Rattle.pt_kept.proofs.Records.{set_records, within_four, leaf_record, no_record_slice}
 
 -- the number of a new record is one of the four, and unused
 unused_of : (rs : List (Option Record)) (asked number : ℕ) → TakesNumber rs asked number → IsUnused rs number
@@ -40,21 +42,26 @@ unused_of rs asked number (as_asked same unused) = unused
 unused_of rs asked number (lowest_one none lowest) = lowest.unused
 
 -- higher slices stay behind
-around_high : (k : ℕ) (new ss : List Slice) (es : List Ebr) → k < 5 → around k new (ss ++ logical_slices 5 es) ≡ around k new ss ++ logical_slices 5 es
+around_high : (k : ℕ) (new ss : List Slice) (es : List Ebr) → k < 5
+    → around k new (ss ++ logical_slices 5 es) ≡ around k new ss ++ logical_slices 5 es
 around_high k new ss es lt =
     let ts = logical_slices 5 es in
     let low : slices_by (is_below k) (ss ++ ts) ≡ slices_by (is_below k) ss =
     filter-append (λ (s : Slice). is_below k s.number) ss ts
-    ∙ (ap (λ (l : List Slice). slices_by (is_below k) ss ++ l) (ascending_gone (is_below k) 5 ts (λ m le. le-ltb m k (omega (arith, le, lt))) (logicals_ascend 5 es)) ∙ append-nil (slices_by (is_below k) ss)) in
+    ∙ (ap (λ (l : List Slice). slices_by (is_below k) ss ++ l)
+    (ascending_gone (is_below k) 5 ts (λ m le. le-ltb m k (omega (arith, le, lt))) (logicals_ascend 5 es))
+    ∙ append-nil (slices_by (is_below k) ss)) in
     let high : slices_by (is_above k) (ss ++ ts) ≡ slices_by (is_above k) ss ++ ts =
     filter-append (λ (s : Slice). is_above k s.number) ss ts
-    ∙ ap (λ (l : List Slice). slices_by (is_above k) ss ++ l) (ascending_kept (is_above k) 5 ts (λ m le. lt-ltb k m (omega (arith, le, lt))) (logicals_ascend 5 es)) in
+    ∙ ap (λ (l : List Slice). slices_by (is_above k) ss ++ l)
+    (ascending_kept (is_above k) 5 ts (λ m le. lt-ltb k m (omega (arith, le, lt))) (logicals_ascend 5 es)) in
     ap (λ (l : List Slice). l ++ (new ++ slices_by (is_above k) (ss ++ ts))) low
     ∙ (ap (λ (l : List Slice). slices_by (is_below k) ss ++ (new ++ l)) high
     ∙ (ap (λ (l : List Slice). slices_by (is_below k) ss ++ l) (sym (append_assoc new (slices_by (is_above k) ss) ts))
     ∙ sym (append_assoc (slices_by (is_below k) ss) (new ++ slices_by (is_above k) ss) ts)))
 
-slice_record : (n : ℕ) (r : Record) → nat_eq r.kind 0xA5 ≡ true → primary_slice n (Some r) ≡ slice_from n (0 + r.start) (0 + r.start + r.size - 1) ∷ []
+slice_record : (n : ℕ) (r : Record) → nat_eq r.kind 0xA5 ≡ true
+    → primary_slice n (Some r) ≡ slice_from n (0 + r.start) (0 + r.start + r.size - 1) ∷ []
 unfolding primary_slice record_slice
 slice_record n r is = rw is refl
 
@@ -91,25 +98,32 @@ no_items [] none = refl
 no_items (r ∷ rs) none = absurd (omega (arith, none))
 
 -- an extended record where there was none
-extended_added : (rs : List (Option Record)) (k : ℕ) (r : Record) → k < length rs → slice_index_or rs k None ≡ None → is_extended r.kind ≡ true → extended_of rs ≡ [] → extended_of (slice_set rs k (Some r)) ≡ r ∷ []
+extended_added : (rs : List (Option Record)) (k : ℕ) (r : Record) → k < length rs → slice_index_or rs k None ≡ None
+    → is_extended r.kind ≡ true → extended_of rs ≡ [] → extended_of (slice_set rs k (Some r)) ≡ r ∷ []
 extended_added [] k r lt none it lone = absurd (omega (arith, lt))
 extended_added (x ∷ rs) zero r lt none it lone =
-    let rest : extended_of rs ≡ [] = sym (ap (λ (o : Option Record). extended_of (o ∷ rs)) none ∙ (extended_first None rs ∙ ap (λ (l : List Record). l ++ extended_of rs) none_extended)) ∙ lone in
+    let rest : extended_of rs ≡ [] = sym (ap (λ (o : Option Record). extended_of (o ∷ rs)) none
+    ∙ (extended_first None rs ∙ ap (λ (l : List Record). l ++ extended_of rs) none_extended)) ∙ lone in
     extended_first (Some r) rs ∙ (ap (λ (l : List Record). l ++ extended_of rs) (extended_yes r it) ∙ ap (λ (l : List Record). r ∷ l) rest)
 extended_added (x ∷ rs) (suc k) r lt none it lone =
-    let both : length (extended_in x) + length (extended_of rs) ≡ 0 = sym (ap length (extended_first x rs) ∙ length-append (extended_in x) (extended_of rs)) ∙ ap length lone in
+    let both : length (extended_in x) + length (extended_of rs) ≡ 0 =
+    sym (ap length (extended_first x rs) ∙ length-append (extended_in x) (extended_of rs)) ∙ ap length lone in
     let head : extended_in x ≡ [] = no_items (extended_in x) (omega (arith, both)) in
     let tail : extended_of rs ≡ [] = no_items (extended_of rs) (omega (arith, both)) in
-    extended_first x (slice_set rs k (Some r)) ∙ (ap (λ (l : List Record). l ++ extended_of (slice_set rs k (Some r))) head ∙ extended_added rs k r (omega (arith, lt)) none it tail)
+    extended_first x (slice_set rs k (Some r)) ∙ (ap (λ (l : List Record). l ++ extended_of (slice_set rs k (Some r))) head
+    ∙ extended_added rs k r (omega (arith, lt)) none it tail)
 
 none_there : (rs : List Record) → slice_get rs 0 ≡ None → rs ≡ []
 none_there [] is = refl
 none_there (r ∷ rs) is = absurd cc
 
 -- `n` of a record
-pub keeps_record_new : (b asked alignment start : ℕ) (end : End) (code : Option Code) (o p : Layout) (rs : List (Option Record)) (chain : List Ebr) → Shaped b o → o.body ≡ Mbr rs chain → RecordMade b asked alignment start end code o rs chain p → Keeps b o.sectors (Some o) p
+pub keeps_record_new : (b asked alignment start : ℕ) (end : End) (code : Option Code) (o p : Layout) (rs : List (Option Record))
+    (chain : List Ebr) → Shaped b o → o.body ≡ Mbr rs chain → RecordMade b asked alignment start end code o rs chain p
+    → Keeps b o.sectors (Some o) p
 keeps_record_new b asked alignment start end code o p rs chain shaped is new =
-    subst (λ (q : Layout). Keeps b o.sectors (Some o) q) (sym new.made) (by_kind (is_extended kind) (nat_eq b 512) (nat_eq kind 0xA5) refl refl refl) where
+    subst (λ (q : Layout). Keeps b o.sectors (Some o) q) (sym new.made)
+    (by_kind (is_extended kind) (nat_eq b 512) (nat_eq kind 0xA5) refl refl refl) where
       kind : ℕ
       kind = new.kind
 
@@ -138,18 +152,27 @@ keeps_record_new b asked alignment start end code o p rs chain shaped is new =
       at = omega (arith, unused.primary.0)
 
       first_low : 1 ≤ new.run.first
-      first_low = let free = placed_is_free_lem (disk_area o.sectors rs) alignment start end new.run new.placed in (free.free new.run.first (omega arith, free.some)).0.0
+      first_low = let free = placed_is_free_lem (disk_area o.sectors rs) alignment start end new.run new.placed in
+          (free.free new.run.first (omega arith, free.some)).0.0
 
       some : new.run.first ≤ new.run.last
       some = (placed_is_free_lem (disk_area o.sectors rs) alignment start end new.run new.placed).some
 
       last_high : new.run.last ≤ 4294967295
-      last_high = let free = placed_is_free_lem (disk_area o.sectors rs) alignment start end new.run new.placed in let high = (free.free new.run.last (free.some, omega arith)).0.1 in omega (arith, high)
+      last_high = let free = placed_is_free_lem (disk_area o.sectors rs) alignment start end new.run new.placed in
+          let high = (free.free new.run.last (free.some, omega arith)).0.1 in omega (arith, high)
 
       good : FitsRecord r
       good =
           let plain = new_plain code kind new.chosen.known in
-          record { typed = plain.0; plain = plain.1; sized = λ none. absurd (omega (arith, none, some)); start = omega (arith, some, last_high); size = omega (arith, first_low, some, last_high); boot = inl refl }
+          record {
+            typed = plain.0;
+            plain = plain.1;
+            sized = λ none. absurd (omega (arith, none, some));
+            start = omega (arith, some, last_high);
+            size = omega (arith, first_low, some, last_high);
+            boot = inl refl;
+          }
 
       is_made : (q : Record) → Some r ≡ Some q → IsMadeRecord q
       is_made q same = let one : r ≡ q = cc in subst IsMadeRecord one (record { boot = refl; start_chs = refl; end_chs = refl })
@@ -160,19 +183,27 @@ keeps_record_new b asked alignment start end code o p rs chain shaped is new =
       four : length made ≡ 4
       four = length-set rs k (Some r) ∙ old.four
 
-      same_slices : (c : List Ebr) → logical_slices 5 c ≡ logical_slices 5 chain → primary_slices 1 made ≡ primary_slices 1 rs → slices_of b (Mbr made c) ≡ slices_of b (Mbr rs chain)
+      same_slices : (c : List Ebr) → logical_slices 5 c ≡ logical_slices 5 chain → primary_slices 1 made ≡ primary_slices 1 rs
+          → slices_of b (Mbr made c) ≡ slices_of b (Mbr rs chain)
       same_slices c tail head = by_size (nat_eq b 512) refl where
         by_size : (t : Bool) → nat_eq b 512 ≡ t → slices_of b (Mbr made c) ≡ slices_of b (Mbr rs chain)
-        by_size true large = slices_mbr b made c true large ∙ (ap (λ (l : List Slice). l ++ logical_slices 5 c) head ∙ (ap (λ (l : List Slice). primary_slices 1 rs ++ l) tail ∙ sym (slices_mbr b rs chain true large)))
+        by_size true large = slices_mbr b made c true large
+            ∙ (ap (λ (l : List Slice). l ++ logical_slices 5 c) head
+            ∙ (ap (λ (l : List Slice). primary_slices 1 rs ++ l) tail ∙ sym (slices_mbr b rs chain true large)))
         by_size false small = slices_mbr b made c false small ∙ sym (slices_mbr b rs chain false small)
 
       leaf : nat_eq kind 0xA5 ≡ false → primary_slices 1 made ≡ primary_slices 1 rs
-      leaf other = records_same 1 k (Some r) rs lt (leaf_record (1 + k) r other ∙ sym (ap (primary_slice (1 + k)) unused.unused ∙ no_record_slice (1 + k)))
+      leaf other = records_same 1 k (Some r) rs lt (leaf_record (1 + k) r other
+          ∙ sym (ap (primary_slice (1 + k)) unused.unused ∙ no_record_slice (1 + k)))
 
-      plain_keeps : (c : List Ebr) → FitsMbr made c → slices_of b (Mbr made c) ≡ slices_of b (Mbr rs chain) → ((e : Ebr) (q : Record) → Contains c e → e.logical ≡ Some q → WasLogical chain e q ⊎ IsMadeLogical q) → Keeps b o.sectors (Some o) (mbr_of o made c o.labels)
+      plain_keeps : (c : List Ebr) → FitsMbr made c → slices_of b (Mbr made c) ≡ slices_of b (Mbr rs chain)
+          → ((e : Ebr) (q : Record) → Contains c e → e.logical ≡ Some q → WasLogical chain e q ⊎ IsMadeLogical q)
+          → Keeps b o.sectors (Some o) (mbr_of o made c o.labels)
       plain_keeps c fits slices logicals =
-          keeps_mbr b o rs chain made c o.labels is fits (subst (λ (l : List Slice). AreLabelsOf l o.labels) (sym slices) (old_labels b o rs chain shaped is))
-          (λ s stands. same_slice b o rs chain s s (label_of o.labels s.number) is (subst (λ (l : List Slice). Contains l s) slices stands) refl refl refl) records logicals
+          keeps_mbr b o rs chain made c o.labels is fits
+          (subst (λ (l : List Slice). AreLabelsOf l o.labels) (sym slices) (old_labels b o rs chain shaped is))
+          (λ s stands. same_slice b o rs chain s s (label_of o.labels s.number) is
+          (subst (λ (l : List Slice). Contains l s) slices stands) refl refl refl) records logicals
 
       Goal : Type 0
       Goal = Keeps b o.sectors (Some o) (mbr_of o made (new_chain kind new.run chain) (new_labels b number kind new.run o.labels))
@@ -208,27 +239,35 @@ keeps_record_new b asked alignment start end code o p rs chain shaped is new =
       fits_plain other = record {
         four = four;
         each = slots_set rs k (Some r) lt good old.each;
-        extended = subst (λ (l : List Record). FitsExtended l chain) (sym (extended_same rs k (Some r) lt (extended_no r other ∙ sym (ap extended_in unused.unused ∙ none_extended)))) old.extended;
+        extended = subst (λ (l : List Record). FitsExtended l chain)
+            (sym (extended_same rs k (Some r) lt (extended_no r other ∙ sym (ap extended_in unused.unused ∙ none_extended)))) old.extended;
       }
 
       without_label : is_extended kind ≡ false → is_slice b kind ≡ false → slices_of b (Mbr made chain) ≡ slices_of b (Mbr rs chain) → Goal
       without_label other plain slices =
           let chain_is : new_chain kind new.run chain ≡ chain = rw other refl in
           subst (λ (c : List Ebr). Keeps b o.sectors (Some o) (mbr_of o made c (new_labels b number kind new.run o.labels))) (sym chain_is)
-          (subst (λ (l : List Labelled). Keeps b o.sectors (Some o) (mbr_of o made chain l)) (sym (no_label plain)) (plain_keeps chain (fits_plain other) slices (same_logical chain)))
+          (subst (λ (l : List Labelled). Keeps b o.sectors (Some o) (mbr_of o made chain l)) (sym (no_label plain))
+          (plain_keeps chain (fits_plain other) slices (same_logical chain)))
 
       -- a slice
-      with_slice : is_extended kind ≡ false → nat_eq b 512 ≡ true → nat_eq kind 0xA5 ≡ true → (s : Slice) → s ≡ slice_from number (0 + new.run.first) (0 + new.run.first + len_of new.run - 1) → Goal
+      with_slice : is_extended kind ≡ false → nat_eq b 512 ≡ true → nat_eq kind 0xA5 ≡ true → (s : Slice)
+          → s ≡ slice_from number (0 + new.run.first) (0 + new.run.first + len_of new.run - 1) → Goal
       with_slice other large a s s_is =
           let it : is_slice b kind ≡ true = rw (large, a) refl in
           let len : s.len ≡ len_of new.run =
-          ap (λ (y : Slice). y.len) s_is ∙ (slice_len number (0 + new.run.first) (0 + new.run.first + len_of new.run - 1) (omega (arith, some)) (omega (arith, some, last_high)) ∙ omega (arith, some)) in
-          let long : 2 ≤ s.len = elim (cases_lt (len_of new.run) 2) as (λ _. 2 ≤ s.len) [ inl short ↦ absurd (new.enough (it, short)) | inr enough ↦ omega (arith, len, enough) ] in
+          ap (λ (y : Slice). y.len) s_is ∙ (slice_len number (0 + new.run.first) (0 + new.run.first + len_of new.run - 1)
+          (omega (arith, some)) (omega (arith, some, last_high)) ∙ omega (arith, some)) in
+          let long : 2 ≤ s.len = elim (cases_lt (len_of new.run) 2)
+          as (λ _. 2 ≤ s.len) [ inl short ↦ absurd (new.enough (it, short)) | inr enough ↦ omega (arith, len, enough) ] in
           let chain_is : new_chain kind new.run chain ≡ chain = rw other refl in
-          let labels : new_labels b number kind new.run o.labels ≡ with_new_label number (empty_of s.len) o.labels = rw it (ap (λ (n : ℕ). with_new_label number (empty_of n) o.labels) (sym len)) in
+          let labels : new_labels b number kind new.run o.labels ≡ with_new_label number (empty_of s.len) o.labels =
+          rw it (ap (λ (n : ℕ). with_new_label number (empty_of n) o.labels) (sym len)) in
           let one : primary_slice number (Some r) ≡ s ∷ [] = slice_record number r a ∙ ap (λ (y : Slice). y ∷ []) (sym s_is) in
           let head : primary_slices 1 made ≡ around number (s ∷ []) (primary_slices 1 rs) =
-          records_with 1 k (Some r) rs lt unused.unused ∙ (ap (λ (m : ℕ). around m (primary_slice m (Some r)) (primary_slices 1 rs)) at ∙ ap (λ (l : List Slice). around number l (primary_slices 1 rs)) one) in
+          records_with 1 k (Some r) rs lt unused.unused
+          ∙ (ap (λ (m : ℕ). around m (primary_slice m (Some r)) (primary_slices 1 rs)) at ∙ ap (λ (l : List Slice).
+          around number l (primary_slices 1 rs)) one) in
           let slices : slices_of b (Mbr made chain) ≡ around number (s ∷ []) (slices_of b o.body) =
           slices_mbr b made chain true large ∙ (ap (λ (l : List Slice). l ++ logical_slices 5 chain) head
           ∙ (sym (around_high number (s ∷ []) (primary_slices 1 rs) chain (omega (arith, unused.primary.1)))
@@ -239,11 +278,13 @@ keeps_record_new b asked alignment start end code o p rs chain shaped is new =
           (keeps_mbr b o rs chain made chain (with_new_label number (empty_of s.len) o.labels) is (fits_plain other)
           (subst (λ (l : List Slice). AreLabelsOf l (with_new_label number (empty_of s.len) o.labels)) (sym slices)
           (are_entered number s (empty_of s.len) (slices_of b o.body) o.labels at_number (empty_fits s long) shaped.labels))
-          (λ x stands. entered_label b number o s x at_number (subst (λ (l : List Slice). Contains l x) slices stands)) records (same_logical chain)))
+          (λ x stands. entered_label b number o s x at_number (subst (λ (l : List Slice). Contains l x) slices stands)) records
+          (same_logical chain)))
 
       by_kind : (x c a : Bool) → is_extended kind ≡ x → nat_eq b 512 ≡ c → nat_eq kind 0xA5 ≡ a → Goal
       by_kind true c a it size slice = with_extended it
-      by_kind false true true other size slice = with_slice other size slice (slice_from number (0 + new.run.first) (0 + new.run.first + len_of new.run - 1)) refl
+      by_kind false true true other size slice = with_slice other size slice
+          (slice_from number (0 + new.run.first) (0 + new.run.first + len_of new.run - 1)) refl
       by_kind false true false other size slice = without_label other (not_slice b kind slice) (same_slices chain refl (leaf slice))
       by_kind false false a other size slice =
           without_label other (small_sectors b kind size) (slices_mbr b made chain false size ∙ sym (slices_mbr b rs chain false size))

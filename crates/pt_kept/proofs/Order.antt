@@ -1,5 +1,6 @@
--- Slices stand in the order of their numbers.
-use Rattle.std.specs.Prelude.{◌≡◌, ◌≢◌, ◌<◌, ◌≤◌, ◌+◌, ◌-◌, ◌++◌, ◌∷◌, [], ℕ, Bool, true, false, List, filter, length, slice_index_or, slice_set, Option, Some, None, is_some, if◌then◌else◌, nat_eq}
+-- Logical slices stand in the order of their numbers; the label of a slice in a layout, as it changes.
+use Rattle.std.specs.Prelude.{◌≡◌, ◌≢◌, ◌<◌, ◌≤◌, ◌+◌, ◌-◌, ◌++◌, ◌∷◌, [], ℕ, Bool, true, false, List, filter, length, slice_index_or}
+use Rattle.std.specs.Prelude.{slice_set, Option, Some, None, is_some, if◌then◌else◌, nat_eq}
 use Rattle.std.proofs.Common.{refl, sym, ap, subst, ◌∙◌, inl, inr, arith, append_assoc}
 use Rattle.std.proofs.lemmas.Bool.{cases_lt, ne_eqb, eqb-true, eqb-false}
 use Rattle.std.proofs.lemmas.List.{length-set, get_or-set_same, get_or-set_other}
@@ -10,7 +11,8 @@ use Rattle.pt_bsd.specs.Counted.{count_of}
 use Rattle.pt_bsd.specs.Laws.{with_entry_counted, with_entry_fits}
 use Rattle.pt_bsd.specs.declared.label.Label.{Label}
 use Rattle.pt_bsd.specs.declared.label.LabelEntry.{LabelEntry}
-use Rattle.pt_recover.specs.Labels.{is_slice_kind, slice_from, record_slice, primary_slice, primary_slices, logical_slice, next_number, logical_slices, entry_slice, entry_slices, slices_of}
+use Rattle.pt_recover.specs.Labels.{is_slice_kind, slice_from, record_slice, primary_slice, primary_slices, logical_slice, next_number}
+use Rattle.pt_recover.specs.Labels.{logical_slices, entry_slice, entry_slices, slices_of}
 use Rattle.pt_recover.specs.declared.layout.Slice.{Slice}
 use Rattle.pt_recover.specs.declared.layout.Labelled.{Labelled}
 use Rattle.pt_recover.specs.declared.layout.Layout.{Layout}
@@ -20,60 +22,22 @@ use Rattle.pt_layout.specs.Members.{label_of}
 use Rattle.pt_labels.specs.Lists.{labelled, relabelled_as, with_label}
 use Rattle.pt_labels.specs.Parts.{with_part}
 use Rattle.pt_shape.specs.Shape.{FitsBody, FitsLabel, AreLabelsOf, Shaped}
+use Rattle.pt_shape.specs.Ascending.{IsAscending, ascend_from}
 use Rattle.pt_shape.specs.Keeps.{SameButParts}
 use Rattle.pt_kept.proofs.Lists.{filter_in, filter_out, label_of_head, label_of_tail}
 
--- each number is above the one before it
-abbrev pub IsAscending : ℕ → List Slice → Type 0
-IsAscending low [] = Unit {0}
-IsAscending low (s ∷ ss) = (low ≤ s.number) × IsAscending (s.number + 1) ss
-
-pub ascend_from : (low more : ℕ) (ss : List Slice) → low ≤ more → IsAscending more ss → IsAscending low ss
-ascend_from low more [] le is = tt
-ascend_from low more (s ∷ ss) le is = (omega (arith, le, is.0), is.1)
-
-filter_one : (p : Slice → Bool) (low : ℕ) (s : Slice) (ss : List Slice) → low ≤ s.number → IsAscending (s.number + 1) (filter p ss) → (t : Bool) → p s ≡ t → IsAscending low (filter p (s ∷ ss))
-filter_one p low s ss le more true so = subst (IsAscending low) (sym (filter_in p s ss so)) (le, more)
-filter_one p low s ss le more false so = subst (IsAscending low) (sym (filter_out p s ss so)) (ascend_from low (s.number + 1) (filter p ss) (omega (arith, le)) more)
-
-pub ascend_filter : (p : Slice → Bool) (low : ℕ) (ss : List Slice) → IsAscending low ss → IsAscending low (filter p ss)
-ascend_filter p low [] is = tt
-ascend_filter p low (s ∷ ss) is = filter_one p low s ss is.0 (ascend_filter p (s.number + 1) ss is.1) (p s) refl
-
 -- none, or one of this number, and then higher ones
-one_kind : (n first last : ℕ) (c : Bool) (ss : List Slice) → IsAscending (n + 1) ss → IsAscending n ((if c then slice_from n first last ∷ [] else []) ++ ss)
+one_kind : (n first last : ℕ) (c : Bool) (ss : List Slice) → IsAscending (n + 1) ss
+    → IsAscending n ((if c then slice_from n first last ∷ [] else []) ++ ss)
 one_kind n first last true ss is = (omega arith, is)
 one_kind n first last false ss is = ascend_from n (n + 1) ss (omega arith) is
-
-entry_then : (n : ℕ) (e : Option Entry) (ss : List Slice) → IsAscending (n + 1) ss → IsAscending n (entry_slice n e ++ ss)
-unfolding entry_slice
-entry_then n None ss is = ascend_from n (n + 1) ss (omega arith) is
-entry_then n (Some e) ss is = one_kind n e.first e.last (is_slice_kind e.kind.0) ss is
-
-pub entries_ascend : (n : ℕ) (es : List (Option Entry)) → IsAscending n (entry_slices n es)
-unfolding entry_slices
-entries_ascend n [] = tt
-entries_ascend n (e ∷ es) = entry_then n e (entry_slices (n + 1) es) (entries_ascend (n + 1) es)
 
 record_then : (n at : ℕ) (r : Record) (ss : List Slice) → IsAscending (n + 1) ss → IsAscending n (record_slice n at r ++ ss)
 unfolding record_slice
 record_then n at r ss is = one_kind n (at + r.start) (at + r.start + r.size - 1) (nat_eq r.kind 0xA5) ss is
 
-primary_then : (n : ℕ) (r : Option Record) (ss : List Slice) → IsAscending (n + 1) ss → IsAscending n (primary_slice n r ++ ss)
-unfolding primary_slice
-primary_then n None ss is = ascend_from n (n + 1) ss (omega arith) is
-primary_then n (Some r) ss is = record_then n 0 r ss is
-
--- the primary ones, and behind them higher ones
-pub primaries_then : (n : ℕ) (rs : List (Option Record)) (ss : List Slice) → IsAscending (n + length rs) ss → IsAscending n (primary_slices n rs ++ ss)
-unfolding primary_slices
-primaries_then n [] ss is = ascend_from n (n + 0) ss (omega arith) is
-primaries_then n (r ∷ rs) ss is =
-    let at : n + length (r ∷ rs) ≡ (n + 1) + length rs = omega arith in
-    let more = primaries_then (n + 1) rs ss (subst (λ (k : ℕ). IsAscending k ss) at is) in
-    subst (IsAscending n) (sym (append_assoc (primary_slice n r) (primary_slices (n + 1) rs) ss)) (primary_then n r (primary_slices (n + 1) rs ++ ss) more)
-
-logical_then : (n : ℕ) (e : Ebr) (o : Option Record) (ss : List Slice) → e.logical ≡ o → IsAscending (next_number n e) ss → IsAscending n (logical_slice n e ++ ss)
+logical_then : (n : ℕ) (e : Ebr) (o : Option Record) (ss : List Slice) → e.logical ≡ o → IsAscending (next_number n e) ss
+    → IsAscending n (logical_slice n e ++ ss)
 unfolding logical_slice next_number
 logical_then n e None ss so is =
     let at : next_number n e ≡ n = rw so refl in
@@ -89,53 +53,61 @@ unfolding logical_slices
 logicals_ascend n [] = tt
 logicals_ascend n (e ∷ es) = logical_then n e e.logical (logical_slices (next_number n e) es) refl (logicals_ascend (next_number n e) es)
 
-by_size : (b : ℕ) (ss : List Slice) (c : Bool) → IsAscending 1 ss → IsAscending 1 (if c then ss else [])
-by_size b ss true is = is
-by_size b ss false is = tt
-
-body_ascends : (b n : ℕ) (y : Body) → FitsBody b n y → IsAscending 1 (slices_of b y)
-unfolding slices_of
-body_ascends b n (Mbr rs chain) fits =
-    let at : 1 + length rs ≡ 5 = omega (arith, fits.four) in
-    by_size b (primary_slices 1 rs ++ logical_slices 5 chain) (nat_eq b 512) (primaries_then 1 rs (logical_slices 5 chain) (subst (λ (k : ℕ). IsAscending k (logical_slices 5 chain)) (sym at) (logicals_ascend 5 chain)))
-body_ascends b n (Gpt t) fits = by_size b (entry_slices 1 t.entries) (nat_eq b 512) (entries_ascend 1 t.entries)
-
--- the slices of a layout
-pub slices_ascend_lem : (b : ℕ) (o : Layout) → Shaped b o → IsAscending 1 (slices_of b o.body)
-slices_ascend_lem b o shaped = body_ascends b o.sectors o.body shaped.body
-
 same_label : (k : ℕ) (l : Label) (x : Labelled) → x.number ≢ k → relabelled_as k l x ≡ x
 same_label k l x other = rw (ne_eqb x.number k other) refl
 
 -- above all numbers nothing changes
-none_above : (k low : ℕ) (l : Label) (ss : List Slice) (ls : List Labelled) → k < low → IsAscending low ss → AreLabelsOf ss ls → with_label k l ls ≡ ls
+none_above : (k low : ℕ) (l : Label) (ss : List Slice) (ls : List Labelled) → k < low → IsAscending low ss → AreLabelsOf ss ls
+    → with_label k l ls ≡ ls
 none_above k low l [] ls lt up are = ap (with_label k l) are ∙ sym are
 none_above k low l (s ∷ ss) ls lt up (inl (m, rest, is, fits, behind)) =
     let more = none_above k (s.number + 1) l ss rest (omega (arith, lt, up.0)) up.1 behind in
-    ap (with_label k l) is ∙ (ap (λ (x : Labelled). x ∷ with_label k l rest) (same_label k l (labelled s.number m) (omega (arith, lt, up.0)))
+    ap (with_label k l) is ∙ (ap (λ (x : Labelled). x ∷ with_label k l rest)
+    (same_label k l (labelled s.number m) (omega (arith, lt, up.0)))
     ∙ (ap (λ (r : List Labelled). labelled s.number m ∷ r) more ∙ sym is))
 none_above k low l (s ∷ ss) ls lt up (inr behind) = none_above k (s.number + 1) l ss ls (omega (arith, lt, up.0)) up.1 behind
 
 -- where the label of a number changes to one that fits its slice as well
-with_one : (k : ℕ) (old new : Label) (s : Slice) (ss : List Slice) (ls : List Labelled) → ((x : Slice) → FitsLabel x old → FitsLabel x new) → IsAscending (s.number + 1) ss → label_of ls k ≡ Some old
-    → ((rest : List Labelled) → AreLabelsOf ss rest → label_of rest k ≡ Some old → AreLabelsOf ss (with_label k new rest)) → (t : Bool) → nat_eq s.number k ≡ t → AreLabelsOf (s ∷ ss) ls → AreLabelsOf (s ∷ ss) (with_label k new ls)
+with_one : (k : ℕ) (old new : Label) (s : Slice) (ss : List Slice) (ls : List Labelled)
+    → ((x : Slice) → FitsLabel x old → FitsLabel x new) → IsAscending (s.number + 1) ss → label_of ls k ≡ Some old
+    → ((rest : List Labelled) → AreLabelsOf ss rest → label_of rest k ≡ Some old → AreLabelsOf ss (with_label k new rest))
+    → (t : Bool) → nat_eq s.number k ≡ t → AreLabelsOf (s ∷ ss) ls → AreLabelsOf (s ∷ ss) (with_label k new ls)
 with_one k old new s ss ls fit up has more true so (inl (m, rest, is, fits, behind)) =
     let same : s.number ≡ k = eqb-true s.number k so in
-    let found : Some m ≡ Some old = sym (ap (λ (l : List Labelled). label_of l k) is ∙ label_of_head (labelled s.number m) rest k same) ∙ has in
+    let found : Some m ≡ Some old = sym (ap (λ (l : List Labelled). label_of l k) is
+    ∙ label_of_head (labelled s.number m) rest k same) ∙ has in
     let one : m ≡ old = cc in
     let tail : with_label k new rest ≡ rest = none_above k (s.number + 1) new ss rest (omega (arith, same)) up behind in
     let changed : relabelled_as k new (labelled s.number m) ≡ labelled s.number new = rw so refl in
-    inl (new, rest, ap (with_label k new) is ∙ (ap (λ (x : Labelled). x ∷ with_label k new rest) changed ∙ ap (λ (l : List Labelled). labelled s.number new ∷ l) tail), fit s (subst (FitsLabel s) one fits), behind)
+    inl (
+      new,
+      rest,
+      ap (with_label k new) is ∙ (ap (λ (x : Labelled). x ∷ with_label k new rest) changed
+          ∙ ap (λ (l : List Labelled). labelled s.number new ∷ l) tail),
+      fit s (subst (FitsLabel s) one fits),
+      behind,
+    )
 with_one k old new s ss ls fit up has more false so (inl (m, rest, is, fits, behind)) =
     let other : s.number ≢ k = eqb-false s.number k so in
-    let found : label_of rest k ≡ Some old = sym (ap (λ (l : List Labelled). label_of l k) is ∙ label_of_tail (labelled s.number m) rest k other) ∙ has in
-    inl (m, with_label k new rest, ap (with_label k new) is ∙ ap (λ (x : Labelled). x ∷ with_label k new rest) (same_label k new (labelled s.number m) other), fits, more rest behind found)
+    let found : label_of rest k ≡ Some old = sym (ap (λ (l : List Labelled). label_of l k) is
+    ∙ label_of_tail (labelled s.number m) rest k other) ∙ has in
+    inl (
+      m,
+      with_label k new rest,
+      ap (with_label k new) is
+          ∙ ap (λ (x : Labelled). x ∷ with_label k new rest) (same_label k new (labelled s.number m) other),
+      fits,
+      more rest behind found,
+    )
 with_one k old new s ss ls fit up has more t so (inr behind) = inr (more ls behind has)
 
-pub are_with : (k low : ℕ) (old new : Label) (ss : List Slice) (ls : List Labelled) → ((x : Slice) → FitsLabel x old → FitsLabel x new) → IsAscending low ss → label_of ls k ≡ Some old → AreLabelsOf ss ls → AreLabelsOf ss (with_label k new ls)
+pub are_with : (k low : ℕ) (old new : Label) (ss : List Slice) (ls : List Labelled)
+    → ((x : Slice) → FitsLabel x old → FitsLabel x new) → IsAscending low ss → label_of ls k ≡ Some old → AreLabelsOf ss ls
+    → AreLabelsOf ss (with_label k new ls)
 are_with k low old new [] ls fit up has are = ap (with_label k new) are
 are_with k low old new (s ∷ ss) ls fit up has are =
-    with_one k old new s ss ls fit up.1 has (λ rest behind found. are_with k (s.number + 1) old new ss rest fit up.1 found behind) (nat_eq s.number k) refl are
+    with_one k old new s ss ls fit up.1 has (λ rest behind found. are_with k (s.number + 1) old new ss rest fit up.1 found behind)
+    (nat_eq s.number k) refl are
 
 relabelled_number : (k : ℕ) (new : Label) (x : Labelled) (t : Bool) → nat_eq x.number k ≡ t → (relabelled_as k new x).number ≡ x.number
 relabelled_number k new x true so = rw so refl
@@ -146,44 +118,59 @@ pub label_of_with : (k m : ℕ) (new : Label) (ls : List Labelled) → m ≢ k �
 unfolding label_of
 label_of_with k m new [] other = refl
 label_of_with k m new (x ∷ ls) other = with_step k m new x ls other (label_of_with k m new ls other) (nat_eq x.number m) refl where
-  with_step : (k m : ℕ) (new : Label) (x : Labelled) (ls : List Labelled) → m ≢ k → label_of (with_label k new ls) m ≡ label_of ls m → (t : Bool) → nat_eq x.number m ≡ t → label_of (with_label k new (x ∷ ls)) m ≡ label_of (x ∷ ls) m
+  with_step : (k m : ℕ) (new : Label) (x : Labelled) (ls : List Labelled) → m ≢ k → label_of (with_label k new ls) m ≡ label_of ls m
+      → (t : Bool) → nat_eq x.number m ≡ t → label_of (with_label k new (x ∷ ls)) m ≡ label_of (x ∷ ls) m
   with_step k m new x ls other more true so =
       let here : x.number ≡ m = eqb-true x.number m so in
-      ap (λ (y : Labelled). label_of (y ∷ with_label k new ls) m) (same_label k new x (λ e. other (sym here ∙ e))) ∙ (label_of_head x (with_label k new ls) m here ∙ sym (label_of_head x ls m here))
+      ap (λ (y : Labelled). label_of (y ∷ with_label k new ls) m) (same_label k new x (λ e. other (sym here ∙ e)))
+      ∙ (label_of_head x (with_label k new ls) m here ∙ sym (label_of_head x ls m here))
   with_step k m new x ls other more false so =
       let apart : x.number ≢ m = eqb-false x.number m so in
       let number : (relabelled_as k new x).number ≡ x.number = relabelled_number k new x (nat_eq x.number k) refl in
-      label_of_tail (relabelled_as k new x) (with_label k new ls) m (λ e. apart (sym number ∙ e)) ∙ (more ∙ sym (label_of_tail x ls m apart))
+      label_of_tail (relabelled_as k new x) (with_label k new ls) m (λ e. apart (sym number ∙ e))
+      ∙ (more ∙ sym (label_of_tail x ls m apart))
 
-label_step : (k : ℕ) (old new : Label) (x : Labelled) (ls : List Labelled) → (label_of ls k ≡ Some old → label_of (with_label k new ls) k ≡ Some new) → label_of (x ∷ ls) k ≡ Some old → (t : Bool) → nat_eq x.number k ≡ t → label_of (with_label k new (x ∷ ls)) k ≡ Some new
+label_step : (k : ℕ) (old new : Label) (x : Labelled) (ls : List Labelled)
+    → (label_of ls k ≡ Some old → label_of (with_label k new ls) k ≡ Some new) → label_of (x ∷ ls) k ≡ Some old → (t : Bool)
+    → nat_eq x.number k ≡ t → label_of (with_label k new (x ∷ ls)) k ≡ Some new
 label_step k old new x ls more has true so =
     let changed : relabelled_as k new x ≡ labelled x.number new = rw so refl in
-    ap (λ (y : Labelled). label_of (y ∷ with_label k new ls) k) changed ∙ label_of_head (labelled x.number new) (with_label k new ls) k (eqb-true x.number k so)
+    ap (λ (y : Labelled). label_of (y ∷ with_label k new ls) k) changed
+    ∙ label_of_head (labelled x.number new) (with_label k new ls) k (eqb-true x.number k so)
 label_step k old new x ls more has false so =
     let other = eqb-false x.number k so in
     ap (λ (y : Labelled). label_of (y ∷ with_label k new ls) k) (same_label k new x other)
     ∙ (label_of_tail x (with_label k new ls) k other ∙ more (sym (label_of_tail x ls k other) ∙ has))
 
-pub label_of_changed : (k : ℕ) (old new : Label) (ls : List Labelled) → label_of ls k ≡ Some old → label_of (with_label k new ls) k ≡ Some new
+pub label_of_changed : (k : ℕ) (old new : Label) (ls : List Labelled) → label_of ls k ≡ Some old
+    → label_of (with_label k new ls) k ≡ Some new
 unfolding label_of
 label_of_changed k old new [] has = absurd cc
 label_of_changed k old new (x ∷ ls) has = label_step k old new x ls (label_of_changed k old new ls) has (nat_eq x.number k) refl
 
 -- an entry that is there is counted
-pub counted_there : (es : List (Option LabelEntry)) (k : ℕ) (e : LabelEntry) (c : ℕ) → c ≡ count_of es → slice_index_or es k None ≡ Some e → ((i : ℕ) → c ≤ i → i < length es → slice_index_or es i None ≡ None) → k < length es → k < c
+pub counted_there : (es : List (Option LabelEntry)) (k : ℕ) (e : LabelEntry) (c : ℕ) → c ≡ count_of es
+    → slice_index_or es k None ≡ Some e → ((i : ℕ) → c ≤ i → i < length es → slice_index_or es i None ≡ None) → k < length es → k < c
 counted_there es k e c is has others lt = elim (cases_lt k c) as (λ _. k < c) [
   | inl below ↦ below
   | inr above ↦ let both : Some e ≡ None = sym has ∙ others k above lt in absurd cc
 ]
 
 -- a label with another entry than c in a counted place fits the same slices
-pub part_fits : (l : Label) (letter : ℕ) (old new : LabelEntry) (s : Slice) → letter ≢ 2 → slice_index_or l.entries letter None ≡ Some old → letter < length l.entries → FitsLabel s l → FitsLabel s (with_part l letter new)
+pub part_fits : (l : Label) (letter : ℕ) (old new : LabelEntry) (s : Slice) → letter ≢ 2
+    → slice_index_or l.entries letter None ≡ Some old → letter < length l.entries → FitsLabel s l → FitsLabel s (with_part l letter new)
 part_fits l letter old new s other has within fits =
     let places = fits.counted.places in
-    let count = counted_there l.entries letter old (count_of l.entries) refl has (λ i above lt. fits.counted.others i above (omega (arith, lt, places))) within in
-    record { second = fits.second; counted = with_entry_counted l letter new fits.counted count; slice = with_entry_fits l letter s.first s.len new other fits.slice }
+    let count = counted_there l.entries letter old (count_of l.entries) refl has
+    (λ i above lt. fits.counted.others i above (omega (arith, lt, places))) within in
+    record {
+      second = fits.second;
+      counted = with_entry_counted l letter new fits.counted count;
+      slice = with_entry_fits l letter s.first s.len new other fits.slice;
+    }
 
-some_at : (es : List (Option LabelEntry)) (letter k : ℕ) (old new : LabelEntry) → slice_index_or es letter None ≡ Some old → letter < length es → (t : Bool) → nat_eq k letter ≡ t
+some_at : (es : List (Option LabelEntry)) (letter k : ℕ) (old new : LabelEntry) → slice_index_or es letter None ≡ Some old
+    → letter < length es → (t : Bool) → nat_eq k letter ≡ t
     → is_some (slice_index_or (slice_set es letter (Some new)) k None) ≡ is_some (slice_index_or es k None)
 some_at es letter k old new has within true so =
     let same : letter ≡ k = sym (eqb-true k letter so) in
@@ -192,7 +179,8 @@ some_at es letter k old new has within true so =
 some_at es letter k old new has within false so = ap is_some (get_or-set_other es letter k (Some new) None (eqb-false k letter so))
 
 -- and is the same label but for partitions
-pub same_but_part : (l : Label) (letter : ℕ) (old new : LabelEntry) → letter ≢ 2 → slice_index_or l.entries letter None ≡ Some old → letter < length l.entries → SameButParts l (with_part l letter new)
+pub same_but_part : (l : Label) (letter : ℕ) (old new : LabelEntry) → letter ≢ 2 → slice_index_or l.entries letter None ≡ Some old
+    → letter < length l.entries → SameButParts l (with_part l letter new)
 same_but_part l letter old new other has within = record {
   same = refl;
   places = length-set l.entries letter (Some new);

@@ -14,7 +14,8 @@ use Rattle.pt_labels.specs.Parts.{HasEntry, PartMade, with_part, with_entry_of}
 use Rattle.pt_shape.specs.Shape.{Shaped}
 use Rattle.pt_shape.specs.Keeps.{LabelStays, Keeps}
 use Rattle.pt_shape.specs.Laws.{label_stays_refl_lem}
-use Rattle.pt_kept.proofs.Order.{slices_ascend_lem, are_with, label_of_with, label_of_changed, part_fits, same_but_part}
+use Rattle.pt_shape.specs.Ascending.{slices_ascend_lem}
+use Rattle.pt_kept.proofs.Order.{are_with, label_of_with, label_of_changed, part_fits, same_but_part}
 
 -- an entry that stands in a list stands inside it
 pub there : (es : List (Option LabelEntry)) (k : ℕ) (e : LabelEntry) → slice_index_or es k None ≡ Some e → k < length es
@@ -24,12 +25,14 @@ there es k e has = elim (cases_lt k (length es)) as (λ _. k < length es) [
 ]
 
 -- another entry of a letter in a slice's label
-pub keeps_entry_of : (b number letter : ℕ) (o : Layout) (m : Member) (l : Label) (old new : LabelEntry) → Shaped b o → HasEntry b o number letter m l old → Keeps b o.sectors (Some o) (with_entry_of number l letter new o)
+pub keeps_entry_of : (b number letter : ℕ) (o : Layout) (m : Member) (l : Label) (old new : LabelEntry) → Shaped b o
+    → HasEntry b o number letter m l old → Keeps b o.sectors (Some o) (with_entry_of number l letter new o)
 keeps_entry_of b number letter o m l old new shaped has = record {
   sectors = refl;
   shaped = record {
     body = shaped.body;
-    labels = are_with number 1 l changed (slices_of b o.body) o.labels (λ s fits. part_fits l letter old new s has.other has.counted within fits) (slices_ascend_lem b o shaped) has.label shaped.labels;
+    labels = are_with number 1 l changed (slices_of b o.body) o.labels
+        (λ s fits. part_fits l letter old new s has.other has.counted within fits) (slices_ascend_lem b o shaped) has.label shaped.labels;
   };
   mbr = λ is. is;
   labels = λ s stands. inl (s, record { stands = stands; first = refl; len = refl }, stays s.number (nat_eq s.number number) refl);
@@ -47,11 +50,15 @@ keeps_entry_of b number letter o m l old new shaped has = record {
       let same : number ≡ k = sym (eqb-true k number so) in
       subst (λ (i : ℕ). LabelStays (label_of o.labels i) (label_of (with_label number changed o.labels) i)) same
       (subst (λ (x : Option Label). LabelStays x (label_of (with_label number changed o.labels) number)) (sym has.label)
-      (subst (LabelStays (Some l)) (sym (label_of_changed number l changed o.labels has.label)) (same_but_part l letter old new has.other has.counted within)))
+      (subst (LabelStays (Some l)) (sym (label_of_changed number l changed o.labels has.label))
+      (same_but_part l letter old new has.other has.counted within)))
   stays k false so =
-      subst (LabelStays (label_of o.labels k)) (sym (label_of_with number k changed o.labels (eqb-false k number so))) (label_stays_refl_lem (label_of o.labels k))
+      subst (LabelStays (label_of o.labels k)) (sym (label_of_with number k changed o.labels (eqb-false k number so)))
+      (label_stays_refl_lem (label_of o.labels k))
 
 -- a partition of a label that becomes another, or none
-pub keeps_part : (b number letter : ℕ) (Becomes : LabelEntry → LabelEntry → Type 0) (o p : Layout) → Shaped b o → PartMade b number letter Becomes o p → Keeps b o.sectors (Some o) p
+pub keeps_part : (b number letter : ℕ) (Becomes : LabelEntry → LabelEntry → Type 0) (o p : Layout) → Shaped b o
+    → PartMade b number letter Becomes o p → Keeps b o.sectors (Some o) p
 keeps_part b number letter Becomes o p shaped made =
-    subst (λ (q : Layout). Keeps b o.sectors (Some o) q) (sym made.made) (keeps_entry_of b number letter o made.slice made.label made.old made.new shaped made.is_part.entry)
+    subst (λ (q : Layout). Keeps b o.sectors (Some o) q) (sym made.made)
+    (keeps_entry_of b number letter o made.slice made.label made.old made.new shaped made.is_part.entry)

@@ -18,7 +18,8 @@ denoted_may_be : (b : ℕ) (d : Sectors) (old : Option Layout) → Denotes b d o
 denoted_may_be b d None denotes numbers = tt
 denoted_may_be b d (Some o) denotes numbers = (denotes.0, denoted_is_shaped_lem b d o numbers denotes)
 
-pub edit_of_disk_keeps_lem : (b : ℕ) (d : Sectors) (old : Option Layout) (words : List Edit) (guids : List Guid) (p : Layout) → IsSectorSize b → length d * b ≤ 2 ^ 64
+pub edit_of_disk_keeps_lem : (b : ℕ) (d : Sectors) (old : Option Layout) (words : List Edit) (guids : List Guid) (p : Layout)
+    → IsSectorSize b → length d * b ≤ 2 ^ 64
     → Denotes b d old → IfSome old Numbers → Edited b (length d) old words guids (Ok p) → Keeps b (length d) old p
 edit_of_disk_keeps_lem b d old words guids p size bytes denotes numbers edited =
     edit_keeps_lem b (length d) old words guids p (few_sectors (length d) b size bytes) (denoted_may_be b d old denotes numbers) edited

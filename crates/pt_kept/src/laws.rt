@@ -13,12 +13,14 @@ ghost use Rattle.pt_kept.specs.Old.{MayBe};
 
 /// What words make of a layout that a disk may denote, or of nothing, keeps of it what `Keeps` says.
 pub fn edit_keeps()
-    ensures { (b n : ℕ) (old : Option Layout) (words : List Edit) (guids : List Guid) (p : Layout) → n < 2 ^ 63 → MayBe b n old → Edited b n old words guids (Ok p) → Keeps b n old p }
+    ensures { (b n : ℕ) (old : Option Layout) (words : List Edit) (guids : List Guid) (p : Layout) → n < 2 ^ 63 → MayBe b n old
+        → Edited b n old words guids (Ok p) → Keeps b n old p }
 {}
 
 /// The same of what recovery gave, with no premise but what its contract and the disk's own law say: the disk has at most
 /// 2^64 bytes and denotes the layout, whose records' numbers have 32 bits.
 pub fn edit_of_disk_keeps()
-    ensures { (b : ℕ) (d : Sectors) (old : Option Layout) (words : List Edit) (guids : List Guid) (p : Layout) → IsSectorSize b → length d * b ≤ 2 ^ 64
+    ensures { (b : ℕ) (d : Sectors) (old : Option Layout) (words : List Edit) (guids : List Guid) (p : Layout) → IsSectorSize b
+        → length d * b ≤ 2 ^ 64
         → Denotes b d old → IfSome old Numbers → Edited b (length d) old words guids (Ok p) → Keeps b (length d) old p }
 {}

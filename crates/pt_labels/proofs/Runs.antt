@@ -1,5 +1,6 @@
 -- The sectors of a label's partitions, letter by letter.
-use Rattle.std.proofs.Common.{◌≡◌, ◌<◌, ◌≤◌, ◌+◌, ℕ, suc, List, [], ◌∷◌, ◌++◌, length, get_or, take, Option, Some, None, refl, sym, ap, ◌∙◌, append-nil}
+use Rattle.std.proofs.Common.{◌≡◌, ◌<◌, ◌≤◌, ◌+◌, ℕ, suc, List, [], ◌∷◌, ◌++◌, length, get_or, take, Option, Some, None, refl, sym, ap, ◌∙◌}
+use Rattle.std.proofs.Common.{append-nil}
 use Rattle.std.specs.Prelude.{flat_map}
 use Rattle.std.proofs.lemmas.List.{take_all, take_more}
 use Rattle.std.proofs.lemmas.Grind.{flat_map-append}
@@ -16,7 +17,8 @@ none_yet xs = refl
 runs-more : (xs : List (Option Member)) (o : Option Member) → flat_map run_of (xs ++ o ∷ []) ≡ flat_map run_of xs ++ run_of o
 runs-more xs o = flat_map-append run_of xs (o ∷ []) ∙ ap (λ (l : List Run). flat_map run_of xs ++ l) (append-nil (run_of o))
 
-pub one_more : (xs : List (Option Member)) (k : ℕ) (runs : List Run) → k < length xs → runs ≡ flat_map run_of (take k xs) ++ run_of (get_or xs k None) → runs ≡ flat_map run_of (take (k + 1) xs)
+pub one_more : (xs : List (Option Member)) (k : ℕ) (runs : List Run) → k < length xs
+    → runs ≡ flat_map run_of (take k xs) ++ run_of (get_or xs k None) → runs ≡ flat_map run_of (take (k + 1) xs)
 one_more xs k runs lt is =
     is ∙ sym (runs-more (take k xs) (get_or xs k None)) ∙ ap (flat_map run_of) (sym (take_more xs k None lt))
 

@@ -5,3 +5,4 @@ pub mod New
 pub mod Laws
 pub mod NewLaws
 pub mod Answers
+pub mod Retyped

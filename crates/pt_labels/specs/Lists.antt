@@ -40,7 +40,8 @@ lowered number labels = map (lowered_as number) (without_label number labels)
 
 -- a label under the number above where its own isn't below a number; the greatest number of 64 bits stays
 abbrev pub raised_as : ℕ → Labelled → Labelled
-raised_as number x = if nat_lt x.number number then x else labelled (if nat_lt x.number (2 ^ 64 - 1) then x.number + 1 else x.number) x.label
+raised_as number x =
+    if nat_lt x.number number then x else labelled (if nat_lt x.number (2 ^ 64 - 1) then x.number + 1 else x.number) x.label
 
 -- the labels before a new logical partition takes a number: each from it on one higher
 abbrev pub raised : ℕ → List Labelled → List Labelled

@@ -1,5 +1,6 @@
 -- The word `n` with a letter: a new partition of a slice's label.
-use Rattle.std.specs.Prelude.{◌≡◌, ◌≢◌, ◌<◌, ◌+◌, ◌-◌, ◌^◌, ◌∷◌, [], ℕ, List, flat_map, Option, Some, None, if◌then◌else◌, nat_le, nat_lt, ◌&&◌}
+use Rattle.std.specs.Prelude.{◌≡◌, ◌≢◌, ◌<◌, ◌+◌, ◌-◌, ◌^◌, ◌∷◌, [], ℕ, List, flat_map, Option, Some, None, if◌then◌else◌, nat_le, nat_lt}
+use Rattle.std.specs.Prelude.{◌&&◌}
 use Rattle.pt_bsd.specs.Form.{form_of, sector_by}
 use Rattle.pt_bsd.specs.declared.label.Label.{Label}
 use Rattle.pt_bsd.specs.declared.label.LabelEntry.{LabelEntry}
@@ -24,7 +25,8 @@ pub record HasUnused (b : ℕ) (o : Layout) (number letter : ℕ) (m : Member) (
 -- why there is none
 pub data NoUnused (b : ℕ) (o : Layout) (number letter : ℕ) (r : Refusal) : Type 0 where
   missing : NoEntry b o number letter r → NoUnused b o number letter r
-  taken : (m : Member) (l : Label) (e : LabelEntry) → HasEntry b o number letter m l e → e.size ≢ 0 → r ≡ NumberTaken → NoUnused b o number letter r
+  taken : (m : Member) (l : Label) (e : LabelEntry) → HasEntry b o number letter m l e → e.size ≢ 0 → r ≡ NumberTaken
+      → NoUnused b o number letter r
 
 -- the type of a new partition: 7 where no code is given
 abbrev pub new_type : Option Code → Option ℕ
@@ -75,6 +77,10 @@ pub record PartNew (b number letter alignment start : ℕ) (end : End) (code : O
 -- why it doesn't
 pub data PartNotNew (b number letter alignment start : ℕ) (end : End) (code : Option Code) (o : Layout) (r : Refusal) : Type 0 where
   no_unused : NoUnused b o number letter r → PartNotNew b number letter alignment start end code o r
-  no_type : (m : Member) (l : Label) (e : LabelEntry) → HasUnused b o number letter m l e → new_type code ≡ None → r ≡ UnknownCode → PartNotNew b number letter alignment start end code o r
-  no_place : (m : Member) (l : Label) (e : LabelEntry) (kind : ℕ) → HasUnused b o number letter m l e → new_type code ≡ Some kind → NotPlaced (area_in l m) alignment start end r → PartNotNew b number letter alignment start end code o r
-  no_offset : (m : Member) (l : Label) (e : LabelEntry) (kind : ℕ) (run : Run) → HasUnused b o number letter m l e → new_type code ≡ Some kind → Placed (area_in l m) alignment start end run → ((offset : ℕ) → ¬ HasOffset l m run offset) → r ≡ LabelOffset → PartNotNew b number letter alignment start end code o r
+  no_type : (m : Member) (l : Label) (e : LabelEntry) → HasUnused b o number letter m l e → new_type code ≡ None → r ≡ UnknownCode
+      → PartNotNew b number letter alignment start end code o r
+  no_place : (m : Member) (l : Label) (e : LabelEntry) (kind : ℕ) → HasUnused b o number letter m l e → new_type code ≡ Some kind
+      → NotPlaced (area_in l m) alignment start end r → PartNotNew b number letter alignment start end code o r
+  no_offset : (m : Member) (l : Label) (e : LabelEntry) (kind : ℕ) (run : Run) → HasUnused b o number letter m l e
+      → new_type code ≡ Some kind → Placed (area_in l m) alignment start end run → ((offset : ℕ) → ¬ HasOffset l m run offset)
+      → r ≡ LabelOffset → PartNotNew b number letter alignment start end code o r

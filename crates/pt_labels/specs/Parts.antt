@@ -28,8 +28,10 @@ pub record HasEntry (b : ℕ) (o : Layout) (number letter : ℕ) (m : Member) (l
 pub data NoEntry (b : ℕ) (o : Layout) (number letter : ℕ) (r : Refusal) : Type 0 where
   no_slice : ((m : Member) → ¬ HasSlice b o.body number m) → r ≡ NoSuchPartition → NoEntry b o number letter r
   no_label : (m : Member) → HasSlice b o.body number m → label_of o.labels number ≡ None → r ≡ ForeignLabel → NoEntry b o number letter r
-  is_raw : (m : Member) (l : Label) → HasSlice b o.body number m → label_of o.labels number ≡ Some l → letter ≡ raw → r ≡ ContainerType → NoEntry b o number letter r
-  uncounted : (m : Member) (l : Label) → HasSlice b o.body number m → label_of o.labels number ≡ Some l → letter ≢ raw → slice_index_or l.entries letter None ≡ None → r ≡ NoSuchPartition → NoEntry b o number letter r
+  is_raw : (m : Member) (l : Label) → HasSlice b o.body number m → label_of o.labels number ≡ Some l → letter ≡ raw
+      → r ≡ ContainerType → NoEntry b o number letter r
+  uncounted : (m : Member) (l : Label) → HasSlice b o.body number m → label_of o.labels number ≡ Some l → letter ≢ raw
+      → slice_index_or l.entries letter None ≡ None → r ≡ NoSuchPartition → NoEntry b o number letter r
 
 -- a partition of a slice's label: such an entry of some size
 pub record HasPart (b : ℕ) (o : Layout) (number letter : ℕ) (m : Member) (l : Label) (e : LabelEntry) : Type 0 where
@@ -39,7 +41,8 @@ pub record HasPart (b : ℕ) (o : Layout) (number letter : ℕ) (m : Member) (l 
 -- why there is none
 pub data NoPart (b : ℕ) (o : Layout) (number letter : ℕ) (r : Refusal) : Type 0 where
   no_entry : NoEntry b o number letter r → NoPart b o number letter r
-  unused : (m : Member) (l : Label) (e : LabelEntry) → HasEntry b o number letter m l e → e.size ≡ 0 → r ≡ NoSuchPartition → NoPart b o number letter r
+  unused : (m : Member) (l : Label) (e : LabelEntry) → HasEntry b o number letter m l e → e.size ≡ 0 → r ≡ NoSuchPartition
+      → NoPart b o number letter r
 
 -- the label with another entry of a letter
 abbrev pub with_part : Label → ℕ → LabelEntry → Label
@@ -79,7 +82,8 @@ PartTyped b number letter code o p = PartMade b number letter (TypedAs code) o p
 -- why it hasn't
 pub data PartNotTyped (b number letter : ℕ) (code : Code) (o : Layout) (r : Refusal) : Type 0 where
   no_part : NoPart b o number letter r → PartNotTyped b number letter code o r
-  unknown_code : (m : Member) (l : Label) (e : LabelEntry) → HasPart b o number letter m l e → part_type code ≡ None → r ≡ UnknownCode → PartNotTyped b number letter code o r
+  unknown_code : (m : Member) (l : Label) (e : LabelEntry) → HasPart b o number letter m l e → part_type code ≡ None
+      → r ≡ UnknownCode → PartNotTyped b number letter code o r
 
 -- an entry that is all zero
 abbrev pub Zeroed : LabelEntry → LabelEntry → Type 0

@@ -1,7 +1,8 @@
 //! The labels of a layout as a list.
 
 ghost use Rattle.std.specs.Prelude.{◌≡◌, IfOk};
-ghost use Rattle.pt_labels.specs.Lists.{labelled, without_label, relabelled_as, with_label, labels_below, labels_above, with_new_label, lowered_as, lowered, raised_as, raised, without_logicals};
+ghost use Rattle.pt_labels.specs.Lists.{labelled, without_label, relabelled_as, with_label, labels_below, labels_above, with_new_label};
+ghost use Rattle.pt_labels.specs.Lists.{lowered_as, lowered, raised_as, raised, without_logicals};
 
 use pt_bsd::Label;
 use pt_recover::{Labelled, Labels};

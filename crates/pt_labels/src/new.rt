@@ -12,7 +12,7 @@ use crate::parts::{Spot, entry_of, part_type_of, put_entry};
 use pt_bsd::{Form, Label, LabelEntry};
 use pt_layout::{Layout, Member, part_slot};
 use pt_space::{Lead, Run, Space, place};
-use pt_words::{Code, End, Refusal};
+use pt_words::{Asked, Code, Refusal};
 use std::alloc::{AllocError, Global};
 
 /// The type of a new partition where no code is given: a fast file system.
@@ -27,10 +27,7 @@ fn unused_of<const B: usize>(layout: &Layout, number: u64, letter: u8) -> Result
     ensures err { IfErr result (NoUnused B layout.now number letter) }
     ensures small { IfOk result (λ s. s.slice.first < 2 ^ 66) }
 {
-    let spot = match entry_of::<B>(layout, number, letter) {
-        Ok(spot) => spot,
-        Err(refusal) => return Err(refusal),
-    };
+    let spot = entry_of::<B>(layout, number, letter)?;
     if spot.entry.size != 0 {
         return Err(Refusal::NumberTaken);
     }
@@ -70,10 +67,7 @@ fn taken_in(alloc: Global, label: &Label, slice: &Member) -> Result<Vec<Run>, Al
 {
     let mut taken = Vec::new(alloc);
     for k in 0..8usize {
-        match push_run(&mut taken, part_slot(label, slice, k)) {
-            Ok(()) => {}
-            Err(e) => return Err(e),
-        }
+        push_run(&mut taken, part_slot(label, slice, k))?;
     }
     Ok(taken)
 }
@@ -83,10 +77,7 @@ fn space_in(alloc: Global, label: Label, slice: &Member) -> Result<Space, AllocE
     requires { slice.now.first < 2 ^ 66 }
     ensures { IfOk result (λ s. area_of s ≡ area_in label slice.now) }
 {
-    let taken = match taken_in(alloc, &label, slice) {
-        Ok(taken) => taken,
-        Err(e) => return Err(e),
-    };
+    let taken = taken_in(alloc, &label, slice)?;
     Ok(Space {
         low: slice.first + RESERVED,
         high: slice.last,
@@ -96,26 +87,14 @@ fn space_in(alloc: Global, label: Label, slice: &Member) -> Result<Space, AllocE
 }
 
 // Where a partition of a slice is placed.
-fn place_in(
-    alloc: Global,
-    label: Label,
-    slice: &Member,
-    alignment: u64,
-    start: u64,
-    end: End,
-) -> Result<Run, Refusal>
+fn place_in(alloc: Global, label: Label, slice: &Member, asked: &Asked) -> Result<Run, Refusal>
     requires { slice.now.first < 2 ^ 66 }
-    ensures ok { IfOk result (λ run. Placed (area_in label slice.now) alignment start end run) }
-    ensures err { IfErr result (λ refusal. refusal ≢ Memory → NotPlaced (area_in label slice.now) alignment start end refusal) }
+    ensures ok { IfOk result (λ run. Placed (area_in label slice.now) asked.now.alignment asked.now.start asked.now.end run) }
+    ensures err { IfErr result (λ refusal. refusal ≢ Memory
+        → NotPlaced (area_in label slice.now) asked.now.alignment asked.now.start asked.now.end refusal) }
 {
-    let space = match space_in(alloc, label, slice) {
-        Ok(space) => space,
-        Err(_) => return Err(Refusal::Memory),
-    };
-    match place(space, alignment, start, end) {
-        Ok(run) => Ok(run),
-        Err(refusal) => Err(refusal),
-    }
+    let space = space_in(alloc, label, slice)?;
+    place(space, asked.alignment, asked.start, asked.end)
 }
 
 // The offset that a form gives to a sector, in a slice with this first sector.
@@ -145,14 +124,8 @@ fn entry_at(label: &Label, slice: &Member, run: Run, kind: u8) -> Option<LabelEn
     ensures some { IfSome result (λ e. HasOffset label.now slice.now run e.offset × (e ≡ new_entry (len_of run) e.offset kind)) }
     ensures none { IfNone result ((offset : ℕ) → ¬ HasOffset label.now slice.now run offset) }
 {
-    let offset = match offset_of(label.form(), slice.first, run.first) {
-        Some(offset) => offset,
-        None => return None,
-    };
-    let size = match len_in(run) {
-        Some(size) => size,
-        None => return None,
-    };
+    let offset = offset_of(label.form(), slice.first, run.first)?;
+    let size = len_in(run)?;
     Some(LabelEntry {
         size,
         offset,
@@ -163,10 +136,10 @@ fn entry_at(label: &Label, slice: &Member, run: Run, kind: u8) -> Option<LabelEn
     })
 }
 
-/// `n` with a letter: the layout with a new partition, of a letter from 0 for a, in the label of the slice of a number.
-/// All else of it stays.
+/// `n` with a letter: the layout with a new partition, of a letter from 0 for a, in the label of the slice of the number
+/// that is asked for. All else of it stays.
 ///
-/// `alignment`, `start` and `end` are in the disk's own sector numbers. A partition may stand from the slice's
+/// The alignment, the start and the end are in the disk's own sector numbers. A partition may stand from the slice's
 /// seventeenth sector on, and in none of the label's other partitions. Its offset is written in the label's form. Its
 /// type is 07 where no code is given.
 ///
@@ -178,28 +151,21 @@ fn entry_at(label: &Label, slice: &Member, run: Run, kind: u8) -> Option<LabelEn
 pub fn new_part<const B: usize>(
     alloc: Global,
     layout: Layout,
-    number: u64,
     letter: u8,
-    alignment: u64,
-    start: u64,
-    end: End,
-    code: &Option<Code>,
+    asked: &Asked,
 ) -> Result<Layout, Refusal>
-    ensures ok { IfOk result (λ made. PartNew B number letter alignment start end code.now layout made) }
-    ensures err { IfErr result (λ refusal. refusal ≢ Memory → PartNotNew B number letter alignment start end code.now layout refusal) }
+    ensures ok { IfOk result (λ made.
+        PartNew B asked.now.number letter asked.now.alignment asked.now.start asked.now.end asked.now.code layout made) }
+    ensures err { IfErr result (λ refusal. refusal ≢ Memory
+        → PartNotNew B asked.now.number letter asked.now.alignment asked.now.start asked.now.end asked.now.code layout refusal) }
 {
-    let spot = match unused_of::<B>(&layout, number, letter) {
-        Ok(spot) => spot,
-        Err(refusal) => return Err(refusal),
-    };
-    let kind = match new_type_of(code) {
+    let number = asked.number;
+    let spot = unused_of::<B>(&layout, number, letter)?;
+    let kind = match new_type_of(&asked.code) {
         Some(kind) => kind,
         None => return Err(Refusal::UnknownCode),
     };
-    let run = match place_in(alloc, spot.label, &spot.slice, alignment, start, end) {
-        Ok(run) => run,
-        Err(refusal) => return Err(refusal),
-    };
+    let run = place_in(alloc, spot.label, &spot.slice, asked)?;
     let entry = match entry_at(&spot.label, &spot.slice, run, kind) {
         Some(entry) => entry,
         None => return Err(Refusal::LabelOffset),

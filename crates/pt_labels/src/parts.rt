@@ -1,7 +1,8 @@
 //! The words `t` and `d` with a letter, of a partition of a slice's label.
 
 ghost use Rattle.std.specs.Prelude.{◌≡◌, ◌<◌, ◌^◌, IfOk, IfErr, slice_index_or, None};
-ghost use Rattle.pt_labels.specs.Parts.{HasEntry, NoEntry, HasPart, NoPart, with_part, with_entry_of, part_type, PartTyped, PartNotTyped, PartDeleted, PartNotDeleted};
+ghost use Rattle.pt_labels.specs.Parts.{HasEntry, NoEntry, HasPart, NoPart, with_part, with_entry_of, part_type, PartTyped, PartNotTyped};
+ghost use Rattle.pt_labels.specs.Parts.{PartDeleted, PartNotDeleted};
 
 use crate::lists::put_label;
 use crate::slices::slice_of;
@@ -66,10 +67,7 @@ fn part_of<const B: usize>(layout: &Layout, number: u64, letter: u8) -> Result<S
     ensures ok { IfOk result (λ s. HasPart B layout.now number letter s.slice s.label s.entry) }
     ensures err { IfErr result (NoPart B layout.now number letter) }
 {
-    let spot = match entry_of::<B>(layout, number, letter) {
-        Ok(spot) => spot,
-        Err(refusal) => return Err(refusal),
-    };
+    let spot = entry_of::<B>(layout, number, letter)?;
     if spot.entry.size == 0 {
         return Err(Refusal::NoSuchPartition);
     }
@@ -134,10 +132,7 @@ pub fn set_part_kind<const B: usize>(
     ensures ok { IfOk result (λ made. PartTyped B number letter code.now layout made) }
     ensures err { IfErr result (λ refusal. PartNotTyped B number letter code.now layout refusal) }
 {
-    let spot = match part_of::<B>(&layout, number, letter) {
-        Ok(spot) => spot,
-        Err(refusal) => return Err(refusal),
-    };
+    let spot = part_of::<B>(&layout, number, letter)?;
     let mut entry = spot.entry;
     entry.fstype = match part_type_of(code) {
         Some(kind) => kind,
@@ -157,10 +152,7 @@ pub fn delete_part<const B: usize>(
     ensures ok { IfOk result (λ made. PartDeleted B number letter layout made) }
     ensures err { IfErr result (λ refusal. PartNotDeleted B number letter layout refusal) }
 {
-    let spot = match part_of::<B>(&layout, number, letter) {
-        Ok(spot) => spot,
-        Err(refusal) => return Err(refusal),
-    };
+    let spot = part_of::<B>(&layout, number, letter)?;
     let zero = LabelEntry {
         size: 0,
         offset: 0,

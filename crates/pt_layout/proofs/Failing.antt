@@ -1,6 +1,6 @@
 -- Where a device failed in a verdict.
 use Rattle.std.specs.Prelude.{◌≡◌, ◌<◌, ◌⊎◌, ℕ, List, length, get_or, Some, None}
-use Rattle.std.proofs.Common.{[], ◌∷◌, zero, suc, refl, sym, subst, arith, inl, inr}
+use Rattle.std.proofs.Common.{sym, subst, inl, inr}
 use Rattle.pt_sector.specs.Sectors.{Sectors}
 use Rattle.pt_gpt.specs.Copy.{SideReads}
 use Rattle.pt_sector.specs.Reads.{FailedIn, failed_more}
@@ -20,6 +20,7 @@ use Rattle.pt_recover.specs.declared.error.NoTable.{NoTable}
 use Rattle.pt_recover.specs.declared.error.NoTable.TheVariants as no
 use Rattle.pt_recover.specs.declared.layout.Body.{Body}
 use Rattle.pt_recover.specs.declared.layout.Slice.{Slice}
+use Rattle.pt_recover.proofs.Failed.{place_at}
 use Rattle.pt_layout.specs.Findings.{VerdictReads}
 
 -- a copy's failure
@@ -49,16 +50,13 @@ reason_inside (no.Device at) none = absurd cc
 reason_inside no.Memory none = absurd cc
 reason_inside _ none = λ out. out
 
-place_at : (ps : List Slice) (k : ℕ) (z : Slice) → k < length ps → IsPlace ps (place_of (get_or ps k z))
-place_at [] k z lt = absurd (omega arith)
-place_at (p ∷ ps) zero z lt = inl refl
-place_at (p ∷ ps) (suc k) z lt = inr (place_at ps k z (omega arith))
-
 pub place_failed : (ps : List Slice) (k : ℕ) (z : Slice) (s : ℕ) → k < length ps → s ≡ place_of (get_or ps k z) → IsPlace ps s
 place_failed ps k z s lt is = subst (IsPlace ps) (sym is) (place_at ps k z lt)
 
-pub label_failed : (b n : ℕ) (d : Sectors) (y : Body) (e : Failure) → BodyIs b d y → n ≡ length d → FailedIn (IsPlace (places_of b n y)) e → FailedIn (Reads b d) e
-label_failed b n d y e is count = failed_more (IsPlace (places_of b n y)) (Reads b d) e (λ s at. label y is (subst (λ (m : ℕ). IsPlace (places_of b m y) s) count at))
+pub label_failed : (b n : ℕ) (d : Sectors) (y : Body) (e : Failure) → BodyIs b d y → n ≡ length d
+    → FailedIn (IsPlace (places_of b n y)) e → FailedIn (Reads b d) e
+label_failed b n d y e is count =
+    failed_more (IsPlace (places_of b n y)) (Reads b d) e (λ s at. label y is (subst (λ (m : ℕ). IsPlace (places_of b m y) s) count at))
 
 pub read_failed : (b : ℕ) (d : Sectors) (e : Failure) → FailedIn (Reads b d) e → FailedIn (VerdictReads b d) e
 read_failed b d e = failed_more (Reads b d) (VerdictReads b d) e (λ s reads. inl reads)
@@ -70,5 +68,6 @@ both_reads : (b : ℕ) (d : Sectors) (s : ℕ) → ¬ IsMbrDisk d → HasRoom b 
 both_reads b d s plain room (inl first) = inl (body (table plain room (inl first)))
 both_reads b d s plain room (inr second) = inr (plain, room, second)
 
-pub halves_failed : (b : ℕ) (d : Sectors) (e : Failure) → ¬ IsMbrDisk d → HasRoom b (length d) → FailedIn (BothReads b d) e → FailedIn (VerdictReads b d) e
+pub halves_failed : (b : ℕ) (d : Sectors) (e : Failure) → ¬ IsMbrDisk d → HasRoom b (length d) → FailedIn (BothReads b d) e
+    → FailedIn (VerdictReads b d) e
 halves_failed b d e plain room = failed_more (BothReads b d) (VerdictReads b d) e (λ s reads. both_reads b d s plain room reads)

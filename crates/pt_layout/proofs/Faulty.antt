@@ -1,21 +1,23 @@
 -- The first fault among the groups is the first finding of a layout.
-use Rattle.std.proofs.Common.{◌≡◌, ◌<◌, ◌≤◌, ◌^◌, ℕ, suc, List, ◌++◌, length, get_or, take, drop, Some, None, refl, sym, ap, ◌∙◌, subst, arith, inl, inr, drop-cons, length-take, get_or-take}
+use Rattle.std.proofs.Common.{◌≡◌, ◌<◌, ◌≤◌, ◌^◌, ℕ, suc, List, ◌++◌, length, get_or, take, drop, Some, None, refl, sym, ap, ◌∙◌, subst}
+use Rattle.std.proofs.Common.{arith, inl, inr, drop-cons, length-take, get_or-take}
 use Rattle.std.specs.Prelude.{Contains}
 use Rattle.std.proofs.lemmas.Bool.{cases_lt}
 use Rattle.std.proofs.lemmas.List.{get_or_default, take-append-drop}
 use Rattle.std.proofs.lemmas.List.Elements.{Contains-get_or}
 use Rattle.pt_recover.specs.declared.layout.Layout.{Layout}
-use Rattle.pt_layout.specs.declared.path.Path.{Path}
+use Rattle.pt_path.specs.declared.path.Path.{Path}
 use Rattle.pt_layout.specs.declared.member.Member.{Member}
 use Rattle.pt_layout.specs.declared.overlap.Overlap.{Overlap}
 use Rattle.pt_layout.specs.declared.spot.Spot.{Spot}
 use Rattle.pt_layout.specs.declared.faults.Fault.TheVariants.{Outside, Buried}
-use Rattle.pt_layout.specs.Paths.{rank}
+use Rattle.pt_path.specs.Paths.{rank}
 use Rattle.pt_layout.specs.Members.{Exists, Group, groups_of}
 use Rattle.pt_layout.specs.Overlaps.{nobody, IsApart}
 use Rattle.pt_layout.specs.Spots.{IsBefore, spot, LeastIs}
 use Rattle.pt_layout.specs.Row.{FaultAmong, no_group, AllOrdered, SharedIs}
-use Rattle.pt_layout.specs.Sound.{IsInside, IsOf, AllInside, AllApart, OffTables, IsBuried, IsOutside, IsFirstOutside, IsFirstShared, IsFirstBuried}
+use Rattle.pt_layout.specs.Sound.{IsInside, IsOf, AllInside, AllApart, OffTables, IsBuried, IsOutside, IsFirstOutside, IsFirstShared}
+use Rattle.pt_layout.specs.Sound.{IsFirstBuried}
 
 stable_le : (a b : ℕ) → ¬ (¬ (a ≤ b)) → a ≤ b
 stable_le a b nn = elim (cases_lt b a) as (λ _. a ≤ b) [ inl lt ↦ absurd (nn (λ le. omega arith)) | inr ge ↦ ge ]
@@ -85,7 +87,9 @@ not_lower : (p q : Path) (s t : ℕ) → q ≡ p → ¬ IsBefore (spot q t) (spo
 not_lower p q s t same none = elim (cases_lt t s) as (λ _. s ≤ t) [ inl lt ↦ absurd (none (inr (ap rank same, lt))) | inr ge ↦ ge ]
 
 pub inside_all : (b : ℕ) (o : Layout) → LeastIs (FaultAmong b o Outside (groups_of b o)) None → AllInside b o
-inside_all b o none g m is = inside_stable g m (λ out. none m.path 0 (outside_at b o m.path (record { group = g; member = m; is_of = is; path = refl; outside = out })))
+inside_all b o none g m is =
+    inside_stable g m (λ out. none m.path 0 (outside_at b o m.path
+    (record { group = g; member = m; is_of = is; path = refl; outside = out })))
 
 pub outside_first : (b : ℕ) (o : Layout) (s : Spot) → LeastIs (FaultAmong b o Outside (groups_of b o)) (Some s) → IsFirstOutside b o s.path
 outside_first b o s is = record {
@@ -94,7 +98,8 @@ outside_first b o s is = record {
 }
 
 -- tables in members
-buried_of : (b : ℕ) (o : Layout) (q : Path) (t : ℕ) → FaultAmong b o Buried (groups_of b o) q t → (m : Member) × (m.path ≡ q) × IsBuried b o m t
+buried_of : (b : ℕ) (o : Layout) (q : Path) (t : ℕ) → FaultAmong b o Buried (groups_of b o) q t
+    → (m : Member) × (m.path ≡ q) × IsBuried b o m t
 buried_of b o q t (j, low, (i, lt, (path, exists, (kind, holds, table, foreign)))) =
     let of = of_place b o j i low lt in (
       get_or (get_or (groups_of b o) j no_group).members i nobody,
@@ -120,7 +125,8 @@ buried_at b o m t inside is =
 pub off_all : (b : ℕ) (o : Layout) → AllInside b o → LeastIs (FaultAmong b o Buried (groups_of b o)) None → OffTables b o
 off_all b o inside none m s is = none m.path s (buried_at b o m s inside is)
 
-pub buried_first : (b : ℕ) (o : Layout) (s : Spot) → AllInside b o → LeastIs (FaultAmong b o Buried (groups_of b o)) (Some s) → IsFirstBuried b o s.path s.lba
+pub buried_first : (b : ℕ) (o : Layout) (s : Spot) → AllInside b o → LeastIs (FaultAmong b o Buried (groups_of b o)) (Some s)
+    → IsFirstBuried b o s.path s.lba
 buried_first b o s inside is =
     let h = buried_of b o s.path s.lba is.0 in
     record {
@@ -141,10 +147,12 @@ apart_all b o none g is =
     let same : get_or (groups_of b o) is.0 no_group ≡ g = get_or_default (groups_of b o) is.0 no_group g is.1 ∙ is.2 in
     subst (λ (h : Group). IsApart h.members) same (none is.0 is.1)
 
-apart_front : (groups : List Group) (k : ℕ) (g : Group) → ((j : ℕ) → j < k → IsApart (get_or groups j no_group).members) → k < length groups → Contains (take k groups) g → IsApart g.members
+apart_front : (groups : List Group) (k : ℕ) (g : Group) → ((j : ℕ) → j < k → IsApart (get_or groups j no_group).members)
+    → k < length groups → Contains (take k groups) g → IsApart g.members
 apart_front groups k g apart lt is =
     let low : is.0 < k = omega (arith, is.1, length-take k groups) in
-    let same : get_or groups is.0 no_group ≡ g = get_or_default groups is.0 no_group g (omega arith) ∙ sym (get_or-take k groups is.0 g low) ∙ is.2 in
+    let same : get_or groups is.0 no_group ≡ g =
+    get_or_default groups is.0 no_group g (omega arith) ∙ sym (get_or-take k groups is.0 g low) ∙ is.2 in
     subst (λ (h : Group). IsApart h.members) same (apart is.0 low)
 
 pub shared_first : (b : ℕ) (o : Layout) (x : Overlap) → SharedIs (groups_of b o) (Some x) → IsFirstShared b o x.before x.it
@@ -152,7 +160,9 @@ shared_first b o x (k, is) = record {
   before = take k (groups_of b o);
   group = get_or (groups_of b o) k no_group;
   rest = drop (suc k) (groups_of b o);
-  stands = sym (take-append-drop k (groups_of b o)) ∙ ap (λ (l : List Group). take k (groups_of b o) ++ l) (drop-cons (groups_of b o) k no_group is.below);
+  stands =
+      sym (take-append-drop k (groups_of b o))
+      ∙ ap (λ (l : List Group). take k (groups_of b o) ++ l) (drop-cons (groups_of b o) k no_group is.below);
   apart = λ g front. apart_front (groups_of b o) k g is.apart is.below front;
   here = is.here;
 }

@@ -1,13 +1,9 @@
 -- Label places that bear the magic of a label and hold none.
-use Rattle.std.proofs.Common.{◌≡◌, ◌≤◌, ◌∙◌, ℕ, List, get_or, Some, None, refl, sym, subst, arith, inl, inr}
+use Rattle.std.proofs.Common.{◌≡◌, ◌≤◌, ◌∙◌, ℕ, get_or, Some, None, refl, sym, subst, arith, inl, inr}
 use Rattle.std.proofs.lemmas.Bool.{cases_lt}
 use Rattle.std.proofs.lemmas.List.{get_or_default}
 use Rattle.std.proofs.lemmas.List.Elements.{Contains-get_or}
 use Rattle.pt_sector.specs.Sectors.{Sectors}
-use Rattle.pt_bsd.specs.Label.{LabelBytes, IsLabelFault}
-use Rattle.pt_bsd.specs.Laws.{label_none}
-use Rattle.pt_bsd.specs.declared.label.Label.{Label}
-use Rattle.pt_bsd.specs.declared.label.LabelError.{LabelError}
 use Rattle.pt_recover.specs.Labels.{places_of}
 use Rattle.pt_recover.specs.declared.layout.Slice.{Slice}
 use Rattle.pt_recover.specs.declared.layout.Layout.{Layout}
@@ -15,9 +11,6 @@ use Rattle.pt_layout.specs.Members.{number_path}
 use Rattle.pt_layout.specs.Healthy.{IsForeign, HasForeign}
 use Rattle.pt_layout.specs.Next.{NextIs}
 use Rattle.pt_layout.specs.Foreign.{ForeignAmong, ForeignIs, no_slice}
-
-pub no_label : (e : LabelError) (first len : ℕ) (bytes : List ℕ) → IsLabelFault e first len bytes → ¬ ((l : Label) × LabelBytes l first len bytes)
-no_label e first len bytes fault has = label_none e has.0 first len bytes fault has.1
 
 among_has : (b : ℕ) (d : Sectors) (o : Layout) (n : ℕ) → ForeignAmong d (places_of b o.sectors o.body) n → HasForeign b d o n
 among_has b d o n is = record {
@@ -29,13 +22,21 @@ among_has b d o n is = record {
 
 has_among : (b : ℕ) (d : Sectors) (o : Layout) (n : ℕ) → HasForeign b d o n → ForeignAmong d (places_of b o.sectors o.body) n
 has_among b d o n is =
-    let same : get_or (places_of b o.sectors o.body) is.stands.0 no_slice ≡ is.slice = get_or_default (places_of b o.sectors o.body) is.stands.0 no_slice is.slice is.stands.1 ∙ is.stands.2 in
-    (is.stands.0, is.stands.1, (subst (λ (p : Slice). n ≡ p.number) (sym same) (sym is.number), subst (λ (p : Slice). IsForeign d p) (sym same) is.foreign))
+    let same : get_or (places_of b o.sectors o.body) is.stands.0 no_slice ≡ is.slice =
+    get_or_default (places_of b o.sectors o.body) is.stands.0 no_slice is.slice is.stands.1 ∙ is.stands.2 in (
+      is.stands.0,
+      is.stands.1,
+      (
+        subst (λ (p : Slice). n ≡ p.number) (sym same) (sym is.number),
+        subst (λ (p : Slice). IsForeign d p) (sym same) is.foreign,
+      ),
+    )
 
 pub foreign_none : (b : ℕ) (d : Sectors) (o : Layout) → NextIs (ForeignAmong d (places_of b o.sectors o.body)) 0 None → ForeignIs b d o None
 foreign_none b d o none n is = none n (omega arith) (has_among b d o n is)
 
-pub foreign_some : (b : ℕ) (d : Sectors) (o : Layout) (n : ℕ) → NextIs (ForeignAmong d (places_of b o.sectors o.body)) 0 (Some n) → ForeignIs b d o (Some (number_path n))
+pub foreign_some : (b : ℕ) (d : Sectors) (o : Layout) (n : ℕ) → NextIs (ForeignAmong d (places_of b o.sectors o.body)) 0 (Some n)
+    → ForeignIs b d o (Some (number_path n))
 foreign_some b d o n is = record {
   whole_slice = refl;
   here = among_has b d o n is.0;

@@ -10,7 +10,5 @@ pub mod Foreignness
 pub mod Verdicts
 pub mod Surveys
 pub mod LabelPlaces
-pub mod Numbers
-pub mod Paths
 pub mod Failing
 pub mod InOrder

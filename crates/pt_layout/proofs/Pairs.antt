@@ -25,9 +25,11 @@ within es k e is = elim (cases_lt k (length es)) as (λ _. k < length es) [
   | inr past ↦ (let none : get_or es k None ≡ None = get_or_past es k None past in absurd cc)
 ]
 
-same_of : (es : List (Option Entry)) (i k : ℕ) (e f : Entry) → get_or es i None ≡ Some e → get_or es k None ≡ Some f → e.unique ≡ f.unique → SameAt es i k
+same_of : (es : List (Option Entry)) (i k : ℕ) (e f : Entry) → get_or es i None ≡ Some e → get_or es k None ≡ Some f
+    → e.unique ≡ f.unique → SameAt es i k
 same_of es i k e f at_i at_k same =
-    subst (λ (x : Option Entry). HasSameUnique x (get_or es k None)) (sym at_i) (subst (λ (x : Option Entry). HasSameUnique (Some e) x) (sym at_k) same)
+    subst (λ (x : Option Entry). HasSameUnique x (get_or es k None)) (sym at_i)
+    (subst (λ (x : Option Entry). HasSameUnique (Some e) x) (sym at_k) same)
 
 -- two numbers are one past two places
 record Places (t : Table) (i j : ℕ) : Type 0 where
@@ -55,17 +57,21 @@ places t (suc i) (suc j) is = record {
 pub distinct : (t : Table) → TwinsAre t.entries None → SameGuidIs (Gpt t) None
 distinct t none i j is = let p = places t i j is in none p.first p.second p.order p.below p.same
 
-found : (t : Table) (i k : ℕ) (x y : Option Entry) → get_or t.entries i None ≡ x → get_or t.entries k None ≡ y → HasSameUnique x y → i < k → IsSameGuid (Gpt t) (suc i) (suc k)
+found : (t : Table) (i k : ℕ) (x y : Option Entry) → get_or t.entries i None ≡ x → get_or t.entries k None ≡ y → HasSameUnique x y
+    → i < k → IsSameGuid (Gpt t) (suc i) (suc k)
 found t i k None y at_i at_k same lt = absurd same
 found t i k (Some e) None at_i at_k same lt = absurd same
-found t i k (Some e) (Some f) at_i at_k same lt = record { lower = e; higher = f; at_lower = at_i; at_higher = at_k; order = omega arith; same = same }
+found t i k (Some e) (Some f) at_i at_k same lt =
+    record { lower = e; higher = f; at_lower = at_i; at_higher = at_k; order = omega arith; same = same }
 
 pub first_pair : (t : Table) (p : ℕ × ℕ) → TwinsAre t.entries (Some p) → SameGuidIs (Gpt t) (Some (p.0 + 1, p.1 + 1))
 first_pair t p is = record {
   here = (let a : suc p.0 ≡ p.0 + 1 = omega arith in let b : suc p.1 ≡ p.1 + 1 = omega arith in
-      subst (λ (k : ℕ). IsSameGuid (Gpt t) (p.0 + 1) k) b (subst (λ (i : ℕ). IsSameGuid (Gpt t) i (suc p.1)) a (found t p.0 p.1 (get_or t.entries p.0 None) (get_or t.entries p.1 None) refl refl is.2 is.0)));
-  first = λ k l same. (let q = places t k l same in elim (is.3 q.first q.second q.order q.below q.same) as (λ _. (p.1 + 1 < l) ⊎ ((p.1 + 1 ≡ l) × (p.0 + 1 ≤ k))) [
-    | inl lt ↦ inl (omega (arith, q.at_second))
-    | inr at ↦ inr (omega (arith, q.at_second), omega (arith, q.at_first))
-  ]);
+      subst (λ (k : ℕ). IsSameGuid (Gpt t) (p.0 + 1) k) b (subst (λ (i : ℕ). IsSameGuid (Gpt t) i (suc p.1)) a
+      (found t p.0 p.1 (get_or t.entries p.0 None) (get_or t.entries p.1 None) refl refl is.2 is.0)));
+  first = λ k l same. (let q = places t k l same in elim (is.3 q.first q.second q.order q.below q.same) as (λ _. (p.1 + 1 < l)
+      ⊎ ((p.1 + 1 ≡ l) × (p.0 + 1 ≤ k))) [
+        | inl lt ↦ inl (omega (arith, q.at_second))
+        | inr at ↦ inr (omega (arith, q.at_second), omega (arith, q.at_first))
+      ]);
 }

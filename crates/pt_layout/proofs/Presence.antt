@@ -1,5 +1,6 @@
 -- Members that are present, place by place.
-use Rattle.std.proofs.Common.{◌≡◌, ◌<◌, ◌≤◌, ◌+◌, ℕ, suc, List, [], ◌∷◌, ◌++◌, length, get_or, take, drop, Option, None, refl, sym, ap, ◌∙◌, arith, append-nil, length-append, length-drop, get_or-drop}
+use Rattle.std.proofs.Common.{◌≡◌, ◌<◌, ◌≤◌, ◌+◌, ℕ, suc, List, [], ◌∷◌, ◌++◌, length, get_or, take, drop, Option, None, refl, sym, ap, ◌∙◌}
+use Rattle.std.proofs.Common.{arith, append-nil, length-append, length-drop, get_or-drop}
 use Rattle.std.specs.Prelude.{◌-◌, option_to_list, slice_range}
 use Rattle.std.proofs.Math.Seq.{take-suc}
 use Rattle.std.proofs.lemmas.List.{take_all}
@@ -16,10 +17,12 @@ present-one o = append-nil (option_to_list o)
 present-more : (xs : List (Option Member)) (o : Option Member) → present (xs ++ o ∷ []) ≡ present xs ++ option_to_list o
 present-more xs o = flat_map-append option_to_list xs (o ∷ []) ∙ ap (λ (l : List Member). present xs ++ l) (present-one o)
 
-pub take_more : (xs : List (Option Member)) (k : ℕ) (ms : List Member) → k < length xs → ms ≡ present (take k xs) ++ option_to_list (get_or xs k None) → ms ≡ present (take (k + 1) xs)
+pub take_more : (xs : List (Option Member)) (k : ℕ) (ms : List Member) → k < length xs
+    → ms ≡ present (take k xs) ++ option_to_list (get_or xs k None) → ms ≡ present (take (k + 1) xs)
 take_more xs k ms lt is =
     let e : suc k ≡ k + 1 = omega arith in
-    is ∙ sym (present-more (take k xs) (get_or xs k None)) ∙ ap present (sym (take-suc xs k None lt)) ∙ ap (λ (n : ℕ). present (take n xs)) e
+    is ∙ sym (present-more (take k xs) (get_or xs k None)) ∙ ap present (sym (take-suc xs k None lt))
+    ∙ ap (λ (n : ℕ). present (take n xs)) e
 
 pub take_start : (xs : List (Option Member)) → present (take 0 xs) ≡ []
 take_start xs = refl
@@ -30,12 +33,15 @@ take_end xs k past = ap present (take_all k xs past)
 pub range_start : (xs : List (Option Member)) (i : ℕ) → present (slice_range xs i i) ≡ []
 range_start xs i = let e : i - i ≡ 0 = omega arith in ap (λ (n : ℕ). present (take n (drop i xs))) e
 
-pub range_more : (xs : List (Option Member)) (i k : ℕ) (ms : List Member) → i ≤ k → k < length xs → ms ≡ present (slice_range xs i k) ++ option_to_list (get_or xs k None) → ms ≡ present (slice_range xs i (k + 1))
+pub range_more : (xs : List (Option Member)) (i k : ℕ) (ms : List Member) → i ≤ k → k < length xs
+    → ms ≡ present (slice_range xs i k) ++ option_to_list (get_or xs k None) → ms ≡ present (slice_range xs i (k + 1))
 range_more xs i k ms low lt is =
     let e : (k - i) + 1 ≡ (k + 1) - i = omega arith in
     let f : i + (k - i) ≡ k = omega arith in
     let at : get_or (drop i xs) (k - i) None ≡ get_or xs k None = get_or-drop i xs (k - i) None ∙ ap (λ (n : ℕ). get_or xs n None) f in
-    take_more (drop i xs) (k - i) ms (omega (arith, length-drop i xs)) (is ∙ ap (λ (o : Option Member). present (take (k - i) (drop i xs)) ++ option_to_list o) (sym at)) ∙ ap (λ (n : ℕ). present (take n (drop i xs))) e
+    take_more (drop i xs) (k - i) ms (omega (arith, length-drop i xs))
+    (is ∙ ap (λ (o : Option Member). present (take (k - i) (drop i xs)) ++ option_to_list o) (sym at))
+    ∙ ap (λ (n : ℕ). present (take n (drop i xs))) e
 
 drop-append : {X : Type 0} (xs ys : List X) → drop (length xs) (xs ++ ys) ≡ ys
 drop-append [] ys = refl
@@ -50,7 +56,8 @@ range_tops b y n is =
     let e : n - 0 ≡ length (tops b y) = omega (arith, is) in
     ap (λ (k : ℕ). present (take k (slots b y))) e ∙ ap present (take-append (tops b y) (logicals b y))
 
-pub range_logicals : (b : ℕ) (y : Body) (n m : ℕ) → n ≡ length (tops b y) → m ≡ length (slots b y) → present (slice_range (slots b y) n m) ≡ present (logicals b y)
+pub range_logicals : (b : ℕ) (y : Body) (n m : ℕ) → n ≡ length (tops b y) → m ≡ length (slots b y)
+    → present (slice_range (slots b y) n m) ≡ present (logicals b y)
 range_logicals b y n m is all =
     let rest : drop n (slots b y) ≡ logicals b y = ap (λ (k : ℕ). drop k (slots b y)) is ∙ drop-append (tops b y) (logicals b y) in
     let e : length (logicals b y) ≤ m - n = omega (arith, is, all, length-append (tops b y) (logicals b y)) in

@@ -39,7 +39,8 @@ pub gpt_numbers : (o : Layout) (t : Table) → o.body ≡ Gpt t → Numbers o
 gpt_numbers o t same = subst (λ (y : Body). BodyNumbers y) (sym same) tt
 
 pub table_survey : (b : ℕ) (d : Sectors) (h : Head) (t : Table) (o : Layout) (f : Option Finding) (primary : Bool) (guarded : List Run)
-    → HeadOf d h → BodyIs b d (Gpt t) → LayoutOf b d t o → FindingIs b d (Ok o) f → IsTrue primary ↔ HasCopy b d Primary → ArePlaces (places_of b (length d) (Gpt t)) guarded
+    → HeadOf d h → BodyIs b d (Gpt t) → LayoutOf b d t o → FindingIs b d (Ok o) f → IsTrue primary ↔ HasCopy b d Primary
+    → ArePlaces (places_of b (length d) (Gpt t)) guarded
     → IsSurvey b d (record { head = h; found = Ok o; finding = f; primary = primary; guarded = guarded })
 table_survey b d h t o f primary guarded is body of finding first places = record {
   head = is;
@@ -52,7 +53,8 @@ table_survey b d h t o f primary guarded is body of finding first places = recor
 
 -- a disk that isn't an MBR disk, and denotes nothing
 pub nothing_survey : (b : ℕ) (d : Sectors) (h : Head) (e : NoTable) (guarded : List Run)
-    → HeadOf d h → ¬ IsMbrDisk d → Denotes b d None → IsReason b d e → (HasRoom b (length d) → ¬ HasCopy b d Primary) → ((s : ℕ) → ¬ IsIn guarded s) → IsSurvey b d (nothing_of h e guarded)
+    → HeadOf d h → ¬ IsMbrDisk d → Denotes b d None → IsReason b d e → (HasRoom b (length d) → ¬ HasCopy b d Primary)
+    → ((s : ℕ) → ¬ IsIn guarded s) → IsSurvey b d (nothing_of h e guarded)
 nothing_survey b d h e guarded is plain none reason without empty = record {
   head = is;
   found = (none, reason);
@@ -62,7 +64,8 @@ nothing_survey b d h e guarded is plain none reason without empty = record {
   guarded = λ s. (λ i. absurd (empty s i), λ g. absurd (guarded_nowhere b d s plain none g));
 }
 
-traced_guarded : (b : ℕ) (d : Sectors) (guarded : List Run) → IsMbrDisk d → IsTraceOf b d guarded → (s : ℕ) → IsIn guarded s ↔ IsGuarded b d s
+traced_guarded : (b : ℕ) (d : Sectors) (guarded : List Run) → IsMbrDisk d → IsTraceOf b d guarded → (s : ℕ)
+    → IsIn guarded s ↔ IsGuarded b d s
 traced_guarded b d guarded mbr trace s = (λ i. reads_guarded b d s mbr ((trace s).0 i), λ g. (trace s).1 (guarded_reads b d s g))
 
 -- an MBR disk
@@ -78,7 +81,8 @@ mbr_survey b d o f guarded mbr denotes numbers finding trace = record {
   guarded = traced_guarded b d guarded mbr trace;
 }
 
-inside_trace : (b : ℕ) (d : Sectors) (e : NoTable) (guarded : List Run) → ¬ IsOutside e → IsOutside e ⊎ IsTraceOf b d guarded → IsTraceOf b d guarded
+inside_trace : (b : ℕ) (d : Sectors) (e : NoTable) (guarded : List Run) → ¬ IsOutside e → IsOutside e ⊎ IsTraceOf b d guarded
+    → IsTraceOf b d guarded
 inside_trace b d e guarded inside (inl out) = absurd (inside out)
 inside_trace b d e guarded inside (inr trace) = trace
 

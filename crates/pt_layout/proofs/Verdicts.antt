@@ -17,9 +17,10 @@ use Rattle.pt_recover.specs.declared.error.NoTable.TheVariants as no
 use Rattle.pt_recover.specs.declared.layout.Layout.{Layout}
 use Rattle.pt_recover.specs.declared.layout.Body.{Body}
 use Rattle.pt_recover.specs.declared.layout.Body.TheVariants.{Mbr, Gpt}
-use Rattle.pt_layout.specs.declared.path.Path.{Path}
+use Rattle.pt_path.specs.declared.path.Path.{Path}
 use Rattle.pt_layout.specs.declared.finding.Finding.{Finding}
-use Rattle.pt_layout.specs.declared.finding.Finding.TheVariants.{NoTable, PrimaryCopy, BackupCopy, CopiesDiffer, Alternate, Protective, OutsideUsable, Overlap, OnTable, SameGuid, ForeignLabel}
+use Rattle.pt_layout.specs.declared.finding.Finding.TheVariants.{NoTable, PrimaryCopy, BackupCopy, CopiesDiffer, Alternate, Protective}
+use Rattle.pt_layout.specs.declared.finding.Finding.TheVariants.{OutsideUsable, Overlap, OnTable, SameGuid, ForeignLabel}
 use Rattle.pt_layout.specs.Sound.{Sound, UnsoundIs}
 use Rattle.pt_layout.specs.Healthy.{IsBodyWhole, IsHealthy, HasCopies}
 use Rattle.pt_layout.specs.Foreign.{ForeignIs}
@@ -31,7 +32,8 @@ use Rattle.pt_layout.specs.declared.health.Head.TheVariants as head
 use Rattle.pt_layout.specs.Verdicts.{HeadIs, BrokenIs, LayoutOf, PairIs}
 use Rattle.pt_layout.specs.declared.halves.Half.{Half}
 
-pub unsound_finding : (b : ℕ) (d : Sectors) (o : Layout) (f : Finding) → Denotes b d (Some o) → IsBodyWhole b d o.body → UnsoundIs b o (Some f) → IsFinding b d f
+pub unsound_finding : (b : ℕ) (d : Sectors) (o : Layout) (f : Finding) → Denotes b d (Some o) → IsBodyWhole b d o.body
+    → UnsoundIs b o (Some f) → IsFinding b d f
 unsound_finding b d o (OutsideUsable p) denotes whole is = (o, denotes, (whole, is))
 unsound_finding b d o (Overlap p q) denotes whole is = (o, denotes, (whole, is))
 unsound_finding b d o (OnTable p s) denotes whole is = (o, denotes, (whole, is))
@@ -44,10 +46,12 @@ unsound_finding b d o (Alternate side) denotes whole is = absurd is
 unsound_finding b d o Protective denotes whole is = absurd is
 unsound_finding b d o (ForeignLabel p) denotes whole is = absurd is
 
-pub foreign_finding : (b : ℕ) (d : Sectors) (o : Layout) (p : Path) → Denotes b d (Some o) → IsBodyWhole b d o.body → Sound b o → ForeignIs b d o (Some p) → IsFinding b d (ForeignLabel p)
+pub foreign_finding : (b : ℕ) (d : Sectors) (o : Layout) (p : Path) → Denotes b d (Some o) → IsBodyWhole b d o.body → Sound b o
+    → ForeignIs b d o (Some p) → IsFinding b d (ForeignLabel p)
 foreign_finding b d o p denotes whole sound is = (o, denotes, (whole, sound, is))
 
-pub healthy : (b : ℕ) (d : Sectors) (o : Layout) → Denotes b d (Some o) → IsBodyWhole b d o.body → Sound b o → ForeignIs b d o None → IsHealthy b d o
+pub healthy : (b : ℕ) (d : Sectors) (o : Layout) → Denotes b d (Some o) → IsBodyWhole b d o.body → Sound b o → ForeignIs b d o None
+    → IsHealthy b d o
 healthy b d o denotes whole sound none = record { denotes = denotes; sound = sound; whole = whole; no_foreign = none }
 
 -- a GPT with its labels is denoted
@@ -58,11 +62,14 @@ gpt_denotes b d t o is of = (
   subst (λ (y : Body). LabelsAre d (places_of b (length d) y) o.labels) (sym of.1) of.2,
 )
 
-pub primary_body : (b : ℕ) (d : Sectors) (h : Header) (t : Table) → (¬ IsMbrDisk d) → HasRoom b (length d) → CopyWith b d Primary h t → BodyIs b d (Gpt t)
+pub primary_body : (b : ℕ) (d : Sectors) (h : Header) (t : Table) → (¬ IsMbrDisk d) → HasRoom b (length d)
+    → CopyWith b d Primary h t → BodyIs b d (Gpt t)
 primary_body b d h t plain room is = (plain, room, inl (record { room = room; head = h; stands = is }))
 
-pub backup_body : (b : ℕ) (d : Sectors) (e : CopyError) (h : Header) (t : Table) → (¬ IsMbrDisk d) → HasRoom b (length d) → IsCopyFault b d Primary e → CopyWith b d Backup h t → BodyIs b d (Gpt t)
-backup_body b d e h t plain room fault is = (plain, room, inr (no_copy_lem b d Primary e fault, record { room = room; head = h; stands = is }))
+pub backup_body : (b : ℕ) (d : Sectors) (e : CopyError) (h : Header) (t : Table) → (¬ IsMbrDisk d) → HasRoom b (length d)
+    → IsCopyFault b d Primary e → CopyWith b d Backup h t → BodyIs b d (Gpt t)
+backup_body b d e h t plain room fault is =
+    (plain, room, inr (no_copy_lem b d Primary e fault, record { room = room; head = h; stands = is }))
 
 -- what breaks the copies is found
 pub broken_finding : (b : ℕ) (d : Sectors) (o : Layout) (f : Finding) → Denotes b d (Some o) → IsBodyBroken b d o.body f → IsFinding b d f
@@ -86,7 +93,8 @@ broken_finding b d o f denotes broken = by_body o.body refl broken
         by_finding (ForeignLabel p) is = absurd is
 
 -- two copies
-copies_of : (b : ℕ) (d : Sectors) (p q : Half) → HalfIs b d Primary p → HalfIs b d Backup q → p.table ≡ q.table → HasCopies b d p.table p.header q.header
+copies_of : (b : ℕ) (d : Sectors) (p q : Half) → HalfIs b d Primary p → HalfIs b d Backup q → p.table ≡ q.table
+    → HasCopies b d p.table p.header q.header
 copies_of b d p q x y same = record { first = x; second = subst (λ (t : Table). CopyWith b d Backup q.header t) (sym same) y }
 
 protected : (d : Sectors) (h : Head) → HeadOf d h → h ≡ head.Protected → IsProtective (length d) (sector d 0)
@@ -94,12 +102,14 @@ protected d head.Mbr is e = absurd cc
 protected d head.Protected is e = is.1
 protected d head.Unprotected is e = absurd cc
 
-unprotected : (d : Sectors) (h : Head) → ¬ IsMbrDisk d → 0 < length d → HeadOf d h → h ≢ head.Protected → ¬ IsProtective (length d) (sector d 0)
+unprotected : (d : Sectors) (h : Head) → ¬ IsMbrDisk d → 0 < length d → HeadOf d h → h ≢ head.Protected
+    → ¬ IsProtective (length d) (sector d 0)
 unprotected d head.Mbr plain some is e = absurd (plain is)
 unprotected d head.Protected plain some is e = absurd (e refl)
 unprotected d head.Unprotected plain some is e = is.1 some
 
-pub pair_broken : (b : ℕ) (d : Sectors) (h : Head) (p q : Half) (f : Option Finding) → ¬ IsMbrDisk d → HeadOf d h → HasRoom b (length d) → HalfIs b d Primary p → HalfIs b d Backup q → PairIs (length d) h p q f → BrokenIs b d (Gpt p.table) f
+pub pair_broken : (b : ℕ) (d : Sectors) (h : Head) (p q : Half) (f : Option Finding) → ¬ IsMbrDisk d → HeadOf d h
+    → HasRoom b (length d) → HalfIs b d Primary p → HalfIs b d Backup q → PairIs (length d) h p q f → BrokenIs b d (Gpt p.table) f
 pair_broken b d h p q None plain is room x y pair = record {
   primary = p.header;
   backup = q.header;
@@ -108,13 +118,25 @@ pair_broken b d h p q None plain is room x y pair = record {
   protective = protected d h is pair.3;
 }
 pair_broken b d h p q (Some CopiesDiffer) plain is room x y pair =
-    record { primary = p.table; backup = q.table; first = record { room = room; head = p.header; stands = x }; second = record { room = room; head = q.header; stands = y }; differ = pair }
+    record {
+      primary = p.table;
+      backup = q.table;
+      first = record { room = room; head = p.header; stands = x };
+      second = record { room = room; head = q.header; stands = y };
+      differ = pair;
+    }
 pair_broken b d h p q (Some (Alternate Primary)) plain is room x y pair =
     record { primary = p.header; backup = q.header; copies = copies_of b d p q x y pair.0; other = pair.1 }
 pair_broken b d h p q (Some (Alternate Backup)) plain is room x y pair =
     record { primary = p.header; backup = q.header; copies = copies_of b d p q x y pair.0; other = (pair.1, pair.2) }
 pair_broken b d h p q (Some Protective) plain is room x y pair =
-    record { primary = p.header; backup = q.header; copies = copies_of b d p q x y pair.0; alternates = record { first = pair.1; second = pair.2 }; other = unprotected d h plain (omega (arith, room)) is pair.3 }
+    record {
+      primary = p.header;
+      backup = q.header;
+      copies = copies_of b d p q x y pair.0;
+      alternates = record { first = pair.1; second = pair.2 };
+      other = unprotected d h plain (omega (arith, room)) is pair.3;
+    }
 pair_broken b d h p q (Some (NoTable e)) plain is room x y pair = absurd pair
 pair_broken b d h p q (Some (PrimaryCopy e)) plain is room x y pair = absurd pair
 pair_broken b d h p q (Some (BackupCopy e)) plain is room x y pair = absurd pair
@@ -129,7 +151,8 @@ no_tables : (b : ℕ) (d : Sectors) → (¬ IsMbrDisk d) → ((t : Table) → Ha
 no_tables b d plain none (Mbr rs chain) is = plain is.0.0
 no_tables b d plain none (Gpt t) is = none t is.1 is.2
 
-pub neither_reason : (b : ℕ) (d : Sectors) (e f : CopyError) → ¬ IsMbrDisk d → HasRoom b (length d) → IsCopyFault b d Primary e → IsCopyFault b d Backup f → Denotes b d None × IsReason b d (no.NoCopy e f)
+pub neither_reason : (b : ℕ) (d : Sectors) (e f : CopyError) → ¬ IsMbrDisk d → HasRoom b (length d) → IsCopyFault b d Primary e
+    → IsCopyFault b d Backup f → Denotes b d None × IsReason b d (no.NoCopy e f)
 neither_reason b d e f plain room x y = (
   no_tables b d plain (λ t big table. elim table as (λ _. ⊥) [
     | inl copy ↦ no_copy_lem b d Primary e x (t, copy)
@@ -151,7 +174,8 @@ mbr_whole b d o mbr denotes = by_body o.body denotes.1 where
 pub head_is : (d : Sectors) (n : ℕ) (h : Head) → HeadIs n (sector d 0) h → n ≡ length d → 0 < n → HeadOf d h
 head_is d n head.Mbr is count some = (subst (λ (m : ℕ). 0 < m) count some, is)
 head_is d n head.Protected is count some = (λ disk. is.0 disk.1, subst (λ (m : ℕ). IsProtective m (sector d 0)) count is.1)
-head_is d n head.Unprotected is count some = (λ disk. is.0 disk.1, λ any protective. is.1 (subst (λ (m : ℕ). IsProtective m (sector d 0)) (sym count) protective))
+head_is d n head.Unprotected is count some =
+    (λ disk. is.0 disk.1, λ any protective. is.1 (subst (λ (m : ℕ). IsProtective m (sector d 0)) (sym count) protective))
 
 pub head_plain : (d : Sectors) (h : Head) → HeadOf d h → h ≢ head.Mbr → ¬ IsMbrDisk d
 head_plain d head.Mbr is other = absurd (other refl)

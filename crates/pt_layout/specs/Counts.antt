@@ -13,4 +13,5 @@ no_ebr = record { at = record { 0 = 0 }; logical = None; next = None }
 
 -- the logical partition of extended boot record k
 abbrev pub logical_at : ℕ → ℕ → List Ebr → Option Member
-logical_at b k chain = option_map (logical_member b (5 + used_before k chain) (slice_index_or chain k no_ebr).at.0) (slice_index_or chain k no_ebr).logical
+logical_at b k chain =
+    option_map (logical_member b (5 + used_before k chain) (slice_index_or chain k no_ebr).at.0) (slice_index_or chain k no_ebr).logical

@@ -14,9 +14,10 @@ use Rattle.pt_recover.specs.Answers.{IsReason}
 use Rattle.pt_recover.specs.declared.layout.Layout.{Layout}
 use Rattle.pt_recover.specs.declared.layout.Body.{Body}
 use Rattle.pt_recover.specs.declared.layout.Body.TheVariants.{Mbr, Gpt}
-use Rattle.pt_layout.specs.declared.path.Path.{Path}
+use Rattle.pt_path.specs.declared.path.Path.{Path}
 use Rattle.pt_layout.specs.declared.finding.Finding.{Finding}
-use Rattle.pt_layout.specs.declared.finding.Finding.TheVariants.{NoTable, PrimaryCopy, BackupCopy, CopiesDiffer, Alternate, Protective, OutsideUsable, Overlap, OnTable, SameGuid, ForeignLabel}
+use Rattle.pt_layout.specs.declared.finding.Finding.TheVariants.{NoTable, PrimaryCopy, BackupCopy, CopiesDiffer, Alternate, Protective}
+use Rattle.pt_layout.specs.declared.finding.Finding.TheVariants.{OutsideUsable, Overlap, OnTable, SameGuid, ForeignLabel}
 use Rattle.pt_layout.specs.declared.finding.Verdict.{Verdict}
 use Rattle.pt_layout.specs.declared.finding.Verdict.TheVariants.{Yes, No}
 use Rattle.pt_layout.specs.Members.{number_path}

@@ -5,7 +5,7 @@ use Rattle.pt_bsd.specs.Label.{HasMagic, LabelBytes}
 use Rattle.pt_bsd.specs.declared.label.Label.{Label}
 use Rattle.pt_recover.specs.declared.layout.Slice.{Slice}
 use Rattle.pt_recover.specs.declared.layout.Layout.{Layout}
-use Rattle.pt_layout.specs.declared.path.Path.{Path}
+use Rattle.pt_path.specs.declared.path.Path.{Path}
 use Rattle.pt_layout.specs.Healthy.{IsForeign, HasForeign}
 use Rattle.pt_layout.specs.Findings.{IsFirstForeign}
 

@@ -5,7 +5,8 @@ use Rattle.pt_mbr.specs.declared.record.Record.{Record}
 use Rattle.pt_recover.specs.Denotes as denotes
 use Rattle.pt_recover.specs.Denotes.{BodyIs, Denotes, Reads}
 use Rattle.pt_recover.specs.Labels.{places_of, IsPlace}
-use Rattle.pt_recover.specs.Mbr.{IsMbrDisk, IsMbr, extended_of, ExtendedReads}
+use Rattle.pt_mbr.specs.Extended.{extended_of}
+use Rattle.pt_recover.specs.Mbr.{IsMbrDisk, IsMbr, ExtendedReads}
 use Rattle.pt_recover.specs.One.{body_one}
 use Rattle.pt_recover.specs.declared.layout.Body.{Body}
 
@@ -29,10 +30,12 @@ reads_guarded b d s mbr (denotes.body (denotes.table plain enough reads)) = absu
 reads_guarded b d s mbr (denotes.label y is at) = place y is at
 
 -- on another disk the label places of its body are guarded
-pub guarded_places : (b : ℕ) (d : Sectors) (y : Body) (s : ℕ) → ¬ IsMbrDisk d → BodyIs b d y → IsGuarded b d s → IsPlace (places_of b (length d) y) s
+pub guarded_places : (b : ℕ) (d : Sectors) (y : Body) (s : ℕ) → ¬ IsMbrDisk d → BodyIs b d y → IsGuarded b d s
+    → IsPlace (places_of b (length d) y) s
 guarded_places b d y s plain is (head mbr at) = absurd (plain mbr)
 guarded_places b d y s plain is (ebr m of reads) = absurd (plain of.0)
-guarded_places b d y s plain is (place x other at) = subst (λ (z : Body). IsPlace (places_of b (length d) z) s) (body_one b d x y other is) at
+guarded_places b d y s plain is (place x other at) =
+    subst (λ (z : Body). IsPlace (places_of b (length d) z) s) (body_one b d x y other is) at
 
 -- and nothing where it denotes nothing
 pub guarded_nowhere : (b : ℕ) (d : Sectors) (s : ℕ) → ¬ IsMbrDisk d → Denotes b d None → ¬ IsGuarded b d s

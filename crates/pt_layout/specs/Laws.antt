@@ -1,6 +1,6 @@
 -- Laws of layouts and disks, as terms that definitions and proofs above can cite.
 use Rattle.std.specs.Prelude.{◌≡◌, ◌∷◌, ℕ, List, All, Contains, length, Some, None}
-use Rattle.std.proofs.Common.{refl, sym, ap, subst, ◌∙◌, arith}
+use Rattle.std.proofs.Common.{sym, ap, subst, ◌∙◌}
 use Rattle.std.proofs.lemmas.List.Elements.{Contains-append_right, Contains-get_or}
 use Rattle.pt_sector.specs.Sectors.{Sectors}
 use Rattle.pt_gpt.specs.Copy.{CopyWith, Copy}
@@ -15,10 +15,12 @@ use Rattle.pt_recover.specs.Gpt.{HasRoom}
 use Rattle.pt_recover.specs.declared.layout.Layout.{Layout}
 use Rattle.pt_recover.specs.declared.layout.Body.{Body}
 use Rattle.pt_recover.specs.declared.layout.Body.TheVariants.{Mbr, Gpt}
-use Rattle.pt_layout.specs.declared.path.Path.{Path}
+use Rattle.pt_path.specs.declared.path.Path.{Path}
+use Rattle.pt_layout.specs.Grouped.{contains_head}
 use Rattle.pt_layout.specs.declared.member.Kind.TheVariants.{Leaf, Slice, Extended}
 use Rattle.pt_layout.specs.declared.finding.Finding.{Finding}
-use Rattle.pt_layout.specs.declared.finding.Finding.TheVariants.{NoTable, PrimaryCopy, BackupCopy, CopiesDiffer, Alternate, Protective, OutsideUsable, Overlap, OnTable, SameGuid, ForeignLabel}
+use Rattle.pt_layout.specs.declared.finding.Finding.TheVariants.{NoTable, PrimaryCopy, BackupCopy, CopiesDiffer, Alternate, Protective}
+use Rattle.pt_layout.specs.declared.finding.Finding.TheVariants.{OutsideUsable, Overlap, OnTable, SameGuid, ForeignLabel}
 use Rattle.pt_layout.specs.Members.{Group, groups_of}
 use Rattle.pt_layout.specs.Overlaps.{IsOrdered}
 use Rattle.pt_layout.specs.Apart.{not_apart}
@@ -41,13 +43,13 @@ sound_frees_tables_lem b o s sound owns table = sound.off_tables owns.leaf s (re
   foreign = λ own. (let both : Leaf ≡ Slice = sym owns.is_leaf ∙ own.0 in absurd cc);
 })
 
-head_contains : {X : Type 0} (x : X) (xs : List X) → Contains (x ∷ xs) x
-head_contains x xs = (0, omega arith, refl)
-
 shared_not_apart : (b : ℕ) (o : Layout) (p q : Path) → AllInside b o → IsFirstShared b o p q → Sound b o → ⊥
 shared_not_apart b o p q inside shared sound =
-    let stands : Contains (groups_of b o) shared.group = subst (λ (l : List Group). Contains l shared.group) (sym shared.stands) (Contains-append_right shared.before (shared.group ∷ shared.rest) shared.group (head_contains shared.group shared.rest)) in
-    let ordered : All IsOrdered shared.group.members = λ i d lt. (inside shared.group _ (record { stands = stands; sibling = Contains-get_or shared.group.members i d lt })).exists.0 in
+    let stands : Contains (groups_of b o) shared.group =
+    subst (λ (l : List Group). Contains l shared.group) (sym shared.stands)
+    (Contains-append_right shared.before (shared.group ∷ shared.rest) shared.group (contains_head shared.group shared.rest)) in
+    let ordered : All IsOrdered shared.group.members =
+    λ i d lt. (inside shared.group _ (record { stands = stands; sibling = Contains-get_or shared.group.members i d lt })).exists.0 in
     not_apart shared.group.members (record { before = p; it = q }) ordered shared.here (sound.apart shared.group stands)
 
 -- a finding excludes soundness
@@ -73,8 +75,10 @@ copy_of b d side h t room is = record { room = room; head = h; stands = is }
 
 -- what breaks a GPT keeps it from being whole
 broken_not_whole : (b : ℕ) (d : Sectors) (t : Table) (f : Finding) → HasRoom b (length d) → IsBroken b d t f → IsWhole b d t → ⊥
-broken_not_whole b d t (PrimaryCopy e) room is whole = no_copy_lem b d Primary e is (t, copy_of b d Primary whole.primary t room whole.copies.first)
-broken_not_whole b d t (BackupCopy e) room is whole = no_copy_lem b d Backup e is.1 (t, copy_of b d Backup whole.backup t room whole.copies.second)
+broken_not_whole b d t (PrimaryCopy e) room is whole =
+    no_copy_lem b d Primary e is (t, copy_of b d Primary whole.primary t room whole.copies.first)
+broken_not_whole b d t (BackupCopy e) room is whole =
+    no_copy_lem b d Backup e is.1 (t, copy_of b d Backup whole.backup t room whole.copies.second)
 broken_not_whole b d t CopiesDiffer room is whole =
     let first = copy_is_one_lem b d Primary is.primary t is.first (copy_of b d Primary whole.primary t room whole.copies.first) in
     let second = copy_is_one_lem b d Backup is.backup t is.second (copy_of b d Backup whole.backup t room whole.copies.second) in
@@ -93,7 +97,8 @@ broken_not_whole b d t (OnTable p s) room is whole = is
 broken_not_whole b d t (SameGuid i j) room is whole = is
 broken_not_whole b d t (ForeignLabel p) room is whole = is
 
-pub body_not_whole : (b : ℕ) (d : Sectors) (o : Layout) (f : Finding) → Denotes b d (Some o) → IsBodyBroken b d o.body f → IsBodyWhole b d o.body → ⊥
+pub body_not_whole : (b : ℕ) (d : Sectors) (o : Layout) (f : Finding) → Denotes b d (Some o) → IsBodyBroken b d o.body f
+    → IsBodyWhole b d o.body → ⊥
 body_not_whole b d o f denotes = by_body o.body denotes.1 where
   by_body : (y : Body) → BodyIs b d y → IsBodyBroken b d y f → IsBodyWhole b d y → ⊥
   by_body (Mbr rs chain) is broken whole = broken
@@ -123,7 +128,8 @@ some_excludes b d f is healthy = layout_excludes b d is.0 f is.2 (same_layout b 
 
 -- a finding excludes health
 pub finding_excludes_lem : (b : ℕ) (d : Sectors) (f : Finding) → IsFinding b d f → ¬ Healthy b d
-finding_excludes_lem b d (NoTable e) is healthy = let same : None ≡ Some healthy.0 = denotes_one_lem b d None (Some healthy.0) is.0 healthy.1.denotes in absurd cc
+finding_excludes_lem b d (NoTable e) is healthy =
+    let same : None ≡ Some healthy.0 = denotes_one_lem b d None (Some healthy.0) is.0 healthy.1.denotes in absurd cc
 finding_excludes_lem b d (PrimaryCopy e) is healthy = some_excludes b d (PrimaryCopy e) is healthy
 finding_excludes_lem b d (BackupCopy e) is healthy = some_excludes b d (BackupCopy e) is healthy
 finding_excludes_lem b d CopiesDiffer is healthy = some_excludes b d CopiesDiffer is healthy
@@ -136,7 +142,8 @@ finding_excludes_lem b d (SameGuid i j) is healthy = some_excludes b d (SameGuid
 finding_excludes_lem b d (ForeignLabel p) is healthy = some_excludes b d (ForeignLabel p) is healthy
 
 -- in a sound layout a sector is one partition's, at one place in it
-pub place_is_one_lem : (b : ℕ) (o : Layout) (p q : Path) (j k s : ℕ) → Sound b o → IsPlaceOf b o p j s → IsPlaceOf b o q k s → (p ≡ q) × (j ≡ k)
+pub place_is_one_lem : (b : ℕ) (o : Layout) (p q : Path) (j k s : ℕ) → Sound b o → IsPlaceOf b o p j s → IsPlaceOf b o q k s
+    → (p ≡ q) × (j ≡ k)
 place_is_one_lem = place_one
 
 -- sector k of the partition of a path is one sector

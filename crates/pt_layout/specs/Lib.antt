@@ -1,4 +1,3 @@
-pub mod Paths
 pub mod Members
 pub mod Overlaps
 pub mod Tables
@@ -20,13 +19,11 @@ pub mod Verdicts
 pub mod Apart
 pub mod Laws
 pub mod Places
-pub mod Texts
 pub mod Grouped
 pub mod OneHome
 pub mod OnePath
 pub mod OneOrder
 pub mod OneFinding
 pub mod OneOwner
-pub mod OneText
 pub mod Guarded
 pub mod Surveys

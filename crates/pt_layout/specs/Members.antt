@@ -2,9 +2,10 @@
 --
 -- Members are the used entries and records, the logical partitions, and the partitions of labels but c. Sectors are
 -- the disk's own numbers. With sectors of 4096 bytes there are no slices.
-use Rattle.std.specs.Prelude.{if◌then◌else◌, ◌<◌, ◌≤◌, ◌+◌, ◌-◌, ◌^◌, ℕ, List, [], ◌∷◌, ◌++◌, flat_map, option_map, option_to_list, is_some, Contains, Option, Some, None, nat_eq, ◌&&◌}
+use Rattle.std.specs.Prelude.{if◌then◌else◌, ◌<◌, ◌≤◌, ◌+◌, ◌-◌, ◌^◌, ℕ, List, [], ◌∷◌, ◌++◌, flat_map, option_map, option_to_list, is_some}
+use Rattle.std.specs.Prelude.{Contains, Option, Some, None, nat_eq, ◌&&◌}
 use Rattle.pt_bsd.specs.Form.{entry_first_of}
-use Rattle.pt_recover.specs.Mbr.{is_extended, extended_of}
+use Rattle.pt_mbr.specs.Extended.{is_extended, extended_of}
 use Rattle.pt_recover.specs.Labels.{is_slice_kind}
 use Rattle.pt_mbr.specs.declared.record.Record.{Record}
 use Rattle.pt_mbr.specs.declared.ebr.Ebr.{Ebr}
@@ -15,7 +16,7 @@ use Rattle.pt_recover.specs.declared.layout.Labelled.{Labelled}
 use Rattle.pt_recover.specs.declared.layout.Layout.{Layout}
 use Rattle.pt_recover.specs.declared.layout.Body.{Body}
 use Rattle.pt_recover.specs.declared.layout.Body.TheVariants.{Mbr, Gpt}
-use Rattle.pt_layout.specs.declared.path.Path.{Path}
+use Rattle.pt_path.specs.declared.path.Path.{Path}
 use Rattle.pt_layout.specs.declared.member.Kind.{Kind}
 use Rattle.pt_layout.specs.declared.member.Kind.TheVariants.{Leaf, Slice, Extended}
 use Rattle.pt_layout.specs.declared.member.Member.{Member}

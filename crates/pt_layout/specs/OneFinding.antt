@@ -1,5 +1,6 @@
 -- A layout has one first thing that is wrong with it at most, and so has a disk.
-use Rattle.std.specs.Prelude.{◌≡◌, ◌⊎◌, ◌∷◌, ◌++◌, [], ℕ, Bool, true, false, List, All, Contains, length, Option, Some, None, nat_eq, if◌then◌else◌}
+use Rattle.std.specs.Prelude.{◌≡◌, ◌⊎◌, ◌∷◌, ◌++◌, [], ℕ, Bool, true, false, List, All, Contains, length, Option, Some, None, nat_eq}
+use Rattle.std.specs.Prelude.{if◌then◌else◌}
 use Rattle.std.proofs.Common.{suc, ◌<◌, ◌≤◌, ◌+◌, refl, sym, ap, subst, ◌∙◌, arith, inl, inr}
 use Rattle.std.proofs.lemmas.List.Elements.{Contains-append_right, Contains-get_or}
 use Rattle.pt_sector.specs.Sectors.{Sectors}
@@ -25,13 +26,14 @@ use Rattle.pt_recover.specs.declared.layout.Labelled.{Labelled}
 use Rattle.pt_recover.specs.declared.layout.Slice.{Slice as SliceValue}
 use Rattle.pt_recover.specs.declared.layout.Body.{Body}
 use Rattle.pt_recover.specs.declared.layout.Body.TheVariants.{Mbr, Gpt}
-use Rattle.pt_layout.specs.declared.path.Path.{Path}
+use Rattle.pt_path.specs.declared.path.Path.{Path}
 use Rattle.pt_layout.specs.declared.member.Member.{Member}
 use Rattle.pt_layout.specs.declared.finding.Finding.{Finding}
-use Rattle.pt_layout.specs.declared.finding.Finding.TheVariants.{NoTable, PrimaryCopy, BackupCopy, CopiesDiffer, Alternate, Protective, OutsideUsable, Overlap as Shared, OnTable, SameGuid, ForeignLabel}
+use Rattle.pt_layout.specs.declared.finding.Finding.TheVariants.{NoTable, PrimaryCopy, BackupCopy, CopiesDiffer, Alternate, Protective}
+use Rattle.pt_layout.specs.declared.finding.Finding.TheVariants.{OutsideUsable, Overlap as Shared, OnTable, SameGuid, ForeignLabel}
 use Rattle.pt_layout.specs.declared.finding.Verdict.{Verdict}
 use Rattle.pt_layout.specs.declared.finding.Verdict.TheVariants.{Yes, No}
-use Rattle.pt_layout.specs.Paths.{rank, letter_rank}
+use Rattle.pt_path.specs.Paths.{rank, letter_rank}
 use Rattle.pt_layout.specs.Members.{number_path, letter_path, slots, Group, groups_of, part_of, parts_as, parts_in, label_of, IsMember}
 use Rattle.pt_layout.specs.Overlaps.{IsOrdered, IsApart, IsFirstOverlap}
 use Rattle.pt_layout.specs.Apart.{not_apart}
@@ -41,7 +43,8 @@ use Rattle.pt_layout.specs.OnePath.{place_cases, part_path, slot_whole}
 use Rattle.pt_layout.specs.OneOrder.{overlap_one}
 use Rattle.pt_layout.specs.Sound.{AllInside, AllApart, Sound, IsFirstOutside, IsFirstShared, IsFirstBuried, IsFirstSameGuid, IsUnsound}
 use Rattle.pt_layout.specs.Healthy.{HasCopies, IsBodyWhole}
-use Rattle.pt_layout.specs.Findings.{CopiesDifferOn, IsOtherAlternate, IsUnprotected, IsBroken, IsBodyBroken, IsFirstForeign, IsLayoutFinding, IsFinding, VerdictIs}
+use Rattle.pt_layout.specs.Findings.{CopiesDifferOn, IsOtherAlternate, IsUnprotected, IsBroken, IsBodyBroken, IsFirstForeign}
+use Rattle.pt_layout.specs.Findings.{IsLayoutFinding, IsFinding, VerdictIs}
 use Rattle.pt_layout.specs.Laws.{unsound_excludes_lem, body_not_whole, healthy_is_one_lem, finding_excludes_lem}
 
 -- each label has places for eight entries, as those of disks have
@@ -53,7 +56,8 @@ label_eight : (ls : List Labelled) (n : ℕ) (l : Label) → HasEight ls → lab
 unfolding label_of HasEight
 label_eight [] n l eight is = absurd cc
 label_eight (x ∷ xs) n l eight is = by_case (label_eight xs n l eight.1) (nat_eq x.number n) is where
-  by_case : (label_of xs n ≡ Some l → length l.entries ≡ 8) → (b : Bool) → (if b then Some x.label else label_of xs n) ≡ Some l → length l.entries ≡ 8
+  by_case : (label_of xs n ≡ Some l → length l.entries ≡ 8) → (b : Bool) → (if b then Some x.label else label_of xs n) ≡ Some l
+      → length l.entries ≡ 8
   by_case later true here = (let e : x.label ≡ l = cc in ap (λ (z : Label). length z.entries) (sym e) ∙ eight.0)
   by_case later false there = later there
 
@@ -61,18 +65,23 @@ label_eight (x ∷ xs) n l eight is = by_case (label_eight xs n l eight.1) (nat_
 abbrev IsNamed : Path → Type 0
 IsNamed p = (p.letter ≡ None) ⊎ ((k : ℕ) × (k < 8) × (p.letter ≡ Some k))
 
-letter_within : (l : Label) (m x : Member) (n : ℕ) (es : List (Option LabelEntry)) → AtPlace (parts_as l m n es) x → (k : ℕ) × (k < n + length es) × (x.path ≡ letter_path m.path.number k)
+letter_within : (l : Label) (m x : Member) (n : ℕ) (es : List (Option LabelEntry)) → AtPlace (parts_as l m n es) x
+    → (k : ℕ) × (k < n + length es) × (x.path ≡ letter_path m.path.number k)
 unfolding parts_as
 letter_within l m x n [] at = absurd (omega (arith, at.1))
-letter_within l m x n (e ∷ es) at = elim (place_cases (part_of l m n e) (parts_as l m (n + 1) es) x at) as (λ _. (k : ℕ) × (k < n + suc (length es)) × (x.path ≡ letter_path m.path.number k)) [
-  | inl here ↦ (n, omega arith, part_path l m x n e here)
-  | inr there ↦ (let r = letter_within l m x (n + 1) es there in (r.0, omega (arith, r.1), r.2))
-]
+letter_within l m x n (e ∷ es) at =
+    elim (place_cases (part_of l m n e) (parts_as l m (n + 1) es) x at) as (λ _. (k : ℕ) × (k < n + suc (length es))
+    × (x.path ≡ letter_path m.path.number k)) [
+      | inl here ↦ (n, omega arith, part_path l m x n e here)
+      | inr there ↦ (let r = letter_within l m x (n + 1) es there in (r.0, omega (arith, r.1), r.2))
+    ]
 
-part_named : (o : Option Label) (m x : Member) → ((l : Label) → o ≡ Some l → length l.entries ≡ 8) → AtPlace (parts_in o m) x → IsNamed x.path
+part_named : (o : Option Label) (m x : Member) → ((l : Label) → o ≡ Some l → length l.entries ≡ 8) → AtPlace (parts_in o m) x
+    → IsNamed x.path
 unfolding parts_in
 part_named None m x eight at = absurd (omega (arith, at.1))
-part_named (Some l) m x eight at = (let r = letter_within l m x 0 l.entries at in inr (r.0, omega (arith, r.1, eight l refl), ap (λ (p : Path). p.letter) r.2))
+part_named (Some l) m x eight at =
+    (let r = letter_within l m x 0 l.entries at in inr (r.0, omega (arith, r.1, eight l refl), ap (λ (p : Path). p.letter) r.2))
 
 member_named : (b : ℕ) (o : Layout) (x : Member) → HasEight o.labels → IsMember b o x → IsNamed x.path
 member_named b o x eight is = near (member_place b o x is).0 (member_place b o x is).1 (member_place b o x is).2 where
@@ -109,7 +118,9 @@ outside_one b o p q eight x y =
     let back = y.first p x.here in
     rank_one p q (named p x) (named q y) (omega arith) where
       named : (r : Path) → IsFirstOutside b o r → IsNamed r
-      named r z = subst IsNamed z.here.path (member_named b o z.here.member eight (record { group = z.here.group; stands = z.here.is_of.stands; sibling = z.here.is_of.sibling }))
+      named r z =
+          subst IsNamed z.here.path (member_named b o z.here.member eight
+          (record { group = z.here.group; stands = z.here.is_of.stands; sibling = z.here.is_of.sibling }))
 
 head_of : (x : Group) (xs : List Group) → Contains (x ∷ xs) x
 head_of x xs = (0, omega arith, refl)
@@ -118,35 +129,52 @@ rest_of : (x g : Group) (xs : List Group) → Contains xs g → Contains (x ∷ 
 rest_of x g xs is = (suc is.0, omega (arith, is.1), is.2)
 
 -- the first group that isn't apart
-group_one : (xs ys us vs : List Group) (g h : Group) → xs ++ g ∷ us ≡ ys ++ h ∷ vs → ((k : Group) → Contains xs k → IsApart k.members) → ((k : Group) → Contains ys k → IsApart k.members) → ¬ IsApart g.members → ¬ IsApart h.members → g ≡ h
+group_one : (xs ys us vs : List Group) (g h : Group) → xs ++ g ∷ us ≡ ys ++ h ∷ vs
+    → ((k : Group) → Contains xs k → IsApart k.members) → ((k : Group) → Contains ys k → IsApart k.members) → ¬ IsApart g.members
+    → ¬ IsApart h.members → g ≡ h
 group_one [] [] us vs g h same p q x y = cc
-group_one [] (k ∷ ys) us vs g h same p q x y = (let e : k ≡ g = cc in absurd (x (subst (λ (z : Group). IsApart z.members) e (q k (head_of k ys)))))
-group_one (k ∷ xs) [] us vs g h same p q x y = (let e : k ≡ h = cc in absurd (y (subst (λ (z : Group). IsApart z.members) e (p k (head_of k xs)))))
+group_one [] (k ∷ ys) us vs g h same p q x y =
+    (let e : k ≡ g = cc in absurd (x (subst (λ (z : Group). IsApart z.members) e (q k (head_of k ys)))))
+group_one (k ∷ xs) [] us vs g h same p q x y =
+    (let e : k ≡ h = cc in absurd (y (subst (λ (z : Group). IsApart z.members) e (p k (head_of k xs)))))
 group_one (k ∷ xs) (l ∷ ys) us vs g h same p q x y =
     let rest : xs ++ g ∷ us ≡ ys ++ h ∷ vs = cc in
     group_one xs ys us vs g h rest (λ z c. p z (rest_of k z xs c)) (λ z c. q z (rest_of l z ys c)) x y
 
 shared_stands : (b : ℕ) (o : Layout) (p q : Path) (x : IsFirstShared b o p q) → Contains (groups_of b o) x.group
-shared_stands b o p q x = subst (λ (l : List Group). Contains l x.group) (sym x.stands) (Contains-append_right x.before (x.group ∷ x.rest) x.group (head_of x.group x.rest))
+shared_stands b o p q x =
+    subst (λ (l : List Group). Contains l x.group) (sym x.stands)
+    (Contains-append_right x.before (x.group ∷ x.rest) x.group (head_of x.group x.rest))
 
 not_shared : (b : ℕ) (o : Layout) (p q : Path) → AllInside b o → (x : IsFirstShared b o p q) → ¬ IsApart x.group.members
 not_shared b o p q inside x =
-    let ordered : All IsOrdered x.group.members = λ i d lt. (inside x.group _ (record { stands = shared_stands b o p q x; sibling = Contains-get_or x.group.members i d lt })).exists.0 in
+    let ordered : All IsOrdered x.group.members =
+    λ i d lt. (inside x.group _ (record {
+      stands = shared_stands b o p q x;
+      sibling = Contains-get_or x.group.members i d lt;
+    })).exists.0 in
     not_apart x.group.members (record { before = p; it = q }) ordered x.here
 
 shared_one : (b : ℕ) (o : Layout) (p q r s : Path) → AllInside b o → IsFirstShared b o p q → IsFirstShared b o r s → Shared p q ≡ Shared r s
 shared_one b o p q r s inside x y =
-    let same : x.group ≡ y.group = group_one x.before y.before x.rest y.rest x.group y.group (sym x.stands ∙ y.stands) x.apart y.apart (not_shared b o p q inside x) (not_shared b o r s inside y) in
-    let one = overlap_one y.group.members (record { before = p; it = q }) (record { before = r; it = s }) (subst (λ (g : Group). IsFirstOverlap g.members (record { before = p; it = q })) same x.here) y.here in
+    let same : x.group ≡ y.group =
+    group_one x.before y.before x.rest y.rest x.group y.group (sym x.stands ∙ y.stands) x.apart y.apart
+    (not_shared b o p q inside x) (not_shared b o r s inside y) in
+    let one =
+    overlap_one y.group.members (record { before = p; it = q }) (record { before = r; it = s })
+    (subst (λ (g : Group). IsFirstOverlap g.members (record { before = p; it = q })) same x.here) y.here in
     λ i. Shared ((one i).before) ((one i).it)
 
-buried_one : (b : ℕ) (o : Layout) (p q : Path) (s t : Lba) → HasEight o.labels → IsFirstBuried b o p s.0 → IsFirstBuried b o q t.0 → OnTable p s ≡ OnTable q t
+buried_one : (b : ℕ) (o : Layout) (p q : Path) (s t : Lba) → HasEight o.labels → IsFirstBuried b o p s.0 → IsFirstBuried b o q t.0
+    → OnTable p s ≡ OnTable q t
 buried_one b o p q s t eight x y =
     let there : rank p ≤ rank y.member.path = x.first y.member t.0 y.here in
     let back : rank q ≤ rank x.member.path = y.first x.member s.0 x.here in
     let a = ap rank x.path in
     let c = ap rank y.path in
-    let paths : p ≡ q = rank_one p q (subst IsNamed x.path (member_named b o x.member eight x.here.is_member)) (subst IsNamed y.path (member_named b o y.member eight y.here.is_member)) (omega arith) in
+    let paths : p ≡ q =
+    rank_one p q (subst IsNamed x.path (member_named b o x.member eight x.here.is_member))
+    (subst IsNamed y.path (member_named b o y.member eight y.here.is_member)) (omega arith) in
     let low : s.0 ≤ t.0 = x.lowest y.member t.0 y.here (y.path ∙ sym paths) in
     let high : t.0 ≤ s.0 = y.lowest x.member s.0 x.here (x.path ∙ paths) in
     let lbas : s.0 ≡ t.0 = omega arith in
@@ -201,16 +229,25 @@ copies_of b d t h k room is = record {
 }
 
 no_differ : (b : ℕ) (d : Sectors) (t : Table) → CopiesDifferOn b d → Copies b d t → ⊥
-no_differ b d t is copies = is.differ (copy_is_one_lem b d Primary is.primary t is.first copies.first ∙ copy_is_one_lem b d Backup t is.backup copies.second is.second)
+no_differ b d t is copies =
+    is.differ (copy_is_one_lem b d Primary is.primary t is.first copies.first
+    ∙ copy_is_one_lem b d Backup t is.backup copies.second is.second)
 
 no_other : (b : ℕ) (d : Sectors) (t : Table) (side : Side) → IsOtherAlternate b d t side → IsUnprotected b d t → ⊥
-no_other b d t Primary x y = (let same = head_is_one_lem b d Primary x.primary y.primary x.copies.first.is_head y.copies.first.is_head in x.other (ap (λ (h : Header). h.alternate) same ∙ y.alternates.first))
-no_other b d t Backup x y = (let same = head_is_one_lem b d Backup x.backup y.backup x.copies.second.is_head y.copies.second.is_head in x.other.1 (ap (λ (h : Header). h.alternate) same ∙ y.alternates.second))
+no_other b d t Primary x y =
+    (let same = head_is_one_lem b d Primary x.primary y.primary x.copies.first.is_head y.copies.first.is_head in
+    x.other (ap (λ (h : Header). h.alternate) same ∙ y.alternates.first))
+no_other b d t Backup x y =
+    (let same = head_is_one_lem b d Backup x.backup y.backup x.copies.second.is_head y.copies.second.is_head in
+    x.other.1 (ap (λ (h : Header). h.alternate) same ∙ y.alternates.second))
 
 two_others : (b : ℕ) (d : Sectors) (t : Table) → IsOtherAlternate b d t Primary → IsOtherAlternate b d t Backup → ⊥
-two_others b d t x y = (let same = head_is_one_lem b d Primary x.primary y.primary x.copies.first.is_head y.copies.first.is_head in x.other (ap (λ (h : Header). h.alternate) same ∙ y.other.0))
+two_others b d t x y =
+    (let same = head_is_one_lem b d Primary x.primary y.primary x.copies.first.is_head y.copies.first.is_head in
+    x.other (ap (λ (h : Header). h.alternate) same ∙ y.other.0))
 
-alternates_one : (b : ℕ) (d : Sectors) (t : Table) (r s : Side) → IsOtherAlternate b d t r → IsOtherAlternate b d t s → Alternate r ≡ Alternate s
+alternates_one : (b : ℕ) (d : Sectors) (t : Table) (r s : Side) → IsOtherAlternate b d t r → IsOtherAlternate b d t s
+    → Alternate r ≡ Alternate s
 alternates_one b d t Primary Primary x y = refl
 alternates_one b d t Primary Backup x y = absurd (two_others b d t x y)
 alternates_one b d t Backup Primary x y = absurd (two_others b d t y x)
@@ -300,7 +337,8 @@ stage_of b d o (OnTable p s) x = inr (inl (record { whole = x.0; unsound = x.1 }
 stage_of b d o (SameGuid i j) x = inr (inl (record { whole = x.0; unsound = x.1 }))
 stage_of b d o (ForeignLabel p) x = inr (inr (record { path = p; is = refl; whole = x.0; sound = x.1; first = x.2 }))
 
-stages_one : (b : ℕ) (d : Sectors) (o : Layout) (f g : Finding) → Denotes b d (Some o) → HasEight o.labels → Stage b d o f → Stage b d o g → f ≡ g
+stages_one : (b : ℕ) (d : Sectors) (o : Layout) (f g : Finding) → Denotes b d (Some o) → HasEight o.labels → Stage b d o f
+    → Stage b d o g → f ≡ g
 stages_one b d o f g denotes eight (inl x) (inl y) = body_one b d o.body f g denotes.1 x y
 stages_one b d o f g denotes eight (inl x) (inr (inl y)) = absurd (body_not_whole b d o f denotes x y.whole)
 stages_one b d o f g denotes eight (inl x) (inr (inr y)) = absurd (body_not_whole b d o f denotes x y.whole)
@@ -309,7 +347,8 @@ stages_one b d o f g denotes eight (inr (inl x)) (inr (inl y)) = unsound_one b o
 stages_one b d o f g denotes eight (inr (inl x)) (inr (inr y)) = absurd (unsound_excludes_lem b o f x.unsound y.sound)
 stages_one b d o f g denotes eight (inr (inr x)) (inl y) = absurd (body_not_whole b d o g denotes y x.whole)
 stages_one b d o f g denotes eight (inr (inr x)) (inr (inl y)) = absurd (unsound_excludes_lem b o g y.unsound x.sound)
-stages_one b d o f g denotes eight (inr (inr x)) (inr (inr y)) = x.is ∙ ap ForeignLabel (foreign_one b d o x.path y.path x.first y.first) ∙ sym y.is
+stages_one b d o f g denotes eight (inr (inr x)) (inr (inr y)) =
+    x.is ∙ ap ForeignLabel (foreign_one b d o x.path y.path x.first y.first) ∙ sym y.is
 
 eight_on : (d : Sectors) (ps : List SliceValue) (labels : List Labelled) → LabelsAre d ps labels → HasEight labels
 unfolding HasEight
@@ -355,7 +394,8 @@ founds_one b d f g (inr x) (inr y) =
     let both : Some x.layout ≡ Some y.layout = denotes_one_lem b d (Some x.layout) (Some y.layout) x.denotes y.denotes in
     let same : x.layout ≡ y.layout = cc in
     let eight = eight_on d (places_of b (length d) y.layout.body) y.layout.labels y.denotes.2 in
-    stages_one b d y.layout f g y.denotes eight (stage_of b d y.layout f (subst (λ (o : Layout). IsLayoutFinding b d o f) same x.holds)) (stage_of b d y.layout g y.holds)
+    stages_one b d y.layout f g y.denotes eight (stage_of b d y.layout f
+    (subst (λ (o : Layout). IsLayoutFinding b d o f) same x.holds)) (stage_of b d y.layout g y.holds)
 
 -- a disk has one first finding at most
 pub finding_one : (b : ℕ) (d : Sectors) (f g : Finding) → IsFinding b d f → IsFinding b d g → f ≡ g

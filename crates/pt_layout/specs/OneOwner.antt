@@ -4,7 +4,7 @@ use Rattle.std.proofs.Common.{refl, ap, arith}
 use Rattle.pt_recover.specs.declared.layout.Layout.{Layout}
 use Rattle.pt_layout.specs.declared.ownership.Owner.{Owner}
 use Rattle.pt_layout.specs.declared.ownership.Owner.TheVariants.{Partition, Table, Reserved, Free}
-use Rattle.pt_layout.specs.declared.path.Path.{Path}
+use Rattle.pt_path.specs.declared.path.Path.{Path}
 use Rattle.pt_layout.specs.Owned.{Owns}
 use Rattle.pt_layout.specs.Places.{IsPlaceOf, OwnerIs}
 use Rattle.pt_layout.specs.Sound.{Sound}

@@ -1,5 +1,6 @@
 -- Members that share sectors.
-use Rattle.std.specs.Prelude.{◌≡◌, ◌+◌, ◌<◌, ◌≤◌, ℕ, Bool, List, length, slice_index_or, sum_by, Option, Some, None, if◌then◌else◌, ◌&&◌, nat_lt, IsPermutation, not}
+use Rattle.std.specs.Prelude.{◌≡◌, ◌+◌, ◌<◌, ◌≤◌, ℕ, Bool, List, length, slice_index_or, sum_by, Option, Some, None, if◌then◌else◌, ◌&&◌}
+use Rattle.std.specs.Prelude.{nat_lt, IsPermutation, not}
 use Rattle.std.specs.List.Sorted.{IsStableByKey, IsNonDecreasingBy}
 use Rattle.std.specs.List.{AllAdjacentBelow}
 use Rattle.std.specs.Ordering.{nat_cmp}

@@ -1,5 +1,5 @@
 -- The sectors that partitions own.
-use Rattle.std.specs.Prelude.{◌≡◌, ℕ}
+use Rattle.std.specs.Prelude.{◌≡◌, ℕ, Option, Some, None}
 use Rattle.pt_recover.specs.declared.layout.Layout.{Layout}
 use Rattle.pt_layout.specs.declared.member.Kind.TheVariants.{Leaf}
 use Rattle.pt_layout.specs.declared.member.Member.{Member}
@@ -12,3 +12,8 @@ pub record Owns (b : ℕ) (o : Layout) (s : ℕ) : Type 0 where
   pub is_leaf : leaf.kind ≡ Leaf
   pub exists : Exists leaf
   pub holds : Holds leaf s
+
+-- a sector that is owned in what is denoted; nothing owns none
+abbrev pub OwnedOf : ℕ → Option Layout → ℕ → Type 0
+OwnedOf b None s = ⊥
+OwnedOf b (Some o) s = Owns b o s

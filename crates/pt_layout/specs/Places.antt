@@ -3,12 +3,12 @@ use Rattle.std.specs.Prelude.{◌≡◌, ◌<◌, ◌≤◌, ◌⊎◌, ◌+◌,
 use Rattle.pt_recover.specs.declared.layout.Layout.{Layout}
 use Rattle.pt_recover.specs.declared.layout.Body.{Body}
 use Rattle.pt_recover.specs.declared.layout.Body.TheVariants.{Mbr, Gpt}
-use Rattle.pt_layout.specs.declared.path.Path.{Path}
+use Rattle.pt_path.specs.declared.path.Path.{Path}
 use Rattle.pt_layout.specs.declared.member.Kind.TheVariants as kind
 use Rattle.pt_layout.specs.declared.member.Member.{Member}
 use Rattle.pt_layout.specs.declared.ownership.Owner.{Owner}
 use Rattle.pt_layout.specs.declared.ownership.Owner.TheVariants.{Partition, Table, Reserved, Free}
-use Rattle.pt_layout.specs.Paths.{rank}
+use Rattle.pt_path.specs.Paths.{rank}
 use Rattle.pt_layout.specs.Members.{IsMember, Exists, Holds}
 use Rattle.pt_layout.specs.Tables.{IsTable}
 use Rattle.pt_layout.specs.Owned.{Owns}

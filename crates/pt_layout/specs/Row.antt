@@ -1,7 +1,7 @@
 -- Members in rows, and what is wrong with one.
 use Rattle.std.specs.Prelude.{◌≡◌, ◌≢◌, ◌<◌, ◌≤◌, ℕ, List, [], length, slice_index_or, All, Option, Some, None}
 use Rattle.pt_recover.specs.declared.layout.Layout.{Layout}
-use Rattle.pt_layout.specs.declared.path.Path.{Path}
+use Rattle.pt_path.specs.declared.path.Path.{Path}
 use Rattle.pt_layout.specs.declared.member.Kind.TheVariants.{Extended}
 use Rattle.pt_layout.specs.declared.member.Member.{Member}
 use Rattle.pt_layout.specs.declared.faults.Fault.{Fault}

@@ -5,7 +5,7 @@ use Rattle.pt_layout.specs.declared.member.Kind.TheVariants.{Leaf, Slice}
 use Rattle.pt_layout.specs.declared.member.Member.{Member}
 use Rattle.pt_layout.specs.declared.search.Wanted.{Wanted}
 use Rattle.pt_layout.specs.declared.search.Wanted.TheVariants.{LeafWith, LeafNamed, SliceWith}
-use Rattle.pt_layout.specs.Paths.{rank}
+use Rattle.pt_path.specs.Paths.{rank}
 use Rattle.pt_layout.specs.Members.{Exists, Holds, slots, parts}
 
 -- the member stands in one of the places

@@ -4,12 +4,12 @@ use Rattle.pt_gpt.specs.declared.entry.Entry.{Entry}
 use Rattle.pt_recover.specs.declared.layout.Layout.{Layout}
 use Rattle.pt_recover.specs.declared.layout.Body.{Body}
 use Rattle.pt_recover.specs.declared.layout.Body.TheVariants.{Mbr, Gpt}
-use Rattle.pt_layout.specs.declared.path.Path.{Path}
+use Rattle.pt_path.specs.declared.path.Path.{Path}
 use Rattle.pt_layout.specs.declared.member.Kind.TheVariants.{Slice, Extended}
 use Rattle.pt_layout.specs.declared.member.Member.{Member}
 use Rattle.pt_layout.specs.declared.finding.Finding.{Finding}
 use Rattle.pt_layout.specs.declared.finding.Finding.TheVariants.{OutsideUsable, Overlap, OnTable, SameGuid}
-use Rattle.pt_layout.specs.Paths.{rank}
+use Rattle.pt_path.specs.Paths.{rank}
 use Rattle.pt_layout.specs.Members.{Exists, Holds, Group, groups_of, IsMember}
 use Rattle.pt_layout.specs.Overlaps.{IsApart, IsFirstOverlap}
 use Rattle.pt_layout.specs.Tables.{IsTable, IsEbr}

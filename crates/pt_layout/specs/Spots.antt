@@ -1,8 +1,8 @@
 -- The first of some members and sectors, by path and then by sector.
 use Rattle.std.specs.Prelude.{◌≡◌, ◌<◌, ◌⊎◌, ℕ, Option, Some, None}
-use Rattle.pt_layout.specs.declared.path.Path.{Path}
+use Rattle.pt_path.specs.declared.path.Path.{Path}
 use Rattle.pt_layout.specs.declared.spot.Spot.{Spot}
-use Rattle.pt_layout.specs.Paths.{rank}
+use Rattle.pt_path.specs.Paths.{rank}
 
 abbrev pub IsBefore : Spot → Spot → Type 0
 IsBefore a b = (rank a.path < rank b.path) ⊎ ((rank a.path ≡ rank b.path) × (a.lba < b.lba))

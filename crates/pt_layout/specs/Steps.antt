@@ -2,7 +2,7 @@
 use Rattle.std.specs.Prelude.{ℕ, Option, Some, None}
 use Rattle.pt_recover.specs.declared.layout.Layout.{Layout}
 use Rattle.pt_recover.specs.declared.layout.Body.{Body}
-use Rattle.pt_layout.specs.declared.path.Path.{Path}
+use Rattle.pt_path.specs.declared.path.Path.{Path}
 use Rattle.pt_layout.specs.declared.overlap.Overlap.{Overlap}
 use Rattle.pt_layout.specs.declared.spot.Spot.{Spot}
 use Rattle.pt_layout.specs.Sound.{AllInside, AllApart, OffTables, IsSameGuid, IsFirstOutside, IsFirstShared, IsFirstBuried, IsFirstSameGuid}

@@ -1,5 +1,5 @@
 -- The sectors that hold a layout's tables.
-use Rattle.std.specs.Prelude.{◌≡◌, ◌<◌, ◌≤◌, ◌⊎◌, ◌+◌, ℕ}
+use Rattle.std.specs.Prelude.{◌≡◌, ◌<◌, ◌≤◌, ◌⊎◌, ◌+◌, ℕ, Option, Some, None}
 use Rattle.pt_mbr.specs.Chain.{StandsAt}
 use Rattle.pt_gpt.specs.Array.{array_len}
 use Rattle.pt_recover.specs.Labels.{places_of, IsPlace}
@@ -19,6 +19,11 @@ IsBodyTable b n (Gpt t) s = IsGptTable b n s
 -- those, and the label places
 abbrev pub IsTable : ℕ → Layout → ℕ → Type 0
 IsTable b o s = IsBodyTable b o.sectors o.body s ⊎ IsPlace (places_of b o.sectors o.body) s
+
+-- a sector of the tables of what is denoted; nothing has none
+abbrev pub TableOf : ℕ → Option Layout → ℕ → Type 0
+TableOf b None s = ⊥
+TableOf b (Some o) s = IsTable b o s
 
 -- the sector is an extended boot record
 abbrev pub IsEbr : Body → ℕ → Type 0

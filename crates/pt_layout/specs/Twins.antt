@@ -19,4 +19,6 @@ TwinIs es k (Some i) = (i < k) × SameAt es i k × ((j : ℕ) → j < i → ¬ S
 -- the first entry with one before it that has its unique GUID, after the first such, both counted from 0
 abbrev pub TwinsAre : List (Option Entry) → Option (ℕ × ℕ) → Type 0
 TwinsAre es None = (i k : ℕ) → i < k → k < length es → ¬ SameAt es i k
-TwinsAre es (Some p) = (p.0 < p.1) × (p.1 < length es) × SameAt es p.0 p.1 × ((i k : ℕ) → i < k → k < length es → SameAt es i k → (p.1 < k) ⊎ ((p.1 ≡ k) × (p.0 ≤ i)))
+TwinsAre es (Some p) =
+    (p.0 < p.1) × (p.1 < length es) × SameAt es p.0 p.1 × ((i k : ℕ) → i < k → k < length es → SameAt es i k
+    → (p.1 < k) ⊎ ((p.1 ≡ k) × (p.0 ≤ i)))

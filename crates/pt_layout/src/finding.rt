@@ -3,10 +3,12 @@
 ghost use Rattle.std.specs.Prelude.{◌≡◌};
 ghost use Rattle.pt_layout.specs.Findings.{finding_number};
 
-use crate::path::Path;
 use pt_gpt::{CopyError, Side};
+use pt_path::Path;
 use pt_recover::{Layout, NoTable};
 use pt_sector::Lba;
+use std::error::Error;
+use std::fmt;
 
 /// What is wrong with a disk: the first that holds, in this order.
 #[derive(Clone, Copy, Debug, PartialEq, Eq)]
@@ -55,6 +57,47 @@ impl Finding {
             Finding::SameGuid(_, _) => 10,
             Finding::ForeignLabel(_) => 11,
         }
+    }
+}
+
+impl fmt::Display for Finding {
+    fn fmt<W: fmt::Write>(&self, f: &mut fmt::Formatter<W>) -> fmt::Result {
+        match self {
+            Finding::NoTable(why) => write!(f, "there is no table: {why}"),
+            Finding::PrimaryCopy(error) => {
+                write!(f, "the primary copy of the GPT doesn't exist: {error}")
+            }
+            Finding::BackupCopy(error) => {
+                write!(f, "the backup copy of the GPT doesn't exist: {error}")
+            }
+            Finding::CopiesDiffer => f.write_str("the copies of the GPT have different tables"),
+            Finding::Alternate(Side::Primary) => {
+                f.write_str("the primary header doesn't name the backup's sector")
+            }
+            Finding::Alternate(Side::Backup) => {
+                f.write_str("the backup header doesn't name the primary's sector")
+            }
+            Finding::Protective => f.write_str("sector 0 isn't a protective MBR"),
+            Finding::OutsideUsable(path) => { write!(f, "{path} isn't inside what may hold it") }
+            Finding::Overlap(before, it) => write!(f, "{before} and {it} share a sector"),
+            Finding::OnTable(path, at) => {
+                write!(f, "{path} covers sector {}, where a table stands", at.0)
+            }
+            Finding::SameGuid(lower, higher) => {
+                write!(f, "entries {lower} and {higher} have one unique GUID")
+            }
+            Finding::ForeignLabel(path) => {
+                write!(f, "the second sector of slice {path} holds a foreign label")
+            }
+        }
+    }
+}
+
+impl Error for Finding {}
+
+impl From<NoTable> for Finding {
+    fn from(why: NoTable) -> Finding {
+        Finding::NoTable(why)
     }
 }
 

@@ -8,14 +8,14 @@ ghost use Rattle.pt_recover.specs.Labels.{place_of, places_of, IsPlace};
 ghost use Rattle.pt_layout.specs.Next.{NextIs};
 ghost use Rattle.pt_layout.specs.Foreign.{ForeignBytes, ForeignOf, ForeignAmong, ForeignIs};
 
-use crate::path::Path;
 use crate::tables::least;
 use pt_bsd::{bears_magic, decode_label};
+use pt_path::Path;
 use pt_recover::{Layout, Slice, label_places};
 use pt_sector::{Disk, FailedRead, Failure, Lba, Sector, read_sector};
 use std::alloc::Global;
 
-#[tactic(auto, using(crate::proofs::Foreignness::no_label))]
+#[tactic(auto, using(pt_bsd::specs::Laws::no_label))]
 fn is_foreign<const B: usize>(sector: &Sector<B>, slice: Slice) -> bool
     requires { IsSectorSize B }
     ensures { IsTrue result ↔ ForeignBytes slice sector.now }
@@ -53,7 +53,6 @@ fn foreign_number<const B: usize, D: Disk<B>>(
     ensures place { IfErr result (λ e. e.0.0 ≡ place_of slice) }
     ensures ok { D.tells → IfOk result (NextIs (ForeignOf (D.told disk.old).seen slice) 0) }
 {
-    let _sectors = disk.sectors();
     let at = Lba(slice.first + 1);
     let mut sector = [0; B];
     read_sector(disk, at, &mut sector)?;

@@ -1,15 +1,17 @@
 //! The groups of siblings of a layout.
 
-ghost use Rattle.std.specs.Prelude.{◌≡◌, ◌+◌, ◌<◌, ◌≤◌, ◌^◌, ◌++◌, ◌↔◌, IsTrue, IfOk, OnOk, IfSome, length, take, slice_range, slice_index_or, option_to_list, flat_map, Some, None};
-ghost use Rattle.pt_recover.specs.Mbr.{extended_of};
-ghost use Rattle.pt_layout.specs.Held.{has_any, ExtendedFrom, held_by};
+ghost use Rattle.std.specs.Prelude.{◌≡◌, ◌+◌, ◌<◌, ◌≤◌, ◌^◌, ◌++◌, ◌↔◌, IsTrue, IfOk, OnOk, IfSome, length, take, slice_range};
+ghost use Rattle.std.specs.Prelude.{slice_index_or, option_to_list, flat_map, Some, None};
+ghost use Rattle.pt_mbr.specs.Extended.{extended_of};
+ghost use Rattle.pt_layout.specs.Held.{has_any, held_by};
 ghost use Rattle.pt_layout.specs.Sound.{IsInside};
-ghost use Rattle.pt_layout.specs.Members.{Group as GroupValue, group_of, groups_of, group_in, top_group, strays, slots, tops, logicals, parts, parts_in, present};
+ghost use Rattle.pt_layout.specs.Members.{Group as GroupValue, group_of, groups_of, group_in, top_group, strays, slots, tops, logicals};
+ghost use Rattle.pt_layout.specs.Members.{parts, parts_in, present};
 
 use crate::member::{Kind, Member};
 use crate::slots::{find_label, part_slot, slot, slot_count, top_count};
-use pt_bsd::Label;
-use pt_mbr::{Record, is_extended_kind};
+use pt_bsd::{Label, RESERVED};
+use pt_mbr::{Extended, Record, extended_of};
 use pt_recover::{Body, Layout};
 use std::alloc::{AllocError, Global};
 use std::marker::Model;
@@ -155,7 +157,7 @@ fn held<const B: usize>(
     match m.kind {
         Kind::Leaf => Ok(None),
         Kind::Slice => match slice_parts(alloc, layout, m) {
-            Ok(members) => Ok(Some(Siblings::new(m.first + 16, m.last, members))),
+            Ok(members) => Ok(Some(Siblings::new(m.first + u128::from(RESERVED), m.last, members))),
             Err(e) => Err(e),
         },
         Kind::Extended => match logical_members::<B>(alloc, &layout.body) {
@@ -165,28 +167,13 @@ fn held<const B: usize>(
     }
 }
 
-// The record in a place, where it is an extended one.
-#[tactic(auto, using(crate::proofs::Extended::none_here, crate::proofs::Extended::other_here, crate::proofs::Extended::one_here))]
-fn is_extended_at(records: &[Option<Record>; 4], k: usize) -> bool
-    requires { k < 4 }
-    ensures { ExtendedFrom k «records».now result }
-{
-    match &records[k] {
-        Some(r) => is_extended_kind(r.kind),
-        None => false,
-    }
-}
-
-#[tactic(auto, using(crate::proofs::Extended::none_left))]
 fn has_extended(records: &[Option<Record>; 4]) -> bool
     ensures { result ≡ has_any (extended_of «records».now) }
 {
-    for k in 0..4usize {
-        if is_extended_at(records, k) {
-            return true;
-        }
+    match extended_of(records) {
+        Extended::Nothing => false,
+        Extended::One(_) | Extended::More(_) => true,
     }
-    false
 }
 
 // The logical partitions that no extended one holds.

@@ -81,7 +81,8 @@ pub(crate) fn read_halves<const B: usize, D: Disk<B>>(
     requires room { HasRoom B (D.count disk.old) }
     ensures same { OnlyReads D.Disk disk.old disk.new }
     ensures blames { Blames fault_of result (D.faults disk.old) (D.faults disk.new) }
-    ensures place { D.tells → IfErr result (FailedIn (λ s. SideReads B (D.told disk.old).seen Primary s ⊎ SideReads B (D.told disk.old).seen Backup s)) }
+    ensures place { D.tells → IfErr result (FailedIn (λ s. SideReads B (D.told disk.old).seen Primary s
+        ⊎ SideReads B (D.told disk.old).seen Backup s)) }
     ensures ok { D.tells → IfOk result (λ h. HalvesAre B (D.told disk.old).seen h) }
 {
     let primary = half_or_fault(alloc, disk, Side::Primary)?;

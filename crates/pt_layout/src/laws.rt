@@ -1,10 +1,10 @@
 //! Laws of layouts and disks. Each function does nothing: its contract is the law.
 
-ghost use Rattle.std.specs.Prelude.{◌≡◌, ℕ, List};
+ghost use Rattle.std.specs.Prelude.{◌≡◌, ℕ};
 ghost use Rattle.pt_sector.specs.Sectors.{Sectors};
 ghost use Rattle.pt_recover.specs.declared.layout.Layout.{Layout};
 ghost use Rattle.pt_layout.specs.declared.finding.Finding.{Finding as FindingValue};
-ghost use Rattle.pt_layout.specs.declared.path.Path.{Path as PathValue};
+ghost use Rattle.pt_path.specs.declared.path.Path.{Path as PathValue};
 ghost use Rattle.pt_layout.specs.Places.{IsPlaceOf, OwnerIs};
 ghost use Rattle.pt_layout.specs.OnePath.{HasFour};
 ghost use Rattle.pt_layout.specs.Tables.{IsTable};
@@ -15,7 +15,6 @@ ghost use Rattle.pt_layout.specs.declared.finding.Verdict.{Verdict as VerdictVal
 ghost use Rattle.pt_layout.specs.declared.ownership.Owner.{Owner as OwnerValue};
 ghost use Rattle.pt_layout.specs.Findings.{IsFinding, VerdictIs};
 ghost use Rattle.pt_layout.specs.OneFinding.{HasEight};
-ghost use Rattle.pt_layout.specs.Texts.{IsNumber, IsPath};
 
 /// In a sound layout no partition owns a sector of a table.
 #[tactic(auto, using(crate::specs::Laws::sound_frees_tables_lem))]
@@ -44,7 +43,8 @@ pub fn healthy_is_one()
 /// In a sound layout a sector is one partition's at most, and at one place in it.
 #[tactic(auto, using(crate::specs::Laws::place_is_one_lem))]
 pub fn place_is_one()
-    ensures { (b : ℕ) (o : Layout) (p q : PathValue) (j k s : ℕ) → Sound b o → IsPlaceOf b o p j s → IsPlaceOf b o q k s → (p ≡ q) × (j ≡ k) }
+    ensures { (b : ℕ) (o : Layout) (p q : PathValue) (j k s : ℕ) → Sound b o → IsPlaceOf b o p j s → IsPlaceOf b o q k s
+        → (p ≡ q) × (j ≡ k) }
 {}
 
 /// Sector `k` of the partition of a path is one sector, in a layout of an MBR with four records or of a GPT.
@@ -75,16 +75,4 @@ pub fn verdict_is_one()
 #[tactic(auto, using(crate::specs::OneOwner::owner_one))]
 pub fn owner_is_one()
     ensures { (b : ℕ) (o : Layout) (s : ℕ) (x y : OwnerValue) → Sound b o → OwnerIs b o s x → OwnerIs b o s y → x ≡ y }
-{}
-
-/// A text is one number at most.
-#[tactic(auto, using(crate::specs::OneText::number_is_one_lem))]
-pub fn number_is_one()
-    ensures { (text : List ℕ) (m n : ℕ) → IsNumber text m → IsNumber text n → m ≡ n }
-{}
-
-/// A text is one path at most.
-#[tactic(auto, using(crate::specs::OneText::path_is_one_lem))]
-pub fn path_is_one()
-    ensures { (text : List ℕ) (p q : PathValue) → IsPath text p → IsPath text q → p ≡ q }
 {}

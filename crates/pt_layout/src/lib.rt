@@ -10,11 +10,9 @@ mod halves;
 mod health;
 mod laws;
 mod member;
-mod number;
 mod overlap;
 mod owned;
 mod ownership;
-mod path;
 mod places;
 mod search;
 mod slots;
@@ -26,16 +24,14 @@ mod tables;
 pub use finding::{Finding, Verdict};
 pub use health::{Head, verify};
 pub use laws::{
-    finding_excludes, finding_is_one, healthy_is_one, number_is_one, owner_is_one, path_is_one,
-    place_is_one, sector_is_one, sound_frees_tables, unsound_excludes, unsound_is_one,
-    verdict_is_one,
+    finding_excludes, finding_is_one, healthy_is_one, owner_is_one, place_is_one, sector_is_one,
+    sound_frees_tables, unsound_excludes, unsound_is_one, verdict_is_one,
 };
 pub use member::{Kind, Member};
-pub use number::{parse_number, parse_path};
 pub use owned::is_owned;
 pub use ownership::Owner;
-pub use path::Path;
 pub use places::{locate, owner};
+pub use pt_path::{Path, number_is_one, parse_number, parse_path, path_is_one};
 pub use pt_recover::{
     Body, Ebrs, Labelled, Labels, Layout, NoTable, Slice, Trace, denotes_one, entry_place,
     is_slice_type, label_places, reads_decide, reason_is_nothing, reason_is_one, record_place,

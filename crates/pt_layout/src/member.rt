@@ -1,4 +1,4 @@
-use crate::path::Path;
+use pt_path::Path;
 
 /// What a member of a layout is.
 #[derive(Clone, Copy, Debug, Default, PartialEq, Eq)]

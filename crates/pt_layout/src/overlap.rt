@@ -3,7 +3,7 @@ ghost use Rattle.pt_layout.specs.Overlaps.{Meets, FirstMeetingIs, FirstOverlapIs
 ghost use Rattle.pt_layout.specs.Overlaps.{IsOrdered};
 
 use crate::member::Member;
-use crate::path::Path;
+use pt_path::Path;
 use std::alloc::AllocError;
 
 /// Two members that share a sector.

@@ -1,6 +1,6 @@
 //! What a sector is for.
 
-use crate::path::Path;
+use pt_path::Path;
 
 /// What a sector is for.
 #[derive(Clone, Copy, Debug, PartialEq, Eq)]

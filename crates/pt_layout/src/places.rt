@@ -5,9 +5,9 @@ ghost use Rattle.pt_sector.specs.Sectors.{IsSectorSize};
 ghost use Rattle.pt_layout.specs.Places.{IsPlaceOf, IsUnusable, IsInSlice, OwnerIs};
 
 use crate::ownership::Owner;
-use crate::path::Path;
 use crate::search::{Wanted, find};
 use crate::tables::is_table;
+use pt_path::Path;
 use pt_recover::{Body, Layout};
 use pt_sector::Lba;
 

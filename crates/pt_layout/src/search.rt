@@ -2,13 +2,13 @@
 
 ghost use Rattle.std.specs.Prelude.{◌≡◌, ◌<◌, ◌≤◌, ◌+◌, ◌^◌, ◌↔◌, IsTrue, IfSome, Some, None, length, slice_index_or};
 ghost use Rattle.pt_layout.specs.Members.{parts, parts_in, Exists, Holds};
-ghost use Rattle.pt_layout.specs.Paths.{rank};
+ghost use Rattle.pt_path.specs.Paths.{rank};
 ghost use Rattle.pt_layout.specs.Search.{Answers, FoundAt, FoundIn, FoundNear, Found};
 
 use crate::member::{Kind, Member};
-use crate::path::Path;
 use crate::slots::{count_slots, find_label, part_slot, slot};
 use pt_bsd::Label;
+use pt_path::Path;
 use pt_recover::Layout;
 use pt_sector::Lba;
 

@@ -1,31 +1,27 @@
 //! The members of a layout in place: its records or entries, its logical partitions, and the entries of its labels.
 
-ghost use Rattle.std.specs.Prelude.{◌≡◌, ◌+◌, ◌<◌, ◌≤◌, ◌^◌, ◌↔◌, ℕ, IsTrue, length, get_or, take, count_by, is_some, Some, None, option_map, IfSome, slice_index_or};
-ghost use Rattle.pt_layout.specs.Members.{records_as, entries_as, logicals_as, slots, tops, record_kind, logical_kind, entry_kind, label_of, part_of, parts_in, sized_member, number_path, record_member, logical_member, entry_member};
+ghost use Rattle.std.specs.Prelude.{◌≡◌, ◌+◌, ◌<◌, ◌≤◌, ◌^◌, ◌↔◌, ℕ, IsTrue, length, get_or, take, count_by, is_some, Some, None};
+ghost use Rattle.std.specs.Prelude.{option_map, IfSome, slice_index_or};
+ghost use Rattle.pt_layout.specs.Members.{records_as, entries_as, logicals_as, slots, tops, record_kind, logical_kind, entry_kind};
+ghost use Rattle.pt_layout.specs.Members.{label_of, part_of, parts_in, sized_member, number_path, record_member, logical_member};
+ghost use Rattle.pt_layout.specs.Members.{entry_member};
 ghost use Rattle.pt_recover.specs.declared.layout.Body.TheVariants.{Mbr};
-ghost use Rattle.pt_bsd.specs.Form.{entry_first_of};
 ghost use Rattle.pt_layout.specs.Counts.{used_before, logical_at};
 ghost use Rattle.pt_layout.specs.OnePath.{HasFour};
 
 use crate::member::{Kind, Member};
-use crate::path::Path;
-use pt_bsd::{Form, Label, LabelEntry};
+use pt_bsd::{Label, LabelEntry, RAW};
 use pt_gpt::Entry;
 use pt_guid::Guid;
-use pt_mbr::{Ebr, Record, is_extended_kind};
+use pt_mbr::{Ebr, FIRST_LOGICAL, Record, SLICE_KIND, is_extended_kind};
+use pt_path::Path;
 use pt_recover::{Body, Labelled, Labels, is_slice_type};
 use pt_sector::Lba;
-
-/// The type of a slice in an MBR.
-const SLICE: u8 = 0xA5;
-
-/// The number of the first logical partition.
-const FIRST_LOGICAL: u64 = 5;
 
 fn record_kind_of<const B: usize>(kind: u8) -> Kind
     ensures { result ≡ record_kind B kind }
 {
-    if B == 512 && kind == SLICE {
+    if B == 512 && kind == SLICE_KIND {
         Kind::Slice
     } else if is_extended_kind(kind) {
         Kind::Extended
@@ -37,7 +33,7 @@ fn record_kind_of<const B: usize>(kind: u8) -> Kind
 fn logical_kind_of<const B: usize>(kind: u8) -> Kind
     ensures { result ≡ logical_kind B kind }
 {
-    if B == 512 && kind == SLICE {
+    if B == 512 && kind == SLICE_KIND {
         Kind::Slice
     } else {
         Kind::Leaf
@@ -240,21 +236,6 @@ pub fn find_label(labels: &Labels, number: u64) -> Option<Label>
     label_in(labels.as_slice(), number)
 }
 
-/// The letter of the raw partition, which is the whole slice: c.
-const RAW: usize = 2;
-
-// The first sector of a label's entry.
-fn entry_first(label: &Label, slice: &Member, e: &LabelEntry) -> u128
-    requires { slice.now.first < 2 ^ 66 }
-    ensures value { result ≡ entry_first_of label.now slice.now.first e.now }
-    ensures small { result < 2 ^ 67 }
-{
-    match label.form() {
-        Form::Relative => slice.first + u128::from(e.offset),
-        Form::Absolute => u128::from(e.offset),
-    }
-}
-
 // The partition of an entry of a slice's label.
 fn part(label: &Label, slice: &Member, k: usize, e: &LabelEntry) -> Option<Member>
     requires small { slice.now.first < 2 ^ 66 }
@@ -264,7 +245,7 @@ fn part(label: &Label, slice: &Member, k: usize, e: &LabelEntry) -> Option<Membe
     if k == RAW || e.size == 0 {
         return None;
     }
-    let first = entry_first(label, slice, e);
+    let first = label.entry_first(slice.first, e);
     Some(Member {
         path: Path {
             number: slice.path.number,
@@ -291,22 +272,20 @@ pub fn part_slot(label: &Label, slice: &Member, k: usize) -> Option<Member>
     }
 }
 
-#[tactic(auto, using(crate::proofs::ByPlace::mbr_tops))]
-fn mbr_top_count<const B: usize>(records: &[Option<Record>; 4], chain: &[Ebr]) -> usize
-    ensures { result ≡ length (tops B (Mbr «records».now chain.now)) }
+fn record_count(records: &[Option<Record>; 4]) -> usize
+    ensures { result ≡ length «records».now }
 {
-    let _chain = chain.len();
-    4
+    records.len()
 }
 
 // How many places the records or entries have.
-#[tactic(auto, using(crate::proofs::ByPlace::gpt_tops, crate::proofs::ByPlace::tops_first))]
+#[tactic(auto, using(crate::proofs::ByPlace::mbr_tops, crate::proofs::ByPlace::gpt_tops, crate::proofs::ByPlace::tops_first))]
 pub(crate) fn top_count<const B: usize>(body: &Body) -> usize
     ensures value { result ≡ length (tops B body.now) }
     ensures within { result ≤ length (slots B body.now) }
 {
     match body {
-        Body::Mbr { records, chain } => mbr_top_count::<B>(records, chain.as_slice()),
+        Body::Mbr { records, .. } => record_count(records),
         Body::Gpt(table) => table.entries.as_slice().len(),
     }
 }

@@ -13,9 +13,9 @@ use crate::faults::{Fault, first_fault};
 use crate::finding::Finding;
 use crate::groups::{Siblings, groups};
 use crate::overlap::{Overlap, first_overlap};
-use crate::path::Path;
 use crate::spot::Spot;
 use pt_gpt::Entry;
+use pt_path::Path;
 use pt_recover::{Body, Layout};
 use pt_sector::Lba;
 use std::alloc::{AllocError, Global};
@@ -108,7 +108,6 @@ fn overlapping<const B: usize>(
     requires inside { AllInside B layout.now }
     ensures found { IfOk result (λ o. OverlapIs B layout.now o) }
 {
-    let _sectors = layout.sectors;
     match first_shared(alloc, groups) {
         Ok(Some(overlap)) => Ok(Some(overlap)),
         Ok(None) => Ok(None),

@@ -3,7 +3,7 @@
 ghost use Rattle.std.specs.Prelude.{◌↔◌, IsTrue};
 ghost use Rattle.pt_layout.specs.Spots.{IsBefore, FirstIs};
 
-use crate::path::{Path, is_before};
+use pt_path::Path;
 
 /// A member by its path, and a sector.
 #[derive(Clone, Copy, Debug, PartialEq, Eq)]
@@ -15,10 +15,10 @@ pub struct Spot {
 fn spot_before(a: &Spot, b: &Spot) -> bool
     ensures { IsTrue result ↔ IsBefore a.now b.now }
 {
-    if is_before(&a.path, &b.path) {
+    if a.path.is_before(b.path) {
         return true;
     }
-    !is_before(&b.path, &a.path) && a.lba < b.lba
+    !b.path.is_before(a.path) && a.lba < b.lba
 }
 
 // The one that comes first, by path and then by sector.

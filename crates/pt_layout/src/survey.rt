@@ -23,9 +23,9 @@ use crate::finding::Finding;
 use crate::foreign::first_foreign;
 use crate::halves::{Half, Halves, read_halves};
 use crate::health::{Head, read_head};
-use crate::path::Path;
 use crate::soundness::unsound;
-use pt_gpt::{Side, Table, array_sectors};
+use pt_gpt::{Side, Table, has_room};
+use pt_path::Path;
 use pt_recover::{Body, Layout, NoTable, Slice, Trace, label_places, read_labels, recover_traced};
 use pt_sector::{Disk, Failure};
 use std::alloc::{AllocError, Global};
@@ -73,7 +73,6 @@ fn judge<const B: usize, D: Disk<B>>(
     ensures place { D.tells → IfErr result (FailedIn (Reads B (D.told disk.old).seen)) }
     ensures ok { D.tells → IfOk result (λ f. FindingIs B (D.told disk.old).seen (Ok layout.now) f) }
 {
-    let _sectors = disk.sectors();
     let broken = unsound::<B>(alloc, layout)?;
     match broken {
         Some(finding) => return Ok(Some(finding)),
@@ -193,7 +192,6 @@ fn survey_table<const B: usize, D: Disk<B>>(
     ensures numbers { IfOk result (λ x. IfOk x.found Numbers) }
     ensures ok { D.tells → IfOk result (IsSurvey B (D.told disk.old).seen) }
 {
-    let _sectors = disk.sectors();
     let placed = with_labels(alloc, disk, table)?;
     let finding = judge_after(alloc, disk, &placed.layout, broken)?;
     Ok(Survey {
@@ -257,7 +255,7 @@ fn survey_gpt<const B: usize, D: Disk<B>>(
     ensures ok { D.tells → IfOk result (IsSurvey B (D.told disk.old).seen) }
 {
     let sectors = disk.sectors();
-    if sectors < 2 * array_sectors::<B>() + 4 {
+    if !has_room::<B>(sectors) {
         return Ok(nothing(head, NoTable::TooSmall, Trace::new(alloc)));
     }
     let halves = read_halves(alloc, disk)?;
@@ -274,7 +272,6 @@ fn survey_mbr<const B: usize, D: Disk<B>>(alloc: Global, disk: &mut D) -> Result
     ensures numbers { IfOk result (λ x. IfOk x.found Numbers) }
     ensures ok { D.tells → IfOk result (IsSurvey B (D.told disk.old).seen) }
 {
-    let _sectors = disk.sectors();
     let (found, guarded) = recover_traced(alloc, disk);
     match found {
         Ok(layout) => {

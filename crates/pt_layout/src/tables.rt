@@ -11,7 +11,7 @@ ghost use Rattle.pt_layout.specs.Next.{NextIs, least_of, place_in, PlacedIn};
 
 use crate::member::{Kind, Member};
 use crate::slots::{slot, slot_count};
-use pt_gpt::array_sectors;
+use pt_gpt::first_usable;
 use pt_mbr::Ebr;
 use pt_recover::{Body, Layout};
 use pt_sector::Lba;
@@ -48,14 +48,14 @@ fn next_of_gpt<const B: usize>(sectors: u64, from: u64) -> Option<u64>
     requires { IsSectorSize B }
     ensures { NextIs (IsGptTable B sectors) from result }
 {
-    let array = array_sectors::<B>();
-    if from < array + 2 {
+    let edge = first_usable::<B>();
+    if from < edge {
         return Some(from);
     }
     if from >= sectors {
         return None;
     }
-    let end = sectors.saturating_sub(array + 1);
+    let end = sectors.saturating_sub(edge - 1);
     if from < end { Some(end) } else { Some(from) }
 }
 

@@ -1,5 +1,6 @@
 -- What the command makes of its words.
-use Rattle.std.proofs.Common.{◌≡◌, ◌∙◌, ◌||◌, ◌⊎◌, inl, inr, ⊎_elim, Bool, true, false, refl, sym, ap, subst, arith, List, [], ◌∷◌, ◌++◌, Option, Some, None, Result, Ok, Err, true≢false, codes}
+use Rattle.std.proofs.Common.{◌≡◌, ◌∙◌, ◌||◌, ◌⊎◌, inl, inr, ⊎_elim, Bool, true, false, refl, sym, ap, subst, arith, List, [], ◌∷◌, ◌++◌}
+use Rattle.std.proofs.Common.{Option, Some, None, Result, Ok, Err, true≢false, codes}
 use Rattle.std.specs.Prelude.{IsSome, IfSome, unwrap_or}
 use Rattle.std.specs.Borrow.{Bor}
 use Rattle.std.specs.List.{list_any}
@@ -15,7 +16,8 @@ use Rattle.clap.specs.declared.error.kind.ErrorKind.{ErrorKind}
 use Rattle.clap.specs.declared.error.kind.ErrorKind.TheVariants.{DisplayHelp, DisplayVersion, OutOfMemory}
 use Rattle.clap.proofs.WalkLemmas.{list_any-map}
 use Rattle.pt_line.specs.CommandLine.{image_rules, place_rules, plan_rules, ptab, word_rules}
-use Rattle.pt_line.specs.Lines.{IsJob, IsJobOrEmpty, IsLineOf, IsLineOrEmpty, IsSize, IsSizeOrLess, IsUnknown, HasNoJob, MeansAt, MeansJob, Tells}
+use Rattle.pt_line.specs.Lines.{IsJob, IsJobOrEmpty, IsLineOf, IsLineOrEmpty, IsSize, IsSizeOrLess, IsUnknown, HasNoJob, MeansAt, MeansJob}
+use Rattle.pt_line.specs.Lines.{Tells}
 use Rattle.pt_line.specs.declared.line.Job.{Job}
 use Rattle.pt_line.specs.declared.line.Job.TheVariants as job
 use Rattle.pt_line.specs.declared.line.Line.{Line}
@@ -48,7 +50,8 @@ all_texts : (o : Option (List Text)) (ts : List Text) → ts ≡ unwrap_or o [] 
 all_texts None ts e some = absurd (true≢false (sym some))
 all_texts (Some vs) ts e some = ap (λ (x : List Text). Some x) (sym e)
 
-sized : (rows : List Row) → Each (IsFull MayBe) rows → has_row (codes "sector-size") rows ≡ true → (z : SectorSize) → IsSizeOrLess rows z → IsSize rows z
+sized : (rows : List Row) → Each (IsFull MayBe) rows → has_row (codes "sector-size") rows ≡ true → (z : SectorSize)
+    → IsSizeOrLess rows z → IsSize rows z
 sized rows full present Bytes4096 is = is
 sized rows full present Bytes512 less =
     let one = has_value MayBe rows (codes "sector-size") full present in
@@ -66,22 +69,26 @@ module _ (rows : List Row) (full : Each (IsFull MayBe) rows) where
   texts_given id ts given e = all_texts (all_of id rows) ts e (has_text MayBe rows id full given).1
 
 module _ (sizes : Bor (List (Bor Text))) (rows : List Row) where
-  show_job : IsFair MayBe (built_rules (image_rules sizes)) rows → (j : Job) → IsJobOrEmpty (codes "show") rows j → IsJob (codes "show") rows j
+  show_job : IsFair MayBe (built_rules (image_rules sizes)) rows → (j : Job) → IsJobOrEmpty (codes "show") rows j
+      → IsJob (codes "show") rows j
   show_job fair (job.Help t) h = absurd h
   show_job fair (job.Show image) h = (h.0, text_given rows fair.full (codes "IMAGE") _ (fair.given.0 refl) h.1)
   show_job fair _ h = absurd (true≢false (ap (bytes_eq (codes "show")) h.0))
 
-  verify_job : IsFair MayBe (built_rules (image_rules sizes)) rows → (j : Job) → IsJobOrEmpty (codes "verify") rows j → IsJob (codes "verify") rows j
+  verify_job : IsFair MayBe (built_rules (image_rules sizes)) rows → (j : Job) → IsJobOrEmpty (codes "verify") rows j
+      → IsJob (codes "verify") rows j
   verify_job fair (job.Help t) h = absurd h
   verify_job fair (job.Verify image) h = (h.0, text_given rows fair.full (codes "IMAGE") _ (fair.given.0 refl) h.1)
   verify_job fair _ h = absurd (true≢false (ap (bytes_eq (codes "verify")) h.0))
 
-  repair_job : IsFair MayBe (built_rules (image_rules sizes)) rows → (j : Job) → IsJobOrEmpty (codes "repair") rows j → IsJob (codes "repair") rows j
+  repair_job : IsFair MayBe (built_rules (image_rules sizes)) rows → (j : Job) → IsJobOrEmpty (codes "repair") rows j
+      → IsJob (codes "repair") rows j
   repair_job fair (job.Help t) h = absurd h
   repair_job fair (job.Repair image) h = (h.0, text_given rows fair.full (codes "IMAGE") _ (fair.given.0 refl) h.1)
   repair_job fair _ h = absurd (true≢false (ap (bytes_eq (codes "repair")) h.0))
 
-  locate_job : IsFair MayBe (built_rules (place_rules sizes)) rows → (j : Job) → IsJobOrEmpty (codes "locate") rows j → IsJob (codes "locate") rows j
+  locate_job : IsFair MayBe (built_rules (place_rules sizes)) rows → (j : Job) → IsJobOrEmpty (codes "locate") rows j
+      → IsJob (codes "locate") rows j
   locate_job fair (job.Help t) h = absurd h
   locate_job fair (job.Locate image path place) h = (
     h.0,
@@ -91,7 +98,8 @@ module _ (sizes : Bor (List (Bor Text))) (rows : List Row) where
   )
   locate_job fair _ h = absurd (true≢false (ap (bytes_eq (codes "locate")) h.0))
 
-  edit_job : IsFair MayBe (built_rules (word_rules sizes)) rows → (j : Job) → IsJobOrEmpty (codes "edit") rows j → IsJob (codes "edit") rows j
+  edit_job : IsFair MayBe (built_rules (word_rules sizes)) rows → (j : Job) → IsJobOrEmpty (codes "edit") rows j
+      → IsJob (codes "edit") rows j
   edit_job fair (job.Help t) h = absurd h
   edit_job fair (job.Edit image fresh list) h = (
     h.0,
@@ -101,7 +109,8 @@ module _ (sizes : Bor (List (Bor Text))) (rows : List Row) where
   )
   edit_job fair _ h = absurd (true≢false (ap (bytes_eq (codes "edit")) h.0))
 
-  plan_job : IsFair MayBe (built_rules (word_rules sizes)) rows → (j : Job) → IsJobOrEmpty (codes "plan") rows j → IsJob (codes "plan") rows j
+  plan_job : IsFair MayBe (built_rules (word_rules sizes)) rows → (j : Job) → IsJobOrEmpty (codes "plan") rows j
+      → IsJob (codes "plan") rows j
   plan_job fair (job.Help t) h = absurd h
   plan_job fair (job.Plan image fresh list) h = (
     h.0,
@@ -111,7 +120,8 @@ module _ (sizes : Bor (List (Bor Text))) (rows : List Row) where
   )
   plan_job fair _ h = absurd (true≢false (ap (bytes_eq (codes "plan")) h.0))
 
-  check_job : IsFair MayBe (built_rules (plan_rules sizes)) rows → (j : Job) → IsJobOrEmpty (codes "check") rows j → IsJob (codes "check") rows j
+  check_job : IsFair MayBe (built_rules (plan_rules sizes)) rows → (j : Job) → IsJobOrEmpty (codes "check") rows j
+      → IsJob (codes "check") rows j
   check_job fair (job.Help t) h = absurd h
   check_job fair (job.Check image file) h = (
     h.0,
@@ -120,7 +130,8 @@ module _ (sizes : Bor (List (Bor Text))) (rows : List Row) where
   )
   check_job fair _ h = absurd (true≢false (ap (bytes_eq (codes "check")) h.0))
 
-  apply_job : IsFair MayBe (built_rules (plan_rules sizes)) rows → (j : Job) → IsJobOrEmpty (codes "apply") rows j → IsJob (codes "apply") rows j
+  apply_job : IsFair MayBe (built_rules (plan_rules sizes)) rows → (j : Job) → IsJobOrEmpty (codes "apply") rows j
+      → IsJob (codes "apply") rows j
   apply_job fair (job.Help t) h = absurd h
   apply_job fair (job.Apply image file) h = (
     h.0,
@@ -139,10 +150,12 @@ module _ (sizes : Bor (List (Bor Text))) (are : texts sizes.now ≡ codes "512" 
   one_of_two : (v : Text) → list_any (λ (n : Bor Text). bytes_eq n.now v) sizes.now ≡ true → MayBe (codes "sector-size") v
   one_of_two v e is =
       let among : (bytes_eq (codes "512") v || (bytes_eq (codes "4096") v || false)) ≡ true =
-      subst (λ (ts : List Text). list_any (λ (t : Text). bytes_eq t v) ts ≡ true) are (sym (list_any-map (λ (t : Text). bytes_eq t v) (λ (n : Bor Text). n.now) sizes.now) ∙ e) in
+      subst (λ (ts : List Text). list_any (λ (t : Text). bytes_eq t v) ts ≡ true) are
+      (sym (list_any-map (λ (t : Text). bytes_eq t v) (λ (n : Bor Text). n.now) sizes.now) ∙ e) in
       go (bytes_eq (codes "512") v) refl (bytes_eq (codes "4096") v) refl among
     where
-      go : (a : Bool) → bytes_eq (codes "512") v ≡ a → (b : Bool) → bytes_eq (codes "4096") v ≡ b → (a || (b || false)) ≡ true → (v ≡ codes "512") ⊎ (v ≡ codes "4096")
+      go : (a : Bool) → bytes_eq (codes "512") v ≡ a → (b : Bool) → bytes_eq (codes "4096") v ≡ b → (a || (b || false)) ≡ true
+          → (v ≡ codes "512") ⊎ (v ≡ codes "4096")
       go true x b y h = inl (sym ((bytes_eq-Decides (codes "512") v).0 x))
       go false x true y h = inr (sym ((bytes_eq-Decides (codes "4096") v).0 y))
       go false x false y h = absurd (true≢false (sym h))
@@ -152,22 +165,38 @@ module _ (sizes : Bor (List (Bor Text))) (are : texts sizes.now ≡ codes "512" 
       (((omega arith, λ v e is. absurd (true≢false (sym is))), tt), (((omega arith, one_of_two), ((λ is. inl refl), tt)), ((tt, tt), tt)))
 
   place_sound : Each (IsSound MayBe) (built_rules (place_rules sizes))
-  place_sound =
-      (((omega arith, λ v e is. absurd (true≢false (sym is))), tt), (((omega arith, λ v e is. absurd (true≢false (sym is))), tt), (((omega arith, λ v e is. absurd (true≢false (sym is))), tt), (((omega arith, one_of_two), ((λ is. inl refl), tt)), ((tt, tt), tt)))))
+  place_sound = (
+    ((omega arith, λ v e is. absurd (true≢false (sym is))), tt),
+    (
+      ((omega arith, λ v e is. absurd (true≢false (sym is))), tt),
+      (((omega arith, λ v e is. absurd (true≢false (sym is))), tt), (((omega arith, one_of_two), ((λ is. inl refl), tt)), ((tt, tt), tt))),
+    ),
+  )
 
   word_sound : Each (IsSound MayBe) (built_rules (word_rules sizes))
-  word_sound =
-      (((omega arith, λ v e is. absurd (true≢false (sym is))), tt), (((omega arith, λ v e is. absurd (true≢false (sym is))), tt), (((omega arith, one_of_two), ((λ is. inl refl), tt)), (((omega arith, λ v e is. absurd (true≢false (sym is))), tt), ((tt, tt), tt)))))
+  word_sound = (
+    ((omega arith, λ v e is. absurd (true≢false (sym is))), tt),
+    (
+      ((omega arith, λ v e is. absurd (true≢false (sym is))), tt),
+      (((omega arith, one_of_two), ((λ is. inl refl), tt)), (((omega arith, λ v e is. absurd (true≢false (sym is))), tt), ((tt, tt), tt))),
+    ),
+  )
 
   plan_sound : Each (IsSound MayBe) (built_rules (plan_rules sizes))
-  plan_sound =
-      (((omega arith, λ v e is. absurd (true≢false (sym is))), tt), (((omega arith, λ v e is. absurd (true≢false (sym is))), tt), (((omega arith, one_of_two), ((λ is. inl refl), tt)), ((tt, tt), tt))))
+  plan_sound = (
+    ((omega arith, λ v e is. absurd (true≢false (sym is))), tt),
+    (((omega arith, λ v e is. absurd (true≢false (sym is))), tt), (((omega arith, one_of_two), ((λ is. inl refl), tt)), ((tt, tt), tt))),
+  )
 
   each_good : Each (IsKnown MayBe IsRead) (built (ptab sizes)).subs
   each_good = (
     inr (
       record {
-        reads = λ rows fair line j z. (show_job sizes rows fair line.job j, sized rows fair.full (fair.present.1.0 (omega arith)) line.size z);
+        reads = λ rows fair line j z. (
+          show_job sizes rows fair line.job j,
+          sized rows fair.full
+              (fair.present.1.0 (omega arith)) line.size z,
+        );
         known = λ u. u.0 refl;
       },
       image_sound,
@@ -176,7 +205,11 @@ module _ (sizes : Bor (List (Bor Text))) (are : texts sizes.now ≡ codes "512" 
     (
       inr (
         record {
-          reads = λ rows fair line j z. (verify_job sizes rows fair line.job j, sized rows fair.full (fair.present.1.0 (omega arith)) line.size z);
+          reads = λ rows fair line j z. (
+            verify_job sizes rows fair line.job j,
+            sized rows fair.full
+                (fair.present.1.0 (omega arith)) line.size z,
+          );
           known = λ u. u.1 refl;
         },
         image_sound,
@@ -185,7 +218,11 @@ module _ (sizes : Bor (List (Bor Text))) (are : texts sizes.now ≡ codes "512" 
       (
         inr (
           record {
-            reads = λ rows fair line j z. (locate_job sizes rows fair line.job j, sized rows fair.full (fair.present.1.1.1.0 (omega arith)) line.size z);
+            reads = λ rows fair line j z. (
+              locate_job sizes rows fair line.job j,
+              sized rows fair.full
+                  (fair.present.1.1.1.0 (omega arith)) line.size z,
+            );
             known = λ u. u.2 refl;
           },
           place_sound,
@@ -194,7 +231,11 @@ module _ (sizes : Bor (List (Bor Text))) (are : texts sizes.now ≡ codes "512" 
         (
           inr (
             record {
-              reads = λ rows fair line j z. (edit_job sizes rows fair line.job j, sized rows fair.full (fair.present.1.1.0 (omega arith)) line.size z);
+              reads = λ rows fair line j z. (
+                edit_job sizes rows fair line.job j,
+                sized rows fair.full
+                    (fair.present.1.1.0 (omega arith)) line.size z,
+              );
               known = λ u. u.3 refl;
             },
             word_sound,
@@ -203,7 +244,11 @@ module _ (sizes : Bor (List (Bor Text))) (are : texts sizes.now ≡ codes "512" 
           (
             inr (
               record {
-                reads = λ rows fair line j z. (plan_job sizes rows fair line.job j, sized rows fair.full (fair.present.1.1.0 (omega arith)) line.size z);
+                reads = λ rows fair line j z. (
+                  plan_job sizes rows fair line.job j,
+                  sized rows fair.full
+                      (fair.present.1.1.0 (omega arith)) line.size z,
+                );
                 known = λ u. u.4 refl;
               },
               word_sound,
@@ -212,7 +257,11 @@ module _ (sizes : Bor (List (Bor Text))) (are : texts sizes.now ≡ codes "512" 
             (
               inr (
                 record {
-                  reads = λ rows fair line j z. (check_job sizes rows fair line.job j, sized rows fair.full (fair.present.1.1.0 (omega arith)) line.size z);
+                  reads = λ rows fair line j z. (
+                    check_job sizes rows fair line.job j,
+                    sized rows fair.full
+                        (fair.present.1.1.0 (omega arith)) line.size z,
+                  );
                   known = λ u. u.5 refl;
                 },
                 plan_sound,
@@ -221,7 +270,11 @@ module _ (sizes : Bor (List (Bor Text))) (are : texts sizes.now ≡ codes "512" 
               (
                 inr (
                   record {
-                    reads = λ rows fair line j z. (apply_job sizes rows fair line.job j, sized rows fair.full (fair.present.1.1.0 (omega arith)) line.size z);
+                    reads = λ rows fair line j z. (
+                      apply_job sizes rows fair line.job j,
+                      sized rows fair.full
+                          (fair.present.1.1.0 (omega arith)) line.size z,
+                    );
                     known = λ u. u.6 refl;
                   },
                   plan_sound,
@@ -230,7 +283,11 @@ module _ (sizes : Bor (List (Bor Text))) (are : texts sizes.now ≡ codes "512" 
                 (
                   inr (
                     record {
-                      reads = λ rows fair line j z. (repair_job sizes rows fair line.job j, sized rows fair.full (fair.present.1.0 (omega arith)) line.size z);
+                      reads = λ rows fair line j z. (
+                        repair_job sizes rows fair line.job j,
+                        sized rows fair.full
+                            (fair.present.1.0 (omega arith)) line.size z,
+                      );
                       known = λ u. u.7 refl;
                     },
                     image_sound,
@@ -247,7 +304,8 @@ module _ (sizes : Bor (List (Bor Text))) (are : texts sizes.now ≡ codes "512" 
   )
 
   module _ (words : List Text) where
-    pub by_error : (e : Error) (result : Result Line LineError) → HasKind (fault_of (ptab sizes) words) e → Tells (kind_of e) result → MeansAt (ptab sizes) words result
+    pub by_error : (e : Error) (result : Result Line LineError) → HasKind (fault_of (ptab sizes) words) e → Tells (kind_of e) result
+        → MeansAt (ptab sizes) words result
     by_error e (Ok line) (inl memory) tells = absurd (⊎_elim
         (λ is. (let bad : DisplayHelp ≡ OutOfMemory = sym is ∙ memory in cc))
         (λ is. (let bad : DisplayVersion ≡ OutOfMemory = sym is ∙ memory in cc))
@@ -263,10 +321,14 @@ module _ (sizes : Bor (List (Bor Text))) (are : texts sizes.now ≡ codes "512" 
     by_error e (Err (Usage text)) (inl memory) tells = absurd (tells.2 memory)
     by_error e (Err (Usage text)) (inr among) tells = (kind_of e, among, tells.0, tells.1, tells.2)
 
-    pub by_matches : (result : Result Line LineError) → fault_of (ptab sizes) words ≡ [] → MeansJob (subcommand_of (ptab sizes) words) result → MeansAt (ptab sizes) words result
-    by_matches result none means = go result (taken MayBe IsRead (built (ptab sizes)) (argument_words (ptab sizes) words) ((tt, tt), ((tt, tt), tt)) each_good refl refl none) means
+    pub by_matches : (result : Result Line LineError) → fault_of (ptab sizes) words ≡ []
+        → MeansJob (subcommand_of (ptab sizes) words) result → MeansAt (ptab sizes) words result
+    by_matches result none means =
+        go result (taken MayBe IsRead (built (ptab sizes)) (argument_words (ptab sizes) words)
+        ((tt, tt), ((tt, tt), tt)) each_good refl refl none) means
       where
-        go : (r : Result Line LineError) → HasEntered MayBe IsRead (subcommand_of (ptab sizes) words) → MeansJob (subcommand_of (ptab sizes) words) r
+        go : (r : Result Line LineError) → HasEntered MayBe IsRead (subcommand_of (ptab sizes) words)
+            → MeansJob (subcommand_of (ptab sizes) words) r
             → MeansAt (ptab sizes) words r
         go (Ok line) met m =
             let h = subst (λ (o : Option (Text × List Row)). IsLineOrEmpty o line) met.is m in

@@ -1,5 +1,6 @@
 -- What an argument's uses leave in the matches, where none is refused.
-use Rattle.std.proofs.Common.{◌≡◌, ◌<◌, ◌≤◌, ◌||◌, Bool, cond, true, false, refl, sym, subst, arith, List, [], ◌∷◌, ◌++◌, length, lt-ltb, Option, Some, None, true≢false}
+use Rattle.std.proofs.Common.{◌≡◌, ◌<◌, ◌≤◌, ◌||◌, Bool, cond, true, false, refl, sym, subst, arith, List, [], ◌∷◌, ◌++◌, length, lt-ltb}
+use Rattle.std.proofs.Common.{Option, Some, None, true≢false}
 use Rattle.std.specs.Prelude.{IfSome, find, fold}
 use Rattle.std.specs.Option.{option_map_or}
 use Rattle.std.specs.Str.{bytes_eq}
@@ -7,7 +8,9 @@ use Rattle.std.proofs.lemmas.Slice.Eq.{bytes_eq-Decides}
 use Rattle.clap.specs.Facts.{parser_of_value, unwrap_or_range}
 use Rattle.clap.specs.Kinds.{Kinds, or_else, range_kinds, value_kinds}
 use Rattle.clap.specs.Values.{refused_kind}
-use Rattle.clap.specs.Walk.{Held, Row, Rule, Text, action_of, arg_by_id, at_row, default_rows, finished, has_row, more_values, most_values, reacted, reading_by, settled, settled_rows, used, used_as, used_by_id, values_or_missing, with_default, with_values, without}
+use Rattle.clap.specs.Walk.{Held, Row, Rule, Text, action_of, arg_by_id, at_row, default_rows, finished, has_row, more_values, most_values}
+use Rattle.clap.specs.Walk.{reacted, reading_by, settled, settled_rows, used, used_as, used_by_id, values_or_missing, with_default}
+use Rattle.clap.specs.Walk.{with_values, without}
 use Rattle.clap.specs.Takes.{value_passes}
 use Rattle.clap.specs.Faults.{action_fault, react_fault, repeat_fault, settle_fault, use_fault, values_fault}
 use Rattle.clap.specs.declared.builder.action.ArgAction.{ArgAction}
@@ -44,7 +47,8 @@ neither (k ∷ ks) b none = absurd cc
 
 -- ---- arguments with defaults
 
-has_values : (id : Text) (how : Reading) (x : ValueSource) (values : List Text) (rows : List Row) → has_row id (with_values id how x values rows) ≡ true
+has_values : (id : Text) (how : Reading) (x : ValueSource) (values : List Text) (rows : List Row)
+    → has_row id (with_values id how x values rows) ≡ true
 has_values id how x values [] = rw ((bytes_eq-Decides id id).1 refl) refl
 has_values id how x values (r ∷ rs) = go (bytes_eq r.id id) refl (has_values id how x values rs)
   where
@@ -53,7 +57,8 @@ has_values id how x values (r ∷ rs) = go (bytes_eq r.id id) refl (has_values i
     go true e later = rw e refl
     go false e later = rw e later
 
-keeps_values : (id k : Text) (how : Reading) (x : ValueSource) (values : List Text) (rows : List Row) → has_row id rows ≡ true → has_row id (with_values k how x values rows) ≡ true
+keeps_values : (id k : Text) (how : Reading) (x : ValueSource) (values : List Text) (rows : List Row) → has_row id rows ≡ true
+    → has_row id (with_values k how x values rows) ≡ true
 keeps_values id k how x values [] has = absurd (true≢false (sym has))
 keeps_values id k how x values (r ∷ rs) has = go (bytes_eq r.id k) (λ e. keeps_values id k how x values rs e)
   where
@@ -81,21 +86,24 @@ default_keeps id a rows has = go (has_row a.id rows) a.defaults
     go true vs = has
     go false vs = fill vs
 
-defaults_keep : (id : Text) (rules : List Rule) (rows : List Row) → has_row id rows ≡ true → has_row id (fold with_default rows rules) ≡ true
+defaults_keep : (id : Text) (rules : List Rule) (rows : List Row) → has_row id rows ≡ true
+    → has_row id (fold with_default rows rules) ≡ true
 defaults_keep id [] rows has = has
 defaults_keep id (a ∷ rest) rows has = defaults_keep id rest (with_default rows a) (default_keeps id a rows has)
 
 default_present : (a : Rule) (rows : List Row) → 0 < length a.defaults → has_row a.id (with_default rows a) ≡ true
 default_present a rows some = go (has_row a.id rows) refl a.defaults some
   where
-    go : (t : Bool) → has_row a.id rows ≡ t → (vs : List Text) → 0 < length vs → has_row a.id (cond t rows (default_rows a.id (reading_by a) vs rows)) ≡ true
+    go : (t : Bool) → has_row a.id rows ≡ t → (vs : List Text) → 0 < length vs
+        → has_row a.id (cond t rows (default_rows a.id (reading_by a) vs rows)) ≡ true
     go true e vs lt = e
     go false e [] lt = absurd (omega arith)
     go false e (v ∷ vs) lt = has_values a.id (reading_by a) DefaultValue (v ∷ vs) rows
 
 pub defaults_present : (rules : List Rule) (rows : List Row) → Each (IsPresent (fold with_default rows rules)) rules
 defaults_present [] rows = tt
-defaults_present (a ∷ rest) rows = ((λ some. defaults_keep a.id rest (with_default rows a) (default_present a rows some)), defaults_present rest (with_default rows a))
+defaults_present (a ∷ rest) rows =
+    ((λ some. defaults_keep a.id rest (with_default rows a) (default_present a rows some)), defaults_present rest (with_default rows a))
 
 -- P id v: the argument of this id may have this value
 module _ (P : Text → Text → Type 0) where
@@ -108,17 +116,26 @@ module _ (P : Text → Text → Type 0) where
   at_row_full id change missing [] all on none = none
   at_row_full id change missing (r ∷ rs) all on none = go (bytes_eq r.id id) refl (at_row_full id change missing rs all.1 on none)
     where
-      go : (t : Bool) → bytes_eq r.id id ≡ t → Each IsFull (at_row id change missing rs) → Each IsFull (cond t (change r ++ rs) (r ∷ at_row id change missing rs))
+      go : (t : Bool) → bytes_eq r.id id ≡ t → Each IsFull (at_row id change missing rs)
+          → Each IsFull (cond t (change r ++ rs) (r ∷ at_row id change missing rs))
       go true e later = each_append IsFull (change r) rs (on r ((bytes_eq-Decides r.id id).0 e) all.0) all.1
       go false e later = (all.0, later)
 
   without_full : (id : Text) (rows : List Row) → Each IsFull rows → Each IsFull (without id rows)
   without_full id rows all = at_row_full id (λ _. []) [] rows all (λ r e full. tt) tt
 
-  pub values_full : (id : Text) (how : Reading) (s : ValueSource) (values : List Text) (rows : List Row) → Each IsFull rows → 0 < length values → Each (P id) values
+  pub values_full : (id : Text) (how : Reading) (s : ValueSource) (values : List Text) (rows : List Row) → Each IsFull rows
+      → 0 < length values → Each (P id) values
       → Each IsFull (with_values id how s values rows)
   values_full id how s values rows all some may = at_row_full id (more_values s values) _ rows all
-      (λ r e full. ((some_more r.values values some, each_append (P r.id) r.values values full.1 (subst (λ (x : Text). Each (P x) values) (sym e) may)), tt))
+      (λ r e full. (
+        (
+          some_more r.values values some,
+          each_append (P r.id) r.values values full.1
+              (subst (λ (x : Text). Each (P x) values) (sym e) may),
+        ),
+        tt,
+      ))
       ((some, may), tt)
 
   -- ---- one use
@@ -137,7 +154,8 @@ module _ (P : Text → Text → Type 0) where
   abbrev pub IsSound : Rule → Type 0
   IsSound a = Acts (action_of a) a × Each (P a.id) a.defaults
 
-  value_ok : (a : Rule) (v : Text) (t : Bool) → value_passes a v ≡ t → cond t [] (refused_kind (parser_of_value a.parser) ∷ []) ≡ [] → value_passes a v ≡ true
+  value_ok : (a : Rule) (v : Text) (t : Bool) → value_passes a v ≡ t → cond t [] (refused_kind (parser_of_value a.parser) ∷ []) ≡ []
+      → value_passes a v ≡ true
   value_ok a v true e none = e
   value_ok a v false e none = absurd cc
 
@@ -147,23 +165,32 @@ module _ (P : Text → Text → Type 0) where
       let parts = neither (value_kinds a.ignore_case (parser_of_value a.parser) v) (values_fault a vs) none in
       (may v (value_ok a v (value_passes a v) refl parts.0), values_ok a vs may parts.1)
 
-  used_full : (again : Bool) (a : Rule) (values : List Text) (rows : List Row) → IsSound a → use_fault again a values rows ≡ [] → Each IsFull rows
+  used_full : (again : Bool) (a : Rule) (values : List Text) (rows : List Row) → IsSound a → use_fault again a values rows ≡ []
+      → Each IsFull rows
       → Each IsFull (used a values rows)
   used_full again a values rows sound none all =
-      let parts = neither (range_kinds (unwrap_or_range a.range).start_inclusive (most_values a) (length values)) (action_fault (action_of a) again a (values_or_missing a values) rows) none in
+      let parts =
+      neither (range_kinds (unwrap_or_range a.range).start_inclusive (most_values a) (length values))
+      (action_fault (action_of a) again a (values_or_missing a values) rows) none in
       go values (action_of a) sound.0 parts.0 parts.1
     where
-      go : (vs : List Text) (x : ArgAction) → Acts x a → range_kinds (unwrap_or_range a.range).start_inclusive (most_values a) (length vs) ≡ []
-          → action_fault x again a (values_or_missing a vs) rows ≡ [] → Each IsFull (used_as x a.id (reading_by a) (values_or_missing a vs) rows)
+      go : (vs : List Text) (x : ArgAction) → Acts x a
+          → range_kinds (unwrap_or_range a.range).start_inclusive (most_values a) (length vs) ≡ []
+          → action_fault x again a (values_or_missing a vs) rows ≡ []
+          → Each IsFull (used_as x a.id (reading_by a) (values_or_missing a vs) rows)
       go [] Set acts range fault =
-          let bad : kind.InvalidValue ∷ [] ≡ [] = rw (lt-ltb 0 (unwrap_or_range a.range).start_inclusive (omega (arith, acts.0))) at range in
+          let bad : kind.InvalidValue ∷ [] ≡ [] =
+          rw (lt-ltb 0 (unwrap_or_range a.range).start_inclusive (omega (arith, acts.0))) at range in
           absurd cc
-      go (v ∷ vs) Set acts range fault = values_full a.id (reading_by a) CommandLine (v ∷ vs) (without a.id rows) (without_full a.id rows all) (omega arith)
+      go (v ∷ vs) Set acts range fault =
+          values_full a.id (reading_by a) CommandLine (v ∷ vs) (without a.id rows) (without_full a.id rows all) (omega arith)
           (values_ok a (v ∷ vs) acts.1 (neither (repeat_fault again a.id rows) (values_fault a (v ∷ vs)) fault).1)
       go [] Append acts range fault =
-          let bad : kind.InvalidValue ∷ [] ≡ [] = rw (lt-ltb 0 (unwrap_or_range a.range).start_inclusive (omega (arith, acts.0))) at range in
+          let bad : kind.InvalidValue ∷ [] ≡ [] =
+          rw (lt-ltb 0 (unwrap_or_range a.range).start_inclusive (omega (arith, acts.0))) at range in
           absurd cc
-      go (v ∷ vs) Append acts range fault = values_full a.id (reading_by a) CommandLine (v ∷ vs) rows all (omega arith) (values_ok a (v ∷ vs) acts.1 fault)
+      go (v ∷ vs) Append acts range fault =
+          values_full a.id (reading_by a) CommandLine (v ∷ vs) rows all (omega arith) (values_ok a (v ∷ vs) acts.1 fault)
       go vs Help acts range fault = all
       go vs Version acts range fault = all
       go vs _ acts range fault = absurd acts
@@ -175,13 +202,15 @@ module _ (P : Text → Text → Type 0) where
     pub settled_full : (h : Held) → settle_fault c again h ≡ [] → Each IsFull h.rows → Each IsFull (settled c h).rows
     settled_full h none all = go h.pending none
       where
-        by_id : (values : List Text) (o : Option Rule) → IfSome o IsSound → option_map_or (λ (a : Rule). use_fault again a values h.rows) o [] ≡ []
+        by_id : (values : List Text) (o : Option Rule) → IfSome o IsSound
+            → option_map_or (λ (a : Rule). use_fault again a values h.rows) o [] ≡ []
             → Each IsFull (used_by_id o values h.rows)
         by_id values None s e = all
         by_id values (Some a) s e = used_full again a values h.rows s e all
 
         go : (p : Option (Text × List Text))
-            → option_map_or (λ (q : Text × List Text). option_map_or (λ (a : Rule). use_fault again a q.1 h.rows) (arg_by_id c q.0) []) p [] ≡ []
+            → option_map_or (λ (q : Text × List Text). option_map_or (λ (a : Rule). use_fault again a q.1 h.rows)
+            (arg_by_id c q.0) []) p [] ≡ []
             → Each IsFull (settled_rows c p h.rows)
         go None e = all
         go (Some q) e = by_id q.1 (arg_by_id c q.0) (found_sound (λ a. bytes_eq a.id q.0)) e
@@ -203,7 +232,8 @@ module _ (P : Text → Text → Type 0) where
         go true = all
         go false = fill a.defaults s.1
 
-    defaults_full : (rules : List Rule) (rows : List Row) → Each IsSound rules → Each IsFull rows → Each IsFull (fold with_default rows rules)
+    defaults_full : (rules : List Rule) (rows : List Row) → Each IsSound rules → Each IsFull rows
+        → Each IsFull (fold with_default rows rules)
     defaults_full [] rows s all = all
     defaults_full (a ∷ rest) rows s all = defaults_full rest (with_default rows a) s.1 (default_full a rows s.0 all)
 

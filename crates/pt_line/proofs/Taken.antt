@@ -1,5 +1,6 @@
 -- What words without fault leave: the subcommand that they enter, and values of its arguments.
-use Rattle.std.proofs.Common.{◌≡◌, ◌∙◌, ◌&&◌, ◌||◌, ◌⊎◌, inl, inr, Bool, cond, true, false, not, ◌<◌, arith, length, refl, sym, subst, List, [], ◌∷◌, Option, Some, None, true≢false, codes, slice_get, is_some}
+use Rattle.std.proofs.Common.{◌≡◌, ◌∙◌, ◌&&◌, ◌||◌, ◌⊎◌, inl, inr, Bool, cond, true, false, not, ◌<◌, arith, length, refl, sym, subst, List}
+use Rattle.std.proofs.Common.{[], ◌∷◌, Option, Some, None, true≢false, codes, slice_get, is_some}
 use Rattle.std.specs.Prelude.{IfSome, IsSome, find, option_map, option_and_then}
 use Rattle.std.specs.Option.{option_map_or}
 use Rattle.std.specs.List.{list_any}
@@ -9,7 +10,8 @@ use Rattle.clap.specs.Facts.{explicit_source}
 use Rattle.clap.specs.Kinds.{Kinds, check_kinds}
 use Rattle.clap.specs.Simple.{App, Shape, entered, label_of, names_of, rows_at}
 use Rattle.clap.specs.Takes.{is_given}
-use Rattle.clap.specs.Walk.{Names, Row, Rule, Text, all_of, answers_to, finished, first_of, has_row, nothing_held, rows_after, settled, walk, walk_from}
+use Rattle.clap.specs.Walk.{Names, Row, Rule, Text, all_of, answers_to, finished, first_of, has_row, nothing_held, rows_after, settled}
+use Rattle.clap.specs.Walk.{walk, walk_from}
 use Rattle.clap.specs.Faults.{built_fault, check_fault, defaults_fault, entered_fault, level_fault, settle_fault, walk_fault}
 use Rattle.pt_line.proofs.Rows.{Each, IsFull, IsPresent, IsSound, defaults_present, finished_full, neither}
 use Rattle.pt_line.proofs.Walks.{GoesWell, StopsWell, goes_well}
@@ -18,7 +20,8 @@ found_with : {X : Type 0} (Q : X → Type 0) (test : X → Bool) (xs : List X) �
 found_with Q test [] all = tt
 found_with Q test (x ∷ xs) all = go (test x) refl (found_with Q test xs all.1)
   where
-    go : (t : Bool) → test x ≡ t → IfSome (find test xs) (λ y. Q y × (test y ≡ true)) → IfSome (cond t (Some x) (find test xs)) (λ y. Q y × (test y ≡ true))
+    go : (t : Bool) → test x ≡ t → IfSome (find test xs) (λ y. Q y × (test y ≡ true))
+        → IfSome (cond t (Some x) (find test xs)) (λ y. Q y × (test y ≡ true))
     go true e later = (all.0, e)
     go false e later = later
 
@@ -59,7 +62,8 @@ asks_help word named other = by (bytes_eq (codes "help") word) refl named
 abbrev IsGiven : List Row → Rule → Type 0
 IsGiven rows a = a.required ≡ true → is_given a.id rows ≡ true
 
-each_given : (rows : List Row) (rules : List Rule) → Each (λ a. (a.required && not (is_given a.id rows)) ≡ false) rules → Each (IsGiven rows) rules
+each_given : (rows : List Row) (rules : List Rule) → Each (λ a. (a.required && not (is_given a.id rows)) ≡ false) rules
+    → Each (IsGiven rows) rules
 each_given rows [] none = tt
 each_given rows (a ∷ rest) none = ((λ is. given_by a.required (is_given a.id rows) is none.0), each_given rows rest none.1)
 
@@ -73,7 +77,8 @@ module _ (P : Text → Text → Type 0) where
   abbrev pub HasSoundRules : Shape → Type 0
   HasSoundRules s = Each (IsSound P) s.rules
 
-  level : (s : Shape) (names : Names) (words : List Text) (has : Bool) (below : Kinds) → HasSoundRules s → level_fault s names nothing_held words has below ≡ []
+  level : (s : Shape) (names : Names) (words : List Text) (has : Bool) (below : Kinds) → HasSoundRules s
+      → level_fault s names nothing_held words has below ≡ []
       → GoesWell P s (walk s.rules names nothing_held words) × (below ≡ [])
       × (s.subcommand_negates_reqs ≡ false → IsFair s.rules (rows_after s.rules names words)) × (s.subcommand_required ≡ true → has ≡ true)
   level s names words has below sound none =
@@ -110,9 +115,11 @@ module _ (P : Text → Text → Type 0) where
     enters : (a : App) (stop : Option (Text × List Text)) → Each IsKnown a.subs → a.top.disable_help_subcommand ≡ false
         → entered_fault a stop ≡ [] → is_some (entered a stop) ≡ true → StopsWell a.top stop → HasEntered (entered a stop)
     enters a None subs helps none has well = absurd (true≢false (sym has))
-    enters a (Some p) subs helps none has well = go (find (λ s. answers_to p.0 (label_of s)) a.subs) (found_with IsKnown (λ s. answers_to p.0 (label_of s)) a.subs subs) none has
+    enters a (Some p) subs helps none has well =
+        go (find (λ s. answers_to p.0 (label_of s)) a.subs) (found_with IsKnown (λ s. answers_to p.0 (label_of s)) a.subs subs) none has
       where
-        known : (s : Shape) → IsKnown s → answers_to p.0 (label_of s) ≡ true → option_map_or (λ (x : Shape). level_fault x [] nothing_held p.1 false []) (Some s) [] ≡ []
+        known : (s : Shape) → IsKnown s → answers_to p.0 (label_of s) ≡ true
+            → option_map_or (λ (x : Shape). level_fault x [] nothing_held p.1 false []) (Some s) [] ≡ []
             → HasEntered (Some (rows_at s p.1))
         known s (inl label) named e =
             absurd (asks_help p.0 (subst (λ (l : Text × List Text). answers_to p.0 l ≡ true) label named)
@@ -141,29 +148,35 @@ module _ (P : Text → Text → Type 0) where
         enters a stop subs helps here.1 (here.3 required) here.0.1
 
 -- an argument with an entry has values, and each may be
-first_value : (P : Text → Text → Type 0) (id : Text) (vs : List Text) → 0 < length vs → Each (P id) vs → IfSome (slice_get vs 0) (P id) × IsSome (slice_get vs 0)
+first_value : (P : Text → Text → Type 0) (id : Text) (vs : List Text) → 0 < length vs → Each (P id) vs
+    → IfSome (slice_get vs 0) (P id) × IsSome (slice_get vs 0)
 first_value P id [] lt may = absurd (omega arith)
 first_value P id (v ∷ vs) lt may = (may.0, refl)
 
-pub has_value : (P : Text → Text → Type 0) (rows : List Row) (id : Text) → Each (IsFull P) rows → has_row id rows ≡ true → IfSome (first_of id rows) (P id) × IsSome (first_of id rows)
+pub has_value : (P : Text → Text → Type 0) (rows : List Row) (id : Text) → Each (IsFull P) rows → has_row id rows ≡ true
+    → IfSome (first_of id rows) (P id) × IsSome (first_of id rows)
 has_value P [] id full present = absurd (true≢false (sym present))
 has_value P (r ∷ rs) id full present = by (bytes_eq r.id id) refl (λ e. has_value P rs id full.1 e) present
   where
-    by : (t : Bool) → bytes_eq r.id id ≡ t → (has_row id rs ≡ true → IfSome (first_of id rs) (P id) × IsSome (first_of id rs)) → (t || has_row id rs) ≡ true
+    by : (t : Bool) → bytes_eq r.id id ≡ t → (has_row id rs ≡ true → IfSome (first_of id rs) (P id) × IsSome (first_of id rs))
+        → (t || has_row id rs) ≡ true
         → IfSome (option_and_then (λ (x : Row). slice_get x.values 0) (cond t (Some r) (find (λ x. bytes_eq x.id id) rs))) (P id)
         × IsSome (option_and_then (λ (x : Row). slice_get x.values 0) (cond t (Some r) (find (λ x. bytes_eq x.id id) rs)))
-    by true same later h = first_value P id r.values full.0.0 (subst (λ (x : Text). Each (P x) r.values) ((bytes_eq-Decides r.id id).0 same) full.0.1)
+    by true same later h =
+        first_value P id r.values full.0.0 (subst (λ (x : Text). Each (P x) r.values) ((bytes_eq-Decides r.id id).0 same) full.0.1)
     by false same later h = later h
 
 -- an argument that was given has a value
-pub has_text : (P : Text → Text → Type 0) (rows : List Row) (id : Text) → Each (IsFull P) rows → is_given id rows ≡ true → IsSome (first_of id rows) × IsSome (all_of id rows)
+pub has_text : (P : Text → Text → Type 0) (rows : List Row) (id : Text) → Each (IsFull P) rows → is_given id rows ≡ true
+    → IsSome (first_of id rows) × IsSome (all_of id rows)
 has_text P rows id full given = go (find (λ r. bytes_eq r.id id) rows) (found_with (IsFull P) (λ r. bytes_eq r.id id) rows full) given
   where
     first : (vs : List Text) → 0 < length vs → IsSome (slice_get vs 0)
     first [] lt = absurd (omega arith)
     first (v ∷ vs) lt = refl
 
-    go : (o : Option Row) → IfSome o (λ r. IsFull P r × (bytes_eq r.id id ≡ true)) → option_map_or (λ (r : Row). explicit_source r.source) o false ≡ true
+    go : (o : Option Row) → IfSome o (λ r. IsFull P r × (bytes_eq r.id id ≡ true))
+        → option_map_or (λ (r : Row). explicit_source r.source) o false ≡ true
         → IsSome (option_and_then (λ (r : Row). slice_get r.values 0) o) × IsSome (option_map (λ (r : Row). r.values) o)
     go None f e = absurd (true≢false (sym e))
     go (Some r) f e = (first r.values f.0.0, refl)

@@ -1,5 +1,6 @@
 -- What a command line asks for, by `clap`'s meaning of its words at the command.
-use Rattle.std.specs.Prelude.{◌≡◌, ◌≢◌, ◌⊎◌, false, List, [], ◌∷◌, map, Option, Some, None, Result, Ok, Err, String, string_bytes, codes, unwrap_or, option_map}
+use Rattle.std.specs.Prelude.{◌≡◌, ◌≢◌, ◌⊎◌, false, List, [], ◌∷◌, map, Option, Some, None, Result, Ok, Err, String, string_bytes, codes}
+use Rattle.std.specs.Prelude.{unwrap_or, option_map}
 use Rattle.std.specs.Borrow.{Bor}
 use Rattle.std.specs.declared.alloc.Global.{Global}
 use Rattle.clap.specs.Walk.{texts}
@@ -45,8 +46,10 @@ IsJobBy one all name rows (job.Edit image fresh list) = (name ≡ codes "edit") 
     × (option_map string_bytes fresh ≡ first_of (codes "fresh") rows) × all (codes "WORD") (map string_bytes list.items)
 IsJobBy one all name rows (job.Plan image fresh list) = (name ≡ codes "plan") × one (codes "IMAGE") (string_bytes image)
     × (option_map string_bytes fresh ≡ first_of (codes "fresh") rows) × all (codes "WORD") (map string_bytes list.items)
-IsJobBy one all name rows (job.Check image file) = (name ≡ codes "check") × one (codes "IMAGE") (string_bytes image) × one (codes "PLANFILE") (string_bytes file)
-IsJobBy one all name rows (job.Apply image file) = (name ≡ codes "apply") × one (codes "IMAGE") (string_bytes image) × one (codes "PLANFILE") (string_bytes file)
+IsJobBy one all name rows (job.Check image file) =
+    (name ≡ codes "check") × one (codes "IMAGE") (string_bytes image) × one (codes "PLANFILE") (string_bytes file)
+IsJobBy one all name rows (job.Apply image file) =
+    (name ≡ codes "apply") × one (codes "IMAGE") (string_bytes image) × one (codes "PLANFILE") (string_bytes file)
 IsJobBy one all name rows (job.Repair image) = (name ≡ codes "repair") × one (codes "IMAGE") (string_bytes image)
 
 -- its texts are the values of its arguments, which have them

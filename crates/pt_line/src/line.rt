@@ -6,7 +6,8 @@ ghost use Rattle.clap.specs.Walk.{texts as slice_texts};
 ghost use Rattle.clap.specs.Words.{found_of, kind_of, new_app, rows_of, subcommand_rows_of};
 ghost use Rattle.pt_line.specs.CommandLine as spec;
 ghost use Rattle.pt_line.specs.declared.line.LineError.TheVariants.{Memory};
-ghost use Rattle.pt_line.specs.Lines.{AddsRules, GivesIf, IfJob, IsArg, IsCommand, IsSizeNamed, IsSizeOrLess, Means, MeansJob, Tells, text_in, texts_in};
+ghost use Rattle.pt_line.specs.Lines.{AddsRules, GivesIf, IfJob, IsArg, IsCommand, IsSizeNamed, IsSizeOrLess, Means, MeansJob, Tells};
+ghost use Rattle.pt_line.specs.Lines.{text_in, texts_in};
 
 use crate::help::{
     ABOUT, APPLY, APPLY_ABOUT, CHECK, CHECK_ABOUT, EDIT, EDIT_ABOUT, LOCATE, LOCATE_ABOUT, PLAN,

@@ -9,7 +9,8 @@ use Rattle.pt_space.specs.Laws.{placed_is_free_lem}
 use Rattle.pt_words.specs.declared.word.End.{End}
 use Rattle.pt_logicals.specs.New.{logical_area}
 
-pub placed_within : (x : Record) (chain : List Ebr) (alignment start : ℕ) (end : End) (r : Run) → Placed (logical_area x chain) alignment start end r → (x.start < r.first) × (r.first ≤ r.last) × (r.last < x.start + x.size)
+pub placed_within : (x : Record) (chain : List Ebr) (alignment start : ℕ) (end : End) (r : Run)
+    → Placed (logical_area x chain) alignment start end r → (x.start < r.first) × (r.first ≤ r.last) × (r.last < x.start + x.size)
 placed_within x chain alignment start end r placed =
     let free : IsFreeRun (logical_area x chain) r = placed_is_free_lem (logical_area x chain) alignment start end r placed in
     let some = free.some in

@@ -1,13 +1,14 @@
 -- Logical partitions in their chain.
-use Rattle.std.specs.Prelude.{◌≡◌, ◌⊎◌, ◌<◌, ◌+◌, ℕ, true, false, List, length, slice_index_or, slice_set, Option, Some, None}
+use Rattle.std.specs.Prelude.{◌≡◌, ◌<◌, ◌+◌, ℕ, false, List, length, slice_index_or, slice_set, Option, Some, None}
 use Rattle.pt_mbr.specs.declared.record.Record.{Record}
 use Rattle.pt_mbr.specs.declared.ebr.Ebr.{Ebr}
 use Rattle.pt_layout.specs.Counts.{used_before, no_ebr}
 use Rattle.pt_recover.specs.declared.layout.Labelled.{Labelled}
+use Rattle.pt_labels.specs.Retyped.{NotRetyped}
 use Rattle.pt_labels.specs.Lists.{lowered}
 use Rattle.pt_words.specs.declared.word.Code.{Code}
 use Rattle.pt_words.specs.declared.error.Refusal.{Refusal}
-use Rattle.pt_words.specs.declared.error.Refusal.TheVariants.{NoSuchPartition, UnknownCode, ContainerType}
+use Rattle.pt_words.specs.declared.error.Refusal.TheVariants.{NoSuchPartition}
 use Rattle.pt_logicals.specs.Types.{record_type, is_container}
 
 -- the extended boot record at a place
@@ -45,11 +46,14 @@ pub record LogicalTyped (b number : ℕ) (code : Code) (chain made : List Ebr) :
   pub new : is_container b kind ≡ false
   pub is : made ≡ with_logical chain place (Some (record partition { kind = kind }))
 
--- why it hasn't: the first of these that holds
-pub data LogicalNotTyped (b number : ℕ) (code : Code) (chain : List Ebr) (r : Refusal) : Type 0 where
-  no_such : ¬ HasLogical chain number → r ≡ NoSuchPartition → LogicalNotTyped b number code chain r
-  unknown : HasLogical chain number → record_type code ≡ None → r ≡ UnknownCode → LogicalNotTyped b number code chain r
-  contains : (k kind : ℕ) (p : Record) → IsLogical chain number k p → record_type code ≡ Some kind → (is_container b p.kind ≡ true) ⊎ (is_container b kind ≡ true) → r ≡ ContainerType → LogicalNotTyped b number code chain r
+-- the same of a place and a record
+abbrev pub IsFound : List Ebr → ℕ → ℕ × Record → Type 0
+IsFound chain number x = IsLogical chain number x.0 x.1
+
+-- why it hasn't
+abbrev pub LogicalNotTyped : ℕ → ℕ → Code → List Ebr → Refusal → Type 0
+LogicalNotTyped b number code chain =
+    NotRetyped (IsFound chain number) (record_type code) (λ (x : ℕ × Record). x.1.kind) (is_container b)
 
 -- `d` of a logical partition: its extended boot record stays in the chain, empty, and each higher one has the number
 -- below its own, with its label

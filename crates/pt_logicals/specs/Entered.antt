@@ -2,7 +2,8 @@
 --
 -- Each chain is spoken of, also one that no disk has. Of a disk's chain the first extended boot record stands in the
 -- extended partition's first sector, below each sector that another may take: there is always one before a new one.
-use Rattle.std.specs.Prelude.{◌≡◌, ◌<◌, ◌≤◌, ◌-◌, ℕ, List, length, Option, Some, None, option_map, slice_get, slice_set, if◌then◌else◌, nat_eq}
+use Rattle.std.specs.Prelude.{◌≡◌, ◌<◌, ◌≤◌, ◌-◌, ℕ, List, length, Option, Some, None, option_map, slice_get, slice_set, if◌then◌else◌}
+use Rattle.std.specs.Prelude.{nat_eq}
 use Rattle.std.specs.List.{insert}
 use Rattle.pt_sector.specs.declared.address.Lba.{Lba}
 use Rattle.pt_mbr.specs.Chain.{lba}
@@ -47,7 +48,8 @@ with_ebr chain k s r = insert (linked chain k s) k (record { at = lba s; logical
 -- in the sector has it, or else a new one, which is at most the 128th
 pub data Entered (chain : List Ebr) (s : ℕ) (r : Record) (number : ℕ) (made : List Ebr) : Type 0 where
   reused : (k : ℕ) → IsEmptyAt chain s k → number ≡ number_at chain k → made ≡ with_logical chain k (Some r) → Entered chain s r number made
-  added : (k : ℕ) → NoEmptyIn chain s → length chain < 128 → IsPlaceFor chain s k → number ≡ number_at chain k → made ≡ with_ebr chain k s r → Entered chain s r number made
+  added : (k : ℕ) → NoEmptyIn chain s → length chain < 128 → IsPlaceFor chain s k → number ≡ number_at chain k
+      → made ≡ with_ebr chain k s r → Entered chain s r number made
 
 -- it would take a 129th
 pub record IsFull (chain : List Ebr) (s : ℕ) : Type 0 where

@@ -1,5 +1,6 @@
 -- The laws of chains as disks have them, as terms that definitions and proofs above can cite: edits leave such chains.
-use Rattle.std.specs.Prelude.{◌≡◌, ◌≢◌, ◌<◌, ◌≤◌, ◌+◌, ◌-◌, ℕ, zero, suc, Bool, false, List, [], ◌∷◌, length, flat_map, Contains, option_map, slice_get, slice_set, Option, Some, None, if◌then◌else◌}
+use Rattle.std.specs.Prelude.{◌≡◌, ◌≢◌, ◌<◌, ◌≤◌, ◌+◌, ◌-◌, ℕ, zero, suc, Bool, false, List, [], ◌∷◌, length, flat_map, Contains}
+use Rattle.std.specs.Prelude.{option_map, slice_get, slice_set, Option, Some, None, if◌then◌else◌}
 use Rattle.std.specs.List.{insert}
 use Rattle.std.proofs.Common.{sym, ap, subst, refl, ◌∙◌, arith, inl, inr}
 use Rattle.std.proofs.lemmas.Bool.{ne_eqb}
@@ -23,17 +24,27 @@ use Rattle.pt_logicals.specs.New.{taken_of, empty_sector, logical_area, len_of, 
 use Rattle.pt_logicals.specs.Linked.{IsLinked}
 
 -- another logical partition, or none, changes no link
-kept : (chain : List Ebr) (from : Option Lba) (k : ℕ) (o : Option Record) → k < length chain → IsLinked from chain → IsLinked from (with_logical chain k o)
+kept : (chain : List Ebr) (from : Option Lba) (k : ℕ) (o : Option Record) → k < length chain → IsLinked from chain
+    → IsLinked from (with_logical chain k o)
 kept [] from k o within x = absurd (omega arith)
 kept (e ∷ es) from zero o within x = (x.0, x.1, x.2)
 kept (e ∷ es) from (suc k) o within x = (x.0, x.1, kept es e.next k o (omega arith) x.2)
 
 -- the chain with one more behind the one at a place
 unfoldable pub more : List Ebr → ℕ → ℕ → Record → List Ebr
-more chain j s r = insert (slice_set chain j (record (ebr_at chain j) { next = Some (lba s) })) (suc j) (record { at = lba s; logical = Some r; next = (ebr_at chain j).next })
+more chain j s r =
+    insert (slice_set chain j (record (ebr_at chain j) { next = Some (lba s) })) (suc j)
+    (record { at = lba s; logical = Some r; next = (ebr_at chain j).next })
 
 shaped : List Ebr → ℕ → ℕ → Record → Bool → ℕ → List Ebr
-shaped chain j s r c i = insert (if c then chain else slice_set chain i (record (ebr_at chain i) { next = Some (lba s) })) (suc j) (record { at = lba s; logical = Some r; next = if c then option_map (λ (e : Ebr). e.at) (slice_get chain 0) else (ebr_at chain i).next })
+shaped chain j s r c i =
+    insert (if c then chain else slice_set chain i (record (ebr_at chain i) { next = Some (lba s) })) (suc j)
+    (record {
+      at = lba s;
+      logical = Some r;
+      next = if c then option_map (λ (e : Ebr). e.at) (slice_get chain 0)
+          else (ebr_at chain i).next;
+    })
 
 pub with_ebr_is : (chain : List Ebr) (j s : ℕ) (r : Record) → with_ebr chain (suc j) s r ≡ more chain j s r
 unfolding more shaped
@@ -47,11 +58,13 @@ next_up : (es : List Ebr) (to : Option Lba) (s : ℕ) → IsLinked to es → (0 
 next_up [] to s x above = subst (λ (o : Option Lba). IsUpward (lba s) o) (sym x) tt
 next_up (f ∷ fs) to s x above = subst (λ (o : Option Lba). IsUpward (lba s) o) (sym x.0) (above (omega arith))
 
-linked_more : (chain : List Ebr) (from : Option Lba) (j s : ℕ) (r : Record) → j < length chain → IsLinked from chain → (ebr_at chain j).at.0 < s → (suc j < length chain → s < (ebr_at chain (suc j)).at.0) → IsLinked from (more chain j s r)
+linked_more : (chain : List Ebr) (from : Option Lba) (j s : ℕ) (r : Record) → j < length chain → IsLinked from chain
+    → (ebr_at chain j).at.0 < s → (suc j < length chain → s < (ebr_at chain (suc j)).at.0) → IsLinked from (more chain j s r)
 unfolding more
 linked_more [] from j s r within x below above = absurd (omega arith)
 linked_more (e ∷ es) from zero s r within x below above = (x.0, below, (refl, next_up es e.next s x.2 (λ some. above (omega arith)), x.2))
-linked_more (e ∷ es) from (suc j) s r within x below above = (x.0, x.1, linked_more es e.next j s r (omega arith) x.2 below (λ some. above (omega arith)))
+linked_more (e ∷ es) from (suc j) s r within x below above =
+    (x.0, x.1, linked_more es e.next j s r (omega arith) x.2 below (λ some. above (omega arith)))
 
 -- where a chain begins
 begins : (chain : List Ebr) (at : Lba) → IsLinked (Some at) chain → (0 < length chain) × (at ≡ (ebr_at chain 0).at)
@@ -59,14 +72,16 @@ begins [] at x = absurd (none-some at (sym x))
 begins (e ∷ es) at x = let same = x.0 in let first : at ≡ e.at = cc in (omega arith, first)
 
 -- the place of a sector above the first
-pub added_linked_lem : (chain : List Ebr) (low s : ℕ) (r : Record) (k : ℕ) → IsLinked (Some (lba low)) chain → low ≤ s → ((i : ℕ) → i < length chain → (ebr_at chain i).at.0 ≢ s) → IsPlaceFor chain s k → IsLinked (Some (lba low)) (with_ebr chain k s r)
+pub added_linked_lem : (chain : List Ebr) (low s : ℕ) (r : Record) (k : ℕ) → IsLinked (Some (lba low)) chain → low ≤ s
+    → ((i : ℕ) → i < length chain → (ebr_at chain i).at.0 ≢ s) → IsPlaceFor chain s k → IsLinked (Some (lba low)) (with_ebr chain k s r)
 added_linked_lem chain low s r zero x below apart place =
     let start = begins chain (lba low) x in
     let at = ap (λ (a : Lba). a.0) start.1 in
     absurd (apart 0 start.0 (omega (arith, at, place.behind start.0)))
 added_linked_lem chain low s r (suc j) x below apart place =
     subst (λ (l : List Ebr). IsLinked (Some (lba low)) l) (sym (with_ebr_is chain j s r))
-    (linked_more chain (Some (lba low)) j s r (omega (arith, place.within)) x (place.before j (omega arith)) (λ some. omega (arith, place.behind some, apart (suc j) some)))
+    (linked_more chain (Some (lba low)) j s r (omega (arith, place.within)) x (place.before j (omega arith))
+    (λ some. omega (arith, place.behind some, apart (suc j) some)))
 
 own_run : ℕ → Run
 own_run s = record { first = s; last = s }
@@ -76,7 +91,8 @@ own_taken : (chain : List Ebr) (i : ℕ) → i < length chain → Contains (flat
 unfolding own_run
 own_taken [] i within = absurd (omega arith)
 own_taken (e ∷ es) zero within = Contains-append_left (taken_of e) (flat_map taken_of es) (own_run e.at.0) (0, omega arith, refl)
-own_taken (e ∷ es) (suc i) within = Contains-append_right (taken_of e) (flat_map taken_of es) (own_run (ebr_at es i).at.0) (own_taken es i (omega arith))
+own_taken (e ∷ es) (suc i) within =
+    Contains-append_right (taken_of e) (flat_map taken_of es) (own_run (ebr_at es i).at.0) (own_taken es i (omega arith))
 
 none_in : (s : ℕ) → ¬ Contains {X = ℕ} [] s
 none_in s x = omega (arith, x.1)
@@ -105,7 +121,9 @@ empty_there (e ∷ es) s none x = elim (Contains-append_cases (empty_sector e) (
 ]
 
 -- the record of a new logical partition comes to a sector of its own, or to an empty one's
-apart_from : (x : Record) (chain : List Ebr) (alignment start : ℕ) (end : End) (p : Run) → Placed (logical_area x chain) alignment start end p → NoEmptyIn chain (p.first - 1) → (i : ℕ) → i < length chain → (ebr_at chain i).at.0 ≢ p.first - 1
+apart_from : (x : Record) (chain : List Ebr) (alignment start : ℕ) (end : End) (p : Run)
+    → Placed (logical_area x chain) alignment start end p → NoEmptyIn chain (p.first - 1) → (i : ℕ) → i < length chain
+    → (ebr_at chain i).at.0 ≢ p.first - 1
 unfolding own_run
 apart_from x chain alignment start end p placed none i within same =
     let free : IsFreeRun (logical_area x chain) p = placed_is_free_lem (logical_area x chain) alignment start end p placed in
@@ -117,7 +135,8 @@ apart_from x chain alignment start end p placed none i within same =
       | inr has ↦ empty_there chain (p.first - 1) none (subst (λ (n : ℕ). Contains (flat_map empty_sector chain) n) here has)
     ]
 
-above_low : (x : Record) (chain : List Ebr) (alignment start : ℕ) (end : End) (p : Run) → Placed (logical_area x chain) alignment start end p → x.start ≤ p.first - 1
+above_low : (x : Record) (chain : List Ebr) (alignment start : ℕ) (end : End) (p : Run)
+    → Placed (logical_area x chain) alignment start end p → x.start ≤ p.first - 1
 above_low x chain alignment start end p placed =
     let free : IsFreeRun (logical_area x chain) p = placed_is_free_lem (logical_area x chain) alignment start end p placed in
     let led = free.leads in
@@ -125,27 +144,34 @@ above_low x chain alignment start end p placed =
     let low : x.start ≤ led.0 = led.2.0.0 in
     omega (arith, next, low)
 
-entered_linked : (x : Record) (chain : List Ebr) (alignment start : ℕ) (end : End) (p : Run) (r : Record) (n : ℕ) (made : List Ebr) → Placed (logical_area x chain) alignment start end p
+entered_linked : (x : Record) (chain : List Ebr) (alignment start : ℕ) (end : End) (p : Run) (r : Record) (n : ℕ) (made : List Ebr)
+    → Placed (logical_area x chain) alignment start end p
     → IsLinked (Some (lba x.start)) chain → Entered chain (p.first - 1) r n made → IsLinked (Some (lba x.start)) made
 entered_linked x chain alignment start end p r n made placed linked (reused k empty number is) =
     subst (λ (l : List Ebr). IsLinked (Some (lba x.start)) l) (sym is) (kept chain (Some (lba x.start)) k (Some r) empty.within linked)
 entered_linked x chain alignment start end p r n made placed linked (added k none few place number is) =
     subst (λ (l : List Ebr). IsLinked (Some (lba x.start)) l) (sym is)
-    (added_linked_lem chain x.start (p.first - 1) r k linked (above_low x chain alignment start end p placed) (apart_from x chain alignment start end p placed none) place)
+    (added_linked_lem chain x.start (p.first - 1) r k linked (above_low x chain alignment start end p placed)
+    (apart_from x chain alignment start end p placed none) place)
 
-pub logical_new_linked_lem : (b : ℕ) (x : Record) (chain : List Ebr) (labels : List Labelled) (alignment start : ℕ) (end : End) (code : Option Code) (made : List Ebr) (left : List Labelled)
-    → LogicalNew b (Some x) chain labels alignment start end code made left → IsLinked (Some (lba x.start)) chain → IsLinked (Some (lba x.start)) made
+pub logical_new_linked_lem : (b : ℕ) (x : Record) (chain : List Ebr) (labels : List Labelled) (alignment start : ℕ) (end : End)
+    (code : Option Code) (made : List Ebr) (left : List Labelled)
+    → LogicalNew b (Some x) chain labels alignment start end code made left → IsLinked (Some (lba x.start)) chain
+    → IsLinked (Some (lba x.start)) made
 logical_new_linked_lem b x chain labels alignment start end code made left y linked =
     let is = y.is_parent in
     let same : y.parent ≡ x = cc in
     entered_linked x chain alignment start end y.place (record_for y.kind (len_of y.place)) y.number made
     (subst (λ (p : Record). Placed (logical_area p chain) alignment start end y.place) same y.placed) linked y.entered
 
-pub logical_typed_linked_lem : (b number : ℕ) (code : Code) (chain made : List Ebr) (from : Option Lba) → LogicalTyped b number code chain made → IsLinked from chain → IsLinked from made
+pub logical_typed_linked_lem : (b number : ℕ) (code : Code) (chain made : List Ebr) (from : Option Lba)
+    → LogicalTyped b number code chain made → IsLinked from chain → IsLinked from made
 logical_typed_linked_lem b number code chain made from x linked =
-    subst (λ (l : List Ebr). IsLinked from l) (sym x.is) (kept chain from x.place (Some (record x.partition { kind = x.kind })) x.is_logical.within linked)
+    subst (λ (l : List Ebr). IsLinked from l) (sym x.is)
+    (kept chain from x.place (Some (record x.partition { kind = x.kind })) x.is_logical.within linked)
 
-pub logical_deleted_linked_lem : (number : ℕ) (chain : List Ebr) (labels : List Labelled) (made : List Ebr) (left : List Labelled) (from : Option Lba) → LogicalDeleted number chain labels made left → IsLinked from chain → IsLinked from made
+pub logical_deleted_linked_lem : (number : ℕ) (chain : List Ebr) (labels : List Labelled) (made : List Ebr) (left : List Labelled)
+    (from : Option Lba) → LogicalDeleted number chain labels made left → IsLinked from chain → IsLinked from made
 logical_deleted_linked_lem number chain labels made left from x linked =
     subst (λ (l : List Ebr). IsLinked from l) (sym x.is) (kept chain from x.place None x.is_logical.within linked)
 

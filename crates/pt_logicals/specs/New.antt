@@ -2,7 +2,8 @@
 --
 -- Sectors are the disk's own numbers. A partition and its record lie in the extended partition, whose start and size
 -- have 32 bits, and its record takes a sector of them: a size always fits a record.
-use Rattle.std.specs.Prelude.{◌≡◌, ◌<◌, ◌≤◌, ◌⊎◌, ◌+◌, ◌-◌, ◌^◌, ℕ, true, false, List, [], ◌∷◌, flat_map, option_to_list, Option, Some, None, if◌then◌else◌, nat_lt, nat_le, ◌&&◌}
+use Rattle.std.specs.Prelude.{◌≡◌, ◌<◌, ◌≤◌, ◌⊎◌, ◌+◌, ◌-◌, ◌^◌, ℕ, true, false, List, [], ◌∷◌, flat_map, option_to_list, Option, Some}
+use Rattle.std.specs.Prelude.{None, if◌then◌else◌, nat_lt, nat_le, ◌&&◌}
 use Rattle.pt_bsd.specs.Empty.{empty_of}
 use Rattle.pt_mbr.specs.declared.record.Record.{Record}
 use Rattle.pt_mbr.specs.declared.ebr.Ebr.{Ebr}
@@ -65,7 +66,8 @@ pub record Misfit (b kind len : ℕ) : Type 0 where
 -- the labels where the logical partitions from a number on have the number above theirs, with the empty label of a new
 -- slice of that number
 abbrev pub labels_with : ℕ → ℕ → ℕ → ℕ → List Labelled → List Labelled
-labels_with b kind len number labels = if is_slice b kind then with_new_label number (empty_of len) (raised number labels) else raised number labels
+labels_with b kind len number labels =
+    if is_slice b kind then with_new_label number (empty_of len) (raised number labels) else raised number labels
 
 -- the type of a new logical partition: no extended one's
 pub record NewKind (code : Option Code) (kind : ℕ) : Type 0 where
@@ -78,7 +80,8 @@ pub data NoKind (code : Option Code) (r : Refusal) : Type 0 where
   extended_code : (kind : ℕ) → new_type code ≡ Some kind → is_extended kind ≡ true → r ≡ ContainerType → NoKind code r
 
 -- a logical partition is put into the chain, behind the sector before it, and its number into the labels
-pub record LogicalNew (b : ℕ) (extended : Option Record) (chain : List Ebr) (labels : List Labelled) (alignment start : ℕ) (end : End) (code : Option Code) (made : List Ebr) (left : List Labelled) : Type 0 where
+pub record LogicalNew (b : ℕ) (extended : Option Record) (chain : List Ebr) (labels : List Labelled) (alignment start : ℕ) (end : End)
+    (code : Option Code) (made : List Ebr) (left : List Labelled) : Type 0 where
   pub parent : Record
   pub kind : ℕ
   pub place : Run
@@ -91,9 +94,15 @@ pub record LogicalNew (b : ℕ) (extended : Option Record) (chain : List Ebr) (l
   pub moved : left ≡ labels_with b kind (len_of place) number labels
 
 -- why it isn't: the first of these that holds
-pub data LogicalNotNew (b : ℕ) (extended : Option Record) (chain : List Ebr) (alignment start : ℕ) (end : End) (code : Option Code) (r : Refusal) : Type 0 where
+pub data LogicalNotNew (b : ℕ) (extended : Option Record) (chain : List Ebr) (alignment start : ℕ) (end : End) (code : Option Code)
+    (r : Refusal) : Type 0 where
   no_parent : extended ≡ None → r ≡ NoSuchPartition → LogicalNotNew b extended chain alignment start end code r
   no_kind : (x : Record) → extended ≡ Some x → NoKind code r → LogicalNotNew b extended chain alignment start end code r
-  no_place : (x : Record) (kind : ℕ) → extended ≡ Some x → NewKind code kind → NotPlaced (logical_area x chain) alignment start end r → LogicalNotNew b extended chain alignment start end code r
-  misfit : (x : Record) (kind : ℕ) (p : Run) → extended ≡ Some x → NewKind code kind → Placed (logical_area x chain) alignment start end p → Misfit b kind (len_of p) → r ≡ ContainerType → LogicalNotNew b extended chain alignment start end code r
-  full : (x : Record) (kind : ℕ) (p : Run) → extended ≡ Some x → NewKind code kind → Placed (logical_area x chain) alignment start end p → ¬ Misfit b kind (len_of p) → IsFull chain (p.first - 1) → r ≡ NoSpace → LogicalNotNew b extended chain alignment start end code r
+  no_place : (x : Record) (kind : ℕ) → extended ≡ Some x → NewKind code kind
+      → NotPlaced (logical_area x chain) alignment start end r → LogicalNotNew b extended chain alignment start end code r
+  misfit : (x : Record) (kind : ℕ) (p : Run) → extended ≡ Some x → NewKind code kind
+      → Placed (logical_area x chain) alignment start end p → Misfit b kind (len_of p) → r ≡ ContainerType
+      → LogicalNotNew b extended chain alignment start end code r
+  full : (x : Record) (kind : ℕ) (p : Run) → extended ≡ Some x → NewKind code kind
+      → Placed (logical_area x chain) alignment start end p → ¬ Misfit b kind (len_of p) → IsFull chain (p.first - 1) → r ≡ NoSpace
+      → LogicalNotNew b extended chain alignment start end code r

@@ -9,23 +9,27 @@ use Rattle.pt_layout.specs.Counts.{no_ebr}
 use Rattle.pt_logicals.specs.Chains.{ebr_at, number_at, IsLogical}
 
 -- behind one that has a logical partition the numbers are one higher
-pub number_behind : (chain : List Ebr) (k : ℕ) (r : Record) → k < length chain → (ebr_at chain k).logical ≡ Some r → number_at chain (k + 1) ≡ number_at chain k + 1
+pub number_behind : (chain : List Ebr) (k : ℕ) (r : Record) → k < length chain → (ebr_at chain k).logical ≡ Some r
+    → number_at chain (k + 1) ≡ number_at chain k + 1
 number_behind chain k r within has =
     let e = count_by_more_yes (λ (e : Ebr). is_some e.logical) chain k no_ebr within (ap (λ (o : Option Record). is_some o) has) in
     omega (arith, e)
 
 -- and behind an empty one the same
-pub number_kept : (chain : List Ebr) (k : ℕ) → k < length chain → (ebr_at chain k).logical ≡ None → number_at chain (k + 1) ≡ number_at chain k
+pub number_kept : (chain : List Ebr) (k : ℕ) → k < length chain → (ebr_at chain k).logical ≡ None
+    → number_at chain (k + 1) ≡ number_at chain k
 number_kept chain k within has =
     let e = count_by_more_no (λ (e : Ebr). is_some e.logical) chain k no_ebr within (ap (λ (o : Option Record). is_some o) has) in
     omega (arith, e)
 
 -- no logical partition of a number stands so far
-pub none_more : (chain : List Ebr) (number k : ℕ) → ((j : ℕ) (r : Record) → j < k → ¬ IsLogical chain number j r) → ((r : Record) → ¬ IsLogical chain number k r) → (j : ℕ) (r : Record) → j < k + 1 → ¬ IsLogical chain number j r
+pub none_more : (chain : List Ebr) (number k : ℕ) → ((j : ℕ) (r : Record) → j < k → ¬ IsLogical chain number j r)
+    → ((r : Record) → ¬ IsLogical chain number k r) → (j : ℕ) (r : Record) → j < k + 1 → ¬ IsLogical chain number j r
 none_more chain number k before here j r below =
     below_more (λ (i : ℕ). (q : Record) → ¬ IsLogical chain number i q) k (λ i less q. before i q less) here j below r
 
-step_up : (chain : List Ebr) (k : ℕ) (o : Option Record) → k < length chain → (ebr_at chain k).logical ≡ o → number_at chain k ≤ number_at chain (k + 1)
+step_up : (chain : List Ebr) (k : ℕ) (o : Option Record) → k < length chain → (ebr_at chain k).logical ≡ o
+    → number_at chain k ≤ number_at chain (k + 1)
 step_up chain k None within has = let e = number_kept chain k within has in omega arith
 step_up chain k (Some r) within has = let e = number_behind chain k r within has in omega arith
 

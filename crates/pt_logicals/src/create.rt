@@ -5,13 +5,13 @@ ghost use Rattle.pt_logicals.specs.New.{record_for, Misfit, labels_with, NewKind
 
 use crate::enter::enter;
 use crate::space::place_in;
-use crate::types::{is_extended_type, is_slice_kind, new_type_of};
+use crate::types::{is_slice_kind, new_type_of};
 use pt_bsd::empty_label;
 use pt_labels::{add_label, raise_labels};
-use pt_mbr::Record;
+use pt_mbr::{Record, is_extended_kind};
 use pt_recover::{Ebrs, Labels};
 use pt_sector::Lba;
-use pt_words::{Code, End, Refusal};
+use pt_words::{Asked, Code, Refusal};
 use std::alloc::{AllocError, Global};
 
 /// The CHS field of the records that are made here.
@@ -57,6 +57,7 @@ fn move_labels<const B: usize>(
 }
 
 // The type of a new logical partition.
+#[tactic(auto, using(crate::specs::Types::told_extended))]
 fn kind_of(code: &Option<Code>) -> Result<u8, Refusal>
     ensures ok { IfOk result (NewKind code.now) }
     ensures err { IfErr result (NoKind code.now) }
@@ -64,7 +65,7 @@ fn kind_of(code: &Option<Code>) -> Result<u8, Refusal>
     match new_type_of(code) {
         None => Err(Refusal::UnknownCode),
         Some(kind) => {
-            if is_extended_type(kind) {
+            if is_extended_kind(kind) {
                 Err(Refusal::ContainerType)
             } else {
                 Ok(kind)
@@ -76,10 +77,10 @@ fn kind_of(code: &Option<Code>) -> Result<u8, Refusal>
 /// The chain and the labels with a new logical partition, in the extended partition of this record: the first one of
 /// sector 0 that is used and of type 05 or 0F.
 ///
-/// `alignment` is in sectors, and of the disk's own sector numbers; `start` is a sector before it is rounded up, or 0 for
-/// the largest free block. The partition's extended boot record stands in the sector before it: an empty one that stands
-/// there is used, else a new one enters the chain at its place. The labels of it and the logical partitions above it move
-/// to their new numbers, and a slice has the empty label. The first of these refusals is told:
+/// The number that is asked for isn't looked at: it is the partition's place in the chain. The alignment, the start and
+/// the end are in the disk's own sector numbers. The partition's extended boot record stands in the sector before it: an
+/// empty one that stands there is used, else a new one enters the chain at its place. The labels of it and the logical
+/// partitions above it move to their new numbers, and a slice has the empty label. The first of these refusals is told:
 ///
 /// - `NoSuchPartition`: there is no extended partition.
 /// - `UnknownCode`: the code isn't of two digits, or is 00 or EE; `ContainerType`: it is 05 or 0F.
@@ -93,37 +94,25 @@ pub fn new_logical<const B: usize>(
     extended: Option<Record>,
     chain: Ebrs,
     labels: Labels,
-    alignment: u64,
-    start: u64,
-    end: End,
-    code: &Option<Code>,
+    asked: &Asked,
 ) -> Result<(Ebrs, Labels), Refusal>
-    ensures ok { IfOk result (λ made. LogicalNew B extended chain labels alignment start end code.now made.0 made.1) }
-    ensures err { IfErr result (λ refusal. refusal ≢ Refusal.Memory → LogicalNotNew B extended chain alignment start end code.now refusal) }
+    ensures ok { IfOk result (λ made.
+        LogicalNew B extended chain labels asked.now.alignment asked.now.start asked.now.end asked.now.code made.0 made.1) }
+    ensures err { IfErr result (λ refusal. refusal ≢ Refusal.Memory
+        → LogicalNotNew B extended chain asked.now.alignment asked.now.start asked.now.end asked.now.code refusal) }
 {
     let parent = match extended {
         Some(parent) => parent,
         None => return Err(Refusal::NoSuchPartition),
     };
-    let kind = match kind_of(code) {
-        Ok(kind) => kind,
-        Err(refusal) => return Err(refusal),
-    };
-    let placed = match place_in(alloc, &parent, chain.as_slice(), alignment, start, end) {
-        Ok(placed) => placed,
-        Err(refusal) => return Err(refusal),
-    };
+    let kind = kind_of(&asked.code)?;
+    let placed = place_in(alloc, &parent, chain.as_slice(), asked)?;
     let at = Lba((placed.first - 1) as u64);
     let size = (placed.last - placed.first + 1) as u32;
     if is_misfit::<B>(kind, size) {
         return Err(Refusal::ContainerType);
     }
-    let (chain, number) = match enter(chain, at, record_of(kind, size)) {
-        Ok(entered) => entered,
-        Err(refusal) => return Err(refusal),
-    };
-    match move_labels::<B>(alloc, labels, number, kind, size) {
-        Ok(labels) => Ok((chain, labels)),
-        Err(_) => Err(Refusal::Memory),
-    }
+    let (chain, number) = enter(chain, at, record_of(kind, size))?;
+    let labels = move_labels::<B>(alloc, labels, number, kind, size)?;
+    Ok((chain, labels))
 }

@@ -100,8 +100,5 @@ pub(crate) fn enter(chain: Ebrs, at: Lba, logical: Record) -> Result<(Ebrs, u64)
     }
     let k = place_for(chain.as_slice(), at);
     let number = number_of(chain.as_slice(), k);
-    match put_ebr(chain, k, at, logical) {
-        Ok(chain) => Ok((chain, number)),
-        Err(refusal) => Err(refusal),
-    }
+    Ok((put_ebr(chain, k, at, logical)?, number))
 }

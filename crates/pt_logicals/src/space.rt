@@ -7,7 +7,7 @@ ghost use Rattle.pt_logicals.specs.New.{existing, logical_run, taken_of, empty_s
 
 use pt_mbr::{Ebr, Record};
 use pt_space::{Lead, Run, Space, place};
-use pt_words::{End, Refusal};
+use pt_words::{Asked, Refusal};
 use std::alloc::{AllocError, Global};
 
 // The sectors of a record whose start counts from a sector, where their extent exists.
@@ -60,8 +60,8 @@ fn taken_in(alloc: Global, chain: &[Ebr]) -> Result<Vec<Run>, AllocError>
     ensures { IfOk result (λ v. v.items ≡ flat_map taken_of chain.now) }
 {
     let mut taken = Vec::new(alloc);
-    for k in 0..chain.len() {
-        push_taken(&mut taken, &chain[k])?;
+    for ebr in chain {
+        push_taken(&mut taken, ebr)?;
     }
     Ok(taken)
 }
@@ -81,8 +81,8 @@ fn empties_in(alloc: Global, chain: &[Ebr]) -> Result<Vec<u64>, AllocError>
     ensures { IfOk result (λ v. v.items ≡ flat_map empty_sector chain.now) }
 {
     let mut empties = Vec::new(alloc);
-    for k in 0..chain.len() {
-        push_empty(&mut empties, &chain[k])?;
+    for ebr in chain {
+        push_empty(&mut empties, ebr)?;
     }
     Ok(empties)
 }
@@ -107,17 +107,14 @@ pub(crate) fn place_in(
     alloc: Global,
     extended: &Record,
     chain: &[Ebr],
-    alignment: u64,
-    start: u64,
-    end: End,
+    asked: &Asked,
 ) -> Result<Run, Refusal>
-    ensures ok { IfOk result (λ run. Placed (logical_area extended.now chain.now) alignment start end run) }
-    ensures within { IfOk result (λ run. extended.now.start < run.first × run.first ≤ run.last × run.last < extended.now.start + extended.now.size) }
-    ensures err { IfErr result (λ refusal. refusal ≢ Refusal.Memory → NotPlaced (logical_area extended.now chain.now) alignment start end refusal) }
+    ensures ok { IfOk result (λ run. Placed (logical_area extended.now chain.now) asked.now.alignment asked.now.start asked.now.end run) }
+    ensures within { IfOk result (λ run.
+        extended.now.start < run.first × run.first ≤ run.last × run.last < extended.now.start + extended.now.size) }
+    ensures err { IfErr result (λ refusal. refusal ≢ Refusal.Memory
+        → NotPlaced (logical_area extended.now chain.now) asked.now.alignment asked.now.start asked.now.end refusal) }
 {
-    let space = match space_in(alloc, extended, chain) {
-        Ok(space) => space,
-        Err(_) => return Err(Refusal::Memory),
-    };
-    place(space, alignment, start, end)
+    let space = space_in(alloc, extended, chain)?;
+    place(space, asked.alignment, asked.start, asked.end)
 }

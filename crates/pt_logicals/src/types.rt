@@ -1,7 +1,6 @@
 //! The type bytes of records.
 
 ghost use Rattle.std.specs.Prelude.{◌≡◌};
-ghost use Rattle.pt_recover.specs.Mbr.{is_extended};
 ghost use Rattle.pt_logicals.specs.Types.{record_type, new_type, is_slice, is_container};
 
 use pt_mbr::is_extended_kind;
@@ -42,13 +41,6 @@ pub fn new_type_of(code: &Option<Code>) -> Option<u8>
     }
 }
 
-/// Whether a type is an extended partition's: 05 or 0F.
-pub(crate) fn is_extended_type(kind: u8) -> bool
-    ensures { result ≡ is_extended kind }
-{
-    is_extended_kind(kind)
-}
-
 /// Whether a type is the slices', with sectors of `B` bytes.
 pub fn is_slice_kind<const B: usize>(kind: u8) -> bool
     ensures { result ≡ is_slice B kind }
@@ -57,8 +49,9 @@ pub fn is_slice_kind<const B: usize>(kind: u8) -> bool
 }
 
 /// Whether a type is that of records which hold other partitions: 05, 0F, and with sectors of 512 bytes A5.
+#[tactic(auto, using(crate::specs::Types::told_extended))]
 pub fn is_container_type<const B: usize>(kind: u8) -> bool
     ensures { result ≡ is_container B kind }
 {
-    is_extended_type(kind) || is_slice_kind::<B>(kind)
+    is_extended_kind(kind) || is_slice_kind::<B>(kind)
 }

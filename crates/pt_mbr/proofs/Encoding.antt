@@ -1,8 +1,10 @@
 -- What is written is read again, and nothing else changes.
-use Rattle.std.proofs.Common.{◌≡◌, ◌≢◌, ℕ, ◌+◌, ◌-◌, ◌*◌, ◌/◌, ◌%◌, ◌^◌, ◌<◌, ◌≤◌, List, [], ◌∷◌, ◌++◌, length, take, drop, replicate, get_or, Option, Some, None, refl, sym, ap, ◌∙◌, arith, inl, inr, Bor}
+use Rattle.std.proofs.Common.{◌≡◌, ◌≢◌, ℕ, ◌+◌, ◌-◌, ◌*◌, ◌/◌, ◌%◌, ◌^◌, ◌<◌, ◌≤◌, List, [], ◌∷◌, ◌++◌, length, take, drop, replicate}
+use Rattle.std.proofs.Common.{get_or, Option, Some, None, refl, sym, ap, ◌∙◌, arith, inl, inr, Bor}
 use Rattle.std.specs.Prelude.{◌⊎◌, slice_range, slice_index, MatchOption, ⊤}
 use Rattle.std.specs.Option.{option_map}
-use Rattle.std.proofs.lemmas.List.{append-nil, append_assoc, drop-drop, length-append, length-take-le, get_or-drop, get_or-take, get_or_append_left, length-drop}
+use Rattle.std.proofs.lemmas.List.{append-nil, append_assoc, drop-drop, length-append, length-take-le, get_or-drop, get_or-take}
+use Rattle.std.proofs.lemmas.List.{get_or_append_left, length-drop}
 use Rattle.std.proofs.lemmas.Bool.{cases_lt}
 use Rattle.std.proofs.Math.Seq.{drop-append_seam, take-append_seam}
 use Rattle.std.proofs.lemmas.Slice.{drop-append-drop}
@@ -25,11 +27,13 @@ laid boot kind start size (a0 ∷ a1 ∷ a2 ∷ []) (c0 ∷ c1 ∷ c2 ∷ []) la
 laid boot kind start size a c la lc = absurd (omega arith)
 
 pub laid_out : (r : Record) → length r.start_chs ≡ 3 → length r.end_chs ≡ 3
-    → put_at 12 (little_bytes 4 r.size) (put_at 8 (little_bytes 4 r.start) (put_at 5 r.end_chs (put_at 1 r.start_chs (r.boot ∷ 0 ∷ 0 ∷ 0 ∷ r.kind ∷ replicate 11 0)))) ≡ record_bytes (Some r)
+    → put_at 12 (little_bytes 4 r.size) (put_at 8 (little_bytes 4 r.start)
+    (put_at 5 r.end_chs (put_at 1 r.start_chs (r.boot ∷ 0 ∷ 0 ∷ 0 ∷ r.kind ∷ replicate 11 0)))) ≡ record_bytes (Some r)
 unfolding record_bytes
 laid_out r la lc = laid r.boot r.kind r.start r.size r.start_chs r.end_chs la lc
 
-pub range_from : (at i j : ℕ) (c tail : List ℕ) (low high : ℕ) → drop at c ≡ tail → low ≡ at + i → high ≡ at + j → slice_range c low high ≡ take (j - i) (drop i tail)
+pub range_from : (at i j : ℕ) (c tail : List ℕ) (low high : ℕ) → drop at c ≡ tail → low ≡ at + i → high ≡ at + j
+    → slice_range c low high ≡ take (j - i) (drop i tail)
 range_from at i j c tail low high same lows highs = rw (lows, highs) (range_at at i j c tail same)
 
 pub index_at : (at i : ℕ) (c tail : List ℕ) → drop at c ≡ tail → slice_index c (at + i) ≡ get_or tail i 0
@@ -74,7 +78,8 @@ has_fields r at c rest same fits =
       size = ap (little_number 4) (range_from at 12 16 c _ (at + 12) (at + 12 + 4) same refl (omega arith)) ∙ p.twelfth;
     }
 
-pub reads_again : (o : Option Record) (at : ℕ) (c rest : List ℕ) → drop at c ≡ record_bytes o ++ rest → ((r : Record) → o ≡ Some r → RecordFits r) → IsUsable o → RecordIs o at c
+pub reads_again : (o : Option Record) (at : ℕ) (c rest : List ℕ) → drop at c ≡ record_bytes o ++ rest
+    → ((r : Record) → o ≡ Some r → RecordFits r) → IsUsable o → RecordIs o at c
 unfolding record_bytes
 reads_again None at c rest same fits usable = λ used. used.0 (index_at at 4 c _ same)
 reads_again (Some r) at c rest same fits usable =
@@ -86,57 +91,74 @@ pub put_here : (p : ℕ) (new b : List ℕ) → p ≤ length b → drop p (put_a
 unfolding put_at
 put_here p new b fits =
     let count : length (take p b) ≡ p = length-take-le p b fits in
-    ap (λ (n : ℕ). drop n (take p b ++ (new ++ drop (p + length new) b))) (sym count) ∙ drop-append_seam (take p b) (new ++ drop (p + length new) b)
+    ap (λ (n : ℕ). drop n (take p b ++ (new ++ drop (p + length new) b))) (sym count)
+    ∙ drop-append_seam (take p b) (new ++ drop (p + length new) b)
 
 pub put_above : (p i : ℕ) (new b : List ℕ) → p ≤ length b → p + length new ≤ i → drop i (put_at p new b) ≡ drop i b
 unfolding put_at
 put_above p i new b fits above =
     ap (drop i) (sym (append_assoc (take p b) new (drop (p + length new) b)))
-    ∙ drop-append-drop (p + length new) b (take p b ++ new) i above (length-append (take p b) new ∙ ap (λ (n : ℕ). n + length new) (length-take-le p b fits))
+    ∙ drop-append-drop (p + length new) b (take p b ++ new) i above
+    (length-append (take p b) new ∙ ap (λ (n : ℕ). n + length new) (length-take-le p b fits))
 
 pub put_below : (p i : ℕ) (new b : List ℕ) → p ≤ length b → i < p → slice_index (put_at p new b) i ≡ slice_index b i
 unfolding put_at
 put_below p i new b fits below =
-    get_or_append_left (take p b) (new ++ drop (p + length new) b) 0 i (let count = length-take-le p b fits in omega (arith, count)) ∙ get_or-take p b i 0 below
+    get_or_append_left (take p b) (new ++ drop (p + length new) b) 0 i (let count = length-take-le p b fits in omega (arith, count))
+    ∙ get_or-take p b i 0 below
 
-pub put_other : (p i n : ℕ) (new b : List ℕ) → p ≤ length b → length new ≡ n → (i < p) ⊎ (p + n ≤ i) → slice_index (put_at p new b) i ≡ slice_index b i
+pub put_other : (p i n : ℕ) (new b : List ℕ) → p ≤ length b → length new ≡ n → (i < p) ⊎ (p + n ≤ i)
+    → slice_index (put_at p new b) i ≡ slice_index b i
 put_other p i n new b fits count (inl below) = put_below p i new b fits below
-put_other p i n new b fits count (inr above) = first_at i (put_at p new b) (drop i b) (put_above p i new b fits (omega (arith, count))) ∙ sym (first_at i b (drop i b) refl)
+put_other p i n new b fits count (inr above) =
+    first_at i (put_at p new b) (drop i b) (put_above p i new b fits (omega (arith, count))) ∙ sym (first_at i b (drop i b) refl)
 
 -- the sixteen bytes that were put
 pub range_put : (at : ℕ) (new c rest : List ℕ) → length new ≡ 16 → drop at c ≡ new ++ rest → slice_range c at (at + 16) ≡ new
 range_put at new c rest count same =
     let whole : 16 ≡ length new = sym count in
-    range_from at 0 16 c (new ++ rest) at (at + 16) same (omega arith) refl ∙ ap (λ (n : ℕ). take n (new ++ rest)) whole ∙ take-append_seam new rest
+    range_from at 0 16 c (new ++ rest) at (at + 16) same (omega arith) refl ∙ ap (λ (n : ℕ). take n (new ++ rest)) whole
+    ∙ take-append_seam new rest
 
 pub none_bytes : replicate 16 0 ≡ record_bytes None
 unfolding record_bytes
 none_bytes = refl
 
 -- a record that was passed, or none
-pub fields_put : (o : Option (Bor Record)) (at : ℕ) (c rest : List ℕ) → drop at c ≡ record_bytes (option_map (λ r. r.now) o) ++ rest → MatchOption o ⊤ (λ r. RecordFits r.now)
+pub fields_put : (o : Option (Bor Record)) (at : ℕ) (c rest : List ℕ) → drop at c ≡ record_bytes (option_map (λ r. r.now) o) ++ rest
+    → MatchOption o ⊤ (λ r. RecordFits r.now)
     → MatchOption o (slice_range c at (at + 16) ≡ replicate 16 0) (λ r. HasFields r.now at c)
 unfolding record_bytes
 fields_put None at c rest same fits = range_from at 0 16 c _ at (at + 16) same (omega arith) refl
 fields_put (Some r) at c rest same fits = has_fields r.now at c rest same fits
 
 -- sixteen zero bytes are no used record
-pub zero_at : (at i : ℕ) (c : List ℕ) → slice_range c at (at + 16) ≡ replicate 16 0 → i < 16 → slice_index (replicate 16 0) i ≡ 0 → slice_index c (at + i) ≡ 0
+pub zero_at : (at i : ℕ) (c : List ℕ) → slice_range c at (at + 16) ≡ replicate 16 0 → i < 16 → slice_index (replicate 16 0) i ≡ 0
+    → slice_index c (at + i) ≡ 0
 zero_at at i c zeros few none =
     let count : at + 16 - at ≡ 16 = omega arith in
-    sym (get_or-drop at c i 0) ∙ sym (get_or-take 16 (drop at c) i 0 few) ∙ ap (λ (n : ℕ). get_or (take n (drop at c)) i 0) (sym count) ∙ ap (λ (t : List ℕ). get_or t i 0) zeros ∙ none
+    sym (get_or-drop at c i 0) ∙ sym (get_or-take 16 (drop at c) i 0 few)
+    ∙ ap (λ (n : ℕ). get_or (take n (drop at c)) i 0) (sym count) ∙ ap (λ (t : List ℕ). get_or t i 0) zeros ∙ none
 
-pub record_put : (o : Option (Bor Record)) (at : ℕ) (c : List ℕ) → MatchOption o (slice_range c at (at + 16) ≡ replicate 16 0) (λ r. HasFields r.now at c) → IsUsable (option_map (λ r. r.now) o) → RecordIs (option_map (λ r. r.now) o) at c
+pub record_put : (o : Option (Bor Record)) (at : ℕ) (c : List ℕ)
+    → MatchOption o (slice_range c at (at + 16) ≡ replicate 16 0) (λ r. HasFields r.now at c) → IsUsable (option_map (λ r. r.now) o)
+    → RecordIs (option_map (λ r. r.now) o) at c
 record_put None at c zeros usable = λ used. used.0 (zero_at at 4 c zeros (omega arith) refl)
 record_put (Some r) at c fields usable = ((λ none. usable.0 (sym fields.kind ∙ none), λ none. usable.1 (sym fields.size ∙ none)), fields)
 
 pub places_apart : (j k i : ℕ) → j ≢ k → place_of j ≤ i → i < place_of j + 16 → (i < place_of k) ⊎ (place_of k + 16 ≤ i)
-places_apart j k i other low high = elim (cases_lt i (place_of k)) as (λ w. (i < place_of k) ⊎ (place_of k + 16 ≤ i)) [ inl below ↦ inl below | inr above ↦ inr (past above) ] where
-  past : place_of k ≤ i → place_of k + 16 ≤ i
-  past above = omega (arith, other, above, low, high)
+places_apart j k i other low high =
+    elim (cases_lt i (place_of k)) as (λ w. (i < place_of k) ⊎ (place_of k + 16 ≤ i)) [
+      | inl below ↦ inl below
+      | inr above ↦ inr
+          (past above)
+    ] where
+      past : place_of k ≤ i → place_of k + 16 ≤ i
+      past above = omega (arith, other, above, low, high)
 
 -- bytes with the fields of a record are its bytes
-four_bytes : (p q s t n : ℕ) → p < 256 → q < 256 → s < 256 → t < 256 → little_number 4 (p ∷ q ∷ s ∷ t ∷ []) ≡ n → p ∷ q ∷ s ∷ t ∷ [] ≡ little_bytes 4 n
+four_bytes : (p q s t n : ℕ) → p < 256 → q < 256 → s < 256 → t < 256 → little_number 4 (p ∷ q ∷ s ∷ t ∷ []) ≡ n
+    → p ∷ q ∷ s ∷ t ∷ [] ≡ little_bytes 4 n
 four_bytes p q s t n ps qs ss ts sum =
     let number : p + 256 * (q + 256 * (s + 256 * t)) ≡ n = omega (arith, sum) in
     let first : p ≡ n % 256 = omega (arith, ps, qs, ss, ts, number) in
@@ -153,11 +175,13 @@ cells_back boot kind start size a e (x0 ∷ x1 ∷ x2 ∷ x3 ∷ x4 ∷ x5 ∷ x
     λ i. ((p.first i ∷ p.start_chs i) ++ (p.fourth i ∷ p.end_chs i) ++ starts i ++ sizes i) ++ rest
 cells_back boot kind start size a e x long small p = absurd (omega (arith, long))
 
-pub bytes_back : (r : Record) (at : ℕ) (b : List ℕ) → at + 16 ≤ length b → ((i : ℕ) → slice_index b i < 256) → HasFields r at b → drop at b ≡ record_bytes (Some r) ++ drop (at + 16) b
+pub bytes_back : (r : Record) (at : ℕ) (b : List ℕ) → at + 16 ≤ length b → ((i : ℕ) → slice_index b i < 256) → HasFields r at b
+    → drop at b ≡ record_bytes (Some r) ++ drop (at + 16) b
 unfolding record_bytes
 bytes_back r at b long small fields =
     let x = drop at b in
-    cells_back r.boot r.kind r.start r.size r.start_chs r.end_chs x (let e = length-drop at b in omega (arith, long, e)) (λ i. let e = get_or-drop at b i 0 in let s = small (at + i) in omega (arith, e, s)) record {
+    cells_back r.boot r.kind r.start r.size r.start_chs r.end_chs x (let e = length-drop at b in omega (arith, long, e))
+    (λ i. let e = get_or-drop at b i 0 in let s = small (at + i) in omega (arith, e, s)) record {
       first = sym (first_at at b x refl) ∙ fields.boot;
       start_chs = sym (range_from at 1 4 b x (at + 1) (at + 4) refl refl refl) ∙ fields.start_chs;
       fourth = sym (index_at at 4 b x refl) ∙ fields.kind;

@@ -5,3 +5,4 @@ pub mod Guarding
 pub mod Written
 pub mod Changing
 pub mod Linking
+pub mod Lone

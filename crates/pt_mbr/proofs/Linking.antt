@@ -1,8 +1,10 @@
 -- Extended boot records that change, or stand in a new sector.
-use Rattle.std.proofs.Common.{◌≡◌, ◌≢◌, ℕ, ◌+◌, ◌++◌, ◌<◌, ◌≤◌, List, [], ◌∷◌, length, take, drop, replicate, get_or, Option, Some, None, refl, sym, ap, ◌∙◌, subst, arith, inl, inr}
+use Rattle.std.proofs.Common.{◌≡◌, ◌≢◌, ℕ, ◌+◌, ◌++◌, ◌<◌, ◌≤◌, List, [], ◌∷◌, length, take, drop, replicate, get_or, Option, Some, None}
+use Rattle.std.proofs.Common.{refl, sym, ap, ◌∙◌, subst, arith, inl, inr}
 use Rattle.std.specs.Prelude.{◌⊎◌, slice_index, slice_range}
 use Rattle.std.proofs.lemmas.Bool.{cases_lt}
-use Rattle.std.proofs.lemmas.List.{ext_get_or, get_or-drop, get_or-take, get_or-replicate, get_or_past, length-drop, length-replicate, length-take-le}
+use Rattle.std.proofs.lemmas.List.{ext_get_or, get_or-drop, get_or-take, get_or-replicate, get_or_past, length-drop, length-replicate}
+use Rattle.std.proofs.lemmas.List.{length-take-le}
 use Rattle.pt_sector.specs.declared.address.Lba.{Lba}
 use Rattle.pt_mbr.specs.Bytes.{number_at, put_at, HasSignature}
 use Rattle.pt_mbr.specs.Record.{IsUsed, RecordIs, IsUsable, IsExtendedKind, IsWritten, boot_of, record_bytes}
@@ -13,7 +15,8 @@ use Rattle.pt_mbr.specs.declared.record.Record.{Record}
 use Rattle.pt_mbr.specs.declared.ebr.Ebr.{Ebr}
 use Rattle.pt_mbr.specs.Kept.{record_kept}
 use Rattle.pt_mbr.proofs.Encoding.{put_here, put_other, first_at, index_at}
-use Rattle.pt_mbr.proofs.Changing.{Stays, Stands, Turned, part_same, step_other, step_stays, stays_so, stands_on, written_stands, turned, changed, plain_usable, plain_boot, reads, boots}
+use Rattle.pt_mbr.proofs.Changing.{Stays, Stands, Turned, part_same, step_other, step_stays, stays_so, stands_on, written_stands, turned}
+use Rattle.pt_mbr.proofs.Changing.{changed, plain_usable, plain_boot, reads, boots}
 
 plain_logical : (o : Option Record) → IsPlainLogical o → IsPlainRecord o
 plain_logical None plain = tt
@@ -34,13 +37,15 @@ link_boot first next None leads = inl refl
 link_boot first None (Some r) leads = absurd leads
 link_boot first (Some y) (Some r) leads = leads.boot
 
-next_of : (first : ℕ) (next : Option Lba) (link : Option Record) (c : List ℕ) → LinksTo first next link → RecordIs link 462 c → NextIs first next c
+next_of : (first : ℕ) (next : Option Lba) (link : Option Record) (c : List ℕ) → LinksTo first next link → RecordIs link 462 c
+    → NextIs first next c
 next_of first None None c leads is = is
 next_of first None (Some r) c leads is = absurd leads
 next_of first (Some y) None c leads is = absurd leads
 next_of first (Some y) (Some r) c leads is = (is.0, leads.there ∙ ap (λ (n : ℕ). first + n) (sym is.1.start))
 
-good_link : (first : ℕ) (next : Option Lba) (link : Option Record) (c : List ℕ) → LinksTo first next link → RecordIs link 462 c → ¬ HasBadLink c
+good_link : (first : ℕ) (next : Option Lba) (link : Option Record) (c : List ℕ) → LinksTo first next link → RecordIs link 462 c
+    → ¬ HasBadLink c
 unfolding HasBadLink
 good_link first next None c leads is bad = is bad.0
 good_link first None (Some r) c leads is bad = absurd leads
@@ -70,10 +75,12 @@ there_is at b used = (used, record { boot = refl; start_chs = refl; kind = refl;
 stays_back : (k : ℕ) (b c : List ℕ) → Stays k b c → Stays k c b
 stays_back k b c stays i low high = sym (stays i low high)
 
-next_kept : (first : ℕ) (o : Option Lba) (b c : List ℕ) → 512 ≤ length b → length c ≡ length b → Stays 1 b c → NextIs first o b → NextIs first o c
+next_kept : (first : ℕ) (o : Option Lba) (b c : List ℕ) → 512 ≤ length b → length c ≡ length b → Stays 1 b c → NextIs first o b
+    → NextIs first o c
 unfolding there
 next_kept first None b c long count stays none = λ used.
-    none (record_kept (Some (there 462 c)) 462 c b (omega (arith, long, count)) (sym count) (stays_back 1 b c stays) (there_is 462 c used)).0
+    none (record_kept (Some (there 462 c)) 462 c b (omega (arith, long, count)) (sym count) (stays_back 1 b c stays)
+    (there_is 462 c used)).0
 next_kept first (Some y) b c long count stays is =
     let kept = record_kept (Some (there 462 b)) 462 b c (omega (arith, long)) count stays (there_is 462 b is.0) in
     (kept.0, is.1 ∙ ap (λ (n : ℕ). first + n) (sym kept.1.start))
@@ -86,10 +93,14 @@ link_kept b c long count stays good bad =
       λ extended. bad.1 (subst (λ (n : ℕ). IsExtendedKind n) (sym (stays 466 (omega arith) (omega arith))) extended),
     )
 
-link_next : (Same : Type 0) (first : ℕ) (old new : Option Lba) (link : Option Record) (u c : List ℕ) → (Same → old ≡ new) → 512 ≤ length u → length c ≡ length u
-    → (¬ Same → LinksTo first new link) → NextIs first old u → ¬ HasBadLink u → Turned Same link 1 u c → NextIs first new c × (¬ HasBadLink c)
-link_next Same first old new link u c eq long count leads next good (inl stays) =
-    (next_kept first new u c long count stays.1 (subst (λ (o : Option Lba). NextIs first o u) (eq stays.0) next), link_kept u c long count stays.1 good)
+link_next : (Same : Type 0) (first : ℕ) (old new : Option Lba) (link : Option Record) (u c : List ℕ) → (Same → old ≡ new)
+    → 512 ≤ length u → length c ≡ length u
+    → (¬ Same → LinksTo first new link) → NextIs first old u → ¬ HasBadLink u → Turned Same link 1 u c
+    → NextIs first new c × (¬ HasBadLink c)
+link_next Same first old new link u c eq long count leads next good (inl stays) = (
+  next_kept first new u c long count stays.1 (subst (λ (o : Option Lba). NextIs first o u) (eq stays.0) next),
+  link_kept u c long count stays.1 good,
+)
 link_next Same first old new link u c eq long count leads next good (inr stands) =
     let is = stands.1.read (link_usable first new link (leads stands.0)) in
     (next_of first new link c (leads stands.0) is, good_link first new link c (leads stands.0) is)
@@ -103,10 +114,13 @@ module _ (old new : Ebr) (link : Option Record) (u s c : List ℕ)
   all_else i (inr high) = step_other _ _ 1 s c w1 i (inr (omega (arith, high))) ∙ step_other _ _ 0 u s w0 i (inr (omega (arith, high)))
 
   logical_turned : Turned (old.logical ≡ new.logical) new.logical 0 u c
-  logical_turned = turned _ _ 0 u u s c (omega arith) (omega (arith, long, l0)) (omega (arith, l1, l0)) (stays_so 0 u) w0 (step_stays _ _ 1 s c 0 (omega arith) w1)
+  logical_turned =
+      turned _ _ 0 u u s c (omega arith) (omega (arith, long, l0)) (omega (arith, l1, l0)) (stays_so 0 u) w0
+      (step_stays _ _ 1 s c 0 (omega arith) w1)
 
   link_turned : Turned (old.next ≡ new.next) link 1 u c
-  link_turned = turned _ _ 1 u s c c (omega arith) (omega (arith, long, l1)) refl (step_stays _ _ 0 u s 1 (omega arith) w0) w1 (stays_so 1 c)
+  link_turned =
+      turned _ _ 1 u s c c (omega arith) (omega (arith, long, l1)) refl (step_stays _ _ 0 u s 1 (omega arith) w0) w1 (stays_so 1 c)
 
   pub logical_changed : IsChanged (old.logical ≡ new.logical) new.logical 0 u c
   logical_changed = changed _ _ 0 u c (omega arith) long l1 logical_turned
@@ -114,11 +128,14 @@ module _ (old new : Ebr) (link : Option Record) (u s c : List ℕ)
   pub link_changed : IsChanged (old.next ≡ new.next) link 1 u c
   link_changed = changed _ _ 1 u c (omega arith) long l1 link_turned
 
-  pub ebr_anew : (first : ℕ) → (old.next ≢ new.next → LinksTo first new.next link) → IsPlainLogical new.logical → EbrBytes first new.at old u → EbrBytes first new.at new c
+  pub ebr_anew : (first : ℕ) → (old.next ≢ new.next → LinksTo first new.next link) → IsPlainLogical new.logical
+      → EbrBytes first new.at old u → EbrBytes first new.at new c
   unfolding HasSignature HasBootIndicators HasZeros
   ebr_anew first leads plain is =
-      let logical = reads old.logical new.logical 0 u c (omega arith) long l1 (plain_usable _ (plain_logical _ plain)) is.logical logical_turned in
-      let next = link_next (old.next ≡ new.next) first old.next new.next link u c (λ same. same) long l1 leads is.next is.link_kind link_turned in
+      let logical =
+      reads old.logical new.logical 0 u c (omega arith) long l1 (plain_usable _ (plain_logical _ plain)) is.logical logical_turned in
+      let next =
+      link_next (old.next ≡ new.next) first old.next new.next link u c (λ same. same) long l1 leads is.next is.link_kind link_turned in
       record {
         signature = (all_else 510 (inr (omega arith)) ∙ is.signature.0, all_else 511 (inr (omega arith)) ∙ is.signature.1);
         boots = (
@@ -149,13 +166,15 @@ module _ (n : ℕ) (ebr : Ebr) (link : Option Record) (s0 s1 c : List ℕ)
   room = let e = length-replicate {A = ℕ} n 0 in omega (arith, e, long)
 
   empty : (i : ℕ) → (i < 510) ⊎ (510 + 2 ≤ i) → slice_index s0 i ≡ 0
-  empty i away = ap (λ (s : List ℕ). slice_index s i) end ∙ put_other 510 i 2 (0x55 ∷ 0xAA ∷ []) (replicate n 0) room refl away ∙ zero_of n i
+  empty i away =
+      ap (λ (s : List ℕ). slice_index s i) end ∙ put_other 510 i 2 (0x55 ∷ 0xAA ∷ []) (replicate n 0) room refl away ∙ zero_of n i
 
   above : (i : ℕ) → 478 ≤ i → slice_index c i ≡ slice_index s0 i
   above i high = w1.other i (inr (omega (arith, high))) ∙ w0.other i (inr (omega (arith, high)))
 
   pub zeros_else : (i : ℕ) → (i < 446) ⊎ ((478 ≤ i) × (i < 510)) ⊎ (512 ≤ i) → slice_index c i ≡ 0
-  zeros_else i (inl low) = w1.other i (inl (omega (arith, low))) ∙ w0.other i (inl (omega (arith, low))) ∙ empty i (inl (omega (arith, low)))
+  zeros_else i (inl low) =
+      w1.other i (inl (omega (arith, low))) ∙ w0.other i (inl (omega (arith, low))) ∙ empty i (inl (omega (arith, low)))
   zeros_else i (inr (inl within)) = above i within.0 ∙ empty i (inl within.1)
   zeros_else i (inr (inr high)) = above i (omega (arith, high)) ∙ empty i (inr (omega (arith, high)))
 
@@ -167,18 +186,24 @@ module _ (n : ℕ) (ebr : Ebr) (link : Option Record) (s0 s1 c : List ℕ)
   signed = (above 510 (omega arith) ∙ first_at 510 s0 _ signature_there, above 511 (omega arith) ∙ index_at 510 1 s0 _ signature_there)
 
   logical_stands : Stands ebr.logical 0 c
-  logical_stands = stands_on ebr.logical 0 s1 c (omega arith) (omega (arith, long, l1)) (omega (arith, l1, l2)) (λ i low high. w1.other i (inl (omega (arith, high)))) (written_stands ebr.logical 0 s0 s1 w0)
+  logical_stands =
+      stands_on ebr.logical 0 s1 c (omega arith) (omega (arith, long, l1)) (omega (arith, l1, l2))
+      (λ i low high. w1.other i (inl (omega (arith, high)))) (written_stands ebr.logical 0 s0 s1 w0)
 
   pub logical_bytes : slice_range c 446 462 ≡ record_bytes ebr.logical
   logical_bytes = logical_stands.bytes
 
   no_others : slice_range c 478 510 ≡ replicate 32 0
-  no_others = ext_get_or 0 (take 32 (drop 478 c)) (replicate 32 0) (all ∙ sym (length-replicate {A = ℕ} 32 0)) (λ i lt. each i (let e = all in omega (arith, lt, e))) where
-    all : length (take 32 (drop 478 c)) ≡ 32
-    all = length-take-le 32 (drop 478 c) (let e = length-drop 478 c in omega (arith, e, long, l2))
+  no_others =
+      ext_get_or 0 (take 32 (drop 478 c)) (replicate 32 0) (all ∙ sym (length-replicate {A = ℕ} 32 0))
+      (λ i lt. each i (let e = all in omega (arith, lt, e))) where
+        all : length (take 32 (drop 478 c)) ≡ 32
+        all = length-take-le 32 (drop 478 c) (let e = length-drop 478 c in omega (arith, e, long, l2))
 
-    each : (i : ℕ) → i < 32 → get_or (take 32 (drop 478 c)) i 0 ≡ get_or (replicate 32 0) i 0
-    each i few = get_or-take 32 (drop 478 c) i 0 few ∙ get_or-drop 478 c i 0 ∙ zeros_else (478 + i) (inr (inl (omega arith, omega (arith, few)))) ∙ sym (zero_of 32 i)
+        each : (i : ℕ) → i < 32 → get_or (take 32 (drop 478 c)) i 0 ≡ get_or (replicate 32 0) i 0
+        each i few =
+            get_or-take 32 (drop 478 c) i 0 few ∙ get_or-drop 478 c i 0
+            ∙ zeros_else (478 + i) (inr (inl (omega arith, omega (arith, few)))) ∙ sym (zero_of 32 i)
 
   pub new_read : (first : ℕ) → LinksTo first ebr.next link → IsPlainLogical ebr.logical → EbrBytes first ebr.at ebr c
   unfolding HasBootIndicators HasZeros

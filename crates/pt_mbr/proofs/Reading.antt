@@ -11,7 +11,8 @@ use Rattle.pt_mbr.specs.declared.chain.ChainError.TheVariants.{NoSignature, BadR
 use Rattle.pt_mbr.specs.Reading.{of_way, at_is_read, before_is_read}
 
 -- where the sector at fault was read, and is the first of no other
-no_record : (Q : Type 0) (d : Sectors) (x : Span) (e : ChainError) (f : ChainFault d x e) (list : List Ebr) (s : ℕ) → list ≡ f.before → (s ≡ f.at.0 → length f.before < 128 → Q) → ¬ IsDevice e → ChainReads d x s → StandsAt s list ⊎ Q
+no_record : (Q : Type 0) (d : Sectors) (x : Span) (e : ChainError) (f : ChainFault d x e) (list : List Ebr) (s : ℕ)
+    → list ≡ f.before → (s ≡ f.at.0 → length f.before < 128 → Q) → ¬ IsDevice e → ChainReads d x s → StandsAt s list ⊎ Q
 no_record Q d x e f list s same here plain reads = told (of_way d x e s f reads) where
   told : StandsAt s f.before ⊎ ((s ≡ f.at.0) × (length f.before < 128)) ⊎ IsDevice e → StandsAt s list ⊎ Q
   told (inl at) = inl (subst (λ (l : List Ebr). StandsAt s l) (sym same) at)
@@ -39,24 +40,28 @@ stands_one s (e ∷ a) g (inr at) = later (stands_one s a g at) where
 pub reads_are : (d : Sectors) (x : Span) (list : List Ebr) (e : ChainError) → EndsIn d x list e → ReadsAre d x list e
 reads_are d x list (Device y) ends = tt
 reads_are d x list (OutsideExtended y) ends = λ s. (
-  (λ reads. no_record ⊥ d x (OutsideExtended y) ends.fault list s ends.decoded (λ same few. absurd (ends.fault.here.1 (subst (λ (z : ℕ). IsInside x (length d) (lba z)) same reads.inside))) (λ none. none) reads),
+  (λ reads. no_record ⊥ d x (OutsideExtended y) ends.fault list s ends.decoded
+      (λ same few. absurd (ends.fault.here.1 (subst (λ (z : ℕ). IsInside x (length d) (lba z)) same reads.inside))) (λ none. none) reads),
   λ at. ⊎_elim (before_is_read d x (OutsideExtended y) ends.fault list s ends.decoded) (λ none. absurd none) at,
 )
 reads_are d x list TooLong ends = λ s. (
-  (λ reads. no_record ⊥ d x TooLong ends.fault list s ends.decoded (λ same few. absurd (omega (arith, few, ends.fault.here.1))) (λ none. none) reads),
+  (λ reads. no_record ⊥ d x TooLong ends.fault list s ends.decoded (λ same few. absurd (omega (arith, few, ends.fault.here.1)))
+      (λ none. none) reads),
   λ at. ⊎_elim (before_is_read d x TooLong ends.fault list s ends.decoded) (λ none. absurd none) at,
 )
 reads_are d x list (NoSignature y) ends =
     let place : y.0 ≡ ends.fault.at.0 = ap (λ (z : Lba). z.0) ends.fault.here.0 in
     λ s. (
       (λ reads. no_record (s ≡ y.0) d x (NoSignature y) ends.fault list s ends.decoded (λ same few. same ∙ sym place) (λ none. none) reads),
-      λ at. ⊎_elim (before_is_read d x (NoSignature y) ends.fault list s ends.decoded) (λ here. at_is_read d x (NoSignature y) ends.fault s ends.fault.here.2 ends.fault.here.1 (here ∙ place)) at,
+      λ at. ⊎_elim (before_is_read d x (NoSignature y) ends.fault list s ends.decoded)
+          (λ here. at_is_read d x (NoSignature y) ends.fault s ends.fault.here.2 ends.fault.here.1 (here ∙ place)) at,
     )
 reads_are d x list (BadRecord y) ends =
     let place : y.0 ≡ ends.fault.at.0 = ap (λ (z : Lba). z.0) ends.fault.here.0 in
     λ s. (
       (λ reads. no_record (s ≡ y.0) d x (BadRecord y) ends.fault list s ends.decoded (λ same few. same ∙ sym place) (λ none. none) reads),
-      λ at. ⊎_elim (before_is_read d x (BadRecord y) ends.fault list s ends.decoded) (λ here. at_is_read d x (BadRecord y) ends.fault s ends.fault.here.2 ends.fault.here.1 (here ∙ place)) at,
+      λ at. ⊎_elim (before_is_read d x (BadRecord y) ends.fault list s ends.decoded)
+          (λ here. at_is_read d x (BadRecord y) ends.fault s ends.fault.here.2 ends.fault.here.1 (here ∙ place)) at,
     )
 reads_are d x list (NotUpward y) ends =
     let f = ends.fault in

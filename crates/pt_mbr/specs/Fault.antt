@@ -47,13 +47,15 @@ here_one d x k at (NotUpward y) (BadRecord z) p q = absurd (bad_record x.first a
 here_one d x k at (NotUpward y) (NotUpward z) p q = inl (ap (λ (n : Lba). NotUpward n) (p.0 ∙ sym q.0))
 
 -- where one way ends, the other goes on past it
-past : (d : Sectors) (x : Span) (k : ℕ) (y at : Lba) (e : ChainError) (g : Ebr) → k < 128 → Some y ≡ Some at → FaultAt d x k at e → EbrAt d x y g → IsUpward y g.next → IsDevice e
+past : (d : Sectors) (x : Span) (k : ℕ) (y at : Lba) (e : ChainError) (g : Ebr) → k < 128 → Some y ≡ Some at → FaultAt d x k at e
+    → EbrAt d x y g → IsUpward y g.next → IsDevice e
 past d x k y at e g few same fault here up =
     let place : y ≡ at = cc in
     stopped d x k at e g few fault (subst (λ (z : Lba). EbrAt d x z g) place here) (subst (λ (z : Lba). IsUpward z g.next) place up)
 
 -- k extended boot records stand before `from`
-ways_one : (d : Sectors) (x : Span) (k : ℕ) (from : Option Lba) (a b : List Ebr) (at to : Lba) (e f : ChainError) → k + length a ≤ 128 → k + length b ≤ 128
+ways_one : (d : Sectors) (x : Span) (k : ℕ) (from : Option Lba) (a b : List Ebr) (at to : Lba) (e f : ChainError)
+    → k + length a ≤ 128 → k + length b ≤ 128
     → Walk d x from a (Some at) → FaultAt d x (k + length a) at e → Walk d x from b (Some to) → FaultAt d x (k + length b) to f → One e f
 ways_one d x k from [] [] at to e f la lb wa fa wb fb =
     let reached = sym wa ∙ wb in
@@ -67,10 +69,12 @@ ways_one d x k (Some y) (g ∷ a) (h ∷ b) at to e f la lb wa fa wb fb =
     let same : h ≡ g = ebr_one x.first y h g (sector d y.0) wb.0.bytes wa.0.bytes in
     let count_a : k + length (g ∷ a) ≡ (k + 1) + length a = omega arith in
     let count_b : k + length (h ∷ b) ≡ (k + 1) + length b = omega arith in
-    ways_one d x (k + 1) g.next a b at to e f (omega (arith, la)) (omega (arith, lb)) wa.2 (subst (λ (n : ℕ). FaultAt d x n at e) count_a fa)
+    ways_one d x (k + 1) g.next a b at to e f (omega (arith, la)) (omega (arith, lb)) wa.2
+    (subst (λ (n : ℕ). FaultAt d x n at e) count_a fa)
     (subst (λ (z : Ebr). Walk d x z.next b (Some to)) same wb.2) (subst (λ (n : ℕ). FaultAt d x n to f) count_b fb)
 
 pub fault_one : (d : Sectors) (x : Span) (e f : ChainError) → ChainFault d x e → ChainFault d x f → (e ≡ f) ⊎ IsDevice e ⊎ IsDevice f
 fault_one d x e f p q =
     ways_one d x 0 (Some (lba x.first)) p.before q.before p.at q.at e f (omega (arith, p.few)) (omega (arith, q.few))
-    p.reached (subst (λ (n : ℕ). FaultAt d x n p.at e) (omega arith) p.here) q.reached (subst (λ (n : ℕ). FaultAt d x n q.at f) (omega arith) q.here)
+    p.reached (subst (λ (n : ℕ). FaultAt d x n p.at e) (omega arith) p.here) q.reached
+    (subst (λ (n : ℕ). FaultAt d x n q.at f) (omega arith) q.here)

@@ -37,7 +37,8 @@ pub fault_has_no_ebr : (first : ℕ) (at : Lba) (e : Ebr) (fault : EbrFault) (b 
 fault_has_no_ebr = one.ebr_none
 
 -- a record depends on its sixteen bytes alone
-pub record_is_its_bytes : (o : Option Record) (at : ℕ) (b c : List ℕ) → at + 16 ≤ length b → length c ≡ length b → ((i : ℕ) → at ≤ i → i < at + 16 → slice_index c i ≡ slice_index b i) → RecordIs o at b → RecordIs o at c
+pub record_is_its_bytes : (o : Option Record) (at : ℕ) (b c : List ℕ) → at + 16 ≤ length b → length c ≡ length b
+    → ((i : ℕ) → at ≤ i → i < at + 16 → slice_index c i ≡ slice_index b i) → RecordIs o at b → RecordIs o at c
 record_is_its_bytes = kept.record_kept
 
 -- a sector that protects its disk bears a protective record
@@ -63,7 +64,8 @@ chain_reads_decide = same.same_chains
 pub chain_reads_are : (d : Sectors) (x : Span) (list : List Ebr) → Chain d x list → (s : ℕ) → ChainReads d x s ↔ StandsAt s list
 chain_reads_are = reading.of_list
 
-pub fault_reads_are : (d : Sectors) (x : Span) (e : ChainError) (f : ChainFault d x e) → ¬ IsDevice e → (s : ℕ) → ChainReads d x s ↔ (StandsAt s f.before ⊎ IsAtFault e s)
+pub fault_reads_are : (d : Sectors) (x : Span) (e : ChainError) (f : ChainFault d x e) → ¬ IsDevice e → (s : ℕ)
+    → ChainReads d x s ↔ (StandsAt s f.before ⊎ IsAtFault e s)
 fault_reads_are = reading.of_fault
 
 next_under : (first : ℕ) (o : Option Lba) (b : List ℕ) → NextIs first o b → (g : ℕ) → (p : Option Lba) × NextIs g p b
@@ -71,10 +73,20 @@ next_under first None b is g = (None, is)
 next_under first (Some y) b is g = (Some (record { 0 = g + number_at 470 4 b }), (is.0, refl))
 
 -- an extended boot record reads as one whatever the first sector is that its link counts from, with the same logical partition
-pub ebr_rebased_lem : (first g : ℕ) (at : Lba) (e : Ebr) (b : List ℕ) → EbrBytes first at e b → (f : Ebr) × EbrBytes g at f b × (f.logical ≡ e.logical)
+pub ebr_rebased_lem : (first g : ℕ) (at : Lba) (e : Ebr) (b : List ℕ) → EbrBytes first at e b
+    → (f : Ebr) × EbrBytes g at f b × (f.logical ≡ e.logical)
 ebr_rebased_lem first g at e b is =
     let next = next_under first e.next b is.next g in (
       record { at = at; logical = e.logical; next = next.0 },
-      record { signature = is.signature; boots = is.boots; zeros = is.zeros; logical_kind = is.logical_kind; link_kind = is.link_kind; place = refl; logical = is.logical; next = next.1 },
+      record {
+        signature = is.signature;
+        boots = is.boots;
+        zeros = is.zeros;
+        logical_kind = is.logical_kind;
+        link_kind = is.link_kind;
+        place = refl;
+        logical = is.logical;
+        next = next.1;
+      },
       refl,
     )

@@ -1,5 +1,6 @@
 pub mod Bytes
 pub mod Record
+pub mod Extended
 pub mod Mbr
 pub mod Protective
 pub mod Ebr
@@ -12,3 +13,4 @@ pub mod Same
 pub mod Reading
 pub mod Laws
 pub mod Changes
+pub mod Numbers

@@ -10,7 +10,9 @@ IsBootIndicator n = (n ≡ 0) ⊎ (n ≡ 0x80)
 
 -- each of the four boot indicators is one, also those of unused records
 unfoldable pub HasBootIndicators : List ℕ → Type 0
-HasBootIndicators b = IsBootIndicator (slice_index b 446) × IsBootIndicator (slice_index b 462) × IsBootIndicator (slice_index b 478) × IsBootIndicator (slice_index b 494)
+HasBootIndicators b =
+    IsBootIndicator (slice_index b 446) × IsBootIndicator (slice_index b 462) × IsBootIndicator (slice_index b 478)
+    × IsBootIndicator (slice_index b 494)
 
 pub record IsMbrFormed (b : List ℕ) : Type 0 where
   pub signature : HasSignature b

@@ -1,5 +1,6 @@
 -- Bytes are one value at most, a disk has one chain at most, and none where there is a fault.
-use Rattle.std.proofs.Common.{◌≡◌, ◌<◌, ◌≤◌, ◌+◌, ℕ, zero, suc, List, [], ◌∷◌, length, get_or, Option, Some, None, refl, sym, ap, ◌∙◌, subst, arith}
+use Rattle.std.proofs.Common.{◌≡◌, ◌<◌, ◌≤◌, ◌+◌, ℕ, zero, suc, List, [], ◌∷◌, length, get_or, Option, Some, None, refl, sym, ap, ◌∙◌}
+use Rattle.std.proofs.Common.{subst, arith}
 use Rattle.std.proofs.lemmas.List.{ext_get_or}
 use Rattle.pt_sector.specs.Sectors.{Sectors, sector, Span}
 use Rattle.pt_sector.specs.declared.address.Lba.{Lba}
@@ -76,7 +77,8 @@ ebr_none first at e ebr.NoSignature b fault bytes = fault bytes.signature
 ebr_none first at e ebr.BadRecord b fault bytes = bad_record first at e b fault.1 bytes
 
 -- no walk goes on, or ends, past a fault
-pub stopped : (d : Sectors) (x : Span) (k : ℕ) (at : Lba) (fault : ChainError) (e : Ebr) → k < 128 → FaultAt d x k at fault → EbrAt d x at e → IsUpward at e.next → IsDevice fault
+pub stopped : (d : Sectors) (x : Span) (k : ℕ) (at : Lba) (fault : ChainError) (e : Ebr) → k < 128 → FaultAt d x k at fault
+    → EbrAt d x at e → IsUpward at e.next → IsDevice fault
 stopped d x k at (OutsideExtended y) e few fault here up = absurd (fault.1 here.inside)
 stopped d x k at TooLong e few fault here up = absurd (omega arith)
 stopped d x k at (NoSignature y) e few fault here up = absurd (fault.3 here.bytes.signature)
@@ -87,7 +89,8 @@ stopped d x k at (NotUpward y) e few fault here up =
 stopped d x k at (Device y) e few fault here up = tt
 
 -- k extended boot records stand before `from`
-faulty : (d : Sectors) (x : Span) (k : ℕ) (from : Option Lba) (before list : List Ebr) (at : Lba) (fault : ChainError) → k + length list ≤ 128
+faulty : (d : Sectors) (x : Span) (k : ℕ) (from : Option Lba) (before list : List Ebr) (at : Lba) (fault : ChainError)
+    → k + length list ≤ 128
     → Walk d x from before (Some at) → FaultAt d x (k + length before) at fault → Walk d x from list None → IsDevice fault
 faulty d x k None [] [] at fault few reached here whole = absurd cc
 faulty d x k (Some y) before [] at fault few reached here whole = absurd cc
@@ -95,16 +98,21 @@ faulty d x k None (f ∷ before) list at fault few reached here whole = absurd r
 faulty d x k None [] (e ∷ list) at fault few reached here whole = absurd whole
 faulty d x k (Some y) [] (e ∷ list) at fault few reached here whole =
     let same : y ≡ at = cc in
-    stopped d x (k + 0) at fault e (omega arith) here (subst (λ (z : Lba). EbrAt d x z e) same whole.0) (subst (λ (z : Lba). IsUpward z e.next) same whole.1)
+    stopped d x (k + 0) at fault e (omega arith) here (subst (λ (z : Lba). EbrAt d x z e) same whole.0)
+    (subst (λ (z : Lba). IsUpward z e.next) same whole.1)
 faulty d x k (Some y) (f ∷ before) (e ∷ list) at fault few reached here whole =
     let same : e ≡ f = ebr_one x.first y e f (sector d y.0) whole.0.bytes reached.0.bytes in
     let count : k + length (f ∷ before) ≡ (k + 1) + length before = omega arith in
-    faulty d x (k + 1) f.next before list at fault (omega arith) reached.2 (subst (λ (n : ℕ). FaultAt d x n at fault) count here) (subst (λ (g : Ebr). Walk d x g.next list None) same whole.2)
+    faulty d x (k + 1) f.next before list at fault (omega arith) reached.2 (subst (λ (n : ℕ). FaultAt d x n at fault) count here)
+    (subst (λ (g : Ebr). Walk d x g.next list None) same whole.2)
 
 pub no_chain : (d : Sectors) (x : Span) (e : ChainError) (list : List Ebr) → ChainFault d x e → Chain d x list → IsDevice e
-no_chain d x e list fault chain = faulty d x 0 (Some (lba x.first)) fault.before list fault.at e (omega (arith, chain.few)) fault.reached (subst (λ (n : ℕ). FaultAt d x n fault.at e) (omega arith) fault.here) chain.whole
+no_chain d x e list fault chain =
+    faulty d x 0 (Some (lba x.first)) fault.before list fault.at e (omega (arith, chain.few)) fault.reached
+    (subst (λ (n : ℕ). FaultAt d x n fault.at e) (omega arith) fault.here) chain.whole
 
-walk_one : (d : Sectors) (x : Span) (from : Option Lba) (list other : List Ebr) → Walk d x from list None → Walk d x from other None → list ≡ other
+walk_one : (d : Sectors) (x : Span) (from : Option Lba) (list other : List Ebr) → Walk d x from list None → Walk d x from other None
+    → list ≡ other
 walk_one d x from [] [] p q = refl
 walk_one d x None [] (f ∷ other) p q = absurd q
 walk_one d x None (e ∷ list) other p q = absurd p

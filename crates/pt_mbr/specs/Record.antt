@@ -1,5 +1,6 @@
 -- Partition records, byte by byte.
-use Rattle.std.specs.Prelude.{◌≡◌, ◌≢◌, ◌<◌, ◌≤◌, ◌^◌, ◌⊎◌, ◌+◌, ◌*◌, ◌++◌, ◌∷◌, ℕ, List, length, slice_index, slice_range, replicate, Option, Some, None}
+use Rattle.std.specs.Prelude.{◌≡◌, ◌≢◌, ◌<◌, ◌≤◌, ◌^◌, ◌⊎◌, ◌+◌, ◌*◌, ◌++◌, ◌∷◌, ℕ, List, length, slice_index, slice_range, replicate}
+use Rattle.std.specs.Prelude.{Option, Some, None}
 use Rattle.byteorder.specs.Endian.{little_bytes}
 use Rattle.pt_mbr.specs.Bytes.{number_at, put_at}
 use Rattle.pt_mbr.specs.declared.record.Record.{Record}

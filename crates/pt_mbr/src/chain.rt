@@ -5,12 +5,19 @@ ghost use Rattle.pt_sector.specs.Calls.{Blames};
 ghost use Rattle.pt_sector.specs.Reads.{OnlyReads};
 ghost use Rattle.pt_mbr.specs.declared.chain.ChainError.TheVariants.{Device};
 ghost use Rattle.pt_mbr.specs.declared.ebr.Ebr.{Ebr};
-ghost use Rattle.pt_mbr.specs.Chain.{lba, span_of, IsInside, EbrAt, FaultAt, Walk, Chain, ChainFault, ChainReads, StandsAt, ReadsAre, fault_in};
+ghost use Rattle.pt_mbr.specs.Chain.{lba, span_of, IsInside, EbrAt, FaultAt, Walk, Chain, ChainFault, ChainReads, StandsAt, ReadsAre};
+ghost use Rattle.pt_mbr.specs.Chain.{fault_in};
 ghost use Rattle.pt_mbr.specs.Decoded.{EndsIn, StepsTo, StepsOut};
+ghost use Rattle.pt_mbr.specs.Numbers.{error_number};
 
 use crate::ebr::{Ebr, EbrFault, decode_ebr};
 use arrayvec::ArrayVec;
 use pt_sector::{Disk, Extent, FailedRead, Lba, Sector, read_sector};
+use std::error::Error;
+use std::fmt;
+
+/// The most extended boot records that a chain has. This project's choice.
+pub const MOST_EBRS: usize = 128;
 
 /// Why an extended partition has no chain. The first fault on the way is told; the place is that of the extended boot
 /// record at fault.
@@ -29,6 +36,53 @@ pub enum ChainError {
     /// The read of this sector failed.
     Device(Lba),
 }
+
+impl ChainError {
+    /// The number that stands for it in what is printed, from 1 to 6 in the order of the variants.
+    pub fn number(self) -> u8
+        ensures { result ≡ error_number self }
+    {
+        match self {
+            ChainError::NoSignature(_) => 1,
+            ChainError::BadRecord(_) => 2,
+            ChainError::NotUpward(_) => 3,
+            ChainError::OutsideExtended(_) => 4,
+            ChainError::TooLong => 5,
+            ChainError::Device(_) => 6,
+        }
+    }
+}
+
+impl fmt::Display for ChainError {
+    fn fmt<W: fmt::Write>(&self, f: &mut fmt::Formatter<W>) -> fmt::Result {
+        match self {
+            ChainError::NoSignature(at) => {
+                write!(f, "the extended boot record at sector {} lacks 55 AA", at.0)
+            }
+            ChainError::BadRecord(at) => write!(
+                f,
+                "the extended boot record at sector {} has a record that it may not have",
+                at.0
+            ),
+            ChainError::NotUpward(at) => write!(
+                f,
+                "the link at sector {} leads to its own sector or to a lower one",
+                at.0
+            ),
+            ChainError::OutsideExtended(at) => write!(
+                f,
+                "the chain leads to sector {}, outside the extended partition or the disk",
+                at.0
+            ),
+            ChainError::TooLong => {
+                f.write_str("the chain has more than 128 extended boot records")
+            }
+            ChainError::Device(at) => write!(f, "sector {} can't be read", at.0),
+        }
+    }
+}
+
+impl Error for ChainError {}
 
 impl From<FailedRead> for ChainError {
     ghost from_gives = { λ failed e. e ≡ Device failed.0 };
@@ -62,7 +116,9 @@ fn read_ebr<const B: usize, D: Disk<B>>(
     ensures same { OnlyReads D.Disk disk.old disk.new }
     ensures blames { Blames fault_in result (D.faults disk.old) (D.faults disk.new) }
     ensures ok { D.tells → IfOk result (λ e. EbrAt (D.told disk.old).seen (span_of extent.now) at e) }
-    ensures err { D.tells → IfErr result (λ e. (list : List Ebr) → length list < 128 → Walk (D.told disk.old).seen (span_of extent.now) (Some (lba (span_of extent.now).first)) list (Some at) → EndsIn (D.told disk.old).seen (span_of extent.now) list e) }
+    ensures err { D.tells → IfErr result (λ e. (list : List Ebr) → length list < 128
+        → Walk (D.told disk.old).seen (span_of extent.now) (Some (lba (span_of extent.now).first)) list (Some at)
+        → EndsIn (D.told disk.old).seen (span_of extent.now) list e) }
 {
     let mut sector = [0; B];
     read_sector(disk, at, &mut sector)?;
@@ -78,7 +134,7 @@ fn step<const B: usize, D: Disk<B>>(
     disk: &mut D,
     extent: &Extent,
     at: Lba,
-    list: &mut ArrayVec<Ebr, 128>,
+    list: &mut ArrayVec<Ebr, MOST_EBRS>,
 ) -> Result<Option<Lba>, ChainError>
     requires size { IsSectorSize B }
     requires inside { IsInside (span_of extent.now) (D.count disk.old) at }
@@ -110,7 +166,7 @@ fn step<const B: usize, D: Disk<B>>(
 fn follow<const B: usize, D: Disk<B>>(
     disk: &mut D,
     extent: &Extent,
-    list: &mut ArrayVec<Ebr, 128>,
+    list: &mut ArrayVec<Ebr, MOST_EBRS>,
 ) -> Result<(), ChainError>
     requires size { IsSectorSize B }
     requires empty { list.old.items ≡ [] }
@@ -124,7 +180,7 @@ fn follow<const B: usize, D: Disk<B>>(
     if !is_inside(extent, sectors, at) {
         return Err(ChainError::OutsideExtended(at));
     }
-    for _ in 0..128u32 {
+    for _ in 0..MOST_EBRS {
         match step(disk, extent, at, list)? {
             Some(next) => at = next,
             None => return Ok(()),
@@ -143,7 +199,7 @@ fn follow<const B: usize, D: Disk<B>>(
 pub fn walk_chain<const B: usize, D: Disk<B>>(
     disk: &mut D,
     extent: &Extent,
-    list: &mut ArrayVec<Ebr, 128>,
+    list: &mut ArrayVec<Ebr, MOST_EBRS>,
 ) -> Result<(), ChainError>
     requires size { IsSectorSize B }
     requires empty { list.old.items ≡ [] }
@@ -152,7 +208,8 @@ pub fn walk_chain<const B: usize, D: Disk<B>>(
     ensures ok { D.tells → OnOk result (Chain (D.told disk.old).seen (span_of extent.now) list.new.items) }
     ensures err { D.tells → IfErr result (λ e. ChainFault (D.told disk.old).seen (span_of extent.now) e) }
     ensures decoded { D.tells → IfErr result (λ e. EndsIn (D.told disk.old).seen (span_of extent.now) list.new.items e) }
-    ensures read_ok { D.tells → OnOk result ((s : ℕ) → ChainReads (D.told disk.old).seen (span_of extent.now) s ↔ StandsAt s list.new.items) }
+    ensures read_ok { D.tells → OnOk result ((s : ℕ) → ChainReads (D.told disk.old).seen (span_of extent.now) s
+        ↔ StandsAt s list.new.items) }
     ensures read_err { D.tells → IfErr result (λ e. ReadsAre (D.told disk.old).seen (span_of extent.now) list.new.items e) }
 {
     follow(disk, extent, list)?;
@@ -168,7 +225,7 @@ pub fn walk_chain<const B: usize, D: Disk<B>>(
 pub fn read_chain<const B: usize, D: Disk<B>>(
     disk: &mut D,
     extent: Extent,
-) -> Result<ArrayVec<Ebr, 128>, ChainError>
+) -> Result<ArrayVec<Ebr, MOST_EBRS>, ChainError>
     requires size { IsSectorSize B }
     ensures same { OnlyReads D.Disk disk.old disk.new }
     ensures blames { Blames fault_in result (D.faults disk.old) (D.faults disk.new) }

@@ -11,7 +11,7 @@ ghost use Rattle.pt_mbr.specs.Changes.{mbr_of, reach_of, IsChanged, IsStep, AreP
 use crate::ebr::Ebr;
 use crate::encode::put_value;
 use crate::mbr::put_part;
-use crate::record::Record;
+use crate::record::{FARTHEST, Record};
 use pt_sector::{Lba, Sector};
 
 // Record k written as the new one, where it isn't the old one.
@@ -83,7 +83,8 @@ pub fn change_ebr<const B: usize>(
     ensures other { (i : ℕ) → (i < 446) ⊎ (478 ≤ i) → slice_index result i ≡ slice_index sector.now i }
     ensures logical { IsChanged (old.now.logical ≡ new.now.logical) new.now.logical 0 sector.now result }
     ensures link { IsChanged (old.now.next ≡ new.now.next) link.now 1 sector.now result }
-    ensures read { (first : ℕ) → (old.now.next ≢ new.now.next → LinksTo first new.now.next link.now) → IsPlainLogical new.now.logical → EbrBytes first new.now.at old.now sector.now → EbrBytes first new.now.at new.now result }
+    ensures read { (first : ℕ) → (old.now.next ≢ new.now.next → LinksTo first new.now.next link.now)
+        → IsPlainLogical new.now.logical → EbrBytes first new.now.at old.now sector.now → EbrBytes first new.now.at new.now result }
 {
     let changed = change_record(sector, 0, old.logical, new.logical);
     change_link(&changed, old.next, new.next, *link)
@@ -96,14 +97,16 @@ pub fn new_ebr<const B: usize>(ebr: &Ebr, link: &Option<Record>) -> Sector<B>
     ensures logical { slice_range result 446 462 ≡ record_bytes ebr.now.logical }
     ensures link { slice_range result 462 478 ≡ record_bytes link.now }
     ensures signature { HasSignature result }
-    ensures read { (first : ℕ) → LinksTo first ebr.now.next link.now → IsPlainLogical ebr.now.logical → EbrBytes first ebr.now.at ebr.now result }
+    ensures read { (first : ℕ) → LinksTo first ebr.now.next link.now → IsPlainLogical ebr.now.logical
+        → EbrBytes first ebr.now.at ebr.now result }
 {
     let sector = put_part(&[0; B], 510, &[0x55, 0xAA]);
     let sector = put_value(&sector, 0, ebr.logical);
     put_value(&sector, 1, *link)
 }
 
-fn reach(logical: &Option<Record>) -> u64
+/// How many sectors there are from an extended boot record to the end of its logical partition; 1 where it has none.
+pub fn reach_of(logical: &Option<Record>) -> u64
     ensures { result ≡ reach_of logical.now }
 {
     match logical {
@@ -121,15 +124,15 @@ pub fn link_to(first: Lba, next: &Ebr) -> Option<Record>
     ensures leads { IfSome result (λ r. LinksTo first.0 (Some next.now.at) (Some r)) }
     ensures none { IfNone result (¬ FitsLink first.0 next.now) }
 {
-    let size = reach(&next.logical);
+    let size = reach_of(&next.logical);
     if next.at.0 < first.0 || next.at.0 - first.0 > 0xFFFF_FFFF || size == 0 || size > 0xFFFF_FFFF {
         return None;
     }
     Some(Record {
         boot: 0,
-        start_chs: [0xFE, 0xFF, 0xFF],
+        start_chs: FARTHEST,
         kind: 0x05,
-        end_chs: [0xFE, 0xFF, 0xFF],
+        end_chs: FARTHEST,
         start: (next.at.0 - first.0) as u32,
         size: size as u32,
     })

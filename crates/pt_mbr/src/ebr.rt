@@ -4,8 +4,7 @@ ghost use Rattle.pt_mbr.specs.Ebr.{EbrBytes, IsEbrFault, HasZeros, HasBadLogical
 
 use crate::bytes::has_signature;
 use crate::mbr::has_boot_indicators;
-use crate::protection::PROTECTIVE;
-use crate::record::{Record, is_extended_kind, is_used, record_at};
+use crate::record::{PROTECTIVE, Record, is_extended_kind, is_used, record_at};
 use pt_sector::{Lba, Sector};
 
 /// An extended boot record: one link of an extended partition's chain.

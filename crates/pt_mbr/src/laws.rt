@@ -44,12 +44,14 @@ pub fn chain_reads_decide()
 /// are the ones that lead to it and, but for `OutsideExtended` and `TooLong`, its own.
 pub fn chain_reads_are()
     ensures chain { (d : Sectors) (x : Span) (list : List Ebr) → Chain d x list → (s : ℕ) → ChainReads d x s ↔ StandsAt s list }
-    ensures fault { (d : Sectors) (x : Span) (e : ChainError) (f : ChainFault d x e) → ¬ IsDevice e → (s : ℕ) → ChainReads d x s ↔ (StandsAt s f.before ⊎ IsAtFault e s) }
+    ensures fault { (d : Sectors) (x : Span) (e : ChainError) (f : ChainFault d x e) → ¬ IsDevice e → (s : ℕ)
+        → ChainReads d x s ↔ (StandsAt s f.before ⊎ IsAtFault e s) }
 {}
 
 /// A law: a record depends on its sixteen bytes alone.
 pub fn record_is_its_bytes()
-    ensures { (o : Option Record) (at : ℕ) (b c : List ℕ) → at + 16 ≤ length b → length c ≡ length b → ((i : ℕ) → at ≤ i → i < at + 16 → slice_index c i ≡ slice_index b i) → RecordIs o at b → RecordIs o at c }
+    ensures { (o : Option Record) (at : ℕ) (b c : List ℕ) → at + 16 ≤ length b → length c ≡ length b
+        → ((i : ℕ) → at ≤ i → i < at + 16 → slice_index c i ≡ slice_index b i) → RecordIs o at b → RecordIs o at c }
 {}
 
 /// A law: a sector that protects its disk bears a protective record, so its disk is no MBR disk.
@@ -65,5 +67,6 @@ pub fn faults_are_one()
 /// A law: an extended boot record reads as one whatever the first sector is that its link counts from, with the same
 /// logical partition.
 pub fn ebr_is_rebased()
-    ensures { (first g : ℕ) (at : Lba) (e : Ebr) (b : List ℕ) → EbrBytes first at e b → (f : Ebr) × EbrBytes g at f b × (f.logical ≡ e.logical) }
+    ensures { (first g : ℕ) (at : Lba) (e : Ebr) (b : List ℕ) → EbrBytes first at e b
+        → (f : Ebr) × EbrBytes g at f b × (f.logical ≡ e.logical) }
 {}

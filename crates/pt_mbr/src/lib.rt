@@ -9,19 +9,21 @@ mod chain;
 mod change;
 mod ebr;
 mod encode;
+mod extended;
 mod laws;
 mod mbr;
 mod protection;
 mod record;
 
-pub use chain::{ChainError, read_chain, walk_chain};
-pub use change::{change_ebr, change_records, link_to, new_ebr};
+pub use chain::{ChainError, MOST_EBRS, read_chain, walk_chain};
+pub use change::{change_ebr, change_records, link_to, new_ebr, reach_of};
 pub use ebr::{Ebr, EbrFault, decode_ebr};
 pub use encode::encode_mbr;
+pub use extended::{Extended, extended_of};
 pub use laws::{
     chain_reads_are, chain_reads_decide, chains_are_one, ebr_is_one, ebr_is_rebased,
     faults_are_one, mbr_is_one, protective_is_borne, record_is_its_bytes, record_is_one,
 };
 pub use mbr::{Mbr, bears_protective, decode_mbr, put_record};
 pub use protection::{is_protective, protective};
-pub use record::{Record, is_extended_kind};
+pub use record::{FARTHEST, FIRST_LOGICAL, PROTECTIVE, Record, SLICE_KIND, is_extended_kind};

@@ -1,4 +1,5 @@
-ghost use Rattle.std.specs.Prelude.{◌≡◌, ◌<◌, ◌≤◌, ◌≢◌, ◌⊎◌, ◌+◌, ◌↔◌, IsTrue, IfSome, IfNone, MatchOption, ⊤, ℕ, Option, length, slice_index, slice_range, replicate};
+ghost use Rattle.std.specs.Prelude.{◌≡◌, ◌<◌, ◌≤◌, ◌≢◌, ◌⊎◌, ◌+◌, ◌↔◌, IsTrue, IfSome, IfNone, MatchOption, ⊤, ℕ, Option, length};
+ghost use Rattle.std.specs.Prelude.{slice_index, slice_range, replicate};
 ghost use Rattle.pt_sector.specs.Sectors.{IsSectorSize};
 ghost use Rattle.std.specs.Option.{option_map};
 ghost use Rattle.pt_mbr.specs.Bytes.{put_at};
@@ -7,8 +8,7 @@ ghost use Rattle.pt_mbr.specs.declared.record.Record.{Record};
 ghost use Rattle.pt_mbr.specs.Mbr.{IsMbrFormed, MbrBytes, AreRecords, BearsProtective, HasBootIndicators, IsBootIndicator};
 
 use crate::bytes::{has_signature, put_bytes};
-use crate::protection::PROTECTIVE;
-use crate::record::{Record, encode_record, record_at};
+use crate::record::{PROTECTIVE, Record, encode_record, record_at};
 use pt_sector::Sector;
 
 /// A master boot record's four partition records, none where one is unused: its type or its size is 0.
@@ -114,7 +114,8 @@ pub fn put_record<const B: usize>(sector: &Sector<B>, k: usize, value: Option<&R
     ensures put { IsPut (option_map (λ r. r.now) value.entry) k sector.now result }
     ensures other { (i : ℕ) → (i < place_of k) ⊎ (place_of k + 16 ≤ i) → slice_index result i ≡ slice_index sector.now i }
     ensures bytes { slice_range result (place_of k) (place_of k + 16) ≡ record_bytes (option_map (λ r. r.now) value.entry) }
-    ensures fields { MatchOption value.entry (slice_range result (place_of k) (place_of k + 16) ≡ replicate 16 0) (λ r. HasFields r.now (place_of k) result) }
+    ensures fields { MatchOption value.entry (slice_range result (place_of k) (place_of k + 16) ≡ replicate 16 0)
+        (λ r. HasFields r.now (place_of k) result) }
     ensures kept { (j : ℕ) (p : Option Record) → j < 4 → j ≢ k → RecordIs p (place_of j) sector.now → RecordIs p (place_of j) result }
     ensures read { IsUsable (option_map (λ r. r.now) value.entry) → RecordIs (option_map (λ r. r.now) value.entry) (place_of k) result }
 {

@@ -4,11 +4,8 @@ ghost use Rattle.pt_mbr.specs.Protective.{IsProtective, protective_record, prote
 
 use crate::bytes::put_bytes;
 use crate::mbr::put_part;
-use crate::record::{Record, encode_record};
+use crate::record::{PROTECTIVE, Record, encode_record};
 use pt_sector::Sector;
-
-/// The type (OSType) of a protective record.
-pub(crate) const PROTECTIVE: u8 = 0xEE;
 
 // The protective record of a disk.
 fn record_for(sectors: u64) -> Record

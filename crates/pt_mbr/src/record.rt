@@ -5,6 +5,18 @@ ghost use Rattle.pt_mbr.specs.Record.{IsUsed, HasFields, RecordIs, IsExtendedKin
 use crate::bytes::{put_bytes, put_u32};
 use byteorder::{ByteOrder, LittleEndian};
 
+/// The type (OSType) of a protective record.
+pub const PROTECTIVE: u8 = 0xEE;
+
+/// The type (OSType) of a slice, which a BSD label subdivides. This project's choice.
+pub const SLICE_KIND: u8 = 0xA5;
+
+/// The CHS fields of a place that they can't say.
+pub const FARTHEST: [u8; 3] = [0xFE, 0xFF, 0xFF];
+
+/// The number of the first logical partition: the records of sector 0 have 1 to 4.
+pub const FIRST_LOGICAL: u64 = 5;
+
 /// A used partition record: 16 bytes of a boot record.
 ///
 /// `start` and `size` count sectors. In sector 0 `start` counts from sector 0; in an extended boot record that of the
@@ -12,17 +24,17 @@ use byteorder::{ByteOrder, LittleEndian};
 /// The CHS fields are kept as read and never interpreted. UEFI 2.10, 5.2.1.
 #[derive(Clone, Copy, Debug, Default, PartialEq, Eq)]
 pub struct Record {
-    /// The boot indicator: 80 for a partition to be booted, 00 otherwise.
+    /// BootIndicator: 80 for a partition to be booted, 00 otherwise.
     pub boot: u8,
-    /// The first sector as cylinder, head and sector.
+    /// StartingCHS: the first sector as cylinder, head and sector.
     pub start_chs: [u8; 3],
-    /// The type (OSType).
+    /// OSType: the type.
     pub kind: u8,
-    /// The last sector as cylinder, head and sector.
+    /// EndingCHS: the last sector as cylinder, head and sector.
     pub end_chs: [u8; 3],
-    /// The first sector.
+    /// StartingLBA: the first sector.
     pub start: u32,
-    /// How many sectors it has.
+    /// SizeInLBA: how many sectors it has.
     pub size: u32,
 }
 

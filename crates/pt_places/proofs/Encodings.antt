@@ -1,5 +1,6 @@
 -- A label has one encoding over the same bytes.
-use Rattle.std.proofs.Common.{◌≡◌, ℕ, zero, suc, ◌+◌, ◌<◌, ◌≤◌, List, length, get_or, take, drop, Option, Some, None, refl, sym, ap, subst, ◌∙◌, arith, inl, inr, ext_get_or}
+use Rattle.std.proofs.Common.{◌≡◌, ℕ, zero, suc, ◌+◌, ◌<◌, ◌≤◌, List, length, get_or, take, drop, Option, Some, None, refl, sym, ap}
+use Rattle.std.proofs.Common.{subst, ◌∙◌, arith, inl, inr, ext_get_or}
 use Rattle.std.proofs.lemmas.Bool.{cases_lt}
 use Rattle.pt_sector.specs.Sectors.{IsSectorSize}
 use Rattle.pt_sum.specs.Words.{xor_of}
@@ -84,7 +85,8 @@ module _ (v u : List ℕ) (bv : AreBytes v) (bu : AreBytes u) where
       (λ k le lt. entry (entry_of l c) c (x.each c (omega arith)) (y.each c (omega arith)) (omega arith) k le (omega arith))
 
   -- the checksum, where all else is the same
-  checksum : (end : ℕ) → 138 ≤ end → end ≤ length v → length v ≡ length u → Same 0 136 v u → Same 138 end v u → xor_of (take end v) ≡ 0 → xor_of (take end u) ≡ 0 → Same 136 138 v u
+  checksum : (end : ℕ) → 138 ≤ end → end ≤ length v → length v ≡ length u → Same 0 136 v u → Same 138 end v u → xor_of (take end v) ≡ 0
+      → xor_of (take end u) ≡ 0 → Same 136 138 v u
   checksum end low within long before behind p q k le lt =
       let word = sum_same end v u low within long before behind p q in
       let a = bv 136 in
@@ -97,7 +99,8 @@ module _ (v u : List ℕ) (bv : AreBytes v) (bu : AreBytes u) where
       ]
 
   -- two encodings of a label over the same bytes are one
-  pub one_encoding : (l : Label) (w : Slice) (over : List ℕ) → length v ≡ length u → 512 ≤ length v → IsEncoded l w over v → IsEncoded l w over u → v ≡ u
+  pub one_encoding : (l : Label) (w : Slice) (over : List ℕ) → length v ≡ length u → 512 ≤ length v → IsEncoded l w over v
+      → IsEncoded l w over u → v ≡ u
   one_encoding l w over long large x y =
       let n = count_of l.entries in
       let end = place_of n in
@@ -117,7 +120,8 @@ large b (inl is) = omega arith
 large b (inr is) = omega arith
 
 -- so are two sectors
-pub sector_one : (b : ℕ) (v u : List ℕ) (l : Label) (w : Slice) (over : List ℕ) → IsSectorSize b → AreBytes v → AreBytes u → length v ≡ b → length u ≡ b → IsEncoded l w over v → IsEncoded l w over u → v ≡ u
+pub sector_one : (b : ℕ) (v u : List ℕ) (l : Label) (w : Slice) (over : List ℕ) → IsSectorSize b → AreBytes v → AreBytes u
+    → length v ≡ b → length u ≡ b → IsEncoded l w over v → IsEncoded l w over u → v ≡ u
 sector_one b v u l w over size bv bu cv cu x y =
     let wide = large b size in
     one_encoding v u bv bu l w over (cv ∙ sym cu) (omega (arith, wide, cv)) x y

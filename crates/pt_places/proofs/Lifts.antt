@@ -1,5 +1,6 @@
 -- From what the places hold to what the disk does.
-use Rattle.std.proofs.Common.{◌≡◌, ◌+◌, ◌∙◌, ⊎_elim, ℕ, List, ◌∷◌, ◌++◌, length, replicate, All, Option, Some, None, refl, sym, ap, subst, arith, inl, inr}
+use Rattle.std.proofs.Common.{◌≡◌, ◌+◌, ◌∙◌, ⊎_elim, ℕ, List, ◌∷◌, ◌++◌, length, replicate, All, Option, Some, None, refl, sym, ap}
+use Rattle.std.proofs.Common.{subst, arith, inl, inr}
 use Rattle.std.specs.Prelude.{Contains}
 use Rattle.std.proofs.lemmas.List.Elements.{All-contains, Contains-append_right, Contains-append_cases}
 use Rattle.pt_sector.specs.Sectors.{Sectors, sector}
@@ -11,17 +12,20 @@ use Rattle.pt_recover.specs.declared.layout.Labelled.{Labelled}
 use Rattle.pt_recover.specs.declared.layout.Layout.{Layout}
 use Rattle.pt_recover.specs.declared.layout.Slice.{Slice}
 use Rattle.pt_cases.specs.Causes.{IsLeft}
-use Rattle.pt_cases.specs.Numbers.{Rise, along_at, along_without}
-use Rattle.pt_cases.specs.Targets.{Along, Had, IsEncoded, IsLabelTarget, kept, changed, new}
+use Rattle.pt_shape.specs.Ascending.{IsAscending}
+use Rattle.pt_shape.specs.Along.{along_label, along_without, Along}
+use Rattle.pt_cases.specs.Targets.{Had, IsEncoded, IsLabelTarget, kept, changed, new}
 use Rattle.pt_targets.specs.Targets.{IsPlaceTarget, Targeted, AreLabelTargets}
 use Rattle.pt_targets.specs.declared.target.Target.{Target}
 use Rattle.pt_targets.specs.Misfits.{LabelsFit, IsFirstLeft, HasUnreadable, NoneLeft}
 use Rattle.pt_places.specs.Answers.{PlacesAnswer}
-use Rattle.pt_places.specs.Places.{IsAt, IsRead, IsLeftAt, IsFirstAt, OldAre, HadAt, IsOf, IsBytes, stood, other, fresh, IsTarget, keeps, changes, sets, IsTargetOf, AreTargets, HasNone, NoneIsLeft, AnswerOf, AreWithin}
+use Rattle.pt_places.specs.Places.{IsAt, IsRead, IsLeftAt, IsFirstAt, OldAre, HadAt, IsOf, IsBytes, stood, other, fresh, IsTarget}
+use Rattle.pt_places.specs.Places.{keeps, changes, sets, IsTargetOf, AreTargets, HasNone, NoneIsLeft, AnswerOf, AreWithin}
 use Rattle.pt_places.specs.declared.answer.LabelTargets.{LabelTargets}
 use Rattle.pt_places.specs.declared.answer.LabelTargets.TheVariants.{Misplaced, Foreign, Unreadable, Targets}
 use Rattle.pt_places.specs.declared.place.Place.{Place}
-use Rattle.pt_places.proofs.Lists.{slices_in, labels_in, first_in, along_places, low_in, one_place, rise_split, slice_in, label_in, place_in, pair_left, pair_right, pair_count}
+use Rattle.pt_places.proofs.Lists.{slices_in, labels_in, first_in, along_places, low_in, one_place, rise_split, slice_in, label_in}
+use Rattle.pt_places.proofs.Lists.{place_in, pair_left, pair_right, pair_count}
 
 pub of_target : {b : ℕ} (old : List Slice) (q : Place b) (t : Target b) → IsTargetOf old q t → IsOf q t
 of_target old q t (inl (l, is, keeps stays had reads)) = stays.of_place
@@ -30,7 +34,8 @@ of_target old q t (inl (l, is, sets none written)) = written.of_place
 of_target old q t (inr (is, stays)) = stays.of_place
 
 -- each target is of a sector of the disk
-pub within : {b : ℕ} (n : ℕ) (old : List Slice) (places : List (Place b)) (a : LabelTargets b) → All (IsAt n) places → AnswerOf old places a → AreWithin n a
+pub within : {b : ℕ} (n : ℕ) (old : List Slice) (places : List (Place b)) (a : LabelTargets b) → All (IsAt n) places
+    → AnswerOf old places a → AreWithin n a
 within n old places Misplaced ats is = tt
 within n old places (Foreign m) ats is = tt
 within n old places Unreadable ats is = tt
@@ -41,9 +46,11 @@ within n old places (Targets ts) ats (none, are) = λ t has.
     omega (arith, at.within, same)
 
 module _ {b : ℕ} (d : Sectors) (o : Option Layout) (p : Layout) (old : List Slice) (places : List (Place b)) (n : ℕ)
-    (slices : slices_in places ≡ places_of b p.sectors p.body) (labels : labels_in places ≡ p.labels) (rise : Rise 1 (places_of b p.sectors p.body))
+    (slices : slices_in places ≡ places_of b p.sectors p.body) (labels : labels_in places ≡ p.labels)
+    (rise : IsAscending 1 (places_of b p.sectors p.body))
     (ats : All (IsAt n) places) (reads : All (IsRead d) places) (olds : OldAre b (length d) o old) where
-  along : (Q : Slice → Option Label → Type 0) → ((q : Place b) → Contains places q → Q q.spot.slice q.spot.label) → Along Q (places_of b p.sectors p.body) p.labels
+  along : (Q : Slice → Option Label → Type 0) → ((q : Place b) → Contains places q → Q q.spot.slice q.spot.label)
+      → Along Q (places_of b p.sectors p.body) p.labels
   along Q each =
       subst (λ (ls : List Labelled). Along Q (places_of b p.sectors p.body) ls) labels
       (subst (λ (ws : List Slice). Along Q ws (labels_in places)) slices (along_places Q places each))
@@ -60,8 +67,8 @@ module _ {b : ℕ} (d : Sectors) (o : Option Layout) (p : Layout) (old : List Sl
   standing : Along Standing (places_of b p.sectors p.body) p.labels
   standing = along Standing (λ q has. (q, has, refl, refl))
 
-  rises : Rise 1 (slices_in places)
-  rises = subst (λ (ws : List Slice). Rise 1 ws) (sym slices) rise
+  rises : IsAscending 1 (slices_in places)
+  rises = subst (λ (ws : List Slice). IsAscending 1 ws) (sym slices) rise
 
   left_place : (w : Slice) → IsLeft b d p w → (q : Place b) × Contains places q × (q.spot.slice ≡ w) × IsLeftAt q
   left_place w left =
@@ -79,7 +86,7 @@ module _ {b : ℕ} (d : Sectors) (o : Option Layout) (p : Layout) (old : List Sl
   is_left q has left = record {
     stands = stands q has;
     without = λ l wanted.
-        let s = along_at Standing 1 (places_of b p.sectors p.body) p.labels q.spot.slice l rise standing (stands q has) wanted in
+        let s = along_label Standing 1 (places_of b p.sectors p.body) p.labels q.spot.slice l rise standing (stands q has) wanted in
         let same : s.0 ≡ q = one_place 1 places s.0 q rises s.1 has (ap (λ (x : Slice). x.number) s.2) in
         let none : None ≡ Some l = sym left.0 ∙ ap (λ (x : Place b). x.spot.label) (sym same) ∙ s.3 in
         absurd cc;
@@ -88,15 +95,19 @@ module _ {b : ℕ} (d : Sectors) (o : Option Layout) (p : Layout) (old : List Sl
 
   foreign : (m : ℕ) → IsFirstAt places m → IsFirstLeft b d p m
   foreign m first =
-      let has : Contains places first.place = subst (λ (x : List (Place b)). Contains x first.place) (sym first.split) (Contains-append_right first.before (first.place ∷ first.rest) first.place (first_in first.place first.rest)) in
-      let up : Rise first.place.spot.slice.number (slices_in (first.place ∷ first.rest)) = rise_split 1 first.before first.place first.rest (subst (λ (x : List (Place b)). Rise 1 (slices_in x)) first.split rises) in
+      let has : Contains places first.place =
+      subst (λ (x : List (Place b)). Contains x first.place) (sym first.split)
+      (Contains-append_right first.before (first.place ∷ first.rest) first.place (first_in first.place first.rest)) in
+      let up : IsAscending first.place.spot.slice.number (slices_in (first.place ∷ first.rest)) =
+      rise_split 1 first.before first.place first.rest (subst (λ (x : List (Place b)). IsAscending 1 (slices_in x)) first.split rises) in
       record {
         slice = first.place.spot.slice;
         left = is_left first.place has first.left;
         number = first.number;
         first = λ w left.
             let q = left_place w left in
-            let there : Contains (first.before ++ first.place ∷ first.rest) q.0 = subst (λ (x : List (Place b)). Contains x q.0) first.split q.1 in
+            let there : Contains (first.before ++ first.place ∷ first.rest) q.0 =
+            subst (λ (x : List (Place b)). Contains x q.0) first.split q.1 in
             ⊎_elim
             (λ before. absurd (All-contains (λ (x : Place b). ¬ IsLeftAt x) first.before q.0 first.none before q.3))
             (λ after.
@@ -114,7 +125,8 @@ module _ {b : ℕ} (d : Sectors) (o : Option Layout) (p : Layout) (old : List Sl
     slice = at.slice;
     stands = subst (λ (x : List Slice). Contains x at.slice) (sym (old_is l is)) at.stands;
     start = omega (arith, at.place);
-    label = subst (λ (v : List ℕ). LabelBytes m at.slice.first at.slice.len v) (ap (λ (s : ℕ). sector d s) at.place ∙ sym (bytes_of q has)) at.label;
+    label = subst (λ (v : List ℕ). LabelBytes m at.slice.first at.slice.len v)
+        (ap (λ (s : ℕ). sector d s) at.place ∙ sym (bytes_of q has)) at.label;
   }
 
   had_from : (q : Place b) → Contains places q → (m : Label) → HadAt old q m → Had b d o (place_of q.spot.slice) m
@@ -134,13 +146,15 @@ module _ {b : ℕ} (d : Sectors) (o : Option Layout) (p : Layout) (old : List Sl
           slice = had.slice;
           stands = subst (λ (x : List Slice). Contains x had.slice) are had.stands;
           place = place;
-          label = subst (λ (v : List ℕ). LabelBytes m had.slice.first had.slice.len v) (bytes_of q has ∙ ap (λ (s : ℕ). sector d s) (sym place)) had.label;
+          label = subst (λ (v : List ℕ). LabelBytes m had.slice.first had.slice.len v)
+              (bytes_of q has ∙ ap (λ (s : ℕ). sector d s) (sym place)) had.label;
         },
       )
 
   bytes_from : (q : Place b) → Contains places q → (l : Label) (v : List ℕ) → IsLabelTarget b d o q.spot.slice l v → IsBytes old q l v
   bytes_from q has l v (kept had is same) = stood (had_to q has l had) is (same ∙ sym (bytes_of q has))
-  bytes_from q has l v (changed m had differ is) = other m (had_to q has m had) differ (subst (λ (u : List ℕ). IsEncoded l q.spot.slice u v) (sym (bytes_of q has)) is)
+  bytes_from q has l v (changed m had differ is) =
+      other m (had_to q has m had) differ (subst (λ (u : List ℕ). IsEncoded l q.spot.slice u v) (sym (bytes_of q has)) is)
   bytes_from q has l v (new none is) = fresh (λ m had. none m (had_from q has m had)) is.encoded
 
   unreadable : HasNone old places → HasUnreadable b d o p
@@ -148,13 +162,15 @@ module _ {b : ℕ} (d : Sectors) (o : Option Layout) (p : Layout) (old : List Sl
     slice = q.spot.slice;
     label = l;
     stands = stands q has;
-    wanted = subst (λ (ls : List Labelled). Contains ls (record { number = q.spot.slice.number; label = l })) labels (label_in places q l has is);
+    wanted = subst (λ (ls : List Labelled). Contains ls (record { number = q.spot.slice.number; label = l })) labels
+        (label_in places q l has is);
     none = λ v target. none.none v (bytes_from q has l v target);
     unfit = none.unfit;
   }
 
   -- the target of a place with this label
-  labelled_target : (q : Place b) (t : Target b) (l : Label) → Contains places q → IsTarget old q l t → IsPlaceTarget d o q.spot.slice (Some l) t
+  labelled_target : (q : Place b) (t : Target b) (l : Label) → Contains places q → IsTarget old q l t
+      → IsPlaceTarget d o q.spot.slice (Some l) t
   labelled_target q t l has (keeps stays had there) = inl (
     stays.kind,
     had_from q has l had,
@@ -171,12 +187,15 @@ module _ {b : ℕ} (d : Sectors) (o : Option Layout) (p : Layout) (old : List Sl
     λ m had. none m (had_to q has m had),
     record {
       encoded = written.encoded;
-      one = λ is. written.one (subst (λ (v : List ℕ). IsEncoded l q.spot.slice (replicate b 0) v) (sym (bytes_of q has)) is) ∙ bytes_of q has;
+      one = λ is. written.one (subst (λ (v : List ℕ). IsEncoded l q.spot.slice (replicate b 0) v) (sym (bytes_of q has)) is)
+          ∙ bytes_of q has;
     },
   ))
 
-  place_target : NoneIsLeft places → (q : Place b) (t : Target b) → Contains places q → IsTargetOf old q t → IsPlaceTarget d o q.spot.slice q.spot.label t
-  place_target none q t has (inl (l, is, target)) = subst (λ (x : Option Label). IsPlaceTarget d o q.spot.slice x t) (sym is) (labelled_target q t l has target)
+  place_target : NoneIsLeft places → (q : Place b) (t : Target b) → Contains places q → IsTargetOf old q t
+      → IsPlaceTarget d o q.spot.slice q.spot.label t
+  place_target none q t has (inl (l, is, target)) =
+      subst (λ (x : Option Label). IsPlaceTarget d o q.spot.slice x t) (sym is) (labelled_target q t l has target)
   place_target none q t has (inr (is, stays)) =
       let of_none : IsPlaceTarget d o q.spot.slice None t = (
         stays.kind,

@@ -1,5 +1,6 @@
 -- What single steps say, told by bytes.
-use Rattle.std.proofs.Common.{◌≡◌, ◌≢◌, ◌<◌, ◌+◌, ◌∙◌, ℕ, List, [], ◌∷◌, ◌++◌, length, get_or, take, drop, map, replicate, All, Option, Some, None, sym, ap, subst}
+use Rattle.std.proofs.Common.{◌≡◌, ◌≢◌, ◌<◌, ◌+◌, ◌∙◌, ℕ, List, [], ◌∷◌, ◌++◌, length, get_or, take, drop, map, replicate, All, Option}
+use Rattle.std.proofs.Common.{Some, None, sym, ap, subst}
 use Rattle.std.proofs.lemmas.List.{take_more, drop_more, get_or_default, map_push, take-append-drop}
 use Rattle.std.proofs.lemmas.List.Elements.{All-contains, All-more, All-push}
 use Rattle.pt_bsd.specs.Counted.{IsRaw, FitsSlice}
@@ -11,17 +12,20 @@ use Rattle.pt_recover.specs.declared.layout.Slice.{Slice}
 use Rattle.pt_targets.specs.declared.target.Target.{Target}
 use Rattle.pt_targets.specs.declared.target.Kind.TheVariants.{New, Changes}
 use Rattle.pt_places.specs.declared.place.Spot.{Spot}
-use Rattle.pt_places.specs.Places.{spot_of, OneHad, HadBytes, HadAt, Reads, IsBytes, stood, other, fresh, IsTargetOf, AreTargets, LabelledIs, IsLeftAt, IsFirstAt, keeps, changes, sets, KeptIs, WrittenIs, Fits}
+use Rattle.pt_places.specs.Places.{spot_of, OneHad, HadBytes, HadAt, Reads, IsBytes, stood, other, fresh, IsTargetOf, AreTargets}
+use Rattle.pt_places.specs.Places.{LabelledIs, IsLeftAt, IsFirstAt, keeps, changes, sets, KeptIs, WrittenIs, Fits}
 use Rattle.pt_places.specs.declared.place.Place.{Place}
 
 abbrev pub NotHad : ℕ → List ℕ → Slice → Type 0
 NotHad first bytes s = OneHad s first bytes None
 
-pub none_had : (olds : List Slice) (first : ℕ) (bytes : List ℕ) → All (NotHad first bytes) olds → (m : Label) → ¬ HadBytes olds first bytes m
+pub none_had : (olds : List Slice) (first : ℕ) (bytes : List ℕ) → All (NotHad first bytes) olds → (m : Label)
+    → ¬ HadBytes olds first bytes m
 none_had olds first bytes none m had = All-contains (NotHad first bytes) olds had.slice none had.stands m (had.start, had.label)
 
 -- bytes are one label at most
-pub had_same : (olds : List Slice) (first : ℕ) (bytes : List ℕ) (l m : Label) → HadBytes olds first bytes l → HadBytes olds first bytes m → l ≡ m
+pub had_same : (olds : List Slice) (first : ℕ) (bytes : List ℕ) (l m : Label) → HadBytes olds first bytes l
+    → HadBytes olds first bytes m → l ≡ m
 had_same olds first bytes l m x y = label_one l m x.slice.first x.slice.len y.slice.first y.slice.len bytes x.label y.label
 
 one_length : (o : Option LabelEntry) (first m n : ℕ) → IsRaw o first m → IsRaw o first n → m ≡ n
@@ -69,44 +73,53 @@ module _ {b : ℕ} (old : List Slice) (p : Place b) where
     unfit = not;
   }
 
-  pub new_is : (l : Label) (o : Option (Target b)) → ((m : Label) → ¬ HadAt old p m) → WrittenIs p l (replicate b 0) New o → LabelledIs old p l o
+  pub new_is : (l : Label) (o : Option (Target b)) → ((m : Label) → ¬ HadAt old p m) → WrittenIs p l (replicate b 0) New o
+      → LabelledIs old p l o
   new_is l (Some t) none is = sets none is
   new_is l None none not = record { none = stuck_written l (none l) not; unfit = not }
 
-pub targets_push : {b : ℕ} (old : List Slice) (ps : List (Place b)) (ts : List (Target b)) (p : Place b) (t : Target b) → AreTargets old ps ts → IsTargetOf old p t → AreTargets old (ps ++ p ∷ []) (ts ++ t ∷ [])
+pub targets_push : {b : ℕ} (old : List Slice) (ps : List (Place b)) (ts : List (Target b)) (p : Place b) (t : Target b)
+    → AreTargets old ps ts → IsTargetOf old p t → AreTargets old (ps ++ p ∷ []) (ts ++ t ∷ [])
 targets_push old [] [] p t are is = (is, tt)
 targets_push old [] (x ∷ ts) p t are is = absurd are
 targets_push old (q ∷ ps) [] p t are is = absurd are
 targets_push old (q ∷ ps) (x ∷ ts) p t are is = (are.0, targets_push old ps ts p t are.1 is)
 
 -- the target of the next place
-pub targets_on : {b : ℕ} (old : List Slice) (ps : List (Place b)) (ts now : List (Target b)) (k : ℕ) (p : Place b) (t : Target b) → k < length ps → p ≡ get_or ps k p → IsTargetOf old p t → now ≡ ts ++ t ∷ [] → AreTargets old (take k ps) ts → AreTargets old (take (k + 1) ps) now
+pub targets_on : {b : ℕ} (old : List Slice) (ps : List (Place b)) (ts now : List (Target b)) (k : ℕ) (p : Place b) (t : Target b)
+    → k < length ps → p ≡ get_or ps k p → IsTargetOf old p t → now ≡ ts ++ t ∷ [] → AreTargets old (take k ps) ts
+    → AreTargets old (take (k + 1) ps) now
 targets_on {b = b} old ps ts now k p t lt at is same are =
     let more : take (k + 1) ps ≡ take k ps ++ p ∷ [] = take_more ps k p lt ∙ ap (λ (x : Place b). take k ps ++ x ∷ []) (sym at) in
     subst (λ (x : List (Place b)). AreTargets old x now) (sym more)
     (subst (λ (x : List (Target b)). AreTargets old (take k ps ++ p ∷ []) x) (sym same) (targets_push old (take k ps) ts p t are is))
 
 -- the first place that is left
-pub first_at : {b : ℕ} (ps : List (Place b)) (k : ℕ) (p e : Place b) → k < length ps → p ≡ get_or ps k p → All (λ (q : Place b). ¬ IsLeftAt q) (take k ps) → IsLeftAt p → IsFirstAt ps (get_or ps k e).spot.slice.number
+pub first_at : {b : ℕ} (ps : List (Place b)) (k : ℕ) (p e : Place b) → k < length ps → p ≡ get_or ps k p
+    → All (λ (q : Place b). ¬ IsLeftAt q) (take k ps) → IsLeftAt p → IsFirstAt ps (get_or ps k e).spot.slice.number
 first_at {b = b} ps k p e lt at none left = record {
   before = take k ps;
   place = p;
   rest = drop (k + 1) ps;
-  split = sym (take-append-drop k ps) ∙ ap (λ (x : List (Place b)). take k ps ++ x) (drop_more ps k p lt) ∙ ap (λ (x : Place b). take k ps ++ (x ∷ drop (k + 1) ps)) (sym at);
+  split = sym (take-append-drop k ps) ∙ ap (λ (x : List (Place b)). take k ps ++ x) (drop_more ps k p lt)
+      ∙ ap (λ (x : Place b). take k ps ++ (x ∷ drop (k + 1) ps)) (sym at);
   left = left;
   number = ap (λ (q : Place b). q.spot.slice.number) (at ∙ get_or_default ps k p e lt);
   none = none;
 }
 
 -- none of the places so far is left
-pub none_on : {b : ℕ} (ps : List (Place b)) (k : ℕ) (p : Place b) → k < length ps → p ≡ get_or ps k p → All (λ (q : Place b). ¬ IsLeftAt q) (take k ps) → ¬ IsLeftAt p → All (λ (q : Place b). ¬ IsLeftAt q) (take (k + 1) ps)
-none_on {b = b} ps k p lt at none not = All-more (λ (q : Place b). ¬ IsLeftAt q) ps k p lt none (subst (λ (q : Place b). ¬ IsLeftAt q) at not)
+pub none_on : {b : ℕ} (ps : List (Place b)) (k : ℕ) (p : Place b) → k < length ps → p ≡ get_or ps k p
+    → All (λ (q : Place b). ¬ IsLeftAt q) (take k ps) → ¬ IsLeftAt p → All (λ (q : Place b). ¬ IsLeftAt q) (take (k + 1) ps)
+none_on {b = b} ps k p lt at none not =
+    All-more (λ (q : Place b). ¬ IsLeftAt q) ps k p lt none (subst (λ (q : Place b). ¬ IsLeftAt q) at not)
 
 -- a place more
 pub all_on : {b : ℕ} (P : Place b → Type 0) (ps now : List (Place b)) (p : Place b) → now ≡ ps ++ p ∷ [] → All P ps → P p → All P now
 all_on {b = b} P ps now p same all is = subst (λ (x : List (Place b)). All P x) (sym same) (All-push P ps p all is)
 
-pub spots_on : {b : ℕ} (ps now : List (Place b)) (p : Place b) (ss : List Spot) (k : ℕ) (z : Spot) → k < length ss → p.spot ≡ get_or ss k z → now ≡ ps ++ p ∷ [] → map spot_of ps ≡ take k ss → map spot_of now ≡ take (k + 1) ss
+pub spots_on : {b : ℕ} (ps now : List (Place b)) (p : Place b) (ss : List Spot) (k : ℕ) (z : Spot) → k < length ss
+    → p.spot ≡ get_or ss k z → now ≡ ps ++ p ∷ [] → map spot_of ps ≡ take k ss → map spot_of now ≡ take (k + 1) ss
 spots_on {b = b} ps now p ss k z lt is same before =
     ap (λ (x : List (Place b)). map spot_of x) same
     ∙ map_push spot_of ps p

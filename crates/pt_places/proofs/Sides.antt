@@ -1,15 +1,16 @@
 -- Slices and labels side by side, one more at a time.
-use Rattle.std.proofs.Common.{◌≡◌, ◌<◌, ◌≤◌, ◌+◌, ◌∙◌, ℕ, zero, suc, List, [], ◌∷◌, ◌++◌, length, get_or, drop, map, Option, Some, None, sym, ap, subst, arith, inl, inr, append_assoc}
+use Rattle.std.proofs.Common.{◌≡◌, ◌<◌, ◌≤◌, ◌+◌, ◌∙◌, ℕ, zero, suc, List, [], ◌∷◌, ◌++◌, length, get_or, drop, map, Option, Some, None}
+use Rattle.std.proofs.Common.{sym, ap, subst, arith, inl, inr, append_assoc}
 use Rattle.std.proofs.lemmas.List.{append-nil, drop_more, drop_all, map_push, length-drop}
 use Rattle.pt_bsd.specs.declared.label.Label.{Label}
 use Rattle.pt_recover.specs.Steps.{labelled}
 use Rattle.pt_recover.specs.declared.layout.Labelled.{Labelled}
 use Rattle.pt_recover.specs.declared.layout.Slice.{Slice}
-use Rattle.pt_cases.specs.Numbers.{Rise}
+use Rattle.pt_shape.specs.Ascending.{IsAscending}
 use Rattle.pt_places.specs.Spots.{Takes, Fit, slice_of, labels_of}
 use Rattle.pt_places.specs.declared.place.Spot.{Spot}
 
-head_low : (low : ℕ) (ps : List Slice) (x : Labelled) (rest : List Labelled) → Rise low ps → Fit ps (x ∷ rest) → low ≤ x.number
+head_low : (low : ℕ) (ps : List Slice) (x : Labelled) (rest : List Labelled) → IsAscending low ps → Fit ps (x ∷ rest) → low ≤ x.number
 head_low low [] x rest rise is = absurd cc
 head_low low (q ∷ ps) x rest rise (inl (m, more, same, it, later)) =
     let here : x ≡ record { number = q.number; label = m } = cc in
@@ -17,28 +18,31 @@ head_low low (q ∷ ps) x rest rise (inl (m, more, same, it, later)) =
     omega (arith, rise.0, number)
 head_low low (q ∷ ps) x rest rise (inr (it, later)) = (let up = head_low (q.number + 1) ps x rest rise.1 later in omega (arith, rise.0, up))
 
-fit_more : (q : Slice) (ps : List Slice) (ls : List Labelled) (from to : ℕ) (o : Option Label) → Rise (q.number + 1) ps → Takes q.number ls from to o → Fit (q ∷ ps) (drop from ls) → Fit ps (drop to ls)
+fit_more : (q : Slice) (ps : List Slice) (ls : List Labelled) (from to : ℕ) (o : Option Label) → IsAscending (q.number + 1) ps
+    → Takes q.number ls from to o → Fit (q ∷ ps) (drop from ls) → Fit ps (drop to ls)
 fit_more q ps ls from to (Some l) rise (next, same) fit = by_case (subst (λ (x : List Labelled). Fit (q ∷ ps) x) same fit) where
   one : Labelled
   one = record { number = q.number; label = l }
 
   by_case : Fit (q ∷ ps) (record { number = q.number; label = l } ∷ drop to ls) → Fit ps (drop to ls)
   by_case (inl (m, rest, is, it, later)) = (let left : rest ≡ drop to ls = cc in subst (λ (x : List Labelled). Fit ps x) left later)
-  by_case (inr (it, later)) = (let up = head_low (q.number + 1) ps (record { number = q.number; label = l }) (drop to ls) rise later in absurd (omega (arith, up)))
+  by_case (inr (it, later)) =
+      (let up = head_low (q.number + 1) ps (record { number = q.number; label = l }) (drop to ls) rise later in absurd (omega (arith, up)))
 fit_more q ps ls from to None rise (next, none) (inl (m, rest, is, it, later)) = absurd (none m rest is)
 fit_more q ps ls from to None rise (next, none) (inr (it, later)) = subst (λ (j : ℕ). Fit ps (drop j ls)) (sym next) later
 
-rise_drop : (low k : ℕ) (ps : List Slice) → Rise low ps → (more : ℕ) × Rise more (drop k ps)
+rise_drop : (low k : ℕ) (ps : List Slice) → IsAscending low ps → (more : ℕ) × IsAscending more (drop k ps)
 rise_drop low zero ps is = (low, is)
 rise_drop low (suc k) [] is = (low, tt)
 rise_drop low (suc k) (p ∷ ps) is = rise_drop (p.number + 1) k ps is.1
 
 -- a slice more, with its label or with none
-pub fits_on : (ps : List Slice) (ls : List Labelled) (k from to : ℕ) (z : Slice) (o : Option Label) → k < length ps → Rise 1 ps → Takes (get_or ps k z).number ls from to o → Fit (drop k ps) (drop from ls) → Fit (drop (k + 1) ps) (drop to ls)
+pub fits_on : (ps : List Slice) (ls : List Labelled) (k from to : ℕ) (z : Slice) (o : Option Label) → k < length ps → IsAscending 1 ps
+    → Takes (get_or ps k z).number ls from to o → Fit (drop k ps) (drop from ls) → Fit (drop (k + 1) ps) (drop to ls)
 fits_on ps ls k from to z o lt rise takes fit =
     let split : drop k ps ≡ get_or ps k z ∷ drop (k + 1) ps = drop_more ps k z lt in
     let up = rise_drop 1 k ps rise in
-    let rises : Rise up.0 (get_or ps k z ∷ drop (k + 1) ps) = subst (λ (x : List Slice). Rise up.0 x) split up.1 in
+    let rises : IsAscending up.0 (get_or ps k z ∷ drop (k + 1) ps) = subst (λ (x : List Slice). IsAscending up.0 x) split up.1 in
     fit_more (get_or ps k z) (drop (k + 1) ps) ls from to o rises.1 takes (subst (λ (x : List Slice). Fit x (drop from ls)) split fit)
 
 -- a label that is left over goes with no slice
@@ -59,14 +63,16 @@ taken : (n : ℕ) (ls : List Labelled) (from to : ℕ) (o : Option Label) → Ta
 taken n ls from to (Some l) (next, same) = sym same
 taken n ls from to None (next, none) = ap (λ (j : ℕ). drop j ls) next
 
-pub labels_on : (ss : List Spot) (s : Spot) (ls : List Labelled) (from to : ℕ) → Takes s.slice.number ls from to s.label → labels_of ss ++ drop from ls ≡ ls → labels_of (ss ++ s ∷ []) ++ drop to ls ≡ ls
+pub labels_on : (ss : List Spot) (s : Spot) (ls : List Labelled) (from to : ℕ) → Takes s.slice.number ls from to s.label
+    → labels_of ss ++ drop from ls ≡ ls → labels_of (ss ++ s ∷ []) ++ drop to ls ≡ ls
 labels_on ss s ls from to takes before =
     ap (λ (y : List Labelled). y ++ drop to ls) (labels_push ss s)
     ∙ append_assoc (labels_of ss) (labelled s.slice.number s.label) (drop to ls)
     ∙ ap (λ (y : List Labelled). labels_of ss ++ y) (taken s.slice.number ls from to s.label takes)
     ∙ before
 
-pub slices_on : (ss : List Spot) (s : Spot) (ps : List Slice) (k : ℕ) (z : Slice) → k < length ps → s.slice ≡ get_or ps k z → map slice_of ss ++ drop k ps ≡ ps → map slice_of (ss ++ s ∷ []) ++ drop (k + 1) ps ≡ ps
+pub slices_on : (ss : List Spot) (s : Spot) (ps : List Slice) (k : ℕ) (z : Slice) → k < length ps → s.slice ≡ get_or ps k z
+    → map slice_of ss ++ drop k ps ≡ ps → map slice_of (ss ++ s ∷ []) ++ drop (k + 1) ps ≡ ps
 slices_on ss s ps k z lt is before =
     ap (λ (y : List Slice). y ++ drop (k + 1) ps) (map_push slice_of ss s)
     ∙ append_assoc (map slice_of ss) (s.slice ∷ []) (drop (k + 1) ps)
@@ -75,7 +81,9 @@ slices_on ss s ps k z lt is before =
     ∙ before
 
 pub slices_end : (ss : List Spot) (ps : List Slice) (k : ℕ) → length ps ≤ k → map slice_of ss ++ drop k ps ≡ ps → map slice_of ss ≡ ps
-slices_end ss ps k all before = sym (append-nil (map slice_of ss)) ∙ ap (λ (y : List Slice). map slice_of ss ++ y) (sym (drop_all k ps all)) ∙ before
+slices_end ss ps k all before =
+    sym (append-nil (map slice_of ss)) ∙ ap (λ (y : List Slice). map slice_of ss ++ y) (sym (drop_all k ps all)) ∙ before
 
 pub labels_end : (ss : List Spot) (ls : List Labelled) (from : ℕ) → length ls ≤ from → labels_of ss ++ drop from ls ≡ ls → labels_of ss ≡ ls
-labels_end ss ls from all before = sym (append-nil (labels_of ss)) ∙ ap (λ (y : List Labelled). labels_of ss ++ y) (sym (drop_all from ls all)) ∙ before
+labels_end ss ls from all before =
+    sym (append-nil (labels_of ss)) ∙ ap (λ (y : List Labelled). labels_of ss ++ y) (sym (drop_all from ls all)) ∙ before

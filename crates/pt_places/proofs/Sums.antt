@@ -1,5 +1,6 @@
 -- A word is known where the exclusive or of it and of the others is.
-use Rattle.std.proofs.Common.{◌≡◌, ℕ, zero, suc, ◌+◌, ◌*◌, ◌-◌, ◌≤◌, List, [], ◌∷◌, ◌++◌, length, take, drop, get_or, fold, refl, sym, ap, ◌∙◌, arith, length-take-le, take-append-drop}
+use Rattle.std.proofs.Common.{◌≡◌, ℕ, zero, suc, ◌+◌, ◌*◌, ◌-◌, ◌≤◌, List, [], ◌∷◌, ◌++◌, length, take, drop, get_or, fold, refl, sym}
+use Rattle.std.proofs.Common.{ap, ◌∙◌, arith, length-take-le, take-append-drop}
 use Rattle.std.specs.Prelude.{bit_xor}
 use Rattle.std.specs.Int.Bits.{xor_assoc, xor_self, xor_zero_l, xor_zero_r}
 use Rattle.std.proofs.lemmas.List.{drop_more}
@@ -24,14 +25,16 @@ words-append zero (a ∷ b ∷ xs) ys even = absurd (omega arith)
 words-append (suc n) (a ∷ b ∷ xs) ys even = ap (λ (ws : List ℕ). (a + 256 * b) ∷ ws) (words-append n xs ys (omega arith))
 
 -- a word in the middle
-middle : (n : ℕ) (xs ys : List ℕ) (a b : ℕ) → length xs ≡ 2 * n → xor_of (xs ++ (a ∷ b ∷ ys)) ≡ bit_xor (bit_xor (xor_of xs) (a + 256 * b)) (xor_of ys)
+middle : (n : ℕ) (xs ys : List ℕ) (a b : ℕ) → length xs ≡ 2 * n
+    → xor_of (xs ++ (a ∷ b ∷ ys)) ≡ bit_xor (bit_xor (xor_of xs) (a + 256 * b)) (xor_of ys)
 unfolding words
 middle n xs ys a b even =
     ap (fold bit_xor 0) (words-append n xs (a ∷ b ∷ ys) even)
     ∙ fold-append bit_xor 0 (words xs) (words (a ∷ b ∷ ys))
     ∙ fold_from (bit_xor (xor_of xs) (a + 256 * b)) (words ys)
 
-cut : (xs ys : List ℕ) (a b end m : ℕ) → length xs ≡ 136 → end ≡ 136 + suc (suc m) → take end (xs ++ (a ∷ b ∷ ys)) ≡ xs ++ (a ∷ b ∷ take m ys)
+cut : (xs ys : List ℕ) (a b end m : ℕ) → length xs ≡ 136 → end ≡ 136 + suc (suc m)
+    → take end (xs ++ (a ∷ b ∷ ys)) ≡ xs ++ (a ∷ b ∷ take m ys)
 cut xs ys a b end m long is =
     let at : end ≡ length xs + suc (suc m) = omega arith in
     rw at (take-append-add xs (a ∷ b ∷ ys) (suc (suc m)))

@@ -9,7 +9,7 @@ use Rattle.pt_recover.specs.declared.layout.Layout.{Layout}
 use Rattle.pt_recover.specs.declared.layout.Slice.{Slice}
 use Rattle.pt_recover.proofs.Whole.{places_within}
 use Rattle.pt_layout.specs.OnePath.{HasFour}
-use Rattle.pt_cases.specs.Numbers.{places_rise}
+use Rattle.pt_shape.specs.Ascending.{places_ascend_lem}
 use Rattle.pt_places.specs.Answers.{PlacesAnswer}
 use Rattle.pt_places.specs.Places.{spot_of, IsAt, IsRead, OldAre, AnswerOf}
 use Rattle.pt_places.specs.Spots.{AreSpots, slice_of, labels_of}
@@ -28,17 +28,21 @@ pub at_some : {A : Type 0} (o : Option A) (v : A) (P : Type 0) (Q : A → Type 0
 at_some o v P Q is match = subst (λ x. MatchOption x P Q) is match
 
 -- each spot's place is on the disk
-pub spots_within : (b n m : ℕ) (y : Body) (slices : List Slice) (labels : List Labelled) (spots : List Spot) → AreSpots slices labels spots → slices ≡ places_of b n y → n ≡ m → All (λ (s : Spot). place_of s.slice < m) spots
+pub spots_within : (b n m : ℕ) (y : Body) (slices : List Slice) (labels : List Labelled) (spots : List Spot)
+    → AreSpots slices labels spots → slices ≡ places_of b n y → n ≡ m → All (λ (s : Spot). place_of s.slice < m) spots
 spots_within b n m y slices labels spots are of_slices same =
-    let all : All (λ (w : Slice). place_of w < m) (map slice_of spots) = subst (λ (ws : List Slice). All (λ (w : Slice). place_of w < m) ws) (sym are.slices) (places_within b n m y slices of_slices same) in
+    let all : All (λ (w : Slice). place_of w < m) (map slice_of spots) =
+    subst (λ (ws : List Slice). All (λ (w : Slice). place_of w < m) ws) (sym are.slices) (places_within b n m y slices of_slices same) in
     All-from_map (λ (w : Slice). place_of w < m) spots all
 
 -- what was read is the answer
-pub whole : {b : ℕ} (d : Sectors) (o : Option Layout) (p : Layout) (n m : ℕ) (slices : List Slice) (labels : List Labelled) (spots : List Spot) (places : List (Place b)) (old : List Slice) (a : LabelTargets b)
-    → HasFour p.body → n ≡ p.sectors → slices ≡ places_of b n p.body → labels ≡ p.labels → AreSpots slices labels spots → map spot_of places ≡ spots
+pub whole : {b : ℕ} (d : Sectors) (o : Option Layout) (p : Layout) (n m : ℕ) (slices : List Slice) (labels : List Labelled)
+    (spots : List Spot) (places : List (Place b)) (old : List Slice) (a : LabelTargets b)
+    → HasFour p.body → n ≡ p.sectors → slices ≡ places_of b n p.body → labels ≡ p.labels → AreSpots slices labels spots
+    → map spot_of places ≡ spots
     → All (IsAt m) places → All (IsRead d) places → OldAre b (length d) o old → AnswerOf old places a → PlacesAnswer d o p a
 whole {b = b} d o p n m slices labels spots places old a four sectors of_slices of_labels are of_spots ats reads olds is =
     lifted d o p old places m
     (ap (λ (x : List Spot). map slice_of x) of_spots ∙ are.slices ∙ of_slices ∙ ap (λ (k : ℕ). places_of b k p.body) sectors)
     (ap labels_of of_spots ∙ are.labels ∙ of_labels)
-    (places_rise b p.sectors p.body four) ats reads olds a is
+    (places_ascend_lem b p.sectors p.body four) ats reads olds a is

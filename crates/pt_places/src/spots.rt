@@ -1,7 +1,7 @@
 //! Slices and labels, side by side.
 
 ghost use Rattle.std.specs.Prelude.{◌≡◌, ◌≤◌, length, IfOk, MatchOption};
-ghost use Rattle.pt_cases.specs.Numbers.{Rise};
+ghost use Rattle.pt_shape.specs.Ascending.{IsAscending};
 ghost use Rattle.pt_places.specs.Spots.{Takes, Fit, AreSpots};
 
 use crate::place::Spot;
@@ -29,7 +29,7 @@ pub(crate) fn spots(
     slices: &[Slice],
     labels: &[Labelled],
 ) -> Result<Option<Vec<Spot>>, AllocError>
-    requires { Rise 1 slices.now }
+    requires { IsAscending 1 slices.now }
     ensures { IfOk result (λ o. MatchOption o (¬ Fit slices.now labels.now) (λ v. AreSpots slices.now labels.now v.items)) }
 {
     let mut spots = Vec::new(alloc);

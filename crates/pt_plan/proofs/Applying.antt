@@ -25,14 +25,17 @@ module _ (old mid now : Told) (seen : MayLeave old old.seen) (flush : Flushed ol
   module _ (b : ℕ) (phases : List Writes) where
     pub refused : (why : Why) (answer : Answer) → answer ≡ No why → Answers b mid.seen phases answer → Applied b phases old now answer
     refused why answer is right = rw is (record {
-      answers = subst (λ (d : Sectors). Answers b d phases (No why)) flush.seen (subst (λ (a : Answer). Answers b mid.seen phases a) is right);
+      answers = subst (λ (d : Sectors). Answers b d phases (No why)) flush.seen
+          (subst (λ (a : Answer). Answers b mid.seen phases a) is right);
       promises = tt;
       ends = subst (λ (x : Told). Flushed old x) (sym same) flush;
     })
 
     module _ (switch : ℕ) (answer : Answer) (is : answer ≡ Yes switch) (safe : Promises b mid.seen phases answer) where
       is_safe : Promises b old.seen phases (Yes switch)
-      is_safe = subst (λ (d : Sectors). Promises b d phases (Yes switch)) flush.seen (subst (λ (a : Answer). Promises b mid.seen phases a) is safe)
+      is_safe =
+          subst (λ (d : Sectors). Promises b d phases (Yes switch)) flush.seen
+          (subst (λ (a : Answer). Promises b mid.seen phases a) is safe)
 
       stopped_so : (c : Sectors) → StoppedSomewhere phases now.seen c → SafelyStopped b phases old.seen c
       stopped_so c stopped = record {
@@ -41,12 +44,14 @@ module _ (old mid now : Told) (seen : MayLeave old old.seen) (flush : Flushed ol
         stopped = subst (λ (d : Sectors). StoppedSomewhere phases d c) now_seen stopped;
       }
 
-      pub goes_on : (new : Told) → LeavesOnly now new (StoppedSomewhere phases now.seen) → LeavesOnly old new (SafelyStopped b phases old.seen)
+      pub goes_on : (new : Told) → LeavesOnly now new (StoppedSomewhere phases now.seen)
+          → LeavesOnly old new (SafelyStopped b phases old.seen)
       goes_on new run = leaves_through old now new _ (so_far _) (leaves_weaker now new _ _ stopped_so run)
 
       pub done : (new : Told) → Answers b mid.seen phases answer → Settled new (after phases now.seen) → Applied b phases old new answer
       done new right settled = rw is (record {
-        answers = subst (λ (d : Sectors). Answers b d phases (Yes switch)) flush.seen (subst (λ (a : Answer). Answers b mid.seen phases a) is right);
+        answers = subst (λ (d : Sectors). Answers b d phases (Yes switch)) flush.seen
+            (subst (λ (a : Answer). Answers b mid.seen phases a) is right);
         promises = is_safe;
         ends = subst (λ (d : Sectors). Settled new (after phases d)) now_seen settled;
       })

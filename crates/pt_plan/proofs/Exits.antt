@@ -1,5 +1,6 @@
 -- The exits of a commit.
-use Rattle.std.proofs.Common.{◌≡◌, ◌∙◌, ◌⊎◌, inl, inr, ⊎_elim, ℕ, zero, suc, List, [], ◌∷◌, ◌++◌, refl, sym, ap, subst, Option, Some, None, Result, Ok, Err, slice_get, slice_index_or}
+use Rattle.std.proofs.Common.{◌≡◌, ◌∙◌, ◌⊎◌, inl, inr, ⊎_elim, ℕ, zero, suc, List, [], ◌∷◌, ◌++◌, refl, sym, ap, subst, Option, Some}
+use Rattle.std.proofs.Common.{None, Result, Ok, Err, slice_get, slice_index_or}
 use Rattle.std.proofs.lemmas.List.{append_cancel_left}
 use Rattle.pt_sector.specs.Sectors.{Sectors}
 use Rattle.pt_sector.specs.Writes.{Writes, after}
@@ -22,7 +23,8 @@ use Rattle.pt_plan.specs.Calls.{settled_leaves}
 use Rattle.pt_plan.specs.Failed.{commit_fault_in}
 use Rattle.pt_plan.specs.History.{Past, Either, Has}
 use Rattle.pt_plan.specs.Commits.{Leads, Refuses, Bounded, Ready, FailedWriting, EndsBy, Ends, refused, Committed}
-use Rattle.pt_plan.proofs.Histories.{has_either, has_unchanged, has_done, has_new, has_old, failed_flush_leaves, still, so_far, stopped_means, stopped_keeps}
+use Rattle.pt_plan.proofs.Histories.{has_either, has_unchanged, has_done, has_new, has_old, failed_flush_leaves, still, so_far}
+use Rattle.pt_plan.proofs.Histories.{stopped_means, stopped_keeps}
 
 -- no call of a phase reads
 pub reads_nothing : (ws : Writes) (call : ℕ) (at : Lba) → slice_get (faults_of ws) call ≡ Some (Read at) → ⊥
@@ -47,21 +49,25 @@ met_read None old new one came = tt
 
 module _ {W : Type 0} (denotes : Sectors → Option Layout → Type 0) (reason : Sectors → Reason → Type 0) (makes : W → Type 0)
     (edited : Option Layout → W → Result Layout Refusal → Type 0) (plans : Sectors → Layout → List Writes → Type 0)
-    (unplanned : Sectors → Layout → PlanError → Type 0) (healthy : Sectors → Type 0) (table owned : Option Layout → ℕ → Type 0) (words : W) where
+    (unplanned : Sectors → Layout → PlanError → Type 0) (healthy : Sectors → Type 0) (table owned : Option Layout → ℕ → Type 0)
+    (words : W) where
   Says : Result Unit (CommitError) → Told → Told → Type 0
   Says result old new = Committed denotes reason makes edited plans unplanned healthy table owned words result old new
 
-  pub at_failed_flush : (fault : Fault) (old new : Told) → fault ≡ Flush → FailedFlush old new → Committed denotes reason makes edited plans unplanned healthy table owned words (Err (Device fault)) old new
+  pub at_failed_flush : (fault : Fault) (old new : Told) → fault ≡ Flush → FailedFlush old new
+      → Committed denotes reason makes edited plans unplanned healthy table owned words (Err (Device fault)) old new
   at_failed_flush fault old new is failed = record {
     history = record {
       any_moment = λ o calls start. leaves_once old new _ failed.time (λ c may. inl (failed_flush_leaves old new failed c may));
       at_return = λ o calls start c may. has_either denotes edited words calls o c (start c (failed_flush_leaves old new failed c may));
     };
-    ends = subst (λ (f : Fault). EndsBy denotes reason makes edited plans unplanned healthy table owned words f old new) (sym is) (inl failed);
+    ends = subst (λ (f : Fault). EndsBy denotes reason makes edited plans unplanned healthy table owned words f old new) (sym is)
+        (inl failed);
     bounds = leaves_once old new _ failed.time (λ c may. inl (failed_flush_leaves old new failed c may));
   }
 
-  has_refused : (e : CommitError) (calls : List (Past W)) (o : Option Layout) (c : Sectors) → Has denotes edited o calls c → Has denotes edited o (calls ++ refused words e ∷ []) c
+  has_refused : (e : CommitError) (calls : List (Past W)) (o : Option Layout) (c : Sectors) → Has denotes edited o calls c
+      → Has denotes edited o (calls ++ refused words e ∷ []) c
   has_refused (NoTable e) calls o c has = has_unchanged denotes edited calls o c has
   has_refused (Edit r) calls o c has = has_unchanged denotes edited calls o c has
   has_refused (Plan e) calls o c has = has_unchanged denotes edited calls o c has
@@ -69,17 +75,23 @@ module _ {W : Type 0} (denotes : Sectors → Option Layout → Type 0) (reason :
   has_refused (Device fault) calls o c has = has_either denotes edited words calls o c has
   has_refused Memory calls o c has = has_unchanged denotes edited calls o c has
 
-  ends_met : (fault : Fault) (old new : Told) → IsReadIn (λ s. Unit {0}) fault → Flushed old new → EndsBy denotes reason makes edited plans unplanned healthy table owned words fault old new
+  ends_met : (fault : Fault) (old new : Told) → IsReadIn (λ s. Unit {0}) fault → Flushed old new
+      → EndsBy denotes reason makes edited plans unplanned healthy table owned words fault old new
   ends_met (Read at) old new read flushed = flushed
   ends_met (Write at) old new read flushed = absurd read
   ends_met Flush old new read flushed = absurd read
 
-  ends_writing : (fault : Fault) (old new : Told) → FailedWriting denotes reason makes edited plans unplanned healthy table owned words old new fault → EndsBy denotes reason makes edited plans unplanned healthy table owned words fault old new
-  ends_writing (Read at) old new writing = absurd (reads_nothing (slice_index_or writing.phases writing.failed.phase []) writing.failed.call at writing.failed.is)
+  ends_writing : (fault : Fault) (old new : Told)
+      → FailedWriting denotes reason makes edited plans unplanned healthy table owned words old new fault
+      → EndsBy denotes reason makes edited plans unplanned healthy table owned words fault old new
+  ends_writing (Read at) old new writing =
+      absurd (reads_nothing (slice_index_or writing.phases writing.failed.phase []) writing.failed.call at writing.failed.is)
   ends_writing (Write at) old new writing = writing
   ends_writing Flush old new writing = inr writing
 
-  ends_refused : (e : CommitError) (old mid new : Told) → mid.seen ≡ old.seen → MetRead (commit_fault_in e) → Flushed old new → Refuses denotes reason makes edited plans unplanned healthy table owned words mid.seen e → Ends denotes reason makes edited plans unplanned healthy table owned words (Err e) old new
+  ends_refused : (e : CommitError) (old mid new : Told) → mid.seen ≡ old.seen → MetRead (commit_fault_in e) → Flushed old new
+      → Refuses denotes reason makes edited plans unplanned healthy table owned words mid.seen e
+      → Ends denotes reason makes edited plans unplanned healthy table owned words (Err e) old new
   ends_refused (NoTable e) old mid new a read is why = (is, rw a at why)
   ends_refused (Edit r) old mid new a read is why = (is, rw a at why)
   ends_refused (Plan e) old mid new a read is why = (is, rw a at why)
@@ -88,7 +100,9 @@ module _ {W : Type 0} (denotes : Sectors → Option Layout → Type 0) (reason :
   ends_refused Memory old mid new a read is why = (is, tt)
 
   module _ (old mid now : Told) (seen : MayLeave old old.seen) (flush : Flushed old mid) (same : now ≡ mid) where
-    pub at_refused : (e : CommitError) → MetRead (commit_fault_in e) → Refuses denotes reason makes edited plans unplanned healthy table owned words mid.seen e → Committed denotes reason makes edited plans unplanned healthy table owned words (Err e) old now
+    pub at_refused : (e : CommitError) → MetRead (commit_fault_in e)
+        → Refuses denotes reason makes edited plans unplanned healthy table owned words mid.seen e
+        → Committed denotes reason makes edited plans unplanned healthy table owned words (Err e) old now
     at_refused e read why = record {
       history = record {
         any_moment = λ o calls start. so_far old mid now seen flush same _;
@@ -99,17 +113,22 @@ module _ {W : Type 0} (denotes : Sectors → Option Layout → Type 0) (reason :
     }
 
     module _ (one : (d : Sectors) (o p : Option Layout) → denotes d o → denotes d p → o ≡ p)
-        (phases : List Writes) (ready : Ready denotes reason makes edited plans unplanned healthy table owned words mid.seen phases) (new : Told)
+        (phases : List Writes) (ready : Ready denotes reason makes edited plans unplanned healthy table owned words mid.seen phases)
+        (new : Told)
         (run : LeavesOnly now new (StoppedSomewhere phases now.seen)) where
       leads : Leads denotes reason makes edited plans unplanned healthy table owned words old.seen ready.old ready.new
-      leads = subst (λ (d : Sectors). Leads denotes reason makes edited plans unplanned healthy table owned words d ready.old ready.new) flush.seen ready.leads
+      leads =
+          subst
+          (λ (d : Sectors). Leads denotes reason makes edited plans unplanned healthy table owned words d ready.old ready.new)
+          flush.seen ready.leads
 
       stopped_at : (c : Sectors) → StoppedSomewhere phases now.seen c → StoppedSomewhere phases mid.seen c
       stopped_at c stopped = subst (λ (d : Sectors). StoppedSomewhere phases d c) (ap (λ (x : Told). x.seen) same) stopped
 
       is_one_of : (c : Sectors) → StoppedSomewhere phases now.seen c → denotes c ready.old ⊎ denotes c (Some ready.new)
       is_one_of c stopped =
-          stopped_means denotes healthy table owned phases mid.seen ready.switch ready.safe ready.old (Some ready.new) ready.leads.from ready.finished c (stopped_at c stopped)
+          stopped_means denotes healthy table owned phases mid.seen ready.switch ready.safe ready.old
+          (Some ready.new) ready.leads.from ready.finished c (stopped_at c stopped)
 
       stopped_has : (o : Option Layout) (calls : List (Past W)) → ((c : Sectors) → MayLeave old c → Has denotes edited o calls c)
           → (c : Sectors) → StoppedSomewhere phases now.seen c → Has denotes edited o (calls ++ Either words ∷ []) c
@@ -118,13 +137,15 @@ module _ {W : Type 0} (denotes : Sectors → Option Layout → Type 0) (reason :
           (has_new denotes edited one words calls o ready.old ready.new old.seen c leads.from leads.to (start old.seen seen))
           (is_one_of c stopped)
 
-      stopped_bounded : (c : Sectors) → StoppedSomewhere phases now.seen c → Bounded denotes reason makes edited plans unplanned healthy table owned words old.seen c
+      stopped_bounded : (c : Sectors) → StoppedSomewhere phases now.seen c
+          → Bounded denotes reason makes edited plans unplanned healthy table owned words old.seen c
       stopped_bounded c stopped = (
         ready.old,
         ready.new,
         leads,
         subst (λ (d : Sectors). Keeps denotes healthy table owned ready.old (Some ready.new) d c) flush.seen
-            (stopped_keeps denotes healthy table owned phases mid.seen ready.switch ready.safe ready.old (Some ready.new) ready.leads.from ready.finished c (stopped_at c stopped)),
+            (stopped_keeps denotes healthy table owned phases mid.seen ready.switch ready.safe ready.old
+            (Some ready.new) ready.leads.from ready.finished c (stopped_at c stopped)),
       )
 
       moments : (o : Option Layout) (calls : List (Past W)) → ((c : Sectors) → MayLeave old c → Has denotes edited o calls c)
@@ -156,13 +177,17 @@ module _ {W : Type 0} (denotes : Sectors → Option Layout → Type 0) (reason :
         bounds = bounded;
       }
 
-      pub at_done : Settled new (after phases now.seen) → Committed denotes reason makes edited plans unplanned healthy table owned words (Ok tt) old new
+      pub at_done : Settled new (after phases now.seen)
+          → Committed denotes reason makes edited plans unplanned healthy table owned words (Ok tt) old new
       at_done settled =
-          let finished : Settled new (after phases mid.seen) = subst (λ (d : Sectors). Settled new (after phases d)) (ap (λ (x : Told). x.seen) same) settled in
+          let finished : Settled new (after phases mid.seen) =
+          subst (λ (d : Sectors). Settled new (after phases d)) (ap (λ (x : Told). x.seen) same) settled in
           record {
             history = record {
               any_moment = moments;
-              at_return = λ o calls start c may. has_done denotes edited one words calls o ready.old ready.new old.seen c leads.from leads.to (start old.seen seen)
+              at_return =
+                  λ o calls start c may. has_done denotes edited one words calls o ready.old ready.new old.seen c leads.from leads.to
+                  (start old.seen seen)
                   (subst (λ (d : Sectors). denotes d (Some ready.new)) (sym (settled_leaves new _ finished c may)) ready.finished);
             };
             ends = (

@@ -26,7 +26,8 @@ module _ (b : ℕ) (phases : List Writes) (old : Told) where
   by_read Flush new read flushed = absurd read
 
   by_call : (fault : Fault) (new : Told) → FailedApplying b phases old new fault → FailsBy b phases fault old new
-  by_call (Read at) new applying = absurd (reads_nothing (slice_index_or phases applying.failed.phase []) applying.failed.call at applying.failed.is)
+  by_call (Read at) new applying =
+      absurd (reads_nothing (slice_index_or phases applying.failed.phase []) applying.failed.call at applying.failed.is)
   by_call (Write at) new applying = applying
   by_call Flush new applying = inr applying
 
@@ -38,13 +39,16 @@ module _ (b : ℕ) (phases : List Writes) (old : Told) where
         by_read fault now (met_read (Some fault) before after blames came) (subst (λ (x : Told). Flushed old x) (sym same) flush)
     unchecked Memory before after blames came = subst (λ (x : Told). Flushed old x) (sym same) flush
 
-    pub unapplied : (switch : ℕ) (answer : Answer) → answer ≡ Yes switch → Answers b mid.seen phases answer → Promises b mid.seen phases answer
+    pub unapplied : (switch : ℕ) (answer : Answer) → answer ≡ Yes switch → Answers b mid.seen phases answer
+        → Promises b mid.seen phases answer
         → (new : Told) (fault : Fault) → FailedIn phases now.seen now new fault → FailsBy b phases fault old new
     unapplied switch answer is right safe new fault failed = by_call fault new (record {
       mid = mid;
       flushed = flush;
       switch = switch;
-      answers = subst (λ (d : Sectors). Answers b d phases (Yes switch)) flush.seen (subst (λ (a : Answer). Answers b mid.seen phases a) is right);
-      safe = subst (λ (d : Sectors). Promises b d phases (Yes switch)) flush.seen (subst (λ (a : Answer). Promises b mid.seen phases a) is safe);
+      answers = subst (λ (d : Sectors). Answers b d phases (Yes switch)) flush.seen
+          (subst (λ (a : Answer). Answers b mid.seen phases a) is right);
+      safe = subst (λ (d : Sectors). Promises b d phases (Yes switch)) flush.seen
+          (subst (λ (a : Answer). Promises b mid.seen phases a) is safe);
       failed = subst (λ (x : Told). FailedIn phases x.seen x new fault) same failed;
     })

@@ -1,5 +1,6 @@
 -- Histories that go on, and what a crash may leave over several calls.
-use Rattle.std.proofs.Common.{◌≡◌, ◌∙◌, ◌⊎◌, inl, inr, ⊎_elim, ℕ, ◌+◌, List, [], ◌∷◌, ◌++◌, length, refl, sym, ap, subst, arith, Option, Some, Result, Ok}
+use Rattle.std.proofs.Common.{◌≡◌, ◌∙◌, ◌⊎◌, inl, inr, ⊎_elim, ℕ, ◌+◌, List, [], ◌∷◌, ◌++◌, length, refl, sym, ap, subst, arith, Option}
+use Rattle.std.proofs.Common.{Some, Result, Ok}
 use Rattle.std.proofs.lemmas.Bool.{cases_order}
 use Rattle.pt_sector.specs.Sectors.{Sectors, sector}
 use Rattle.pt_sector.specs.Writes.{Writes, Puts, MayHold, after}
@@ -9,28 +10,40 @@ use Rattle.pt_apply.specs.Promises.{Keeps, Safe, Switches}
 use Rattle.pt_apply.specs.Runs.{StoppedSomewhere}
 use Rattle.pt_plan.specs.History.{Past, Done, Unchanged, Either, Steps, History, Has}
 
-pub one_of : {L : Type 0} (means : Option L → Type 0) (old new : Option L) (switch phase : ℕ) → Switches means old new switch phase → means old ⊎ means new
+pub one_of : {L : Type 0} (means : Option L → Type 0) (old new : Option L) (switch phase : ℕ) → Switches means old new switch phase
+    → means old ⊎ means new
 one_of means old new switch phase is =
-    ⊎_elim (λ same. is.inside same) (λ rest. ⊎_elim (λ below. inl (is.before below)) (λ above. inr (is.past above)) rest) (cases_order phase switch)
+    ⊎_elim (λ same. is.inside same) (λ rest. ⊎_elim (λ below. inl (is.before below)) (λ above. inr (is.past above)) rest)
+    (cases_order phase switch)
 
 module _ {L W R : Type 0} (denotes : Sectors → Option L → Type 0) (edited : Option L → W → Result L R → Type 0) where
-  pub push : (call : Past W) (calls : List (Past W)) (o p q : Option L) → History denotes edited calls o p → Steps denotes edited call p q → History denotes edited (calls ++ call ∷ []) o q
+  pub push : (call : Past W) (calls : List (Past W)) (o p q : Option L) → History denotes edited calls o p
+      → Steps denotes edited call p q → History denotes edited (calls ++ call ∷ []) o q
   push call [] o p q so_far step = (q, subst (λ (x : Option L). Steps denotes edited call x q) so_far step, refl)
   push call (c ∷ calls) o p q (m, first, rest) step = (m, first, push call calls m p q rest step)
 
-  pub has_either : (words : W) (calls : List (Past W)) (o : Option L) (c : Sectors) → Has denotes edited o calls c → Has denotes edited o (calls ++ Either words ∷ []) c
+  pub has_either : (words : W) (calls : List (Past W)) (o : Option L) (c : Sectors) → Has denotes edited o calls c
+      → Has denotes edited o (calls ++ Either words ∷ []) c
   has_either words calls o c (p, is, so_far) = (p, is, push (Either words) calls o p p so_far (inl refl))
 
-  pub has_unchanged : (calls : List (Past W)) (o : Option L) (c : Sectors) → Has denotes edited o calls c → Has denotes edited o (calls ++ Unchanged ∷ []) c
+  pub has_unchanged : (calls : List (Past W)) (o : Option L) (c : Sectors) → Has denotes edited o calls c
+      → Has denotes edited o (calls ++ Unchanged ∷ []) c
   has_unchanged calls o c (p, is, so_far) = (p, is, push Unchanged calls o p p so_far refl)
 
   -- what a disk had that denotes the same
-  pub has_same : ((d : Sectors) (o p : Option L) → denotes d o → denotes d p → o ≡ p) → (calls : List (Past W)) (o old : Option L) (d c : Sectors) → denotes d old
+  pub has_same : ((d : Sectors) (o p : Option L) → denotes d o → denotes d p → o ≡ p)
+      → (calls : List (Past W)) (o old : Option L) (d c : Sectors) → denotes d old
       → Has denotes edited o calls d → denotes c old → Has denotes edited o (calls ++ Unchanged ∷ []) c
-  has_same one calls o old d c from has is = (old, is, push Unchanged calls o old old (subst (λ (x : Option L). History denotes edited calls o x) (one d has.0 old has.1 from) has.2) refl)
+  has_same one calls o old d c from has is = (
+    old,
+    is,
+    push Unchanged calls o old old
+        (subst (λ (x : Option L). History denotes edited calls o x) (one d has.0 old has.1 from) has.2) refl,
+  )
 
   module _ (one : (d : Sectors) (o p : Option L) → denotes d o → denotes d p → o ≡ p)
-      (words : W) (calls : List (Past W)) (o old : Option L) (l : L) (d c : Sectors) (from : denotes d old) (to : edited old words (Ok l)) (has : Has denotes edited o calls d) where
+      (words : W) (calls : List (Past W)) (o old : Option L) (l : L) (d c : Sectors) (from : denotes d old) (to : edited old words (Ok l))
+      (has : Has denotes edited o calls d) where
     here : History denotes edited calls o old
     here = subst (λ (x : Option L). History denotes edited calls o x) (one d has.0 old has.1 from) has.2
 
@@ -50,7 +63,8 @@ flush_leaves old new seen flush c left =
     record {
       same_count = len ∙ seen.same_count;
       each = λ k lt. subst (λ (v : List ℕ). MayHold old.durable old.pending k v)
-          (sym (⊎_elim (λ is. rw flush.durable at is) (λ puts. absurd (subst (λ (p : Writes). Puts p k (sector c k)) flush.pending puts)) (left.each k (omega (arith, lt, len, left.same_count, seen.same_count)))))
+          (sym (⊎_elim (λ is. rw flush.durable at is) (λ puts. absurd (subst (λ (p : Writes). Puts p k (sector c k)) flush.pending puts))
+          (left.each k (omega (arith, lt, len, left.same_count, seen.same_count)))))
           (seen.each k lt);
     }
 
@@ -71,7 +85,8 @@ module _ (old mid now : Told) (seen : MayLeave old old.seen) (flush : Flushed ol
 -- a checked plan that is stopped
 module _ {L : Type 0} (denotes : Sectors → Option L → Type 0) (healthy : Sectors → Type 0) (table owned : Option L → ℕ → Type 0)
     (phases : List Writes) (d : Sectors) (switch : ℕ) (safe : Safe denotes healthy table owned phases d switch)
-    (old new : Option L) (from : denotes d old) (finished : denotes (after phases d) new) (c : Sectors) (at : StoppedSomewhere phases d c) where
+    (old new : Option L) (from : denotes d old) (finished : denotes (after phases d) new) (c : Sectors)
+    (at : StoppedSomewhere phases d c) where
   pub stopped_means : denotes c old ⊎ denotes c new
   stopped_means = one_of (denotes c) old new switch (at.phase + 1) (safe.which old new from finished at.phase at.within c at.stopped)
 

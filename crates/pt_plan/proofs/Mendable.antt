@@ -9,11 +9,13 @@ use Rattle.pt_recover.specs.declared.error.NoTable.{NoTable as Reason}
 use Rattle.pt_recover.specs.declared.error.NoTable.TheVariants as reason
 use Rattle.pt_recover.specs.declared.layout.Layout.{Layout}
 use Rattle.pt_layout.specs.Healthy.{Healthy, IsHealthy}
-use Rattle.pt_check.specs.Answers.{Answers, TableOf, OwnedOf}
+use Rattle.pt_layout.specs.Owned.{OwnedOf}
+use Rattle.pt_layout.specs.Tables.{TableOf}
+use Rattle.pt_check.specs.Answers.{Answers}
 use Rattle.pt_check.specs.declared.answer.Answer.TheVariants.{No}
 use Rattle.pt_check.specs.declared.answer.Why.{Why}
 use Rattle.pt_apply.specs.Promises.{Safe}
-use Rattle.pt_cases.specs.Accepted.{plan_finishes, plan_not_refused}
+use Rattle.pt_accepted.specs.Accepted.{plan_finishes, plan_not_refused}
 use Rattle.pt_cases.specs.Cases.{IsPlan, idle, backup_first, primary_first, from_mbr, one_label, within_mbr}
 use Rattle.pt_exact.specs.Mended.{repair_is_planned_lem, mendable_by_plan_lem}
 use Rattle.pt_planner.specs.Known.{ReasonIs}
@@ -27,7 +29,8 @@ use Rattle.pt_plan.specs.declared.repair_error.RepairError.{RepairError}
 use Rattle.pt_plan.specs.declared.repair_error.RepairError.TheVariants.{NoTable, Check}
 
 -- of a disk that is healthy no plan for its layout has phases
-pub none_of_healthy : (b : ℕ) (d : Sectors) (o : Layout) (phases : List Writes) → Denotes b d (Some o) → IsPlan b d o phases → Healthy b d → phases ≡ []
+pub none_of_healthy : (b : ℕ) (d : Sectors) (o : Layout) (phases : List Writes) → Denotes b d (Some o) → IsPlan b d o phases
+    → Healthy b d → phases ≡ []
 none_of_healthy b d o phases from planned (p, well) =
     by_case planned (subst (IsHealthy b d) (let same = denotes_one_lem b d (Some p) (Some o) well.denotes from in cc) well)
   where
@@ -79,7 +82,8 @@ module _ (b : ℕ) (d : Sectors) (size : IsSectorSize b) where
     never_refused why against = absurd (plan_not_refused b d is.layout phases why size is.planned against)
 
 -- a disk that denotes nothing
-pub nothing_to_mend : (b : ℕ) (d : Sectors) (old : Option Layout) (r : Option Reason) → old ≡ None → Denotes b d old → ReasonIs b d old r → (e : RepairError)
+pub nothing_to_mend : (b : ℕ) (d : Sectors) (old : Option Layout) (r : Option Reason) → old ≡ None → Denotes b d old
+    → ReasonIs b d old r → (e : RepairError)
     → ((x : Reason) → r ≡ Some x → failure_in x ≡ None → e ≡ NoTable x) → IsMendRefusal b d e
 nothing_to_mend b d (Some o) r none from is e told = absurd cc
 nothing_to_mend b d None None none from is e told = absurd is

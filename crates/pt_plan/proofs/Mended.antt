@@ -1,5 +1,6 @@
 -- The exits of a repair.
-use Rattle.std.proofs.Common.{◌≡◌, ◌∙◌, inl, inr, ⊎_elim, ℕ, List, [], ◌∷◌, ◌++◌, length, refl, sym, ap, subst, arith, Option, Some, Result, Ok, Err, slice_index_or}
+use Rattle.std.proofs.Common.{◌≡◌, ◌∙◌, inl, inr, ⊎_elim, ℕ, List, [], ◌∷◌, ◌++◌, length, refl, sym, ap, subst, arith, Option, Some}
+use Rattle.std.proofs.Common.{Result, Ok, Err, slice_index_or}
 use Rattle.std.proofs.lemmas.List.{append-nil}
 use Rattle.pt_sector.specs.Sectors.{Sectors}
 use Rattle.pt_sector.specs.Writes.{Writes, after}
@@ -35,12 +36,14 @@ no_calls d old new reached =
     (rw (reached.before, here) at past) ∙ append-nil old.past
 
 -- so after the plan the disk is as the first flush left it
-idle_done : (old mid now new : Told) (phases : List Writes) → Flushed old mid → now ≡ mid → phases ≡ [] → Settled new (after phases now.seen)
+idle_done : (old mid now new : Told) (phases : List Writes) → Flushed old mid → now ≡ mid → phases ≡ []
+    → Settled new (after phases now.seen)
     → Reached phases now.seen (length phases) 0 now new → Flushed old new
 idle_done old mid now new phases flush same none settled reached =
     let at : now.seen ≡ old.seen = ap (λ (x : Told). x.seen) same ∙ flush.seen in
     let done : Settled new now.seen = subst (λ (ps : List Writes). Settled new (after ps now.seen)) none settled in
-    let past : new.past ≡ now.past = no_calls now.seen now new (subst (λ (ps : List Writes). Reached ps now.seen (length ps) 0 now new) none reached) in
+    let past : new.past ≡ now.past =
+    no_calls now.seen now new (subst (λ (ps : List Writes). Reached ps now.seen (length ps) 0 now new) none reached) in
     record {
       seen = done.seen ∙ at;
       durable = done.durable ∙ at;
@@ -57,7 +60,8 @@ idle_failed d phases old new fault none failed =
 module _ {W : Type 0} (denotes : Sectors → Option Layout → Type 0) (reason : Sectors → Reason → Type 0)
     (edited : Option Layout → W → Result Layout Refusal → Type 0) (plans : Sectors → Layout → List Writes → Type 0)
     (unmendable : Sectors → Layout → Finding → Type 0) (healthy : Sectors → Type 0) (table owned : Option Layout → ℕ → Type 0) where
-  pub at_failed_flush : (fault : Fault) (old new : Told) → fault ≡ Flush → FailedFlush old new → Repaired denotes reason edited plans unmendable healthy table owned (Err (Device fault)) old new
+  pub at_failed_flush : (fault : Fault) (old new : Told) → fault ≡ Flush → FailedFlush old new
+      → Repaired denotes reason edited plans unmendable healthy table owned (Err (Device fault)) old new
   at_failed_flush fault old new is failed = record {
     history = record {
       any_moment = λ o calls start. leaves_once old new _ failed.time (λ c may. inl (failed_flush_leaves old new failed c may));
@@ -68,17 +72,21 @@ module _ {W : Type 0} (denotes : Sectors → Option Layout → Type 0) (reason :
     idle = λ well. inr failed;
   }
 
-  ends_met : (fault : Fault) (old new : Told) → IsReadIn (λ s. Unit {0}) fault → Flushed old new → MendEndsBy denotes plans unmendable healthy table owned fault old new
+  ends_met : (fault : Fault) (old new : Told) → IsReadIn (λ s. Unit {0}) fault → Flushed old new
+      → MendEndsBy denotes plans unmendable healthy table owned fault old new
   ends_met (Read at) old new read flushed = flushed
   ends_met (Write at) old new read flushed = absurd read
   ends_met Flush old new read flushed = absurd read
 
-  ends_mending : (fault : Fault) (old new : Told) → FailedMending denotes plans unmendable healthy table owned old new fault → MendEndsBy denotes plans unmendable healthy table owned fault old new
-  ends_mending (Read at) old new mending = absurd (reads_nothing (slice_index_or mending.phases mending.failed.phase []) mending.failed.call at mending.failed.is)
+  ends_mending : (fault : Fault) (old new : Told) → FailedMending denotes plans unmendable healthy table owned old new fault
+      → MendEndsBy denotes plans unmendable healthy table owned fault old new
+  ends_mending (Read at) old new mending =
+      absurd (reads_nothing (slice_index_or mending.phases mending.failed.phase []) mending.failed.call at mending.failed.is)
   ends_mending (Write at) old new mending = mending
   ends_mending Flush old new mending = inr mending
 
-  ends_refused : (e : RepairError) (old mid new : Told) → mid.seen ≡ old.seen → MetRead (repair_fault_in e) → Flushed old new → RefusesToMend denotes reason unmendable mid.seen e
+  ends_refused : (e : RepairError) (old mid new : Told) → mid.seen ≡ old.seen → MetRead (repair_fault_in e) → Flushed old new
+      → RefusesToMend denotes reason unmendable mid.seen e
       → Mends denotes reason edited plans unmendable healthy table owned (Err e) old new
   ends_refused (NoTable e) old mid new a read is why = (is, rw a at why)
   ends_refused (Unsound f) old mid new a read is why = (is, rw a at why)
@@ -119,18 +127,21 @@ module _ {W : Type 0} (denotes : Sectors → Option Layout → Type 0) (reason :
 
       stopped_is : (c : Sectors) → StoppedSomewhere phases now.seen c → denotes c (Some ready.layout)
       stopped_is c stopped = ⊎_elim (λ is. is) (λ is. is)
-          (stopped_means denotes healthy table owned phases mid.seen ready.switch ready.safe (Some ready.layout) (Some ready.layout) ready.mendable.from ready.finished c (stopped_at c stopped))
+          (stopped_means denotes healthy table owned phases mid.seen ready.switch ready.safe (Some ready.layout)
+          (Some ready.layout) ready.mendable.from ready.finished c (stopped_at c stopped))
 
       keeps : (o : Option Layout) (calls : List (Past W)) → ((c : Sectors) → MayLeave old c → Has denotes edited o calls c)
           → (c : Sectors) → denotes c (Some ready.layout) → Has denotes edited o (calls ++ Unchanged ∷ []) c
       keeps o calls start c is = has_same denotes edited one calls o (Some ready.layout) old.seen c mendable.from (start old.seen seen) is
 
-      stopped_bounded : (c : Sectors) → StoppedSomewhere phases now.seen c → MendBounded denotes plans unmendable healthy table owned old.seen c
+      stopped_bounded : (c : Sectors) → StoppedSomewhere phases now.seen c
+          → MendBounded denotes plans unmendable healthy table owned old.seen c
       stopped_bounded c stopped = (
         ready.layout,
         mendable,
         subst (λ (d : Sectors). Keeps denotes healthy table owned (Some ready.layout) (Some ready.layout) d c) flush.seen
-            (stopped_keeps denotes healthy table owned phases mid.seen ready.switch ready.safe (Some ready.layout) (Some ready.layout) ready.mendable.from ready.finished c (stopped_at c stopped)),
+            (stopped_keeps denotes healthy table owned phases mid.seen ready.switch ready.safe (Some ready.layout)
+            (Some ready.layout) ready.mendable.from ready.finished c (stopped_at c stopped)),
       )
 
       moments : (o : Option Layout) (calls : List (Past W)) → ((c : Sectors) → MayLeave old c → Has denotes edited o calls c)
@@ -145,7 +156,8 @@ module _ {W : Type 0} (denotes : Sectors → Option Layout → Type 0) (reason :
       no_phases : healthy old.seen → phases ≡ []
       no_phases well = none mid.seen ready.layout phases ready.mendable.from ready.planned (subst healthy (sym flush.seen) well)
 
-      pub at_failed : (fault : Fault) → FailedIn phases now.seen now new fault → Repaired denotes reason edited plans unmendable healthy table owned (Err (Device fault)) old new
+      pub at_failed : (fault : Fault) → FailedIn phases now.seen now new fault
+          → Repaired denotes reason edited plans unmendable healthy table owned (Err (Device fault)) old new
       at_failed fault failed = record {
         history = record {
           any_moment = moments;
@@ -165,13 +177,15 @@ module _ {W : Type 0} (denotes : Sectors → Option Layout → Type 0) (reason :
         idle = λ well. absurd (idle_failed now.seen phases now new fault (no_phases well) failed);
       }
 
-      pub at_done : Settled new (after phases now.seen) → Reached phases now.seen (length phases) 0 now new → Repaired denotes reason edited plans unmendable healthy table owned (Ok tt) old new
+      pub at_done : Settled new (after phases now.seen) → Reached phases now.seen (length phases) 0 now new
+          → Repaired denotes reason edited plans unmendable healthy table owned (Ok tt) old new
       at_done settled reached =
           let finished : Settled new (after phases mid.seen) = subst (λ (d : Sectors). Settled new (after phases d)) at_mid settled in
           record {
             history = record {
               any_moment = moments;
-              at_return = λ o calls start c may. keeps o calls start c (subst (λ (d : Sectors). denotes d (Some ready.layout)) (sym (settled_leaves new _ finished c may)) ready.finished);
+              at_return = λ o calls start c may. keeps o calls start c
+                  (subst (λ (d : Sectors). denotes d (Some ready.layout)) (sym (settled_leaves new _ finished c may)) ready.finished);
             };
             ends = (
               record { seen = refl; durable = finished.durable ∙ sym finished.seen; pending = finished.pending },

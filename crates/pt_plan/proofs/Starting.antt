@@ -1,13 +1,15 @@
 -- The steps before a commit's first write.
-use Rattle.std.proofs.Common.{◌≡◌, ◌∙◌, ℕ, zero, suc, ◌+◌, ◌<◌, List, [], ◌∷◌, length, drop, get_or, Option, Some, None, Ok, Err, Bool, true, false, IsTrue, ◌↔◌, refl, sym, ap, subst, arith, add-one}
+use Rattle.std.proofs.Common.{◌≡◌, ◌∙◌, ℕ, zero, suc, ◌+◌, ◌<◌, List, [], ◌∷◌, length, drop, get_or, Option, Some, None, Ok, Err, Bool}
+use Rattle.std.proofs.Common.{true, false, IsTrue, ◌↔◌, refl, sym, ap, subst, arith, add-one}
 use Rattle.pt_sector.specs.Sectors.{Sectors, IsSectorSize}
 use Rattle.pt_sector.specs.Writes.{Writes}
 use Rattle.pt_recover.specs.Answers.{IsReason, failure_in}
 use Rattle.pt_recover.specs.declared.error.NoTable.{NoTable as NoTableReason}
 use Rattle.pt_recover.specs.declared.error.NoTable.TheVariants as reason
 use Rattle.pt_layout.specs.Healthy.{Healthy}
-use Rattle.pt_check.specs.Answers.{TableOf, OwnedOf}
-use Rattle.pt_cases.specs.Accepted.{plan_finishes, plan_not_refused}
+use Rattle.pt_layout.specs.Owned.{OwnedOf}
+use Rattle.pt_layout.specs.Tables.{TableOf}
+use Rattle.pt_accepted.specs.Accepted.{plan_finishes, plan_not_refused}
 use Rattle.pt_cases.specs.Cases.{IsPlan}
 use Rattle.pt_planner.specs.Known.{ReasonIs}
 use Rattle.pt_targets.specs.Unplanned.{Unplanned}
@@ -30,7 +32,8 @@ sectors_are b n d sized None is = refl
 sectors_are b n d sized (Some o) is = is.0 ∙ sized
 
 -- from the batch's start on
-module _ (b n : ℕ) (batch : Words) (d : Sectors) (sized : length d ≡ n) (o : Option Layout) (starts : StartsFrom b batch d o) (m : ℕ) (same : m ≡ n) where
+module _ (b n : ℕ) (batch : Words) (d : Sectors) (sized : length d ≡ n) (o : Option Layout) (starts : StartsFrom b batch d o) (m : ℕ)
+    (same : m ≡ n) where
   here : sectors_in o m ≡ n
   here = ap (sectors_in o) same ∙ sectors_are b n d sized o starts.from
 
@@ -58,7 +61,8 @@ module _ (b n : ℕ) (batch : Words) (d : Sectors) (sized : length d ≡ n) (o :
     planned phases is = record { old = o; new = l; leads = leads; planned = is }
 
 -- a plan is never refused by the checker
-pub not_safe : (b n : ℕ) (batch : Words) (d : Sectors) (phases : List Writes) → IsSectorSize b → IsPlanned b n batch d phases → (e : CommitError) → NotSafe b d phases e → IsRefusal b n batch d e
+pub not_safe : (b n : ℕ) (batch : Words) (d : Sectors) (phases : List Writes) → IsSectorSize b → IsPlanned b n batch d phases
+    → (e : CommitError) → NotSafe b d phases e → IsRefusal b n batch d e
 not_safe b n batch d phases size is (NoTable e) none = absurd none
 not_safe b n batch d phases size is (Edit r) none = absurd none
 not_safe b n batch d phases size is (Plan e) none = absurd none
@@ -66,7 +70,8 @@ not_safe b n batch d phases size is (Check why) against = absurd (plan_not_refus
 not_safe b n batch d phases size is (Device fault) failed = tt
 not_safe b n batch d phases size is Memory failed = tt
 
-pub ready : (b n : ℕ) (batch : Words) (d : Sectors) (phases : List Writes) → IsSectorSize b → IsPlanned b n batch d phases → IsSafe b d phases → IsReady b n batch d phases
+pub ready : (b n : ℕ) (batch : Words) (d : Sectors) (phases : List Writes) → IsSectorSize b → IsPlanned b n batch d phases
+    → IsSafe b d phases → IsReady b n batch d phases
 ready b n batch d phases size is safe = record {
   old = is.old;
   new = is.new;
@@ -82,7 +87,8 @@ never true X is both holds = absurd cc
 never false X is both holds = let yes : IsTrue false = both.1 holds in absurd cc
 
 -- a disk that denotes nothing
-pub no_start : (b : ℕ) (batch : Words) (d : Sectors) (o : Option Layout) (r : NoTableReason) → Denotes b d o → ReasonIs b d o (Some r) → (Makes batch → ⊥) → NoStart b batch d (NoTable r)
+pub no_start : (b : ℕ) (batch : Words) (d : Sectors) (o : Option Layout) (r : NoTableReason) → Denotes b d o → ReasonIs b d o (Some r)
+    → (Makes batch → ⊥) → NoStart b batch d (NoTable r)
 no_start b batch d None r from reason never = (from, reason, never)
 no_start b batch d (Some l) r from reason never = absurd reason
 

@@ -12,7 +12,8 @@ use Rattle.pt_edit.specs.Edited.{Edited}
 use Rattle.pt_words.specs.declared.error.Refusal.{Refusal}
 use Rattle.pt_words.specs.declared.word.Edit.{Edit}
 use Rattle.pt_words.specs.declared.word.Edit.TheVariants.{Align, Empty}
-use Rattle.pt_check.specs.Answers.{TableOf, OwnedOf}
+use Rattle.pt_layout.specs.Owned.{OwnedOf}
+use Rattle.pt_layout.specs.Tables.{TableOf}
 use Rattle.pt_cases.specs.Cases.{IsPlan}
 use Rattle.pt_targets.specs.Unmendable.{IsUnmendable}
 use Rattle.pt_targets.specs.Unplanned.{Unplanned}

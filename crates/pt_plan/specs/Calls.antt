@@ -35,8 +35,10 @@ module _ {L W R : Type 0} (denotes : Sectors → Option L → Type 0) (edited : 
   -- these calls in order carry every history on: each disk that a crash inside one of them may leave has one that ends
   -- with that call, and each that a crash may leave at the last one's return one with all their answers
   pub record CarryOn (calls : List (Call W)) (old new : Told) : Type 0 where
-    pub any_moment : (o : Option L) (earlier : List (Past W)) → Holds denotes edited o earlier old → LeavesOnly old new (HasCutShort o earlier calls)
-    pub at_return : (o : Option L) (earlier : List (Past W)) → Holds denotes edited o earlier old → Holds denotes edited o (earlier ++ answered calls) new
+    pub any_moment : (o : Option L) (earlier : List (Past W)) → Holds denotes edited o earlier old
+        → LeavesOnly old new (HasCutShort o earlier calls)
+    pub at_return : (o : Option L) (earlier : List (Past W)) → Holds denotes edited o earlier old
+        → Holds denotes edited o (earlier ++ answered calls) new
 
 -- where nothing is pending a crash leaves one disk
 pub settled_leaves : (now : Told) (d : Sectors) → Settled now d → (c : Sectors) → MayLeave now c → c ≡ d
@@ -75,8 +77,10 @@ cut_one call = record { before = []; call = call; after = []; are = refl; is = r
 
 module _ {L W R : Type 0} (denotes : Sectors → Option L → Type 0) (edited : Option L → W → Result L R → Type 0) where
   -- a disk that a crash left goes on, as a device on which nothing is pending, with each history that it has
-  pub begins_again_lem : (now : Told) (d : Sectors) (o : Option L) (calls : List (Past W)) → Settled now d → Has denotes edited o calls d → Holds denotes edited o calls now
-  begins_again_lem now d o calls settled has c may = subst (λ (x : Sectors). Has denotes edited o calls x) (sym (settled_leaves now d settled c may)) has
+  pub begins_again_lem : (now : Told) (d : Sectors) (o : Option L) (calls : List (Past W)) → Settled now d
+      → Has denotes edited o calls d → Holds denotes edited o calls now
+  begins_again_lem now d o calls settled has c may =
+      subst (λ (x : Sectors). Has denotes edited o calls x) (sym (settled_leaves now d settled c may)) has
 
   -- a history may begin with what the durable disk denotes, where nothing is pending
   pub begins_lem : (now : Told) (d : Sectors) (o : Option L) → Settled now d → denotes d o → Holds denotes edited o [] now
@@ -85,22 +89,30 @@ module _ {L W R : Type 0} (denotes : Sectors → Option L → Type 0) (edited : 
   pub none_carry_lem : (now : Told) → CarryOn denotes edited [] now now
   none_carry_lem now = record {
     any_moment = λ o earlier start. leaves_none now _;
-    at_return = λ o earlier start c may. subst (λ (past : List (Past W)). Has denotes edited o past c) (sym (append-nil earlier)) (start c may);
+    at_return = λ o earlier start c may. subst (λ (past : List (Past W)). Has denotes edited o past c) (sym (append-nil earlier))
+        (start c may);
   }
 
-  pub one_carries_lem : (call : Call W) (old new : Told) → Carries denotes edited call.inside call.done old new → CarryOn denotes edited (call ∷ []) old new
+  pub one_carries_lem : (call : Call W) (old new : Told) → Carries denotes edited call.inside call.done old new
+      → CarryOn denotes edited (call ∷ []) old new
   one_carries_lem call old new one = record {
-    any_moment = λ o earlier start. leaves_weaker old new _ _ (λ c has. (call.inside ∷ [], cut_one call, has)) (one.any_moment o earlier start);
+    any_moment = λ o earlier start. leaves_weaker old new _ _ (λ c has. (call.inside ∷ [], cut_one call, has))
+        (one.any_moment o earlier start);
     at_return = one.at_return;
   }
 
   -- calls, and others behind them
-  pub carry_through_lem : (xs ys : List (Call W)) (old mid new : Told) → CarryOn denotes edited xs old mid → CarryOn denotes edited ys mid new → CarryOn denotes edited (xs ++ ys) old new
+  pub carry_through_lem : (xs ys : List (Call W)) (old mid new : Told) → CarryOn denotes edited xs old mid
+      → CarryOn denotes edited ys mid new → CarryOn denotes edited (xs ++ ys) old new
   carry_through_lem xs ys old mid new first next = record {
     any_moment = λ o earlier start. leaves_through old mid new (HasCutShort denotes edited o earlier (xs ++ ys))
         (leaves_weaker old mid _ _ (λ c has. (has.0, cut_earlier xs ys has.0 has.1, has.2)) (first.any_moment o earlier start))
         (leaves_weaker mid new _ _
-        (λ c has. (answered xs ++ has.0, cut_later xs ys has.0 has.1, subst (λ (past : List (Past W)). Has denotes edited o past c) (append_assoc earlier (answered xs) has.0) has.2))
+        (λ c has. (
+          answered xs ++ has.0,
+          cut_later xs ys has.0 has.1,
+          subst (λ (past : List (Past W)). Has denotes edited o past c) (append_assoc earlier (answered xs) has.0) has.2,
+        ))
         (next.any_moment o (earlier ++ answered xs) (first.at_return o earlier start)));
     at_return = λ o earlier start c may. subst (λ (past : List (Past W)). Has denotes edited o past c)
         (append_assoc earlier (answered xs) (answered ys) ∙ ap (λ (past : List (Past W)). earlier ++ past) (sym (answered_on xs ys)))
@@ -108,8 +120,11 @@ module _ {L W R : Type 0} (denotes : Sectors → Option L → Type 0) (edited : 
   }
 
   -- one call more
-  pub more_carry_lem : (calls : List (Call W)) (call : Call W) (old mid new : Told) → CarryOn denotes edited calls old mid → Carries denotes edited call.inside call.done mid new → CarryOn denotes edited (calls ++ call ∷ []) old new
-  more_carry_lem calls call old mid new first next = carry_through_lem calls (call ∷ []) old mid new first (one_carries_lem call mid new next)
+  pub more_carry_lem : (calls : List (Call W)) (call : Call W) (old mid new : Told) → CarryOn denotes edited calls old mid
+      → Carries denotes edited call.inside call.done mid new → CarryOn denotes edited (calls ++ call ∷ []) old new
+  more_carry_lem calls call old mid new first next =
+      carry_through_lem calls (call ∷ []) old mid new first (one_carries_lem call mid new next)
 
-  pub two_carry_lem : (first second : Call W) (old mid new : Told) → Carries denotes edited first.inside first.done old mid → Carries denotes edited second.inside second.done mid new → CarryOn denotes edited (first ∷ second ∷ []) old new
+  pub two_carry_lem : (first second : Call W) (old mid new : Told) → Carries denotes edited first.inside first.done old mid
+      → Carries denotes edited second.inside second.done mid new → CarryOn denotes edited (first ∷ second ∷ []) old new
   two_carry_lem first second old mid new one two = more_carry_lem (first ∷ []) second old mid new (one_carries_lem first old mid one) two

@@ -9,7 +9,8 @@ use Rattle.pt_plan.specs.Calls.{settled_leaves}
 use Rattle.pt_plan.specs.Running.{IsLeftBy, OnlyFlushes}
 
 -- a crash since one call of the device, where nothing was pending before it and the call leaves no other disk
-left_since : (old new : Told) → Settled old old.seen → Elapses old new → ((c : Sectors) → MayLeave new c → c ≡ old.seen) → (c : Sectors) → IsLeftBy old new c → c ≡ old.seen
+left_since : (old new : Told) → Settled old old.seen → Elapses old new → ((c : Sectors) → MayLeave new c → c ≡ old.seen) → (c : Sectors)
+    → IsLeftBy old new c → c ≡ old.seen
 left_since old new settled time now c left = ⊎_elim
     (λ at. ⊎_elim (λ before. settled_leaves old old.seen settled c before) (λ none. absurd none)
     (subst (λ (more : List Moment). LeftBy more c) (append_cancel_left old.past at.0 (now_of old ∷ []) (sym at.1 ∙ time)) at.2))
@@ -27,7 +28,8 @@ pub only_flushes_lem : (old new : Told) → Settled old old.seen → Flushed old
 only_flushes_lem old new settled (inl done) = record {
   called = inl done;
   seen = done.seen;
-  left = left_since old new settled done.time (λ c may. settled_leaves new old.seen (record { seen = done.seen; durable = done.durable; pending = done.pending }) c may);
+  left = left_since old new settled done.time
+      (λ c may. settled_leaves new old.seen (record { seen = done.seen; durable = done.durable; pending = done.pending }) c may);
 }
 only_flushes_lem old new settled (inr failed) = record {
   called = inr failed;

@@ -24,7 +24,8 @@ module _ (denotes : Sectors → Option Layout → Type 0) (unmendable : Sectors 
 
 -- why d isn't mended: it denotes nothing, or there is a finding that no repair mends. Never because there is no plan
 -- else, or because the checker refuses it
-abbrev pub RefusesToMend : (Sectors → Option Layout → Type 0) → (Sectors → Reason → Type 0) → (Sectors → Layout → Finding → Type 0) → Sectors → RepairError → Type 0
+abbrev pub RefusesToMend : (Sectors → Option Layout → Type 0) → (Sectors → Reason → Type 0) → (Sectors → Layout → Finding → Type 0)
+    → Sectors → RepairError → Type 0
 RefusesToMend denotes reason unmendable d (NoTable e) = denotes d None × reason d e
 RefusesToMend denotes reason unmendable d (Unsound f) = (l : Layout) × denotes d (Some l) × unmendable d l f
 RefusesToMend denotes reason unmendable d (Device fault) = Unit {0}
@@ -32,7 +33,8 @@ RefusesToMend denotes reason unmendable d Memory = Unit {0}
 RefusesToMend denotes reason unmendable d (Plan e) = ⊥
 RefusesToMend denotes reason unmendable d (Check why) = ⊥
 
-module _ (denotes : Sectors → Option Layout → Type 0) (plans : Sectors → Layout → List Writes → Type 0) (unmendable : Sectors → Layout → Finding → Type 0) where
+module _ (denotes : Sectors → Option Layout → Type 0) (plans : Sectors → Layout → List Writes → Type 0)
+    (unmendable : Sectors → Layout → Finding → Type 0) where
   -- a plan for the layout that d denotes
   pub record MendPlanned (d : Sectors) (phases : List Writes) : Type 0 where
     pub layout : Layout

@@ -52,7 +52,8 @@ module _ {L W R : Type 0} (denotes : Sectors → Option L → Type 0) (edited : 
     -- a crash now leaves a disk that denotes what the calls, each as it answered, make of o
     pub at_end : (c : Sectors) → MayLeave new c → Has denotes edited o (answered calls) c
 
-module _ {W : Type 0} (commits : W → Result Unit CommitError → Told → Told → Type 0) (repairs : Result Unit RepairError → Told → Told → Type 0) where
+module _ {W : Type 0} (commits : W → Result Unit CommitError → Told → Told → Type 0)
+    (repairs : Result Unit RepairError → Told → Told → Type 0) where
   -- what the contract of the call says of the disk before and after it
   abbrev pub Did : Step W → Told → Told → Type 0
   Did (a_commit w result) old new = commits w result old new

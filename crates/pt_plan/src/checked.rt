@@ -29,7 +29,8 @@ pub fn apply_checked<const B: usize, D: Disk<B>>(
     ensures blames { Blames fault_in result (D.faults disk.old) (D.faults disk.new) }
     ensures applied { D.tells → IfOk result (Applied B (phases_of plan.now) (D.told disk.old) (D.told disk.new)) }
     ensures failed { D.tells → IfErr result (ApplyFailed B (phases_of plan.now) (D.told disk.old) (D.told disk.new)) }
-    ensures any_moment { D.tells → LeavesOnly (D.told disk.old) (D.told disk.new) (SafelyStopped B (phases_of plan.now) (D.told disk.old).seen) }
+    ensures any_moment { D.tells → LeavesOnly (D.told disk.old) (D.told disk.new)
+        (SafelyStopped B (phases_of plan.now) (D.told disk.old).seen) }
 {
     disk.flush()?;
     let answer = check(alloc, disk, plan)?;

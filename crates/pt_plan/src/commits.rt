@@ -7,7 +7,7 @@ ghost use Rattle.pt_plan.specs.Batches.{Commits};
 ghost use Rattle.pt_plan.specs.Failed.{commit_fault_in as fault_in, HidesNoFailure};
 
 use crate::error::CommitError;
-use crate::prepare::prepare;
+use crate::prepare::checked_plan_for;
 use pt_apply::apply;
 use pt_edit::Edit;
 use pt_guid::Guid;
@@ -34,10 +34,11 @@ pub fn commit<const B: usize, D: Disk<B>>(
     ensures name { D.name disk.new ≡ D.name disk.old }
     ensures blames { Blames fault_in result (D.faults disk.old) (D.faults disk.new) }
     ensures hides { IfErr result HidesNoFailure }
-    ensures commits { D.tells → Commits B (D.count disk.old) (record { edits = edits.now; guids = guids.now }) result (D.told disk.old) (D.told disk.new) }
+    ensures commits { D.tells → Commits B (D.count disk.old) (record { edits = edits.now; guids = guids.now }) result
+        (D.told disk.old) (D.told disk.new) }
 {
     disk.flush()?;
-    let plan = prepare(alloc, disk, edits, guids)?;
+    let plan = checked_plan_for(alloc, disk, edits, guids)?;
     apply(disk, &plan)?;
     Ok(())
 }

@@ -9,6 +9,9 @@ use pt_edit::Refusal;
 use pt_layout::NoTable;
 use pt_planner::PlanError;
 use pt_sector::{Failure, Fault};
+use std::alloc::AllocError;
+use std::error::Error;
+use std::fmt;
 
 /// Why a commit isn't done. A fault of the device in any step is `Device`, and want of memory in any step is `Memory`,
 /// never within another error. After all but `Device` the first flush was done and nothing else.
@@ -42,6 +45,39 @@ impl CommitError {
             CommitError::Device(_) => 5,
             CommitError::Memory => 6,
         }
+    }
+}
+
+impl fmt::Display for CommitError {
+    fn fmt<W: fmt::Write>(&self, f: &mut fmt::Formatter<W>) -> fmt::Result {
+        match self {
+            CommitError::NoTable(why) => write!(f, "there is no table: {why}"),
+            CommitError::Edit(refusal) => write!(f, "{refusal}"),
+            CommitError::Plan(error) => write!(f, "{error}"),
+            CommitError::Check(why) => write!(f, "the plan is refused: {why}"),
+            CommitError::Device(fault) => write!(f, "{fault}"),
+            CommitError::Memory => f.write_str("out of memory"),
+        }
+    }
+}
+
+impl Error for CommitError {}
+
+impl From<NoTable> for CommitError {
+    fn from(why: NoTable) -> CommitError {
+        match why {
+            NoTable::Device(at) => CommitError::Device(Fault::Read(at)),
+            NoTable::Memory => CommitError::Memory,
+            why => CommitError::NoTable(why),
+        }
+    }
+}
+
+impl From<AllocError> for CommitError {
+    ghost from_gives = { λ _ e. e ≡ commit.Memory };
+
+    fn from(_error: AllocError) -> CommitError {
+        CommitError::Memory
     }
 }
 

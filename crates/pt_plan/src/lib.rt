@@ -18,8 +18,8 @@ pub use laws::{
     no_calls_carry, repair_carries, run_carries, run_keeps_history, second_repair_is_idle,
     session_carries, two_calls_carry,
 };
-pub use prepare::plan_for;
+pub use prepare::{checked_plan_for, plan_for};
 pub use pt_planner::PlanError;
 pub use repair_error::RepairError;
-pub use repairs::{plan_for_repair, repair};
+pub use repairs::{checked_plan_for_repair, plan_for_repair, repair};
 pub use sessions::{Batch, Reply, session};

@@ -61,7 +61,9 @@ fn start<const B: usize, D: Disk<B>>(
     ensures same { OnlyReads D.Disk disk.old disk.new }
     ensures blames { Blames fault_in result (D.faults disk.old) (D.faults disk.new) }
     ensures hides { IfErr result HidesNoFailure }
-    ensures ok { D.tells → IfOk result (λ known. IsKnown B (D.told disk.old).seen known × StartsFrom B (record { edits = edits.now; guids = guids.now }) (D.told disk.old).seen known.old) }
+    ensures ok { D.tells → IfOk result
+        (λ known. IsKnown B (D.told disk.old).seen known
+        × StartsFrom B (record { edits = edits.now; guids = guids.now }) (D.told disk.old).seen known.old) }
     ensures err { D.tells → IfErr result (NoStart B (record { edits = edits.now; guids = guids.now }) (D.told disk.old).seen) }
 {
     let (known, reason) = read_known(alloc, disk)?;
@@ -87,7 +89,8 @@ fn edited<const B: usize>(
 ) -> Result<Layout, CommitError>
     requires size { IsSectorSize B }
     ensures hides { IfErr result HidesNoFailure }
-    ensures ok { IfOk result (λ made. EditedBy B (sectors_in old.now sectors) old.now (record { edits = edits.now; guids = guids.now }) (Ok made)) }
+    ensures ok { IfOk result (λ made. EditedBy B (sectors_in old.now sectors) old.now
+        (record { edits = edits.now; guids = guids.now }) (Ok made)) }
     ensures err { IfErr result (NotEdited B (sectors_in old.now sectors) old.now (record { edits = edits.now; guids = guids.now })) }
 {
     let made = match old {
@@ -152,8 +155,10 @@ pub fn plan_for<const B: usize, D: Disk<B>>(
     ensures hides { IfErr result HidesNoFailure }
     ensures in_range { IfOk result (InRange (D.count disk.old)) }
     ensures phases { IfOk result (λ plan. All (λ p. 0 < length p.items) plan.phases.items) }
-    ensures planned { D.tells → IfOk result (λ plan. IsPlanned B (D.count disk.old) (record { edits = edits.now; guids = guids.now }) (D.told disk.old).seen (phases_of plan)) }
-    ensures refused { D.tells → IfErr result (IsRefusal B (D.count disk.old) (record { edits = edits.now; guids = guids.now }) (D.told disk.old).seen) }
+    ensures planned { D.tells → IfOk result
+        (λ plan. IsPlanned B (D.count disk.old) (record { edits = edits.now; guids = guids.now }) (D.told disk.old).seen (phases_of plan)) }
+    ensures refused { D.tells → IfErr result
+        (IsRefusal B (D.count disk.old) (record { edits = edits.now; guids = guids.now }) (D.told disk.old).seen) }
 {
     let known = start(alloc, disk, edits, guids)?;
     let wanted = edited::<B>(alloc, &known.old, disk.sectors(), edits, guids)?;
@@ -161,8 +166,8 @@ pub fn plan_for<const B: usize, D: Disk<B>>(
     Ok(plan)
 }
 
-/// The checked plan for what the words make of what the disk denotes.
-pub(crate) fn prepare<const B: usize, D: Disk<B>>(
+/// The same plan, once the checker has accepted it. Nothing is flushed or written.
+pub fn checked_plan_for<const B: usize, D: Disk<B>>(
     alloc: Global,
     disk: &mut D,
     edits: &[Edit],
@@ -173,8 +178,10 @@ pub(crate) fn prepare<const B: usize, D: Disk<B>>(
     ensures blames { Blames fault_in result (D.faults disk.old) (D.faults disk.new) }
     ensures hides { IfErr result HidesNoFailure }
     ensures in_range { IfOk result (InRange (D.count disk.old)) }
-    ensures ready { D.tells → IfOk result (λ plan. IsReady B (D.count disk.old) (record { edits = edits.now; guids = guids.now }) (D.told disk.old).seen (phases_of plan)) }
-    ensures refused { D.tells → IfErr result (IsRefusal B (D.count disk.old) (record { edits = edits.now; guids = guids.now }) (D.told disk.old).seen) }
+    ensures ready { D.tells → IfOk result
+        (λ plan. IsReady B (D.count disk.old) (record { edits = edits.now; guids = guids.now }) (D.told disk.old).seen (phases_of plan)) }
+    ensures refused { D.tells → IfErr result
+        (IsRefusal B (D.count disk.old) (record { edits = edits.now; guids = guids.now }) (D.told disk.old).seen) }
 {
     let plan = plan_for(alloc, disk, edits, guids)?;
     checked(alloc, disk, &plan)?;

@@ -8,6 +8,8 @@ use pt_check::{CheckError, Why};
 use pt_layout::{Finding, NoTable};
 use pt_planner::PlanError;
 use pt_sector::{Failure, Fault};
+use std::error::Error;
+use std::fmt;
 
 /// Why a disk isn't repaired. A fault of the device in any step is `Device`, and want of memory in any step is `Memory`,
 /// never within another error. After all but `Device` the first flush was done and nothing else.
@@ -41,6 +43,31 @@ impl RepairError {
             RepairError::Memory => 4,
             RepairError::Plan(_) => 5,
             RepairError::Check(_) => 6,
+        }
+    }
+}
+
+impl fmt::Display for RepairError {
+    fn fmt<W: fmt::Write>(&self, f: &mut fmt::Formatter<W>) -> fmt::Result {
+        match self {
+            RepairError::NoTable(why) => write!(f, "there is no table: {why}"),
+            RepairError::Unsound(finding) => write!(f, "a repair leaves it to you: {finding}"),
+            RepairError::Device(fault) => write!(f, "{fault}"),
+            RepairError::Memory => f.write_str("out of memory"),
+            RepairError::Plan(error) => write!(f, "{error}"),
+            RepairError::Check(why) => write!(f, "the plan is refused: {why}"),
+        }
+    }
+}
+
+impl Error for RepairError {}
+
+impl From<NoTable> for RepairError {
+    fn from(why: NoTable) -> RepairError {
+        match why {
+            NoTable::Device(at) => RepairError::Device(Fault::Read(at)),
+            NoTable::Memory => RepairError::Memory,
+            why => RepairError::NoTable(why),
         }
     }
 }

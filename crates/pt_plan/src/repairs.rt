@@ -61,8 +61,8 @@ pub fn plan_for_repair<const B: usize, D: Disk<B>>(
     }
 }
 
-/// The same, checked.
-fn prepare_repair<const B: usize, D: Disk<B>>(
+/// The same plan, once the checker has accepted it. Nothing is flushed or written.
+pub fn checked_plan_for_repair<const B: usize, D: Disk<B>>(
     alloc: Global,
     disk: &mut D,
 ) -> Result<Plan<B>, RepairError>
@@ -98,7 +98,7 @@ pub fn repair<const B: usize, D: Disk<B>>(alloc: Global, disk: &mut D) -> Result
     ensures repairs { D.tells → Repairs B (D.count disk.old) result (D.told disk.old) (D.told disk.new) }
 {
     disk.flush()?;
-    let plan = prepare_repair(alloc, disk)?;
+    let plan = checked_plan_for_repair(alloc, disk)?;
     apply(disk, &plan)?;
     Ok(())
 }

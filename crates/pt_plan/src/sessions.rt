@@ -46,7 +46,8 @@ fn attempt<const B: usize, D: Disk<B>>(
     ensures name { D.name disk.new ≡ D.name disk.old }
     ensures replied { Replied faulted.old result faulted.new }
     ensures blames { D.faults disk.new ≡ D.faults disk.old ++ faults_in (result ∷ []) }
-    ensures tried { D.tells → Tried (Commits B (D.count disk.old)) (record { edits = edits.now; guids = guids.now }) result (D.told disk.old) (D.told disk.new) }
+    ensures tried { D.tells → Tried (Commits B (D.count disk.old)) (record { edits = edits.now; guids = guids.now }) result
+        (D.told disk.old) (D.told disk.new) }
 {
     if *faulted {
         return Reply::NotTried;
@@ -77,7 +78,8 @@ pub fn session<const B: usize, D: Disk<B>>(
     ensures memory { OnErr result (disk.new ≡ disk.old) }
     ensures replies { IfOk result (λ rs. AreReplies (map batch_of batches.now) rs.items) }
     ensures blames { IfOk result (λ rs. D.faults disk.new ≡ D.faults disk.old ++ faults_in rs.items) }
-    ensures session { D.tells → IfOk result (λ rs. SessionOf B (D.count disk.old) (map batch_of batches.now) rs.items (D.told disk.old) (D.told disk.new)) }
+    ensures session { D.tells → IfOk result
+        (λ rs. SessionOf B (D.count disk.old) (map batch_of batches.now) rs.items (D.told disk.old) (D.told disk.new)) }
 {
     let mut replies = Vec::with_capacity(alloc, batches.len())?;
     let mut faulted = false;

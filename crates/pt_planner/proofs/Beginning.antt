@@ -1,5 +1,6 @@
 -- What stands once a layout was found to be one of the disk, and sound.
-use Rattle.std.proofs.Common.{◌≡◌, ◌∙◌, ◌↔◌, ◌⊎◌, ℕ, zero, suc, List, [], length, replicate, Bool, true, IsTrue, Option, Some, refl, ap, subst}
+use Rattle.std.proofs.Common.{◌≡◌, ◌∙◌, ◌↔◌, ◌⊎◌, ℕ, zero, suc, List, [], length, replicate, Bool, true, IsTrue, Option, Some, refl, ap}
+use Rattle.std.proofs.Common.{subst}
 use Rattle.pt_sector.specs.Sectors.{Sectors}
 use Rattle.pt_gpt.specs.declared.table.Table.{Table}
 use Rattle.pt_mbr.specs.declared.ebr.Ebr.{Ebr}
@@ -10,8 +11,8 @@ use Rattle.pt_recover.specs.declared.layout.Layout.{Layout}
 use Rattle.pt_layout.specs.Healthy.{IsHealthy}
 use Rattle.pt_layout.specs.Sound.{Sound}
 use Rattle.pt_cases.specs.Causes.{MayBe, MayHave, WasMbr}
-use Rattle.pt_cases.specs.Copies.{FitsTable}
-use Rattle.pt_cases.specs.Records.{IsLinked}
+use Rattle.pt_shape.specs.Shape.{FitsTable}
+use Rattle.pt_shape.specs.Links.{IsLinked}
 use Rattle.pt_targets.specs.Starts.{Start}
 use Rattle.pt_planner.specs.Known.{IsKnown}
 use Rattle.pt_planner.specs.declared.known.Known.{Known}
@@ -19,7 +20,8 @@ use Rattle.pt_planner.specs.declared.known.Known.{Known}
 -- a layout that a disk of n sectors may have
 pub record IsOfDisk (b n : ℕ) (o : Option Layout) (p : Layout) : Type 0 where
   pub sectors : p.sectors ≡ n
-  pub mbr : (records : List (Option Record)) (chain : List Ebr) → p.body ≡ Mbr records chain → WasMbr o × IsLinked n (extended_of records) chain
+  pub mbr : (records : List (Option Record)) (chain : List Ebr) → p.body ≡ Mbr records chain
+      → WasMbr o × IsLinked n (extended_of records) chain
   pub fits : (t : Table) → p.body ≡ Gpt t → FitsTable b n t
 
 abbrev blank : ℕ → Sectors
@@ -32,12 +34,16 @@ blank_count (suc n) = ap suc (blank_count n)
 may_be_of : (b n : ℕ) (o : Option Layout) (p : Layout) (d : Sectors) → length d ≡ n → MayBe b d o p → IsOfDisk b n o p
 may_be_of b n o p d count may = record {
   sectors = may.sectors ∙ count;
-  mbr = λ records chain body. let has : MayHave b d o (Mbr records chain) = subst (MayHave b d o) body may.body in (has.0, subst (λ (k : ℕ). IsLinked k (extended_of records) chain) count has.1);
+  mbr = λ records chain body. let has : MayHave b d o (Mbr records chain) = subst (MayHave b d o) body may.body in
+      (has.0, subst (λ (k : ℕ). IsLinked k (extended_of records) chain) count has.1);
   fits = λ t body. let has : MayHave b d o (Gpt t) = subst (MayHave b d o) body may.body in subst (λ (k : ℕ). FitsTable b k t) count has;
 }
 
-pub of_disk : (b n : ℕ) (o : Option Layout) (p : Layout) (may : Bool) → ((d : Sectors) → length d ≡ n → IsTrue may ↔ MayBe b d o p) → may ≡ true → IsOfDisk b n o p
+pub of_disk : (b n : ℕ) (o : Option Layout) (p : Layout) (may : Bool) → ((d : Sectors) → length d ≡ n → IsTrue may ↔ MayBe b d o p)
+    → may ≡ true → IsOfDisk b n o p
 of_disk b n o p may is so = may_be_of b n o p (blank n) (blank_count n) ((is (blank n) (blank_count n)).0 so)
 
-pub starts : (b : ℕ) (d : Sectors) (x : Known) (p : Layout) → IsKnown b d x → Sound b p → p.sectors ≡ length d → (x.old ≡ Some p) ⊎ ¬ (x.old ≡ Some p) → ¬ IsHealthy b d p → Start b d x.old p
-starts b d x p known sound sectors stays not_done = record { from = known.old; sound = sound; sectors = sectors; stays = stays; not_done = not_done }
+pub starts : (b : ℕ) (d : Sectors) (x : Known) (p : Layout) → IsKnown b d x → Sound b p → p.sectors ≡ length d
+    → (x.old ≡ Some p) ⊎ ¬ (x.old ≡ Some p) → ¬ IsHealthy b d p → Start b d x.old p
+starts b d x p known sound sectors stays not_done =
+    record { from = known.old; sound = sound; sectors = sectors; stays = stays; not_done = not_done }

@@ -1,5 +1,6 @@
 -- What a survey makes known, and what follows for a wanted layout.
-use Rattle.std.proofs.Common.{◌≡◌, ◌↔◌, ◌⊎◌, inl, inr, ℕ, Bool, true, false, Option, Some, None, Result, Ok, Err, IfOk, IsTrue, refl, sym, ap, ◌∙◌, subst}
+use Rattle.std.proofs.Common.{◌≡◌, ◌↔◌, ◌⊎◌, inl, inr, ℕ, Bool, true, false, Option, Some, None, Result, Ok, Err, IfOk, IsTrue, refl}
+use Rattle.std.proofs.Common.{sym, ap, ◌∙◌, subst}
 use Rattle.std.specs.Prelude.{is_some, not, IfSome}
 use Rattle.pt_sector.specs.Sectors.{Sectors}
 use Rattle.pt_recover.specs.Denotes.{Denotes}
@@ -15,29 +16,35 @@ use Rattle.pt_layout.specs.declared.survey.Survey.{Survey}
 use Rattle.pt_planner.specs.Known.{WrongIs, IsEither, IsKnown, IsKnownOf, FoundAs, ReasonIs}
 use Rattle.pt_planner.specs.declared.known.Known.{Known}
 
-old_is : (b : ℕ) (d : Sectors) (found : Result Layout NoTable) (old : Option Layout) (reason : Option NoTable) → FoundAs found old reason → FoundIs b d found → Denotes b d old
+old_is : (b : ℕ) (d : Sectors) (found : Result Layout NoTable) (old : Option Layout) (reason : Option NoTable)
+    → FoundAs found old reason → FoundIs b d found → Denotes b d old
 old_is b d (Ok o) old reason found_as is = subst (Denotes b d) (sym found_as.0) is
 old_is b d (Err e) old reason found_as is = subst (Denotes b d) (sym found_as.0) is.0
 
-wrong_is : (b : ℕ) (d : Sectors) (found : Result Layout NoTable) (old : Option Layout) (reason : Option NoTable) (finding : Option Finding) → FoundAs found old reason → FindingIs b d found finding → WrongIs b d old finding
+wrong_is : (b : ℕ) (d : Sectors) (found : Result Layout NoTable) (old : Option Layout) (reason : Option NoTable) (finding : Option Finding)
+    → FoundAs found old reason → FindingIs b d found finding → WrongIs b d old finding
 wrong_is b d found old reason (Some f) found_as is = is
 wrong_is b d (Ok o) old reason None found_as is = subst (λ (x : Option Layout). WrongIs b d x None) (sym found_as.0) is
 wrong_is b d (Err e) old reason None found_as is = absurd is
 
-pub reason_is : (b : ℕ) (d : Sectors) (found : Result Layout NoTable) (old : Option Layout) (reason : Option NoTable) → FoundAs found old reason → FoundIs b d found → ReasonIs b d old reason
+pub reason_is : (b : ℕ) (d : Sectors) (found : Result Layout NoTable) (old : Option Layout) (reason : Option NoTable)
+    → FoundAs found old reason → FoundIs b d found → ReasonIs b d old reason
 reason_is b d (Ok o) old reason found_as is = rw (found_as.0, found_as.1) tt
 reason_is b d (Err e) old reason found_as is = rw (found_as.0, found_as.1) is.1
 
 -- a survey finds a layout, with numbers of 32 bits, or tells a reason
-pub either_is : (found : Result Layout NoTable) (old : Option Layout) (reason : Option NoTable) → FoundAs found old reason → IsEither old reason
+pub either_is : (found : Result Layout NoTable) (old : Option Layout) (reason : Option NoTable) → FoundAs found old reason
+    → IsEither old reason
 either_is (Ok o) old reason found_as = rw (found_as.0, found_as.1) tt
 either_is (Err e) old reason found_as = rw (found_as.0, found_as.1) tt
 
-pub numbers_are : (found : Result Layout NoTable) (old : Option Layout) (reason : Option NoTable) → FoundAs found old reason → IfOk found Numbers → IfSome old Numbers
+pub numbers_are : (found : Result Layout NoTable) (old : Option Layout) (reason : Option NoTable) → FoundAs found old reason
+    → IfOk found Numbers → IfSome old Numbers
 numbers_are (Ok o) old reason found_as numbers = rw found_as.0 numbers
 numbers_are (Err e) old reason found_as numbers = rw found_as.0 tt
 
-pub known_is : (b : ℕ) (d : Sectors) (read : Survey) (x : Known) (reason : Option NoTable) → IsKnownOf read x reason → IsSurvey b d read → IsKnown b d x
+pub known_is : (b : ℕ) (d : Sectors) (read : Survey) (x : Known) (reason : Option NoTable) → IsKnownOf read x reason → IsSurvey b d read
+    → IsKnown b d x
 known_is b d read x reason found_as is = record {
   head = rw found_as.head is.head;
   old = old_is b d read.found x.old reason found_as.found is.found;
@@ -52,8 +59,10 @@ some_same same = cc
 healthy_with : (b : ℕ) (d : Sectors) (old : Option Layout) (p : Layout) → old ≡ Some p → WrongIs b d old None → IsHealthy b d p
 healthy_with b d old p same is = subst (λ (x : Option Layout). WrongIs b d x None) same is
 
-excluded : (b : ℕ) (d : Sectors) (x : Known) (p : Layout) (finding : Option Finding) → x.finding ≡ finding → IsKnown b d x → IsHealthy b d p → finding ≡ None
-excluded b d x p (Some f) same known healthy = absurd (finding_excludes_lem b d f (subst (WrongIs b d x.old) same known.finding) (p, healthy))
+excluded : (b : ℕ) (d : Sectors) (x : Known) (p : Layout) (finding : Option Finding) → x.finding ≡ finding → IsKnown b d x
+    → IsHealthy b d p → finding ≡ None
+excluded b d x p (Some f) same known healthy =
+    absurd (finding_excludes_lem b d f (subst (WrongIs b d x.old) same known.finding) (p, healthy))
 excluded b d x p None same known healthy = refl
 
 none_by : (finding : Option Finding) (none : Bool) → is_some finding ≡ not none → none ≡ true → finding ≡ None
@@ -65,7 +74,8 @@ none_tells finding true is at = refl
 none_tells finding false is at = absurd (let some : false ≡ true = sym (ap is_some at) ∙ is in cc)
 
 -- a disk with this layout is healthy with it where nothing is wrong
-pub done_here : (b : ℕ) (d : Sectors) (x : Known) (p : Layout) (none : Bool) → x.old ≡ Some p → is_some x.finding ≡ not none → IsKnown b d x → IsTrue none ↔ IsHealthy b d p
+pub done_here : (b : ℕ) (d : Sectors) (x : Known) (p : Layout) (none : Bool) → x.old ≡ Some p → is_some x.finding ≡ not none
+    → IsKnown b d x → IsTrue none ↔ IsHealthy b d p
 done_here b d x p none same is known = (
   (λ so. healthy_with b d x.old p same (subst (WrongIs b d x.old) (none_by x.finding none is so) known.finding)),
   (λ healthy. none_tells x.finding none is (excluded b d x p x.finding refl known healthy)),

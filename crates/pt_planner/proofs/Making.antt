@@ -1,5 +1,6 @@
 -- From the parts of a plan to the planner's answer.
-use Rattle.std.proofs.Common.{◌≡◌, ◌↔◌, inl, inr, ℕ, zero, suc, ◌<◌, List, [], ◌∷◌, length, Bool, true, false, Option, Some, None, Result, Ok, Err, IfOk, IfErr, IsTrue, All, refl, subst, arith}
+use Rattle.std.proofs.Common.{◌≡◌, ◌↔◌, inl, inr, ℕ, zero, suc, ◌<◌, List, [], ◌∷◌, length, Bool, true, false, Option, Some, None}
+use Rattle.std.proofs.Common.{Result, Ok, Err, IfOk, IfErr, IsTrue, All, refl, subst, arith}
 use Rattle.std.specs.Prelude.{Contains, get_or}
 use Rattle.pt_sector.specs.Sectors.{Sectors}
 use Rattle.pt_gpt.specs.Copy.{HasCopy}
@@ -22,8 +23,8 @@ use Rattle.pt_layout.specs.declared.health.Head.{Head}
 use Rattle.pt_layout.specs.declared.health.Head.TheVariants as head
 use Rattle.pt_cases.specs.Cases.{ChangesLabels}
 use Rattle.pt_cases.specs.Causes.{MayBe}
-use Rattle.pt_cases.specs.Copies.{FitsTable}
-use Rattle.pt_cases.specs.Records.{IsLinked}
+use Rattle.pt_shape.specs.Shape.{FitsTable}
+use Rattle.pt_shape.specs.Links.{IsLinked}
 use Rattle.pt_targets.specs.Misfits.{NoneLeft}
 use Rattle.pt_tables.specs.Starts.{OrderIs, HeadIs, CopiesStart}
 use Rattle.pt_tables.specs.declared.order.Order.{Order}
@@ -59,7 +60,8 @@ pub isnt : {P : Type 0} (holds : Bool) → holds ≡ false → IsTrue holds ↔ 
 isnt holds low same is = absurd (let high : holds ≡ true = same.1 is in cc)
 
 -- what the parts answer, in the planner's words
-pub turn_hinders : (b : ℕ) (d : Sectors) (o : Option Layout) (p : Layout) (e : PlanError) → StopsBy b d o p (HasNoTurn b d o p) e → Hindered b d o p e
+pub turn_hinders : (b : ℕ) (d : Sectors) (o : Option Layout) (p : Layout) (e : PlanError) → StopsBy b d o p (HasNoTurn b d o p) e
+    → Hindered b d o p e
 turn_hinders b d o p NotOneSwitch is = turn is
 turn_hinders b d o p ReusedInOneBatch is = is
 turn_hinders b d o p NeedsRepair is = is
@@ -67,7 +69,8 @@ turn_hinders b d o p Memory is = tt
 turn_hinders b d o p (Device fault) is = absurd is
 turn_hinders b d o p (Unsound f) is = absurd is
 
-pub copies_hinder : (b : ℕ) (d : Sectors) (o : Option Layout) (p : Layout) (e : PlanError) → StopsBy b d o p (HasNoCopies b d o p) e → Hindered b d o p e
+pub copies_hinder : (b : ℕ) (d : Sectors) (o : Option Layout) (p : Layout) (e : PlanError) → StopsBy b d o p (HasNoCopies b d o p) e
+    → Hindered b d o p e
 copies_hinder b d o p NotOneSwitch is = copies is
 copies_hinder b d o p ReusedInOneBatch is = is
 copies_hinder b d o p NeedsRepair is = is
@@ -80,46 +83,61 @@ module _ (b : ℕ) (d : Sectors) (o : Layout) (from : Denotes b d (Some o)) wher
   same_here : (q : Layout) → Denotes b d (Some q) → q ≡ o
   same_here q is = let both : Some q ≡ Some o = denotes_one_lem b d (Some q) (Some o) is from in cc
 
-  broken_here : (f : Finding) (broken : Bool) → (q : Layout) × Denotes b d (Some q) × IsBodyBroken b d q.body f → broken ≡ true → Unbroken b d o broken
+  broken_here : (f : Finding) (broken : Bool) → (q : Layout) × Denotes b d (Some q) × IsBodyBroken b d q.body f → broken ≡ true
+      → Unbroken b d o broken
   broken_here f broken (q, is, breaks) so = rw so (f, subst (λ (l : Layout). IsBodyBroken b d l.body f) (same_here q is) breaks)
 
-  whole_here : (L : Layout → Type 0) (broken : Bool) → ((q : Layout) → L q → IsBodyWhole b d q.body) → (q : Layout) × Denotes b d (Some q) × L q → broken ≡ false → Unbroken b d o broken
+  whole_here : (L : Layout → Type 0) (broken : Bool) → ((q : Layout) → L q → IsBodyWhole b d q.body)
+      → (q : Layout) × Denotes b d (Some q) × L q → broken ≡ false → Unbroken b d o broken
   whole_here L broken whole (q, is, more) so = rw so (subst (λ (l : Layout). IsBodyWhole b d l.body) (same_here q is) (whole q more))
 
-  unbroken_by : (finding : Option Finding) (broken : Bool) → WrongIs b d (Some o) finding → IsBrokenBy finding broken → Unbroken b d o broken
+  unbroken_by : (finding : Option Finding) (broken : Bool) → WrongIs b d (Some o) finding → IsBrokenBy finding broken
+      → Unbroken b d o broken
   unbroken_by None broken healthy so = rw so healthy.whole
-  unbroken_by (Some (finding.NoTable e)) broken is so = (let both : None ≡ Some o = denotes_one_lem b d None (Some o) is.0 from in absurd cc)
+  unbroken_by (Some (finding.NoTable e)) broken is so =
+      (let both : None ≡ Some o = denotes_one_lem b d None (Some o) is.0 from in absurd cc)
   unbroken_by (Some (finding.PrimaryCopy e)) broken is so = broken_here (finding.PrimaryCopy e) broken is so
   unbroken_by (Some (finding.BackupCopy e)) broken is so = broken_here (finding.BackupCopy e) broken is so
   unbroken_by (Some finding.CopiesDiffer) broken is so = broken_here finding.CopiesDiffer broken is so
   unbroken_by (Some (finding.Alternate side)) broken is so = broken_here (finding.Alternate side) broken is so
   unbroken_by (Some finding.Protective) broken is so = broken_here finding.Protective broken is so
-  unbroken_by (Some (finding.OutsideUsable q)) broken is so = whole_here (λ l. IsLayoutFinding b d l (finding.OutsideUsable q)) broken (λ l more. more.0) is so
-  unbroken_by (Some (finding.Overlap q r)) broken is so = whole_here (λ l. IsLayoutFinding b d l (finding.Overlap q r)) broken (λ l more. more.0) is so
-  unbroken_by (Some (finding.OnTable q s)) broken is so = whole_here (λ l. IsLayoutFinding b d l (finding.OnTable q s)) broken (λ l more. more.0) is so
-  unbroken_by (Some (finding.SameGuid i j)) broken is so = whole_here (λ l. IsLayoutFinding b d l (finding.SameGuid i j)) broken (λ l more. more.0) is so
-  unbroken_by (Some (finding.ForeignLabel q)) broken is so = whole_here (λ l. IsLayoutFinding b d l (finding.ForeignLabel q)) broken (λ l more. more.0) is so
+  unbroken_by (Some (finding.OutsideUsable q)) broken is so =
+      whole_here (λ l. IsLayoutFinding b d l (finding.OutsideUsable q)) broken (λ l more. more.0) is so
+  unbroken_by (Some (finding.Overlap q r)) broken is so =
+      whole_here (λ l. IsLayoutFinding b d l (finding.Overlap q r)) broken (λ l more. more.0) is so
+  unbroken_by (Some (finding.OnTable q s)) broken is so =
+      whole_here (λ l. IsLayoutFinding b d l (finding.OnTable q s)) broken (λ l more. more.0) is so
+  unbroken_by (Some (finding.SameGuid i j)) broken is so =
+      whole_here (λ l. IsLayoutFinding b d l (finding.SameGuid i j)) broken (λ l more. more.0) is so
+  unbroken_by (Some (finding.ForeignLabel q)) broken is so =
+      whole_here (λ l. IsLayoutFinding b d l (finding.ForeignLabel q)) broken (λ l more. more.0) is so
 
-pub label_start : {b : ℕ} (d : Sectors) (x : Known) (p : Layout) (t : Table) (broken : Bool) (places : List (Target b)) → IsKnown b d x → Start b d x.old p → p.body ≡ Gpt t → ChangesLabels x.old p
+pub label_start : {b : ℕ} (d : Sectors) (x : Known) (p : Layout) (t : Table) (broken : Bool) (places : List (Target b)) → IsKnown b d x
+    → Start b d x.old p → p.body ≡ Gpt t → ChangesLabels x.old p
     → IsBrokenBy x.finding broken → AreLabelTargets d x.old p places → LabelStart d x.old p broken places
 label_start {b = b} d x p t broken places known start body changes is are = record {
   start = start;
   table = t;
   body = body;
   changes = changes;
-  unbroken = unbroken_by b d changes.old (subst (Denotes b d) changes.is_old known.old) x.finding broken (subst (λ (o : Option Layout). WrongIs b d o x.finding) changes.is_old known.finding) is;
+  unbroken = unbroken_by b d changes.old (subst (Denotes b d) changes.is_old known.old) x.finding broken
+      (subst (λ (o : Option Layout). WrongIs b d o x.finding) changes.is_old known.finding) is;
   places = are;
 }
 
-order_by : (b : ℕ) (d : Sectors) (h : Head) (primary : Bool) (order : Order) → HeadOf d h → (¬ IsMbrDisk d → IsTrue primary ↔ HasCopy b d Primary) → OrderOf h primary order → OrderIs b d order
+order_by : (b : ℕ) (d : Sectors) (h : Head) (primary : Bool) (order : Order) → HeadOf d h
+    → (¬ IsMbrDisk d → IsTrue primary ↔ HasCopy b d Primary) → OrderOf h primary order → OrderIs b d order
 order_by b d head.Mbr primary order is has so = rw so is
 order_by b d head.Protected true order is has so = rw so (is.0, (has is.0).0 refl)
 order_by b d head.Protected false order is has so = rw so (is.0, λ there. (let low : false ≡ true = (has is.0).1 there in absurd cc))
 order_by b d head.Unprotected true order is has so = rw so (is.0, (has is.0).0 refl)
 order_by b d head.Unprotected false order is has so = rw so (is.0, λ there. (let low : false ≡ true = (has is.0).1 there in absurd cc))
 
-pub copies_start : {b : ℕ} (d : Sectors) (x : Known) (p : Layout) (t : Table) (order : Order) (given : Option (List ℕ)) (places : List (Target b)) → IsKnown b d x → Start b d x.old p → p.body ≡ Gpt t
-    → FitsTable b (length d) t → ¬ ChangesLabels x.old p → OrderOf x.head x.primary order → HeadIs d given → AreLabelTargets d x.old p places → CopiesStart d x.old p t order x.guarded given places
+pub copies_start : {b : ℕ} (d : Sectors) (x : Known) (p : Layout) (t : Table) (order : Order) (given : Option (List ℕ))
+    (places : List (Target b))
+    → IsKnown b d x → Start b d x.old p → p.body ≡ Gpt t
+    → FitsTable b (length d) t → ¬ ChangesLabels x.old p → OrderOf x.head x.primary order → HeadIs d given
+    → AreLabelTargets d x.old p places → CopiesStart d x.old p t order x.guarded given places
 copies_start {b = b} d x p t order given places known start body fits other so head are = record {
   start = start;
   body = body;
@@ -131,9 +149,13 @@ copies_start {b = b} d x p t order given places known start body fits other so h
   places = are;
 }
 
-pub mbr_start : {b : ℕ} (d : Sectors) (x : Known) (p old : Layout) (old_records records : List (Option Record)) (old_chain chain : List Ebr) (heads places : List (Target b)) → IsKnown b d x → Start b d x.old p
-    → x.old ≡ Some old → old.body ≡ Mbr old_records old_chain → p.body ≡ Mbr records chain → length records ≡ 4 → IsLinked (length d) (extended_of records) chain
-    → AreMbrTargets d old_records old_chain records chain heads → AreLabelTargets d x.old p places → MbrStart d x.old p x.guarded heads places
+pub mbr_start : {b : ℕ} (d : Sectors) (x : Known) (p old : Layout) (old_records records : List (Option Record))
+    (old_chain chain : List Ebr) (heads places : List (Target b))
+    → IsKnown b d x → Start b d x.old p
+    → x.old ≡ Some old → old.body ≡ Mbr old_records old_chain → p.body ≡ Mbr records chain → length records ≡ 4
+    → IsLinked (length d) (extended_of records) chain
+    → AreMbrTargets d old_records old_chain records chain heads → AreLabelTargets d x.old p places
+    → MbrStart d x.old p x.guarded heads places
 mbr_start d x p old old_records records old_chain chain heads places known start is_old old_body body four linked are labels = record {
   start = start;
   was = record { old = old; records = old_records; chain = old_chain; is_old = is_old; body = old_body };
@@ -148,7 +170,8 @@ mbr_start d x p old old_records records old_chain chain heads places known start
 }
 
 -- the planner's answer, once the layout was found sound and not there yet
-module _ (b : ℕ) (d : Sectors) (o : Option Layout) (p : Layout) (from : Denotes b d o) (sound : Sound b p) (not_done : ¬ IsHealthy b d p) where
+module _ (b : ℕ) (d : Sectors) (o : Option Layout) (p : Layout) (from : Denotes b d o) (sound : Sound b p)
+    (not_done : ¬ IsHealthy b d p) where
   pub hindered : NoneLeft b d p → (e : PlanError) → Hindered b d o p e → Unplanned b d p e
   hindered none NotOneSwitch is = record { sound = sound; not_done = not_done; old = o; from = from; cause = targets none is }
   hindered none ReusedInOneBatch is = record { sound = sound; not_done = not_done; old = o; from = from; cause = (none, is) }
@@ -159,7 +182,8 @@ module _ (b : ℕ) (d : Sectors) (o : Option Layout) (p : Layout) (from : Denote
 
   pub no_places : (e : PlanError) → PlacesStop b d o p e → Unplanned b d p e
   no_places NotOneSwitch (inl unfit) = record { sound = sound; not_done = not_done; old = o; from = from; cause = misplaced unfit }
-  no_places NotOneSwitch (inr (none, stuck)) = record { sound = sound; not_done = not_done; old = o; from = from; cause = targets none (unreadable stuck) }
+  no_places NotOneSwitch (inr (none, stuck)) =
+      record { sound = sound; not_done = not_done; old = o; from = from; cause = targets none (unreadable stuck) }
   no_places ReusedInOneBatch is = absurd is
   no_places NeedsRepair is = absurd is
   no_places (Unsound f) is = inr (record { sound = sound; number = is.0; first = is.1; is = is.2 })
@@ -170,5 +194,6 @@ module _ (b : ℕ) (d : Sectors) (o : Option Layout) (p : Layout) (from : Denote
   none_of_disk isnt = record { sound = sound; not_done = not_done; old = o; from = from; cause = other_disk isnt }
 
 -- a disk that denotes an MBR has a sector
-pub has_sectors : (b : ℕ) (d : Sectors) (o : Option Layout) (old : Layout) (records : List (Option Record)) (chain : List Ebr) → Denotes b d o → o ≡ Some old → old.body ≡ Mbr records chain → 0 < length d
+pub has_sectors : (b : ℕ) (d : Sectors) (o : Option Layout) (old : Layout) (records : List (Option Record)) (chain : List Ebr)
+    → Denotes b d o → o ≡ Some old → old.body ≡ Mbr records chain → 0 < length d
 has_sectors b d o old records chain from is body = (subst (BodyIs b d) body (subst (Denotes b d) is from).1).0.0.0

@@ -3,7 +3,7 @@ use Rattle.std.proofs.Common.{◌≡◌, ◌∙◌, ◌<◌, ◌≤◌, ◌+◌,
 use Rattle.std.proofs.Math.Seq.{drop-cons}
 use Rattle.std.proofs.lemmas.List.{drop_all}
 use Rattle.pt_mbr.specs.declared.record.Record.{Record}
-use Rattle.pt_recover.specs.Mbr.{is_extended, extended_of}
+use Rattle.pt_mbr.specs.Extended.{is_extended, extended_of}
 use Rattle.pt_records.specs.New.{extended_record}
 
 none_step : (rs : List (Option Record)) → extended_record (None ∷ rs) ≡ extended_record rs

@@ -1,3 +1,4 @@
 pub mod Decided
 pub mod Extended
 pub mod Within
+pub mod Told

@@ -11,7 +11,8 @@ use Rattle.pt_records.specs.Records.{IsPrimary}
 use Rattle.pt_records.specs.Numbers.{TakesNumber, as_asked, lowest_one}
 use Rattle.pt_records.specs.New.{disk_area, Chosen}
 
-pub placed_within : (n : ℕ) (records : List (Option Record)) (alignment start : ℕ) (end : End) (r : Run) → Placed (disk_area n records) alignment start end r → (1 ≤ r.first) × (r.first ≤ r.last) × (r.last < 2 ^ 32)
+pub placed_within : (n : ℕ) (records : List (Option Record)) (alignment start : ℕ) (end : End) (r : Run)
+    → Placed (disk_area n records) alignment start end r → (1 ≤ r.first) × (r.first ≤ r.last) × (r.last < 2 ^ 32)
 placed_within n records alignment start end r placed =
     let free : IsFreeRun (disk_area n records) r = placed_is_free_lem (disk_area n records) alignment start end r placed in
     let some = free.some in
@@ -23,5 +24,6 @@ takes_primary : (records : List (Option Record)) (asked number : ℕ) → TakesN
 takes_primary records asked number (as_asked is unused) = unused.primary
 takes_primary records asked number (lowest_one is lowest) = lowest.unused.primary
 
-pub chosen_primary : (records : List (Option Record)) (asked : ℕ) (code : Option Code) (number kind : ℕ) → Chosen records asked code number kind → IsPrimary number
+pub chosen_primary : (records : List (Option Record)) (asked : ℕ) (code : Option Code) (number kind : ℕ)
+    → Chosen records asked code number kind → IsPrimary number
 chosen_primary records asked code number kind chosen = takes_primary records asked number chosen.takes

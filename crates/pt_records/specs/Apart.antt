@@ -1,5 +1,6 @@
 -- Records that lie on the disk and share no sector, and that `n` keeps them so.
-use Rattle.std.specs.Prelude.{◌≡◌, ◌≢◌, ◌≤◌, ◌<◌, ◌⊎◌, ◌+◌, ◌-◌, ℕ, zero, suc, List, [], ◌∷◌, length, flat_map, slice_index_or, slice_set, min, Contains, Option, Some, None}
+use Rattle.std.specs.Prelude.{◌≡◌, ◌≢◌, ◌≤◌, ◌<◌, ◌⊎◌, ◌+◌, ◌-◌, ℕ, zero, suc, List, [], ◌∷◌, length, flat_map, slice_index_or, slice_set}
+use Rattle.std.specs.Prelude.{min, Contains, Option, Some, None}
 use Rattle.std.proofs.Common.{◌∙◌, sym, subst, refl, inl, inr, arith}
 use Rattle.std.proofs.lemmas.Bool.{cases_eq, cases_lt, ne_eqb}
 use Rattle.std.proofs.lemmas.Option.{none-some}
@@ -45,10 +46,13 @@ own_run r some = rw (ne_eqb r.size 0 some) (0, omega arith, refl)
 first_run : (o : Option Record) (r : Record) → o ≡ Some r → r.size ≢ 0 → Contains (run_of o) (run_at r)
 first_run o r is some = subst (λ (p : Option Record). Contains (run_of p) (run_at r)) (sym is) (own_run r some)
 
-contains_run : (records : List (Option Record)) (i : ℕ) (r : Record) → slice_index_or records i None ≡ Some r → r.size ≢ 0 → Contains (flat_map run_of records) (run_at r)
+contains_run : (records : List (Option Record)) (i : ℕ) (r : Record) → slice_index_or records i None ≡ Some r → r.size ≢ 0
+    → Contains (flat_map run_of records) (run_at r)
 contains_run [] i r is some = absurd (none-some r (sym (get_or_past [] i None (omega arith)) ∙ is))
-contains_run (o ∷ os) zero r is some = rw (flat_map-cons run_of o os) (Contains-append_left (run_of o) (flat_map run_of os) (run_at r) (first_run o r is some))
-contains_run (o ∷ os) (suc i) r is some = rw (flat_map-cons run_of o os) (Contains-append_right (run_of o) (flat_map run_of os) (run_at r) (contains_run os i r is some))
+contains_run (o ∷ os) zero r is some =
+    rw (flat_map-cons run_of o os) (Contains-append_left (run_of o) (flat_map run_of os) (run_at r) (first_run o r is some))
+contains_run (o ∷ os) (suc i) r is some =
+    rw (flat_map-cons run_of o os) (Contains-append_right (run_of o) (flat_map run_of os) (run_at r) (contains_run os i r is some))
 
 -- the sectors of used records are taken
 taken_in : (records : List (Option Record)) (k s : ℕ) → InRecord records k s → IsIn (flat_map run_of records) s
@@ -62,13 +66,15 @@ taken_in records k s i =
 InNew : List (Option Record) → ℕ → Record → ℕ → ℕ → Type 0
 InNew old number x j s = ((j ≡ number) × (x.start ≤ s) × (s < x.start + x.size)) ⊎ InRecord old j s
 
-set_there : (old : List (Option Record)) (i : ℕ) (x r : Record) → (i < length old) ⊎ (length old ≤ i) → slice_index_or (slice_set old i (Some x)) i None ≡ Some r → x ≡ r
+set_there : (old : List (Option Record)) (i : ℕ) (x r : Record) → (i < length old) ⊎ (length old ≤ i)
+    → slice_index_or (slice_set old i (Some x)) i None ≡ Some r → x ≡ r
 set_there old i x r (inl within) is = let e : Some x ≡ Some r = sym (get_or-set_same old i (Some x) None within) ∙ is in cc
 set_there old i x r (inr past) is =
     let far : length (slice_set old i (Some x)) ≤ i = rw (length-set old i (Some x)) past in
     absurd (none-some r (sym (get_or_past (slice_set old i (Some x)) i None far) ∙ is))
 
-split_new : (old : List (Option Record)) (number : ℕ) (x : Record) (j s : ℕ) → 1 ≤ number → (j ≡ number) ⊎ (j ≡ number → ⊥) → InRecord (with_record old number (Some x)) j s → InNew old number x j s
+split_new : (old : List (Option Record)) (number : ℕ) (x : Record) (j s : ℕ) → 1 ≤ number → (j ≡ number) ⊎ (j ≡ number → ⊥)
+    → InRecord (with_record old number (Some x)) j s → InNew old number x j s
 unfolding InNew
 split_new old number x j s least (inl same) i =
     let at : slice_index_or (with_record old number (Some x)) (number - 1) None ≡ Some i.part =
@@ -78,21 +84,32 @@ split_new old number x j s least (inl same) i =
 split_new old number x j s least (inr other) i =
     let first : 1 ≤ j = i.is_record.primary.0 in
     let apart : (j - 1) ≢ (number - 1) = λ same. other (omega (arith, same, first, least)) in
-    inr (record { part = i.part; is_record = record { primary = i.is_record.primary; used = sym (get_or-set_other old (number - 1) (j - 1) (Some x) None apart) ∙ i.is_record.used }; from = i.from; to = i.to })
+    inr (record {
+      part = i.part;
+      is_record = record {
+        primary = i.is_record.primary;
+        used =
+            sym (get_or-set_other old (number - 1) (j - 1) (Some x) None apart) ∙ i.is_record.used;
+      };
+      from = i.from;
+      to = i.to;
+    })
 
 takes_least : (records : List (Option Record)) (asked number : ℕ) → TakesNumber records asked number → 1 ≤ number
 takes_least records asked number (as_asked is unused) = unused.primary.0
 takes_least records asked number (lowest_one is lowest) = lowest.unused.primary.0
 
 -- a sector of the new record is on the disk, and in no used record
-new_free : (n : ℕ) (records : List (Option Record)) (kind : ℕ) (run : Run) (s : ℕ) → IsFreeRun (disk_area n records) run → (record_at kind run).start ≤ s → s < (record_at kind run).start + (record_at kind run).size → IsFree (disk_area n records) s
+new_free : (n : ℕ) (records : List (Option Record)) (kind : ℕ) (run : Run) (s : ℕ) → IsFreeRun (disk_area n records) run
+    → (record_at kind run).start ≤ s → s < (record_at kind run).start + (record_at kind run).size → IsFree (disk_area n records) s
 new_free n records kind run s free from to =
     let some : run.first ≤ run.last = free.some in
     let low : run.first ≤ s = from in
     let high : s < run.first + (run.last - run.first + 1) = to in
     free.free s (low, omega (arith, some, high))
 
-kept_inside : (n : ℕ) (records : List (Option Record)) (number kind : ℕ) (run : Run) (k s : ℕ) → LieApart n records → IsFreeRun (disk_area n records) run → InNew records number (record_at kind run) k s → (1 ≤ s) × (s < n)
+kept_inside : (n : ℕ) (records : List (Option Record)) (number kind : ℕ) (run : Run) (k s : ℕ) → LieApart n records
+    → IsFreeRun (disk_area n records) run → InNew records number (record_at kind run) k s → (1 ≤ s) × (s < n)
 unfolding InNew
 kept_inside n records number kind run k s old free (inl (is, from, to)) =
     let usable = (new_free n records kind run s free from to).0 in
@@ -101,32 +118,41 @@ kept_inside n records number kind run k s old free (inl (is, from, to)) =
     (low, omega (arith, low, high))
 kept_inside n records number kind run k s old free (inr i) = old.inside k s i
 
-kept_one : (n : ℕ) (records : List (Option Record)) (number kind : ℕ) (run : Run) (j k s : ℕ) → LieApart n records → IsFreeRun (disk_area n records) run
+kept_one : (n : ℕ) (records : List (Option Record)) (number kind : ℕ) (run : Run) (j k s : ℕ) → LieApart n records
+    → IsFreeRun (disk_area n records) run
     → InNew records number (record_at kind run) j s → InNew records number (record_at kind run) k s → j ≡ k
 unfolding InNew
 kept_one n records number kind run j k s old free (inl (is, from, to)) (inl (so, low, high)) = is ∙ sym so
-kept_one n records number kind run j k s old free (inl (is, from, to)) (inr i) = absurd ((new_free n records kind run s free from to).1 (taken_in records k s i))
-kept_one n records number kind run j k s old free (inr i) (inl (so, low, high)) = absurd ((new_free n records kind run s free low high).1 (taken_in records j s i))
+kept_one n records number kind run j k s old free (inl (is, from, to)) (inr i) =
+    absurd ((new_free n records kind run s free from to).1 (taken_in records k s i))
+kept_one n records number kind run j k s old free (inr i) (inl (so, low, high)) =
+    absurd ((new_free n records kind run s free low high).1 (taken_in records j s i))
 kept_one n records number kind run j k s old free (inr i) (inr h) = old.one j k s i h
 
-kept_apart : (n : ℕ) (records : List (Option Record)) (number kind : ℕ) (run : Run) → 1 ≤ number → LieApart n records → IsFreeRun (disk_area n records) run → LieApart n (with_record records number (Some (record_at kind run)))
+kept_apart : (n : ℕ) (records : List (Option Record)) (number kind : ℕ) (run : Run) → 1 ≤ number → LieApart n records
+    → IsFreeRun (disk_area n records) run → LieApart n (with_record records number (Some (record_at kind run)))
 kept_apart n records number kind run least old free =
-    let split : (k s : ℕ) → InRecord (with_record records number (Some (record_at kind run))) k s → InNew records number (record_at kind run) k s =
+    let split : (k s : ℕ) → InRecord (with_record records number (Some (record_at kind run))) k s
+    → InNew records number (record_at kind run) k s =
     λ k s i. split_new records number (record_at kind run) k s least (cases_eq k number) i in
     record {
       inside = λ k s i. kept_inside n records number kind run k s old free (split k s i);
       one = λ j k s i h. kept_one n records number kind run j k s old free (split j s i) (split k s h);
     }
 
-new_in_apart : (b asked alignment start : ℕ) (end : End) (code : Option Code) (o : Layout) (records : List (Option Record)) (chain : List Ebr) (p : Layout)
+new_in_apart : (b asked alignment start : ℕ) (end : End) (code : Option Code) (o : Layout) (records : List (Option Record))
+    (chain : List Ebr) (p : Layout)
     → NewIn b asked alignment start end code o records chain p → LieApart o.sectors records → RecordsLieApart p
 new_in_apart b asked alignment start end code o records chain p (new_record other x) old =
     let free = placed_is_free_lem (disk_area o.sectors records) alignment start end x.run x.placed in
-    subst RecordsLieApart (sym x.made) (kept_apart o.sectors records x.number x.kind x.run (takes_least records asked x.number x.chosen.takes) old free)
+    subst RecordsLieApart (sym x.made) (kept_apart o.sectors records x.number x.kind x.run
+    (takes_least records asked x.number x.chosen.takes) old free)
 new_in_apart b asked alignment start end code o records chain p (new_logical made labels five x is) old = subst RecordsLieApart (sym is) old
 
 -- records that lie apart still do after `n`
-pub new_apart_lem : (b number alignment start : ℕ) (end : End) (code : Option Code) (o p : Layout) → RecordNew b number alignment start end code o p → RecordsLieApart o → RecordsLieApart p
+pub new_apart_lem : (b number alignment start : ℕ) (end : End) (code : Option Code) (o p : Layout)
+    → RecordNew b number alignment start end code o p → RecordsLieApart o → RecordsLieApart p
 new_apart_lem b number alignment start end code o p x old =
-    in_mbr o.body (λ records chain. NewIn b number alignment start end code o records chain p) (λ records chain. LieApart o.sectors records) (RecordsLieApart p)
+    in_mbr o.body (λ records chain. NewIn b number alignment start end code o records chain p)
+    (λ records chain. LieApart o.sectors records) (RecordsLieApart p)
     (λ records chain. new_in_apart b number alignment start end code o records chain p) x old

@@ -13,8 +13,11 @@ use Rattle.pt_records.specs.Records.{OfMbr, IsPrimary, HasRecord, with_record, w
 
 -- a record goes, with the label of its number; an extended one also with its chain and the logical partitions' labels
 pub data PrimaryDeleted (number : ℕ) (o : Layout) (records : List (Option Record)) (chain : List Ebr) (p : Layout) : Type 0 where
-  plain : (r : Record) → HasRecord records number r → is_extended r.kind ≡ false → p ≡ with_mbr o (with_record records number None) chain (without_label number o.labels) → PrimaryDeleted number o records chain p
-  extended : (r : Record) → HasRecord records number r → is_extended r.kind ≡ true → p ≡ with_mbr o (with_record records number None) [] (without_logicals (without_label number o.labels)) → PrimaryDeleted number o records chain p
+  plain : (r : Record) → HasRecord records number r → is_extended r.kind ≡ false
+      → p ≡ with_mbr o (with_record records number None) chain (without_label number o.labels) → PrimaryDeleted number o records chain p
+  extended : (r : Record) → HasRecord records number r → is_extended r.kind ≡ true
+      → p ≡ with_mbr o (with_record records number None) [] (without_logicals (without_label number o.labels))
+      → PrimaryDeleted number o records chain p
 
 -- why it doesn't
 pub record PrimaryNotDeleted (number : ℕ) (records : List (Option Record)) (r : Refusal) : Type 0 where
@@ -24,7 +27,8 @@ pub record PrimaryNotDeleted (number : ℕ) (records : List (Option Record)) (r 
 -- `d` of a record or of a logical partition
 pub data DeletedIn (number : ℕ) (o : Layout) (records : List (Option Record)) (chain : List Ebr) (p : Layout) : Type 0 where
   deleted_record : PrimaryDeleted number o records chain p → DeletedIn number o records chain p
-  deleted_logical : (made : List Ebr) (labels : List Labelled) → ¬ IsPrimary number → LogicalDeleted number chain o.labels made labels → p ≡ with_mbr o records made labels → DeletedIn number o records chain p
+  deleted_logical : (made : List Ebr) (labels : List Labelled) → ¬ IsPrimary number
+      → LogicalDeleted number chain o.labels made labels → p ≡ with_mbr o records made labels → DeletedIn number o records chain p
 
 -- and why it is refused
 pub data NotDeletedIn (number : ℕ) (records : List (Option Record)) (chain : List Ebr) (r : Refusal) : Type 0 where

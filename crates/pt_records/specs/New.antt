@@ -1,5 +1,6 @@
 -- A new record of sector 0.
-use Rattle.std.specs.Prelude.{◌≡◌, ◌≢◌, ◌<◌, ◌+◌, ◌-◌, ℕ, true, List, [], ◌∷◌, flat_map, slice_get, min, Option, Some, None, if◌then◌else◌, nat_eq}
+use Rattle.std.specs.Prelude.{◌≡◌, ◌≢◌, ◌<◌, ◌+◌, ◌-◌, ℕ, true, List, [], ◌∷◌, flat_map, slice_get, min, Option, Some, None, if◌then◌else◌}
+use Rattle.std.specs.Prelude.{nat_eq}
 use Rattle.pt_mbr.specs.Chain.{lba}
 use Rattle.pt_mbr.specs.declared.record.Record.{Record}
 use Rattle.pt_mbr.specs.declared.ebr.Ebr.{Ebr}
@@ -38,7 +39,8 @@ pub record Chosen (records : List (Option Record)) (asked : ℕ) (code : Option 
 pub data NotChosen (records : List (Option Record)) (asked : ℕ) (code : Option Code) (r : Refusal) : Type 0 where
   not_numbered : NotNumbered records asked r → NotChosen records asked code r
   unknown : (number : ℕ) → TakesNumber records asked number → new_type code ≡ None → r ≡ UnknownCode → NotChosen records asked code r
-  second : (number kind : ℕ) → TakesNumber records asked number → new_type code ≡ Some kind → IsSecond records kind → r ≡ ContainerType → NotChosen records asked code r
+  second : (number kind : ℕ) → TakesNumber records asked number → new_type code ≡ Some kind → IsSecond records kind
+      → r ≡ ContainerType → NotChosen records asked code r
 
 -- the sectors of a record, if it has any
 abbrev pub run_of : Option Record → List Run
@@ -66,17 +68,23 @@ abbrev pub new_labels : ℕ → ℕ → ℕ → Run → List Labelled → List L
 new_labels b number kind run labels = if is_slice b kind then with_new_label number (empty_of (len_of run)) labels else labels
 
 -- a new record
-pub record RecordMade (b asked alignment start : ℕ) (end : End) (code : Option Code) (o : Layout) (records : List (Option Record)) (chain : List Ebr) (p : Layout) : Type 0 where
+pub record RecordMade (b asked alignment start : ℕ) (end : End) (code : Option Code) (o : Layout) (records : List (Option Record))
+    (chain : List Ebr) (p : Layout) : Type 0 where
   pub number : ℕ
   pub kind : ℕ
   pub run : Run
   pub chosen : Chosen records asked code number kind
   pub placed : Placed (disk_area o.sectors records) alignment start end run
   pub enough : ¬ IsShortSlice b kind run
-  pub made : p ≡ with_mbr o (with_record records number (Some (record_at kind run))) (new_chain kind run chain) (new_labels b number kind run o.labels)
+  pub made : p ≡ with_mbr o (with_record records number (Some (record_at kind run))) (new_chain kind run chain)
+      (new_labels b number kind run o.labels)
 
 -- why there is none: the first reason, of its number and type, of its place, and of its size
-pub data RecordNotMade (b asked alignment start : ℕ) (end : End) (code : Option Code) (n : ℕ) (records : List (Option Record)) (r : Refusal) : Type 0 where
+pub data RecordNotMade (b asked alignment start : ℕ) (end : End) (code : Option Code) (n : ℕ) (records : List (Option Record))
+    (r : Refusal) : Type 0 where
   not_chosen : NotChosen records asked code r → RecordNotMade b asked alignment start end code n records r
-  not_placed : (number kind : ℕ) → Chosen records asked code number kind → NotPlaced (disk_area n records) alignment start end r → RecordNotMade b asked alignment start end code n records r
-  too_short : (number kind : ℕ) (run : Run) → Chosen records asked code number kind → Placed (disk_area n records) alignment start end run → IsShortSlice b kind run → r ≡ ContainerType → RecordNotMade b asked alignment start end code n records r
+  not_placed : (number kind : ℕ) → Chosen records asked code number kind → NotPlaced (disk_area n records) alignment start end r
+      → RecordNotMade b asked alignment start end code n records r
+  too_short : (number kind : ℕ) (run : Run) → Chosen records asked code number kind
+      → Placed (disk_area n records) alignment start end run → IsShortSlice b kind run → r ≡ ContainerType
+      → RecordNotMade b asked alignment start end code n records r

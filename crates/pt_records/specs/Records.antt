@@ -8,9 +8,13 @@ use Rattle.pt_recover.specs.declared.layout.Body.{Body}
 use Rattle.pt_recover.specs.declared.layout.Body.TheVariants.{Mbr, Gpt}
 use Rattle.pt_records.specs.declared.parts.MbrParts.{MbrParts}
 
+-- the layout of an MBR
+abbrev pub layout_with : ℕ → List (Option Record) → List Ebr → List Labelled → Layout
+layout_with sectors records chain labels = record { sectors = sectors; body = Mbr records chain; labels = labels }
+
 -- the layout that its parts are
 abbrev pub whole_of : MbrParts → Layout
-whole_of m = record { sectors = m.sectors; body = Mbr m.records m.chain; labels = m.labels }
+whole_of m = layout_with m.sectors m.records m.chain m.labels
 
 -- what holds of the records and the chain of an MBR, and of no other body
 abbrev pub OfMbr : Body → (List (Option Record) → List Ebr → Type 0) → Type 0
@@ -32,4 +36,4 @@ with_record records number r = slice_set records (number - 1) r
 
 -- the layout with other records, another chain and other labels
 abbrev pub with_mbr : Layout → List (Option Record) → List Ebr → List Labelled → Layout
-with_mbr o records chain labels = record { sectors = o.sectors; body = Mbr records chain; labels = labels }
+with_mbr o records chain labels = layout_with o.sectors records chain labels

@@ -1,11 +1,11 @@
 -- `t` in an MBR: another type.
-use Rattle.std.specs.Prelude.{◌≡◌, ◌⊎◌, ℕ, true, false, List, Option, Some, None}
+use Rattle.std.specs.Prelude.{◌≡◌, ℕ, false, List, Option, Some}
 use Rattle.pt_mbr.specs.declared.record.Record.{Record}
 use Rattle.pt_mbr.specs.declared.ebr.Ebr.{Ebr}
 use Rattle.pt_recover.specs.declared.layout.Layout.{Layout}
 use Rattle.pt_words.specs.declared.error.Refusal.{Refusal}
-use Rattle.pt_words.specs.declared.error.Refusal.TheVariants.{NoSuchPartition, UnknownCode, ContainerType}
 use Rattle.pt_words.specs.declared.word.Code.{Code}
+use Rattle.pt_labels.specs.Retyped.{NotRetyped}
 use Rattle.pt_logicals.specs.Types.{record_type, is_container}
 use Rattle.pt_logicals.specs.Chains.{LogicalTyped, LogicalNotTyped}
 use Rattle.pt_records.specs.Records.{OfMbr, IsPrimary, HasRecord, with_record, with_mbr}
@@ -21,15 +21,15 @@ pub record PrimaryTyped (b number : ℕ) (code : Code) (old new : List (Option R
   pub made : new ≡ with_record old number (Some (record found { kind = kind }))
 
 -- why it hasn't
-pub data PrimaryNotTyped (b number : ℕ) (code : Code) (records : List (Option Record)) (r : Refusal) : Type 0 where
-  no_record : ((x : Record) → ¬ HasRecord records number x) → r ≡ NoSuchPartition → PrimaryNotTyped b number code records r
-  strange_code : (x : Record) → HasRecord records number x → record_type code ≡ None → r ≡ UnknownCode → PrimaryNotTyped b number code records r
-  container : (x : Record) (kind : ℕ) → HasRecord records number x → record_type code ≡ Some kind → (is_container b x.kind ≡ true) ⊎ (is_container b kind ≡ true) → r ≡ ContainerType → PrimaryNotTyped b number code records r
+abbrev pub PrimaryNotTyped : ℕ → ℕ → Code → List (Option Record) → Refusal → Type 0
+PrimaryNotTyped b number code records = NotRetyped (HasRecord records number) (record_type code) (λ (x : Record). x.kind) (is_container b)
 
 -- `t` of a record or of a logical partition
 pub data TypedIn (b number : ℕ) (code : Code) (o : Layout) (records : List (Option Record)) (chain : List Ebr) (p : Layout) : Type 0 where
-  typed_record : (made : List (Option Record)) → PrimaryTyped b number code records made → p ≡ with_mbr o made chain o.labels → TypedIn b number code o records chain p
-  typed_logical : (made : List Ebr) → ¬ IsPrimary number → LogicalTyped b number code chain made → p ≡ with_mbr o records made o.labels → TypedIn b number code o records chain p
+  typed_record : (made : List (Option Record)) → PrimaryTyped b number code records made → p ≡ with_mbr o made chain o.labels
+      → TypedIn b number code o records chain p
+  typed_logical : (made : List Ebr) → ¬ IsPrimary number → LogicalTyped b number code chain made
+      → p ≡ with_mbr o records made o.labels → TypedIn b number code o records chain p
 
 -- and why it is refused
 pub data NotTypedIn (b number : ℕ) (code : Code) (records : List (Option Record)) (chain : List Ebr) (r : Refusal) : Type 0 where

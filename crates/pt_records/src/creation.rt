@@ -6,16 +6,16 @@ ghost use Rattle.pt_records.specs.Created.{one_more, RecordNew, RecordNotNew};
 ghost use Rattle.pt_records.specs.New.{extended_record, IsSecond, Chosen, NotChosen, IsShortSlice, record_at, new_chain, new_labels};
 
 use crate::numbers::number_for;
-use crate::parts::{MbrParts, has_chain, put_record};
+use crate::parts::{MbrParts, layout_of, put_record};
 use crate::space::place_record;
 use pt_bsd::empty_label;
 use pt_labels::add_label;
 use pt_logicals::{is_slice_kind, new_logical, new_type_of};
-use pt_mbr::{Ebr, Record};
-use pt_recover::{Body, Ebrs, Labels, Layout};
+use pt_mbr::{Ebr, Record, is_extended_kind};
+use pt_recover::{Ebrs, Labels, Layout};
 use pt_sector::Lba;
 use pt_space::Run;
-use pt_words::{Code, End, Refusal};
+use pt_words::{Asked, Code, Refusal};
 use std::alloc::{AllocError, Global};
 
 /// The number that asks for one more logical partition.
@@ -25,13 +25,13 @@ const ONE_MORE: u64 = 5;
 const FARTHEST: [u8; 3] = [0xFE, 0xFF, 0xFF];
 
 // The extended record, the first where there are more.
-#[tactic(auto, using(crate::proofs::Extended::none_here, crate::proofs::Extended::plain_here, crate::proofs::Extended::found_here, crate::proofs::Extended::ended))]
+#[tactic(auto, using(crate::proofs::Extended::none_here, crate::proofs::Told::plain_told, crate::proofs::Told::found_told, crate::proofs::Extended::ended))]
 fn extended_in(records: &[Option<Record>; 4]) -> Option<Record>
     ensures { result ≡ extended_record records.now }
 {
     for k in 0..4 {
         if let Some(r) = records[k] {
-            if has_chain(r.kind) {
+            if is_extended_kind(r.kind) {
                 return Some(r);
             }
         }
@@ -40,10 +40,11 @@ fn extended_in(records: &[Option<Record>; 4]) -> Option<Record>
 }
 
 // Whether a record of a type would be a second extended one.
+#[tactic(auto, using(pt_logicals::specs::Types::told_extended))]
 fn is_second(records: &[Option<Record>; 4], kind: u8) -> bool
     ensures { IsTrue result ↔ IsSecond records.now kind }
 {
-    has_chain(kind) && extended_in(records).is_some()
+    is_extended_kind(kind) && extended_in(records).is_some()
 }
 
 // The number and the type of a new record.
@@ -55,10 +56,7 @@ fn choose(
     ensures ok { IfOk result (λ c. Chosen records.now asked code.now c.0 c.1) }
     ensures err { IfErr result (NotChosen records.now asked code.now) }
 {
-    let number = match number_for(records, asked) {
-        Ok(number) => number,
-        Err(refusal) => return Err(refusal),
-    };
+    let number = number_for(records, asked)?;
     let kind = match new_type_of(code) {
         Some(kind) => kind,
         None => return Err(Refusal::UnknownCode),
@@ -86,11 +84,12 @@ fn record_in(kind: u8, run: Run) -> Record
 }
 
 // The chain with a new record: that of a new extended partition, or the old one.
+#[tactic(auto, using(pt_logicals::specs::Types::told_extended))]
 fn chain_with(alloc: Global, chain: Ebrs, kind: u8, run: Run) -> Result<Ebrs, AllocError>
     requires { run.first < 2 ^ 32 }
     ensures { IfOk result (λ made. made ≡ new_chain kind run chain) }
 {
-    if !has_chain(kind) {
+    if !is_extended_kind(kind) {
         return Ok(chain);
     }
     let mut items = Vec::new(alloc);
@@ -134,15 +133,13 @@ fn is_short_slice<const B: usize>(kind: u8, run: Run) -> bool
 fn add_record<const B: usize>(
     alloc: Global,
     parts: MbrParts,
-    asked: u64,
-    alignment: u64,
-    start: u64,
-    end: End,
-    code: &Option<Code>,
+    asked: &Asked,
 ) -> Result<Layout, Refusal>
-    requires { asked ≢ one_more }
-    ensures ok { IfOk result (λ made. RecordNew B asked alignment start end code.now (whole_of parts) made) }
-    ensures err { IfErr result (λ refusal. refusal ≢ Refusal.Memory → RecordNotNew B asked alignment start end code.now (whole_of parts) refusal) }
+    requires { asked.now.number ≢ one_more }
+    ensures ok { IfOk result (λ made.
+        RecordNew B asked.now.number asked.now.alignment asked.now.start asked.now.end asked.now.code (whole_of parts) made) }
+    ensures err { IfErr result (λ refusal. refusal ≢ Refusal.Memory
+        → RecordNotNew B asked.now.number asked.now.alignment asked.now.start asked.now.end asked.now.code (whole_of parts) refusal) }
 {
     let MbrParts {
         sectors,
@@ -150,44 +147,27 @@ fn add_record<const B: usize>(
         chain,
         labels,
     } = parts;
-    let (number, kind) = match choose(&records, asked, code) {
-        Ok(chosen) => chosen,
-        Err(refusal) => return Err(refusal),
-    };
-    let run = match place_record(alloc, sectors, &records, alignment, start, end) {
-        Ok(run) => run,
-        Err(refusal) => return Err(refusal),
-    };
+    let (number, kind) = choose(&records, asked.number, &asked.code)?;
+    let run = place_record(alloc, sectors, &records, asked)?;
     if is_short_slice::<B>(kind, run) {
         return Err(Refusal::ContainerType);
     }
-    let chain = match chain_with(alloc, chain, kind, run) {
-        Ok(chain) => chain,
-        Err(_) => return Err(Refusal::Memory),
-    };
-    let labels = match labels_with::<B>(alloc, labels, number, kind, run) {
-        Ok(labels) => labels,
-        Err(_) => return Err(Refusal::Memory),
-    };
+    let chain = chain_with(alloc, chain, kind, run)?;
+    let labels = labels_with::<B>(alloc, labels, number, kind, run)?;
     let records = put_record(records, number, Some(record_in(kind, run)));
-    Ok(Layout {
-        sectors,
-        body: Body::Mbr { records, chain },
-        labels,
-    })
+    Ok(layout_of(sectors, records, chain, labels))
 }
 
 // `n` of a logical partition.
 fn add_logical<const B: usize>(
     alloc: Global,
     parts: MbrParts,
-    alignment: u64,
-    start: u64,
-    end: End,
-    code: &Option<Code>,
+    asked: &Asked,
 ) -> Result<Layout, Refusal>
-    ensures ok { IfOk result (λ made. RecordNew B one_more alignment start end code.now (whole_of parts) made) }
-    ensures err { IfErr result (λ refusal. refusal ≢ Refusal.Memory → RecordNotNew B one_more alignment start end code.now (whole_of parts) refusal) }
+    ensures ok { IfOk result (λ made.
+        RecordNew B one_more asked.now.alignment asked.now.start asked.now.end asked.now.code (whole_of parts) made) }
+    ensures err { IfErr result (λ refusal. refusal ≢ Refusal.Memory
+        → RecordNotNew B one_more asked.now.alignment asked.now.start asked.now.end asked.now.code (whole_of parts) refusal) }
 {
     let MbrParts {
         sectors,
@@ -196,22 +176,16 @@ fn add_logical<const B: usize>(
         labels,
     } = parts;
     let extended = extended_in(&records);
-    match new_logical::<B>(alloc, extended, chain, labels, alignment, start, end, code) {
-        Ok((chain, labels)) => Ok(Layout {
-            sectors,
-            body: Body::Mbr { records, chain },
-            labels,
-        }),
-        Err(refusal) => Err(refusal),
-    }
+    let (chain, labels) = new_logical::<B>(alloc, extended, chain, labels, asked)?;
+    Ok(layout_of(sectors, records, chain, labels))
 }
 
 /// `n` without a letter: the layout with a new partition.
 ///
-/// `asked` is its number: 1 to 4 of a record, 0 for the lowest of these that is unused, 5 for one more logical
-/// partition, whose number is then its place in the chain. `alignment` is in sectors, of the disk's own sector numbers;
-/// `start` is a sector before it is rounded up, or 0 for the largest free block. A new extended partition has one empty
-/// extended boot record, in its first sector; a new slice has the empty label. The first of these refusals is told:
+/// The number that is asked for is 1 to 4 of a record, 0 for the lowest of these that is unused, 5 for one more logical
+/// partition, whose number is then its place in the chain. The alignment, the start and the end are in the disk's own
+/// sector numbers. A new extended partition has one empty extended boot record, in its first sector; a new slice has the
+/// empty label. The first of these refusals is told:
 ///
 /// - `NoSuchPartition`: a number from 6 on, or 5 without an extended partition; `NumberTaken`: a used record has the
 ///   number; `NoSpace`: all four records are used.
@@ -222,21 +196,15 @@ fn add_logical<const B: usize>(
 /// - `NoSpace`: a logical partition would need a 129th extended boot record.
 ///
 /// `Memory` is told for want of memory alone.
-pub fn new<const B: usize>(
-    alloc: Global,
-    parts: MbrParts,
-    asked: u64,
-    alignment: u64,
-    start: u64,
-    end: End,
-    code: &Option<Code>,
-) -> Result<Layout, Refusal>
-    ensures ok { IfOk result (λ made. RecordNew B asked alignment start end code.now (whole_of parts) made) }
-    ensures err { IfErr result (λ refusal. refusal ≢ Refusal.Memory → RecordNotNew B asked alignment start end code.now (whole_of parts) refusal) }
+pub fn new<const B: usize>(alloc: Global, parts: MbrParts, asked: &Asked) -> Result<Layout, Refusal>
+    ensures ok { IfOk result (λ made.
+        RecordNew B asked.now.number asked.now.alignment asked.now.start asked.now.end asked.now.code (whole_of parts) made) }
+    ensures err { IfErr result (λ refusal. refusal ≢ Refusal.Memory
+        → RecordNotNew B asked.now.number asked.now.alignment asked.now.start asked.now.end asked.now.code (whole_of parts) refusal) }
 {
-    if asked == ONE_MORE {
-        add_logical::<B>(alloc, parts, alignment, start, end, code)
+    if asked.number == ONE_MORE {
+        add_logical::<B>(alloc, parts, asked)
     } else {
-        add_record::<B>(alloc, parts, asked, alignment, start, end, code)
+        add_record::<B>(alloc, parts, asked)
     }
 }

@@ -4,10 +4,11 @@ ghost use Rattle.std.specs.Prelude.{◌≡◌, [], IfOk, IfErr};
 ghost use Rattle.pt_records.specs.Records.{whole_of, IsPrimary};
 ghost use Rattle.pt_records.specs.Deleted.{RecordDeleted, RecordNotDeleted};
 
-use crate::parts::{MbrParts, has_chain, is_primary, put_record, used_record};
+use crate::parts::{MbrParts, is_primary, layout_of, put_record, used_record};
 use pt_labels::{drop_label, drop_logical_labels};
 use pt_logicals::delete_logical;
-use pt_recover::{Body, Ebrs, Layout};
+use pt_mbr::is_extended_kind;
+use pt_recover::{Ebrs, Layout};
 use pt_words::Refusal;
 
 // The chain of an extended partition that goes.
@@ -37,22 +38,11 @@ fn delete_record(parts: MbrParts, number: u64) -> Result<Layout, Refusal>
     };
     let records = put_record(records, number, None);
     let labels = drop_label(labels, number);
-    if has_chain(record.kind) {
-        Ok(Layout {
-            sectors,
-            body: Body::Mbr {
-                records,
-                chain: no_chain(chain),
-            },
-            labels: drop_logical_labels(labels),
-        })
-    } else {
-        Ok(Layout {
-            sectors,
-            body: Body::Mbr { records, chain },
-            labels,
-        })
+    if is_extended_kind(record.kind) {
+        let labels = drop_logical_labels(labels);
+        return Ok(layout_of(sectors, records, no_chain(chain), labels));
     }
+    Ok(layout_of(sectors, records, chain, labels))
 }
 
 /// `d` without a letter: the layout without the record or the logical partition of a number and its label. An extended
@@ -71,12 +61,6 @@ pub fn delete(parts: MbrParts, number: u64) -> Result<Layout, Refusal>
         chain,
         labels,
     } = parts;
-    match delete_logical(chain, labels, number) {
-        Ok((chain, labels)) => Ok(Layout {
-            sectors,
-            body: Body::Mbr { records, chain },
-            labels,
-        }),
-        Err(refusal) => Err(refusal),
-    }
+    let (chain, labels) = delete_logical(chain, labels, number)?;
+    Ok(layout_of(sectors, records, chain, labels))
 }

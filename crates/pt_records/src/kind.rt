@@ -4,10 +4,10 @@ ghost use Rattle.std.specs.Prelude.{IfOk, IfErr};
 ghost use Rattle.pt_records.specs.Records.{whole_of};
 ghost use Rattle.pt_records.specs.Typed.{PrimaryTyped, PrimaryNotTyped, RecordTyped, RecordNotTyped};
 
-use crate::parts::{MbrParts, is_primary, put_record, used_record};
+use crate::parts::{MbrParts, is_primary, layout_of, put_record, used_record};
 use pt_logicals::{is_container_type, record_type_of, set_logical_kind};
 use pt_mbr::Record;
-use pt_recover::{Body, Layout};
+use pt_recover::Layout;
 use pt_words::{Code, Refusal};
 
 // `t` of a record.
@@ -58,22 +58,9 @@ pub fn set_kind<const B: usize>(
         labels,
     } = parts;
     if is_primary(number) {
-        match set_record_kind::<B>(&records, number, code) {
-            Ok(records) => Ok(Layout {
-                sectors,
-                body: Body::Mbr { records, chain },
-                labels,
-            }),
-            Err(refusal) => Err(refusal),
-        }
-    } else {
-        match set_logical_kind::<B>(chain, number, code) {
-            Ok(chain) => Ok(Layout {
-                sectors,
-                body: Body::Mbr { records, chain },
-                labels,
-            }),
-            Err(refusal) => Err(refusal),
-        }
+        let records = set_record_kind::<B>(&records, number, code)?;
+        return Ok(layout_of(sectors, records, chain, labels));
     }
+    let chain = set_logical_kind::<B>(chain, number, code)?;
+    Ok(layout_of(sectors, records, chain, labels))
 }

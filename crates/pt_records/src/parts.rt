@@ -2,10 +2,9 @@
 
 ghost use Rattle.std.specs.Prelude.{◌≡◌, ◌↔◌, IsTrue, IfSome, IfNone};
 ghost use Rattle.pt_mbr.specs.declared.record.Record.{Record};
-ghost use Rattle.pt_recover.specs.Mbr.{is_extended};
-ghost use Rattle.pt_records.specs.Records.{whole_of, IsPrimary, HasRecord, with_record};
+ghost use Rattle.pt_records.specs.Records.{layout_with, whole_of, IsPrimary, HasRecord, with_record};
 
-use pt_mbr::{Record, is_extended_kind};
+use pt_mbr::Record;
 use pt_recover::{Body, Ebrs, Labels, Layout};
 
 /// What the layout of an MBR has.
@@ -32,11 +31,23 @@ impl MbrParts {
             chain,
             labels,
         } = self;
-        Layout {
-            sectors,
-            body: Body::Mbr { records, chain },
-            labels,
-        }
+        layout_of(sectors, records, chain, labels)
+    }
+}
+
+// The layout of an MBR.
+pub(crate) fn layout_of(
+    sectors: u64,
+    records: [Option<Record>; 4],
+    chain: Ebrs,
+    labels: Labels,
+) -> Layout
+    ensures { result ≡ layout_with sectors records chain labels }
+{
+    Layout {
+        sectors,
+        body: Body::Mbr { records, chain },
+        labels,
     }
 }
 
@@ -69,11 +80,4 @@ pub(crate) fn put_record(
 {
     records[number as usize - 1] = new;
     records
-}
-
-// Whether a type is an extended partition's.
-pub(crate) fn has_chain(kind: u8) -> bool
-    ensures { result ≡ is_extended kind }
-{
-    is_extended_kind(kind)
 }

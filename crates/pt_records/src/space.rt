@@ -7,7 +7,7 @@ ghost use Rattle.pt_records.specs.New.{run_of, disk_area};
 
 use pt_mbr::Record;
 use pt_space::{Lead, Run, Space, place};
-use pt_words::{End, Refusal};
+use pt_words::{Asked, Refusal};
 use std::alloc::{AllocError, Global};
 
 /// The last sector that a record's start can tell.
@@ -34,8 +34,8 @@ fn taken_by(alloc: Global, records: &[Option<Record>; 4]) -> Result<Vec<Run>, Al
     ensures { IfOk result (λ taken. taken.items ≡ flat_map run_of records.now) }
 {
     let mut taken = Vec::new(alloc);
-    for k in 0..4 {
-        push_run(&mut taken, records[k])?;
+    for slot in records {
+        push_run(&mut taken, *slot)?;
     }
     Ok(taken)
 }
@@ -59,17 +59,13 @@ pub(crate) fn place_record(
     alloc: Global,
     sectors: u64,
     records: &[Option<Record>; 4],
-    alignment: u64,
-    start: u64,
-    end: End,
+    asked: &Asked,
 ) -> Result<Run, Refusal>
-    ensures ok { IfOk result (λ run. Placed (disk_area sectors records.now) alignment start end run) }
+    ensures ok { IfOk result (λ run. Placed (disk_area sectors records.now) asked.now.alignment asked.now.start asked.now.end run) }
     ensures within { IfOk result (λ run. 1 ≤ run.first × run.first ≤ run.last × run.last < 2 ^ 32) }
-    ensures err { IfErr result (λ refusal. refusal ≢ Refusal.Memory → NotPlaced (disk_area sectors records.now) alignment start end refusal) }
+    ensures err { IfErr result (λ refusal. refusal ≢ Refusal.Memory
+        → NotPlaced (disk_area sectors records.now) asked.now.alignment asked.now.start asked.now.end refusal) }
 {
-    let space = match space_of(alloc, sectors, records) {
-        Ok(space) => space,
-        Err(_) => return Err(Refusal::Memory),
-    };
-    place(space, alignment, start, end)
+    let space = space_of(alloc, sectors, records)?;
+    place(space, asked.alignment, asked.start, asked.end)
 }

@@ -5,7 +5,8 @@ use Rattle.pt_sector.specs.Sectors.{Sectors}
 use Rattle.pt_mbr.specs.declared.record.Record.{Record}
 use Rattle.pt_gpt.specs.Laws.{no_copy_lem}
 use Rattle.pt_gpt.specs.declared.table.Side.TheVariants.{Primary, Backup}
-use Rattle.pt_recover.specs.Mbr.{IsMbrDisk, IsMbr, extended_of, ExtendedReads}
+use Rattle.pt_mbr.specs.Extended.{extended_of}
+use Rattle.pt_recover.specs.Mbr.{IsMbrDisk, IsMbr, ExtendedReads}
 use Rattle.pt_recover.specs.Gpt.{HasRoom, TableReads}
 use Rattle.pt_recover.specs.Denotes.{Denotes, BodyReads, head, chain, table}
 use Rattle.pt_recover.specs.One.{mbr_one}
@@ -19,36 +20,46 @@ use Rattle.pt_recover.specs.declared.trace.Run.{Run}
 use Rattle.pt_recover.proofs.Traces.{adds_same, adds_both}
 
 of_mbr : (b : ℕ) (d : Sectors) (m : List (Option Record)) (s : ℕ) → IsMbr d m → RestReads b d s → ExtendedReads d (extended_of m) s
-of_mbr b d m s is (of_chain n other reads) = subst (λ (rs : List (Option Record)). ExtendedReads d (extended_of rs) s) (mbr_one d n m other is) reads
+of_mbr b d m s is (of_chain n other reads) =
+    subst (λ (rs : List (Option Record)). ExtendedReads d (extended_of rs) s) (mbr_one d n m other is) reads
 of_mbr b d m s is (of_table none room reads) = absurd (none is.0)
 
 of_gpt : (b : ℕ) (d : Sectors) (s : ℕ) → ¬ IsMbrDisk d → RestReads b d s → TableReads b d s
 of_gpt b d s none (of_chain n is reads) = absurd (none is.0)
 of_gpt b d s none (of_table other room reads) = reads
 
-pub rest_mbr : (b : ℕ) (d : Sectors) (m : List (Option Record)) (old new : List Run) → IsMbr d m → Adds old new (ExtendedReads d (extended_of m)) → Adds old new (RestReads b d)
-rest_mbr b d m old new is adds = adds_same old new (ExtendedReads d (extended_of m)) (RestReads b d) adds (λ s. (of_mbr b d m s is, λ reads. of_chain m is reads))
+pub rest_mbr : (b : ℕ) (d : Sectors) (m : List (Option Record)) (old new : List Run) → IsMbr d m
+    → Adds old new (ExtendedReads d (extended_of m)) → Adds old new (RestReads b d)
+rest_mbr b d m old new is adds =
+    adds_same old new (ExtendedReads d (extended_of m)) (RestReads b d) adds (λ s. (of_mbr b d m s is, λ reads. of_chain m is reads))
 
-pub rest_mbr_or : (P : Type 0) (b : ℕ) (d : Sectors) (m : List (Option Record)) (old new : List Run) → IsMbr d m → P ⊎ Adds old new (ExtendedReads d (extended_of m)) → P ⊎ Adds old new (RestReads b d)
+pub rest_mbr_or : (P : Type 0) (b : ℕ) (d : Sectors) (m : List (Option Record)) (old new : List Run) → IsMbr d m
+    → P ⊎ Adds old new (ExtendedReads d (extended_of m)) → P ⊎ Adds old new (RestReads b d)
 rest_mbr_or P b d m old new is (inl out) = inl out
 rest_mbr_or P b d m old new is (inr adds) = inr (rest_mbr b d m old new is adds)
 
-pub rest_gpt : (b : ℕ) (d : Sectors) (old new : List Run) → ¬ IsMbrDisk d → HasRoom b (length d) → Adds old new (TableReads b d) → Adds old new (RestReads b d)
-rest_gpt b d old new none room adds = adds_same old new (TableReads b d) (RestReads b d) adds (λ s. (of_gpt b d s none, λ reads. of_table none room reads))
+pub rest_gpt : (b : ℕ) (d : Sectors) (old new : List Run) → ¬ IsMbrDisk d → HasRoom b (length d) → Adds old new (TableReads b d)
+    → Adds old new (RestReads b d)
+rest_gpt b d old new none room adds =
+    adds_same old new (TableReads b d) (RestReads b d) adds (λ s. (of_gpt b d s none, λ reads. of_table none room reads))
 
-pub rest_gpt_or : (P : Type 0) (b : ℕ) (d : Sectors) (old new : List Run) → ¬ IsMbrDisk d → HasRoom b (length d) → P ⊎ Adds old new (TableReads b d) → P ⊎ Adds old new (RestReads b d)
+pub rest_gpt_or : (P : Type 0) (b : ℕ) (d : Sectors) (old new : List Run) → ¬ IsMbrDisk d → HasRoom b (length d)
+    → P ⊎ Adds old new (TableReads b d) → P ⊎ Adds old new (RestReads b d)
 rest_gpt_or P b d old new none room (inl out) = inl out
 rest_gpt_or P b d old new none room (inr adds) = inr (rest_gpt b d old new none room adds)
 
 -- neither copy
 no_body : (b : ℕ) (d : Sectors) (e : NoTable) → ¬ IsMbrDisk d → AreCopyFaults b d e → Denotes b d None
 no_body b d (NoCopy e f) none faults (Mbr records ebrs) is = none is.0.0
-no_body b d (NoCopy e f) none faults (Gpt t) is = elim is.2 [ inl copy ↦ no_copy_lem b d Primary e faults.0 (t, copy) | inr other ↦ no_copy_lem b d Backup f faults.1 (t, other.1) ]
+no_body b d (NoCopy e f) none faults (Gpt t) is =
+    elim is.2 [ inl copy ↦ no_copy_lem b d Primary e faults.0 (t, copy) | inr other ↦ no_copy_lem b d Backup f faults.1 (t, other.1) ]
 no_body b d _ none faults y is = absurd faults
 
-pub no_copies : (b : ℕ) (d : Sectors) (e : NoTable) → ¬ IsMbrDisk d → HasRoom b (length d) → IsOutside e ⊎ AreCopyFaults b d e → TellsNothing b d e
+pub no_copies : (b : ℕ) (d : Sectors) (e : NoTable) → ¬ IsMbrDisk d → HasRoom b (length d) → IsOutside e ⊎ AreCopyFaults b d e
+    → TellsNothing b d e
 no_copies b d e none room (inl out) = inl out
-no_copies b d (NoCopy e f) none room (inr faults) = inr (no_body b d (NoCopy e f) none faults, record { no_mbr = none; room = room; primary = faults.0; backup = faults.1 })
+no_copies b d (NoCopy e f) none room (inr faults) =
+    inr (no_body b d (NoCopy e f) none faults, record { no_mbr = none; room = room; primary = faults.0; backup = faults.1 })
 no_copies b d _ none room (inr faults) = absurd faults
 
 whole_there : (b : ℕ) (d : Sectors) (s : ℕ) → BodyReads b d s → (s ≡ 0) ⊎ RestReads b d s
@@ -61,10 +72,13 @@ whole_back b d s some (inl at) = head some at
 whole_back b d s some (inr (of_chain m is reads)) = chain m is reads
 whole_back b d s some (inr (of_table none room reads)) = table none room reads
 
-pub body_read : (b : ℕ) (d : Sectors) (old mid new : List Run) → 0 < length d → Adds old mid (λ s. s ≡ 0) → Adds mid new (RestReads b d) → Adds old new (BodyReads b d)
-body_read b d old mid new some first second = adds_both old mid new (λ s. s ≡ 0) (RestReads b d) (BodyReads b d) first second (λ s. (whole_there b d s, whole_back b d s some))
+pub body_read : (b : ℕ) (d : Sectors) (old mid new : List Run) → 0 < length d → Adds old mid (λ s. s ≡ 0)
+    → Adds mid new (RestReads b d) → Adds old new (BodyReads b d)
+body_read b d old mid new some first second =
+    adds_both old mid new (λ s. s ≡ 0) (RestReads b d) (BodyReads b d) first second (λ s. (whole_there b d s, whole_back b d s some))
 
-pub body_read_or : (P : Type 0) (b : ℕ) (d : Sectors) (old mid new : List Run) → 0 < length d → Adds old mid (λ s. s ≡ 0) → P ⊎ Adds mid new (RestReads b d) → P ⊎ Adds old new (BodyReads b d)
+pub body_read_or : (P : Type 0) (b : ℕ) (d : Sectors) (old mid new : List Run) → 0 < length d → Adds old mid (λ s. s ≡ 0)
+    → P ⊎ Adds mid new (RestReads b d) → P ⊎ Adds old new (BodyReads b d)
 body_read_or P b d old mid new some first (inl out) = inl out
 body_read_or P b d old mid new some first (inr second) = inr (body_read b d old mid new some first second)
 

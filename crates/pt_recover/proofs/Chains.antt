@@ -13,15 +13,19 @@ use Rattle.pt_recover.specs.declared.trace.Run.{Run}
 use Rattle.pt_recover.specs.declared.error.NoTable.{NoTable}
 use Rattle.pt_recover.proofs.Traces.{adds_same}
 
-pub chain_traced : (d : Sectors) (x : Span) (list shown : List Ebr) (old new : List Run) → shown ≡ list → Adds old new (λ s. StandsAt s shown) → ((s : ℕ) → ChainReads d x s ↔ StandsAt s list) → Adds old new (ChainReads d x)
+pub chain_traced : (d : Sectors) (x : Span) (list shown : List Ebr) (old new : List Run) → shown ≡ list
+    → Adds old new (λ s. StandsAt s shown) → ((s : ℕ) → ChainReads d x s ↔ StandsAt s list) → Adds old new (ChainReads d x)
 chain_traced d x list shown old new same adds are =
     adds_same old new (λ s. StandsAt s list) (ChainReads d x) (subst (λ (l : List Ebr). Adds old new (λ s. StandsAt s l)) same adds) are
 
-of_reads : (d : Sectors) (x : Span) (list : List Ebr) (e : ChainError) (old new : List Run) (P : Type 0) → P ⊎ Adds old new (λ s. StandsAt s list ⊎ IsReadBy e s) → ((s : ℕ) → ChainReads d x s ↔ (StandsAt s list ⊎ IsReadBy e s)) → P ⊎ Adds old new (ChainReads d x)
+of_reads : (d : Sectors) (x : Span) (list : List Ebr) (e : ChainError) (old new : List Run) (P : Type 0)
+    → P ⊎ Adds old new (λ s. StandsAt s list ⊎ IsReadBy e s) → ((s : ℕ) → ChainReads d x s ↔ (StandsAt s list ⊎ IsReadBy e s))
+    → P ⊎ Adds old new (ChainReads d x)
 of_reads d x list e old new P (inl out) are = inl out
 of_reads d x list e old new P (inr adds) are = inr (adds_same old new (λ s. StandsAt s list ⊎ IsReadBy e s) (ChainReads d x) adds are)
 
-with_fault : (d : Sectors) (x : Span) (list : List Ebr) (e : ChainError) (told : NoTable) (old new : List Run) → ToldAs e told → IsOutside told ⊎ Adds old new (λ s. StandsAt s list ⊎ IsReadBy e s) → ReadsAre d x list e
+with_fault : (d : Sectors) (x : Span) (list : List Ebr) (e : ChainError) (told : NoTable) (old new : List Run) → ToldAs e told
+    → IsOutside told ⊎ Adds old new (λ s. StandsAt s list ⊎ IsReadBy e s) → ReadsAre d x list e
     → IsOutside told ⊎ Adds old new (ChainReads d x)
 with_fault d x list (Device y) told old new is adds are = inl (subst IsOutside (sym is) tt)
 with_fault d x list (NoSignature y) told old new is adds are = of_reads d x list (NoSignature y) old new (IsOutside told) adds are
@@ -30,7 +34,9 @@ with_fault d x list (NotUpward y) told old new is adds are = of_reads d x list (
 with_fault d x list (OutsideExtended y) told old new is adds are = of_reads d x list (OutsideExtended y) old new (IsOutside told) adds are
 with_fault d x list TooLong told old new is adds are = of_reads d x list TooLong old new (IsOutside told) adds are
 
-pub fault_traced : (d : Sectors) (x : Span) (list shown : List Ebr) (e : ChainError) (told : NoTable) (old new : List Run) → shown ≡ list → ToldAs e told → IsOutside told ⊎ Adds old new (λ s. StandsAt s shown ⊎ IsReadBy e s) → ReadsAre d x list e
+pub fault_traced : (d : Sectors) (x : Span) (list shown : List Ebr) (e : ChainError) (told : NoTable) (old new : List Run)
+    → shown ≡ list → ToldAs e told → IsOutside told ⊎ Adds old new (λ s. StandsAt s shown ⊎ IsReadBy e s) → ReadsAre d x list e
     → IsOutside told ⊎ Adds old new (ChainReads d x)
 fault_traced d x list shown e told old new same is adds are =
-    with_fault d x list e told old new is (subst (λ (l : List Ebr). IsOutside told ⊎ Adds old new (λ s. StandsAt s l ⊎ IsReadBy e s)) same adds) are
+    with_fault d x list e told old new is (subst (λ (l : List Ebr). IsOutside told
+    ⊎ Adds old new (λ s. StandsAt s l ⊎ IsReadBy e s)) same adds) are

@@ -1,30 +1,45 @@
 -- What `==` decides.
-use Rattle.std.proofs.Common.{◌≡◌, List, Option, Some, None, Bool, ◌&&◌, ◌==◌, refl, sym, ap, ◌∙◌}
+use Rattle.std.proofs.Common.{◌≡◌, List, Option, Bool, ◌==◌, sym, ap, ◌∙◌}
 use Rattle.std.specs.Bool.{Decides}
 use Rattle.std.specs.Option.{option_eq}
 use Rattle.std.proofs.lemmas.Bool.Decides.{Decides-eqb}
 use Rattle.std.specs.Cmp.Lexicographic.{pointwise}
-use Rattle.std.proofs.lemmas.Slice.Eq.{slice_eq-Decides}
 use Rattle.pt_sector.specs.declared.address.Lba.{Lba}
 use Rattle.pt_sector.specs.contracts.address.LbaPartialEq.TheImpl as lba_eq
 use Rattle.pt_mbr.specs.declared.record.Record.{Record}
 use Rattle.pt_mbr.specs.declared.ebr.Ebr.{Ebr}
 use Rattle.pt_mbr.specs.contracts.ebr.EbrPartialEq.TheImpl as ebr_eq
 use Rattle.pt_mbr.specs.contracts.record.RecordPartialEq.TheImpl as record_eq
-use Rattle.pt_bsd.specs.declared.label.Label.{Label}
 use Rattle.pt_bsd.specs.Equal.{also, decides_as, option_decides, list_decides, label_decides}
 use Rattle.pt_recover.specs.declared.layout.Labelled.{Labelled}
 use Rattle.pt_recover.specs.contracts.layout.LabelledPartialEq.TheImpl as labelled_eq
 
 lba_decides : (a b : Lba) → Decides (lba_eq.eq-value.it a b) (a ≡ b)
-lba_decides a b = decides_as (a.0 == b.0) (a.0 ≡ b.0) (a ≡ b) (Decides-eqb a.0 b.0) (λ h i. record { 0 = h i }) (λ e. ap (λ (x : Lba). x.0) e)
+lba_decides a b =
+    decides_as (a.0 == b.0) (a.0 ≡ b.0) (a ≡ b) (Decides-eqb a.0 b.0) (λ h i. record { 0 = h i }) (λ e. ap (λ (x : Lba). x.0) e)
 
 pub record_decides : (a b : Record) → Decides (record_eq.eq-value.it a b) (a ≡ b)
 record_decides a b =
-    decides_as (record_eq.eq-value.it a b) ((a.boot ≡ b.boot) × ((a.start_chs ≡ b.start_chs) × ((a.kind ≡ b.kind) × ((a.end_chs ≡ b.end_chs) × ((a.start ≡ b.start) × (a.size ≡ b.size)))))) (a ≡ b)
-    (also (Decides-eqb a.boot b.boot) (also (list_decides Decides-eqb a.start_chs b.start_chs) (also (Decides-eqb a.kind b.kind) (also (list_decides Decides-eqb a.end_chs b.end_chs) (also (Decides-eqb a.start b.start) (Decides-eqb a.size b.size))))))
-    (λ h i. record { boot = h.0 i; start_chs = h.1.0 i; kind = h.1.1.0 i; end_chs = h.1.1.1.0 i; start = h.1.1.1.1.0 i; size = h.1.1.1.1.1 i })
-    (λ e. (ap (λ (x : Record). x.boot) e, (ap (λ (x : Record). x.start_chs) e, (ap (λ (x : Record). x.kind) e, (ap (λ (x : Record). x.end_chs) e, (ap (λ (x : Record). x.start) e, ap (λ (x : Record). x.size) e))))))
+    decides_as (record_eq.eq-value.it a b) ((a.boot ≡ b.boot) × ((a.start_chs ≡ b.start_chs)
+    × ((a.kind ≡ b.kind) × ((a.end_chs ≡ b.end_chs) × ((a.start ≡ b.start) × (a.size ≡ b.size)))))) (a ≡ b)
+    (also (Decides-eqb a.boot b.boot) (also (list_decides Decides-eqb a.start_chs b.start_chs)
+    (also (Decides-eqb a.kind b.kind) (also (list_decides Decides-eqb a.end_chs b.end_chs)
+    (also (Decides-eqb a.start b.start) (Decides-eqb a.size b.size))))))
+    (λ h i. record {
+      boot = h.0 i;
+      start_chs = h.1.0 i;
+      kind = h.1.1.0 i;
+      end_chs = h.1.1.1.0 i;
+      start = h.1.1.1.1.0 i;
+      size = h.1.1.1.1.1 i;
+    })
+    (λ e. (
+      ap (λ (x : Record). x.boot) e,
+      (
+        ap (λ (x : Record). x.start_chs) e,
+        (ap (λ (x : Record). x.kind) e, (ap (λ (x : Record). x.end_chs) e, (ap (λ (x : Record). x.start) e, ap (λ (x : Record). x.size) e))),
+      ),
+    ))
 
 pub ebr_decides : (a b : Ebr) → Decides (ebr_eq.eq-value.it a b) (a ≡ b)
 ebr_decides a b =

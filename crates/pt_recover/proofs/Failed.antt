@@ -12,7 +12,8 @@ use Rattle.pt_gpt.specs.Errors.{IsOutside, failure_in as failure_of_copy, Failed
 use Rattle.pt_gpt.specs.declared.table.Side.TheVariants.{Primary, Backup}
 use Rattle.pt_gpt.specs.declared.error.CopyError.{CopyError}
 use Rattle.pt_gpt.specs.declared.error.CopyError.TheVariants as copy
-use Rattle.pt_recover.specs.Mbr.{IsMbrDisk, IsMbr, extended_of, ExtendedReads}
+use Rattle.pt_mbr.specs.Extended.{extended_of}
+use Rattle.pt_recover.specs.Mbr.{IsMbrDisk, IsMbr, ExtendedReads}
 use Rattle.pt_recover.specs.Gpt.{HasRoom, TableReads}
 use Rattle.pt_recover.specs.Labels.{places_of, place_of, IsPlace}
 use Rattle.pt_recover.specs.Steps.{RestReads, of_chain, of_table}
@@ -38,7 +39,8 @@ failed_wider S T (failure.Device at) more is = more at.0 is
 failed_wider S T failure.Memory more is = tt
 
 -- and of a copy's
-pub told_wider : (S T : ℕ → Type 0) (e : CopyError) (f : Failure) → ((s : ℕ) → S s → T s) → failure_of_copy e ≡ Some f → FailedInCopy S e → FailedIn T (told_failure f)
+pub told_wider : (S T : ℕ → Type 0) (e : CopyError) (f : Failure) → ((s : ℕ) → S s → T s) → failure_of_copy e ≡ Some f
+    → FailedInCopy S e → FailedIn T (told_failure f)
 told_wider S T (copy.Device at) (failure.Device y) more same is = let here : at ≡ y = cc in more y.0 (subst (λ (l : Lba). S l.0) here is)
 told_wider S T (copy.Device at) failure.Memory more same is = tt
 told_wider S T copy.Memory (failure.Device y) more same is = absurd cc
@@ -51,10 +53,12 @@ inside_of (copy.Device at) none = absurd cc
 inside_of copy.Memory none = absurd cc
 inside_of _ none = λ out. out
 
-pub rest_of_chain : (b : ℕ) (d : Sectors) (m : List (Option Record)) (e : NoTable) → IsMbr d m → FailedIn (ExtendedReads d (extended_of m)) e → FailedIn (RestReads b d) e
+pub rest_of_chain : (b : ℕ) (d : Sectors) (m : List (Option Record)) (e : NoTable) → IsMbr d m
+    → FailedIn (ExtendedReads d (extended_of m)) e → FailedIn (RestReads b d) e
 rest_of_chain b d m e is = wider (ExtendedReads d (extended_of m)) (RestReads b d) e (λ s reads. of_chain m is reads)
 
-pub rest_of_table : (b : ℕ) (d : Sectors) (e : NoTable) → ¬ IsMbrDisk d → HasRoom b (length d) → FailedIn (TableReads b d) e → FailedIn (RestReads b d) e
+pub rest_of_table : (b : ℕ) (d : Sectors) (e : NoTable) → ¬ IsMbrDisk d → HasRoom b (length d) → FailedIn (TableReads b d) e
+    → FailedIn (RestReads b d) e
 rest_of_table b d e plain room = wider (TableReads b d) (RestReads b d) e (λ s reads. of_table plain room reads)
 
 body_of_rest : (b : ℕ) (d : Sectors) (s : ℕ) → RestReads b d s → BodyReads b d s
@@ -64,23 +68,29 @@ body_of_rest b d s (of_table plain room reads) = table plain room reads
 pub body_failed : (b : ℕ) (d : Sectors) (e : NoTable) → FailedIn (RestReads b d) e → FailedIn (BodyReads b d) e
 body_failed b d e = wider (RestReads b d) (BodyReads b d) e (body_of_rest b d)
 
-pub primary_failed : (b : ℕ) (d : Sectors) (e : CopyError) (f : Failure) → failure_of_copy e ≡ Some f → FailedInCopy (SideReads b d Primary) e → FailedIn (TableReads b d) (told_failure f)
+pub primary_failed : (b : ℕ) (d : Sectors) (e : CopyError) (f : Failure) → failure_of_copy e ≡ Some f
+    → FailedInCopy (SideReads b d Primary) e → FailedIn (TableReads b d) (told_failure f)
 primary_failed b d e f = told_wider (SideReads b d Primary) (TableReads b d) e f (λ s reads. inl reads)
 
-pub backup_failed : (b : ℕ) (d : Sectors) (e : CopyError) (f : Failure) → ¬ HasCopy b d Primary → failure_of_copy e ≡ Some f → FailedInCopy (SideReads b d Backup) e → FailedIn (TableReads b d) (told_failure f)
+pub backup_failed : (b : ℕ) (d : Sectors) (e : CopyError) (f : Failure) → ¬ HasCopy b d Primary → failure_of_copy e ≡ Some f
+    → FailedInCopy (SideReads b d Backup) e → FailedIn (TableReads b d) (told_failure f)
 backup_failed b d e f none = told_wider (SideReads b d Backup) (TableReads b d) e f (λ s reads. inr (none, reads))
 
 pub reads_failed : (b : ℕ) (d : Sectors) (e : NoTable) → FailedIn (BodyReads b d) e → FailedIn (Reads b d) e
 reads_failed b d e = wider (BodyReads b d) (Reads b d) e (λ s reads. body reads)
 
-pub label_failed : (b n : ℕ) (d : Sectors) (y : Body) (ps : List Slice) (f : Failure) → BodyIs b d y → ps ≡ places_of b n y → n ≡ length d → FailedAt (IsPlace ps) f → FailedIn (Reads b d) (told_failure f)
+pub label_failed : (b n : ℕ) (d : Sectors) (y : Body) (ps : List Slice) (f : Failure) → BodyIs b d y → ps ≡ places_of b n y
+    → n ≡ length d → FailedAt (IsPlace ps) f → FailedIn (Reads b d) (told_failure f)
 label_failed b n d y ps f is are count =
-    failed_wider (IsPlace ps) (Reads b d) f (λ s at. label y is (subst (λ (m : ℕ). IsPlace (places_of b m y) s) count (subst (λ (l : List Slice). IsPlace l s) are at)))
+    failed_wider (IsPlace ps) (Reads b d) f (λ s at. label y is
+    (subst (λ (m : ℕ). IsPlace (places_of b m y) s) count (subst (λ (l : List Slice). IsPlace l s) are at)))
 
-place_at : (ps : List Slice) (k : ℕ) (z : Slice) → k < length ps → IsPlace ps (place_of (get_or ps k z))
+pub place_at : (ps : List Slice) (k : ℕ) (z : Slice) → k < length ps → IsPlace ps (place_of (get_or ps k z))
 place_at [] k z lt = absurd (omega arith)
 place_at (p ∷ ps) zero z lt = inl refl
 place_at (p ∷ ps) (suc k) z lt = inr (place_at ps k z (omega arith))
 
-pub place_failed : (ps : List Slice) (k : ℕ) (z : Slice) (e : Failure) → k < length ps → FailedAt (λ s. s ≡ place_of (get_or ps k z)) e → FailedAt (IsPlace ps) e
-place_failed ps k z e lt = failed_more (λ s. s ≡ place_of (get_or ps k z)) (IsPlace ps) e (λ s is. subst (IsPlace ps) (sym is) (place_at ps k z lt))
+pub place_failed : (ps : List Slice) (k : ℕ) (z : Slice) (e : Failure) → k < length ps
+    → FailedAt (λ s. s ≡ place_of (get_or ps k z)) e → FailedAt (IsPlace ps) e
+place_failed ps k z e lt =
+    failed_more (λ s. s ≡ place_of (get_or ps k z)) (IsPlace ps) e (λ s is. subst (IsPlace ps) (sym is) (place_at ps k z lt))

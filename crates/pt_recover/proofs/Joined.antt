@@ -1,15 +1,15 @@
 -- A run among others that ascend.
-use Rattle.std.proofs.Common.{◌≡◌, ◌<◌, ◌≤◌, ◌+◌, ℕ, suc, List, [], ◌∷◌, ◌++◌, length, get_or, take, drop, nat_lt, true, false, refl, sym, ap, ◌∙◌, subst, arith, inl, inr, append_assoc}
+use Rattle.std.proofs.Common.{◌≡◌, ◌<◌, ◌≤◌, ◌+◌, ℕ, suc, List, [], ◌∷◌, ◌++◌, length, get_or, take, drop, nat_lt, true, false, refl, sym}
+use Rattle.std.proofs.Common.{ap, ◌∙◌, subst, arith, inl, inr, append_assoc}
 use Rattle.std.specs.Prelude.{◌⊎◌, ◌↔◌}
 use Rattle.std.specs.List.{insert, remove}
 use Rattle.std.proofs.lemmas.Bool.{cases_lt}
 use Rattle.std.proofs.lemmas.Bool.Decides.{nat_tests}
-use Rattle.std.proofs.lemmas.List.{drop_all, take_more, length-take-le}
+use Rattle.std.proofs.lemmas.List.{drop_all, take_more, length-take-le, drop_more}
 use Rattle.std.proofs.Math.Seq.{take-append_seam, drop-append_seam}
 use Rattle.pt_recover.specs.Spans.{InRun, IsIn, Follows, Apart, hull, joined, StandsAs}
 use Rattle.pt_recover.specs.declared.trace.Run.{Run}
 use Rattle.pt_recover.specs.declared.trace.Order.TheVariants.{Below, Above, Touching}
-use Rattle.pt_recover.proofs.Places.{opened}
 
 joined_none : (x : Run) → joined x [] ≡ x ∷ []
 unfolding joined
@@ -64,26 +64,39 @@ unfolding IsIn
 in_cons r rs s = (λ h. h, λ h. h)
 
 -- the sectors of the joined runs are those of the runs, and the new ones
-in_below : (x r : Run) (rs : List Run) (s : ℕ) → (IsIn (joined x rs) s ↔ (InRun x s ⊎ IsIn rs s)) → IsIn (r ∷ joined x rs) s ↔ (InRun x s ⊎ IsIn (r ∷ rs) s)
+in_below : (x r : Run) (rs : List Run) (s : ℕ) → (IsIn (joined x rs) s ↔ (InRun x s ⊎ IsIn rs s))
+    → IsIn (r ∷ joined x rs) s ↔ (InRun x s ⊎ IsIn (r ∷ rs) s)
 unfolding IsIn
 in_below x r rs s later = (
   λ h. elim h [ inl here ↦ inr (inl here) | inr there ↦ elim (later.0 there) [ inl new ↦ inl new | inr was ↦ inr (inr was) ] ],
   λ h. elim h [ inl new ↦ inr (later.1 (inl new)) | inr was ↦ elim was [ inl here ↦ inl here | inr there ↦ inr (later.1 (inr there)) ] ],
 )
 
-in_touching : (x r : Run) (rs : List Run) (s : ℕ) → StandsAs r x Touching → (IsIn (joined (hull x r) rs) s ↔ (InRun (hull x r) s ⊎ IsIn rs s)) → IsIn (joined (hull x r) rs) s ↔ (InRun x s ⊎ IsIn (r ∷ rs) s)
+in_touching : (x r : Run) (rs : List Run) (s : ℕ) → StandsAs r x Touching
+    → (IsIn (joined (hull x r) rs) s ↔ (InRun (hull x r) s ⊎ IsIn rs s)) → IsIn (joined (hull x r) rs) s ↔ (InRun x s ⊎ IsIn (r ∷ rs) s)
 unfolding IsIn
 in_touching x r rs s is later = (
-  λ h. elim (later.0 h) [ inl new ↦ elim ((in_hull x r s is).0 new) [ inl of_x ↦ inl of_x | inr of_r ↦ inr (inl of_r) ] | inr was ↦ inr (inr was) ],
-  λ h. elim h [ inl new ↦ later.1 (inl ((in_hull x r s is).1 (inl new))) | inr was ↦ elim was [ inl here ↦ later.1 (inl ((in_hull x r s is).1 (inr here))) | inr there ↦ later.1 (inr there) ] ],
+  λ h. elim (later.0 h) [
+    | inl new ↦ elim ((in_hull x r s is).0 new) [ inl of_x ↦ inl of_x | inr of_r ↦ inr (inl of_r) ]
+    | inr was ↦
+        inr (inr was)
+  ],
+  λ h. elim h [
+    | inl new ↦ later.1 (inl ((in_hull x r s is).1 (inl new)))
+    | inr was ↦
+        elim was [ inl here ↦ later.1 (inl ((in_hull x r s is).1 (inr here))) | inr there ↦ later.1 (inr there) ]
+  ],
 )
 
 pub in_joined : (x : Run) (rs : List Run) (s : ℕ) → IsIn (joined x rs) s ↔ (InRun x s ⊎ IsIn rs s)
 in_joined x [] s = subst (λ (l : List Run). IsIn l s ↔ (InRun x s ⊎ IsIn [] s)) (sym (joined_none x)) (in_cons x [] s)
 in_joined x (r ∷ rs) s = elim (which r x) [
-  | inl below ↦ subst (λ (l : List Run). IsIn l s ↔ (InRun x s ⊎ IsIn (r ∷ rs) s)) (sym (joined_below x r rs below)) (in_below x r rs s (in_joined x rs s))
-  | inr (inl above) ↦ subst (λ (l : List Run). IsIn l s ↔ (InRun x s ⊎ IsIn (r ∷ rs) s)) (sym (joined_above x r rs above)) (in_cons x (r ∷ rs) s)
-  | inr (inr touching) ↦ subst (λ (l : List Run). IsIn l s ↔ (InRun x s ⊎ IsIn (r ∷ rs) s)) (sym (joined_touching x r rs touching)) (in_touching x r rs s touching (in_joined (hull x r) rs s))
+  | inl below ↦ subst (λ (l : List Run). IsIn l s ↔ (InRun x s ⊎ IsIn (r ∷ rs) s)) (sym (joined_below x r rs below))
+      (in_below x r rs s (in_joined x rs s))
+  | inr (inl above) ↦ subst (λ (l : List Run). IsIn l s ↔ (InRun x s ⊎ IsIn (r ∷ rs) s)) (sym (joined_above x r rs above))
+      (in_cons x (r ∷ rs) s)
+  | inr (inr touching) ↦ subst (λ (l : List Run). IsIn l s ↔ (InRun x s ⊎ IsIn (r ∷ rs) s)) (sym (joined_touching x r rs touching))
+      (in_touching x r rs s touching (in_joined (hull x r) rs s))
 ]
 
 -- joined runs are as far apart as the runs
@@ -121,7 +134,8 @@ apart_joined x [] some apart = subst (λ (l : List Run). Apart l) (sym (joined_n
 apart_joined x (r ∷ rs) some apart = elim (which r x) as (λ w. Apart (joined x (r ∷ rs))) [
   | inl below ↦
       let parts = apart_split r rs apart in
-      subst (λ (l : List Run). Apart l) (sym (joined_below x r rs below)) (apart_cons r (joined x rs) parts.0 (follows_joined r x rs below parts.1 parts.2) (apart_joined x rs some parts.2))
+      subst (λ (l : List Run). Apart l) (sym (joined_below x r rs below))
+      (apart_cons r (joined x rs) parts.0 (follows_joined r x rs below parts.1 parts.2) (apart_joined x rs some parts.2))
   | inr (inl above) ↦ subst (λ (l : List Run). Apart l) (sym (joined_above x r rs above)) (apart_cons x (r ∷ rs) some above.1 apart)
   | inr (inr touching) ↦
       let parts = apart_split r rs apart in
@@ -132,10 +146,11 @@ apart_joined x (r ∷ rs) some apart = elim (which r x) as (λ w. Apart (joined 
 abbrev pub Stands : List Run → List Run → ℕ → Run → Type 0
 Stands whole xs at x = take at xs ++ joined x (drop at xs) ≡ whole
 
-pub stands_below : (whole xs : List Run) (at : ℕ) (z r x : Run) → at < length xs → get_or xs at z ≡ r → StandsAs r x Below → Stands whole xs at x → Stands whole xs (at + 1) x
+pub stands_below : (whole xs : List Run) (at : ℕ) (z r x : Run) → at < length xs → get_or xs at z ≡ r → StandsAs r x Below
+    → Stands whole xs at x → Stands whole xs (at + 1) x
 stands_below whole xs at z r x lt here below before =
     let one : take (at + 1) xs ≡ take at xs ++ r ∷ [] = take_more xs at z lt ∙ ap (λ (y : Run). take at xs ++ y ∷ []) here in
-    let split : drop at xs ≡ r ∷ drop (at + 1) xs = opened xs at z lt ∙ ap (λ (y : Run). y ∷ drop (at + 1) xs) here in
+    let split : drop at xs ≡ r ∷ drop (at + 1) xs = drop_more xs at z lt ∙ ap (λ (y : Run). y ∷ drop (at + 1) xs) here in
     ap (λ (l : List Run). l ++ joined x (drop (at + 1) xs)) one
     ∙ append_assoc (take at xs) (r ∷ []) (joined x (drop (at + 1) xs))
     ∙ ap (λ (l : List Run). take at xs ++ l) (sym (ap (joined x) split ∙ joined_below x r (drop (at + 1) xs) below))
@@ -149,10 +164,11 @@ drop_removed : (xs : List Run) (at : ℕ) → at ≤ length xs → drop at (remo
 drop_removed xs at le =
     ap (λ (n : ℕ). drop n (remove xs at)) (sym (length-take-le at xs le)) ∙ drop-append_seam (take at xs) (drop (suc at) xs)
 
-pub stands_touching : (whole xs now : List Run) (at : ℕ) (z r x y : Run) → at < length xs → get_or xs at z ≡ r → StandsAs r x Touching → Stands whole xs at x → now ≡ remove xs at → y ≡ hull x r → Stands whole now at y
+pub stands_touching : (whole xs now : List Run) (at : ℕ) (z r x y : Run) → at < length xs → get_or xs at z ≡ r
+    → StandsAs r x Touching → Stands whole xs at x → now ≡ remove xs at → y ≡ hull x r → Stands whole now at y
 stands_touching whole xs now at z r x y lt here touching before same grown =
     let le : at ≤ length xs = omega arith in
-    let split : drop at xs ≡ r ∷ drop (at + 1) xs = opened xs at z lt ∙ ap (λ (q : Run). q ∷ drop (at + 1) xs) here in
+    let split : drop at xs ≡ r ∷ drop (at + 1) xs = drop_more xs at z lt ∙ ap (λ (q : Run). q ∷ drop (at + 1) xs) here in
     let next : suc at ≡ at + 1 = omega arith in
     ap (λ (l : List Run). take at l ++ joined y (drop at l)) same
     ∙ ap (λ (l : List Run). l ++ joined y (drop at (remove xs at))) (take_removed xs at le)
@@ -161,12 +177,15 @@ stands_touching whole xs now at z r x y lt here touching before same grown =
     ∙ ap (λ (l : List Run). take at xs ++ l) (sym (ap (joined x) split ∙ joined_touching x r (drop (at + 1) xs) touching))
     ∙ before
 
-pub stands_above : (whole xs : List Run) (at : ℕ) (z r x : Run) → at < length xs → get_or xs at z ≡ r → StandsAs r x Above → Stands whole xs at x → insert xs at x ≡ whole
+pub stands_above : (whole xs : List Run) (at : ℕ) (z r x : Run) → at < length xs → get_or xs at z ≡ r → StandsAs r x Above
+    → Stands whole xs at x → insert xs at x ≡ whole
 stands_above whole xs at z r x lt here above before =
-    let split : drop at xs ≡ r ∷ drop (at + 1) xs = opened xs at z lt ∙ ap (λ (y : Run). y ∷ drop (at + 1) xs) here in
-    ap (λ (l : List Run). take at xs ++ x ∷ l) split ∙ ap (λ (l : List Run). take at xs ++ l) (sym (ap (joined x) split ∙ joined_above x r (drop (at + 1) xs) above)) ∙ before
+    let split : drop at xs ≡ r ∷ drop (at + 1) xs = drop_more xs at z lt ∙ ap (λ (y : Run). y ∷ drop (at + 1) xs) here in
+    ap (λ (l : List Run). take at xs ++ x ∷ l) split
+    ∙ ap (λ (l : List Run). take at xs ++ l) (sym (ap (joined x) split ∙ joined_above x r (drop (at + 1) xs) above)) ∙ before
 
 pub stands_end : (whole xs : List Run) (at : ℕ) (x : Run) → length xs ≤ at → Stands whole xs at x → insert xs at x ≡ whole
 stands_end whole xs at x past before =
     let none : drop at xs ≡ [] = drop_all at xs past in
-    ap (λ (l : List Run). take at xs ++ x ∷ l) none ∙ ap (λ (l : List Run). take at xs ++ l) (sym (ap (joined x) none ∙ joined_none x)) ∙ before
+    ap (λ (l : List Run). take at xs ++ x ∷ l) none
+    ∙ ap (λ (l : List Run). take at xs ++ l) (sym (ap (joined x) none ∙ joined_none x)) ∙ before

@@ -8,7 +8,8 @@ use Rattle.std.proofs.lemmas.Bool.Decides.{nat_tests}
 use Rattle.pt_recover.specs.Spans.{IsIn, Apart}
 use Rattle.pt_recover.specs.declared.trace.Run.{Run}
 
-above_all : (r : Run) (rs : List Run) (k : ℕ) (z : Run) → Apart (r ∷ rs) → k < length rs → (r.last < (get_or rs k z).first) × ((get_or rs k z).first ≤ (get_or rs k z).last)
+above_all : (r : Run) (rs : List Run) (k : ℕ) (z : Run) → Apart (r ∷ rs) → k < length rs
+    → (r.last < (get_or rs k z).first) × ((get_or rs k z).first ≤ (get_or rs k z).last)
 unfolding Apart
 above_all r [] k z apart lt = absurd (omega arith)
 above_all r (t ∷ ts) zero z apart lt = (omega (arith, apart.1), apart.2.0)
@@ -35,21 +36,26 @@ none_later r [] s apart le is = is
 none_later r (t ∷ ts) s apart le (inl here) = absurd (omega (arith, apart.1, here.0, le))
 none_later r (t ∷ ts) s apart le (inr later) = none_later t ts s apart.2 (omega (arith, apart.1, apart.2.0, le)) later
 
-pub found_at : (rs : List Run) (i s : ℕ) (z : Run) → Apart rs → ((k : ℕ) → k < i → k < length rs → (get_or rs k z).last < s) → i < length rs → s ≤ (get_or rs i z).last → IsIn rs s ↔ ((get_or rs i z).first ≤ s)
+pub found_at : (rs : List Run) (i s : ℕ) (z : Run) → Apart rs → ((k : ℕ) → k < i → k < length rs → (get_or rs k z).last < s)
+    → i < length rs → s ≤ (get_or rs i z).last → IsIn rs s ↔ ((get_or rs i z).first ≤ s)
 unfolding Apart IsIn
 found_at [] i s z apart below lt le = absurd (omega arith)
 found_at (r ∷ rs) zero s z apart below lt le =
     (λ h. elim h [ inl here ↦ here.0 | inr later ↦ absurd (none_later r rs s apart le later) ], λ first. inl (first, le))
 found_at (r ∷ rs) (suc i) s z apart below lt le =
-    let rest = found_at rs i s z apart.2 (λ k under within. below (suc k) (omega arith) (omega arith)) (omega arith) le in
-    (λ h. elim h [ inl here ↦ absurd (omega (arith, here.1, below 0 (omega arith) (omega arith))) | inr later ↦ rest.0 later ], λ first. inr (rest.1 first))
+    let rest = found_at rs i s z apart.2 (λ k under within. below (suc k) (omega arith) (omega arith)) (omega arith) le in (
+      λ h. elim h [ inl here ↦ absurd (omega (arith, here.1, below 0 (omega arith) (omega arith))) | inr later ↦ rest.0 later ],
+      λ first. inr (rest.1 first),
+    )
 
-pub found_none : (rs : List Run) (i s : ℕ) (z : Run) → ((k : ℕ) → k < i → k < length rs → (get_or rs k z).last < s) → length rs ≤ i → ¬ IsIn rs s
+pub found_none : (rs : List Run) (i s : ℕ) (z : Run) → ((k : ℕ) → k < i → k < length rs → (get_or rs k z).last < s) → length rs ≤ i
+    → ¬ IsIn rs s
 unfolding IsIn
 found_none [] i s z below past is = is
 found_none (r ∷ rs) zero s z below past is = absurd (omega arith)
 found_none (r ∷ rs) (suc i) s z below past (inl here) = absurd (omega (arith, here.1, below 0 (omega arith) (omega arith)))
-found_none (r ∷ rs) (suc i) s z below past (inr later) = found_none rs i s z (λ k under within. below (suc k) (omega arith) (omega arith)) (omega arith) later
+found_none (r ∷ rs) (suc i) s z below past (inr later) =
+    found_none rs i s z (λ k under within. below (suc k) (omega arith) (omega arith)) (omega arith) later
 
 -- what a search for the first run that doesn't end before s has told
 abbrev pub IsPoint : List Run → ℕ → ℕ → Type 0
@@ -58,7 +64,8 @@ IsPoint rs s i = IsPartitionPoint (λ (y : Run). ltb y.last s ≡ true) (λ (y :
 leb_decides : (a b : ℕ) → Decides (leb a b) (a ≤ b)
 leb_decides a b = (λ t. leb-true a b t, λ le. grind (arith, nat_tests))
 
-pub search_some : (rs : List Run) (i s : ℕ) (r : Run) → Apart rs → IsPoint rs s i → i < length rs → ((d : Run) → r ≡ get_or rs i d) → Decides (leb r.first s) (IsIn rs s)
+pub search_some : (rs : List Run) (i s : ℕ) (r : Run) → Apart rs → IsPoint rs s i → i < length rs → ((d : Run) → r ≡ get_or rs i d)
+    → Decides (leb r.first s) (IsIn rs s)
 search_some rs i s r apart point lt at =
     let le : s ≤ (get_or rs i r).last = ltb-false (get_or rs i r).last s (point.1 i r (omega arith) lt) in
     let found = found_at rs i s r apart (λ k under within. ltb-true (get_or rs k r).last s (point.0 k r (omega arith) under)) lt le in

@@ -2,7 +2,8 @@
 use Rattle.std.specs.Prelude.{◌≡◌, ◌<◌, ◌↔◌, ℕ, List, length, Option, Some, None}
 use Rattle.pt_sector.specs.Sectors.{Sectors}
 use Rattle.pt_mbr.specs.declared.record.Record.{Record}
-use Rattle.pt_recover.specs.Mbr.{IsMbrDisk, IsMbr, extended_of, HasChain, ExtendedReads}
+use Rattle.pt_mbr.specs.Extended.{extended_of}
+use Rattle.pt_recover.specs.Mbr.{IsMbrDisk, IsMbr, HasChain, ExtendedReads}
 use Rattle.pt_recover.specs.Gpt.{HasRoom, TableIs, TableReads}
 use Rattle.pt_recover.specs.Labels.{places_of, IsPlace, LabelsAre}
 use Rattle.pt_recover.specs.declared.layout.Layout.{Layout}

@@ -1,14 +1,10 @@
 -- The table of a GPT disk, from its primary copy or else from its backup.
-use Rattle.std.specs.Prelude.{◌≤◌, ◌⊎◌, ◌+◌, ◌*◌, ℕ}
+use Rattle.std.specs.Prelude.{◌⊎◌, ℕ}
 use Rattle.pt_sector.specs.Sectors.{Sectors}
-use Rattle.pt_gpt.specs.Array.{array_len}
+pub use Rattle.pt_gpt.specs.Array.{HasRoom}
 use Rattle.pt_gpt.specs.Copy.{Copy, HasCopy, SideReads}
 use Rattle.pt_gpt.specs.declared.table.Table.{Table}
 use Rattle.pt_gpt.specs.declared.table.Side.TheVariants.{Primary, Backup}
-
--- so many sectors have room for sector 0, both headers, both arrays and one usable sector
-abbrev pub HasRoom : ℕ → ℕ → Type 0
-HasRoom b n = 2 * array_len b + 4 ≤ n
 
 -- the table of the primary copy, else of the backup
 abbrev pub TableIs : ℕ → Sectors → Table → Type 0

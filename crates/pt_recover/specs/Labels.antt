@@ -1,5 +1,6 @@
 -- Slices, their label places, and what stands there.
-use Rattle.std.specs.Prelude.{if◌then◌else◌, ◌≡◌, ◌⊎◌, ◌+◌, ◌-◌, ◌^◌, ℕ, Bool, List, [], ◌∷◌, ◌++◌, filter, Option, Some, None, nat_eq, nat_lt, nat_le, ◌&&◌}
+use Rattle.std.specs.Prelude.{if◌then◌else◌, ◌≡◌, ◌⊎◌, ◌+◌, ◌-◌, ◌^◌, ℕ, Bool, List, [], ◌∷◌, ◌++◌, filter, Option, Some, None, nat_eq}
+use Rattle.std.specs.Prelude.{nat_lt, nat_le, ◌&&◌}
 use Rattle.std.specs.Str.{bytes_eq}
 use Rattle.pt_sector.specs.Sectors.{Sectors, sector}
 use Rattle.pt_guid.specs.Codes.{freebsd}

@@ -1,8 +1,9 @@
 -- An MBR disk, its records, and the chain of a lone extended one.
-use Rattle.std.specs.Prelude.{if◌then◌else◌, ◌≡◌, ◌<◌, ◌+◌, ◌-◌, ℕ, Bool, List, [], ◌∷◌, length, Option, Some, None, nat_eq, ◌||◌}
-use Rattle.pt_sector.specs.Sectors.{Sectors, sector, Span}
+use Rattle.std.specs.Prelude.{◌≡◌, ◌<◌, ℕ, List, [], ◌∷◌, length, Option}
+use Rattle.pt_sector.specs.Sectors.{Sectors, sector}
 use Rattle.pt_mbr.specs.Mbr.{IsMbrFormed, AreRecords, BearsProtective}
 use Rattle.pt_mbr.specs.Chain.{Chain, ChainReads}
+pub use Rattle.pt_mbr.specs.Extended.{is_extended, extended_of, extent_of}
 use Rattle.pt_mbr.specs.declared.record.Record.{Record}
 use Rattle.pt_mbr.specs.declared.ebr.Ebr.{Ebr}
 
@@ -18,20 +19,6 @@ IsMbrDisk d = (0 < length d) × IsMbrSector (sector d 0)
 -- an MBR disk with these records
 abbrev pub IsMbr : Sectors → List (Option Record) → Type 0
 IsMbr d m = IsMbrDisk d × AreRecords m (sector d 0)
-
--- the types of an extended partition
-abbrev pub is_extended : ℕ → Bool
-is_extended kind = nat_eq kind 0x05 || nat_eq kind 0x0F
-
--- the used extended records
-unfoldable pub extended_of : List (Option Record) → List Record
-extended_of [] = []
-extended_of (None ∷ rs) = extended_of rs
-extended_of (Some r ∷ rs) = if is_extended r.kind then r ∷ extended_of rs else extended_of rs
-
--- the sectors of a record of sector 0
-abbrev pub extent_of : Record → Span
-extent_of r = record { first = r.start; last = r.start + r.size - 1 }
 
 -- no chain without an extended record, its chain where it is alone, and none of two
 abbrev pub HasChain : Sectors → List Record → List Ebr → Type 0

@@ -8,7 +8,8 @@ use Rattle.pt_bsd.specs.Laws.{label_one}
 use Rattle.pt_gpt.specs.Laws.{copy_is_one_lem}
 use Rattle.pt_gpt.specs.declared.table.Table.{Table}
 use Rattle.pt_gpt.specs.declared.table.Side.TheVariants.{Primary, Backup}
-use Rattle.pt_recover.specs.Mbr.{IsMbr, extended_of, extent_of, HasChain}
+use Rattle.pt_mbr.specs.Extended.{extended_of, extent_of}
+use Rattle.pt_recover.specs.Mbr.{IsMbr, HasChain}
 use Rattle.pt_recover.specs.Gpt.{TableIs}
 use Rattle.pt_recover.specs.Labels.{places_of, place_of, LabelsAre}
 use Rattle.pt_recover.specs.Denotes.{BodyIs, Denotes}
@@ -45,7 +46,8 @@ labels_one d (x ∷ ps) ls ms (inr p) (inr q) = labels_one d ps ls ms p.1 q.1
 pub body_one : (b : ℕ) (d : Sectors) (x y : Body) → BodyIs b d x → BodyIs b d y → x ≡ y
 body_one b d (Mbr records chain) (Mbr others other) p q =
     let same = mbr_one d records others p.0 q.0 in
-    let chains = chains_one d (extended_of others) chain other (subst (λ (m : List (Option Record)). HasChain d (extended_of m) chain) same p.1) q.1 in
+    let chains =
+    chains_one d (extended_of others) chain other (subst (λ (m : List (Option Record)). HasChain d (extended_of m) chain) same p.1) q.1 in
     λ i. Mbr (same i) (chains i)
 body_one b d (Mbr records chain) (Gpt t) p q = absurd (q.0 p.0.0)
 body_one b d (Gpt t) (Mbr records chain) p q = absurd (p.0 q.0.0)
@@ -60,5 +62,7 @@ denoted_one b d (Some o) None x y = absurd (y o.body x.1)
 denoted_one b d (Some o) (Some p) x y =
     let count = x.0 ∙ sym y.0 in
     let body = body_one b d o.body p.body x.1 y.1 in
-    let labels = labels_one d (places_of b (length d) p.body) o.labels p.labels (subst (λ (z : Body). LabelsAre d (places_of b (length d) z) o.labels) body x.2) y.2 in
+    let labels =
+    labels_one d (places_of b (length d) p.body) o.labels p.labels
+    (subst (λ (z : Body). LabelsAre d (places_of b (length d) z) o.labels) body x.2) y.2 in
     λ i. Some (record { sectors = count i; body = body i; labels = labels i })

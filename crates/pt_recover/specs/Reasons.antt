@@ -8,7 +8,8 @@ use Rattle.pt_mbr.specs.Laws.{fault_is_one, fault_has_no_chain}
 use Rattle.pt_gpt.specs.Laws.{no_copy_lem}
 use Rattle.pt_gpt.specs.Faults.{copy_fault_is_one_lem}
 use Rattle.pt_gpt.specs.declared.table.Side.TheVariants.{Primary, Backup}
-use Rattle.pt_recover.specs.Mbr.{IsMbr, extended_of, extent_of, HasChain}
+use Rattle.pt_mbr.specs.Extended.{extended_of, extent_of}
+use Rattle.pt_recover.specs.Mbr.{IsMbr, HasChain}
 use Rattle.pt_recover.specs.Denotes.{BodyIs, Denotes}
 use Rattle.pt_recover.specs.Answers.{LacksChain, HasTwoExtended, LacksCopies, IsReason}
 use Rattle.pt_recover.specs.One.{mbr_one}
@@ -24,7 +25,8 @@ chain_reason_one : (d : Sectors) (e f : ChainError) → LacksChain d e → Lacks
 chain_reason_one d e f p q =
     let alone : p.extended ∷ [] ≡ q.extended ∷ [] = sym p.lone ∙ extendeds_one d p.records q.records p.is_mbr q.is_mbr ∙ q.lone in
     let same : p.extended ≡ q.extended = cc in
-    elim (fault_is_one d (extent_of q.extended) e f (subst (λ (r : Record). ChainFault d (extent_of r) e) same p.fault) q.fault) as (λ _. e ≡ f) [
+    elim (fault_is_one d (extent_of q.extended) e f (subst (λ (r : Record). ChainFault d
+    (extent_of r) e) same p.fault) q.fault) as (λ _. e ≡ f) [
       | inl one ↦ one
       | inr (inl device) ↦ absurd (p.told device)
       | inr (inr device) ↦ absurd (q.told device)

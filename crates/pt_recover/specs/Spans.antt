@@ -28,7 +28,8 @@ hull x r = record { first = min x.first r.first; last = max x.last r.last }
 -- runs in order with one more among them, which takes in those that it touches
 unfoldable pub joined : Run → List Run → List Run
 joined x [] = x ∷ []
-joined x (r ∷ rs) = if nat_lt (r.last + 1) x.first then r ∷ joined x rs else (if nat_lt (x.last + 1) r.first then x ∷ r ∷ rs else joined (hull x r) rs)
+joined x (r ∷ rs) =
+    if nat_lt (r.last + 1) x.first then r ∷ joined x rs else (if nat_lt (x.last + 1) r.first then x ∷ r ∷ rs else joined (hull x r) rs)
 
 -- where a run stands to another: all below with a gap, all above with one, or touching it
 abbrev pub StandsAs : Run → Run → Order → Type 0

@@ -9,20 +9,13 @@ use Rattle.pt_gpt.specs.Copy.{IsCopyFault}
 use Rattle.pt_gpt.specs.declared.table.Side.TheVariants.{Primary, Backup}
 use Rattle.pt_bsd.specs.Label.{LabelBytes}
 use Rattle.pt_bsd.specs.declared.label.Label.{Label}
-use Rattle.pt_recover.specs.Mbr.{IsMbrDisk, IsMbr, extended_of, ExtendedReads}
+use Rattle.pt_mbr.specs.Extended.{extended_of}
+use Rattle.pt_recover.specs.Mbr.{IsMbrDisk, IsMbr, ExtendedReads}
 use Rattle.pt_recover.specs.Gpt.{HasRoom, TableReads}
 use Rattle.pt_recover.specs.declared.layout.Slice.{Slice}
 use Rattle.pt_recover.specs.declared.layout.Labelled.{Labelled}
 use Rattle.pt_recover.specs.declared.error.NoTable.{NoTable}
 use Rattle.pt_recover.specs.declared.error.NoTable.TheVariants as no
-use Rattle.pt_recover.specs.declared.extended.Extended.{Extended}
-use Rattle.pt_recover.specs.declared.extended.Extended.TheVariants as found
-
--- which of these records is alone
-abbrev pub ExtendedIs : List Record → Extended → Type 0
-ExtendedIs rs found.Nothing = rs ≡ []
-ExtendedIs rs (found.One r) = rs ≡ r ∷ []
-ExtendedIs rs found.Two = (a : Record) × (b : Record) × (rest : List Record) × (rs ≡ a ∷ b ∷ rest)
 
 -- what recovery tells of a fault of the chain, where it doesn't want memory
 abbrev pub ToldAs : ChainError → NoTable → Type 0

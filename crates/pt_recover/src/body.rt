@@ -15,7 +15,7 @@ use crate::extended::read_lone;
 use crate::layout::Body;
 use crate::tables::read_either;
 use crate::trace::Trace;
-use pt_gpt::array_sectors;
+use pt_gpt::has_room;
 use pt_mbr::{Mbr, bears_protective, decode_mbr};
 use pt_sector::{Disk, FailedRead, Lba, Sector, read_sector};
 use std::alloc::Global;
@@ -65,7 +65,7 @@ fn read_gpt<const B: usize, D: Disk<B>>(
     ensures traced_err { D.tells → IfErr result (λ e. IsOutside e ⊎ Adds trace.old trace.new (RestReads B (D.told disk.old).seen)) }
 {
     let sectors = disk.sectors();
-    if sectors < 2 * array_sectors::<B>() + 4 {
+    if !has_room::<B>(sectors) {
         return Err(NoTable::TooSmall);
     }
     let table = read_either(alloc, disk, trace)?;

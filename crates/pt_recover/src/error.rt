@@ -8,6 +8,8 @@ use pt_gpt::CopyError;
 use pt_mbr::ChainError;
 use pt_sector::{FailedRead, Failure, Lba};
 use std::alloc::AllocError;
+use std::error::Error;
+use std::fmt;
 
 /// Why recovery gives no layout. All but the last two are told exactly where the disk denotes nothing for that reason.
 #[derive(Clone, Copy, Debug, PartialEq, Eq)]
@@ -26,11 +28,38 @@ pub enum NoTable {
     Memory,
 }
 
+impl fmt::Display for NoTable {
+    fn fmt<W: fmt::Write>(&self, f: &mut fmt::Formatter<W>) -> fmt::Result {
+        match self {
+            NoTable::NoCopy(primary, backup) => write!(
+                f,
+                "no MBR, and neither copy of a GPT exists: {primary} (primary); {backup} (backup)"
+            ),
+            NoTable::Chain(error) => write!(f, "{error}"),
+            NoTable::TwoExtended => f.write_str("two records of type 05 or 0F"),
+            NoTable::TooSmall => f.write_str("no MBR, and fewer sectors than a GPT takes"),
+            NoTable::Device(at) => write!(f, "sector {} can't be read", at.0),
+            NoTable::Memory => f.write_str("out of memory"),
+        }
+    }
+}
+
+impl Error for NoTable {}
+
 impl From<FailedRead> for NoTable {
     ghost from_gives = { λ failed e. e ≡ Device failed.0 };
 
     fn from(failed: FailedRead) -> NoTable {
         NoTable::Device(failed.0)
+    }
+}
+
+impl From<ChainError> for NoTable {
+    fn from(error: ChainError) -> NoTable {
+        match error {
+            ChainError::Device(at) => NoTable::Device(at),
+            error => NoTable::Chain(error),
+        }
     }
 }
 

@@ -1,12 +1,13 @@
 //! The chain of a lone extended partition, and the sectors that it stands in.
 
-ghost use Rattle.std.specs.Prelude.{◌≡◌, ◌<◌, ◌+◌, ◌⊎◌, ◌↔◌, ◌++◌, ℕ, [], drop, option_to_list, IfOk, IfErr, OnOk, IfSome, IfNone};
+ghost use Rattle.std.specs.Prelude.{◌≡◌, ◌<◌, ◌⊎◌, IfOk, IfErr, OnOk, IfSome, IfNone};
 ghost use Rattle.pt_sector.specs.Calls.{Blames};
 ghost use Rattle.pt_sector.specs.Reads.{OnlyReads};
 ghost use Rattle.pt_sector.specs.Sectors.{IsSectorSize};
 ghost use Rattle.pt_mbr.specs.Chain.{span_of, Chain, ChainReads, StandsAt, IsReadBy};
-ghost use Rattle.pt_recover.specs.Mbr.{IsMbr, extended_of, extent_of, HasChain, ExtendedReads};
-ghost use Rattle.pt_recover.specs.Steps.{ExtendedIs, ToldAs, IsChainFault};
+ghost use Rattle.pt_mbr.specs.Extended.{extended_of, extent_of};
+ghost use Rattle.pt_recover.specs.Mbr.{IsMbr, HasChain, ExtendedReads};
+ghost use Rattle.pt_recover.specs.Steps.{ToldAs, IsChainFault};
 ghost use Rattle.pt_recover.specs.Spans.{Adds};
 ghost use Rattle.pt_recover.specs.Answers.{IsOutside, TellsNothing, fault_in, FailedIn};
 
@@ -14,55 +15,9 @@ use crate::error::NoTable;
 use crate::layout::Ebrs;
 use crate::trace::Trace;
 use arrayvec::ArrayVec;
-use pt_mbr::{ChainError, Ebr, Mbr, Record, is_extended_kind, walk_chain};
+use pt_mbr::{ChainError, Ebr, Extended, Mbr, Record, extended_of, walk_chain};
 use pt_sector::{Disk, Extent, Lba};
 use std::alloc::{AllocError, Global};
-
-/// What four records have of extended ones.
-#[derive(Clone, Copy, Debug, PartialEq, Eq)]
-pub(crate) enum Extended {
-    Nothing,
-    One(Record),
-    Two,
-}
-
-// The record at a place, where it is extended.
-#[tactic(auto, using(crate::proofs::Steps::none_here, crate::proofs::Steps::other_here, crate::proofs::Steps::one_here))]
-fn extended_at(records: &[Option<Record>; 4], k: usize) -> Option<Record>
-    requires { k < 4 }
-    ensures { extended_of (drop k records.now) ≡ option_to_list result ++ extended_of (drop (k + 1) records.now) }
-{
-    let record = records[k];
-    match record {
-        Some(r) => {
-            if is_extended_kind(r.kind) {
-                Some(r)
-            } else {
-                None
-            }
-        }
-        None => None,
-    }
-}
-
-/// The lone extended one of four records.
-pub(crate) fn lone_extended(records: &[Option<Record>; 4]) -> Extended
-    ensures { ExtendedIs (extended_of records.now) result }
-{
-    let mut found = None;
-    for k in 0..4usize {
-        if let Some(r) = extended_at(records, k) {
-            if found.is_some() {
-                return Extended::Two;
-            }
-            found = Some(r);
-        }
-    }
-    match found {
-        Some(r) => Extended::One(r),
-        None => Extended::Nothing,
-    }
-}
 
 // Adds the places of extended boot records.
 fn trace_chain(trace: &mut Trace, list: &[Ebr]) -> Result<(), AllocError>
@@ -127,7 +82,8 @@ fn read_extended<const B: usize, D: Disk<B>>(
     ensures ok { D.tells → IfOk result (λ list. Chain (D.told disk.old).seen (span_of extent.now) list) }
     ensures err { D.tells → IfErr result (λ e. IsOutside e ⊎ IsChainFault (D.told disk.old).seen (span_of extent.now) e) }
     ensures traced { D.tells → OnOk result (Adds trace.old trace.new (ChainReads (D.told disk.old).seen (span_of extent.now))) }
-    ensures traced_err { D.tells → IfErr result (λ e. IsOutside e ⊎ Adds trace.old trace.new (ChainReads (D.told disk.old).seen (span_of extent.now))) }
+    ensures traced_err { D.tells → IfErr result (λ e. IsOutside e
+        ⊎ Adds trace.old trace.new (ChainReads (D.told disk.old).seen (span_of extent.now))) }
 {
     let mut list = ArrayVec::new();
     match walk_chain(disk, extent, &mut list) {
@@ -164,11 +120,12 @@ pub(crate) fn read_lone<const B: usize, D: Disk<B>>(
     ensures ok { D.tells → IfOk result (λ list. HasChain (D.told disk.old).seen (extended_of mbr.now.records) list) }
     ensures err { D.tells → IfErr result (λ e. TellsNothing B (D.told disk.old).seen e) }
     ensures traced { D.tells → OnOk result (Adds trace.old trace.new (ExtendedReads (D.told disk.old).seen (extended_of mbr.now.records))) }
-    ensures traced_err { D.tells → IfErr result (λ e. IsOutside e ⊎ Adds trace.old trace.new (ExtendedReads (D.told disk.old).seen (extended_of mbr.now.records))) }
+    ensures traced_err { D.tells → IfErr result (λ e. IsOutside e
+        ⊎ Adds trace.old trace.new (ExtendedReads (D.told disk.old).seen (extended_of mbr.now.records))) }
 {
-    let record = match lone_extended(&mbr.records) {
+    let record = match extended_of(&mbr.records) {
         Extended::Nothing => return Ok(Ebrs::new(Vec::new(alloc))),
-        Extended::Two => return Err(NoTable::TwoExtended),
+        Extended::More(_) => return Err(NoTable::TwoExtended),
         Extended::One(record) => record,
     };
     let extent = match extent_at(&record) {

@@ -14,7 +14,7 @@ use pt_bsd::{Label, decode_label};
 use pt_sector::{Disk, Failure, Lba, Sector, read_sector};
 use std::alloc::{AllocError, Global};
 
-#[tactic(auto, using(crate::proofs::LabelSteps::no_label))]
+#[tactic(auto, using(pt_bsd::specs::Laws::no_label))]
 fn label_of<const B: usize>(sector: &Sector<B>, slice: Slice) -> Option<Label>
     requires { IsSectorSize B }
     ensures { LabelIs slice sector.now result }
@@ -39,7 +39,6 @@ fn read_label<const B: usize, D: Disk<B>>(
     ensures ok { D.tells → IfOk result (λ o. LabelIs slice (sector (D.told disk.old).seen (place_of slice)) o) }
     ensures traced { OnOk result (Adds trace.old trace.new (λ s. s ≡ place_of slice)) }
 {
-    let _sectors = disk.sectors();
     let at = slice.first + 1;
     trace.add_one(at)?;
     let mut sector = [0; B];

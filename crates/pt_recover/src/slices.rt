@@ -3,19 +3,17 @@
 ghost use Rattle.std.specs.Prelude.{◌≡◌, ◌≤◌, ◌+◌, ◌++◌, ◌∷◌, [], filter, option_to_list, IfOk, OnOk};
 ghost use Rattle.std.specs.Str.{bytes_eq};
 ghost use Rattle.pt_sector.specs.Sectors.{IsSectorSize};
-ghost use Rattle.pt_recover.specs.Labels.{is_slice_kind, slice_from, record_slice, primary_slice, primary_slices, logical_slice, logical_slices, next_number, entry_slice, entry_slices, has_place, places_of};
+ghost use Rattle.pt_recover.specs.Labels.{is_slice_kind, slice_from, record_slice, primary_slice, primary_slices, logical_slice};
+ghost use Rattle.pt_recover.specs.Labels.{logical_slices, next_number, entry_slice, entry_slices, has_place, places_of};
 
 use crate::layout::{Body, Slice};
 use pt_gpt::Entry;
 use pt_guid::{Guid, type_of_code};
-use pt_mbr::{Ebr, Record};
+use pt_mbr::{Ebr, FIRST_LOGICAL, Record, SLICE_KIND};
 use std::alloc::{AllocError, Global};
 
 /// The type code of slices in a GPT.
 const SLICE_CODE: u16 = 0xA500;
-
-/// The type of slices in an MBR.
-const SLICE_KIND: u8 = 0xA5;
 
 /// Whether a GPT entry of this type is a slice: its type code is A500.
 pub fn is_slice_type(kind: &Guid) -> bool
@@ -136,7 +134,7 @@ fn push_primaries(
 fn push_logicals(places: &mut Vec<Slice>, sectors: u64, chain: &[Ebr]) -> Result<(), AllocError>
     ensures { OnOk result (places.new.items ≡ places.old.items ++ filter (has_place sectors) (logical_slices 5 chain.now)) }
 {
-    let mut number = 5;
+    let mut number = FIRST_LOGICAL;
     for k in 0..chain.len() {
         let place = logical_place(sectors, number, &chain[k]);
         push_place(places, place)?;

@@ -50,7 +50,8 @@ fn traced_copy<const B: usize, D: Disk<B>>(
     ensures ok { D.tells → IfOk result (λ t. Copy B (D.told disk.old).seen side t) }
     ensures err { D.tells → IfErr result (λ e. TellsFault B (D.told disk.old).seen side e) }
     ensures traced { D.tells → OnOk result (Adds trace.old trace.new (SideReads B (D.told disk.old).seen side)) }
-    ensures traced_err { D.tells → IfErr result (λ e. IsOutsideCopy e ⊎ Adds trace.old trace.new (SideReads B (D.told disk.old).seen side)) }
+    ensures traced_err { D.tells → IfErr result (λ e. IsOutsideCopy e
+        ⊎ Adds trace.old trace.new (SideReads B (D.told disk.old).seen side)) }
 {
     let sectors = disk.sectors();
     trace.add_one(header_at(side, sectors))?;

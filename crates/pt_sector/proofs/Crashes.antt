@@ -16,7 +16,8 @@ module _ {b : _} (old : WriteCache b) (past later : List (WriteCache b)) (is : l
   pub not_flushed : FailedFlush (crash_told old past) (crash_told old later)
   not_flushed = record { seen = refl; same_count = refl; no_more = λ k v lt may. may; time = moments_on old past later is }
 
-  pub flushed : (new : WriteCache b) → new.durable.items ≡ reading old.pending.items old.durable.items → new.pending.items ≡ [] → Flushed (crash_told old past) (crash_told new later)
+  pub flushed : (new : WriteCache b) → new.durable.items ≡ reading old.pending.items old.durable.items → new.pending.items ≡ []
+      → Flushed (crash_told old past) (crash_told new later)
   flushed new durable pending = record {
     seen = rw pending durable;
     durable = durable;
@@ -24,8 +25,11 @@ module _ {b : _} (old : WriteCache b) (past later : List (WriteCache b)) (is : l
     time = moments_on old past later is;
   }
 
-  module _ (new : WriteCache b) (p : Pending b) (durable : new.durable.items ≡ old.durable.items) (pending : new.pending.items ≡ old.pending.items ++ p ∷ []) where
-    pub seen_after : reading new.pending.items new.durable.items ≡ cond p.reads (Rattle.std.proofs.Common.slice_set (reading old.pending.items old.durable.items) p.lba.0 p.bytes) (reading old.pending.items old.durable.items)
+  module _ (new : WriteCache b) (p : Pending b) (durable : new.durable.items ≡ old.durable.items)
+      (pending : new.pending.items ≡ old.pending.items ++ p ∷ []) where
+    pub seen_after : reading new.pending.items new.durable.items ≡ cond p.reads
+        (Rattle.std.proofs.Common.slice_set (reading old.pending.items old.durable.items) p.lba.0 p.bytes)
+        (reading old.pending.items old.durable.items)
     seen_after = rw (durable, pending) (reading-push old.pending.items p old.durable.items)
 
     pending_after : pending_writes new.pending.items ≡ pending_writes old.pending.items ++ (p.lba.0, p.bytes) ∷ []

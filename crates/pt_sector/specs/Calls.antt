@@ -56,16 +56,19 @@ faults_on a b c (more, come, reads) (later, comes, of_reads) = (
 )
 
 -- after calls that met no fault
-pub blames_after : {T E : Type 0} (fault_in : E → Option Fault) (result : Result T E) (old mid new : List Fault) → mid ≡ old → Blames fault_in result mid new → Blames fault_in result old new
+pub blames_after : {T E : Type 0} (fault_in : E → Option Fault) (result : Result T E) (old mid new : List Fault) → mid ≡ old
+    → Blames fault_in result mid new → Blames fault_in result old new
 blames_after fault_in result old mid new same blames = subst (λ (l : List Fault). Blames fault_in result l new) same blames
 
 -- a result that carries no fault
-pub blames_none : {T E : Type 0} (fault_in : E → Option Fault) (result : Result T E) (old new : List Fault) → IfErr result (λ e. fault_in e ≡ None) → new ≡ old → Blames fault_in result old new
+pub blames_none : {T E : Type 0} (fault_in : E → Option Fault) (result : Result T E) (old new : List Fault)
+    → IfErr result (λ e. fault_in e ≡ None) → new ≡ old → Blames fault_in result old new
 blames_none fault_in (Ok x) old new none same = same
 blames_none fault_in (Err e) old new none same = rw none same
 
 -- a call that only reads: the disk is the same in all that its ghosts say, but for faults of reads
-module _ {D : Type 0} (count : D → ℕ) (name : D → ℕ) (reads : D → D → Type 0) (tells : Type 0) (told : D → Told) (faults : D → List Fault) where
+module _ {D : Type 0} (count : D → ℕ) (name : D → ℕ) (reads : D → D → Type 0) (tells : Type 0) (told : D → Told)
+    (faults : D → List Fault) where
   pub record Untouched (old new : D) : Type 0 where
     pub same_count : count new ≡ count old
     pub same_name : name new ≡ name old
@@ -74,7 +77,8 @@ module _ {D : Type 0} (count : D → ℕ) (name : D → ℕ) (reads : D → D �
     pub came : ReadFaults (faults old) (faults new)
 
   pub untouched_same : ((a : D) → reads a a) → (a : D) → Untouched a a
-  untouched_same reads_same a = record { same_count = refl; same_name = refl; through = reads_same a; same = λ t. refl; came = no_faults (faults a) (faults a) refl }
+  untouched_same reads_same a =
+      record { same_count = refl; same_name = refl; through = reads_same a; same = λ t. refl; came = no_faults (faults a) (faults a) refl }
 
   pub untouched_on : ((a b c : D) → reads a b → reads b c → reads a c) → (a b c : D) → Untouched a b → Untouched b c → Untouched a c
   untouched_on reads_on a b c ab bc = record {

@@ -16,5 +16,6 @@ moments past = map (λ (s : WriteCache _). moment_of s) past
 abbrev pub crash_told : {b : _} → WriteCache b → List (WriteCache b) → Told
 crash_told s past = told_of (reading s.pending.items s.durable.items) s.durable.items (pending_writes s.pending.items) (moments past)
 
-pub moments_on : {b : _} (old : WriteCache b) (past later : List (WriteCache b)) → later ≡ past ++ old ∷ [] → moments later ≡ moments past ++ moment_of old ∷ []
+pub moments_on : {b : _} (old : WriteCache b) (past later : List (WriteCache b)) → later ≡ past ++ old ∷ []
+    → moments later ≡ moments past ++ moment_of old ∷ []
 moments_on old past later is = ap moments is ∙ map-append (λ (s : WriteCache _). moment_of s) past (old ∷ [])

@@ -42,5 +42,6 @@ room_for room = room.own.room
 pub length-shown : {b : _} (seen : Sectors) (own : Own b) → length (shown seen own) ≡ length seen
 length-shown seen own = length-written (puts_as_writes own.puts.items) seen
 
-pub elapses_overlay : {b : _} (seen : Sectors) (old new : Own b) (past later : List (Own b)) → later ≡ past ++ old ∷ [] → Elapses (overlay_told seen old past) (overlay_told seen new later)
+pub elapses_overlay : {b : _} (seen : Sectors) (old new : Own b) (past later : List (Own b)) → later ≡ past ++ old ∷ []
+    → Elapses (overlay_told seen old past) (overlay_told seen new later)
 elapses_overlay seen old new past later is = ap (moments seen) is ∙ map-append (λ (own : Own _). (shown seen own, [])) past (old ∷ [])

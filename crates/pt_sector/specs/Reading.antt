@@ -1,5 +1,6 @@
 -- What a read gives while writes are pending.
-use Rattle.std.proofs.Common.{◌≡◌, ◌∙◌, ◌<◌, ℕ, List, [], ◌∷◌, length, Bool, true, false, cond, ◌&&◌, ◌==◌, slice_set, refl, sym, ap, arith, length-set}
+use Rattle.std.proofs.Common.{◌≡◌, ◌∙◌, ◌<◌, ℕ, List, [], ◌∷◌, length, Bool, true, false, cond, ◌&&◌, ◌==◌, slice_set, refl, sym, ap, arith}
+use Rattle.std.proofs.Common.{length-set}
 use Rattle.std.proofs.lemmas.Bool.{cases_eq}
 use Rattle.std.proofs.lemmas.Bool.Decides.{nat_tests}
 use Rattle.std.proofs.lemmas.Grind.{common_steps}
@@ -14,7 +15,8 @@ abbrev pub read_at : {b : _} → List (Pending b) → ℕ → List ℕ → List 
 read_at [] k v = v
 read_at (p ∷ ps) k v = read_at ps k (cond (p.reads && (p.lba.0 == k)) p.bytes v)
 
-step : (r : Bool) (a k : ℕ) (v : List ℕ) (d : Sectors) → k < length d → sector (cond r (slice_set d a v) d) k ≡ cond (r && (a == k)) v (sector d k)
+step : (r : Bool) (a k : ℕ) (v : List ℕ) (d : Sectors) → k < length d
+    → sector (cond r (slice_set d a v) d) k ≡ cond (r && (a == k)) v (sector d k)
 step false a k v d lt = refl
 step true a k v d lt = grind (arith, common_steps, nat_tests)
 
@@ -26,11 +28,13 @@ pub length-reading : {b : _} (ps : List (Pending b)) (d : Sectors) → length (r
 length-reading [] d = refl
 length-reading (p ∷ ps) d = length-reading ps (cond p.reads (slice_set d p.lba.0 p.bytes) d) ∙ length-step p.reads p.lba.0 p.bytes d
 
-pub sector-reading : {b : _} (ps : List (Pending b)) (d : Sectors) (k : ℕ) → k < length d → sector (reading ps d) k ≡ read_at ps k (sector d k)
+pub sector-reading : {b : _} (ps : List (Pending b)) (d : Sectors) (k : ℕ) → k < length d
+    → sector (reading ps d) k ≡ read_at ps k (sector d k)
 sector-reading [] d k lt = refl
 sector-reading (p ∷ ps) d k lt =
     let len : length (cond p.reads (slice_set d p.lba.0 p.bytes) d) ≡ length d = length-step p.reads p.lba.0 p.bytes d in
-    sector-reading ps (cond p.reads (slice_set d p.lba.0 p.bytes) d) k (omega (arith, len)) ∙ ap (read_at ps k) (step p.reads p.lba.0 k p.bytes d lt)
+    sector-reading ps (cond p.reads (slice_set d p.lba.0 p.bytes) d) k (omega (arith, len))
+    ∙ ap (read_at ps k) (step p.reads p.lba.0 k p.bytes d lt)
 
 put_or_not : (r : Bool) (a k : ℕ) (x v : List ℕ) → (cond (r && (a == k)) x v ≡ v) ⊎ ((a ≡ k) × (cond (r && (a == k)) x v ≡ x))
 put_or_not false a k x v = inl refl
@@ -51,9 +55,11 @@ read_or (p ∷ ps) k v =
 pub stopped_reading : {b : _} (ps : List (Pending b)) (d : Sectors) → Stopped d (pending_writes ps) (reading ps d)
 stopped_reading ps d = record {
   same_count = length-reading ps d;
-  each = λ k lt. ⊎_elim (λ same. inl (sector-reading ps d k lt ∙ same)) (λ puts. inr (rw (sector-reading ps d k lt) puts)) (read_or ps k (sector d k));
+  each = λ k lt. ⊎_elim (λ same. inl (sector-reading ps d k lt ∙ same)) (λ puts. inr (rw (sector-reading ps d k lt) puts))
+      (read_or ps k (sector d k));
 }
 
-pub reading-push : {b : _} (ps : List (Pending b)) (p : Pending b) (d : Sectors) → reading (ps ++ p ∷ []) d ≡ cond p.reads (slice_set (reading ps d) p.lba.0 p.bytes) (reading ps d)
+pub reading-push : {b : _} (ps : List (Pending b)) (p : Pending b) (d : Sectors)
+    → reading (ps ++ p ∷ []) d ≡ cond p.reads (slice_set (reading ps d) p.lba.0 p.bytes) (reading ps d)
 reading-push [] p d = refl
 reading-push (q ∷ ps) p d = reading-push ps p (cond q.reads (slice_set d q.lba.0 q.bytes) d)

@@ -22,7 +22,8 @@ pub record ReadsThrough {D B : _} (g : Ghosts D B) (old new : D) (above now_abov
   pub come_below : g.faults new ≡ g.faults old ++ more
 
 pub through_same : {D B : _} (g : Ghosts D B) → ((a : D) → OnlyReads g a a) → (a : D) (above : List Fault) → ReadsThrough g a a above above
-through_same g reads_same a above = record { below = reads_same a; more = []; come_above = sym (append-nil above); come_below = sym (append-nil (g.faults a)) }
+through_same g reads_same a above =
+    record { below = reads_same a; more = []; come_above = sym (append-nil above); come_below = sym (append-nil (g.faults a)) }
 
 pub through_on : {D B : _} (g : Ghosts D B) → ((a b c : D) → OnlyReads g a b → OnlyReads g b c → OnlyReads g a c)
     → (a b c : D) (fa fb fc : List Fault) → ReadsThrough g a b fa fb → ReadsThrough g b c fb fc → ReadsThrough g a c fa fc
@@ -34,7 +35,8 @@ through_on g reads_on a b c fa fb fc ab bc = record {
 }
 
 -- so what a result blames above, it blames below
-pub blames_below : {D B : _} (g : Ghosts D B) {T E : Type 0} (fault_in : E → Option Fault) (result : Result T E) (old new : D) (above now_above : List Fault)
+pub blames_below : {D B : _} (g : Ghosts D B) {T E : Type 0} (fault_in : E → Option Fault) (result : Result T E) (old new : D)
+    (above now_above : List Fault)
     → ReadsThrough g old new above now_above → Blames fault_in result above now_above → Blames fault_in result (g.faults old) (g.faults new)
 blames_below g fault_in (Ok x) old new above now_above through same =
     let empty : through.more ≡ [] = append_cancel_left above through.more [] (sym through.come_above ∙ same ∙ sym (append-nil above)) in

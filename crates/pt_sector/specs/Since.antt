@@ -27,8 +27,10 @@ append-two (m ∷ a) b c = ap (λ (l : List Moment). m ∷ l) (append-two a b c)
 pub leaves_none : (old : Told) (P : Sectors → Type 0) → LeavesOnly old old P
 leaves_none old P = record { more = []; past = sym (append-none old.past); inside = λ c none. absurd none; at_end = λ c may. inl may }
 
-pub leaves_once : (old new : Told) (P : Sectors → Type 0) → Elapses old new → ((c : Sectors) → MayLeave new c → MayLeave old c ⊎ P c) → LeavesOnly old new P
-leaves_once old new P time here = record { more = now_of old ∷ []; past = time; inside = λ c left. ⊎_elim (λ is. inl is) (λ none. absurd none) left; at_end = here }
+pub leaves_once : (old new : Told) (P : Sectors → Type 0) → Elapses old new
+    → ((c : Sectors) → MayLeave new c → MayLeave old c ⊎ P c) → LeavesOnly old new P
+leaves_once old new P time here =
+    record { more = now_of old ∷ []; past = time; inside = λ c left. ⊎_elim (λ is. inl is) (λ none. absurd none) left; at_end = here }
 
 pub leaves_through : (old mid new : Told) (P : Sectors → Type 0) → LeavesOnly old mid P → LeavesOnly mid new P → LeavesOnly old new P
 leaves_through old mid new P a b = record {

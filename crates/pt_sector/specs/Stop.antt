@@ -1,5 +1,6 @@
 -- A stop by a list of choices.
-use Rattle.std.specs.Prelude.{ℕ, zero, suc, ◌≡◌, ◌<◌, ◌+◌, ◌==◌, ◌||◌, Bool, false, List, [], ◌∷◌, length, drop, min, slice_index_or, slice_index, if◌then◌else◌}
+use Rattle.std.specs.Prelude.{ℕ, zero, suc, ◌≡◌, ◌<◌, ◌+◌, ◌==◌, ◌||◌, Bool, false, List, [], ◌∷◌, length, drop, min, slice_index_or}
+use Rattle.std.specs.Prelude.{slice_index, if◌then◌else◌}
 use Rattle.pt_sector.specs.Sectors.{Sectors, sector}
 use Rattle.pt_sector.specs.Writes.{Writes}
 

@@ -1,5 +1,6 @@
 -- Laws of written disks: their length, their sectors, and which sectors stay.
-use Rattle.std.proofs.Common.{◌≡◌, ◌∙◌, ◌⊎◌, ◌<◌, ◌≤◌, ◌+◌, ◌==◌, ℕ, List, [], ◌∷◌, ◌++◌, length, cond, take, slice_set, get_or, refl, sym, ap, inl, inr, ⊎_elim, arith, length-set, map}
+use Rattle.std.proofs.Common.{◌≡◌, ◌∙◌, ◌⊎◌, ◌<◌, ◌≤◌, ◌+◌, ◌==◌, ℕ, List, [], ◌∷◌, ◌++◌, length, cond, take, slice_set, get_or, refl, sym}
+use Rattle.std.proofs.Common.{ap, inl, inr, ⊎_elim, arith, length-set, map}
 use Rattle.std.proofs.lemmas.Bool.{cases_eq}
 use Rattle.std.proofs.lemmas.Bool.Decides.{nat_tests}
 use Rattle.std.proofs.lemmas.Grind.{common_steps}
@@ -42,22 +43,28 @@ after-append (p ∷ a) b d = after-append a b (written p d)
 pub after-one_more : (ps : List Writes) (p : Writes) (d : Sectors) → after (ps ++ p ∷ []) d ≡ written p (after ps d)
 after-one_more ps p d = after-append ps (p ∷ []) d
 
-pub written-take_more : (ws : Writes) (i : ℕ) (w : ℕ × List ℕ) (d : Sectors) → i < length ws → w ≡ get_or ws i w → written (take (i + 1) ws) d ≡ slice_set (written (take i ws) d) w.0 w.1
+pub written-take_more : (ws : Writes) (i : ℕ) (w : ℕ × List ℕ) (d : Sectors) → i < length ws → w ≡ get_or ws i w
+    → written (take (i + 1) ws) d ≡ slice_set (written (take i ws) d) w.0 w.1
 written-take_more ws i w d lt is =
-    ap (λ (l : Writes). written l d) (take_more ws i w lt ∙ ap (λ (x : ℕ × List ℕ). take i ws ++ x ∷ []) (sym is)) ∙ written-one_more (take i ws) w d
+    ap (λ (l : Writes). written l d) (take_more ws i w lt ∙ ap (λ (x : ℕ × List ℕ). take i ws ++ x ∷ []) (sym is))
+    ∙ written-one_more (take i ws) w d
 
-pub after-take_more : (ps : List Writes) (i : ℕ) (p : Writes) (d : Sectors) → i < length ps → p ≡ get_or ps i p → after (take (i + 1) ps) d ≡ written p (after (take i ps) d)
+pub after-take_more : (ps : List Writes) (i : ℕ) (p : Writes) (d : Sectors) → i < length ps → p ≡ get_or ps i p
+    → after (take (i + 1) ps) d ≡ written p (after (take i ps) d)
 after-take_more ps i p d lt is =
-    ap (λ (l : List Writes). after l d) (take_more ps i p lt ∙ ap (λ (x : Writes). take i ps ++ x ∷ []) (sym is)) ∙ after-one_more (take i ps) p d
+    ap (λ (l : List Writes). after l d) (take_more ps i p lt ∙ ap (λ (x : Writes). take i ps ++ x ∷ []) (sym is))
+    ∙ after-one_more (take i ps) p d
 
 -- the same for items that stand for writes, and for phases
-pub written-map_take_more : {A : Type 0} (f : A → ℕ × List ℕ) (xs : List A) (i : ℕ) (x : A) (d : Sectors) → i < length xs → x ≡ get_or xs i x → written (map f (take (i + 1) xs)) d ≡ slice_set (written (map f (take i xs)) d) (f x).0 (f x).1
+pub written-map_take_more : {A : Type 0} (f : A → ℕ × List ℕ) (xs : List A) (i : ℕ) (x : A) (d : Sectors) → i < length xs
+    → x ≡ get_or xs i x → written (map f (take (i + 1) xs)) d ≡ slice_set (written (map f (take i xs)) d) (f x).0 (f x).1
 written-map_take_more f xs i x d lt is =
     ap (λ (l : List _). written (map f l) d) (take_more xs i x lt ∙ ap (λ (y : _). take i xs ++ y ∷ []) (sym is))
     ∙ ap (λ (l : Writes). written l d) (map-append f (take i xs) (x ∷ []))
     ∙ written-one_more (map f (take i xs)) (f x) d
 
-pub after-map_take_more : {A : Type 0} (f : A → Writes) (xs : List A) (i : ℕ) (x : A) (d : Sectors) → i < length xs → x ≡ get_or xs i x → after (map f (take (i + 1) xs)) d ≡ written (f x) (after (map f (take i xs)) d)
+pub after-map_take_more : {A : Type 0} (f : A → Writes) (xs : List A) (i : ℕ) (x : A) (d : Sectors) → i < length xs
+    → x ≡ get_or xs i x → after (map f (take (i + 1) xs)) d ≡ written (f x) (after (map f (take i xs)) d)
 after-map_take_more f xs i x d lt is =
     ap (λ (l : List _). after (map f l) d) (take_more xs i x lt ∙ ap (λ (y : _). take i xs ++ y ∷ []) (sym is))
     ∙ ap (λ (l : List Writes). after l d) (map-append f (take i xs) (x ∷ []))
@@ -92,7 +99,8 @@ value_after_or (w ∷ ws) k v =
 pub stopped_written : (ws : Writes) (d : Sectors) → Stopped d ws (written ws d)
 stopped_written ws d = record {
   same_count = length-written ws d;
-  each = λ k lt. ⊎_elim (λ same. inl (sector-written ws d k lt ∙ same)) (λ puts. inr (rw (sector-written ws d k lt) puts)) (value_after_or ws k (sector d k));
+  each = λ k lt. ⊎_elim (λ same. inl (sector-written ws d k lt ∙ same)) (λ puts. inr (rw (sector-written ws d k lt) puts))
+      (value_after_or ws k (sector d k));
 }
 
 -- with none of them there is one
@@ -117,7 +125,8 @@ past_end : (d : Sectors) (k : ℕ) → length d ≤ k → sector d k ≡ []
 past_end d k past = grind (arith, common_steps)
 
 -- a stop in writes that miss S leaves a disk that agrees on S
-pub agrees_stopped : (S : ℕ → Type 0) (d : Sectors) (ws : Writes) (c : Sectors) → ((s : ℕ) (v : List ℕ) → S s → Puts ws s v → ⊥) → Stopped d ws c → Agrees S c d
+pub agrees_stopped : (S : ℕ → Type 0) (d : Sectors) (ws : Writes) (c : Sectors) → ((s : ℕ) (v : List ℕ) → S s → Puts ws s v → ⊥)
+    → Stopped d ws c → Agrees S c d
 agrees_stopped S d ws c misses stop = record {
   count = stop.same_count;
   each = λ s in_S. on s in_S (below_or s (length d));
@@ -131,13 +140,16 @@ agrees_stopped S d ws c misses stop = record {
     on s in_S (inr past) = past_end c s (omega (arith, past, stop.same_count)) ∙ sym (past_end d s past)
 
 -- and so does the disk with them done
-pub agrees_written : (S : ℕ → Type 0) (d : Sectors) (ws : Writes) → ((s : ℕ) (v : List ℕ) → S s → Puts ws s v → ⊥) → Agrees S (written ws d) d
+pub agrees_written : (S : ℕ → Type 0) (d : Sectors) (ws : Writes) → ((s : ℕ) (v : List ℕ) → S s → Puts ws s v → ⊥)
+    → Agrees S (written ws d) d
 agrees_written S d ws misses = agrees_stopped S d ws (written ws d) misses (stopped_written ws d)
 
 -- a stop within one write leaves the disk before it or after it
 
-other_sector : (d : Sectors) (w : ℕ × List ℕ) (c : Sectors) → Stopped d (w ∷ []) c → (j : ℕ) → j < length d → (w.0 ≡ j → ⊥) → sector c j ≡ sector d j
-other_sector d w c stop j lt other = ⊎_elim (λ same. same) (λ puts. ⊎_elim (λ put. absurd (other put.0)) (λ none. absurd none) puts) (stop.each j lt)
+other_sector : (d : Sectors) (w : ℕ × List ℕ) (c : Sectors) → Stopped d (w ∷ []) c → (j : ℕ) → j < length d → (w.0 ≡ j → ⊥)
+    → sector c j ≡ sector d j
+other_sector d w c stop j lt other =
+    ⊎_elim (λ same. same) (λ puts. ⊎_elim (λ put. absurd (other put.0)) (λ none. absurd none) puts) (stop.each j lt)
 
 not_done : (d : Sectors) (w : ℕ × List ℕ) (c : Sectors) → Stopped d (w ∷ []) c → (w.0 < length d → sector c w.0 ≡ sector d w.0) → c ≡ d
 not_done d w c stop here = same_sectors c d stop.same_count each
@@ -148,7 +160,8 @@ not_done d w c stop here = same_sectors c d stop.same_count each
       | inr other ↦ other_sector d w c stop j lt other
     ]
 
-done_one : (d : Sectors) (w : ℕ × List ℕ) (c : Sectors) → Stopped d (w ∷ []) c → w.0 < length d → sector c w.0 ≡ w.1 → c ≡ slice_set d w.0 w.1
+done_one : (d : Sectors) (w : ℕ × List ℕ) (c : Sectors) → Stopped d (w ∷ []) c → w.0 < length d → sector c w.0 ≡ w.1
+    → c ≡ slice_set d w.0 w.1
 done_one d w c stop inside here = same_sectors c (slice_set d w.0 w.1) (stop.same_count ∙ sym (length-set d w.0 w.1)) each
   where
     each : (j : ℕ) → j < length (slice_set d w.0 w.1) → sector c j ≡ sector (slice_set d w.0 w.1) j

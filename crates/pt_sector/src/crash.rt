@@ -1,4 +1,5 @@
-ghost use Rattle.std.specs.Prelude.{◌≡◌, ◌≤◌, ◌<◌, ◌-◌, ◌*◌, ◌^◌, ◌↔◌, ◌⊎◌, ℕ, List, [], ◌∷◌, ◌++◌, length, slice_set, Some, if◌then◌else◌, true, IsTrue, IfOk, IfErr, OnOk, OnErr, IsErr, false};
+ghost use Rattle.std.specs.Prelude.{◌≡◌, ◌≤◌, ◌<◌, ◌-◌, ◌*◌, ◌^◌, ◌↔◌, ◌⊎◌, ℕ, List, [], ◌∷◌, ◌++◌, length, slice_set, Some, if◌then◌else◌};
+ghost use Rattle.std.specs.Prelude.{true, IsTrue, IfOk, IfErr, OnOk, OnErr, IsErr, false};
 ghost use Rattle.pt_sector.specs.declared.disk.Fault.TheVariants.{Read, Write, Flush};
 ghost use Rattle.pt_sector.specs.Sectors.{IsSectorSize, sector};
 ghost use Rattle.pt_sector.specs.Device.{MayLeave, Wrote, FailedWrite, Flushed, FailedFlush};
@@ -9,7 +10,8 @@ ghost use Rattle.pt_sector.specs.Memory.{zero_sectors};
 ghost use Rattle.pt_sector.specs.Reading.{length-reading, stopped_reading};
 ghost use Rattle.pt_sector.specs.Stop.{IsPicked};
 ghost use Rattle.pt_sector.specs.Crash.{crash_told};
-ghost use Rattle.pt_sector.specs.Schedule.{content, sector_count, faults_of, pending_room, IsFull, fails_in, reads_failed, CallPasses, SameContent};
+ghost use Rattle.pt_sector.specs.Schedule.{content, sector_count, faults_of, pending_room, IsFull, fails_in, reads_failed, CallPasses};
+ghost use Rattle.pt_sector.specs.Schedule.{SameContent};
 
 use crate::address::Lba;
 use crate::cache::WriteCache;
@@ -72,7 +74,8 @@ impl<const B: usize> CrashDisk<B> {
     /// The disk that a crash leaves, by one choice for each sector with pending writes, in ascending order: 0 is the
     /// durable value, and j the j-th pending one in the order of writing. A missing choice is 0, a greater one the last.
     pub fn stop(self, choices: &[usize]) -> MemDisk<B>
-        ensures picked { IsPicked (content self.entry).durable (content self.entry).pending choices.now (⟦<MemDisk<B> as Disk<B>>⟧.told result).seen }
+        ensures picked { IsPicked (content self.entry).durable (content self.entry).pending choices.now
+            (⟦<MemDisk<B> as Disk<B>>⟧.told result).seen }
         ensures may_leave { MayLeave (content self.entry) (⟦<MemDisk<B> as Disk<B>>⟧.told result).seen }
         ensures past { (⟦<MemDisk<B> as Disk<B>>⟧.told result).past ≡ [] }
         ensures count { ⟦<MemDisk<B> as Disk<B>>⟧.count result ≡ sector_count self.entry }

@@ -6,6 +6,8 @@ ghost use Rattle.pt_sector.specs.Device.{Told, MayLeave, Wrote, FailedWrite, Flu
 ghost use Rattle.pt_sector.specs.Calls.{Blames, Untouched};
 
 use crate::address::Lba;
+use std::error::Error;
+use std::fmt;
 
 /// A call of a disk that failed.
 #[derive(Clone, Copy, Debug, PartialEq, Eq)]
@@ -14,6 +16,18 @@ pub enum Fault {
     Write(Lba),
     Flush,
 }
+
+impl fmt::Display for Fault {
+    fn fmt<W: fmt::Write>(&self, f: &mut fmt::Formatter<W>) -> fmt::Result {
+        match self {
+            Fault::Read(at) => write!(f, "sector {} can't be read", at.0),
+            Fault::Write(at) => write!(f, "sector {} can't be written", at.0),
+            Fault::Flush => f.write_str("the disk can't be flushed"),
+        }
+    }
+}
+
+impl Error for Fault {}
 
 /// A disk with sectors of `B` bytes, 512 or 4096.
 ///

@@ -11,10 +11,20 @@ ghost use Rattle.pt_sector.specs.declared.reading.Failure.TheVariants as failure
 use crate::address::Lba;
 use crate::disk::Disk;
 use std::alloc::AllocError;
+use std::error::Error;
+use std::fmt;
 
 /// The sector whose read failed.
 #[derive(Clone, Copy, Debug, PartialEq, Eq)]
 pub struct FailedRead(pub Lba);
+
+impl fmt::Display for FailedRead {
+    fn fmt<W: fmt::Write>(&self, f: &mut fmt::Formatter<W>) -> fmt::Result {
+        write!(f, "sector {} can't be read", self.0.0)
+    }
+}
+
+impl Error for FailedRead {}
 
 /// Why a call that only reads gives no answer, where what is on the disk doesn't explain it.
 #[derive(Clone, Copy, Debug, PartialEq, Eq)]
@@ -24,6 +34,17 @@ pub enum Failure {
     /// Memory was refused.
     Memory,
 }
+
+impl fmt::Display for Failure {
+    fn fmt<W: fmt::Write>(&self, f: &mut fmt::Formatter<W>) -> fmt::Result {
+        match self {
+            Failure::Device(at) => write!(f, "sector {} can't be read", at.0),
+            Failure::Memory => f.write_str("out of memory"),
+        }
+    }
+}
+
+impl Error for Failure {}
 
 impl From<FailedRead> for Failure {
     ghost from_gives = { λ failed e. e ≡ failure.Device failed.0 };

@@ -1,10 +1,12 @@
 -- Slices stand in the order of their numbers.
-use Rattle.std.specs.Prelude.{◌≡◌, ◌≤◌, ◌+◌, ◌-◌, ◌++◌, ◌∷◌, [], ℕ, Bool, true, false, List, filter, length, Option, Some, None, if◌then◌else◌, nat_eq}
+use Rattle.std.specs.Prelude.{◌≡◌, ◌≤◌, ◌+◌, ◌-◌, ◌++◌, ◌∷◌, [], ℕ, Bool, true, false, List, filter, length, Option, Some, None}
+use Rattle.std.specs.Prelude.{if◌then◌else◌, nat_eq}
 use Rattle.std.proofs.Common.{refl, sym, subst, arith, append_assoc}
 use Rattle.pt_gpt.specs.declared.entry.Entry.{Entry}
 use Rattle.pt_mbr.specs.declared.record.Record.{Record}
 use Rattle.pt_mbr.specs.declared.ebr.Ebr.{Ebr}
-use Rattle.pt_recover.specs.Labels.{is_slice_kind, slice_from, record_slice, primary_slice, primary_slices, logical_slice, next_number, logical_slices, entry_slice, entry_slices, slices_of, has_place, places_of}
+use Rattle.pt_recover.specs.Labels.{is_slice_kind, slice_from, record_slice, primary_slice, primary_slices, logical_slice, next_number}
+use Rattle.pt_recover.specs.Labels.{logical_slices, entry_slice, entry_slices, slices_of, has_place, places_of}
 use Rattle.pt_recover.specs.declared.layout.Body.{Body}
 use Rattle.pt_recover.specs.declared.layout.Body.TheVariants.{Mbr, Gpt}
 use Rattle.pt_recover.specs.declared.layout.Layout.{Layout}
@@ -21,16 +23,21 @@ pub ascend_from : (low more : ℕ) (ss : List Slice) → low ≤ more → IsAsce
 ascend_from low more [] le is = tt
 ascend_from low more (s ∷ ss) le is = (omega (arith, le, is.0), is.1)
 
-filter_one : (p : Slice → Bool) (low : ℕ) (s : Slice) (ss : List Slice) → low ≤ s.number → IsAscending (s.number + 1) (filter p ss) → (t : Bool) → p s ≡ t → IsAscending low (filter p (s ∷ ss))
-filter_one p low s ss le more true so = (let kept : filter p (s ∷ ss) ≡ s ∷ filter p ss = rw (so, filter) refl in subst (IsAscending low) (sym kept) (le, more))
-filter_one p low s ss le more false so = (let left : filter p (s ∷ ss) ≡ filter p ss = rw (so, filter) refl in subst (IsAscending low) (sym left) (ascend_from low (s.number + 1) (filter p ss) (omega (arith, le)) more))
+filter_one : (p : Slice → Bool) (low : ℕ) (s : Slice) (ss : List Slice) → low ≤ s.number → IsAscending (s.number + 1) (filter p ss)
+    → (t : Bool) → p s ≡ t → IsAscending low (filter p (s ∷ ss))
+filter_one p low s ss le more true so =
+    (let kept : filter p (s ∷ ss) ≡ s ∷ filter p ss = rw (so, filter) refl in subst (IsAscending low) (sym kept) (le, more))
+filter_one p low s ss le more false so =
+    (let left : filter p (s ∷ ss) ≡ filter p ss = rw (so, filter) refl in
+    subst (IsAscending low) (sym left) (ascend_from low (s.number + 1) (filter p ss) (omega (arith, le)) more))
 
 ascend_filter : (p : Slice → Bool) (low : ℕ) (ss : List Slice) → IsAscending low ss → IsAscending low (filter p ss)
 ascend_filter p low [] is = tt
 ascend_filter p low (s ∷ ss) is = filter_one p low s ss is.0 (ascend_filter p (s.number + 1) ss is.1) (p s) refl
 
 -- none, or one of this number, and then higher ones
-one_kind : (n first last : ℕ) (c : Bool) (ss : List Slice) → IsAscending (n + 1) ss → IsAscending n ((if c then slice_from n first last ∷ [] else []) ++ ss)
+one_kind : (n first last : ℕ) (c : Bool) (ss : List Slice) → IsAscending (n + 1) ss
+    → IsAscending n ((if c then slice_from n first last ∷ [] else []) ++ ss)
 one_kind n first last true ss is = (omega arith, is)
 one_kind n first last false ss is = ascend_from n (n + 1) ss (omega arith) is
 
@@ -54,15 +61,18 @@ primary_then n None ss is = ascend_from n (n + 1) ss (omega arith) is
 primary_then n (Some r) ss is = record_then n 0 r ss is
 
 -- the primary ones, and behind them higher ones
-primaries_then : (n : ℕ) (rs : List (Option Record)) (ss : List Slice) → IsAscending (n + length rs) ss → IsAscending n (primary_slices n rs ++ ss)
+primaries_then : (n : ℕ) (rs : List (Option Record)) (ss : List Slice) → IsAscending (n + length rs) ss
+    → IsAscending n (primary_slices n rs ++ ss)
 unfolding primary_slices
 primaries_then n [] ss is = ascend_from n (n + 0) ss (omega arith) is
 primaries_then n (r ∷ rs) ss is =
     let at : n + length (r ∷ rs) ≡ (n + 1) + length rs = omega arith in
     let more = primaries_then (n + 1) rs ss (subst (λ (k : ℕ). IsAscending k ss) at is) in
-    subst (IsAscending n) (sym (append_assoc (primary_slice n r) (primary_slices (n + 1) rs) ss)) (primary_then n r (primary_slices (n + 1) rs ++ ss) more)
+    subst (IsAscending n) (sym (append_assoc (primary_slice n r) (primary_slices (n + 1) rs) ss))
+    (primary_then n r (primary_slices (n + 1) rs ++ ss) more)
 
-logical_then : (n : ℕ) (e : Ebr) (o : Option Record) (ss : List Slice) → e.logical ≡ o → IsAscending (next_number n e) ss → IsAscending n (logical_slice n e ++ ss)
+logical_then : (n : ℕ) (e : Ebr) (o : Option Record) (ss : List Slice) → e.logical ≡ o → IsAscending (next_number n e) ss
+    → IsAscending n (logical_slice n e ++ ss)
 unfolding logical_slice next_number
 logical_then n e None ss so is =
     let at : next_number n e ≡ n = rw so refl in
@@ -87,7 +97,9 @@ pub body_ascends_lem : (b : ℕ) (y : Body) → HasFour y → IsAscending 1 (sli
 unfolding slices_of
 body_ascends_lem b (Mbr rs chain) four =
     let at : 1 + length rs ≡ 5 = omega (arith, four) in
-    by_size (primary_slices 1 rs ++ logical_slices 5 chain) (nat_eq b 512) (primaries_then 1 rs (logical_slices 5 chain) (subst (λ (k : ℕ). IsAscending k (logical_slices 5 chain)) (sym at) (logicals_ascend 5 chain)))
+    by_size (primary_slices 1 rs ++ logical_slices 5 chain) (nat_eq b 512)
+    (primaries_then 1 rs (logical_slices 5 chain)
+    (subst (λ (k : ℕ). IsAscending k (logical_slices 5 chain)) (sym at) (logicals_ascend 5 chain)))
 body_ascends_lem b (Gpt t) four = by_size (entry_slices 1 t.entries) (nat_eq b 512) (entries_ascend 1 t.entries)
 
 -- so do those with a label place

@@ -32,7 +32,8 @@ still_in k i [] t at other = absurd (omega (arith, at.0))
 still_in zero zero (u ∷ us) t at other = absurd (other refl)
 still_in zero (suc i) (u ∷ us) t at other = (i, omega (arith, at.0), at.1)
 still_in (suc k) zero (u ∷ us) t at other = (0, omega arith, at.1)
-still_in (suc k) (suc i) (u ∷ us) t at other = contains_tail u (without k us) t (still_in k i us t (omega (arith, at.0), at.1) (λ e. other (ap suc e)))
+still_in (suc k) (suc i) (u ∷ us) t at other =
+    contains_tail u (without k us) t (still_in k i us t (omega (arith, at.0), at.1) (λ e. other (ap suc e)))
 
 same_thing : {X : Type 0} (k i : ℕ) (ts : List X) (t u : X) → IsAt ts k t → IsAt ts i u → i ≡ k → u ≡ t
 same_thing k i ts t u at also same =
@@ -49,7 +50,8 @@ equal_or_not i k = elim (cases_lt i k) as (λ _. (i ≡ k) ⊎ (i ≢ k)) [
 ]
 
 -- without a thing whose sector isn't wanted, or is another thing's too, the sectors have theirs
-covers_less : {X : Type 0} (f : X → ℕ) (ts : List X) (ys : List ℕ) (k : ℕ) (t : X) → Covers f ts ys → IsAt ts k t → (Contains ys (f t) → (i : ℕ) × (u : X) × IsAt ts i u × (i ≢ k) × (f u ≡ f t)) → Covers f (without k ts) ys
+covers_less : {X : Type 0} (f : X → ℕ) (ts : List X) (ys : List ℕ) (k : ℕ) (t : X) → Covers f ts ys → IsAt ts k t
+    → (Contains ys (f t) → (i : ℕ) × (u : X) × IsAt ts i u × (i ≢ k) × (f u ≡ f t)) → Covers f (without k ts) ys
 covers_less f ts ys k t covers at again s has = (
     let c = covers s has in
     elim (equal_or_not c.1.0 k) as (λ _. (u : _) × Contains (without k ts) u × (f u ≡ s)) [
@@ -67,11 +69,14 @@ enough : {X : Type 0} (f : X → ℕ) (ys : List ℕ) (ts : List X) → AllDiffe
 enough f [] ts differ covers = omega arith
 enough f (y ∷ ys) ts differ covers =
     let c = covers y (contains_head y ys) in
-    let fewer = covers_less f ts ys c.1.0 c.0 (λ s has. covers s (contains_tail y ys s has)) (c.1.1, c.1.2) (λ has. absurd (differ.0 (subst (λ (n : ℕ). Contains ys n) c.2 has))) in
+    let fewer =
+    covers_less f ts ys c.1.0 c.0 (λ s has. covers s (contains_tail y ys s has)) (c.1.1, c.1.2)
+    (λ has. absurd (differ.0 (subst (λ (n : ℕ). Contains ys n) c.2 has))) in
     let more = enough f ys (without c.1.0 ts) differ.1 fewer in
     omega (arith, more, one_less c.1.0 ts c.1.1)
 
-pub covering_differs_lem : {X : Type 0} (f : X → ℕ) (ys : List ℕ) (ts : List X) → AllDiffer ys → Covers f ts ys → length ts ≡ length ys → (i j : ℕ) (t u : X) → i < j → IsAt ts i t → IsAt ts j u → f t ≢ f u
+pub covering_differs_lem : {X : Type 0} (f : X → ℕ) (ys : List ℕ) (ts : List X) → AllDiffer ys → Covers f ts ys → length ts ≡ length ys
+    → (i j : ℕ) (t u : X) → i < j → IsAt ts i t → IsAt ts j u → f t ≢ f u
 covering_differs_lem f ys ts differ covers count i j t u order at also same =
     let fewer = covers_less f ts ys j u covers also (λ has. (i, t, at, (λ e. omega (arith, e, order)), same)) in
     let least = enough f ys (without j ts) differ fewer in

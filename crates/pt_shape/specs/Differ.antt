@@ -9,6 +9,7 @@ use Rattle.pt_recover.specs.declared.layout.Slice.{Slice}
 use Rattle.pt_recover.specs.declared.layout.Layout.{Layout}
 use Rattle.pt_recover.specs.declared.layout.Body.{Body}
 use Rattle.pt_recover.specs.declared.layout.Body.TheVariants.{Mbr, Gpt}
+use Rattle.pt_layout.specs.OnePath.{HasFour}
 use Rattle.pt_layout.specs.Sound.{Sound}
 use Rattle.pt_layout.specs.Tables.{IsEbr}
 use Rattle.pt_layout.specs.Grouped.{contains_head, contains_tail}
@@ -59,9 +60,11 @@ chain_place (e ∷ es) s (suc k, lt, at) = inr (chain_place es s (k, omega (arit
 above_all : (low : ℕ) (ws : List Slice) (w : Slice) → IsAscending low ws → Contains ws w → low ≤ w.number
 above_all low [] w up (k, lt, at) = absurd (omega (arith, lt))
 above_all low (v ∷ ws) w up (zero, lt, at) = (let same : v.number ≡ w.number = ap (λ (x : Slice). x.number) at in omega (arith, up.0, same))
-above_all low (v ∷ ws) w up (suc k, lt, at) = (let more = above_all (v.number + 1) ws w up.1 (k, omega (arith, lt), at) in omega (arith, up.0, more))
+above_all low (v ∷ ws) w up (suc k, lt, at) =
+    (let more = above_all (v.number + 1) ws w up.1 (k, omega (arith, lt), at) in omega (arith, up.0, more))
 
-labels_differ : (b : ℕ) (o : Layout) (low : ℕ) (ws : List Slice) → Sound b o → IsAscending low ws → ((w : Slice) → Contains ws w → Contains (slices_of b o.body) w) → AllDiffer (label_sectors ws)
+labels_differ : (b : ℕ) (o : Layout) (low : ℕ) (ws : List Slice) → Sound b o → IsAscending low ws
+    → ((w : Slice) → Contains ws w → Contains (slices_of b o.body) w) → AllDiffer (label_sectors ws)
 labels_differ b o low [] sound up each = tt
 labels_differ b o low (w ∷ ws) sound up each = (
   λ has. (
@@ -75,9 +78,10 @@ labels_differ b o low (w ∷ ws) sound up each = (
 )
 
 -- in a sound layout the label places are different sectors
-pub labels_differ_lem : (b : ℕ) (o : Layout) → Shaped b o → Sound b o → AllDiffer (label_sectors (places_of b o.sectors o.body))
-labels_differ_lem b o shaped sound =
-    labels_differ b o 1 (places_of b o.sectors o.body) sound (places_ascend_lem b o.sectors o.body (fits_four b o.sectors o.body shaped.body)) (λ w has. (place_slice_lem b o.sectors o.body w has).0)
+pub labels_differ_lem : (b : ℕ) (o : Layout) → HasFour o.body → Sound b o → AllDiffer (label_sectors (places_of b o.sectors o.body))
+labels_differ_lem b o four sound =
+    labels_differ b o 1 (places_of b o.sectors o.body) sound (places_ascend_lem b o.sectors o.body four)
+    (λ w has. (place_slice_lem b o.sectors o.body w has).0)
 
 climbs_above : (low : ℕ) (chain : List Ebr) (s : ℕ) → Climbs low chain → StandsAt s chain → low ≤ s
 climbs_above low [] s up at = absurd at
@@ -85,7 +89,8 @@ climbs_above low (e ∷ es) s up (inl here) = omega (arith, up.0, here)
 climbs_above low (e ∷ es) s up (inr there) = (let more = climbs_above (e.at.0 + 1) es s up.1 there in omega (arith, up.0, more))
 
 -- those of a chain that climbs, and others
-chain_differs : (low : ℕ) (chain : List Ebr) (more : List ℕ) → Climbs low chain → AllDiffer more → ((s : ℕ) → StandsAt s chain → ¬ Contains more s) → AllDiffer (chain_sectors chain ++ more)
+chain_differs : (low : ℕ) (chain : List Ebr) (more : List ℕ) → Climbs low chain → AllDiffer more
+    → ((s : ℕ) → StandsAt s chain → ¬ Contains more s) → AllDiffer (chain_sectors chain ++ more)
 chain_differs low [] more up differ apart = differ
 chain_differs low (e ∷ es) more up differ apart = (
   λ has. (elim (Contains-append_cases (chain_sectors es) more e.at.0 has) as (λ _. ⊥) [
@@ -96,17 +101,24 @@ chain_differs low (e ∷ es) more up differ apart = (
 )
 
 own_differ : (b : ℕ) (o : Layout) (y : Body) → o.body ≡ y → Shaped b o → Sound b o → AllDiffer (own_sectors b o.sectors y)
-own_differ b o (Gpt t) is shaped sound = subst (λ (z : Body). AllDiffer (label_sectors (places_of b o.sectors z))) is (labels_differ_lem b o shaped sound)
+own_differ b o (Gpt t) is shaped sound =
+    subst (λ (z : Body). AllDiffer (label_sectors (places_of b o.sectors z))) is
+    (labels_differ_lem b o (fits_four b o.sectors o.body shaped.body) sound)
 own_differ b o (Mbr rs chain) is shaped sound =
     let labels : List ℕ = label_sectors (places_of b o.sectors (Mbr rs chain)) in
-    let differ : AllDiffer labels = subst (λ (z : Body). AllDiffer (label_sectors (places_of b o.sectors z))) is (labels_differ_lem b o shaped sound) in
+    let differ : AllDiffer labels =
+    subst (λ (z : Body). AllDiffer (label_sectors (places_of b o.sectors z))) is
+    (labels_differ_lem b o (fits_four b o.sectors o.body shaped.body) sound) in
     let ebr : (s : ℕ) → StandsAt s chain → IsEbr o.body s = λ s at. subst (λ (z : Body). IsEbr z s) (sym is) at in
-    let place : (s : ℕ) → Contains labels s → IsPlace (places_of b o.sectors o.body) s = λ s has. subst (λ (z : Body). IsPlace (places_of b o.sectors z) s) (sym is) (label_place (places_of b o.sectors (Mbr rs chain)) s has) in (
+    let place : (s : ℕ) → Contains labels s → IsPlace (places_of b o.sectors o.body) s =
+    λ s has. subst (λ (z : Body). IsPlace (places_of b o.sectors z) s) (sym is)
+    (label_place (places_of b o.sectors (Mbr rs chain)) s has) in (
       λ has. (elim (Contains-append_cases (chain_sectors chain) labels 0 has) as (λ _. ⊥) [
         | inl there ↦ (let lies = ebr_lies_lem b o 0 shaped sound (ebr 0 (chain_place chain 0 there)) in omega (arith, lies.0))
         | inr other ↦ (let h = from_map (λ (w : Slice). place_of w) (places_of b o.sectors (Mbr rs chain)) 0 other in omega (arith, h.2))
       ]),
-      chain_differs 0 chain labels (chain_climbs_lem b o rs chain shaped is) differ (λ s at has. ebr_no_place_lem b o s sound (ebr s at) (place s has)),
+      chain_differs 0 chain labels (chain_climbs_lem b o rs chain shaped is) differ
+          (λ s at has. ebr_no_place_lem b o s sound (ebr s at) (place s has)),
     )
 
 -- sector 0, the extended boot records and the label places are different sectors

@@ -99,6 +99,7 @@ pub record Keeps (b n : ℕ) (old : Option Layout) (p : Layout) : Type 0 where
   pub sectors : p.sectors ≡ n
   pub shaped : Shaped b p
   pub mbr : IsMbrBody p.body → WasMbr old
-  pub labels : (s : Slice) → Contains (slices_of b p.body) s → IsOldLabel b old s (label_of p.labels s.number) ⊎ IsNewLabel s (label_of p.labels s.number)
+  pub labels : (s : Slice) → Contains (slices_of b p.body) s
+      → IsOldLabel b old s (label_of p.labels s.number) ⊎ IsNewLabel s (label_of p.labels s.number)
   pub records : (k : ℕ) (r : Record) → slice_index_or (records_in p.body) k None ≡ Some r → IsOldRecord old k r ⊎ IsMadeRecord r
   pub logicals : (e : Ebr) (r : Record) → Contains (chain_in p.body) e → e.logical ≡ Some r → IsOldLogical old e r ⊎ IsMadeLogical r

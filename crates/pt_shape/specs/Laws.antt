@@ -9,7 +9,8 @@ use Rattle.pt_recover.specs.declared.layout.Slice.{Slice}
 use Rattle.pt_recover.specs.declared.layout.Layout.{Layout}
 use Rattle.pt_layout.specs.Members.{label_of}
 use Rattle.pt_shape.specs.Shape.{Shaped}
-use Rattle.pt_shape.specs.Keeps.{SameButParts, LabelStays, IsOldLabel, IsNewLabel, IsMadeRecord, IsTyped, IsOldRecord, IsOldLogical, IsMadeLogical, Keeps}
+use Rattle.pt_shape.specs.Keeps.{SameButParts, LabelStays, IsOldLabel, IsNewLabel, IsMadeRecord, IsTyped, IsOldRecord, IsOldLogical}
+use Rattle.pt_shape.specs.Keeps.{IsMadeLogical, Keeps}
 
 pub same_but_parts_refl : (l : Label) → SameButParts l l
 same_but_parts_refl l = record { same = refl; places = refl; counted = λ k. refl; raw = refl }
@@ -46,10 +47,15 @@ label_stays_trans (Some l) (Some m) None x y = absurd y
 label_stays_trans (Some l) (Some m) (Some n) x y = same_but_parts_trans l m n x y
 
 -- a slice's label over two steps
-label_trans : (b : ℕ) (old : Option Layout) (s was : Slice) (m l : Option Label) → was.first ≡ s.first → was.len ≡ s.len → IsOldLabel b old was m ⊎ IsNewLabel was m → LabelStays m l → IsOldLabel b old s l ⊎ IsNewLabel s l
+label_trans : (b : ℕ) (old : Option Layout) (s was : Slice) (m l : Option Label) → was.first ≡ s.first → was.len ≡ s.len
+    → IsOldLabel b old was m ⊎ IsNewLabel was m → LabelStays m l → IsOldLabel b old s l ⊎ IsNewLabel s l
 label_trans b None s was m l first len (inl x) stays = absurd x
 label_trans b (Some o) s was m l first len (inl (early, is, then)) stays =
-    inl (early, record { stands = is.stands; first = is.first ∙ first; len = is.len ∙ len }, label_stays_trans (label_of o.labels early.number) m l then stays)
+    inl (
+      early,
+      record { stands = is.stands; first = is.first ∙ first; len = is.len ∙ len },
+      label_stays_trans (label_of o.labels early.number) m l then stays,
+    )
 label_trans b old s was None l first len (inr x) stays = absurd x
 label_trans b old s was (Some m) None first len (inr x) stays = absurd stays
 label_trans b old s was (Some m) (Some l) first len (inr x) stays =
@@ -65,15 +71,27 @@ made_typed r s made is = record {
   end_chs = ap (λ (k : Record). k.end_chs) is ∙ made.end_chs;
 }
 
-record_trans : (old : Option Layout) (k : ℕ) (r s : Record) → IsOldRecord old k r ⊎ IsMadeRecord r → IsTyped r s → IsOldRecord old k s ⊎ IsMadeRecord s
+record_trans : (old : Option Layout) (k : ℕ) (r s : Record) → IsOldRecord old k r ⊎ IsMadeRecord r → IsTyped r s
+    → IsOldRecord old k s ⊎ IsMadeRecord s
 record_trans None k r s (inl x) is = absurd x
 record_trans (Some o) k r s (inl (q, was, typed)) is = inl (q, was, typed_trans q r s typed is)
 record_trans old k r s (inr made) is = inr (made_typed r s made is)
 
-logical_trans : (old : Option Layout) (e f : Ebr) (r s : Record) → e.at ≡ f.at → IsOldLogical old e r ⊎ IsMadeLogical r → IsTyped r s → IsOldLogical old f s ⊎ IsMadeLogical s
+logical_trans : (old : Option Layout) (e f : Ebr) (r s : Record) → e.at ≡ f.at → IsOldLogical old e r ⊎ IsMadeLogical r → IsTyped r s
+    → IsOldLogical old f s ⊎ IsMadeLogical s
 logical_trans None e f r s place (inl x) is = absurd x
-logical_trans (Some o) e f r s place (inl x) is = inl (record { was = x.was; stands = x.stands; place = x.place ∙ place; old = x.old; logical = x.logical; typed = typed_trans x.old r s x.typed is })
-logical_trans old e f r s place (inr made) is = inr (record { made = made_typed r s made.made is; next = ap (λ (k : Record). k.start) is ∙ made.next })
+logical_trans (Some o) e f r s place (inl x) is =
+    inl
+    (record {
+      was = x.was;
+      stands = x.stands;
+      place = x.place ∙ place;
+      old = x.old;
+      logical = x.logical;
+      typed = typed_trans x.old r s x.typed is;
+    })
+logical_trans old e f r s place (inr made) is =
+    inr (record { made = made_typed r s made.made is; next = ap (λ (k : Record). k.start) is ∙ made.next })
 
 -- what two edits in turn keep
 pub keeps_trans : (b n : ℕ) (old : Option Layout) (o p : Layout) → Keeps b n old o → Keeps b n (Some o) p → Keeps b n old p
@@ -85,8 +103,10 @@ keeps_trans b n old o p x y = record {
   records = λ k r is. record_step k r (y.records k r is);
   logicals = λ e r is has. logical_step e r (y.logicals e r is has);
 } where
-  label_step : (s : Slice) → IsOldLabel b (Some o) s (label_of p.labels s.number) ⊎ IsNewLabel s (label_of p.labels s.number) → IsOldLabel b old s (label_of p.labels s.number) ⊎ IsNewLabel s (label_of p.labels s.number)
-  label_step s (inl (was, is, stays)) = label_trans b old s was (label_of o.labels was.number) (label_of p.labels s.number) is.first is.len (x.labels was is.stands) stays
+  label_step : (s : Slice) → IsOldLabel b (Some o) s (label_of p.labels s.number) ⊎ IsNewLabel s (label_of p.labels s.number)
+      → IsOldLabel b old s (label_of p.labels s.number) ⊎ IsNewLabel s (label_of p.labels s.number)
+  label_step s (inl (was, is, stays)) =
+      label_trans b old s was (label_of o.labels was.number) (label_of p.labels s.number) is.first is.len (x.labels was is.stands) stays
   label_step s (inr new) = inr new
 
   record_step : (k : ℕ) (r : Record) → IsOldRecord (Some o) k r ⊎ IsMadeRecord r → IsOldRecord old k r ⊎ IsMadeRecord r

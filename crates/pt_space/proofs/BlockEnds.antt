@@ -24,7 +24,8 @@ ends_none a first free = record {
   after = λ past. omega (arith, past.0.1);
 }
 
-module _ (a : Area) (i first last : ℕ) (items : List Run) (list : items ≡ a.taken) (inside : i < length items) (free : IsFree a first) (ends : EndsAfter a i first last) where
+module _ (a : Area) (i first last : ℕ) (items : List Run) (list : items ≡ a.taken) (inside : i < length items)
+    (free : IsFree a first) (ends : EndsAfter a i first last) where
   at : (d : Run) → get_or a.taken i d ≡ run_at items i
   at = any_default a items i list inside
 
@@ -45,7 +46,8 @@ module _ (a : Area) (i first last : ℕ) (items : List Run) (list : items ≡ a.
   }
 
   -- one that begins before the end moves it there
-  pub ends_before : first < (run_at items i).first → (run_at items i).first ≤ (run_at items i).last → (run_at items i).first ≤ last → EndsAfter a (i + 1) first ((run_at items i).first - 1)
+  pub ends_before : first < (run_at items i).first → (run_at items i).first ≤ (run_at items i).last → (run_at items i).first ≤ last
+      → EndsAfter a (i + 1) first ((run_at items i).first - 1)
   ends_before low some up = record {
     from = omega arith;
     high = (let high = ends.high in omega arith);
@@ -59,7 +61,8 @@ module _ (a : Area) (i first last : ℕ) (items : List Run) (list : items ≡ a.
   }
 
   -- a run with none of these can't hold a sector up to the end
-  pub ends_elsewhere : ((first < (run_at items i).first) → ((run_at items i).first ≤ (run_at items i).last) → last < (run_at items i).first) → EndsAfter a (i + 1) first last
+  pub ends_elsewhere : ((first < (run_at items i).first) → ((run_at items i).first ≤ (run_at items i).last)
+      → last < (run_at items i).first) → EndsAfter a (i + 1) first last
   ends_elsewhere none = ends_same (λ n low up held. elim (cases_lt first (run_at items i).first) as (λ _. ⊥) [
     | inl lt ↦ (let past = none lt (omega (arith, held.0, held.1)) in omega (arith, held.0))
     | inr le ↦ free.1 (taken first (le, omega (arith, held.1)))
@@ -80,7 +83,8 @@ ends_all a i first last all free ends = record {
 abbrev pub run_of : ℕ → ℕ → Run
 run_of first last = record { first = first; last = last }
 
-pub has_started : (a : Area) (alignment start first last : ℕ) → Starts a alignment start first → IsFree a first → EndsBlock a first last → HasStarted a alignment start (run_of first last)
+pub has_started : (a : Area) (alignment start first last : ℕ) → Starts a alignment start first → IsFree a first
+    → EndsBlock a first last → HasStarted a alignment start (run_of first last)
 has_started a alignment start first last starts free ends =
     let (begin, is) = begins a first free in
     record {

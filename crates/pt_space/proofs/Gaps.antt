@@ -27,10 +27,13 @@ pub record IsAt (a : Area) (i : ℕ) (run : Run) : Type 0 where
 abbrev pub run_at : List Run → ℕ → Run
 run_at items i = get_or items i (record { first = 0; last = 0 })
 
-pub any_default : (a : Area) (items : List Run) (i : ℕ) → items ≡ a.taken → i < length items → (d : Run) → get_or a.taken i d ≡ run_at items i
-any_default a items i same lt d = ap (λ (xs : List Run). get_or xs i d) (sym same) ∙ get_or_default items i d (record { first = 0; last = 0 }) lt
+pub any_default : (a : Area) (items : List Run) (i : ℕ) → items ≡ a.taken → i < length items → (d : Run)
+    → get_or a.taken i d ≡ run_at items i
+any_default a items i same lt d =
+    ap (λ (xs : List Run). get_or xs i d) (sym same) ∙ get_or_default items i d (record { first = 0; last = 0 }) lt
 
-pub is_at : (a : Area) (items : List Run) (i : ℕ) → items ≡ a.taken → i < length items → (run_at items i).first ≤ (run_at items i).last → IsAt a i (run_at items i)
+pub is_at : (a : Area) (items : List Run) (i : ℕ) → items ≡ a.taken → i < length items
+    → (run_at items i).first ≤ (run_at items i).last → IsAt a i (run_at items i)
 is_at a items i same lt some = record {
   inside = subst (λ (xs : List Run). i < length xs) same lt;
   is = any_default a items i same lt;
@@ -50,7 +53,8 @@ swept_start a alignment some = record {
   best_is = λ c x lt. (let has = x.some in let free = x.free c.first (omega arith, omega arith) in absurd (omega (arith, free.0.0)));
 }
 
-module _ (a : Area) (alignment i first : ℕ) (best : Option Run) (swept : Swept a alignment i first best) (sorted : IsNonDecreasingBy (λ (r : Run). r.first) a.taken) where
+module _ (a : Area) (alignment i first : ℕ) (best : Option Run) (swept : Swept a alignment i first best)
+    (sorted : IsNonDecreasingBy (λ (r : Run). r.first) a.taken) where
   -- no run that stands before i has a sector from the first on
   not_passed : (n j : ℕ) (d : Run) → first ≤ n → j < i → ¬ Holds (get_or a.taken j d) n
   not_passed n j d from lt held =
@@ -107,14 +111,17 @@ module _ (a : Area) (alignment i first : ℕ) (best : Option Run) (swept : Swept
     }
 
     -- the best part up to any bound in the run
-    pub best_after : (new : ℕ) → first ≤ new → (first < new → new ≤ run.last + 1) → first < new ⊎ (run.first ≤ first) → BestBelow a alignment new (best_past a alignment best first run)
-    best_after new le past either = elim (cases_lt first run.first) as (λ _. BestBelow a alignment new (best_past a alignment best first run)) [
-      | inl lt ↦ (let below : first < new = elim either as (λ _. first < new) [ inl x ↦ x | inr x ↦ absurd (omega arith) ] in
-          subst (λ (p : Option Run). BestBelow a alignment new p) (sym (cond-true _ _ _ (lt-ltb first run.first lt)))
-          (longer_below a alignment first new (gap_of a first run) (one_gap new lt below (past below)) best swept.best_is))
-      | inr ge ↦ subst (λ (p : Option Run). BestBelow a alignment new p) (sym (cond-false _ _ _ (le-ltb first run.first ge)))
-          (no_more a alignment first new best le (λ b x from under. none_in_run b x (omega arith) (let far = past (omega arith) in omega arith)) swept.best_is)
-    ]
+    pub best_after : (new : ℕ) → first ≤ new → (first < new → new ≤ run.last + 1) → first < new ⊎ (run.first ≤ first)
+        → BestBelow a alignment new (best_past a alignment best first run)
+    best_after new le past either = elim (cases_lt first run.first)
+        as (λ _. BestBelow a alignment new (best_past a alignment best first run)) [
+          | inl lt ↦ (let below : first < new = elim either as (λ _. first < new) [ inl x ↦ x | inr x ↦ absurd (omega arith) ] in
+              subst (λ (p : Option Run). BestBelow a alignment new p) (sym (cond-true _ _ _ (lt-ltb first run.first lt)))
+              (longer_below a alignment first new (gap_of a first run) (one_gap new lt below (past below)) best swept.best_is))
+          | inr ge ↦ subst (λ (p : Option Run). BestBelow a alignment new p) (sym (cond-false _ _ _ (le-ltb first run.first ge)))
+              (no_more a alignment first new best le (λ b x from under.
+              none_in_run b x (omega arith) (let far = past (omega arith) in omega arith)) swept.best_is)
+        ]
 
     -- a run that reaches the end of what is usable ends the sweep
     pub best_at_end : a.high ≤ run.last → Best a alignment (best_past a alignment best first run)
@@ -142,11 +149,14 @@ module _ (a : Area) (alignment i first : ℕ) (best : Option Run) (swept : Swept
             | inl past ↦ swept.edge n (omega arith) free
             | inr in_run ↦ free.1 (run_taken n (omega arith, omega arith))
           ];
-          best_is = best_after (max first (run.last + 1)) (omega arith) (λ lt. omega arith) (elim (cases_lt first run.first) as (λ _. first < max first (run.last + 1) ⊎ run.first ≤ first) [ inl lt ↦ inl (omega arith) | inr ge ↦ inr ge ]);
+          best_is = best_after (max first (run.last + 1)) (omega arith) (λ lt. omega arith)
+              (elim (cases_lt first run.first) as (λ _. first < max first (run.last + 1) ⊎ run.first ≤ first)
+              [ inl lt ↦ inl (omega arith) | inr ge ↦ inr ge ]);
         }
 
   -- a run of no sector is passed over
-  pub swept_none : (items : List Run) → items ≡ a.taken → i < length items → (run_at items i).last < (run_at items i).first → Swept a alignment (i + 1) first best
+  pub swept_none : (items : List Run) → items ≡ a.taken → i < length items → (run_at items i).last < (run_at items i).first
+      → Swept a alignment (i + 1) first best
   swept_none items list inside none =
       let at = any_default a items i list inside in record {
         low = swept.low;

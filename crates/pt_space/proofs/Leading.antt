@@ -11,7 +11,8 @@ use Rattle.pt_space.specs.Rounding.{rounded_above}
 use Rattle.pt_space.specs.Started.{HasStarted}
 use Rattle.pt_space.specs.Sweep.{Best}
 
-module _ (a : Area) (lead : Option (List ℕ)) (empties : List ℕ) (first : ℕ) (runs : List Run) (is_lead : lead ≡ Some empties) (list : runs ≡ a.taken) (free : IsFree a first) (low : a.low < first) where
+module _ (a : Area) (lead : Option (List ℕ)) (empties : List ℕ) (first : ℕ) (runs : List Run) (is_lead : lead ≡ Some empties)
+    (list : runs ≡ a.taken) (free : IsFree a first) (low : a.low < first) where
   usable : IsUsable a (first - 1)
   usable = (omega arith, omega (arith, free.0.1))
 
@@ -46,6 +47,7 @@ part_started a alignment start r zero (b, part, largest) =
     }
 
 -- where the end doesn't fit the block that has the start
-pub not_placed : (a : Area) (alignment start : ℕ) (end : End) (part : Run) (r : Refusal) → HasStarted a alignment start part → NotEnded a.high part.last part.first end r → NotPlaced a alignment start end r
+pub not_placed : (a : Area) (alignment start : ℕ) (end : End) (part : Run) (r : Refusal) → HasStarted a alignment start part
+    → NotEnded a.high part.last part.first end r → NotPlaced a alignment start end r
 not_placed a alignment start end part r has not =
     no_end has.block part.first has.starts (subst (λ (n : ℕ). NotEnded a.high n part.first end r) has.last_is not)

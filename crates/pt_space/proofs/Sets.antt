@@ -20,7 +20,8 @@ same_sectors xs ys moved = record {
 }
 
 -- so it has the same largest block
-best_alike : (a : Area) (ys : List Run) (alignment : ℕ) (r : Option Run) → SameSectors a.taken ys → Best a alignment r → Best (with_taken a ys) alignment r
+best_alike : (a : Area) (ys : List Run) (alignment : ℕ) (r : Option Run) → SameSectors a.taken ys → Best a alignment r
+    → Best (with_taken a ys) alignment r
 best_alike a ys alignment None same none = λ c x. none c (block_alike (with_taken a ys) a.taken (turned a.taken ys same) c x)
 best_alike a ys alignment (Some r) same (b, part, largest) = (
   b,
@@ -28,7 +29,8 @@ best_alike a ys alignment (Some r) same (b, part, largest) = (
   largest_alike a alignment ys same b largest,
 )
 
-pub best_back : (a : Area) (ys : List Run) (alignment : ℕ) (r : Option Run) → IsPermutation a.taken ys → Best (with_taken a ys) alignment r → Best a alignment r
+pub best_back : (a : Area) (ys : List Run) (alignment : ℕ) (r : Option Run) → IsPermutation a.taken ys
+    → Best (with_taken a ys) alignment r → Best a alignment r
 best_back a ys alignment r moved is =
     best_alike (with_taken a ys) a.taken alignment r (turned a.taken ys (same_sectors a.taken ys moved)) is
 

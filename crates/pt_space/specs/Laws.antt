@@ -6,7 +6,9 @@ use Rattle.pt_words.specs.declared.word.End.{End}
 use Rattle.pt_words.specs.declared.error.Refusal.{Refusal}
 use Rattle.pt_space.specs.Area.{Area, Holds, IsUsable, IsTaken, IsBlock, TakesRecord, Leads, IsFreeRun}
 use Rattle.pt_space.specs.Blocks.{same_run, same_block}
-use Rattle.pt_space.specs.Placed.{rounded_up, lead_size, start_of, room, IsLargest, Starts, in_largest, at_given, record_outside, record_taken, NotLed, NotStarted, no_room, not_usable, not_free, not_led, Ends, NotEnded, before_start, past_usable, past_block, StartsIn, Placed, NotPlaced, no_start, no_end}
+use Rattle.pt_space.specs.Placed.{rounded_up, lead_size, start_of, room, IsLargest, Starts, in_largest, at_given, record_outside}
+use Rattle.pt_space.specs.Placed.{record_taken, NotLed, NotStarted, no_room, not_usable, not_free, not_led, Ends, NotEnded, before_start}
+use Rattle.pt_space.specs.Placed.{past_usable, past_block, StartsIn, Placed, NotPlaced, no_start, no_end}
 use Rattle.pt_space.specs.Rounding.{rounded_above}
 
 -- one block is the largest
@@ -36,14 +38,17 @@ led a (Some empties) f r x (record_taken k at usable not is) =
     not (subst (λ (n : ℕ). TakesRecord a empties n) same x.2)
 
 started : (a : Area) (alignment start f : ℕ) (r : Refusal) → Starts a alignment start f → NotStarted a alignment start r → ⊥
-started a alignment start f r (in_largest b zero x is) (no_room none all so) = let empty = all b x.is_block in let some = x.some in omega arith
+started a alignment start f r (in_largest b zero x is) (no_room none all so) =
+    let empty = all b x.is_block in let some = x.some in omega arith
 started a alignment start f r (in_largest b zero x is) (not_usable some out so) = some zero
 started a alignment start f r (in_largest b zero x is) (not_free some usable taken so) = some zero
 started a alignment start f r (in_largest b zero x is) (not_led some free not) = some zero
 started a alignment start f r (at_given some free leads is) (no_room zero all so) = some zero
 started a alignment start f r (at_given some free leads is) (not_usable other out so) = out (subst (λ (n : ℕ). IsUsable a n) is free.0)
-started a alignment start f r (at_given some free leads is) (not_free other usable taken so) = free.1 (subst (λ (n : ℕ). IsTaken a n) (sym is) taken)
-started a alignment start f r (at_given some free leads is) (not_led other usable not) = led a a.empties f r leads (subst (λ (n : ℕ). NotLed a a.empties n r) (sym is) not)
+started a alignment start f r (at_given some free leads is) (not_free other usable taken so) =
+    free.1 (subst (λ (n : ℕ). IsTaken a n) (sym is) taken)
+started a alignment start f r (at_given some free leads is) (not_led other usable not) =
+    led a a.empties f r leads (subst (λ (n : ℕ). NotLed a a.empties n r) (sym is) not)
 
 not_led_one : (a : Area) (empties : Option (List ℕ)) (f : ℕ) (r q : Refusal) → NotLed a empties f r → NotLed a empties f q → r ≡ q
 not_led_one a None f r q x y = absurd x
@@ -68,7 +73,8 @@ not_started_one a alignment start r q (not_free some usable taken is) (not_led o
 not_started_one a alignment start r q (not_led some free not) (no_room zero all so) = absurd (some zero)
 not_started_one a alignment start r q (not_led some free not) (not_usable other out so) = absurd (out free.0)
 not_started_one a alignment start r q (not_led some free not) (not_free other usable taken so) = absurd (free.1 taken)
-not_started_one a alignment start r q (not_led some free not) (not_led other there nor) = not_led_one a a.empties (rounded_up alignment start) r q not nor
+not_started_one a alignment start r q (not_led some free not) (not_led other there nor) =
+    not_led_one a a.empties (rounded_up alignment start) r q not nor
 
 ends_one : (last first : ℕ) (end : End) (r q : Run) → Ends last first end r → Ends last first end q → r ≡ q
 ends_one last first end r q x y = same_run r q (omega (arith, x.first_is, y.first_is)) (omega (arith, x.last_is, y.last_is))
@@ -89,7 +95,8 @@ not_ended_one high last first end r q (past_block some inside out is) (before_st
 not_ended_one high last first end r q (past_block some inside out is) (past_usable other nor so) = absurd (omega arith)
 not_ended_one high last first end r q (past_block some inside out is) (past_block other there nor so) = is ∙ sym so
 
-same_first : (a : Area) (alignment start : ℕ) (b c : Run) (f g : ℕ) → StartsIn a alignment start b f → StartsIn a alignment start c g → f ≡ g
+same_first : (a : Area) (alignment start : ℕ) (b c : Run) (f g : ℕ) → StartsIn a alignment start b f
+    → StartsIn a alignment start c g → f ≡ g
 same_first a alignment start b c f g x y = starts_one a alignment start f g x.starts y.starts
 
 same_home : (a : Area) (alignment start : ℕ) (b c : Run) (f g : ℕ) → StartsIn a alignment start b f → StartsIn a alignment start c g → b ≡ c
@@ -97,7 +104,8 @@ same_home a alignment start b c f g x y =
     same_block a b c f x.is_block y.is_block x.holds (subst (λ (n : ℕ). Holds c n) (sym (same_first a alignment start b c f g x y)) y.holds)
 
 -- one run at most is placed
-pub placed_one_lem : (a : Area) (alignment start : ℕ) (end : End) (r q : Run) → Placed a alignment start end r → Placed a alignment start end q → r ≡ q
+pub placed_one_lem : (a : Area) (alignment start : ℕ) (end : End) (r q : Run) → Placed a alignment start end r
+    → Placed a alignment start end q → r ≡ q
 placed_one_lem a alignment start end r q x y =
     let home = same_home a alignment start x.block y.block r.first q.first x.starts y.starts in
     let first = same_first a alignment start x.block y.block r.first q.first x.starts y.starts in
@@ -109,16 +117,19 @@ last_usable : (a : Area) (b : Run) → IsBlock a b → b.last ≤ a.high
 last_usable a b x = let some = x.some in (x.free b.last (omega arith, omega arith)).0.1
 
 -- what is placed isn't refused
-pub placed_is_not_refused_lem : (a : Area) (alignment start : ℕ) (end : End) (r : Run) (q : Refusal) → Placed a alignment start end r → NotPlaced a alignment start end q → ⊥
+pub placed_is_not_refused_lem : (a : Area) (alignment start : ℕ) (end : End) (r : Run) (q : Refusal)
+    → Placed a alignment start end r → NotPlaced a alignment start end q → ⊥
 placed_is_not_refused_lem a alignment start end r q x (no_start not) = started a alignment start r.first q x.starts.starts not
 placed_is_not_refused_lem a alignment start end r q x (no_end b f y not) =
     let home = same_home a alignment start x.block b r.first f x.starts y in
     let first = same_first a alignment start x.block b r.first f x.starts y in
     ended a.high x.block.last r.first end r q (last_usable a x.block x.starts.is_block) x.ends
-    (subst (λ (n : ℕ). NotEnded a.high x.block.last n end q) (sym first) (subst (λ (c : Run). NotEnded a.high c.last f end q) (sym home) not))
+    (subst (λ (n : ℕ). NotEnded a.high x.block.last n end q) (sym first)
+    (subst (λ (c : Run). NotEnded a.high c.last f end q) (sym home) not))
 
 -- nothing is refused for two reasons
-pub refused_one_lem : (a : Area) (alignment start : ℕ) (end : End) (r q : Refusal) → NotPlaced a alignment start end r → NotPlaced a alignment start end q → r ≡ q
+pub refused_one_lem : (a : Area) (alignment start : ℕ) (end : End) (r q : Refusal) → NotPlaced a alignment start end r
+    → NotPlaced a alignment start end q → r ≡ q
 refused_one_lem a alignment start end r q (no_start x) (no_start y) = not_started_one a alignment start r q x y
 refused_one_lem a alignment start end r q (no_start x) (no_end b f y not) = absurd (started a alignment start f r y.starts x)
 refused_one_lem a alignment start end r q (no_end b f x not) (no_start y) = absurd (started a alignment start f q x.starts y)
@@ -129,7 +140,8 @@ refused_one_lem a alignment start end r q (no_end b f x not) (no_end c g y nor) 
     (subst (λ (n : ℕ). NotEnded a.high b.last n end q) (sym first) (subst (λ (d : Run). NotEnded a.high d.last g end q) (sym home) nor))
 
 -- in a block with room a record may stand before the start
-led_in_block : (a : Area) (alignment : ℕ) (b : Run) (empties : Option (List ℕ)) → IsBlock a b → rounded_up alignment (b.first + lead_size empties) ≤ b.last → Leads a empties (rounded_up alignment (b.first + lead_size empties))
+led_in_block : (a : Area) (alignment : ℕ) (b : Run) (empties : Option (List ℕ)) → IsBlock a b
+    → rounded_up alignment (b.first + lead_size empties) ≤ b.last → Leads a empties (rounded_up alignment (b.first + lead_size empties))
 led_in_block a alignment b None x some = tt
 led_in_block a alignment b (Some empties) x some =
     let above = rounded_above alignment (b.first + 1) in

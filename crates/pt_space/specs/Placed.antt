@@ -57,8 +57,10 @@ NotLed a (Some empties) first r = RecordRefused a empties first r
 pub data NotStarted (a : Area) (alignment start : ℕ) (r : Refusal) : Type 0 where
   no_room : start ≡ 0 → ((b : Run) → IsBlock a b → room a alignment b ≡ 0) → r ≡ NoSpace → NotStarted a alignment start r
   not_usable : start ≢ 0 → ¬ IsUsable a (rounded_up alignment start) → r ≡ OutsideUsable → NotStarted a alignment start r
-  not_free : start ≢ 0 → IsUsable a (rounded_up alignment start) → IsTaken a (rounded_up alignment start) → r ≡ Overlap → NotStarted a alignment start r
-  not_led : start ≢ 0 → IsFree a (rounded_up alignment start) → NotLed a a.empties (rounded_up alignment start) r → NotStarted a alignment start r
+  not_free : start ≢ 0 → IsUsable a (rounded_up alignment start) → IsTaken a (rounded_up alignment start) → r ≡ Overlap
+      → NotStarted a alignment start r
+  not_led : start ≢ 0 → IsFree a (rounded_up alignment start) → NotLed a a.empties (rounded_up alignment start) r
+      → NotStarted a alignment start r
 
 -- the sector after a partition's last one, in a block with that last sector
 abbrev pub past_end : ℕ → ℕ → End → ℕ
@@ -77,7 +79,8 @@ pub record Ends (last first : ℕ) (end : End) (r : Run) : Type 0 where
 pub data NotEnded (high last first : ℕ) (end : End) (r : Refusal) : Type 0 where
   before_start : past_end last first end ≤ first → r ≡ NoSpace → NotEnded high last first end r
   past_usable : first < past_end last first end → high + 1 < past_end last first end → r ≡ OutsideUsable → NotEnded high last first end r
-  past_block : first < past_end last first end → past_end last first end ≤ high + 1 → last + 1 < past_end last first end → r ≡ Overlap → NotEnded high last first end r
+  past_block : first < past_end last first end → past_end last first end ≤ high + 1 → last + 1 < past_end last first end
+      → r ≡ Overlap → NotEnded high last first end r
 
 -- the block that has a partition's first sector
 pub record StartsIn (a : Area) (alignment start : ℕ) (b : Run) (first : ℕ) : Type 0 where
@@ -94,4 +97,5 @@ pub record Placed (a : Area) (alignment start : ℕ) (end : End) (r : Run) : Typ
 -- why none is placed: the first reason, of its start and then of its end
 pub data NotPlaced (a : Area) (alignment start : ℕ) (end : End) (r : Refusal) : Type 0 where
   no_start : NotStarted a alignment start r → NotPlaced a alignment start end r
-  no_end : (b : Run) (first : ℕ) → StartsIn a alignment start b first → NotEnded a.high b.last first end r → NotPlaced a alignment start end r
+  no_end : (b : Run) (first : ℕ) → StartsIn a alignment start b first → NotEnded a.high b.last first end r
+      → NotPlaced a alignment start end r

@@ -39,7 +39,8 @@ least_whole alignment k some whole = record {
 
 least_over : (alignment k : ℕ) → alignment ≢ 0 → (k % alignment ≡ 0 → ⊥) → IsRoundedUp alignment k (k + (alignment - k % alignment))
 least_over alignment k some over =
-    let parts : k / alignment * alignment + k % alignment ≡ k = omega (arith, div-add-mod k alignment, mul_comm alignment (k / alignment)) in
+    let parts : k / alignment * alignment + k % alignment ≡ k =
+    omega (arith, div-add-mod k alignment, mul_comm alignment (k / alignment)) in
     let small : k % alignment < alignment = omega arith in
     let next : (k / alignment + 1) * alignment ≡ k / alignment * alignment + alignment = rw (add-one, suc-mul) in
     record {
@@ -52,6 +53,7 @@ least_over alignment k some over =
 
 pub rounded_up_is_least_lem : (alignment k : ℕ) → alignment ≢ 0 → IsRoundedUp alignment k (rounded_up alignment k)
 rounded_up_is_least_lem alignment k some = elim (cases_eq (k % alignment) 0) as (λ _. IsRoundedUp alignment k (rounded_up alignment k)) [
-  | inl whole ↦ subst (λ (m : ℕ). IsRoundedUp alignment k m) (sym (rounded_multiple alignment k some whole)) (least_whole alignment k some whole)
+  | inl whole ↦ subst (λ (m : ℕ). IsRoundedUp alignment k m) (sym (rounded_multiple alignment k some whole))
+      (least_whole alignment k some whole)
   | inr over ↦ subst (λ (m : ℕ). IsRoundedUp alignment k m) (sym (rounded_between alignment k some over)) (least_over alignment k some over)
 ]

@@ -10,17 +10,20 @@ ghost use Rattle.pt_space.specs.Placed.{rounded_up, IsRoundedUp, Placed, NotPlac
 
 /// One run at most is placed.
 pub fn placed_one()
-    ensures { (a : Area) (alignment start : ℕ) (end : End) (r q : Run) → Placed a alignment start end r → Placed a alignment start end q → r ≡ q }
+    ensures { (a : Area) (alignment start : ℕ) (end : End) (r q : Run) → Placed a alignment start end r
+        → Placed a alignment start end q → r ≡ q }
 {}
 
 /// It is refused for one reason at most.
 pub fn refused_one()
-    ensures { (a : Area) (alignment start : ℕ) (end : End) (r q : Refusal) → NotPlaced a alignment start end r → NotPlaced a alignment start end q → r ≡ q }
+    ensures { (a : Area) (alignment start : ℕ) (end : End) (r q : Refusal) → NotPlaced a alignment start end r
+        → NotPlaced a alignment start end q → r ≡ q }
 {}
 
 /// What is placed isn't refused.
 pub fn placed_is_not_refused()
-    ensures { (a : Area) (alignment start : ℕ) (end : End) (r : Run) (q : Refusal) → Placed a alignment start end r → ¬ NotPlaced a alignment start end q }
+    ensures { (a : Area) (alignment start : ℕ) (end : End) (r : Run) (q : Refusal) → Placed a alignment start end r
+        → ¬ NotPlaced a alignment start end q }
 {}
 
 /// What is placed has sectors, all usable and none taken, and before them room for the record that leads it.
@@ -35,15 +38,18 @@ pub fn rounded_up_is_least()
 
 /// Only which sectors are taken counts, and not which runs have them: what is placed is placed.
 pub fn placed_by_sectors()
-    ensures { (a : Area) (alignment start : ℕ) (end : End) (runs : List Run) (r : Run) → SameSectors a.taken runs → Placed a alignment start end r → Placed (with_taken a runs) alignment start end r }
+    ensures { (a : Area) (alignment start : ℕ) (end : End) (runs : List Run) (r : Run) → SameSectors a.taken runs
+        → Placed a alignment start end r → Placed (with_taken a runs) alignment start end r }
 {}
 
 /// And what is refused is refused.
 pub fn refused_by_sectors()
-    ensures { (a : Area) (alignment start : ℕ) (end : End) (runs : List Run) (r : Refusal) → SameSectors a.taken runs → NotPlaced a alignment start end r → NotPlaced (with_taken a runs) alignment start end r }
+    ensures { (a : Area) (alignment start : ℕ) (end : End) (runs : List Run) (r : Refusal) → SameSectors a.taken runs
+        → NotPlaced a alignment start end r → NotPlaced (with_taken a runs) alignment start end r }
 {}
 
 /// A partition has a place in each area, or there is a reason why it has none.
 pub fn place_answers()
-    ensures { (a : Area) (alignment start : ℕ) (end : End) → ((r : Run) × Placed a alignment start end r) ⊎ ((e : Refusal) × NotPlaced a alignment start end e) }
+    ensures { (a : Area) (alignment start : ℕ) (end : End) → ((r : Run) × Placed a alignment start end r)
+        ⊎ ((e : Refusal) × NotPlaced a alignment start end e) }
 {}

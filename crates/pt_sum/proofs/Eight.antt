@@ -1,5 +1,6 @@
 -- Four bytes as a word, and eight bytes by eight tables.
-use Rattle.std.proofs.Common.{◌≡◌, ℕ, zero, suc, ◌+◌, ◌*◌, ◌/◌, ◌%◌, ◌^◌, ◌<◌, List, [], ◌∷◌, ◌++◌, length, get_or, refl, sym, ap, ◌∙◌, arith}
+use Rattle.std.proofs.Common.{◌≡◌, ℕ, zero, suc, ◌+◌, ◌*◌, ◌/◌, ◌%◌, ◌^◌, ◌<◌, List, [], ◌∷◌, ◌++◌, length, get_or, refl, sym, ap, ◌∙◌}
+use Rattle.std.proofs.Common.{arith}
 use Rattle.std.specs.Prelude.{bit_xor, fold}
 use Rattle.std.specs.List.{flat_map}
 use Rattle.std.proofs.lemmas.List.{append-nil}
@@ -20,7 +21,8 @@ moved_low n y =
     ∙ ap (λ (x : ℕ). bit_xor x (moved n (y / 256))) (sym (moved-add 8 n (y % 256)))
 
 pub moved_four : (k y : ℕ) → y < 2 ^ 32
-    → moved (8 * k + 32) y ≡ bit_xor (bit_xor (bit_xor (moved (8 * (k + 3) + 8) (y % 256)) (moved (8 * (k + 2) + 8) (y / 256 % 256))) (moved (8 * (k + 1) + 8) (y / 65536 % 256))) (moved (8 * k + 8) (y / 16777216))
+    → moved (8 * k + 32) y ≡ bit_xor (bit_xor (bit_xor (moved (8 * (k + 3) + 8) (y % 256))
+    (moved (8 * (k + 2) + 8) (y / 256 % 256))) (moved (8 * (k + 1) + 8) (y / 65536 % 256))) (moved (8 * k + 8) (y / 16777216))
 moved_four k y small =
     let n0 : 8 * k + 32 ≡ 8 + (8 * k + 24) = omega arith in
     let n1 : 8 * k + 24 ≡ 8 + (8 * k + 16) = omega arith in
@@ -33,13 +35,17 @@ moved_four k y small =
     let a = ap (λ (n : ℕ). moved n y) n0 ∙ moved_low (8 * k + 24) y in
     let b = ap (λ (n : ℕ). moved n (y / 256)) n1 ∙ moved_low (8 * k + 16) (y / 256) in
     let c = ap (λ (n : ℕ). moved n (y / 65536)) n2 ∙ moved_low (8 * k + 8) (y / 65536) in
-    let c' : moved (8 * k + 16) (y / 65536) ≡ bit_xor (moved (8 * (k + 1) + 8) (y / 65536 % 256)) (moved (8 * k + 8) (y / 16777216)) = rw (← m2, ← d3) c in
-    let b' : moved (8 * k + 24) (y / 256) ≡ bit_xor (moved (8 * (k + 2) + 8) (y / 256 % 256)) (moved (8 * k + 16) (y / 65536)) = rw (← m1, ← d2) b in
+    let c' : moved (8 * k + 16) (y / 65536) ≡ bit_xor (moved (8 * (k + 1) + 8) (y / 65536 % 256))
+    (moved (8 * k + 8) (y / 16777216)) = rw (← m2, ← d3) c in
+    let b' : moved (8 * k + 24) (y / 256) ≡ bit_xor (moved (8 * (k + 2) + 8) (y / 256 % 256)) (moved (8 * k + 16) (y / 65536)) =
+    rw (← m1, ← d2) b in
     let a' : moved (8 * k + 32) y ≡ bit_xor (moved (8 * (k + 3) + 8) (y % 256)) (moved (8 * k + 24) (y / 256)) = rw (← m0) a in
     a'
     ∙ ap (bit_xor (moved (8 * (k + 3) + 8) (y % 256))) (b' ∙ ap (bit_xor (moved (8 * (k + 2) + 8) (y / 256 % 256))) c')
-    ∙ sym (xor_assoc (moved (8 * (k + 3) + 8) (y % 256)) (moved (8 * (k + 2) + 8) (y / 256 % 256)) (bit_xor (moved (8 * (k + 1) + 8) (y / 65536 % 256)) (moved (8 * k + 8) (y / 16777216))))
-    ∙ sym (xor_assoc (bit_xor (moved (8 * (k + 3) + 8) (y % 256)) (moved (8 * (k + 2) + 8) (y / 256 % 256))) (moved (8 * (k + 1) + 8) (y / 65536 % 256)) (moved (8 * k + 8) (y / 16777216)))
+    ∙ sym (xor_assoc (moved (8 * (k + 3) + 8) (y % 256)) (moved (8 * (k + 2) + 8) (y / 256 % 256))
+    (bit_xor (moved (8 * (k + 1) + 8) (y / 65536 % 256)) (moved (8 * k + 8) (y / 16777216))))
+    ∙ sym (xor_assoc (bit_xor (moved (8 * (k + 3) + 8) (y % 256)) (moved (8 * (k + 2) + 8) (y / 256 % 256)))
+    (moved (8 * (k + 1) + 8) (y / 65536 % 256)) (moved (8 * k + 8) (y / 16777216)))
 
 -- the low bits of a number do not see the rest
 bits-low : (m b r : ℕ) → bits m (r * 2 ^ m + b) ≡ bits m b
@@ -92,6 +98,7 @@ eight_at_once s a b c d e f g h x y ha hb hc hd he hf hg hh ex ey =
 
 -- a list of eight is its eight places
 pub of_eight : (xs : List ℕ) → length xs ≡ 8
-    → xs ≡ get_or xs 0 0 ∷ get_or xs 1 0 ∷ get_or xs 2 0 ∷ get_or xs 3 0 ∷ get_or xs 4 0 ∷ get_or xs 5 0 ∷ get_or xs 6 0 ∷ get_or xs 7 0 ∷ []
+    → xs ≡ get_or xs 0 0 ∷ get_or xs 1 0 ∷ get_or xs 2 0 ∷ get_or xs 3 0 ∷ get_or xs 4 0 ∷ get_or xs 5 0 ∷ get_or xs 6 0
+    ∷ get_or xs 7 0 ∷ []
 of_eight (a ∷ b ∷ c ∷ d ∷ e ∷ f ∷ g ∷ h ∷ []) len = refl
 of_eight xs len = absurd (omega arith)

@@ -45,11 +45,16 @@ shifted-xor a b =
     elim (parity a) [
       | inl ea ↦ elim (parity b) [
         | inl eb ↦ rw (shifted-even a ea, shifted-even b eb, shifted-even (bit_xor a b) (odd ∙ rw (ea, eb) refl)) half
-        | inr eb ↦ rw (shifted-even a ea, shifted-odd b eb, shifted-odd (bit_xor a b) (odd ∙ rw (ea, eb) refl)) (rw half (xor_assoc (a / 2) (b / 2) 0xEDB88320))
+        | inr eb ↦ rw (shifted-even a ea, shifted-odd b eb, shifted-odd (bit_xor a b) (odd ∙ rw (ea, eb) refl))
+            (rw half (xor_assoc (a / 2) (b / 2) 0xEDB88320))
       ]
       | inr ea ↦ elim (parity b) [
-        | inl eb ↦ rw (shifted-odd a ea, shifted-even b eb, shifted-odd (bit_xor a b) (odd ∙ rw (ea, eb) refl)) (rw half (xor_assoc (a / 2) (b / 2) 0xEDB88320 ∙ ap (bit_xor (a / 2)) (xor_comm (b / 2) 0xEDB88320) ∙ sym (xor_assoc (a / 2) 0xEDB88320 (b / 2))))
-        | inr eb ↦ rw (shifted-odd a ea, shifted-odd b eb, shifted-even (bit_xor a b) (odd ∙ rw (ea, eb) refl)) (rw half (sym (xor_swap (a / 2) 0xEDB88320 (b / 2) 0xEDB88320 ∙ ap (bit_xor (bit_xor (a / 2) (b / 2))) (xor_self 0xEDB88320) ∙ xor_zero_r (bit_xor (a / 2) (b / 2)))))
+        | inl eb ↦ rw (shifted-odd a ea, shifted-even b eb, shifted-odd (bit_xor a b) (odd ∙ rw (ea, eb) refl))
+            (rw half (xor_assoc (a / 2) (b / 2) 0xEDB88320 ∙ ap (bit_xor (a / 2)) (xor_comm (b / 2) 0xEDB88320)
+            ∙ sym (xor_assoc (a / 2) 0xEDB88320 (b / 2))))
+        | inr eb ↦ rw (shifted-odd a ea, shifted-odd b eb, shifted-even (bit_xor a b) (odd ∙ rw (ea, eb) refl))
+            (rw half (sym (xor_swap (a / 2) 0xEDB88320 (b / 2) 0xEDB88320
+            ∙ ap (bit_xor (bit_xor (a / 2) (b / 2))) (xor_self 0xEDB88320) ∙ xor_zero_r (bit_xor (a / 2) (b / 2)))))
       ]
     ]
 
@@ -112,9 +117,11 @@ moved_down (suc n) z =
 -- n places at once: what a table says of the low bits, and the rest
 pub moved_split : (n y : ℕ) → moved n y ≡ bit_xor (moved n (y % 2 ^ n)) (y / 2 ^ n)
 moved_split n y =
-    ap (moved n) (sym (xor_comm (y % 2 ^ n) (y / 2 ^ n * 2 ^ n) ∙ xor_shifted (y / 2 ^ n) n (y % 2 ^ n) (mod_below y (2 ^ n) (pow_pos n)) ∙ div-add-mod' y (2 ^ n)))
+    ap (moved n) (sym (xor_comm (y % 2 ^ n) (y / 2 ^ n * 2 ^ n)
+    ∙ xor_shifted (y / 2 ^ n) n (y % 2 ^ n) (mod_below y (2 ^ n) (pow_pos n)) ∙ div-add-mod' y (2 ^ n)))
     ∙ moved-xor n (y % 2 ^ n) (y / 2 ^ n * 2 ^ n)
     ∙ ap (bit_xor (moved n (y % 2 ^ n))) (moved_down n (y / 2 ^ n))
 
 pub after_bytes-cons : (s x : ℕ) (xs : List ℕ) → x < 256 → after_bytes s (x ∷ xs) ≡ after_bytes (moved 8 (bit_xor s x)) xs
-after_bytes-cons s x xs small = fold-append after_bit s (bits 8 x) (flat_map (bits 8) xs) ∙ ap (λ (r : ℕ). after_bytes r xs) (byte_at_once s x small)
+after_bytes-cons s x xs small =
+    fold-append after_bit s (bits 8 x) (flat_map (bits 8) xs) ∙ ap (λ (r : ℕ). after_bytes r xs) (byte_at_once s x small)

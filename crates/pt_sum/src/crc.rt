@@ -113,5 +113,6 @@ impl Crc {
 
 /// The register after two parts is that after the second, begun where the first ended.
 pub fn sum_by_parts()
-    ensures { (register : ℕ) (first second : List ℕ) → after_bytes register (first ++ second) ≡ after_bytes (after_bytes register first) second }
+    ensures { (register : ℕ) (first second : List ℕ) → after_bytes register (first ++ second) ≡ after_bytes
+        (after_bytes register first) second }
 {}

@@ -1,13 +1,13 @@
 -- The steps of the loops over writes and over phases.
-use Rattle.std.proofs.Common.{◌≡◌, ◌↔◌, ◌∙◌, ◌⊎◌, inl, inr, ⊎_elim, ℕ, zero, suc, ◌+◌, ◌<◌, ◌≤◌, List, [], ◌∷◌, length, take, get_or, min, refl, sym, ap, subst, arith, IsTrue, true, false, Vec}
+use Rattle.std.proofs.Common.{◌≡◌, ◌↔◌, ◌∙◌, ◌⊎◌, inl, inr, ⊎_elim, ℕ, zero, suc, ◌+◌, ◌<◌, ◌≤◌, List, [], ◌∷◌, length, take, get_or}
+use Rattle.std.proofs.Common.{min, refl, sym, ap, subst, arith, IsTrue, true, false, Vec}
 use Rattle.std.specs.declared.alloc.Global.{Global}
 use Rattle.std.proofs.lemmas.Bool.{cases_lt}
 use Rattle.std.proofs.lemmas.List.{take_all, take-map, length-map}
 use Rattle.pt_sector.specs.Writes.{Writes, Puts}
-use Rattle.pt_apply.specs.Plans.{writes_of, phases_in}
+use Rattle.pt_apply.specs.Plans.{writes_of, phases_in, writes_in}
 use Rattle.pt_apply.specs.declared.plan.Write.{Write}
-use Rattle.pt_check.specs.First.{writes_in}
-use Rattle.pt_cases.specs.Frames.{puts_split, puts_left, puts_right}
+use Rattle.pt_apply.specs.Puts.{puts_split, puts_left, puts_right}
 use Rattle.pt_tables.specs.Phases.{Touches}
 
 -- what a test that failed says
@@ -26,10 +26,13 @@ no_touch P never = ((λ it. (let wrong : false ≡ true = it in absurd cc)), (λ
 module _ {b : ℕ} (P : ℕ → Type 0) where
   pub write_touches : (ws : List (Write b)) (i : ℕ) (w : Write b) → i < length ws → w ≡ get_or ws i w → P w.lba.0 → Touches P (writes_of ws)
   write_touches [] i w lt at holds = absurd (omega (arith, lt))
-  write_touches (x ∷ ws) zero w lt at holds = (w.lba.0, w.bytes, inl (ap (λ (y : Write b). y.lba.0) (sym at), ap (λ (y : Write b). y.bytes) (sym at)), holds)
-  write_touches (x ∷ ws) (suc i) w lt at holds = (let later = write_touches ws i w (omega (arith, lt)) at holds in (later.0, later.1, inr later.2, later.3))
+  write_touches (x ∷ ws) zero w lt at holds =
+      (w.lba.0, w.bytes, inl (ap (λ (y : Write b). y.lba.0) (sym at), ap (λ (y : Write b). y.bytes) (sym at)), holds)
+  write_touches (x ∷ ws) (suc i) w lt at holds =
+      (let later = write_touches ws i w (omega (arith, lt)) at holds in (later.0, later.1, inr later.2, later.3))
 
-  split_write : (ws : List (Write b)) (i : ℕ) (w : Write b) → i < length ws → w ≡ get_or ws i w → Touches P (writes_of (take (suc i) ws)) → P w.lba.0 ⊎ Touches P (writes_of (take i ws))
+  split_write : (ws : List (Write b)) (i : ℕ) (w : Write b) → i < length ws → w ≡ get_or ws i w
+      → Touches P (writes_of (take (suc i) ws)) → P w.lba.0 ⊎ Touches P (writes_of (take i ws))
   split_write [] i w lt at it = absurd (omega (arith, lt))
   split_write (x ∷ ws) zero w lt at (s, v, inl put, holds) = inl (subst (λ (y : Write b). P y.lba.0) (sym at) (subst P (sym put.0) holds))
   split_write (x ∷ ws) zero w lt at (s, v, inr rest, holds) = absurd rest
@@ -39,7 +42,8 @@ module _ {b : ℕ} (P : ℕ → Type 0) where
       (λ there. inr (there.0, there.1, inr there.2, there.3))
       (split_write ws i w (omega (arith, lt)) at (s, v, rest, holds))
 
-  pub write_more : (ws : List (Write b)) (i : ℕ) (w : Write b) → i < length ws → w ≡ get_or ws i w → ¬ Touches P (writes_of (take i ws)) → ¬ P w.lba.0 → ¬ Touches P (writes_of (take (i + 1) ws))
+  pub write_more : (ws : List (Write b)) (i : ℕ) (w : Write b) → i < length ws → w ≡ get_or ws i w → ¬ Touches P (writes_of (take i ws))
+      → ¬ P w.lba.0 → ¬ Touches P (writes_of (take (i + 1) ws))
   write_more ws i w lt at none never it =
       let next : i + 1 ≡ suc i = omega arith in
       ⊎_elim never none (split_write ws i w lt at (subst (λ (k : ℕ). Touches P (writes_of (take k ws))) next it))
@@ -47,7 +51,8 @@ module _ {b : ℕ} (P : ℕ → Type 0) where
   pub write_none : (ws : List (Write b)) (i : ℕ) → length ws ≤ i → ¬ Touches P (writes_of (take i ws)) → ¬ Touches P (writes_of ws)
   write_none ws i past none = subst (λ (l : List (Write b)). ¬ Touches P (writes_of l)) (take_all i ws past) none
 
-  pub phase_touches : (ps : List (Vec (Write b) Global)) (i : ℕ) (p : Vec (Write b) Global) → i < length ps → p ≡ get_or ps i p → Touches P (writes_of p.items) → Touches P (writes_in (phases_in ps))
+  pub phase_touches : (ps : List (Vec (Write b) Global)) (i : ℕ) (p : Vec (Write b) Global) → i < length ps → p ≡ get_or ps i p
+      → Touches P (writes_of p.items) → Touches P (writes_in (phases_in ps))
   phase_touches [] i p lt at holds = absurd (omega (arith, lt))
   phase_touches (x ∷ ps) zero p lt at holds =
       let here : Touches P (writes_of x.items) = subst (λ (y : Vec (Write b) Global). Touches P (writes_of y.items)) at holds in
@@ -56,7 +61,8 @@ module _ {b : ℕ} (P : ℕ → Type 0) where
       let later = phase_touches ps i p (omega (arith, lt)) at holds in
       (later.0, later.1, puts_right (writes_of x.items) (writes_in (phases_in ps)) later.0 later.1 later.2, later.3)
 
-  split_phase : (ps : List (Vec (Write b) Global)) (i : ℕ) (p : Vec (Write b) Global) → i < length ps → p ≡ get_or ps i p → Touches P (writes_in (phases_in (take (suc i) ps)))
+  split_phase : (ps : List (Vec (Write b) Global)) (i : ℕ) (p : Vec (Write b) Global) → i < length ps → p ≡ get_or ps i p
+      → Touches P (writes_in (phases_in (take (suc i) ps)))
       → Touches P (writes_of p.items) ⊎ Touches P (writes_in (phases_in (take i ps)))
   split_phase [] i p lt at it = absurd (omega (arith, lt))
   split_phase (x ∷ ps) zero p lt at (s, v, puts, holds) = ⊎_elim
@@ -71,13 +77,15 @@ module _ {b : ℕ} (P : ℕ → Type 0) where
       (split_phase ps i p (omega (arith, lt)) at (s, v, rest, holds)))
       (puts_split (writes_of x.items) (writes_in (phases_in (take (suc i) ps))) s v puts)
 
-  pub phase_more : (ps : List (Vec (Write b) Global)) (i : ℕ) (p : Vec (Write b) Global) → i < length ps → p ≡ get_or ps i p → ¬ Touches P (writes_in (phases_in (take i ps)))
+  pub phase_more : (ps : List (Vec (Write b) Global)) (i : ℕ) (p : Vec (Write b) Global) → i < length ps → p ≡ get_or ps i p
+      → ¬ Touches P (writes_in (phases_in (take i ps)))
       → ¬ Touches P (writes_of p.items) → ¬ Touches P (writes_in (phases_in (take (i + 1) ps)))
   phase_more ps i p lt at none never it =
       let next : i + 1 ≡ suc i = omega arith in
       ⊎_elim never none (split_phase ps i p lt at (subst (λ (k : ℕ). Touches P (writes_in (phases_in (take k ps)))) next it))
 
-  pub phase_none : (ps : List (Vec (Write b) Global)) (i : ℕ) → length ps ≤ i → ¬ Touches P (writes_in (phases_in (take i ps))) → ¬ Touches P (writes_in (phases_in ps))
+  pub phase_none : (ps : List (Vec (Write b) Global)) (i : ℕ) → length ps ≤ i → ¬ Touches P (writes_in (phases_in (take i ps)))
+      → ¬ Touches P (writes_in (phases_in ps))
   phase_none ps i past none = subst (λ (l : List (Vec (Write b) Global)). ¬ Touches P (writes_in (phases_in l))) (take_all i ps past) none
 
 abbrev writes : {b : ℕ} → Vec (Write b) Global → Writes
@@ -95,7 +103,8 @@ first_of {b = b} ps i = ⊎_elim
     ∙ sym (take_all i (phases_in ps) (omega (arith, past, length-map ps (writes {b = b})))))
     (cases_lt i (length ps))
 
-pub first_touch : {b : ℕ} (P : ℕ → Type 0) (ps seen : List (Vec (Write b) Global)) (count k many : ℕ) → seen ≡ ps → count ≡ min k many → many ≡ length ps
+pub first_touch : {b : ℕ} (P : ℕ → Type 0) (ps seen : List (Vec (Write b) Global)) (count k many : ℕ) → seen ≡ ps → count ≡ min k many
+    → many ≡ length ps
     → Touches P (writes_in (phases_in (take count seen))) → Touches P (writes_in (take k (phases_in ps)))
 first_touch {b = b} P ps seen count k many same is of it =
     let all : phases_in (take count seen) ≡ take k (phases_in ps) =

@@ -5,8 +5,8 @@ use Rattle.pt_gpt.specs.declared.table.Table.{Table}
 use Rattle.pt_recover.specs.Spans.{IsIn}
 use Rattle.pt_recover.specs.declared.layout.Layout.{Layout}
 use Rattle.pt_recover.specs.declared.trace.Run.{Run}
-use Rattle.pt_check.specs.Answers.{OwnedOf}
-use Rattle.pt_check.specs.First.{writes_in}
+use Rattle.pt_layout.specs.Owned.{OwnedOf}
+use Rattle.pt_apply.specs.Plans.{writes_in}
 use Rattle.pt_cases.specs.Cases.{backup_first_phases, primary_first_phases, from_mbr_phases}
 use Rattle.pt_cases.specs.Copies.{IsProtectedFrom, Protects}
 use Rattle.pt_copies.specs.Written.{WroteCopies}
@@ -29,7 +29,8 @@ Arranged b n t given labels BackupFirst phases =
 Arranged b n t given labels PrimaryFirst phases =
     (last : List Writes) × Closes n given last × WroteCopies b n t (λ p k. primary_first_phases b n t p k labels last) phases
 Arranged b n t given labels FromMbr phases =
-    (old new : List ℕ) × (given ≡ Some old) × IsProtectedFrom n old new × WroteCopies b n t (λ p k. from_mbr_phases b n t p k labels new) phases
+    (old new : List ℕ) × (given ≡ Some old) × IsProtectedFrom n old new
+    × WroteCopies b n t (λ p k. from_mbr_phases b n t p k labels new) phases
 
 -- how many phases come before the one with which the disk turns
 abbrev pub phases_before : Order → ℕ
@@ -61,7 +62,8 @@ RefusedBy old guarded order ts phases (Device fault) = ⊥
 RefusedBy old guarded order ts phases (Unsound finding) = ⊥
 
 -- there is nothing against them
-pub record Passes {b : ℕ} (old : Option Layout) (guarded : List Run) (order : Order) (ts : List (Target b)) (phases : List Writes) : Type 0 where
+pub record Passes {b : ℕ} (old : Option Layout) (guarded : List Run) (order : Order) (ts : List (Target b))
+    (phases : List Writes) : Type 0 where
   pub free : ¬ Touches (OwnedOf b old) (writes_in phases)
   pub settled : (t : Target b) → Contains ts t → ¬ (t.kind ≡ Changes)
   pub unguarded : ¬ Touches (IsIn guarded) (writes_before order phases)

@@ -1,7 +1,7 @@
 -- Sectors that a plan may not write, or not yet.
 use Rattle.std.specs.Prelude.{ℕ}
 use Rattle.pt_recover.specs.Spans.{IsIn}
-use Rattle.pt_check.specs.Answers.{OwnedOf}
+use Rattle.pt_layout.specs.Owned.{OwnedOf}
 use Rattle.pt_tables.specs.declared.reserved.Reserved.{Reserved}
 use Rattle.pt_tables.specs.declared.reserved.Reserved.TheVariants.{Owned, Guarded}
 

@@ -2,8 +2,7 @@
 
 ghost use Rattle.std.specs.Prelude.{◌≡◌, ◌+◌, ◌*◌, ◌<◌, ◌≤◌, length, All, IfOk, IfErr, None};
 ghost use Rattle.pt_sector.specs.Sectors.{Sectors, IsSectorSize};
-ghost use Rattle.pt_apply.specs.Plans.{writes_of, phases_of, InRange, PhaseInRange};
-ghost use Rattle.pt_check.specs.First.{writes_in};
+ghost use Rattle.pt_apply.specs.Plans.{writes_of, phases_of, InRange, PhaseInRange, writes_in};
 ghost use Rattle.pt_gpt.specs.Array.{array_len};
 ghost use Rattle.pt_recover.specs.declared.layout.Layout.{Layout};
 ghost use Rattle.pt_cases.specs.Cases.{IsPlan};
@@ -49,7 +48,8 @@ fn arranged<const B: usize>(
     requires few { length table.now.entries ≤ 128 }
     requires head { order ≡ FromMbr → ¬ (setting.now.head ≡ None) }
     requires labels_in_range { PhaseInRange setting.now.sectors labels.items }
-    ensures phases { IfOk result (λ plan. Arranged B setting.now.sectors table.now setting.now.head (writes_of labels.entry.items) order (phases_of plan)) }
+    ensures phases { IfOk result (λ plan. Arranged B setting.now.sectors table.now setting.now.head
+        (writes_of labels.entry.items) order (phases_of plan)) }
     ensures in_range { IfOk result (InRange setting.now.sectors) }
     ensures some { IfOk result (λ plan. All (λ p. 0 < length p.items) plan.phases.items) }
     ensures short { IfOk result (λ plan. length plan.phases.items ≤ 5) }
@@ -89,8 +89,12 @@ pub fn both_copies<const B: usize>(
     requires few { length table.now.entries ≤ 128 }
     requires head { order ≡ FromMbr → ¬ (setting.now.head ≡ None) }
     requires in_range { All (λ t. t.at.0 < setting.now.sectors) places.items }
-    ensures plan { IfOk result (λ plan. (d : Sectors) (p : Layout) → length d ≡ setting.now.sectors → CopiesStart d setting.now.old.now p table.now order setting.now.guarded.now setting.now.head places.entry.items → IsPlan B d p (phases_of plan)) }
-    ensures err { IfErr result (λ e. (d : Sectors) (p : Layout) → length d ≡ setting.now.sectors → CopiesStart d setting.now.old.now p table.now order setting.now.guarded.now setting.now.head places.entry.items → StopsBy B d setting.now.old.now p (HasNoCopies B d setting.now.old.now p) e) }
+    ensures plan { IfOk result (λ plan. (d : Sectors) (p : Layout) → length d ≡ setting.now.sectors
+        → CopiesStart d setting.now.old.now p table.now order setting.now.guarded.now setting.now.head places.entry.items
+        → IsPlan B d p (phases_of plan)) }
+    ensures err { IfErr result (λ e. (d : Sectors) (p : Layout) → length d ≡ setting.now.sectors
+        → CopiesStart d setting.now.old.now p table.now order setting.now.guarded.now setting.now.head places.entry.items
+        → StopsBy B d setting.now.old.now p (HasNoCopies B d setting.now.old.now p) e) }
     ensures in_range { IfOk result (InRange setting.now.sectors) }
     ensures some { IfOk result (λ plan. All (λ p. 0 < length p.items) plan.phases.items) }
     ensures faultless { IfErr result (λ e. fault_in e ≡ None) }

@@ -1,15 +1,14 @@
 //! Sectors that a plan may not write, or not yet.
 
 ghost use Rattle.std.specs.Prelude.{◌≡◌, ◌↔◌, IsTrue, take};
-ghost use Rattle.pt_apply.specs.Plans.{writes_of, phases_in};
-ghost use Rattle.pt_check.specs.Answers.{OwnedOf};
-ghost use Rattle.pt_check.specs.First.{writes_in};
+ghost use Rattle.pt_apply.specs.Plans.{writes_of, phases_in, writes_in};
 ghost use Rattle.pt_tables.specs.Phases.{Touches};
 ghost use Rattle.pt_tables.specs.Reserved.{IsReserved};
 
 use pt_apply::Write;
-use pt_layout::{Layout, Trace, is_owned};
+use pt_layout::{Layout, Trace};
 use pt_sector::Lba;
+use pt_targets::owned_in;
 
 /// Sectors that a plan may not write, or not yet.
 #[derive(Clone, Copy)]
@@ -20,20 +19,11 @@ pub(crate) enum Reserved<'a> {
     Guarded(&'a Trace),
 }
 
-fn owns<const B: usize>(layout: &Option<Layout>, at: Lba) -> bool
-    ensures { IsTrue result ↔ OwnedOf B layout.now at.0 }
-{
-    match layout {
-        None => false,
-        Some(layout) => is_owned::<B>(layout, at),
-    }
-}
-
 fn is_reserved<const B: usize>(reserved: &Reserved, at: Lba) -> bool
     ensures { IsTrue result ↔ IsReserved B reserved.now at.0 }
 {
     match reserved {
-        Reserved::Owned(layout) => owns::<B>(layout, at),
+        Reserved::Owned(layout) => owned_in::<B>(layout, at),
         Reserved::Guarded(trace) => trace.contains(at),
     }
 }

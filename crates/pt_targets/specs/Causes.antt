@@ -18,7 +18,7 @@ use Rattle.pt_layout.specs.Findings.{IsBodyBroken}
 use Rattle.pt_layout.specs.Guarded.{IsGuarded}
 use Rattle.pt_layout.specs.Tables.{IsGptTable}
 use Rattle.pt_layout.specs.declared.finding.Finding.{Finding}
-use Rattle.pt_check.specs.Answers.{OwnedOf}
+use Rattle.pt_layout.specs.Owned.{OwnedOf}
 use Rattle.pt_cases.specs.Cases.{ChangesLabels}
 use Rattle.pt_cases.specs.Causes.{WasMbr}
 use Rattle.pt_cases.specs.Targets.{Had, IsEncoded}
@@ -73,7 +73,8 @@ pub data WouldPrecede (b : ℕ) (d : Sectors) (o : Option Layout) (p : Layout) (
 abbrev pub TargetsIn : (b : ℕ) → Sectors → Option Layout → Layout → Body → List (Target b) → Type 0
 TargetsIn b d o p (Gpt t) ts = ChangesLabels o p × AreLabelTargets d o p ts
 TargetsIn b d o p (Mbr records chain) ts =
-    (was : WasMbr o) × (heads places : List (Target b)) × AreMbrTargets d was.records was.chain records chain heads × AreLabelTargets d o p places
+    (was : WasMbr o) × (heads places : List (Target b)) × AreMbrTargets d was.records was.chain records chain heads
+    × AreLabelTargets d o p places
     × (ts ≡ heads ++ places)
 
 abbrev pub TargetsOf : (b : ℕ) → Sectors → Option Layout → Layout → List (Target b) → Type 0

@@ -1,11 +1,13 @@
 -- How many label places a layout has.
-use Rattle.std.proofs.Common.{◌≡◌, ℕ, ◌+◌, ◌-◌, ◌≤◌, List, [], ◌∷◌, ◌++◌, length, filter, Bool, true, false, refl, arith, nat_eq, length-append, Option, Some, None}
+use Rattle.std.proofs.Common.{◌≡◌, ℕ, ◌+◌, ◌-◌, ◌≤◌, List, [], ◌∷◌, ◌++◌, length, filter, Bool, true, false, refl, arith, nat_eq}
+use Rattle.std.proofs.Common.{length-append, Option, Some, None}
 use Rattle.std.specs.Prelude.{if◌then◌else◌}
 use Rattle.pt_gpt.specs.declared.entry.Entry.{Entry}
 use Rattle.pt_gpt.specs.declared.table.Table.{Table}
 use Rattle.pt_mbr.specs.declared.ebr.Ebr.{Ebr}
 use Rattle.pt_mbr.specs.declared.record.Record.{Record}
-use Rattle.pt_recover.specs.Labels.{is_slice_kind, slice_from, record_slice, primary_slice, primary_slices, logical_slice, next_number, logical_slices, entry_slice, entry_slices, slices_of, has_place, places_of}
+use Rattle.pt_recover.specs.Labels.{is_slice_kind, slice_from, record_slice, primary_slice, primary_slices, logical_slice, next_number}
+use Rattle.pt_recover.specs.Labels.{logical_slices, entry_slice, entry_slices, slices_of, has_place, places_of}
 use Rattle.pt_recover.specs.declared.layout.Body.TheVariants.{Mbr, Gpt}
 use Rattle.pt_recover.specs.declared.layout.Slice.{Slice}
 
@@ -17,7 +19,8 @@ few_by : (c : Bool) (n : ℕ) (ss : List Slice) → length ss ≤ n → length (
 few_by true n ss few = few
 few_by false n ss few = omega arith
 
-few_more : (p : Slice → Bool) (s : Slice) (ss : List Slice) → length (filter p ss) ≤ length ss → (c : Bool) → p s ≡ c → length (filter p (s ∷ ss)) ≤ length (s ∷ ss)
+few_more : (p : Slice → Bool) (s : Slice) (ss : List Slice) → length (filter p ss) ≤ length ss → (c : Bool) → p s ≡ c
+    → length (filter p (s ∷ ss)) ≤ length (s ∷ ss)
 few_more p s ss later true so = (let kept : filter p (s ∷ ss) ≡ s ∷ filter p ss = rw (so, filter) refl in rw kept (omega (arith, later)))
 few_more p s ss later false so = (let dropped : filter p (s ∷ ss) ≡ filter p ss = rw (so, filter) refl in rw dropped (omega (arith, later)))
 
@@ -77,16 +80,19 @@ few_gpt_places b n t =
     omega (arith, all, some)
 
 -- an MBR no more than its records and its chain
-pub few_mbr_places : (b n : ℕ) (records : List (Option Record)) (chain : List Ebr) → length (places_of b n (Mbr records chain)) ≤ length records + length chain
+pub few_mbr_places : (b n : ℕ) (records : List (Option Record)) (chain : List Ebr)
+    → length (places_of b n (Mbr records chain)) ≤ length records + length chain
 unfolding places_of slices_of
 few_mbr_places b n records chain =
     let first = few_primaries 1 records in
     let later = few_logicals 5 chain in
-    let both : length (primary_slices 1 records ++ logical_slices 5 chain) ≤ length records + length chain = omega (arith, first, later, length-append (primary_slices 1 records) (logical_slices 5 chain)) in
+    let both : length (primary_slices 1 records ++ logical_slices 5 chain) ≤ length records + length chain =
+    omega (arith, first, later, length-append (primary_slices 1 records) (logical_slices 5 chain)) in
     let all = few_by (nat_eq b 512) (length records + length chain) (primary_slices 1 records ++ logical_slices 5 chain) both in
     let some = few_filtered (has_place n) (slices_of b (Mbr records chain)) in
     omega (arith, all, some)
 
 -- four records and a chain of at most 128
-pub most_mbr_places : (b n : ℕ) (records : List (Option Record)) (chain : List Ebr) → length records ≡ 4 → length chain ≤ 128 → length (places_of b n (Mbr records chain)) ≤ 132
+pub most_mbr_places : (b n : ℕ) (records : List (Option Record)) (chain : List Ebr) → length records ≡ 4 → length chain ≤ 128
+    → length (places_of b n (Mbr records chain)) ≤ 132
 most_mbr_places b n records chain four most = (let few = few_mbr_places b n records chain in omega (arith, few, four, most))

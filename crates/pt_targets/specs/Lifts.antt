@@ -15,21 +15,24 @@ use Rattle.pt_recover.specs.Spans.{IsIn}
 use Rattle.pt_recover.specs.declared.layout.Layout.{Layout}
 use Rattle.pt_recover.specs.declared.layout.Slice.{Slice}
 use Rattle.pt_recover.specs.declared.trace.Run.{Run}
+use Rattle.pt_shape.specs.Along.{along_map}
 use Rattle.pt_cases.specs.Records.{IsHeadTarget, EbrsEnd, ChainEnds}
 use Rattle.pt_cases.specs.Targets.{IsEncoded, IsLabelTarget, kept, changed, new, Ends, Met, LabelsMet, stood, set, there, Set, WritesLabels}
-use Rattle.pt_cases.specs.Walks.{along_so}
 use Rattle.pt_targets.specs.Splits.{same_or_not, in_or_not}
 use Rattle.pt_targets.specs.Targets.{IsPlaceTarget, Targeted, AreLabelTargets, AreMbrTargets, AreNewWrites, InOrder, HasChain, HasEbrs}
 use Rattle.pt_targets.specs.declared.target.Kind.TheVariants.{Stays, New, Changes}
 use Rattle.pt_targets.specs.declared.target.Target.{Target}
 
 -- what a label place must hold, from what its target says
-pub label_target : {b : ℕ} (d : Sectors) (o : Option Layout) (w : Slice) (l : Label) (t : Target b) → t.under ≡ sector d (place_of w) → IsPlaceTarget d o w (Some l) t → IsLabelTarget b d o w l t.bytes
+pub label_target : {b : ℕ} (d : Sectors) (o : Option Layout) (w : Slice) (l : Label) (t : Target b) → t.under ≡ sector d (place_of w)
+    → IsPlaceTarget d o w (Some l) t → IsLabelTarget b d o w l t.bytes
 label_target d o w l t under (inl (kind, had, reads, same)) = kept had reads (same ∙ under)
-label_target d o w l t under (inr (inl (kind, (m, had, other), is))) = changed m had other (subst (λ (u : List ℕ). IsEncoded l w u t.bytes) under is)
+label_target d o w l t under (inr (inl (kind, (m, had, other), is))) =
+    changed m had other (subst (λ (u : List ℕ). IsEncoded l w u t.bytes) under is)
 label_target d o w l t under (inr (inr (kind, none, is))) = new none is
 
-module _ {b : ℕ} (d : Sectors) (o : Option Layout) (ws : Writes) (ts among : List (Target b)) (all : (t : Target b) → Contains ts t → Contains among t)
+module _ {b : ℕ} (d : Sectors) (o : Option Layout) (ws : Writes) (ts among : List (Target b))
+    (all : (t : Target b) → Contains ts t → Contains among t)
     (ends : (t : Target b) → Contains among t → Ends d ws t.at.0 t.bytes)
     (stays : (t : Target b) → Contains among t → t.bytes ≡ t.under → (x : List ℕ) → ¬ Puts ws t.at.0 x) where
   place_met : (w : Slice) (l : Option Label) → Targeted d o ts w l → Met b d o ws w l
@@ -45,9 +48,10 @@ module _ {b : ℕ} (d : Sectors) (o : Option Layout) (ws : Writes) (ts among : L
 
   -- where each target ends as it must, and those that hold what they must aren't written, the labels are met
   pub labels_met : (p : Layout) → AreLabelTargets d o p ts → LabelsMet b d o p ws
-  labels_met p are = along_so (Targeted d o ts) (Met b d o ws) place_met (places_of b p.sectors p.body) p.labels are.has
+  labels_met p are = along_map (Targeted d o ts) (Met b d o ws) (places_of b p.sectors p.body) p.labels place_met are.has
 
-module _ {b : ℕ} (d : Sectors) (old : List Ebr) (ws : Writes) (ts among : List (Target b)) (all : (t : Target b) → Contains ts t → Contains among t)
+module _ {b : ℕ} (d : Sectors) (old : List Ebr) (ws : Writes) (ts among : List (Target b))
+    (all : (t : Target b) → Contains ts t → Contains among t)
     (ends : (t : Target b) → Contains among t → Ends d ws t.at.0 t.bytes) where
   ebrs_end : (first : ℕ) (chain : List Ebr) → HasEbrs d old first chain ts → EbrsEnd b d old ws first chain
   ebrs_end first [] has = tt
@@ -64,7 +68,11 @@ module _ {b : ℕ} (d : Sectors) (old : List Ebr) (ws : Writes) (ts among : List
   pub mbr_met : (old_records records : List (Option Record)) (chain : List Ebr) → AreMbrTargets d old_records old records chain ts
       → ((v : List ℕ) × IsHeadTarget old_records records (sector d 0) v × Ends d ws 0 v) × ChainEnds b d old ws (extended_of records) chain
   mbr_met old_records records chain are = (
-    (are.head.target.bytes, are.head.is, subst (λ (s : ℕ). Ends d ws s are.head.target.bytes) are.head.at (ends are.head.target (all are.head.target are.head.contains))),
+    (
+      are.head.target.bytes,
+      are.head.is,
+      subst (λ (s : ℕ). Ends d ws s are.head.target.bytes) are.head.at (ends are.head.target (all are.head.target are.head.contains)),
+    ),
     chain_ends (extended_of records) chain are.ebrs,
   )
 
@@ -77,7 +85,8 @@ module _ {b : ℕ} (d : Sectors) (o : Option Layout) (p : Layout) (ts sorted : L
 
   place_set : (w : Slice) (l : Option Label) → Targeted d o ts w l → Set b d o ws w l
   place_set w (Some l) (t, has, at, under, inl (kind, had, label, same)) =
-      stood had (subst (λ (v : List ℕ). LabelBytes l w.first w.len v) (same ∙ under) label) (never w t has at (λ is. (let no : Stays ≡ New = sym kind ∙ is in absurd cc)))
+      stood had (subst (λ (v : List ℕ). LabelBytes l w.first w.len v) (same ∙ under) label)
+      (never w t has at (λ is. (let no : Stays ≡ New = sym kind ∙ is in absurd cc)))
   place_set w (Some l) (t, has, at, under, inr (inl (kind, other, is))) = absurd (settled t has kind)
   place_set w (Some l) (t, has, at, under, inr (inr (kind, none, is))) = ⊎_elim
       (λ same. ⊎_elim
@@ -105,6 +114,7 @@ module _ {b : ℕ} (d : Sectors) (o : Option Layout) (p : Layout) (ts sorted : L
   labels_written most = record {
     ascending = news.ascending;
     few = omega (arith, news.few, order.count, are.count, most);
-    set = along_so (Targeted d o ts) (Set b d o ws) place_set (places_of b p.sectors p.body) p.labels are.has;
-    each = λ s v puts. (let it = news.each s v puts in subst (IsPlace (places_of b p.sectors p.body)) it.3 (are.each it.0 (order.only it.0 it.1)));
+    set = along_map (Targeted d o ts) (Set b d o ws) (places_of b p.sectors p.body) p.labels place_set are.has;
+    each = λ s v puts. (let it = news.each s v puts in
+        subst (IsPlace (places_of b p.sectors p.body)) it.3 (are.each it.0 (order.only it.0 it.1)));
   }

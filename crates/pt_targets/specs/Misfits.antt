@@ -7,7 +7,8 @@ use Rattle.pt_recover.specs.Labels.{places_of}
 use Rattle.pt_recover.specs.declared.layout.Layout.{Layout}
 use Rattle.pt_recover.specs.declared.layout.Slice.{Slice}
 use Rattle.pt_cases.specs.Causes.{IsLeft}
-use Rattle.pt_cases.specs.Targets.{Along, IsLabelTarget}
+use Rattle.pt_shape.specs.Along.{Along}
+use Rattle.pt_cases.specs.Targets.{IsLabelTarget}
 
 -- each label of p goes with a label place, in their order
 abbrev pub LabelsFit : ℕ → Layout → Type 0

@@ -1,16 +1,19 @@
 -- The writes of the targets of which something holds, in the order of the targets.
-use Rattle.std.proofs.Common.{◌≡◌, ◌≢◌, ◌∙◌, ◌⊎◌, inl, inr, ⊎_elim, ℕ, zero, suc, ◌<◌, ◌≤◌, List, [], ◌∷◌, ◌++◌, length, refl, sym, ap, subst, arith, Option}
+use Rattle.std.proofs.Common.{◌≡◌, ◌≢◌, ◌∙◌, ◌⊎◌, inl, inr, ⊎_elim, ℕ, zero, suc, ◌<◌, ◌≤◌, List, [], ◌∷◌, ◌++◌, length, refl, sym, ap}
+use Rattle.std.proofs.Common.{subst, arith, Option}
 use Rattle.std.specs.Prelude.{Contains}
 use Rattle.std.proofs.lemmas.List.Elements.{Contains-append_left, Contains-append_right}
 use Rattle.pt_sector.specs.Writes.{Writes, Puts}
 use Rattle.pt_sector.specs.Ascending.{IsAscending, sector_at}
-use Rattle.pt_check.specs.Answers.{OwnedOf}
+use Rattle.pt_layout.specs.Owned.{OwnedOf}
 use Rattle.pt_recover.specs.Spans.{IsIn}
 use Rattle.pt_recover.specs.declared.layout.Layout.{Layout}
 use Rattle.pt_recover.specs.declared.trace.Run.{Run}
 use Rattle.pt_layout.specs.Grouped.{contains_head, contains_tail}
 use Rattle.pt_cases.specs.Select.{Rises, rises_ascends}
 use Rattle.pt_targets.specs.Targets.{targeted}
+use Rattle.pt_targets.specs.declared.choice.Choice.{Choice}
+use Rattle.pt_targets.specs.declared.choice.Choice.TheVariants.{UnreadNew, Quiet}
 use Rattle.pt_targets.specs.declared.target.Kind.{Kind}
 use Rattle.pt_targets.specs.declared.target.Kind.TheVariants.{New}
 use Rattle.pt_targets.specs.declared.target.Target.{Target}
@@ -35,6 +38,10 @@ IsOf kind t = t.kind ≡ kind
 abbrev pub IsUnreadNew : {b : ℕ} → List Run → Target b → Type 0
 IsUnreadNew guarded t = (t.kind ≡ New) × ¬ ((t.bytes ≡ t.under) × IsIn guarded t.at.0)
 
+abbrev pub IsChosen : {b : ℕ} → Choice → List Run → Target b → Type 0
+IsChosen UnreadNew guarded t = IsUnreadNew guarded t
+IsChosen Quiet guarded t = IsQuiet guarded t
+
 -- a change of a sector that a partition owns
 abbrev pub IsOwnedChange : {b : ℕ} → Option Layout → Target b → Type 0
 IsOwnedChange {b = b} old t = Differs t × OwnedOf b old t.at.0
@@ -56,10 +63,12 @@ pub count_targeted : {b : ℕ} (ts : List (Target b)) → length (targeted ts) �
 count_targeted [] = refl
 count_targeted (t ∷ ts) = ap suc (count_targeted ts)
 
-contains_sector : {b : ℕ} (ts : List (Target b)) (u : Target b) → Contains ts u → (i : ℕ) × (i < length ts) × (sector_at (targeted ts) i ≡ u.at.0)
+contains_sector : {b : ℕ} (ts : List (Target b)) (u : Target b) → Contains ts u
+    → (i : ℕ) × (i < length ts) × (sector_at (targeted ts) i ≡ u.at.0)
 contains_sector [] u (k, lt, at) = absurd (omega (arith, lt))
 contains_sector (t ∷ ts) u (zero, lt, at) = (0, omega arith, ap (λ (x : Target _). x.at.0) at)
-contains_sector (t ∷ ts) u (suc k, lt, at) = let later = contains_sector ts u (k, omega (arith, lt), at) in (suc later.0, omega (arith, later.1), later.2)
+contains_sector (t ∷ ts) u (suc k, lt, at) =
+    let later = contains_sector ts u (k, omega (arith, lt), at) in (suc later.0, omega (arith, later.1), later.2)
 
 pub climbs : {b : ℕ} (ts : List (Target b)) → IsAscending (targeted ts) → Climbs ts
 climbs [] up = tt
@@ -87,7 +96,8 @@ climbs_one (x ∷ ts) t u climb (suc k, lt, at) (suc j, lt_u, at_u) same =
     climbs_one ts t u climb.1 (k, omega (arith, lt), at) (j, omega (arith, lt_u), at_u) same
 
 -- those before one of them are below it
-pub climbs_past : {b : ℕ} (before : List (Target b)) (u : Target b) (rest : List (Target b)) (t : Target b) → Climbs (before ++ u ∷ rest) → Contains before t → t.at.0 < u.at.0
+pub climbs_past : {b : ℕ} (before : List (Target b)) (u : Target b) (rest : List (Target b)) (t : Target b)
+    → Climbs (before ++ u ∷ rest) → Contains before t → t.at.0 < u.at.0
 climbs_past [] u rest t climb (k, lt, at) = absurd (omega (arith, lt))
 climbs_past (x ∷ before) u rest t climb (zero, lt, at) =
     let less = climb.0 u (Contains-append_right before (u ∷ rest) u (contains_head u rest)) in
@@ -166,14 +176,16 @@ module _ {b : ℕ} (P : Target b → Type 0) where
   selected_ascend ts ws up is = rises_ascends ws (selected_rise ts ws (climbs ts up) is)
 
   -- no other is written
-  pub selected_not : (ts : List (Target b)) (ws : Writes) → IsAscending (targeted ts) → Selects P ts ws → (t : Target b) → Contains ts t → ¬ P t → (x : List ℕ) → ¬ Puts ws t.at.0 x
+  pub selected_not : (ts : List (Target b)) (ws : Writes) → IsAscending (targeted ts) → Selects P ts ws → (t : Target b) → Contains ts t
+      → ¬ P t → (x : List ℕ) → ¬ Puts ws t.at.0 x
   selected_not ts ws up is t has not x puts =
       let it = selected_from ts ws is t.at.0 x puts in
       let same : it.0 ≡ t = climbs_one ts it.0 t (climbs ts up) it.1 has it.3 in
       not (subst P same it.2)
 
   -- one more
-  pub selects_more : (ts : List (Target b)) (ws : Writes) (t : Target b) → Selects P ts ws → P t → Selects P (ts ++ t ∷ []) (ws ++ (t.at.0, t.bytes) ∷ [])
+  pub selects_more : (ts : List (Target b)) (ws : Writes) (t : Target b) → Selects P ts ws → P t
+      → Selects P (ts ++ t ∷ []) (ws ++ (t.at.0, t.bytes) ∷ [])
   selects_more [] ws t is holds = inl ([], holds, ap (λ (l : Writes). l ++ (t.at.0, t.bytes) ∷ []) is, refl)
   selects_more (x ∷ ts) ws t (inl (rest, it, is, later)) holds =
       inl (rest ++ (t.at.0, t.bytes) ∷ [], it, ap (λ (l : Writes). l ++ (t.at.0, t.bytes) ∷ []) is, selects_more ts rest t later holds)
@@ -189,7 +201,8 @@ module _ {b : ℕ} (P : Target b → Type 0) where
   selected_none ts is t has holds = absurd (selected_all ts [] is t has holds)
 
   -- one was found, and here is another
-  pub selected_two : (ts : List (Target b)) (before : List (Target b)) (u : Target b) (rest : List (Target b)) (w : ℕ × List ℕ) → ts ≡ before ++ u ∷ rest → IsAscending (targeted ts)
+  pub selected_two : (ts : List (Target b)) (before : List (Target b)) (u : Target b) (rest : List (Target b)) (w : ℕ × List ℕ)
+      → ts ≡ before ++ u ∷ rest → IsAscending (targeted ts)
       → Selects P before (w ∷ []) → P u → TwoOf P ts
   selected_two ts before u rest w parts up is holds =
       let it = selected_from before (w ∷ []) is w.0 w.1 (inl (refl, refl)) in
@@ -198,7 +211,8 @@ module _ {b : ℕ} (P : Target b → Type 0) where
         one = it.0;
         other = u;
         has_one = subst (λ (l : List (Target b)). Contains l it.0) (sym parts) (Contains-append_left before (u ∷ rest) it.0 it.1);
-        has_other = subst (λ (l : List (Target b)). Contains l u) (sym parts) (Contains-append_right before (u ∷ rest) u (contains_head u rest));
+        has_other = subst (λ (l : List (Target b)). Contains l u) (sym parts)
+            (Contains-append_right before (u ∷ rest) u (contains_head u rest));
         one_is = it.2;
         other_is = holds;
         less = climbs_past before u rest it.0 climb it.1;

@@ -1,5 +1,6 @@
 -- What is left of some targets, by whether it is one write of a guarded sector.
-use Rattle.std.proofs.Common.{◌≡◌, ◌≢◌, ◌∙◌, ◌⊎◌, inl, inr, ⊎_elim, ℕ, ◌<◌, List, [], ◌∷◌, ◌++◌, refl, sym, subst, arith, Bool, true, false, Decides}
+use Rattle.std.proofs.Common.{◌≡◌, ◌≢◌, ◌∙◌, ◌⊎◌, inl, inr, ⊎_elim, ℕ, ◌<◌, List, [], ◌∷◌, ◌++◌, refl, sym, subst, arith, Bool, true}
+use Rattle.std.proofs.Common.{false, Decides}
 use Rattle.std.specs.Prelude.{Contains}
 use Rattle.std.specs.Str.{bytes_eq}
 use Rattle.std.proofs.lemmas.Bool.{cases_lt}
@@ -13,9 +14,10 @@ use Rattle.pt_apply.specs.declared.plan.Write.{Write}
 use Rattle.pt_recover.specs.Spans.{InRun, IsIn}
 use Rattle.pt_recover.specs.declared.trace.Run.{Run}
 use Rattle.pt_cases.specs.Copies.{one_write}
-use Rattle.pt_cases.specs.Frames.{puts_split, puts_left, puts_right}
+use Rattle.pt_apply.specs.Puts.{puts_split, puts_left, puts_right}
 use Rattle.pt_cases.specs.Targets.{Ends}
-use Rattle.pt_targets.specs.Selected.{Differs, IsLoud, IsQuiet, IsUnreadNew, AllBelow, Selects, NotAlone, selected_from, selected_all, selected_few, selected_ascend, selected_not}
+use Rattle.pt_targets.specs.Selected.{Differs, IsLoud, IsQuiet, IsUnreadNew, AllBelow, Selects, NotAlone, selected_from, selected_all}
+use Rattle.pt_targets.specs.Selected.{selected_few, selected_ascend, selected_not}
 use Rattle.pt_targets.specs.Targets.{targeted, TellDisk, IsSplit, NotOneLoud, IsOneChange, NotOneChange, AreNewWrites}
 use Rattle.pt_targets.specs.declared.split.Split.{Split}
 use Rattle.pt_targets.specs.declared.split.Split.TheVariants.{NotOne, One}
@@ -56,7 +58,8 @@ module _ {b : ℕ} (guarded : List Run) (ts : List (Target b)) (up : IsAscending
   split_one quiet loud l q d tell = record {
     ascending = selected_ascend (IsQuiet guarded) ts quiet up q;
     few = selected_few (IsQuiet guarded) ts quiet q;
-    unread = λ s v puts. (let it = selected_from (IsQuiet guarded) ts quiet q s v puts in λ is. it.2.1 (subst (IsIn guarded) (sym it.3) is));
+    unread = λ s v puts. (let it = selected_from (IsQuiet guarded) ts quiet q s v puts in
+        λ is. it.2.1 (subst (IsIn guarded) (sym it.3) is));
     read = (let it = selected_from (IsLoud guarded) ts (loud ∷ []) l loud.0 loud.1 (inl (refl, refl)) in subst (IsIn guarded) it.3 it.2.1);
     each = λ s v puts. ⊎_elim
         (λ left. (let it = selected_from (IsQuiet guarded) ts quiet q s v left in (it.0, (it.1, it.2.0), it.3, it.4)))
@@ -75,8 +78,10 @@ module _ {b : ℕ} (guarded : List Run) (ts : List (Target b)) (up : IsAscending
     ended t has = ⊎_elim
         (λ same. inr (same ∙ tell t has, stayed t has same))
         (λ differs. ⊎_elim
-        (λ is. inl (puts_right quiet (one_write loud.0 loud.1) t.at.0 t.bytes (selected_all (IsLoud guarded) ts (loud ∷ []) l t has (differs, is))))
-        (λ not. inl (puts_left quiet (one_write loud.0 loud.1) t.at.0 t.bytes (selected_all (IsQuiet guarded) ts quiet q t has (differs, not))))
+        (λ is. inl (puts_right quiet (one_write loud.0 loud.1) t.at.0 t.bytes
+        (selected_all (IsLoud guarded) ts (loud ∷ []) l t has (differs, is))))
+        (λ not. inl (puts_left quiet (one_write loud.0 loud.1) t.at.0 t.bytes
+        (selected_all (IsQuiet guarded) ts quiet q t has (differs, not))))
         (in_or_not guarded t.at.0))
         (same_or_not t.bytes t.under)
 
@@ -109,7 +114,8 @@ module _ {b : ℕ} (ts : List (Target b)) (up : IsAscending (targeted ts)) where
 
 pub loud_not_one : {b : ℕ} (guarded : List Run) (ts : List (Target b)) → NotAlone (IsLoud guarded) ts → NotOneLoud guarded ts
 loud_not_one guarded ts (inl none) = inl (λ t change is. none t change.0 (change.1, is))
-loud_not_one guarded ts (inr two) = inr (two.one, two.other, (two.has_one, two.one_is.0), (two.has_other, two.other_is.0), two.one_is.1, two.other_is.1, two.less)
+loud_not_one guarded ts (inr two) =
+    inr (two.one, two.other, (two.has_one, two.one_is.0), (two.has_other, two.other_is.0), two.one_is.1, two.other_is.1, two.less)
 
 pub change_not_one : {b : ℕ} (ts : List (Target b)) → NotAlone Differs ts → NotOneChange ts
 change_not_one ts (inl none) = inl (λ t change. none t change.0 change.1)
@@ -119,9 +125,11 @@ change_not_one ts (inr two) = inr (two.one, two.other, (two.has_one, two.one_is)
 pub writes_in_range : {b : ℕ} (n : ℕ) (ws : List (Write b)) → ((s : ℕ) (v : List ℕ) → Puts (writes_of ws) s v → s < n) → PhaseInRange n ws
 writes_in_range n [] below = All-nil (λ (w : Write _). w.lba.0 < n)
 writes_in_range n (w ∷ ws) below =
-    All-cons (λ (x : Write _). x.lba.0 < n) w ws (below w.lba.0 w.bytes (inl (refl, refl))) (writes_in_range n ws (λ s v puts. below s v (inr puts)))
+    All-cons (λ (x : Write _). x.lba.0 < n) w ws (below w.lba.0 w.bytes (inl (refl, refl)))
+    (writes_in_range n ws (λ s v puts. below s v (inr puts)))
 
-pub selected_in_range : {b : ℕ} (P : Target b → Type 0) (ts : List (Target b)) (ws : List (Write b)) → Selects P ts (writes_of ws) → (n : ℕ) → AllBelow n ts → PhaseInRange n ws
+pub selected_in_range : {b : ℕ} (P : Target b → Type 0) (ts : List (Target b)) (ws : List (Write b)) → Selects P ts (writes_of ws)
+    → (n : ℕ) → AllBelow n ts → PhaseInRange n ws
 selected_in_range P ts ws is n below = writes_in_range n ws (λ s v puts.
     let it = selected_from P ts (writes_of ws) is s v puts in
     let less = below it.0 it.1 in

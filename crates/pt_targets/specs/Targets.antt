@@ -1,5 +1,5 @@
 -- What the sectors of a wanted layout must hold: each sector once, with what it holds on the disk d.
-use Rattle.std.specs.Prelude.{◌≡◌, ◌≢◌, ◌⊎◌, ℕ, ◌+◌, ◌<◌, ◌≤◌, List, [], ◌∷◌, ◌++◌, length, map, replicate, Contains, Option, Some, None}
+use Rattle.std.specs.Prelude.{◌≡◌, ◌≢◌, ◌⊎◌, ℕ, ◌+◌, ◌<◌, ◌≤◌, List, [], ◌∷◌, ◌++◌, length, map, Contains, Option, Some, None}
 use Rattle.pt_sector.specs.Sectors.{Sectors, sector}
 use Rattle.pt_sector.specs.Writes.{Writes, Puts}
 use Rattle.pt_sector.specs.Ascending.{IsAscending, sector_at}
@@ -15,8 +15,10 @@ use Rattle.pt_recover.specs.declared.layout.Layout.{Layout}
 use Rattle.pt_recover.specs.declared.layout.Slice.{Slice}
 use Rattle.pt_recover.specs.declared.trace.Run.{Run}
 use Rattle.pt_cases.specs.Copies.{one_write}
-use Rattle.pt_cases.specs.Records.{IsHeadTarget, IsEbrTarget, link_to}
-use Rattle.pt_cases.specs.Targets.{Had, IsEncoded, IsFresh, Along, Ends}
+use Rattle.pt_shape.specs.Links.{link_to}
+use Rattle.pt_cases.specs.Records.{IsHeadTarget, IsEbrTarget}
+use Rattle.pt_shape.specs.Along.{Along}
+use Rattle.pt_cases.specs.Targets.{Had, IsEncoded, IsFresh, Ends}
 use Rattle.pt_targets.specs.declared.target.Kind.TheVariants.{Stays, New, Changes}
 use Rattle.pt_targets.specs.declared.target.Target.{Target}
 
@@ -63,7 +65,8 @@ pub record HasHead {b : _} (d : Sectors) (old new : List (Option Record)) (ts : 
 abbrev pub HasEbrs : {b : _} → Sectors → List Ebr → ℕ → List Ebr → List (Target b) → Type 0
 HasEbrs d old first [] ts = Unit {0}
 HasEbrs {b = b} d old first (e ∷ es) ts =
-    ((t : Target b) × Contains ts t × (t.at.0 ≡ e.at.0) × (t.under ≡ sector d e.at.0) × IsEbrTarget b d old first e (link_to first es) t.bytes)
+    ((t : Target b) × Contains ts t × (t.at.0 ≡ e.at.0) × (t.under ≡ sector d e.at.0)
+    × IsEbrTarget b d old first e (link_to first es) t.bytes)
     × HasEbrs d old first es ts
 
 -- of the lone extended record

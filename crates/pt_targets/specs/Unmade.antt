@@ -9,7 +9,8 @@ use Rattle.pt_mbr.specs.Mbr.{MbrBytes, BearsProtective}
 use Rattle.pt_mbr.specs.declared.ebr.Ebr.{Ebr}
 use Rattle.pt_mbr.specs.declared.record.Record.{Record}
 use Rattle.pt_recover.specs.Mbr.{extended_of, extent_of}
-use Rattle.pt_cases.specs.Records.{IsHeadTarget, IsEbrTarget, link_to}
+use Rattle.pt_shape.specs.Links.{link_to}
+use Rattle.pt_cases.specs.Records.{IsHeadTarget, IsEbrTarget}
 
 -- the sector is an MBR of these records, and no protective one
 pub record HoldsRecords (d : Sectors) (records : List (Option Record)) : Type 0 where

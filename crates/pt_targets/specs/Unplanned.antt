@@ -22,7 +22,8 @@ use Rattle.pt_targets.specs.declared.error.PlanError.TheVariants.{NotOneSwitch, 
 -- change beside the switch, or before it
 pub data HasNoSwitch (b : ℕ) (d : Sectors) (o : Option Layout) (p : Layout) : Type 0 where
   unreadable : HasUnreadable b d o p → HasNoSwitch b d o p
-  unmade : (records : List (Option Record)) (chain : List Ebr) → p.body ≡ Mbr records chain → (was : WasMbr o) → HasUnmade b d was.records was.chain records chain → HasNoSwitch b d o p
+  unmade : (records : List (Option Record)) (chain : List Ebr) → p.body ≡ Mbr records chain → (was : WasMbr o)
+      → HasUnmade b d was.records was.chain records chain → HasNoSwitch b d o p
   turn : HasNoTurn b d o p → HasNoSwitch b d o p
   copies : HasNoCopies b d o p → HasNoSwitch b d o p
 

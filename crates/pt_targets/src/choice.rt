@@ -1,15 +1,17 @@
 //! Which targets are written.
 
-ghost use Rattle.std.specs.Prelude.{◌≡◌, ◌≢◌, ◌↔◌, IsTrue};
+ghost use Rattle.std.specs.Prelude.{◌≡◌, ◌≢◌, ◌↔◌, IsTrue, IfOk};
+ghost use Rattle.pt_apply.specs.Plans.{writes_of};
 ghost use Rattle.pt_recover.specs.Spans.{IsIn};
-ghost use Rattle.pt_check.specs.Answers.{OwnedOf};
-ghost use Rattle.pt_targets.specs.Selected.{Differs, IsLoud, IsQuiet, IsOf, IsUnreadNew, IsOwnedChange, IsOwnedOf};
+ghost use Rattle.pt_layout.specs.Owned.{OwnedOf};
+ghost use Rattle.pt_targets.specs.Selected.{Differs, IsLoud, IsQuiet, IsOf, IsUnreadNew, IsChosen, Selects, IsOwnedChange, IsOwnedOf};
 
 use crate::target::{Kind, Target};
 use pt_apply::Write;
 use pt_layout::is_owned;
 use pt_recover::{Layout, Trace};
 use pt_sector::Lba;
+use std::alloc::{AllocError, Global};
 
 fn same_bytes(bytes: &[u8], others: &[u8]) -> bool
     ensures { IsTrue result ↔ (bytes.now ≡ others.now) }
@@ -45,7 +47,8 @@ pub(crate) fn is_of<const B: usize>(target: &Target<B>, kind: Kind) -> bool
     target.kind == kind
 }
 
-fn owned_in<const B: usize>(old: &Option<Layout>, at: Lba) -> bool
+/// Whether a partition of the layout owns the sector; nothing owns none.
+pub fn owned_in<const B: usize>(old: &Option<Layout>, at: Lba) -> bool
     ensures { IsTrue result ↔ OwnedOf B old.now at.0 }
 {
     match old {
@@ -77,6 +80,42 @@ pub fn is_unread_new<const B: usize>(target: &Target<B>, guarded: &Trace) -> boo
     ensures { IsTrue result ↔ IsUnreadNew guarded.now target.now }
 {
     is_of(target, Kind::New) && (is_change(target) || !guarded.contains(target.at))
+}
+
+/// Which targets are written.
+#[derive(Clone, Copy)]
+pub(crate) enum Choice {
+    /// New labels, but for those that stand in a guarded sector already.
+    UnreadNew,
+    /// Those that change other sectors than guarded ones.
+    Quiet,
+}
+
+fn is_chosen<const B: usize>(target: &Target<B>, guarded: &Trace, choice: Choice) -> bool
+    ensures { IsTrue result ↔ IsChosen choice guarded.now target.now }
+{
+    match choice {
+        Choice::UnreadNew => is_unread_new(target, guarded),
+        Choice::Quiet => is_quiet(target, guarded),
+    }
+}
+
+/// The writes of the targets that are chosen.
+pub(crate) fn chosen_writes<const B: usize>(
+    alloc: Global,
+    targets: &[Target<B>],
+    guarded: &Trace,
+    choice: Choice,
+) -> Result<Vec<Write<B>>, AllocError>
+    ensures { IfOk result (λ ws. Selects (IsChosen choice guarded.now) targets.now (writes_of ws.items)) }
+{
+    let mut writes = Vec::new(alloc);
+    for target in targets {
+        if is_chosen(target, guarded, choice) {
+            writes.push(write_of(target))?;
+        }
+    }
+    Ok(writes)
 }
 
 /// The write that meets it.

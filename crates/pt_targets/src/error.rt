@@ -8,6 +8,8 @@ ghost use Rattle.pt_targets.specs.declared.error.PlanError.TheVariants as plan;
 use pt_layout::Finding;
 use pt_sector::{FailedRead, Failure, Fault};
 use std::alloc::AllocError;
+use std::error::Error;
+use std::fmt;
 
 /// Why there is no plan for a layout. Where several hold, the first of `Unsound`, `ReusedInOneBatch`, `NotOneSwitch`
 /// and `NeedsRepair` is told; but a layout that the disk can't have is `NotOneSwitch` before its writes are looked at.
@@ -43,6 +45,25 @@ impl PlanError {
         }
     }
 }
+
+impl fmt::Display for PlanError {
+    fn fmt<W: fmt::Write>(&self, f: &mut fmt::Formatter<W>) -> fmt::Result {
+        match self {
+            PlanError::NotOneSwitch => f.write_str("no order of writes has one moment of change"),
+            PlanError::ReusedInOneBatch => {
+                f.write_str("a sector that a partition of the old layout owns would be written")
+            }
+            PlanError::NeedsRepair => {
+                f.write_str("only a label changes, and the GPT needs mending")
+            }
+            PlanError::Unsound(finding) => write!(f, "the new layout isn't sound: {finding}"),
+            PlanError::Device(fault) => write!(f, "{fault}"),
+            PlanError::Memory => f.write_str("out of memory"),
+        }
+    }
+}
+
+impl Error for PlanError {}
 
 impl From<Failure> for PlanError {
     ghost from_gives = { λ failure e. e ≡ plan_failure failure };

@@ -3,30 +3,14 @@
 ghost use Rattle.std.specs.Prelude.{ℕ, ◌<◌, IfOk, Contains};
 ghost use Rattle.pt_apply.specs.Plans.{writes_of, PhaseInRange};
 ghost use Rattle.pt_sector.specs.Ascending.{IsAscending};
-ghost use Rattle.pt_targets.specs.Selected.{IsUnreadNew, Selects, AllBelow};
+ghost use Rattle.pt_targets.specs.Selected.{AllBelow};
 ghost use Rattle.pt_targets.specs.Targets.{targeted, AreNewWrites};
 
-use crate::choice::{is_unread_new, write_of};
+use crate::choice::{Choice, chosen_writes};
 use crate::target::Target;
 use pt_apply::Write;
 use pt_recover::Trace;
 use std::alloc::{AllocError, Global};
-
-fn unread_writes<const B: usize>(
-    alloc: Global,
-    targets: &[Target<B>],
-    guarded: &Trace,
-) -> Result<Vec<Write<B>>, AllocError>
-    ensures { IfOk result (λ ws. Selects (IsUnreadNew guarded.now) targets.now (writes_of ws.items)) }
-{
-    let mut writes = Vec::new(alloc);
-    for target in targets {
-        if is_unread_new(target, guarded) {
-            writes.push(write_of(target))?;
-        }
-    }
-    Ok(writes)
-}
 
 /// The writes of the new labels, but for those that stand in a guarded sector already.
 ///
@@ -40,5 +24,5 @@ pub fn new_writes<const B: usize>(
     ensures new { IfOk result (λ ws. AreNewWrites guarded.now targets.now (writes_of ws.items)) }
     ensures in_range { IfOk result (λ ws. (n : ℕ) → AllBelow n targets.now → PhaseInRange n ws.items) }
 {
-    unread_writes(alloc, targets, guarded)
+    chosen_writes(alloc, targets, guarded, Choice::UnreadNew)
 }

@@ -11,7 +11,7 @@ mod split;
 mod target;
 
 pub use change::one_change;
-pub use choice::{is_change, is_unread_new};
+pub use choice::{is_change, is_unread_new, owned_in};
 pub use error::PlanError;
 pub use first::{first_change, first_owned_change, first_owned_of_kind};
 pub use fresh::new_writes;

@@ -3,11 +3,11 @@
 ghost use Rattle.std.specs.Prelude.{◌≡◌, ◌∷◌, [], IfOk, IfSome, IfNone};
 ghost use Rattle.pt_apply.specs.Plans.{writes_of};
 ghost use Rattle.pt_sector.specs.Ascending.{IsAscending};
-ghost use Rattle.pt_targets.specs.Selected.{IsLoud, IsQuiet, Selects, NotAlone};
+ghost use Rattle.pt_targets.specs.Selected.{IsLoud, Selects, NotAlone};
 ghost use Rattle.pt_targets.specs.Splits.{SplitIs};
 ghost use Rattle.pt_targets.specs.Targets.{targeted};
 
-use crate::choice::{is_loud, is_quiet, write_of};
+use crate::choice::{Choice, chosen_writes, is_loud, write_of};
 use crate::target::Target;
 use pt_apply::Write;
 use pt_recover::Trace;
@@ -45,23 +45,6 @@ fn lone_loud<const B: usize>(targets: &[Target<B>], guarded: &Trace) -> Option<W
     found
 }
 
-// The writes of the targets that change other sectors.
-fn quiet_writes<const B: usize>(
-    alloc: Global,
-    targets: &[Target<B>],
-    guarded: &Trace,
-) -> Result<Vec<Write<B>>, AllocError>
-    ensures { IfOk result (λ ws. Selects (IsQuiet guarded.now) targets.now (writes_of ws.items)) }
-{
-    let mut writes = Vec::new(alloc);
-    for target in targets {
-        if is_quiet(target, guarded) {
-            writes.push(write_of(target))?;
-        }
-    }
-    Ok(writes)
-}
-
 /// The writes of the targets that aren't met yet, parted by whether their sector is guarded.
 ///
 /// The targets ascend by their sectors.
@@ -76,7 +59,7 @@ pub fn split_changes<const B: usize>(
     match lone_loud(targets, guarded) {
         None => Ok(Split::NotOne),
         Some(loud) => {
-            let quiet = quiet_writes(alloc, targets, guarded)?;
+            let quiet = chosen_writes(alloc, targets, guarded, Choice::Quiet)?;
             Ok(Split::One { quiet, loud })
         }
     }

@@ -1,5 +1,6 @@
 -- Texts that are cut at a byte, and the bytes that a line lacks.
-use Rattle.std.proofs.Common.{◌≡◌, ◌≢◌, inl, inr, ◌<◌, ◌^◌, ℕ, zero, suc, List, [], ◌∷◌, ◌++◌, length, Bool, true, false, refl, sym, ap, ◌∙◌, subst, arith, Result, Option, Some, None, Bor, IfNone, length-append}
+use Rattle.std.proofs.Common.{◌≡◌, ◌≢◌, inl, inr, ◌<◌, ◌^◌, ℕ, zero, suc, List, [], ◌∷◌, ◌++◌, length, Bool, true, false, refl, sym, ap}
+use Rattle.std.proofs.Common.{◌∙◌, subst, arith, Result, Option, Some, None, Bor, IfNone, length-append}
 use Rattle.std.specs.Fmt.{decimal}
 use Rattle.std.proofs.lemmas.Fmt.{decimal_injective}
 use Rattle.std.proofs.lemmas.List.Elements.{All-head, All-tail}
@@ -14,9 +15,14 @@ use Rattle.std.specs.Result.{result_unwrap_or}
 use Rattle.hex.specs.Hex.{decode_sized, is_hex_digit}
 use Rattle.hex.specs.declared.error.FromHexError.{FromHexError}
 use Rattle.hex.proofs.HexLemmas.{IsOk-decode_sized}
-use Rattle.pt_layout.proofs.Numbers.{lacks}
+use Rattle.pt_path.proofs.Numbers.{lacks}
 use Rattle.pt_text.specs.Reading.{Lacks}
 use Rattle.pt_text.specs.Lines.{IsWriteLine, IsFlushLine, Step, Put, Flush, IsLine}
+
+-- what holds anyway is said of none
+pub if_none : {X P : Type 0} (found : Option X) → P → IfNone found P
+if_none None p = p
+if_none (Some x) p = tt
 
 pub lacks_nil : (c : ℕ) → Lacks c []
 lacks_nil c i within = absurd (omega arith)
@@ -81,7 +87,8 @@ write_lineless b line w is =
     let rest = lacks_cons 10 32 is.digits (λ e. cc e) (hex_lineless is.digits all) in
     let behind = lacks_append 10 (decimal w.0) (32 ∷ is.digits) (decimal_lineless w.0 is.fits) rest in
     subst (Lacks 10) (sym is.written)
-    (lacks_cons 10 87 (32 ∷ (decimal w.0 ++ 32 ∷ is.digits)) (λ e. cc e) (lacks_cons 10 32 (decimal w.0 ++ 32 ∷ is.digits) (λ e. cc e) behind))
+    (lacks_cons 10 87 (32 ∷ (decimal w.0 ++ 32 ∷ is.digits)) (λ e. cc e)
+    (lacks_cons 10 32 (decimal w.0 ++ 32 ∷ is.digits) (λ e. cc e) behind))
 
 pub line_lineless : (b : ℕ) (line : List ℕ) (s : Step) → IsLine b line s → Lacks 10 line
 line_lineless b line (Put w) is = write_lineless b line w is
@@ -92,10 +99,12 @@ pub write_one : (b : ℕ) (line : List ℕ) (v w : ℕ × List ℕ) → IsWriteL
 write_one b line v w hv hw =
     let e = sym hv.written ∙ hw.written in
     let inner = same_tail 32 32 _ _ (same_tail 87 87 _ _ e) in
-    let parts = one_cut 32 (decimal v.0) (decimal w.0) hv.digits hw.digits (decimal_spaceless v.0 hv.fits) (decimal_spaceless w.0 hw.fits) inner in
+    let parts =
+    one_cut 32 (decimal v.0) (decimal w.0) hv.digits hw.digits (decimal_spaceless v.0 hv.fits) (decimal_spaceless w.0 hw.fits) inner in
     let number = decimal_injective v.0 w.0 hv.fits hw.fits parts.0 in
     let bytes : v.1 ≡ w.1 =
-    ap (λ (r : Result (List ℕ) FromHexError). result_unwrap_or r []) (sym hv.bytes ∙ (ap (λ (d : List ℕ). decode_sized d b) parts.1 ∙ hw.bytes)) in
+    ap (λ (r : Result (List ℕ) FromHexError). result_unwrap_or r [])
+    (sym hv.bytes ∙ (ap (λ (d : List ℕ). decode_sized d b) parts.1 ∙ hw.bytes)) in
     ap (λ (n : ℕ). (n, v.1)) number ∙ ap (λ (t : List ℕ). (w.0, t)) bytes
 
 pub write_no_flush : (b : ℕ) (line : List ℕ) (w : ℕ × List ℕ) → IsWriteLine b line w → IsFlushLine line → ⊥
@@ -111,13 +120,15 @@ step_one b line Flush Flush hs ht = refl
 abbrev pub Parts : ℕ → List ℕ → Option (Bor (List ℕ) × Bor (List ℕ)) → Type 0
 Parts c text r = MatchOption r (Lacks c text) (λ x. (text ≡ x.0.now ++ c ∷ x.1.now) × Lacks c x.0.now)
 
-pub fields_found : (text letter rest : List ℕ) (r : Option (Bor (List ℕ) × Bor (List ℕ))) → text ≡ letter ++ 32 ∷ rest → letter ≡ 87 ∷ [] → Parts 32 rest r
+pub fields_found : (text letter rest : List ℕ) (r : Option (Bor (List ℕ) × Bor (List ℕ))) → text ≡ letter ++ 32 ∷ rest
+    → letter ≡ 87 ∷ [] → Parts 32 rest r
     → IfSome r (λ x. (text ≡ 87 ∷ 32 ∷ (x.0.now ++ 32 ∷ x.1.now)) × Lacks 32 x.0.now)
 fields_found text letter rest None whole is parts = tt
 fields_found text letter rest (Some x) whole is parts =
     (whole ∙ (ap (λ (t : List ℕ). t ++ 32 ∷ rest) is ∙ ap (λ (t : List ℕ). 87 ∷ 32 ∷ t) parts.0), parts.1)
 
-pub fields_missing : (text letter rest : List ℕ) (r : Option (Bor (List ℕ) × Bor (List ℕ))) → text ≡ letter ++ 32 ∷ rest → letter ≡ 87 ∷ [] → Parts 32 rest r
+pub fields_missing : (text letter rest : List ℕ) (r : Option (Bor (List ℕ) × Bor (List ℕ))) → text ≡ letter ++ 32 ∷ rest
+    → letter ≡ 87 ∷ [] → Parts 32 rest r
     → IfNone r ((number digits : List ℕ) → Lacks 32 number → text ≢ 87 ∷ 32 ∷ (number ++ 32 ∷ digits))
 fields_missing text letter rest (Some x) whole is parts = tt
 fields_missing text letter rest None whole is parts = λ number digits lack e.
@@ -130,7 +141,8 @@ fields_missing text letter rest None whole is parts = λ number digits lack e.
 pub fields_one : (b : ℕ) (line number digits : List ℕ) (w : ℕ × List ℕ) → line ≡ 87 ∷ 32 ∷ (number ++ 32 ∷ digits) → Lacks 32 number
     → (is : IsWriteLine b line w) → (number ≡ decimal w.0) × (digits ≡ is.digits)
 fields_one b line number digits w whole lack is =
-    one_cut 32 number (decimal w.0) digits is.digits lack (decimal_spaceless w.0 is.fits) (same_tail 32 32 _ _ (same_tail 87 87 _ _ (sym whole ∙ is.written)))
+    one_cut 32 number (decimal w.0) digits is.digits lack (decimal_spaceless w.0 is.fits)
+    (same_tail 32 32 _ _ (same_tail 87 87 _ _ (sym whole ∙ is.written)))
 
 pub no_fit : (b : ℕ) (last : Writes) (line : List ℕ) → ((s : Step) → ¬ IsLine b line s) → ¬ Fits b last line
 no_fit b last line none (inl is) = none (Put is.0) is.1

@@ -1,5 +1,6 @@
 -- A text has one reading.
-use Rattle.std.proofs.Common.{◌≡◌, ◌⊎◌, inl, inr, ◌<◌, ◌+◌, ℕ, suc, Bool, true, false, List, [], ◌∷◌, ◌++◌, length, refl, sym, ap, ◌∙◌, subst, arith, append_assoc}
+use Rattle.std.proofs.Common.{◌≡◌, ◌⊎◌, inl, inr, ◌<◌, ◌+◌, ℕ, suc, Bool, true, false, List, [], ◌∷◌, ◌++◌, length, refl, sym, ap, ◌∙◌}
+use Rattle.std.proofs.Common.{subst, arith, append_assoc}
 use Rattle.std.proofs.lemmas.List.{append-nil}
 use Rattle.std.proofs.lemmas.List.Elements.{All-head, All-tail}
 use Rattle.pt_sector.specs.Writes.{Writes}
@@ -61,7 +62,8 @@ goes_plan (p ∷ ps) last some =
 
 -- no line that may come stands at the head of the rest
 abbrev Stuck : ℕ → Bool → List ℕ → Type 0
-Stuck b t rest = (line after : List ℕ) → rest ≡ line ++ 10 ∷ after → ¬ (((w : ℕ × List ℕ) × IsWriteLine b line w) ⊎ (IsFlushLine line × (t ≡ true)))
+Stuck b t rest =
+    (line after : List ℕ) → rest ≡ line ++ 10 ∷ after → ¬ (((w : ℕ × List ℕ) × IsWriteLine b line w) ⊎ (IsFlushLine line × (t ≡ true)))
 
 pub record Same (ss ss' : List Step) (lines lines' : List (List ℕ)) (r r' : List ℕ) (t t' : Bool) : Type 0 where
   pub steps : ss ≡ ss'
@@ -69,7 +71,8 @@ pub record Same (ss ss' : List Step) (lines lines' : List (List ℕ)) (r r' : Li
   pub rest : r ≡ r'
   pub state : t ≡ t'
 
-not_stuck : (b : ℕ) (s : Bool) (step : Step) (ss : List Step) (t : Bool) (line rest more : List ℕ) → IsLine b line step → Goes s (step ∷ ss) t → rest ≡ line ++ 10 ∷ more → Stuck b s rest → ⊥
+not_stuck : (b : ℕ) (s : Bool) (step : Step) (ss : List Step) (t : Bool) (line rest more : List ℕ) → IsLine b line step
+    → Goes s (step ∷ ss) t → rest ≡ line ++ 10 ∷ more → Stuck b s rest → ⊥
 not_stuck b s (Put w) ss t line rest more is goes e stuck = stuck line more e (inl (w, is))
 not_stuck b s Flush ss t line rest more is goes e stuck = stuck line more e (inr (is, goes.0))
 
@@ -120,7 +123,8 @@ some_has : (last : Writes) → 0 < length last → has last ≡ true
 some_has [] some = absurd (omega arith)
 some_has (w ∷ ws) some = refl
 
-fits_of : (b : ℕ) (last : Writes) (line : List ℕ) → ((w : ℕ × List ℕ) × IsWriteLine b line w) ⊎ (IsFlushLine line × (has last ≡ true)) → Fits b last line
+fits_of : (b : ℕ) (last : Writes) (line : List ℕ)
+    → ((w : ℕ × List ℕ) × IsWriteLine b line w) ⊎ (IsFlushLine line × (has last ≡ true)) → Fits b last line
 fits_of b last line (inl is) = inl is
 fits_of b last line (inr is) = inr (is.0, has_some last is.1)
 
@@ -146,7 +150,8 @@ reads_plan b phases text h =
       stuck = empty_stuck b false;
     }
 
-reads_bad : (b : ℕ) (text : List ℕ) (n : ℕ) (h : IsBadLine b text n) → Reads b text h.lines (steps_of h.phases ++ puts h.last) h.rest (has h.last)
+reads_bad : (b : ℕ) (text : List ℕ) (n : ℕ) (h : IsBadLine b text n)
+    → Reads b text h.lines (steps_of h.phases ++ puts h.last) h.rest (has h.last)
 reads_bad b text n h = record {
   whole = h.whole;
   each = h.begins.each;
@@ -164,7 +169,8 @@ reads_open b text h = record {
 
 pub plan_one : (b : ℕ) (p q : List Writes) (text : List ℕ) → PlanText b p text → PlanText b q text → p ≡ q
 plan_one b p q text h k =
-    let same = same_reads b text h.lines k.lines (steps_of p) (steps_of q) [] [] false false (reads_plan b p text h) (reads_plan b q text k) in
+    let same =
+    same_reads b text h.lines k.lines (steps_of p) (steps_of q) [] [] false false (reads_plan b p text h) (reads_plan b q text k) in
     sym (back_steps p) ∙ (ap (phases_back []) same.steps ∙ back_steps q)
 
 pub plan_faultless : (b : ℕ) (p : List Writes) (text : List ℕ) (e : PlanTextError) → PlanText b p text → ¬ IsTextFault b text e
@@ -187,7 +193,8 @@ bad_not_open b text n h k =
 
 bad_one : (b : ℕ) (text : List ℕ) (m n : ℕ) → IsBadLine b text m → IsBadLine b text n → m ≡ n
 bad_one b text m n h k =
-    let same = same_reads b text h.lines k.lines _ _ h.rest k.rest (has h.last) (has k.last) (reads_bad b text m h) (reads_bad b text n k) in
+    let same =
+    same_reads b text h.lines k.lines _ _ h.rest k.rest (has h.last) (has k.last) (reads_bad b text m h) (reads_bad b text n k) in
     h.number ∙ (ap (λ (c : ℕ). c + 1) same.count ∙ sym k.number)
 
 pub fault_one : (b : ℕ) (text : List ℕ) (e f : PlanTextError) → IsTextFault b text e → IsTextFault b text f → e ≡ f

@@ -5,6 +5,8 @@ ghost use Rattle.pt_text.specs.Faults.{error_number};
 ghost use Rattle.pt_text.specs.declared.error.PlanTextError.TheVariants.{Memory};
 
 use std::alloc::AllocError;
+use std::error::Error;
+use std::fmt;
 
 /// Why a text is no plan's.
 #[derive(Clone, Copy, Debug, PartialEq, Eq)]
@@ -30,6 +32,20 @@ impl PlanTextError {
         }
     }
 }
+
+impl fmt::Display for PlanTextError {
+    fn fmt<W: fmt::Write>(&self, f: &mut fmt::Formatter<W>) -> fmt::Result {
+        match self {
+            PlanTextError::BadLine(line) => write!(f, "line {line} is not a plan's"),
+            PlanTextError::NoFinalFlush => f.write_str(
+                "the text ends without the F of its last phase",
+            ),
+            PlanTextError::Memory => f.write_str("out of memory"),
+        }
+    }
+}
+
+impl Error for PlanTextError {}
 
 impl From<AllocError> for PlanTextError {
     ghost from_gives = { λ _ e. e ≡ Memory };

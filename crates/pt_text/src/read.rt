@@ -11,7 +11,7 @@ ghost use Rattle.pt_text.specs.Reading.{Lacks, step_of, Takes};
 
 use crate::error::PlanTextError;
 use pt_apply::{Plan, Write};
-use pt_layout::parse_number;
+use pt_path::parse_number;
 use pt_sector::{Lba, Sector};
 use std::alloc::{AllocError, Global};
 use std::mem;
@@ -48,15 +48,11 @@ fn fields(line: &str) -> Option<(&str, &str)>
     ensures some { IfSome result (λ r. (line.now ≡ 87 ∷ 32 ∷ (r.0.now ++ 32 ∷ r.1.now)) × Lacks 32 r.0.now) }
     ensures none { IfNone result ((number digits : List ℕ) → Lacks 32 number → line.now ≢ 87 ∷ 32 ∷ (number ++ 32 ∷ digits)) }
 {
-    match line.split_once(' ') {
-        Some((letter, rest)) => {
-            if letter == "W" {
-                rest.split_once(' ')
-            } else {
-                None
-            }
-        }
-        None => None,
+    let (letter, rest) = line.split_once(' ')?;
+    if letter == "W" {
+        rest.split_once(' ')
+    } else {
+        None
     }
 }
 
@@ -66,21 +62,13 @@ fn read_write<const B: usize>(line: &str) -> Option<Write<B>>
     ensures some { IfSome result (λ w. IsWriteLine B line.now (w.lba.0, w.bytes)) }
     ensures none { IfNone result ((w : ℕ × List ℕ) → ¬ IsWriteLine B line.now w) }
 {
-    let (number, digits) = match fields(line) {
-        Some(found) => found,
-        None => return None,
-    };
-    let number = match parse_number(number) {
-        Some(number) => number,
-        None => return None,
-    };
-    match read_bytes(digits) {
-        Some(bytes) => Some(Write {
-            lba: Lba(number),
-            bytes,
-        }),
-        None => None,
-    }
+    let (number, digits) = fields(line)?;
+    let number = parse_number(number)?;
+    let bytes = read_bytes(digits)?;
+    Some(Write {
+        lba: Lba(number),
+        bytes,
+    })
 }
 
 // What a line stands for.
@@ -92,10 +80,7 @@ fn read_line<const B: usize>(line: &str) -> Option<Line<B>>
     if line == "F" {
         return Some(Line::Flush);
     }
-    match read_write(line) {
-        Some(write) => Some(Line::Write(write)),
-        None => None,
-    }
+    Some(Line::Write(read_write(line)?))
 }
 
 // Adds a line, and says whether it may come there.

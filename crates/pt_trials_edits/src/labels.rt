@@ -9,7 +9,7 @@ use pt_labels::{
 };
 use pt_layout::{Body, Ebrs, Labelled, Labels, Layout};
 use pt_mbr::Record;
-use pt_words::{Code, End, Refusal};
+use pt_words::{Asked, Code, End, Refusal};
 use std::alloc::Global;
 use std::test::Fail;
 
@@ -118,32 +118,27 @@ fn is(made: Result<Layout, Refusal>, wanted: &Layout) -> bool {
     }
 }
 
+/// A partition of slice 1's label at alignment 1.
+fn asked(start: u64, end: End, code: Option<Code>) -> Asked {
+    Asked {
+        number: 1,
+        alignment: 1,
+        start,
+        end,
+        code,
+    }
+}
+
 /// Whether partition a from 2064 to 4063 and then b from 4064 on of 1,000 sectors get these offsets.
 fn places_at(alloc: Global, base: u32, offsets: [u32; 2]) -> Result<bool, Fail> {
     let empty = based_at(4096, base);
     let a = part(2000, offsets[0]);
     let one = with_parts(empty, a, UNUSED);
     let two = with_parts(empty, a, part(1000, offsets[1]));
-    let first = new_part::<512>(
-        alloc,
-        mbr(alloc, 4096, Some(empty))?,
-        1,
-        A,
-        1,
-        2064,
-        End::At(4063),
-        &None,
-    );
-    let second = new_part::<512>(
-        alloc,
-        mbr(alloc, 4096, Some(one))?,
-        1,
-        B,
-        1,
-        4064,
-        End::Length(1000),
-        &Some(Code::Two(7)),
-    );
+    let a = asked(2064, End::At(4063), None);
+    let first = new_part::<512>(alloc, mbr(alloc, 4096, Some(empty))?, A, &a);
+    let b = asked(4064, End::Length(1000), Some(Code::Two(7)));
+    let second = new_part::<512>(alloc, mbr(alloc, 4096, Some(one))?, B, &b);
     Ok(is(first, &mbr(alloc, 4096, Some(one))?) && is(second, &mbr(alloc, 4096, Some(two))?))
 }
 
@@ -156,7 +151,7 @@ fn new_parts(rt: HostRuntime) -> Result<(), Fail> {
 
 /// The number of the refusal of a new partition at alignment 1, or 0.
 fn refused(old: Layout, alloc: Global, letter: u8, start: u64, end: End) -> u8 {
-    match new_part::<512>(alloc, old, 1, letter, 1, start, end, &None) {
+    match new_part::<512>(alloc, old, letter, &asked(start, end, None)) {
         Ok(_) => 0,
         Err(refusal) => refusal.number(),
     }
@@ -202,16 +197,8 @@ fn offsets_past_32_bits(rt: HostRuntime) -> Result<(), Fail> {
 
     let empty = empty_label(1000);
     let relative = gpt(rt.alloc(), empty)?;
-    let made = new_part::<512>(
-        rt.alloc(),
-        relative,
-        1,
-        A,
-        1,
-        4294967300,
-        End::Length(10),
-        &None,
-    );
+    let asked = asked(4294967300, End::Length(10), None);
+    let made = new_part::<512>(rt.alloc(), relative, A, &asked);
     assert!(rt;
         is(
             made,

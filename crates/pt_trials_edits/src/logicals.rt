@@ -5,7 +5,7 @@ use pt_logicals::{delete_logical, new_logical, set_logical_kind};
 use pt_mbr::{Ebr, Record};
 use pt_recover::{Ebrs, Labelled, Labels};
 use pt_sector::Lba;
-use pt_words::{Code, End, Refusal};
+use pt_words::{Asked, Code, End, Refusal};
 use std::alloc::Global;
 use std::test::Fail;
 
@@ -59,8 +59,14 @@ fn put(
     let chain = Ebrs::new(Vec::from_slice(alloc, chain)?);
     let labels = Labels::new(Vec::from_slice(alloc, labels)?);
     let extended = Some(made(0x05, 4096, 8192));
-    let code = Some(Code::Two(code));
-    Ok(new_logical::<512>(alloc, extended, chain, labels, 2048, start, end, &code))
+    let asked = Asked {
+        number: 5,
+        alignment: 2048,
+        start,
+        end,
+        code: Some(Code::Two(code)),
+    };
+    Ok(new_logical::<512>(alloc, extended, chain, labels, &asked))
 }
 
 /// The chain and the labels without a logical partition.

@@ -5,7 +5,7 @@ use pt_mbr::{Ebr, Record};
 use pt_records::{MbrParts, delete, new, set_kind};
 use pt_recover::{Body, Ebrs, Labelled, Labels, Layout};
 use pt_sector::Lba;
-use pt_words::{Code, End, Refusal};
+use pt_words::{Asked, Code, End, Refusal};
 use std::alloc::Global;
 use std::test::Fail;
 
@@ -148,6 +148,17 @@ fn parts_of(made: Result<Layout, Refusal>) -> Option<MbrParts> {
     }
 }
 
+/// What a word `n` asks for, by its number, start, end and code.
+fn asked((number, start, end, code): (u64, u64, End, Option<Code>)) -> Asked {
+    Asked {
+        number,
+        alignment: 2048,
+        start,
+        end,
+        code,
+    }
+}
+
 /// Whether two `n` after each other make `wanted` of a disk without partitions.
 fn make(
     alloc: Global,
@@ -156,10 +167,10 @@ fn make(
     wanted: MbrParts,
 ) -> Result<bool, Fail> {
     let old = parts(alloc, [None; 4], &[], &[])?;
-    let made = new::<512>(alloc, old, first.0, 2048, first.1, first.2, &first.3);
+    let made = new::<512>(alloc, old, &asked(first));
     match parts_of(made) {
         Some(old) => {
-            let made = new::<512>(alloc, old, then.0, 2048, then.1, then.2, &then.3);
+            let made = new::<512>(alloc, old, &asked(then));
             Ok(made.is_ok_and(|made| made.same(&wanted.whole())))
         }
         None => Ok(false),
@@ -225,7 +236,7 @@ fn a_new_slice_has_the_empty_label(rt: HostRuntime) -> Result<(), Fail> {
 fn not_new(
     alloc: Global,
     full: bool,
-    asked: u64,
+    number: u64,
     end: End,
     code: Code,
 ) -> Result<Option<Refusal>, Fail> {
@@ -233,7 +244,7 @@ fn not_new(
     if full {
         old.records = [Some(record(0x83, 1, 1)); 4];
     }
-    Ok(new::<512>(alloc, old, asked, 2048, 2048, end, &Some(code)).err())
+    Ok(new::<512>(alloc, old, &asked((number, 2048, end, Some(code)))).err())
 }
 
 #[test]

@@ -3,8 +3,8 @@ use Rattle.std.proofs.Common.{◌≡◌, ◌∙◌, inl, inr, ℕ, List, [], ◌
 use Rattle.std.specs.Prelude.{Contains}
 use Rattle.pt_sector.specs.Sectors.{Sectors, sector}
 use Rattle.pt_sector.specs.Writes.{Writes, Puts}
-use Rattle.pt_check.specs.Answers.{OwnedOf}
-use Rattle.pt_check.specs.First.{writes_in}
+use Rattle.pt_layout.specs.Owned.{OwnedOf}
+use Rattle.pt_apply.specs.Plans.{writes_in}
 use Rattle.pt_recover.specs.Denotes.{Denotes}
 use Rattle.pt_recover.specs.Labels.{places_of, IsPlace}
 use Rattle.pt_recover.specs.declared.layout.Body.{Body}
@@ -24,7 +24,8 @@ use Rattle.pt_targets.specs.declared.target.Target.{Target}
 use Rattle.pt_turns.specs.Outcomes.{IsLoneTurn, NoLoneTurn}
 use Rattle.pt_turns.specs.Turns.{LabelStart, Unbroken}
 
-module _ {b : ℕ} (d : Sectors) (o : Option Layout) (p : Layout) (broken : Bool) (places : List (Target b)) (is : LabelStart d o p broken places) where
+module _ {b : ℕ} (d : Sectors) (o : Option Layout) (p : Layout) (broken : Bool) (places : List (Target b))
+    (is : LabelStart d o p broken places) where
   targets_of : TargetsOf b d o p places
   targets_of = subst (λ (y : Body). TargetsIn b d o p y places) (sym is.body) (is.changes, is.places)
 
@@ -51,7 +52,8 @@ module _ {b : ℕ} (d : Sectors) (o : Option Layout) (p : Layout) (broken : Bool
     )
 
   -- a turn is a plan
-  pub label_planned : broken ≡ false → (loud : ℕ × List ℕ) (phases : List Writes) → IsLoneTurn o places loud → phases ≡ one_write loud.0 loud.1 ∷ [] → IsOneLabel b d o p is.table phases
+  pub label_planned : broken ≡ false → (loud : ℕ × List ℕ) (phases : List Writes) → IsLoneTurn o places loud
+      → phases ≡ one_write loud.0 loud.1 ∷ [] → IsOneLabel b d o p is.table phases
   label_planned whole loud phases turn made = record {
     common = record {
       from = is.start.from;
@@ -69,8 +71,10 @@ module _ {b : ℕ} (d : Sectors) (o : Option Layout) (p : Layout) (broken : Bool
     loud = loud;
     is = made;
     met = labels_met d o (one_write loud.0 loud.1) places turn.sorted turn.free.order.all one.ends one.stays p is.places;
-    place = subst (IsPlace (places_of b p.sectors p.body)) one.at (is.places.each one.target (turn.free.order.only one.target one.change.0));
-    other = λ same. one.change.1 (one.bytes ∙ same ∙ ap (sector d) (sym one.at) ∙ sym (tell_sorted turn.sorted turn.free.order one.target one.change.0));
+    place = subst (IsPlace (places_of b p.sectors p.body)) one.at (is.places.each one.target
+        (turn.free.order.only one.target one.change.0));
+    other = λ same. one.change.1
+        (one.bytes ∙ same ∙ ap (sector d) (sym one.at) ∙ sym (tell_sorted turn.sorted turn.free.order one.target one.change.0));
   } where
     one : IsOneChange d turn.sorted loud
     one = turn.change d (tell_sorted turn.sorted turn.free.order)

@@ -1,13 +1,14 @@
 -- A turn of an MBR is a plan, and where there is none there is a cause.
-use Rattle.std.proofs.Common.{◌≡◌, ◌≢◌, ◌∙◌, ◌⊎◌, inl, inr, ⊎_elim, ℕ, ◌≤◌, List, [], ◌∷◌, ◌++◌, length, refl, sym, ap, subst, arith, Option, length-append}
+use Rattle.std.proofs.Common.{◌≡◌, ◌≢◌, ◌∙◌, ◌⊎◌, inl, inr, ⊎_elim, ℕ, ◌≤◌, List, [], ◌∷◌, ◌++◌, length, refl, sym, ap, subst, arith}
+use Rattle.std.proofs.Common.{Option, length-append}
 use Rattle.std.specs.Prelude.{Contains}
 use Rattle.std.proofs.lemmas.List.Elements.{Contains-append_left, Contains-append_right, Contains-append_cases}
 use Rattle.pt_sector.specs.Sectors.{Sectors, sector}
 use Rattle.pt_sector.specs.Writes.{Writes, Puts}
 use Rattle.pt_mbr.specs.declared.ebr.Ebr.{Ebr}
 use Rattle.pt_mbr.specs.declared.record.Record.{Record}
-use Rattle.pt_check.specs.Answers.{OwnedOf}
-use Rattle.pt_check.specs.First.{writes_in}
+use Rattle.pt_layout.specs.Owned.{OwnedOf}
+use Rattle.pt_apply.specs.Plans.{writes_in}
 use Rattle.pt_recover.specs.Denotes.{Denotes, BodyIs}
 use Rattle.pt_recover.specs.Labels.{places_of}
 use Rattle.pt_recover.specs.Mbr.{IsMbrDisk, extended_of}
@@ -16,11 +17,11 @@ use Rattle.pt_recover.specs.declared.layout.Layout.{Layout}
 use Rattle.pt_recover.specs.declared.trace.Run.{Run}
 use Rattle.pt_cases.specs.Cases.{IsWithinMbr, IsNeeded, MbrMet, within_mbr_phases}
 use Rattle.pt_cases.specs.Copies.{one_write}
-use Rattle.pt_cases.specs.Frames.{puts_right}
-use Rattle.pt_cases.specs.FromMbr.{reads_guarded}
+use Rattle.pt_apply.specs.Puts.{puts_right}
+use Rattle.pt_layout.specs.Guarded.{reads_guarded}
 use Rattle.pt_cases.specs.Guards.{guarded_is_read}
-use Rattle.pt_cases.specs.Records.{IsLinked}
-use Rattle.pt_targets.specs.Causes.{NoneOwned, TargetsIn, TargetsOf, NotOneTurn, SharesSector, IsReused, HasNoTurn, ToWrite}
+use Rattle.pt_shape.specs.Links.{IsLinked}
+use Rattle.pt_targets.specs.Causes.{NoneOwned, TargetsIn, TargetsOf, NotOneTurn, HasNoTurn}
 use Rattle.pt_targets.specs.Causes as causes
 use Rattle.pt_targets.specs.Counts.{most_mbr_places}
 use Rattle.pt_targets.specs.Lifts.{labels_met, mbr_met}
@@ -39,11 +40,14 @@ chain_few n (r ∷ []) chain linked = linked.0
 chain_few n (r ∷ q ∷ rs) chain linked = absurd linked
 
 -- the writes of the phases are the quiet ones and the loud one
-pub phases_put : (quiet : Writes) (loud : ℕ × List ℕ) (phases : List Writes) (s : ℕ) (v : List ℕ) → within_mbr_phases quiet loud phases → Puts (writes_in phases) s v → Puts (quiet ++ one_write loud.0 loud.1) s v
-phases_put quiet loud phases s v (inl one) puts = puts_right quiet (one_write loud.0 loud.1) s v (subst (λ (ps : List Writes). Puts (writes_in ps) s v) one.1 puts)
+pub phases_put : (quiet : Writes) (loud : ℕ × List ℕ) (phases : List Writes) (s : ℕ) (v : List ℕ) → within_mbr_phases quiet loud phases
+    → Puts (writes_in phases) s v → Puts (quiet ++ one_write loud.0 loud.1) s v
+phases_put quiet loud phases s v (inl one) puts =
+    puts_right quiet (one_write loud.0 loud.1) s v (subst (λ (ps : List Writes). Puts (writes_in ps) s v) one.1 puts)
 phases_put quiet loud phases s v (inr two) puts = subst (λ (ps : List Writes). Puts (writes_in ps) s v) two.1 puts
 
-module _ {b : ℕ} (d : Sectors) (o : Option Layout) (p : Layout) (guarded : List Run) (heads places : List (Target b)) (is : MbrStart d o p guarded heads places) where
+module _ {b : ℕ} (d : Sectors) (o : Option Layout) (p : Layout) (guarded : List Run) (heads places : List (Target b))
+    (is : MbrStart d o p guarded heads places) where
   abbrev both : List (Target b)
   both = heads ++ places
 
@@ -68,7 +72,9 @@ module _ {b : ℕ} (d : Sectors) (o : Option Layout) (p : Layout) (guarded : Lis
   few_both : length both ≤ 261
   few_both =
       let chain = chain_few (length d) (extended_of is.records) is.chain is.linked in
-      let labels : length (places_of b p.sectors p.body) ≤ 132 = subst (λ (y : Body). length (places_of b p.sectors y) ≤ 132) (sym is.body) (most_mbr_places b p.sectors is.records is.chain is.four chain) in
+      let labels : length (places_of b p.sectors p.body) ≤ 132 =
+      subst (λ (y : Body). length (places_of b p.sectors y) ≤ 132) (sym is.body)
+      (most_mbr_places b p.sectors is.records is.chain is.four chain) in
       omega (arith, chain, labels, is.heads.count, is.places.count, length-append heads places)
 
   module _ (sorted : List (Target b)) (order : InOrder both sorted) where
@@ -90,11 +96,14 @@ module _ {b : ℕ} (d : Sectors) (o : Option Layout) (p : Layout) (guarded : Lis
 
       met : MbrMet b d o p is.was.records is.was.chain is.records is.chain all
       met =
-          let first = mbr_met d is.was.chain all heads sorted (λ t has. order.all t (Contains-append_left heads places t has)) split.ends is.was.records is.records is.chain is.heads in
+          let first =
+          mbr_met d is.was.chain all heads sorted
+          (λ t has. order.all t (Contains-append_left heads places t has)) split.ends is.was.records is.records is.chain is.heads in
           record {
             head = first.0;
             ebrs = first.1;
-            labels = labels_met d o all places sorted (λ t has. order.all t (Contains-append_right heads places t has)) split.ends split.stays p is.places;
+            labels = labels_met d o all places sorted
+                (λ t has. order.all t (Contains-append_right heads places t has)) split.ends split.stays p is.places;
           }
 
       planned : (phases : List Writes) → within_mbr_phases quiet loud phases → IsWithinMbr b d o p is.records is.chain phases
@@ -140,7 +149,9 @@ module _ {b : ℕ} (d : Sectors) (o : Option Layout) (p : Layout) (guarded : Lis
 
   -- a turn is a plan
   pub mbr_planned : (phases : List Writes) → IsTurn o guarded both phases → IsWithinMbr b d o p is.records is.chain phases
-  mbr_planned phases turn = planned turn.sorted turn.free.order turn.free.free turn.quiet turn.loud (turn.split d (tell_sorted turn.sorted turn.free.order)) phases turn.is
+  mbr_planned phases turn =
+      planned turn.sorted turn.free.order turn.free.free turn.quiet turn.loud
+      (turn.split d (tell_sorted turn.sorted turn.free.order)) phases turn.is
 
   -- where there is none, that has a cause
   pub mbr_stops : (e : PlanError) → NoTurn o guarded both e → StopsBy b d o p (HasNoTurn b d o p) e

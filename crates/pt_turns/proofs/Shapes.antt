@@ -1,5 +1,6 @@
 -- How many writes a turn has, of which sectors, and in which phases.
-use Rattle.std.proofs.Common.{◌≡◌, ◌≢◌, ◌∙◌, inl, inr, ⊎_elim, ℕ, zero, suc, ◌+◌, ◌<◌, ◌≤◌, List, [], ◌∷◌, length, map, replicate, refl, sym, ap, subst, arith, Option, Vec, length-append}
+use Rattle.std.proofs.Common.{◌≡◌, ◌≢◌, ◌∙◌, inl, inr, ⊎_elim, ℕ, zero, suc, ◌+◌, ◌<◌, ◌≤◌, List, [], ◌∷◌, length, map, replicate, refl}
+use Rattle.std.proofs.Common.{sym, ap, subst, arith, Option, Vec, length-append}
 use Rattle.std.proofs.lemmas.List.{length-replicate}
 use Rattle.std.specs.Prelude.{Contains}
 use Rattle.std.specs.declared.alloc.Global.{Global}
@@ -7,14 +8,14 @@ use Rattle.std.proofs.lemmas.List.Elements.{All-nil, All-cons}
 use Rattle.pt_sector.specs.Sectors.{Sectors}
 use Rattle.pt_sector.specs.Writes.{Writes, Puts, written}
 use Rattle.pt_sector.specs.Ascending.{IsAscending, sector_at}
-use Rattle.pt_apply.specs.Plans.{writes_of, phases_in, PhasesInRange, PhaseInRange}
+use Rattle.pt_apply.specs.Plans.{writes_of, phases_in, PhasesInRange, PhaseInRange, writes_in}
 use Rattle.pt_apply.specs.declared.plan.Write.{Write}
-use Rattle.pt_check.specs.First.{writes_in}
 use Rattle.pt_recover.specs.Spans.{IsIn}
 use Rattle.pt_recover.specs.declared.layout.Layout.{Layout}
 use Rattle.pt_recover.specs.declared.trace.Run.{Run}
 use Rattle.pt_cases.specs.Copies.{one_write}
-use Rattle.pt_cases.specs.Frames.{puts_left, puts_right, puts_at, rises_in_tail, put_there}
+use Rattle.pt_apply.specs.Puts.{puts_left, puts_right}
+use Rattle.pt_cases.specs.Frames.{puts_at, rises_in_tail, put_there}
 use Rattle.pt_cases.specs.Select.{Rises}
 use Rattle.pt_targets.specs.Selected.{AllBelow, Climbs, climbs}
 use Rattle.pt_targets.specs.Splits.{writes_in_range}
@@ -54,7 +55,8 @@ unders_count [] = refl
 unders_count (t ∷ ts) = ap suc (unders_count ts)
 
 unders_ascend : {b : ℕ} (ts : List (Target b)) → IsAscending (targeted ts) → IsAscending (unders ts)
-unders_ascend ts up i j less lt = (let it = up i j less (omega (arith, lt, unders_count ts)) in omega (arith, it, unders_at ts i, unders_at ts j))
+unders_ascend ts up i j less lt =
+    (let it = up i j less (omega (arith, lt, unders_count ts)) in omega (arith, it, unders_at ts i, unders_at ts j))
 
 unders_put : {b : ℕ} (ts : List (Target b)) (t : Target b) → Contains ts t → Puts (unders ts) t.at.0 t.under
 unfolding unders
@@ -98,13 +100,16 @@ rest_among t ts w ws climb rises among s v puts =
     (it.0, behind t ts it.0 (λ same. omega (arith, same, low, first.2, less, it.2)) it.1, it.2)
 
 -- ascending writes of their sectors are no more than they are
-no_more : {b : ℕ} (ts : List (Target b)) (ws : Writes) → Climbs ts → Rises ws → ((s : ℕ) (v : List ℕ) → Puts ws s v → IsAmong ts s) → length ws ≤ length ts
+no_more : {b : ℕ} (ts : List (Target b)) (ws : Writes) → Climbs ts → Rises ws → ((s : ℕ) (v : List ℕ) → Puts ws s v → IsAmong ts s)
+    → length ws ≤ length ts
 no_more ts [] climb rises among = omega arith
 no_more [] (w ∷ ws) climb rises among = (let it = among w.0 w.1 (inl (refl, refl)) in absurd (omega (arith, it.1.1)))
-no_more (t ∷ ts) (w ∷ ws) climb rises among = (let few = no_more ts ws climb.1 rises.1 (rest_among t ts w ws climb rises among) in omega (arith, few))
+no_more (t ∷ ts) (w ∷ ws) climb rises among =
+    (let few = no_more ts ws climb.1 rises.1 (rest_among t ts w ws climb rises among) in omega (arith, few))
 
 -- and fewer where one of them isn't written
-fewer : {b : ℕ} (ts : List (Target b)) (ws : Writes) (x : Target b) → Climbs ts → Rises ws → ((s : ℕ) (v : List ℕ) → Puts ws s v → IsAmong ts s) → Contains ts x
+fewer : {b : ℕ} (ts : List (Target b)) (ws : Writes) (x : Target b) → Climbs ts → Rises ws
+    → ((s : ℕ) (v : List ℕ) → Puts ws s v → IsAmong ts s) → Contains ts x
     → ((v : List ℕ) → ¬ Puts ws x.at.0 v) → length ws + 1 ≤ length ts
 fewer [] ws x climb rises among (k, lt, at) never = absurd (omega (arith, lt))
 fewer (t ∷ ts) ws x climb rises among (zero, lt, at) never =
@@ -115,10 +120,12 @@ fewer (t ∷ ts) ws x climb rises among (zero, lt, at) never =
     omega (arith, few)
 fewer (t ∷ ts) [] x climb rises among (suc k, lt, at) never = omega arith
 fewer (t ∷ ts) (w ∷ ws) x climb rises among (suc k, lt, at) never =
-    let few = fewer ts ws x climb.1 rises.1 (rest_among t ts w ws climb rises among) (k, omega (arith, lt), at) (λ v puts. never v (inr puts)) in
+    let few =
+    fewer ts ws x climb.1 rises.1 (rest_among t ts w ws climb rises among) (k, omega (arith, lt), at) (λ v puts. never v (inr puts)) in
     omega (arith, few)
 
-module _ {b : ℕ} (o : Option Layout) (guarded : List Run) (ts : List (Target b)) (phases : List Writes) (turn : IsTurn o guarded ts phases) where
+module _ {b : ℕ} (o : Option Layout) (guarded : List Run) (ts : List (Target b)) (phases : List Writes)
+    (turn : IsTurn o guarded ts phases) where
   split : (d : Sectors) × IsSplit d guarded turn.sorted turn.quiet turn.loud
   split = (let disk = some_disk turn.sorted turn.free.order.ascending in (disk.0, turn.split disk.0 disk.1))
 
@@ -130,8 +137,11 @@ module _ {b : ℕ} (o : Option Layout) (guarded : List Run) (ts : List (Target b
 
   quiet_few : length turn.quiet + 1 ≤ length ts
   quiet_few =
-      let last = split.1.each turn.loud.0 turn.loud.1 (puts_right turn.quiet (one_write turn.loud.0 turn.loud.1) turn.loud.0 turn.loud.1 (inl (refl, refl))) in
-      let few = fewer turn.sorted turn.quiet last.0 (climbs turn.sorted turn.free.order.ascending) (ascends_rises turn.quiet split.1.ascending)
+      let last =
+      split.1.each turn.loud.0 turn.loud.1
+      (puts_right turn.quiet (one_write turn.loud.0 turn.loud.1) turn.loud.0 turn.loud.1 (inl (refl, refl))) in
+      let few = fewer turn.sorted turn.quiet last.0 (climbs turn.sorted turn.free.order.ascending)
+      (ascends_rises turn.quiet split.1.ascending)
       (λ s v puts. (let it = split.1.each s v (puts_left turn.quiet (one_write turn.loud.0 turn.loud.1) s v puts) in (it.0, it.1.0, it.2)))
       last.1.0
       (λ v puts. split.1.unread last.0.at.0 v puts (subst (IsIn guarded) (sym last.2) split.1.read)) in
@@ -141,12 +151,14 @@ module _ {b : ℕ} (o : Option Layout) (guarded : List Run) (ts : List (Target b
   pub turn_few : length (writes_in phases) ≤ length ts
   turn_few = ⊎_elim
       (λ one. subst (λ (ps : List Writes). length (writes_in ps) ≤ length ts) (sym one.1) (let few = quiet_few in omega (arith, few)))
-      (λ two. subst (λ (ps : List Writes). length (writes_in ps) ≤ length ts) (sym two.1) (let few = quiet_few in omega (arith, few, length-append turn.quiet (one_write turn.loud.0 turn.loud.1))))
+      (λ two. subst (λ (ps : List Writes). length (writes_in ps) ≤ length ts) (sym two.1)
+      (let few = quiet_few in omega (arith, few, length-append turn.quiet (one_write turn.loud.0 turn.loud.1))))
       turn.is
 
 -- phases whose writes are all of sectors below n
 module _ {b : ℕ} where
-  pub phases_range : (n : ℕ) (ps : List (Vec (Write b) Global)) → ((s : ℕ) (v : List ℕ) → Puts (writes_in (phases_in ps)) s v → s < n) → PhasesInRange n ps
+  pub phases_range : (n : ℕ) (ps : List (Vec (Write b) Global)) → ((s : ℕ) (v : List ℕ) → Puts (writes_in (phases_in ps)) s v → s < n)
+      → PhasesInRange n ps
   phases_range n [] low = All-nil (λ (p : Vec (Write b) Global). PhaseInRange n p.items)
   phases_range n (p ∷ ps) low = All-cons (λ (q : Vec (Write b) Global). PhaseInRange n q.items) p ps
       (writes_in_range n p.items (λ s v puts. low s v (puts_left (writes_of p.items) (writes_in (phases_in ps)) s v puts)))
@@ -159,11 +171,13 @@ module _ {b : ℕ} (o : Option Layout) (ts : List (Target b)) (loud : ℕ × Lis
       let change = turn.change disk.0 disk.1 in
       (change.target, turn.free.order.only change.target change.change.0, change.at)
 
-  pub lone_among : (phases : List Writes) → phases ≡ one_write loud.0 loud.1 ∷ [] → (s : ℕ) (v : List ℕ) → Puts (writes_in phases) s v → IsAmong ts s
+  pub lone_among : (phases : List Writes) → phases ≡ one_write loud.0 loud.1 ∷ [] → (s : ℕ) (v : List ℕ) → Puts (writes_in phases) s v
+      → IsAmong ts s
   lone_among phases made s v puts = by_put (subst (λ (ps : List Writes). Puts (writes_in ps) s v) made puts) where
     by_put : Puts (one_write loud.0 loud.1) s v → IsAmong ts s
     by_put (inl here) = (lone_target.0, lone_target.1, lone_target.2 ∙ here.0)
     by_put (inr none) = absurd none
 
   pub lone_few : (phases : List Writes) → phases ≡ one_write loud.0 loud.1 ∷ [] → length (writes_in phases) ≤ length ts
-  lone_few phases made = subst (λ (ps : List Writes). length (writes_in ps) ≤ length ts) (sym made) (let has = lone_target.1 in omega (arith, has.1))
+  lone_few phases made =
+      subst (λ (ps : List Writes). length (writes_in ps) ≤ length ts) (sym made) (let has = lone_target.1 in omega (arith, has.1))

@@ -15,7 +15,7 @@ use Rattle.pt_layout.specs.Healthy.{IsBodyWhole}
 use Rattle.pt_layout.specs.declared.finding.Finding.{Finding}
 use Rattle.pt_cases.specs.Cases.{ChangesLabels}
 use Rattle.pt_cases.specs.Causes.{WasMbr}
-use Rattle.pt_cases.specs.Records.{IsLinked}
+use Rattle.pt_shape.specs.Links.{IsLinked}
 use Rattle.pt_targets.specs.Starts.{Start}
 use Rattle.pt_targets.specs.Targets.{AreLabelTargets, AreMbrTargets}
 use Rattle.pt_targets.specs.declared.target.Target.{Target}
@@ -40,7 +40,8 @@ Unbroken b d old true = (f : Finding) × IsBodyBroken b d old.body f
 Unbroken b d old false = IsBodyWhole b d old.body
 
 -- only labels of a GPT change
-pub record LabelStart {b : _} (d : Sectors) (o : Option Layout) (p : Layout) (broken : Bool) (label_targets : List (Target b)) : Type 0 where
+pub record LabelStart {b : _} (d : Sectors) (o : Option Layout) (p : Layout) (broken : Bool)
+    (label_targets : List (Target b)) : Type 0 where
   pub start : Start b d o p
   pub table : Table
   pub body : p.body ≡ Gpt table

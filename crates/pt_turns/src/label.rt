@@ -2,8 +2,7 @@
 
 ghost use Rattle.std.specs.Prelude.{◌≡◌, ◌+◌, ◌<◌, ◌≤◌, ℕ, All, None, length, IfOk, IfErr};
 ghost use Rattle.pt_sector.specs.Sectors.{Sectors, IsSectorSize};
-ghost use Rattle.pt_apply.specs.Plans.{phases_of, InRange};
-ghost use Rattle.pt_check.specs.First.{writes_in};
+ghost use Rattle.pt_apply.specs.Plans.{phases_of, InRange, writes_in};
 ghost use Rattle.pt_recover.specs.declared.layout.Layout.{Layout};
 ghost use Rattle.pt_cases.specs.Cases.{IsPlan};
 ghost use Rattle.pt_targets.specs.Causes.{HasNoTurn};
@@ -31,8 +30,10 @@ pub fn one_label<const B: usize>(
     places: Vec<Target<B>>,
 ) -> Result<Plan<B>, PlanError>
     requires size { IsSectorSize B }
-    ensures plan { IfOk result (λ plan. (d : Sectors) (p : Layout) → LabelStart d old.now p broken places.entry.items → IsPlan B d p (phases_of plan)) }
-    ensures err { IfErr result (λ e. (d : Sectors) (p : Layout) → LabelStart d old.now p broken places.entry.items → StopsBy B d old.now p (HasNoTurn B d old.now p) e) }
+    ensures plan { IfOk result (λ plan. (d : Sectors) (p : Layout) → LabelStart d old.now p broken places.entry.items
+        → IsPlan B d p (phases_of plan)) }
+    ensures err { IfErr result (λ e. (d : Sectors) (p : Layout) → LabelStart d old.now p broken places.entry.items
+        → StopsBy B d old.now p (HasNoTurn B d old.now p) e) }
     ensures in_range { IfOk result (λ plan. (n : ℕ) → All (λ t. t.at.0 < n) places.entry.items → InRange n plan) }
     ensures some { IfOk result (λ plan. All (λ p. 0 < length p.items) plan.phases.items) }
     ensures faultless { IfErr result (λ e. fault_in e ≡ None) }

@@ -1,5 +1,6 @@
 -- Fields, from where a text is cut.
-use Rattle.std.proofs.Common.{◌≡◌, ◌≢◌, ◌<◌, ◌≤◌, ℕ, List, [], ◌∷◌, ◌++◌, length, Option, Some, None, refl, ◌∙◌, arith, lit<, Bor, IfNone, IfSome, eqb, get_or, false}
+use Rattle.std.proofs.Common.{◌≡◌, ◌≢◌, ◌<◌, ◌≤◌, ℕ, List, [], ◌∷◌, ◌++◌, length, Option, Some, None, refl, ◌∙◌, arith, lit<, Bor, IfNone}
+use Rattle.std.proofs.Common.{IfSome, eqb, get_or, false}
 use Rattle.std.specs.Option.{MatchOption}
 use Rattle.std.specs.List.{position_or_len, before_first, after_first}
 use Rattle.std.proofs.lemmas.List.Splits.{slice_split_first, slice_split_none, length-slice_split}
@@ -10,16 +11,22 @@ use Rattle.pt_words.specs.Words.{fields}
 
 -- a text without a colon is one field
 one_alone : (text : List ℕ) → ((i : ℕ) → i < length text → get_or text i 0 ≢ 58) → fields text ≡ text ∷ []
-one_alone text none = slice_split_none (λ b. eqb b 58) text (All-from_get_or (λ x. eqb x 58 ≡ false) text 0 (λ i within. ne_eqb (get_or text i 0) 58 (none i within)))
+one_alone text none =
+    slice_split_none (λ b. eqb b 58) text (All-from_get_or (λ x. eqb x 58 ≡ false) text 0
+    (λ i within. ne_eqb (get_or text i 0) 58 (none i within)))
 
 first_cases : (text : List ℕ) (r : Option (Bor (List ℕ) × Bor (List ℕ)))
-    → MatchOption r (position_or_len (λ b. eqb b 58) text ≡ length text) (λ x. (position_or_len (λ b. eqb b 58) text < length text) × (x.0.now ≡ before_first (λ b. eqb b 58) text) × (x.1.now ≡ after_first (λ b. eqb b 58) text))
-    → MatchOption r ((i : ℕ) → i < length text → get_or text i 0 ≢ 58) (λ x. (text ≡ x.0.now ++ 58 ∷ x.1.now) × ((i : ℕ) → i < length x.0.now → get_or x.0.now i 0 ≢ 58))
+    → MatchOption r (position_or_len (λ b. eqb b 58) text ≡ length text)
+    (λ x. (position_or_len (λ b. eqb b 58) text < length text) × (x.0.now ≡ before_first (λ b. eqb b 58) text)
+    × (x.1.now ≡ after_first (λ b. eqb b 58) text))
+    → MatchOption r ((i : ℕ) → i < length text → get_or text i 0 ≢ 58)
+    (λ x. (text ≡ x.0.now ++ 58 ∷ x.1.now) × ((i : ℕ) → i < length x.0.now → get_or x.0.now i 0 ≢ 58))
     → MatchOption r (fields text ≡ text ∷ []) (λ x. fields text ≡ x.0.now ∷ fields x.1.now)
 first_cases text None h none = one_alone text none
 first_cases text (Some x) h parts = slice_split_first (λ b. eqb b 58) text 0 h.0 ∙ (rw (h.1, h.2) refl)
 
-pub cut_fields : (text : List ℕ) (r : Option (Bor (List ℕ) × Bor (List ℕ))) → IsSplitOnceResult 58 text r → MatchOption r (fields text ≡ text ∷ []) (λ x. fields text ≡ x.0.now ∷ fields x.1.now)
+pub cut_fields : (text : List ℕ) (r : Option (Bor (List ℕ) × Bor (List ℕ))) → IsSplitOnceResult 58 text r
+    → MatchOption r (fields text ≡ text ∷ []) (λ x. fields text ≡ x.0.now ∷ fields x.1.now)
 cut_fields text r h = first_cases text r (split_once_first 58 text r h (lit< tt)) (split_parts 58 text r h (lit< tt))
 
 -- there is a field at least

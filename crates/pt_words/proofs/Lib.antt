@@ -1,4 +1,3 @@
-pub mod Numbers
 pub mod Cuts
 pub mod Ends
 pub mod Faults

@@ -1,5 +1,6 @@
 -- Each text is a word, or has a fault.
-use Rattle.std.specs.Prelude.{◌≡◌, ◌<◌, ◌⊎◌, ◌+◌, ◌-◌, ◌^◌, ◌==◌, ℕ, true, false, nat_le, List, [], ◌∷◌, ◌++◌, length, take, drop, slice_index, Contains, Option, Some, None, String}
+use Rattle.std.specs.Prelude.{◌≡◌, ◌<◌, ◌⊎◌, ◌+◌, ◌-◌, ◌^◌, ◌==◌, ℕ, true, false, nat_le, List, [], ◌∷◌, ◌++◌, length, take, drop}
+use Rattle.std.specs.Prelude.{slice_index, Contains, Option, Some, None, String}
 use Rattle.std.specs.Char.{digit_value}
 use Rattle.std.specs.Fmt.{decimal}
 use Rattle.std.specs.Global.{Global}
@@ -13,11 +14,14 @@ use Rattle.std.proofs.lemmas.Bool.Decides.{nat_tests}
 use Rattle.std.proofs.lemmas.Fmt.{decimal_is_IsNumeral}
 use Rattle.pt_guid.specs.Mixed.{stored_of}
 use Rattle.pt_guid.specs.declared.guid.Guid.{Guid}
-use Rattle.pt_layout.specs.Texts.{IsNumber, IsPath, IsLetter, letter_text}
-use Rattle.pt_layout.specs.OneText.{same_path}
-use Rattle.pt_layout.specs.declared.path.Path.{Path}
-use Rattle.pt_words.specs.Searches.{Decided, both_decided, alike_decided, le_decided, lt_decided, numbers_decided, option_cases, in_head, in_tail}
-use Rattle.pt_words.specs.Words.{greatest, Field, number, path, new_path, end, code, guid, IsIn, IsNewPath, IsEnd, IsHex, IsCode, Fits, error_of, is_letter, exactly, kinds, FirstBad, IsFault, letter_fault, count_fault, field_fault, IsWordFault, IsWord}
+use Rattle.pt_path.specs.Texts.{IsNumber, IsPath, IsLetter, letter_text}
+use Rattle.pt_path.specs.OneText.{same_path}
+use Rattle.pt_path.specs.declared.path.Path.{Path}
+use Rattle.pt_words.specs.Searches.{Decided, both_decided, alike_decided, le_decided, lt_decided, numbers_decided, option_cases, in_head}
+use Rattle.pt_words.specs.Searches.{in_tail}
+use Rattle.pt_words.specs.Words.{greatest, Field, number, path, new_path, end, code, guid, IsIn, IsNewPath, IsEnd, IsHex, IsCode, Fits}
+use Rattle.pt_words.specs.Words.{error_of, is_letter, exactly, kinds, FirstBad, IsFault, letter_fault, count_fault, field_fault}
+use Rattle.pt_words.specs.Words.{IsWordFault, IsWord}
 use Rattle.pt_words.specs.declared.error.EditError.{EditError}
 use Rattle.pt_words.specs.declared.error.EditError.TheVariants.{UnknownLetter, FieldCount, Memory}
 use Rattle.pt_words.specs.declared.word.Code.{Code}
@@ -25,14 +29,17 @@ use Rattle.pt_words.specs.declared.word.Code.TheVariants.{Two, Four}
 use Rattle.pt_words.specs.declared.word.End.{End}
 use Rattle.pt_words.specs.declared.word.End.TheVariants.{Block, Length, At}
 use Rattle.pt_words.specs.declared.word.Edit.{Edit}
-use Rattle.pt_words.specs.declared.word.Edit.TheVariants.{Align, New, Delete, SetKind, SetName, SetUnique, SetDisk, SetBit, Extend, ToGpt, Empty}
+use Rattle.pt_words.specs.declared.word.Edit.TheVariants.{Align, New, Delete, SetKind, SetName, SetUnique, SetDisk, SetBit, Extend, ToGpt}
+use Rattle.pt_words.specs.declared.word.Edit.TheVariants.{Empty}
 
 -- the digits of a number tell it
 value_of : (text : List ℕ) (n : ℕ) → n < 2 ^ 64 → text ≡ decimal n → digits_value 10 text ≡ n
 value_of text n fits is = ap (λ (t : List ℕ). digits_value 10 t) is ∙ (decimal_is_IsNumeral n fits).1
 
 number_decided : (text : List ℕ) (n : ℕ) → Decided (IsNumber text n)
-number_decided text n = alike_decided (λ x. record { fits = x.0; digits = x.1 }) (λ is. (is.fits, is.digits)) (both_decided (lt_decided n (2 ^ 64)) (numbers_decided text (decimal n)))
+number_decided text n =
+    alike_decided (λ x. record { fits = x.0; digits = x.1 }) (λ is. (is.fits, is.digits))
+    (both_decided (lt_decided n (2 ^ 64)) (numbers_decided text (decimal n)))
 
 in_decided : (least most : ℕ) (text : List ℕ) (n : ℕ) → Decided (IsIn least most text n)
 in_decided least most text n =
@@ -42,10 +49,12 @@ in_decided least most text n =
     (both_decided (number_decided text n) (both_decided (le_decided least n) (le_decided n most)))
 
 number_field : (least most : ℕ) (text : List ℕ) → Decided ((n : ℕ) × IsIn least most text n)
-number_field least most text = elim (in_decided least most text (digits_value 10 text)) as (λ _. Decided ((n : ℕ) × IsIn least most text n)) [
-  | inl is ↦ inl (digits_value 10 text, is)
-  | inr not ↦ inr (λ x. (let e = value_of text x.0 x.1.number.fits x.1.number.digits in not (subst (λ (n : ℕ). IsIn least most text n) (sym e) x.1)))
-]
+number_field least most text =
+    elim (in_decided least most text (digits_value 10 text)) as (λ _. Decided ((n : ℕ) × IsIn least most text n)) [
+      | inl is ↦ inl (digits_value 10 text, is)
+      | inr not ↦ inr (λ x. (let e = value_of text x.0 x.1.number.fits x.1.number.digits in
+          not (subst (λ (n : ℕ). IsIn least most text n) (sym e) x.1)))
+    ]
 
 -- paths
 letter_decided : (l : Option ℕ) → Decided (IsLetter l)
@@ -57,16 +66,19 @@ path_decided text p =
     alike_decided
     (λ x. record { first = x.0.0; fits = x.0.1; letter = x.1.0; written = x.1.1 })
     (λ is. ((is.first, is.fits), (is.letter, is.written)))
-    (both_decided (both_decided (le_decided 1 p.number) (lt_decided p.number (2 ^ 64))) (both_decided (letter_decided p.letter) (numbers_decided text (decimal p.number ++ letter_text p.letter))))
+    (both_decided (both_decided (le_decided 1 p.number) (lt_decided p.number (2 ^ 64)))
+    (both_decided (letter_decided p.letter) (numbers_decided text (decimal p.number ++ letter_text p.letter))))
 
 -- the path that a text is where it has no letter, and where it has one
 abbrev plain_path : List ℕ → Path
 plain_path text = record { number = digits_value 10 text; letter = None }
 
 abbrev lettered_path : List ℕ → Path
-lettered_path text = record { number = digits_value 10 (take (length text - 2) text); letter = Some (slice_index text (length text - 1) - 97) }
+lettered_path text =
+    record { number = digits_value 10 (take (length text - 2) text); letter = Some (slice_index text (length text - 1) - 97) }
 
-front_of : (ds text : List ℕ) (l : ℕ) → text ≡ ds ++ 46 ∷ (97 + l) ∷ [] → (take (length text - 2) text ≡ ds) × (slice_index text (length text - 1) ≡ 97 + l)
+front_of : (ds text : List ℕ) (l : ℕ) → text ≡ ds ++ 46 ∷ (97 + l) ∷ []
+    → (take (length text - 2) text ≡ ds) × (slice_index text (length text - 1) ≡ 97 + l)
 front_of ds text l is =
     let long = length-append ds (46 ∷ (97 + l) ∷ []) in
     let len : length text - 2 ≡ length ds = omega (arith, ap (λ (t : List ℕ). length t) is, long) in
@@ -74,15 +86,19 @@ front_of ds text l is =
     let last : length text - 1 ≡ length (ds ++ 46 ∷ []) = omega (arith, ap (λ (t : List ℕ). length t) is, long, short) in
     let apart : text ≡ (ds ++ 46 ∷ []) ++ (97 + l) ∷ [] = is ∙ sym (append_assoc ds (46 ∷ []) ((97 + l) ∷ [])) in (
       ap (λ (k : ℕ). take k text) len ∙ (ap (λ (t : List ℕ). take (length ds) t) is ∙ take-append_seam ds (46 ∷ (97 + l) ∷ [])),
-      ap (λ (k : ℕ). slice_index text k) last ∙ (ap (λ (t : List ℕ). slice_index t (length (ds ++ 46 ∷ []))) apart ∙ get_or-append_seam (ds ++ 46 ∷ []) (97 + l) [] 0),
+      ap (λ (k : ℕ). slice_index text k) last ∙ (ap (λ (t : List ℕ). slice_index t (length (ds ++ 46 ∷ []))) apart
+          ∙ get_or-append_seam (ds ++ 46 ∷ []) (97 + l) [] 0),
     )
 
-told_by_letter : (text : List ℕ) (p : Path) (l : Option ℕ) → p.letter ≡ l → p.number < 2 ^ 64 → text ≡ decimal p.number ++ letter_text l → (p ≡ plain_path text) ⊎ (p ≡ lettered_path text)
-told_by_letter text p None letter fits is = inl (same_path p (plain_path text) (sym (value_of text p.number fits (is ∙ append-nil (decimal p.number)))) letter)
+told_by_letter : (text : List ℕ) (p : Path) (l : Option ℕ) → p.letter ≡ l → p.number < 2 ^ 64
+    → text ≡ decimal p.number ++ letter_text l → (p ≡ plain_path text) ⊎ (p ≡ lettered_path text)
+told_by_letter text p None letter fits is =
+    inl (same_path p (plain_path text) (sym (value_of text p.number fits (is ∙ append-nil (decimal p.number)))) letter)
 told_by_letter text p (Some l) letter fits is =
     let front = front_of (decimal p.number) text l is in
     let same : slice_index text (length text - 1) - 97 ≡ l = omega (arith, front.1) in
-    inr (same_path p (lettered_path text) (sym (value_of (take (length text - 2) text) p.number fits front.0)) (letter ∙ ap Some (sym same)))
+    inr (same_path p (lettered_path text) (sym (value_of (take (length text - 2) text) p.number fits front.0))
+    (letter ∙ ap Some (sym same)))
 
 path_field : (text : List ℕ) → Decided ((p : Path) × IsPath text p)
 path_field text = joined (path_decided text (plain_path text)) (path_decided text (lettered_path text)) where
@@ -111,7 +127,8 @@ long_decided (c ∷ cs) = joined (cases_eq c 43) (number_field 1 greatest cs) wh
   joined : (c ≡ 43) ⊎ (c ≡ 43 → ⊥) → Decided ((n : ℕ) × IsIn 1 greatest cs n) → Decided (IsLong (c ∷ cs))
   joined (inr other) has = inr (λ x. (let is = x.2 in let head : c ≡ 43 = cc in other head))
   joined (inl plus) (inl has) = inl (has.0, cs, ap (λ (x : ℕ). x ∷ cs) plus, has.1)
-  joined (inl plus) (inr none) = inr (λ x. (let is = x.2 in let tail : x.1 ≡ cs = cc in none (x.0, subst (λ (t : List ℕ). IsIn 1 greatest t x.0) tail x.3)))
+  joined (inl plus) (inr none) = inr (λ x. (let is = x.2 in let tail : x.1 ≡ cs = cc in
+      none (x.0, subst (λ (t : List ℕ). IsIn 1 greatest t x.0) tail x.3)))
 
 end_told : (text : List ℕ) (e : End) → IsEnd text e → (text ≡ 48 ∷ []) ⊎ (IsLong text ⊎ ((n : ℕ) × IsIn 1 greatest text n))
 end_told text Block is = inl is
@@ -120,7 +137,8 @@ end_told text (At n) is = inr (inr (n, is))
 
 end_field : (text : List ℕ) → Decided ((e : End) × IsEnd text e)
 end_field text = joined (numbers_decided text (48 ∷ [])) (long_decided text) (number_field 1 greatest text) where
-  joined : Decided (text ≡ 48 ∷ []) → Decided (IsLong text) → Decided ((n : ℕ) × IsIn 1 greatest text n) → Decided ((e : End) × IsEnd text e)
+  joined : Decided (text ≡ 48 ∷ []) → Decided (IsLong text) → Decided ((n : ℕ) × IsIn 1 greatest text n)
+      → Decided ((e : End) × IsEnd text e)
   joined (inl is) long at = inl (Block, is)
   joined (inr not) (inl x) at = inl (Length x.0, (x.1, x.2, x.3))
   joined (inr not) (inr short) (inl x) = inl (At x.0, x.1)
@@ -136,7 +154,8 @@ digits_decided (c ∷ cs) = both_decided (lt_decided (digit_value c) 16) (digits
 
 hex_decided : (count : ℕ) (text : List ℕ) → Decided ((n : ℕ) × IsHex count text n)
 hex_decided count text = joined (cases_eq (length text) count) (digits_decided text) (lt_decided (digits_value 16 text) (16 ^ count)) where
-  joined : (length text ≡ count) ⊎ (length text ≡ count → ⊥) → Decided (AllDigits 16 text) → Decided (digits_value 16 text < 16 ^ count) → Decided ((n : ℕ) × IsHex count text n)
+  joined : (length text ≡ count) ⊎ (length text ≡ count → ⊥) → Decided (AllDigits 16 text)
+      → Decided (digits_value 16 text < 16 ^ count) → Decided ((n : ℕ) × IsHex count text n)
   joined (inr other) digits fits = inr (λ x. other x.1.len)
   joined (inl len) (inr not) fits = inr (λ x. not x.1.digits)
   joined (inl len) (inl digits) (inr past) = inr (λ x. past (subst (λ (n : ℕ). n < 16 ^ count) (sym x.1.value) x.1.fits))
@@ -177,7 +196,8 @@ fit_or [] [] same = inl tt
 fit_or [] (f ∷ fs) same = absurd (omega (arith, same))
 fit_or (k ∷ ks) [] same = absurd (omega (arith, same))
 fit_or (k ∷ ks) (f ∷ fs) same = joined (fits_decided k f) (fit_or ks fs (omega (arith, same))) where
-  joined : Decided (Fits k f) → AllFit ks fs ⊎ ((e : EditError) × FirstBad ks fs e) → AllFit (k ∷ ks) (f ∷ fs) ⊎ ((e : EditError) × FirstBad (k ∷ ks) (f ∷ fs) e)
+  joined : Decided (Fits k f) → AllFit ks fs ⊎ ((e : EditError) × FirstBad ks fs e)
+      → AllFit (k ∷ ks) (f ∷ fs) ⊎ ((e : EditError) × FirstBad (k ∷ ks) (f ∷ fs) e)
   joined (inr not) more = inr (error_of k, inl (not, refl))
   joined (inl fits) (inl all) = inl (fits, all)
   joined (inl fits) (inr bad) = inr (bad.0, inr (fits, bad.1))
@@ -190,13 +210,15 @@ WordOr letter rest = ((w : Edit) × IsWord (letter ∷ rest) w) ⊎ ((e : EditEr
 abbrev FitOr : ℕ → List Field → List (List ℕ) → Type 0
 FitOr l ks rest = AllFit ks rest ⊎ ((e : EditError) × IsFault (l ∷ []) rest e)
 
-fit_of : (l : ℕ) (ks : List Field) (rest : List (List ℕ)) → is_letter l ≡ true → length rest ≡ length ks → kinds l (length rest) ≡ Some ks → FitOr l ks rest
+fit_of : (l : ℕ) (ks : List Field) (rest : List (List ℕ)) → is_letter l ≡ true → length rest ≡ length ks
+    → kinds l (length rest) ≡ Some ks → FitOr l ks rest
 fit_of l ks rest known same are = elim (fit_or ks rest same) as (λ _. FitOr l ks rest) [
   | inl all ↦ inl all
   | inr bad ↦ inr (bad.0, field_fault l ks refl known are bad.1)
 ]
 
-exact_or : (l : ℕ) (ks : List Field) (rest : List (List ℕ)) → is_letter l ≡ true → kinds l (length rest) ≡ exactly (length ks) ks (length rest) → FitOr l ks rest
+exact_or : (l : ℕ) (ks : List Field) (rest : List (List ℕ)) → is_letter l ≡ true
+    → kinds l (length rest) ≡ exactly (length ks) ks (length rest) → FitOr l ks rest
 exact_or l ks rest known is = elim (cases_eq (length rest) (length ks)) as (λ _. FitOr l ks rest) [
   | inl same ↦ fit_of l ks rest known same (is ∙ cond-true _ _ _ (eq-eqb (length rest) (length ks) same))
   | inr other ↦ inr (FieldCount, count_fault l refl known (is ∙ cond-false _ _ _ (ne_eqb (length rest) (length ks) other)) refl)
@@ -230,7 +252,10 @@ coded_word [] fit = absurd fit
 coded_word (f ∷ []) fit = absurd fit.1
 coded_word (f ∷ g ∷ []) fit = absurd fit.1.1
 coded_word (f ∷ g ∷ h ∷ []) fit = absurd fit.1.1.1
-coded_word (f ∷ g ∷ h ∷ i ∷ []) fit = (New fit.0.0 fit.1.0.0 fit.1.1.0.0 (Some fit.1.1.1.0.0), (f, g, h, i ∷ [], refl, fit.0.1, fit.1.0.1, fit.1.1.0.1, (i, refl, fit.1.1.1.0.1)))
+coded_word (f ∷ g ∷ h ∷ i ∷ []) fit = (
+  New fit.0.0 fit.1.0.0 fit.1.1.0.0 (Some fit.1.1.1.0.0),
+  (f, g, h, i ∷ [], refl, fit.0.1, fit.1.0.1, fit.1.1.0.1, (i, refl, fit.1.1.1.0.1)),
+)
 coded_word (f ∷ g ∷ h ∷ i ∷ j ∷ r) fit = absurd fit.1.1.1.1
 
 delete_word : (rest : List (List ℕ)) → AllFit (path ∷ []) rest → WordOf 100 rest
@@ -296,7 +321,11 @@ name_or (f ∷ g ∷ r) name text = joined (number_field 1 greatest f) where
 
   joined : Decided ((n : ℕ) × IsIn 1 greatest f n) → WordOr (99 ∷ []) (f ∷ g ∷ r)
   joined (inl x) = inl (SetName x.0 name, (f, g, r, refl, x.1, text))
-  joined (inr not) = inr (error_of (number 1 greatest), field_fault 99 (number 1 greatest ∷ []) refl refl (cond-true _ _ _ two) (inl (not, refl)))
+  joined (inr not) = inr (
+    error_of (number 1 greatest),
+    field_fault 99 (number 1 greatest ∷ []) refl refl (cond-true _ _ _ two)
+        (inl (not, refl)),
+  )
 
 new_or : (rest : List (List ℕ)) → WordOr (110 ∷ []) rest
 new_or rest = elim (cases_eq (length rest) 4) as (λ _. WordOr (110 ∷ []) rest) [
@@ -324,7 +353,8 @@ no_letter (x ∷ xs) l none known = elim (or_cases (x == l) (list_any (λ y. y =
 one_of : (l : ℕ) (letters : List ℕ) → ((x : ℕ) × Contains letters x × (l ≡ x)) ⊎ IsNoneOf letters l
 one_of l [] = inr tt
 one_of l (y ∷ ys) = joined (cases_eq l y) (one_of l ys) where
-  joined : (l ≡ y) ⊎ (l ≡ y → ⊥) → ((x : ℕ) × Contains ys x × (l ≡ x)) ⊎ IsNoneOf ys l → ((x : ℕ) × Contains (y ∷ ys) x × (l ≡ x)) ⊎ IsNoneOf (y ∷ ys) l
+  joined : (l ≡ y) ⊎ (l ≡ y → ⊥) → ((x : ℕ) × Contains ys x × (l ≡ x)) ⊎ IsNoneOf ys l
+      → ((x : ℕ) × Contains (y ∷ ys) x × (l ≡ x)) ⊎ IsNoneOf (y ∷ ys) l
   joined (inl same) more = inl (y, (0, omega arith, refl), same)
   joined (inr other) (inl has) = inl (has.0, in_tail has.0 y ys has.1, has.2)
   joined (inr other) (inr none) = inr (other, none)
@@ -344,15 +374,20 @@ each_has (y ∷ ys) P x all has = elim (in_head x y ys has) as (λ _. P x) [
   | inr later ↦ each_has ys P x all.1 later
 ]
 
-all_letters : (rest : List (List ℕ)) (name : String Global) → string_bytes name ≡ join_with_byte 58 (drop 1 rest) → Each letters (λ l. WordOr (l ∷ []) rest)
+all_letters : (rest : List (List ℕ)) (name : String Global) → string_bytes name ≡ join_with_byte 58 (drop 1 rest)
+    → Each letters (λ l. WordOr (l ∷ []) rest)
 all_letters rest name text =
-    let a : WordOr (97 ∷ []) rest = word_or 97 (number 1 65536 ∷ []) rest (exact_or 97 (number 1 65536 ∷ []) rest refl refl) (align_word rest) in
+    let a : WordOr (97 ∷ []) rest = word_or 97 (number 1 65536 ∷ []) rest (exact_or 97 (number 1 65536 ∷ []) rest refl refl)
+    (align_word rest) in
     let d : WordOr (100 ∷ []) rest = word_or 100 (path ∷ []) rest (exact_or 100 (path ∷ []) rest refl refl) (delete_word rest) in
-    let t : WordOr (116 ∷ []) rest = word_or 116 (path ∷ code ∷ []) rest (exact_or 116 (path ∷ code ∷ []) rest refl refl) (kind_word rest) in
-    let u : WordOr (117 ∷ []) rest = word_or 117 (number 1 greatest ∷ guid ∷ []) rest (exact_or 117 (number 1 greatest ∷ guid ∷ []) rest refl refl) (unique_word rest) in
+    let t : WordOr (116 ∷ []) rest = word_or 116 (path ∷ code ∷ []) rest (exact_or 116 (path ∷ code ∷ []) rest refl refl)
+    (kind_word rest) in
+    let u : WordOr (117 ∷ []) rest = word_or 117 (number 1 greatest ∷ guid ∷ []) rest
+    (exact_or 117 (number 1 greatest ∷ guid ∷ []) rest refl refl) (unique_word rest) in
     let k : WordOr (85 ∷ []) rest = word_or 85 (guid ∷ []) rest (exact_or 85 (guid ∷ []) rest refl refl) (disk_word rest) in
     let b : WordOr (65 ∷ []) rest =
-    word_or 65 (number 1 greatest ∷ number 0 63 ∷ number 0 1 ∷ []) rest (exact_or 65 (number 1 greatest ∷ number 0 63 ∷ number 0 1 ∷ []) rest refl refl) (bits_word rest) in
+    word_or 65 (number 1 greatest ∷ number 0 63 ∷ number 0 1 ∷ []) rest
+    (exact_or 65 (number 1 greatest ∷ number 0 63 ∷ number 0 1 ∷ []) rest refl refl) (bits_word rest) in
     let e : WordOr (101 ∷ []) rest = word_or 101 [] rest (exact_or 101 [] rest refl refl) (λ fit. bare Extend 101 rest fit (alone 101)) in
     let g : WordOr (103 ∷ []) rest = word_or 103 [] rest (exact_or 103 [] rest refl refl) (λ fit. bare ToGpt 103 rest fit (alone 103)) in
     let o : WordOr (111 ∷ []) rest = word_or 111 [] rest (exact_or 111 [] rest refl refl) (λ fit. bare Empty 111 rest fit (alone 111)) in
@@ -364,8 +399,13 @@ pub text_answers_lem : (letter : List ℕ) (rest : List (List ℕ)) (name : Stri
 text_answers_lem [] rest name text = inr (UnknownLetter, letter_fault (λ l known is. absurd cc) refl)
 text_answers_lem (l ∷ m ∷ ms) rest name text = inr (UnknownLetter, letter_fault (λ k known is. absurd cc) refl)
 text_answers_lem (l ∷ []) rest name text = elim (one_of l letters) as (λ _. WordOr (l ∷ []) rest) [
-  | inl found ↦ subst (λ (x : ℕ). WordOr (x ∷ []) rest) (sym found.2) (each_has letters (λ x. WordOr (x ∷ []) rest) found.0 (all_letters rest name text) found.1)
-  | inr none ↦ inr (UnknownLetter, letter_fault (λ k known is. (let same : l ≡ k = cc in no_letter letters k (subst (IsNoneOf letters) same none) known)) refl)
+  | inl found ↦ subst (λ (x : ℕ). WordOr (x ∷ []) rest) (sym found.2)
+      (each_has letters (λ x. WordOr (x ∷ []) rest) found.0 (all_letters rest name text) found.1)
+  | inr none ↦ inr (
+    UnknownLetter,
+    letter_fault
+        (λ k known is. (let same : l ≡ k = cc in no_letter letters k (subst (IsNoneOf letters) same none) known)) refl,
+  )
 ]
 
 -- a field is never told as a want of memory

@@ -1,5 +1,6 @@
 -- A text is one word at most, and has one fault at most.
-use Rattle.std.specs.Prelude.{◌≡◌, ◌<◌, ◌≤◌, ◌^◌, ℕ, Bool, true, false, if◌then◌else◌, List, [], ◌∷◌, ◌++◌, length, slice_index, Option, Some, None, String}
+use Rattle.std.specs.Prelude.{◌≡◌, ◌<◌, ◌≤◌, ◌^◌, ℕ, Bool, true, false, if◌then◌else◌, List, [], ◌∷◌, ◌++◌, length, slice_index, Option}
+use Rattle.std.specs.Prelude.{Some, None, String}
 use Rattle.std.specs.Fmt.{decimal}
 use Rattle.std.specs.Global.{Global}
 use Rattle.std.specs.List.{join_with_byte}
@@ -10,17 +11,19 @@ use Rattle.std.proofs.lemmas.Fmt.{decimal_nonempty, first_decimal}
 use Rattle.std.proofs.lemmas.Option.{none-some}
 use Rattle.pt_guid.specs.Mixed.{stored_of}
 use Rattle.pt_guid.specs.declared.guid.Guid.{Guid}
-use Rattle.pt_layout.specs.Texts.{IsNumber, IsPath, letter_text}
-use Rattle.pt_layout.specs.OneText.{number_is_one_lem, path_is_one_lem}
-use Rattle.pt_layout.specs.declared.path.Path.{Path}
-use Rattle.pt_words.specs.Words.{Field, greatest, kinds, IsIn, IsNewPath, IsEnd, IsHex, IsCode, IsCodeTail, FirstBad, IsFault, letter_fault, count_fault, field_fault, IsWordFault, IsWord}
+use Rattle.pt_path.specs.Texts.{IsNumber, IsPath, letter_text}
+use Rattle.pt_path.specs.OneText.{number_is_one_lem, path_is_one_lem}
+use Rattle.pt_path.specs.declared.path.Path.{Path}
+use Rattle.pt_words.specs.Words.{Field, greatest, kinds, IsIn, IsNewPath, IsEnd, IsHex, IsCode, IsCodeTail, FirstBad, IsFault, letter_fault}
+use Rattle.pt_words.specs.Words.{count_fault, field_fault, IsWordFault, IsWord}
 use Rattle.pt_words.specs.declared.error.EditError.{EditError}
 use Rattle.pt_words.specs.declared.word.Code.{Code}
 use Rattle.pt_words.specs.declared.word.Code.TheVariants.{Two, Four}
 use Rattle.pt_words.specs.declared.word.End.{End}
 use Rattle.pt_words.specs.declared.word.End.TheVariants.{Block, Length, At}
 use Rattle.pt_words.specs.declared.word.Edit.{Edit}
-use Rattle.pt_words.specs.declared.word.Edit.TheVariants.{Align, New, Delete, SetKind, SetName, SetUnique, SetDisk, SetBit, Extend, ToGpt, Empty}
+use Rattle.pt_words.specs.declared.word.Edit.TheVariants.{Align, New, Delete, SetKind, SetName, SetUnique, SetDisk, SetBit, Extend, ToGpt}
+use Rattle.pt_words.specs.declared.word.Edit.TheVariants.{Empty}
 
 -- words that say the same: they are one, and of two names the texts are one, wherever in memory these lie
 abbrev pub IsAlike : Edit → Edit → Type 0
@@ -37,7 +40,8 @@ number_high text n is some =
     subst (λ (t : List ℕ). 48 < slice_index t 0) (sym is.digits) first
 
 path_high : (text : List ℕ) (p : Path) → IsPath text p → 48 < slice_index text 0
-path_high text p is = subst (λ (t : List ℕ). 48 < slice_index t 0) (sym is.written) (starts_high p.number (letter_text p.letter) is.first is.fits)
+path_high text p is =
+    subst (λ (t : List ℕ). 48 < slice_index t 0) (sym is.written) (starts_high p.number (letter_text p.letter) is.first is.fits)
 
 not_head : (text rest : List ℕ) (x : ℕ) → x ≤ 48 → text ≡ x ∷ rest → 48 < slice_index text 0 → ⊥
 not_head text rest x low is high =
@@ -69,9 +73,11 @@ end_one s t (Length k) (Length j) same (digits, is, range) (others, at, more) =
     let h : 43 ∷ digits ≡ 43 ∷ others = sym is ∙ (same ∙ at) in
     let e : digits ≡ others = cc in
     ap Length (in_one 1 greatest digits others k j e range more)
-end_one s t (Length k) (At n) same (digits, is, range) b = absurd (not_head t digits 43 (omega arith) (sym same ∙ is) (number_high t n b.number b.low))
+end_one s t (Length k) (At n) same (digits, is, range) b =
+    absurd (not_head t digits 43 (omega arith) (sym same ∙ is) (number_high t n b.number b.low))
 end_one s t (At m) Block same a b = absurd (not_head s [] 48 (omega arith) (same ∙ b) (number_high s m a.number a.low))
-end_one s t (At m) (Length k) same a (digits, is, range) = absurd (not_head s digits 43 (omega arith) (same ∙ is) (number_high s m a.number a.low))
+end_one s t (At m) (Length k) same a (digits, is, range) =
+    absurd (not_head s digits 43 (omega arith) (same ∙ is) (number_high s m a.number a.low))
 end_one s t (At m) (At n) same a b = ap At (in_one 1 greatest s t m n same a b)
 
 hex_one : (count : ℕ) (s t : List ℕ) (m n : ℕ) → s ≡ t → IsHex count s m → IsHex count t n → m ≡ n
@@ -159,13 +165,15 @@ pub word_is_one_lem : (fs : List (List ℕ)) (v w : Edit) → IsWord fs v → Is
 word_is_one_lem fs (Align k) (Align j) (f, is, a) (g, at, b) =
     let e : f ≡ g = cc in
     ap Align (in_one 1 65536 f g k j e a b)
-word_is_one_lem fs (New path start end code) (New path2 start2 end2 code2) (p, s, e, r, is, a, b, c, d) (p2, s2, e2, r2, at, a2, b2, c2, d2) =
+word_is_one_lem fs (New path start end code) (New path2 start2 end2 code2) (p, s, e, r, is, a, b, c, d)
+    (p2, s2, e2, r2, at, a2, b2, c2, d2) =
     let same : (110 ∷ []) ∷ p ∷ s ∷ e ∷ r ≡ (110 ∷ []) ∷ p2 ∷ s2 ∷ e2 ∷ r2 = sym is ∙ at in
     let one : p ≡ p2 = cc in
     let two : s ≡ s2 = cc in
     let three : e ≡ e2 = cc in
     let four : r ≡ r2 = cc in
-    new_same path path2 start start2 end end2 code code2 (new_path_one p p2 path path2 one a a2) (in_one 0 greatest s s2 start start2 two b b2) (end_one e e2 end end2 three c c2) (tail_one r r2 code code2 four d d2)
+    new_same path path2 start start2 end end2 code code2 (new_path_one p p2 path path2 one a a2)
+    (in_one 0 greatest s s2 start start2 two b b2) (end_one e e2 end end2 three c c2) (tail_one r r2 code code2 four d d2)
 word_is_one_lem fs (Delete p) (Delete q) (f, is, a) (g, at, b) =
     let e : f ≡ g = cc in
     ap Delete (path_one f g p q e a b)
@@ -175,8 +183,12 @@ word_is_one_lem fs (SetKind p c) (SetKind q d) (f, g, is, a, b) (f2, g2, at, a2,
     ap (λ (x : Path). SetKind x c) (path_one f f2 p q e a a2) ∙ ap (λ (x : Code). SetKind q x) (code_one g g2 c d h b b2)
 word_is_one_lem fs (SetName m s) (SetName n t) (f, g, r, is, a, b) (f2, g2, r2, at, a2, b2) =
     let e : f ≡ f2 = cc in
-    let h : g ∷ r ≡ g2 ∷ r2 = cc in
-    (t, sym (ap (λ (k : ℕ). SetName k t) (in_one 1 greatest f f2 m n e a a2)), b ∙ (ap (λ (x : List (List ℕ)). join_with_byte 58 x) h ∙ sym b2))
+    let h : g ∷ r ≡ g2 ∷ r2 = cc in (
+      t,
+      sym (ap (λ (k : ℕ). SetName k t) (in_one 1 greatest f f2 m n e a a2)),
+      b
+          ∙ (ap (λ (x : List (List ℕ)). join_with_byte 58 x) h ∙ sym b2),
+    )
 word_is_one_lem fs (SetUnique m s) (SetUnique n t) (f, g, is, a, b) (f2, g2, at, a2, b2) =
     let e : f ≡ f2 = cc in
     let h : g ≡ g2 = cc in
@@ -188,7 +200,9 @@ word_is_one_lem fs (SetBit m i v) (SetBit n j w) (f, g, h, is, a, b, c) (f2, g2,
     let e : f ≡ f2 = cc in
     let k : g ≡ g2 = cc in
     let l : h ≡ h2 = cc in
-    ap (λ (x : ℕ). SetBit x i v) (in_one 1 greatest f f2 m n e a a2) ∙ (ap (λ (x : ℕ). SetBit n x v) (in_one 0 63 g g2 i j k b b2) ∙ ap (λ (x : Bool). SetBit n j x) (bit_one v w (in_one 0 1 h h2 (bit_of v) (bit_of w) l c c2)))
+    ap (λ (x : ℕ). SetBit x i v) (in_one 1 greatest f f2 m n e a a2)
+    ∙ (ap (λ (x : ℕ). SetBit n x v) (in_one 0 63 g g2 i j k b b2)
+    ∙ ap (λ (x : Bool). SetBit n j x) (bit_one v w (in_one 0 1 h h2 (bit_of v) (bit_of w) l c c2)))
 word_is_one_lem fs Extend Extend x y = refl
 word_is_one_lem fs ToGpt ToGpt x y = refl
 word_is_one_lem fs Empty Empty x y = refl
@@ -203,7 +217,8 @@ bad_one (k ∷ ks) (x ∷ xs) e f (inr (fits, more)) (inl (not, is)) = absurd (n
 bad_one (k ∷ ks) (x ∷ xs) e f (inr (fits, a)) (inr (also, b)) = bad_one ks xs e f a b
 
 -- one letter has one list of kinds
-kinds_one : (letter : List ℕ) (rest : List (List ℕ)) (l m : ℕ) (o q : Option (List Field)) → letter ≡ l ∷ [] → letter ≡ m ∷ [] → kinds l (length rest) ≡ o → kinds m (length rest) ≡ q → o ≡ q
+kinds_one : (letter : List ℕ) (rest : List (List ℕ)) (l m : ℕ) (o q : Option (List Field)) → letter ≡ l ∷ [] → letter ≡ m ∷ []
+    → kinds l (length rest) ≡ o → kinds m (length rest) ≡ q → o ≡ q
 kinds_one letter rest l m o q is at a b =
     let same : l ≡ m = cc in
     sym a ∙ (ap (λ (x : ℕ). kinds x (length rest)) same ∙ b)

@@ -60,8 +60,10 @@ pub record FirstBelow (P : ℕ → Type 0) (n : ℕ) : Type 0 where
   pub holds : P place
   pub first : (j : ℕ) → j < place → ¬ P j
 
-one_more : (P : ℕ → Type 0) (n : ℕ) → Decided (P n) → FirstBelow P n ⊎ ((k : ℕ) → k < n → ¬ P k) → FirstBelow P (suc n) ⊎ ((k : ℕ) → k < suc n → ¬ P k)
-one_more P n here (inl found) = inl (record { place = found.place; within = omega (arith, found.within); holds = found.holds; first = found.first })
+one_more : (P : ℕ → Type 0) (n : ℕ) → Decided (P n) → FirstBelow P n ⊎ ((k : ℕ) → k < n → ¬ P k)
+    → FirstBelow P (suc n) ⊎ ((k : ℕ) → k < suc n → ¬ P k)
+one_more P n here (inl found) =
+    inl (record { place = found.place; within = omega (arith, found.within); holds = found.holds; first = found.first })
 one_more P n (inl here) (inr none) = inl (record { place = n; within = omega arith; holds = here; first = none })
 one_more P n (inr not) (inr none) = inr (λ k less. elim (cases_eq k n) as (λ _. ¬ P k) [
   | inl same ↦ λ p. not (subst P same p)
@@ -80,10 +82,12 @@ pub in_head : {X : Type 0} (x y : X) (xs : List X) → Contains (y ∷ xs) x →
 in_head x y xs (zero, less, is) = inl is
 in_head x y xs (suc k, less, is) = inr (k, omega arith, is)
 
-pub search_list : {X : Type 0} (P : X → Type 0) → ((x : X) → Decided (P x)) → (xs : List X) → ((x : X) × Contains xs x × P x) ⊎ ((x : X) → Contains xs x → ¬ P x)
+pub search_list : {X : Type 0} (P : X → Type 0) → ((x : X) → Decided (P x)) → (xs : List X)
+    → ((x : X) × Contains xs x × P x) ⊎ ((x : X) → Contains xs x → ¬ P x)
 search_list P decided [] = inr (λ x has p. omega (arith, has.1))
 search_list {X} P decided (y ∷ ys) = joined y ys (decided y) (search_list P decided ys) where
-  joined : (y : X) (ys : List X) → Decided (P y) → ((x : X) × Contains ys x × P x) ⊎ ((x : X) → Contains ys x → ¬ P x) → ((x : X) × Contains (y ∷ ys) x × P x) ⊎ ((x : X) → Contains (y ∷ ys) x → ¬ P x)
+  joined : (y : X) (ys : List X) → Decided (P y) → ((x : X) × Contains ys x × P x) ⊎ ((x : X) → Contains ys x → ¬ P x)
+      → ((x : X) × Contains (y ∷ ys) x × P x) ⊎ ((x : X) → Contains (y ∷ ys) x → ¬ P x)
   joined y ys (inl here) more = inl (y, (zero, omega arith, refl), here)
   joined y ys (inr not) (inl (x, has, holds)) = inl (x, in_tail x y ys has, holds)
   joined y ys (inr not) (inr none) = inr (λ x has. elim (in_head x y ys has) as (λ _. ¬ P x) [

@@ -1,15 +1,17 @@
 -- Edit words as texts: their fields stand between colons, the first is a letter.
-use Rattle.std.specs.Prelude.{◌≡◌, ◌≤◌, ◌<◌, ◌-◌, ◌^◌, ◌⊎◌, ℕ, Bool, true, List, [], ◌∷◌, length, Option, Some, None, if◌then◌else◌, ◌==◌, nat_le}
+use Rattle.std.specs.Prelude.{◌≡◌, ◌≢◌, ◌≤◌, ◌<◌, ◌-◌, ◌^◌, ◌⊎◌, ℕ, Bool, true, List, [], ◌∷◌, length, Option, Some, None, if◌then◌else◌}
+use Rattle.std.specs.Prelude.{◌==◌, nat_le}
 use Rattle.std.specs.List.{slice_split, join_with_byte, list_any}
 use Rattle.std.specs.Str.Parse.{AllDigits, digits_value}
 use Rattle.std.specs.String.{string_bytes}
 use Rattle.pt_guid.specs.Mixed.{stored_of}
-use Rattle.pt_layout.specs.declared.path.Path.{Path}
-use Rattle.pt_layout.specs.Texts.{IsNumber, IsPath}
+use Rattle.pt_path.specs.declared.path.Path.{Path}
+use Rattle.pt_path.specs.Texts.{IsNumber, IsPath}
 use Rattle.pt_words.specs.declared.error.EditError.{EditError}
 use Rattle.pt_words.specs.declared.error.EditError.TheVariants.{UnknownLetter, FieldCount, NotANumber, NotAGuid, NotACode}
 use Rattle.pt_words.specs.declared.word.Edit.{Edit}
-use Rattle.pt_words.specs.declared.word.Edit.TheVariants.{Align, New, Delete, SetKind, SetName, SetUnique, SetDisk, SetBit, Extend, ToGpt, Empty}
+use Rattle.pt_words.specs.declared.word.Edit.TheVariants.{Align, New, Delete, SetKind, SetName, SetUnique, SetDisk, SetBit, Extend, ToGpt}
+use Rattle.pt_words.specs.declared.word.Edit.TheVariants.{Empty}
 use Rattle.pt_words.specs.declared.word.End.{End}
 use Rattle.pt_words.specs.declared.word.End.TheVariants.{Block, Length, At}
 use Rattle.pt_words.specs.declared.word.Code.{Code}
@@ -70,11 +72,14 @@ IsWord fs (New path start end code) =
 IsWord fs (Delete path) = (f : List ℕ) × (fs ≡ (100 ∷ []) ∷ f ∷ []) × IsPath f path
 IsWord fs (SetKind path code) = (f : List ℕ) × (g : List ℕ) × (fs ≡ (116 ∷ []) ∷ f ∷ g ∷ []) × IsPath f path × IsCode g code
 IsWord fs (SetName number name) =
-    (f : List ℕ) × (g : List ℕ) × (rest : List (List ℕ)) × (fs ≡ (99 ∷ []) ∷ f ∷ g ∷ rest) × IsIn 1 greatest f number × (string_bytes name ≡ join_with_byte 58 (g ∷ rest))
-IsWord fs (SetUnique number guid) = (f : List ℕ) × (g : List ℕ) × (fs ≡ (117 ∷ []) ∷ f ∷ g ∷ []) × IsIn 1 greatest f number × (stored_of g ≡ Some guid.0)
+    (f : List ℕ) × (g : List ℕ) × (rest : List (List ℕ)) × (fs ≡ (99 ∷ []) ∷ f ∷ g ∷ rest) × IsIn 1 greatest f number
+    × (string_bytes name ≡ join_with_byte 58 (g ∷ rest))
+IsWord fs (SetUnique number guid) =
+    (f : List ℕ) × (g : List ℕ) × (fs ≡ (117 ∷ []) ∷ f ∷ g ∷ []) × IsIn 1 greatest f number × (stored_of g ≡ Some guid.0)
 IsWord fs (SetDisk guid) = (f : List ℕ) × (fs ≡ (85 ∷ []) ∷ f ∷ []) × (stored_of f ≡ Some guid.0)
 IsWord fs (SetBit number bit value) =
-    (f : List ℕ) × (g : List ℕ) × (h : List ℕ) × (fs ≡ (65 ∷ []) ∷ f ∷ g ∷ h ∷ []) × IsIn 1 greatest f number × IsIn 0 63 g bit × IsIn 0 1 h (if value then 1 else 0)
+    (f : List ℕ) × (g : List ℕ) × (h : List ℕ) × (fs ≡ (65 ∷ []) ∷ f ∷ g ∷ h ∷ []) × IsIn 1 greatest f number × IsIn 0 63 g bit
+    × IsIn 0 1 h (if value then 1 else 0)
 IsWord fs Extend = fs ≡ (101 ∷ []) ∷ []
 IsWord fs ToGpt = fs ≡ (103 ∷ []) ∷ []
 IsWord fs Empty = fs ≡ (111 ∷ []) ∷ []
@@ -106,6 +111,14 @@ error_of end = NotANumber
 error_of code = NotACode
 error_of guid = NotAGuid
 
+-- the text is no field of its kind, and is told so
+abbrev pub Misfit : Field → List ℕ → EditError → Type 0
+Misfit k f e = (¬ Fits k f) × (e ≡ error_of k)
+
+-- there are more or fewer fields, and it is told so
+abbrev pub Miscounted : ℕ → List (List ℕ) → EditError → Type 0
+Miscounted n fs e = (length fs ≢ n) × (e ≡ FieldCount)
+
 -- the letters of words: a, n, d, t, c, u, U, A, e, g and o
 abbrev pub is_letter : ℕ → Bool
 is_letter letter = list_any (λ l. l == letter) (97 ∷ 110 ∷ 100 ∷ 116 ∷ 99 ∷ 117 ∷ 85 ∷ 65 ∷ 101 ∷ 103 ∷ 111 ∷ [])
@@ -117,7 +130,8 @@ exactly wanted kinds count = if count == wanted then Some kinds else None
 abbrev pub kinds : ℕ → ℕ → Option (List Field)
 kinds letter count =
     if letter == 97 then exactly 1 (number 1 65536 ∷ []) count
-    else if letter == 110 then (if count == 4 then Some (new_path ∷ number 0 greatest ∷ end ∷ code ∷ []) else exactly 3 (new_path ∷ number 0 greatest ∷ end ∷ []) count)
+    else if letter == 110 then (if count == 4 then Some (new_path ∷ number 0 greatest ∷ end ∷ code ∷ [])
+    else exactly 3 (new_path ∷ number 0 greatest ∷ end ∷ []) count)
     else if letter == 100 then exactly 1 (path ∷ []) count
     else if letter == 116 then exactly 2 (path ∷ code ∷ []) count
     else if letter == 99 then (if nat_le 2 count then Some (number 1 greatest ∷ []) else None)
@@ -130,13 +144,14 @@ kinds letter count =
 abbrev pub FirstBad : List Field → List (List ℕ) → EditError → Type 0
 FirstBad [] fs e = ⊥
 FirstBad (k ∷ ks) [] e = ⊥
-FirstBad (k ∷ ks) (f ∷ fs) e = ((¬ Fits k f) × (e ≡ error_of k)) ⊎ (Fits k f × FirstBad ks fs e)
+FirstBad (k ∷ ks) (f ∷ fs) e = Misfit k f e ⊎ (Fits k f × FirstBad ks fs e)
 
 -- why the fields are no word's: the letter, else how many fields there are, else the first field that isn't of its kind
 pub data IsFault (letter : List ℕ) (rest : List (List ℕ)) (e : EditError) : Type 0 where
   letter_fault : ((l : ℕ) → is_letter l ≡ true → letter ≡ l ∷ [] → ⊥) → e ≡ UnknownLetter → IsFault letter rest e
   count_fault : (l : ℕ) → letter ≡ l ∷ [] → is_letter l ≡ true → kinds l (length rest) ≡ None → e ≡ FieldCount → IsFault letter rest e
-  field_fault : (l : ℕ) (ks : List Field) → letter ≡ l ∷ [] → is_letter l ≡ true → kinds l (length rest) ≡ Some ks → FirstBad ks rest e → IsFault letter rest e
+  field_fault : (l : ℕ) (ks : List Field) → letter ≡ l ∷ [] → is_letter l ≡ true → kinds l (length rest) ≡ Some ks
+      → FirstBad ks rest e → IsFault letter rest e
 
 -- a text with these fields is no word for this reason
 abbrev pub IsWordFault : List (List ℕ) → EditError → Type 0

@@ -2,6 +2,13 @@
 
 ghost use Rattle.std.specs.Prelude.{◌≡◌};
 ghost use Rattle.pt_words.specs.Numbers.{error_number, refusal_number};
+ghost use Rattle.pt_words.specs.declared.error.EditError.TheVariants as error;
+ghost use Rattle.pt_words.specs.declared.error.Refusal.TheVariants as refused;
+
+use pt_guid::GuidError;
+use std::alloc::AllocError;
+use std::error::Error;
+use std::fmt;
 
 /// Why a text is no edit word: the letter is judged first, then the count of the fields, then the fields from the left.
 #[derive(Clone, Copy, Debug, PartialEq, Eq)]
@@ -20,6 +27,14 @@ pub enum EditError {
     Memory,
 }
 
+impl From<AllocError> for EditError {
+    ghost from_gives = { λ _ e. e ≡ error.Memory };
+
+    fn from(_e: AllocError) -> EditError {
+        EditError::Memory
+    }
+}
+
 impl EditError {
     /// The number that stands for it, from 1 to 6 in the order of the variants.
     pub fn number(self) -> u8
@@ -33,6 +48,27 @@ impl EditError {
             EditError::NotACode => 5,
             EditError::Memory => 6,
         }
+    }
+}
+
+impl fmt::Display for EditError {
+    fn fmt<W: fmt::Write>(&self, f: &mut fmt::Formatter<W>) -> fmt::Result {
+        f.write_str(match self {
+            EditError::UnknownLetter => "another letter than a word's",
+            EditError::FieldCount => "another number of fields",
+            EditError::NotANumber => "a number or a path that is none, or out of range",
+            EditError::NotAGuid => "not a GUID",
+            EditError::NotACode => "a code that isn't two or four hexadecimal digits",
+            EditError::Memory => "out of memory",
+        })
+    }
+}
+
+impl Error for EditError {}
+
+impl From<GuidError> for EditError {
+    fn from(_error: GuidError) -> EditError {
+        EditError::NotAGuid
     }
 }
 
@@ -71,6 +107,14 @@ pub enum Refusal {
     LabelOffset,
 }
 
+impl From<AllocError> for Refusal {
+    ghost from_gives = { λ _ refusal. refusal ≡ refused.Memory };
+
+    fn from(_e: AllocError) -> Refusal {
+        Refusal::Memory
+    }
+}
+
 impl Refusal {
     /// The number that stands for it, from 1 to 15 in the order of the variants.
     pub fn number(self) -> u8
@@ -95,3 +139,28 @@ impl Refusal {
         }
     }
 }
+
+impl fmt::Display for Refusal {
+    fn fmt<W: fmt::Write>(&self, f: &mut fmt::Formatter<W>) -> fmt::Result {
+        f.write_str(match self {
+            Refusal::NoSuchPartition => "no such partition",
+            Refusal::NumberTaken => "the number is taken",
+            Refusal::NoSpace => "no space",
+            Refusal::OutsideUsable => "outside the usable sectors",
+            Refusal::Overlap => "it would share a sector with another",
+            Refusal::UnknownCode => "not a type code there",
+            Refusal::NameTooLong => "a name over 36 units",
+            Refusal::ContainerType => "not with a container",
+            Refusal::NotForThisTable => "the word isn't for this kind of table",
+            Refusal::NoFreshGuid => "no fresh GUID is left",
+            Refusal::SameGuid => "another partition has this GUID",
+            Refusal::NoRoomForGpt => "the disk has no room for a GPT",
+            Refusal::ForeignLabel => "a letter in a slice without a label",
+            Refusal::Memory => "out of memory",
+            Refusal::LabelOffset =>
+                "the offset doesn't fit a label that counts sectors of the disk",
+        })
+    }
+}
+
+impl Error for Refusal {}

@@ -1,14 +1,16 @@
 //! The fields of a word.
 
-ghost use Rattle.std.specs.Prelude.{◌≡◌, ◌≢◌, ℕ, List, IfSome, IfNone, [], ◌∷◌, length};
+ghost use Rattle.std.specs.Prelude.{◌≡◌, IfOk, IfErr, IfSome, IfNone, [], ◌∷◌, Some};
 ghost use Rattle.std.specs.Option.{option_map};
 ghost use Rattle.pt_guid.specs.Mixed.{stored_of};
-ghost use Rattle.pt_layout.specs.Texts.{IsPath};
-ghost use Rattle.pt_words.specs.Words.{fields, fields_after, IsIn, IsNewPath, IsEnd, IsCode, Fits, greatest, number, path, new_path, end, code, guid};
+ghost use Rattle.pt_path.specs.Texts.{IsPath};
+ghost use Rattle.pt_words.specs.Words.{fields, fields_after, IsIn, IsNewPath, IsEnd, IsCode, Misfit, Miscounted};
+ghost use Rattle.pt_words.specs.Words.{greatest, number, path, new_path, end, code, guid};
 
+use crate::error::EditError;
 use crate::word::{Code, End};
 use pt_guid::Guid;
-use pt_layout::{Path, parse_number, parse_path};
+use pt_path::{Path, parse_number, parse_path};
 
 // The text before the first colon and the text after it.
 pub(crate) fn cut(text: &str) -> Option<(&str, &str)>
@@ -20,7 +22,8 @@ pub(crate) fn cut(text: &str) -> Option<(&str, &str)>
 
 // The first of the fields that are left, and the fields after it.
 pub(crate) fn next_field<'a>(rest: Option<&'a str>) -> Option<(&'a str, Option<&'a str>)>
-    ensures some { IfSome result (λ r. fields_after (option_map (λ t. t.now) rest.entry) ≡ r.0.now ∷ fields_after (option_map (λ t. t.now) r.1)) }
+    ensures some { IfSome result (λ r.
+        fields_after (option_map (λ t. t.now) rest.entry) ≡ r.0.now ∷ fields_after (option_map (λ t. t.now) r.1)) }
     ensures none { IfNone result (fields_after (option_map (λ t. t.now) rest.entry) ≡ []) }
 {
     match rest {
@@ -33,142 +36,141 @@ pub(crate) fn next_field<'a>(rest: Option<&'a str>) -> Option<(&'a str, Option<&
 }
 
 // The only field.
-pub(crate) fn one_field<'a>(rest: Option<&'a str>) -> Option<&'a str>
-    ensures some { IfSome result (λ r. fields_after (option_map (λ t. t.now) rest.entry) ≡ r.now ∷ []) }
-    ensures none { IfNone result (length (fields_after (option_map (λ t. t.now) rest.entry)) ≢ 1) }
+pub(crate) fn one_field<'a>(rest: Option<&'a str>) -> Result<&'a str, EditError>
+    ensures ok { IfOk result (λ r. fields_after (option_map (λ t. t.now) rest.entry) ≡ r.now ∷ []) }
+    ensures err { IfErr result (Miscounted 1 (fields_after (option_map (λ t. t.now) rest.entry))) }
 {
     match next_field(rest) {
         Some((first, rest)) => match rest {
-            None => Some(first),
-            Some(_) => None,
+            None => Ok(first),
+            Some(_) => Err(EditError::FieldCount),
         },
-        None => None,
+        None => Err(EditError::FieldCount),
     }
 }
 
 // Both fields, where there are two.
-pub(crate) fn two_fields<'a>(rest: Option<&'a str>) -> Option<(&'a str, &'a str)>
-    ensures some { IfSome result (λ r. fields_after (option_map (λ t. t.now) rest.entry) ≡ r.0.now ∷ r.1.now ∷ []) }
-    ensures none { IfNone result (length (fields_after (option_map (λ t. t.now) rest.entry)) ≢ 2) }
+pub(crate) fn two_fields<'a>(rest: Option<&'a str>) -> Result<(&'a str, &'a str), EditError>
+    ensures ok { IfOk result (λ r. fields_after (option_map (λ t. t.now) rest.entry) ≡ r.0.now ∷ r.1.now ∷ []) }
+    ensures err { IfErr result (Miscounted 2 (fields_after (option_map (λ t. t.now) rest.entry))) }
 {
     match next_field(rest) {
-        Some((first, rest)) => match one_field(rest) {
-            Some(second) => Some((first, second)),
-            None => None,
-        },
-        None => None,
+        Some((first, rest)) => Ok((first, one_field(rest)?)),
+        None => Err(EditError::FieldCount),
     }
 }
 
 // All three fields, where there are so many.
-pub(crate) fn three_fields<'a>(rest: Option<&'a str>) -> Option<(&'a str, &'a str, &'a str)>
-    ensures some { IfSome result (λ r. fields_after (option_map (λ t. t.now) rest.entry) ≡ r.0.now ∷ r.1.now ∷ r.2.now ∷ []) }
-    ensures none { IfNone result (length (fields_after (option_map (λ t. t.now) rest.entry)) ≢ 3) }
+pub(crate) fn three_fields<'a>(
+    rest: Option<&'a str>,
+) -> Result<(&'a str, &'a str, &'a str), EditError>
+    ensures ok { IfOk result (λ r. fields_after (option_map (λ t. t.now) rest.entry) ≡ r.0.now ∷ r.1.now ∷ r.2.now ∷ []) }
+    ensures err { IfErr result (Miscounted 3 (fields_after (option_map (λ t. t.now) rest.entry))) }
 {
     match next_field(rest) {
-        Some((first, rest)) => match two_fields(rest) {
-            Some((second, third)) => Some((first, second, third)),
-            None => None,
-        },
-        None => None,
+        Some((first, rest)) => {
+            let (second, third) = two_fields(rest)?;
+            Ok((first, second, third))
+        }
+        None => Err(EditError::FieldCount),
     }
 }
 
 // A number in a range.
-pub(crate) fn number_in(text: &str, low: u64, high: u64) -> Option<u64>
-    ensures some { IfSome result (IsIn low high text.now) }
-    ensures none { IfNone result (¬ Fits (number low high) text.now) }
+pub(crate) fn number_in(text: &str, low: u64, high: u64) -> Result<u64, EditError>
+    ensures ok { IfOk result (IsIn low high text.now) }
+    ensures err { IfErr result (Misfit (number low high) text.now) }
 {
     let found = match parse_number(text) {
         Some(found) => found,
-        None => return None,
+        None => return Err(EditError::NotANumber),
     };
     if found < low {
-        return None;
+        return Err(EditError::NotANumber);
     }
     if high < found {
-        return None;
+        return Err(EditError::NotANumber);
     }
-    Some(found)
+    Ok(found)
 }
 
 // The number of an entry.
-pub(crate) fn entry_number(text: &str) -> Option<u64>
-    ensures some { IfSome result (IsIn 1 greatest text.now) }
-    ensures none { IfNone result (¬ Fits (number 1 greatest) text.now) }
+pub(crate) fn entry_number(text: &str) -> Result<u64, EditError>
+    ensures ok { IfOk result (IsIn 1 greatest text.now) }
+    ensures err { IfErr result (Misfit (number 1 greatest) text.now) }
 {
     number_in(text, 1, u64::MAX)
 }
 
 // A path.
-pub(crate) fn path_field(text: &str) -> Option<Path>
-    ensures some { IfSome result (IsPath text.now) }
-    ensures none { IfNone result (¬ Fits path text.now) }
+pub(crate) fn path_field(text: &str) -> Result<Path, EditError>
+    ensures ok { IfOk result (IsPath text.now) }
+    ensures err { IfErr result (Misfit path text.now) }
 {
-    parse_path(text)
+    match parse_path(text) {
+        Some(path) => Ok(path),
+        None => Err(EditError::NotANumber),
+    }
 }
 
 // The number of a new partition.
-pub(crate) fn new_path_field(text: &str) -> Option<Path>
-    ensures some { IfSome result (IsNewPath text.now) }
-    ensures none { IfNone result (¬ Fits new_path text.now) }
+pub(crate) fn new_path_field(text: &str) -> Result<Path, EditError>
+    ensures ok { IfOk result (IsNewPath text.now) }
+    ensures err { IfErr result (Misfit new_path text.now) }
 {
     if text == "0" {
-        return Some(Path {
+        return Ok(Path {
             number: 0,
             letter: None,
         });
     }
-    parse_path(text)
+    match parse_path(text) {
+        Some(path) => Ok(path),
+        None => Err(EditError::NotANumber),
+    }
 }
 
 // Where a new partition ends.
-pub(crate) fn end_field(text: &str) -> Option<End>
-    ensures some { IfSome result (IsEnd text.now) }
-    ensures none { IfNone result (¬ Fits end text.now) }
+pub(crate) fn end_field(text: &str) -> Result<End, EditError>
+    ensures ok { IfOk result (IsEnd text.now) }
+    ensures err { IfErr result (Misfit end text.now) }
 {
     if text == "0" {
-        return Some(End::Block);
+        return Ok(End::Block);
     }
     match text.strip_prefix('+') {
-        Some(digits) => match number_in(digits, 1, u64::MAX) {
-            Some(count) => Some(End::Length(count)),
-            None => None,
-        },
-        None => match number_in(text, 1, u64::MAX) {
-            Some(sector) => Some(End::At(sector)),
-            None => None,
-        },
+        Some(digits) => Ok(End::Length(number_in(digits, 1, u64::MAX)?)),
+        None => Ok(End::At(number_in(text, 1, u64::MAX)?)),
     }
 }
 
 // A type's code.
-pub(crate) fn code_field(text: &str) -> Option<Code>
-    ensures some { IfSome result (IsCode text.now) }
-    ensures none { IfNone result (¬ Fits code text.now) }
+pub(crate) fn code_field(text: &str) -> Result<Code, EditError>
+    ensures ok { IfOk result (IsCode text.now) }
+    ensures err { IfErr result (Misfit code text.now) }
 {
     // The parser also takes a plus in front.
     match text.as_bytes() {
-        [b'+', ..] => None,
+        [b'+', ..] => Err(EditError::NotACode),
         [_, _] => match u8::from_str_radix(text, 16) {
-            Ok(digits) => Some(Code::Two(digits)),
-            Err(_) => None,
+            Ok(digits) => Ok(Code::Two(digits)),
+            Err(_) => Err(EditError::NotACode),
         },
         [_, _, _, _] => match u16::from_str_radix(text, 16) {
-            Ok(digits) => Some(Code::Four(digits)),
-            Err(_) => None,
+            Ok(digits) => Ok(Code::Four(digits)),
+            Err(_) => Err(EditError::NotACode),
         },
-        _ => None,
+        _ => Err(EditError::NotACode),
     }
 }
 
 // A GUID.
-pub(crate) fn guid_field(text: &str) -> Option<Guid>
-    ensures some { IfSome result (λ g. stored_of text.now ≡ Some g.0) }
-    ensures none { IfNone result (¬ Fits guid text.now) }
+pub(crate) fn guid_field(text: &str) -> Result<Guid, EditError>
+    ensures ok { IfOk result (λ g. stored_of text.now ≡ Some g.0) }
+    ensures err { IfErr result (Misfit guid text.now) }
 {
     match pt_guid::parse(text) {
-        Ok(guid) => Some(guid),
-        Err(_) => None,
+        Ok(guid) => Ok(guid),
+        Err(_) => Err(EditError::NotAGuid),
     }
 }

@@ -27,7 +27,8 @@ pub fn word_fault_is_one()
 
 /// A text is a word, or has a fault: a first field and others, where the text of a name is a string.
 pub fn text_answers()
-    ensures { (letter : List ℕ) (rest : List (List ℕ)) (name : String Global) → string_bytes name ≡ join_with_byte 58 (drop 1 rest) → ((w : Edit) × IsWord (letter ∷ rest) w) ⊎ ((e : EditError) × IsWordFault (letter ∷ rest) e) }
+    ensures { (letter : List ℕ) (rest : List (List ℕ)) (name : String Global) → string_bytes name ≡ join_with_byte 58 (drop 1 rest)
+        → ((w : Edit) × IsWord (letter ∷ rest) w) ⊎ ((e : EditError) × IsWordFault (letter ∷ rest) e) }
 {}
 
 /// No text's fault is a want of memory: that error is the program's alone.

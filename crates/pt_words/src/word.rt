@@ -1,7 +1,7 @@
 //! Edit words as values.
 
 use pt_guid::Guid;
-use pt_layout::Path;
+use pt_path::Path;
 
 /// One word of an edit.
 #[derive(Debug, PartialEq, Eq, Drop)]

@@ -23,15 +23,8 @@ pub(crate) fn parse_align(rest: Option<&str>) -> Result<Edit, EditError>
     ensures ok { IfOk result (IsWord ((97 ∷ []) ∷ fields_after (option_map (λ t. t.now) rest.entry))) }
     ensures err { IfErr result (IsFault (97 ∷ []) (fields_after (option_map (λ t. t.now) rest.entry))) }
 {
-    let text = match one_field(rest) {
-        Some(text) => text,
-        None => return Err(EditError::FieldCount),
-    };
-    let sectors = match number_in(text, 1, GREATEST_ALIGNMENT) {
-        Some(sectors) => sectors,
-        None => return Err(EditError::NotANumber),
-    };
-    Ok(Edit::Align(sectors))
+    let sectors = one_field(rest)?;
+    Ok(Edit::Align(number_in(sectors, 1, GREATEST_ALIGNMENT)?))
 }
 
 // `d:PATH`.
@@ -39,15 +32,8 @@ pub(crate) fn parse_delete(rest: Option<&str>) -> Result<Edit, EditError>
     ensures ok { IfOk result (IsWord ((100 ∷ []) ∷ fields_after (option_map (λ t. t.now) rest.entry))) }
     ensures err { IfErr result (IsFault (100 ∷ []) (fields_after (option_map (λ t. t.now) rest.entry))) }
 {
-    let text = match one_field(rest) {
-        Some(text) => text,
-        None => return Err(EditError::FieldCount),
-    };
-    let path = match path_field(text) {
-        Some(path) => path,
-        None => return Err(EditError::NotANumber),
-    };
-    Ok(Edit::Delete(path))
+    let path = one_field(rest)?;
+    Ok(Edit::Delete(path_field(path)?))
 }
 
 // `t:PATH:CODE`.
@@ -55,19 +41,8 @@ pub(crate) fn parse_set_kind(rest: Option<&str>) -> Result<Edit, EditError>
     ensures ok { IfOk result (IsWord ((116 ∷ []) ∷ fields_after (option_map (λ t. t.now) rest.entry))) }
     ensures err { IfErr result (IsFault (116 ∷ []) (fields_after (option_map (λ t. t.now) rest.entry))) }
 {
-    let (path, code) = match two_fields(rest) {
-        Some((path, code)) => (path, code),
-        None => return Err(EditError::FieldCount),
-    };
-    let path = match path_field(path) {
-        Some(path) => path,
-        None => return Err(EditError::NotANumber),
-    };
-    let code = match code_field(code) {
-        Some(code) => code,
-        None => return Err(EditError::NotACode),
-    };
-    Ok(Edit::SetKind(path, code))
+    let (path, code) = two_fields(rest)?;
+    Ok(Edit::SetKind(path_field(path)?, code_field(code)?))
 }
 
 // `u:NUM:GUID`.
@@ -75,19 +50,8 @@ pub(crate) fn parse_set_unique(rest: Option<&str>) -> Result<Edit, EditError>
     ensures ok { IfOk result (IsWord ((117 ∷ []) ∷ fields_after (option_map (λ t. t.now) rest.entry))) }
     ensures err { IfErr result (IsFault (117 ∷ []) (fields_after (option_map (λ t. t.now) rest.entry))) }
 {
-    let (number, guid) = match two_fields(rest) {
-        Some((number, guid)) => (number, guid),
-        None => return Err(EditError::FieldCount),
-    };
-    let number = match entry_number(number) {
-        Some(number) => number,
-        None => return Err(EditError::NotANumber),
-    };
-    let guid = match guid_field(guid) {
-        Some(guid) => guid,
-        None => return Err(EditError::NotAGuid),
-    };
-    Ok(Edit::SetUnique(number, guid))
+    let (number, guid) = two_fields(rest)?;
+    Ok(Edit::SetUnique(entry_number(number)?, guid_field(guid)?))
 }
 
 // `U:GUID`.
@@ -95,15 +59,8 @@ pub(crate) fn parse_set_disk(rest: Option<&str>) -> Result<Edit, EditError>
     ensures ok { IfOk result (IsWord ((85 ∷ []) ∷ fields_after (option_map (λ t. t.now) rest.entry))) }
     ensures err { IfErr result (IsFault (85 ∷ []) (fields_after (option_map (λ t. t.now) rest.entry))) }
 {
-    let text = match one_field(rest) {
-        Some(text) => text,
-        None => return Err(EditError::FieldCount),
-    };
-    let guid = match guid_field(text) {
-        Some(guid) => guid,
-        None => return Err(EditError::NotAGuid),
-    };
-    Ok(Edit::SetDisk(guid))
+    let guid = one_field(rest)?;
+    Ok(Edit::SetDisk(guid_field(guid)?))
 }
 
 // `A:NUM:BIT:V`.
@@ -111,23 +68,11 @@ pub(crate) fn parse_set_bit(rest: Option<&str>) -> Result<Edit, EditError>
     ensures ok { IfOk result (IsWord ((65 ∷ []) ∷ fields_after (option_map (λ t. t.now) rest.entry))) }
     ensures err { IfErr result (IsFault (65 ∷ []) (fields_after (option_map (λ t. t.now) rest.entry))) }
 {
-    let (number, bit, value) = match three_fields(rest) {
-        Some((number, bit, value)) => (number, bit, value),
-        None => return Err(EditError::FieldCount),
-    };
-    let number = match entry_number(number) {
-        Some(number) => number,
-        None => return Err(EditError::NotANumber),
-    };
-    let bit = match number_in(bit, 0, LAST_BIT) {
-        Some(bit) => bit,
-        None => return Err(EditError::NotANumber),
-    };
-    let value = match number_in(value, 0, 1) {
-        Some(value) => value,
-        None => return Err(EditError::NotANumber),
-    };
-    Ok(Edit::SetBit(number, bit as u8, value == 1))
+    let (entry, bit, value) = three_fields(rest)?;
+    let number = entry_number(entry)?;
+    let place = number_in(bit, 0, LAST_BIT)?;
+    let set = number_in(value, 0, 1)?;
+    Ok(Edit::SetBit(number, place as u8, set == 1))
 }
 
 // `e`.
@@ -176,14 +121,9 @@ pub(crate) fn parse_set_name(alloc: Global, rest: Option<&str>) -> Result<Edit, 
         Some(name) => name,
         None => return Err(EditError::FieldCount),
     };
-    let number = match entry_number(number) {
-        Some(number) => number,
-        None => return Err(EditError::NotANumber),
-    };
-    match String::from_str(alloc, name) {
-        Ok(name) => Ok(Edit::SetName(number, name)),
-        Err(_) => Err(EditError::Memory),
-    }
+    let entry = entry_number(number)?;
+    let name = String::from_str(alloc, name)?;
+    Ok(Edit::SetName(entry, name))
 }
 
 // `n:NUM:START:END` without a type.
@@ -191,18 +131,9 @@ fn parse_place(path: &str, start: &str, end: &str) -> Result<Edit, EditError>
     ensures ok { IfOk result (IsWord ((110 ∷ []) ∷ path.now ∷ start.now ∷ end.now ∷ [])) }
     ensures err { IfErr result (IsFault (110 ∷ []) (path.now ∷ start.now ∷ end.now ∷ [])) }
 {
-    let path = match new_path_field(path) {
-        Some(path) => path,
-        None => return Err(EditError::NotANumber),
-    };
-    let start = match number_in(start, 0, u64::MAX) {
-        Some(start) => start,
-        None => return Err(EditError::NotANumber),
-    };
-    let end = match end_field(end) {
-        Some(end) => end,
-        None => return Err(EditError::NotANumber),
-    };
+    let path = new_path_field(path)?;
+    let start = number_in(start, 0, u64::MAX)?;
+    let end = end_field(end)?;
     Ok(Edit::New {
         path,
         start,
@@ -221,31 +152,16 @@ fn parse_typed(rest: Option<&str>) -> Result<Edit, EditError>
         Some((path, rest)) => (path, rest),
         None => return Err(EditError::FieldCount),
     };
-    let (start, end, code) = match three_fields(rest) {
-        Some((start, end, code)) => (start, end, code),
-        None => return Err(EditError::FieldCount),
-    };
-    let path = match new_path_field(path) {
-        Some(path) => path,
-        None => return Err(EditError::NotANumber),
-    };
-    let start = match number_in(start, 0, u64::MAX) {
-        Some(start) => start,
-        None => return Err(EditError::NotANumber),
-    };
-    let end = match end_field(end) {
-        Some(end) => end,
-        None => return Err(EditError::NotANumber),
-    };
-    let code = match code_field(code) {
-        Some(code) => code,
-        None => return Err(EditError::NotACode),
-    };
+    let (first, last, code) = three_fields(rest)?;
+    let path = new_path_field(path)?;
+    let start = number_in(first, 0, u64::MAX)?;
+    let end = end_field(last)?;
+    let code = Some(code_field(code)?);
     Ok(Edit::New {
         path,
         start,
         end,
-        code: Some(code),
+        code,
     })
 }
 
@@ -255,7 +171,7 @@ pub(crate) fn parse_new(rest: Option<&str>) -> Result<Edit, EditError>
     ensures err { IfErr result (IsFault (110 ∷ []) (fields_after (option_map (λ t. t.now) rest.entry))) }
 {
     match three_fields(rest) {
-        Some((path, start, end)) => parse_place(path, start, end),
-        None => parse_typed(rest),
+        Ok((path, start, end)) => parse_place(path, start, end),
+        Err(_) => parse_typed(rest),
     }
 }

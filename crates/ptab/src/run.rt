@@ -10,8 +10,8 @@ use crate::repair::repair;
 use crate::show::print_layout;
 use crate::texts::{Failure, Status, print_finding};
 use pt_file::{Access, FileDisk};
-use pt_layout::{Path, Verdict, VerifyError, locate, parse_number, parse_path, recover, verify};
-use pt_line::{Job, Line, LineError, SectorSize, read_line};
+use pt_layout::{Path, Verdict, locate, parse_number, parse_path, recover, verify};
+use pt_line::{Job, Line, SectorSize, read_line};
 use std::fs::{File, Files};
 use std::io;
 use std::io::Write;
@@ -35,10 +35,8 @@ fn show<const B: usize, R: Files<File = File> + AllocGlobal, O: Write>(
     requires { IsSectorSize B }
 {
     let mut disk = FileDisk::<B>::open(rt, image, Access::Read)?;
-    match recover::<B, _>(rt.alloc(), &mut disk) {
-        Ok(layout) => printed(print_layout(out, &layout), Status::Done),
-        Err(why) => Err(Failure::NoTable(why)),
-    }
+    let layout = recover::<B, _>(rt.alloc(), &mut disk)?;
+    printed(print_layout(out, &layout), Status::Done)
 }
 
 fn verify_image<const B: usize, R: Files<File = File> + AllocGlobal, O: Write>(
@@ -49,11 +47,9 @@ fn verify_image<const B: usize, R: Files<File = File> + AllocGlobal, O: Write>(
     requires { IsSectorSize B }
 {
     let mut disk = FileDisk::<B>::open(rt, image, Access::Read)?;
-    match verify::<B, _>(rt.alloc(), &mut disk) {
-        Ok(Verdict::Yes(_)) => printed(writeln!(out, "yes"), Status::Done),
-        Ok(Verdict::No(finding)) => printed(print_finding(out, &finding), Status::No),
-        Err(VerifyError::Device(_)) => Err(Failure::Device),
-        Err(VerifyError::Memory) => Err(Failure::Memory),
+    match verify::<B, _>(rt.alloc(), &mut disk)? {
+        Verdict::Yes(_) => printed(writeln!(out, "yes"), Status::Done),
+        Verdict::No(finding) => printed(print_finding(out, &finding), Status::No),
     }
 }
 
@@ -77,10 +73,7 @@ fn locate_in<const B: usize, R: Files<File = File> + AllocGlobal, O: Write>(
     requires { IsSectorSize B }
 {
     let mut disk = FileDisk::<B>::open(rt, image, Access::Read)?;
-    let layout = match recover::<B, _>(rt.alloc(), &mut disk) {
-        Ok(layout) => layout,
-        Err(why) => return Err(Failure::NoTable(why)),
-    };
+    let layout = recover::<B, _>(rt.alloc(), &mut disk)?;
     match locate::<B>(&layout, path, k) {
         Some(lba) => printed(writeln!(out, "{}", lba.0), Status::Done),
         None => printed(writeln!(out, "none"), Status::No),
@@ -123,13 +116,10 @@ fn line_answer<R: Files<File = File> + AllocGlobal, O: Write>(
     words: &[&str],
     out: &mut O,
 ) -> Answer {
-    match read_line(rt.alloc(), words) {
-        Ok(Line { job, size }) => match size {
-            SectorSize::Bytes512 => answer::<512, R, O>(rt, &job, out),
-            SectorSize::Bytes4096 => answer::<4096, R, O>(rt, &job, out),
-        },
-        Err(LineError::Usage(text)) => Err(Failure::Usage(text)),
-        Err(LineError::Memory) => Err(Failure::Memory),
+    let Line { job, size } = read_line(rt.alloc(), words)?;
+    match size {
+        SectorSize::Bytes512 => answer::<512, R, O>(rt, &job, out),
+        SectorSize::Bytes4096 => answer::<4096, R, O>(rt, &job, out),
     }
 }
 

@@ -3,15 +3,10 @@
 use pt_bsd::{Form, Label};
 use pt_gpt::{Entry, Table};
 use pt_guid::{Guid, code_of_type};
-use pt_layout::{Body, Layout};
+use pt_layout::{Body, Layout, Path};
 use pt_mbr::{Ebr, Record};
 use std::io;
 use std::io::Write;
-
-/// The letter of a label's entry, from 0 on.
-pub fn letter(index: u8) -> char {
-    char::from(b'a'.saturating_add(index))
-}
 
 /// Prints a layout: a line for the table, then one a partition, by number, a slice before its letters.
 pub fn print_layout<O: Write>(out: &mut O, layout: &Layout) -> io::Result<()> {
@@ -157,12 +152,11 @@ fn print_letters<O: Write>(
                 };
                 let first = base.saturating_add(u64::from(entry.offset));
                 let last = first.saturating_add(u64::from(entry.size).saturating_sub(1));
-                writeln!(
-                    out,
-                    "{number}.{} {first} {last} {:02X}",
-                    letter(index),
-                    entry.fstype
-                )?;
+                let path = Path {
+                    number,
+                    letter: Some(index),
+                };
+                writeln!(out, "{path} {first} {last} {:02X}", entry.fstype)?;
             }
         }
     }

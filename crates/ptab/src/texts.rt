@@ -1,10 +1,10 @@
 //! What the command answers: its texts and its exit statuses (docs/commands.md).
 
-use crate::why::number_of;
 use pt_check::CheckError;
 use pt_file::NoFile;
 use pt_gpt::Side;
-use pt_layout::{Finding, NoTable, Path};
+use pt_layout::{Finding, NoTable, VerifyError};
+use pt_line::LineError;
 use pt_mbr::ChainError;
 use pt_plan::{CommitError, RepairError};
 use std::alloc::AllocError;
@@ -109,6 +109,30 @@ impl Failure {
     }
 }
 
+impl From<LineError> for Failure {
+    fn from(error: LineError) -> Failure {
+        match error {
+            LineError::Usage(text) => Failure::Usage(text),
+            LineError::Memory => Failure::Memory,
+        }
+    }
+}
+
+impl From<NoTable> for Failure {
+    fn from(why: NoTable) -> Failure {
+        Failure::NoTable(why)
+    }
+}
+
+impl From<VerifyError> for Failure {
+    fn from(error: VerifyError) -> Failure {
+        match error {
+            VerifyError::Device(_) => Failure::Device,
+            VerifyError::Memory => Failure::Memory,
+        }
+    }
+}
+
 impl From<NoFile> for Failure {
     fn from(_no_file: NoFile) -> Failure {
         Failure::Device
@@ -136,7 +160,7 @@ impl From<CommitError> for Failure {
             CommitError::NoTable(why) => Failure::NoTable(why),
             CommitError::Edit(why) => Failure::Edit(why.number()),
             CommitError::Plan(why) => Failure::Plan(why.number()),
-            CommitError::Check(why) => Failure::Check(number_of(why)),
+            CommitError::Check(why) => Failure::Check(why.number()),
             CommitError::Device(_) => Failure::Device,
             CommitError::Memory => Failure::Memory,
         }
@@ -157,12 +181,8 @@ impl From<RepairError> for Failure {
 fn print_no_table<E: Write>(err: &mut E, why: NoTable) -> io::Result<()> {
     match why {
         NoTable::NoCopy(primary, backup) => {
-            writeln!(
-                err,
-                "no table: copies {} {}",
-                primary.number(),
-                backup.number()
-            )
+            let (primary, backup) = (primary.number(), backup.number());
+            writeln!(err, "no table: copies {primary} {backup}")
         }
         NoTable::Chain(error) => print_chain(err, error),
         NoTable::TwoExtended => writeln!(err, "no table: two extended"),
@@ -173,21 +193,14 @@ fn print_no_table<E: Write>(err: &mut E, why: NoTable) -> io::Result<()> {
 }
 
 fn print_chain<E: Write>(err: &mut E, error: ChainError) -> io::Result<()> {
+    let number = error.number();
     match error {
-        ChainError::NoSignature(at) => writeln!(err, "no table: chain 1 {}", at.0),
-        ChainError::BadRecord(at) => writeln!(err, "no table: chain 2 {}", at.0),
-        ChainError::NotUpward(at) => writeln!(err, "no table: chain 3 {}", at.0),
-        ChainError::OutsideExtended(at) => writeln!(err, "no table: chain 4 {}", at.0),
-        ChainError::TooLong => writeln!(err, "no table: chain 5"),
+        ChainError::NoSignature(at)
+        | ChainError::BadRecord(at)
+        | ChainError::NotUpward(at)
+        | ChainError::OutsideExtended(at) => writeln!(err, "no table: chain {number} {}", at.0),
+        ChainError::TooLong => writeln!(err, "no table: chain {number}"),
         ChainError::Device(_) => writeln!(err, "device"),
-    }
-}
-
-/// Prints a path, as `3` or `2.a`.
-pub fn print_path<O: Write>(out: &mut O, path: &Path) -> io::Result<()> {
-    match path.letter {
-        Some(index) => write!(out, "{}.{}", path.number, crate::show::letter(index)),
-        None => write!(out, "{}", path.number),
     }
 }
 
@@ -195,40 +208,17 @@ pub fn print_path<O: Write>(out: &mut O, path: &Path) -> io::Result<()> {
 pub fn print_finding<O: Write>(out: &mut O, finding: &Finding) -> io::Result<()> {
     write!(out, "no {} ", finding.number())?;
     match finding {
-        Finding::NoTable(_) => write!(out, "no table")?,
-        Finding::PrimaryCopy(error) => write!(out, "primary copy {}", error.number())?,
-        Finding::BackupCopy(error) => write!(out, "backup copy {}", error.number())?,
-        Finding::CopiesDiffer => write!(out, "copies differ")?,
-        Finding::Alternate(Side::Primary) => write!(out, "alternate primary")?,
-        Finding::Alternate(Side::Backup) => write!(out, "alternate backup")?,
-        Finding::Protective => write!(out, "protective record")?,
-        _ => print_place(out, finding)?,
-    }
-    writeln!(out)
-}
-
-fn print_place<O: Write>(out: &mut O, finding: &Finding) -> io::Result<()> {
-    match finding {
-        Finding::OutsideUsable(path) => {
-            write!(out, "outside ")?;
-            print_path(out, path)
-        }
-        Finding::Overlap(before, it) => {
-            write!(out, "overlap ")?;
-            print_path(out, before)?;
-            write!(out, " ")?;
-            print_path(out, it)
-        }
-        Finding::OnTable(path, at) => {
-            write!(out, "on table ")?;
-            print_path(out, path)?;
-            write!(out, " {}", at.0)
-        }
-        Finding::SameGuid(lower, higher) => write!(out, "same guid {lower} {higher}"),
-        Finding::ForeignLabel(path) => {
-            write!(out, "foreign label ")?;
-            print_path(out, path)
-        }
-        _ => Ok(()),
+        Finding::NoTable(_) => writeln!(out, "no table"),
+        Finding::PrimaryCopy(error) => writeln!(out, "primary copy {}", error.number()),
+        Finding::BackupCopy(error) => writeln!(out, "backup copy {}", error.number()),
+        Finding::CopiesDiffer => writeln!(out, "copies differ"),
+        Finding::Alternate(Side::Primary) => writeln!(out, "alternate primary"),
+        Finding::Alternate(Side::Backup) => writeln!(out, "alternate backup"),
+        Finding::Protective => writeln!(out, "protective record"),
+        Finding::OutsideUsable(path) => writeln!(out, "outside {path}"),
+        Finding::Overlap(before, it) => writeln!(out, "overlap {before} {it}"),
+        Finding::OnTable(path, at) => writeln!(out, "on table {path} {}", at.0),
+        Finding::SameGuid(lower, higher) => writeln!(out, "same guid {lower} {higher}"),
+        Finding::ForeignLabel(path) => writeln!(out, "foreign label {path}"),
     }
 }

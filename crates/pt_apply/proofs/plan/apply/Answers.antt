@@ -22,34 +22,47 @@ loop-phase-preserved g c = record {
   count = search rules;
   name = search rules;
   quiet = search rules;
-  settled = λ tells. settled_on c.deref-phase-items.result.now c.loop-phase.phase-index c.phase-item.result c.loop-phase-test.true c.phase-item.is
+  settled =
+      λ tells. settled_on c.deref-phase-items.result.now c.loop-phase.phase-index c.phase-item.result c.loop-phase-test.true c.phase-item.is
       c.deref.result.now c.deref.ensures.value _ _ _ (c.loop-phase.invariant.settled tells) (c.in_ok-write_phase.ensures.done tells);
-  leaves = λ tells. leaves_phase c.deref-phase-items.result.now c.loop-phase.phase-index c.phase-item.result c.loop-phase-test.true c.phase-item.is
-      c.deref.result.now c.deref.ensures.value _ _ _ (c.loop-phase.invariant.settled tells) _ _ (c.loop-phase.invariant.leaves tells) (c.in_ok-write_phase.ensures.passed tells);
-  reached = λ tells. reached_on c.deref-phase-items.result.now c.loop-phase.phase-index c.phase-item.result c.loop-phase-test.true c.phase-item.is
-      c.deref.result.now c.deref.ensures.value _ _ _ (c.loop-phase.invariant.settled tells) _ (c.loop-phase.invariant.reached tells) (c.in_ok-write_phase.ensures.passed tells) (c.in_ok-write_phase.ensures.done tells);
+  leaves =
+      λ tells. leaves_phase c.deref-phase-items.result.now c.loop-phase.phase-index c.phase-item.result c.loop-phase-test.true
+      c.phase-item.is
+      c.deref.result.now c.deref.ensures.value _ _ _ (c.loop-phase.invariant.settled tells) _ _ (c.loop-phase.invariant.leaves tells)
+      (c.in_ok-write_phase.ensures.passed tells);
+  reached =
+      λ tells. reached_on c.deref-phase-items.result.now c.loop-phase.phase-index c.phase-item.result c.loop-phase-test.true c.phase-item.is
+      c.deref.result.now c.deref.ensures.value _ _ _ (c.loop-phase.invariant.settled tells) _ (c.loop-phase.invariant.reached tells)
+      (c.in_ok-write_phase.ensures.passed tells) (c.in_ok-write_phase.ensures.done tells);
 }
 
 pub returns-in_err-write_phase-clause-any_moment : goal.returns-in_err-write_phase-clause-any_moment
 returns-in_err-write_phase-clause-any_moment g c = λ tells.
-    rw c.deref-phase-items.ensures.value at (leaves_phase c.deref-phase-items.result.now c.loop-phase.phase-index c.phase-item.result c.loop-phase-test.true c.phase-item.is
-    c.deref.result.now c.deref.ensures.value _ _ _ (c.loop-phase.invariant.settled tells) _ _ (c.loop-phase.invariant.leaves tells) (c.in_err-write_phase.ensures.failed tells).within)
+    rw c.deref-phase-items.ensures.value at (leaves_phase c.deref-phase-items.result.now c.loop-phase.phase-index c.phase-item.result
+    c.loop-phase-test.true c.phase-item.is
+    c.deref.result.now c.deref.ensures.value _ _ _ (c.loop-phase.invariant.settled tells) _ _ (c.loop-phase.invariant.leaves tells)
+    (c.in_err-write_phase.ensures.failed tells).within)
 
 pub returns-in_err-write_phase-clause-failed : goal.returns-in_err-write_phase-clause-failed
 returns-in_err-write_phase-clause-failed g c = λ tells.
     let p = err_from_is_err_and c.from_residual.result c.from_residual.ensures.1 in
-    rw (p.1, p.2) (rw c.deref-phase-items.ensures.value at (failed_in c.deref-phase-items.result.now c.loop-phase.phase-index c.phase-item.result c.loop-phase-test.true c.phase-item.is
-    c.deref.result.now c.deref.ensures.value _ _ _ (c.loop-phase.invariant.settled tells) _ _ (c.loop-phase.invariant.reached tells) (c.in_err-write_phase.ensures.failed tells)))
+    rw (p.1, p.2) (rw c.deref-phase-items.ensures.value at (failed_in c.deref-phase-items.result.now c.loop-phase.phase-index
+    c.phase-item.result c.loop-phase-test.true c.phase-item.is
+    c.deref.result.now c.deref.ensures.value _ _ _ (c.loop-phase.invariant.settled tells) _ _ (c.loop-phase.invariant.reached tells)
+    (c.in_err-write_phase.ensures.failed tells)))
 
 pub returns-clause-passed : goal.returns-clause-passed
 returns-clause-passed g c = λ tells.
     let phases = phases_of c.args.plan.now in
-    let all : c.loop-phase.phase-index ≡ length phases = omega (arith, length-phases c.args.plan.now.phases.items, ap length c.deref-phase-items.ensures.value) in
-    subst (λ (n : ℕ). Reached phases (g.D.Disk.told c.args.disk.now).seen n 0 (g.D.Disk.told c.args.disk.now) (g.D.Disk.told c.loop-phase.disk)) all
+    let all : c.loop-phase.phase-index ≡ length phases =
+    omega (arith, length-phases c.args.plan.now.phases.items, ap length c.deref-phase-items.ensures.value) in
+    subst (λ (n : ℕ). Reached phases (g.D.Disk.told c.args.disk.now).seen n 0 (g.D.Disk.told c.args.disk.now)
+    (g.D.Disk.told c.loop-phase.disk)) all
     (rw c.deref-phase-items.ensures.value at (c.loop-phase.invariant.reached tells))
 
 pub returns-in_err-write_phase-clause-fault : goal.returns-in_err-write_phase-clause-fault
 returns-in_err-write_phase-clause-fault g c =
     let p = err_from_is_err_and c.from_residual.result c.from_residual.ensures.1 in
-    rw (p.1, p.2) (rw c.deref-phase-items.ensures.value at (fault_in c.deref-phase-items.result.now c.loop-phase.phase-index c.phase-item.result
+    rw (p.1, p.2) (rw c.deref-phase-items.ensures.value at (fault_in c.deref-phase-items.result.now c.loop-phase.phase-index
+    c.phase-item.result
     c.deref.result.now _ c.loop-phase-test.true c.phase-item.is c.deref.ensures.value c.in_err-write_phase.ensures.fault))

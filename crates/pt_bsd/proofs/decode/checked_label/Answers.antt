@@ -2,7 +2,13 @@ use Rattle.std.proofs.Common.{refl, rules}
 use Rattle.pt_bsd.proofs.decode.checked_label.Goals as goal
 
 pub returns-then-not-has_raw-clause-err : goal.returns-then-not-has_raw-clause-err
-returns-then-not-has_raw-clause-err c = (c.if-not-has_magics.ensures.0 refl, c.if-not-has_count.ensures.0 refl, c.if-not-has_sum.ensures.0 refl, c.if-not-has_sector_size.ensures.0 refl, search rules)
+returns-then-not-has_raw-clause-err c = (
+  c.if-not-has_magics.ensures.0 refl,
+  c.if-not-has_count.ensures.0 refl,
+  c.if-not-has_sum.ensures.0 refl,
+  c.if-not-has_sector_size.ensures.0 refl,
+  search rules,
+)
 
 pub returns-clause-ok : goal.returns-clause-ok
 returns-clause-ok c = record {

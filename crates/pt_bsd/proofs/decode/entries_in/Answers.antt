@@ -6,7 +6,8 @@ use Rattle.pt_bsd.specs.Reading.{ReadSoFar}
 use Rattle.pt_bsd.specs.declared.label.LabelEntry.{LabelEntry}
 use Rattle.pt_bsd.proofs.decode.entries_in.Goals as goal
 
-read_more : (entries : List (Option LabelEntry)) (i : ℕ) (bytes : List ℕ) (e : LabelEntry) → ReadSoFar entries i bytes → i < 8 → i < counted_in bytes → HasEntry e (place_of i) bytes
+read_more : (entries : List (Option LabelEntry)) (i : ℕ) (bytes : List ℕ) (e : LabelEntry) → ReadSoFar entries i bytes → i < 8
+    → i < counted_in bytes → HasEntry e (place_of i) bytes
     → ReadSoFar (slice_set entries i (Some e)) (i + 1) bytes
 read_more entries i bytes e before room counts here = record {
   places = length-set entries i (Some e) ∙ before.places;
@@ -20,4 +21,7 @@ read_more entries i bytes e before room counts here = record {
 }
 
 pub loop-k-preserved : goal.loop-k-preserved
-loop-k-preserved c = read_more c.loop-k.entries c.loop-k.k c.args.bytes.now c.entry_at.result c.loop-k.invariant (omega (arith, c.loop-k-test.true, c.counted-k-end.ensures, c.requires.count.most)) (omega (arith, c.loop-k-test.true, c.counted-k-end.ensures)) c.entry_at.ensures
+loop-k-preserved c =
+    read_more c.loop-k.entries c.loop-k.k c.args.bytes.now c.entry_at.result c.loop-k.invariant
+    (omega (arith, c.loop-k-test.true, c.counted-k-end.ensures, c.requires.count.most))
+    (omega (arith, c.loop-k-test.true, c.counted-k-end.ensures)) c.entry_at.ensures

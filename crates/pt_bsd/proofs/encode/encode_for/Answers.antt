@@ -14,7 +14,9 @@ returns-then-eq-clause-some g c =
 pub returns-else-eq-clause-none : goal.returns-else-eq-clause-none
 returns-else-eq-clause-none g c fit =
     let there = c.encode_label-sector.ensures.label fit.0 c.args.slice_first c.args.slice_len fit.1 in
-    let same : c.in-Ok.found ≡ c.args.label.now = label_one c.in-Ok.found c.args.label.now c.args.slice_first c.args.slice_len c.args.slice_first c.args.slice_len c.encode_label-sector.result c.in-Ok.ensures.ok there in
+    let same : c.in-Ok.found ≡ c.args.label.now =
+    label_one c.in-Ok.found c.args.label.now c.args.slice_first c.args.slice_len c.args.slice_first c.args.slice_len
+    c.encode_label-sector.result c.in-Ok.ensures.ok there in
     false≢true (sym c.if-eq.false ∙ c.eq.ensures ∙ (label_decides c.in-Ok.found c.args.label.now).1 same)
 
 pub returns-in-Err-clause-none : goal.returns-in-Err-clause-none

@@ -9,4 +9,5 @@ returns-clause-here c =
     rw (c.put.ensures, told.bytes) (entry_put c.args.entry.now c.args.at c.args.bytes.now (omega (arith, c.requires)) told.fits)
 
 pub returns-clause-only : goal.returns-clause-only
-returns-clause-only c = rw c.put.ensures (put_changes c.args.at _ c.entry_bytes.result c.args.bytes.now (omega arith) (omega (arith, c.requires)))
+returns-clause-only c =
+    rw c.put.ensures (put_changes c.args.at _ c.entry_bytes.result c.args.bytes.now (omega arith) (omega (arith, c.requires)))

@@ -7,12 +7,15 @@ use Rattle.pt_bsd.proofs.encode.write_label.Goals as goal
 
 pub put_sum-requires-clause-none_yet : goal.put_sum-requires-clause-none_yet
 put_sum-requires-clause-none_yet c =
-    ap (little_number 2) (range_kept 148 (place_of c.count_in-count.result) 136 138 c.put_front.new.bytes c.put_entries.new.bytes c.put_entries.ensures.only (lit≤ tt) (inl (lit≤ tt)))
+    ap (little_number 2) (range_kept 148
+    (place_of c.count_in-count.result) 136 138 c.put_front.new.bytes c.put_entries.new.bytes c.put_entries.ensures.only (lit≤ tt)
+    (inl (lit≤ tt)))
     ∙ c.put_front.ensures.front.sum
 
 pub returns-clause-label : goal.returns-clause-label
 returns-clause-label c = λ counted first len fits.
-    written c.args.label.now c.count_in-count.result first len c.put_front.new.bytes c.put_entries.new.bytes c.put_sum.new.bytes c.count_in-count.ensures.count c.count_in-count.ensures.most
+    written c.args.label.now c.count_in-count.result first len c.put_front.new.bytes c.put_entries.new.bytes c.put_sum.new.bytes
+    c.count_in-count.ensures.count c.count_in-count.ensures.most
     c.put_front.ensures.front c.put_entries.ensures c.put_sum.ensures.only c.put_sum.ensures.sum counted fits
 
 pub returns-clause-rest : goal.returns-clause-rest

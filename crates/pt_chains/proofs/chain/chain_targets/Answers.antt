@@ -17,9 +17,12 @@ returns-in-None-clause-none g c = λ tells.
     let rest : List Ebr = take (length chain - (c.loop-k.k + 1)) (drop (c.loop-k.k + 1) chain) in
     let first : ℕ = c.args.first.0 in
     let unmade : IsUnmadeEbr g.row.B (g.D.Disk.told c.loop-k.disk).seen c.args.old.now first (get_or chain c.loop-k.k z) rest =
-    subst (λ (o : Option (Target g.row.B)). IfNone o (IsUnmadeEbr g.row.B (g.D.Disk.told c.loop-k.disk).seen c.args.old.now first (get_or chain c.loop-k.k z) rest)) c.in-None.is (c.in_ok-target.ensures.none tells) in
+    subst (λ (o : Option (Target g.row.B)). IfNone o
+    (IsUnmadeEbr g.row.B (g.D.Disk.told c.loop-k.disk).seen c.args.old.now first (get_or chain c.loop-k.k z) rest)) c.in-None.is
+    (c.in_ok-target.ensures.none tells) in
     unmade_at g.row.B d c.args.old.now first chain c.loop-k.k z rest c.loop-k-test.true (rest_of chain c.loop-k.k)
-    (subst (λ (t : Told). IsUnmadeEbr g.row.B t.seen c.args.old.now first (get_or chain c.loop-k.k z) rest) (c.loop-k.invariant.same.same tells) unmade)
+    (subst (λ (t : Told). IsUnmadeEbr g.row.B t.seen c.args.old.now first (get_or chain c.loop-k.k z) rest)
+    (c.loop-k.invariant.same.same tells) unmade)
 
 pub loop-k-preserved : goal.loop-k-preserved
 loop-k-preserved g c =
@@ -28,15 +31,22 @@ loop-k-preserved g c =
     let rest : List Ebr = take (length chain - (c.loop-k.k + 1)) (drop (c.loop-k.k + 1) chain) in
     let first : ℕ = c.args.first.0 in
     let place : c.in-Some.target.at.0 ≡ (get_or chain c.loop-k.k z).at.0 =
-    subst (λ (o : Option (Target g.row.B)). IfSome o (λ t. t.at.0 ≡ (get_or chain c.loop-k.k z).at.0)) c.in-Some.is c.in_ok-target.ensures.place in
+    subst (λ (o : Option (Target g.row.B)). IfSome o
+    (λ t. t.at.0 ≡ (get_or chain c.loop-k.k z).at.0)) c.in-Some.is c.in_ok-target.ensures.place in
     record {
       same = g.met.D.Disk.reads_on c.args.disk.now c.loop-k.disk c.ebr_at.new.disk c.loop-k.invariant.same c.in_ok-target.ensures.same;
       quiet = c.in_ok-target.ensures.blames ∙ c.loop-k.invariant.quiet;
-      placed = placed_more g.row.B c.args.head.at.0 chain c.loop-k.k z c.loop-k.targets.items c.in-Some.target c.push_target-in-Some.new.targets.items c.loop-k-test.true c.loop-k.invariant.placed place c.in_ok-push_target-in-Some.ensures;
+      placed = placed_more g.row.B c.args.head.at.0 chain c.loop-k.k z c.loop-k.targets.items c.in-Some.target
+          c.push_target-in-Some.new.targets.items c.loop-k-test.true c.loop-k.invariant.placed place c.in_ok-push_target-in-Some.ensures;
       begun = λ tells.
           (let d : Sectors = (g.D.Disk.told c.args.disk.now).seen in
           let is : IsEbrOf (g.D.Disk.told c.loop-k.disk).seen c.args.old.now first (get_or chain c.loop-k.k z) rest c.in-Some.target =
-          subst (λ (o : Option (Target g.row.B)). IfSome o (λ t. IsEbrOf (g.D.Disk.told c.loop-k.disk).seen c.args.old.now first (get_or chain c.loop-k.k z) rest t)) c.in-Some.is (c.in_ok-target.ensures.some tells) in
-          begun_more g.row.B d c.args.head c.args.old.now first chain c.loop-k.k z rest c.loop-k.targets.items c.in-Some.target c.push_target-in-Some.new.targets.items c.loop-k-test.true (rest_of chain c.loop-k.k)
-          (c.loop-k.invariant.begun tells) (subst (λ (t : Told). IsEbrOf t.seen c.args.old.now first (get_or chain c.loop-k.k z) rest c.in-Some.target) (c.loop-k.invariant.same.same tells) is) c.in_ok-push_target-in-Some.ensures);
+          subst (λ (o : Option (Target g.row.B)). IfSome o
+          (λ t. IsEbrOf (g.D.Disk.told c.loop-k.disk).seen c.args.old.now first (get_or chain c.loop-k.k z) rest t)) c.in-Some.is
+          (c.in_ok-target.ensures.some tells) in
+          begun_more g.row.B d c.args.head c.args.old.now first chain c.loop-k.k z rest c.loop-k.targets.items c.in-Some.target
+          c.push_target-in-Some.new.targets.items c.loop-k-test.true (rest_of chain c.loop-k.k)
+          (c.loop-k.invariant.begun tells)
+          (subst (λ (t : Told). IsEbrOf t.seen c.args.old.now first (get_or chain c.loop-k.k z) rest c.in-Some.target)
+          (c.loop-k.invariant.same.same tells) is) c.in_ok-push_target-in-Some.ensures);
     }

@@ -12,5 +12,7 @@ returns-in-None-clause-none g c = λ tells.
     let d : Sectors = (g.D.Disk.told c.args.disk.now).seen in
     let under : List ℕ = c.read_sector.new.into in
     head_unmade d c.args.old.now c.args.new.now under (c.in_ok-read_sector.ensures.bytes tells)
-    (subst (λ (o : Option (List ℕ)). IfNone o ((v : List ℕ) → ¬ IsHeadTarget c.args.old.now c.args.new.now under v)) c.in-None.is c.head_target.ensures.none)
-    (subst (λ (o : Option (List ℕ)). IfNone o (¬ (ArePlain c.args.new.now × AreMbr c.args.old.now under))) c.in-None.is c.head_target.ensures.unfit)
+    (subst (λ (o : Option (List ℕ)). IfNone o
+    ((v : List ℕ) → ¬ IsHeadTarget c.args.old.now c.args.new.now under v)) c.in-None.is c.head_target.ensures.none)
+    (subst (λ (o : Option (List ℕ)). IfNone o
+    (¬ (ArePlain c.args.new.now × AreMbr c.args.old.now under))) c.in-None.is c.head_target.ensures.unfit)

@@ -11,7 +11,8 @@ loop-k-init c = λ at. at
 pub returns-then-eq : goal.returns-then-eq
 returns-then-eq c =
     let z : Ebr = record { at = record { 0 = 0 }; logical = None; next = None } in (
-      (λ so. stands_here c.args.at.0 c.args.chain.now c.loop-k.k z c.loop-k-test.true (sym ((Decides-eqb _ c.args.at.0).0 (sym c.eq.ensures ∙ c.if-eq.true)))),
+      (λ so. stands_here c.args.at.0 c.args.chain.now c.loop-k.k z c.loop-k-test.true
+          (sym ((Decides-eqb _ c.args.at.0).0 (sym c.eq.ensures ∙ c.if-eq.true)))),
       (λ at. refl),
     )
 

@@ -13,11 +13,13 @@ returns-clause-bytes c =
     let z : Ebr = record { at = record { 0 = 0 }; logical = None; next = None } in
     let some : 0 < length c.args.rest.now = search rules in
     link_low c.args.first.0 c.args.rest.now z c.low_bits.result c.low_bits-2.result some
-    (c.low_bits.ensures ∙ ap (λ (n : ℕ). n % 4294967296) c.saturating_sub.ensures) (c.low_bits-2.ensures ∙ ap (λ (n : ℕ). n % 4294967296) c.reach_of.ensures)
+    (c.low_bits.ensures ∙ ap (λ (n : ℕ). n % 4294967296) c.saturating_sub.ensures)
+    (c.low_bits-2.ensures ∙ ap (λ (n : ℕ). n % 4294967296) c.reach.ensures)
 
 pub returns-clause-leads : goal.returns-clause-leads
 returns-clause-leads c next on =
     let z : Ebr = record { at = record { 0 = 0 }; logical = None; next = None } in
     let some : 0 < length c.args.rest.now = search rules in
     link_leads c.args.first.0 c.args.rest.now z c.low_bits.result c.low_bits-2.result some
-    (c.low_bits.ensures ∙ ap (λ (n : ℕ). n % 4294967296) c.saturating_sub.ensures) (c.low_bits-2.ensures ∙ ap (λ (n : ℕ). n % 4294967296) c.reach_of.ensures) next on
+    (c.low_bits.ensures ∙ ap (λ (n : ℕ). n % 4294967296) c.saturating_sub.ensures)
+    (c.low_bits-2.ensures ∙ ap (λ (n : ℕ). n % 4294967296) c.reach.ensures) next on

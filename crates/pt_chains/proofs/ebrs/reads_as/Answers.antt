@@ -8,6 +8,8 @@ use Rattle.pt_chains.proofs.ebrs.reads_as.Goals as goal
 pub returns-in-Ok : goal.returns-in-Ok
 returns-in-Ok g c =
     let decided = ebr_decides c.in-Ok.read c.args.ebr.now in (
-      (λ so. subst (λ (e : Ebr). EbrBytes c.args.first.0 c.args.ebr.now.at e c.args.sector.now) (decided.0 (sym c.eq.ensures ∙ so)) c.in-Ok.ensures.ok),
-      (λ is. c.eq.ensures ∙ decided.1 (ebr_one c.args.first.0 c.args.ebr.now.at c.in-Ok.read c.args.ebr.now c.args.sector.now c.in-Ok.ensures.ok is)),
+      (λ so. subst (λ (e : Ebr). EbrBytes c.args.first.0 c.args.ebr.now.at e c.args.sector.now)
+          (decided.0 (sym c.eq.ensures ∙ so)) c.in-Ok.ensures.ok),
+      (λ is. c.eq.ensures ∙ decided.1
+          (ebr_one c.args.first.0 c.args.ebr.now.at c.in-Ok.read c.args.ebr.now c.args.sector.now c.in-Ok.ensures.ok is)),
     )

@@ -13,5 +13,6 @@ returns-then-eq g c =
 pub returns-else-eq : goal.returns-else-eq
 returns-else-eq g c = (
   (λ so. absurd (false≢true (sym c.if-eq.false ∙ so))),
-  (λ is. c.eq.ensures ∙ (records_decide c.in-Some.mbr.records c.args.records.now).1 (records_one c.in-Some.mbr.records c.args.records.now c.args.sector.now c.in-Some.ensures.some.records is.1)),
+  (λ is. c.eq.ensures ∙ (records_decide c.in-Some.mbr.records c.args.records.now).1
+      (records_one c.in-Some.mbr.records c.args.records.now c.args.sector.now c.in-Some.ensures.some.records is.1)),
 )

@@ -5,15 +5,42 @@ use Rattle.pt_check.proofs.Firsts.{count_on, count_within, lent_phase, index_wit
 use Rattle.pt_check.proofs.finished.put_plan.Goals as goal
 
 pub put_phase-requires : goal.put_phase-requires
-put_phase-requires g c = (search rules, (search rules, (search rules, (search rules, omega (arith, c.loop-phase.invariant.room, count_within c.deref-phase-items.result.now c.loop-phase.phase-index c.phase-item.result c.loop-phase-test.true c.phase-item.is, ap length c.deref.ensures.value)))))
+put_phase-requires g c = (
+  search rules,
+  (
+    search rules,
+    (
+      search rules,
+      (
+        search rules,
+        omega (
+          arith,
+          c.loop-phase.invariant.room,
+          count_within c.deref-phase-items.result.now c.loop-phase.phase-index c.phase-item.result c.loop-phase-test.true c.phase-item.is,
+          ap length c.deref.ensures.value,
+        ),
+      ),
+    ),
+  ),
+)
 
 pub loop-phase-preserved : goal.loop-phase-preserved
 loop-phase-preserved g c = record {
   same_reference = search rules;
   disk = search rules;
   faults = search rules;
-  room = omega (arith, c.loop-phase.invariant.room, c.put_phase.ensures.room, count_on c.deref-phase-items.result.now c.loop-phase.phase-index c.phase-item.result c.loop-phase-test.true c.phase-item.is, ap length c.deref.ensures.value);
-  seen = seen_on (phases_in c.deref-phase-items.result.now) (shown (g.D.Disk.told c.args.over.now.disk.now).seen c.args.over.now.own) c.loop-phase.phase-index (writes_of c.deref.result.now) _ _
+  room = omega (
+    arith,
+    c.loop-phase.invariant.room,
+    c.put_phase.ensures.room,
+    count_on c.deref-phase-items.result.now c.loop-phase.phase-index c.phase-item.result c.loop-phase-test.true c.phase-item.is,
+    ap length c.deref.ensures.value,
+  );
+  seen =
+      seen_on (phases_in c.deref-phase-items.result.now)
+      (shown (g.D.Disk.told c.args.over.now.disk.now).seen c.args.over.now.own) c.loop-phase.phase-index
+      (writes_of c.deref.result.now) _ _
       (index_within c.deref-phase-items.result.now c.loop-phase.phase-index c.loop-phase-test.true)
-      (lent_phase c.deref-phase-items.result.now c.loop-phase.phase-index c.phase-item.result c.loop-phase-test.true c.phase-item.is c.deref.result.now c.deref.ensures.value) c.loop-phase.invariant.seen c.put_phase.ensures.seen;
+      (lent_phase c.deref-phase-items.result.now c.loop-phase.phase-index c.phase-item.result c.loop-phase-test.true c.phase-item.is
+      c.deref.result.now c.deref.ensures.value) c.loop-phase.invariant.seen c.put_phase.ensures.seen;
 }

@@ -8,7 +8,9 @@ loop-k-preserved g c = none_more (g.T.Objection.against c.args.objection.now) _ 
     (search rules)
 
 pub returns : goal.returns
-returns g c = none_past (g.T.Objection.against c.args.objection.now) _ (all_below _ c.args.phase.now c.loop-k.k c.loop-k-test.false c.loop-k.invariant)
+returns g c =
+    none_past (g.T.Objection.against c.args.objection.now) _
+    (all_below _ c.args.phase.now c.loop-k.k c.loop-k-test.false c.loop-k.invariant)
 
 pub returns-then-objects : goal.returns-then-objects
 returns-then-objects g c = (

@@ -25,47 +25,157 @@ loop-i-init g c = record {
   room = omega (arith, c.new-over.ensures.room, c.in_ok-room.ensures, c.requires.room);
   seen = λ tells. c.new-over.ensures.seen;
   trace = λ tells. record { same = (c.requires.old tells).reads };
-  course = λ tells. course_none (Denotes g.row.B) (Reads g.row.B) (phases_of c.args.plan.now) (g.D.Disk.told c.args.disk.now).seen c.args.layouts.now.old c.args.layouts.now.new ((c.requires.old tells).denotes);
+  course = λ tells. course_none (Denotes g.row.B) (Reads g.row.B) (phases_of c.args.plan.now)
+      (g.D.Disk.told c.args.disk.now).seen c.args.layouts.now.old c.args.layouts.now.new ((c.requires.old tells).denotes);
 }
 
 pub returns-in-Some-clause-tried : goal.returns-in-Some-clause-tried
-returns-in-Some-clause-tried g c = λ tells. refused_read (Denotes g.row.B) (Reads g.row.B) (phases_of c.args.plan.now) (g.D.Disk.told c.args.disk.now).seen c.args.layouts.now.old c.args.layouts.now.new
-    c.loop-i.i (index_within c.args.plan.now.phases.items c.loop-i.i (omega (arith, c.loop-i-test.true, c.len-i-end.ensures, c.args.plan.now.phases.ok))) c.loop-i.before (c.loop-i.invariant.trace tells) c.loop-i.switch (c.loop-i.invariant.course tells) c.in-Some.lba
-    (subst (λ (w : Writes). TouchedIs (IsIn c.loop-i.before) w (Some c.in-Some.lba)) (lent_phase c.args.plan.now.phases.items c.loop-i.i c.index-phase.result.now (omega (arith, c.loop-i-test.true, c.len-i-end.ensures, c.args.plan.now.phases.ok)) c.index-phase.ensures c.deref.result.now c.deref.ensures.value) c.in-Some.ensures)
+returns-in-Some-clause-tried g c =
+    λ tells. refused_read (Denotes g.row.B) (Reads g.row.B) (phases_of c.args.plan.now)
+    (g.D.Disk.told c.args.disk.now).seen c.args.layouts.now.old c.args.layouts.now.new
+    c.loop-i.i (index_within c.args.plan.now.phases.items c.loop-i.i
+    (omega (arith, c.loop-i-test.true, c.len-i-end.ensures, c.args.plan.now.phases.ok))) c.loop-i.before
+    (c.loop-i.invariant.trace tells) c.loop-i.switch (c.loop-i.invariant.course tells) c.in-Some.lba
+    (subst (λ (w : Writes). TouchedIs (IsIn c.loop-i.before) w (Some c.in-Some.lba))
+    (lent_phase c.args.plan.now.phases.items c.loop-i.i c.index-phase.result.now
+    (omega (
+      arith,
+      c.loop-i-test.true,
+      c.len-i-end.ensures,
+      c.args.plan.now.phases.ok,
+    )) c.index-phase.ensures c.deref.result.now c.deref.ensures.value) c.in-Some.ensures)
 
 pub put_phase-requires : goal.put_phase-requires
-put_phase-requires g c = (search rules, (search rules, (search rules, (search rules, omega (arith, c.loop-i.invariant.room, count_within c.args.plan.now.phases.items c.loop-i.i c.index-phase.result.now (omega (arith, c.loop-i-test.true, c.len-i-end.ensures, c.args.plan.now.phases.ok)) c.index-phase.ensures, ap length c.deref-in-loop-i.ensures.value)))))
+put_phase-requires g c = (
+  search rules,
+  (
+    search rules,
+    (
+      search rules,
+      (
+        search rules,
+        omega (
+          arith,
+          c.loop-i.invariant.room,
+          count_within c.args.plan.now.phases.items c.loop-i.i c.index-phase.result.now
+              (omega (arith, c.loop-i-test.true, c.len-i-end.ensures, c.args.plan.now.phases.ok)) c.index-phase.ensures,
+          ap length c.deref-in-loop-i.ensures.value,
+        ),
+      ),
+    ),
+  ),
+)
 
 pub returns-in-Neither-clause-tried : goal.returns-in-Neither-clause-tried
-returns-in-Neither-clause-tried g c = λ tells. refused_neither (Denotes g.row.B) (Reads g.row.B) (phases_of c.args.plan.now) (g.D.Disk.told c.args.disk.now).seen c.args.layouts.now.old c.args.layouts.now.new
-    c.loop-i.i (index_within c.args.plan.now.phases.items c.loop-i.i (omega (arith, c.loop-i-test.true, c.len-i-end.ensures, c.args.plan.now.phases.ok))) c.loop-i.before (c.loop-i.invariant.trace tells) c.loop-i.switch (c.loop-i.invariant.course tells)
-    (subst (λ (w : Writes). TouchedIs (IsIn c.loop-i.before) w None) (lent_phase c.args.plan.now.phases.items c.loop-i.i c.index-phase.result.now (omega (arith, c.loop-i-test.true, c.len-i-end.ensures, c.args.plan.now.phases.ok)) c.index-phase.ensures c.deref.result.now c.deref.ensures.value) c.in_default.ensures)
-    c.in_ok-after.after.layout (rw (seen_on (phases_of c.args.plan.now) (g.D.Disk.told c.args.disk.now).seen c.loop-i.i (writes_of c.deref-in-loop-i.result.now) _ _ (index_within c.args.plan.now.phases.items c.loop-i.i (omega (arith, c.loop-i-test.true, c.len-i-end.ensures, c.args.plan.now.phases.ok))) (lent_phase c.args.plan.now.phases.items c.loop-i.i c.index-phase.result.now (omega (arith, c.loop-i-test.true, c.len-i-end.ensures, c.args.plan.now.phases.ok)) c.index-phase.ensures c.deref-in-loop-i.result.now c.deref-in-loop-i.ensures.value) (c.loop-i.invariant.seen tells) c.put_phase.ensures.seen) at (c.in_ok-after.ensures.recovered tells).denotes)
+returns-in-Neither-clause-tried g c =
+    λ tells. refused_neither (Denotes g.row.B) (Reads g.row.B) (phases_of c.args.plan.now)
+    (g.D.Disk.told c.args.disk.now).seen c.args.layouts.now.old c.args.layouts.now.new
+    c.loop-i.i (index_within c.args.plan.now.phases.items c.loop-i.i
+    (omega (arith, c.loop-i-test.true, c.len-i-end.ensures, c.args.plan.now.phases.ok))) c.loop-i.before
+    (c.loop-i.invariant.trace tells) c.loop-i.switch (c.loop-i.invariant.course tells)
+    (subst (λ (w : Writes). TouchedIs (IsIn c.loop-i.before) w None)
+    (lent_phase c.args.plan.now.phases.items c.loop-i.i c.index-phase.result.now
+    (omega (
+      arith,
+      c.loop-i-test.true,
+      c.len-i-end.ensures,
+      c.args.plan.now.phases.ok,
+    )) c.index-phase.ensures c.deref.result.now c.deref.ensures.value) c.in_default.ensures)
+    c.in_ok-after.after.layout
+    (rw (seen_on (phases_of c.args.plan.now) (g.D.Disk.told c.args.disk.now).seen c.loop-i.i (writes_of c.deref-in-loop-i.result.now) _ _
+    (index_within c.args.plan.now.phases.items c.loop-i.i
+    (omega (arith, c.loop-i-test.true, c.len-i-end.ensures, c.args.plan.now.phases.ok)))
+    (lent_phase c.args.plan.now.phases.items c.loop-i.i c.index-phase.result.now
+    (omega (
+      arith,
+      c.loop-i-test.true,
+      c.len-i-end.ensures,
+      c.args.plan.now.phases.ok,
+    )) c.index-phase.ensures c.deref-in-loop-i.result.now c.deref-in-loop-i.ensures.value)
+    (c.loop-i.invariant.seen tells) c.put_phase.ensures.seen) at (c.in_ok-after.ensures.recovered tells).denotes)
     (denotes_one_lem g.row.B) c.in-Neither.ensures
 
 pub loop-i-preserved : goal.loop-i-preserved
 loop-i-preserved g c = record {
   same_reference = search rules;
   same = g.met.D.Disk.reads_on _ _ _ c.loop-i.invariant.same (rw c.put_phase.ensures.disk at c.in_ok-after.ensures.same.through.0.below);
-  quiet = blames_below g.D.Disk fault_in (Ok c.in_ok-after.after) _ _ _ _ c.in_ok-after.ensures.same.through.0 c.in_ok-after.ensures.blames ∙ ap g.D.Disk.faults c.put_phase.ensures.disk ∙ c.loop-i.invariant.quiet;
-  room = omega (arith, c.loop-i.invariant.room, c.put_phase.ensures.room, ap room_left c.in_ok-after.ensures.same.through.1, count_on c.args.plan.now.phases.items c.loop-i.i c.index-phase.result.now (omega (arith, c.loop-i-test.true, c.len-i-end.ensures, c.args.plan.now.phases.ok)) c.index-phase.ensures, ap length c.deref-in-loop-i.ensures.value);
-  seen = λ tells. ap (λ (t : Told). t.seen) (c.in_ok-after.ensures.same.same tells) ∙ (seen_on (phases_of c.args.plan.now) (g.D.Disk.told c.args.disk.now).seen c.loop-i.i (writes_of c.deref-in-loop-i.result.now) _ _ (index_within c.args.plan.now.phases.items c.loop-i.i (omega (arith, c.loop-i-test.true, c.len-i-end.ensures, c.args.plan.now.phases.ok))) (lent_phase c.args.plan.now.phases.items c.loop-i.i c.index-phase.result.now (omega (arith, c.loop-i-test.true, c.len-i-end.ensures, c.args.plan.now.phases.ok)) c.index-phase.ensures c.deref-in-loop-i.result.now c.deref-in-loop-i.ensures.value) (c.loop-i.invariant.seen tells) c.put_phase.ensures.seen);
-  trace = λ tells. record { same = (rw (seen_on (phases_of c.args.plan.now) (g.D.Disk.told c.args.disk.now).seen c.loop-i.i (writes_of c.deref-in-loop-i.result.now) _ _ (index_within c.args.plan.now.phases.items c.loop-i.i (omega (arith, c.loop-i-test.true, c.len-i-end.ensures, c.args.plan.now.phases.ok))) (lent_phase c.args.plan.now.phases.items c.loop-i.i c.index-phase.result.now (omega (arith, c.loop-i-test.true, c.len-i-end.ensures, c.args.plan.now.phases.ok)) c.index-phase.ensures c.deref-in-loop-i.result.now c.deref-in-loop-i.ensures.value) (c.loop-i.invariant.seen tells) c.put_phase.ensures.seen) at (c.in_ok-after.ensures.recovered tells).reads) };
-  course = λ tells. course_on (Denotes g.row.B) (Reads g.row.B) (phases_of c.args.plan.now) (g.D.Disk.told c.args.disk.now).seen c.args.layouts.now.old c.args.layouts.now.new
-      c.loop-i.i (index_within c.args.plan.now.phases.items c.loop-i.i (omega (arith, c.loop-i-test.true, c.len-i-end.ensures, c.args.plan.now.phases.ok))) c.loop-i.before (c.loop-i.invariant.trace tells) c.loop-i.switch (c.loop-i.invariant.course tells)
-      (subst (λ (w : Writes). TouchedIs (IsIn c.loop-i.before) w None) (lent_phase c.args.plan.now.phases.items c.loop-i.i c.index-phase.result.now (omega (arith, c.loop-i-test.true, c.len-i-end.ensures, c.args.plan.now.phases.ok)) c.index-phase.ensures c.deref.result.now c.deref.ensures.value) c.in_default.ensures)
-      c.in_ok-after.after.layout (rw (seen_on (phases_of c.args.plan.now) (g.D.Disk.told c.args.disk.now).seen c.loop-i.i (writes_of c.deref-in-loop-i.result.now) _ _ (index_within c.args.plan.now.phases.items c.loop-i.i (omega (arith, c.loop-i-test.true, c.len-i-end.ensures, c.args.plan.now.phases.ok))) (lent_phase c.args.plan.now.phases.items c.loop-i.i c.index-phase.result.now (omega (arith, c.loop-i-test.true, c.len-i-end.ensures, c.args.plan.now.phases.ok)) c.index-phase.ensures c.deref-in-loop-i.result.now c.deref-in-loop-i.ensures.value) (c.loop-i.invariant.seen tells) c.put_phase.ensures.seen) at (c.in_ok-after.ensures.recovered tells).denotes)
+  quiet = blames_below g.D.Disk fault_in (Ok c.in_ok-after.after) _ _ _ _ c.in_ok-after.ensures.same.through.0
+      c.in_ok-after.ensures.blames ∙ ap g.D.Disk.faults c.put_phase.ensures.disk ∙ c.loop-i.invariant.quiet;
+  room = omega (
+    arith,
+    c.loop-i.invariant.room,
+    c.put_phase.ensures.room,
+    ap room_left c.in_ok-after.ensures.same.through.1,
+    count_on c.args.plan.now.phases.items c.loop-i.i c.index-phase.result.now
+        (omega (arith, c.loop-i-test.true, c.len-i-end.ensures, c.args.plan.now.phases.ok)) c.index-phase.ensures,
+    ap length c.deref-in-loop-i.ensures.value,
+  );
+  seen = λ tells. ap (λ (t : Told). t.seen) (c.in_ok-after.ensures.same.same tells)
+      ∙ (seen_on (phases_of c.args.plan.now) (g.D.Disk.told c.args.disk.now).seen c.loop-i.i (writes_of c.deref-in-loop-i.result.now) _ _
+      (index_within c.args.plan.now.phases.items c.loop-i.i
+      (omega (arith, c.loop-i-test.true, c.len-i-end.ensures, c.args.plan.now.phases.ok)))
+      (lent_phase c.args.plan.now.phases.items c.loop-i.i c.index-phase.result.now
+      (omega (
+        arith,
+        c.loop-i-test.true,
+        c.len-i-end.ensures,
+        c.args.plan.now.phases.ok,
+      )) c.index-phase.ensures c.deref-in-loop-i.result.now c.deref-in-loop-i.ensures.value)
+      (c.loop-i.invariant.seen tells) c.put_phase.ensures.seen);
+  trace = λ tells. record {
+    same = (rw (seen_on (phases_of c.args.plan.now) (g.D.Disk.told c.args.disk.now).seen c.loop-i.i
+        (writes_of c.deref-in-loop-i.result.now) _ _
+        (index_within c.args.plan.now.phases.items c.loop-i.i
+        (omega (arith, c.loop-i-test.true, c.len-i-end.ensures, c.args.plan.now.phases.ok)))
+        (lent_phase c.args.plan.now.phases.items c.loop-i.i c.index-phase.result.now
+        (omega (
+          arith,
+          c.loop-i-test.true,
+          c.len-i-end.ensures,
+          c.args.plan.now.phases.ok,
+        )) c.index-phase.ensures c.deref-in-loop-i.result.now c.deref-in-loop-i.ensures.value)
+        (c.loop-i.invariant.seen tells) c.put_phase.ensures.seen) at (c.in_ok-after.ensures.recovered tells).reads);
+  };
+  course =
+      λ tells. course_on (Denotes g.row.B) (Reads g.row.B) (phases_of c.args.plan.now)
+      (g.D.Disk.told c.args.disk.now).seen c.args.layouts.now.old c.args.layouts.now.new
+      c.loop-i.i (index_within c.args.plan.now.phases.items c.loop-i.i
+      (omega (arith, c.loop-i-test.true, c.len-i-end.ensures, c.args.plan.now.phases.ok))) c.loop-i.before
+      (c.loop-i.invariant.trace tells) c.loop-i.switch (c.loop-i.invariant.course tells)
+      (subst (λ (w : Writes). TouchedIs (IsIn c.loop-i.before) w None)
+      (lent_phase c.args.plan.now.phases.items c.loop-i.i c.index-phase.result.now
+      (omega (
+        arith,
+        c.loop-i-test.true,
+        c.len-i-end.ensures,
+        c.args.plan.now.phases.ok,
+      )) c.index-phase.ensures c.deref.result.now c.deref.ensures.value) c.in_default.ensures)
+      c.in_ok-after.after.layout
+      (rw (seen_on (phases_of c.args.plan.now) (g.D.Disk.told c.args.disk.now).seen c.loop-i.i
+      (writes_of c.deref-in-loop-i.result.now) _ _
+      (index_within c.args.plan.now.phases.items c.loop-i.i
+      (omega (arith, c.loop-i-test.true, c.len-i-end.ensures, c.args.plan.now.phases.ok)))
+      (lent_phase c.args.plan.now.phases.items c.loop-i.i c.index-phase.result.now
+      (omega (
+        arith,
+        c.loop-i-test.true,
+        c.len-i-end.ensures,
+        c.args.plan.now.phases.ok,
+      )) c.index-phase.ensures c.deref-in-loop-i.result.now c.deref-in-loop-i.ensures.value)
+      (c.loop-i.invariant.seen tells) c.put_phase.ensures.seen) at (c.in_ok-after.ensures.recovered tells).denotes)
       c.in-Goes.switch c.in-Goes.ensures;
 }
 
 pub returns-in_err-after-clause-blames : goal.returns-in_err-after-clause-blames
 returns-in_err-after-clause-blames g c =
     let p = err_from_is_err_and c.from_residual-in_err-after.result c.from_residual-in_err-after.ensures.1 in
-    let quiet : g.D.Disk.faults c.put_phase.new.over.disk.now ≡ g.D.Disk.faults c.args.disk.now = ap g.D.Disk.faults c.put_phase.ensures.disk ∙ c.loop-i.invariant.quiet in
+    let quiet : g.D.Disk.faults c.put_phase.new.over.disk.now ≡ g.D.Disk.faults c.args.disk.now =
+    ap g.D.Disk.faults c.put_phase.ensures.disk ∙ c.loop-i.invariant.quiet in
     let e = c.in_err-after.field-0.0 in
     let below : g.D.Disk.faults c.read_layout.new.disk.disk.now ≡ with_fault (g.D.Disk.faults c.put_phase.new.over.disk.now) (fault_in e) =
     blames_below g.D.Disk {T = Recovered} fault_in (Err e) _ _ _ _ c.in_err-after.ensures.same.through.0 c.in_err-after.ensures.blames in
-    let blames : g.D.Disk.faults c.read_layout.new.disk.disk.now ≡ with_fault (g.D.Disk.faults c.args.disk.now) (fault_in e) = rw quiet at below in
+    let blames : g.D.Disk.faults c.read_layout.new.disk.disk.now ≡ with_fault (g.D.Disk.faults c.args.disk.now) (fault_in e) =
+    rw quiet at below in
     rw (p.1, p.2) (search (rules, blames))
 
 pub returns-in-Neither-clause-same : goal.returns-in-Neither-clause-same
@@ -83,6 +193,15 @@ returns-in-Neither-clause-blames g c =
 
 pub returns-clause-tried : goal.returns-clause-tried
 returns-clause-tried g c = λ tells.
-    let all : c.loop-i.i ≡ length (phases_of c.args.plan.now) = omega (arith, c.loop-i-test.false, c.loop-i.auto.i-end, c.len-i-end.ensures, c.args.plan.now.phases.ok, length-phases c.args.plan.now.phases.items) in
-    subst (λ (n : ℕ). Course (Denotes g.row.B) (Reads g.row.B) (phases_of c.args.plan.now) (g.D.Disk.told c.args.disk.now).seen c.args.layouts.now.old c.args.layouts.now.new n c.loop-i.switch) all
+    let all : c.loop-i.i ≡ length (phases_of c.args.plan.now) =
+    omega (
+      arith,
+      c.loop-i-test.false,
+      c.loop-i.auto.i-end,
+      c.len-i-end.ensures,
+      c.args.plan.now.phases.ok,
+      length-phases c.args.plan.now.phases.items,
+    ) in
+    subst (λ (n : ℕ). Course (Denotes g.row.B) (Reads g.row.B) (phases_of c.args.plan.now)
+    (g.D.Disk.told c.args.disk.now).seen c.args.layouts.now.old c.args.layouts.now.new n c.loop-i.switch) all
     (c.loop-i.invariant.course tells)

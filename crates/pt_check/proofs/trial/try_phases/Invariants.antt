@@ -1,10 +1,9 @@
 use Rattle.std.proofs.Common.{◌≡◌, ◌≤◌, ◌+◌, length, take}
 use Rattle.pt_sector.specs.Overlays.{room_left, shown}
 use Rattle.pt_sector.specs.Reads.{OnlyReads}
-use Rattle.pt_apply.specs.Plans.{phases_of}
+use Rattle.pt_apply.specs.Plans.{phases_of, writes_in}
 use Rattle.pt_recover.specs.Denotes.{Denotes, Reads}
 use Rattle.pt_check.specs.Course.{disk_after, Course}
-use Rattle.pt_check.specs.First.{writes_in}
 use Rattle.pt_check.proofs.Trying.{Reading}
 use Rattle.pt_check.proofs.trial.try_phases.Given as goal
 
@@ -14,7 +13,9 @@ invariant-loop-i g l = record {
   same : OnlyReads g.D.Disk l.fn.disk l.over.disk.now;
   quiet : g.D.Disk.faults l.over.disk.now ≡ g.D.Disk.faults l.fn.disk;
   room : length (writes_in (phases_of l.plan)) ≤ room_left l.over.own + length (writes_in (take l.i (phases_of l.plan)));
-  seen : g.D.Disk.tells → shown (g.D.Disk.told l.over.disk.now).seen l.over.own ≡ disk_after (phases_of l.plan) (g.D.Disk.told l.fn.disk).seen l.i;
+  seen : g.D.Disk.tells
+      → shown (g.D.Disk.told l.over.disk.now).seen l.over.own ≡ disk_after (phases_of l.plan) (g.D.Disk.told l.fn.disk).seen l.i;
   trace : g.D.Disk.tells → Reading (Reads g.row.B) (disk_after (phases_of l.plan) (g.D.Disk.told l.fn.disk).seen l.i) l.before;
-  course : g.D.Disk.tells → Course (Denotes g.row.B) (Reads g.row.B) (phases_of l.plan) (g.D.Disk.told l.fn.disk).seen l.layouts.old l.layouts.new l.i l.switch;
+  course : g.D.Disk.tells
+      → Course (Denotes g.row.B) (Reads g.row.B) (phases_of l.plan) (g.D.Disk.told l.fn.disk).seen l.layouts.old l.layouts.new l.i l.switch;
 }

@@ -6,5 +6,5 @@ use Rattle.pt_convert.proofs.convert.to_gpt.Goals as goal
 
 pub table_for-requires-clause-placeable : goal.table_for-requires-clause-placeable
 table_for-requires-clause-placeable g c =
-    subst (λ (ps : List Partition). Placeable c.args.layout.sectors ps) (sym (c.deref-2.ensures.value ∙ c.in-Ok.ensures.ok))
-    (placed g.row.B c.args.layout c.in-Ok.ensures.four c.in-Ok-may_convert.ensures.ok.room)
+    subst (λ (ps : List Partition). Placeable c.args.layout.sectors ps) (sym (c.deref-2.ensures.value ∙ c.in_ok-partitions.ensures.ok))
+    (placed g.row.B c.args.layout c.in_ok-partitions.ensures.four c.in_ok-may_convert.ensures.ok.room)

@@ -13,15 +13,19 @@ nothing : Guid
 nothing = record { 0 = [] }
 
 pub loop-k-init : goal.loop-k-init
-loop-k-init c = subst (UpTo c.args.guids.now c.args.partitions.now 0) (sym c.in_ok-entries.ensures.items) (none_placed c.args.guids.now c.args.partitions.now)
+loop-k-init c =
+    subst (UpTo c.args.guids.now c.args.partitions.now 0) (sym c.in_ok-entries.ensures.items)
+    (none_placed c.args.guids.now c.args.partitions.now)
 
 pub loop-k-preserved : goal.loop-k-preserved
 unfolding nobody nothing
 loop-k-preserved c =
     let p = get_or c.args.partitions.now c.loop-k.k nobody in
     let guid = get_or c.args.guids.now (1 + c.loop-k.k) nothing in
-    subst (λ (e : Option Entry). UpTo c.args.guids.now c.args.partitions.now (c.loop-k.k + 1) (set c.loop-k.entries.items (p.number - 1) e)) (sym c.entry_for.ensures)
-    (one_placed c.args.guids.now c.args.partitions.now c.loop-k.k c.loop-k.entries.items p guid c.requires.placeable c.loop-k.invariant (at_place c.args.partitions.now c.loop-k.k nobody c.loop-k-test.true)
+    subst (λ (e : Option Entry). UpTo c.args.guids.now c.args.partitions.now (c.loop-k.k + 1)
+    (set c.loop-k.entries.items (p.number - 1) e)) (sym c.entry_for.ensures)
+    (one_placed c.args.guids.now c.args.partitions.now c.loop-k.k c.loop-k.entries.items p guid c.requires.placeable
+    c.loop-k.invariant (at_place c.args.partitions.now c.loop-k.k nobody c.loop-k-test.true)
     (at_place c.args.guids.now (1 + c.loop-k.k) nothing (omega (arith, c.requires.enough, c.loop-k-test.true))))
 
 pub returns : goal.returns

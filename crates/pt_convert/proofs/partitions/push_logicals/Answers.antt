@@ -7,10 +7,13 @@ use Rattle.pt_convert.proofs.partitions.push_logicals.Goals as goal
 pub loop-k-preserved : goal.loop-k-preserved
 loop-k-preserved c = record {
   few = omega (arith, c.number_after-number.ensures.most, c.loop-k.invariant.few);
-  covers = logical_more (c.args.partitions.now.items ++ logicals_from 5 c.args.chain.now) c.loop-k.partitions.items c.push.new.partitions.items (option_to_list c.logical_in-partition.result) c.args.chain.now c.loop-k.k
-      c.loop-k.number c.number_after-number.result no_ebr c.loop-k-test.true c.loop-k.invariant.covers c.logical_in-partition.ensures c.in_ok-push.ensures c.number_after-number.ensures.value;
+  covers = logical_more (c.args.partitions.now.items ++ logicals_from 5 c.args.chain.now) c.loop-k.partitions.items
+      c.push.new.partitions.items (option_to_list c.logical_in-partition.result) c.args.chain.now c.loop-k.k
+      c.loop-k.number c.number_after-number.result no_ebr c.loop-k-test.true c.loop-k.invariant.covers
+      c.logical_in-partition.ensures c.in_ok-push.ensures c.number_after-number.ensures.value;
 }
 
 pub returns : goal.returns
 returns c =
-    logical_end (c.args.partitions.now.items ++ logicals_from 5 c.args.chain.now) c.loop-k.partitions.items c.args.chain.now c.loop-k.k c.loop-k.number (omega arith) c.loop-k.invariant.covers
+    logical_end (c.args.partitions.now.items ++ logicals_from 5 c.args.chain.now) c.loop-k.partitions.items c.args.chain.now
+    c.loop-k.k c.loop-k.number (omega arith) c.loop-k.invariant.covers

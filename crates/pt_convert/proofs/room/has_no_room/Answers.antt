@@ -8,5 +8,7 @@ returns-then-has_outsider g c = (λ t. any_is g.row.B c.args.layout.now (c.has_o
 pub returns : goal.returns
 returns g c = (
   λ t. chain_is g.row.B c.args.layout.now (c.is_chain_in_way.ensures.0 t),
-  λ bad. c.is_chain_in_way.ensures.1 (chain_decides g.row.B c.args.layout.now (omega (arith, c.if-layout-array_sectors.false, c.array_sectors.ensures.value)) (λ has. not_true c.has_outsider.result c.if-has_outsider.false (c.has_outsider.ensures.1 has)) bad),
+  λ bad. c.is_chain_in_way.ensures.1 (chain_decides g.row.B c.args.layout.now
+      (omega (arith, c.if-layout-array_sectors.false, c.array_sectors.ensures.value))
+      (λ has. not_true c.has_outsider.result c.if-has_outsider.false (c.has_outsider.ensures.1 has)) bad),
 )

@@ -5,4 +5,5 @@ use Rattle.pt_convert.specs.Room.{IsOutsider}
 use Rattle.pt_convert.proofs.room.has_part_outside.Given as goal
 
 abbrev pub invariant-loop-k : goal.invariant-loop-k
-invariant-loop-k g l = (j : ℕ) (x : Member) → j < l.k → get_or (parts_in (Some l.label) l.slice) j None ≡ Some x → ¬ IsOutsider g.row.B l.sectors x
+invariant-loop-k g l =
+    (j : ℕ) (x : Member) → j < l.k → get_or (parts_in (Some l.label) l.slice) j None ≡ Some x → ¬ IsOutsider g.row.B l.sectors x

@@ -4,7 +4,10 @@ use Rattle.pt_convert.proofs.Alike.{none_more, no_twins}
 use Rattle.pt_convert.proofs.twins.has_twins.Goals as goal
 
 pub loop-j-preserved : goal.loop-j-preserved
-loop-j-preserved c = none_more (HasTwin c.args.guids.now) c.loop-j.j c.loop-j.invariant (λ has. not_true c.has_twin.result c.if-has_twin.false (c.has_twin.ensures.1 has))
+loop-j-preserved c =
+    none_more (HasTwin c.args.guids.now) c.loop-j.j c.loop-j.invariant
+    (λ has. not_true c.has_twin.result c.if-has_twin.false (c.has_twin.ensures.1 has))
 
 pub returns : goal.returns
-returns c = (λ f. absurd (cc f), λ has. absurd (no_twins c.args.guids.now c.args.count c.loop-j.j c.loop-j-test.false c.loop-j.invariant has))
+returns c =
+    (λ f. absurd (cc f), λ has. absurd (no_twins c.args.guids.now c.args.count c.loop-j.j c.loop-j-test.false c.loop-j.invariant has))

@@ -8,5 +8,7 @@ loop-k-init g c = record { so_far = array_begins g.row.B c.args.entries.now c.ar
 
 pub loop-k-preserved : goal.loop-k-preserved
 loop-k-preserved g c = record {
-  so_far = ap writes_of c.in_ok-push.ensures.items ∙ array_on g.row.B c.args.entries.now c.args.at c.loop-k.k (writes_of c.args.writes.now.items) c.loop-k.writes.items _ c.loop-k.invariant.so_far refl c.encode_array_sector.ensures;
+  so_far = ap writes_of c.in_ok-push.ensures.items
+      ∙ array_on g.row.B c.args.entries.now c.args.at c.loop-k.k
+      (writes_of c.args.writes.now.items) c.loop-k.writes.items _ c.loop-k.invariant.so_far refl c.encode_array_sector.ensures;
 }

@@ -13,17 +13,24 @@ use Rattle.pt_copies.proofs.phases.backup_first.Goals as goal
 pub returns : goal.returns
 returns g c =
     let labels : Writes = writes_of c.args.labels.items in
-    let is : WroteCopies g.row.B c.args.sectors c.args.table.now (λ p k. backup_first_phases g.row.B c.args.sectors c.args.table.now p k labels (last_of c.args.last.now)) (phases_in c.push_last.new.phases.items) =
-    wrote_backup_first g.row.B c.args.sectors c.args.table.now labels (writes_of c.push_backup.new.writes.items) (writes_of c.push_array.new.writes.items) c.args.last.now _ _ _ _
+    let is : WroteCopies g.row.B c.args.sectors c.args.table.now
+    (λ p k. backup_first_phases g.row.B c.args.sectors c.args.table.now p k labels (last_of c.args.last.now))
+    (phases_in c.push_last.new.phases.items) =
+    wrote_backup_first g.row.B c.args.sectors c.args.table.now labels (writes_of c.push_backup.new.writes.items)
+    (writes_of c.push_array.new.writes.items) c.args.last.now _ _ _ _
     c.in_ok-push_backup.ensures
-    (rw c.as_slice.ensures at c.in_ok-push_array.ensures ∙ ap (λ (ws : _). writes_of ws ++ array_phase g.row.B c.args.sectors c.args.table.now Primary) c.new-array.ensures.items)
+    (rw c.as_slice.ensures at c.in_ok-push_array.ensures
+    ∙ ap (λ (ws : _). writes_of ws ++ array_phase g.row.B c.args.sectors c.args.table.now Primary) c.new-array.ensures.items)
     (ap phases_in c.new-phases.ensures.items)
     (ap phases_in c.in_ok-push.ensures.items ∙ phases_more c.new-phases.result.items c.push_backup.new.writes)
     c.in_ok-push_primary.ensures
     c.in_ok-push_last.ensures in
     record {
       phases = is;
-      in_range = backup_first_in_range g.row.B c.args.sectors c.args.table.now c.args.labels.items c.push_last.new.phases.items c.requires.size c.requires.room c.requires.labels_in_range c.args.last.now is;
-      some = backup_first_some g.row.B c.args.sectors c.args.table.now c.args.labels.items c.push_last.new.phases.items c.requires.size c.requires.room c.requires.labels_in_range c.args.last.now is;
-      count = backup_first_count g.row.B c.args.sectors c.args.table.now c.args.labels.items c.push_last.new.phases.items c.requires.size c.requires.room c.requires.labels_in_range c.args.last.now is;
+      in_range = backup_first_in_range g.row.B c.args.sectors c.args.table.now c.args.labels.items c.push_last.new.phases.items
+          c.requires.size c.requires.room c.requires.labels_in_range c.args.last.now is;
+      some = backup_first_some g.row.B c.args.sectors c.args.table.now c.args.labels.items c.push_last.new.phases.items c.requires.size
+          c.requires.room c.requires.labels_in_range c.args.last.now is;
+      count = backup_first_count g.row.B c.args.sectors c.args.table.now c.args.labels.items c.push_last.new.phases.items c.requires.size
+          c.requires.room c.requires.labels_in_range c.args.last.now is;
     }

@@ -11,18 +11,25 @@ use Rattle.pt_copies.proofs.phases.primary_first.Goals as goal
 pub returns : goal.returns
 returns g c =
     let labels : Writes = writes_of c.args.labels.items in
-    let is : WroteCopies g.row.B c.args.sectors c.args.table.now (λ p k. primary_first_phases g.row.B c.args.sectors c.args.table.now p k labels (last_of c.args.last.now)) (phases_in c.push_last.new.phases.items) =
-    wrote_primary_first g.row.B c.args.sectors c.args.table.now labels _ (writes_of c.push_backup.new.writes.items) (writes_of c.in_ok-array.array.items) c.args.last.now _ _ _ _
+    let is : WroteCopies g.row.B c.args.sectors c.args.table.now
+    (λ p k. primary_first_phases g.row.B c.args.sectors c.args.table.now p k labels (last_of c.args.last.now))
+    (phases_in c.push_last.new.phases.items) =
+    wrote_primary_first g.row.B c.args.sectors c.args.table.now labels _ (writes_of c.push_backup.new.writes.items)
+    (writes_of c.in_ok-array.array.items) c.args.last.now _ _ _ _
     (ap writes_of c.new-backup.ensures.items)
     c.in_ok-push_backup.ensures
-    (c.in_ok-array.ensures ∙ ap (λ (ws : _). primary_and_labels g.row.B c.args.sectors c.args.table.now (writes_of ws)) c.as_slice.ensures.value)
+    (c.in_ok-array.ensures ∙ ap
+    (λ (ws : _). primary_and_labels g.row.B c.args.sectors c.args.table.now (writes_of ws)) c.as_slice.ensures.value)
     (ap phases_in c.new-phases.ensures.items)
     c.in_ok-push_primary.ensures
     (ap phases_in c.in_ok-push.ensures.items ∙ phases_more c.push_primary.new.phases.items c.push_backup.new.writes)
     c.in_ok-push_last.ensures in
     record {
       phases = is;
-      in_range = primary_first_in_range g.row.B c.args.sectors c.args.table.now c.args.labels.items c.push_last.new.phases.items c.requires.size c.requires.room c.requires.labels_in_range c.args.last.now is;
-      some = primary_first_some g.row.B c.args.sectors c.args.table.now c.args.labels.items c.push_last.new.phases.items c.requires.size c.requires.room c.requires.labels_in_range c.args.last.now is;
-      count = primary_first_count g.row.B c.args.sectors c.args.table.now c.args.labels.items c.push_last.new.phases.items c.requires.size c.requires.room c.requires.labels_in_range c.args.last.now is;
+      in_range = primary_first_in_range g.row.B c.args.sectors c.args.table.now c.args.labels.items c.push_last.new.phases.items
+          c.requires.size c.requires.room c.requires.labels_in_range c.args.last.now is;
+      some = primary_first_some g.row.B c.args.sectors c.args.table.now c.args.labels.items c.push_last.new.phases.items c.requires.size
+          c.requires.room c.requires.labels_in_range c.args.last.now is;
+      count = primary_first_count g.row.B c.args.sectors c.args.table.now c.args.labels.items c.push_last.new.phases.items c.requires.size
+          c.requires.room c.requires.labels_in_range c.args.last.now is;
     }

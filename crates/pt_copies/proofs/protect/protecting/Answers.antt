@@ -8,4 +8,5 @@ not_both : {b : _} → IsTrue b → b ≡ false → ⊥
 not_both is isnt = absurd cc
 
 pub returns : goal.returns
-returns g c = inr (λ is. not_both (c.is_protective.ensures.1 is) c.if-is_protective.false, (c.protected_head.result, c.protected_head.ensures, refl))
+returns g c =
+    inr (λ is. not_both (c.is_protective.ensures.1 is) c.if-is_protective.false, (c.protected_head.result, c.protected_head.ensures, refl))

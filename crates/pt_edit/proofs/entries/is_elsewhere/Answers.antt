@@ -7,7 +7,12 @@ returns-then-eq c = (
     c.loop-index.index + 1,
     c.in-Some.entry,
     record {
-      is_entry = record { first = omega arith; last = omega arith; used = ap (λ (k : ℕ). get_or c.args.table.now.entries k None) (omega arith) ∙ (sym c.get.ensures ∙ c.in-Some.is) };
+      is_entry = record {
+        first = omega arith;
+        last = omega arith;
+        used =
+            ap (λ (k : ℕ). get_or c.args.table.now.entries k None) (omega arith) ∙ (sym c.get.ensures ∙ c.in-Some.is);
+      };
       other = λ same. omega arith;
       same = search rules;
     },

@@ -1,11 +1,14 @@
 use Rattle.std.proofs.Common.{ap, refl}
+use Rattle.std.proofs.lemmas.Result.{err_from_is_err_and}
 use Rattle.pt_recover.specs.declared.layout.Layout.{Layout}
 use Rattle.pt_edit.specs.Changes.{missing, barred}
 use Rattle.pt_edit.proofs.entries.rename.Goals as goal
 
-pub returns-in-Err-clause-err : goal.returns-in-Err-clause-err
-returns-in-Err-clause-err c = missing c.in-Err.ensures.err
+pub returns-in_err-gpt-clause-err : goal.returns-in_err-gpt-clause-err
+returns-in_err-gpt-clause-err c =
+    let p = err_from_is_err_and c.from_residual.result c.from_residual.ensures.1 in rw (p.1, p.2) (missing c.in_err-gpt.ensures.err)
 
 pub returns-in-None-clause-err : goal.returns-in-None-clause-err
 returns-in-None-clause-err c =
-    barred c.in-Ok.found.0.table c.in-Ok.found.1 (ap (λ (o : Layout). o.body) c.in-Ok.ensures.whole) c.in-Ok.ensures.entry c.in-None.ensures.none refl
+    barred c.in_ok-gpt.gpt.table c.in_ok-gpt.entry (ap (λ (o : Layout). o.body) c.in_ok-gpt.ensures.whole) c.in_ok-gpt.ensures.entry
+    c.in-None.ensures.none refl

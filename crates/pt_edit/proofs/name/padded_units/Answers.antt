@@ -9,13 +9,16 @@ pub returns-then-count-eq-NAME_UNITS-clause-none : goal.returns-then-count-eq-NA
 returns-then-count-eq-NAME_UNITS-clause-none c =
     let it = c.loop-unit.unit-iterator in
     let next = c.next.new.self in
-    let h = so_far_more _ _ _ _ c.in-Some.unit (encode_utf16_pending next) (encode_utf16_rest next) c.loop-unit.invariant.text c.loop-unit.invariant.so_far c.in-Some.ensures.steps in
-    so_far_long _ _ (encode_utf16_pending it) (encode_utf16_rest it) _ _ _ h (sym c.loop-unit.invariant.count ∙ c.if-count-eq-NAME_UNITS.true)
+    let h = so_far_more _ _ _ _ c.in-Some.unit (encode_utf16_pending next) (encode_utf16_rest next) c.loop-unit.invariant.text
+    c.loop-unit.invariant.so_far c.in-Some.ensures.steps in
+    so_far_long _ _ (encode_utf16_pending it) (encode_utf16_rest it) _ _ _ h
+    (sym c.loop-unit.invariant.count ∙ c.if-count-eq-NAME_UNITS.true)
 
 pub loop-unit-preserved : goal.loop-unit-preserved
 loop-unit-preserved c =
     let next = c.next.new.self in
-    let h = so_far_more _ _ _ _ c.in-Some.unit (encode_utf16_pending next) (encode_utf16_rest next) c.loop-unit.invariant.text c.loop-unit.invariant.so_far c.in-Some.ensures.steps in
+    let h = so_far_more _ _ _ _ c.in-Some.unit (encode_utf16_pending next) (encode_utf16_rest next) c.loop-unit.invariant.text
+    c.loop-unit.invariant.so_far c.in-Some.ensures.steps in
     let less : length c.loop-unit.yielded < 36 = omega arith in
     record {
       can_go_on = tt;

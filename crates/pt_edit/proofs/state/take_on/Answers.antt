@@ -6,4 +6,5 @@ use Rattle.pt_edit.proofs.state.take_on.Goals as goal
 
 pub returns-in-ToGpt-clause-err : goal.returns-in-ToGpt-clause-err
 returns-in-ToGpt-clause-err g c =
-    subst (λ (w : Edit). IfErr c.to_gpt.result (λ e. e ≢ Memory → RefusesOn g.row.B c.args.alignment c.args.fresh.now w c.args.layout e)) (sym c.in-ToGpt.is) c.to_gpt.ensures.err
+    subst (λ (w : Edit). IfErr c.to_gpt.result (λ e. e ≢ Memory
+    → RefusesOn g.row.B c.args.alignment c.args.fresh.now w c.args.layout e)) (sym c.in-ToGpt.is) c.to_gpt.ensures.err

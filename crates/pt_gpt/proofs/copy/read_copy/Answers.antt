@@ -10,22 +10,27 @@ use Rattle.pt_gpt.proofs.copy.read_copy.Goals as goal
 
 pub read_table-requires-clause-head : goal.read_table-requires-clause-head
 read_table-requires-clause-head g c tells =
-    subst (λ (s : Told). IsHead g.row.B s.seen c.args.side c.in_ok-header.header) (sym (c.in_ok-header.ensures.same.same tells)) (c.in_ok-header.ensures.ok tells)
+    subst (λ (s : Told). IsHead g.row.B s.seen c.args.side c.in_ok-header.header) (sym (c.in_ok-header.ensures.same.same tells))
+    (c.in_ok-header.ensures.ok tells)
 
 pub returns-clause-same : goal.returns-clause-same
-returns-clause-same g c = g.met.D.Disk.reads_on c.args.disk.now c.read_head.new.disk c.read_table.new.disk c.in_ok-header.ensures.same c.read_table.ensures.same
+returns-clause-same g c =
+    g.met.D.Disk.reads_on c.args.disk.now c.read_head.new.disk c.read_table.new.disk c.in_ok-header.ensures.same c.read_table.ensures.same
 
 pub returns-clause-ok : goal.returns-clause-ok
 returns-clause-ok g c tells =
-    subst (λ (s : Told). IfOk c.read_table.result (λ t. Copy g.row.B s.seen c.args.side t)) (c.in_ok-header.ensures.same.same tells) (c.read_table.ensures.ok tells)
+    subst (λ (s : Told). IfOk c.read_table.result (λ t. Copy g.row.B s.seen c.args.side t)) (c.in_ok-header.ensures.same.same tells)
+    (c.read_table.ensures.ok tells)
 
 pub returns-clause-err : goal.returns-clause-err
 returns-clause-err g c tells =
-    subst (λ (s : Told). IfErr c.read_table.result (λ e. TellsFault g.row.B s.seen c.args.side e)) (c.in_ok-header.ensures.same.same tells) (c.read_table.ensures.err tells)
+    subst (λ (s : Told). IfErr c.read_table.result (λ e. TellsFault g.row.B s.seen c.args.side e))
+    (c.in_ok-header.ensures.same.same tells) (c.read_table.ensures.err tells)
 
 pub returns-clause-place : goal.returns-clause-place
 returns-clause-place g c tells =
-    subst (λ (s : Told). IfErr c.read_table.result (FailedIn (SideReads g.row.B s.seen c.args.side))) (c.in_ok-header.ensures.same.same tells) (c.read_table.ensures.place tells)
+    subst (λ (s : Told). IfErr c.read_table.result (FailedIn (SideReads g.row.B s.seen c.args.side)))
+    (c.in_ok-header.ensures.same.same tells) (c.read_table.ensures.place tells)
 
 pub returns-in_err-header-clause-err : goal.returns-in_err-header-clause-err
 returns-in_err-header-clause-err g c tells =

@@ -8,7 +8,8 @@ pub returns-in_err-crc-clause-place : goal.returns-in_err-crc-clause-place
 returns-in_err-crc-clause-place g c tells =
     let h = c.args.header.now in
     let p = err_from_is_err_and c.from_residual.result c.from_residual.ensures.1 in
-    rw (p.1, p.2) (failed_in (InArray g.row.B h) (SideReads g.row.B (g.D.Disk.told c.args.disk.now).seen c.args.side) _ (λ s here. inr (h, c.requires.head tells, here)) c.in_err-crc.ensures.place)
+    rw (p.1, p.2) (failed_in (InArray g.row.B h) (SideReads g.row.B (g.D.Disk.told c.args.disk.now).seen c.args.side) _
+    (λ s here. inr (h, c.requires.head tells, here)) c.in_err-crc.ensures.place)
 
 pub returns-then-crc-header-clause-err : goal.returns-then-crc-header-clause-err
 returns-then-crc-header-clause-err g c tells =

@@ -15,7 +15,9 @@ loop-k-preserved c =
     let k = c.loop-k.k in
     let is : EntryIs c.entry.result (slice_range part (k * 128) (k * 128 + 128)) = rw (← c.in_part.ensures) c.entry.ensures in
     record {
-      pushed = pushed_one part c.args.items.now.items c.loop-k.items.items c.push_reserved.new.self.items k c.entry.result before.pushed is told.items;
+      pushed =
+          pushed_one part c.args.items.now.items c.loop-k.items.items c.push_reserved.new.self.items k c.entry.result before.pushed is
+          told.items;
       len = omega (arith, told.len, before.len);
       capacity = told.capacity ∙ before.capacity;
     }

@@ -17,7 +17,8 @@ loop-i-init g c =
       left = omega arith;
       pushed = omega (arith, made.len);
       capacity = made.exact;
-      streamed = λ tells. rw (c.new-sum.ensures, made.items) (streamed_none g.row.B (c.args.count * 128) c.args.at (g.D.Disk.told disk).seen);
+      streamed =
+          λ tells. rw (c.new-sum.ensures, made.items) (streamed_none g.row.B (c.args.count * 128) c.args.at (g.D.Disk.told disk).seen);
     }
 
 pub loop-i-preserved : goal.loop-i-preserved
@@ -28,18 +29,24 @@ loop-i-preserved g c =
     let before = c.loop-i.invariant in
     let now = c.in_ok-read_sector.ensures in
     let pushed = c.push_entries.ensures in
-    let long : length (take (min c.loop-i.left b) c.read_sector.new.into) ≡ min c.loop-i.left b = length-take-le (min c.loop-i.left b) c.read_sector.new.into (omega arith) in
+    let long : length (take (min c.loop-i.left b) c.read_sector.new.into) ≡ min c.loop-i.left b =
+    length-take-le (min c.loop-i.left b) c.read_sector.new.into (omega arith) in
     record {
       disk_same = g.met.D.Disk.reads_on c.args.disk.now c.loop-i.disk c.read_sector.new.disk before.disk_same now.same;
       quiet = now.blames ∙ before.quiet;
       left = rw c.min-taken.ensures (left_less b m i c.loop-i.left before.left);
-      pushed = rw (pushed.len, c.min-taken.ensures, long) (pushed_more b (vec_len c.loop-i.items) c.args.count c.loop-i.left c.requires.size before.pushed);
+      pushed =
+          rw (pushed.len, c.min-taken.ensures, long) (pushed_more b
+          (vec_len c.loop-i.items) c.args.count c.loop-i.left c.requires.size before.pushed);
       capacity = pushed.capacity ∙ before.capacity;
       streamed = λ tells.
           let d = (g.D.Disk.told c.args.disk.now).seen in
           let within = sector_within b m i c.requires.size (rw c.counted_sectors-i-end.ensures.value at c.loop-i-test.true) in
-          let read : c.read_sector.new.into ≡ sector d (c.args.at + i) = now.bytes tells ∙ ap (λ (s : Told). sector s.seen (c.args.at + i)) (before.disk_same.same tells) in
-          let part : AreEntries pushed.entries.0 (take (min c.loop-i.left b) c.read_sector.new.into) = rw (← c.min-taken.ensures) pushed.entries.1 in
+          let read : c.read_sector.new.into ≡ sector d (c.args.at + i) =
+          now.bytes tells ∙ ap (λ (s : Told). sector s.seen (c.args.at + i)) (before.disk_same.same tells) in
+          let part : AreEntries pushed.entries.0 (take (min c.loop-i.left b) c.read_sector.new.into) =
+          rw (← c.min-taken.ensures) pushed.entries.1 in
           rw (c.update.ensures, pushed.entries.2, c.min-taken.ensures)
-          (streamed_more b m c.args.at i d c.loop-i.sum c.loop-i.left c.loop-i.items.items pushed.entries.0 c.read_sector.new.into (before.streamed tells) within read (omega arith) part);
+          (streamed_more b m c.args.at i d c.loop-i.sum c.loop-i.left c.loop-i.items.items pushed.entries.0 c.read_sector.new.into
+          (before.streamed tells) within read (omega arith) part);
     }

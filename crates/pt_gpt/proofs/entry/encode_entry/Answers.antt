@@ -11,5 +11,6 @@ returns-in-Some-clause-fields c =
 pub returns-in-Some-clause-used : goal.returns-in-Some-clause-used
 returns-in-Some-clause-used c =
     let told = c.used.ensures in
-    let is : IsTyped c.in-Some.entry.now → EntryBytes c.in-Some.entry.now c.used.result = λ typed. rw told.bytes (used_entry c.in-Some.entry.now told.fits typed) in
+    let is : IsTyped c.in-Some.entry.now → EntryBytes c.in-Some.entry.now c.used.result =
+    λ typed. rw told.bytes (used_entry c.in-Some.entry.now told.fits typed) in
     rw c.in-Some.is is

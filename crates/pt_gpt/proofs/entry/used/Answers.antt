@@ -14,4 +14,11 @@ returns-clause-bytes c =
       name = c.put_units.ensures.fits;
       units = c.put_units.ensures.small;
     } in
-    rw (c.put_units.ensures.put, c.put_u64-3.ensures.put, c.put_u64-2.ensures.put, c.put_u64.ensures.put, c.put_guid-2.ensures.put, c.put_guid.ensures.put) (put_used e fits)
+    rw (
+      c.put_units.ensures.put,
+      c.put_u64-3.ensures.put,
+      c.put_u64-2.ensures.put,
+      c.put_u64.ensures.put,
+      c.put_guid-2.ensures.put,
+      c.put_guid.ensures.put,
+    ) (put_used e fits)

@@ -10,4 +10,5 @@ returns c =
     let zeros : List ℕ = replicate 4 0 in
     let rest = slice_range b 20 c.args.size in
     rw (c.value.ensures, c.update-3.ensures, c.update-2.ensures, c.update.ensures, c.new-sum.ensures)
-    (ap (λ (r : ℕ). bit_xor r 0xFFFFFFFF) (sym (after_bytes-append 0xFFFFFFFF (take 16 b ++ zeros) rest ∙ ap (λ (r : ℕ). after_bytes r rest) (after_bytes-append 0xFFFFFFFF (take 16 b) zeros))))
+    (ap (λ (r : ℕ). bit_xor r 0xFFFFFFFF) (sym (after_bytes-append 0xFFFFFFFF (take 16 b ++ zeros) rest
+    ∙ ap (λ (r : ℕ). after_bytes r rest) (after_bytes-append 0xFFFFFFFF (take 16 b) zeros))))

@@ -3,4 +3,6 @@ use Rattle.pt_gpt.specs.Laws.{entry_same}
 use Rattle.pt_gpt.proofs.laws.entry_reads_back.Goals as goal
 
 pub returns : goal.returns
-returns c = entry_same c.decode_entry.result (Some c.args.entry.now) c.encode_entry.result c.decode_entry.ensures (c.encode_entry.ensures.used c.requires)
+returns c =
+    entry_same c.decode_entry.result (Some c.args.entry.now) c.encode_entry.result c.decode_entry.ensures
+    (c.encode_entry.ensures.used c.requires)

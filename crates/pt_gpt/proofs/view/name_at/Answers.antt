@@ -2,7 +2,8 @@ use Rattle.std.proofs.Common.{◌≡◌, ℕ, ◌+◌, ◌*◌, ◌-◌, ◌<◌
 use Rattle.std.proofs.lemmas.List.{get_or-drop, get_or-take}
 use Rattle.pt_gpt.proofs.view.name_at.Goals as goal
 
-same_byte : (b : List ℕ) (i j : ℕ) → i + j < 72 → j < 2 → get_or (drop i (take 72 (drop 56 b))) j 0 ≡ get_or (take (56 + i + 2 - (56 + i)) (drop (56 + i) b)) j 0
+same_byte : (b : List ℕ) (i j : ℕ) → i + j < 72 → j < 2
+    → get_or (drop i (take 72 (drop 56 b))) j 0 ≡ get_or (take (56 + i + 2 - (56 + i)) (drop (56 + i) b)) j 0
 same_byte b i j within small =
     get_or-drop i (take 72 (drop 56 b)) j 0
     ∙ get_or-take 72 (drop 56 b) (i + j) 0 within

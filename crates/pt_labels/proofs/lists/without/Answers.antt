@@ -4,4 +4,6 @@ use Rattle.pt_recover.specs.declared.layout.Labelled.{Labelled}
 use Rattle.pt_labels.proofs.lists.without.Goals as goal
 
 pub returns : goal.returns
-returns c = filter_same _ (λ (x : Labelled). if nat_eq x.number c.args.number then false else true) _ (λ x b f' k. search rules) _ _ c.retain.ensures.filtered
+returns c =
+    filter_same _ (λ (x : Labelled). if nat_eq x.number c.args.number then false else true) _ (λ x b f' k. search rules) _ _
+    c.retain.ensures.filtered

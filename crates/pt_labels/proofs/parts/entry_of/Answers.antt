@@ -3,12 +3,15 @@ use Rattle.pt_labels.specs.Parts.{no_label, is_raw, uncounted}
 use Rattle.pt_labels.proofs.parts.entry_of.Goals as goal
 
 pub returns-in-None-find_label-clause-err : goal.returns-in-None-find_label-clause-err
-returns-in-None-find_label-clause-err g c = no_label c.in-Some.slice c.in-Some.ensures.some (sym c.find_label.ensures ∙ c.in-None-find_label.is) refl
+returns-in-None-find_label-clause-err g c =
+    no_label c.in-Some.slice c.in-Some.ensures.some (sym c.find_label.ensures ∙ c.in-None-find_label.is) refl
 
 pub returns-then-letter-eq-RAW-clause-err : goal.returns-then-letter-eq-RAW-clause-err
 returns-then-letter-eq-RAW-clause-err g c =
-    is_raw c.in-Some.slice c.in-Some-find_label.label c.in-Some.ensures.some (sym c.find_label.ensures ∙ c.in-Some-find_label.is) c.if-letter-eq-RAW.true refl
+    is_raw c.in-Some.slice c.in-Some-find_label.label c.in-Some.ensures.some (sym c.find_label.ensures ∙ c.in-Some-find_label.is)
+    c.if-letter-eq-RAW.true refl
 
 pub returns-in-None-counted-clause-err : goal.returns-in-None-counted-clause-err
 returns-in-None-counted-clause-err g c =
-    uncounted c.in-Some.slice c.in-Some-find_label.label c.in-Some.ensures.some (sym c.find_label.ensures ∙ c.in-Some-find_label.is) c.if-letter-eq-RAW.false (sym c.counted.ensures ∙ c.in-None-counted.is) refl
+    uncounted c.in-Some.slice c.in-Some-find_label.label c.in-Some.ensures.some (sym c.find_label.ensures ∙ c.in-Some-find_label.is)
+    c.if-letter-eq-RAW.false (sym c.counted.ensures ∙ c.in-None-counted.is) refl

@@ -10,8 +10,11 @@ pub loop-i-preserved : goal.loop-i-preserved
 loop-i-preserved g c =
     let group = c.args.group.now in
     let here : LeastIs (FaultAt g.row.B c.args.layout.now c.args.fault group c.loop-i.i) c.fault_of.result =
-    subst (λ (l : List Member). LeastIs (HasFault g.row.B c.args.layout.now c.args.fault group (get_or l c.loop-i.i nobody)) c.fault_of.result) c.as_slice-members.ensures c.fault_of.ensures in
-    below_more (FaultAt g.row.B c.args.layout.now c.args.fault group) c.loop-i.i c.loop-i.first c.fault_of.result c.first_of-first.result c.loop-i.invariant here c.first_of-first.ensures
+    subst (λ (l : List Member). LeastIs (HasFault g.row.B c.args.layout.now c.args.fault group
+    (get_or l c.loop-i.i nobody)) c.fault_of.result) c.as_slice-members.ensures c.fault_of.ensures in
+    below_more
+    (FaultAt g.row.B c.args.layout.now c.args.fault group) c.loop-i.i c.loop-i.first c.fault_of.result c.first_of-first.result
+    c.loop-i.invariant here c.first_of-first.ensures
 
 pub returns : goal.returns
 returns g c =

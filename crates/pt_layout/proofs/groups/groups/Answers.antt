@@ -4,4 +4,7 @@ use Rattle.pt_layout.proofs.Extended.{groups_end}
 use Rattle.pt_layout.proofs.groups.groups.Goals as goal
 
 pub returns : goal.returns
-returns g c = groups_end g.row.B c.args.layout.now c.loop-k.k c.loop-k.groups.items (option_to_list c.in_ok-group-2.group) c.push_group-2.new.groups.items (omega arith) c.loop-k.invariant c.in_ok-group-2.ensures c.in_ok-push_group-3.ensures
+returns g c =
+    groups_end g.row.B c.args.layout.now c.loop-k.k c.loop-k.groups.items
+    (option_to_list c.in_ok-group-2.group) c.push_group-2.new.groups.items
+    (omega arith) c.loop-k.invariant c.in_ok-group-2.ensures c.in_ok-push_group-3.ensures

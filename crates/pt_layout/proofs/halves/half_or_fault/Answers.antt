@@ -5,4 +5,5 @@ use Rattle.pt_layout.proofs.halves.half_or_fault.Goals as goal
 
 pub returns-in-Some-clause-place : goal.returns-in-Some-clause-place
 returns-in-Some-clause-place g c = λ tells.
-    told_failed (SideReads g.row.B (g.D.Disk.told c.args.disk.now).seen c.args.side) c.in-Err.e c.in-Some.failure (sym c.failure.ensures ∙ c.in-Some.is) (c.in-Err.ensures.place tells)
+    told_failed (SideReads g.row.B (g.D.Disk.told c.args.disk.now).seen c.args.side) c.in-Err.e c.in-Some.failure
+    (sym c.failure.ensures ∙ c.in-Some.is) (c.in-Err.ensures.place tells)

@@ -1,26 +1,22 @@
 use Rattle.std.proofs.lemmas.Result.{err_from_is_err_and}
-use Rattle.std.proofs.Common.{sym, subst, inl, inr}
-use Rattle.std.specs.Prelude.{ℕ}
-use Rattle.pt_sector.specs.Sectors.{Sectors}
+use Rattle.std.proofs.Common.{sym, subst}
 use Rattle.pt_sector.specs.Device.{Told}
 use Rattle.pt_gpt.specs.Errors.{FailedIn as FailedInCopy}
-use Rattle.pt_gpt.specs.Copy.{IsHead, no_head, SideReads}
-use Rattle.pt_gpt.specs.Answers.{TellsFault, TellsHeadFault}
-use Rattle.pt_gpt.specs.declared.error.CopyError.{CopyError}
-use Rattle.pt_gpt.specs.declared.table.Side.{Side}
+use Rattle.pt_gpt.specs.Copy.{IsHead, SideReads}
+use Rattle.pt_gpt.specs.Answers.{TellsFault}
+use Rattle.pt_gpt.proofs.Heads.{fault_of_head}
 use Rattle.pt_layout.proofs.halves.read_half.Goals as goal
-
-head_tells : (b : ℕ) (d : Sectors) (side : Side) (e : CopyError) → TellsHeadFault b d side e → TellsFault b d side e
-head_tells b d side e (inl out) = inl out
-head_tells b d side e (inr fault) = inr (no_head e fault)
 
 pub returns-in_err-header-clause-err : goal.returns-in_err-header-clause-err
 returns-in_err-header-clause-err g c = λ tells.
     let p = err_from_is_err_and c.from_residual.result c.from_residual.ensures.1 in
-    rw (p.1, p.2) (head_tells g.row.B (g.D.Disk.told c.args.disk.now).seen c.args.side c.in_err-header.field-0.0 (c.in_err-header.ensures.err tells))
+    rw (p.1, p.2) (fault_of_head g.row.B (g.D.Disk.told c.args.disk.now).seen c.args.side c.in_err-header.field-0.0
+    (c.in_err-header.ensures.err tells))
 
 pub read_table-requires-clause-head : goal.read_table-requires-clause-head
-read_table-requires-clause-head g c = λ tells. subst (λ (t : Told). IsHead g.row.B t.seen c.args.side c.in_ok-header.header) (sym (c.in_ok-header.ensures.same.same tells)) (c.in_ok-header.ensures.ok tells)
+read_table-requires-clause-head g c =
+    λ tells. subst (λ (t : Told). IsHead g.row.B t.seen c.args.side c.in_ok-header.header)
+    (sym (c.in_ok-header.ensures.same.same tells)) (c.in_ok-header.ensures.ok tells)
 
 pub returns-clause-same : goal.returns-clause-same
 returns-clause-same g c =
@@ -33,9 +29,11 @@ returns-in_err-table-clause-same g c =
 pub returns-in_err-table-clause-err : goal.returns-in_err-table-clause-err
 returns-in_err-table-clause-err g c = λ tells.
     let p = err_from_is_err_and c.from_residual-in_err-table.result c.from_residual-in_err-table.ensures.1 in
-    rw (p.1, p.2) (subst (λ (t : Told). TellsFault g.row.B t.seen c.args.side c.in_err-table.field-0.0) (c.in_ok-header.ensures.same.same tells) (c.in_err-table.ensures.err tells))
+    rw (p.1, p.2) (subst (λ (t : Told). TellsFault g.row.B t.seen c.args.side c.in_err-table.field-0.0)
+    (c.in_ok-header.ensures.same.same tells) (c.in_err-table.ensures.err tells))
 
 pub returns-in_err-table-clause-place : goal.returns-in_err-table-clause-place
 returns-in_err-table-clause-place g c = λ tells.
     let p = err_from_is_err_and c.from_residual-in_err-table.result c.from_residual-in_err-table.ensures.1 in
-    rw (p.1, p.2) (subst (λ (t : Told). FailedInCopy (SideReads g.row.B t.seen c.args.side) c.in_err-table.field-0.0) (c.in_ok-header.ensures.same.same tells) (c.in_err-table.ensures.place tells))
+    rw (p.1, p.2) (subst (λ (t : Told). FailedInCopy (SideReads g.row.B t.seen c.args.side) c.in_err-table.field-0.0)
+    (c.in_ok-header.ensures.same.same tells) (c.in_err-table.ensures.place tells))

@@ -11,5 +11,6 @@ returns c =
     let ys = c.sort_by_key.new.self.items in
     let up = IsNonDecreasingBy-from_sort_by_key (λ (m : Member). m.first) ys c.in_ok-sort_by_key.ensures.sorted (λ a r q k. search rules) in
     let stable = c.sort_by_key.ensures.stable (λ (m : Member). m.first) (answers_always _ _ _ (λ f a r q k. search rules)) in
-    let is : FirstMeetingIs ys c.first_meeting.result = subst (λ (l : List Member). FirstMeetingIs l c.first_meeting.result) c.deref.ensures.value c.first_meeting.ensures in
+    let is : FirstMeetingIs ys c.first_meeting.result =
+    subst (λ (l : List Member). FirstMeetingIs l c.first_meeting.result) c.deref.ensures.value c.first_meeting.ensures in
     record { found = found_apart xs ys c.sort_by_key.ensures.permutation up stable c.requires.ordered c.first_meeting.result is }

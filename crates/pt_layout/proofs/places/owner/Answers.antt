@@ -34,5 +34,6 @@ pub returns : goal.returns
 returns g c = (
   owns_none g.row.B c.args.layout.now c.args.lba c.in-None.ensures,
   λ table. never c.is_table.result (c.is_table.ensures.1 table) c.if-is_table.false,
-  neither (λ slice. never c.is_in_slice.result (c.is_in_slice.ensures.1 slice) c.if-is_in_slice.false) (λ out. never c.is_unusable.result (c.is_unusable.ensures.1 out) c.if-is_unusable.false),
+  neither (λ slice. never c.is_in_slice.result (c.is_in_slice.ensures.1 slice) c.if-is_in_slice.false)
+      (λ out. never c.is_unusable.result (c.is_unusable.ensures.1 out) c.if-is_unusable.false),
 )

@@ -14,7 +14,8 @@ returns-in-Some c =
     let i = c.in-Some.i in
     let k = c.in-Some.k in
     let t = c.in-Gpt.table in
-    let twins : TwinsAre t.entries (Some (i, k)) = subst (λ (es : List (Option Entry)). TwinsAre es (Some (i, k))) c.as_slice.ensures c.in-Some.ensures in
+    let twins : TwinsAre t.entries (Some (i, k)) =
+    subst (λ (es : List (Option Entry)). TwinsAre es (Some (i, k))) c.as_slice.ensures c.in-Some.ensures in
     subst (λ (y : Body). SameGuidIs y (Some (i + 1, k + 1))) (sym c.in-Gpt.is) (first_pair t (i, k) twins)
 
 pub returns-in-None : goal.returns-in-None

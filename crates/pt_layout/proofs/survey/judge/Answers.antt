@@ -2,7 +2,7 @@ use Rattle.std.proofs.lemmas.Result.{err_from_is_err_and}
 use Rattle.std.proofs.Common.{Option, Some, None, subst, sym}
 use Rattle.pt_sector.specs.Sectors.{Sectors}
 use Rattle.pt_layout.specs.declared.finding.Finding.{Finding}
-use Rattle.pt_layout.specs.declared.path.Path.{Path}
+use Rattle.pt_path.specs.declared.path.Path.{Path}
 use Rattle.pt_layout.specs.Sound.{Sound, UnsoundIs}
 use Rattle.pt_layout.specs.Foreign.{ForeignIs}
 use Rattle.pt_layout.proofs.Verdicts.{unsound_finding, healthy}
@@ -12,7 +12,8 @@ use Rattle.pt_layout.proofs.survey.judge.Goals as goal
 pub returns-in-Some-clause-ok : goal.returns-in-Some-clause-ok
 returns-in-Some-clause-ok g c = λ tells.
     let o = c.args.layout.now in
-    let is : UnsoundIs g.row.B o (Some c.in-Some.finding) = subst (λ (f : Option Finding). UnsoundIs g.row.B o f) c.in-Some.is c.in_ok-broken.ensures.found in
+    let is : UnsoundIs g.row.B o (Some c.in-Some.finding) =
+    subst (λ (f : Option Finding). UnsoundIs g.row.B o f) c.in-Some.is c.in_ok-broken.ensures.found in
     unsound_finding g.row.B (g.D.Disk.told c.args.disk.now).seen o c.in-Some.finding (c.requires.denotes tells) (c.requires.whole tells) is
 
 pub returns-in-None-foreign-clause-ok : goal.returns-in-None-foreign-clause-ok
@@ -20,11 +21,13 @@ returns-in-None-foreign-clause-ok g c = λ tells.
     let o = c.args.layout.now in
     let d : Sectors = (g.D.Disk.told c.args.disk.now).seen in
     let sound : Sound g.row.B o = subst (λ (f : Option Finding). UnsoundIs g.row.B o f) c.in-None.is c.in_ok-broken.ensures.found in
-    let none : ForeignIs g.row.B d o None = subst (λ (p : Option Path). ForeignIs g.row.B d o p) c.in-None-foreign.is (c.in_ok-foreign.ensures.ok tells) in
+    let none : ForeignIs g.row.B d o None =
+    subst (λ (p : Option Path). ForeignIs g.row.B d o p) c.in-None-foreign.is (c.in_ok-foreign.ensures.ok tells) in
     healthy g.row.B d o (c.requires.denotes tells) (c.requires.whole tells) sound none
 
 pub returns-in_err-foreign-clause-place : goal.returns-in_err-foreign-clause-place
 returns-in_err-foreign-clause-place g c = λ tells.
     let p = err_from_is_err_and c.from_residual-in_err-foreign.result c.from_residual-in_err-foreign.ensures.1 in
     rw (p.1, p.2) (let d : Sectors = (g.D.Disk.told c.args.disk.now).seen in
-    label_failed g.row.B (g.D.Disk.count c.args.disk.now) d c.args.layout.now.body c.in_err-foreign.field-0.0 (c.requires.denotes tells).1 (sym (g.met.D.Disk.sized c.args.disk.now tells)) (c.in_err-foreign.ensures.place tells))
+    label_failed g.row.B (g.D.Disk.count c.args.disk.now) d c.args.layout.now.body c.in_err-foreign.field-0.0
+    (c.requires.denotes tells).1 (sym (g.met.D.Disk.sized c.args.disk.now tells)) (c.in_err-foreign.ensures.place tells))

@@ -10,7 +10,8 @@ loop-k-preserved c =
     let p : Slice = get_or c.args.slices.now c.loop-k.k z in
     record {
       empty = c.loop-k.invariant.empty;
-      left = place_more c.new-places.result c.loop-k.places c.add_one.new.self c.args.slices.now c.loop-k.k z p (omega arith) refl c.loop-k.invariant.left c.in_ok-add_one.ensures;
+      left = place_more c.new-places.result c.loop-k.places c.add_one.new.self c.args.slices.now c.loop-k.k z p
+          (omega arith) refl c.loop-k.invariant.left c.in_ok-add_one.ensures;
     }
 
 pub returns : goal.returns

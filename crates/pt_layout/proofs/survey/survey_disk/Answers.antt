@@ -17,16 +17,21 @@ returns-then-sectors-eq0-clause-ok g c = λ tells.
     let small : ¬ HasRoom g.row.B (length d) = λ room. omega (arith, none, room) in
     let is = empty_head d none in
     let why = small_reason g.row.B d is.0 small in
-    rw c.nothing.ensures (nothing_survey g.row.B d Unprotected TooSmall c.new.result is is.0 why.0 why.1 (λ big copy. small big) c.new.ensures)
+    rw c.nothing.ensures (nothing_survey g.row.B d Unprotected TooSmall c.new.result is is.0 why.0 why.1
+    (λ big copy. small big) c.new.ensures)
 
 pub survey_gpt-requires-clause-head : goal.survey_gpt-requires-clause-head
 survey_gpt-requires-clause-head g c = λ tells.
     let d : Sectors = (g.D.Disk.told c.args.disk.now).seen in
     subst (λ (t : Told). HeadOf t.seen c.in_ok-head.head) (sym (c.in_ok-head.ensures.same.same tells))
-    (head_is d (g.D.Disk.count c.args.disk.now) c.in_ok-head.head (c.in_ok-head.ensures.ok tells) (sym (g.met.D.Disk.sized c.args.disk.now tells)) (omega arith))
+    (head_is d (g.D.Disk.count c.args.disk.now) c.in_ok-head.head (c.in_ok-head.ensures.ok tells)
+    (sym (g.met.D.Disk.sized c.args.disk.now tells)) (omega arith))
 
 pub survey_gpt-requires-clause-plain : goal.survey_gpt-requires-clause-plain
 survey_gpt-requires-clause-plain g c = λ tells.
     let d : Sectors = (g.D.Disk.told c.args.disk.now).seen in
-    let is : HeadOf d c.in_ok-head.head = head_is d (g.D.Disk.count c.args.disk.now) c.in_ok-head.head (c.in_ok-head.ensures.ok tells) (sym (g.met.D.Disk.sized c.args.disk.now tells)) (omega arith) in
-    subst (λ (t : Told). ¬ IsMbrDisk t.seen) (sym (c.in_ok-head.ensures.same.same tells)) (head_plain d c.in_ok-head.head is c.in_default.not-Mbr)
+    let is : HeadOf d c.in_ok-head.head =
+    head_is d (g.D.Disk.count c.args.disk.now) c.in_ok-head.head (c.in_ok-head.ensures.ok tells)
+    (sym (g.met.D.Disk.sized c.args.disk.now tells)) (omega arith) in
+    subst (λ (t : Told). ¬ IsMbrDisk t.seen) (sym (c.in_ok-head.ensures.same.same tells))
+    (head_plain d c.in_ok-head.head is c.in_default.not-Mbr)

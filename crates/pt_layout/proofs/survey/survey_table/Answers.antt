@@ -17,7 +17,9 @@ pub returns-in_err-placed-clause-place : goal.returns-in_err-placed-clause-place
 returns-in_err-placed-clause-place g c = λ tells.
     let p = err_from_is_err_and c.from_residual.result c.from_residual.ensures.1 in
     rw (p.1, p.2) (let d : Sectors = (g.D.Disk.told c.args.disk.now).seen in
-    read_failed g.row.B d c.in_err-placed.field-0.0 (label_failed g.row.B (g.D.Disk.count c.args.disk.now) d (Gpt c.args.table) c.in_err-placed.field-0.0 (c.requires.body tells) (sym (g.met.D.Disk.sized c.args.disk.now tells)) (c.in_err-placed.ensures.place tells)))
+    read_failed g.row.B d c.in_err-placed.field-0.0 (label_failed g.row.B (g.D.Disk.count c.args.disk.now) d
+    (Gpt c.args.table) c.in_err-placed.field-0.0 (c.requires.body tells) (sym (g.met.D.Disk.sized c.args.disk.now tells))
+    (c.in_err-placed.ensures.place tells)))
 
 pub judge_after-requires-clause-denotes : goal.judge_after-requires-clause-denotes
 judge_after-requires-clause-denotes g c = λ tells.
@@ -30,15 +32,18 @@ returns-in_err-finding-clause-place g c = λ tells.
     let p = err_from_is_err_and c.from_residual-in_err-finding.result c.from_residual-in_err-finding.ensures.1 in
     rw (p.1, p.2) (let d : Sectors = (g.D.Disk.told c.args.disk.now).seen in
     read_failed g.row.B d c.in_err-finding.field-0.0
-    (subst (λ (t : Told). FailedIn (Reads g.row.B t.seen) c.in_err-finding.field-0.0) (c.in_ok-placed.ensures.same.same tells) (c.in_err-finding.ensures.place tells)))
+    (subst (λ (t : Told). FailedIn (Reads g.row.B t.seen) c.in_err-finding.field-0.0) (c.in_ok-placed.ensures.same.same tells)
+    (c.in_err-finding.ensures.place tells)))
 
 pub returns-clause-ok : goal.returns-clause-ok
 returns-clause-ok g c = λ tells.
     let d : Sectors = (g.D.Disk.told c.args.disk.now).seen in
     let o = c.in_ok-placed.placed.layout in
     let finding : FindingIs g.row.B d (Ok o) c.in_ok-finding.finding =
-    subst (λ (t : Told). FindingIs g.row.B t.seen (Ok o) c.in_ok-finding.finding) (c.in_ok-placed.ensures.same.same tells) (c.in_ok-finding.ensures.ok tells) in
+    subst (λ (t : Told). FindingIs g.row.B t.seen (Ok o) c.in_ok-finding.finding) (c.in_ok-placed.ensures.same.same tells)
+    (c.in_ok-finding.ensures.ok tells) in
     let places : ArePlaces (places_of g.row.B (length d) (Gpt c.args.table)) c.in_ok-placed.placed.places =
-    subst (λ (n : ℕ). ArePlaces (places_of g.row.B n (Gpt c.args.table)) c.in_ok-placed.placed.places) (sym (g.met.D.Disk.sized c.args.disk.now tells)) c.in_ok-placed.ensures.places in
+    subst (λ (n : ℕ). ArePlaces (places_of g.row.B n (Gpt c.args.table)) c.in_ok-placed.placed.places)
+    (sym (g.met.D.Disk.sized c.args.disk.now tells)) c.in_ok-placed.ensures.places in
     table_survey g.row.B d c.args.head c.args.table o c.in_ok-finding.finding c.args.primary c.in_ok-placed.placed.places
     (c.requires.head tells) (c.requires.body tells) (c.in_ok-placed.ensures.ok tells) finding (c.requires.primary tells) places

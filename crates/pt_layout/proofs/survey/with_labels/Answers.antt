@@ -7,8 +7,10 @@ use Rattle.pt_layout.proofs.survey.with_labels.Goals as goal
 pub places_among-requires : goal.places_among-requires
 places_among-requires g c =
     places_fit c.sectors-sectors.result c.deref.result.now (omega arith)
-    (places_within g.row.B c.sectors-sectors.result c.sectors-sectors.result (Gpt c.args.table) c.deref.result.now (c.deref.ensures.value ∙ c.in_ok-slices.ensures) refl)
+    (places_within g.row.B c.sectors-sectors.result c.sectors-sectors.result (Gpt c.args.table) c.deref.result.now
+    (c.deref.ensures.value ∙ c.in_ok-slices.ensures) refl)
 
 pub read_labels-requires-clause-within : goal.read_labels-requires-clause-within
 read_labels-requires-clause-within g c =
-    places_within g.row.B c.sectors-sectors.result (g.D.Disk.count c.args.disk.now) (Gpt c.args.table) c.deref-2.result.now (c.deref-2.ensures.value ∙ c.in_ok-slices.ensures) c.sectors-sectors.ensures
+    places_within g.row.B c.sectors-sectors.result (g.D.Disk.count c.args.disk.now) (Gpt c.args.table) c.deref-2.result.now
+    (c.deref-2.ensures.value ∙ c.in_ok-slices.ensures) c.sectors-sectors.ensures

@@ -15,4 +15,5 @@ pub returns : goal.returns
 returns g c =
     let os = slots g.row.B c.args.body.now in
     let all : c.loop-k.k ≡ length os = omega arith in
-    next_placed g.row.B c.args.sectors c.args.body.now c.args.from c.loop-k.next (subst (λ (k : ℕ). NextIs (PlacedBelow c.args.sectors os k) c.args.from c.loop-k.next) all c.loop-k.invariant)
+    next_placed g.row.B c.args.sectors c.args.body.now c.args.from c.loop-k.next
+    (subst (λ (k : ℕ). NextIs (PlacedBelow c.args.sectors os k) c.args.from c.loop-k.next) all c.loop-k.invariant)

@@ -9,4 +9,7 @@ pub returns : goal.returns
 returns g c =
     let o = c.args.layout.now in
     subst (λ (r : Option ℕ). NextIs (IsTable g.row.B o) c.args.from r) (sym c.least.ensures)
-    (next_or (IsBodyTable g.row.B o.sectors o.body) (IsPlace (places_of g.row.B o.sectors o.body)) c.args.from c.next_of_body-body.result c.next_label-label.result c.next_of_body-body.ensures c.next_label-label.ensures)
+    (next_or (IsBodyTable g.row.B o.sectors o.body)
+    (IsPlace
+    (places_of g.row.B o.sectors o.body)) c.args.from c.next_of_body-body.result c.next_label-label.result
+    c.next_of_body-body.ensures c.next_label-label.ensures)

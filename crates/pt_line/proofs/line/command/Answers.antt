@@ -11,4 +11,5 @@ returns c =
     let plan = subcommand_added _ _ _ _ _ edit (c.in_ok-on_words-2.ensures _ c.page-plan.ensures) c.in_ok-subcommand-5.ensures in
     let check = subcommand_added _ _ _ _ _ plan (c.in_ok-on_plan.ensures _ c.page-check.ensures) c.in_ok-subcommand-6.ensures in
     let apply = subcommand_added _ _ _ _ _ check (c.in_ok-on_plan-2.ensures _ c.page-apply.ensures) c.in_ok-subcommand-7.ensures in
-    IfOk-weaker c.subcommand-8.result _ _ (λ r adds. subcommand_added _ _ _ _ r apply (c.in_ok-on_image-3.ensures _ c.page-repair.ensures) adds) c.subcommand-8.ensures
+    IfOk-weaker c.subcommand-8.result _ _ (λ r adds. subcommand_added _ _ _ _ r apply
+    (c.in_ok-on_image-3.ensures _ c.page-repair.ensures) adds) c.subcommand-8.ensures

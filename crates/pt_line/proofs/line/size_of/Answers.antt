@@ -4,7 +4,10 @@ use Rattle.pt_line.proofs.Values.{sized_by, value_is}
 use Rattle.pt_line.proofs.line.size_of.Goals as goal
 
 pub returns-in-Some : goal.returns-in-Some
-returns-in-Some c = sized_by (rows_of (found_of c.args.matches.now)) _ (rw c.in-Some.is at (value_is (found_of c.args.matches.now) (codes "sector-size") c.get_str.result c.get_str.ensures)) c.size_named.result c.size_named.ensures
+returns-in-Some c =
+    sized_by (rows_of (found_of c.args.matches.now)) _ (rw c.in-Some.is at
+    (value_is (found_of c.args.matches.now)
+    (codes "sector-size") c.get_str.result c.get_str.ensures)) c.size_named.result c.size_named.ensures
 
 pub returns-in-None : goal.returns-in-None
 returns-in-None c =

@@ -11,11 +11,11 @@ returns-in-Some-clause-ok c =
     (c.number_of-number.ensures ∙ ap (λ (x : List Ebr). number_at x c.in-Some.k) c.as_slice-in-Some.ensures)
     c.put_logical.ensures
 
-pub returns-in-Ok-clause-ok : goal.returns-in-Ok-clause-ok
-returns-in-Ok-clause-ok c =
+pub returns-clause-ok : goal.returns-clause-ok
+returns-clause-ok c =
     added c.place_for-k.result
     (subst (λ (x : List Ebr). NoEmptyIn x c.args.at.0) c.as_slice.ensures (λ k within. c.in_default.ensures.none k within))
     (omega (arith, ap (length {A = Ebr}) c.as_slice-2.ensures, c.if-as_slice-ge-MOST.false))
     (subst (λ (x : List Ebr). IsPlaceFor x c.args.at.0 c.place_for-k.result) c.as_slice-3.ensures c.place_for-k.ensures)
     (c.number_of-number-2.ensures ∙ ap (λ (x : List Ebr). number_at x c.place_for-k.result) c.as_slice-4.ensures)
-    c.in-Ok.ensures.ok
+    c.in_ok-put_ebr.ensures.ok

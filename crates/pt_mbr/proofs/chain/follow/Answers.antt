@@ -10,8 +10,10 @@ use Rattle.pt_mbr.proofs.chain.follow.Goals as goal
 
 pub returns-then-not-is_inside-clause-err : goal.returns-then-not-is_inside-clause-err
 returns-then-not-is_inside-clause-err g c tells =
-    starts_out (g.D.Disk.told c.args.disk.now).seen (span_of c.args.extent.now) c.args.list.now.items c.first_of-at.result c.requires.empty c.first_of-at.ensures.start
-    (λ inside. false≢true (c.if-not-is_inside.ensures.1 (inside_same _ _ _ c.first_of-at.result (c.sectors-sectors.ensures ∙ sym (g.met.D.Disk.sized c.args.disk.now tells)) inside)))
+    starts_out (g.D.Disk.told c.args.disk.now).seen
+    (span_of c.args.extent.now) c.args.list.now.items c.first_of-at.result c.requires.empty c.first_of-at.ensures.start
+    (λ inside. false≢true (c.if-not-is_inside.ensures.1 (inside_same _ _ _ c.first_of-at.result
+    (c.sectors-sectors.ensures ∙ sym (g.met.D.Disk.sized c.args.disk.now tells)) inside)))
 
 pub loop-preserved : goal.loop-preserved
 loop-preserved g c = record {
@@ -23,19 +25,25 @@ loop-preserved g c = record {
 }
 
 pub returns-in_err-next-clause-same : goal.returns-in_err-next-clause-same
-returns-in_err-next-clause-same g c = g.met.D.Disk.reads_on c.args.disk.now c.loop.disk c.step.new.disk c.loop.invariant.same c.in_err-next.ensures.same
+returns-in_err-next-clause-same g c =
+    g.met.D.Disk.reads_on c.args.disk.now c.loop.disk c.step.new.disk c.loop.invariant.same c.in_err-next.ensures.same
 
 pub returns-in-None-clause-same : goal.returns-in-None-clause-same
-returns-in-None-clause-same g c = g.met.D.Disk.reads_on c.args.disk.now c.loop.disk c.step.new.disk c.loop.invariant.same c.in_ok-next.ensures.same
+returns-in-None-clause-same g c =
+    g.met.D.Disk.reads_on c.args.disk.now c.loop.disk c.step.new.disk c.loop.invariant.same c.in_ok-next.ensures.same
 
 pub returns-in_err-next-clause-err : goal.returns-in_err-next-clause-err
 returns-in_err-next-clause-err g c tells =
     let p = err_from_is_err_and c.from_residual.result c.from_residual.ensures.1 in
     let same = c.loop.invariant.same.same tells in
-    let walk = subst (λ (t : Told). Walk t.seen (span_of c.args.extent.now) (Some (lba (span_of c.args.extent.now).first)) c.loop.list.items (Some c.loop.at)) (sym same) (c.loop.invariant.reached tells) in
-    rw (p.1, p.2) (subst (λ (t : Told). EndsIn t.seen (span_of c.args.extent.now) c.step.new.list.items c.in_err-next.field-0.0) same (c.in_err-next.ensures.err tells (omega arith) walk))
+    let walk =
+    subst (λ (t : Told). Walk t.seen (span_of c.args.extent.now) (Some (lba (span_of c.args.extent.now).first)) c.loop.list.items
+    (Some c.loop.at)) (sym same) (c.loop.invariant.reached tells) in
+    rw (p.1, p.2) (subst (λ (t : Told). EndsIn t.seen
+    (span_of c.args.extent.now) c.step.new.list.items c.in_err-next.field-0.0) same (c.in_err-next.ensures.err tells (omega arith) walk))
 
 pub returns-clause-err : goal.returns-clause-err
 returns-clause-err g c tells =
-    too_long (g.D.Disk.told c.args.disk.now).seen (span_of c.args.extent.now) c.loop.list.items c.loop.at (c.loop.invariant.reached tells) (omega arith)
+    too_long (g.D.Disk.told c.args.disk.now).seen (span_of c.args.extent.now) c.loop.list.items c.loop.at
+    (c.loop.invariant.reached tells) (omega arith)
     (inside_same _ _ _ c.loop.at (g.met.D.Disk.sized c.args.disk.now tells) c.loop.invariant.inside)

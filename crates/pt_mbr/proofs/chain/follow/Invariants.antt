@@ -10,5 +10,6 @@ invariant-loop g l = record {
   quiet : g.D.Disk.faults l.disk ≡ g.D.Disk.faults l.initial.disk;
   long : length l.list.items ≡ l.counter;
   inside : IsInside (span_of l.extent) (g.D.Disk.count l.initial.disk) l.at;
-  reached : g.D.Disk.tells → Walk (g.D.Disk.told l.initial.disk).seen (span_of l.extent) (Some (lba (span_of l.extent).first)) l.list.items (Some l.at);
+  reached : g.D.Disk.tells
+      → Walk (g.D.Disk.told l.initial.disk).seen (span_of l.extent) (Some (lba (span_of l.extent).first)) l.list.items (Some l.at);
 }

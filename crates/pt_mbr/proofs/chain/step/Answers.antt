@@ -13,21 +13,26 @@ returns-in_err-ebr-clause-err g c tells =
 
 pub returns-in-None-clause-ok : goal.returns-in-None-clause-ok
 returns-in-None-clause-ok g c tells few walk =
-    chain_ends (g.D.Disk.told c.args.disk.now).seen (span_of c.args.extent.now) c.args.list.now.items c.args.at c.in_ok-ebr.ebr c.push.new.self.items
+    chain_ends (g.D.Disk.told c.args.disk.now).seen
+    (span_of c.args.extent.now) c.args.list.now.items c.args.at c.in_ok-ebr.ebr c.push.new.self.items
     walk few (c.in_ok-ebr.ensures.ok tells) c.in-None.is c.push.ensures.items
 
 pub returns-then-next-at-clause-err : goal.returns-then-next-at-clause-err
 returns-then-next-at-clause-err g c tells few walk =
-    links_down (g.D.Disk.told c.args.disk.now).seen (span_of c.args.extent.now) c.args.list.now.items c.args.at c.in_ok-ebr.ebr c.in-Some.next c.push.new.self.items
+    links_down (g.D.Disk.told c.args.disk.now).seen
+    (span_of c.args.extent.now) c.args.list.now.items c.args.at c.in_ok-ebr.ebr c.in-Some.next c.push.new.self.items
     walk few (c.in_ok-ebr.ensures.ok tells) c.in-Some.is (search rules) c.push.ensures.items
 
 pub returns-then-not-is_inside-clause-err : goal.returns-then-not-is_inside-clause-err
 returns-then-not-is_inside-clause-err g c tells few walk =
-    links_outside (g.D.Disk.told c.args.disk.now).seen (span_of c.args.extent.now) c.args.list.now.items c.args.at c.in_ok-ebr.ebr c.in-Some.next c.push.new.self.items
+    links_outside (g.D.Disk.told c.args.disk.now).seen
+    (span_of c.args.extent.now) c.args.list.now.items c.args.at c.in_ok-ebr.ebr c.in-Some.next c.push.new.self.items
     walk few (c.in_ok-ebr.ensures.ok tells) c.in-Some.is (search rules) c.push.ensures.items
-    (λ inside. false≢true (c.if-not-is_inside.ensures.1 (inside_same _ _ _ c.in-Some.next (c.sectors-sectors.ensures ∙ sym (g.met.D.Disk.sized c.args.disk.now tells)) inside)))
+    (λ inside. false≢true (c.if-not-is_inside.ensures.1 (inside_same _ _ _ c.in-Some.next
+    (c.sectors-sectors.ensures ∙ sym (g.met.D.Disk.sized c.args.disk.now tells)) inside)))
 
 pub returns-clause-ok : goal.returns-clause-ok
 returns-clause-ok g c tells walk =
-    walk_on (g.D.Disk.told c.args.disk.now).seen (span_of c.args.extent.now) c.args.list.now.items c.args.at c.in_ok-ebr.ebr c.in-Some.next c.push.new.self.items
+    walk_on (g.D.Disk.told c.args.disk.now).seen
+    (span_of c.args.extent.now) c.args.list.now.items c.args.at c.in_ok-ebr.ebr c.in-Some.next c.push.new.self.items
     walk (c.in_ok-ebr.ensures.ok tells) c.in-Some.is (search rules) c.push.ensures.items

@@ -13,6 +13,7 @@ itself (Some y) = (Decides-eqb y.0 y.0).1 refl
 
 pub returns-else-eq : goal.returns-else-eq
 returns-else-eq g c = inr (
-  (λ same. false≢true (sym c.if-eq.false ∙ c.eq.ensures ∙ ap (λ (o : Option Lba). option_eq lba_eq.eq-value.it c.args.old o) (sym same) ∙ itself c.args.old)),
+  (λ same. false≢true (sym c.if-eq.false ∙ c.eq.ensures ∙ ap (λ (o : Option Lba). option_eq lba_eq.eq-value.it c.args.old o)
+      (sym same) ∙ itself c.args.old)),
   c.put_value.ensures,
 )

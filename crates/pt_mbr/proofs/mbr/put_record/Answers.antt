@@ -14,13 +14,15 @@ pub returns-clause-bytes : goal.returns-clause-bytes
 returns-clause-bytes g c =
     let at = place_of c.args.k in
     let here = ap (λ (s : List ℕ). drop at s) c.put_part.ensures.put ∙ put_here at c.encoded.result c.args.sector.now (omega arith) in
-    range_put at c.encoded.result c.put_part.result (drop (at + length c.encoded.result) c.args.sector.now) (omega (arith, c.encoded.type_inv)) here ∙ c.encoded.ensures.bytes
+    range_put at c.encoded.result c.put_part.result (drop (at + length c.encoded.result) c.args.sector.now)
+    (omega (arith, c.encoded.type_inv)) here ∙ c.encoded.ensures.bytes
 
 pub returns-clause-fields : goal.returns-clause-fields
 returns-clause-fields g c =
     let at = place_of c.args.k in
     let here = ap (λ (s : List ℕ). drop at s) c.put_part.ensures.put ∙ put_here at c.encoded.result c.args.sector.now (omega arith) in
-    fields_put c.args.value at c.put_part.result (drop (at + length c.encoded.result) c.args.sector.now) (rw (sym c.encoded.ensures.bytes) here) c.encoded.ensures.fits
+    fields_put c.args.value at c.put_part.result (drop (at + length c.encoded.result) c.args.sector.now)
+    (rw (sym c.encoded.ensures.bytes) here) c.encoded.ensures.fits
 
 pub returns-clause-read : goal.returns-clause-read
 returns-clause-read g c = record_put c.args.value (place_of c.args.k) c.put_part.result (returns-clause-fields g c)

@@ -14,7 +14,8 @@ pub returns-clause-same : goal.returns-clause-same
 returns-clause-same g c is =
     let count = ap (λ (l : List ℕ). length l) (sym c.bytes_for.ensures) in
     c.put_part.ensures.put ∙ ap (λ (l : List ℕ). put_at 446 l c.args.sector.now) c.bytes_for.ensures
-    ∙ stays c.args.sectors c.args.sector.now (omega (arith, count, c.bytes_for.type_inv)) (is_those c.args.sectors c.args.sector.now (omega arith) (λ i. c.put_part.ensures.fits i) is)
+    ∙ stays c.args.sectors c.args.sector.now (omega (arith, count, c.bytes_for.type_inv))
+    (is_those c.args.sectors c.args.sector.now (omega arith) (λ i. c.put_part.ensures.fits i) is)
 
 pub returns-clause-other : goal.returns-clause-other
 returns-clause-other g c i away =

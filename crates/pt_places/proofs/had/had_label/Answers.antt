@@ -13,4 +13,5 @@ loop-k-preserved g c =
 pub returns : goal.returns
 returns g c =
     none_had c.args.old.now c.args.slice.first c.args.bytes.now
-    (subst (λ (l : List Slice). All (NotHad c.args.slice.first c.args.bytes.now) l) (take_all c.loop-k.k c.args.old.now (omega arith)) c.loop-k.invariant)
+    (subst (λ (l : List Slice). All (NotHad c.args.slice.first c.args.bytes.now) l)
+    (take_all c.loop-k.k c.args.old.now (omega arith)) c.loop-k.invariant)

@@ -1,7 +1,7 @@
 use Rattle.std.proofs.Common.{◌≡◌, ◌∙◌, ℕ, List, length, map, All, sym, ap, subst, rules}
 use Rattle.pt_sector.specs.Sectors.{Sectors}
 use Rattle.pt_recover.specs.declared.layout.Slice.{Slice}
-use Rattle.pt_cases.specs.Numbers.{Rise, places_rise}
+use Rattle.pt_shape.specs.Ascending.{IsAscending, places_ascend_lem}
 use Rattle.pt_places.specs.Places.{spot_of, IsAt, IsRead, OldAre}
 use Rattle.pt_places.specs.Spots.{AreSpots}
 use Rattle.pt_places.specs.declared.place.Place.{Place}
@@ -14,13 +14,14 @@ pub spots-requires : goal.spots-requires
 spots-requires g c =
     let y = c.args.wanted.now.body in
     let slices = c.deref.ensures.value ∙ c.in_ok-slices.ensures in
-    subst (λ (l : List Slice). Rise 1 l) (sym slices) (places_rise g.row.B c.sectors-sectors.result y c.has_four.ensures)
+    subst (λ (l : List Slice). IsAscending 1 l) (sym slices) (places_ascend_lem g.row.B c.sectors-sectors.result y c.has_four.ensures)
 
 pub read_places-requires : goal.read_places-requires
 read_places-requires g c =
     let n = g.D.Disk.count c.args.disk.now in
     let spots = c.deref-2.ensures.value in
-    let are : AreSpots c.deref.result.now c.as_slice.result.now c.in-Some.spots.items = at_some c.in_ok-found.found c.in-Some.spots _ _ c.in-Some.is c.in_ok-found.ensures in (
+    let are : AreSpots c.deref.result.now c.as_slice.result.now c.in-Some.spots.items =
+    at_some c.in_ok-found.found c.in-Some.spots _ _ c.in-Some.is c.in_ok-found.ensures in (
       search rules,
       (
         c.requires.size,
@@ -45,9 +46,12 @@ returns-clause-answer g c = λ tells.
     let here = c.in_ok-places.ensures in
     let sectors : c.sectors-sectors.result ≡ length d = c.sectors-sectors.ensures ∙ sym (g.met.D.Disk.sized c.args.disk.now tells) in
     let olds : OldAre g.row.B c.sectors-sectors.result c.args.old.now c.deref-4.result.now =
-    subst (λ (x : List Slice). OldAre g.row.B c.sectors-sectors.result c.args.old.now x) (sym c.deref-4.ensures.value) c.in_ok-old_slices.ensures in
-    whole d c.args.old.now c.args.wanted.now c.sectors-sectors.result n c.deref.result.now c.as_slice.result.now c.in-Some.spots.items c.deref-3.result.now c.deref-4.result.now c.in_ok-answer.answer
-    c.has_four.ensures (c.sectors-sectors.ensures ∙ sym c.requires.sectors) (c.deref.ensures.value ∙ c.in_ok-slices.ensures) c.as_slice.ensures
+    subst (λ (x : List Slice). OldAre g.row.B c.sectors-sectors.result c.args.old.now x)
+    (sym c.deref-4.ensures.value) c.in_ok-old_slices.ensures in
+    whole d c.args.old.now c.args.wanted.now c.sectors-sectors.result n c.deref.result.now c.as_slice.result.now c.in-Some.spots.items
+    c.deref-3.result.now c.deref-4.result.now c.in_ok-answer.answer
+    c.has_four.ensures (c.sectors-sectors.ensures ∙ sym c.requires.sectors)
+    (c.deref.ensures.value ∙ c.in_ok-slices.ensures) c.as_slice.ensures
     (at_some c.in_ok-found.found c.in-Some.spots _ _ c.in-Some.is c.in_ok-found.ensures)
     (ap (λ (x : List (Place g.row.B)). map spot_of x) places ∙ here.spots ∙ c.deref-2.ensures.value)
     (subst (λ (x : List (Place g.row.B)). All (IsAt n) x) (sym places) here.at)

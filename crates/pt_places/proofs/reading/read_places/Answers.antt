@@ -8,9 +8,15 @@ pub loop-k-preserved : goal.loop-k-preserved
 loop-k-preserved g c = record {
   same = g.met.D.Disk.reads_on c.args.disk.now c.loop-k.disk c.read_place.new.disk c.loop-k.invariant.same c.in_ok-place.ensures.same;
   quiet = c.in_ok-place.ensures.blames ∙ c.loop-k.invariant.quiet;
-  spots = spots_on c.loop-k.places.items c.push_place.new.places.items c.in_ok-place.place c.args.spots.now c.loop-k.k _ (omega arith) c.in_ok-place.ensures.spot c.in_ok-push_place.ensures c.loop-k.invariant.spots;
-  at = all_on (IsAt (g.D.Disk.count c.args.disk.now)) c.loop-k.places.items c.push_place.new.places.items c.in_ok-place.place c.in_ok-push_place.ensures c.loop-k.invariant.at
+  spots = spots_on c.loop-k.places.items c.push_place.new.places.items c.in_ok-place.place c.args.spots.now c.loop-k.k _
+      (omega arith) c.in_ok-place.ensures.spot c.in_ok-push_place.ensures c.loop-k.invariant.spots;
+  at =
+      all_on
+      (IsAt (g.D.Disk.count c.args.disk.now)) c.loop-k.places.items c.push_place.new.places.items c.in_ok-place.place
+      c.in_ok-push_place.ensures c.loop-k.invariant.at
       (subst (λ (n : ℕ). IsAt n c.in_ok-place.place) c.loop-k.invariant.same.same_count c.in_ok-place.ensures.at);
-  bytes = λ tells. all_on (IsRead (g.D.Disk.told c.args.disk.now).seen) c.loop-k.places.items c.push_place.new.places.items c.in_ok-place.place c.in_ok-push_place.ensures (c.loop-k.invariant.bytes tells)
+  bytes =
+      λ tells. all_on (IsRead (g.D.Disk.told c.args.disk.now).seen) c.loop-k.places.items c.push_place.new.places.items
+      c.in_ok-place.place c.in_ok-push_place.ensures (c.loop-k.invariant.bytes tells)
       (subst (λ (t : Told). IsRead t.seen c.in_ok-place.place) (c.loop-k.invariant.same.same tells) (c.in_ok-place.ensures.bytes tells));
 }

@@ -12,9 +12,13 @@ loop-k-preserved c =
     let now = c.take_label-label.new.taken in
     record {
       within = c.take_label-label.ensures.within;
-      slices = subst (λ (x : List Spot). map slice_of x ++ drop (c.loop-k.k + 1) c.args.slices.now ≡ c.args.slices.now) (sym c.in_ok-push.ensures.items)
+      slices =
+          subst (λ (x : List Spot). map slice_of x ++ drop (c.loop-k.k + 1) c.args.slices.now ≡ c.args.slices.now)
+          (sym c.in_ok-push.ensures.items)
           (slices_on c.loop-k.spots.items s c.args.slices.now c.loop-k.k z (omega arith) refl c.loop-k.invariant.slices);
       labels = subst (λ (x : List Spot). labels_of x ++ drop now c.args.labels.now ≡ c.args.labels.now) (sym c.in_ok-push.ensures.items)
-          (labels_on c.loop-k.spots.items s c.args.labels.now c.loop-k.taken now c.take_label-label.ensures.takes c.loop-k.invariant.labels);
-      fit = λ fit. fits_on c.args.slices.now c.args.labels.now c.loop-k.k c.loop-k.taken now z c.take_label-label.result (omega arith) c.requires c.take_label-label.ensures.takes (c.loop-k.invariant.fit fit);
+          (labels_on c.loop-k.spots.items s c.args.labels.now c.loop-k.taken now c.take_label-label.ensures.takes
+          c.loop-k.invariant.labels);
+      fit = λ fit. fits_on c.args.slices.now c.args.labels.now c.loop-k.k c.loop-k.taken now z c.take_label-label.result
+          (omega arith) c.requires c.take_label-label.ensures.takes (c.loop-k.invariant.fit fit);
     }

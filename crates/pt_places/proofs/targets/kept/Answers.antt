@@ -14,7 +14,8 @@ returns-then-eq g c =
 pub returns-else-eq : goal.returns-else-eq
 returns-else-eq g c = λ reads.
     let s = c.args.place.now.spot.slice in
-    let same : c.in-Ok.found ≡ c.args.label.now = label_one c.in-Ok.found c.args.label.now s.first s.len s.first s.len c.args.place.now.bytes c.in-Ok.ensures.ok reads in
+    let same : c.in-Ok.found ≡ c.args.label.now =
+    label_one c.in-Ok.found c.args.label.now s.first s.len s.first s.len c.args.place.now.bytes c.in-Ok.ensures.ok reads in
     false≢true (sym c.if-eq.false ∙ c.eq.ensures ∙ (label_decides c.in-Ok.found c.args.label.now).1 same)
 
 pub returns-in-Err : goal.returns-in-Err

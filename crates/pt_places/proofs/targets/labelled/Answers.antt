@@ -9,7 +9,8 @@ use Rattle.pt_places.proofs.targets.labelled.Goals as goal
 pub returns-then-eq : goal.returns-then-eq
 returns-then-eq g c =
     let same : c.in-Some.had ≡ c.args.label.now = (label_decides c.in-Some.had c.args.label.now).0 (sym c.eq.ensures ∙ c.if-eq.true) in
-    let had : HadAt c.args.old.now c.args.place.now c.args.label.now = subst (λ (l : Label). HadAt c.args.old.now c.args.place.now l) same c.in-Some.ensures in
+    let had : HadAt c.args.old.now c.args.place.now c.args.label.now =
+    subst (λ (l : Label). HadAt c.args.old.now c.args.place.now l) same c.in-Some.ensures in
     kept_is c.args.old.now c.args.place.now c.args.label.now c.kept.result had c.kept.ensures
 
 pub returns-else-eq : goal.returns-else-eq
@@ -19,4 +20,5 @@ returns-else-eq g c =
     c.written.ensures
 
 pub returns-in-None : goal.returns-in-None
-returns-in-None g c = new_is c.args.old.now c.args.place.now c.args.label.now c.written-in-None.result c.in-None.ensures c.written-in-None.ensures
+returns-in-None g c =
+    new_is c.args.old.now c.args.place.now c.args.label.now c.written-in-None.result c.in-None.ensures c.written-in-None.ensures

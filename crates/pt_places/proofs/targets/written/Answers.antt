@@ -14,5 +14,6 @@ returns-in-Some g c =
       of_place = record { at = refl; under = refl };
       kind_is = refl;
       encoded = encoded;
-      one = λ is. sector_one g.row.B v p.bytes l p.spot.slice over c.requires c.is_array.ensures.small c.is_array-in-Some.ensures.small c.is_array.ensures.count c.is_array-in-Some.ensures.count encoded is;
+      one = λ is. sector_one g.row.B v p.bytes l p.spot.slice over c.requires c.is_array.ensures.small c.is_array-in-Some.ensures.small
+          c.is_array.ensures.count c.is_array-in-Some.ensures.count encoded is;
     }

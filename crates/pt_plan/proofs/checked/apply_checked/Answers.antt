@@ -8,39 +8,47 @@ pub returns-in_err-flush-clause-any_moment : goal.returns-in_err-flush-clause-an
 returns-in_err-flush-clause-any_moment g c = λ tells. failed_flush _ _ _ (c.in_err-flush.ensures.failed tells)
 
 pub returns-in_err-answer-clause-any_moment : goal.returns-in_err-answer-clause-any_moment
-returns-in_err-answer-clause-any_moment g c = λ tells. so_far _ _ _ (g.met.D.Disk.may_be_seen _ tells) (c.in_ok-flush.ensures.done tells) (c.in_err-answer.ensures.same.same tells) _
+returns-in_err-answer-clause-any_moment g c =
+    λ tells. so_far _ _ _ (g.met.D.Disk.may_be_seen _ tells) (c.in_ok-flush.ensures.done tells) (c.in_err-answer.ensures.same.same tells) _
 
 pub returns-in-No-clause-any_moment : goal.returns-in-No-clause-any_moment
-returns-in-No-clause-any_moment g c = λ tells. so_far _ _ _ (g.met.D.Disk.may_be_seen _ tells) (c.in_ok-flush.ensures.done tells) (c.in_ok-answer.ensures.same.same tells) _
+returns-in-No-clause-any_moment g c =
+    λ tells. so_far _ _ _ (g.met.D.Disk.may_be_seen _ tells) (c.in_ok-flush.ensures.done tells) (c.in_ok-answer.ensures.same.same tells) _
 
 pub returns-in-No-clause-applied : goal.returns-in-No-clause-applied
 returns-in-No-clause-applied g c = λ tells.
-    refused _ _ _ (g.met.D.Disk.may_be_seen _ tells) (c.in_ok-flush.ensures.done tells) (c.in_ok-answer.ensures.same.same tells) g.row.B (phases_of c.args.plan.now) _ c.in_ok-answer.answer c.in-No.is (c.in_ok-answer.ensures.answers tells)
+    refused _ _ _ (g.met.D.Disk.may_be_seen _ tells) (c.in_ok-flush.ensures.done tells) (c.in_ok-answer.ensures.same.same tells) g.row.B
+    (phases_of c.args.plan.now) _ c.in_ok-answer.answer c.in-No.is (c.in_ok-answer.ensures.answers tells)
 
 pub returns-in_err-apply-in-Yes-clause-any_moment : goal.returns-in_err-apply-in-Yes-clause-any_moment
 returns-in_err-apply-in-Yes-clause-any_moment g c = λ tells.
-    goes_on _ _ _ (g.met.D.Disk.may_be_seen _ tells) (c.in_ok-flush.ensures.done tells) (c.in_ok-answer.ensures.same.same tells) g.row.B (phases_of c.args.plan.now) c.in-Yes.switch c.in_ok-answer.answer c.in-Yes.is (c.in_ok-answer.ensures.promises tells)
+    goes_on _ _ _ (g.met.D.Disk.may_be_seen _ tells) (c.in_ok-flush.ensures.done tells) (c.in_ok-answer.ensures.same.same tells) g.row.B
+    (phases_of c.args.plan.now) c.in-Yes.switch c.in_ok-answer.answer c.in-Yes.is (c.in_ok-answer.ensures.promises tells)
     _ (c.apply.ensures.any_moment tells)
 
 pub returns-in_ok-apply-in-Yes-clause-any_moment : goal.returns-in_ok-apply-in-Yes-clause-any_moment
 returns-in_ok-apply-in-Yes-clause-any_moment g c = λ tells.
-    goes_on _ _ _ (g.met.D.Disk.may_be_seen _ tells) (c.in_ok-flush.ensures.done tells) (c.in_ok-answer.ensures.same.same tells) g.row.B (phases_of c.args.plan.now) c.in-Yes.switch c.in_ok-answer.answer c.in-Yes.is (c.in_ok-answer.ensures.promises tells)
+    goes_on _ _ _ (g.met.D.Disk.may_be_seen _ tells) (c.in_ok-flush.ensures.done tells) (c.in_ok-answer.ensures.same.same tells) g.row.B
+    (phases_of c.args.plan.now) c.in-Yes.switch c.in_ok-answer.answer c.in-Yes.is (c.in_ok-answer.ensures.promises tells)
     _ (c.apply.ensures.any_moment tells)
 
 pub returns-in_ok-apply-in-Yes-clause-applied : goal.returns-in_ok-apply-in-Yes-clause-applied
 returns-in_ok-apply-in-Yes-clause-applied g c = λ tells.
-    done _ _ _ (g.met.D.Disk.may_be_seen _ tells) (c.in_ok-flush.ensures.done tells) (c.in_ok-answer.ensures.same.same tells) g.row.B (phases_of c.args.plan.now) c.in-Yes.switch c.in_ok-answer.answer c.in-Yes.is (c.in_ok-answer.ensures.promises tells)
+    done _ _ _ (g.met.D.Disk.may_be_seen _ tells) (c.in_ok-flush.ensures.done tells) (c.in_ok-answer.ensures.same.same tells) g.row.B
+    (phases_of c.args.plan.now) c.in-Yes.switch c.in_ok-answer.answer c.in-Yes.is (c.in_ok-answer.ensures.promises tells)
     _ (c.in_ok-answer.ensures.answers tells) (c.in_ok-apply-in-Yes.ensures.done tells)
 
 pub returns-in_err-answer-clause-failed : goal.returns-in_err-answer-clause-failed
 returns-in_err-answer-clause-failed g c = λ tells.
     let p = err_from_is_err_and c.from_residual-in_err-answer.result c.from_residual-in_err-answer.ensures.1 in
-    rw (p.1, p.2) (unchecked g.row.B (phases_of c.args.plan.now) _ _ _ (c.in_ok-flush.ensures.done tells) (c.in_err-answer.ensures.same.same tells) c.in_err-answer.field-0.0
+    rw (p.1, p.2) (unchecked g.row.B (phases_of c.args.plan.now) _ _ _ (c.in_ok-flush.ensures.done tells)
+    (c.in_err-answer.ensures.same.same tells) c.in_err-answer.field-0.0
     _ _ c.in_err-answer.ensures.blames c.in_err-answer.ensures.same.came)
 
 pub returns-in_err-apply-in-Yes-clause-failed : goal.returns-in_err-apply-in-Yes-clause-failed
 returns-in_err-apply-in-Yes-clause-failed g c = λ tells.
     let p = err_from_is_err_and c.from_residual-in_err-apply-in-Yes.result c.from_residual-in_err-apply-in-Yes.ensures.1 in
-    rw (p.1, p.2) (unapplied g.row.B (phases_of c.args.plan.now) _ _ _ (c.in_ok-flush.ensures.done tells) (c.in_ok-answer.ensures.same.same tells)
+    rw (p.1, p.2) (unapplied g.row.B (phases_of c.args.plan.now) _ _ _ (c.in_ok-flush.ensures.done tells)
+    (c.in_ok-answer.ensures.same.same tells)
     c.in-Yes.switch c.in_ok-answer.answer c.in-Yes.is (c.in_ok-answer.ensures.answers tells) (c.in_ok-answer.ensures.promises tells)
     _ c.in_err-apply-in-Yes.field-0.0 (c.in_err-apply-in-Yes.ensures.failed tells))

@@ -7,21 +7,27 @@ use Rattle.pt_plan.proofs.commits.commit.Goals as goal
 pub returns-in_err-flush-clause-commits : goal.returns-in_err-flush-clause-commits
 returns-in_err-flush-clause-commits g c = λ tells.
     let p = err_from_is_err_and c.from_residual.result c.from_residual.ensures.1 in
-    rw (p.1, p.2) (at_failed_flush _ _ _ _ _ _ _ _ _ _ c.in_err-flush.field-0.0 _ _ c.in_err-flush.ensures.fault (c.in_err-flush.ensures.failed tells))
+    rw (p.1, p.2) (at_failed_flush _ _ _ _ _ _ _ _ _ _ c.in_err-flush.field-0.0 _ _ c.in_err-flush.ensures.fault
+    (c.in_err-flush.ensures.failed tells))
 
 pub returns-in_err-plan-clause-commits : goal.returns-in_err-plan-clause-commits
 returns-in_err-plan-clause-commits g c = λ tells.
     let p = err_from_is_err_and c.from_residual-in_err-plan.result c.from_residual-in_err-plan.ensures.1 in
-    rw (p.1, p.2) (at_refused _ _ _ _ _ _ _ _ _ _ _ _ _ (g.met.D.Disk.may_be_seen _ tells) (c.in_ok-flush.ensures.done tells) (c.in_err-plan.ensures.same.same tells) c.in_err-plan.field-0.0
-    (met_read (commit_fault_in c.in_err-plan.field-0.0) _ _ c.in_err-plan.ensures.blames c.in_err-plan.ensures.same.came) (rw c.flush.ensures.count at (c.in_err-plan.ensures.refused tells)))
+    rw (p.1, p.2) (at_refused _ _ _ _ _ _ _ _ _ _ _ _ _ (g.met.D.Disk.may_be_seen _ tells) (c.in_ok-flush.ensures.done tells)
+    (c.in_err-plan.ensures.same.same tells) c.in_err-plan.field-0.0
+    (met_read (commit_fault_in c.in_err-plan.field-0.0) _ _ c.in_err-plan.ensures.blames c.in_err-plan.ensures.same.came)
+    (rw c.flush.ensures.count at (c.in_err-plan.ensures.refused tells)))
 
 pub returns-clause-commits : goal.returns-clause-commits
 returns-clause-commits g c = λ tells.
-    at_done _ _ _ _ _ _ _ _ _ _ _ _ _ (g.met.D.Disk.may_be_seen _ tells) (c.in_ok-flush.ensures.done tells) (c.in_ok-plan.ensures.same.same tells) (denotes_one_lem g.row.B) _
+    at_done _ _ _ _ _ _ _ _ _ _ _ _ _ (g.met.D.Disk.may_be_seen _ tells) (c.in_ok-flush.ensures.done tells)
+    (c.in_ok-plan.ensures.same.same tells) (denotes_one_lem g.row.B) _
     (rw c.flush.ensures.count at (c.in_ok-plan.ensures.ready tells)) _ (c.apply.ensures.any_moment tells) (c.in_ok-apply.ensures.done tells)
 
 pub returns-in_err-apply-clause-commits : goal.returns-in_err-apply-clause-commits
 returns-in_err-apply-clause-commits g c = λ tells.
     let p = err_from_is_err_and c.from_residual-in_err-apply.result c.from_residual-in_err-apply.ensures.1 in
-    rw (p.1, p.2) (at_failed _ _ _ _ _ _ _ _ _ _ _ _ _ (g.met.D.Disk.may_be_seen _ tells) (c.in_ok-flush.ensures.done tells) (c.in_ok-plan.ensures.same.same tells) (denotes_one_lem g.row.B) _
-    (rw c.flush.ensures.count at (c.in_ok-plan.ensures.ready tells)) _ (c.apply.ensures.any_moment tells) c.in_err-apply.field-0.0 (c.in_err-apply.ensures.failed tells))
+    rw (p.1, p.2) (at_failed _ _ _ _ _ _ _ _ _ _ _ _ _ (g.met.D.Disk.may_be_seen _ tells) (c.in_ok-flush.ensures.done tells)
+    (c.in_ok-plan.ensures.same.same tells) (denotes_one_lem g.row.B) _
+    (rw c.flush.ensures.count at (c.in_ok-plan.ensures.ready tells)) _ (c.apply.ensures.any_moment tells) c.in_err-apply.field-0.0
+    (c.in_err-apply.ensures.failed tells))

@@ -4,4 +4,6 @@ use Rattle.pt_plan.specs.Carried.{run_carries_lem}
 use Rattle.pt_plan.proofs.laws.run_carries.Goals as goal
 
 pub returns : goal.returns
-returns c = λ b n. run_carries_lem (Denotes b) (EditedBy b n) (Commits b n) (λ w result old new did. did.history) (Repairs b n) (λ result old new did. did.history)
+returns c =
+    λ b n. run_carries_lem (Denotes b) (EditedBy b n) (Commits b n) (λ w result old new did. did.history) (Repairs b n)
+    (λ result old new did. did.history)

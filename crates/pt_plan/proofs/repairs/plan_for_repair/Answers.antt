@@ -6,15 +6,18 @@ use Rattle.pt_plan.proofs.repairs.plan_for_repair.Goals as goal
 pub returns-in_err-plan-in-Some-clause-refused : goal.returns-in_err-plan-in-Some-clause-refused
 returns-in_err-plan-in-Some-clause-refused g c = λ tells.
     let p = err_from_is_err_and c.from_residual-in_err-plan-in-Some.result c.from_residual-in_err-plan-in-Some.ensures.1 in
-    rw (p.1, p.2) (mend_refused g.row.B (g.D.Disk.told c.args.disk.now).seen c.requires.size c.in_ok-known.known.old (c.in_ok-known.ensures.known tells).old c.in-Some.layout c.in-Some.is
+    rw (p.1, p.2) (mend_refused g.row.B (g.D.Disk.told c.args.disk.now).seen c.requires.size c.in_ok-known.known.old
+    (c.in_ok-known.ensures.known tells).old c.in-Some.layout c.in-Some.is
     c.in_err-plan-in-Some.field-0.0 (rw (c.in_ok-known.ensures.same.same tells) at (c.in_err-plan-in-Some.ensures.err tells)))
 
 pub returns-in-Some-clause-planned : goal.returns-in-Some-clause-planned
 returns-in-Some-clause-planned g c = λ tells.
-    mend_planned g.row.B (g.D.Disk.told c.args.disk.now).seen c.requires.size c.in_ok-known.known.old (c.in_ok-known.ensures.known tells).old c.in-Some.layout c.in-Some.is
+    mend_planned g.row.B (g.D.Disk.told c.args.disk.now).seen c.requires.size c.in_ok-known.known.old
+    (c.in_ok-known.ensures.known tells).old c.in-Some.layout c.in-Some.is
     (phases_of c.in_ok-plan-in-Some.plan) (rw (c.in_ok-known.ensures.same.same tells) at (c.in_ok-plan-in-Some.ensures.plan tells))
 
 pub returns-clause-refused : goal.returns-clause-refused
 returns-clause-refused g c = λ tells.
-    nothing_to_mend g.row.B (g.D.Disk.told c.args.disk.now).seen c.in_ok-known.known.old c.in_ok-known.reason c.in-None.is (c.in_ok-known.ensures.known tells).old (c.in_ok-known.ensures.reason tells)
+    nothing_to_mend g.row.B (g.D.Disk.told c.args.disk.now).seen c.in_ok-known.known.old c.in_ok-known.reason c.in-None.is
+    (c.in_ok-known.ensures.known tells).old (c.in_ok-known.ensures.reason tells)
     c.no_layout.result c.no_layout.ensures.told

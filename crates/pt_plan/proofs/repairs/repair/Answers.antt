@@ -9,21 +9,27 @@ use Rattle.pt_plan.proofs.repairs.repair.Goals as goal
 pub returns-in_err-flush-clause-repairs : goal.returns-in_err-flush-clause-repairs
 returns-in_err-flush-clause-repairs g c = λ tells.
     let p = err_from_is_err_and c.from_residual.result c.from_residual.ensures.1 in
-    rw (p.1, p.2) (at_failed_flush _ _ _ _ _ _ _ _ c.in_err-flush.field-0.0 _ _ c.in_err-flush.ensures.fault (c.in_err-flush.ensures.failed tells))
+    rw (p.1, p.2) (at_failed_flush _ _ _ _ _ _ _ _ c.in_err-flush.field-0.0 _ _ c.in_err-flush.ensures.fault
+    (c.in_err-flush.ensures.failed tells))
 
 pub returns-in_err-plan-clause-repairs : goal.returns-in_err-plan-clause-repairs
 returns-in_err-plan-clause-repairs g c = λ tells.
     let p = err_from_is_err_and c.from_residual-in_err-plan.result c.from_residual-in_err-plan.ensures.1 in
-    rw (p.1, p.2) (at_refused _ _ _ _ _ _ _ _ _ _ _ (g.met.D.Disk.may_be_seen _ tells) (c.in_ok-flush.ensures.done tells) (c.in_err-plan.ensures.same.same tells) c.in_err-plan.field-0.0
-    (met_read (repair_fault_in c.in_err-plan.field-0.0) _ _ c.in_err-plan.ensures.blames c.in_err-plan.ensures.same.came) (c.in_err-plan.ensures.refused tells))
+    rw (p.1, p.2) (at_refused _ _ _ _ _ _ _ _ _ _ _ (g.met.D.Disk.may_be_seen _ tells) (c.in_ok-flush.ensures.done tells)
+    (c.in_err-plan.ensures.same.same tells) c.in_err-plan.field-0.0
+    (met_read (repair_fault_in c.in_err-plan.field-0.0) _ _ c.in_err-plan.ensures.blames c.in_err-plan.ensures.same.came)
+    (c.in_err-plan.ensures.refused tells))
 
 pub returns-clause-repairs : goal.returns-clause-repairs
 returns-clause-repairs g c = λ tells.
-    at_done _ _ _ _ _ _ _ _ _ _ _ (g.met.D.Disk.may_be_seen _ tells) (c.in_ok-flush.ensures.done tells) (c.in_ok-plan.ensures.same.same tells) (denotes_one_lem g.row.B) (none_of_healthy g.row.B) _
-    (c.in_ok-plan.ensures.ready tells) _ (c.apply.ensures.any_moment tells) (c.in_ok-apply.ensures.done tells) (c.in_ok-apply.ensures.passed tells)
+    at_done _ _ _ _ _ _ _ _ _ _ _ (g.met.D.Disk.may_be_seen _ tells) (c.in_ok-flush.ensures.done tells)
+    (c.in_ok-plan.ensures.same.same tells) (denotes_one_lem g.row.B) (none_of_healthy g.row.B) _
+    (c.in_ok-plan.ensures.ready tells) _ (c.apply.ensures.any_moment tells) (c.in_ok-apply.ensures.done tells)
+    (c.in_ok-apply.ensures.passed tells)
 
 pub returns-in_err-apply-clause-repairs : goal.returns-in_err-apply-clause-repairs
 returns-in_err-apply-clause-repairs g c = λ tells.
     let p = err_from_is_err_and c.from_residual-in_err-apply.result c.from_residual-in_err-apply.ensures.1 in
-    rw (p.1, p.2) (at_failed _ _ _ _ _ _ _ _ _ _ _ (g.met.D.Disk.may_be_seen _ tells) (c.in_ok-flush.ensures.done tells) (c.in_ok-plan.ensures.same.same tells) (denotes_one_lem g.row.B) (none_of_healthy g.row.B) _
+    rw (p.1, p.2) (at_failed _ _ _ _ _ _ _ _ _ _ _ (g.met.D.Disk.may_be_seen _ tells) (c.in_ok-flush.ensures.done tells)
+    (c.in_ok-plan.ensures.same.same tells) (denotes_one_lem g.row.B) (none_of_healthy g.row.B) _
     (c.in_ok-plan.ensures.ready tells) _ (c.apply.ensures.any_moment tells) c.in_err-apply.field-0.0 (c.in_err-apply.ensures.failed tells))

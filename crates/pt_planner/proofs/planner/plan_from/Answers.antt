@@ -1,8 +1,8 @@
 use Rattle.std.proofs.Common.{◌∙◌, ℕ, sym, subst, arith}
 use Rattle.std.proofs.lemmas.Result.{err_from_is_err_and}
 use Rattle.pt_recover.specs.Mbr.{extended_of}
-use Rattle.pt_cases.specs.Copies.{FitsTable}
-use Rattle.pt_cases.specs.Records.{IsLinked}
+use Rattle.pt_shape.specs.Shape.{FitsTable}
+use Rattle.pt_shape.specs.Links.{IsLinked}
 use Rattle.pt_planner.proofs.Beginning.{of_disk, starts}
 use Rattle.pt_planner.proofs.Making.{err_so, isnt, hindered, no_places, none_of_disk}
 use Rattle.pt_planner.proofs.planner.plan_from.Goals as goal
@@ -21,7 +21,8 @@ places_of-requires g c = (
   (
     c.requires.size,
     (
-      (of_disk g.row.B c.sectors.result c.args.known.now.old c.args.wanted.now c.may_be.result c.may_be.ensures c.if-not-may_be.false).sectors ∙ c.sectors.ensures,
+      (of_disk g.row.B c.sectors.result c.args.known.now.old c.args.wanted.now c.may_be.result c.may_be.ensures
+          c.if-not-may_be.false).sectors ∙ c.sectors.ensures,
       λ tells. (c.requires.known tells).old,
     ),
   ),
@@ -33,11 +34,13 @@ returns-in_err-places-clause-err g c = λ tells.
     let known = c.requires.known tells in
     let p = err_from_is_err_and c.from_residual-in_err-places.result c.from_residual-in_err-places.ensures.1 in
     rw (p.1, p.2) (no_places g.row.B d c.args.known.now.old c.args.wanted.now known.old c.in_ok-be_sound.ensures.ok
-    (isnt c.is_done.result c.if-is_done.false (c.is_done.ensures.done d known)) c.in_err-places.field-0.0 (c.in_err-places.ensures.err tells))
+    (isnt c.is_done.result c.if-is_done.false (c.is_done.ensures.done d known)) c.in_err-places.field-0.0
+    (c.in_err-places.ensures.err tells))
 
 pub to_mbr-requires : goal.to_mbr-requires
 to_mbr-requires g c =
-    let of = of_disk g.row.B c.sectors.result c.args.known.now.old c.args.wanted.now c.may_be.result c.may_be.ensures c.if-not-may_be.false in
+    let of =
+    of_disk g.row.B c.sectors.result c.args.known.now.old c.args.wanted.now c.may_be.result c.may_be.ensures c.if-not-may_be.false in
     let count = c.sectors.ensures ∙ sym c.in_ok-places.ensures.same.same_count in (
       omega arith,
       (
@@ -47,15 +50,19 @@ to_mbr-requires g c =
           (
             c.in-Mbr.is,
             (
-              subst (λ (n : ℕ). IsLinked n (extended_of c.in-Mbr.records) c.in-Mbr.chain) count (of.mbr c.in-Mbr.records c.in-Mbr.chain c.in-Mbr.is).1,
+              subst (λ (n : ℕ). IsLinked n (extended_of c.in-Mbr.records) c.in-Mbr.chain) count
+                  (of.mbr c.in-Mbr.records c.in-Mbr.chain c.in-Mbr.is).1,
               (
                 rw c.in_ok-places.ensures.same.same_count c.in_ok-places.ensures.in_range,
                 (
                   λ tells. rw (c.in_ok-places.ensures.same.same tells) (c.requires.known tells),
                   (
-                    λ tells. rw (c.in_ok-places.ensures.same.same tells) (starts g.row.B (g.D.Disk.told c.args.disk.now).seen c.args.known.now c.args.wanted.now (c.requires.known tells) c.in_ok-be_sound.ensures.ok
+                    λ tells. rw (c.in_ok-places.ensures.same.same tells)
+                        (starts g.row.B (g.D.Disk.told c.args.disk.now).seen c.args.known.now c.args.wanted.now
+                        (c.requires.known tells) c.in_ok-be_sound.ensures.ok
                         (of.sectors ∙ c.sectors.ensures ∙ sym (g.met.D.Disk.sized c.args.disk.now tells)) c.is_done.ensures.stays
-                        (isnt c.is_done.result c.if-is_done.false (c.is_done.ensures.done (g.D.Disk.told c.args.disk.now).seen (c.requires.known tells)))),
+                        (isnt c.is_done.result c.if-is_done.false
+                        (c.is_done.ensures.done (g.D.Disk.told c.args.disk.now).seen (c.requires.known tells)))),
                     λ tells. rw (c.in_ok-places.ensures.same.same tells) (c.in_ok-places.ensures.ok tells),
                   ),
                 ),
@@ -68,7 +75,8 @@ to_mbr-requires g c =
 
 pub to_gpt-requires : goal.to_gpt-requires
 to_gpt-requires g c =
-    let of = of_disk g.row.B c.sectors.result c.args.known.now.old c.args.wanted.now c.may_be.result c.may_be.ensures c.if-not-may_be.false in
+    let of =
+    of_disk g.row.B c.sectors.result c.args.known.now.old c.args.wanted.now c.may_be.result c.may_be.ensures c.if-not-may_be.false in
     let count = c.sectors.ensures ∙ sym c.in_ok-places.ensures.same.same_count in (
       omega arith,
       (
@@ -84,9 +92,12 @@ to_gpt-requires g c =
                 (
                   λ tells. rw (c.in_ok-places.ensures.same.same tells) (c.requires.known tells),
                   (
-                    λ tells. rw (c.in_ok-places.ensures.same.same tells) (starts g.row.B (g.D.Disk.told c.args.disk.now).seen c.args.known.now c.args.wanted.now (c.requires.known tells) c.in_ok-be_sound.ensures.ok
+                    λ tells. rw (c.in_ok-places.ensures.same.same tells)
+                        (starts g.row.B (g.D.Disk.told c.args.disk.now).seen c.args.known.now c.args.wanted.now
+                        (c.requires.known tells) c.in_ok-be_sound.ensures.ok
                         (of.sectors ∙ c.sectors.ensures ∙ sym (g.met.D.Disk.sized c.args.disk.now tells)) c.is_done.ensures.stays
-                        (isnt c.is_done.result c.if-is_done.false (c.is_done.ensures.done (g.D.Disk.told c.args.disk.now).seen (c.requires.known tells)))),
+                        (isnt c.is_done.result c.if-is_done.false
+                        (c.is_done.ensures.done (g.D.Disk.told c.args.disk.now).seen (c.requires.known tells)))),
                     λ tells. rw (c.in_ok-places.ensures.same.same tells) (c.in_ok-places.ensures.ok tells),
                   ),
                 ),
@@ -101,7 +112,8 @@ pub returns-in-Mbr-clause-err : goal.returns-in-Mbr-clause-err
 returns-in-Mbr-clause-err g c = λ tells.
     let d = (g.D.Disk.told c.args.disk.now).seen in
     let known = c.requires.known tells in
-    let of = of_disk g.row.B c.sectors.result c.args.known.now.old c.args.wanted.now c.may_be.result c.may_be.ensures c.if-not-may_be.false in
+    let of =
+    of_disk g.row.B c.sectors.result c.args.known.now.old c.args.wanted.now c.may_be.result c.may_be.ensures c.if-not-may_be.false in
     err_so c.to_mbr.result _ _ (hindered g.row.B d c.args.known.now.old c.args.wanted.now known.old c.in_ok-be_sound.ensures.ok
     (isnt c.is_done.result c.if-is_done.false (c.is_done.ensures.done d known)) (c.in_ok-places.ensures.none_left tells))
     (rw (c.in_ok-places.ensures.same.same tells) at (c.to_mbr.ensures.err tells (of.mbr c.in-Mbr.records c.in-Mbr.chain c.in-Mbr.is).0))

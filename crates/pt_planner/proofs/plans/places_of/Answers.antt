@@ -6,4 +6,5 @@ use Rattle.pt_planner.proofs.plans.places_of.Goals as goal
 
 pub returns-in-Targets-clause-in_range : goal.returns-in-Targets-clause-in_range
 returns-in-Targets-clause-in_range g c =
-    all_of (λ (t : Target _). t.at.0 < g.D.Disk.count c.args.disk.now) c.in-Targets.targets.items (subst (AreWithin (g.D.Disk.count c.args.disk.now)) c.in-Targets.is c.in_ok-answer.ensures.in_range)
+    all_of (λ (t : Target _). t.at.0 < g.D.Disk.count c.args.disk.now) c.in-Targets.targets.items
+    (subst (AreWithin (g.D.Disk.count c.args.disk.now)) c.in-Targets.is c.in_ok-answer.ensures.in_range)

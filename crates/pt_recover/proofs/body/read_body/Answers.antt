@@ -1,5 +1,5 @@
-use Rattle.std.proofs.Common.{length, subst}
-use Rattle.std.specs.Prelude.{◌⊎◌, ◌<◌}
+use Rattle.std.proofs.Common.{◌≡◌, ℕ, List, Result, length, ap, subst}
+use Rattle.std.specs.Prelude.{◌⊎◌, ◌<◌, OnOk, IfErr}
 use Rattle.std.proofs.lemmas.Result.{on_ok_weaker, IfErr-weaker}
 use Rattle.pt_sector.specs.Sectors.{Sectors}
 use Rattle.pt_sector.specs.Device.{Told}
@@ -7,56 +7,79 @@ use Rattle.pt_recover.specs.Answers.{IsOutside, FailedIn}
 use Rattle.pt_recover.specs.Steps.{RestReads}
 use Rattle.pt_recover.specs.Denotes.{BodyReads}
 use Rattle.pt_recover.specs.Spans.{Adds}
+use Rattle.pt_recover.specs.declared.error.NoTable.{NoTable}
+use Rattle.pt_recover.specs.declared.trace.Run.{Run}
 use Rattle.pt_recover.proofs.Bodies.{some_sector, body_read, body_read_or}
 use Rattle.pt_recover.proofs.Failed.{body_failed}
 use Rattle.pt_recover.proofs.body.read_body.Goals as goal
 
+-- what the rest of a disk gives after sector 0, with another disk's value for what was seen
+traced_rest : {A E : Type 0} (b : ℕ) (d : Sectors) (t : Told) (old mid new : List Run) (r : Result A E) → 0 < length d → t.seen ≡ d
+    → Adds old mid (λ s. s ≡ 0)
+    → OnOk r (Adds mid new (RestReads b t.seen)) → OnOk r (Adds old new (BodyReads b d))
+traced_rest b d t old mid new r some same first =
+    on_ok_weaker r (λ adds. body_read b d old mid new some first (subst (λ (e : Sectors). Adds mid new (RestReads b e)) same adds))
+
+traced_err_rest : {A : Type 0} (b : ℕ) (d : Sectors) (t : Told) (old mid new : List Run) (r : Result A NoTable) → 0 < length d
+    → t.seen ≡ d → Adds old mid (λ s. s ≡ 0)
+    → IfErr r (λ e. IsOutside e ⊎ Adds mid new (RestReads b t.seen)) → IfErr r (λ e. IsOutside e ⊎ Adds old new (BodyReads b d))
+traced_err_rest b d t old mid new r some same first =
+    IfErr-weaker r (λ e. IsOutside e ⊎ Adds mid new (RestReads b t.seen)) (λ e. IsOutside e ⊎ Adds old new (BodyReads b d))
+    (λ e adds. body_read_or (IsOutside e) b d old mid new some first
+    (subst (λ (f : Sectors). IsOutside e ⊎ Adds mid new (RestReads b f)) same adds))
+
+failed_rest : {A : Type 0} (b : ℕ) (d : Sectors) (t : Told) (r : Result A NoTable) → t.seen ≡ d
+    → IfErr r (FailedIn (RestReads b t.seen)) → IfErr r (FailedIn (BodyReads b d))
+failed_rest b d t r same =
+    IfErr-weaker r (FailedIn (RestReads b t.seen)) (FailedIn (BodyReads b d))
+    (λ e failed. body_failed b d e (subst (λ (f : Sectors). FailedIn (RestReads b f) e) same failed))
+
 pub returns-in-Some-clause-traced : goal.returns-in-Some-clause-traced
 returns-in-Some-clause-traced g c = λ tells.
     let d : Sectors = (g.D.Disk.told c.args.disk.now).seen in
-    let some : 0 < length d = some_sector c.sectors.result (g.D.Disk.count c.args.disk.now) (length d) c.if-sectors-eq0.false c.sectors.ensures (g.met.D.Disk.sized c.args.disk.now tells) in
-    let same = c.in_ok-mbr.ensures.same.same tells in
-    on_ok_weaker c.read_mbr.result
-    (λ adds. body_read g.row.B d c.args.trace.now c.add_one.new.self c.read_mbr.new.trace some c.in_ok-add_one.ensures (subst (λ (t : Told). Adds c.add_one.new.self c.read_mbr.new.trace (RestReads g.row.B t.seen)) same adds))
-    (c.read_mbr.ensures.traced tells)
+    let some : 0 < length d =
+    some_sector c.sectors.result (g.D.Disk.count c.args.disk.now) (length d) c.if-sectors-eq0.false c.sectors.ensures
+    (g.met.D.Disk.sized c.args.disk.now tells) in
+    traced_rest g.row.B d
+    (g.D.Disk.told c.read_records.new.disk) c.args.trace.now c.add_one.new.self c.read_mbr.new.trace c.read_mbr.result some
+    (ap (λ (t : Told). t.seen) (c.in_ok-mbr.ensures.same.same tells)) c.in_ok-add_one.ensures (c.read_mbr.ensures.traced tells)
 
 pub returns-in-Some-clause-traced_err : goal.returns-in-Some-clause-traced_err
 returns-in-Some-clause-traced_err g c = λ tells.
     let d : Sectors = (g.D.Disk.told c.args.disk.now).seen in
-    let some : 0 < length d = some_sector c.sectors.result (g.D.Disk.count c.args.disk.now) (length d) c.if-sectors-eq0.false c.sectors.ensures (g.met.D.Disk.sized c.args.disk.now tells) in
-    let same = c.in_ok-mbr.ensures.same.same tells in
-    IfErr-weaker c.read_mbr.result (λ e. IsOutside e ⊎ Adds c.add_one.new.self c.read_mbr.new.trace (RestReads g.row.B (g.D.Disk.told c.read_records.new.disk).seen)) (λ e. IsOutside e ⊎ Adds c.args.trace.now c.read_mbr.new.trace (BodyReads g.row.B d))
-    (λ e adds. body_read_or (IsOutside e) g.row.B d c.args.trace.now c.add_one.new.self c.read_mbr.new.trace some c.in_ok-add_one.ensures (subst (λ (t : Told). IsOutside e ⊎ Adds c.add_one.new.self c.read_mbr.new.trace (RestReads g.row.B t.seen)) same adds))
-    (c.read_mbr.ensures.traced_err tells)
+    let some : 0 < length d =
+    some_sector c.sectors.result (g.D.Disk.count c.args.disk.now) (length d) c.if-sectors-eq0.false c.sectors.ensures
+    (g.met.D.Disk.sized c.args.disk.now tells) in
+    traced_err_rest g.row.B d
+    (g.D.Disk.told c.read_records.new.disk) c.args.trace.now c.add_one.new.self c.read_mbr.new.trace c.read_mbr.result some
+    (ap (λ (t : Told). t.seen) (c.in_ok-mbr.ensures.same.same tells)) c.in_ok-add_one.ensures (c.read_mbr.ensures.traced_err tells)
+
+pub returns-in-Some-clause-place : goal.returns-in-Some-clause-place
+returns-in-Some-clause-place g c = λ tells.
+    failed_rest g.row.B (g.D.Disk.told c.args.disk.now).seen (g.D.Disk.told c.read_records.new.disk) c.read_mbr.result
+    (ap (λ (t : Told). t.seen) (c.in_ok-mbr.ensures.same.same tells)) (c.read_mbr.ensures.place tells)
 
 pub returns-in-None-clause-traced : goal.returns-in-None-clause-traced
 returns-in-None-clause-traced g c = λ tells.
     let d : Sectors = (g.D.Disk.told c.args.disk.now).seen in
-    let some : 0 < length d = some_sector c.sectors.result (g.D.Disk.count c.args.disk.now) (length d) c.if-sectors-eq0.false c.sectors.ensures (g.met.D.Disk.sized c.args.disk.now tells) in
-    let same = c.in_ok-mbr.ensures.same.same tells in
-    on_ok_weaker c.read_gpt.result
-    (λ adds. body_read g.row.B d c.args.trace.now c.add_one.new.self c.read_gpt.new.trace some c.in_ok-add_one.ensures (subst (λ (t : Told). Adds c.add_one.new.self c.read_gpt.new.trace (RestReads g.row.B t.seen)) same adds))
-    (c.read_gpt.ensures.traced tells)
+    let some : 0 < length d =
+    some_sector c.sectors.result (g.D.Disk.count c.args.disk.now) (length d) c.if-sectors-eq0.false c.sectors.ensures
+    (g.met.D.Disk.sized c.args.disk.now tells) in
+    traced_rest g.row.B d
+    (g.D.Disk.told c.read_records.new.disk) c.args.trace.now c.add_one.new.self c.read_gpt.new.trace c.read_gpt.result some
+    (ap (λ (t : Told). t.seen) (c.in_ok-mbr.ensures.same.same tells)) c.in_ok-add_one.ensures (c.read_gpt.ensures.traced tells)
 
 pub returns-in-None-clause-traced_err : goal.returns-in-None-clause-traced_err
 returns-in-None-clause-traced_err g c = λ tells.
     let d : Sectors = (g.D.Disk.told c.args.disk.now).seen in
-    let some : 0 < length d = some_sector c.sectors.result (g.D.Disk.count c.args.disk.now) (length d) c.if-sectors-eq0.false c.sectors.ensures (g.met.D.Disk.sized c.args.disk.now tells) in
-    let same = c.in_ok-mbr.ensures.same.same tells in
-    IfErr-weaker c.read_gpt.result (λ e. IsOutside e ⊎ Adds c.add_one.new.self c.read_gpt.new.trace (RestReads g.row.B (g.D.Disk.told c.read_records.new.disk).seen)) (λ e. IsOutside e ⊎ Adds c.args.trace.now c.read_gpt.new.trace (BodyReads g.row.B d))
-    (λ e adds. body_read_or (IsOutside e) g.row.B d c.args.trace.now c.add_one.new.self c.read_gpt.new.trace some c.in_ok-add_one.ensures (subst (λ (t : Told). IsOutside e ⊎ Adds c.add_one.new.self c.read_gpt.new.trace (RestReads g.row.B t.seen)) same adds))
-    (c.read_gpt.ensures.traced_err tells)
-
-pub returns-in-Some-clause-place : goal.returns-in-Some-clause-place
-returns-in-Some-clause-place g c = λ tells.
-    let same = c.in_ok-mbr.ensures.same.same tells in
-    IfErr-weaker c.read_mbr.result (FailedIn (RestReads g.row.B (g.D.Disk.told c.read_records.new.disk).seen)) (FailedIn (BodyReads g.row.B (g.D.Disk.told c.args.disk.now).seen))
-    (λ e failed. body_failed g.row.B (g.D.Disk.told c.args.disk.now).seen e (subst (λ (t : Told). FailedIn (RestReads g.row.B t.seen) e) same failed))
-    (c.read_mbr.ensures.place tells)
+    let some : 0 < length d =
+    some_sector c.sectors.result (g.D.Disk.count c.args.disk.now) (length d) c.if-sectors-eq0.false c.sectors.ensures
+    (g.met.D.Disk.sized c.args.disk.now tells) in
+    traced_err_rest g.row.B d
+    (g.D.Disk.told c.read_records.new.disk) c.args.trace.now c.add_one.new.self c.read_gpt.new.trace c.read_gpt.result some
+    (ap (λ (t : Told). t.seen) (c.in_ok-mbr.ensures.same.same tells)) c.in_ok-add_one.ensures (c.read_gpt.ensures.traced_err tells)
 
 pub returns-in-None-clause-place : goal.returns-in-None-clause-place
 returns-in-None-clause-place g c = λ tells.
-    let same = c.in_ok-mbr.ensures.same.same tells in
-    IfErr-weaker c.read_gpt.result (FailedIn (RestReads g.row.B (g.D.Disk.told c.read_records.new.disk).seen)) (FailedIn (BodyReads g.row.B (g.D.Disk.told c.args.disk.now).seen))
-    (λ e failed. body_failed g.row.B (g.D.Disk.told c.args.disk.now).seen e (subst (λ (t : Told). FailedIn (RestReads g.row.B t.seen) e) same failed))
-    (c.read_gpt.ensures.place tells)
+    failed_rest g.row.B (g.D.Disk.told c.args.disk.now).seen (g.D.Disk.told c.read_records.new.disk) c.read_gpt.result
+    (ap (λ (t : Told). t.seen) (c.in_ok-mbr.ensures.same.same tells)) (c.read_gpt.ensures.place tells)

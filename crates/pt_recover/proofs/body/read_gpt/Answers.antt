@@ -1,5 +1,5 @@
 use Rattle.std.proofs.lemmas.Result.{err_from_is_err_and}
-use Rattle.std.proofs.Common.{length, arith}
+use Rattle.std.proofs.Common.{length, refl}
 use Rattle.pt_recover.specs.Gpt.{HasRoom}
 use Rattle.pt_recover.specs.Answers.{IsOutside}
 use Rattle.pt_recover.proofs.Bodies.{enough, rest_gpt, rest_gpt_or, no_copies}
@@ -8,32 +8,45 @@ use Rattle.pt_recover.proofs.body.read_gpt.Goals as goal
 
 pub returns-clause-ok : goal.returns-clause-ok
 returns-clause-ok g c = λ tells.
-    let room : HasRoom g.row.B c.sectors-sectors.result = omega (arith, c.if-sectors-array_sectors.false, c.array_sectors.ensures.value) in
-    (c.requires.no_mbr tells, enough g.row.B c.sectors-sectors.result (g.D.Disk.count c.args.disk.now) (length (g.D.Disk.told c.args.disk.now).seen) room c.sectors-sectors.ensures (g.met.D.Disk.sized c.args.disk.now tells), c.in_ok-table.ensures.ok tells)
+    let room : HasRoom g.row.B c.sectors-sectors.result = c.if-not-has_room.ensures.0 refl in (
+      c.requires.no_mbr tells,
+      enough g.row.B c.sectors-sectors.result (g.D.Disk.count c.args.disk.now)
+          (length (g.D.Disk.told c.args.disk.now).seen) room c.sectors-sectors.ensures (g.met.D.Disk.sized c.args.disk.now tells),
+      c.in_ok-table.ensures.ok tells,
+    )
 
 pub returns-clause-traced : goal.returns-clause-traced
 returns-clause-traced g c = λ tells.
-    let room : HasRoom g.row.B c.sectors-sectors.result = omega (arith, c.if-sectors-array_sectors.false, c.array_sectors.ensures.value) in
+    let room : HasRoom g.row.B c.sectors-sectors.result = c.if-not-has_room.ensures.0 refl in
     rest_gpt g.row.B (g.D.Disk.told c.args.disk.now).seen c.args.trace.now c.read_either.new.trace (c.requires.no_mbr tells)
-    (enough g.row.B c.sectors-sectors.result (g.D.Disk.count c.args.disk.now) (length (g.D.Disk.told c.args.disk.now).seen) room c.sectors-sectors.ensures (g.met.D.Disk.sized c.args.disk.now tells)) (c.in_ok-table.ensures.traced tells)
+    (enough g.row.B c.sectors-sectors.result (g.D.Disk.count c.args.disk.now)
+    (length (g.D.Disk.told c.args.disk.now).seen) room c.sectors-sectors.ensures (g.met.D.Disk.sized c.args.disk.now tells))
+    (c.in_ok-table.ensures.traced tells)
 
 pub returns-in_err-table-clause-err : goal.returns-in_err-table-clause-err
 returns-in_err-table-clause-err g c = λ tells.
     let p = err_from_is_err_and c.from_residual.result c.from_residual.ensures.1 in
-    rw (p.1, p.2) (let room : HasRoom g.row.B c.sectors-sectors.result = omega (arith, c.if-sectors-array_sectors.false, c.array_sectors.ensures.value) in
+    rw (p.1, p.2) (let room : HasRoom g.row.B c.sectors-sectors.result = c.if-not-has_room.ensures.0 refl in
     no_copies g.row.B (g.D.Disk.told c.args.disk.now).seen c.in_err-table.field-0.0 (c.requires.no_mbr tells)
-    (enough g.row.B c.sectors-sectors.result (g.D.Disk.count c.args.disk.now) (length (g.D.Disk.told c.args.disk.now).seen) room c.sectors-sectors.ensures (g.met.D.Disk.sized c.args.disk.now tells)) (c.in_err-table.ensures.err tells))
+    (enough g.row.B c.sectors-sectors.result (g.D.Disk.count c.args.disk.now)
+    (length (g.D.Disk.told c.args.disk.now).seen) room c.sectors-sectors.ensures (g.met.D.Disk.sized c.args.disk.now tells))
+    (c.in_err-table.ensures.err tells))
 
 pub returns-in_err-table-clause-traced_err : goal.returns-in_err-table-clause-traced_err
 returns-in_err-table-clause-traced_err g c = λ tells.
     let p = err_from_is_err_and c.from_residual.result c.from_residual.ensures.1 in
-    rw (p.1, p.2) (let room : HasRoom g.row.B c.sectors-sectors.result = omega (arith, c.if-sectors-array_sectors.false, c.array_sectors.ensures.value) in
-    rest_gpt_or (IsOutside c.in_err-table.field-0.0) g.row.B (g.D.Disk.told c.args.disk.now).seen c.args.trace.now c.read_either.new.trace (c.requires.no_mbr tells)
-    (enough g.row.B c.sectors-sectors.result (g.D.Disk.count c.args.disk.now) (length (g.D.Disk.told c.args.disk.now).seen) room c.sectors-sectors.ensures (g.met.D.Disk.sized c.args.disk.now tells)) (c.in_err-table.ensures.traced_err tells))
+    rw (p.1, p.2) (let room : HasRoom g.row.B c.sectors-sectors.result = c.if-not-has_room.ensures.0 refl in
+    rest_gpt_or (IsOutside c.in_err-table.field-0.0) g.row.B
+    (g.D.Disk.told c.args.disk.now).seen c.args.trace.now c.read_either.new.trace (c.requires.no_mbr tells)
+    (enough g.row.B c.sectors-sectors.result (g.D.Disk.count c.args.disk.now)
+    (length (g.D.Disk.told c.args.disk.now).seen) room c.sectors-sectors.ensures (g.met.D.Disk.sized c.args.disk.now tells))
+    (c.in_err-table.ensures.traced_err tells))
 
 pub returns-in_err-table-clause-place : goal.returns-in_err-table-clause-place
 returns-in_err-table-clause-place g c = λ tells.
     let p = err_from_is_err_and c.from_residual.result c.from_residual.ensures.1 in
-    rw (p.1, p.2) (let room : HasRoom g.row.B c.sectors-sectors.result = omega (arith, c.if-sectors-array_sectors.false, c.array_sectors.ensures.value) in
+    rw (p.1, p.2) (let room : HasRoom g.row.B c.sectors-sectors.result = c.if-not-has_room.ensures.0 refl in
     rest_of_table g.row.B (g.D.Disk.told c.args.disk.now).seen c.in_err-table.field-0.0 (c.requires.no_mbr tells)
-    (enough g.row.B c.sectors-sectors.result (g.D.Disk.count c.args.disk.now) (length (g.D.Disk.told c.args.disk.now).seen) room c.sectors-sectors.ensures (g.met.D.Disk.sized c.args.disk.now tells)) (c.in_err-table.ensures.place tells))
+    (enough g.row.B c.sectors-sectors.result (g.D.Disk.count c.args.disk.now)
+    (length (g.D.Disk.told c.args.disk.now).seen) room c.sectors-sectors.ensures (g.met.D.Disk.sized c.args.disk.now tells))
+    (c.in_err-table.ensures.place tells))

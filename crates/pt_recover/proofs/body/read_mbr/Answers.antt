@@ -6,14 +6,18 @@ use Rattle.pt_recover.proofs.body.read_mbr.Goals as goal
 
 pub returns-clause-traced : goal.returns-clause-traced
 returns-clause-traced g c = λ tells.
-    rest_mbr g.row.B (g.D.Disk.told c.args.disk.now).seen c.args.mbr.now.records c.args.trace.now c.read_lone.new.trace (c.requires.is_mbr tells) (c.in_ok-chain.ensures.traced tells)
+    rest_mbr g.row.B (g.D.Disk.told c.args.disk.now).seen c.args.mbr.now.records c.args.trace.now c.read_lone.new.trace
+    (c.requires.is_mbr tells) (c.in_ok-chain.ensures.traced tells)
 
 pub returns-in_err-chain-clause-traced_err : goal.returns-in_err-chain-clause-traced_err
 returns-in_err-chain-clause-traced_err g c = λ tells.
     let p = err_from_is_err_and c.from_residual.result c.from_residual.ensures.1 in
-    rw (p.1, p.2) (rest_mbr_or (IsOutside c.in_err-chain.field-0.0) g.row.B (g.D.Disk.told c.args.disk.now).seen c.args.mbr.now.records c.args.trace.now c.read_lone.new.trace (c.requires.is_mbr tells) (c.in_err-chain.ensures.traced_err tells))
+    rw (p.1, p.2) (rest_mbr_or (IsOutside c.in_err-chain.field-0.0) g.row.B
+    (g.D.Disk.told c.args.disk.now).seen c.args.mbr.now.records c.args.trace.now c.read_lone.new.trace (c.requires.is_mbr tells)
+    (c.in_err-chain.ensures.traced_err tells))
 
 pub returns-in_err-chain-clause-place : goal.returns-in_err-chain-clause-place
 returns-in_err-chain-clause-place g c = λ tells.
     let p = err_from_is_err_and c.from_residual.result c.from_residual.ensures.1 in
-    rw (p.1, p.2) (rest_of_chain g.row.B (g.D.Disk.told c.args.disk.now).seen c.args.mbr.now.records c.in_err-chain.field-0.0 (c.requires.is_mbr tells) (c.in_err-chain.ensures.place tells))
+    rw (p.1, p.2) (rest_of_chain g.row.B (g.D.Disk.told c.args.disk.now).seen c.args.mbr.now.records c.in_err-chain.field-0.0
+    (c.requires.is_mbr tells) (c.in_err-chain.ensures.place tells))

@@ -20,9 +20,13 @@ loop-k-preserved g c =
       quiet = c.in_ok-found.ensures.blames ∙ c.loop-k.invariant.quiet;
       labels = λ tells.
           (let d : Sectors = (g.D.Disk.told c.args.disk.now).seen in
-          label_more d c.args.slices.now c.loop-k.k z p c.in_ok-found.found c.loop-k.labels.items c.push_label.new.labels.items (omega arith) refl
-          (subst (λ (t : Told). LabelIs p (sector t.seen (place_of p)) c.in_ok-found.found) (c.loop-k.invariant.same.same tells) (c.in_ok-found.ensures.ok tells)) (c.loop-k.invariant.labels tells) c.in_ok-push_label.ensures);
-      traced = place_more c.args.trace.now c.loop-k.trace c.read_label.new.trace c.args.slices.now c.loop-k.k z p (omega arith) refl c.loop-k.invariant.traced c.in_ok-found.ensures.traced;
+          label_more d c.args.slices.now c.loop-k.k z p c.in_ok-found.found c.loop-k.labels.items c.push_label.new.labels.items
+          (omega arith) refl
+          (subst (λ (t : Told). LabelIs p (sector t.seen (place_of p)) c.in_ok-found.found) (c.loop-k.invariant.same.same tells)
+          (c.in_ok-found.ensures.ok tells)) (c.loop-k.invariant.labels tells) c.in_ok-push_label.ensures);
+      traced =
+          place_more c.args.trace.now c.loop-k.trace c.read_label.new.trace c.args.slices.now c.loop-k.k z p
+          (omega arith) refl c.loop-k.invariant.traced c.in_ok-found.ensures.traced;
     }
 
 pub returns-clause-ok : goal.returns-clause-ok
@@ -34,4 +38,5 @@ returns-clause-ok g c = λ tells.
 pub returns-in_err-found-clause-place : goal.returns-in_err-found-clause-place
 returns-in_err-found-clause-place g c =
     let p = err_from_is_err_and c.from_residual.result c.from_residual.ensures.1 in
-    rw (p.1, p.2) (place_failed c.args.slices.now c.loop-k.k (record { number = 0; first = 0; len = 0 }) c.in_err-found.field-0.0 (omega arith) c.in_err-found.ensures.place)
+    rw (p.1, p.2) (place_failed c.args.slices.now c.loop-k.k (record { number = 0; first = 0; len = 0 }) c.in_err-found.field-0.0
+    (omega arith) c.in_err-found.ensures.place)

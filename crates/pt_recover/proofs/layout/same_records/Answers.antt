@@ -4,4 +4,6 @@ use Rattle.pt_recover.proofs.Equal.{records_decide}
 use Rattle.pt_recover.proofs.layout.same_records.Goals as goal
 
 pub returns : goal.returns
-returns c = subst (λ (r : Bool). Decides r (c.args.records.now ≡ c.args.others.now)) (sym c.eq.ensures) (records_decide c.args.records.now c.args.others.now)
+returns c =
+    subst (λ (r : Bool). Decides r (c.args.records.now ≡ c.args.others.now)) (sym c.eq.ensures)
+    (records_decide c.args.records.now c.args.others.now)

@@ -9,9 +9,15 @@ use Rattle.pt_recover.proofs.recovery.recover_traced.Goals as goal
 pub returns-clause-traced : goal.returns-clause-traced
 returns-clause-traced g c = λ tells.
     on_ok_weaker c.recover_into-answer.result
-    (λ adds. trace_is g.row.B (g.D.Disk.told c.args.disk.now).seen c.new-trace.result c.recover_into-answer.new.trace c.new-trace.ensures adds) (c.recover_into-answer.ensures.traced tells)
+    (λ adds. trace_is g.row.B
+    (g.D.Disk.told c.args.disk.now).seen c.new-trace.result c.recover_into-answer.new.trace c.new-trace.ensures adds)
+    (c.recover_into-answer.ensures.traced tells)
 
 pub returns-clause-traced_err : goal.returns-clause-traced_err
 returns-clause-traced_err g c = λ tells.
-    IfErr-weaker c.recover_into-answer.result (λ e. IsOutside e ⊎ Adds c.new-trace.result c.recover_into-answer.new.trace (Reads g.row.B (g.D.Disk.told c.args.disk.now).seen)) (λ e. IsOutside e ⊎ IsTraceOf g.row.B (g.D.Disk.told c.args.disk.now).seen c.recover_into-answer.new.trace)
-    (λ e adds. trace_or (IsOutside e) g.row.B (g.D.Disk.told c.args.disk.now).seen c.new-trace.result c.recover_into-answer.new.trace c.new-trace.ensures adds) (c.recover_into-answer.ensures.traced_err tells)
+    IfErr-weaker c.recover_into-answer.result (λ e. IsOutside e
+    ⊎ Adds c.new-trace.result c.recover_into-answer.new.trace (Reads g.row.B (g.D.Disk.told c.args.disk.now).seen))
+    (λ e. IsOutside e ⊎ IsTraceOf g.row.B (g.D.Disk.told c.args.disk.now).seen c.recover_into-answer.new.trace)
+    (λ e adds. trace_or (IsOutside e) g.row.B
+    (g.D.Disk.told c.args.disk.now).seen c.new-trace.result c.recover_into-answer.new.trace c.new-trace.ensures adds)
+    (c.recover_into-answer.ensures.traced_err tells)

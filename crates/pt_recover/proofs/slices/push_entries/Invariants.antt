@@ -5,4 +5,5 @@ use Rattle.pt_recover.proofs.slices.push_entries.Given as goal
 
 abbrev pub invariant-loop-k : goal.invariant-loop-k
 invariant-loop-k l =
-    Covers (has_place l.sectors) (l.fn.places.items ++ filter (has_place l.sectors) (entry_slices 1 l.entries)) l.places.items (entry_slices (l.k + 1) (drop l.k l.entries))
+    Covers (has_place l.sectors) (l.fn.places.items ++ filter (has_place l.sectors) (entry_slices 1 l.entries)) l.places.items
+    (entry_slices (l.k + 1) (drop l.k l.entries))

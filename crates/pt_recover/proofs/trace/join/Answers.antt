@@ -13,7 +13,9 @@ loop-at-preserved-in-Below c =
     record {
       inside = omega (arith, lt);
       some = c.loop-at.invariant.some;
-      stands = stands_below whole c.loop-at.runs.items c.loop-at.at c.index.result.now c.index.result.now c.loop-at.run lt (sym c.index.ensures) c.in-Below.ensures c.loop-at.invariant.stands;
+      stands =
+          stands_below whole c.loop-at.runs.items c.loop-at.at c.index.result.now c.index.result.now c.loop-at.run lt
+          (sym c.index.ensures) c.in-Below.ensures c.loop-at.invariant.stands;
     }
 
 pub loop-at-preserved : goal.loop-at-preserved
@@ -22,8 +24,11 @@ loop-at-preserved c =
     let lt : c.loop-at.at < length c.loop-at.runs.items = omega (arith, c.loop-at-test.true, c.len.ensures) in
     record {
       inside = omega (arith, lt, c.remove-run.ensures.len);
-      some = subst (λ (r : Run). r.first ≤ r.last) (sym c.hull-run.ensures) (some_hull c.loop-at.run c.index.result.now c.loop-at.invariant.some);
-      stands = stands_touching whole c.loop-at.runs.items c.remove-run.new.self.items c.loop-at.at c.index.result.now c.index.result.now c.loop-at.run c.hull-run.result lt (sym c.index.ensures) c.in-Touching.ensures c.loop-at.invariant.stands
+      some = subst (λ (r : Run). r.first ≤ r.last) (sym c.hull-run.ensures)
+          (some_hull c.loop-at.run c.index.result.now c.loop-at.invariant.some);
+      stands =
+          stands_touching whole c.loop-at.runs.items c.remove-run.new.self.items c.loop-at.at c.index.result.now c.index.result.now
+          c.loop-at.run c.hull-run.result lt (sym c.index.ensures) c.in-Touching.ensures c.loop-at.invariant.stands
           c.remove-run.ensures.items c.hull-run.ensures;
     }
 
@@ -31,13 +36,18 @@ pub returns-in-Ok-clause-ok : goal.returns-in-Ok-clause-ok
 returns-in-Ok-clause-ok c =
     let whole : List Run = joined c.args.new c.args.runs.now.items in
     let put : insert c.loop-at.runs.items c.loop-at.at c.loop-at.run ≡ whole = elim c.loop-at-test.branch [
-      | else-loop-at-test w ↦ stands_end whole c.loop-at.runs.items c.loop-at.at c.loop-at.run (omega (arith, w.loop-at-test.false, c.len.ensures)) c.loop-at.invariant.stands
-      | then-loop-at-test+in-Above w ↦ stands_above whole c.loop-at.runs.items c.loop-at.at w.index.result.now w.index.result.now c.loop-at.run (omega (arith, w.loop-at-test.true, c.len.ensures)) (sym w.index.ensures) w.in-Above.ensures c.loop-at.invariant.stands
+      | else-loop-at-test w ↦ stands_end whole c.loop-at.runs.items c.loop-at.at c.loop-at.run
+          (omega (arith, w.loop-at-test.false, c.len.ensures)) c.loop-at.invariant.stands
+      | then-loop-at-test+in-Above w ↦
+          stands_above whole c.loop-at.runs.items c.loop-at.at w.index.result.now w.index.result.now c.loop-at.run
+          (omega (arith, w.loop-at-test.true, c.len.ensures)) (sym w.index.ensures) w.in-Above.ensures c.loop-at.invariant.stands
     ] in
     ◌∙◌ {A = List Run} c.in-Ok.ensures.items put
 
 pub returns-in-Ok-clause-apart : goal.returns-in-Ok-clause-apart
-returns-in-Ok-clause-apart c = λ apart. subst (λ (l : List Run). Apart l) (sym (returns-in-Ok-clause-ok c)) (apart_joined c.args.new c.args.runs.now.items c.requires apart)
+returns-in-Ok-clause-apart c =
+    λ apart. subst (λ (l : List Run). Apart l) (sym (returns-in-Ok-clause-ok c))
+    (apart_joined c.args.new c.args.runs.now.items c.requires apart)
 
 pub returns-in-Err-clause-apart : goal.returns-in-Err-clause-apart
 returns-in-Err-clause-apart c = λ apart. subst (λ (l : List Run). Apart l) (sym c.clear.ensures.items) apart_none

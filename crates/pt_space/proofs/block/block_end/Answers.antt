@@ -3,7 +3,9 @@ use Rattle.pt_space.specs.declared.space.Run.{Run}
 use Rattle.pt_space.specs.Area.{area_of}
 use Rattle.pt_space.proofs.BlockEnds.{EndsAfter, ends_before, ends_elsewhere, ends_all}
 use Rattle.pt_space.proofs.block.block_end.Goals as goal
-use Rattle.pt_space.proofs.block.block_end.Goals.{then-first-run+then-run+then-run-last, else-first-run, else-first-run-via-then-first-run+then-run+else-run-last, else-first-run-via-then-first-run+else-run, else-first-run-via-else-first-run}
+use Rattle.pt_space.proofs.block.block_end.Goals.{then-first-run+then-run+then-run-last, else-first-run}
+use Rattle.pt_space.proofs.block.block_end.Goals.{else-first-run-via-then-first-run+then-run+else-run-last}
+use Rattle.pt_space.proofs.block.block_end.Goals.{else-first-run-via-then-first-run+else-run, else-first-run-via-else-first-run}
 
 pub loop-run-preserved : goal.loop-run-preserved
 loop-run-preserved c =

@@ -6,7 +6,11 @@ use Rattle.pt_space.proofs.Sets.{best_back}
 use Rattle.pt_space.proofs.block.largest.Goals as goal
 
 pub sweep-requires : goal.sweep-requires
-sweep-requires c = IsNonDecreasingBy-from_sort_by_key (λ (r : Run). r.first) c.sort_unstable_by_key.new.self.items c.sort_unstable_by_key.ensures.sorted (λ a r q k. search rules)
+sweep-requires c =
+    IsNonDecreasingBy-from_sort_by_key (λ (r : Run). r.first) c.sort_unstable_by_key.new.self.items
+    c.sort_unstable_by_key.ensures.sorted (λ a r q k. search rules)
 
 pub returns : goal.returns
-returns c = best_back (area_of c.args.space.now) c.sort_unstable_by_key.new.self.items c.args.alignment c.sweep.result c.sort_unstable_by_key.ensures.permutation c.sweep.ensures
+returns c =
+    best_back (area_of c.args.space.now) c.sort_unstable_by_key.new.self.items c.args.alignment c.sweep.result
+    c.sort_unstable_by_key.ensures.permutation c.sweep.ensures

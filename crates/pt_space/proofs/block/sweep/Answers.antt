@@ -12,7 +12,8 @@ pub loop-run-init : goal.loop-run-init
 loop-run-init c = swept_start (area_of c.args.space.now) c.args.alignment c.if-space.false
 
 pub past_gap-best-requires : goal.past_gap-best-requires
-past_gap-best-requires c = best_some (area_of c.args.space.now) c.args.alignment c.loop-run.first c.loop-run.best c.loop-run.invariant.best_is
+past_gap-best-requires c =
+    best_some (area_of c.args.space.now) c.args.alignment c.loop-run.first c.loop-run.best c.loop-run.invariant.best_is
 
 pub returns-then-run-space : goal.returns-then-run-space
 returns-then-run-space c =
@@ -20,7 +21,8 @@ returns-then-run-space c =
     let items = c.deref-run-items.result.now in
     let at = is_at a items c.loop-run.run-index c.deref-run-items.ensures.value c.loop-run-test.true c.if-run.true in
     subst (λ (r : Option Run). Best a c.args.alignment r) (sym c.past_gap-best.ensures)
-    (best_at_end a c.args.alignment c.loop-run.run-index c.loop-run.first c.loop-run.best c.loop-run.invariant c.requires (run_at items c.loop-run.run-index) at c.if-run-space.true)
+    (best_at_end a c.args.alignment c.loop-run.run-index c.loop-run.first c.loop-run.best c.loop-run.invariant c.requires
+    (run_at items c.loop-run.run-index) at c.if-run-space.true)
 
 pub loop-run-preserved : goal.loop-run-preserved
 loop-run-preserved c =
@@ -29,17 +31,23 @@ loop-run-preserved c =
     let i = c.loop-run.run-index in
     elim c.if-run.branch [
       | then-run+else-run-space w ↦ (let at = is_at a items i c.deref-run-items.ensures.value c.loop-run-test.true w.if-run.true in
-          swept_same a c.args.alignment (i + 1) _ c.if-run.first _ c.if-run.best (w.first-is ∙ w.max-first.ensures) (w.best-is ∙ w.past_gap-best.ensures)
-          (swept_more a c.args.alignment i c.loop-run.first c.loop-run.best c.loop-run.invariant c.requires (run_at items i) at w.if-run-space.false))
-      | else-run w ↦ swept_same a c.args.alignment (i + 1) c.loop-run.first c.if-run.first c.loop-run.best c.if-run.best w.first-is w.best-is
-          (swept_none a c.args.alignment i c.loop-run.first c.loop-run.best c.loop-run.invariant c.requires items c.deref-run-items.ensures.value c.loop-run-test.true w.if-run.false)
+          swept_same a c.args.alignment (i + 1) _ c.if-run.first _ c.if-run.best (w.first-is ∙ w.max-first.ensures)
+          (w.best-is ∙ w.past_gap-best.ensures)
+          (swept_more a c.args.alignment i c.loop-run.first c.loop-run.best c.loop-run.invariant c.requires
+          (run_at items i) at w.if-run-space.false))
+      | else-run w ↦ swept_same a c.args.alignment (i + 1) c.loop-run.first c.if-run.first c.loop-run.best c.if-run.best w.first-is
+          w.best-is
+          (swept_none a c.args.alignment i c.loop-run.first c.loop-run.best c.loop-run.invariant c.requires items
+          c.deref-run-items.ensures.value c.loop-run-test.true w.if-run.false)
     ]
 
 pub longer-requires-clause-best : goal.longer-requires-clause-best
-longer-requires-clause-best c = best_some (area_of c.args.space.now) c.args.alignment c.loop-run.first c.loop-run.best c.loop-run.invariant.best_is
+longer-requires-clause-best c =
+    best_some (area_of c.args.space.now) c.args.alignment c.loop-run.first c.loop-run.best c.loop-run.invariant.best_is
 
 pub returns : goal.returns
 returns c =
     let a = area_of c.args.space.now in
     subst (λ (r : Option Run). Best a c.args.alignment r) (sym (c.longer.ensures ∙ ap (longer_of c.loop-run.best) c.part_in.ensures))
-    (best_of_swept a c.args.alignment c.loop-run.run-index c.loop-run.first c.loop-run.best c.loop-run.invariant c.requires (subst (λ (xs : List Run). length xs ≤ c.loop-run.run-index) c.deref-run-items.ensures.value c.loop-run-test.false))
+    (best_of_swept a c.args.alignment c.loop-run.run-index c.loop-run.first c.loop-run.best c.loop-run.invariant c.requires
+    (subst (λ (xs : List Run). length xs ≤ c.loop-run.run-index) c.deref-run-items.ensures.value c.loop-run-test.false))

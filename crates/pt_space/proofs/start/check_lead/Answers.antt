@@ -13,4 +13,5 @@ pub returns-else-has-clause-err : goal.returns-else-has-clause-err
 returns-else-has-clause-err c =
     led_taken (area_of c.args.space.now) (empties_of c.args.space.now.lead) c.in-Record.empties.items c.args.first c.deref.result.now
     (ap empties_of c.in-Record.is) c.deref.ensures.value c.requires c.if-first-space.false (c.is_in.ensures.0 c.if-not-is_in.false)
-    (λ there. iff_false c.has.ensures c.if-has.false (subst (λ (xs : List ℕ). Contains xs (c.args.first - 1)) (sym c.deref-in-Record.ensures.value) there))
+    (λ there. iff_false c.has.ensures c.if-has.false
+    (subst (λ (xs : List ℕ). Contains xs (c.args.first - 1)) (sym c.deref-in-Record.ensures.value) there))

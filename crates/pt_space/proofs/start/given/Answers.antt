@@ -16,4 +16,5 @@ returns-clause-ok c =
           iff_false c.is_in.ensures c.if-is_in.false (subst (λ (xs : List Run). IsIn xs first) (sym c.deref.ensures.value) taken),
     ) in
     has_started a c.args.alignment c.args.start first c.block_end.result
-    (at_given c.requires free c.in_ok-check_lead.ensures.ok (c.in-Some.ensures ∙ ap (rounded_up c.args.alignment) c.from.ensures)) free c.block_end.ensures
+    (at_given c.requires free c.in_ok-check_lead.ensures.ok (c.in-Some.ensures ∙ ap (rounded_up c.args.alignment) c.from.ensures))
+    free c.block_end.ensures

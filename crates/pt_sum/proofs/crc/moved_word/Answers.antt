@@ -20,4 +20,5 @@ returns c =
     let f1 = c.entry_at-2.ensures in
     let f2 = c.entry_at-3.ensures in
     let f3 = c.entry_at-4.ensures in
-    last_to_front c.entry_at-2.result c.entry_at-3.result c.entry_at-4.result c.entry_at.result ∙ rw (f0, f1, f2, f3) (rw (m0, m1, m2) (sym e))
+    last_to_front c.entry_at-2.result c.entry_at-3.result c.entry_at-4.result c.entry_at.result
+    ∙ rw (f0, f1, f2, f3) (rw (m0, m1, m2) (sym e))

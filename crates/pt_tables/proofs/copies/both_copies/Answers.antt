@@ -6,7 +6,9 @@ use Rattle.pt_tables.proofs.Shapes.{sorted_below}
 use Rattle.pt_tables.proofs.copies.both_copies.Goals as goal
 
 pub returns-in-None-clause-err : goal.returns-in-None-clause-err
-returns-in-None-clause-err g c = λ d p count start. shared_stops d c.args.setting.now.old.now p c.args.table.now c.args.order c.args.setting.now.guarded.now c.args.setting.now.head c.args.places.items c.requires.size start c.in-None.ensures.none
+returns-in-None-clause-err g c =
+    λ d p count start. shared_stops d c.args.setting.now.old.now p c.args.table.now c.args.order c.args.setting.now.guarded.now
+    c.args.setting.now.head c.args.places.items c.requires.size start c.in-None.ensures.none
 
 pub arranged-requires : goal.arranged-requires
 arranged-requires g c = (
@@ -23,7 +25,9 @@ arranged-requires g c = (
             c.requires.few,
             (
               c.requires.head,
-              c.in_ok-labels.ensures.in_range c.args.setting.now.sectors (sorted_below c.args.setting.now.sectors c.args.places.items c.in-Some.targets.items c.deref.result.now c.in-Some.ensures.some c.deref.ensures.value c.requires.in_range),
+              c.in_ok-labels.ensures.in_range c.args.setting.now.sectors
+                  (sorted_below c.args.setting.now.sectors c.args.places.items c.in-Some.targets.items c.deref.result.now
+                  c.in-Some.ensures.some c.deref.ensures.value c.requires.in_range),
             ),
           ),
         ),
@@ -35,11 +39,19 @@ arranged-requires g c = (
 pub returns-in_err-accept-clause-err : goal.returns-in_err-accept-clause-err
 returns-in_err-accept-clause-err g c =
     let e = err_from_is_err_and c.from_residual-in_err-accept.result c.from_residual-in_err-accept.ensures.1 in
-    rw (e.1, e.2) (stops c.args.setting.now.sectors c.args.setting.now.old.now c.args.table.now c.args.order c.args.setting.now.guarded.now c.args.setting.now.head c.args.places.items c.in-Some.targets.items c.deref.result.now c.deref-2.result.now
-    (writes_of c.in_ok-labels.labels.items) (phases_of c.in_ok-plan.plan) c.requires.size c.in-Some.ensures.some c.deref.ensures.value c.deref-2.ensures.value c.in_ok-labels.ensures.new c.in_ok-plan.ensures.phases
+    rw (e.1, e.2) (stops c.args.setting.now.sectors c.args.setting.now.old.now c.args.table.now c.args.order
+    c.args.setting.now.guarded.now c.args.setting.now.head c.args.places.items c.in-Some.targets.items c.deref.result.now
+    c.deref-2.result.now
+    (writes_of c.in_ok-labels.labels.items)
+    (phases_of c.in_ok-plan.plan) c.requires.size c.in-Some.ensures.some c.deref.ensures.value c.deref-2.ensures.value
+    c.in_ok-labels.ensures.new c.in_ok-plan.ensures.phases
     c.in_err-accept.field-0.0 c.in_err-accept.ensures.err)
 
 pub returns-clause-plan : goal.returns-clause-plan
-returns-clause-plan g c = plans c.args.setting.now.sectors c.args.setting.now.old.now c.args.table.now c.args.order c.args.setting.now.guarded.now c.args.setting.now.head c.args.places.items c.in-Some.targets.items c.deref.result.now c.deref-2.result.now
-    (writes_of c.in_ok-labels.labels.items) (phases_of c.in_ok-plan.plan) c.requires.size c.in-Some.ensures.some c.deref.ensures.value c.deref-2.ensures.value c.in_ok-labels.ensures.new c.in_ok-plan.ensures.phases
+returns-clause-plan g c =
+    plans c.args.setting.now.sectors c.args.setting.now.old.now c.args.table.now c.args.order c.args.setting.now.guarded.now
+    c.args.setting.now.head c.args.places.items c.in-Some.targets.items c.deref.result.now c.deref-2.result.now
+    (writes_of c.in_ok-labels.labels.items)
+    (phases_of c.in_ok-plan.plan) c.requires.size c.in-Some.ensures.some c.deref.ensures.value c.deref-2.ensures.value
+    c.in_ok-labels.ensures.new c.in_ok-plan.ensures.phases
     c.in_ok-accept.ensures.ok

@@ -1,6 +1,5 @@
 use Rattle.std.proofs.Common.{take}
-use Rattle.pt_apply.specs.Plans.{phases_in}
-use Rattle.pt_check.specs.First.{writes_in}
+use Rattle.pt_apply.specs.Plans.{phases_in, writes_in}
 use Rattle.pt_tables.specs.Phases.{Touches}
 use Rattle.pt_tables.specs.Reserved.{IsReserved}
 use Rattle.pt_tables.proofs.reserved.touches.Given as goal

@@ -14,5 +14,6 @@ returns-then-has_twins-clause-none g c =
 pub returns-else-has_twins-clause-some : goal.returns-else-has_twins-clause-some
 returns-else-has_twins-clause-some g c =
     in_order c.args.targets.items c.sort_unstable_by_key.new.self.items c.sort_unstable_by_key.ensures.permutation
-    (IsNonDecreasingBy-from_sort_by_key (λ (t : Target g.row.B). t.at.0) c.sort_unstable_by_key.new.self.items c.sort_unstable_by_key.ensures.sorted (λ a r q k. (k.met, refl)))
+    (IsNonDecreasingBy-from_sort_by_key
+    (λ (t : Target g.row.B). t.at.0) c.sort_unstable_by_key.new.self.items c.sort_unstable_by_key.ensures.sorted (λ a r q k. (k.met, refl)))
     (subst (λ (ts : List (Target g.row.B)). ¬ HasTwins ts) c.deref.ensures.value (unless _ c.if-has_twins.ensures))

@@ -3,4 +3,6 @@ use Rattle.pt_targets.specs.Splits.{split_one}
 use Rattle.pt_targets.proofs.split.split_changes.Goals as goal
 
 pub returns-in_ok-quiet-in-Some : goal.returns-in_ok-quiet-in-Some
-returns-in_ok-quiet-in-Some g c = split_one c.args.guarded.now c.args.targets.now c.requires (writes_of c.in_ok-quiet-in-Some.quiet.items) (c.in-Some.loud.lba.0, c.in-Some.loud.bytes) c.in-Some.ensures.one c.in_ok-quiet-in-Some.ensures
+returns-in_ok-quiet-in-Some g c =
+    split_one c.args.guarded.now c.args.targets.now c.requires (writes_of c.in_ok-quiet-in-Some.quiet.items)
+    (c.in-Some.loud.lba.0, c.in-Some.loud.bytes) c.in-Some.ensures.one c.in_ok-quiet-in-Some.ensures

@@ -11,11 +11,17 @@ loop-write-preserved g c = record {
   text = text_more write_text (λ (w : Write g.row.B). (w.lba.0, w.bytes)) c.args.phase.now c.loop-write.write-index c.write-item.result
       (string_bytes c.args.text.now) (string_bytes c.loop-write.text) (string_bytes c.push_write.new.text)
       c.loop-write-test.true c.write-item.is c.loop-write.invariant.text c.in_ok-push_write.ensures.text;
-  held = held_more (HasLine g.row.B) (λ (w : Write g.row.B). (w.lba.0, w.bytes)) c.args.phase.now c.loop-write.write-index c.write-item.result
+  held = held_more (HasLine g.row.B) (λ (w : Write g.row.B). (
+    w.lba.0,
+    w.bytes,
+  )) c.args.phase.now c.loop-write.write-index c.write-item.result
       c.loop-write-test.true c.write-item.is c.loop-write.invariant.held c.push_write.ensures.held;
 }
 
 pub returns-clause-held : goal.returns-clause-held
 returns-clause-held g c =
     on_ok c.push_str.result (All (HasLine g.row.B) (writes_of c.args.phase.now))
-    (all_taken (HasLine g.row.B) (λ (w : Write g.row.B). (w.lba.0, w.bytes)) c.args.phase.now c.loop-write.write-index c.loop-write-test.false c.loop-write.invariant.held)
+    (all_taken (HasLine g.row.B) (λ (w : Write g.row.B). (
+      w.lba.0,
+      w.bytes,
+    )) c.args.phase.now c.loop-write.write-index c.loop-write-test.false c.loop-write.invariant.held)

@@ -11,4 +11,5 @@ returns-in-None-clause-err c =
 
 pub returns-in-Some-only_byte-clause-err : goal.returns-in-Some-only_byte-clause-err
 returns-in-Some-only_byte-clause-err c =
-    told_word c.parse_word.result _ _ c.in-Some-only_byte.letter _ c.in-Some.ensures.some c.in-Some-only_byte.ensures.some c.parse_word.ensures.err
+    told_word c.parse_word.result _ _ c.in-Some-only_byte.letter _ c.in-Some.ensures.some c.in-Some-only_byte.ensures.some
+    c.parse_word.ensures.err

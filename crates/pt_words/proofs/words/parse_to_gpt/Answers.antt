@@ -10,4 +10,4 @@ pub returns-in-Some-clause-err : goal.returns-in-Some-clause-err
 returns-in-Some-clause-err c =
     let more = some_field c.in-Some.field-0.now in
     subst (λ (r : Option (Bor (List ℕ))). IsFault (103 ∷ []) (fields_after (option_map (λ t. t.now) r)) FieldCount) (sym c.in-Some.is)
-    (bad_count 103 (fields c.in-Some.field-0.now) refl (other_count 0 _ [] (λ none. omega (arith, more))))
+    (bad_count 103 (fields c.in-Some.field-0.now) _ refl (other_count 0 _ [] (λ none. omega (arith, more))) refl)

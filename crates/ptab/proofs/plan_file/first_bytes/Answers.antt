@@ -4,9 +4,15 @@ use Rattle.ptab.specs.declared.plan_file.TheConstants.{MOST}
 use Rattle.ptab.proofs.plan_file.first_bytes.Goals as goal
 
 -- what a reader's first bytes are, where it tells its bytes
-first_of : (all : Option (List ℕ)) (n : ℕ) (read : List ℕ) → IfSome (option_map (take n) all) (λ some. read ≡ [] ++ some) → IfSome all (λ some. read ≡ take n some)
+first_of : (all : Option (List ℕ)) (n : ℕ) (read : List ℕ) → IfSome (option_map (take n) all) (λ some. read ≡ [] ++ some)
+    → IfSome all (λ some. read ≡ take n some)
 first_of None n read is = tt
 first_of (Some some) n read is = is
 
 pub returns-in-Ok : goal.returns-in-Ok
-returns-in-Ok g c = first_of _ (MOST + 1) _ (rw (c.take-start.ensures.limit, c.take-start.ensures.inner, c.new-bytes.ensures.items) at c.in-Ok.ensures.bytes)
+returns-in-Ok g c =
+    first_of _ (MOST + 1) _ (rw (
+      c.take-start.ensures.limit,
+      c.take-start.ensures.inner,
+      c.new-bytes.ensures.items,
+    ) at c.in-Ok.ensures.bytes)

@@ -7,10 +7,12 @@ use Rattle.pt_sector.proofs.crash.CrashDisk.stop.Goals as goal
 
 pub returns-clause-may_leave : goal.returns-clause-may_leave
 returns-clause-may_leave g c =
-    let same : c.from_sectors.result.sectors.items ≡ picked (pending_writes c.args.self.cache.pending.items) 0 c.args.choices.now c.args.self.cache.durable.items = grind (arith, common_steps) in
+    let same : c.from_sectors.result.sectors.items ≡ picked
+    (pending_writes c.args.self.cache.pending.items) 0 c.args.choices.now c.args.self.cache.durable.items = grind (arith, common_steps) in
     rw same (stopped_picked (pending_writes c.args.self.cache.pending.items) c.args.choices.now c.args.self.cache.durable.items)
 
 pub returns-clause-picked : goal.returns-clause-picked
 returns-clause-picked g c =
-    let same : c.from_sectors.result.sectors.items ≡ picked (pending_writes c.args.self.cache.pending.items) 0 c.args.choices.now c.args.self.cache.durable.items = grind (arith, common_steps) in
+    let same : c.from_sectors.result.sectors.items ≡ picked
+    (pending_writes c.args.self.cache.pending.items) 0 c.args.choices.now c.args.self.cache.durable.items = grind (arith, common_steps) in
     rw same (is_picked (pending_writes c.args.self.cache.pending.items) c.args.choices.now c.args.self.cache.durable.items)

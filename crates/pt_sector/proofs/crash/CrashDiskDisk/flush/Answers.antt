@@ -7,7 +7,9 @@ pub returns-then-counts_down-clause-failed : goal.returns-then-counts_down-claus
 returns-then-counts_down-clause-failed g c = not_flushed c.args.self.now.cache _ _ c.and-self.ensures
 
 pub returns-clause-count : goal.returns-clause-count
-returns-clause-count g c = ap length c.flush.ensures.durable ∙ length-reading c.args.self.now.cache.pending.items c.args.self.now.cache.durable.items
+returns-clause-count g c =
+    ap length c.flush.ensures.durable ∙ length-reading c.args.self.now.cache.pending.items c.args.self.now.cache.durable.items
 
 pub returns-clause-done : goal.returns-clause-done
-returns-clause-done g c = flushed c.args.self.now.cache _ _ c.and-self.ensures c.flush.new.self c.flush.ensures.durable c.flush.ensures.pending
+returns-clause-done g c =
+    flushed c.args.self.now.cache _ _ c.and-self.ensures c.flush.new.self c.flush.ensures.durable c.flush.ensures.pending

@@ -7,7 +7,8 @@ pub returns-then-is_full-clause-failed : goal.returns-then-is_full-clause-failed
 returns-then-is_full-clause-failed g c = no_room c.args.self.now.cache _ _ c.and-self.ensures c.args.lba.0 c.args.bytes.now
 
 pub returns-then-fails-clause-failed : goal.returns-then-fails-clause-failed
-returns-then-fails-clause-failed g c = failed c.args.self.now.cache _ _ c.and-self.ensures c.add.new.self _ c.add.ensures.durable c.add.ensures.pending
+returns-then-fails-clause-failed g c =
+    failed c.args.self.now.cache _ _ c.and-self.ensures c.add.new.self _ c.add.ensures.durable c.add.ensures.pending
 
 pub returns-clause-done : goal.returns-clause-done
 returns-clause-done g c =

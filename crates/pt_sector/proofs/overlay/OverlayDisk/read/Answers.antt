@@ -13,14 +13,16 @@ pub returns-then-get-clause-bytes : goal.returns-then-get-clause-bytes
 returns-then-get-clause-bytes g c = λ tells.
     let seen = (g.D.Disk.told c.args.self.now.disk.now).seen in
     let sized : length seen ≡ g.D.Disk.count c.args.self.now.disk.now = g.met.D.Disk.sized c.args.self.now.disk.now tells in
-    sym (sector-written (puts_as_writes c.args.self.now.own.puts.items) seen c.args.lba.0 (omega (arith, sized, c.requires)) ∙ c.if-get.ensures (sector seen c.args.lba.0))
+    sym (sector-written (puts_as_writes c.args.self.now.own.puts.items) seen c.args.lba.0 (omega (arith, sized, c.requires))
+    ∙ c.if-get.ensures (sector seen c.args.lba.0))
 
 pub returns-in-Ok-clause-bytes : goal.returns-in-Ok-clause-bytes
 returns-in-Ok-clause-bytes g c = λ tells.
     let seen = (g.D.Disk.told c.args.self.now.disk.now).seen in
     let sized : length seen ≡ g.D.Disk.count c.args.self.now.disk.now = g.met.D.Disk.sized c.args.self.now.disk.now tells in
     let same : sector (shown seen c.args.self.now.own) c.args.lba.0 ≡ sector seen c.args.lba.0 =
-    sector-written (puts_as_writes c.args.self.now.own.puts.items) seen c.args.lba.0 (omega (arith, sized, c.requires)) ∙ c.if-get.ensures (sector seen c.args.lba.0) in
+    sector-written (puts_as_writes c.args.self.now.own.puts.items) seen c.args.lba.0 (omega (arith, sized, c.requires))
+    ∙ c.if-get.ensures (sector seen c.args.lba.0) in
     rw same (c.in-Ok.ensures.bytes tells)
 
 pub returns-then-get-clause-same : goal.returns-then-get-clause-same
@@ -38,7 +40,8 @@ returns-in-Ok-clause-same g c =
     record {
       same_count = below.same.same_count;
       same_name = refl;
-      through = (record { below = below.same; more = []; come_above = sym (append-nil _); come_below = below.blames ∙ sym (append-nil _) }, refl);
+      through =
+          (record { below = below.same; more = []; come_above = sym (append-nil _); come_below = below.blames ∙ sym (append-nil _) }, refl);
       same = λ tells. ap (λ (t : Told). overlay_told t.seen c.args.self.now.own c.args.self.now.past.items) (below.same.same tells);
       came = no_faults _ _ refl;
     }
@@ -49,7 +52,8 @@ returns-in-Err-clause-same g c =
     record {
       same_count = below.same.same_count;
       same_name = refl;
-      through = (record { below = below.same; more = c.in-Err.fault ∷ []; come_above = c.and-self.ensures; come_below = below.blames }, refl);
+      through =
+          (record { below = below.same; more = c.in-Err.fault ∷ []; come_above = c.and-self.ensures; come_below = below.blames }, refl);
       same = λ tells. ap (λ (t : Told). overlay_told t.seen c.args.self.now.own c.args.self.now.past.items) (below.same.same tells);
       came = one_fault _ _ c.in-Err.fault c.args.lba below.fault c.and-self.ensures;
     }

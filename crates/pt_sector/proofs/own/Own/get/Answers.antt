@@ -11,8 +11,11 @@ returns-in-Ok g c = λ v.
     let ps = c.args.self.now.puts.items in
     let found : IsAt (puts_as_writes ps) c.args.lba.0 c.in-Ok.at = rw c.deref.ensures.value at c.in-Ok.ensures.found in
     let inside : c.in-Ok.at < length ps = omega (arith, found.in_range, length-puts ps) in
-    value_of_one (puts_as_writes ps) c.args.lba.0 c.in-Ok.at v c.args.self.now.sorted found ∙ bytes-of-put ps c.in-Ok.at ∙ ap (λ (p : Put g.row.B). p.bytes) (get_or_default ps c.in-Ok.at no_put c.index.result.now inside ∙ sym c.index.ensures)
+    value_of_one (puts_as_writes ps) c.args.lba.0 c.in-Ok.at v c.args.self.now.sorted found ∙ bytes-of-put ps c.in-Ok.at
+    ∙ ap (λ (p : Put g.row.B). p.bytes) (get_or_default ps c.in-Ok.at no_put c.index.result.now inside ∙ sym c.index.ensures)
 
 pub returns-in-Err : goal.returns-in-Err
 returns-in-Err g c = λ v.
-    value_of_none (puts_as_writes c.args.self.now.puts.items) c.args.lba.0 v (none_in_gap (puts_as_writes c.args.self.now.puts.items) c.args.lba.0 c.in-Err.field-0 (rw c.deref.ensures.value at c.in-Err.ensures.absent))
+    value_of_none (puts_as_writes c.args.self.now.puts.items) c.args.lba.0 v
+    (none_in_gap (puts_as_writes c.args.self.now.puts.items) c.args.lba.0 c.in-Err.field-0
+    (rw c.deref.ensures.value at c.in-Err.ensures.absent))

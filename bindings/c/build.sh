@@ -1,0 +1,32 @@
+#!/usr/bin/env bash
+# Makes of the proved archive what a C program links: OUT/libptab.a (the archive and its memory) and OUT/libptab.so.1 with its link.
+#
+# usage: bindings/c/build.sh ARCHIVE OUT     ARCHIVE is crates/pt_c/out/libpt_c.a, by `rt lib` in crates/pt_c
+#   MEMORY=FILE.c   the three functions of memory; else bindings/c/memory.c, over malloc
+set -euo pipefail
+if [ $# != 2 ]; then
+  sed -n 's/^# usage: /usage: /p' "$0" >&2
+  exit 2
+fi
+here=$(cd "$(dirname "$0")" && pwd)
+archive=$1
+out=$2
+folder=$(mktemp -d)
+trap 'rm -rf "$folder"' EXIT
+mkdir -p "$out"
+flags="-O2 -std=c11 -Wall -Wextra -pedantic -Werror -fPIC"
+${CC:-cc} $flags -c "${MEMORY:-$here/memory.c}" -o "$folder/ptab_memory.o"
+cp "$archive" "$folder/libptab.a"
+chmod u+w "$folder/libptab.a"
+ar rDs "$folder/libptab.a" "$folder/ptab_memory.o" 2>"$folder/said"
+{
+  echo 'PTAB_1 {'
+  echo '  global: ptab_members; ptab_verify; ptab_locate; ptab_plan; ptab_repair; ptab_check; ptab_guid_text; ptab_type_code; ptab_version;'
+  echo '  local: *;'
+  echo '};'
+} >"$folder/exports"
+${CC:-cc} -shared -Wl,-soname,libptab.so.1 -Wl,-z,defs -Wl,--version-script="$folder/exports" -Wl,--whole-archive "$folder/libptab.a" \
+  -Wl,--no-whole-archive -o "$folder/libptab.so.1"
+install -m 644 "$folder/libptab.a" "$out/libptab.a"
+install -m 644 "$folder/libptab.so.1" "$out/libptab.so.1"
+ln -sf libptab.so.1 "$out/libptab.so"

@@ -1,0 +1,4 @@
+pub mod Walk
+pub mod Saying
+pub mod PlanRows
+pub mod Asked

@@ -1,0 +1,11 @@
+use Rattle.std.proofs.Common.{arith}
+use Rattle.pt_c.proofs.PlanRows.{ends_rows, ends_sectors}
+use Rattle.pt_c.proofs.taking.finish.Goals as goal
+
+pub returns-then-len-eq0-clause-rows : goal.returns-then-len-eq0-clause-rows
+returns-then-len-eq0-clause-rows g c =
+    ends_rows c.args.partial.phases.items c.args.partial.last.items (let a = c.if-len-eq0.true in let e = c.len.ensures in let ok = c.args.partial.last.ok.0 in omega (arith, a, e, ok))
+
+pub returns-then-len-eq0-clause-sectors : goal.returns-then-len-eq0-clause-sectors
+returns-then-len-eq0-clause-sectors g c =
+    ends_sectors c.args.partial.phases.items c.args.partial.last.items (let a = c.if-len-eq0.true in let e = c.len.ensures in let ok = c.args.partial.last.ok.0 in omega (arith, a, e, ok))

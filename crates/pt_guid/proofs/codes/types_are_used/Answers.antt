@@ -1,0 +1,5 @@
+use Rattle.pt_guid.specs.Laws.{types_are_used}
+use Rattle.pt_guid.proofs.codes.types_are_used.Goals as goal
+
+pub returns : goal.returns
+returns c = types_are_used

@@ -1,0 +1,16 @@
+-- The extended record in a search, by what the test of its type tells.
+use Rattle.std.proofs.Common.{◌≡◌, ◌∙◌, ◌<◌, ◌+◌, ℕ, Bool, true, false, List, length, get_or, drop, Option, Some, sym}
+use Rattle.std.specs.Prelude.{◌↔◌, IsTrue}
+use Rattle.pt_mbr.specs.Record.{IsExtendedKind}
+use Rattle.pt_mbr.specs.declared.record.Record.{Record}
+use Rattle.pt_logicals.specs.Types.{told_extended}
+use Rattle.pt_records.specs.New.{extended_record}
+use Rattle.pt_records.proofs.Extended.{plain_here, found_here}
+
+pub plain_told : (rs : List (Option Record)) (k : ℕ) (z : Option Record) (r : Record) (told : Bool) → k < length rs → get_or rs k z ≡ Some r
+    → (IsTrue told ↔ IsExtendedKind r.kind) → told ≡ false → extended_record (drop k rs) ≡ extended_record (drop (k + 1) rs)
+plain_told rs k z r told within at tells is = plain_here rs k z r within at (sym (told_extended told r.kind tells) ∙ is)
+
+pub found_told : (rs : List (Option Record)) (k : ℕ) (z : Option Record) (r : Record) (told : Bool) → k < length rs → get_or rs k z ≡ Some r
+    → (IsTrue told ↔ IsExtendedKind r.kind) → told ≡ true → extended_record (drop k rs) ≡ Some r
+found_told rs k z r told within at tells is = found_here rs k z r within at (sym (told_extended told r.kind tells) ∙ is)

@@ -1,6 +1,0 @@
-use Rattle.std.specs.Prelude.{◌≡◌, ◌++◌, option_to_list, drop}
-use Rattle.pt_recover.specs.Mbr.{extended_of}
-use Rattle.pt_recover.proofs.extended.lone_extended.Given as goal
-
-abbrev pub invariant-loop-k : goal.invariant-loop-k
-invariant-loop-k l = extended_of l.records ≡ option_to_list l.found ++ extended_of (drop l.k l.records)

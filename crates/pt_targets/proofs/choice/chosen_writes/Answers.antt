@@ -1,0 +1,22 @@
+use Rattle.std.proofs.Common.{◌∙◌, refl, ap, arith, Vec}
+use Rattle.pt_targets.specs.Selected.{IsChosen}
+use Rattle.pt_targets.proofs.Steps.{unless, pushed, skipped}
+use Rattle.pt_targets.proofs.choice.chosen_writes.Goals as goal
+use Rattle.pt_targets.proofs.choice.chosen_writes.Goals.{then-is_chosen+in_ok-push, else-is_chosen}
+
+pub loop-target-preserved : goal.loop-target-preserved
+loop-target-preserved g c = record {
+  so_far = elim c.if-is_chosen.branch [
+    | then-is_chosen+in_ok-push w ↦ pushed
+        (IsChosen c.args.choice c.args.guarded.now) c.args.targets.now c.loop-target.target-index c.target-item.result
+        c.loop-target.writes.items c.if-is_chosen.writes.items w.write_of.result
+        (omega arith) c.target-item.is c.loop-target.invariant.so_far
+        (w.if-is_chosen.ensures.0 refl) w.write_of.ensures.lba w.write_of.ensures.bytes
+        (ap (λ (v : Vec _ _). v.items) w.writes-is ∙ w.in_ok-push.ensures.items)
+    | else-is_chosen w ↦ skipped
+        (IsChosen c.args.choice c.args.guarded.now) c.args.targets.now c.loop-target.target-index c.target-item.result
+        c.loop-target.writes.items c.if-is_chosen.writes.items
+        (omega arith) c.target-item.is c.loop-target.invariant.so_far (unless _ w.if-is_chosen.ensures)
+        (ap (λ (v : Vec _ _). v.items) w.writes-is)
+  ];
+}

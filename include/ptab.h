@@ -1,0 +1,174 @@
+/*
+ * ptab.h: what a disk's partition table says, whether it is healthy, where a partition's sectors are, and checked plans
+ * of edits and repairs. docs/c.md tells how to use it.
+ *
+ * The library does no I/O. A call gets the sectors that its caller has read so far, and ends with an answer or with
+ * PTAB_WANT and the number of one more sector; the caller reads that one, adds it and calls again. With both ends of
+ * the disk read beforehand (PTAB_HEAD and PTAB_TAIL, below) a GPT without slices takes one call.
+ *
+ * Rules for every call, which nothing checks:
+ *   - no pointer is NULL, also where its length is 0;
+ *   - each is aligned as its type; what a call writes overlaps nothing else that it gets;
+ *   - not from a signal handler, nor in the child of a fork in a program with threads. Calls in several threads at
+ *     once are fine as long as their arguments are apart: the library has no state.
+ * All other arguments may have any value: a wrong one is answered by PTAB_USAGE.
+ *
+ * It allocates by malloc, and frees all before it returns. Who has no malloc gives three functions (docs/c.md, "Memory").
+ */
+#ifndef PTAB_H
+#define PTAB_H
+
+#include <stddef.h>
+#include <stdint.h>
+
+#ifdef __cplusplus
+extern "C" {
+#endif
+
+/* The number of this interface; ptab_version() gives that of the library. */
+#define PTAB_VERSION 1
+
+/* What a call returns: the exit statuses of the command `ptab`, and two more. */
+enum {
+  PTAB_DONE = 0,     /* done, or yes */
+  PTAB_NO = 1,       /* the answer is no */
+  PTAB_USAGE = 2,    /* an argument or a word that can't be read */
+  PTAB_REFUSED = 3,  /* an edit, a repair or its plan was refused */
+  PTAB_NO_TABLE = 4, /* the disk has no table that can be read */
+  PTAB_DEVICE = 5,   /* not returned; for the caller's own use where a read or write fails */
+  PTAB_MEMORY = 6,   /* malloc gave nothing */
+  PTAB_WANT = -1,    /* read sector `reply.sector`, add it to the view and call again */
+  PTAB_ROOM = -2     /* a buffer is too small: it takes `reply.count` rows or writes */
+};
+
+/* What `reply.number` counts. */
+enum {
+  PTAB_ABOUT_NOTHING = 0,
+  PTAB_ABOUT_ARGUMENT = 1, /* 1 sector_size; 2 the view's lengths, or more than 2^64 bytes; 3 number or letter; 4 the
+                              length of `drawn`; 5 no words, not UTF-8, or no zero byte at the end; 6 the writes of a
+                              plan: their bytes don't fit their number, or write `a`, from 1, is of no phase that
+                              could come there */
+  PTAB_ABOUT_WORD = 2,     /* word `a`, from 1, is no word: 1 letter, 2 fields, 3 number, 4 GUID, 5 code */
+  PTAB_ABOUT_TABLE = 3,    /* 1 copies: their faults `a` and `b`; 2 chain: its fault `a` at sector `b`; 3 two extended;
+                              4 too small */
+  PTAB_ABOUT_FINDING = 4,  /* 1 to 11, as `ptab verify` prints them, with arguments `a` and `b` */
+  PTAB_ABOUT_EDIT = 5,     /* 1 to 15, as in `refused: edit N` */
+  PTAB_ABOUT_PLAN = 6,     /* 1 to 4, as in `refused: plan N` */
+  PTAB_ABOUT_CHECK = 7,    /* 1 to 8, as `ptab check` prints them, with arguments `a` and `b` */
+  PTAB_ABOUT_REPAIR = 8    /* 2, as in `refused: repair 2`, with the number `a` of the finding */
+};
+
+/* What is known of a disk: `numbers_len` sectors, in any order, their bytes one after the other. Of a number that
+   stands twice the first counts. */
+typedef struct ptab_view {
+  uint32_t sector_size; /* 512 or 4096 */
+  uint64_t sectors;     /* how many the whole disk has */
+  const uint64_t *numbers;
+  size_t numbers_len;
+  const uint8_t *bytes;
+  size_t bytes_len; /* numbers_len * sector_size */
+} ptab_view;
+
+typedef struct ptab_reply {
+  uint64_t sector; /* the one wanted, or the one located */
+  uint64_t count;  /* of rows or writes */
+  uint64_t phases; /* of a plan */
+  uint64_t a, b;   /* arguments of `number`; of a checked plan `a` is the phase that switches, 0 where none does */
+  uint32_t about, number;
+  uint8_t a_letter, b_letter; /* where `a`, `b` are partitions of a label: 'a' to 'h', else 0 */
+} ptab_reply;
+
+/* A GUID as a disk stores it: the first three fields of its text are turned round. ptab_guid_text makes the text. */
+typedef struct ptab_guid {
+  uint8_t bytes[16];
+} ptab_guid;
+
+/* 36 characters, and no zero byte behind them. */
+typedef struct ptab_text {
+  uint8_t bytes[36];
+} ptab_text;
+
+enum { PTAB_MBR = 1, PTAB_GPT = 2 };
+
+typedef struct ptab_table {
+  uint64_t sectors;
+  uint64_t first, last; /* a GPT's usable sectors */
+  uint32_t kind;        /* PTAB_MBR or PTAB_GPT */
+  ptab_guid disk;       /* a GPT's */
+} ptab_table;
+
+enum { PTAB_LEAF = 0, PTAB_SLICE = 1, PTAB_EXTENDED = 2 };
+
+/* A partition; what its kind of table doesn't have is 0. Where last < first it has no sectors; numbers past 2^64 are
+   cut to 2^64 - 1. */
+typedef struct ptab_member {
+  uint64_t number, first, last;
+  uint64_t attributes;         /* GPT */
+  uint8_t letter;              /* label: 'a' to 'h' */
+  uint8_t kind;                /* PTAB_LEAF, PTAB_SLICE, PTAB_EXTENDED */
+  uint8_t type_byte;           /* MBR, label */
+  uint8_t boot;                /* MBR */
+  ptab_guid type_guid, unique; /* GPT */
+  uint16_t name[36];           /* GPT: UTF-16, ended by a zero or by the last unit */
+} ptab_member;
+
+/* A write of a plan; its bytes stand at the same place of `bytes`. */
+typedef struct ptab_write {
+  uint64_t sector;
+  uint64_t phase; /* from 1 on, each as the one before it or one more */
+} ptab_write;
+
+/* The most partitions that a disk has: 4 records and 128 logicals, each with 7 entries of a label. */
+#define PTAB_MOST_MEMBERS 1056
+/* Room for the writes of the largest plans: both copies of a GPT with 128 labels, or sector 0, 128 extended boot records
+   and 132 labels. PTAB_ROOM tells where it takes more. */
+#define PTAB_MOST_WRITES 264
+/* How many sectors to read at the head and at the tail of a disk before the first call. */
+#define PTAB_HEAD(sector_size) ((sector_size) == 512 ? 34 : 6)
+#define PTAB_TAIL(sector_size) ((sector_size) == 512 ? 33 : 5)
+
+/* The partitions: records or entries by number, then logical ones; a slice before the entries of its label. */
+int32_t ptab_members(const ptab_view *view, ptab_table *table, ptab_member *rows, size_t rows_len, ptab_reply *reply);
+
+/* PTAB_DONE where the disk is healthy, or PTAB_NO and the first finding. */
+int32_t ptab_verify(const ptab_view *view, ptab_reply *reply);
+
+/* The disk's sector that is sector k, from 0, of a partition: PTAB_DONE and reply.sector, or PTAB_NO. */
+int32_t ptab_locate(const ptab_view *view, uint64_t number, uint8_t letter, uint64_t k, ptab_reply *reply);
+
+/*
+ * The plan of an edit. `words` are edit words as `ptab edit` takes them, UTF-8, each ended by a zero byte; `drawn` has
+ * 16 random bytes for each GUID that they need.
+ *
+ * To carry it out: lock the disk; fsync; read; call; then for each phase write its sectors, in any order, and fsync
+ * before the next phase. If a write or an fsync fails, stop: the disk has the old table or the new one. PTAB_DONE
+ * with no writes says that the disk is as wanted. The plan is for the disk as it was read: if anything else writes the
+ * disk in between, throw the plan away.
+ */
+int32_t ptab_plan(const ptab_view *view, const uint8_t *words, size_t words_len, const uint8_t *drawn,
+                  size_t drawn_len, ptab_write *writes, size_t writes_len, uint8_t *bytes, size_t bytes_len,
+                  ptab_reply *reply);
+
+/* The plan that makes the disk healthy and keeps its partitions, to be carried out in the same way. */
+int32_t ptab_repair(const ptab_view *view, ptab_write *writes, size_t writes_len, uint8_t *bytes, size_t bytes_len,
+                    ptab_reply *reply);
+
+/* Whether a plan from elsewhere may be carried out on the disk as it was read: PTAB_DONE, or PTAB_NO and the first
+   reason. Its writes stand by phases, in order; `bytes_len` is writes_len * sector_size. */
+int32_t ptab_check(const ptab_view *view, const ptab_write *writes, size_t writes_len, const uint8_t *bytes,
+                   size_t bytes_len, ptab_reply *reply);
+
+/* The text of a GUID, in lower case. */
+void ptab_guid_text(const ptab_guid *guid, ptab_text *text);
+
+/* The code of a partition's type, as 0xEF00, or -1. */
+int32_t ptab_type_code(const ptab_guid *guid);
+
+/* The number of the library's interface. */
+int32_t ptab_version(void);
+
+#ifdef __cplusplus
+}
+#endif
+
+#endif

@@ -1,0 +1,61 @@
+#!/usr/bin/env bash
+# Makes a Debian package of the library for callers in C: header, archive, shared object, pkg-config file, and docs/c.md. The same
+# archive, commit and kit give the same package, byte by byte. It needs no root.
+#
+# usage: LIBRARY=FILE packaging/debian_dev.sh OUT     OUT is the .deb, or a folder for it; FILE is crates/pt_c/out/libpt_c.a
+#   KIT=LINE             the kit that proved it; else what `rt version` prints
+#   SOURCE_DATE_EPOCH=S  the time of everything in it; else that of the commit
+set -euo pipefail
+if [ $# != 1 ] || [ -z "$1" ] || [ ! -f "${LIBRARY:-}" ]; then
+  sed -n 's/^# usage: /usage: /p' "$0" >&2
+  exit 2
+fi
+export LC_ALL=C TZ=UTC
+umask 022
+here=$(cd "$(dirname "$0")/.." && pwd)
+out=$1
+git() { command git -C "$here" "$@"; }
+kit=$(printf '%s' "${KIT:-$(rt version)}" | tr -s '\n\t ' ' ')
+commit=$(git rev-parse HEAD)
+if [ -n "$(git status --porcelain -- crates include bindings install.sh packaging docs/c.md)" ]; then commit=$commit-changed; fi
+epoch=${SOURCE_DATE_EPOCH:-$(git log -1 --format=%ct)}
+version=0~git$(git log -1 --format=%cd --date=format-local:%Y%m%d%H%M%S).${commit:0:12}
+case $commit in *-changed) version=$version.changed ;; esac
+architecture=$(dpkg --print-architecture)
+author=$(git log -1 --format='%an <%ae>')
+sum=$(sha256sum <"$LIBRARY")
+
+folder=$(mktemp -d)
+trap 'rm -rf "$folder"' EXIT
+tree=$folder/tree
+PTAB=/bin/true LIBRARY=$LIBRARY DESTDIR=$tree "$here/install.sh" /usr >"$folder/installed"
+rm -r "$tree/usr/bin" "$tree/usr/share"
+install -d -m 755 "$tree/DEBIAN" "$tree/usr/share/doc/libptab-dev"
+gzip -9n <"$here/docs/c.md" >"$tree/usr/share/doc/libptab-dev/c.md.gz"
+bytes=$(find "$tree/usr" -type f -printf '%s\n' | awk '{ sum += int(($1 + 1023) / 1024) } END { print sum }')
+cat >"$tree/DEBIAN/control" <<END
+Package: libptab-dev
+Version: $version
+Section: libdevel
+Priority: optional
+Architecture: $architecture
+Depends: libc6-dev
+Suggests: ptab
+Installed-Size: $bytes
+Maintainer: ${MAINTAINER:-$author}
+Description: partition tables in one's own program: checked plans of edits
+ Header, archive, shared object and pkg-config file of the library that the
+ command ptab stands on. It does no I/O: a call gets the sectors that were
+ read, and ends with an answer or the number of one more sector.
+ .
+ Commit: $commit
+ Kit: $kit
+ SHA-256 of the proved archive: ${sum%% *}
+END
+(cd "$tree" && find usr -type f -print0 | sort -z | xargs -0 md5sum) >"$tree/DEBIAN/md5sums"
+find "$tree" -type d -exec chmod 755 {} +
+find "$tree" -exec touch -h -d "@$epoch" {} +
+if [ -d "$out" ]; then out=$out/libptab-dev_${version}_$architecture.deb; fi
+dpkg-deb --root-owner-group -Zgzip -z9 --build "$tree" "$folder/dev.deb" >"$folder/built"
+install -m 644 "$folder/dev.deb" "$out"
+echo "$out"
