@@ -1,11 +1,12 @@
 #!/usr/bin/env bash
-# Installs the program, its man page and its completion under PREFIX, and says so in one line a file. It needs no root for a PREFIX of
-# one's own.
+# Installs the program, its man page and its completion under PREFIX, and the library for callers in C (header, archive, shared object and
+# a pkg-config file), and says so in one line a file. It needs no root for a PREFIX of one's own.
 #
 # usage: ./install.sh PREFIX
-#   PTAB=FILE     installs this program; else the built one, which ./build.sh proves and builds where it isn't there
-#   LIBRARY=FILE  installs the library for callers in C too: header, archive, shared object and a pkg-config file. FILE is the proved
-#                 archive, crates/pt_c/out/libpt_c.a by `rt lib` in crates/pt_c; a C compiler links it
+#   PTAB=FILE     installs this program, and no library without LIBRARY; else the built one, which ./build.sh proves and builds where it
+#                 isn't there
+#   LIBRARY=FILE  the proved archive, for a C compiler to link; else crates/pt_c/out/libpt_c.a, proved and built where it isn't there.
+#                 LIBRARY= installs no library
 #   DESTDIR=DIR   puts all of it below DIR, as packagers do; the program is to run with PREFIX
 set -euo pipefail
 if [ $# != 1 ] || [ -z "$1" ] || [ "${1#-}" != "$1" ]; then
@@ -24,6 +25,15 @@ if [ ! -f "$ptab" ]; then
   echo "install.sh: no program at $ptab" >&2
   exit 1
 fi
+library=${LIBRARY-}
+if [ -z "${LIBRARY+given}" ] && [ -z "${PTAB:-}" ]; then
+  if command -v cc >/dev/null; then
+    library=$here/crates/pt_c/out/libpt_c.a
+    if [ ! -f "$library" ]; then (cd "$here/crates/pt_c" && rt lib >&2); fi
+  else
+    echo "install.sh: no C compiler (cc), so the library for callers in C is left out" >&2
+  fi
+fi
 put() { # MODE FILE PLACE
   install -d -m 755 "$(dirname "${DESTDIR:-}$prefix/$3")"
   install -m "$1" "$2" "${DESTDIR:-}$prefix/$3"
@@ -32,10 +42,10 @@ put() { # MODE FILE PLACE
 put 755 "$ptab" bin/ptab
 put 644 "$here/man/ptab.8" share/man/man8/ptab.8
 put 644 "$here/completion/ptab.bash" share/bash-completion/completions/ptab
-if [ -n "${LIBRARY:-}" ]; then
+if [ -n "$library" ]; then
   made=$(mktemp -d)
   trap 'rm -rf "$made"' EXIT
-  "$here/bindings/c/build.sh" "$LIBRARY" "$made"
+  "$here/bindings/c/build.sh" "$library" "$made"
   {
     echo "prefix=$prefix"
     echo 'includedir=${prefix}/include'

@@ -2,7 +2,9 @@
 """Runs install.sh into a folder of its own, with and without DESTDIR, and checks the files, their modes, that the installed program
 runs, and what the completion completes.
 
-usage: tests/install.py PTAB
+With the archive of the library for callers in C it installs that too, and compiles a program with it.
+
+usage: tests/install.py PTAB [ARCHIVE]
 """
 import filecmp
 import os
@@ -15,6 +17,7 @@ import tempfile
 TOP = os.path.abspath(os.path.join(os.path.dirname(os.path.abspath(__file__)), ".."))
 PLACES = {"bin/ptab": (None, 0o755), "share/man/man8/ptab.8": ("man/ptab.8", 0o644),
           "share/bash-completion/completions/ptab": ("completion/ptab.bash", 0o644)}
+LIBRARY = ("include/ptab.h", "lib/libptab.a", "lib/libptab.so.1", "lib/libptab.so", "lib/pkgconfig/ptab.pc")
 COMMANDS = ["show", "verify", "locate", "edit", "plan", "check", "apply", "repair"]
 WORDS = ["a:", "o", "n:", "d:", "t:", "c:", "u:", "U:", "A:", "e", "g"]
 # the words before the cursor, as bash divides them, and what is completed
@@ -81,7 +84,7 @@ def which_program(folder, ptab):
     with open(f"{top}/build.sh", "w", encoding="utf-8") as it:
         it.write(f"#!/bin/sh\necho asked >>{folder}/asked\necho {ptab}\n")
     os.chmod(f"{top}/build.sh", 0o755)
-    where = {key: value for key, value in os.environ.items() if key not in ("PTAB", "DESTDIR")}
+    where = {key: value for key, value in os.environ.items() if key not in ("PTAB", "DESTDIR")} | {"LIBRARY": ""}
     for built, asked in ((False, 1), (True, 1)):
         if built:
             with open(f"{top}/crates/ptab/out/ptab", "w", encoding="utf-8") as it:
@@ -93,6 +96,25 @@ def which_program(folder, ptab):
         same("the program that it takes", filecmp.cmp(f"{folder}/which/bin/ptab", wanted, shallow=False), True)
         with open(f"{folder}/asked", encoding="utf-8") as it:
             same("how often build.sh is asked", len(it.readlines()), asked)
+
+
+def library(folder, ptab, archive):
+    """The files of the library, and what a C program says that is compiled as pkg-config has it."""
+    prefix = f"{folder}/with"
+    done = subprocess.run([f"{TOP}/install.sh", prefix], capture_output=True, text=True,
+                          env={**os.environ, "PTAB": ptab, "LIBRARY": archive, "DESTDIR": ""})
+    same("install.sh with a library", (done.returncode, done.stderr), (0, ""))
+    same("its lines", done.stdout.splitlines(), [f"installed {prefix}/{place}" for place in (*PLACES, *LIBRARY)])
+    same("its files", files(prefix), sorted((*PLACES, *LIBRARY)))
+    same("the header", filecmp.cmp(f"{prefix}/include/ptab.h", f"{TOP}/include/ptab.h", shallow=False), True)
+    with open(f"{folder}/version.c", "w", encoding="utf-8") as it:
+        it.write('#include <ptab.h>\n#include <stdio.h>\nint main(void) { printf("%d\\n", ptab_version() == PTAB_VERSION); return 0; }\n')
+    with open(f"{prefix}/lib/pkgconfig/ptab.pc", encoding="utf-8") as it:
+        told = it.read().replace("${includedir}", f"{prefix}/include").replace("${libdir}", f"{prefix}/lib")
+    flags = [line.partition(": ")[2].split() for line in told.splitlines() if line.startswith(("Cflags: ", "Libs: "))]
+    subprocess.run(["cc", *flags[0], f"{folder}/version.c", *flags[1], "-o", f"{folder}/version"], check=True)
+    done = subprocess.run([f"{folder}/version"], capture_output=True, text=True, env={**os.environ, "LD_LIBRARY_PATH": f"{prefix}/lib"})
+    same("the version that a C program sees", done.stdout, "1\n")
 
 
 def refused(folder, ptab):
@@ -129,6 +151,8 @@ def main():
         install(folder, [f"{folder}/own"], f"{folder}/own", PTAB=ptab, DESTDIR="")
         runs(folder, f"{folder}/own")
         which_program(folder, ptab)
+        if len(sys.argv) > 2:
+            library(folder, ptab, os.path.abspath(sys.argv[2]))
         refused(folder, ptab)
         completions(folder, f"{folder}/own/share/bash-completion/completions/ptab")
     print(f"installing: {checked} passed, 0 failed")

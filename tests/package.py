@@ -2,7 +2,9 @@
 """Builds the Debian package twice, in other folders, with other masks, time zones and languages, and compares the bytes; then looks at
 what it holds with `dpkg-deb -c` and `-I`, and runs the program that it unpacks.
 
-usage: tests/package.py PTAB
+With the archive of the library for callers in C it does the same with the package of that.
+
+usage: tests/package.py PTAB [ARCHIVE]
 """
 import gzip
 import hashlib
@@ -22,6 +24,8 @@ FOLDERS = ("", "usr/", "usr/bin/", "usr/share/", "usr/share/bash-completion/", "
 FILES = {"usr/bin/ptab": "-rwxr-xr-x", "usr/share/bash-completion/completions/ptab": "-rw-r--r--",
          "usr/share/doc/ptab/BUILD": "-rw-r--r--", "usr/share/doc/ptab/changelog.gz": "-rw-r--r--",
          "usr/share/doc/ptab/copyright": "-rw-r--r--", "usr/share/man/man8/ptab.8.gz": "-rw-r--r--"}
+DEV = ("include/ptab.h", "lib/libptab.a", "lib/libptab.so", "lib/libptab.so.1", "lib/pkgconfig/ptab.pc",
+       "share/doc/libptab-dev/c.md.gz")
 checked = 0
 
 
@@ -109,6 +113,23 @@ def unpacked(ptab, deb, folder, commit, fields, sum_of):
     same("the package again", (done, content(f"{folder}/again.deb") == content(deb)), (f"{folder}/again.deb\n", True))
 
 
+def library(archive, folder):
+    """The package of the library, built twice; what it holds."""
+    def built(out, mask, **more):
+        return run(f"{TOP}/packaging/debian_dev.sh", out, preexec_fn=lambda: os.umask(mask),
+                   env={**os.environ, "LIBRARY": archive, "KIT": KIT, "SOURCE_DATE_EPOCH": str(EPOCH), **more}).strip()
+    os.mkdir(f"{folder}/dev")
+    deb, again = built(f"{folder}/dev", 0o022), built(f"{folder}/dev.deb", 0o077, TZ="Asia/Tokyo", HOME=folder)
+    same("the bytes of both packages of the library", content(deb) == content(again), True)
+    found = {line.split()[5].removeprefix("./") for line in run("dpkg-deb", "-c", deb).splitlines() if not line.startswith("d")}
+    same("what the library's package holds", found, {f"usr/{place}" for place in DEV})
+    run("dpkg-deb", "-x", deb, f"{folder}/devtree")
+    same("its header", content(f"{folder}/devtree/usr/include/ptab.h") == content(f"{TOP}/include/ptab.h"), True)
+    sum_of = hashlib.sha256(content(archive)).hexdigest()
+    same("its description's end", run("dpkg-deb", "-f", deb, "Description").splitlines()[-1].strip(),
+         f"SHA-256 of the proved archive: {sum_of}")
+
+
 def refused(ptab, folder):
     for words, more, status in (([], {}, 2), (["-x"], {}, 2), (["a", "b"], {}, 2), ([f"{folder}/no.deb"], {"PTAB": f"{folder}/none"}, 1)):
         done = subprocess.run([f"{TOP}/packaging/debian.sh", *words], capture_output=True, text=True,
@@ -137,6 +158,8 @@ def main():
         same("its file name", os.path.basename(deb), f"ptab_{fields['Version']}_{fields['Architecture']}.deb")
         unpacked(ptab, deb, folder, commit, fields, sum_of)
         refused(ptab, folder)
+        if len(sys.argv) > 2:
+            library(os.path.abspath(sys.argv[2]), folder)
     print(f"the package: {checked} passed, 0 failed; {sum_of[:16]}")
 
 
