@@ -34,7 +34,7 @@ def build():
     os.makedirs(f"{FOLDER}/out", exist_ok=True)
     words = crate.words(["--jobs", str(len(os.sched_getaffinity(0)))], keeps=False)
     words += ["--toolchain", f"{rtlib.KIT}/toolchain", "--backend", "llvm", "-o", ARCHIVE]
-    done = subprocess.run([rtlib.RATTLE, "build", *words], cwd=FOLDER, capture_output=True, text=True)
+    done = subprocess.run([rtlib.RATTLE, "build", *words], cwd=FOLDER, stdout=subprocess.PIPE, stderr=subprocess.STDOUT, text=True)
     return done.returncode == 0 and "\nlogic=proved " in done.stdout
 
 
