@@ -32,15 +32,15 @@ def with_write(phases, k, at, writes):
     return changed
 
 
-def variants(phases):
+def variants(phases, is_whole):
     """The plan, and it with a phase left out, exchanged for the next or joined with it, and with the first or the last write of a
-    phase left out, of the next sector, of one seven sectors on with another byte, or a phase later."""
+    phase, or each of them, left out, of the next sector, of one seven sectors on with another byte, or a phase later."""
     yield phases
     for k, phase in enumerate(phases):
         yield phases[:k] + phases[k + 1 :]
         yield phases[:k] + phases[k : k + 2][::-1] + phases[k + 2 :]
         yield phases[:k] + [sum(phases[k : k + 2], [])] + phases[k + 2 :]
-        for at in sorted({0, len(phase) - 1}):
+        for at in range(len(phase)) if is_whole else sorted({0, len(phase) - 1}):
             lba, digits = phase[at]
             yield with_write(phases, k, at, [])
             yield with_write(phases, k, at, [(lba + 1, digits)])
@@ -55,6 +55,7 @@ class Doubles:
     def __init__(self, program):
         self.program = os.path.abspath(program)
         self.seen = set()
+        self.shapes = set()
         self.checked = 0
 
     def before(self, command, words):
@@ -67,7 +68,11 @@ class Doubles:
         if words[0] in ("plan", "edit"):
             text, _, status = command.answer("plan", *words[1:])
             if status == 0:
-                self.compare(command, (image, text), [text_of(it) for it in variants(phases_of(text))])
+                phases = phases_of(text)
+                # each write is changed in the first plan of its shape
+                shape = (command.sectors.size, *map(len, phases))
+                self.compare(command, (image, text), [text_of(it) for it in variants(phases, shape not in self.shapes)])
+                self.shapes.add(shape)
         elif words[0] in ("check", "apply") and command.answer("check", *words[1:])[2] in (0, 1):
             with open(words[1], encoding="ascii") as it:
                 text = it.read()
