@@ -3,10 +3,10 @@
 # a pkg-config file), and says so in one line a file. It needs no root for a PREFIX of one's own.
 #
 # usage: ./install.sh PREFIX
-#   PTAB=FILE     installs this program, and no library without LIBRARY; else the built one, which ./build.sh proves and builds where it
-#                 isn't there
-#   LIBRARY=FILE  the proved archive, for a C compiler to link; else crates/pt_c/out/libpt_c.a, proved and built where it isn't there.
-#                 LIBRARY= installs no library
+#   PTAB=FILE     installs this program, and no library without LIBRARY; else the built one, which packaging/build.py proves and builds
+#                 where that wasn't done yet or a source has changed
+#   LIBRARY=FILE  the proved archive, for a C compiler to link; else the built one, proved and built in the same way. LIBRARY= installs
+#                 no library
 #   DESTDIR=DIR   puts all of it below DIR, as packagers do; the program is to run with PREFIX
 set -euo pipefail
 if [ $# != 1 ] || [ -z "$1" ] || [ "${1#-}" != "$1" ]; then
@@ -17,22 +17,24 @@ here=$(cd "$(dirname "$0")" && pwd)
 prefix=${1%/}
 if [ -n "$prefix" ] && [ "${prefix#/}" = "$prefix" ]; then prefix=$PWD/$prefix; fi
 ptab=${PTAB:-}
+library=${LIBRARY-}
 if [ -z "$ptab" ]; then
-  ptab=$here/crates/ptab/out/ptab
-  if [ ! -x "$ptab" ]; then ptab=$("$here/build.sh"); fi
+  wanted=(ptab)
+  if [ -z "${LIBRARY+given}" ]; then
+    if command -v cc >/dev/null; then
+      wanted+=(pt_c)
+    else
+      echo "install.sh: no C compiler (cc), so the library for callers in C is left out" >&2
+    fi
+  fi
+  # both at once, since they stand on the same crates
+  built=$(python3 "$here/packaging/build.py" "${wanted[@]}")
+  ptab=$(printf '%s\n' "$built" | sed -n 1p)
+  library=${library:-$(printf '%s\n' "$built" | sed -n 2p)}
 fi
 if [ ! -f "$ptab" ]; then
   echo "install.sh: no program at $ptab" >&2
   exit 1
-fi
-library=${LIBRARY-}
-if [ -z "${LIBRARY+given}" ] && [ -z "${PTAB:-}" ]; then
-  if command -v cc >/dev/null; then
-    library=$here/crates/pt_c/out/libpt_c.a
-    if [ ! -f "$library" ]; then (cd "$here/crates/pt_c" && rt lib >&2); fi
-  else
-    echo "install.sh: no C compiler (cc), so the library for callers in C is left out" >&2
-  fi
 fi
 put() { # MODE FILE PLACE
   install -d -m 755 "$(dirname "${DESTDIR:-}$prefix/$3")"

@@ -9,13 +9,13 @@ tests/install.sh
 said=$(mktemp)
 trap 'rm -f "$said"' EXIT
 rt ci | tee "$said"
-# what `rt ci` proved and built
-ptab="$PWD/crates/ptab/out/ptab"
-if [ ! -x "$ptab" ]; then ptab=$(./build.sh); fi
+# what `rt ci` proved and built, and the archive for callers in C over it
+built=$(python3 packaging/build.py --over-ci ptab pt_c)
+ptab=$(printf '%s\n' "$built" | sed -n 1p)
+archive=$(printf '%s\n' "$built" | sed -n 2p)
 # the programs that only tests run
 doubles="$PWD/crates/pt_doubles/out/pt_doubles"
 faults="$PWD/crates/pt_faults/out/pt_faults"
-archive=$(python3 tests/archive.py)
 python3 tests/real_images.py "$ptab"
 python3 tests/against_sgdisk.py "$ptab"
 python3 tests/against_sfdisk.py "$ptab"

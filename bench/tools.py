@@ -6,7 +6,7 @@ usage: bench/tools.py PTAB
 Wall time is the best of five runs. Instructions are callgrind's, in millions. Sectors read, writes and syncs are those of
 system calls on the image, as strace sees them: sectors are bytes read by 512, a write of any length is one. It ends with
 status 1 where ptab's show or verify reads a sector more than recovery and health name, or takes more instructions than
-sfdisk's; where a rename reads more than 140 sectors to write 67; and where a GPT on a disk of 1 TiB costs it more than one of 64 MiB.
+sfdisk's; where a rename reads more than 105 sectors to write 67; and where a GPT on a disk of 1 TiB costs it more than one of 64 MiB.
 """
 import os
 import subprocess
@@ -25,7 +25,7 @@ ONE, FULL, CHAIN, LARGE = "1 partition, 64 MiB", "128 partitions, 256 MiB", f"{L
 # verify reads sector 0 once more, to learn that it is an MBR's.
 NAMED = {ONE: 67, FULL: 67, LARGE: 67, CHAIN: 1 + LOGICALS}
 TWICE = {"show": 0, "verify": 1}
-RENAME = 140
+RENAME = 105
 
 
 def gpt_by_sgdisk(ptab, path, size, count):

@@ -12,6 +12,7 @@
  *   - not from a signal handler, nor in the child of a fork in a program with threads. Calls in several threads at
  *     once are fine as long as their arguments are apart: the library has no state.
  * All other arguments may have any value: a wrong one is answered by PTAB_USAGE.
+ * A buffer is as it was behind what is given in it, and in whole where the answer gives nothing.
  *
  * It allocates by malloc, and frees all before it returns. Who has no malloc gives three functions (docs/c.md, "Memory").
  */
@@ -127,7 +128,8 @@ typedef struct ptab_write {
 #define PTAB_HEAD(sector_size) ((sector_size) == 512 ? 34 : 6)
 #define PTAB_TAIL(sector_size) ((sector_size) == 512 ? 33 : 5)
 
-/* The partitions: records or entries by number, then logical ones; a slice before the entries of its label. */
+/* The partitions: records or entries by number, then logical ones; a slice before the entries of its label. With PTAB_ROOM
+   the table is given, and no row. */
 int32_t ptab_members(const ptab_view *view, ptab_table *table, ptab_member *rows, size_t rows_len, ptab_reply *reply);
 
 /* PTAB_DONE where the disk is healthy, or PTAB_NO and the first finding. */

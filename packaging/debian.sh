@@ -3,7 +3,7 @@
 # program, commit and kit give the same package, byte by byte. It needs no root.
 #
 # usage: packaging/debian.sh OUT     OUT is the .deb, or a folder for it
-#   PTAB=FILE            the program; else the built one, which ./build.sh proves and builds where it isn't there
+#   PTAB=FILE            the program; else the built one, which ./build.sh proves and builds where that wasn't done yet
 #   KIT=LINE             the kit that proved it; else what `rt version` prints
 #   SOURCE_DATE_EPOCH=S  the time of everything in it; else that of the commit
 #   COPYRIGHT=FILE       a copyright file in place of the one that says where to ask
@@ -18,8 +18,7 @@ here=$(cd "$(dirname "$0")/.." && pwd)
 out=$1
 ptab=${PTAB:-}
 if [ -z "$ptab" ]; then
-  ptab=$here/crates/ptab/out/ptab
-  if [ ! -x "$ptab" ]; then ptab=$("$here/build.sh"); fi
+  ptab=$("$here/build.sh")
 fi
 if [ ! -f "$ptab" ]; then
   echo "debian.sh: no program at $ptab" >&2

@@ -1,7 +1,8 @@
 #!/usr/bin/env python3
 """Holds the documents against what they tell of. Each example session of README and of docs/commands.md is run, a document's sessions in
-their order in one folder, and each command there answers what the document shows; docs/commands.md has one for each command. README's
-piece of a program stands in the example that it names. Each sentence that an error of the library prints stands in docs/commands.md.
+their order in one folder, and each command there answers what the document shows; docs/commands.md has one for each command, and says of
+each answer that isn't a success what to do. README's piece of a program stands in the example that it names, and examples/README.md lists
+each example. Each sentence that an error of the library prints stands in docs/commands.md. What docs/promises.md names is there.
 
 usage: tests/docs.py PTAB [DOCUMENT...]
 """
@@ -13,6 +14,8 @@ import tempfile
 
 TOP = os.path.join(os.path.dirname(os.path.abspath(__file__)), "..")
 DOCUMENTS = ("README.md", "docs/commands.md")
+# the rows of docs/commands.md that need no advice
+SUCCESSES = ("a number", "0")
 COMMANDS = ("show", "verify", "locate", "edit", "plan", "check", "apply", "repair")
 # the errors with a sentence: the file, the type, and the rows of docs/commands.md that have its numbers; where it has none the sentence
 # stands anywhere in the document. Those of BSD labels are told by no command
@@ -21,7 +24,7 @@ ERRORS = (("pt_gpt/src/error.rt", "CopyError", "| {} |"), ("pt_mbr/src/chain.rt"
           ("pt_words/src/error.rt", "EditError", None), ("pt_words/src/error.rt", "Refusal", "| `refused: edit {}`"),
           ("pt_check/src/answer.rt", "Why", "| `no {}"), ("pt_targets/src/error.rt", "PlanError", "| `refused: plan {}`"),
           ("pt_plan/src/error.rt", "CommitError", None), ("pt_plan/src/repair_error.rt", "RepairError", None),
-          ("pt_text/src/error.rt", "PlanTextError", None))
+          ("pt_apply/src/error.rt", "PlanTextError", None))
 # said of the device, of memory and of what is wrapped, of which the document speaks in other words
 OTHERWISE = ("can't be read", "out of memory", "the plan is refused")
 
@@ -83,6 +86,91 @@ def pieces(name, text):
     return count
 
 
+def rows(text):
+    """(heading of the table, cells) of each row of a document's tables."""
+    head = None
+    for line in text.splitlines():
+        if not line.startswith("|"):
+            head = None
+        elif head is None:
+            head = [cell.strip() for cell in line.strip()[1:-1].split("|")]
+        elif line.strip("|-: "):
+            yield head, [cell.strip() for cell in line.strip()[1:-1].split("|")]
+
+
+def advice(text):
+    """How many answers of docs/commands.md say what to do: all but the successes."""
+    count = 0
+    for head, cells in rows(text):
+        if head[0] in ("Table", "Word", "E", "Where"):
+            continue
+        if head[-1] != "What to do" or len(cells) != len(head) or not (cells[-1] or cells[0] in SUCCESSES):
+            sys.exit(f"docs/commands.md doesn't say what to do: {cells}")
+        count += 1
+    return count
+
+
+def examples():
+    """How many examples there are: examples/README.md lists them all, with how to run them, and no other."""
+    text = read("examples/README.md")
+    there = {os.path.relpath(f"{folder}/{name}", f"{TOP}/examples") for folder, _, names in os.walk(f"{TOP}/examples") for name in names}
+    there = {name for name in there if name != "README.md"} | {f"../crates/{name}/src/main.rt" for name in os.listdir(f"{TOP}/crates")
+                                                              if name.startswith("example_")}
+    told = set(re.findall(r"\]\(([^)]*)\)", text))
+    for name in told:
+        if not os.path.exists(f"{TOP}/examples/{name}"):
+            sys.exit(f"examples/README.md names what isn't there: {name}")
+    if there - told:
+        sys.exit(f"examples/README.md doesn't list {sorted(there - told)}")
+    if any("" in cells for _, cells in rows(text)):
+        sys.exit("examples/README.md has an example without a line on it")
+    return len(there)
+
+
+def names_in(cell):
+    """The names in a cell: `f`, `T::f` and `T::{f, g}` are f, f, and f and g."""
+    for found in re.findall(r"`([^`]*)`", cell):
+        for name in re.sub(r"^\w+::\{|\}$", "", found).split(","):
+            yield name.strip().split("::")[-1]
+
+
+def promised(crate, cells, is_law, files):
+    """How many names a row of docs/promises.md has; each stands in its file."""
+    call = cells[0]
+    clauses = " ".join(re.findall(r"\(([^)]*)\)", call)) if is_law else cells[1]
+    source = "".join(read(name) for name in files)
+    wanted = [(rf"\b(fn|struct|enum|type|trait|ghost) {name}\b", name) for name in names_in(re.sub(r"\([^)]*\)", "", call))]
+    wanted += [(r"ensures(?: \*)? \{" if name == "ensures" else rf"\b(ensures(?: \*)?|fn) {name}\b", name) for name in names_in(clauses)]
+    for pattern, name in wanted:
+        if not re.search(pattern, source):
+            sys.exit(f"docs/promises.md, {crate}: {name} of {call} isn't in {files}")
+    text, count = "", len(wanted)
+    for whole, name in re.findall(r"((?:crates/\w+/)?(?:specs/)?(?:laws/)?\w+\.antt)|`([^`]*)`", cells[-1]):
+        path = whole or (name if name.endswith(".antt") else "")
+        if path:
+            text = read(path if path.startswith("crates/") else f"crates/{crate}/specs/{path.removeprefix('specs/')}")
+        elif text and not re.search(rf"\b{re.escape(name)}\b", text):
+            sys.exit(f"docs/promises.md, {crate}: {name} isn't in the definitions that it names for {call}")
+        count += 1
+    return count
+
+
+def promises():
+    """How many names of functions, clauses, files and definitions docs/promises.md has; each is there."""
+    crate, files, count = None, [], 0
+    for part in re.split(r"^(?=##)", read("docs/promises.md"), flags=re.MULTILINE):
+        if not part.startswith("### "):
+            continue
+        crate = re.match(r"### (\w+)", part).group(1)
+        for head, cells in rows(part):
+            is_law = head[0] == "Law"
+            named = cells[2] if is_law else cells[3]
+            if named:
+                files = [f"crates/{crate}/{name.strip()}" for name in named.split(",")]
+            count += promised(crate, cells, is_law, files)
+    return count
+
+
 def plain(text):
     return re.sub(r"\s+", " ", text.replace("`", "").replace("**", ""))
 
@@ -124,6 +212,8 @@ def main():
         text = read(name)
         print(f"{name}'s sessions: {run(ptab, name, text)} passed, 0 failed; {pieces(name, text)} lines of a program are as in its file")
     each_command(read("docs/commands.md"))
+    print(f"docs/commands.md: {advice(read('docs/commands.md'))} answers say what to do; examples/README.md lists {examples()} examples")
+    print(f"docs/promises.md: {promises()} names are there")
     print(f"errors: {errors()} sentences stand in docs/commands.md, 0 are missing")
 
 

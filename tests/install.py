@@ -76,26 +76,21 @@ def runs(folder, prefix):
 
 
 def which_program(folder, ptab):
-    """Without PTAB it is the built program; where there is none build.sh is asked, here one that tells another program's path."""
+    """Without PTAB packaging/build.py is asked, here one that writes down its words and tells this program's path; a fault of it is kept."""
     top = f"{folder}/top"
-    os.makedirs(f"{top}/crates/ptab/out")
+    os.makedirs(f"{top}/packaging")
     for name in ("install.sh", "man", "completion"):
         (shutil.copytree if os.path.isdir(f"{TOP}/{name}") else shutil.copy)(f"{TOP}/{name}", f"{top}/{name}")
-    with open(f"{top}/build.sh", "w", encoding="utf-8") as it:
-        it.write(f"#!/bin/sh\necho asked >>{folder}/asked\necho {ptab}\n")
-    os.chmod(f"{top}/build.sh", 0o755)
     where = {key: value for key, value in os.environ.items() if key not in ("PTAB", "DESTDIR")} | {"LIBRARY": ""}
-    for built, asked in ((False, 1), (True, 1)):
-        if built:
-            with open(f"{top}/crates/ptab/out/ptab", "w", encoding="utf-8") as it:
-                it.write("the built one")
-            os.chmod(f"{top}/crates/ptab/out/ptab", 0o755)
-        done = subprocess.run([f"{top}/install.sh", f"{folder}/which"], capture_output=True, text=True, env=where)
-        same("install.sh without PTAB", (done.returncode, done.stderr), (0, ""))
-        wanted = f"{top}/crates/ptab/out/ptab" if built else ptab
-        same("the program that it takes", filecmp.cmp(f"{folder}/which/bin/ptab", wanted, shallow=False), True)
-        with open(f"{folder}/asked", encoding="utf-8") as it:
-            same("how often build.sh is asked", len(it.readlines()), asked)
+    for does, status in ((f"print({ptab!r})", 0), ("sys.exit('not proved')", 1)):
+        with open(f"{top}/packaging/build.py", "w", encoding="utf-8") as it:
+            it.write(f"import sys\nopen({folder + '/asked'!r}, 'a').write(' '.join(sys.argv[1:]) + '\\n')\n{does}\n")
+        done = subprocess.run([f"{top}/install.sh", f"{folder}/which{status}"], capture_output=True, text=True, env=where)
+        same("install.sh without PTAB", done.returncode, status)
+        same("whether something is installed", os.path.exists(f"{folder}/which{status}"), status == 0)
+    same("the program that it takes", filecmp.cmp(f"{folder}/which0/bin/ptab", ptab, shallow=False), True)
+    with open(f"{folder}/asked", encoding="utf-8") as it:
+        same("what is asked for", it.read().splitlines(), ["ptab", "ptab"])
 
 
 def library(folder, ptab, archive):

@@ -1,6 +1,7 @@
 #!/usr/bin/env python3
 """Compares man/ptab.8 with docs/commands.md and with the program's --help: every command, option, word, status and printed text that one
-of them has stands in the other. Then it runs the man page's examples. With groff the page is rendered and must have no warnings, and
+of them has stands in the other. The program, its definition, its --help and docs/format.md list the same type codes, and the other pages
+say where they are listed. Then it runs the man page's examples. With groff the page is rendered and must have no warnings, and
 texts are looked for in what it shows; without it they are looked for in the source.
 
 usage: tests/man_page.py PTAB [--no-groff]
@@ -174,8 +175,8 @@ def commands(ptab, page, docs):
         holds("OPTIONS", tagged(page["OPTIONS"])["--sector-size BYTES"], size)
 
 
-def words(ptab, page, docs, text):
-    """Every form of a word, with its example; the codes."""
+def words(ptab, page, docs):
+    """Every form of a word, with its example."""
     forms = {cells[0].strip("`"): cells[2] for head, cells in tables(docs) if head == "Word"}
     described = tagged(page["WORDS"])
     same("the words of docs/commands.md", set(described), set(forms))
@@ -184,12 +185,28 @@ def words(ptab, page, docs, text):
     same("the words of ptab edit --help", {part.split()[0] for part in told.strip(" .").split(", ")}, set(forms))
     for form, example in forms.items():
         holds(f"the example of {form}", flat(described[form]), f"Example: {example.strip('`')}.")
-    for code in re.findall(r"^\| ([0-9A-F]{4}) \|", read("docs/format.md"), re.MULTILINE):
-        for where, told in (("WORDS", flat(" ".join(map(plain, page["WORDS"])))), ("ptab edit --help", flat(help_of(ptab, "edit"))),
-                            ("the page", text), ("docs/commands.md", docs)):
-            holds(where, told, code)
     for bit in re.findall(r"(\d+) (required|no block IO protocol|legacy BIOS bootable)", docs):
         holds("A:NUM:BIT:V", described["A:NUM:BIT:V"].replace('"', "").replace("0 is", "0"), " ".join(bit))
+
+
+def stored(guid):
+    """A GUID's bytes as a disk has them, by its text."""
+    text = guid.replace("-", "")
+    return "".join(text[at:at + 2] for at in (6, 4, 2, 0, 10, 8, 14, 12, *range(16, 32, 2)))
+
+
+def codes(ptab, page, docs):
+    """The type codes, and where the pages say that they are listed."""
+    table = re.findall(r"^\| ([0-9A-F]{4}) \| ([0-9A-F-]{36}) \|", read("docs/format.md"), re.MULTILINE)
+    rows = re.findall(r"0x([0-9A-F]{4}),\s*Guid\(\[([^]]*)\]\)", read("crates/pt_guid/src/codes.rt"))
+    same("the codes of the program", [(code, re.sub(r"0x|[\s,]", "", bytes)) for code, bytes in rows],
+         [(code, stored(guid)) for code, guid in table])
+    defined = re.findall(r"\(0x([0-9A-F]{4}), ", read("crates/pt_guid/specs/Codes.antt"))
+    same("the codes of the definition", defined, [code for code, _ in table])
+    told = re.search(r"\bCODE ((?:[0-9A-F]{4}\b ?)+)", flat(help_of(ptab, "edit"))).group(1)
+    same("the codes of ptab edit --help", told.split(), [code for code, _ in table])
+    holds("WORDS", flat(" ".join(map(plain, page["WORDS"]))), "ptab edit --help lists")
+    holds("docs/commands.md", docs, "docs/format.md lists the type codes")
 
 
 def statuses(ptab, page, docs):
@@ -252,7 +269,8 @@ def main():
                                             "DIAGNOSTICS", "EXAMPLES", "CAVEATS", "SEE ALSO"])
     text = shown(source, with_groff)
     commands(ptab, page, docs)
-    words(ptab, page, docs, text)
+    words(ptab, page, docs)
+    codes(ptab, page, docs)
     statuses(ptab, page, docs)
     diagnostics(ptab, page, docs, text)
     examples(ptab, page)

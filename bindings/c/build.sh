@@ -1,7 +1,7 @@
 #!/usr/bin/env bash
 # Makes of the proved archive what a C program links: OUT/libptab.a (the archive and its memory) and OUT/libptab.so.1 with its link.
 #
-# usage: bindings/c/build.sh ARCHIVE OUT     ARCHIVE is crates/pt_c/out/libpt_c.a, by `rt lib` in crates/pt_c
+# usage: bindings/c/build.sh ARCHIVE OUT     ARCHIVE is crates/pt_c/out/libpt_c.a, by packaging/build.py pt_c
 #   MEMORY=FILE.c   the three functions of memory; else bindings/c/memory.c, over malloc
 set -euo pipefail
 if [ $# != 2 ]; then

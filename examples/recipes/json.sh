@@ -34,6 +34,8 @@ def partition(device, is_gpt, line):
         return {**told, "type": f"{int(kind, 16):x}", **({"bootable": True} if rest[0] == "80" else {})}
     named = {"name": rest[2]} if len(rest) == 3 else {}
     marks = attributes(int(rest[0], 16))
+    if len(kind) == 4 and kind not in TYPES:
+        sys.exit(f"json.sh: no GUID for the type code {kind} here")
     return {**told, "type": TYPES.get(kind, kind.upper()), "uuid": rest[1].upper(), **named, **({"attrs": marks} if marks else {})}
 
 

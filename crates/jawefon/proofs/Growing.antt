@@ -2,14 +2,14 @@
 use Rattle.std.proofs.Common.{◌≡◌, ◌≤◌, ℕ, List, [], ◌++◌, length, take, None, Some, refl, sym, ap, ◌∙◌, arith, append-nil}
 use Rattle.std.proofs.lemmas.List.{take_all}
 use Rattle.pt_bsd.specs.declared.label.Label.{Label}
-use Rattle.pt_recover.specs.declared.layout.Layout.{Layout}
-use Rattle.pt_layout.specs.declared.member.Member.{Member}
-use Rattle.pt_layout.specs.declared.member.Kind.{Kind}
-use Rattle.pt_layout.specs.declared.member.Kind.TheVariants.{Leaf, Slice, Extended}
-use Rattle.pt_layout.specs.Members.{label_of, parts, parts_in, present}
-use Rattle.pt_layout.proofs.ByPlace.{parts_len}
+use Rattle.pt_members.specs.declared.layout.Layout.{Layout}
+use Rattle.pt_members.specs.declared.member.Member.{Member}
+use Rattle.pt_members.specs.declared.member.Kind.{Kind}
+use Rattle.pt_members.specs.declared.member.Kind.TheVariants.{Leaf, Slice, Extended}
+use Rattle.pt_members.specs.Members.{label_of, parts, parts_in, present}
+use Rattle.pt_members.proofs.ByPlace.{parts_len}
 use Rattle.pt_layout.proofs.Presence.{no_parts}
-use Rattle.jawefon.specs.Listing.{below}
+use Rattle.pt_members.specs.Rows.{below}
 
 -- all entries of a label
 pub parts_whole : (l : Label) (m : Member) (k : ℕ) (start list : List Member) → length l.entries ≡ 8 → 8 ≤ k

@@ -1,9 +1,9 @@
-pub mod Listing
 pub use Rattle.pt_sector.specs.Sectors
 pub use Rattle.pt_sector.specs.Device
 pub use Rattle.pt_sector.specs.Calls
 pub use Rattle.pt_sector.specs.Reads
-pub use Rattle.pt_layout.specs.Members
-pub use Rattle.pt_layout.specs.Places
+pub use Rattle.pt_members.specs.Members
+pub use Rattle.pt_members.specs.Rows
+pub use Rattle.pt_members.specs.Places
 pub use Rattle.pt_layout.specs.Healthy
 pub use Rattle.pt_layout.specs.Findings

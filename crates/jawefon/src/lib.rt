@@ -18,7 +18,7 @@
 mod listing;
 
 pub use listing::members;
-pub use pt_apply::{Plan, Write};
+pub use pt_apply::{Plan, PlanTextError, Write, plan_text, read_plan};
 pub use pt_check::{Answer, CheckError, Why, check};
 pub use pt_edit::{Edit, EditError, Refusal, edit, parse_edit};
 pub use pt_file::{Access, FileDisk, NoFile};
@@ -32,4 +32,3 @@ pub use pt_plan::{
     plan_for_repair, repair, session,
 };
 pub use pt_sector::{Disk, Fault, Lba, MemDisk};
-pub use pt_text::{PlanTextError, plan_text, read_plan};

@@ -5,23 +5,25 @@ use Rattle.pt_sector.specs.Sectors.{Sectors, sector, IsSectorSize}
 use Rattle.pt_sector.specs.Writes.{Writes, after}
 use Rattle.pt_bsd.specs.declared.label.Label.{Label}
 use Rattle.pt_recover.specs.Denotes.{Denotes}
-use Rattle.pt_recover.specs.Laws.{denotes_one_lem}
-use Rattle.pt_recover.specs.Labels.{places_of, place_of, IsPlace, LabelAt, LabelsAre}
-use Rattle.pt_recover.specs.declared.layout.Layout.{Layout}
-use Rattle.pt_recover.specs.declared.layout.Slice.{Slice}
-use Rattle.pt_layout.specs.OnePath.{HasFour}
-use Rattle.pt_accepted.specs.BackupFirst.{backup_first_ended}
-use Rattle.pt_accepted.specs.PrimaryFirst.{primary_first_ended}
-use Rattle.pt_accepted.specs.FromMbr.{from_mbr_ended}
-use Rattle.pt_accepted.specs.OneLabel.{one_label_ended}
-use Rattle.pt_accepted.specs.WithinMbr.{within_mbr_ended}
+use Rattle.pt_recover.specs.laws.Terms.{denotes_one_lem}
+use Rattle.pt_members.specs.Slices.{places_of, place_of, IsPlace}
+use Rattle.pt_recover.specs.Labels.{LabelAt, LabelsAre}
+use Rattle.pt_members.specs.declared.layout.Layout.{Layout}
+use Rattle.pt_members.specs.declared.layout.Slice.{Slice}
+use Rattle.pt_members.specs.OnePath.{HasFour}
+use Rattle.pt_accepted.specs.laws.BackupFirst.{backup_first_ended}
+use Rattle.pt_accepted.specs.laws.PrimaryFirst.{primary_first_ended}
+use Rattle.pt_accepted.specs.laws.FromMbr.{from_mbr_ended}
+use Rattle.pt_accepted.specs.laws.OneLabel.{one_label_ended}
+use Rattle.pt_accepted.specs.laws.WithinMbr.{within_mbr_ended}
 use Rattle.pt_cases.specs.Cases.{IsPlan, idle, backup_first, primary_first, from_mbr, one_label, within_mbr}
-use Rattle.pt_shape.specs.StandsOn.{StandsOn, along_labels_are, denoted_four}
+use Rattle.pt_shape.specs.StandsOn.{StandsOn}
+use Rattle.pt_shape.specs.laws.StandsOn.{along_labels_are, denoted_four}
 use Rattle.pt_cases.specs.Copies.{one_write}
-use Rattle.pt_cases.specs.Frames.{is_place}
-use Rattle.pt_cases.specs.Met.{labels_set_met}
-use Rattle.pt_shape.specs.Ascending.{places_ascend_lem}
-use Rattle.pt_shape.specs.Along.{along_label}
+use Rattle.pt_cases.specs.laws.Frames.{is_place}
+use Rattle.pt_cases.specs.laws.Met.{labels_set_met}
+use Rattle.pt_shape.specs.laws.Ascending.{places_ascend_lem}
+use Rattle.pt_shape.specs.laws.Along.{along_label}
 use Rattle.pt_cases.specs.Targets.{Ends, IsLabelTarget, kept, Met, LabelsMet}
 
 -- after these phases the place of a slice holds the target of its label

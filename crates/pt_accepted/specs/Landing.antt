@@ -4,21 +4,21 @@ use Rattle.std.proofs.Common.{Option, Some, None}
 use Rattle.pt_sector.specs.Sectors.{Sectors, sector}
 use Rattle.pt_sector.specs.Writes.{Writes, Puts, written, after}
 use Rattle.pt_recover.specs.Denotes.{Denotes, Reads}
-use Rattle.pt_recover.specs.declared.layout.Layout.{Layout}
+use Rattle.pt_members.specs.declared.layout.Layout.{Layout}
 use Rattle.pt_layout.specs.Healthy.{IsHealthy}
-use Rattle.pt_layout.specs.Laws.{sound_frees_tables_lem}
+use Rattle.pt_layout.specs.laws.Terms.{sound_frees_tables_lem}
 use Rattle.pt_layout.specs.Sound.{Sound}
-use Rattle.pt_layout.specs.Tables.{IsTable}
-use Rattle.pt_check.specs.Accepted.{accepted_lem, got_puts}
-use Rattle.pt_layout.specs.Owned.{OwnedOf}
+use Rattle.pt_members.specs.Tables.{IsTable}
+use Rattle.pt_check.specs.laws.Accepted.{accepted_lem, got_puts}
+use Rattle.pt_members.specs.Owned.{OwnedOf}
 use Rattle.pt_check.specs.Answers.{Answers}
 use Rattle.pt_apply.specs.Plans.{writes_in, NoneIs}
 use Rattle.pt_check.specs.Misplaced.{InNoTable, InOwned}
 use Rattle.pt_check.specs.Reasons.{most_writes, IsOutside, ChangesBoot, IsFit}
-use Rattle.pt_check.specs.Walk.{Stays, Turns, stays_is_course, turns_is_course}
+use Rattle.pt_check.specs.laws.Walk.{Stays, Turns, stays_is_course, turns_is_course}
 use Rattle.pt_check.specs.declared.answer.Answer.TheVariants.{Yes}
 use Rattle.pt_cases.specs.Cases.{Common}
-use Rattle.pt_apply.specs.Puts.{puts_split}
+use Rattle.pt_apply.specs.laws.Puts.{puts_split}
 
 -- 0 where the disk denotes p already, else this phase
 abbrev pub IsTold : Option Layout → Layout → ℕ → ℕ → Type 0

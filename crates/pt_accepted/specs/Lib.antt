@@ -1,12 +1,5 @@
 pub mod Accepted
-pub mod BackupFirst
-pub mod Closed
-pub mod End
 pub mod Ended
-pub mod FromMbr
 pub mod Landing
-pub mod OneLabel
-pub mod Parts
 pub mod Phases
-pub mod PrimaryFirst
-pub mod WithinMbr
+pub mod laws

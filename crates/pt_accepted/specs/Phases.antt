@@ -10,17 +10,17 @@ use Rattle.pt_gpt.specs.Array.{array_len, array_sector}
 use Rattle.pt_gpt.specs.declared.entry.Entry.{Entry}
 use Rattle.pt_gpt.specs.declared.table.Table.{Table}
 use Rattle.pt_gpt.specs.declared.table.Side.TheVariants.{Primary, Backup}
-use Rattle.pt_recover.specs.Gpt.{HasRoom}
-use Rattle.pt_recover.specs.declared.layout.Layout.{Layout}
+use Rattle.pt_gpt.specs.Array.{HasRoom}
+use Rattle.pt_members.specs.declared.layout.Layout.{Layout}
 use Rattle.pt_layout.specs.Sound.{Sound}
 use Rattle.pt_cases.specs.Cases.{IsPlan, idle, backup_first, primary_first, from_mbr, one_label, within_mbr, Copies, labels_and_backup}
 use Rattle.pt_cases.specs.Cases.{primary_and_labels, copies_and_labels, within_mbr_phases}
 use Rattle.pt_cases.specs.Copies.{array_writes, array_phase, one_write, closing, backup_phase, Protects}
-use Rattle.pt_apply.specs.Puts.{puts_split}
-use Rattle.pt_cases.specs.Frames.{puts_at, rises_in_tail, one_is}
-use Rattle.pt_accepted.specs.Parts.{label_middle, primary_low, backup_high, array_few, backup_few}
-use Rattle.pt_cases.specs.Select.{Rises, rises_ascends}
-use Rattle.pt_cases.specs.Sides.{puts_array}
+use Rattle.pt_apply.specs.laws.Puts.{puts_split}
+use Rattle.pt_cases.specs.laws.Frames.{puts_at, rises_in_tail, one_is}
+use Rattle.pt_accepted.specs.laws.Parts.{label_middle, primary_low, backup_high, array_few, backup_few}
+use Rattle.pt_cases.specs.laws.Select.{Rises, rises_ascends}
+use Rattle.pt_cases.specs.laws.Sides.{puts_array}
 
 -- one write at least, each of a higher sector than the one before it
 pub record IsPhase (ws : Writes) : Type 0 where

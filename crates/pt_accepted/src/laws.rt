@@ -4,9 +4,9 @@ ghost use Rattle.std.specs.Prelude.{ℕ, List, All, Contains, Option};
 ghost use Rattle.pt_sector.specs.Sectors.{Sectors, IsSectorSize};
 ghost use Rattle.pt_sector.specs.Writes.{Writes, after};
 ghost use Rattle.pt_recover.specs.Denotes.{Denotes};
-ghost use Rattle.pt_recover.specs.Labels.{places_of};
-ghost use Rattle.pt_recover.specs.declared.layout.Layout.{Layout};
-ghost use Rattle.pt_recover.specs.declared.layout.Slice.{Slice};
+ghost use Rattle.pt_members.specs.Slices.{places_of};
+ghost use Rattle.pt_members.specs.declared.layout.Layout.{Layout};
+ghost use Rattle.pt_members.specs.declared.layout.Slice.{Slice};
 ghost use Rattle.pt_bsd.specs.declared.label.Label.{Label};
 ghost use Rattle.pt_layout.specs.Healthy.{IsHealthy};
 ghost use Rattle.pt_check.specs.Answers.{Answers};
@@ -19,7 +19,7 @@ ghost use Rattle.pt_accepted.specs.Phases.{IsPhase};
 ghost use Rattle.pt_accepted.specs.Accepted.{turn_of};
 
 /// A plan of a disk for a layout is accepted with its switch, and the disk is healthy after it, with that layout.
-#[tactic(auto, using(crate::specs::Accepted::plan_lands))]
+#[tactic(auto, using(crate::specs::laws::Accepted::plan_lands))]
 pub fn plan_is_accepted()
     ensures { (b : ℕ) (d : Sectors) (o : Option Layout) (p : Layout) (phases : List Writes) → IsSectorSize b → Denotes b d o
         → (is : IsPlan b d p phases) → Lands b d o p phases (turn_of is) }

@@ -9,7 +9,7 @@ use Rattle.pt_apply.specs.Moments.{left_split}
 use Rattle.std.proofs.lemmas.Grind.{common_steps}
 use Rattle.pt_sector.specs.Sectors.{Sectors, sector}
 use Rattle.pt_sector.specs.Writes.{Writes, Stopped, MayHold, Puts, written}
-use Rattle.pt_sector.specs.Written.{length-written}
+use Rattle.pt_sector.specs.laws.Written.{length-written}
 use Rattle.pt_sector.specs.Device.{Told, Moment, MayLeave, Takes, Wrote, FailedWrite, Flushed, FailedFlush, Elapses, now_of}
 use Rattle.pt_sector.specs.declared.disk.Fault.{Fault}
 use Rattle.pt_sector.specs.declared.disk.Fault.TheVariants as fault

@@ -1,6 +1,10 @@
-pub mod Items
 pub mod Moments
 pub mod Plans
 pub mod Promises
-pub mod Puts
 pub mod Runs
+pub mod Lines
+pub mod PlanTexts
+pub mod Faults
+pub mod Canonical
+pub mod Reading
+pub mod laws

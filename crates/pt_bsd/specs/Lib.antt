@@ -3,7 +3,6 @@ pub mod Label
 pub mod Form
 pub mod Reading
 pub mod Empty
-pub mod Laws
 pub mod Counted
 pub mod Writing
-pub mod Equal
+pub mod laws

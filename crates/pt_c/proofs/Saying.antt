@@ -12,9 +12,9 @@ use Rattle.pt_recover.specs.Answers.{IsReason, TellsNothing, fault_in, LacksChai
 use Rattle.pt_recover.specs.Denotes.{Denotes}
 use Rattle.pt_recover.specs.declared.error.NoTable.{NoTable}
 use Rattle.pt_recover.specs.declared.error.NoTable.TheVariants as table
-use Rattle.pt_recover.specs.declared.layout.Layout.{Layout}
+use Rattle.pt_members.specs.declared.layout.Layout.{Layout}
 use Rattle.pt_layout.specs.Findings.{IsFinding}
-use Rattle.pt_layout.specs.Places.{IsPlaceOf}
+use Rattle.pt_members.specs.Places.{IsPlaceOf}
 use Rattle.pt_layout.specs.declared.finding.Finding.{Finding}
 use Rattle.pt_layout.specs.declared.finding.Finding.TheVariants as finding
 use Rattle.pt_path.specs.declared.path.Path.{Path}
@@ -29,12 +29,13 @@ use Rattle.pt_plan.specs.declared.error.CommitError.{CommitError}
 use Rattle.pt_plan.specs.declared.error.CommitError.TheVariants as commit
 use Rattle.pt_plan.specs.declared.repair_error.RepairError.{RepairError}
 use Rattle.pt_plan.specs.declared.repair_error.RepairError.TheVariants as repair
-use Rattle.pt_c.specs.Claims.{NoLayout, Verified, Located, NoPlan, Planned, NoMending, Mended, Checked, Says}
-use Rattle.pt_c.specs.Given.{Gives}
-use Rattle.pt_c.specs.declared.rows.WriteRow.{WriteRow}
+use Rattle.pt_c.specs.Claims.{NoLayout, Verified, Located, NoPlan, Planned, NoMending, Mended, Checked, IsUnasked, path_in, Says}
+use Rattle.pt_c.specs.Given.{Buffers, Gives}
 use Rattle.pt_c.specs.Codes.{status_code}
-use Rattle.pt_c.specs.Known.{IsAsked}
-use Rattle.pt_c.specs.Replies.{nothing, failure_answer, finding_answer, table_answer, chain_answer, commit_answer, repair_answer, check_answer}
+use Rattle.pt_c.specs.Known.{IsAsked, disk_of, IsPartOf}
+use Rattle.pt_c.proofs.Parts.{part_is}
+use Rattle.pt_c.specs.Replies.{nothing, failure_answer, finding_answer, table_answer, chain_answer, commit_answer, repair_answer}
+use Rattle.pt_c.specs.Replies.{check_answer}
 use Rattle.pt_c.specs.declared.answers.Status.{Status}
 use Rattle.pt_c.specs.declared.answers.Status.TheVariants as status
 use Rattle.pt_c.specs.declared.answers.Reply.{Reply}
@@ -59,7 +60,8 @@ module _ (b : ℕ) (v : View) (d : Sectors) where
   inside table.Memory none is = absurd is
 
   -- an error of recovery
-  pub says_nothing : (e : NoTable) → TellsNothing b d e → ((f : Fault) → fault_in e ≡ Some f → IsAsked b v f) → NoLayout b v d (table_answer e).status (table_answer e).reply
+  pub says_nothing : (e : NoTable) → TellsNothing b d e → ((f : Fault) → fault_in e ≡ Some f → IsAsked b v f)
+      → NoLayout b v d (table_answer e).status (table_answer e).reply
   says_nothing e (inr (none, is)) asked = inside e none is
   says_nothing table.Memory (inl outside) asked = tt
   says_nothing (table.NoCopy e f) (inl outside) asked = absurd outside
@@ -83,16 +85,16 @@ module _ (b : ℕ) (v : View) (d : Sectors) where
   says_finding (finding.ForeignLabel p) is = (finding.ForeignLabel p, is, refl)
 
   -- where there is no layout nothing is located
-  pub located_not : (p : Path) (k : ℕ) (s : Status) (r : Reply) → NoLayout b v d s r → Located b v d p k s r
-  located_not p k status.Done r is = absurd is
-  located_not p k status.No r is = absurd is
-  located_not p k status.Usage r is = is
-  located_not p k status.Refused r is = is
-  located_not p k status.NoTable r is = is
-  located_not p k status.Device r is = is
-  located_not p k status.Memory r is = is
-  located_not p k status.Want r is = is
-  located_not p k status.Room r is = is
+  pub located_not : (number letter k : ℕ) (s : Status) (r : Reply) → NoLayout b v d s r → Located b v d number letter k s r
+  located_not number letter k status.Done r is = absurd is
+  located_not number letter k status.No r is = absurd is
+  located_not number letter k status.Usage r is = inl is
+  located_not number letter k status.Refused r is = is
+  located_not number letter k status.NoTable r is = is
+  located_not number letter k status.Device r is = is
+  located_not number letter k status.Memory r is = is
+  located_not number letter k status.Want r is = is
+  located_not number letter k status.Room r is = is
 
 module _ (b : ℕ) (v : View) (d : Sectors) where
   -- where there is no layout there is no plan
@@ -107,15 +109,18 @@ module _ (b : ℕ) (v : View) (d : Sectors) where
   planned_not batch status.Want r is = is
   planned_not batch status.Room r is = absurd is
 
-  asks_plan : (batch : Words) (f : Fault) → IsAsked b v f → NoPlan b v d batch (commit_answer (commit.Device f)).status (commit_answer (commit.Device f)).reply
+  asks_plan : (batch : Words) (f : Fault) → IsAsked b v f
+      → NoPlan b v d batch (commit_answer (commit.Device f)).status (commit_answer (commit.Device f)).reply
   asks_plan batch (fault.Read at) is = is
   asks_plan batch (fault.Write at) is = absurd is
   asks_plan batch fault.Flush is = absurd is
 
   -- an error of the planner
-  pub says_refused : (batch : Words) (e : CommitError) → IsRefusal b v.sectors batch d e → ((f : Fault) → commit_fault_in e ≡ Some f → IsAsked b v f)
+  pub says_refused : (batch : Words) (e : CommitError) → IsRefusal b v.sectors batch d e
+      → ((f : Fault) → commit_fault_in e ≡ Some f → IsAsked b v f)
       → NoPlan b v d batch (commit_answer e).status (commit_answer e).reply
-  says_refused batch (commit.NoTable e) (none, is, may) asked = planned_not batch (table_answer e).status (table_answer e).reply (inside b v d e none is)
+  says_refused batch (commit.NoTable e) (none, is, may) asked =
+      planned_not batch (table_answer e).status (table_answer e).reply (inside b v d e none is)
   says_refused batch (commit.Edit r) is asked = (commit.Edit r, is, refl)
   says_refused batch (commit.Plan e) is asked = (commit.Plan e, is, refl)
   says_refused batch (commit.Check w) is asked = absurd is
@@ -133,7 +138,8 @@ module _ (b : ℕ) (v : View) (d : Sectors) where
   mended_not status.Want r is = is
   mended_not status.Room r is = absurd is
 
-  asks_mending : (f : Fault) → IsAsked b v f → NoMending b v d (repair_answer (repair.Device f)).status (repair_answer (repair.Device f)).reply
+  asks_mending : (f : Fault) → IsAsked b v f → NoMending b v d (repair_answer (repair.Device f)).status
+      (repair_answer (repair.Device f)).reply
   asks_mending (fault.Read at) is = is
   asks_mending (fault.Write at) is = absurd is
   asks_mending fault.Flush is = absurd is
@@ -149,71 +155,89 @@ module _ (b : ℕ) (v : View) (d : Sectors) where
   says_unmended repair.Memory is asked = tt
 
   -- a plan that is given, or not
-  pub gives_plan : (batch : Words) (phases : List Writes) (rows : List WriteRow) (bytes : List ℕ) (s : Status) (r : Reply) → IsReady b v.sectors batch d phases
-      → Gives phases rows bytes s r → Planned b v d batch rows bytes s r
-  gives_plan batch phases rows bytes status.Done r ready given = (phases, ready, given)
-  gives_plan batch phases rows bytes status.No r ready given = absurd given
-  gives_plan batch phases rows bytes status.Usage r ready given = tt
-  gives_plan batch phases rows bytes status.Refused r ready given = absurd given
-  gives_plan batch phases rows bytes status.NoTable r ready given = absurd given
-  gives_plan batch phases rows bytes status.Device r ready given = absurd given
-  gives_plan batch phases rows bytes status.Memory r ready given = tt
-  gives_plan batch phases rows bytes status.Want r ready given = absurd given
-  gives_plan batch phases rows bytes status.Room r ready given = (phases, ready, given)
+  pub gives_plan : (batch : Words) (phases : List Writes) (old new : Buffers) (s : Status) (r : Reply)
+      → IsReady b v.sectors batch d phases → Gives phases old new s r → Planned b v d batch old new s r
+  gives_plan batch phases old new status.Done r ready given = (phases, ready, given)
+  gives_plan batch phases old new status.No r ready given = absurd given
+  gives_plan batch phases old new status.Usage r ready given = absurd given
+  gives_plan batch phases old new status.Refused r ready given = absurd given
+  gives_plan batch phases old new status.NoTable r ready given = absurd given
+  gives_plan batch phases old new status.Device r ready given = absurd given
+  gives_plan batch phases old new status.Memory r ready given = given
+  gives_plan batch phases old new status.Want r ready given = absurd given
+  gives_plan batch phases old new status.Room r ready given = (phases, ready, given)
 
-  pub gives_not : (batch : Words) (rows : List WriteRow) (bytes : List ℕ) (s : Status) (r : Reply) → NoPlan b v d batch s r → Planned b v d batch rows bytes s r
-  gives_not batch rows bytes status.Done r is = absurd is
-  gives_not batch rows bytes status.No r is = is
-  gives_not batch rows bytes status.Usage r is = is
-  gives_not batch rows bytes status.Refused r is = is
-  gives_not batch rows bytes status.NoTable r is = is
-  gives_not batch rows bytes status.Device r is = is
-  gives_not batch rows bytes status.Memory r is = is
-  gives_not batch rows bytes status.Want r is = is
-  gives_not batch rows bytes status.Room r is = absurd is
+  pub gives_not : (batch : Words) (old new : Buffers) (s : Status) (r : Reply) → new ≡ old → NoPlan b v d batch s r
+      → Planned b v d batch old new s r
+  gives_not batch old new status.Done r same is = absurd is
+  gives_not batch old new status.No r same is = is
+  gives_not batch old new status.Usage r same is = (is, same)
+  gives_not batch old new status.Refused r same is = (is, same)
+  gives_not batch old new status.NoTable r same is = (is, same)
+  gives_not batch old new status.Device r same is = is
+  gives_not batch old new status.Memory r same is = same
+  gives_not batch old new status.Want r same is = (is, same)
+  gives_not batch old new status.Room r same is = absurd is
 
-  pub gives_mending : (phases : List Writes) (rows : List WriteRow) (bytes : List ℕ) (s : Status) (r : Reply) → IsReadyToMend b d phases
-      → Gives phases rows bytes s r → Mended b v d rows bytes s r
-  gives_mending phases rows bytes status.Done r ready given = (phases, ready, given)
-  gives_mending phases rows bytes status.No r ready given = absurd given
-  gives_mending phases rows bytes status.Usage r ready given = tt
-  gives_mending phases rows bytes status.Refused r ready given = absurd given
-  gives_mending phases rows bytes status.NoTable r ready given = absurd given
-  gives_mending phases rows bytes status.Device r ready given = absurd given
-  gives_mending phases rows bytes status.Memory r ready given = tt
-  gives_mending phases rows bytes status.Want r ready given = absurd given
-  gives_mending phases rows bytes status.Room r ready given = (phases, ready, given)
+  pub gives_mending : (phases : List Writes) (old new : Buffers) (s : Status) (r : Reply) → IsReadyToMend b d phases
+      → Gives phases old new s r → Mended b v d old new s r
+  gives_mending phases old new status.Done r ready given = (phases, ready, given)
+  gives_mending phases old new status.No r ready given = absurd given
+  gives_mending phases old new status.Usage r ready given = absurd given
+  gives_mending phases old new status.Refused r ready given = absurd given
+  gives_mending phases old new status.NoTable r ready given = absurd given
+  gives_mending phases old new status.Device r ready given = absurd given
+  gives_mending phases old new status.Memory r ready given = given
+  gives_mending phases old new status.Want r ready given = absurd given
+  gives_mending phases old new status.Room r ready given = (phases, ready, given)
 
-  pub mends_not : (rows : List WriteRow) (bytes : List ℕ) (s : Status) (r : Reply) → NoMending b v d s r → Mended b v d rows bytes s r
-  mends_not rows bytes status.Done r is = absurd is
-  mends_not rows bytes status.No r is = is
-  mends_not rows bytes status.Usage r is = is
-  mends_not rows bytes status.Refused r is = is
-  mends_not rows bytes status.NoTable r is = is
-  mends_not rows bytes status.Device r is = is
-  mends_not rows bytes status.Memory r is = is
-  mends_not rows bytes status.Want r is = is
-  mends_not rows bytes status.Room r is = absurd is
+  pub mends_not : (old new : Buffers) (s : Status) (r : Reply) → new ≡ old → NoMending b v d s r → Mended b v d old new s r
+  mends_not old new status.Done r same is = absurd is
+  mends_not old new status.No r same is = is
+  mends_not old new status.Usage r same is = (is, same)
+  mends_not old new status.Refused r same is = (is, same)
+  mends_not old new status.NoTable r same is = (is, same)
+  mends_not old new status.Device r same is = is
+  mends_not old new status.Memory r same is = same
+  mends_not old new status.Want r same is = (is, same)
+  mends_not old new status.Room r same is = absurd is
 
 module _ (b : ℕ) (v : View) (d : Sectors) (phases : List Writes) where
-  asks_check : (f : Fault) → IsAsked b v f → Checked b v d phases (check_answer (check.Device f)).status (check_answer (check.Device f)).reply
+  asks_check : (f : Fault) → IsAsked b v f → Checked b v d phases (check_answer (check.Device f)).status
+      (check_answer (check.Device f)).reply
   asks_check (fault.Read at) is = is
   asks_check (fault.Write at) is = absurd is
   asks_check fault.Flush is = absurd is
 
   -- a failure of the checker
-  pub says_unchecked : (e : CheckError) → ((f : Fault) → check_fault_in e ≡ Some f → IsAsked b v f) → Checked b v d phases (check_answer e).status (check_answer e).reply
+  pub says_unchecked : (e : CheckError) → ((f : Fault) → check_fault_in e ≡ Some f → IsAsked b v f)
+      → Checked b v d phases (check_answer e).status (check_answer e).reply
   says_unchecked (check.Device f) asked = asks_check f (asked f refl)
   says_unchecked check.Memory asked = tt
 
-pub says_failure : (b : ℕ) (v : View) (d : Sectors) (f : Failure) → ((x : Fault) → fault_of f ≡ Some x → IsAsked b v x) → Verified b v d (failure_answer f).status (failure_answer f).reply
+pub says_failure : (b : ℕ) (v : View) (d : Sectors) (f : Failure) → ((x : Fault) → fault_of f ≡ Some x → IsAsked b v x)
+    → Verified b v d (failure_answer f).status (failure_answer f).reply
 says_failure b v d (failure.Device at) asked = asked (fault.Read at) refl
 says_failure b v d failure.Memory asked = tt
 
-pub none_located : (b : ℕ) (v : View) (d : Sectors) (p q : Path) (k : ℕ) (o : Layout) (a : Answer) → a ≡ record { status = status.No; reply = nothing } → q ≡ p
-    → Denotes b d (Some o) → ((s : ℕ) → ¬ IsPlaceOf b o q k s) → Located b v d p k a.status a.reply
-none_located b v d p q k o a is same from none =
-    subst (λ (x : Answer). Located b v d p k x.status x.reply) (sym is) (o, from, subst (λ (x : Path). (s : ℕ) → ¬ IsPlaceOf b o x k s) same none)
+pub none_located : (b : ℕ) (v : View) (d : Sectors) (number letter : ℕ) (q : Path) (k : ℕ) (o : Layout) (a : Answer)
+    → a ≡ record { status = status.No; reply = nothing } → q ≡ path_in number letter
+    → Denotes b d (Some o) → ((s : ℕ) → ¬ IsPlaceOf b o q k s) → Located b v d number letter k a.status a.reply
+none_located b v d number letter q k o a is same from none =
+    subst (λ (x : Answer). Located b v d number letter k x.status x.reply) (sym is)
+    (o, from, subst (λ (x : Path). (s : ℕ) → ¬ IsPlaceOf b o x k s) same none)
+
+-- why nothing was asked, for another reason that follows
+pub unasked_on : {P Q : Type 0} → (P → Q) → (s : Status) → IsUnasked P s → IsUnasked Q s
+unasked_on on status.Done is = is
+unasked_on on status.No is = is
+unasked_on on status.Usage is = on is
+unasked_on on status.Refused is = is
+unasked_on on status.NoTable is = is
+unasked_on on status.Device is = is
+unasked_on on status.Memory is = is
+unasked_on on status.Want is = is
+unasked_on on status.Room is = is
 
 code_round : (s : Status) → to_z w32 (of_z w32 (status_code s)) ≡ status_code s
 code_round status.Done = refl
@@ -226,8 +250,17 @@ code_round status.Memory = refl
 code_round status.Want = refl
 code_round status.Room = refl
 
--- what C gets says what the answer says
-pub says_it : (claim : ℕ → Sectors → Status → Reply → Type 0) (size b : ℕ) (elsewhere : Sectors) (code : ℤ) (s : Status) (r given : Reply)
-    → size ≡ b → elsewhere ≡ [] → code ≡ status_code s → given ≡ r → claim b elsewhere s r → Says (claim size []) (to_z w32 (of_z w32 code)) given
-says_it claim size b elsewhere code s r given same none is replied holds =
-    (s, ap (λ (x : ℤ). to_z w32 (of_z w32 x)) is ∙ code_round s, subst (λ (x : Reply). claim size [] s x) (sym replied) (subst (λ (x : ℕ). claim x [] s r) (sym same) (subst (λ (x : Sectors). claim b x s r) none holds)))
+-- what C gets says what the answer says, of each disk of which the view is a part
+pub says_it : (claim : ℕ → Sectors → Status → Reply → Type 0) (v : View) (d : Sectors) (b : ℕ) (elsewhere : Sectors)
+    (code : ℤ) (s : Status) (r given : Reply)
+    → v.sector_size ≡ b → elsewhere ≡ d → code ≡ status_code s → given ≡ r → claim b (disk_of b v elsewhere) s r → IsPartOf v d
+    → Says (claim v.sector_size d) (to_z w32 (of_z w32 code)) given
+says_it claim v d b elsewhere code s r given same there is replied holds part =
+    let of_size : claim v.sector_size (disk_of v.sector_size v elsewhere) s r =
+    subst (λ (x : ℕ). claim x (disk_of x v elsewhere) s r) (sym same) holds in
+    let of_disk : claim v.sector_size d s r =
+    subst (λ (x : Sectors). claim v.sector_size x s r) (ap (disk_of v.sector_size v) there ∙ part_is v d part) of_size in (
+      s,
+      ap (λ (x : ℤ). to_z w32 (of_z w32 x)) is ∙ code_round s,
+      subst (λ (x : Reply). claim v.sector_size d s x) (sym replied) of_disk,
+    )

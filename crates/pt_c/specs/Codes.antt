@@ -1,5 +1,6 @@
 -- The numbers that C sees.
-use Rattle.std.specs.Prelude.{ℕ, ℤ, pos, negsuc}
+use Rattle.std.specs.Prelude.{◌≡◌, ◌≢◌, ◌⊎◌, ℕ, ℤ, pos, negsuc, List, Some}
+use Rattle.pt_guid.specs.Codes.{type_of}
 use Rattle.pt_c.specs.declared.answers.Status.{Status}
 use Rattle.pt_c.specs.declared.answers.Status.TheVariants.{Done, No, Usage, Refused, NoTable, Device, Memory, Want, Room}
 use Rattle.pt_c.specs.declared.answers.About.{About}
@@ -16,6 +17,11 @@ status_code Device = pos 5
 status_code Memory = pos 6
 status_code Want = negsuc 0
 status_code Room = negsuc 1
+
+-- the code of the type of these stored bytes, or -1 where no code stands for it
+abbrev pub IsTypeCode : List ℕ → ℤ → Type 0
+IsTypeCode stored code =
+    ((c : ℕ) × (code ≡ pos c) × (type_of c ≡ Some stored)) ⊎ ((code ≡ negsuc 0) × ((c : ℕ) → type_of c ≢ Some stored))
 
 abbrev pub about_code : About → ℕ
 about_code about.Nothing = 0

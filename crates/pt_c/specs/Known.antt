@@ -1,10 +1,10 @@
 -- A disk of which some sectors are known.
-use Rattle.std.specs.Prelude.{◌≡◌, ◌<◌, ◌++◌, ℕ, List, [], ◌∷◌, map, length, ◌/◌, if◌then◌else◌, nat_eq, Option, Some, None}
+use Rattle.std.specs.Prelude.{◌≡◌, ◌<◌, ◌++◌, ◌*◌, ◌^◌, ℕ, List, [], ◌∷◌, map, length, ◌/◌, if◌then◌else◌, nat_eq, Option, Some, None}
 use Rattle.std.proofs.Common.{ap, ◌∙◌, refl, sym, subst, append_assoc}
 use Rattle.std.proofs.lemmas.List.{map-append, append-nil}
 use Rattle.std.specs.List.{range_with_len}
 use Rattle.std.specs.Simd.{first_chunks}
-use Rattle.pt_sector.specs.Sectors.{Sectors, sector}
+use Rattle.pt_sector.specs.Sectors.{Sectors, sector, IsSectorSize}
 use Rattle.pt_sector.specs.Device.{Told, Moment}
 use Rattle.pt_sector.specs.Past.{told_of}
 use Rattle.pt_sector.specs.declared.disk.Fault.{Fault}
@@ -39,9 +39,24 @@ moments_on d x past later is = ap (λ (l : List ℕ). moments d l) is ∙ map-ap
 abbrev pub sectors_in : ℕ → View → Sectors
 sectors_in b v = first_chunks b (length v.bytes.now / b) v.bytes.now
 
+-- a view has a meaning: its bytes are whole sectors, as many as its numbers, of a disk of less than 2^64 bytes
+pub record IsView (b : ℕ) (v : View) : Type 0 where
+  pub size : IsSectorSize b
+  pub whole : length v.bytes.now ≡ length v.numbers.now * b
+  pub fits : v.sectors * b < 2 ^ 64
+
 -- the disk of a view: its sectors, and elsewhere what stands there
 abbrev pub disk_of : ℕ → View → Sectors → Sectors
 disk_of b v elsewhere = whole v.sectors v.numbers.now (sectors_in b v) elsewhere
+
+-- what a view holds of sector s
+abbrev pub held : View → ℕ → Option (List ℕ)
+held v s = known_of v.numbers.now (sectors_in v.sector_size v) s
+
+-- a view is a part of the disk d: d has as many sectors as it says, and each that it holds
+pub record IsPartOf (v : View) (d : Sectors) : Type 0 where
+  pub as_many : length d ≡ v.sectors
+  pub alike : (s : ℕ) (k : List ℕ) → s < v.sectors → held v s ≡ Some k → sector d s ≡ k
 
 -- of so many sectors, this one isn't known
 pub record IsNew (count : ℕ) (ns : List ℕ) (ks : Sectors) (s : ℕ) : Type 0 where
@@ -75,7 +90,8 @@ pub asks_same : (count : ℕ) (ns : List ℕ) (ks : Sectors) (fs : List Fault) �
 unfolding AreOfNew
 asks_same count ns ks fs = record { numbers = refl; sectors = refl; more = []; come = sym (append-nil fs); unknown = tt }
 
-on_new : (count : ℕ) (ns : List ℕ) (ks : Sectors) (fs gs : List Fault) → AreOfNew count ns ks fs → AreOfNew count ns ks gs → AreOfNew count ns ks (fs ++ gs)
+on_new : (count : ℕ) (ns : List ℕ) (ks : Sectors) (fs gs : List Fault) → AreOfNew count ns ks fs → AreOfNew count ns ks gs
+    → AreOfNew count ns ks (fs ++ gs)
 unfolding AreOfNew
 on_new count ns ks [] gs a b = b
 on_new count ns ks (f ∷ fs) gs a b = (a.0, on_new count ns ks fs gs a.1 b)
@@ -87,7 +103,8 @@ asks_on count count' n n' n'' k k' k'' f f' f'' same ab bc = record {
   sectors = bc.sectors ∙ ab.sectors;
   more = ab.more ++ bc.more;
   come = bc.come ∙ ap (λ (l : List Fault). l ++ bc.more) ab.come ∙ append_assoc f ab.more bc.more;
-  unknown = on_new count n k ab.more bc.more ab.unknown (subst (λ (c : ℕ). AreOfNew c n k bc.more) same (subst (λ (l : List ℕ). AreOfNew count' l k bc.more) ab.numbers
+  unknown = on_new count n k ab.more bc.more ab.unknown
+      (subst (λ (c : ℕ). AreOfNew c n k bc.more) same (subst (λ (l : List ℕ). AreOfNew count' l k bc.more) ab.numbers
       (subst (λ (l : Sectors). AreOfNew count' n' l bc.more) ab.sectors bc.unknown)));
 }
 

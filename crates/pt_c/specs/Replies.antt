@@ -52,12 +52,38 @@ failure_answer failure.Memory = record { status = status.Memory; reply = nothing
 -- a status with a number of what it is about, and two arguments
 abbrev pub told : Status → About → ℕ → ℕ → ℕ → Answer
 told s what number a b =
-    record { status = s; reply = record { sector = 0; count = 0; phases = 0; a = a; b = b; about = about_code what; number = number; a_letter = 0; b_letter = 0 } }
+    record {
+      status = s;
+      reply = record {
+        sector = 0;
+        count = 0;
+        phases = 0;
+        a = a;
+        b = b;
+        about = about_code what;
+        number = number;
+        a_letter = 0;
+        b_letter = 0;
+      };
+    }
 
 -- a finding with a path
 abbrev pub found_at : ℕ → Path → ℕ → Answer
 found_at number p b =
-    record { status = status.No; reply = record { sector = 0; count = 0; phases = 0; a = p.number; b = b; about = 4; number = number; a_letter = letter_code p.letter; b_letter = 0 } }
+    record {
+      status = status.No;
+      reply = record {
+        sector = 0;
+        count = 0;
+        phases = 0;
+        a = p.number;
+        b = b;
+        about = 4;
+        number = number;
+        a_letter = letter_code p.letter;
+        b_letter = 0;
+      };
+    }
 
 abbrev pub side_number : Side → ℕ
 side_number Primary = 1
@@ -73,7 +99,20 @@ finding_answer (finding.Alternate side) = told status.No about.Finding 5 (side_n
 finding_answer finding.Protective = told status.No about.Finding 6 0 0
 finding_answer (finding.OutsideUsable p) = found_at 7 p 0
 finding_answer (finding.Overlap p q) =
-    record { status = status.No; reply = record { sector = 0; count = 0; phases = 0; a = p.number; b = q.number; about = 4; number = 8; a_letter = letter_code p.letter; b_letter = letter_code q.letter } }
+    record {
+      status = status.No;
+      reply = record {
+        sector = 0;
+        count = 0;
+        phases = 0;
+        a = p.number;
+        b = q.number;
+        about = 4;
+        number = 8;
+        a_letter = letter_code p.letter;
+        b_letter = letter_code q.letter;
+      };
+    }
 finding_answer (finding.OnTable p at) = found_at 9 p at.0
 finding_answer (finding.SameGuid lower higher) = told status.No about.Finding 10 lower higher
 finding_answer (finding.ForeignLabel p) = found_at 11 p 0

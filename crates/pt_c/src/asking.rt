@@ -1,8 +1,9 @@
 //! What C asks for: words, and random bytes for new GUIDs.
 
-ghost use Rattle.std.specs.Prelude.{◌≡◌, IfOk, IfErr};
-ghost use Rattle.pt_c.specs.Claims.{IsUnasked};
-ghost use Rattle.pt_c.specs.Words.{AreWords, drawn_of};
+ghost use Rattle.std.specs.Prelude.{◌≢◌, IfOk, IfErr};
+ghost use Rattle.pt_words.specs.declared.error.EditError.TheVariants as EditError;
+ghost use Rattle.pt_c.specs.Claims.{IsUnasked, AreNoEdits, AreNoGroups};
+ghost use Rattle.pt_c.specs.Words.{AreEdits, AreDrawn};
 
 use crate::answers::{About, Answer, Status};
 use pt_edit::{Edit, EditError, parse_edit};
@@ -11,7 +12,7 @@ use std::alloc::Global;
 
 // Why the word of this number, from 1 on, isn't one.
 fn no_word(error: EditError, number: u64) -> Answer
-    ensures { IsUnasked result.status }
+    ensures { IsUnasked (error ≢ EditError.Memory) result.status }
 {
     match error {
         EditError::Memory => Answer::of(Status::Memory),
@@ -21,8 +22,8 @@ fn no_word(error: EditError, number: u64) -> Answer
 
 /// The edit words of a text, each ended by a zero byte.
 pub fn edits_of(alloc: Global, words: &[u8]) -> Result<Vec<Edit>, Answer>
-    ensures ok { IfOk result (λ edits. AreWords words.now edits.items) }
-    ensures err { IfErr result (λ a. IsUnasked a.status) }
+    ensures ok { IfOk result (λ edits. AreEdits words.now edits.items) }
+    ensures err { IfErr result (λ a. IsUnasked (AreNoEdits words.now) a.status) }
 {
     let text = match std::str::from_utf8(words) {
         Ok(text) => text,
@@ -54,8 +55,8 @@ pub fn edits_of(alloc: Global, words: &[u8]) -> Result<Vec<Edit>, Answer>
 
 /// The fresh GUIDs of random bytes, sixteen for each.
 pub fn guids_of(alloc: Global, drawn: &[u8]) -> Result<Vec<Guid>, Answer>
-    ensures ok { IfOk result (λ guids. guids.items ≡ drawn_of drawn.now) }
-    ensures err { IfErr result (λ a. IsUnasked a.status) }
+    ensures ok { IfOk result (λ guids. AreDrawn drawn.now guids.items) }
+    ensures err { IfErr result (λ a. IsUnasked (AreNoGroups drawn.now) a.status) }
 {
     let (groups, rest) = drawn.as_chunks::<16>();
     if !rest.is_empty() {

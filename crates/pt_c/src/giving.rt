@@ -1,9 +1,9 @@
 //! Plans, in the caller's buffers.
 
-ghost use Rattle.std.specs.Prelude.{◌≡◌, ◌≤◌, ◌++◌, length, take, IfOk, OnOk};
+ghost use Rattle.std.specs.Prelude.{◌≡◌, ◌≤◌, ◌++◌, length, take, drop, IfOk, OnOk};
 ghost use Rattle.pt_sector.specs.Sectors.{IsSectorSize};
 ghost use Rattle.pt_apply.specs.Plans.{writes_of, phases_of};
-ghost use Rattle.pt_c.specs.Given.{rows_in, bytes_in, AreRows, Gives};
+ghost use Rattle.pt_c.specs.Given.{rows_in, bytes_in, AreRows, buffers, Gives};
 ghost use Rattle.pt_c.specs.Replies.{nothing};
 
 use crate::answers::{Answer, Status};
@@ -56,7 +56,8 @@ fn list<const B: usize>(alloc: Global, plan: &Plan<B>) -> Result<Listed, AllocEr
 /// Puts items at the head of a buffer.
 pub fn put<T: Copy>(into: &mut [T], items: &[T])
     requires { length items.now ≤ length into.old }
-    ensures { take (length items.now) into.new ≡ items.now }
+    ensures head { take (length items.now) into.new ≡ items.now }
+    ensures rest { drop (length items.now) into.new ≡ drop (length items.now) into.old }
 {
     into[..items.len()].copy_from_slice(items);
 }
@@ -79,7 +80,7 @@ pub fn give_plan<const B: usize>(
     bytes: &mut [u8],
 ) -> Answer
     requires size { IsSectorSize B }
-    ensures { Gives (phases_of plan.now) writes.new bytes.new result.status result.reply }
+    ensures { Gives (phases_of plan.now) (buffers writes.old bytes.old) (buffers writes.new bytes.new) result.status result.reply }
 {
     let listed = match list(alloc, plan) {
         Ok(listed) => listed,

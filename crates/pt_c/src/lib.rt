@@ -3,11 +3,19 @@
 //!
 //! The caller reads and writes the disk; a call gets the sectors that were read so far, and ends with an answer or
 //! with the number of one more sector that it wants.
+//!
+//! What an export answers of a disk holds of each disk of which the view is a part: `disk` is a ghost value, and no
+//! argument.
 #![tactic(auto)]
 
-ghost use Rattle.std.specs.Prelude.{◌≡◌, [], pos};
-ghost use Rattle.pt_c.specs.Known.{disk_of};
-ghost use Rattle.pt_c.specs.Claims.{Says, Members, Verified, Located, PlannedFor, Mended, CheckedFor, path_in};
+ghost use Rattle.std.specs.Prelude.{◌≡◌, pos};
+ghost use Rattle.pt_guid.specs.Mixed.{text_of};
+ghost use Rattle.pt_c.specs.Codes.{IsTypeCode};
+ghost use Rattle.pt_c.specs.Given.{buffers};
+ghost use Rattle.pt_sector.specs.Sectors.{Sectors};
+ghost use Rattle.pt_c.specs.Known.{IsPartOf};
+ghost use Rattle.pt_c.specs.Listed.{listing};
+ghost use Rattle.pt_c.specs.Claims.{Says, Members, Verified, Located, PlannedFor, Mended, CheckedFor};
 
 mod answers;
 mod asking;
@@ -48,11 +56,13 @@ pub extern "C" fn ptab_members(
     rows: &mut [MemberRow],
     reply: &mut Reply,
 ) -> i32
-    ensures { Says (Members view.now.sector_size view.now (disk_of view.now.sector_size view.now []) table.new) result reply.new }
+    ghost disk: { Sectors }
+    ensures { IsPartOf view.now disk → Says (Members view.now.sector_size view.now disk
+        (listing table.old rows.old) (listing table.new rows.new)) result reply.new }
 {
     match view.sector_size {
-        512 => members::<512>(alloc, view, table, rows, Moments::new()).give(reply),
-        4096 => members::<4096>(alloc, view, table, rows, Moments::new()).give(reply),
+        512 => members::<512>(alloc, view, table, rows, Moments::any()).give(reply),
+        4096 => members::<4096>(alloc, view, table, rows, Moments::any()).give(reply),
         _ => Answer::bad_argument(1).give(reply),
     }
 }
@@ -60,11 +70,12 @@ pub extern "C" fn ptab_members(
 /// Whether the disk is healthy: 0, or 1 with the first finding.
 #[unsafe(no_mangle)]
 pub extern "C" fn ptab_verify(alloc: Global, view: &View<'_>, reply: &mut Reply) -> i32
-    ensures { Says (Verified view.now.sector_size view.now (disk_of view.now.sector_size view.now [])) result reply.new }
+    ghost disk: { Sectors }
+    ensures { IsPartOf view.now disk → Says (Verified view.now.sector_size view.now disk) result reply.new }
 {
     match view.sector_size {
-        512 => verified::<512>(alloc, view, Moments::new()).give(reply),
-        4096 => verified::<4096>(alloc, view, Moments::new()).give(reply),
+        512 => verified::<512>(alloc, view, Moments::any()).give(reply),
+        4096 => verified::<4096>(alloc, view, Moments::any()).give(reply),
         _ => Answer::bad_argument(1).give(reply),
     }
 }
@@ -79,12 +90,12 @@ pub extern "C" fn ptab_locate(
     k: u64,
     reply: &mut Reply,
 ) -> i32
-    ensures { Says (Located view.now.sector_size view.now
-        (disk_of view.now.sector_size view.now []) (path_in number letter) k) result reply.new }
+    ghost disk: { Sectors }
+    ensures { IsPartOf view.now disk → Says (Located view.now.sector_size view.now disk number letter k) result reply.new }
 {
     match view.sector_size {
-        512 => located::<512>(alloc, view, number, letter, k, Moments::new()).give(reply),
-        4096 => located::<4096>(alloc, view, number, letter, k, Moments::new()).give(reply),
+        512 => located::<512>(alloc, view, number, letter, k, Moments::any()).give(reply),
+        4096 => located::<4096>(alloc, view, number, letter, k, Moments::any()).give(reply),
         _ => Answer::bad_argument(1).give(reply),
     }
 }
@@ -103,13 +114,14 @@ pub extern "C" fn ptab_plan(
     bytes: &mut [u8],
     reply: &mut Reply,
 ) -> i32
-    ensures { Says (PlannedFor view.now.sector_size view.now
-        (disk_of view.now.sector_size view.now []) words.now drawn.now writes.new bytes.new) result reply.new }
+    ghost disk: { Sectors }
+    ensures { IsPartOf view.now disk → Says (PlannedFor view.now.sector_size view.now disk words.now drawn.now
+        (buffers writes.old bytes.old) (buffers writes.new bytes.new)) result reply.new }
 {
     match view.sector_size {
-        512 => planned::<512>(alloc, view, words, drawn, writes, bytes, Moments::new()).give(reply),
+        512 => planned::<512>(alloc, view, words, drawn, writes, bytes, Moments::any()).give(reply),
         4096 => {
-            planned::<4096>(alloc, view, words, drawn, writes, bytes, Moments::new()).give(reply)
+            planned::<4096>(alloc, view, words, drawn, writes, bytes, Moments::any()).give(reply)
         }
         _ => Answer::bad_argument(1).give(reply),
     }
@@ -124,11 +136,13 @@ pub extern "C" fn ptab_repair(
     bytes: &mut [u8],
     reply: &mut Reply,
 ) -> i32
-    ensures { Says (Mended view.now.sector_size view.now (disk_of view.now.sector_size view.now []) writes.new bytes.new) result reply.new }
+    ghost disk: { Sectors }
+    ensures { IsPartOf view.now disk → Says (Mended view.now.sector_size view.now disk
+        (buffers writes.old bytes.old) (buffers writes.new bytes.new)) result reply.new }
 {
     match view.sector_size {
-        512 => mended::<512>(alloc, view, writes, bytes, Moments::new()).give(reply),
-        4096 => mended::<4096>(alloc, view, writes, bytes, Moments::new()).give(reply),
+        512 => mended::<512>(alloc, view, writes, bytes, Moments::any()).give(reply),
+        4096 => mended::<4096>(alloc, view, writes, bytes, Moments::any()).give(reply),
         _ => Answer::bad_argument(1).give(reply),
     }
 }
@@ -142,25 +156,31 @@ pub extern "C" fn ptab_check(
     bytes: &[u8],
     reply: &mut Reply,
 ) -> i32
-    ensures { Says (CheckedFor view.now.sector_size view.now
-        (disk_of view.now.sector_size view.now []) writes.now bytes.now) result reply.new }
+    ghost disk: { Sectors }
+    ensures { IsPartOf view.now disk → Says (CheckedFor view.now.sector_size view.now disk writes.now bytes.now) result reply.new }
 {
     match view.sector_size {
-        512 => checked::<512>(alloc, view, writes, bytes, Moments::new()).give(reply),
-        4096 => checked::<4096>(alloc, view, writes, bytes, Moments::new()).give(reply),
+        512 => checked::<512>(alloc, view, writes, bytes, Moments::any()).give(reply),
+        4096 => checked::<4096>(alloc, view, writes, bytes, Moments::any()).give(reply),
         _ => Answer::bad_argument(1).give(reply),
     }
 }
 
 /// The text of a GUID in lower case.
 #[unsafe(no_mangle)]
-pub extern "C" fn ptab_guid_text(guid: &GuidBytes, text: &mut GuidText) {
-    Guid(guid.bytes).to_text(&mut text.bytes);
+pub extern "C" fn ptab_guid_text(guid: &GuidBytes, text: &mut GuidText)
+    ensures { text.new.bytes ≡ text_of guid.now.bytes }
+{
+    let mut buffer = [0; 36];
+    let written = Guid(guid.bytes).to_text(&mut buffer);
+    text.bytes.copy_from_slice(written.as_bytes());
 }
 
 /// The code of a partition's type, as 0xEF00; -1 where there is none.
 #[unsafe(no_mangle)]
-pub extern "C" fn ptab_type_code(guid: &GuidBytes) -> i32 {
+pub extern "C" fn ptab_type_code(guid: &GuidBytes) -> i32
+    ensures { IsTypeCode guid.now.bytes result }
+{
     match code_of_type(&Guid(guid.bytes)) {
         Some(code) => i32::from(code),
         None => -1,

@@ -1,9 +1,11 @@
 //! The partitions of a layout, listed as rows.
 
-ghost use Rattle.std.specs.Prelude.{◌≡◌, ◌<◌, ◌^◌};
+ghost use Rattle.std.specs.Prelude.{◌≡◌, ◌++◌, ◌<◌, ◌^◌, length, option_map, option_to_list, slice_index_or, Some, None, IfOk, OnOk};
 ghost use Rattle.pt_sector.specs.Sectors.{IsSectorSize};
+ghost use Rattle.pt_members.specs.Members.{slots, parts_in};
 ghost use Rattle.pt_c.specs.Known.{disk_of};
-ghost use Rattle.pt_c.specs.Listed.{row_of_table};
+ghost use Rattle.pt_c.specs.Listed.{row_of_table, kind_code, narrowed, records_in, row_of_member, row_of_record, row_of_entry};
+ghost use Rattle.pt_c.specs.Listed.{listing, row_of_part, row_in_place, part_rows, rows_below, rows_at, rows_of};
 ghost use Rattle.pt_c.specs.Claims.{Members};
 
 use crate::answers::{Answer, Status, letter_of};
@@ -11,20 +13,26 @@ use crate::giving::{counted, put};
 use crate::recovered::recovered;
 use crate::rows::{MemberRow, TableRow};
 use crate::view::View;
+use pt_bsd::Label;
+use pt_gpt::Entry;
 use pt_layout::{Body, Kind, Layout, Member, find_label, part_slot, slot, slot_count};
-use pt_mbr::Record;
+use pt_mbr::{Ebr, Record};
 use pt_sector::Moments;
 use std::alloc::{AllocError, Global};
 
 // A sector's number; 2^64 - 1 for what is past it.
-fn narrow(sector: u128) -> u64 {
+fn narrow(sector: u128) -> u64
+    ensures { result ≡ narrowed sector }
+{
     match u64::try_from(sector) {
         Ok(sector) => sector,
         Err(_) => u64::MAX,
     }
 }
 
-fn kind_number(kind: Kind) -> u8 {
+fn kind_number(kind: Kind) -> u8
+    ensures { result ≡ kind_code kind }
+{
     match kind {
         Kind::Leaf => 0,
         Kind::Slice => 1,
@@ -33,7 +41,9 @@ fn kind_number(kind: Kind) -> u8 {
 }
 
 // What every member has.
-fn bare_row(member: &Member) -> MemberRow {
+fn bare_row(member: &Member) -> MemberRow
+    ensures { result ≡ row_of_member member.now }
+{
     MemberRow {
         number: member.path.number,
         first: narrow(member.first),
@@ -49,71 +59,136 @@ fn bare_row(member: &Member) -> MemberRow {
     }
 }
 
-// The record in a place.
-fn record_at(body: &Body, k: usize) -> Option<Record> {
-    match body {
-        Body::Gpt(_) => None,
-        Body::Mbr { records, chain } => {
-            if k < 4 {
-                records[k]
-            } else {
-                match chain.as_slice().get(k - 4) {
-                    Some(ebr) => ebr.logical,
-                    None => None,
-                }
-            }
-        }
-    }
-}
-
-// The row of the member in a place.
-fn full_row(body: &Body, k: usize, member: &Member) -> MemberRow {
+// The member of a record.
+fn record_row(member: &Member, stands: Option<Record>) -> MemberRow
+    ensures { result ≡ row_of_record member.now stands }
+{
     let mut row = bare_row(member);
-    if let Body::Gpt(table) = body {
-        if let Some(Some(entry)) = table.entries.as_slice().get(k) {
-            let (type_guid, unique, name) = (entry.kind.0, entry.unique.0, entry.name);
-            row.attributes = entry.attributes;
-            row.type_guid = type_guid;
-            row.unique = unique;
-            row.name = name;
-        }
-    }
-    if let Some(record) = record_at(body, k) {
+    if let Some(record) = stands {
         row.type_byte = record.kind;
         row.boot = record.boot;
     }
     row
 }
 
-// Adds the partitions of a slice's label.
-fn add_parts(layout: &Layout, slice: &Member, rows: &mut Vec<MemberRow>) -> Result<(), AllocError>
-    requires { slice.now.first < 2 ^ 66 }
+// The member of an entry.
+fn entry_row(member: &Member, entry: &Entry) -> MemberRow
+    ensures { result ≡ row_of_entry member.now (Some entry.now) }
 {
-    let Some(label) = find_label(&layout.labels, slice.path.number) else {
-        return Ok(());
-    };
-    for k in 0..8usize {
-        if let Some(part) = part_slot(&label, slice, k) {
-            let mut row = bare_row(&part);
-            if let Some(entry) = label.entries[k] {
-                row.type_byte = entry.fstype;
-            }
-            rows.push(row)?;
+    let (type_guid, unique, name) = (entry.kind.0, entry.unique.0, entry.name);
+    let mut row = bare_row(member);
+    row.attributes = entry.attributes;
+    row.type_guid = type_guid;
+    row.unique = unique;
+    row.name = name;
+    row
+}
+
+// The record in a place: of sector 0, then of the extended boot records.
+#[tactic(auto, using(crate::proofs::Members::record_low, crate::proofs::Members::record_high, crate::proofs::Members::record_past))]
+fn record_at(records: &[Option<Record>; 4], chain: &[Ebr], k: usize) -> Option<Record>
+    ensures { result ≡ slice_index_or (records_in records.now chain.now) k None }
+{
+    if k < 4 {
+        return records[k];
+    }
+    match chain.get(k - 4) {
+        Some(ebr) => ebr.logical,
+        None => None,
+    }
+}
+
+// The row of the member in a place.
+fn place_row(body: &Body, k: usize, member: &Member) -> MemberRow
+    ensures { result ≡ row_in_place body.now k member.now }
+{
+    match body {
+        Body::Mbr { records, chain } => {
+            record_row(member, record_at(records, chain.as_slice(), k))
         }
+        Body::Gpt(table) => match table.entries.as_slice().get(k) {
+            Some(Some(entry)) => entry_row(member, entry),
+            _ => bare_row(member),
+        },
+    }
+}
+
+// The row of entry `k` of a slice's label, where it is a partition.
+fn part_row(label: &Label, slice: &Member, k: usize) -> Option<MemberRow>
+    requires small { slice.now.first < 2 ^ 66 }
+    requires within { k < 8 }
+    requires counted { length label.now.entries ≡ 8 }
+    ensures { result ≡ option_map (row_of_part (slice_index_or label.now.entries k None))
+        (slice_index_or (parts_in (Some label.now) slice.now) k None) }
+{
+    let part = part_slot(label, slice, k)?;
+    let mut row = bare_row(&part);
+    if let Some(entry) = label.entries[k] {
+        row.type_byte = entry.fstype;
+    }
+    Some(row)
+}
+
+fn push_one(rows: &mut Vec<MemberRow>, row: Option<MemberRow>) -> Result<(), AllocError>
+    ensures { OnOk result (rows.new.items ≡ rows.old.items ++ option_to_list row) }
+{
+    match row {
+        Some(row) => Ok(rows.push(row)?),
+        None => Ok(()),
+    }
+}
+
+// Adds the partitions of a slice's label.
+fn push_parts(rows: &mut Vec<MemberRow>, label: &Label, slice: &Member) -> Result<(), AllocError>
+    requires small { slice.now.first < 2 ^ 66 }
+    requires counted { length label.now.entries ≡ 8 }
+    ensures { OnOk result (rows.new.items ≡ rows.old.items ++ part_rows (Some label.now) slice.now) }
+{
+    for k in 0..8usize {
+        push_one(rows, part_row(label, slice, k))?;
     }
     Ok(())
 }
 
+// Adds what stands below a member.
+fn push_below(rows: &mut Vec<MemberRow>, layout: &Layout, member: &Member) -> Result<(), AllocError>
+    requires { member.now.first < 2 ^ 66 }
+    ensures { OnOk result (rows.new.items ≡ rows.old.items ++ rows_below layout.now member.now member.now.kind) }
+{
+    match member.kind {
+        Kind::Slice => match find_label(&layout.labels, member.path.number) {
+            Some(label) => push_parts(rows, &label, member),
+            None => Ok(()),
+        },
+        Kind::Leaf | Kind::Extended => Ok(()),
+    }
+}
+
+// Adds the member in a place, with what stands below it.
+fn push_place<const B: usize>(
+    rows: &mut Vec<MemberRow>,
+    layout: &Layout,
+    k: usize,
+) -> Result<(), AllocError>
+    requires { k < length (slots B layout.now.body) }
+    ensures { OnOk result (rows.new.items ≡ rows.old.items ++ rows_at B layout.now k) }
+{
+    match slot::<B>(&layout.body, k) {
+        Some(member) => {
+            rows.push(place_row(&layout.body, k, &member))?;
+            push_below(rows, layout, &member)
+        }
+        None => Ok(()),
+    }
+}
+
 // The rows of a layout: its records or entries by number, each slice before the partitions of its label.
-fn list<const B: usize>(alloc: Global, layout: &Layout) -> Result<Vec<MemberRow>, AllocError> {
+fn list<const B: usize>(alloc: Global, layout: &Layout) -> Result<Vec<MemberRow>, AllocError>
+    ensures { IfOk result (λ rows. rows.items ≡ rows_of B layout.now) }
+{
     let mut rows = Vec::new(alloc);
     for k in 0..slot_count::<B>(&layout.body) {
-        if let Some(member) = slot::<B>(&layout.body, k) {
-            rows.push(full_row(&layout.body, k, &member))?;
-            if member.kind == Kind::Slice {
-                add_parts(layout, &member, &mut rows)?;
-            }
-        }
+        push_place::<B>(&mut rows, layout, k)?;
     }
     Ok(rows)
 }
@@ -141,6 +216,7 @@ fn table_row(layout: &Layout) -> TableRow
 }
 
 /// Lists what a view's disk denotes, whatever stands elsewhere.
+#[tactic(auto, using(crate::proofs::Members::members_not))]
 pub fn members<const B: usize>(
     alloc: Global,
     view: &View<'_>,
@@ -149,7 +225,8 @@ pub fn members<const B: usize>(
     elsewhere: Moments<[u8; B]>,
 ) -> Answer
     requires size { IsSectorSize B }
-    ensures { Members B view.now (disk_of B view.now elsewhere.entry.items) table.new result.status result.reply }
+    ensures { Members B view.now (disk_of B view.now elsewhere.entry.items)
+        (listing table.old rows.old) (listing table.new rows.new) result.status result.reply }
 {
     let layout = match recovered::<B>(alloc, view, elsewhere) {
         Ok(layout) => layout,

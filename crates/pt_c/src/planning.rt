@@ -5,6 +5,8 @@ ghost use Rattle.pt_sector.specs.Sectors.{IsSectorSize};
 ghost use Rattle.pt_apply.specs.Plans.{phases_of};
 ghost use Rattle.pt_plan.specs.Batches.{IsReady, IsReadyToMend};
 ghost use Rattle.pt_c.specs.Known.{disk_of};
+ghost use Rattle.pt_c.specs.Words.{batch_of};
+ghost use Rattle.pt_c.specs.Given.{buffers};
 ghost use Rattle.pt_c.specs.Claims.{NoPlan, Planned, PlannedFor, NoMending, Mended};
 
 use crate::answers::Answer;
@@ -30,10 +32,10 @@ fn plan_words<const B: usize>(
     elsewhere: Moments<[u8; B]>,
 ) -> Result<Plan<B>, Answer>
     requires size { IsSectorSize B }
-    ensures ok { IfOk result (λ plan. IsReady B view.now.sectors (record { edits = edits.now; guids = guids.now })
+    ensures ok { IfOk result (λ plan. IsReady B view.now.sectors (batch_of edits.now guids.now)
         (disk_of B view.now elsewhere.entry.items) (phases_of plan)) }
-    ensures err { IfErr result (λ a. NoPlan B view.now
-        (disk_of B view.now elsewhere.entry.items) (record { edits = edits.now; guids = guids.now }) a.status a.reply) }
+    ensures err { IfErr result (λ a. NoPlan B view.now (disk_of B view.now elsewhere.entry.items)
+        (batch_of edits.now guids.now) a.status a.reply) }
 {
     let Some(mut disk) = ReplayDisk::<B>::new(view, elsewhere) else {
         return Err(Answer::bad_argument(2));
@@ -55,8 +57,8 @@ fn plan_given<const B: usize>(
     elsewhere: Moments<[u8; B]>,
 ) -> Answer
     requires size { IsSectorSize B }
-    ensures { Planned B view.now (disk_of B view.now elsewhere.entry.items) (record { edits = edits.now; guids = guids.now })
-        writes.new bytes.new result.status result.reply }
+    ensures { Planned B view.now (disk_of B view.now elsewhere.entry.items) (batch_of edits.now guids.now)
+        (buffers writes.old bytes.old) (buffers writes.new bytes.new) result.status result.reply }
 {
     match plan_words::<B>(alloc, view, edits, guids, elsewhere) {
         Ok(plan) => give_plan(alloc, &plan, writes, bytes),
@@ -76,7 +78,7 @@ pub fn planned<const B: usize>(
 ) -> Answer
     requires size { IsSectorSize B }
     ensures { PlannedFor B view.now (disk_of B view.now elsewhere.entry.items) words.now drawn.now
-        writes.new bytes.new result.status result.reply }
+        (buffers writes.old bytes.old) (buffers writes.new bytes.new) result.status result.reply }
 {
     let guids = match guids_of(alloc, drawn) {
         Ok(guids) => guids,
@@ -111,7 +113,7 @@ fn plan_repair<const B: usize>(
         return Err(Answer::bad_argument(2));
     };
     match checked_plan_for_repair::<B, _>(alloc, &mut disk) {
-        Ok(plan) => Ok(plan),
+        Ok(mending) => Ok(mending),
         Err(error) => Err(unmended(error)),
     }
 }
@@ -125,7 +127,8 @@ pub fn mended<const B: usize>(
     elsewhere: Moments<[u8; B]>,
 ) -> Answer
     requires size { IsSectorSize B }
-    ensures { Mended B view.now (disk_of B view.now elsewhere.entry.items) writes.new bytes.new result.status result.reply }
+    ensures { Mended B view.now (disk_of B view.now elsewhere.entry.items)
+        (buffers writes.old bytes.old) (buffers writes.new bytes.new) result.status result.reply }
 {
     match plan_repair::<B>(alloc, view, elsewhere) {
         Ok(plan) => give_plan(alloc, &plan, writes, bytes),

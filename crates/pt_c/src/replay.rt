@@ -1,12 +1,12 @@
 //! A disk of which some sectors are known.
 
-ghost use Rattle.std.specs.Prelude.{◌≡◌, ◌<◌, ◌≤◌, ◌*◌, ◌^◌, ℕ, List, [], ◌∷◌, length, IfSome, refl};
+ghost use Rattle.std.specs.Prelude.{◌≡◌, ◌<◌, ◌≤◌, ◌*◌, ◌^◌, ℕ, List, [], ◌∷◌, length, IfSome, IfNone, refl};
 ghost use Rattle.std.proofs.Common.{◌∙◌};
 ghost use Rattle.std.proofs.lemmas.List.FromFn.{length-map-range_with_len};
 ghost use Rattle.pt_sector.specs.Sectors.{IsSectorSize};
 ghost use Rattle.pt_sector.specs.Past.{stopped_same};
 ghost use Rattle.pt_sector.specs.Calls.{untouched_same, untouched_on};
-ghost use Rattle.pt_c.specs.Known.{known_of, whole, replay_told, disk_of, AreOf, Asks, asks_same, asks_on};
+ghost use Rattle.pt_c.specs.Known.{known_of, whole, replay_told, disk_of, IsView, AreOf, Asks, asks_same, asks_on};
 
 use crate::view::View;
 use pt_sector::{Disk, Fault, Lba, Moments};
@@ -32,6 +32,7 @@ impl<'a, const B: usize> ReplayDisk<'a, B> {
         requires { IsSectorSize B }
         ensures seen { IfSome result (λ d. (⟦<ReplayDisk<'a, B> as Disk<B>>⟧.told d).seen ≡ disk_of B view.now elsewhere.entry.items) }
         ensures view { IfSome result (λ d. AreOf B view.now d.sectors d.numbers.now d.known.now) }
+        ensures none { IfNone result (¬ IsView B view.now) }
         ensures fresh { IfSome result (λ d. d.failed.items ≡ []) }
     {
         let (known, rest) = view.bytes.as_chunks::<B>();

@@ -1,10 +1,10 @@
 //! Plans that C gives.
 
-ghost use Rattle.std.specs.Prelude.{◌≡◌, IfOk, IfErr, IsTrue};
+ghost use Rattle.std.specs.Prelude.{◌≡◌, IfOk, IfErr, IsTrue, IsFalse};
 ghost use Rattle.pt_sector.specs.Sectors.{IsSectorSize};
-ghost use Rattle.pt_apply.specs.Plans.{phases_of};
-ghost use Rattle.pt_c.specs.Given.{rows_from, sectors_of, phases_read, IsNumbered, Took, AreTaken};
-ghost use Rattle.pt_c.specs.Claims.{IsUnasked};
+ghost use Rattle.pt_apply.specs.Plans.{phases_of, phases_in};
+ghost use Rattle.pt_c.specs.Given.{rows_from, sectors_of, phases_read, AreFull, IsNumbered, IsGrowing, IsMisplaced, Took, AreTaken};
+ghost use Rattle.pt_c.specs.Claims.{IsUnasked, AreNoPlan};
 ghost use Rattle.pt_c.specs.declared.answers.Status.TheVariants as status;
 
 use crate::answers::{About, Answer, Status};
@@ -31,7 +31,8 @@ fn take_write<const B: usize>(
 ) -> Result<bool, AllocError>
     requires size { IsSectorSize B }
     requires numbered { IsNumbered partial.old }
-    ensures { IfOk result (λ good. IsTrue good → Took row.now bytes.now partial.old partial.new) }
+    ensures good { IfOk result (λ good. IsTrue good → Took row.now bytes.now partial.old partial.new) }
+    ensures bad { IfOk result (λ good. IsFalse good → IsMisplaced row.now partial.old) }
 {
     let write = Write {
         lba: Lba(row.sector),
@@ -55,6 +56,7 @@ fn take_write<const B: usize>(
 // The plan that was read.
 fn finish<const B: usize>(partial: Partial<B>) -> Result<Plan<B>, AllocError>
     ensures rows { IfOk result (λ plan. rows_from 1 (phases_of plan) ≡ rows_from 1 (phases_read partial.entry)) }
+    ensures full { IfOk result (λ plan. AreFull (phases_in partial.entry.phases.items) → AreFull (phases_of plan)) }
     ensures sectors { IfOk result (λ plan. sectors_of (phases_of plan) ≡ sectors_of (phases_read partial.entry)) }
 {
     let Partial {
@@ -84,7 +86,7 @@ pub fn take_plan<const B: usize>(
 ) -> Result<Plan<B>, Answer>
     requires size { IsSectorSize B }
     ensures ok { IfOk result (λ plan. AreTaken B (phases_of plan) writes.now bytes.now) }
-    ensures err { IfErr result (λ a. IsUnasked a.status) }
+    ensures err { IfErr result (λ a. IsUnasked (AreNoPlan B writes.now bytes.now) a.status) }
 {
     let (sectors, rest) = bytes.as_chunks::<B>();
     if !rest.is_empty() || sectors.len() != writes.len() {

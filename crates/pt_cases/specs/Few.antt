@@ -10,17 +10,17 @@ use Rattle.pt_gpt.specs.Array.{array_len}
 use Rattle.pt_gpt.specs.declared.table.Side.TheVariants.{Primary, Backup}
 use Rattle.pt_gpt.specs.declared.table.Table.{Table}
 use Rattle.pt_recover.specs.Denotes.{Denotes}
-use Rattle.pt_recover.specs.Labels.{places_of, place_of, IsPlace}
-use Rattle.pt_recover.specs.declared.layout.Body.TheVariants.{Mbr, Gpt}
-use Rattle.pt_recover.specs.declared.layout.Labelled.{Labelled}
-use Rattle.pt_recover.specs.declared.layout.Layout.{Layout}
-use Rattle.pt_recover.specs.declared.layout.Slice.{Slice}
+use Rattle.pt_members.specs.Slices.{places_of, place_of, IsPlace}
+use Rattle.pt_members.specs.declared.layout.Body.TheVariants.{Mbr, Gpt}
+use Rattle.pt_members.specs.declared.layout.Labelled.{Labelled}
+use Rattle.pt_members.specs.declared.layout.Layout.{Layout}
+use Rattle.pt_members.specs.declared.layout.Slice.{Slice}
 use Rattle.pt_apply.specs.Plans.{writes_in}
 use Rattle.pt_cases.specs.Cases.{Copies, IsPlan, idle, backup_first, primary_first, from_mbr, one_label, within_mbr, IsBackupFirst}
 use Rattle.pt_cases.specs.Cases.{IsPrimaryFirst, IsFromMbr, backup_first_phases, primary_first_phases, from_mbr_phases}
 use Rattle.pt_cases.specs.Cases.{labels_and_backup, primary_and_labels, copies_and_labels}
 use Rattle.pt_cases.specs.Copies.{array_phase, backup_phase, one_write, closing, Protects}
-use Rattle.pt_cases.specs.Sides.{array_count}
+use Rattle.pt_cases.specs.laws.Sides.{array_count}
 use Rattle.pt_shape.specs.Along.{Along}
 use Rattle.pt_cases.specs.Targets.{Had, Set, IsLabelSet, stood, set, there}
 

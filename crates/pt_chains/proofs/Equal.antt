@@ -10,7 +10,7 @@ use Rattle.pt_mbr.specs.declared.record.Record.{Record}
 use Rattle.pt_mbr.specs.declared.ebr.Ebr.{Ebr}
 use Rattle.pt_mbr.specs.contracts.ebr.EbrPartialEq.TheImpl as ebr_eq
 use Rattle.pt_mbr.specs.contracts.record.RecordPartialEq.TheImpl as record_eq
-use Rattle.pt_bsd.specs.Equal.{also, decides_as, option_decides, list_decides}
+use Rattle.pt_bsd.specs.laws.Equal.{also, decides_as, option_decides, list_decides}
 
 lba_decides : (a b : Lba) → Decides (lba_eq.eq-value.it a b) (a ≡ b)
 lba_decides a b =

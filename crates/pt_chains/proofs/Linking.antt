@@ -9,7 +9,7 @@ use Rattle.pt_mbr.specs.Chain.{IsInside, IsUpward, StandsAt, lba}
 use Rattle.pt_mbr.specs.declared.ebr.Ebr.{Ebr}
 use Rattle.pt_mbr.specs.declared.record.Record.{Record}
 use Rattle.pt_shape.specs.Links.{LinkedOn, IsLinked}
-use Rattle.pt_recover.specs.Mbr.{extent_of}
+use Rattle.pt_mbr.specs.Extended.{extent_of}
 
 -- what is left from a place on opens with what stands there
 pub opened : {X : Type 0} (xs : List X) (k : ℕ) (z x : X) → k < length xs → get_or xs k z ≡ x → drop k xs ≡ x ∷ drop (k + 1) xs

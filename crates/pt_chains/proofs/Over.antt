@@ -9,7 +9,7 @@ use Rattle.pt_mbr.specs.Record.{IsExtendedKind, record_bytes}
 use Rattle.pt_mbr.specs.Mbr.{IsBootIndicator, HasBootIndicators}
 use Rattle.pt_mbr.specs.Ebr.{EbrBytes, NextIs, HasZeros, HasBadLogical, HasBadLink}
 use Rattle.pt_mbr.specs.Changes.{IsChanged}
-use Rattle.pt_mbr.specs.One.{ebr_one}
+use Rattle.pt_mbr.specs.laws.One.{ebr_one}
 use Rattle.pt_mbr.specs.declared.record.Record.{Record}
 use Rattle.pt_mbr.specs.declared.ebr.Ebr.{Ebr}
 use Rattle.pt_cases.specs.Records.{IsEbrOver, IsRecordTarget, record_at}

@@ -6,7 +6,7 @@ use Rattle.pt_sector.specs.Sectors.{Sectors, Agrees}
 use Rattle.pt_sector.specs.Writes.{Writes, after}
 use Rattle.pt_layout.specs.declared.finding.Finding.{Finding}
 use Rattle.pt_apply.specs.Promises.{Safe, Keeps, Switches}
-use Rattle.pt_check.specs.Accepted.{no_read, no_neither, same_or, most_or}
+use Rattle.pt_check.specs.laws.Accepted.{no_read, no_neither, same_or, most_or}
 use Rattle.pt_check.specs.Course.{IsCalm, Course, switch_number}
 use Rattle.pt_apply.specs.Plans.{writes_in, NoneIs}
 use Rattle.pt_check.specs.Reasons.{stage, turn, most_writes, FirstWrite, FirstSector, IsOutside, ChangesBoot, ReadsSector, Leads}

@@ -3,12 +3,12 @@ use Rattle.std.proofs.Common.{◌≡◌, ◌⊎◌, inl, inr, ℕ, ◌+◌, ◌*
 use Rattle.pt_sector.specs.Sectors.{Sectors, Agrees}
 use Rattle.pt_sector.specs.Writes.{Writes, after}
 use Rattle.pt_recover.specs.Denotes.{Denotes, Reads}
-use Rattle.pt_recover.specs.Laws.{denotes_one_lem, reads_decide_lem}
-use Rattle.pt_recover.specs.declared.layout.Layout.{Layout}
+use Rattle.pt_recover.specs.laws.Terms.{denotes_one_lem, reads_decide_lem}
+use Rattle.pt_members.specs.declared.layout.Layout.{Layout}
 use Rattle.pt_layout.specs.declared.finding.Finding.{Finding}
 use Rattle.pt_layout.specs.Findings.{IsFinding}
 use Rattle.pt_layout.specs.Healthy.{Healthy}
-use Rattle.pt_layout.specs.Laws.{finding_excludes_lem}
+use Rattle.pt_layout.specs.laws.Terms.{finding_excludes_lem}
 use Rattle.pt_check.specs.Course.{Course, IsCalm, switch_number}
 use Rattle.pt_apply.specs.Plans.{writes_in, NoneIs}
 use Rattle.pt_check.specs.First.{FirstWriteIs}
@@ -16,9 +16,9 @@ use Rattle.pt_check.specs.Reasons.{stage, turn, most_writes, FirstWrite, IsOutsi
 use Rattle.pt_check.specs.Trials.{TrialIs}
 use Rattle.pt_sector.specs.declared.address.Lba.{Lba}
 use Rattle.pt_check.specs.Misplaced.{MisplacedIs}
-use Rattle.pt_check.specs.Accepted.{is_switch}
-use Rattle.pt_layout.specs.Owned.{OwnedOf}
-use Rattle.pt_layout.specs.Tables.{TableOf}
+use Rattle.pt_check.specs.laws.Accepted.{is_switch}
+use Rattle.pt_members.specs.Owned.{OwnedOf}
+use Rattle.pt_members.specs.Tables.{TableOf}
 use Rattle.pt_check.specs.Answers.{WrongIs, Answers, Promises}
 use Rattle.pt_check.specs.declared.answer.Why.{Why}
 use Rattle.pt_check.specs.declared.answer.Why.TheVariants.{TooManyWrites, OutOfRange, BootCode, ReadSector, Neither, NotATable, Owned}

@@ -7,9 +7,9 @@ use Rattle.std.proofs.lemmas.List.{append_assoc, append-nil, length-map, get_or_
 use Rattle.std.proofs.lemmas.Option.{slice_get_within}
 use Rattle.pt_sector.specs.Sectors.{Sectors}
 use Rattle.pt_sector.specs.Writes.{Writes, written}
-use Rattle.pt_sector.specs.Written.{after-take_more}
+use Rattle.pt_sector.specs.laws.Written.{after-take_more}
 use Rattle.pt_check.specs.Course.{phase_at, disk_after}
-use Rattle.pt_apply.specs.Items.{phase-at}
+use Rattle.pt_apply.specs.laws.Items.{phase-at}
 use Rattle.pt_apply.specs.Plans.{writes_of, phases_in, writes_in, NoneIs}
 use Rattle.pt_apply.specs.declared.plan.Write.{Write}
 use Rattle.pt_check.specs.First.{IsFirst, FirstWriteIs}

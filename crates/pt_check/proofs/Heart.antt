@@ -7,7 +7,7 @@ use Rattle.std.proofs.Math.ListN.{get_or-eq_default}
 use Rattle.std.proofs.Math.Seq.{take-length}
 use Rattle.pt_sector.specs.Sectors.{Sectors, Agrees}
 use Rattle.pt_sector.specs.Writes.{Writes, Puts, Stopped, written, after}
-use Rattle.pt_sector.specs.Written.{stopped_none, stopped_one, agrees_stopped, after-take_more}
+use Rattle.pt_sector.specs.laws.Written.{stopped_none, stopped_one, agrees_stopped, after-take_more}
 use Rattle.pt_apply.specs.Runs.{StoppedIn}
 use Rattle.pt_apply.specs.Promises.{Switches}
 use Rattle.pt_check.specs.Course.{phase_at, disk_after, IsCalm, LayoutsAre, switch_number}

@@ -8,8 +8,8 @@ use Rattle.std.proofs.lemmas.Bool.{cases_lt}
 use Rattle.std.proofs.Math.ListN.{get_or-eq_default}
 use Rattle.pt_sector.specs.Sectors.{Sectors, sector}
 use Rattle.pt_sector.specs.Writes.{Writes, Puts, Stopped, written, after}
-use Rattle.pt_sector.specs.Written.{stopped_written}
-use Rattle.pt_apply.specs.Puts.{puts_split, puts_left, puts_right}
+use Rattle.pt_sector.specs.laws.Written.{stopped_written}
+use Rattle.pt_apply.specs.laws.Puts.{puts_split, puts_left, puts_right}
 use Rattle.pt_apply.specs.Runs.{StoppedIn}
 use Rattle.pt_apply.specs.Promises.{boot_code, Keeps}
 use Rattle.pt_check.specs.Course.{phase_at, disk_after}

@@ -6,3 +6,4 @@ pub mod Keeping
 pub mod Answering
 pub mod Exits
 pub mod Ranges
+pub mod Finishing

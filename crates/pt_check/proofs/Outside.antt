@@ -4,7 +4,7 @@ use Rattle.std.specs.Prelude.{Result, OnOk, IfOk, IfErr}
 use Rattle.pt_sector.specs.Sectors.{Sectors}
 use Rattle.pt_recover.specs.Denotes.{Denotes}
 use Rattle.pt_recover.specs.Answers.{IsOutside, TellsNothing, IsTraceOf, failure_in}
-use Rattle.pt_recover.specs.declared.layout.Layout.{Layout}
+use Rattle.pt_members.specs.declared.layout.Layout.{Layout}
 use Rattle.pt_recover.specs.declared.error.NoTable.{NoTable}
 use Rattle.pt_recover.specs.declared.error.NoTable.TheVariants.{NoCopy, Chain, TwoExtended, TooSmall, Device, Memory}
 use Rattle.pt_check.specs.Recovered.{IsOf}

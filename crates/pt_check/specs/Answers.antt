@@ -9,8 +9,8 @@ use Rattle.pt_recover.specs.Denotes.{Denotes, Reads}
 use Rattle.pt_layout.specs.declared.finding.Finding.{Finding}
 use Rattle.pt_layout.specs.Findings.{IsFinding}
 use Rattle.pt_layout.specs.Healthy.{Healthy}
-use Rattle.pt_layout.specs.Owned.{OwnedOf}
-use Rattle.pt_layout.specs.Tables.{TableOf}
+use Rattle.pt_members.specs.Owned.{OwnedOf}
+use Rattle.pt_members.specs.Tables.{TableOf}
 use Rattle.pt_check.specs.Reasons.{IsAnswer}
 use Rattle.pt_check.specs.declared.answer.Answer.{Answer}
 use Rattle.pt_check.specs.declared.answer.Answer.TheVariants.{No, Yes}

@@ -1,9 +1,9 @@
 -- Writes in the wrong place.
 use Rattle.std.specs.Prelude.{◌≡◌, ◌⊎◌, ℕ, List, Option, Some, None}
 use Rattle.pt_sector.specs.Writes.{Writes}
-use Rattle.pt_recover.specs.declared.layout.Layout.{Layout}
-use Rattle.pt_layout.specs.Owned.{OwnedOf}
-use Rattle.pt_layout.specs.Tables.{TableOf}
+use Rattle.pt_members.specs.declared.layout.Layout.{Layout}
+use Rattle.pt_members.specs.Owned.{OwnedOf}
+use Rattle.pt_members.specs.Tables.{TableOf}
 use Rattle.pt_apply.specs.Plans.{NoneIs}
 use Rattle.pt_check.specs.First.{FirstWriteIs}
 use Rattle.pt_check.specs.declared.answer.Why.{Why}

@@ -10,11 +10,12 @@ ghost use Rattle.pt_check.specs.Course.{switch_number};
 ghost use Rattle.pt_check.specs.Failed.{fault_in};
 ghost use Rattle.pt_check.specs.Misplaced.{MisplacedIs};
 ghost use Rattle.pt_check.specs.Reasons.{IsFit};
+ghost use Rattle.pt_check.specs.Recovered.{IsOf};
 
 use crate::answer::{Answer, Why};
 use crate::boot::other_boot_code;
 use crate::error::CheckError;
-use crate::finished::{finished_finding, finished_layout};
+use crate::finished::{Finished, read_finished};
 use crate::objection::first_in_plan;
 use crate::places::{NoTable, OutOfRange, OwnedByOne};
 use crate::recovered::{Recovered, read_layout};
@@ -45,6 +46,25 @@ pub fn check<const B: usize, D: Disk<B>>(
     ensures answers { D.tells → IfOk result (λ a. Answers B (D.told disk.old).seen (phases_of plan.now) a) }
     ensures promises { D.tells → IfOk result (λ a. Promises B (D.told disk.old).seen (phases_of plan.now) a) }
 {
+    let before = read_layout(alloc, disk)?;
+    check_known(alloc, disk, plan, before)
+}
+
+/// The same answer, where it is known what the disk denotes, and by which sectors: those aren't read again.
+pub fn check_known<const B: usize, D: Disk<B>>(
+    alloc: Global,
+    disk: &mut D,
+    plan: &Plan<B>,
+    before: Recovered,
+) -> Result<Answer, CheckError>
+    requires size { IsSectorSize B }
+    requires known { D.tells → IsOf B (D.told disk.old).seen before }
+    ensures same { OnlyReads D.Disk disk.old disk.new }
+    ensures blames { Blames fault_in result (D.faults disk.old) (D.faults disk.new) }
+    ensures in_range { IfOk result (λ a. Fits (D.count disk.old) plan.now a) }
+    ensures answers { D.tells → IfOk result (λ a. Answers B (D.told disk.old).seen (phases_of plan.now) a) }
+    ensures promises { D.tells → IfOk result (λ a. Promises B (D.told disk.old).seen (phases_of plan.now) a) }
+{
     let count = match count_writes(plan) {
         Some(count) => count,
         None => return Ok(Answer::No(Why::TooManyWrites)),
@@ -54,7 +74,7 @@ pub fn check<const B: usize, D: Disk<B>>(
         return Ok(Answer::No(Why::OutOfRange(found.number)));
     }
     match other_boot_code(disk, plan)? {
-        None => check_phases(alloc, disk, plan, count),
+        None => check_phases(alloc, disk, plan, count, before),
         Some(number) => Ok(Answer::No(Why::BootCode(number))),
     }
 }
@@ -65,19 +85,24 @@ fn check_phases<const B: usize, D: Disk<B>>(
     disk: &mut D,
     plan: &Plan<B>,
     count: usize,
+    before: Recovered,
 ) -> Result<Answer, CheckError>
     requires size { IsSectorSize B }
     requires few { length (writes_in (phases_of plan.now)) ≤ 4096 }
     requires room { count ≡ length (writes_in (phases_of plan.now)) }
     requires fit { D.tells → IsFit (D.told disk.old).seen (phases_of plan.now) }
+    requires known { D.tells → IsOf B (D.told disk.old).seen before }
     ensures same { OnlyReads D.Disk disk.old disk.new }
     ensures blames { Blames fault_in result (D.faults disk.old) (D.faults disk.new) }
     ensures answers { D.tells → IfOk result (λ a. Answers B (D.told disk.old).seen (phases_of plan.now) a) }
     ensures promises { D.tells → IfOk result (λ a. Promises B (D.told disk.old).seen (phases_of plan.now) a) }
 {
-    let before = read_layout(alloc, disk)?;
+    let end = read_finished(alloc, disk, plan, count)?;
     let Recovered { layout: old, trace } = before;
-    let new = finished_layout(alloc, disk, plan, count)?;
+    let Finished {
+        layout: new,
+        finding,
+    } = end;
     let layouts = Layouts { old, new };
     let switch = match try_phases(alloc, disk, plan, count, &layouts, trace)? {
         Trial::Passed(switch) => switch,
@@ -86,7 +111,7 @@ fn check_phases<const B: usize, D: Disk<B>>(
     if let Some(why) = misplaced(plan, &layouts) {
         return Ok(Answer::No(why));
     }
-    match finished_finding(alloc, disk, plan, count)? {
+    match finding {
         None => Ok(Answer::Yes {
             switch: number(switch),
         }),

@@ -1,21 +1,21 @@
 //! The disk with the whole plan written, seen through an overlay.
 
-ghost use Rattle.std.specs.Prelude.{◌≡◌, ◌≤◌, length, IfOk};
+ghost use Rattle.std.specs.Prelude.{◌≡◌, ◌≤◌, ℕ, length, IfOk};
 ghost use Rattle.pt_sector.specs.Calls.{Blames};
 ghost use Rattle.pt_sector.specs.Reads.{OnlyReads};
-ghost use Rattle.pt_sector.specs.Sectors.{IsSectorSize};
+ghost use Rattle.pt_sector.specs.Sectors.{Sectors, IsSectorSize};
 ghost use Rattle.pt_sector.specs.Writes.{after};
 ghost use Rattle.pt_sector.specs.Overlays.{room_left};
 ghost use Rattle.pt_apply.specs.Plans.{phases_of, finished, writes_in};
 ghost use Rattle.pt_recover.specs.Denotes.{Denotes};
+ghost use Rattle.pt_layout.specs.Surveys.{IsSurvey};
 ghost use Rattle.pt_check.specs.Failed.{fault_in};
 ghost use Rattle.pt_check.specs.Answers.{WrongIs};
 
 use crate::error::CheckError;
-use crate::recovered::{Recovered, read_layout};
 use crate::trial::put_phase;
 use pt_apply::Plan;
-use pt_layout::{Finding, Layout, Verdict, verify};
+use pt_layout::{Finding, Layout, Survey, survey_disk};
 use pt_sector::{Disk, Overlay, Room};
 use std::alloc::Global;
 
@@ -34,45 +34,41 @@ fn put_plan<'a, const B: usize, D: Disk<B>>(over: &mut Overlay<'a, D, B>, plan: 
     }
 }
 
-/// What the finished disk denotes. `count` is the number of the plan's writes.
-pub(crate) fn finished_layout<const B: usize, D: Disk<B>>(
-    alloc: Global,
-    disk: &mut D,
-    plan: &Plan<B>,
-    count: usize,
-) -> Result<Option<Layout>, CheckError>
-    requires size { IsSectorSize B }
-    requires room { count ≡ length (writes_in (phases_of plan.now)) }
-    ensures same { OnlyReads D.Disk disk.old disk.new }
-    ensures blames { Blames fault_in result (D.faults disk.old) (D.faults disk.new) }
-    ensures layout { D.tells → IfOk result (λ o. Denotes B (finished plan.now (D.told disk.old).seen) o) }
-{
-    let room = Room::new(alloc, count)?;
-    let mut over = Overlay::new(disk, room);
-    put_plan(&mut over, plan);
-    let found = read_layout(alloc, &mut over)?;
-    let Recovered { layout, trace: _ } = found;
-    Ok(layout)
+/// What the finished disk denotes, and what is wrong with it, none where it is healthy.
+#[derive(Drop)]
+pub(crate) struct Finished {
+    pub layout: Option<Layout>,
+    pub finding: Option<Finding>,
 }
 
-/// What is wrong with the finished disk, none where it is healthy.
-pub(crate) fn finished_finding<const B: usize, D: Disk<B>>(
+fn finished_of(told: Survey) -> Finished
+    ensures layout { (b : ℕ) (d : Sectors) → IsSurvey b d told → Denotes b d result.layout }
+    ensures wrong { (b : ℕ) (d : Sectors) → IsSurvey b d told → WrongIs b d result.finding }
+{
+    let Survey { found, finding, .. } = told;
+    Finished {
+        layout: found.ok(),
+        finding,
+    }
+}
+
+/// What one reading of the finished disk tells. `count` is the number of the plan's writes.
+pub(crate) fn read_finished<const B: usize, D: Disk<B>>(
     alloc: Global,
     disk: &mut D,
     plan: &Plan<B>,
     count: usize,
-) -> Result<Option<Finding>, CheckError>
+) -> Result<Finished, CheckError>
     requires size { IsSectorSize B }
     requires room { count ≡ length (writes_in (phases_of plan.now)) }
     ensures same { OnlyReads D.Disk disk.old disk.new }
     ensures blames { Blames fault_in result (D.faults disk.old) (D.faults disk.new) }
-    ensures wrong { D.tells → IfOk result (λ f. WrongIs B (finished plan.now (D.told disk.old).seen) f) }
+    ensures layout { D.tells → IfOk result (λ f. Denotes B (finished plan.now (D.told disk.old).seen) f.layout) }
+    ensures wrong { D.tells → IfOk result (λ f. WrongIs B (finished plan.now (D.told disk.old).seen) f.finding) }
 {
     let room = Room::new(alloc, count)?;
     let mut over = Overlay::new(disk, room);
     put_plan(&mut over, plan);
-    match verify(alloc, &mut over)? {
-        Verdict::Yes(_) => Ok(None),
-        Verdict::No(finding) => Ok(Some(finding)),
-    }
+    let told = survey_disk(alloc, &mut over)?;
+    Ok(finished_of(told))
 }

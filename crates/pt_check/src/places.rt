@@ -2,8 +2,8 @@
 
 ghost use Rattle.std.specs.Prelude.{◌≡◌, ◌<◌, ◌⊎◌, ◌↔◌, IsTrue};
 ghost use Rattle.pt_sector.specs.Sectors.{IsSectorSize};
-ghost use Rattle.pt_layout.specs.Owned.{OwnedOf};
-ghost use Rattle.pt_layout.specs.Tables.{TableOf};
+ghost use Rattle.pt_members.specs.Owned.{OwnedOf};
+ghost use Rattle.pt_members.specs.Tables.{TableOf};
 
 use crate::objection::Objection;
 use crate::trial::Layouts;

@@ -12,7 +12,7 @@ use std::alloc::Global;
 
 /// What a disk denotes, a layout or nothing, and the sectors that decide it.
 #[derive(Drop)]
-pub(crate) struct Recovered {
+pub struct Recovered {
     pub layout: Option<Layout>,
     pub trace: Trace,
 }

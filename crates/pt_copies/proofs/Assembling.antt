@@ -9,7 +9,7 @@ use Rattle.pt_gpt.specs.declared.table.Table.{Table}
 use Rattle.pt_sector.specs.Writes.{Writes}
 use Rattle.pt_cases.specs.Cases.{backup_first_phases, primary_first_phases, from_mbr_phases, primary_and_labels, labels_and_backup}
 use Rattle.pt_cases.specs.Copies.{header_of, IsWrittenHeader, array_writes, array_phase, one_write, closing, backup_phase}
-use Rattle.pt_cases.specs.Sides.{array_none, array_suc}
+use Rattle.pt_cases.specs.laws.Sides.{array_none, array_suc}
 use Rattle.pt_copies.specs.Added.{AddsBackup, ArePrimary}
 use Rattle.pt_copies.specs.Written.{last_of, WroteCopies}
 use Rattle.pt_copies.proofs.Ranges.{writes_more}

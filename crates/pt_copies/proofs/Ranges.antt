@@ -6,7 +6,7 @@ use Rattle.std.specs.declared.alloc.Global.{Global}
 use Rattle.pt_sector.specs.Writes.{Writes, Puts}
 use Rattle.pt_apply.specs.Plans.{writes_of, phases_in, PhaseInRange, writes_in}
 use Rattle.pt_apply.specs.declared.plan.Write.{Write}
-use Rattle.pt_apply.specs.Puts.{puts_left, puts_right}
+use Rattle.pt_apply.specs.laws.Puts.{puts_left, puts_right}
 
 pub writes_both : {b : _} (ws xs : List (Write b)) → writes_of (ws ++ xs) ≡ writes_of ws ++ writes_of xs
 writes_both ws xs = map-append (λ (x : Write _). (x.lba.0, x.bytes)) ws xs

@@ -14,9 +14,10 @@ use Rattle.pt_gpt.specs.declared.table.Table.{Table}
 use Rattle.pt_cases.specs.Cases.{backup_first_phases, primary_first_phases, from_mbr_phases, labels_and_backup, primary_and_labels}
 use Rattle.pt_cases.specs.Cases.{copies_and_labels}
 use Rattle.pt_cases.specs.Copies.{array_phase, one_write, closing, backup_phase}
-use Rattle.pt_cases.specs.Sides.{array_count}
+use Rattle.pt_cases.specs.laws.Sides.{array_count}
 use Rattle.pt_copies.specs.Written.{last_of, WroteCopies}
-use Rattle.pt_copies.specs.Reached.{Reaches, reaches_below, last_reached, backup_first_reached, primary_first_reached, from_mbr_reached}
+use Rattle.pt_copies.specs.Reached.{Reaches}
+use Rattle.pt_copies.specs.laws.Reached.{reaches_below, last_reached, backup_first_reached, primary_first_reached, from_mbr_reached}
 use Rattle.pt_copies.proofs.Ranges.{puts_below, phases_below, length_writes, NoneEmpty, phases_some, count_more}
 
 array_some : (b : ℕ) → IsSectorSize b → 0 < array_len b

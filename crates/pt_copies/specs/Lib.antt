@@ -1,3 +1,4 @@
 pub mod Added
 pub mod Reached
 pub mod Written
+pub mod laws

@@ -4,10 +4,9 @@ ghost use Rattle.pt_sector.specs.Sectors.{IsSectorSize};
 
 use crate::compared::{agrees, compared};
 use crate::disks::{MOST, copied};
-use pt_apply::Plan;
+use pt_apply::{Plan, read_plan};
 use pt_file::{Access, FileDisk, open_plain};
 use pt_sector::Disk;
-use pt_text::read_plan;
 use std::fs::{File, Files};
 use std::io::Read;
 use std::test::Fail;

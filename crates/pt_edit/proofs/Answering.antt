@@ -8,24 +8,24 @@ use Rattle.pt_gpt.specs.Array.{array_len}
 use Rattle.pt_gpt.specs.declared.table.Table.{Table}
 use Rattle.pt_mbr.specs.declared.record.Record.{Record}
 use Rattle.pt_mbr.specs.declared.ebr.Ebr.{Ebr}
-use Rattle.pt_recover.specs.Gpt.{HasRoom}
-use Rattle.pt_recover.specs.declared.layout.Layout.{Layout}
-use Rattle.pt_recover.specs.declared.layout.Body.{Body}
-use Rattle.pt_recover.specs.declared.layout.Body.TheVariants.{Mbr, Gpt}
-use Rattle.pt_layout.specs.OnePath.{HasFour}
-use Rattle.pt_words.specs.Searches.{Decided, le_decided}
+use Rattle.pt_gpt.specs.Array.{HasRoom}
+use Rattle.pt_members.specs.declared.layout.Layout.{Layout}
+use Rattle.pt_members.specs.declared.layout.Body.{Body}
+use Rattle.pt_members.specs.declared.layout.Body.TheVariants.{Mbr, Gpt}
+use Rattle.pt_members.specs.OnePath.{HasFour}
+use Rattle.pt_words.specs.laws.Searches.{Decided, le_decided}
 use Rattle.pt_words.specs.declared.error.Refusal.{Refusal}
 use Rattle.pt_words.specs.declared.error.Refusal.TheVariants.{NotForThisTable, NoFreshGuid, NoRoomForGpt, NameTooLong, SameGuid}
 use Rattle.pt_words.specs.declared.word.Code.{Code}
 use Rattle.pt_words.specs.declared.word.Edit.{Edit}
 use Rattle.pt_words.specs.declared.word.Edit.TheVariants.{Align, New, Delete, SetKind, SetName, SetUnique, SetDisk, SetBit, Extend, ToGpt}
 use Rattle.pt_words.specs.declared.word.Edit.TheVariants.{Empty}
-use Rattle.pt_labels.specs.Answers.{part_typed_answers_lem, part_deleted_answers_lem, part_new_answers_lem}
+use Rattle.pt_labels.specs.laws.Answers.{part_typed_answers_lem, part_deleted_answers_lem, part_new_answers_lem}
 use Rattle.pt_records.specs.Typed.{RecordTyped, RecordNotTyped}
 use Rattle.pt_records.specs.Deleted.{RecordDeleted, RecordNotDeleted}
 use Rattle.pt_records.specs.Created.{RecordNew, RecordNotNew}
-use Rattle.pt_records.specs.Answers.{typed_answers_lem, deleted_answers_lem, new_answers_lem}
-use Rattle.pt_convert.proofs.Answering.{convert_answers_lem}
+use Rattle.pt_records.specs.laws.Answers.{typed_answers_lem, deleted_answers_lem, new_answers_lem}
+use Rattle.pt_edit.proofs.Converting.{convert_answers_lem}
 use Rattle.pt_edit.specs.Names.{units_of}
 use Rattle.pt_edit.specs.Changes.{Elsewhere}
 use Rattle.pt_edit.specs.Spots.{EntryTyped, EntryNotTyped, EntryDeleted, EntryNotDeleted}

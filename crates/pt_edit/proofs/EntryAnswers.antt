@@ -6,22 +6,23 @@ use Rattle.std.proofs.lemmas.Bool.{cases_lt, cases_eq}
 use Rattle.pt_guid.specs.declared.guid.Guid.{Guid}
 use Rattle.pt_gpt.specs.declared.entry.Entry.{Entry}
 use Rattle.pt_gpt.specs.declared.table.Table.{Table}
-use Rattle.pt_recover.specs.declared.layout.Layout.{Layout}
-use Rattle.pt_recover.specs.declared.layout.Body.{Body}
-use Rattle.pt_recover.specs.declared.layout.Body.TheVariants.{Mbr, Gpt}
-use Rattle.pt_words.specs.Searches.{Decided, both_decided, either_decided, alike_decided, le_decided, lt_decided, eq_decided, true_decided}
-use Rattle.pt_words.specs.Searches.{option_cases, search_below}
+use Rattle.pt_members.specs.declared.layout.Layout.{Layout}
+use Rattle.pt_members.specs.declared.layout.Body.{Body}
+use Rattle.pt_members.specs.declared.layout.Body.TheVariants.{Mbr, Gpt}
+use Rattle.pt_words.specs.laws.Searches.{Decided, both_decided, either_decided, alike_decided, le_decided, lt_decided, eq_decided}
+use Rattle.pt_words.specs.laws.Searches.{true_decided}
+use Rattle.pt_words.specs.laws.Searches.{option_cases, search_below}
 use Rattle.pt_words.specs.declared.error.Refusal.{Refusal}
 use Rattle.pt_words.specs.declared.error.Refusal.TheVariants.{NoSuchPartition, NumberTaken, NoSpace, UnknownCode, ContainerType}
 use Rattle.pt_words.specs.declared.error.Refusal.TheVariants.{NotForThisTable, NoFreshGuid, SameGuid}
 use Rattle.pt_words.specs.declared.word.Code.{Code}
 use Rattle.pt_space.specs.declared.space.Run.{Run}
-use Rattle.pt_space.specs.Answers.{PlacedOr, place_answers_lem}
+use Rattle.pt_space.specs.laws.Answers.{PlacedOr, place_answers_lem}
 use Rattle.pt_labels.specs.Lists.{without_label}
-use Rattle.pt_convert.proofs.Answering.{guids_decided}
+use Rattle.pt_edit.proofs.Converting.{guids_decided}
 use Rattle.pt_edit.specs.Changes.{IsGpt, HasEntry, with_entry, with_body, Changed, Missing, no_gpt, no_entry, NotChanged, missing, barred}
 use Rattle.pt_edit.specs.Changes.{IsElsewhere, Elsewhere, TableMade, NoTable}
-use Rattle.pt_labels.specs.Retyped.{IsRetyped, retyped_or}
+use Rattle.pt_labels.specs.laws.Retyped.{IsRetyped, retyped_or}
 use Rattle.pt_edit.specs.Spots.{is_slice, entry_type, EntryTyped, EntryNotTyped, EntryDeleted}
 use Rattle.pt_edit.specs.Spots.{EntryNotDeleted}
 use Rattle.pt_edit.specs.NewEntry.{IsUnused, TakesNumber, given, lowest, NoNumber, no_such_number, taken, all_taken, new_type, table_area}

@@ -1,8 +1,14 @@
 pub mod Units
 pub mod Folding
-pub mod Runs
 pub mod Places
 pub mod EntryAnswers
 pub mod FourRecords
 pub mod Answering
 pub mod NoMemory
+pub mod Steps
+pub mod Counts
+pub mod Searches
+pub mod Alike
+pub mod EntryPlaces
+pub mod Numbers
+pub mod Converting

@@ -5,9 +5,9 @@ use Rattle.pt_guid.specs.declared.guid.Guid.{Guid}
 use Rattle.pt_gpt.specs.declared.table.Table.{Table}
 use Rattle.pt_mbr.specs.declared.record.Record.{Record}
 use Rattle.pt_mbr.specs.declared.ebr.Ebr.{Ebr}
-use Rattle.pt_recover.specs.declared.layout.Layout.{Layout}
-use Rattle.pt_recover.specs.declared.layout.Body.{Body}
-use Rattle.pt_recover.specs.declared.layout.Body.TheVariants.{Mbr, Gpt}
+use Rattle.pt_members.specs.declared.layout.Layout.{Layout}
+use Rattle.pt_members.specs.declared.layout.Body.{Body}
+use Rattle.pt_members.specs.declared.layout.Body.TheVariants.{Mbr, Gpt}
 use Rattle.pt_words.specs.declared.error.Refusal.{Refusal}
 use Rattle.pt_words.specs.declared.error.Refusal.TheVariants.{Memory}
 use Rattle.pt_words.specs.declared.word.Code.{Code}
@@ -18,18 +18,18 @@ use Rattle.pt_words.specs.declared.word.Edit.TheVariants.{Empty}
 use Rattle.pt_space.specs.Area.{Area}
 use Rattle.pt_space.specs.Placed.{NotLed, record_outside, record_taken, NotStarted, no_room, not_usable, not_free, not_led, NotEnded}
 use Rattle.pt_space.specs.Placed.{before_start, past_usable, past_block, NotPlaced, no_start, no_end}
-use Rattle.pt_labels.specs.Retyped.{not_retyped_real}
+use Rattle.pt_labels.specs.laws.Retyped.{not_retyped_real}
 use Rattle.pt_labels.specs.Parts as parts
 use Rattle.pt_labels.specs.New as partitions
-use Rattle.pt_logicals.specs.Chains as chains
-use Rattle.pt_logicals.specs.New as logicals
+use Rattle.pt_records.specs.Chains as chains
+use Rattle.pt_records.specs.ChainNew as logicals
 use Rattle.pt_records.specs.Records.{OfMbr}
 use Rattle.pt_records.specs.Numbers as numbers
 use Rattle.pt_records.specs.Typed as typed
 use Rattle.pt_records.specs.Deleted as deleted
 use Rattle.pt_records.specs.New as records
 use Rattle.pt_records.specs.Created as created
-use Rattle.pt_convert.specs.Converted as converted
+use Rattle.pt_edit.specs.Converted as converted
 use Rattle.pt_edit.specs.Changes as changes
 use Rattle.pt_edit.specs.Spots as spots
 use Rattle.pt_edit.specs.NewEntry as entries

@@ -3,11 +3,11 @@ use Rattle.std.specs.Prelude.{◌≡◌, ◌-◌, ◌/◌, ◌⊎◌, ℕ, List,
 use Rattle.std.specs.String.{string_bytes}
 use Rattle.pt_guid.specs.declared.guid.Guid.{Guid}
 use Rattle.pt_gpt.specs.declared.table.Table.{Table}
-use Rattle.pt_recover.specs.Gpt.{HasRoom}
-use Rattle.pt_recover.specs.declared.layout.Layout.{Layout}
-use Rattle.pt_recover.specs.declared.layout.Body.{Body}
-use Rattle.pt_recover.specs.declared.layout.Body.TheVariants.{Mbr, Gpt}
-use Rattle.pt_convert.specs.Converted.{guids_taken, Converted, NotConverted}
+use Rattle.pt_gpt.specs.Array.{HasRoom}
+use Rattle.pt_members.specs.declared.layout.Layout.{Layout}
+use Rattle.pt_members.specs.declared.layout.Body.{Body}
+use Rattle.pt_members.specs.declared.layout.Body.TheVariants.{Mbr, Gpt}
+use Rattle.pt_edit.specs.Converted.{guids_taken, Converted, NotConverted}
 use Rattle.pt_records.specs.Typed.{RecordTyped, RecordNotTyped}
 use Rattle.pt_records.specs.Deleted.{RecordDeleted, RecordNotDeleted}
 use Rattle.pt_records.specs.Created.{RecordNew, RecordNotNew}

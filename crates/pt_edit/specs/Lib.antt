@@ -5,5 +5,12 @@ pub mod NewEntry
 pub mod Edited
 pub mod Fold
 pub mod Whole
-pub mod NewLaws
-pub mod Laws
+pub mod Partitions
+pub mod Room
+pub mod Outside
+pub mod Counted
+pub mod Converted
+pub mod Twins
+pub mod Placed
+pub mod Kept
+pub mod laws

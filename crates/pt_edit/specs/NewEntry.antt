@@ -1,16 +1,18 @@
 -- The word `n` without a letter, in a GPT: a new entry.
-use Rattle.std.specs.Prelude.{◌≡◌, ◌≢◌, ◌≤◌, ◌<◌, ◌⊎◌, ◌+◌, ◌-◌, ◌^◌, ℕ, true, List, [], ◌∷◌, flat_map, length, replicate, slice_index_or}
-use Rattle.std.specs.Prelude.{Option, Some, None, if◌then◌else◌, nat_le, nat_lt, ◌&&◌}
+use Rattle.std.specs.Prelude.{◌≡◌, ◌≢◌, ◌≤◌, ◌<◌, ◌⊎◌, ◌+◌, ◌-◌, ℕ, true, List, [], ◌∷◌, length, replicate, slice_index_or}
+use Rattle.std.specs.Prelude.{Option, Some, None, if◌then◌else◌}
 use Rattle.pt_guid.specs.declared.guid.Guid.{Guid}
 use Rattle.pt_gpt.specs.declared.entry.Entry.{Entry}
 use Rattle.pt_gpt.specs.declared.table.Table.{Table}
 use Rattle.pt_bsd.specs.Empty.{empty_of}
-use Rattle.pt_recover.specs.declared.layout.Labelled.{Labelled}
-use Rattle.pt_recover.specs.declared.layout.Layout.{Layout}
-use Rattle.pt_recover.specs.declared.layout.Body.TheVariants.{Gpt}
+use Rattle.pt_members.specs.declared.layout.Labelled.{Labelled}
+use Rattle.pt_members.specs.Members.{entries_as}
+use Rattle.pt_members.specs.declared.layout.Layout.{Layout}
+use Rattle.pt_members.specs.declared.layout.Body.TheVariants.{Gpt}
 use Rattle.pt_space.specs.declared.space.Run.{Run}
 use Rattle.pt_space.specs.Area.{Area}
 use Rattle.pt_space.specs.Placed.{Placed, NotPlaced}
+use Rattle.pt_space.specs.Taken.{taken_by}
 use Rattle.pt_labels.specs.Lists.{with_new_label}
 use Rattle.pt_edit.specs.Changes.{HasEntry, Elsewhere, with_entry}
 use Rattle.pt_edit.specs.Spots.{is_slice, entry_type}
@@ -43,14 +45,9 @@ abbrev pub new_type : Option Code → Option (List ℕ)
 new_type None = entry_type (Four 0x8300)
 new_type (Some code) = entry_type code
 
--- the sectors of an entry, where they exist
-abbrev pub entry_runs : Option Entry → List Run
-entry_runs None = []
-entry_runs (Some e) = if nat_le e.first e.last && nat_lt e.last (2 ^ 63) then record { first = e.first; last = e.last } ∷ [] else []
-
 -- where a new entry may lie: in usable sectors that no other entry has
 abbrev pub table_area : Table → Area
-table_area t = record { low = t.first; high = t.last; taken = flat_map entry_runs t.entries; empties = None }
+table_area t = record { low = t.first; high = t.last; taken = taken_by (entries_as 512 1 t.entries); empties = None }
 
 -- the number, the type and the sectors of a new entry
 pub record HasPlace (t : Table) (a : Asked) (number : ℕ) (kind : List ℕ) (run : Run) : Type 0 where

@@ -3,9 +3,9 @@ use Rattle.std.specs.Prelude.{◌≡◌, ◌-◌, ℕ, Bool, false, List, slice_
 use Rattle.pt_guid.specs.Codes.{type_of}
 use Rattle.pt_gpt.specs.declared.entry.Entry.{Entry}
 use Rattle.pt_gpt.specs.declared.table.Table.{Table}
-use Rattle.pt_recover.specs.Labels.{is_slice_kind}
-use Rattle.pt_recover.specs.declared.layout.Layout.{Layout}
-use Rattle.pt_recover.specs.declared.layout.Body.TheVariants.{Gpt}
+use Rattle.pt_members.specs.Members.{is_slice_kind}
+use Rattle.pt_members.specs.declared.layout.Layout.{Layout}
+use Rattle.pt_members.specs.declared.layout.Body.TheVariants.{Gpt}
 use Rattle.pt_labels.specs.Lists.{without_label}
 use Rattle.pt_labels.specs.Retyped.{NotRetyped}
 use Rattle.pt_edit.specs.Changes.{HasEntry, with_entry, with_body}

@@ -1,8 +1,8 @@
 -- The layout of a GPT that the program has taken apart.
 use Rattle.std.specs.Prelude.{ℕ, ◌-◌, slice_set, None}
 use Rattle.pt_labels.specs.Lists.{without_label}
-use Rattle.pt_recover.specs.declared.layout.Layout.{Layout}
-use Rattle.pt_recover.specs.declared.layout.Body.TheVariants as body
+use Rattle.pt_members.specs.declared.layout.Layout.{Layout}
+use Rattle.pt_members.specs.declared.layout.Body.TheVariants as body
 use Rattle.pt_records.specs.Records as records
 use Rattle.pt_edit.specs.declared.gpt.Gpt.{Gpt}
 use Rattle.pt_edit.specs.declared.kinds.Parts.{Parts}

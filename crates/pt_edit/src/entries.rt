@@ -7,7 +7,7 @@ use crate::gpt::with_used;
 use crate::name::padded_units;
 use pt_gpt::Table;
 use pt_guid::Guid;
-use pt_recover::Layout;
+use pt_members::Layout;
 use pt_words::Refusal;
 
 // The layout with another name of one entry.

@@ -7,7 +7,7 @@ ghost use Rattle.pt_edit.specs.Edited.{Edited};
 
 use crate::state::{FIRST_ALIGNMENT, State, take_word};
 use pt_guid::Guid;
-use pt_recover::Layout;
+use pt_members::Layout;
 use pt_words::{Edit, Refusal};
 use std::alloc::Global;
 

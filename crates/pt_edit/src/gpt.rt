@@ -7,7 +7,7 @@ ghost use Rattle.pt_edit.specs.Whole.{whole_of, without_spot};
 
 use pt_gpt::{Entry, Table};
 use pt_labels::drop_label;
-use pt_recover::{Body, Labels, Layout};
+use pt_members::{Body, Labels, Layout};
 use pt_words::Refusal;
 
 /// What the layout of a GPT has.

@@ -4,8 +4,8 @@ ghost use Rattle.std.specs.Prelude.{◌≡◌};
 ghost use Rattle.pt_edit.specs.Whole.{layout_of};
 
 use crate::gpt::Gpt;
+use pt_members::{Body, Layout};
 use pt_records::MbrParts;
-use pt_recover::{Body, Layout};
 
 /// The parts of a layout by its kind.
 #[derive(Drop)]

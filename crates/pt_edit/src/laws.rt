@@ -2,11 +2,11 @@
 
 ghost use Rattle.std.specs.Prelude.{◌≡◌, ℕ, List, Option, Result, IfSome, Err};
 ghost use Rattle.pt_guid.specs.declared.guid.Guid.{Guid};
-ghost use Rattle.pt_recover.specs.declared.layout.Layout.{Layout};
+ghost use Rattle.pt_members.specs.declared.layout.Layout.{Layout};
 ghost use Rattle.pt_edit.specs.Edited.{Edited};
 ghost use Rattle.pt_words.specs.declared.error.Refusal.{Refusal};
 ghost use Rattle.pt_words.specs.declared.word.Edit.{Edit};
-ghost use Rattle.pt_layout.specs.OnePath.{HasFour};
+ghost use Rattle.pt_members.specs.OnePath.{HasFour};
 ghost use Rattle.pt_words.specs.declared.error.Refusal.TheVariants.{Memory};
 
 /// Words make one layout of another or of nothing, or are refused for one reason.

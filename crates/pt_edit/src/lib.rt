@@ -1,20 +1,35 @@
-//! What edit words make of a layout, or of nothing.
+//! What edit words make of a layout, or of nothing: all words in order, those on a GPT's entries, and `g`, which makes a GPT
+//! of an MBR.
 //!
-//! docs/commands.md has the words, docs/model.md what they mean.
+//! docs/commands.md has the words, docs/model.md what they mean. Of `g` specs/Partitions.antt says what is kept,
+//! specs/Room.antt where there is room for a GPT, specs/Converted.antt what is made and why not.
 #![tactic(auto)]
 
+mod conversion;
+mod convert;
 mod entries;
+mod entry_types;
 mod fold;
 mod gpt;
 mod kinds;
 mod laws;
 mod name;
 mod new_entry;
+mod partition;
+mod partition_entries;
+mod partitions;
 mod paths;
+mod room;
 mod spots;
 mod state;
 mod tables;
+mod twins;
 
+pub use conversion::{
+    convert_answers, converted_one, converted_taken, partitions_kept, refusal_one,
+};
+pub use convert::to_gpt;
 pub use fold::edit;
 pub use laws::{edit_answers, edited_one, memory_is_no_answer};
+pub use partitions::guids_for;
 pub use pt_words::{Code, Edit, EditError, End, Refusal, fault_is_no_word, parse_edit};

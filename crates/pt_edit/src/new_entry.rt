@@ -1,9 +1,8 @@
 //! The word `n` without a letter, in a GPT: a new entry.
 
-ghost use Rattle.std.specs.Prelude.{◌≡◌, ◌≢◌, ◌≤◌, ◌<◌, ◌^◌, ◌↔◌, ℕ, [], IsTrue, IfOk, IfErr, IfSome, IfNone, ◌∷◌, drop, flat_map};
-ghost use Rattle.std.specs.Prelude.{option_to_list, Some, None};
+ghost use Rattle.std.specs.Prelude.{◌≡◌, ◌≢◌, ◌≤◌, ◌<◌, ◌^◌, ◌↔◌, ℕ, [], IsTrue, IfOk, IfErr, IfSome, IfNone, ◌∷◌, drop, Some, None};
 ghost use Rattle.pt_space.specs.Area.{area_of};
-ghost use Rattle.pt_edit.specs.NewEntry.{IsUnused, TakesNumber, NoNumber, new_type, entry_runs, table_area, HasPlace, NoPlace, IsWrongSize};
+ghost use Rattle.pt_edit.specs.NewEntry.{IsUnused, TakesNumber, NoNumber, new_type, table_area, HasPlace, NoPlace, IsWrongSize};
 ghost use Rattle.pt_edit.specs.NewEntry.{new_entry_of, new_labels, with_new_entry, EntryMade, EntryNotMade};
 ghost use Rattle.pt_edit.specs.Whole.{whole_of};
 
@@ -14,8 +13,8 @@ use pt_bsd::empty_label;
 use pt_gpt::{Entry, Table};
 use pt_guid::Guid;
 use pt_labels::add_label;
-use pt_recover::{Labels, Layout};
-use pt_space::{Lead, Run, Space, place};
+use pt_members::{Labels, Layout};
+use pt_space::{Lead, Run, Space, place, taken_by_entries};
 use pt_words::{Asked, Code, Refusal};
 use std::alloc::{AllocError, Global};
 
@@ -78,40 +77,12 @@ fn new_type_of(code: &Option<Code>) -> Option<Guid>
     }
 }
 
-// The sectors of an entry, where they exist.
-fn run_of(entry: Option<Entry>) -> Option<Run>
-    ensures { option_to_list result ≡ entry_runs entry }
-{
-    let entry = entry?;
-    if entry.first <= entry.last && entry.last < 1 << 63 {
-        Some(Run {
-            first: u128::from(entry.first),
-            last: u128::from(entry.last),
-        })
-    } else {
-        None
-    }
-}
-
-// The sectors of the entries.
-fn taken_runs(alloc: Global, table: &Table) -> Result<Vec<Run>, AllocError>
-    ensures { IfOk result (λ runs. runs.items ≡ flat_map entry_runs table.now.entries) }
-{
-    let mut runs = Vec::new(alloc);
-    for index in 0..table.entries.len() {
-        if let Some(run) = run_of(table.entries.get(index)) {
-            runs.push(run)?;
-        }
-    }
-    Ok(runs)
-}
-
 // Where a new entry may lie.
 fn table_space(alloc: Global, table: &Table) -> Result<Space, AllocError>
     ensures area { IfOk result (λ space. area_of space ≡ table_area table.now) }
     ensures small { IfOk result (λ space. space.high < 2 ^ 64) }
 {
-    let taken = taken_runs(alloc, table)?;
+    let taken = taken_by_entries(alloc, table.entries.as_slice())?;
     Ok(Space {
         low: u128::from(table.first),
         high: u128::from(table.last),

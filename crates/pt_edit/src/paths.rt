@@ -8,8 +8,8 @@ use crate::new_entry::new_entry;
 use crate::spots::{delete_entry, set_entry_kind};
 use pt_guid::Guid;
 use pt_labels::{delete_part, new_part, set_part_kind};
-use pt_layout::Path;
-use pt_recover::Layout;
+use pt_members::Layout;
+use pt_path::Path;
 use pt_words::{Asked, Code, Refusal};
 use std::alloc::Global;
 

@@ -6,7 +6,7 @@ ghost use Rattle.pt_edit.specs.Whole.{whole_of};
 
 use crate::gpt::{Gpt, used_entry};
 use pt_guid::{Guid, type_of_code};
-use pt_recover::{Layout, is_slice_type};
+use pt_members::{Layout, is_slice_type};
 use pt_words::{Code, Refusal};
 
 // Whether a type is the slices'.

@@ -5,13 +5,14 @@ ghost use Rattle.pt_sector.specs.Sectors.{IsSectorSize};
 ghost use Rattle.pt_edit.specs.Edited.{Takes, Refuses, MakesOf, RefusedOf, MakesOn, RefusesOn, Emptied, EmptyRefused, taken_by};
 ghost use Rattle.pt_edit.specs.Fold.{state_of};
 
+use crate::convert::to_gpt;
 use crate::entries::{rename, set_bit, set_unique};
+use crate::partitions::guids_for;
 use crate::paths::{delete, new, set_kind};
 use crate::tables::{empty, extend, set_disk};
-use pt_convert::{guids_for, to_gpt};
 use pt_gpt::array_sectors;
 use pt_guid::Guid;
-use pt_recover::{Body, Layout};
+use pt_members::{Body, Layout};
 use pt_words::{Asked, Edit, Refusal};
 use std::alloc::Global;
 

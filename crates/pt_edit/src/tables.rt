@@ -2,14 +2,14 @@
 
 ghost use Rattle.std.specs.Prelude.{◌≡◌, IfOk, IfErr};
 ghost use Rattle.pt_sector.specs.Sectors.{IsSectorSize};
-ghost use Rattle.pt_recover.specs.Gpt.{HasRoom};
+ghost use Rattle.pt_gpt.specs.Array.{HasRoom};
 ghost use Rattle.pt_edit.specs.Changes.{DiskSet, Extended, NoTable, edge};
 ghost use Rattle.pt_edit.specs.Edited.{empty_gpt};
 
 use crate::gpt::Gpt;
 use pt_gpt::{Entries, Table, array_sectors};
 use pt_guid::Guid;
-use pt_recover::{Body, Labels, Layout};
+use pt_members::{Body, Labels, Layout};
 use pt_words::Refusal;
 use std::alloc::{AllocError, Global};
 

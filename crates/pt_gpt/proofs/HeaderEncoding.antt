@@ -5,7 +5,7 @@ use Rattle.pt_sum.specs.Crc.{crc_of}
 use Rattle.pt_gpt.specs.Bytes.{put_at}
 use Rattle.pt_gpt.specs.Header.{HeaderBytes, header_size}
 use Rattle.pt_gpt.specs.HeaderSector.{unsummed_from, summed_from, HeaderFits}
-use Rattle.pt_gpt.specs.Written.{number_back}
+use Rattle.pt_gpt.specs.laws.Written.{number_back}
 use Rattle.pt_gpt.specs.declared.header.Header.{Header}
 
 -- a header with a rest behind it

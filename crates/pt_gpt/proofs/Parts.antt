@@ -8,7 +8,7 @@ use Rattle.std.proofs.lemmas.List.{get_or_push, length_push, append-nil}
 use Rattle.std.proofs.Math.Seq.{drop-append-add, take-append-add}
 use Rattle.std.proofs.Math.Nat.{add-mul, one-mul}
 use Rattle.pt_sum.specs.Crc.{after_bytes}
-use Rattle.pt_sum.specs.Laws.{after_bytes-append}
+use Rattle.pt_sum.specs.laws.Terms.{after_bytes-append}
 use Rattle.pt_gpt.specs.declared.entry.Entry.{Entry}
 use Rattle.pt_sector.specs.Sectors.{Sectors, sector, IsSectorSize}
 use Rattle.pt_gpt.specs.Array.{AreEntries}

@@ -6,6 +6,4 @@ pub mod Entry
 pub mod Array
 pub mod Copy
 pub mod Answers
-pub mod Laws
-pub mod Written
-pub mod Faults
+pub mod laws

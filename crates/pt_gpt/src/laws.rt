@@ -1,6 +1,6 @@
 //! What is true of every disk and all bytes: empty functions whose contracts are the laws.
 //!
-//! The terms that they stand on are in specs/Laws.antt, for contracts above to cite.
+//! The terms that they stand on are in specs/laws/Terms.antt, for contracts above to cite.
 
 ghost use Rattle.std.specs.Prelude.{◌≡◌, ◌≤◌, ◌⊎◌, ◌↔◌, ℕ, List, Option, length};
 ghost use Rattle.pt_sector.specs.Sectors.{Sectors, Agrees, IsSectorSize};

@@ -1,5 +1,4 @@
 pub mod Mixed
 pub mod Codes
-pub mod Rows
 pub mod Fresh
-pub mod Laws
+pub mod laws

@@ -1,18 +1,22 @@
 -- The slices of a chain's logical partitions, when one of these goes or comes.
 use Rattle.std.specs.Prelude.{◌≡◌, ◌<◌, ◌≤◌, ◌+◌, ◌-◌, ◌++◌, ◌∷◌, [], ℕ, zero, suc, Bool, true, false, List, map, length, slice_index_or}
 use Rattle.std.specs.Prelude.{slice_set, Option, Some, None, is_some, if◌then◌else◌, nat_eq, nat_lt}
-use Rattle.std.proofs.Common.{refl, sym, ap, ◌∙◌, arith}
+use Rattle.std.proofs.Common.{subst, refl, sym, ap, ◌∙◌, arith}
 use Rattle.std.proofs.lemmas.Bool.{lt-ltb, le-ltb}
 use Rattle.std.proofs.lemmas.List.{map-append}
 use Rattle.std.proofs.lemmas.List.Elements.{filter-append}
 use Rattle.pt_mbr.specs.declared.record.Record.{Record}
 use Rattle.pt_mbr.specs.declared.ebr.Ebr.{Ebr}
-use Rattle.pt_recover.specs.Labels.{slice_from, record_slice, primary_slice, primary_slices, logical_slice, next_number, logical_slices}
-use Rattle.pt_recover.specs.declared.layout.Slice.{Slice}
+use Rattle.pt_members.specs.Members.{records_as, logicals_as}
+use Rattle.pt_members.specs.laws.SliceLists.{primary_some, logical_none, logical_some, next_is}
+use Rattle.pt_members.specs.Slices.{slice_from}
+use Rattle.pt_members.specs.SliceLists.{next_number}
+use Rattle.pt_members.specs.laws.SliceLists.{record_slice, primary_slice, primary_slices, logical_slice, logical_slices}
+use Rattle.pt_members.specs.declared.layout.Slice.{Slice}
 use Rattle.pt_kept.proofs.Lists.{slices_by, filter_in, filter_out}
 use Rattle.pt_kept.proofs.Entries.{is_not, is_not_true, is_not_false}
 use Rattle.pt_shape.specs.Ascending.{IsAscending}
-use Rattle.pt_kept.proofs.Order.{logicals_ascend}
+use Rattle.pt_shape.specs.laws.Ascending.{logicals_ascend}
 
 -- all numbers pass a test, or none does
 pub ascending_kept : (f : ℕ → Bool) (n : ℕ) (ss : List Slice) → ((m : ℕ) → n ≤ m → f m ≡ true) → IsAscending n ss → slices_by f ss ≡ ss
@@ -48,10 +52,10 @@ below_one n at r false is = rw is tt
 below_primary : (n : ℕ) (r : Option Record) → AreBelow (n + 1) (primary_slice n r)
 unfolding primary_slice
 below_primary n None = tt
-below_primary n (Some r) = below_one n 0 r (nat_eq r.kind 0xA5) refl
+below_primary n (Some r) = subst (AreBelow (n + 1)) (sym (primary_some n r)) (below_one n 0 r (nat_eq r.kind 0xA5) refl)
 
 pub primaries_below : (n top : ℕ) (rs : List (Option Record)) → n + length rs ≤ top → AreBelow top (primary_slices n rs)
-unfolding primary_slices
+unfolding primary_slices primary_slice records_as
 primaries_below n top [] le = tt
 primaries_below n top (r ∷ rs) le =
     below_append top (primary_slice n r) (primary_slices (n + 1) rs)
@@ -59,21 +63,19 @@ primaries_below n top (r ∷ rs) le =
     (primaries_below (n + 1) top rs (omega (arith, le)))
 
 pub below_logical : (n : ℕ) (e : Ebr) (o : Option Record) → e.logical ≡ o → AreBelow (n + 1) (logical_slice n e)
-unfolding logical_slice
-below_logical n e None is = rw is tt
-below_logical n e (Some r) is = rw is (below_one n e.at.0 r (nat_eq r.kind 0xA5) refl)
+below_logical n e None is = subst (AreBelow (n + 1)) (sym (logical_none n e is)) tt
+below_logical n e (Some r) is =
+    subst (AreBelow (n + 1)) (sym (logical_some n e r is)) (below_one n e.at.0 r (nat_eq r.kind 0xA5) refl)
 
 pub next_of : (n : ℕ) (e : Ebr) (o : Option Record) → e.logical ≡ o → next_number n e ≡ (if is_some o then n + 1 else n)
-unfolding next_number
-next_of n e None is = rw is refl
-next_of n e (Some r) is = rw is refl
+next_of = next_is
 
 pub next_most : (n : ℕ) (e : Ebr) (o : Option Record) → e.logical ≡ o → (n ≤ next_number n e) × (next_number n e ≤ n + 1)
 next_most n e None is = let at = next_of n e None is in (omega (arith, at), omega (arith, at))
 next_most n e (Some r) is = let at = next_of n e (Some r) is in (omega (arith, at), omega (arith, at))
 
 pub logicals_below : (n top : ℕ) (es : List Ebr) → n + length es ≤ top → AreBelow top (logical_slices n es)
-unfolding logical_slices
+unfolding logical_slices logical_slice logicals_as next_number
 logicals_below n top [] le = tt
 logicals_below n top (e ∷ es) le =
     let next = next_most n e e.logical refl in
@@ -129,9 +131,10 @@ slice_moved h n m at r false is to = rw is refl
 
 logical_moved : (h : ℕ → ℕ) (n m : ℕ) (e : Ebr) (o : Option Record) → e.logical ≡ o → h n ≡ m
     → map (renumbered h) (logical_slice n e) ≡ logical_slice m e
-unfolding logical_slice
-logical_moved h n m e None is to = rw is refl
-logical_moved h n m e (Some r) is to = rw is (slice_moved h n m e.at.0 r (nat_eq r.kind 0xA5) refl to)
+logical_moved h n m e None is to = ap (map (renumbered h)) (logical_none n e is) ∙ sym (logical_none m e is)
+logical_moved h n m e (Some r) is to =
+    ap (map (renumbered h)) (logical_some n e r is) ∙ (slice_moved h n m e.at.0 r (nat_eq r.kind 0xA5) refl to
+    ∙ sym (logical_some m e r is))
 
 -- what moves numbers from n on to m on, below a bound
 abbrev pub Moves : (ℕ → ℕ) → ℕ → ℕ → ℕ → Type 0
@@ -164,7 +167,7 @@ moved_behind h n m top e es more to le (Some r) is =
 -- all the numbers of a chain move together
 pub chain_moved : (h : ℕ → ℕ) (n m top : ℕ) (es : List Ebr) → Moves h n m top → n + length es ≤ top
     → map (renumbered h) (logical_slices n es) ≡ logical_slices m es
-unfolding logical_slices
+unfolding logical_slices logical_slice logicals_as next_number
 chain_moved h n m top [] to le = refl
 chain_moved h n m top (e ∷ es) to le =
     map-append (renumbered h) (logical_slice n e) (logical_slices (next_number n e) es)
@@ -177,7 +180,7 @@ pub chain_same : (n k : ℕ) (x : Ebr) (chain : List Ebr) → k < length chain
     → ((m : ℕ) (d : Ebr) → logical_slice m x ≡ logical_slice m (slice_index_or chain k d))
     → ((m : ℕ) (d : Ebr) → next_number m x ≡ next_number m (slice_index_or chain k d))
     → logical_slices n (slice_set chain k x) ≡ logical_slices n chain
-unfolding logical_slices
+unfolding logical_slices logical_slice logicals_as next_number
 chain_same n k x [] lt same next = absurd (omega (arith, lt))
 chain_same n zero x (e ∷ es) lt same next =
     ap (λ (l : List Slice). l ++ logical_slices (next_number n x) es) (same n e)
@@ -227,18 +230,16 @@ lowered_here k at r true is =
 lowered_here k at r false is = rw is refl
 
 logical_gone : (k : ℕ) (e : Ebr) (r : Record) → e.logical ≡ Some r → slices_lowered k (logical_slice k e) ≡ []
-unfolding logical_slice
-logical_gone k e r is = rw is (lowered_here k e.at.0 r (nat_eq r.kind 0xA5) refl)
+logical_gone k e r is = ap (slices_lowered k) (logical_some k e r is) ∙ lowered_here k e.at.0 r (nat_eq r.kind 0xA5) refl
 
 pub emptied : (n : ℕ) (x : Ebr) → x.logical ≡ None → logical_slice n x ≡ []
-unfolding logical_slice
-emptied n x none = rw none refl
+emptied n x none = logical_none n x none
 
 -- without the logical partition at a place its number is free, and each above is one lower
 pub chain_lowered : (n k : ℕ) (x : Ebr) (r : Record) (chain : List Ebr) → k < length chain
     → ((d : Ebr) → (slice_index_or chain k d).logical ≡ Some r) → x.logical ≡ None
     → logical_slices n (slice_set chain k x) ≡ slices_lowered (number_by n k chain) (logical_slices n chain)
-unfolding logical_slices
+unfolding logical_slices logical_slice logicals_as next_number
 chain_lowered n k x r [] lt has none = absurd (omega (arith, lt))
 chain_lowered n zero x r (e ∷ es) lt has none =
     let next : next_number n e ≡ n + 1 = next_of n e (Some r) (has e) in

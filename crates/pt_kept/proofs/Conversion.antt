@@ -1,11 +1,12 @@
 -- What a conversion to GPT keeps.
-use Rattle.std.specs.Prelude.{◌≡◌, ◌≢◌, ◌<◌, ◌≤◌, ◌⊎◌, ◌+◌, ◌-◌, ◌*◌, ◌++◌, ◌∷◌, [], ◌==◌, ℕ, suc, Bool, true, false, List, flat_map, length, replicate, slice_index_or, Option, Some, None, IfSome, Contains, if◌then◌else◌, nat_eq}
+use Rattle.std.specs.Prelude.{◌≡◌, ◌≢◌, ◌<◌, ◌≤◌, ◌⊎◌, ◌+◌, ◌-◌, ◌*◌, ◌++◌, ◌∷◌, [], ℕ, suc, Bool, true, false, List, flat_map}
+use Rattle.std.specs.Prelude.{length, replicate, slice_index_or, Option, Some, None, IfSome, Contains, if◌then◌else◌, nat_eq}
 use Rattle.std.proofs.Common.{refl, sym, ap, subst, ◌∙◌, inl, inr, arith}
 use Rattle.std.proofs.lemmas.Bool.{cases_lt, true≢false, eqb-true, eqb-false}
 use Rattle.std.proofs.lemmas.Grind.{flat_map-append}
 use Rattle.std.proofs.lemmas.Slice.Eq.{bytes_eq-Decides}
 use Rattle.pt_guid.specs.Codes.{freebsd, type_of}
-use Rattle.pt_guid.specs.Laws.{codes_differ}
+use Rattle.pt_guid.specs.laws.Terms.{codes_differ}
 use Rattle.pt_guid.specs.Mixed.{mixed}
 use Rattle.pt_guid.specs.declared.guid.Guid.{Guid}
 use Rattle.pt_gpt.specs.Array.{array_len, AllTyped}
@@ -14,26 +15,33 @@ use Rattle.pt_gpt.specs.declared.entry.Entry.{Entry}
 use Rattle.pt_gpt.specs.declared.table.Table.{Table}
 use Rattle.pt_mbr.specs.declared.record.Record.{Record}
 use Rattle.pt_mbr.specs.declared.ebr.Ebr.{Ebr}
-use Rattle.pt_recover.specs.Gpt.{HasRoom}
-use Rattle.pt_recover.specs.Mbr.{is_extended}
-use Rattle.pt_recover.specs.Labels.{is_slice_kind, slice_from, record_slice, primary_slice, primary_slices, logical_slice, next_number, logical_slices, entry_slice, entry_slices, slices_of}
-use Rattle.pt_recover.specs.declared.layout.Slice.{Slice}
-use Rattle.pt_recover.specs.declared.layout.Layout.{Layout}
-use Rattle.pt_recover.specs.declared.layout.Body.{Body}
-use Rattle.pt_recover.specs.declared.layout.Body.TheVariants.{Mbr, Gpt}
-use Rattle.pt_layout.specs.Members.{label_of}
-use Rattle.pt_convert.specs.Partitions.{partition_of, primary, primaries, logical, logicals_from, partitions, HasFour}
-use Rattle.pt_convert.specs.Room.{NoRoom, small}
-use Rattle.pt_convert.specs.Converted.{new_type, HasUnknown, IsAt, entry_of, IsGptOf, Converted, HasRecords}
-use Rattle.pt_convert.specs.Placed.{Placeable}
-use Rattle.pt_convert.specs.declared.partition.Partition.{Partition}
-use Rattle.pt_convert.proofs.Numbers.{placed}
-use Rattle.pt_convert.proofs.Places.{at_place}
+use Rattle.pt_gpt.specs.Array.{HasRoom}
+use Rattle.pt_mbr.specs.Extended.{is_extended}
+use Rattle.pt_members.specs.Members.{records_as, entries_as, logicals_as}
+use Rattle.pt_members.specs.laws.SliceLists.{primary_some, logical_none, logical_some, entry_some}
+use Rattle.pt_members.specs.laws.SliceLists.{slices_gpt, slices_mbr}
+use Rattle.pt_members.specs.Members.{is_slice_kind}
+use Rattle.pt_members.specs.Slices.{slice_from, slices_of}
+use Rattle.pt_members.specs.SliceLists.{next_number}
+use Rattle.pt_members.specs.laws.SliceLists.{record_slice, primary_slice, primary_slices, logical_slice, logical_slices}
+use Rattle.pt_members.specs.laws.SliceLists.{entry_slice, entry_slices}
+use Rattle.pt_members.specs.declared.layout.Slice.{Slice}
+use Rattle.pt_members.specs.declared.layout.Layout.{Layout}
+use Rattle.pt_members.specs.declared.layout.Body.{Body}
+use Rattle.pt_members.specs.declared.layout.Body.TheVariants.{Mbr, Gpt}
+use Rattle.pt_members.specs.Members.{label_of}
+use Rattle.pt_edit.specs.Partitions.{partition_of, primary, primaries, logical, logicals_from, partitions, HasFour}
+use Rattle.pt_edit.specs.Room.{NoRoom, small}
+use Rattle.pt_edit.specs.Converted.{new_type, HasUnknown, IsAt, entry_of, IsGptOf, Converted, HasRecords}
+use Rattle.pt_edit.specs.Placed.{Placeable}
+use Rattle.pt_edit.specs.declared.partition.Partition.{Partition}
+use Rattle.pt_edit.proofs.Numbers.{placed}
+use Rattle.pt_edit.proofs.EntryPlaces.{at_place}
 use Rattle.pt_shape.specs.Shape.{AreLabelsOf, Shaped}
 use Rattle.pt_shape.specs.Keeps.{Keeps}
 use Rattle.pt_kept.proofs.Lists.{contains_cases, contains_later}
-use Rattle.pt_kept.proofs.Tables.{keeps_gpt, slices_512}
-use Rattle.pt_kept.proofs.Mbr.{slices_mbr, body_fits, old_labels, same_slice}
+use Rattle.pt_kept.proofs.Tables.{keeps_gpt}
+use Rattle.pt_kept.proofs.Mbr.{body_fits, old_labels, same_slice}
 use Rattle.pt_kept.proofs.GptWords.{code_typed}
 
 -- the slice that a partition is
@@ -57,27 +65,38 @@ unfolding primary primary_slice record_slice
 one_primary n None = refl
 one_primary n (Some r) = by_type (is_extended r.kind) refl where
   by_type : (t : Bool) → is_extended r.kind ≡ t → flat_map slice_in (primary n (Some r)) ≡ primary_slice n (Some r)
-  by_type true is = let plain = plain_extended r.kind is in rw (is, plain) refl
-  by_type false is = rw is (lone (partition_of n 0 r))
+  by_type true is =
+      let plain = plain_extended r.kind is in
+      let left : flat_map slice_in (primary n (Some r)) ≡ record_slice n 0 r = rw (is, plain) refl in
+      left ∙ sym (primary_some n r)
+  by_type false is =
+      let left : flat_map slice_in (primary n (Some r)) ≡ record_slice n 0 r = rw is (lone (partition_of n 0 r)) in
+      left ∙ sym (primary_some n r)
 
 all_primaries : (n : ℕ) (rs : List (Option Record)) → flat_map slice_in (primaries n rs) ≡ primary_slices n rs
-unfolding primaries primary_slices
+unfolding primaries primary_slices primary_slice records_as
 all_primaries n [] = refl
 all_primaries n (r ∷ rs) =
     flat_map-append slice_in (primary n r) (primaries (n + 1) rs)
-    ∙ (ap (λ (l : List Slice). l ++ flat_map slice_in (primaries (n + 1) rs)) (one_primary n r) ∙ ap (λ (l : List Slice). primary_slice n r ++ l) (all_primaries (n + 1) rs))
+    ∙ (ap (λ (l : List Slice). l ++ flat_map slice_in (primaries (n + 1) rs)) (one_primary n r)
+    ∙ ap (λ (l : List Slice). primary_slice n r ++ l) (all_primaries (n + 1) rs))
 
 one_logical : (n : ℕ) (e : Ebr) (o : Option Record) → e.logical ≡ o → flat_map slice_in (logical n e) ≡ logical_slice n e
-unfolding logical logical_slice record_slice
-one_logical n e None is = rw is refl
-one_logical n e (Some r) is = rw is (lone (partition_of n e.at.0 r))
+unfolding logical record_slice
+one_logical n e None is =
+    let left : flat_map slice_in (logical n e) ≡ [] = rw is refl in
+    left ∙ sym (logical_none n e is)
+one_logical n e (Some r) is =
+    let left : flat_map slice_in (logical n e) ≡ record_slice n e.at.0 r = rw is (lone (partition_of n e.at.0 r)) in
+    left ∙ sym (logical_some n e r is)
 
 all_logicals : (n : ℕ) (es : List Ebr) → flat_map slice_in (logicals_from n es) ≡ logical_slices n es
-unfolding logicals_from logical_slices
+unfolding logicals_from logical_slices logical_slice logicals_as next_number
 all_logicals n [] = refl
 all_logicals n (e ∷ es) =
     flat_map-append slice_in (logical n e) (logicals_from (next_number n e) es)
-    ∙ (ap (λ (l : List Slice). l ++ flat_map slice_in (logicals_from (next_number n e) es)) (one_logical n e e.logical refl) ∙ ap (λ (l : List Slice). logical_slice n e ++ l) (all_logicals (next_number n e) es))
+    ∙ (ap (λ (l : List Slice). l ++ flat_map slice_in (logicals_from (next_number n e) es)) (one_logical n e e.logical refl)
+    ∙ ap (λ (l : List Slice). logical_slice n e ++ l) (all_logicals (next_number n e) es))
 
 -- numbers that rise
 abbrev IsRising : ℕ → List Partition → Type 0
@@ -87,11 +106,15 @@ IsRising low (p ∷ ps) = (low ≤ p.number) × IsRising (p.number + 1) ps
 later : (p q : Partition) (ps : List Partition) (k : ℕ) → IsAt ps k q → IsAt (p ∷ ps) (suc k) q
 later p q ps k at = (omega (arith, at.0), at.1)
 
-rising_of : (low : ℕ) (ps : List Partition) → ((k : ℕ) (p : Partition) → IsAt ps k p → low ≤ p.number) → ((i j : ℕ) (p q : Partition) → i < j → IsAt ps i p → IsAt ps j q → p.number < q.number) → IsRising low ps
+rising_of : (low : ℕ) (ps : List Partition) → ((k : ℕ) (p : Partition) → IsAt ps k p → low ≤ p.number)
+    → ((i j : ℕ) (p q : Partition) → i < j → IsAt ps i p → IsAt ps j q → p.number < q.number) → IsRising low ps
 rising_of low [] least up = tt
 rising_of low (p ∷ ps) least up =
-    let here : IsAt (p ∷ ps) 0 p = (omega arith, refl) in
-    (least 0 p here, rising_of (p.number + 1) ps (λ k q at. let lt = up 0 (suc k) p q (omega arith) here (later p q ps k at) in omega (arith, lt)) (λ i j q r lt a c. up (suc i) (suc j) q r (omega (arith, lt)) (later p q ps i a) (later p r ps j c)))
+    let here : IsAt (p ∷ ps) 0 p = (omega arith, refl) in (
+      least 0 p here,
+      rising_of (p.number + 1) ps (λ k q at. let lt = up 0 (suc k) p q (omega arith) here (later p q ps k at) in
+          omega (arith, lt)) (λ i j q r lt a c. up (suc i) (suc j) q r (omega (arith, lt)) (later p q ps i a) (later p r ps j c)),
+    )
 
 rising_more : (low : ℕ) (ps : List Partition) → IsRising low ps → ((p : Partition) → Contains ps p → p.number ≢ low) → IsRising (low + 1) ps
 rising_more low [] up none = tt
@@ -119,13 +142,16 @@ none_left : (n : ℕ) (ps : List Partition) → Stands n [] ps → ps ≡ []
 none_left n [] s = refl
 none_left n (p ∷ ps) s = let below = s.below p (0, omega arith, refl) in absurd (omega (arith, below, s.rising.0))
 
-behind : (n : ℕ) (e : Option Entry) (es : List (Option Entry)) (ps : List Partition) (p : Partition) → n + 1 ≤ p.number → entry_slice p.number (slice_index_or (e ∷ es) (p.number - n) None) ≡ slice_in p → entry_slice p.number (slice_index_or es (p.number - (n + 1)) None) ≡ slice_in p
+behind : (n : ℕ) (e : Option Entry) (es : List (Option Entry)) (ps : List Partition) (p : Partition) → n + 1 ≤ p.number
+    → entry_slice p.number (slice_index_or (e ∷ es) (p.number - n) None) ≡ slice_in p
+    → entry_slice p.number (slice_index_or es (p.number - (n + 1)) None) ≡ slice_in p
 behind n e es ps p above is =
     let at : p.number - n ≡ suc (p.number - (n + 1)) = omega (arith, above) in
     subst (λ (k : ℕ). entry_slice p.number (slice_index_or (e ∷ es) k None) ≡ slice_in p) at is
 
 -- no partition has the first number
-past_none : (n : ℕ) (e : Option Entry) (es : List (Option Entry)) (ps : List Partition) → Stands n (e ∷ es) ps → ((p : Partition) → Contains ps p → p.number ≢ n) → (entry_slice n e ≡ []) × Stands (n + 1) es ps
+past_none : (n : ℕ) (e : Option Entry) (es : List (Option Entry)) (ps : List Partition) → Stands n (e ∷ es) ps
+    → ((p : Partition) → Contains ps p → p.number ≢ n) → (entry_slice n e ≡ []) × Stands (n + 1) es ps
 past_none n e es ps s none =
     let up = rising_more n ps s.rising none in
     let at : e ≡ None = s.others 0 (omega arith) (λ p is same. none p is (omega (arith, same))) in (
@@ -139,12 +165,14 @@ past_none n e es ps s none =
     )
 
 -- the first partition has it
-past_one : (n : ℕ) (e : Option Entry) (es : List (Option Entry)) (p : Partition) (ps : List Partition) → Stands n (e ∷ es) (p ∷ ps) → p.number ≡ n → (entry_slice n e ≡ slice_in p) × Stands (n + 1) es ps
+past_one : (n : ℕ) (e : Option Entry) (es : List (Option Entry)) (p : Partition) (ps : List Partition) → Stands n (e ∷ es) (p ∷ ps)
+    → p.number ≡ n → (entry_slice n e ≡ slice_in p) × Stands (n + 1) es ps
 past_one n e es p ps s same =
     let here : Contains (p ∷ ps) p = (0, omega arith, refl) in
     let at : p.number - n ≡ 0 = omega (arith, same) in
     let up : IsRising (n + 1) ps = subst (λ (k : ℕ). IsRising k ps) (ap (λ (k : ℕ). k + 1) same) s.rising.1 in (
-      subst (λ (k : ℕ). entry_slice k e ≡ slice_in p) same (subst (λ (k : ℕ). entry_slice p.number (slice_index_or (e ∷ es) k None) ≡ slice_in p) at (s.each p here)),
+      subst (λ (k : ℕ). entry_slice k e ≡ slice_in p) same
+          (subst (λ (k : ℕ). entry_slice p.number (slice_index_or (e ∷ es) k None) ≡ slice_in p) at (s.each p here)),
       record {
         rising = up;
         below = λ q is. (let lt = s.below q (contains_later p q ps is) in omega (arith, lt));
@@ -156,21 +184,23 @@ past_one n e es p ps s same =
       },
     )
 
-standing_at : (n : ℕ) (e : Option Entry) (es : List (Option Entry)) (p : Partition) (ps : List Partition) → Stands n (e ∷ es) (p ∷ ps) → ((qs : List Partition) → Stands (n + 1) es qs → entry_slices (n + 1) es ≡ flat_map slice_in qs) → (t : Bool) → nat_eq p.number n ≡ t
+standing_at : (n : ℕ) (e : Option Entry) (es : List (Option Entry)) (p : Partition) (ps : List Partition) → Stands n (e ∷ es) (p ∷ ps)
+    → ((qs : List Partition) → Stands (n + 1) es qs → entry_slices (n + 1) es ≡ flat_map slice_in qs) → (t : Bool) → nat_eq p.number n ≡ t
     → entry_slices n (e ∷ es) ≡ flat_map slice_in (p ∷ ps)
-unfolding entry_slices
+unfolding entry_slices entry_slice entries_as
 standing_at n e es p ps s more true so =
     let step = past_one n e es p ps s (eqb-true p.number n so) in
     ap (λ (l : List Slice). l ++ entry_slices (n + 1) es) step.0 ∙ (ap (λ (l : List Slice). slice_in p ++ l) (more ps step.1) ∙ refl)
 standing_at n e es p ps s more false so =
     let other = eqb-false p.number n so in
     let up = s.rising in
-    let step = past_none n e es (p ∷ ps) s (λ q is same. (let least = rising_least p.number (p ∷ ps) q (omega arith, up.1) is in absurd (omega (arith, least, same, other, up.0)))) in
+    let step = past_none n e es (p ∷ ps) s (λ q is same. (let least = rising_least p.number (p ∷ ps) q (omega arith, up.1) is in
+    absurd (omega (arith, least, same, other, up.0)))) in
     ap (λ (l : List Slice). l ++ entry_slices (n + 1) es) step.0 ∙ more (p ∷ ps) step.1
 
 -- their slices are the partitions'
 standing : (n : ℕ) (es : List (Option Entry)) (ps : List Partition) → Stands n es ps → entry_slices n es ≡ flat_map slice_in ps
-unfolding entry_slices
+unfolding entry_slices entry_slice entries_as
 standing n [] ps s = ap (flat_map slice_in) (sym (none_left n ps s))
 standing n (e ∷ es) [] s =
     let step = past_none n e es [] s (λ p is. absurd (omega (arith, is.1))) in
@@ -184,7 +214,11 @@ record NewType (kind : ℕ) (stored : List ℕ) : Type 0 where
 
 -- slices are of one type, which no other type becomes
 type_of_kind : (kind : ℕ) (stored : List ℕ) → new_type kind ≡ Some stored → NewType kind stored
-type_of_kind kind stored is = record { slice = by_type (is_slice_kind stored) (nat_eq kind 0xA5) refl refl; typed = code_typed (kind * 256) stored is } where
+type_of_kind kind stored is = record {
+  slice = by_type (is_slice_kind stored) (nat_eq kind 0xA5) refl refl;
+  typed =
+      code_typed (kind * 256) stored is;
+} where
   of_slices : type_of 0xA500 ≡ Some (mixed freebsd)
   of_slices = refl
 
@@ -208,19 +242,36 @@ record BecomesEntry (p : Partition) (x : Option Entry) : Type 0 where
   typed : IsTyped entry
   slice : entry_slice p.number x ≡ slice_in p
 
-entry_made : (guid : Guid) (p : Partition) (o : Option (List ℕ)) → new_type p.kind ≡ o → (new_type p.kind ≢ None) → BecomesEntry p (entry_of guid p)
+entry_made : (guid : Guid) (p : Partition) (o : Option (List ℕ)) → new_type p.kind ≡ o → (new_type p.kind ≢ None)
+    → BecomesEntry p (entry_of guid p)
 unfolding entry_slice
 entry_made guid p None is known = absurd (known is)
 entry_made guid p (Some stored) is known =
     let type = type_of_kind p.kind stored is in
-    let e : Entry = record { kind = record { 0 = stored }; unique = guid; first = p.first; last = p.last; attributes = 0; name = replicate 36 0 } in
+    let e : Entry = record {
+      kind = record { 0 = stored };
+      unique = guid;
+      first = p.first;
+      last = p.last;
+      attributes = 0;
+      name =
+          replicate 36 0;
+    } in
     let same : entry_of guid p ≡ Some e = rw is refl in
-    record { entry = e; is = same; typed = type.typed; slice = ap (entry_slice p.number) same ∙ ap (λ (c : Bool). if c then slice_from p.number p.first p.last ∷ [] else []) type.slice }
+    record {
+      entry = e;
+      is = same;
+      typed = type.typed;
+      slice = ap (entry_slice p.number) same
+          ∙ (entry_some p.number e ∙ ap (λ (c : Bool). if c then slice_from p.number p.first p.last ∷ [] else []) type.slice);
+    }
 
-found : (ps : List Partition) (number : ℕ) → ((j : ℕ) × (p : Partition) × IsAt ps j p × (p.number ≡ number)) ⊎ ((p : Partition) → Contains ps p → p.number ≢ number)
+found : (ps : List Partition) (number : ℕ) → ((j : ℕ) × (p : Partition) × IsAt ps j p × (p.number ≡ number))
+    ⊎ ((p : Partition) → Contains ps p → p.number ≢ number)
 found [] number = inr (λ p is. absurd (omega (arith, is.1)))
 found (q ∷ ps) number = found_at q ps number (found ps number) (nat_eq q.number number) refl where
-  found_at : (q : Partition) (ps : List Partition) (number : ℕ) → ((j : ℕ) × (p : Partition) × IsAt ps j p × (p.number ≡ number)) ⊎ ((p : Partition) → Contains ps p → p.number ≢ number) → (t : Bool) → nat_eq q.number number ≡ t
+  found_at : (q : Partition) (ps : List Partition) (number : ℕ) → ((j : ℕ) × (p : Partition) × IsAt ps j p × (p.number ≡ number))
+      ⊎ ((p : Partition) → Contains ps p → p.number ≢ number) → (t : Bool) → nat_eq q.number number ≡ t
       → ((j : ℕ) × (p : Partition) × IsAt (q ∷ ps) j p × (p.number ≡ number)) ⊎ ((p : Partition) → Contains (q ∷ ps) p → p.number ≢ number)
   found_at q ps number more true so = inl (0, q, (omega arith, refl), eqb-true q.number number so)
   found_at q ps number (inl (j, p, at, same)) false so = inl (suc j, p, later q p ps j at, same)
@@ -233,28 +284,35 @@ no_guid : Guid
 no_guid = record { 0 = [] }
 
 -- each partition's entry in the table
-made_entry : (b n : ℕ) (guids : List Guid) (ps : List Partition) (t : Table) (j : ℕ) (p : Partition) → IsGptOf b n guids ps t → 1 + length ps ≤ length guids → ¬ HasUnknown ps → IsAt ps j p → BecomesEntry p (slice_index_or t.entries (p.number - 1) None)
+made_entry : (b n : ℕ) (guids : List Guid) (ps : List Partition) (t : Table) (j : ℕ) (p : Partition) → IsGptOf b n guids ps t
+    → 1 + length ps ≤ length guids → ¬ HasUnknown ps → IsAt ps j p → BecomesEntry p (slice_index_or t.entries (p.number - 1) None)
 made_entry b n guids ps t j p is enough known at =
     let guid = slice_index_or guids (1 + j) no_guid in
     let own : IsAt guids (1 + j) guid = at_place guids (1 + j) no_guid (omega (arith, at.0, enough)) in
-    subst (BecomesEntry p) (sym (is.each j p guid at own)) (entry_made guid p (new_type p.kind) refl (λ none. known (p, (j, at.0, at.1), none)))
+    subst (BecomesEntry p) (sym (is.each j p guid at own))
+    (entry_made guid p (new_type p.kind) refl (λ none. known (p, (j, at.0, at.1), none)))
 
-all_typed : (b n : ℕ) (guids : List Guid) (ps : List Partition) (t : Table) → IsGptOf b n guids ps t → 1 + length ps ≤ length guids → ¬ HasUnknown ps → AllTyped t.entries
+all_typed : (b n : ℕ) (guids : List Guid) (ps : List Partition) (t : Table) → IsGptOf b n guids ps t → 1 + length ps ≤ length guids
+    → ¬ HasUnknown ps → AllTyped t.entries
 all_typed b n guids ps t is enough known k lt = by_number (found ps (k + 1)) where
   at : (k + 1) - 1 ≡ k
   at = omega arith
 
-  by_number : ((j : ℕ) × (p : Partition) × IsAt ps j p × (p.number ≡ k + 1)) ⊎ ((p : Partition) → Contains ps p → p.number ≢ k + 1) → IfSome (slice_index_or t.entries k None) IsTyped
+  by_number : ((j : ℕ) × (p : Partition) × IsAt ps j p × (p.number ≡ k + 1)) ⊎ ((p : Partition) → Contains ps p → p.number ≢ k + 1)
+      → IfSome (slice_index_or t.entries k None) IsTyped
   by_number (inl (j, p, stands, same)) =
       let made = made_entry b n guids ps t j p is enough known stands in
       let place : p.number - 1 ≡ k = omega (arith, same) in
-      let entry : slice_index_or t.entries k None ≡ Some made.entry = sym (ap (λ (i : ℕ). slice_index_or t.entries i None) place) ∙ made.is in
+      let entry : slice_index_or t.entries k None ≡ Some made.entry = sym (ap (λ (i : ℕ). slice_index_or t.entries i None) place)
+      ∙ made.is in
       subst (λ (x : Option Entry). IfSome x IsTyped) (sym entry) made.typed
   by_number (inr none) =
-      let free : slice_index_or t.entries k None ≡ None = ap (λ (i : ℕ). slice_index_or t.entries i None) (sym at) ∙ is.others (k + 1) (omega arith) (omega (arith, lt, is.count)) none in
+      let free : slice_index_or t.entries k None ≡ None = ap (λ (i : ℕ). slice_index_or t.entries i None) (sym at)
+      ∙ is.others (k + 1) (omega arith) (omega (arith, lt, is.count)) none in
       subst (λ (x : Option Entry). IfSome x IsTyped) (sym free) tt
 
-table_stands : (b n : ℕ) (guids : List Guid) (ps : List Partition) (t : Table) → IsGptOf b n guids ps t → 1 + length ps ≤ length guids → ¬ HasUnknown ps → Placeable n ps → Stands 1 t.entries ps
+table_stands : (b n : ℕ) (guids : List Guid) (ps : List Partition) (t : Table) → IsGptOf b n guids ps t → 1 + length ps ≤ length guids
+    → ¬ HasUnknown ps → Placeable n ps → Stands 1 t.entries ps
 table_stands b n guids ps t is enough known place = record {
   rising = rising_of 1 ps place.low place.rising;
   below = λ p at. (let h = place.high at.0 p (at.1, at.2) in omega (arith, h, is.count));
@@ -271,9 +329,10 @@ has_room b o room = elim (cases_lt o.sectors (2 * array_len b + 4)) as (λ _. Ha
 ]
 
 -- the slices of a table and of an MBR, with sectors of either size
-slices_by_size : (b : ℕ) (t : Table) (rs : List (Option Record)) (chain : List Ebr) → entry_slices 1 t.entries ≡ primary_slices 1 rs ++ logical_slices 5 chain → (d : Bool) → nat_eq b 512 ≡ d → slices_of b (Gpt t) ≡ slices_of b (Mbr rs chain)
-slices_by_size b t rs chain same true large = slices_512 b t true large ∙ (same ∙ sym (slices_mbr b rs chain true large))
-slices_by_size b t rs chain same false small_sectors = slices_512 b t false small_sectors ∙ sym (slices_mbr b rs chain false small_sectors)
+slices_by_size : (b : ℕ) (t : Table) (rs : List (Option Record)) (chain : List Ebr) → entry_slices 1 t.entries ≡ primary_slices 1 rs
+    ++ logical_slices 5 chain → (d : Bool) → nat_eq b 512 ≡ d → slices_of b (Gpt t) ≡ slices_of b (Mbr rs chain)
+slices_by_size b t rs chain same true large = slices_gpt b t true large ∙ (same ∙ sym (slices_mbr b rs chain true large))
+slices_by_size b t rs chain same false small_sectors = slices_gpt b t false small_sectors ∙ sym (slices_mbr b rs chain false small_sectors)
 
 -- `g`
 pub keeps_converted : (b : ℕ) (guids : List Guid) (o p : Layout) → Shaped b o → Converted b guids o p → Keeps b o.sectors (Some o) p
@@ -281,7 +340,8 @@ keeps_converted b guids o p shaped c = subst (λ (q : Layout). Keeps b o.sectors
   t : Table
   t = c.table
 
-  of_mbr : (rs : List (Option Record)) (chain : List Ebr) → o.body ≡ Mbr rs chain → Keeps b o.sectors (Some o) (record { sectors = o.sectors; body = Gpt t; labels = o.labels })
+  of_mbr : (rs : List (Option Record)) (chain : List Ebr) → o.body ≡ Mbr rs chain
+      → Keeps b o.sectors (Some o) (record { sectors = o.sectors; body = Gpt t; labels = o.labels })
   of_mbr rs chain is =
       let ps = partitions o.body in
       let ps_is : ps ≡ partitions (Mbr rs chain) = ap partitions is in
@@ -289,8 +349,11 @@ keeps_converted b guids o p shaped c = subst (λ (q : Layout). Keeps b o.sectors
       let room = has_room b o c.may.room in
       let place = placed b o (subst HasFour (sym is) fits.four) c.may.room in
       let stands = table_stands b o.sectors guids ps t c.is_table c.may.enough c.may.known place in
-      let same : entry_slices 1 t.entries ≡ primary_slices 1 rs ++ logical_slices 5 chain = (standing 1 t.entries ps stands ∙ (ap (flat_map slice_in) ps_is ∙ (flat_map-append slice_in (primaries 1 rs) (logicals_from 5 chain)
-      ∙ (ap (λ (l : List Slice). l ++ flat_map slice_in (logicals_from 5 chain)) (all_primaries 1 rs) ∙ ap (λ (l : List Slice). primary_slices 1 rs ++ l) (all_logicals 5 chain))))) in
+      let same : entry_slices 1 t.entries ≡ primary_slices 1 rs ++ logical_slices 5 chain =
+      (standing 1 t.entries ps stands ∙ (ap (flat_map slice_in) ps_is
+      ∙ (flat_map-append slice_in (primaries 1 rs) (logicals_from 5 chain)
+      ∙ (ap (λ (l : List Slice). l ++ flat_map slice_in (logicals_from 5 chain)) (all_primaries 1 rs)
+      ∙ ap (λ (l : List Slice). primary_slices 1 rs ++ l) (all_logicals 5 chain))))) in
       let slices = slices_by_size b t rs chain same (nat_eq b 512) refl in
       keeps_gpt b o t o.labels
       (record {
@@ -303,7 +366,8 @@ keeps_converted b guids o p shaped c = subst (λ (q : Layout). Keeps b o.sectors
         typed = all_typed b o.sectors guids ps t c.is_table c.may.enough c.may.known;
       })
       (subst (λ (l : List Slice). AreLabelsOf l o.labels) (sym slices) (old_labels b o rs chain shaped is))
-      (λ s there. same_slice b o rs chain s s (label_of o.labels s.number) is (subst (λ (l : List Slice). Contains l s) slices there) refl refl refl)
+      (λ s there. same_slice b o rs chain s s (label_of o.labels s.number) is (subst (λ (l : List Slice). Contains l s) slices there) refl
+      refl refl)
 
   by_body : (y : Body) → o.body ≡ y → Keeps b o.sectors (Some o) (record { sectors = o.sectors; body = Gpt t; labels = o.labels })
   by_body (Mbr rs chain) is = of_mbr rs chain is

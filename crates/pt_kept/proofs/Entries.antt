@@ -6,8 +6,12 @@ use Rattle.std.proofs.lemmas.Bool.{eq-eqb, ne_eqb, lt-ltb, le-ltb}
 use Rattle.std.proofs.lemmas.List.Elements.{filter-append}
 use Rattle.pt_gpt.specs.declared.entry.Entry.{Entry}
 use Rattle.pt_mbr.specs.declared.record.Record.{Record}
-use Rattle.pt_recover.specs.Labels.{is_slice_kind, slice_from, record_slice, primary_slice, primary_slices, entry_slice, entry_slices}
-use Rattle.pt_recover.specs.declared.layout.Slice.{Slice}
+use Rattle.pt_members.specs.Members.{records_as, entries_as}
+use Rattle.pt_members.specs.laws.SliceLists.{primary_some, entry_some}
+use Rattle.pt_members.specs.Members.{is_slice_kind}
+use Rattle.pt_members.specs.Slices.{slice_from}
+use Rattle.pt_members.specs.laws.SliceLists.{record_slice, primary_slice, primary_slices, entry_slice, entry_slices}
+use Rattle.pt_members.specs.declared.layout.Slice.{Slice}
 use Rattle.pt_kept.proofs.Lists.{slices_by, filter_in, filter_out}
 
 -- what gives the slice of a number, if any
@@ -41,14 +45,15 @@ unfolding entry_slice
 entry_numbered = record { none = λ n. refl; kept = kept; gone = gone } where
   kept : (f : ℕ → Bool) (n : ℕ) (x : Option Entry) → f n ≡ true → slices_by f (entry_slice n x) ≡ entry_slice n x
   kept f n None so = refl
-  kept f n (Some e) so = kept_if f n e.first e.last (is_slice_kind e.kind.0) so
+  kept f n (Some e) so =
+      ap (slices_by f) (entry_some n e) ∙ (kept_if f n e.first e.last (is_slice_kind e.kind.0) so ∙ sym (entry_some n e))
 
   gone : (f : ℕ → Bool) (n : ℕ) (x : Option Entry) → f n ≡ false → slices_by f (entry_slice n x) ≡ []
   gone f n None so = refl
-  gone f n (Some e) so = gone_if f n e.first e.last (is_slice_kind e.kind.0) so
+  gone f n (Some e) so = ap (slices_by f) (entry_some n e) ∙ gone_if f n e.first e.last (is_slice_kind e.kind.0) so
 
 pub entries_many : (n : ℕ) (es : List (Option Entry)) → entry_slices n es ≡ many entry_slice n es
-unfolding entry_slices many
+unfolding entry_slices entry_slice entries_as many
 entries_many n [] = refl
 entries_many n (e ∷ es) = ap (λ (l : List Slice). entry_slice n e ++ l) (entries_many (n + 1) es)
 
@@ -58,14 +63,17 @@ unfolding primary_slice record_slice
 record_numbered = record { none = λ n. refl; kept = kept; gone = gone } where
   kept : (f : ℕ → Bool) (n : ℕ) (x : Option Record) → f n ≡ true → slices_by f (primary_slice n x) ≡ primary_slice n x
   kept f n None so = refl
-  kept f n (Some r) so = kept_if f n (0 + r.start) (0 + r.start + r.size - 1) (nat_eq r.kind 0xA5) so
+  kept f n (Some r) so =
+      ap (slices_by f) (primary_some n r) ∙ (kept_if f n (0 + r.start) (0 + r.start + r.size - 1) (nat_eq r.kind 0xA5) so
+      ∙ sym (primary_some n r))
 
   gone : (f : ℕ → Bool) (n : ℕ) (x : Option Record) → f n ≡ false → slices_by f (primary_slice n x) ≡ []
   gone f n None so = refl
-  gone f n (Some r) so = gone_if f n (0 + r.start) (0 + r.start + r.size - 1) (nat_eq r.kind 0xA5) so
+  gone f n (Some r) so =
+      ap (slices_by f) (primary_some n r) ∙ gone_if f n (0 + r.start) (0 + r.start + r.size - 1) (nat_eq r.kind 0xA5) so
 
 pub records_many : (n : ℕ) (rs : List (Option Record)) → primary_slices n rs ≡ many primary_slice n rs
-unfolding primary_slices many
+unfolding primary_slices primary_slice records_as many
 records_many n [] = refl
 records_many n (r ∷ rs) = ap (λ (l : List Slice). primary_slice n r ++ l) (records_many (n + 1) rs)
 

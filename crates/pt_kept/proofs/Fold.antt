@@ -5,9 +5,9 @@ use Rattle.pt_guid.specs.declared.guid.Guid.{Guid}
 use Rattle.pt_gpt.specs.declared.table.Table.{Table}
 use Rattle.pt_mbr.specs.declared.record.Record.{Record}
 use Rattle.pt_mbr.specs.declared.ebr.Ebr.{Ebr}
-use Rattle.pt_recover.specs.declared.layout.Layout.{Layout}
-use Rattle.pt_recover.specs.declared.layout.Body.{Body}
-use Rattle.pt_recover.specs.declared.layout.Body.TheVariants.{Mbr, Gpt}
+use Rattle.pt_members.specs.declared.layout.Layout.{Layout}
+use Rattle.pt_members.specs.declared.layout.Body.{Body}
+use Rattle.pt_members.specs.declared.layout.Body.TheVariants.{Mbr, Gpt}
 use Rattle.pt_words.specs.declared.word.Code.{Code}
 use Rattle.pt_words.specs.declared.word.End.{End}
 use Rattle.pt_words.specs.declared.word.Edit.{Edit}
@@ -25,7 +25,7 @@ use Rattle.pt_words.specs.declared.asked.Asked.{Asked}
 use Rattle.pt_shape.specs.Shape.{Shaped}
 use Rattle.pt_shape.specs.Keeps.{Keeps}
 use Rattle.pt_kept.specs.Old.{MayBe}
-use Rattle.pt_shape.specs.Laws.{keeps_refl, keeps_trans}
+use Rattle.pt_shape.specs.laws.Terms.{keeps_refl, keeps_trans}
 use Rattle.pt_kept.proofs.Parts.{keeps_entry_of, keeps_part}
 use Rattle.pt_kept.proofs.Logicals.{keeps_logical_typed, keeps_logical_deleted}
 use Rattle.pt_kept.proofs.NewLogicals.{keeps_logical_new}

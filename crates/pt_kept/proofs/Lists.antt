@@ -4,9 +4,9 @@ use Rattle.std.specs.Prelude.{None, nat_eq, nat_lt}
 use Rattle.std.proofs.Common.{refl, sym, ap, subst, ◌∙◌, inl, inr, arith}
 use Rattle.std.proofs.lemmas.Bool.{cases_lt, eq-eqb, ne_eqb, eqb-true, eqb-false, false≢true, lt-ltb, le-ltb}
 use Rattle.pt_bsd.specs.declared.label.Label.{Label}
-use Rattle.pt_recover.specs.declared.layout.Slice.{Slice}
-use Rattle.pt_recover.specs.declared.layout.Labelled.{Labelled}
-use Rattle.pt_layout.specs.Members.{label_of}
+use Rattle.pt_members.specs.declared.layout.Slice.{Slice}
+use Rattle.pt_members.specs.declared.layout.Labelled.{Labelled}
+use Rattle.pt_members.specs.Members.{label_of}
 use Rattle.pt_labels.specs.Lists.{labelled, labels_below, labels_above, with_new_label}
 use Rattle.pt_shape.specs.Shape.{FitsLabel, AreLabelsOf}
 

@@ -9,19 +9,23 @@ use Rattle.pt_mbr.specs.declared.record.Record.{Record}
 use Rattle.pt_mbr.specs.declared.ebr.Ebr.{Ebr}
 use Rattle.pt_sector.specs.declared.address.Lba.{Lba}
 use Rattle.pt_mbr.specs.Chain.{lba}
-use Rattle.pt_recover.specs.Mbr.{is_extended, extended_of, extent_of}
-use Rattle.pt_recover.specs.Labels.{record_slice, primary_slices, logical_slice, next_number, logical_slices, slices_of}
-use Rattle.pt_recover.specs.declared.layout.Slice.{Slice}
-use Rattle.pt_recover.specs.declared.layout.Labelled.{Labelled}
-use Rattle.pt_recover.specs.declared.layout.Layout.{Layout}
-use Rattle.pt_recover.specs.declared.layout.Body.TheVariants.{Mbr}
-use Rattle.pt_layout.specs.Counts.{no_ebr}
-use Rattle.pt_layout.specs.Members.{label_of}
+use Rattle.pt_mbr.specs.Extended.{is_extended, extended_of, extent_of}
+use Rattle.pt_members.specs.laws.SliceLists.{logical_some, record_no}
+use Rattle.pt_members.specs.laws.SliceLists.{slices_mbr}
+use Rattle.pt_members.specs.SliceLists.{next_number}
+use Rattle.pt_members.specs.laws.SliceLists.{primary_slices, logical_slice, logical_slices}
+use Rattle.pt_members.specs.Slices.{slices_of}
+use Rattle.pt_members.specs.declared.layout.Slice.{Slice}
+use Rattle.pt_members.specs.declared.layout.Labelled.{Labelled}
+use Rattle.pt_members.specs.declared.layout.Layout.{Layout}
+use Rattle.pt_members.specs.declared.layout.Body.TheVariants.{Mbr}
+use Rattle.pt_members.specs.Counts.{no_ebr}
+use Rattle.pt_members.specs.Members.{label_of}
 use Rattle.pt_labels.specs.Lists.{lowered}
 use Rattle.pt_words.specs.declared.word.Code.{Code}
 use Rattle.pt_words.specs.declared.word.Code.TheVariants.{Two, Four}
-use Rattle.pt_logicals.specs.Types.{record_type, is_container}
-use Rattle.pt_logicals.specs.Chains.{ebr_at, LogicalTyped, LogicalDeleted}
+use Rattle.pt_records.specs.Types.{record_type, is_container}
+use Rattle.pt_records.specs.Chains.{ebr_at, LogicalTyped, LogicalDeleted}
 use Rattle.pt_shape.specs.Shape.{FitsRecord, FitsLogical, Linked, FitsExtended, FitsMbr, AreLabelsOf, Shaped}
 use Rattle.pt_shape.specs.Keeps.{IsOldLabel, IsNewLabel, IsTyped, IsMadeLogical, Keeps}
 use Rattle.pt_kept.proofs.Lists.{slices_by, contains_filter}
@@ -29,7 +33,7 @@ use Rattle.pt_kept.proofs.Entries.{is_not, is_not_false}
 use Rattle.pt_kept.proofs.Chain.{primaries_below, renumbered, number_by, number_least, next_of, chain_same, chain_lowered, lower}
 use Rattle.pt_kept.proofs.Chain.{slices_lowered, lowered_append, lowered_low}
 use Rattle.pt_kept.proofs.Moved.{are_lowered, label_of_lowered}
-use Rattle.pt_kept.proofs.Mbr.{mbr_of, slices_mbr, WasLogical, keeps_mbr, body_fits, old_labels, same_slice, same_records, same_logical}
+use Rattle.pt_kept.proofs.Mbr.{mbr_of, WasLogical, keeps_mbr, body_fits, old_labels, same_slice, same_records, same_logical}
 use Rattle.pt_kept.proofs.Mbr.{any_default, contains_set, contains_at, contains_map, fits_set, number_same}
 
 -- a type that a code gives a record is none of an unused or of a protective one
@@ -63,8 +67,7 @@ not_extended kind none (inl is) = true≢false (sym (rw is refl) ∙ none)
 not_extended kind none (inr is) = true≢false (sym (rw is refl) ∙ none)
 
 leaf_slice : (m : ℕ) (e : Ebr) (r : Record) → e.logical ≡ Some r → nat_eq r.kind 0xA5 ≡ false → logical_slice m e ≡ []
-unfolding logical_slice record_slice
-leaf_slice m e r has leaf = rw has (rw leaf refl)
+leaf_slice m e r has leaf = logical_some m e r has ∙ record_no m e.at.0 r leaf
 
 next_same : (m : ℕ) (e f : Ebr) (r q : Record) → e.logical ≡ Some r → f.logical ≡ Some q → next_number m e ≡ next_number m f
 next_same m e f r q has also = next_of m e (Some r) has ∙ sym (next_of m f (Some q) also)

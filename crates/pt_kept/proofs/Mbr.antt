@@ -1,6 +1,6 @@
 -- What edits of an MBR keep.
-use Rattle.std.specs.Prelude.{◌≡◌, ◌<◌, ◌≤◌, ◌⊎◌, ◌+◌, ◌++◌, ◌∷◌, [], ℕ, zero, suc, Bool, true, false, List, map, take, length}
-use Rattle.std.specs.Prelude.{slice_index_or, slice_set, Option, Some, None, Contains, is_some, if◌then◌else◌, nat_eq}
+use Rattle.std.specs.Prelude.{◌≡◌, ◌<◌, ◌≤◌, ◌⊎◌, ◌+◌, ◌∷◌, [], ℕ, zero, suc, List, map, take, length}
+use Rattle.std.specs.Prelude.{slice_index_or, slice_set, Option, Some, None, Contains, is_some, if◌then◌else◌}
 use Rattle.std.proofs.Common.{refl, sym, ap, subst, ◌∙◌, inl, inr, arith}
 use Rattle.std.proofs.lemmas.List.{length-set}
 use Rattle.std.proofs.lemmas.List.Sums.{sum_by-cons}
@@ -9,31 +9,26 @@ use Rattle.pt_sector.specs.declared.address.Lba.{Lba}
 use Rattle.pt_mbr.specs.Chain.{IsUpward, lba}
 use Rattle.pt_mbr.specs.declared.record.Record.{Record}
 use Rattle.pt_mbr.specs.declared.ebr.Ebr.{Ebr}
-use Rattle.pt_recover.specs.Mbr.{extended_of, extent_of}
-use Rattle.pt_recover.specs.Labels.{primary_slices, next_number, logical_slices, slices_of}
-use Rattle.pt_recover.specs.declared.layout.Slice.{Slice}
-use Rattle.pt_recover.specs.declared.layout.Labelled.{Labelled}
-use Rattle.pt_recover.specs.declared.layout.Layout.{Layout}
-use Rattle.pt_recover.specs.declared.layout.Body.{Body}
-use Rattle.pt_recover.specs.declared.layout.Body.TheVariants.{Mbr}
-use Rattle.pt_layout.specs.Counts.{used_before}
-use Rattle.pt_layout.specs.Members.{label_of}
+use Rattle.pt_mbr.specs.Extended.{extended_of, extent_of}
+use Rattle.pt_members.specs.SliceLists.{next_number}
+use Rattle.pt_members.specs.Slices.{slices_of}
+use Rattle.pt_members.specs.declared.layout.Slice.{Slice}
+use Rattle.pt_members.specs.declared.layout.Labelled.{Labelled}
+use Rattle.pt_members.specs.declared.layout.Layout.{Layout}
+use Rattle.pt_members.specs.declared.layout.Body.{Body}
+use Rattle.pt_members.specs.declared.layout.Body.TheVariants.{Mbr}
+use Rattle.pt_members.specs.Counts.{used_before}
+use Rattle.pt_members.specs.Members.{label_of}
 use Rattle.pt_shape.specs.Shape.{FitsLogical, Linked, FitsChain, FitsExtended, FitsMbr, FitsBody, AreLabelsOf, Shaped}
 use Rattle.pt_shape.specs.Keeps.{LabelStays, IsOldLabel, IsNewLabel, IsTyped, IsMadeRecord, IsMadeLogical, IsMbrBody, Keeps, records_in}
 use Rattle.pt_shape.specs.Keeps.{chain_in}
-use Rattle.pt_shape.specs.Laws.{label_stays_refl_lem}
+use Rattle.pt_shape.specs.laws.Terms.{label_stays_refl_lem}
 use Rattle.pt_kept.proofs.Lists.{contains_cases, contains_later}
 use Rattle.pt_kept.proofs.Chain.{number_by, next_of}
 
 -- an MBR with these records, this chain and these labels
 abbrev pub mbr_of : Layout → List (Option Record) → List Ebr → List Labelled → Layout
 mbr_of o rs chain ls = record { sectors = o.sectors; body = Mbr rs chain; labels = ls }
-
-pub slices_mbr : (b : ℕ) (rs : List (Option Record)) (chain : List Ebr) (c : Bool) → nat_eq b 512 ≡ c
-    → slices_of b (Mbr rs chain) ≡ (if c then primary_slices 1 rs ++ logical_slices 5 chain else [])
-unfolding slices_of
-slices_mbr b rs chain true is = rw is refl
-slices_mbr b rs chain false is = rw is refl
 
 -- a record of the old records, perhaps with another type
 abbrev pub WasRecord : List (Option Record) → ℕ → Record → Type 0

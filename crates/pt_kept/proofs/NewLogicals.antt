@@ -11,40 +11,46 @@ use Rattle.pt_mbr.specs.Chain.{lba}
 use Rattle.pt_mbr.specs.declared.record.Record.{Record}
 use Rattle.pt_mbr.specs.declared.ebr.Ebr.{Ebr}
 use Rattle.pt_bsd.specs.Empty.{empty_of}
-use Rattle.pt_recover.specs.Mbr.{extended_of, extent_of}
-use Rattle.pt_recover.specs.Labels.{slice_from, record_slice, primary_slices, logical_slice, next_number, logical_slices, slices_of}
-use Rattle.pt_recover.specs.declared.layout.Slice.{Slice}
-use Rattle.pt_recover.specs.declared.layout.Labelled.{Labelled}
-use Rattle.pt_recover.specs.declared.layout.Layout.{Layout}
-use Rattle.pt_recover.specs.declared.layout.Body.{Body}
-use Rattle.pt_recover.specs.declared.layout.Body.TheVariants.{Mbr}
-use Rattle.pt_layout.specs.Counts.{no_ebr}
-use Rattle.pt_layout.specs.Members.{label_of}
+use Rattle.pt_mbr.specs.Extended.{extended_of, extent_of}
+use Rattle.pt_members.specs.laws.SliceLists.{logical_none, logical_some, record_yes, record_no}
+use Rattle.pt_members.specs.laws.SliceLists.{slices_mbr}
+use Rattle.pt_members.specs.Slices.{slice_from, slices_of}
+use Rattle.pt_members.specs.SliceLists.{next_number}
+use Rattle.pt_members.specs.laws.SliceLists.{record_slice, primary_slices, logical_slice, logical_slices}
+use Rattle.pt_members.specs.declared.layout.Slice.{Slice}
+use Rattle.pt_members.specs.declared.layout.Labelled.{Labelled}
+use Rattle.pt_members.specs.declared.layout.Layout.{Layout}
+use Rattle.pt_members.specs.declared.layout.Body.{Body}
+use Rattle.pt_members.specs.declared.layout.Body.TheVariants.{Mbr}
+use Rattle.pt_members.specs.Counts.{no_ebr}
+use Rattle.pt_members.specs.Members.{label_of}
 use Rattle.pt_labels.specs.Lists.{raised, with_new_label}
 use Rattle.pt_words.specs.declared.word.Code.{Code}
 use Rattle.pt_words.specs.declared.word.End.{End}
 use Rattle.pt_space.specs.declared.space.Run.{Run}
 use Rattle.pt_space.specs.Area.{IsIn}
-use Rattle.pt_space.specs.Laws.{placed_is_free_lem}
-use Rattle.pt_logicals.specs.Types.{new_type, is_slice}
-use Rattle.pt_logicals.specs.Chains.{ebr_at, number_at, with_logical}
-use Rattle.pt_logicals.specs.Entered.{IsEmptyAt, IsPlaceFor, with_ebr, Entered, reused, added}
-use Rattle.pt_logicals.specs.New.{logical_area, len_of, record_for, Misfit, labels_with, NewKind, LogicalNew, empty_sector, taken_of}
+use Rattle.pt_space.specs.laws.Terms.{placed_is_free_lem}
+use Rattle.pt_records.specs.Types.{new_type, is_slice}
+use Rattle.pt_records.specs.Chains.{ebr_at, number_at, with_logical}
+use Rattle.pt_records.specs.Entered.{IsEmptyAt, IsPlaceFor, with_ebr, Entered, reused, added}
+use Rattle.pt_records.specs.ChainNew.{logical_area, len_of, record_for, Misfit, labels_with, NewKind, LogicalNew, empty_sector, taken_of}
 use Rattle.pt_shape.specs.Shape.{FitsLogical, FitsChain, FitsExtended, FitsMbr, AreLabelsOf, Shaped}
 use Rattle.pt_shape.specs.Keeps.{IsOldLabel, IsNewLabel, IsMadeLogical, Keeps}
-use Rattle.pt_shape.specs.Laws.{same_but_parts_refl}
+use Rattle.pt_shape.specs.laws.Terms.{same_but_parts_refl}
 use Rattle.pt_kept.proofs.Lists.{slices_by, are_entered, label_of_new, label_of_old, contains_cases, contains_filter}
 use Rattle.pt_kept.proofs.Entries.{is_below, is_above, around}
 use Rattle.pt_kept.proofs.Tables.{contains_append, empty_fits, slice_len}
-use Rattle.pt_shape.specs.Ascending.{IsAscending, slices_ascend_lem}
+use Rattle.pt_shape.specs.Ascending.{IsAscending}
+use Rattle.pt_shape.specs.laws.Ascending.{slices_ascend_lem}
 use Rattle.pt_kept.proofs.Chain.{AreBelow, below_append, below_more, primaries_below, logicals_below, renumbered, number_by, number_least}
 use Rattle.pt_kept.proofs.Chain.{chain_same, next_of}
 use Rattle.pt_kept.proofs.Raised.{greatest, raise, slices_raised, raised_low, chain_filled, chain_inserted}
 use Rattle.pt_kept.proofs.Moved.{are_raised, label_of_raised, raise_free, raised_ascend, raised_free, split_at}
-use Rattle.pt_kept.proofs.Mbr.{mbr_of, slices_mbr, WasLogical, keeps_mbr, body_fits, old_labels, same_slice, same_records, same_logical}
+use Rattle.pt_kept.proofs.Mbr.{mbr_of, WasLogical, keeps_mbr, body_fits, old_labels, same_slice, same_records, same_logical}
 use Rattle.pt_kept.proofs.Mbr.{contains_set, contains_at, contains_map, fits_set, number_same}
 use Rattle.pt_kept.proofs.Logicals.{type_plain, not_extended, read_at}
-use Rattle.pt_kept.proofs.Entering.{linked_enter, first_at, contains_insert, empty_listed, not_own, extended_fits, chain_of, refit_one}
+use Rattle.pt_records.specs.laws.LinkLaws.{not_own}
+use Rattle.pt_kept.proofs.Entering.{linked_enter, first_at, contains_insert, empty_listed, extended_fits, chain_of, refit_one}
 
 -- the type of a new record is none of an unused or of a protective one
 pub new_plain : (code : Option Code) (kind : ℕ) → new_type code ≡ Some kind → (kind ≢ 0) × (kind ≢ 0xEE)
@@ -171,12 +177,10 @@ grown b number rs chain made x four least large same =
 
 slice_one : (number : ℕ) (x : Ebr) (r : Record) → x.logical ≡ Some r → nat_eq r.kind 0xA5 ≡ true
     → logical_slice number x ≡ slice_from number (x.at.0 + r.start) (x.at.0 + r.start + r.size - 1) ∷ []
-unfolding logical_slice record_slice
-slice_one number x r has kind = rw has (rw kind refl)
+slice_one number x r has kind = logical_some number x r has ∙ record_yes number x.at.0 r kind
 
 slice_none : (number : ℕ) (x : Ebr) (r : Record) → x.logical ≡ Some r → nat_eq r.kind 0xA5 ≡ false → logical_slice number x ≡ []
-unfolding logical_slice record_slice
-slice_none number x r has kind = rw has (rw kind refl)
+slice_none number x r has kind = logical_some number x r has ∙ record_no number x.at.0 r kind
 
 -- what a chain with one more logical partition is
 record Grown (b number kind len s : ℕ) (rs : List (Option Record)) (chain made : List Ebr) : Type 0 where
@@ -250,11 +254,12 @@ finish b number kind len s o rs chain made shaped is few some small fit g = by_k
       (kept_plain b number o rs chain shaped is few)
 
 slice_by_logical : (m : ℕ) (e f : Ebr) → e.logical ≡ f.logical → e.at.0 ≡ f.at.0 → logical_slice m e ≡ logical_slice m f
-unfolding logical_slice
 slice_by_logical m e f same at = by_one e.logical refl where
   by_one : (o : Option Record) → e.logical ≡ o → logical_slice m e ≡ logical_slice m f
-  by_one None is = let also : f.logical ≡ None = sym same ∙ is in rw (is, also) refl
-  by_one (Some r) is = let also : f.logical ≡ Some r = sym same ∙ is in rw (is, also) (ap (λ (n : ℕ). record_slice m n r) at)
+  by_one None is = let also : f.logical ≡ None = sym same ∙ is in logical_none m e is ∙ sym (logical_none m f also)
+  by_one (Some r) is =
+      let also : f.logical ≡ Some r = sym same ∙ is in
+      logical_some m e r is ∙ (ap (λ (n : ℕ). record_slice m n r) at ∙ sym (logical_some m f r also))
 
 next_by_logical : (m : ℕ) (e f : Ebr) → e.logical ≡ f.logical → next_number m e ≡ next_number m f
 next_by_logical m e f same = next_of m e f.logical same ∙ sym (next_of m f f.logical refl)
@@ -383,7 +388,7 @@ record_good code kind len typed some small =
 
 -- where a new extended boot record comes in, another stands below it
 behind_one : (p : Record) (chain : List Ebr) (s k : ℕ) → FitsChain (extent_of p) chain → p.start ≤ s
-    → ¬ IsIn (flat_map taken_of chain) s → IsPlaceFor chain s k → 1 ≤ k
+    → ¬ IsIn (taken_of chain) s → IsPlaceFor chain s k → 1 ≤ k
 behind_one p chain s k fits low free place = elim (cases_lt 0 k) as (λ _. 1 ≤ k) [
   | inl some ↦ some
   | inr none ↦ (
@@ -398,7 +403,7 @@ behind_one p chain s k fits low free place = elim (cases_lt 0 k) as (λ _. 1 ≤
 -- the entered chain
 grown_of : (b number kind len s : ℕ) (rs : List (Option Record)) (p : Record) (chain made : List Ebr) → FitsMbr rs chain
     → slice_get (extended_of rs) 0 ≡ Some p → length chain ≤ 128 → p.start ≤ s → s ≤ p.start + p.size - 1
-    → (¬ IsIn (flat_map taken_of chain) s) ⊎ Contains (flat_map empty_sector chain) s → FitsLogical (Some (record_for kind len))
+    → (¬ IsIn (taken_of chain) s) ⊎ Contains (flat_map empty_sector chain) s → FitsLogical (Some (record_for kind len))
     → Entered chain s (record_for kind len) number made → Grown b number kind len s rs chain made
 grown_of b number kind len s rs p chain made fits is few low high free good (reused k empty at so) =
     subst (Grown b number kind len s rs chain) (sym so) (filled b number kind len s k rs chain fits few empty at good)

@@ -9,19 +9,24 @@ use Rattle.pt_mbr.specs.Chain.{lba}
 use Rattle.pt_mbr.specs.declared.record.Record.{Record}
 use Rattle.pt_mbr.specs.declared.ebr.Ebr.{Ebr}
 use Rattle.pt_bsd.specs.Empty.{empty_of}
-use Rattle.pt_recover.specs.Mbr.{is_extended, extended_of}
-use Rattle.pt_recover.specs.Labels.{slice_from, record_slice, primary_slice, primary_slices, logical_slices, slices_of}
-use Rattle.pt_recover.specs.declared.layout.Slice.{Slice}
-use Rattle.pt_recover.specs.declared.layout.Labelled.{Labelled}
-use Rattle.pt_recover.specs.declared.layout.Layout.{Layout}
-use Rattle.pt_recover.specs.declared.layout.Body.TheVariants.{Mbr}
-use Rattle.pt_layout.specs.Members.{label_of}
+use Rattle.pt_mbr.specs.Extended.{is_extended, extended_of}
+use Rattle.pt_members.specs.Members.{logicals_as}
+use Rattle.pt_members.specs.SliceLists.{next_number}
+use Rattle.pt_members.specs.laws.SliceLists.{primary_some, record_yes, logical_slice}
+use Rattle.pt_members.specs.laws.SliceLists.{slices_mbr}
+use Rattle.pt_members.specs.Slices.{slice_from, slices_of}
+use Rattle.pt_members.specs.laws.SliceLists.{primary_slice, primary_slices, logical_slices}
+use Rattle.pt_members.specs.declared.layout.Slice.{Slice}
+use Rattle.pt_members.specs.declared.layout.Labelled.{Labelled}
+use Rattle.pt_members.specs.declared.layout.Layout.{Layout}
+use Rattle.pt_members.specs.declared.layout.Body.TheVariants.{Mbr}
+use Rattle.pt_members.specs.Members.{label_of}
 use Rattle.pt_labels.specs.Lists.{with_new_label}
 use Rattle.pt_words.specs.declared.word.Code.{Code}
 use Rattle.pt_words.specs.declared.word.End.{End}
-use Rattle.pt_space.specs.Laws.{placed_is_free_lem}
-use Rattle.pt_logicals.specs.Types.{is_slice}
-use Rattle.pt_logicals.specs.New.{len_of}
+use Rattle.pt_space.specs.laws.Terms.{placed_is_free_lem}
+use Rattle.pt_records.specs.Types.{is_slice}
+use Rattle.pt_records.specs.ChainNew.{len_of}
 use Rattle.pt_records.specs.Numbers.{IsUnused, TakesNumber, as_asked, lowest_one}
 use Rattle.pt_records.specs.New.{extended_record, disk_area, record_at, new_chain, new_labels, RecordMade}
 use Rattle.pt_shape.specs.Shape.{FitsRecord, FitsExtended, FitsMbr, AreLabelsOf, Shaped}
@@ -29,9 +34,9 @@ use Rattle.pt_shape.specs.Keeps.{IsMadeRecord, IsMadeLogical, Keeps}
 use Rattle.pt_kept.proofs.Lists.{slices_by, are_entered, contains_cases}
 use Rattle.pt_kept.proofs.Entries.{is_below, is_above, around, records_with, records_same}
 use Rattle.pt_kept.proofs.Tables.{empty_fits, slice_len, entered_label}
-use Rattle.pt_kept.proofs.Order.{logicals_ascend}
+use Rattle.pt_shape.specs.laws.Ascending.{logicals_ascend}
 use Rattle.pt_kept.proofs.Chain.{ascending_kept, ascending_gone, emptied}
-use Rattle.pt_kept.proofs.Mbr.{mbr_of, slices_mbr, WasRecord, WasLogical, keeps_mbr, body_fits, old_labels, same_slice, same_logical}
+use Rattle.pt_kept.proofs.Mbr.{mbr_of, WasRecord, WasLogical, keeps_mbr, body_fits, old_labels, same_slice, same_logical}
 use Rattle.pt_kept.proofs.NewLogicals.{new_plain}
 use Rattle.pt_kept.proofs.Records.{extended_first, extended_same, extended_yes, extended_no, none_extended, extended_in, slots_set}
 use Rattle.pt_kept.proofs.Records.{set_records, within_four, leaf_record, no_record_slice}
@@ -62,8 +67,7 @@ around_high k new ss es lt =
 
 slice_record : (n : ℕ) (r : Record) → nat_eq r.kind 0xA5 ≡ true
     → primary_slice n (Some r) ≡ slice_from n (0 + r.start) (0 + r.start + r.size - 1) ∷ []
-unfolding primary_slice record_slice
-slice_record n r is = rw is refl
+slice_record n r is = primary_some n r ∙ record_yes n 0 r is
 
 -- no type is both an extended partition's and a slice's
 other_type : (kind : ℕ) → is_extended kind ≡ true → nat_eq kind 0xA5 ≡ false
@@ -84,7 +88,7 @@ small_sectors : (b kind : ℕ) → nat_eq b 512 ≡ false → is_slice b kind �
 small_sectors b kind small = rw small refl
 
 no_logicals : (e : Ebr) → e.logical ≡ None → logical_slices 5 (e ∷ []) ≡ logical_slices 5 []
-unfolding logical_slices
+unfolding logical_slices logical_slice logicals_as next_number
 no_logicals e none = ap (λ (l : List Slice). l ++ []) (emptied 5 e none)
 
 lone_empty : (e f : Ebr) (q : Record) → e.logical ≡ None → Contains (e ∷ []) f → f.logical ≡ Some q → ⊥

@@ -1,57 +1,22 @@
 -- Logical slices stand in the order of their numbers; the label of a slice in a layout, as it changes.
-use Rattle.std.specs.Prelude.{◌≡◌, ◌≢◌, ◌<◌, ◌≤◌, ◌+◌, ◌-◌, ◌++◌, ◌∷◌, [], ℕ, Bool, true, false, List, filter, length, slice_index_or}
-use Rattle.std.specs.Prelude.{slice_set, Option, Some, None, is_some, if◌then◌else◌, nat_eq}
-use Rattle.std.proofs.Common.{refl, sym, ap, subst, ◌∙◌, inl, inr, arith, append_assoc}
+use Rattle.std.specs.Prelude.{◌≡◌, ◌≢◌, ◌<◌, ◌≤◌, ◌+◌, ◌∷◌, [], ℕ, Bool, true, false, List, length, slice_index_or}
+use Rattle.std.specs.Prelude.{slice_set, Option, Some, None, is_some, nat_eq}
+use Rattle.std.proofs.Common.{refl, sym, ap, subst, ◌∙◌, inl, inr, arith}
 use Rattle.std.proofs.lemmas.Bool.{cases_lt, ne_eqb, eqb-true, eqb-false}
 use Rattle.std.proofs.lemmas.List.{length-set, get_or-set_same, get_or-set_other}
-use Rattle.pt_gpt.specs.declared.entry.Entry.{Entry}
-use Rattle.pt_mbr.specs.declared.record.Record.{Record}
-use Rattle.pt_mbr.specs.declared.ebr.Ebr.{Ebr}
 use Rattle.pt_bsd.specs.Counted.{count_of}
-use Rattle.pt_bsd.specs.Laws.{with_entry_counted, with_entry_fits}
+use Rattle.pt_bsd.specs.laws.Terms.{with_entry_counted, with_entry_fits}
 use Rattle.pt_bsd.specs.declared.label.Label.{Label}
 use Rattle.pt_bsd.specs.declared.label.LabelEntry.{LabelEntry}
-use Rattle.pt_recover.specs.Labels.{is_slice_kind, slice_from, record_slice, primary_slice, primary_slices, logical_slice, next_number}
-use Rattle.pt_recover.specs.Labels.{logical_slices, entry_slice, entry_slices, slices_of}
-use Rattle.pt_recover.specs.declared.layout.Slice.{Slice}
-use Rattle.pt_recover.specs.declared.layout.Labelled.{Labelled}
-use Rattle.pt_recover.specs.declared.layout.Layout.{Layout}
-use Rattle.pt_recover.specs.declared.layout.Body.{Body}
-use Rattle.pt_recover.specs.declared.layout.Body.TheVariants.{Mbr, Gpt}
-use Rattle.pt_layout.specs.Members.{label_of}
+use Rattle.pt_members.specs.declared.layout.Slice.{Slice}
+use Rattle.pt_members.specs.declared.layout.Labelled.{Labelled}
+use Rattle.pt_members.specs.Members.{label_of}
 use Rattle.pt_labels.specs.Lists.{labelled, relabelled_as, with_label}
 use Rattle.pt_labels.specs.Parts.{with_part}
-use Rattle.pt_shape.specs.Shape.{FitsBody, FitsLabel, AreLabelsOf, Shaped}
-use Rattle.pt_shape.specs.Ascending.{IsAscending, ascend_from}
+use Rattle.pt_shape.specs.Shape.{FitsLabel, AreLabelsOf}
+use Rattle.pt_shape.specs.Ascending.{IsAscending}
 use Rattle.pt_shape.specs.Keeps.{SameButParts}
-use Rattle.pt_kept.proofs.Lists.{filter_in, filter_out, label_of_head, label_of_tail}
-
--- none, or one of this number, and then higher ones
-one_kind : (n first last : ℕ) (c : Bool) (ss : List Slice) → IsAscending (n + 1) ss
-    → IsAscending n ((if c then slice_from n first last ∷ [] else []) ++ ss)
-one_kind n first last true ss is = (omega arith, is)
-one_kind n first last false ss is = ascend_from n (n + 1) ss (omega arith) is
-
-record_then : (n at : ℕ) (r : Record) (ss : List Slice) → IsAscending (n + 1) ss → IsAscending n (record_slice n at r ++ ss)
-unfolding record_slice
-record_then n at r ss is = one_kind n (at + r.start) (at + r.start + r.size - 1) (nat_eq r.kind 0xA5) ss is
-
-logical_then : (n : ℕ) (e : Ebr) (o : Option Record) (ss : List Slice) → e.logical ≡ o → IsAscending (next_number n e) ss
-    → IsAscending n (logical_slice n e ++ ss)
-unfolding logical_slice next_number
-logical_then n e None ss so is =
-    let at : next_number n e ≡ n = rw so refl in
-    let none : logical_slice n e ≡ [] = rw so refl in
-    subst (λ (l : List Slice). IsAscending n (l ++ ss)) (sym none) (subst (λ (k : ℕ). IsAscending k ss) at is)
-logical_then n e (Some r) ss so is =
-    let at : next_number n e ≡ n + 1 = rw so refl in
-    let one : logical_slice n e ≡ record_slice n e.at.0 r = rw so refl in
-    subst (λ (l : List Slice). IsAscending n (l ++ ss)) (sym one) (record_then n e.at.0 r ss (subst (λ (k : ℕ). IsAscending k ss) at is))
-
-pub logicals_ascend : (n : ℕ) (chain : List Ebr) → IsAscending n (logical_slices n chain)
-unfolding logical_slices
-logicals_ascend n [] = tt
-logicals_ascend n (e ∷ es) = logical_then n e e.logical (logical_slices (next_number n e) es) refl (logicals_ascend (next_number n e) es)
+use Rattle.pt_kept.proofs.Lists.{label_of_head, label_of_tail}
 
 same_label : (k : ℕ) (l : Label) (x : Labelled) → x.number ≢ k → relabelled_as k l x ≡ x
 same_label k l x other = rw (ne_eqb x.number k other) refl

@@ -8,11 +8,13 @@ use Rattle.std.proofs.lemmas.List.{map-append}
 use Rattle.std.proofs.lemmas.List.Elements.{filter-append}
 use Rattle.pt_mbr.specs.declared.record.Record.{Record}
 use Rattle.pt_mbr.specs.declared.ebr.Ebr.{Ebr}
-use Rattle.pt_recover.specs.Labels.{logical_slice, next_number, logical_slices}
-use Rattle.pt_recover.specs.declared.layout.Slice.{Slice}
+use Rattle.pt_members.specs.Members.{logicals_as}
+use Rattle.pt_members.specs.SliceLists.{next_number}
+use Rattle.pt_members.specs.laws.SliceLists.{logical_slice, logical_slices}
+use Rattle.pt_members.specs.declared.layout.Slice.{Slice}
 use Rattle.pt_kept.proofs.Lists.{slices_by}
 use Rattle.pt_kept.proofs.Entries.{is_below, is_above, around}
-use Rattle.pt_kept.proofs.Order.{logicals_ascend}
+use Rattle.pt_shape.specs.laws.Ascending.{logicals_ascend}
 use Rattle.pt_kept.proofs.Chain.{AreBelow, below_logical, ascending_kept, ascending_gone, by_below, none_below, renumbered, map_below}
 use Rattle.pt_kept.proofs.Chain.{Moves, chain_moved, number_by, number_least, next_of, next_most, emptied}
 
@@ -90,7 +92,7 @@ pub chain_filled : (n k : ℕ) (x : Ebr) (r : Record) (chain : List Ebr) → k <
     → ((d : Ebr) → (slice_index_or chain k d).logical ≡ None) → x.logical ≡ Some r
     → logical_slices n (slice_set chain k x) ≡ around (number_by n k chain) (logical_slice (number_by n k chain) x)
     (slices_raised (number_by n k chain) (logical_slices n chain))
-unfolding logical_slices
+unfolding logical_slices logical_slice logicals_as next_number
 chain_filled n k x r [] lt few none has = absurd (omega (arith, lt))
 chain_filled n zero x r (e ∷ es) lt few none has =
     let next : next_number n x ≡ n + 1 = next_of n x (Some r) has in
@@ -119,7 +121,7 @@ pub chain_inserted : (n k : ℕ) (x : Ebr) (r : Record) (chain : List Ebr) → k
     → x.logical ≡ Some r
     → logical_slices n (insert chain k x) ≡ around (number_by n k chain) (logical_slice (number_by n k chain) x)
     (slices_raised (number_by n k chain) (logical_slices n chain))
-unfolding logical_slices
+unfolding logical_slices logical_slice logicals_as next_number
 chain_inserted n zero x r chain le few has =
     ap (λ (m : ℕ). logical_slice n x ++ logical_slices m chain) (next_of n x (Some r) has)
     ∙ sym (raised_high n (logical_slice n x) chain few)

@@ -3,7 +3,7 @@ use Rattle.std.specs.Prelude.{◌≡◌, ◌≢◌, ◌<◌, ◌≤◌, ◌⊎�
 use Rattle.std.specs.Prelude.{slice_set, ◌^◌, Option, Some, None, IfSome, Contains, if◌then◌else◌, nat_eq, ◌&&◌}
 use Rattle.std.proofs.Common.{refl, sym, ap, subst, ◌∙◌, inl, inr, arith}
 use Rattle.std.proofs.lemmas.Bool.{eqb-true, eqb-false, ltb-true, lt-ltb, le-leb, true≢false}
-use Rattle.pt_bsd.specs.Laws.{empty_counted}
+use Rattle.pt_bsd.specs.laws.Terms.{empty_counted}
 use Rattle.std.proofs.lemmas.List.{length-set, get_or-set_same, get_or-set_other}
 use Rattle.pt_gpt.specs.Array.{AllTyped}
 use Rattle.pt_gpt.specs.Entry.{IsTyped}
@@ -12,17 +12,21 @@ use Rattle.pt_gpt.specs.declared.table.Table.{Table}
 use Rattle.pt_mbr.specs.declared.record.Record.{Record}
 use Rattle.pt_mbr.specs.declared.ebr.Ebr.{Ebr}
 use Rattle.pt_bsd.specs.Empty.{empty_of}
-use Rattle.pt_recover.specs.Labels.{is_slice_kind, slice_from, entry_slice, entry_slices, slices_of}
-use Rattle.pt_recover.specs.declared.layout.Slice.{Slice}
-use Rattle.pt_recover.specs.declared.layout.Labelled.{Labelled}
-use Rattle.pt_recover.specs.declared.layout.Layout.{Layout}
-use Rattle.pt_recover.specs.declared.layout.Body.{Body}
-use Rattle.pt_recover.specs.declared.layout.Body.TheVariants.{Gpt}
-use Rattle.pt_layout.specs.Members.{label_of}
+use Rattle.pt_members.specs.laws.SliceLists.{entry_some}
+use Rattle.pt_members.specs.laws.SliceLists.{slices_gpt}
+use Rattle.pt_members.specs.Members.{is_slice_kind}
+use Rattle.pt_members.specs.Slices.{slice_from, slices_of}
+use Rattle.pt_members.specs.laws.SliceLists.{entry_slice, entry_slices}
+use Rattle.pt_members.specs.declared.layout.Slice.{Slice}
+use Rattle.pt_members.specs.declared.layout.Labelled.{Labelled}
+use Rattle.pt_members.specs.declared.layout.Layout.{Layout}
+use Rattle.pt_members.specs.declared.layout.Body.{Body}
+use Rattle.pt_members.specs.declared.layout.Body.TheVariants.{Gpt}
+use Rattle.pt_members.specs.Members.{label_of}
 use Rattle.pt_labels.specs.Lists.{without_label, with_new_label}
 use Rattle.pt_shape.specs.Shape.{FitsTable, FitsBody, FitsLabel, AreLabelsOf, Shaped}
 use Rattle.pt_shape.specs.Keeps.{LabelStays, IsOldLabel, IsNewLabel, Keeps}
-use Rattle.pt_shape.specs.Laws.{same_but_parts_refl, label_stays_refl_lem}
+use Rattle.pt_shape.specs.laws.Terms.{same_but_parts_refl, label_stays_refl_lem}
 use Rattle.pt_kept.proofs.Lists.{slices_by, contains_later, are_filter, are_entered, label_of_by, label_of_new, label_of_old}
 use Rattle.pt_kept.proofs.Lists.{contains_filter, contains_cases}
 use Rattle.pt_kept.proofs.Entries.{is_not, is_not_false, is_below, is_above, around, slices_without, slices_with, slices_same}
@@ -83,16 +87,11 @@ keeps_gpt b o t ls fits are labels = record {
   logicals = λ e r is has. absurd (no_ebr e is);
 }
 
--- the slices of a GPT
-pub slices_512 : (b : ℕ) (t : Table) (c : Bool) → nat_eq b 512 ≡ c → slices_of b (Gpt t) ≡ (if c then entry_slices 1 t.entries else [])
-unfolding slices_of
-slices_512 b t true is = rw is refl
-slices_512 b t false is = rw is refl
-
 -- where the slices of a table are those of another
 pub slices_as : (b : ℕ) (t u : Table) → entry_slices 1 u.entries ≡ entry_slices 1 t.entries → slices_of b (Gpt u) ≡ slices_of b (Gpt t)
-unfolding slices_of
-slices_as b t u same = ap (λ (l : List Slice). if nat_eq b 512 then l else []) same
+slices_as b t u same =
+    slices_gpt b u (nat_eq b 512) refl ∙ ap (λ (l : List Slice). if nat_eq b 512 then l else []) same
+    ∙ sym (slices_gpt b t (nat_eq b 512) refl)
 
 unchanged : (b : ℕ) (o : Layout) (t u : Table) → Shaped b o → o.body ≡ Gpt t → FitsTable b o.sectors u
     → slices_of b (Gpt u) ≡ slices_of b (Gpt t)
@@ -131,8 +130,8 @@ pub slices_fewer : (b : ℕ) (f : ℕ → Bool) (t u : Table) → entry_slices 1
     → slices_of b (Gpt u) ≡ slices_by f (slices_of b (Gpt t))
 slices_fewer b f t u same = by_size (nat_eq b 512) refl where
   by_size : (c : Bool) → nat_eq b 512 ≡ c → slices_of b (Gpt u) ≡ slices_by f (slices_of b (Gpt t))
-  by_size true is = slices_512 b u true is ∙ (same ∙ ap (slices_by f) (sym (slices_512 b t true is)))
-  by_size false is = slices_512 b u false is ∙ ap (slices_by f) (sym (slices_512 b t false is))
+  by_size true is = slices_gpt b u true is ∙ (same ∙ ap (slices_by f) (sym (slices_gpt b t true is)))
+  by_size false is = slices_gpt b u false is ∙ ap (slices_by f) (sym (slices_gpt b t false is))
 
 -- an entry goes, with the label of its number
 pub keeps_without : (b number : ℕ) (o : Layout) (t : Table) → Shaped b o → o.body ≡ Gpt t → 1 ≤ number → number ≤ length t.entries
@@ -187,7 +186,7 @@ keeps_leaf b number o t e shaped is first last typed none leaf = by_size (nat_eq
   by_size : (c : Bool) → nat_eq b 512 ≡ c → Keeps b o.sectors (Some o) (record { sectors = o.sectors; body = Gpt u; labels = o.labels })
   by_size true large = keeps_entry b number o t (Some e) shaped is first last typed
       (no_slice (is_slice_kind e.kind.0) large refl ∙ ap (entry_slice number) (sym none))
-  by_size false small = unchanged b o t u shaped is fits (slices_512 b u false small ∙ sym (slices_512 b t false small))
+  by_size false small = unchanged b o t u shaped is fits (slices_gpt b u false small ∙ sym (slices_gpt b t false small))
 
 pub contains_append : {X : Type 0} (y : X) (xs ys : List X) → Contains (xs ++ ys) y → Contains xs y ⊎ Contains ys y
 contains_append y [] ys is = inr is
@@ -267,13 +266,13 @@ keeps_slice b number o t e shaped is first last typed none large kind long withi
     let s = slice_from number e.first e.last in
     let len : s.len ≡ e.last - e.first + 1 = slice_len number e.first e.last (omega (arith, long)) (omega (arith, within, most)) in
     let at : 1 + (number - 1) ≡ number = omega (arith, first) in
-    let new : entry_slice number (Some e) ≡ s ∷ [] = rw kind refl in
+    let new : entry_slice number (Some e) ≡ s ∷ [] = entry_some number e ∙ rw kind refl in
     let slices : entry_slices 1 u.entries ≡ around number (s ∷ []) (entry_slices 1 t.entries) =
     slices_with 1 (number - 1) (Some e) t.entries (omega (arith, first, last)) none
     ∙ (ap (λ (k : ℕ). around k (entry_slice k (Some e)) (entry_slices 1 t.entries)) at ∙ ap (λ (l : List Slice).
     around number l (entry_slices 1 t.entries)) new) in
     let places : slices_of b (Gpt u) ≡ around number (s ∷ []) (slices_of b o.body) =
-    slices_512 b u true large ∙ (slices ∙ ap (around number (s ∷ [])) (sym (slices_512 b t true large) ∙ ap (slices_of b) (sym is))) in
+    slices_gpt b u true large ∙ (slices ∙ ap (around number (s ∷ [])) (sym (slices_gpt b t true large) ∙ ap (slices_of b) (sym is))) in
     subst (λ (k : ℕ). Keeps b n (Some o) (record { sectors = n; body = Gpt u; labels = with_new_label number (empty_of k) o.labels })) len
     (keeps_gpt b o u (with_new_label number (empty_of s.len) o.labels)
     (fits_set b n number t (Some e) first last typed (table_fits b o t shaped is))
@@ -288,4 +287,4 @@ pub keeps_small : (b number : ℕ) (o : Layout) (t : Table) (x : Option Entry) �
 keeps_small b number o t x shaped is first last typed small =
     unchanged b o t (entries_with t number x) shaped is
     (fits_set b o.sectors number t x first last typed (table_fits b o t shaped is))
-    (slices_512 b (entries_with t number x) false small ∙ sym (slices_512 b t false small))
+    (slices_gpt b (entries_with t number x) false small ∙ sym (slices_gpt b t false small))

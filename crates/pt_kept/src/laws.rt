@@ -5,7 +5,7 @@ ghost use Rattle.pt_guid.specs.declared.guid.Guid.{Guid};
 ghost use Rattle.pt_sector.specs.Sectors.{Sectors, IsSectorSize};
 ghost use Rattle.pt_recover.specs.Denotes.{Denotes};
 ghost use Rattle.pt_recover.specs.Numbers.{Numbers};
-ghost use Rattle.pt_recover.specs.declared.layout.Layout.{Layout};
+ghost use Rattle.pt_members.specs.declared.layout.Layout.{Layout};
 ghost use Rattle.pt_words.specs.declared.word.Edit.{Edit};
 ghost use Rattle.pt_edit.specs.Edited.{Edited};
 ghost use Rattle.pt_shape.specs.Keeps.{Keeps};

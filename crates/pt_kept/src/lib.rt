@@ -1,8 +1,11 @@
-//! What every edit keeps of the layout before it: one law over all words, for the planner's promises.
+//! What every edit keeps of the layout before it, and what becomes of words on a disk: laws, no code.
 //!
-//! The relation is `pt_shape`'s `Keeps`.
+//! One law over all words, for the planner's promises; its relation is `pt_shape`'s `Keeps`. Then words have a plan, or one
+//! refusal of the planner, the first whose cause holds.
 #![tactic(auto)]
 
+mod answers;
 mod laws;
 
+pub use answers::words_have_one_answer;
 pub use laws::{edit_keeps, edit_of_disk_keeps};

@@ -4,7 +4,7 @@ use Rattle.std.proofs.Common.{arith}
 use Rattle.std.proofs.Math.ListN.{set}
 use Rattle.std.proofs.Math.Seq.{drop-cons, get_or-append_seam, set-append_seam}
 use Rattle.std.proofs.lemmas.List.{drop_all, take_all, take_more, append-nil, length-map, length-take, map-append}
-use Rattle.pt_recover.specs.declared.layout.Labelled.{Labelled}
+use Rattle.pt_members.specs.declared.layout.Labelled.{Labelled}
 
 -- a list of which the first k elements are changed
 abbrev pub changed_to : (Labelled → Labelled) → ℕ → List Labelled → List Labelled

@@ -1,7 +1,7 @@
 -- The labels of a layout, by the numbers of their slices.
 use Rattle.std.specs.Prelude.{◌+◌, ◌-◌, ◌^◌, ◌++◌, ◌∷◌, ℕ, true, false, List, map, filter, if◌then◌else◌, nat_eq, nat_lt}
 use Rattle.pt_bsd.specs.declared.label.Label.{Label}
-use Rattle.pt_recover.specs.declared.layout.Labelled.{Labelled}
+use Rattle.pt_members.specs.declared.layout.Labelled.{Labelled}
 
 -- the label of the slice of a number
 abbrev pub labelled : ℕ → Label → Labelled

@@ -1,19 +1,19 @@
 -- The word `n` with a letter: a new partition of a slice's label.
-use Rattle.std.specs.Prelude.{◌≡◌, ◌≢◌, ◌<◌, ◌+◌, ◌-◌, ◌^◌, ◌∷◌, [], ℕ, List, flat_map, Option, Some, None, if◌then◌else◌, nat_le, nat_lt}
-use Rattle.std.specs.Prelude.{◌&&◌}
+use Rattle.std.specs.Prelude.{◌≡◌, ◌≢◌, ◌<◌, ◌+◌, ◌-◌, ◌^◌, ℕ, Option, Some, None}
 use Rattle.pt_bsd.specs.Form.{form_of, sector_by}
 use Rattle.pt_bsd.specs.declared.label.Label.{Label}
 use Rattle.pt_bsd.specs.declared.label.LabelEntry.{LabelEntry}
-use Rattle.pt_recover.specs.declared.layout.Layout.{Layout}
-use Rattle.pt_layout.specs.declared.member.Kind.TheVariants.{Leaf}
-use Rattle.pt_layout.specs.declared.member.Member.{Member}
-use Rattle.pt_layout.specs.Members.{letter_path, parts_in}
+use Rattle.pt_members.specs.declared.layout.Layout.{Layout}
+use Rattle.pt_members.specs.declared.member.Kind.TheVariants.{Leaf}
+use Rattle.pt_members.specs.declared.member.Member.{Member}
+use Rattle.pt_members.specs.Members.{letter_path, parts_in}
 use Rattle.pt_words.specs.declared.error.Refusal.{Refusal}
 use Rattle.pt_words.specs.declared.error.Refusal.TheVariants.{NumberTaken, UnknownCode, LabelOffset}
 use Rattle.pt_words.specs.declared.word.Code.{Code}
 use Rattle.pt_words.specs.declared.word.End.{End}
 use Rattle.pt_space.specs.declared.space.Run.{Run}
 use Rattle.pt_space.specs.Area.{Area}
+use Rattle.pt_space.specs.Taken.{taken_by}
 use Rattle.pt_space.specs.Placed.{Placed, NotPlaced}
 use Rattle.pt_labels.specs.Parts.{HasEntry, NoEntry, with_entry_of, part_type}
 
@@ -33,14 +33,9 @@ abbrev pub new_type : Option Code → Option ℕ
 new_type None = Some 7
 new_type (Some code) = part_type code
 
--- the sectors of a partition, where they exist
-abbrev pub run_of : Option Member → List Run
-run_of None = []
-run_of (Some m) = if nat_le m.first m.last && nat_lt m.last (2 ^ 63) then record { first = m.first; last = m.last } ∷ [] else []
-
 -- where a partition of a slice may stand: from its seventeenth sector on, and in none of the label's other partitions
 abbrev pub area_in : Label → Member → Area
-area_in l m = record { low = m.first + 16; high = m.last; taken = flat_map run_of (parts_in (Some l) m); empties = None }
+area_in l m = record { low = m.first + 16; high = m.last; taken = taken_by (parts_in (Some l) m); empties = None }
 
 -- how many sectors there are
 abbrev pub len_of : Run → ℕ

@@ -3,9 +3,9 @@ use Rattle.std.specs.Prelude.{◌≡◌, ◌≢◌, ℕ, slice_index_or, slice_s
 use Rattle.pt_bsd.specs.Empty.{entry_of_size}
 use Rattle.pt_bsd.specs.declared.label.Label.{Label}
 use Rattle.pt_bsd.specs.declared.label.LabelEntry.{LabelEntry}
-use Rattle.pt_recover.specs.declared.layout.Layout.{Layout}
-use Rattle.pt_layout.specs.declared.member.Member.{Member}
-use Rattle.pt_layout.specs.Members.{label_of}
+use Rattle.pt_members.specs.declared.layout.Layout.{Layout}
+use Rattle.pt_members.specs.declared.member.Member.{Member}
+use Rattle.pt_members.specs.Members.{label_of}
 use Rattle.pt_words.specs.declared.error.Refusal.{Refusal}
 use Rattle.pt_words.specs.declared.error.Refusal.TheVariants.{NoSuchPartition, UnknownCode, ContainerType, ForeignLabel}
 use Rattle.pt_words.specs.declared.word.Code.{Code}

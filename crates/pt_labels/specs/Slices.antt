@@ -1,9 +1,9 @@
 -- The slice of a number, in a table of any kind.
 use Rattle.std.specs.Prelude.{◌≡◌, ◌<◌, ℕ, length, slice_index_or, Some, None}
-use Rattle.pt_recover.specs.declared.layout.Body.{Body}
-use Rattle.pt_layout.specs.declared.member.Kind.TheVariants.{Slice}
-use Rattle.pt_layout.specs.declared.member.Member.{Member}
-use Rattle.pt_layout.specs.Members.{number_path, slots}
+use Rattle.pt_members.specs.declared.layout.Body.{Body}
+use Rattle.pt_members.specs.declared.member.Kind.TheVariants.{Slice}
+use Rattle.pt_members.specs.declared.member.Member.{Member}
+use Rattle.pt_members.specs.Members.{number_path, slots}
 
 -- the member is a slice of this number
 abbrev pub IsSliceOf : ℕ → Member → Type 0

@@ -1,17 +1,17 @@
 //! Laws of the words with a letter. Each function does nothing: its contract is the law.
 
 ghost use Rattle.std.specs.Prelude.{◌≡◌, ℕ, Option, Some, ◌⊎◌};
-ghost use Rattle.pt_recover.specs.declared.layout.Layout.{Layout};
+ghost use Rattle.pt_members.specs.declared.layout.Layout.{Layout};
 ghost use Rattle.pt_words.specs.declared.error.Refusal.{Refusal};
 ghost use Rattle.pt_words.specs.declared.word.Code.{Code};
 ghost use Rattle.pt_words.specs.declared.word.End.{End};
-ghost use Rattle.pt_layout.specs.Members.{part_of};
+ghost use Rattle.pt_members.specs.Members.{part_of};
 ghost use Rattle.pt_space.specs.Area.{IsFreeRun};
 ghost use Rattle.pt_labels.specs.New.{area_in, len_of, new_entry, placed_part, PartNew, PartNotNew};
 ghost use Rattle.pt_labels.specs.Parts.{with_part, PartTyped, PartNotTyped, PartDeleted, PartNotDeleted};
 
 /// `set_part_kind` has one result.
-#[tactic(auto, using(crate::specs::Laws::typed_one_lem))]
+#[tactic(auto, using(crate::specs::laws::Terms::typed_one_lem))]
 pub fn part_typed_one()
     ensures { (b number letter : ℕ) (code : Code) (o p q : Layout) → PartTyped b number letter code o p
         → PartTyped b number letter code o q → p ≡ q }
@@ -30,7 +30,7 @@ pub fn part_not_typed_one()
 {}
 
 /// `delete_part` has one result.
-#[tactic(auto, using(crate::specs::Laws::deleted_one_lem))]
+#[tactic(auto, using(crate::specs::laws::Terms::deleted_one_lem))]
 pub fn part_deleted_one()
     ensures { (b number letter : ℕ) (o p q : Layout) → PartDeleted b number letter o p → PartDeleted b number letter o q → p ≡ q }
 {}

@@ -5,7 +5,7 @@ ghost use Rattle.pt_labels.specs.Lists.{labelled, without_label, relabelled_as, 
 ghost use Rattle.pt_labels.specs.Lists.{lowered_as, lowered, raised_as, raised, without_logicals};
 
 use pt_bsd::Label;
-use pt_recover::{Labelled, Labels};
+use pt_members::{Labelled, Labels};
 use std::alloc::{AllocError, Global};
 
 /// The number of the first logical partition.

@@ -1,17 +1,16 @@
 //! The word `n` with a letter: a new partition of a slice's label.
 
-ghost use Rattle.std.specs.Prelude.{◌≡◌, ◌≢◌, ◌<◌, ◌≤◌, ◌^◌, ◌++◌, ℕ, IfOk, IfErr, OnOk, IfSome, IfNone, length, flat_map, Some};
+ghost use Rattle.std.specs.Prelude.{◌≡◌, ◌≢◌, ◌<◌, ◌≤◌, ◌^◌, ℕ, IfOk, IfErr, IfSome, IfNone};
 ghost use Rattle.pt_bsd.specs.Form.{sector_by};
-ghost use Rattle.pt_layout.specs.Members.{parts_in};
 ghost use Rattle.pt_words.specs.declared.error.Refusal.TheVariants.{Memory};
 ghost use Rattle.pt_space.specs.Area.{area_of};
 ghost use Rattle.pt_space.specs.Placed.{Placed, NotPlaced};
-ghost use Rattle.pt_labels.specs.New.{HasUnused, NoUnused, new_type, run_of, area_in, len_of, HasOffset, new_entry, PartNew, PartNotNew};
+ghost use Rattle.pt_labels.specs.New.{HasUnused, NoUnused, new_type, area_in, len_of, HasOffset, new_entry, PartNew, PartNotNew};
 
 use crate::parts::{Spot, entry_of, part_type_of, put_entry};
 use pt_bsd::{Form, Label, LabelEntry};
-use pt_layout::{Layout, Member, part_slot};
-use pt_space::{Lead, Run, Space, place};
+use pt_members::{Layout, Member};
+use pt_space::{Lead, Run, Space, place, taken_by_parts};
 use pt_words::{Asked, Code, Refusal};
 use std::alloc::{AllocError, Global};
 
@@ -43,41 +42,12 @@ fn new_type_of(code: &Option<Code>) -> Option<u8>
     }
 }
 
-// With the sectors of a partition, where they exist.
-fn push_run(taken: &mut Vec<Run>, part: Option<Member>) -> Result<(), AllocError>
-    ensures { OnOk result (taken.new.items ≡ taken.old.items ++ run_of part) }
-{
-    if let Some(m) = part {
-        if m.first <= m.last && m.last < 1 << 63 {
-            taken.push(Run {
-                first: m.first,
-                last: m.last,
-            })?;
-        }
-    }
-    Ok(())
-}
-
-// The sectors of a label's partitions.
-#[tactic(auto, using(crate::proofs::Runs::none_yet, crate::proofs::Runs::one_more, crate::proofs::Runs::all_of, crate::proofs::Runs::parts_len))]
-fn taken_in(alloc: Global, label: &Label, slice: &Member) -> Result<Vec<Run>, AllocError>
-    requires small { slice.now.first < 2 ^ 66 }
-    requires counted { length label.now.entries ≡ 8 }
-    ensures { IfOk result (λ v. v.items ≡ flat_map run_of (parts_in (Some label.now) slice.now)) }
-{
-    let mut taken = Vec::new(alloc);
-    for k in 0..8usize {
-        push_run(&mut taken, part_slot(label, slice, k))?;
-    }
-    Ok(taken)
-}
-
 // Where a partition of a slice may stand.
 fn space_in(alloc: Global, label: Label, slice: &Member) -> Result<Space, AllocError>
     requires { slice.now.first < 2 ^ 66 }
     ensures { IfOk result (λ s. area_of s ≡ area_in label slice.now) }
 {
-    let taken = taken_in(alloc, &label, slice)?;
+    let taken = taken_by_parts(alloc, &label, slice)?;
     Ok(Space {
         low: slice.first + RESERVED,
         high: slice.last,

@@ -7,7 +7,7 @@ ghost use Rattle.pt_labels.specs.Parts.{PartDeleted, PartNotDeleted};
 use crate::lists::put_label;
 use crate::slices::slice_of;
 use pt_bsd::{Label, LabelEntry};
-use pt_layout::{Layout, Member, find_label};
+use pt_members::{Layout, Member, find_label};
 use pt_words::{Code, Refusal};
 
 /// The letter of the raw entry, c.

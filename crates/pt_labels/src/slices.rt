@@ -1,10 +1,11 @@
 //! The slice of a number.
 
 ghost use Rattle.std.specs.Prelude.{◌≡◌, ◌<◌, ◌^◌, ◌↔◌, IsTrue, IfSome, IfNone};
-ghost use Rattle.pt_layout.specs.declared.member.Member.{Member as MemberValue};
+ghost use Rattle.pt_members.specs.declared.member.Member.{Member as MemberValue};
 ghost use Rattle.pt_labels.specs.Slices.{IsSliceOf, HasSlice};
 
-use pt_layout::{Body, Kind, Member, Path, slot, slot_count};
+use pt_members::{Body, Kind, Member, slot, slot_count};
+use pt_path::Path;
 
 fn is_slice_of(m: &Member, number: u64) -> bool
     ensures { IsTrue result ↔ IsSliceOf number m.now }

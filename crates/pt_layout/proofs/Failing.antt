@@ -12,14 +12,14 @@ use Rattle.pt_gpt.specs.declared.table.Side.TheVariants.{Primary, Backup}
 use Rattle.pt_gpt.specs.declared.error.CopyError.{CopyError}
 use Rattle.pt_gpt.specs.declared.error.CopyError.TheVariants as copy
 use Rattle.pt_recover.specs.Mbr.{IsMbrDisk}
-use Rattle.pt_recover.specs.Gpt.{HasRoom}
-use Rattle.pt_recover.specs.Labels.{places_of, place_of, IsPlace}
+use Rattle.pt_gpt.specs.Array.{HasRoom}
+use Rattle.pt_members.specs.Slices.{places_of, place_of, IsPlace}
 use Rattle.pt_recover.specs.Denotes.{BodyIs, Reads, body, label, table}
 use Rattle.pt_recover.specs.Answers.{IsOutside, failure_in as failure_of_disk, FailedIn as FailedInDisk}
 use Rattle.pt_recover.specs.declared.error.NoTable.{NoTable}
 use Rattle.pt_recover.specs.declared.error.NoTable.TheVariants as no
-use Rattle.pt_recover.specs.declared.layout.Body.{Body}
-use Rattle.pt_recover.specs.declared.layout.Slice.{Slice}
+use Rattle.pt_members.specs.declared.layout.Body.{Body}
+use Rattle.pt_members.specs.declared.layout.Slice.{Slice}
 use Rattle.pt_recover.proofs.Failed.{place_at}
 use Rattle.pt_layout.specs.Findings.{VerdictReads}
 

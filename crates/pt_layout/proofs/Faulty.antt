@@ -5,14 +5,14 @@ use Rattle.std.specs.Prelude.{Contains}
 use Rattle.std.proofs.lemmas.Bool.{cases_lt}
 use Rattle.std.proofs.lemmas.List.{get_or_default, take-append-drop}
 use Rattle.std.proofs.lemmas.List.Elements.{Contains-get_or}
-use Rattle.pt_recover.specs.declared.layout.Layout.{Layout}
+use Rattle.pt_members.specs.declared.layout.Layout.{Layout}
 use Rattle.pt_path.specs.declared.path.Path.{Path}
-use Rattle.pt_layout.specs.declared.member.Member.{Member}
+use Rattle.pt_members.specs.declared.member.Member.{Member}
 use Rattle.pt_layout.specs.declared.overlap.Overlap.{Overlap}
 use Rattle.pt_layout.specs.declared.spot.Spot.{Spot}
 use Rattle.pt_layout.specs.declared.faults.Fault.TheVariants.{Outside, Buried}
 use Rattle.pt_path.specs.Paths.{rank}
-use Rattle.pt_layout.specs.Members.{Exists, Group, groups_of}
+use Rattle.pt_members.specs.Members.{Exists, Group, groups_of}
 use Rattle.pt_layout.specs.Overlaps.{nobody, IsApart}
 use Rattle.pt_layout.specs.Spots.{IsBefore, spot, LeastIs}
 use Rattle.pt_layout.specs.Row.{FaultAmong, no_group, AllOrdered, SharedIs}

@@ -4,12 +4,12 @@ use Rattle.std.proofs.lemmas.Bool.{cases_lt}
 use Rattle.std.proofs.lemmas.List.{get_or_default}
 use Rattle.std.proofs.lemmas.List.Elements.{Contains-get_or}
 use Rattle.pt_sector.specs.Sectors.{Sectors}
-use Rattle.pt_recover.specs.Labels.{places_of}
-use Rattle.pt_recover.specs.declared.layout.Slice.{Slice}
-use Rattle.pt_recover.specs.declared.layout.Layout.{Layout}
-use Rattle.pt_layout.specs.Members.{number_path}
+use Rattle.pt_members.specs.Slices.{places_of}
+use Rattle.pt_members.specs.declared.layout.Slice.{Slice}
+use Rattle.pt_members.specs.declared.layout.Layout.{Layout}
+use Rattle.pt_members.specs.Members.{number_path}
 use Rattle.pt_layout.specs.Healthy.{IsForeign, HasForeign}
-use Rattle.pt_layout.specs.Next.{NextIs}
+use Rattle.pt_members.specs.Next.{NextIs}
 use Rattle.pt_layout.specs.Foreign.{ForeignAmong, ForeignIs, no_slice}
 
 among_has : (b : ℕ) (d : Sectors) (o : Layout) (n : ℕ) → ForeignAmong d (places_of b o.sectors o.body) n → HasForeign b d o n

@@ -1,14 +1,10 @@
-pub mod ByPlace
 pub mod Presence
 pub mod First
 pub mod Faulty
 pub mod Pairs
 pub mod Extended
-pub mod Homes
-pub mod Lowest
 pub mod Foreignness
 pub mod Verdicts
 pub mod Surveys
-pub mod LabelPlaces
+pub mod Traced
 pub mod Failing
-pub mod InOrder

@@ -7,7 +7,7 @@ use Rattle.pt_mbr.specs.declared.record.Record.{Record}
 use Rattle.pt_mbr.specs.declared.ebr.Ebr.{Ebr}
 use Rattle.pt_gpt.specs.declared.entry.Entry.{Entry}
 use Rattle.pt_gpt.specs.declared.table.Table.{Table}
-use Rattle.pt_recover.specs.declared.layout.Body.TheVariants.{Mbr, Gpt}
+use Rattle.pt_members.specs.declared.layout.Body.TheVariants.{Mbr, Gpt}
 use Rattle.pt_layout.specs.Twins.{HasSameUnique, SameAt, TwinsAre}
 use Rattle.pt_layout.specs.Sound.{IsSameGuid, numbered_entry}
 use Rattle.pt_layout.specs.Steps.{SameGuidIs}

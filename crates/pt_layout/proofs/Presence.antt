@@ -6,10 +6,10 @@ use Rattle.std.proofs.Math.Seq.{take-suc}
 use Rattle.std.proofs.lemmas.List.{take_all}
 use Rattle.std.proofs.lemmas.Grind.{flat_map-append}
 use Rattle.pt_bsd.specs.declared.label.Label.{Label}
-use Rattle.pt_recover.specs.declared.layout.Body.{Body}
-use Rattle.pt_layout.specs.declared.member.Member.{Member}
-use Rattle.pt_layout.specs.Members.{present, slots, tops, logicals, parts_in}
-use Rattle.pt_layout.proofs.ByPlace.{parts_none}
+use Rattle.pt_members.specs.declared.layout.Body.{Body}
+use Rattle.pt_members.specs.declared.member.Member.{Member}
+use Rattle.pt_members.specs.Members.{present, slots, tops, logicals, parts_in}
+use Rattle.pt_members.proofs.ByPlace.{parts_none}
 
 present-one : (o : Option Member) → present (o ∷ []) ≡ option_to_list o
 present-one o = append-nil (option_to_list o)

@@ -7,23 +7,25 @@ use Rattle.pt_gpt.specs.declared.table.Table.{Table}
 use Rattle.pt_gpt.specs.declared.table.Side.TheVariants.{Primary}
 use Rattle.pt_recover.specs.Answers.{IsReason, IsOutside, TellsNothing, IsTraceOf}
 use Rattle.pt_recover.specs.Denotes.{BodyIs, Denotes}
-use Rattle.pt_recover.specs.Gpt.{HasRoom}
-use Rattle.pt_recover.specs.Labels.{places_of, place_of, IsPlace}
+use Rattle.pt_gpt.specs.Array.{HasRoom}
+use Rattle.pt_members.specs.Slices.{places_of, place_of, IsPlace}
 use Rattle.pt_recover.specs.Mbr.{IsMbrDisk}
 use Rattle.pt_recover.specs.Numbers.{Numbers, BodyNumbers}
 use Rattle.pt_recover.specs.Spans.{IsIn, Adds}
 use Rattle.pt_recover.specs.declared.error.NoTable.{NoTable}
-use Rattle.pt_recover.specs.declared.layout.Layout.{Layout}
-use Rattle.pt_recover.specs.declared.layout.Body.{Body}
-use Rattle.pt_recover.specs.declared.layout.Body.TheVariants.{Gpt}
-use Rattle.pt_recover.specs.declared.layout.Slice.{Slice}
+use Rattle.pt_members.specs.declared.layout.Layout.{Layout}
+use Rattle.pt_members.specs.declared.layout.Body.{Body}
+use Rattle.pt_members.specs.declared.layout.Body.TheVariants.{Gpt}
+use Rattle.pt_members.specs.declared.layout.Slice.{Slice}
 use Rattle.pt_recover.specs.declared.trace.Run.{Run}
 use Rattle.pt_layout.specs.declared.finding.Finding.{Finding}
 use Rattle.pt_layout.specs.declared.health.Head.{Head}
 use Rattle.pt_layout.specs.declared.health.Head.TheVariants as head
-use Rattle.pt_layout.specs.Guarded.{IsGuarded, guarded_reads, reads_guarded, guarded_places, guarded_nowhere, place}
+use Rattle.pt_layout.specs.Guarded.{IsGuarded, place}
+use Rattle.pt_layout.specs.laws.Guarded.{guarded_reads, reads_guarded, guarded_places, guarded_nowhere}
 use Rattle.pt_layout.specs.Surveys.{HeadOf, FindingIs, IsSurvey}
-use Rattle.pt_layout.specs.Verdicts.{LayoutOf, ArePlaces, nothing_of}
+use Rattle.pt_layout.specs.Verdicts.{LayoutOf, ArePlaces, IsBodyTrace, nothing_of}
+use Rattle.pt_layout.proofs.Traced.{body_trace}
 use Rattle.pt_layout.proofs.Verdicts.{gpt_denotes}
 
 -- a number's slices have places that fit a number
@@ -38,47 +40,52 @@ only_places old new ps none adds s = (λ i. elim ((adds s).0 i) [ inl was ↦ ab
 pub gpt_numbers : (o : Layout) (t : Table) → o.body ≡ Gpt t → Numbers o
 gpt_numbers o t same = subst (λ (y : Body). BodyNumbers y) (sym same) tt
 
-pub table_survey : (b : ℕ) (d : Sectors) (h : Head) (t : Table) (o : Layout) (f : Option Finding) (primary : Bool) (guarded : List Run)
-    → HeadOf d h → BodyIs b d (Gpt t) → LayoutOf b d t o → FindingIs b d (Ok o) f → IsTrue primary ↔ HasCopy b d Primary
-    → ArePlaces (places_of b (length d) (Gpt t)) guarded
-    → IsSurvey b d (record { head = h; found = Ok o; finding = f; primary = primary; guarded = guarded })
-table_survey b d h t o f primary guarded is body of finding first places = record {
+pub table_survey : (b : ℕ) (d : Sectors) (h : Head) (t : Table) (o : Layout) (f : Option Finding) (primary : Bool)
+    (guarded trace : List Run) → HeadOf d h → BodyIs b d (Gpt t) → LayoutOf b d t o → FindingIs b d (Ok o) f
+    → IsTrue primary ↔ HasCopy b d Primary
+    → ArePlaces (places_of b (length d) (Gpt t)) guarded → IsTraceOf b d trace
+    → IsSurvey b d (record { head = h; found = Ok o; finding = f; primary = primary; guarded = guarded; trace = trace })
+table_survey b d h t o f primary guarded trace is body of finding first places traced = record {
   head = is;
   found = gpt_denotes b d t o body of;
   numbers = gpt_numbers o t of.1;
   finding = finding;
   primary = λ plain room. first;
   guarded = λ s. (λ i. place (Gpt t) body ((places s).0 i), λ g. (places s).1 (guarded_places b d (Gpt t) s body.0 body g));
+  trace = traced;
 }
 
 -- a disk that isn't an MBR disk, and denotes nothing
-pub nothing_survey : (b : ℕ) (d : Sectors) (h : Head) (e : NoTable) (guarded : List Run)
+pub nothing_survey : (b : ℕ) (d : Sectors) (h : Head) (e : NoTable) (guarded trace : List Run)
     → HeadOf d h → ¬ IsMbrDisk d → Denotes b d None → IsReason b d e → (HasRoom b (length d) → ¬ HasCopy b d Primary)
-    → ((s : ℕ) → ¬ IsIn guarded s) → IsSurvey b d (nothing_of h e guarded)
-nothing_survey b d h e guarded is plain none reason without empty = record {
+    → ((s : ℕ) → ¬ IsIn guarded s) → IsBodyTrace b d trace → IsSurvey b d (nothing_of h e guarded trace)
+nothing_survey b d h e guarded trace is plain none reason without empty traced = record {
   head = is;
   found = (none, reason);
   numbers = tt;
   finding = (none, reason);
   primary = λ other room. (λ i. absurd cc, λ copy. absurd (without room copy));
   guarded = λ s. (λ i. absurd (empty s i), λ g. absurd (guarded_nowhere b d s plain none g));
+  trace = body_trace b d trace none traced;
 }
 
-traced_guarded : (b : ℕ) (d : Sectors) (guarded : List Run) → IsMbrDisk d → IsTraceOf b d guarded → (s : ℕ)
+traced_guarded : (b : ℕ) (d : Sectors) (guarded trace : List Run) → IsMbrDisk d → guarded ≡ trace → IsTraceOf b d trace → (s : ℕ)
     → IsIn guarded s ↔ IsGuarded b d s
-traced_guarded b d guarded mbr trace s = (λ i. reads_guarded b d s mbr ((trace s).0 i), λ g. (trace s).1 (guarded_reads b d s g))
+traced_guarded b d guarded trace mbr same traced s =
+    rw same (λ i. reads_guarded b d s mbr ((traced s).0 i), λ g. (traced s).1 (guarded_reads b d s g))
 
 -- an MBR disk
-pub mbr_survey : (b : ℕ) (d : Sectors) (o : Layout) (f : Option Finding) (guarded : List Run)
-    → IsMbrDisk d → Denotes b d (Some o) → Numbers o → FindingIs b d (Ok o) f → IsTraceOf b d guarded
-    → IsSurvey b d (record { head = head.Mbr; found = Ok o; finding = f; primary = false; guarded = guarded })
-mbr_survey b d o f guarded mbr denotes numbers finding trace = record {
+pub mbr_survey : (b : ℕ) (d : Sectors) (o : Layout) (f : Option Finding) (guarded trace : List Run)
+    → IsMbrDisk d → Denotes b d (Some o) → Numbers o → FindingIs b d (Ok o) f → guarded ≡ trace → IsTraceOf b d trace
+    → IsSurvey b d (record { head = head.Mbr; found = Ok o; finding = f; primary = false; guarded = guarded; trace = trace })
+mbr_survey b d o f guarded trace mbr denotes numbers finding same traced = record {
   head = mbr;
   found = denotes;
   numbers = numbers;
   finding = finding;
   primary = λ plain. absurd (plain mbr);
-  guarded = traced_guarded b d guarded mbr trace;
+  guarded = traced_guarded b d guarded trace mbr same traced;
+  trace = traced;
 }
 
 inside_trace : (b : ℕ) (d : Sectors) (e : NoTable) (guarded : List Run) → ¬ IsOutside e → IsOutside e ⊎ IsTraceOf b d guarded
@@ -90,13 +97,15 @@ inside_reason : (b : ℕ) (d : Sectors) (e : NoTable) → ¬ IsOutside e → Tel
 inside_reason b d e inside (inl out) = absurd (inside out)
 inside_reason b d e inside (inr told) = told
 
-pub mbr_nothing : (b : ℕ) (d : Sectors) (e : NoTable) (guarded : List Run)
-    → IsMbrDisk d → ¬ IsOutside e → TellsNothing b d e → IsOutside e ⊎ IsTraceOf b d guarded → IsSurvey b d (nothing_of head.Mbr e guarded)
-mbr_nothing b d e guarded mbr inside told trace = record {
+pub mbr_nothing : (b : ℕ) (d : Sectors) (e : NoTable) (guarded trace : List Run)
+    → IsMbrDisk d → ¬ IsOutside e → TellsNothing b d e → guarded ≡ trace → IsOutside e ⊎ IsTraceOf b d trace
+    → IsSurvey b d (nothing_of head.Mbr e guarded trace)
+mbr_nothing b d e guarded trace mbr inside told same traced = record {
   head = mbr;
   found = inside_reason b d e inside told;
   numbers = tt;
   finding = inside_reason b d e inside told;
   primary = λ plain. absurd (plain mbr);
-  guarded = traced_guarded b d guarded mbr (inside_trace b d e guarded inside trace);
+  guarded = traced_guarded b d guarded trace mbr same (inside_trace b d e trace inside traced);
+  trace = inside_trace b d e trace inside traced;
 }

@@ -2,21 +2,23 @@
 use Rattle.std.proofs.Common.{◌≡◌, ◌≢◌, ◌<◌, ℕ, length, Option, Some, None, refl, sym, subst, arith, inl, inr}
 use Rattle.pt_sector.specs.Sectors.{Sectors, sector}
 use Rattle.pt_gpt.specs.Copy.{CopyWith, IsCopyFault}
-use Rattle.pt_gpt.specs.Laws.{no_copy_lem}
+use Rattle.pt_gpt.specs.laws.Terms.{no_copy_lem}
 use Rattle.pt_gpt.specs.declared.error.CopyError.{CopyError}
 use Rattle.pt_gpt.specs.declared.table.Side.TheVariants.{Primary, Backup}
 use Rattle.pt_gpt.specs.declared.table.Table.{Table}
 use Rattle.pt_recover.specs.Mbr.{IsMbrDisk}
 use Rattle.pt_mbr.specs.Protective.{IsProtective}
 use Rattle.pt_gpt.specs.declared.header.Header.{Header}
-use Rattle.pt_recover.specs.Labels.{places_of, LabelsAre}
-use Rattle.pt_recover.specs.Gpt.{HasRoom, TableIs}
+use Rattle.pt_members.specs.Slices.{places_of}
+use Rattle.pt_recover.specs.Labels.{LabelsAre}
+use Rattle.pt_gpt.specs.Array.{HasRoom}
+use Rattle.pt_recover.specs.Gpt.{TableIs}
 use Rattle.pt_recover.specs.Denotes.{BodyIs, Denotes}
 use Rattle.pt_recover.specs.Answers.{IsReason}
 use Rattle.pt_recover.specs.declared.error.NoTable.TheVariants as no
-use Rattle.pt_recover.specs.declared.layout.Layout.{Layout}
-use Rattle.pt_recover.specs.declared.layout.Body.{Body}
-use Rattle.pt_recover.specs.declared.layout.Body.TheVariants.{Mbr, Gpt}
+use Rattle.pt_members.specs.declared.layout.Layout.{Layout}
+use Rattle.pt_members.specs.declared.layout.Body.{Body}
+use Rattle.pt_members.specs.declared.layout.Body.TheVariants.{Mbr, Gpt}
 use Rattle.pt_path.specs.declared.path.Path.{Path}
 use Rattle.pt_layout.specs.declared.finding.Finding.{Finding}
 use Rattle.pt_layout.specs.declared.finding.Finding.TheVariants.{NoTable, PrimaryCopy, BackupCopy, CopiesDiffer, Alternate, Protective}

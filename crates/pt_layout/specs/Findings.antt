@@ -8,19 +8,19 @@ use Rattle.pt_gpt.specs.declared.table.Table.{Table}
 use Rattle.pt_gpt.specs.declared.table.Side.{Side}
 use Rattle.pt_gpt.specs.declared.table.Side.TheVariants.{Primary, Backup}
 use Rattle.pt_recover.specs.Mbr.{IsMbrDisk}
-use Rattle.pt_recover.specs.Gpt.{HasRoom}
+use Rattle.pt_gpt.specs.Array.{HasRoom}
 use Rattle.pt_recover.specs.Denotes.{Denotes, Reads}
 use Rattle.pt_recover.specs.Answers.{IsReason}
-use Rattle.pt_recover.specs.declared.layout.Layout.{Layout}
-use Rattle.pt_recover.specs.declared.layout.Body.{Body}
-use Rattle.pt_recover.specs.declared.layout.Body.TheVariants.{Mbr, Gpt}
+use Rattle.pt_members.specs.declared.layout.Layout.{Layout}
+use Rattle.pt_members.specs.declared.layout.Body.{Body}
+use Rattle.pt_members.specs.declared.layout.Body.TheVariants.{Mbr, Gpt}
 use Rattle.pt_path.specs.declared.path.Path.{Path}
 use Rattle.pt_layout.specs.declared.finding.Finding.{Finding}
 use Rattle.pt_layout.specs.declared.finding.Finding.TheVariants.{NoTable, PrimaryCopy, BackupCopy, CopiesDiffer, Alternate, Protective}
 use Rattle.pt_layout.specs.declared.finding.Finding.TheVariants.{OutsideUsable, Overlap, OnTable, SameGuid, ForeignLabel}
 use Rattle.pt_layout.specs.declared.finding.Verdict.{Verdict}
 use Rattle.pt_layout.specs.declared.finding.Verdict.TheVariants.{Yes, No}
-use Rattle.pt_layout.specs.Members.{number_path}
+use Rattle.pt_members.specs.Members.{number_path}
 use Rattle.pt_layout.specs.Sound.{Sound, IsUnsound}
 use Rattle.pt_layout.specs.Healthy.{HasCopies, NameEachOther, IsBodyWhole, HasForeign, IsHealthy}
 

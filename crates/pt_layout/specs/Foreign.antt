@@ -3,8 +3,8 @@ use Rattle.std.specs.Prelude.{◌≡◌, ◌<◌, ℕ, List, length, slice_index
 use Rattle.pt_sector.specs.Sectors.{Sectors}
 use Rattle.pt_bsd.specs.Label.{HasMagic, LabelBytes}
 use Rattle.pt_bsd.specs.declared.label.Label.{Label}
-use Rattle.pt_recover.specs.declared.layout.Slice.{Slice}
-use Rattle.pt_recover.specs.declared.layout.Layout.{Layout}
+use Rattle.pt_members.specs.declared.layout.Slice.{Slice}
+use Rattle.pt_members.specs.declared.layout.Layout.{Layout}
 use Rattle.pt_path.specs.declared.path.Path.{Path}
 use Rattle.pt_layout.specs.Healthy.{IsForeign, HasForeign}
 use Rattle.pt_layout.specs.Findings.{IsFirstForeign}

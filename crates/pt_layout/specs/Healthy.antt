@@ -7,12 +7,13 @@ use Rattle.pt_gpt.specs.Copy.{CopyWith}
 use Rattle.pt_gpt.specs.declared.header.Header.{Header}
 use Rattle.pt_gpt.specs.declared.table.Table.{Table}
 use Rattle.pt_gpt.specs.declared.table.Side.TheVariants.{Primary, Backup}
-use Rattle.pt_recover.specs.Labels.{places_of, place_of, HasLabel}
+use Rattle.pt_members.specs.Slices.{places_of, place_of}
+use Rattle.pt_recover.specs.Labels.{HasLabel}
 use Rattle.pt_recover.specs.Denotes.{Denotes}
-use Rattle.pt_recover.specs.declared.layout.Slice.{Slice}
-use Rattle.pt_recover.specs.declared.layout.Layout.{Layout}
-use Rattle.pt_recover.specs.declared.layout.Body.{Body}
-use Rattle.pt_recover.specs.declared.layout.Body.TheVariants.{Mbr, Gpt}
+use Rattle.pt_members.specs.declared.layout.Slice.{Slice}
+use Rattle.pt_members.specs.declared.layout.Layout.{Layout}
+use Rattle.pt_members.specs.declared.layout.Body.{Body}
+use Rattle.pt_members.specs.declared.layout.Body.TheVariants.{Mbr, Gpt}
 use Rattle.pt_layout.specs.Sound.{Sound}
 
 -- both copies exist, with these headers and this table

@@ -1,8 +1,8 @@
 -- Steps over the records and the members.
 use Rattle.std.specs.Prelude.{Bool, true, false, List, [], ◌∷◌, Option, Some, None}
 use Rattle.pt_mbr.specs.declared.record.Record.{Record}
-use Rattle.pt_layout.specs.declared.member.Member.{Member}
-use Rattle.pt_layout.specs.Members.{Group}
+use Rattle.pt_members.specs.declared.member.Member.{Member}
+use Rattle.pt_members.specs.Members.{Group}
 
 abbrev pub has_any : List Record → Bool
 has_any [] = false

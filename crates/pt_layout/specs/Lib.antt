@@ -1,10 +1,4 @@
-pub mod Members
 pub mod Overlaps
-pub mod Tables
-pub mod Owned
-pub mod Counts
-pub mod Search
-pub mod Next
 pub mod Sound
 pub mod Healthy
 pub mod Findings
@@ -16,14 +10,7 @@ pub mod Steps
 pub mod Halves
 pub mod Foreign
 pub mod Verdicts
-pub mod Apart
-pub mod Laws
-pub mod Places
-pub mod Grouped
-pub mod OneHome
-pub mod OnePath
-pub mod OneOrder
 pub mod OneFinding
-pub mod OneOwner
 pub mod Guarded
 pub mod Surveys
+pub mod laws

@@ -5,8 +5,8 @@ use Rattle.std.proofs.Common.{suc, ◌<◌, ◌≤◌, ◌+◌, refl, sym, ap, s
 use Rattle.std.proofs.lemmas.List.Elements.{Contains-append_right, Contains-get_or}
 use Rattle.pt_sector.specs.Sectors.{Sectors}
 use Rattle.pt_sector.specs.declared.address.Lba.{Lba}
-use Rattle.pt_gpt.specs.Laws.{no_copy_lem, copy_is_one_lem, head_is_one_lem}
-use Rattle.pt_gpt.specs.Faults.{copy_fault_is_one_lem}
+use Rattle.pt_gpt.specs.laws.Terms.{no_copy_lem, copy_is_one_lem, head_is_one_lem}
+use Rattle.pt_gpt.specs.laws.Faults.{copy_fault_is_one_lem}
 use Rattle.pt_gpt.specs.Copy.{Copy, HasCopy, IsCopyFault}
 use Rattle.pt_gpt.specs.declared.error.CopyError.{CopyError}
 use Rattle.pt_gpt.specs.declared.header.Header.{Header}
@@ -15,37 +15,38 @@ use Rattle.pt_gpt.specs.declared.table.Side.{Side}
 use Rattle.pt_gpt.specs.declared.table.Side.TheVariants.{Primary, Backup}
 use Rattle.pt_bsd.specs.declared.label.Label.{Label}
 use Rattle.pt_bsd.specs.declared.label.LabelEntry.{LabelEntry}
-use Rattle.pt_recover.specs.Labels.{places_of, LabelsAre}
+use Rattle.pt_members.specs.Slices.{places_of}
+use Rattle.pt_recover.specs.Labels.{LabelsAre}
 use Rattle.pt_recover.specs.Denotes.{BodyIs, Denotes}
-use Rattle.pt_recover.specs.Gpt.{HasRoom}
-use Rattle.pt_recover.specs.Laws.{denotes_one_lem, reason_is_one_lem}
+use Rattle.pt_gpt.specs.Array.{HasRoom}
+use Rattle.pt_recover.specs.laws.Terms.{denotes_one_lem, reason_is_one_lem}
 use Rattle.pt_recover.specs.Answers.{IsReason}
 use Rattle.pt_recover.specs.declared.error.NoTable.{NoTable as NoTableValue}
-use Rattle.pt_recover.specs.declared.layout.Layout.{Layout}
-use Rattle.pt_recover.specs.declared.layout.Labelled.{Labelled}
-use Rattle.pt_recover.specs.declared.layout.Slice.{Slice as SliceValue}
-use Rattle.pt_recover.specs.declared.layout.Body.{Body}
-use Rattle.pt_recover.specs.declared.layout.Body.TheVariants.{Mbr, Gpt}
+use Rattle.pt_members.specs.declared.layout.Layout.{Layout}
+use Rattle.pt_members.specs.declared.layout.Labelled.{Labelled}
+use Rattle.pt_members.specs.declared.layout.Slice.{Slice as SliceValue}
+use Rattle.pt_members.specs.declared.layout.Body.{Body}
+use Rattle.pt_members.specs.declared.layout.Body.TheVariants.{Mbr, Gpt}
 use Rattle.pt_path.specs.declared.path.Path.{Path}
-use Rattle.pt_layout.specs.declared.member.Member.{Member}
+use Rattle.pt_members.specs.declared.member.Member.{Member}
 use Rattle.pt_layout.specs.declared.finding.Finding.{Finding}
 use Rattle.pt_layout.specs.declared.finding.Finding.TheVariants.{NoTable, PrimaryCopy, BackupCopy, CopiesDiffer, Alternate, Protective}
 use Rattle.pt_layout.specs.declared.finding.Finding.TheVariants.{OutsideUsable, Overlap as Shared, OnTable, SameGuid, ForeignLabel}
 use Rattle.pt_layout.specs.declared.finding.Verdict.{Verdict}
 use Rattle.pt_layout.specs.declared.finding.Verdict.TheVariants.{Yes, No}
 use Rattle.pt_path.specs.Paths.{rank, letter_rank}
-use Rattle.pt_layout.specs.Members.{number_path, letter_path, slots, Group, groups_of, part_of, parts_as, parts_in, label_of, IsMember}
+use Rattle.pt_members.specs.Members.{number_path, letter_path, slots, Group, groups_of, part_of, parts_as, parts_in, label_of, IsMember}
 use Rattle.pt_layout.specs.Overlaps.{IsOrdered, IsApart, IsFirstOverlap}
-use Rattle.pt_layout.specs.Apart.{not_apart}
-use Rattle.pt_layout.specs.Search.{AtPlace, IsNear}
-use Rattle.pt_layout.specs.Grouped.{member_place}
-use Rattle.pt_layout.specs.OnePath.{place_cases, part_path, slot_whole}
-use Rattle.pt_layout.specs.OneOrder.{overlap_one}
+use Rattle.pt_layout.specs.laws.Apart.{not_apart}
+use Rattle.pt_members.specs.Search.{AtPlace, IsNear}
+use Rattle.pt_members.specs.laws.Grouped.{member_place}
+use Rattle.pt_members.specs.OnePath.{place_cases, part_path, slot_whole}
+use Rattle.pt_layout.specs.laws.OneOrder.{overlap_one}
 use Rattle.pt_layout.specs.Sound.{AllInside, AllApart, Sound, IsFirstOutside, IsFirstShared, IsFirstBuried, IsFirstSameGuid, IsUnsound}
 use Rattle.pt_layout.specs.Healthy.{HasCopies, IsBodyWhole}
 use Rattle.pt_layout.specs.Findings.{CopiesDifferOn, IsOtherAlternate, IsUnprotected, IsBroken, IsBodyBroken, IsFirstForeign}
 use Rattle.pt_layout.specs.Findings.{IsLayoutFinding, IsFinding, VerdictIs}
-use Rattle.pt_layout.specs.Laws.{unsound_excludes_lem, body_not_whole, healthy_is_one_lem, finding_excludes_lem}
+use Rattle.pt_layout.specs.laws.Terms.{unsound_excludes_lem, body_not_whole, healthy_is_one_lem, finding_excludes_lem}
 
 -- each label has places for eight entries, as those of disks have
 unfoldable pub HasEight : List Labelled → Type 0

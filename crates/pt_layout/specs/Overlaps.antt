@@ -4,8 +4,8 @@ use Rattle.std.specs.Prelude.{nat_lt, IsPermutation, not}
 use Rattle.std.specs.List.Sorted.{IsStableByKey, IsNonDecreasingBy}
 use Rattle.std.specs.List.{AllAdjacentBelow}
 use Rattle.std.specs.Ordering.{nat_cmp}
-use Rattle.pt_layout.specs.declared.member.Member.{Member}
-use Rattle.pt_layout.specs.declared.member.Kind.TheVariants.{Leaf}
+use Rattle.pt_members.specs.declared.member.Member.{Member}
+use Rattle.pt_members.specs.declared.member.Kind.TheVariants.{Leaf}
 use Rattle.pt_layout.specs.declared.overlap.Overlap.{Overlap}
 
 abbrev pub nobody : Member

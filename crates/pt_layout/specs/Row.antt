@@ -1,15 +1,15 @@
 -- Members in rows, and what is wrong with one.
 use Rattle.std.specs.Prelude.{◌≡◌, ◌≢◌, ◌<◌, ◌≤◌, ℕ, List, [], length, slice_index_or, All, Option, Some, None}
-use Rattle.pt_recover.specs.declared.layout.Layout.{Layout}
+use Rattle.pt_members.specs.declared.layout.Layout.{Layout}
 use Rattle.pt_path.specs.declared.path.Path.{Path}
-use Rattle.pt_layout.specs.declared.member.Kind.TheVariants.{Extended}
-use Rattle.pt_layout.specs.declared.member.Member.{Member}
+use Rattle.pt_members.specs.declared.member.Kind.TheVariants.{Extended}
+use Rattle.pt_members.specs.declared.member.Member.{Member}
 use Rattle.pt_layout.specs.declared.faults.Fault.{Fault}
 use Rattle.pt_layout.specs.declared.faults.Fault.TheVariants.{Outside, Buried}
-use Rattle.pt_layout.specs.Members.{Exists, Holds, Group, group_of}
+use Rattle.pt_members.specs.Members.{Exists, Holds, Group, group_of}
 use Rattle.pt_layout.specs.declared.overlap.Overlap.{Overlap}
 use Rattle.pt_layout.specs.Overlaps.{nobody, IsOrdered, IsApart, IsFirstOverlap}
-use Rattle.pt_layout.specs.Tables.{IsTable}
+use Rattle.pt_members.specs.Tables.{IsTable}
 use Rattle.pt_layout.specs.Sound.{IsInside, IsOwnPlace}
 
 -- a table's sector from a first to a last

@@ -1,18 +1,18 @@
 -- Sound layouts, and the first thing that is wrong with one that isn't.
 use Rattle.std.specs.Prelude.{◌≡◌, ◌≢◌, ◌<◌, ◌≤◌, ◌⊎◌, ◌+◌, ◌++◌, ◌∷◌, [], ℕ, zero, suc, List, Contains, Option, Some, None, slice_index_or}
 use Rattle.pt_gpt.specs.declared.entry.Entry.{Entry}
-use Rattle.pt_recover.specs.declared.layout.Layout.{Layout}
-use Rattle.pt_recover.specs.declared.layout.Body.{Body}
-use Rattle.pt_recover.specs.declared.layout.Body.TheVariants.{Mbr, Gpt}
+use Rattle.pt_members.specs.declared.layout.Layout.{Layout}
+use Rattle.pt_members.specs.declared.layout.Body.{Body}
+use Rattle.pt_members.specs.declared.layout.Body.TheVariants.{Mbr, Gpt}
 use Rattle.pt_path.specs.declared.path.Path.{Path}
-use Rattle.pt_layout.specs.declared.member.Kind.TheVariants.{Slice, Extended}
-use Rattle.pt_layout.specs.declared.member.Member.{Member}
+use Rattle.pt_members.specs.declared.member.Kind.TheVariants.{Slice, Extended}
+use Rattle.pt_members.specs.declared.member.Member.{Member}
 use Rattle.pt_layout.specs.declared.finding.Finding.{Finding}
 use Rattle.pt_layout.specs.declared.finding.Finding.TheVariants.{OutsideUsable, Overlap, OnTable, SameGuid}
 use Rattle.pt_path.specs.Paths.{rank}
-use Rattle.pt_layout.specs.Members.{Exists, Holds, Group, groups_of, IsMember}
+use Rattle.pt_members.specs.Members.{Exists, Holds, Group, groups_of, IsMember}
 use Rattle.pt_layout.specs.Overlaps.{IsApart, IsFirstOverlap}
-use Rattle.pt_layout.specs.Tables.{IsTable, IsEbr}
+use Rattle.pt_members.specs.Tables.{IsTable, IsEbr}
 
 -- the member's sectors exist, and each is usable in its group
 pub record IsInside (g : Group) (m : Member) : Type 0 where

@@ -4,14 +4,14 @@ use Rattle.pt_sector.specs.Sectors.{Sectors, sector}
 use Rattle.pt_mbr.specs.Protective.{IsProtective}
 use Rattle.pt_gpt.specs.Copy.{HasCopy}
 use Rattle.pt_gpt.specs.declared.table.Side.TheVariants.{Primary}
-use Rattle.pt_recover.specs.Answers.{IsReason}
+use Rattle.pt_recover.specs.Answers.{IsReason, IsTraceOf}
 use Rattle.pt_recover.specs.Denotes.{Denotes}
-use Rattle.pt_recover.specs.Gpt.{HasRoom}
+use Rattle.pt_gpt.specs.Array.{HasRoom}
 use Rattle.pt_recover.specs.Mbr.{IsMbrDisk}
 use Rattle.pt_recover.specs.Numbers.{Numbers}
 use Rattle.pt_recover.specs.Spans.{IsIn}
 use Rattle.pt_recover.specs.declared.error.NoTable.{NoTable}
-use Rattle.pt_recover.specs.declared.layout.Layout.{Layout}
+use Rattle.pt_members.specs.declared.layout.Layout.{Layout}
 use Rattle.pt_layout.specs.Findings.{IsFinding}
 use Rattle.pt_layout.specs.Guarded.{IsGuarded}
 use Rattle.pt_layout.specs.Healthy.{IsHealthy}
@@ -44,3 +44,4 @@ pub record IsSurvey (b : ℕ) (d : Sectors) (x : Survey) : Type 0 where
   pub finding : FindingIs b d x.found x.finding
   pub primary : ¬ IsMbrDisk d → HasRoom b (length d) → IsTrue x.primary ↔ HasCopy b d Primary
   pub guarded : (s : ℕ) → IsIn x.guarded s ↔ IsGuarded b d s
+  pub trace : IsTraceOf b d x.trace

@@ -5,13 +5,15 @@ use Rattle.pt_mbr.specs.Protective.{IsProtective}
 use Rattle.pt_gpt.specs.declared.table.Table.{Table}
 use Rattle.pt_gpt.specs.declared.table.Side.TheVariants.{Primary, Backup}
 use Rattle.pt_recover.specs.Mbr.{IsMbrSector}
-use Rattle.pt_recover.specs.Labels.{places_of, IsPlace, LabelsAre}
+use Rattle.pt_members.specs.Slices.{places_of, IsPlace}
+use Rattle.pt_recover.specs.Labels.{LabelsAre}
+use Rattle.pt_recover.specs.Denotes.{BodyReads}
 use Rattle.pt_recover.specs.Spans.{IsIn}
 use Rattle.pt_recover.specs.declared.error.NoTable.{NoTable}
-use Rattle.pt_recover.specs.declared.layout.Layout.{Layout}
-use Rattle.pt_recover.specs.declared.layout.Slice.{Slice}
-use Rattle.pt_recover.specs.declared.layout.Body.{Body}
-use Rattle.pt_recover.specs.declared.layout.Body.TheVariants.{Gpt}
+use Rattle.pt_members.specs.declared.layout.Layout.{Layout}
+use Rattle.pt_members.specs.declared.layout.Slice.{Slice}
+use Rattle.pt_members.specs.declared.layout.Body.{Body}
+use Rattle.pt_members.specs.declared.layout.Body.TheVariants.{Gpt}
 use Rattle.pt_recover.specs.declared.trace.Run.{Run}
 use Rattle.pt_layout.specs.declared.finding.Finding.{Finding}
 use Rattle.pt_layout.specs.declared.finding.Finding.TheVariants.{CopiesDiffer, Alternate, Protective}
@@ -38,13 +40,18 @@ BrokenIs b d y (Some f) = IsBodyBroken b d y f
 abbrev pub ArePlaces : List Slice → List Run → Type 0
 ArePlaces slices runs = (s : ℕ) → IsIn runs s ↔ IsPlace slices s
 
+-- the sectors that decide the body, and no others
+abbrev pub IsBodyTrace : ℕ → Sectors → List Run → Type 0
+IsBodyTrace b d runs = (s : ℕ) → IsIn runs s ↔ BodyReads b d s
+
 -- a GPT of this table with the disk's labels
 abbrev pub LayoutOf : ℕ → Sectors → Table → Layout → Type 0
 LayoutOf b d t o = (o.sectors ≡ length d) × (o.body ≡ Gpt t) × LabelsAre d (places_of b (length d) (Gpt t)) o.labels
 
 -- the survey of a disk that denotes nothing
-abbrev pub nothing_of : Head → NoTable → List Run → Survey
-nothing_of h e guarded = record { head = h; found = Err e; finding = Some (finding.NoTable e); primary = false; guarded = guarded }
+abbrev pub nothing_of : Head → NoTable → List Run → List Run → Survey
+nothing_of h e guarded trace =
+    record { head = h; found = Err e; finding = Some (finding.NoTable e); primary = false; guarded = guarded; trace = trace }
 
 -- the first thing that is wrong with two copies of n sectors
 abbrev pub PairIs : ℕ → Head → Half → Half → Option Finding → Type 0

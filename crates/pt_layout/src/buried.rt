@@ -2,14 +2,12 @@
 
 ghost use Rattle.std.specs.Prelude.{◌≡◌, ◌≤◌, ◌<◌, ◌^◌, ◌↔◌, IsTrue};
 ghost use Rattle.pt_sector.specs.Sectors.{IsSectorSize};
-ghost use Rattle.pt_layout.specs.Members.{Exists};
-ghost use Rattle.pt_layout.specs.Next.{NextIs};
+ghost use Rattle.pt_members.specs.Members.{Exists};
+ghost use Rattle.pt_members.specs.Next.{NextIs};
 ghost use Rattle.pt_layout.specs.Sound.{IsOwnPlace};
 ghost use Rattle.pt_layout.specs.Row.{TableWithin, BuriedIn};
 
-use crate::member::{Kind, Member};
-use crate::tables::{is_ebr, next_table};
-use pt_recover::Layout;
+use pt_members::{Kind, Layout, Member, is_ebr, next_table};
 
 // The lowest table sector from one up to another.
 fn table_within<const B: usize>(layout: &Layout, first: u64, last: u64) -> Option<u64>

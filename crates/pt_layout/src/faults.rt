@@ -7,10 +7,8 @@ ghost use Rattle.pt_layout.specs.Row.{HasFault, FaultIn, FaultOf, FaultAmong};
 
 use crate::buried::buried_in;
 use crate::groups::Siblings;
-use crate::member::Member;
-use crate::search::exists;
 use crate::spot::{Spot, first_of};
-use pt_recover::Layout;
+use pt_members::{Layout, Member, exists};
 
 /// What may be wrong with a member.
 #[derive(Clone, Copy, Debug, PartialEq, Eq)]

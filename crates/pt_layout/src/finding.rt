@@ -4,8 +4,9 @@ ghost use Rattle.std.specs.Prelude.{◌≡◌};
 ghost use Rattle.pt_layout.specs.Findings.{finding_number};
 
 use pt_gpt::{CopyError, Side};
+use pt_members::Layout;
 use pt_path::Path;
-use pt_recover::{Layout, NoTable};
+use pt_recover::NoTable;
 use pt_sector::Lba;
 use std::error::Error;
 use std::fmt;

@@ -4,18 +4,17 @@ ghost use Rattle.std.specs.Prelude.{◌≡◌, ◌<◌, ◌↔◌, IsTrue, IfOk,
 ghost use Rattle.pt_sector.specs.Calls.{Blames};
 ghost use Rattle.pt_sector.specs.Reads.{OnlyReads, FailedIn, fault_of, read_of};
 ghost use Rattle.pt_sector.specs.Sectors.{IsSectorSize};
-ghost use Rattle.pt_recover.specs.Labels.{place_of, places_of, IsPlace};
-ghost use Rattle.pt_layout.specs.Next.{NextIs};
+ghost use Rattle.pt_members.specs.Slices.{place_of, places_of, IsPlace};
+ghost use Rattle.pt_members.specs.Next.{NextIs};
 ghost use Rattle.pt_layout.specs.Foreign.{ForeignBytes, ForeignOf, ForeignAmong, ForeignIs};
 
-use crate::tables::least;
 use pt_bsd::{bears_magic, decode_label};
+use pt_members::{Layout, Slice, label_places, least};
 use pt_path::Path;
-use pt_recover::{Layout, Slice, label_places};
 use pt_sector::{Disk, FailedRead, Failure, Lba, Sector, read_sector};
 use std::alloc::Global;
 
-#[tactic(auto, using(pt_bsd::specs::Laws::no_label))]
+#[tactic(auto, using(pt_bsd::specs::laws::Terms::no_label))]
 fn is_foreign<const B: usize>(sector: &Sector<B>, slice: Slice) -> bool
     requires { IsSectorSize B }
     ensures { IsTrue result ↔ ForeignBytes slice sector.now }

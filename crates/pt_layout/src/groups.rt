@@ -5,14 +5,12 @@ ghost use Rattle.std.specs.Prelude.{slice_index_or, option_to_list, flat_map, So
 ghost use Rattle.pt_mbr.specs.Extended.{extended_of};
 ghost use Rattle.pt_layout.specs.Held.{has_any, held_by};
 ghost use Rattle.pt_layout.specs.Sound.{IsInside};
-ghost use Rattle.pt_layout.specs.Members.{Group as GroupValue, group_of, groups_of, group_in, top_group, strays, slots, tops, logicals};
-ghost use Rattle.pt_layout.specs.Members.{parts, parts_in, present};
+ghost use Rattle.pt_members.specs.Members.{Group as GroupValue, group_of, groups_of, group_in, top_group, strays, slots, tops, logicals};
+ghost use Rattle.pt_members.specs.Members.{parts, parts_in, present};
 
-use crate::member::{Kind, Member};
-use crate::slots::{find_label, part_slot, slot, slot_count, top_count};
 use pt_bsd::{Label, RESERVED};
 use pt_mbr::{Extended, Record, extended_of};
-use pt_recover::{Body, Layout};
+use pt_members::{Body, Kind, Layout, Member, find_label, part_slot, slot, slot_count, top_count};
 use std::alloc::{AllocError, Global};
 use std::marker::Model;
 
@@ -101,7 +99,7 @@ fn logical_members<const B: usize>(alloc: Global, body: &Body) -> Result<Vec<Mem
     members_from::<B>(alloc, body, top_count::<B>(body), slot_count::<B>(body))
 }
 
-#[tactic(auto, using(crate::proofs::Presence::take_start, crate::proofs::Presence::take_more, crate::proofs::Presence::take_end, crate::proofs::ByPlace::parts_len))]
+#[tactic(auto, using(crate::proofs::Presence::take_start, crate::proofs::Presence::take_more, crate::proofs::Presence::take_end, pt_members::proofs::ByPlace::parts_len))]
 fn label_parts(alloc: Global, label: &Label, slice: &Member) -> Result<Vec<Member>, AllocError>
     requires small { slice.now.first < 2 ^ 66 }
     requires counted { length label.now.entries ≡ 8 }
@@ -126,7 +124,7 @@ fn slice_parts(alloc: Global, layout: &Layout, slice: &Member) -> Result<Vec<Mem
 }
 
 // The records or entries, in the sectors that are usable on the disk.
-#[tactic(auto, unfolding(crate::specs::Members::top_group))]
+#[tactic(auto, unfolding(pt_members::specs::Members::top_group))]
 fn top_siblings<const B: usize>(alloc: Global, layout: &Layout) -> Result<Siblings, AllocError>
     ensures { IfOk result (λ g. g ≡ top_group B layout.now.sectors layout.now.body) }
 {
@@ -145,7 +143,7 @@ fn top_siblings<const B: usize>(alloc: Global, layout: &Layout) -> Result<Siblin
 }
 
 // What a member holds, if it holds others.
-#[tactic(auto, unfolding(crate::specs::Members::group_in))]
+#[tactic(auto, unfolding(pt_members::specs::Members::group_in))]
 fn held<const B: usize>(
     alloc: Global,
     layout: &Layout,

@@ -1,17 +1,20 @@
 //! The two copies of a GPT, with their headers.
 
-ghost use Rattle.std.specs.Prelude.{◌≡◌, ◌-◌, ◌<◌, ◌≤◌, ◌⊎◌, ◌↔◌, IsTrue, IfOk, IfErr, OnOk};
+ghost use Rattle.std.specs.Prelude.{◌≡◌, ◌⊎◌, IfOk, IfErr, OnOk, Ok, Err};
 ghost use Rattle.pt_sector.specs.Calls.{Blames};
 ghost use Rattle.pt_sector.specs.Reads.{OnlyReads, FailedIn, fault_of};
 ghost use Rattle.pt_sector.specs.Sectors.{IsSectorSize};
-ghost use Rattle.pt_gpt.specs.Errors.{fault_in as fault_in_copy, FailedIn as FailedInCopy};
+ghost use Rattle.pt_gpt.specs.Errors.{IsOutside as IsOutsideCopy, fault_in as fault_in_copy, FailedIn as FailedInCopy};
 ghost use Rattle.pt_gpt.specs.Answers.{TellsFault};
 ghost use Rattle.pt_gpt.specs.Copy.{SideReads};
 ghost use Rattle.pt_gpt.specs.declared.table.Side.TheVariants.{Primary, Backup};
-ghost use Rattle.pt_recover.specs.Gpt.{HasRoom};
+ghost use Rattle.pt_gpt.specs.Array.{HasRoom};
+ghost use Rattle.pt_recover.specs.Gpt.{TableReads};
+ghost use Rattle.pt_recover.specs.Spans.{Adds};
 ghost use Rattle.pt_layout.specs.Halves.{HalfIs, HalfOrFault, HalvesAre, paired_as};
 
-use pt_gpt::{CopyError, Header, Side, Table, read_head, read_table};
+use pt_gpt::{CopyError, Header, Side, Table};
+use pt_recover::{Trace, traced_copy};
 use pt_sector::{Disk, Failure};
 use std::alloc::Global;
 
@@ -31,10 +34,12 @@ pub enum Halves {
     Neither(CopyError, CopyError),
 }
 
+// A side's copy, with the sectors that decide the side added to the trace.
 fn read_half<const B: usize, D: Disk<B>>(
     alloc: Global,
     disk: &mut D,
     side: Side,
+    trace: &mut Trace,
 ) -> Result<Half, CopyError>
     requires size { IsSectorSize B }
     requires room { HasRoom B (D.count disk.old) }
@@ -43,9 +48,11 @@ fn read_half<const B: usize, D: Disk<B>>(
     ensures place { D.tells → IfErr result (FailedInCopy (SideReads B (D.told disk.old).seen side)) }
     ensures ok { D.tells → IfOk result (λ h. HalfIs B (D.told disk.old).seen side h) }
     ensures err { D.tells → IfErr result (λ e. TellsFault B (D.told disk.old).seen side e) }
+    ensures traced { D.tells → OnOk result (Adds trace.old trace.new (SideReads B (D.told disk.old).seen side)) }
+    ensures traced_err { D.tells → IfErr result (λ e. IsOutsideCopy e
+        ⊎ Adds trace.old trace.new (SideReads B (D.told disk.old).seen side)) }
 {
-    let header = read_head(disk, side)?;
-    let table = read_table(alloc, disk, side, &header)?;
+    let (header, table) = traced_copy(alloc, disk, side, trace)?;
     Ok(Half { header, table })
 }
 
@@ -54,6 +61,7 @@ fn half_or_fault<const B: usize, D: Disk<B>>(
     alloc: Global,
     disk: &mut D,
     side: Side,
+    trace: &mut Trace,
 ) -> Result<Result<Half, CopyError>, Failure>
     requires size { IsSectorSize B }
     requires room { HasRoom B (D.count disk.old) }
@@ -61,8 +69,9 @@ fn half_or_fault<const B: usize, D: Disk<B>>(
     ensures blames { Blames fault_of result (D.faults disk.old) (D.faults disk.new) }
     ensures place { D.tells → IfErr result (FailedIn (SideReads B (D.told disk.old).seen side)) }
     ensures ok { D.tells → IfOk result (λ h. HalfOrFault B (D.told disk.old).seen side h) }
+    ensures traced { D.tells → OnOk result (Adds trace.old trace.new (SideReads B (D.told disk.old).seen side)) }
 {
-    let e = match read_half(alloc, disk, side) {
+    let e = match read_half(alloc, disk, side, trace) {
         Ok(half) => return Ok(Ok(half)),
         Err(e) => e,
     };
@@ -72,10 +81,11 @@ fn half_or_fault<const B: usize, D: Disk<B>>(
     }
 }
 
-/// Both copies of a disk with room for them.
+/// Both copies of a disk with room for them, with the sectors that decide its table added to the trace.
 pub(crate) fn read_halves<const B: usize, D: Disk<B>>(
     alloc: Global,
     disk: &mut D,
+    trace: &mut Trace,
 ) -> Result<Halves, Failure>
     requires size { IsSectorSize B }
     requires room { HasRoom B (D.count disk.old) }
@@ -84,23 +94,35 @@ pub(crate) fn read_halves<const B: usize, D: Disk<B>>(
     ensures place { D.tells → IfErr result (FailedIn (λ s. SideReads B (D.told disk.old).seen Primary s
         ⊎ SideReads B (D.told disk.old).seen Backup s)) }
     ensures ok { D.tells → IfOk result (λ h. HalvesAre B (D.told disk.old).seen h) }
+    ensures traced { D.tells → OnOk result (Adds trace.old trace.new (TableReads B (D.told disk.old).seen)) }
 {
-    let primary = half_or_fault(alloc, disk, Side::Primary)?;
-    let backup = half_or_fault(alloc, disk, Side::Backup)?;
-    Ok(paired(primary, backup))
+    match half_or_fault(alloc, disk, Side::Primary, trace)? {
+        Ok(primary) => {
+            let mut beside = Trace::new(alloc);
+            let backup = half_or_fault(alloc, disk, Side::Backup, &mut beside)?;
+            Ok(with_primary(primary, backup))
+        }
+        Err(e) => {
+            let backup = half_or_fault(alloc, disk, Side::Backup, trace)?;
+            Ok(without_primary(e, backup))
+        }
+    }
 }
 
-fn paired(primary: Result<Half, CopyError>, backup: Result<Half, CopyError>) -> Halves
-    ensures { result ≡ paired_as primary backup }
+fn with_primary(primary: Half, backup: Result<Half, CopyError>) -> Halves
+    ensures { result ≡ paired_as (Ok primary) backup }
 {
-    match primary {
-        Ok(p) => match backup {
-            Ok(q) => Halves::Both(p, q),
-            Err(f) => Halves::OnlyPrimary(p, f),
-        },
-        Err(e) => match backup {
-            Ok(q) => Halves::OnlyBackup(e, q),
-            Err(f) => Halves::Neither(e, f),
-        },
+    match backup {
+        Ok(backup) => Halves::Both(primary, backup),
+        Err(f) => Halves::OnlyPrimary(primary, f),
+    }
+}
+
+fn without_primary(e: CopyError, backup: Result<Half, CopyError>) -> Halves
+    ensures { result ≡ paired_as (Err e) backup }
+{
+    match backup {
+        Ok(backup) => Halves::OnlyBackup(e, backup),
+        Err(f) => Halves::Neither(e, f),
     }
 }

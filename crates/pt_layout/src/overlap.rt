@@ -2,7 +2,7 @@ ghost use Rattle.std.specs.Prelude.{◌≡◌, ◌+◌, ◌<◌, ◌≤◌, ◌�
 ghost use Rattle.pt_layout.specs.Overlaps.{Meets, FirstMeetingIs, FirstOverlapIs};
 ghost use Rattle.pt_layout.specs.Overlaps.{IsOrdered};
 
-use crate::member::Member;
+use pt_members::Member;
 use pt_path::Path;
 use std::alloc::AllocError;
 

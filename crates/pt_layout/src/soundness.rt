@@ -2,7 +2,7 @@
 
 ghost use Rattle.std.specs.Prelude.{◌≡◌, ◌+◌, ◌<◌, ◌↔◌, ℕ, IfOk, IsTrue, All, length, slice_index_or};
 ghost use Rattle.pt_sector.specs.Sectors.{IsSectorSize};
-ghost use Rattle.pt_layout.specs.Members.{groups_of};
+ghost use Rattle.pt_members.specs.Members.{groups_of};
 ghost use Rattle.pt_layout.specs.Overlaps.{IsOrdered, FirstOverlapIs};
 ghost use Rattle.pt_layout.specs.Row.{AllOrdered, SharedIs};
 ghost use Rattle.pt_layout.specs.Twins.{HasSameUnique, SameAt, TwinIs, TwinsAre};
@@ -15,8 +15,8 @@ use crate::groups::{Siblings, groups};
 use crate::overlap::{Overlap, first_overlap};
 use crate::spot::Spot;
 use pt_gpt::Entry;
+use pt_members::{Body, Layout};
 use pt_path::Path;
-use pt_recover::{Body, Layout};
 use pt_sector::Lba;
 use std::alloc::{AllocError, Global};
 

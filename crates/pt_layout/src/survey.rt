@@ -7,14 +7,14 @@ ghost use Rattle.pt_sector.specs.Sectors.{IsSectorSize};
 ghost use Rattle.pt_gpt.specs.Copy.{HasCopy};
 ghost use Rattle.pt_gpt.specs.declared.table.Side.TheVariants.{Primary, Backup};
 ghost use Rattle.pt_recover.specs.Denotes.{BodyIs, Denotes, Reads};
-ghost use Rattle.pt_recover.specs.Gpt.{HasRoom};
-ghost use Rattle.pt_recover.specs.Labels.{places_of, place_of, IsPlace};
+ghost use Rattle.pt_gpt.specs.Array.{HasRoom};
+ghost use Rattle.pt_members.specs.Slices.{places_of, place_of, IsPlace};
 ghost use Rattle.pt_recover.specs.Mbr.{IsMbrDisk};
 ghost use Rattle.pt_recover.specs.Numbers.{Numbers};
-ghost use Rattle.pt_recover.specs.Spans.{IsIn};
-ghost use Rattle.pt_recover.specs.declared.layout.Body.TheVariants.{Gpt};
+ghost use Rattle.pt_recover.specs.Spans.{Adds};
+ghost use Rattle.pt_members.specs.declared.layout.Body.TheVariants.{Gpt};
 ghost use Rattle.pt_layout.specs.Halves.{HalfIs, HalvesAre};
-ghost use Rattle.pt_layout.specs.Verdicts.{LayoutOf, PairIs, BrokenIs, ArePlaces, nothing_of};
+ghost use Rattle.pt_layout.specs.Verdicts.{LayoutOf, PairIs, BrokenIs, ArePlaces, IsBodyTrace, nothing_of};
 ghost use Rattle.pt_layout.specs.Healthy.{IsBodyWhole};
 ghost use Rattle.pt_layout.specs.Findings.{VerdictReads};
 ghost use Rattle.pt_layout.specs.Surveys.{HeadOf, FindingIs, IsSurvey};
@@ -25,8 +25,9 @@ use crate::halves::{Half, Halves, read_halves};
 use crate::health::{Head, read_head};
 use crate::soundness::unsound;
 use pt_gpt::{Side, Table, has_room};
+use pt_members::{Body, Layout, Slice, label_places};
 use pt_path::Path;
-use pt_recover::{Body, Layout, NoTable, Slice, Trace, label_places, read_labels, recover_traced};
+use pt_recover::{NoTable, Trace, recover_traced, traced_labels};
 use pt_sector::{Disk, Failure};
 use std::alloc::{AllocError, Global};
 
@@ -44,11 +45,13 @@ pub struct Survey {
     /// The sectors that a plan may write in its switch alone: on an MBR disk all that recovery reads, on any other disk
     /// the label places of the layout.
     pub guarded: Trace,
+    /// The sectors that recovery reads: they decide what the disk denotes.
+    pub trace: Trace,
 }
 
 // The survey of a disk that denotes nothing.
-fn nothing(head: Head, reason: NoTable, guarded: Trace) -> Survey
-    ensures { result ≡ nothing_of head reason guarded }
+fn nothing(head: Head, reason: NoTable, guarded: Trace, trace: Trace) -> Survey
+    ensures { result ≡ nothing_of head reason guarded trace }
 {
     Survey {
         head,
@@ -56,6 +59,7 @@ fn nothing(head: Head, reason: NoTable, guarded: Trace) -> Survey
         finding: Some(Finding::NoTable(reason)),
         primary: false,
         guarded,
+        trace,
     }
 }
 
@@ -125,11 +129,12 @@ struct Placed {
     places: Trace,
 }
 
-// The table's GPT with the disk's labels.
+// The table's GPT with the disk's labels, and their places added to the trace.
 fn with_labels<const B: usize, D: Disk<B>>(
     alloc: Global,
     disk: &mut D,
     table: Table,
+    trace: &mut Trace,
 ) -> Result<Placed, Failure>
     requires size { IsSectorSize B }
     ensures same { OnlyReads D.Disk disk.old disk.new }
@@ -138,12 +143,13 @@ fn with_labels<const B: usize, D: Disk<B>>(
     ensures body { IfOk result (λ p. p.layout.body ≡ Gpt table) }
     ensures places { IfOk result (λ p. ArePlaces (places_of B (D.count disk.old) (Gpt table)) p.places) }
     ensures ok { D.tells → IfOk result (λ p. LayoutOf B (D.told disk.old).seen table p.layout) }
+    ensures traced { OnOk result (Adds trace.old trace.new (IsPlace (places_of B (D.count disk.old) (Gpt table)))) }
 {
     let sectors = disk.sectors();
     let body = Body::Gpt(table);
     let slices = label_places::<B>(alloc, sectors, &body)?;
     let places = places_among(alloc, &slices)?;
-    let labels = read_labels(alloc, disk, &slices)?;
+    let labels = traced_labels(alloc, disk, &slices, trace)?;
     let layout = Layout {
         sectors,
         body,
@@ -172,7 +178,8 @@ fn broken_pair(sectors: u64, head: Head, primary: &Half, backup: &Half) -> Optio
     }
 }
 
-// The survey of a GPT disk that denotes this table, with this wrong with the copies, or nothing.
+// The survey of a GPT disk that denotes this table, with this wrong with the copies, or nothing. The trace has the sectors
+// that decide the table.
 fn survey_table<const B: usize, D: Disk<B>>(
     alloc: Global,
     disk: &mut D,
@@ -180,19 +187,21 @@ fn survey_table<const B: usize, D: Disk<B>>(
     table: Table,
     primary: bool,
     broken: Option<Finding>,
+    mut trace: Trace,
 ) -> Result<Survey, Failure>
     requires size { IsSectorSize B }
     requires head { D.tells → HeadOf (D.told disk.old).seen head }
     requires body { D.tells → BodyIs B (D.told disk.old).seen (Gpt table) }
     requires primary { D.tells → IsTrue primary ↔ HasCopy B (D.told disk.old).seen Primary }
     requires broken { D.tells → BrokenIs B (D.told disk.old).seen (Gpt table) broken }
+    requires traced { D.tells → IsBodyTrace B (D.told disk.old).seen trace }
     ensures same { OnlyReads D.Disk disk.old disk.new }
     ensures blames { Blames fault_of result (D.faults disk.old) (D.faults disk.new) }
     ensures place { D.tells → IfErr result (FailedIn (VerdictReads B (D.told disk.old).seen)) }
     ensures numbers { IfOk result (λ x. IfOk x.found Numbers) }
     ensures ok { D.tells → IfOk result (IsSurvey B (D.told disk.old).seen) }
 {
-    let placed = with_labels(alloc, disk, table)?;
+    let placed = with_labels(alloc, disk, table, &mut trace)?;
     let finding = judge_after(alloc, disk, &placed.layout, broken)?;
     Ok(Survey {
         head,
@@ -200,21 +209,24 @@ fn survey_table<const B: usize, D: Disk<B>>(
         finding,
         primary,
         guarded: placed.places,
+        trace,
     })
 }
 
-// The survey of a disk with room for a GPT that isn't an MBR disk.
+// The survey of a disk with room for a GPT that isn't an MBR disk. The trace has the sectors that decide its table.
 fn survey_halves<const B: usize, D: Disk<B>>(
     alloc: Global,
     disk: &mut D,
     head: Head,
     halves: Halves,
+    trace: Trace,
 ) -> Result<Survey, Failure>
     requires size { IsSectorSize B }
     requires room { HasRoom B (D.count disk.old) }
     requires head { D.tells → HeadOf (D.told disk.old).seen head }
     requires plain { D.tells → ¬ IsMbrDisk (D.told disk.old).seen }
     requires halves { D.tells → HalvesAre B (D.told disk.old).seen halves }
+    requires traced { D.tells → IsBodyTrace B (D.told disk.old).seen trace }
     ensures same { OnlyReads D.Disk disk.old disk.new }
     ensures blames { Blames fault_of result (D.faults disk.old) (D.faults disk.new) }
     ensures place { D.tells → IfErr result (FailedIn (VerdictReads B (D.told disk.old).seen)) }
@@ -225,27 +237,31 @@ fn survey_halves<const B: usize, D: Disk<B>>(
     match halves {
         Halves::Both(primary, backup) => {
             let broken = broken_pair(sectors, head, &primary, &backup);
-            survey_table(alloc, disk, head, primary.table, true, broken)
+            survey_table(alloc, disk, head, primary.table, true, broken, trace)
         }
         Halves::OnlyPrimary(primary, e) => {
             let broken = Some(Finding::BackupCopy(e));
-            survey_table(alloc, disk, head, primary.table, true, broken)
+            survey_table(alloc, disk, head, primary.table, true, broken, trace)
         }
         Halves::OnlyBackup(e, backup) => {
             let broken = Some(Finding::PrimaryCopy(e));
-            survey_table(alloc, disk, head, backup.table, false, broken)
+            survey_table(alloc, disk, head, backup.table, false, broken, trace)
         }
-        Halves::Neither(e, f) => Ok(nothing(head, NoTable::NoCopy(e, f), Trace::new(alloc))),
+        Halves::Neither(e, f) => {
+            let reason = NoTable::NoCopy(e, f);
+            Ok(nothing(head, reason, Trace::new(alloc), trace))
+        }
     }
 }
 
-// The survey of a disk that isn't an MBR disk.
+// The survey of a disk that has sectors and isn't an MBR disk.
 fn survey_gpt<const B: usize, D: Disk<B>>(
     alloc: Global,
     disk: &mut D,
     head: Head,
 ) -> Result<Survey, Failure>
     requires size { IsSectorSize B }
+    requires some { 0 < D.count disk.old }
     requires head { D.tells → HeadOf (D.told disk.old).seen head }
     requires plain { D.tells → ¬ IsMbrDisk (D.told disk.old).seen }
     ensures same { OnlyReads D.Disk disk.old disk.new }
@@ -254,12 +270,15 @@ fn survey_gpt<const B: usize, D: Disk<B>>(
     ensures numbers { IfOk result (λ x. IfOk x.found Numbers) }
     ensures ok { D.tells → IfOk result (IsSurvey B (D.told disk.old).seen) }
 {
+    let mut trace = Trace::new(alloc);
+    trace.add_one(0)?;
     let sectors = disk.sectors();
     if !has_room::<B>(sectors) {
-        return Ok(nothing(head, NoTable::TooSmall, Trace::new(alloc)));
+        let reason = NoTable::TooSmall;
+        return Ok(nothing(head, reason, Trace::new(alloc), trace));
     }
-    let halves = read_halves(alloc, disk)?;
-    survey_halves(alloc, disk, head, halves)
+    let halves = read_halves(alloc, disk, &mut trace)?;
+    survey_halves(alloc, disk, head, halves, trace)
 }
 
 // The survey of an MBR disk.
@@ -272,21 +291,26 @@ fn survey_mbr<const B: usize, D: Disk<B>>(alloc: Global, disk: &mut D) -> Result
     ensures numbers { IfOk result (λ x. IfOk x.found Numbers) }
     ensures ok { D.tells → IfOk result (IsSurvey B (D.told disk.old).seen) }
 {
-    let (found, guarded) = recover_traced(alloc, disk);
+    let (found, trace) = recover_traced(alloc, disk);
     match found {
         Ok(layout) => {
             let finding = judge(alloc, disk, &layout)?;
+            let guarded = trace.copy(alloc)?;
             Ok(Survey {
                 head: Head::Mbr,
                 found: Ok(layout),
                 finding,
                 primary: false,
                 guarded,
+                trace,
             })
         }
         Err(reason) => match reason.failure() {
             Some(failure) => Err(failure),
-            None => Ok(nothing(Head::Mbr, reason, guarded)),
+            None => {
+                let guarded = trace.copy(alloc)?;
+                Ok(nothing(Head::Mbr, reason, guarded, trace))
+            }
         },
     }
 }
@@ -307,7 +331,9 @@ pub fn survey_disk<const B: usize, D: Disk<B>>(
     ensures ok { D.tells → IfOk result (IsSurvey B (D.told disk.old).seen) }
 {
     if disk.sectors() == 0 {
-        return Ok(nothing(Head::Unprotected, NoTable::TooSmall, Trace::new(alloc)));
+        let reason = NoTable::TooSmall;
+        let (guarded, trace) = (Trace::new(alloc), Trace::new(alloc));
+        return Ok(nothing(Head::Unprotected, reason, guarded, trace));
     }
     let head = read_head(disk)?;
     match head {

@@ -8,7 +8,7 @@ use Rattle.pt_mbr.specs.Record.{RecordIs, IsUsable, IsWritten, boot_of, place_of
 use Rattle.pt_mbr.specs.Mbr.{IsBootIndicator, HasBootIndicators, MbrBytes, BearsProtective}
 use Rattle.pt_mbr.specs.Changes.{mbr_of, IsChanged, IsStep, IsPlainRecord, ArePlain}
 use Rattle.pt_mbr.specs.declared.record.Record.{Record}
-use Rattle.pt_mbr.specs.Kept.{range_same, record_kept}
+use Rattle.pt_mbr.specs.laws.Kept.{range_same, record_kept}
 use Rattle.pt_mbr.proofs.Encoding.{places_apart, none_bytes, zero_at}
 
 -- a part of the bytes that are the same one by one

@@ -13,7 +13,7 @@ use Rattle.byteorder.specs.Numbers.{little_number-reads_back}
 use Rattle.pt_mbr.specs.Bytes.{put_at}
 use Rattle.pt_mbr.specs.Record.{HasFields, RecordIs, RecordFits, IsUsable, place_of, record_bytes}
 use Rattle.pt_mbr.specs.declared.record.Record.{Record}
-use Rattle.pt_mbr.specs.Kept.{range_at}
+use Rattle.pt_mbr.specs.laws.Kept.{range_at}
 
 pub read_back : (n x : ℕ) → x < 256 ^ n → little_number n (little_bytes n x) ≡ x
 read_back n x small = ap (little_number n) (sym (append-nil (little_bytes n x))) ∙ little_number-reads_back n x [] small

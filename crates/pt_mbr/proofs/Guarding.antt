@@ -8,7 +8,7 @@ use Rattle.pt_mbr.specs.Record.{RecordFits, record_bytes}
 use Rattle.pt_mbr.specs.Mbr.{HasBootIndicators}
 use Rattle.pt_mbr.specs.Protective.{IsProtective, protective_record, protective_bytes}
 use Rattle.pt_mbr.proofs.Encoding.{has_fields, bytes_back, index_at, first_at}
-use Rattle.pt_mbr.specs.Kept.{range_at}
+use Rattle.pt_mbr.specs.laws.Kept.{range_at}
 
 -- the bytes of a protective sector
 pub protective_laid : (n : ℕ) (e b : List ℕ) → e ≡ record_bytes (Some (protective_record n)) → b ≡ put_at 0 e (replicate 66 0)

@@ -13,7 +13,7 @@ use Rattle.pt_mbr.specs.Ebr.{EbrBytes, NextIs, HasZeros, HasBadLogical, HasBadLi
 use Rattle.pt_mbr.specs.Changes.{IsChanged, IsStep, IsPlainRecord, IsPlainLogical, LinksTo}
 use Rattle.pt_mbr.specs.declared.record.Record.{Record}
 use Rattle.pt_mbr.specs.declared.ebr.Ebr.{Ebr}
-use Rattle.pt_mbr.specs.Kept.{record_kept}
+use Rattle.pt_mbr.specs.laws.Kept.{record_kept}
 use Rattle.pt_mbr.proofs.Encoding.{put_here, put_other, first_at, index_at}
 use Rattle.pt_mbr.proofs.Changing.{Stays, Stands, Turned, part_same, step_other, step_stays, stays_so, stands_on, written_stands, turned}
 use Rattle.pt_mbr.proofs.Changing.{changed, plain_usable, plain_boot, reads, boots}

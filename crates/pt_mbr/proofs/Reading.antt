@@ -8,7 +8,7 @@ use Rattle.pt_mbr.specs.Decoded.{EndsIn}
 use Rattle.pt_mbr.specs.declared.ebr.Ebr.{Ebr}
 use Rattle.pt_mbr.specs.declared.chain.ChainError.{ChainError}
 use Rattle.pt_mbr.specs.declared.chain.ChainError.TheVariants.{NoSignature, BadRecord, NotUpward, OutsideExtended, TooLong, Device}
-use Rattle.pt_mbr.specs.Reading.{of_way, at_is_read, before_is_read}
+use Rattle.pt_mbr.specs.laws.Reading.{of_way, at_is_read, before_is_read}
 
 -- where the sector at fault was read, and is the first of no other
 no_record : (Q : Type 0) (d : Sectors) (x : Span) (e : ChainError) (f : ChainFault d x e) (list : List Ebr) (s : ℕ)

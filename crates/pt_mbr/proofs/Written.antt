@@ -7,7 +7,7 @@ use Rattle.pt_mbr.specs.Record.{RecordIs, IsUsable, IsWritten, boot_of, place_of
 use Rattle.pt_mbr.specs.Mbr.{IsMbrFormed, IsBootIndicator, HasBootIndicators, AreRecords}
 use Rattle.pt_mbr.specs.declared.record.Record.{Record}
 use Rattle.pt_mbr.proofs.Encoding.{put_here, put_other, index_at, first_at}
-use Rattle.pt_mbr.specs.Kept.{range_same, record_kept}
+use Rattle.pt_mbr.specs.laws.Kept.{range_same, record_kept}
 
 -- a record that some bytes are may be written
 pub usable_of : (o : Option Record) (at : ℕ) (b : List ℕ) → RecordIs o at b → IsUsable o

@@ -6,11 +6,6 @@ pub mod Protective
 pub mod Ebr
 pub mod Chain
 pub mod Decoded
-pub mod One
-pub mod Fault
-pub mod Kept
-pub mod Same
-pub mod Reading
-pub mod Laws
 pub mod Changes
 pub mod Numbers
+pub mod laws

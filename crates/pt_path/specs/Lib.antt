@@ -1,3 +1,3 @@
 pub mod Paths
 pub mod Texts
-pub mod OneText
+pub mod laws

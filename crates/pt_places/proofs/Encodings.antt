@@ -7,10 +7,10 @@ use Rattle.pt_sum.specs.Words.{xor_of}
 use Rattle.pt_bsd.specs.Bytes.{number_at}
 use Rattle.pt_bsd.specs.Counted.{count_of}
 use Rattle.pt_bsd.specs.Label.{LabelBytes, HasSum, HasEntries, IsEntry, counted_in, entry_of, geometry_at, place_of}
-use Rattle.pt_bsd.specs.Laws.{label_count}
+use Rattle.pt_bsd.specs.laws.Terms.{label_count}
 use Rattle.pt_bsd.specs.declared.label.Label.{Label}
 use Rattle.pt_bsd.specs.declared.label.LabelEntry.{LabelEntry}
-use Rattle.pt_recover.specs.declared.layout.Slice.{Slice}
+use Rattle.pt_members.specs.declared.layout.Slice.{Slice}
 use Rattle.pt_cases.specs.Targets.{IsEncoded}
 use Rattle.pt_places.proofs.SameBytes.{AreBytes, Same, join, number_same, range_same, drop_same}
 use Rattle.pt_places.proofs.Sums.{sum_same}

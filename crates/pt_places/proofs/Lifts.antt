@@ -7,13 +7,14 @@ use Rattle.pt_sector.specs.Sectors.{Sectors, sector}
 use Rattle.pt_sector.specs.declared.address.Lba.{Lba}
 use Rattle.pt_bsd.specs.Label.{LabelBytes, HasMagic}
 use Rattle.pt_bsd.specs.declared.label.Label.{Label}
-use Rattle.pt_recover.specs.Labels.{places_of, place_of, IsPlace}
-use Rattle.pt_recover.specs.declared.layout.Labelled.{Labelled}
-use Rattle.pt_recover.specs.declared.layout.Layout.{Layout}
-use Rattle.pt_recover.specs.declared.layout.Slice.{Slice}
+use Rattle.pt_members.specs.Slices.{places_of, place_of, IsPlace}
+use Rattle.pt_members.specs.declared.layout.Labelled.{Labelled}
+use Rattle.pt_members.specs.declared.layout.Layout.{Layout}
+use Rattle.pt_members.specs.declared.layout.Slice.{Slice}
 use Rattle.pt_cases.specs.Causes.{IsLeft}
 use Rattle.pt_shape.specs.Ascending.{IsAscending}
-use Rattle.pt_shape.specs.Along.{along_label, along_without, Along}
+use Rattle.pt_shape.specs.Along.{Along}
+use Rattle.pt_shape.specs.laws.Along.{along_label, along_without}
 use Rattle.pt_cases.specs.Targets.{Had, IsEncoded, IsLabelTarget, kept, changed, new}
 use Rattle.pt_targets.specs.Targets.{IsPlaceTarget, Targeted, AreLabelTargets}
 use Rattle.pt_targets.specs.declared.target.Target.{Target}

@@ -4,10 +4,10 @@ use Rattle.std.proofs.Common.{subst, arith, inl, inr}
 use Rattle.std.specs.Prelude.{Contains}
 use Rattle.std.proofs.lemmas.List.Elements.{Contains-append_left, Contains-append_right}
 use Rattle.pt_bsd.specs.declared.label.Label.{Label}
-use Rattle.pt_recover.specs.Labels.{place_of, IsPlace}
+use Rattle.pt_members.specs.Slices.{place_of, IsPlace}
 use Rattle.pt_recover.specs.Steps.{labelled}
-use Rattle.pt_recover.specs.declared.layout.Labelled.{Labelled}
-use Rattle.pt_recover.specs.declared.layout.Slice.{Slice}
+use Rattle.pt_members.specs.declared.layout.Labelled.{Labelled}
+use Rattle.pt_members.specs.declared.layout.Slice.{Slice}
 use Rattle.pt_shape.specs.Ascending.{IsAscending}
 use Rattle.pt_shape.specs.Along.{Along}
 use Rattle.pt_targets.specs.declared.target.Target.{Target}

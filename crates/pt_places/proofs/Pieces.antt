@@ -5,10 +5,10 @@ use Rattle.std.proofs.lemmas.List.{take_more, drop_more, get_or_default, map_pus
 use Rattle.std.proofs.lemmas.List.Elements.{All-contains, All-more, All-push}
 use Rattle.pt_bsd.specs.Counted.{IsRaw, FitsSlice}
 use Rattle.pt_bsd.specs.Label.{LabelBytes, entry_of}
-use Rattle.pt_bsd.specs.Laws.{label_one, label_counted, label_fits}
+use Rattle.pt_bsd.specs.laws.Terms.{label_one, label_counted, label_fits}
 use Rattle.pt_bsd.specs.declared.label.Label.{Label}
 use Rattle.pt_bsd.specs.declared.label.LabelEntry.{LabelEntry}
-use Rattle.pt_recover.specs.declared.layout.Slice.{Slice}
+use Rattle.pt_members.specs.declared.layout.Slice.{Slice}
 use Rattle.pt_targets.specs.declared.target.Target.{Target}
 use Rattle.pt_targets.specs.declared.target.Kind.TheVariants.{New, Changes}
 use Rattle.pt_places.specs.declared.place.Spot.{Spot}

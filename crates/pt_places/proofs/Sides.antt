@@ -4,8 +4,8 @@ use Rattle.std.proofs.Common.{sym, ap, subst, arith, inl, inr, append_assoc}
 use Rattle.std.proofs.lemmas.List.{append-nil, drop_more, drop_all, map_push, length-drop}
 use Rattle.pt_bsd.specs.declared.label.Label.{Label}
 use Rattle.pt_recover.specs.Steps.{labelled}
-use Rattle.pt_recover.specs.declared.layout.Labelled.{Labelled}
-use Rattle.pt_recover.specs.declared.layout.Slice.{Slice}
+use Rattle.pt_members.specs.declared.layout.Labelled.{Labelled}
+use Rattle.pt_members.specs.declared.layout.Slice.{Slice}
 use Rattle.pt_shape.specs.Ascending.{IsAscending}
 use Rattle.pt_places.specs.Spots.{Takes, Fit, slice_of, labels_of}
 use Rattle.pt_places.specs.declared.place.Spot.{Spot}

@@ -2,14 +2,14 @@
 use Rattle.std.proofs.Common.{◌≡◌, ◌<◌, ◌∙◌, ℕ, List, length, map, All, Option, Some, MatchOption, sym, ap, subst, arith}
 use Rattle.std.proofs.lemmas.List.{length-map, get_or-map}
 use Rattle.pt_sector.specs.Sectors.{Sectors}
-use Rattle.pt_recover.specs.Labels.{places_of, place_of}
-use Rattle.pt_recover.specs.declared.layout.Body.{Body}
-use Rattle.pt_recover.specs.declared.layout.Labelled.{Labelled}
-use Rattle.pt_recover.specs.declared.layout.Layout.{Layout}
-use Rattle.pt_recover.specs.declared.layout.Slice.{Slice}
+use Rattle.pt_members.specs.Slices.{places_of, place_of}
+use Rattle.pt_members.specs.declared.layout.Body.{Body}
+use Rattle.pt_members.specs.declared.layout.Labelled.{Labelled}
+use Rattle.pt_members.specs.declared.layout.Layout.{Layout}
+use Rattle.pt_members.specs.declared.layout.Slice.{Slice}
 use Rattle.pt_recover.proofs.Whole.{places_within}
-use Rattle.pt_layout.specs.OnePath.{HasFour}
-use Rattle.pt_shape.specs.Ascending.{places_ascend_lem}
+use Rattle.pt_members.specs.OnePath.{HasFour}
+use Rattle.pt_shape.specs.laws.Ascending.{places_ascend_lem}
 use Rattle.pt_places.specs.Answers.{PlacesAnswer}
 use Rattle.pt_places.specs.Places.{spot_of, IsAt, IsRead, OldAre, AnswerOf}
 use Rattle.pt_places.specs.Spots.{AreSpots, slice_of, labels_of}

@@ -1,7 +1,7 @@
 -- What the label places of a wanted layout p come to, on a disk d that denotes o.
 use Rattle.pt_sector.specs.Sectors.{Sectors}
 use Rattle.std.specs.Prelude.{Option}
-use Rattle.pt_recover.specs.declared.layout.Layout.{Layout}
+use Rattle.pt_members.specs.declared.layout.Layout.{Layout}
 use Rattle.pt_targets.specs.Misfits.{LabelsFit, IsFirstLeft, HasUnreadable, NoneLeft}
 use Rattle.pt_targets.specs.Targets.{AreLabelTargets}
 use Rattle.pt_places.specs.declared.answer.LabelTargets.{LabelTargets}

@@ -4,9 +4,9 @@ use Rattle.pt_sector.specs.Sectors.{Sectors, sector}
 use Rattle.pt_bsd.specs.Counted.{IsCounted, FitsSlice}
 use Rattle.pt_bsd.specs.Label.{LabelBytes, HasMagic}
 use Rattle.pt_bsd.specs.declared.label.Label.{Label}
-use Rattle.pt_recover.specs.Labels.{places_of, place_of}
-use Rattle.pt_recover.specs.declared.layout.Layout.{Layout}
-use Rattle.pt_recover.specs.declared.layout.Slice.{Slice}
+use Rattle.pt_members.specs.Slices.{places_of, place_of}
+use Rattle.pt_members.specs.declared.layout.Layout.{Layout}
+use Rattle.pt_members.specs.declared.layout.Slice.{Slice}
 use Rattle.pt_cases.specs.Targets.{IsEncoded}
 use Rattle.pt_targets.specs.declared.target.Kind.{Kind}
 use Rattle.pt_targets.specs.declared.target.Kind.TheVariants.{Stays, New, Changes}

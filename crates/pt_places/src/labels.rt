@@ -5,7 +5,7 @@ ghost use Rattle.pt_sector.specs.Calls.{Blames};
 ghost use Rattle.pt_sector.specs.Reads.{OnlyReads, fault_of};
 ghost use Rattle.pt_sector.specs.Sectors.{IsSectorSize};
 ghost use Rattle.pt_recover.specs.Denotes.{Denotes};
-ghost use Rattle.pt_layout.specs.OnePath.{HasFour};
+ghost use Rattle.pt_members.specs.OnePath.{HasFour};
 ghost use Rattle.pt_places.specs.Answers.{PlacesAnswer};
 ghost use Rattle.pt_places.specs.Places.{OldAre, AnswerOf, AreWithin};
 

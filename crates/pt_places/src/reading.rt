@@ -4,7 +4,7 @@ ghost use Rattle.std.specs.Prelude.{◌≡◌, ◌<◌, ◌++◌, ◌∷◌, [],
 ghost use Rattle.pt_sector.specs.Calls.{Blames};
 ghost use Rattle.pt_sector.specs.Reads.{OnlyReads, fault_of, read_of};
 ghost use Rattle.pt_sector.specs.Sectors.{IsSectorSize};
-ghost use Rattle.pt_recover.specs.Labels.{place_of};
+ghost use Rattle.pt_members.specs.Slices.{place_of};
 ghost use Rattle.pt_places.specs.Places.{spot_of, IsAt, IsRead};
 
 use crate::place::{Place, Spot};

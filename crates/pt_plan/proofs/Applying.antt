@@ -3,7 +3,8 @@ use Rattle.std.proofs.Common.{◌≡◌, ◌∙◌, inl, ℕ, List, sym, ap, sub
 use Rattle.pt_sector.specs.Sectors.{Sectors}
 use Rattle.pt_sector.specs.Writes.{Writes, after}
 use Rattle.pt_sector.specs.Device.{Told, MayLeave, Flushed, FailedFlush}
-use Rattle.pt_sector.specs.Since.{LeavesOnly, leaves_once, leaves_through, leaves_weaker}
+use Rattle.pt_sector.specs.Since.{LeavesOnly}
+use Rattle.pt_sector.specs.laws.Since.{leaves_once, leaves_through, leaves_weaker}
 use Rattle.pt_apply.specs.Runs.{Settled, StoppedSomewhere}
 use Rattle.pt_check.specs.Answers.{Answers, Promises}
 use Rattle.pt_check.specs.declared.answer.Answer.{Answer}

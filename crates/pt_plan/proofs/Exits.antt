@@ -9,12 +9,13 @@ use Rattle.pt_sector.specs.Calls.{IsReadIn, AreReads, ReadFaults, with_fault}
 use Rattle.pt_sector.specs.declared.address.Lba.{Lba}
 use Rattle.pt_sector.specs.declared.disk.Fault.{Fault}
 use Rattle.pt_sector.specs.declared.disk.Fault.TheVariants.{Read, Write, Flush}
-use Rattle.pt_sector.specs.Since.{LeavesOnly, leaves_once, leaves_through, leaves_weaker}
+use Rattle.pt_sector.specs.Since.{LeavesOnly}
+use Rattle.pt_sector.specs.laws.Since.{leaves_once, leaves_through, leaves_weaker}
 use Rattle.pt_apply.specs.Plans.{faults_of}
 use Rattle.pt_apply.specs.Runs.{Settled, StoppedSomewhere, FailedIn}
 use Rattle.pt_apply.specs.Promises.{Keeps}
 use Rattle.pt_recover.specs.declared.error.NoTable.{NoTable as Reason}
-use Rattle.pt_recover.specs.declared.layout.Layout.{Layout}
+use Rattle.pt_members.specs.declared.layout.Layout.{Layout}
 use Rattle.pt_words.specs.declared.error.Refusal.{Refusal}
 use Rattle.pt_targets.specs.declared.error.PlanError.{PlanError}
 use Rattle.pt_plan.specs.declared.error.CommitError.{CommitError}

@@ -5,7 +5,8 @@ use Rattle.std.proofs.lemmas.Bool.{cases_order}
 use Rattle.pt_sector.specs.Sectors.{Sectors, sector}
 use Rattle.pt_sector.specs.Writes.{Writes, Puts, MayHold, after}
 use Rattle.pt_sector.specs.Device.{Told, MayLeave, Flushed, FailedFlush}
-use Rattle.pt_sector.specs.Since.{LeavesOnly, leaves_once}
+use Rattle.pt_sector.specs.Since.{LeavesOnly}
+use Rattle.pt_sector.specs.laws.Since.{leaves_once}
 use Rattle.pt_apply.specs.Promises.{Keeps, Safe, Switches}
 use Rattle.pt_apply.specs.Runs.{StoppedSomewhere}
 use Rattle.pt_plan.specs.History.{Past, Done, Unchanged, Either, Steps, History, Has}

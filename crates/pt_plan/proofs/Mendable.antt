@@ -4,20 +4,20 @@ use Rattle.pt_sector.specs.Sectors.{Sectors, IsSectorSize}
 use Rattle.pt_sector.specs.Writes.{Writes}
 use Rattle.pt_recover.specs.Answers.{failure_in}
 use Rattle.pt_recover.specs.Denotes.{Denotes}
-use Rattle.pt_recover.specs.Laws.{denotes_one_lem}
+use Rattle.pt_recover.specs.laws.Terms.{denotes_one_lem}
 use Rattle.pt_recover.specs.declared.error.NoTable.{NoTable as Reason}
 use Rattle.pt_recover.specs.declared.error.NoTable.TheVariants as reason
-use Rattle.pt_recover.specs.declared.layout.Layout.{Layout}
+use Rattle.pt_members.specs.declared.layout.Layout.{Layout}
 use Rattle.pt_layout.specs.Healthy.{Healthy, IsHealthy}
-use Rattle.pt_layout.specs.Owned.{OwnedOf}
-use Rattle.pt_layout.specs.Tables.{TableOf}
+use Rattle.pt_members.specs.Owned.{OwnedOf}
+use Rattle.pt_members.specs.Tables.{TableOf}
 use Rattle.pt_check.specs.Answers.{Answers}
 use Rattle.pt_check.specs.declared.answer.Answer.TheVariants.{No}
 use Rattle.pt_check.specs.declared.answer.Why.{Why}
 use Rattle.pt_apply.specs.Promises.{Safe}
-use Rattle.pt_accepted.specs.Accepted.{plan_finishes, plan_not_refused}
+use Rattle.pt_accepted.specs.laws.Accepted.{plan_finishes, plan_not_refused}
 use Rattle.pt_cases.specs.Cases.{IsPlan, idle, backup_first, primary_first, from_mbr, one_label, within_mbr}
-use Rattle.pt_exact.specs.Mended.{repair_is_planned_lem, mendable_by_plan_lem}
+use Rattle.pt_exact.specs.laws.Mended.{repair_is_planned_lem, mendable_by_plan_lem}
 use Rattle.pt_planner.specs.Known.{ReasonIs}
 use Rattle.pt_targets.specs.Unmendable.{IsUnmendableBy}
 use Rattle.pt_targets.specs.Unplanned.{Unplanned}

@@ -8,11 +8,12 @@ use Rattle.pt_sector.specs.Device.{Told, Moment, MayLeave, Flushed, FailedFlush}
 use Rattle.pt_sector.specs.Calls.{IsReadIn}
 use Rattle.pt_sector.specs.declared.disk.Fault.{Fault}
 use Rattle.pt_sector.specs.declared.disk.Fault.TheVariants.{Read, Write, Flush}
-use Rattle.pt_sector.specs.Since.{LeavesOnly, leaves_once, leaves_through, leaves_weaker}
+use Rattle.pt_sector.specs.Since.{LeavesOnly}
+use Rattle.pt_sector.specs.laws.Since.{leaves_once, leaves_through, leaves_weaker}
 use Rattle.pt_apply.specs.Runs.{Settled, StoppedSomewhere, Reached, FailedIn}
 use Rattle.pt_apply.specs.Promises.{Keeps}
 use Rattle.pt_recover.specs.declared.error.NoTable.{NoTable as Reason}
-use Rattle.pt_recover.specs.declared.layout.Layout.{Layout}
+use Rattle.pt_members.specs.declared.layout.Layout.{Layout}
 use Rattle.pt_layout.specs.declared.finding.Finding.{Finding}
 use Rattle.pt_words.specs.declared.error.Refusal.{Refusal}
 use Rattle.pt_plan.specs.declared.repair_error.RepairError.{RepairError}

@@ -7,9 +7,9 @@ use Rattle.pt_recover.specs.Answers.{IsReason, failure_in}
 use Rattle.pt_recover.specs.declared.error.NoTable.{NoTable as NoTableReason}
 use Rattle.pt_recover.specs.declared.error.NoTable.TheVariants as reason
 use Rattle.pt_layout.specs.Healthy.{Healthy}
-use Rattle.pt_layout.specs.Owned.{OwnedOf}
-use Rattle.pt_layout.specs.Tables.{TableOf}
-use Rattle.pt_accepted.specs.Accepted.{plan_finishes, plan_not_refused}
+use Rattle.pt_members.specs.Owned.{OwnedOf}
+use Rattle.pt_members.specs.Tables.{TableOf}
+use Rattle.pt_accepted.specs.laws.Accepted.{plan_finishes, plan_not_refused}
 use Rattle.pt_cases.specs.Cases.{IsPlan}
 use Rattle.pt_planner.specs.Known.{ReasonIs}
 use Rattle.pt_targets.specs.Unplanned.{Unplanned}
@@ -19,7 +19,7 @@ use Rattle.pt_plan.specs.Steps.{sectors_in, StartsFrom, NoStart, NotEdited, NotP
 use Rattle.pt_plan.specs.declared.error.CommitError.{CommitError}
 use Rattle.pt_plan.specs.declared.error.CommitError.TheVariants.{NoTable, Edit, Plan, Check, Device, Memory}
 use Rattle.pt_recover.specs.Denotes.{Denotes}
-use Rattle.pt_recover.specs.declared.layout.Layout.{Layout}
+use Rattle.pt_members.specs.declared.layout.Layout.{Layout}
 
 pub drop-next : {X : Type 0} (xs : List X) (i : ℕ) (x : X) → i < length xs → x ≡ get_or xs i x → drop i xs ≡ x ∷ drop (i + 1) xs
 drop-next [] i x lt is = absurd (omega (arith, lt))

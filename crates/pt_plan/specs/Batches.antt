@@ -6,14 +6,14 @@ use Rattle.pt_sector.specs.Device.{Told}
 use Rattle.pt_guid.specs.declared.guid.Guid.{Guid}
 use Rattle.pt_recover.specs.Answers.{IsReason}
 use Rattle.pt_recover.specs.Denotes.{Denotes}
-use Rattle.pt_recover.specs.declared.layout.Layout.{Layout}
+use Rattle.pt_members.specs.declared.layout.Layout.{Layout}
 use Rattle.pt_layout.specs.Healthy.{Healthy}
 use Rattle.pt_edit.specs.Edited.{Edited}
 use Rattle.pt_words.specs.declared.error.Refusal.{Refusal}
 use Rattle.pt_words.specs.declared.word.Edit.{Edit}
 use Rattle.pt_words.specs.declared.word.Edit.TheVariants.{Align, Empty}
-use Rattle.pt_layout.specs.Owned.{OwnedOf}
-use Rattle.pt_layout.specs.Tables.{TableOf}
+use Rattle.pt_members.specs.Owned.{OwnedOf}
+use Rattle.pt_members.specs.Tables.{TableOf}
 use Rattle.pt_cases.specs.Cases.{IsPlan}
 use Rattle.pt_targets.specs.Unmendable.{IsUnmendable}
 use Rattle.pt_targets.specs.Unplanned.{Unplanned}

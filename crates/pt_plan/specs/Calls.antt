@@ -5,7 +5,8 @@ use Rattle.std.proofs.lemmas.List.{append-nil, ext_get_or}
 use Rattle.pt_sector.specs.Sectors.{Sectors, sector}
 use Rattle.pt_sector.specs.Writes.{Writes, Puts}
 use Rattle.pt_sector.specs.Device.{Told, MayLeave}
-use Rattle.pt_sector.specs.Since.{LeavesOnly, leaves_none, leaves_through, leaves_weaker}
+use Rattle.pt_sector.specs.Since.{LeavesOnly}
+use Rattle.pt_sector.specs.laws.Since.{leaves_none, leaves_through, leaves_weaker}
 use Rattle.pt_apply.specs.Runs.{Settled}
 use Rattle.pt_plan.specs.History.{Past, Has, Holds, Carries}
 

@@ -1,14 +1,13 @@
 pub mod Applied
 pub mod Batches
 pub mod Calls
-pub mod Carried
 pub mod Commits
 pub mod Failed
 pub mod History
-pub mod Idle
 pub mod Mending
 pub mod Repairs
 pub mod Replying
 pub mod Running
 pub mod Sessions
 pub mod Steps
+pub mod laws

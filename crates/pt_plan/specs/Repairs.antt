@@ -9,7 +9,7 @@ use Rattle.pt_sector.specs.declared.disk.Fault.TheVariants.{Read, Write, Flush}
 use Rattle.pt_apply.specs.Runs.{Settled, FailedIn}
 use Rattle.pt_apply.specs.Promises.{Keeps, Safe}
 use Rattle.pt_recover.specs.declared.error.NoTable.{NoTable as Reason}
-use Rattle.pt_recover.specs.declared.layout.Layout.{Layout}
+use Rattle.pt_members.specs.declared.layout.Layout.{Layout}
 use Rattle.pt_layout.specs.declared.finding.Finding.{Finding}
 use Rattle.pt_words.specs.declared.error.Refusal.{Refusal}
 use Rattle.pt_plan.specs.declared.repair_error.RepairError.{RepairError}

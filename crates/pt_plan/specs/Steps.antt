@@ -5,11 +5,11 @@ use Rattle.pt_sector.specs.Writes.{Writes}
 use Rattle.pt_apply.specs.Promises.{Safe}
 use Rattle.pt_recover.specs.Answers.{IsReason}
 use Rattle.pt_recover.specs.Denotes.{Denotes}
-use Rattle.pt_recover.specs.declared.layout.Layout.{Layout}
+use Rattle.pt_members.specs.declared.layout.Layout.{Layout}
 use Rattle.pt_layout.specs.Healthy.{Healthy}
 use Rattle.pt_words.specs.declared.error.Refusal.TheVariants as refusal
-use Rattle.pt_layout.specs.Owned.{OwnedOf}
-use Rattle.pt_layout.specs.Tables.{TableOf}
+use Rattle.pt_members.specs.Owned.{OwnedOf}
+use Rattle.pt_members.specs.Tables.{TableOf}
 use Rattle.pt_check.specs.Answers.{Answers}
 use Rattle.pt_check.specs.declared.answer.Answer.TheVariants.{No}
 use Rattle.pt_targets.specs.Unplanned.{Unplanned}

@@ -5,7 +5,7 @@ ghost use Rattle.pt_sector.specs.Device.{Told};
 ghost use Rattle.pt_sector.specs.Sectors.{Sectors};
 ghost use Rattle.pt_apply.specs.Runs.{Settled};
 ghost use Rattle.pt_recover.specs.Denotes.{Denotes};
-ghost use Rattle.pt_recover.specs.declared.layout.Layout.{Layout as LayoutValue};
+ghost use Rattle.pt_members.specs.declared.layout.Layout.{Layout as LayoutValue};
 ghost use Rattle.pt_plan.specs.Batches.{Words, EditedBy, Commits, Repairs, SessionOf, RunOf, call_of, CallCarries, CallsCarry};
 ghost use Rattle.pt_plan.specs.Calls.{Call};
 ghost use Rattle.pt_plan.specs.History.{Past, Unchanged, Has, Holds};

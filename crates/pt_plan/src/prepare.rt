@@ -7,6 +7,7 @@ ghost use Rattle.pt_sector.specs.Reads.{OnlyReads};
 ghost use Rattle.pt_apply.specs.Plans.{phases_of, InRange};
 ghost use Rattle.pt_recover.specs.Answers.{failure_in};
 ghost use Rattle.pt_cases.specs.Cases.{IsPlan};
+ghost use Rattle.pt_check.specs.Recovered.{IsOf};
 ghost use Rattle.pt_planner.specs.Known.{IsKnown};
 ghost use Rattle.pt_plan.specs.Batches.{IsPlanned, IsReady, IsRefusal, MakesTable, EditedBy};
 ghost use Rattle.pt_plan.specs.Failed.{commit_fault_in as fault_in, HidesNoFailure};
@@ -15,7 +16,7 @@ ghost use Rattle.pt_plan.specs.declared.error.CommitError.TheVariants as commit;
 
 use crate::error::CommitError;
 use pt_apply::Plan;
-use pt_check::{Answer, check};
+use pt_check::{Answer, Recovered, check_known};
 use pt_edit::{Edit, edit};
 use pt_guid::Guid;
 use pt_layout::{Layout, NoTable};
@@ -121,24 +122,59 @@ fn planned<const B: usize, D: Disk<B>>(
     Ok(plan)
 }
 
-/// Checks a plan.
+/// What the checker needs to know of a disk.
+pub(crate) fn recovered(known: Known) -> Recovered
+    ensures { result ≡ record { layout = known.old; trace = known.trace } }
+{
+    let Known { old, trace, .. } = known;
+    Recovered { layout: old, trace }
+}
+
+/// Checks a plan for a disk that was read already.
 fn checked<const B: usize, D: Disk<B>>(
     alloc: Global,
     disk: &mut D,
     plan: &Plan<B>,
+    before: Recovered,
 ) -> Result<(), CommitError>
     requires size { IsSectorSize B }
+    requires known { D.tells → IsOf B (D.told disk.old).seen before }
     ensures same { OnlyReads D.Disk disk.old disk.new }
     ensures blames { Blames fault_in result (D.faults disk.old) (D.faults disk.new) }
     ensures hides { IfErr result HidesNoFailure }
     ensures ok { D.tells → OnOk result (IsSafe B (D.told disk.old).seen (phases_of plan.now)) }
     ensures err { D.tells → IfErr result (NotSafe B (D.told disk.old).seen (phases_of plan.now)) }
 {
-    let answer = check(alloc, disk, plan)?;
+    let answer = check_known(alloc, disk, plan, before)?;
     match answer {
         Answer::Yes { .. } => Ok(()),
         Answer::No(why) => Err(CommitError::Check(why)),
     }
+}
+
+/// What the disk denotes, and the plan that leads from there to what the words make of it.
+fn prepared<const B: usize, D: Disk<B>>(
+    alloc: Global,
+    disk: &mut D,
+    edits: &[Edit],
+    guids: &[Guid],
+) -> Result<(Recovered, Plan<B>), CommitError>
+    requires size { IsSectorSize B }
+    ensures same { OnlyReads D.Disk disk.old disk.new }
+    ensures blames { Blames fault_in result (D.faults disk.old) (D.faults disk.new) }
+    ensures hides { IfErr result HidesNoFailure }
+    ensures in_range { IfOk result (λ r. InRange (D.count disk.old) r.1) }
+    ensures phases { IfOk result (λ r. All (λ p. 0 < length p.items) r.1.phases.items) }
+    ensures known { D.tells → IfOk result (λ r. IsOf B (D.told disk.old).seen r.0) }
+    ensures planned { D.tells → IfOk result
+        (λ r. IsPlanned B (D.count disk.old) (record { edits = edits.now; guids = guids.now }) (D.told disk.old).seen (phases_of r.1)) }
+    ensures refused { D.tells → IfErr result
+        (IsRefusal B (D.count disk.old) (record { edits = edits.now; guids = guids.now }) (D.told disk.old).seen) }
+{
+    let known = start(alloc, disk, edits, guids)?;
+    let wanted = edited::<B>(alloc, &known.old, disk.sectors(), edits, guids)?;
+    let plan = planned(alloc, disk, &known, &wanted)?;
+    Ok((recovered(known), plan))
 }
 
 /// The plan that leads from what the disk denotes to what the words make of it. Nothing is flushed or written. It is
@@ -160,9 +196,7 @@ pub fn plan_for<const B: usize, D: Disk<B>>(
     ensures refused { D.tells → IfErr result
         (IsRefusal B (D.count disk.old) (record { edits = edits.now; guids = guids.now }) (D.told disk.old).seen) }
 {
-    let known = start(alloc, disk, edits, guids)?;
-    let wanted = edited::<B>(alloc, &known.old, disk.sectors(), edits, guids)?;
-    let plan = planned(alloc, disk, &known, &wanted)?;
+    let (_known, plan) = prepared(alloc, disk, edits, guids)?;
     Ok(plan)
 }
 
@@ -183,7 +217,7 @@ pub fn checked_plan_for<const B: usize, D: Disk<B>>(
     ensures refused { D.tells → IfErr result
         (IsRefusal B (D.count disk.old) (record { edits = edits.now; guids = guids.now }) (D.told disk.old).seen) }
 {
-    let plan = plan_for(alloc, disk, edits, guids)?;
-    checked(alloc, disk, &plan)?;
+    let (before, plan) = prepared(alloc, disk, edits, guids)?;
+    checked(alloc, disk, &plan, before)?;
     Ok(plan)
 }

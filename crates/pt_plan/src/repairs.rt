@@ -5,15 +5,17 @@ ghost use Rattle.pt_sector.specs.Sectors.{IsSectorSize};
 ghost use Rattle.pt_sector.specs.Calls.{Blames};
 ghost use Rattle.pt_sector.specs.Reads.{OnlyReads};
 ghost use Rattle.pt_apply.specs.Plans.{phases_of, InRange};
+ghost use Rattle.pt_check.specs.Recovered.{IsOf};
 ghost use Rattle.pt_plan.specs.Batches.{IsMendPlan, IsReadyToMend, IsMendRefusal, Repairs};
 ghost use Rattle.pt_plan.specs.Mending.{repair_fault_in as fault_in, MendHidesNoFailure};
 ghost use Rattle.pt_plan.specs.declared.repair_error.RepairError.TheVariants as repair_error;
 ghost use Rattle.pt_recover.specs.Answers.{failure_in};
 ghost use Rattle.pt_recover.specs.declared.error.NoTable.{NoTable as Reason};
 
+use crate::prepare::recovered;
 use crate::repair_error::RepairError;
 use pt_apply::{Plan, apply};
-use pt_check::{Answer, check};
+use pt_check::{Answer, Recovered, check_known};
 use pt_layout::NoTable;
 use pt_planner::{plan_from, read_known};
 use pt_sector::Disk;
@@ -35,6 +37,31 @@ fn no_layout(reason: Option<NoTable>) -> RepairError
     }
 }
 
+/// What the disk denotes, and the plan that makes it healthy with that.
+fn mended<const B: usize, D: Disk<B>>(
+    alloc: Global,
+    disk: &mut D,
+) -> Result<(Recovered, Plan<B>), RepairError>
+    requires size { IsSectorSize B }
+    ensures same { OnlyReads D.Disk disk.old disk.new }
+    ensures blames { Blames fault_in result (D.faults disk.old) (D.faults disk.new) }
+    ensures hides { IfErr result MendHidesNoFailure }
+    ensures in_range { IfOk result (λ r. InRange (D.count disk.old) r.1) }
+    ensures phases { IfOk result (λ r. All (λ p. 0 < length p.items) r.1.phases.items) }
+    ensures known { D.tells → IfOk result (λ r. IsOf B (D.told disk.old).seen r.0) }
+    ensures planned { D.tells → IfOk result (λ r. IsMendPlan B (D.told disk.old).seen (phases_of r.1)) }
+    ensures refused { D.tells → IfErr result (IsMendRefusal B (D.told disk.old).seen) }
+{
+    let (known, reason) = read_known(alloc, disk)?;
+    match &known.old {
+        Some(layout) => {
+            let plan = plan_from(alloc, disk, &known, layout)?;
+            Ok((recovered(known), plan))
+        }
+        None => Err(no_layout(reason)),
+    }
+}
+
 /// The plan that makes the disk healthy with the layout that it denotes: without phases where it is so already. Nothing
 /// is flushed or written. It is refused as `repair` refuses, and `Plan` and `Check` are never told; the checker is not
 /// asked, and accepts each such plan.
@@ -51,14 +78,8 @@ pub fn plan_for_repair<const B: usize, D: Disk<B>>(
     ensures planned { D.tells → IfOk result (λ plan. IsMendPlan B (D.told disk.old).seen (phases_of plan)) }
     ensures refused { D.tells → IfErr result (IsMendRefusal B (D.told disk.old).seen) }
 {
-    let (known, reason) = read_known(alloc, disk)?;
-    match &known.old {
-        Some(layout) => {
-            let plan = plan_from(alloc, disk, &known, layout)?;
-            Ok(plan)
-        }
-        None => Err(no_layout(reason)),
-    }
+    let (_known, plan) = mended(alloc, disk)?;
+    Ok(plan)
 }
 
 /// The same plan, once the checker has accepted it. Nothing is flushed or written.
@@ -74,8 +95,8 @@ pub fn checked_plan_for_repair<const B: usize, D: Disk<B>>(
     ensures ready { D.tells → IfOk result (λ plan. IsReadyToMend B (D.told disk.old).seen (phases_of plan)) }
     ensures refused { D.tells → IfErr result (IsMendRefusal B (D.told disk.old).seen) }
 {
-    let plan = plan_for_repair(alloc, disk)?;
-    match check(alloc, disk, &plan)? {
+    let (before, plan) = mended(alloc, disk)?;
+    match check_known(alloc, disk, &plan, before)? {
         Answer::Yes { .. } => Ok(plan),
         Answer::No(why) => Err(RepairError::Check(why)),
     }

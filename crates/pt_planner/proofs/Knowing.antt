@@ -4,12 +4,12 @@ use Rattle.std.proofs.Common.{sym, ap, ◌∙◌, subst}
 use Rattle.std.specs.Prelude.{is_some, not, IfSome}
 use Rattle.pt_sector.specs.Sectors.{Sectors}
 use Rattle.pt_recover.specs.Denotes.{Denotes}
-use Rattle.pt_recover.specs.Laws.{denotes_one_lem}
+use Rattle.pt_recover.specs.laws.Terms.{denotes_one_lem}
 use Rattle.pt_recover.specs.Numbers.{Numbers}
 use Rattle.pt_recover.specs.declared.error.NoTable.{NoTable}
-use Rattle.pt_recover.specs.declared.layout.Layout.{Layout}
+use Rattle.pt_members.specs.declared.layout.Layout.{Layout}
 use Rattle.pt_layout.specs.Healthy.{IsHealthy}
-use Rattle.pt_layout.specs.Laws.{finding_excludes_lem}
+use Rattle.pt_layout.specs.laws.Terms.{finding_excludes_lem}
 use Rattle.pt_layout.specs.Surveys.{FoundIs, FindingIs, IsSurvey}
 use Rattle.pt_layout.specs.declared.finding.Finding.{Finding}
 use Rattle.pt_layout.specs.declared.survey.Survey.{Survey}
@@ -51,6 +51,7 @@ known_is b d read x reason found_as is = record {
   finding = rw found_as.finding (wrong_is b d read.found x.old reason read.finding found_as.found is.finding);
   primary = rw found_as.primary is.primary;
   guarded = rw found_as.guarded is.guarded;
+  trace = rw found_as.trace is.trace;
 }
 
 some_same : {X : Type 0} {x y : X} → Some x ≡ Some y → x ≡ y

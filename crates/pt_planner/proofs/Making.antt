@@ -9,10 +9,11 @@ use Rattle.pt_gpt.specs.declared.table.Table.{Table}
 use Rattle.pt_mbr.specs.declared.ebr.Ebr.{Ebr}
 use Rattle.pt_mbr.specs.declared.record.Record.{Record}
 use Rattle.pt_recover.specs.Denotes.{Denotes, BodyIs}
-use Rattle.pt_recover.specs.Laws.{denotes_one_lem}
-use Rattle.pt_recover.specs.Mbr.{extended_of, IsMbrDisk}
-use Rattle.pt_recover.specs.declared.layout.Body.TheVariants.{Mbr, Gpt}
-use Rattle.pt_recover.specs.declared.layout.Layout.{Layout}
+use Rattle.pt_recover.specs.laws.Terms.{denotes_one_lem}
+use Rattle.pt_mbr.specs.Extended.{extended_of}
+use Rattle.pt_recover.specs.Mbr.{IsMbrDisk}
+use Rattle.pt_members.specs.declared.layout.Body.TheVariants.{Mbr, Gpt}
+use Rattle.pt_members.specs.declared.layout.Layout.{Layout}
 use Rattle.pt_layout.specs.Findings.{IsBodyBroken, IsLayoutFinding}
 use Rattle.pt_layout.specs.Healthy.{IsHealthy, IsBodyWhole}
 use Rattle.pt_layout.specs.Sound.{Sound}
@@ -26,15 +27,15 @@ use Rattle.pt_cases.specs.Causes.{MayBe}
 use Rattle.pt_shape.specs.Shape.{FitsTable}
 use Rattle.pt_shape.specs.Links.{IsLinked}
 use Rattle.pt_targets.specs.Misfits.{NoneLeft}
-use Rattle.pt_tables.specs.Starts.{OrderIs, HeadIs, CopiesStart}
-use Rattle.pt_tables.specs.declared.order.Order.{Order}
+use Rattle.pt_phases.specs.Starts.{OrderIs, HeadIs, CopiesStart}
+use Rattle.pt_phases.specs.declared.order.Order.{Order}
 use Rattle.pt_targets.specs.Causes.{HasNoTurn, HasNoCopies}
 use Rattle.pt_targets.specs.Starts.{Start, StopsBy}
 use Rattle.pt_targets.specs.Targets.{AreLabelTargets, AreMbrTargets}
 use Rattle.pt_targets.specs.declared.error.PlanError.{PlanError}
 use Rattle.pt_targets.specs.declared.error.PlanError.TheVariants.{NotOneSwitch, ReusedInOneBatch, NeedsRepair, Unsound, Device, Memory}
 use Rattle.pt_targets.specs.declared.target.Target.{Target}
-use Rattle.pt_turns.specs.Turns.{MbrStart, LabelStart, Unbroken}
+use Rattle.pt_phases.specs.Turns.{MbrStart, LabelStart, Unbroken}
 use Rattle.pt_planner.specs.Known.{WrongIs, IsKnown}
 use Rattle.pt_planner.specs.State.{IsBrokenBy, OrderOf, PlacesStop}
 use Rattle.pt_targets.specs.Unplanned.{other_disk, misplaced, targets, unreadable, turn, copies, Hindered, Unplanned}

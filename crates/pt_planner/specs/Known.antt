@@ -3,13 +3,13 @@ use Rattle.std.specs.Prelude.{◌≡◌, ◌↔◌, ℕ, length, Option, Some, N
 use Rattle.pt_sector.specs.Sectors.{Sectors}
 use Rattle.pt_gpt.specs.Copy.{HasCopy}
 use Rattle.pt_gpt.specs.declared.table.Side.TheVariants.{Primary}
-use Rattle.pt_recover.specs.Answers.{IsReason}
+use Rattle.pt_recover.specs.Answers.{IsReason, IsTraceOf}
 use Rattle.pt_recover.specs.Denotes.{Denotes}
-use Rattle.pt_recover.specs.Gpt.{HasRoom}
+use Rattle.pt_gpt.specs.Array.{HasRoom}
 use Rattle.pt_recover.specs.Mbr.{IsMbrDisk}
 use Rattle.pt_recover.specs.Spans.{IsIn}
 use Rattle.pt_recover.specs.declared.error.NoTable.{NoTable}
-use Rattle.pt_recover.specs.declared.layout.Layout.{Layout}
+use Rattle.pt_members.specs.declared.layout.Layout.{Layout}
 use Rattle.pt_layout.specs.Findings.{IsFinding}
 use Rattle.pt_layout.specs.Guarded.{IsGuarded}
 use Rattle.pt_layout.specs.Healthy.{IsHealthy}
@@ -30,6 +30,7 @@ pub record IsKnown (b : ℕ) (d : Sectors) (x : Known) : Type 0 where
   pub finding : WrongIs b d x.old x.finding
   pub primary : ¬ IsMbrDisk d → HasRoom b (length d) → IsTrue x.primary ↔ HasCopy b d Primary
   pub guarded : (s : ℕ) → IsIn x.guarded s ↔ IsGuarded b d s
+  pub trace : IsTraceOf b d x.trace
 
 -- why the disk denotes nothing, where it does
 abbrev pub ReasonIs : ℕ → Sectors → Option Layout → Option NoTable → Type 0
@@ -57,3 +58,4 @@ pub record IsKnownOf (read : Survey) (x : Known) (reason : Option NoTable) : Typ
   pub finding : x.finding ≡ read.finding
   pub primary : x.primary ≡ read.primary
   pub guarded : x.guarded ≡ read.guarded
+  pub trace : x.trace ≡ read.trace

@@ -1,15 +1,15 @@
 -- What the planner finds before it makes a plan.
 use Rattle.std.specs.Prelude.{◌≡◌, ◌⊎◌, ℕ, Bool, true, false, Option, Some}
 use Rattle.pt_sector.specs.Sectors.{Sectors}
-use Rattle.pt_recover.specs.declared.layout.Layout.{Layout}
-use Rattle.pt_layout.specs.Members.{number_path}
+use Rattle.pt_members.specs.declared.layout.Layout.{Layout}
+use Rattle.pt_members.specs.Members.{number_path}
 use Rattle.pt_layout.specs.Sound.{IsUnsound}
 use Rattle.pt_layout.specs.declared.finding.Finding.{Finding}
 use Rattle.pt_layout.specs.declared.finding.Finding.TheVariants.{PrimaryCopy, BackupCopy, CopiesDiffer, Alternate, Protective, ForeignLabel}
 use Rattle.pt_layout.specs.declared.health.Head.{Head}
 use Rattle.pt_layout.specs.declared.health.Head.TheVariants as head
-use Rattle.pt_tables.specs.declared.order.Order.{Order}
-use Rattle.pt_tables.specs.declared.order.Order.TheVariants.{BackupFirst, PrimaryFirst, FromMbr}
+use Rattle.pt_phases.specs.declared.order.Order.{Order}
+use Rattle.pt_phases.specs.declared.order.Order.TheVariants.{BackupFirst, PrimaryFirst, FromMbr}
 use Rattle.pt_targets.specs.Misfits.{LabelsFit, IsFirstLeft, HasUnreadable, NoneLeft}
 use Rattle.pt_targets.specs.declared.error.PlanError.{PlanError}
 use Rattle.pt_targets.specs.declared.error.PlanError.TheVariants.{NotOneSwitch, ReusedInOneBatch, NeedsRepair, Unsound, Device, Memory}

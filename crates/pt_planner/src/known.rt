@@ -25,6 +25,8 @@ pub struct Known {
     pub primary: bool,
     /// The sectors that recovery reads as sector 0 of an MBR disk, as an extended boot record or as a label place.
     pub guarded: Trace,
+    /// The sectors that recovery reads: they decide what the disk denotes.
+    pub trace: Trace,
 }
 
 /// Reads a disk once: what the planner must know, and why there is no layout, where there is none.
@@ -54,6 +56,7 @@ fn known_of(read: Survey) -> (Known, Option<NoTable>)
         finding,
         primary,
         guarded,
+        trace,
     } = read;
     let (old, reason) = match found {
         Ok(layout) => (Some(layout), None),
@@ -65,6 +68,7 @@ fn known_of(read: Survey) -> (Known, Option<NoTable>)
         finding,
         primary,
         guarded,
+        trace,
     };
     (known, reason)
 }

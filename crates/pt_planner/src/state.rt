@@ -12,7 +12,7 @@ use crate::known::Known;
 use pt_chains::is_linked;
 use pt_copies::fits_table;
 use pt_layout::{Body, Finding, Head, Layout};
-use pt_tables::Order;
+use pt_phases::Order;
 
 /// Whether the disk denotes the layout.
 pub(crate) fn is_same(old: &Option<Layout>, wanted: &Layout) -> bool

@@ -3,7 +3,7 @@ use Rattle.std.proofs.Common.{◌≡◌, ◌∙◌, ◌<◌, ◌+◌, ℕ, Bool,
 use Rattle.std.specs.Prelude.{◌↔◌, IsTrue}
 use Rattle.pt_mbr.specs.Record.{IsExtendedKind}
 use Rattle.pt_mbr.specs.declared.record.Record.{Record}
-use Rattle.pt_logicals.specs.Types.{told_extended}
+use Rattle.pt_records.specs.Types.{told_extended}
 use Rattle.pt_records.specs.New.{extended_record}
 use Rattle.pt_records.proofs.Extended.{plain_here, found_here}
 

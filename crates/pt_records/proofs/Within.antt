@@ -4,7 +4,7 @@ use Rattle.pt_mbr.specs.declared.record.Record.{Record}
 use Rattle.pt_space.specs.declared.space.Run.{Run}
 use Rattle.pt_space.specs.Area.{IsFreeRun}
 use Rattle.pt_space.specs.Placed.{Placed}
-use Rattle.pt_space.specs.Laws.{placed_is_free_lem}
+use Rattle.pt_space.specs.laws.Terms.{placed_is_free_lem}
 use Rattle.pt_words.specs.declared.word.End.{End}
 use Rattle.pt_words.specs.declared.word.Code.{Code}
 use Rattle.pt_records.specs.Records.{IsPrimary}

@@ -2,13 +2,13 @@
 use Rattle.std.specs.Prelude.{◌≡◌, ℕ, true, false, List, [], Option, None}
 use Rattle.pt_mbr.specs.declared.record.Record.{Record}
 use Rattle.pt_mbr.specs.declared.ebr.Ebr.{Ebr}
-use Rattle.pt_recover.specs.Mbr.{is_extended}
-use Rattle.pt_recover.specs.declared.layout.Labelled.{Labelled}
-use Rattle.pt_recover.specs.declared.layout.Layout.{Layout}
+use Rattle.pt_mbr.specs.Extended.{is_extended}
+use Rattle.pt_members.specs.declared.layout.Labelled.{Labelled}
+use Rattle.pt_members.specs.declared.layout.Layout.{Layout}
 use Rattle.pt_words.specs.declared.error.Refusal.{Refusal}
 use Rattle.pt_words.specs.declared.error.Refusal.TheVariants.{NoSuchPartition}
 use Rattle.pt_labels.specs.Lists.{without_label, without_logicals}
-use Rattle.pt_logicals.specs.Chains.{LogicalDeleted, LogicalNotDeleted}
+use Rattle.pt_records.specs.Chains.{LogicalDeleted, LogicalNotDeleted}
 use Rattle.pt_records.specs.Records.{OfMbr, IsPrimary, HasRecord, with_record, with_mbr}
 
 -- a record goes, with the label of its number; an extended one also with its chain and the logical partitions' labels

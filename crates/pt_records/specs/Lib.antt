@@ -1,10 +1,14 @@
 pub mod Records
 pub mod Typed
 pub mod Deleted
-pub mod Laws
 pub mod Numbers
 pub mod New
 pub mod Created
-pub mod NewLaws
 pub mod Apart
-pub mod Answers
+pub mod Types
+pub mod Chains
+pub mod Entered
+pub mod ChainNew
+pub mod Linked
+pub mod Numbered
+pub mod laws

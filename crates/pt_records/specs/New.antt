@@ -1,13 +1,13 @@
 -- A new record of sector 0.
-use Rattle.std.specs.Prelude.{◌≡◌, ◌≢◌, ◌<◌, ◌+◌, ◌-◌, ℕ, true, List, [], ◌∷◌, flat_map, slice_get, min, Option, Some, None, if◌then◌else◌}
-use Rattle.std.specs.Prelude.{nat_eq}
+use Rattle.std.specs.Prelude.{◌≡◌, ◌≢◌, ◌<◌, ◌+◌, ◌-◌, ℕ, true, List, [], ◌∷◌, slice_get, min, Option, Some, None, if◌then◌else◌}
 use Rattle.pt_mbr.specs.Chain.{lba}
 use Rattle.pt_mbr.specs.declared.record.Record.{Record}
 use Rattle.pt_mbr.specs.declared.ebr.Ebr.{Ebr}
 use Rattle.pt_bsd.specs.Empty.{empty_of}
-use Rattle.pt_recover.specs.Mbr.{is_extended, extended_of}
-use Rattle.pt_recover.specs.declared.layout.Labelled.{Labelled}
-use Rattle.pt_recover.specs.declared.layout.Layout.{Layout}
+use Rattle.pt_mbr.specs.Extended.{is_extended, extended_of}
+use Rattle.pt_members.specs.declared.layout.Labelled.{Labelled}
+use Rattle.pt_members.specs.declared.layout.Layout.{Layout}
+use Rattle.pt_members.specs.Members.{records_as}
 use Rattle.pt_words.specs.declared.error.Refusal.{Refusal}
 use Rattle.pt_words.specs.declared.error.Refusal.TheVariants.{UnknownCode, ContainerType}
 use Rattle.pt_words.specs.declared.word.Code.{Code}
@@ -15,9 +15,10 @@ use Rattle.pt_words.specs.declared.word.End.{End}
 use Rattle.pt_labels.specs.Lists.{with_new_label}
 use Rattle.pt_space.specs.declared.space.Run.{Run}
 use Rattle.pt_space.specs.Area.{Area}
+use Rattle.pt_space.specs.Taken.{spanned_by}
 use Rattle.pt_space.specs.Placed.{Placed, NotPlaced}
-use Rattle.pt_logicals.specs.Types.{new_type, is_slice}
-use Rattle.pt_logicals.specs.New.{len_of, farthest}
+use Rattle.pt_records.specs.Types.{new_type, is_slice}
+use Rattle.pt_records.specs.ChainNew.{len_of, farthest}
 use Rattle.pt_records.specs.Records.{with_record, with_mbr}
 use Rattle.pt_records.specs.Numbers.{TakesNumber, NotNumbered}
 
@@ -42,14 +43,9 @@ pub data NotChosen (records : List (Option Record)) (asked : ℕ) (code : Option
   second : (number kind : ℕ) → TakesNumber records asked number → new_type code ≡ Some kind → IsSecond records kind
       → r ≡ ContainerType → NotChosen records asked code r
 
--- the sectors of a record, if it has any
-abbrev pub run_of : Option Record → List Run
-run_of None = []
-run_of (Some r) = if nat_eq r.size 0 then [] else record { first = r.start; last = r.start + r.size - 1 } ∷ []
-
 -- where a record's partition may be placed on a disk of n sectors: from sector 1 on, as far as the disk and 32 bits reach
 abbrev pub disk_area : ℕ → List (Option Record) → Area
-disk_area n records = record { low = 1; high = min (n - 1) 4294967295; taken = flat_map run_of records; empties = None }
+disk_area n records = record { low = 1; high = min (n - 1) 4294967295; taken = spanned_by (records_as 512 1 records); empties = None }
 
 -- a slice has room for its label from 2 sectors on
 abbrev pub IsShortSlice : ℕ → ℕ → Run → Type 0

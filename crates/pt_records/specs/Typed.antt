@@ -2,12 +2,12 @@
 use Rattle.std.specs.Prelude.{◌≡◌, ℕ, false, List, Option, Some}
 use Rattle.pt_mbr.specs.declared.record.Record.{Record}
 use Rattle.pt_mbr.specs.declared.ebr.Ebr.{Ebr}
-use Rattle.pt_recover.specs.declared.layout.Layout.{Layout}
+use Rattle.pt_members.specs.declared.layout.Layout.{Layout}
 use Rattle.pt_words.specs.declared.error.Refusal.{Refusal}
 use Rattle.pt_words.specs.declared.word.Code.{Code}
 use Rattle.pt_labels.specs.Retyped.{NotRetyped}
-use Rattle.pt_logicals.specs.Types.{record_type, is_container}
-use Rattle.pt_logicals.specs.Chains.{LogicalTyped, LogicalNotTyped}
+use Rattle.pt_records.specs.Types.{record_type, is_container}
+use Rattle.pt_records.specs.Chains.{LogicalTyped, LogicalNotTyped}
 use Rattle.pt_records.specs.Records.{OfMbr, IsPrimary, HasRecord, with_record, with_mbr}
 
 -- a record has another type, and neither is a container's; nothing else changes

@@ -5,14 +5,15 @@ ghost use Rattle.pt_records.specs.Records.{whole_of};
 ghost use Rattle.pt_records.specs.Created.{one_more, RecordNew, RecordNotNew};
 ghost use Rattle.pt_records.specs.New.{extended_record, IsSecond, Chosen, NotChosen, IsShortSlice, record_at, new_chain, new_labels};
 
+use crate::chain_create::new_logical;
 use crate::numbers::number_for;
 use crate::parts::{MbrParts, layout_of, put_record};
 use crate::space::place_record;
+use crate::types::{is_slice_kind, new_type_of};
 use pt_bsd::empty_label;
 use pt_labels::add_label;
-use pt_logicals::{is_slice_kind, new_logical, new_type_of};
 use pt_mbr::{Ebr, Record, is_extended_kind};
-use pt_recover::{Ebrs, Labels, Layout};
+use pt_members::{Ebrs, Labels, Layout};
 use pt_sector::Lba;
 use pt_space::Run;
 use pt_words::{Asked, Code, Refusal};
@@ -40,7 +41,7 @@ fn extended_in(records: &[Option<Record>; 4]) -> Option<Record>
 }
 
 // Whether a record of a type would be a second extended one.
-#[tactic(auto, using(pt_logicals::specs::Types::told_extended))]
+#[tactic(auto, using(crate::specs::Types::told_extended))]
 fn is_second(records: &[Option<Record>; 4], kind: u8) -> bool
     ensures { IsTrue result ↔ IsSecond records.now kind }
 {
@@ -84,7 +85,7 @@ fn record_in(kind: u8, run: Run) -> Record
 }
 
 // The chain with a new record: that of a new extended partition, or the old one.
-#[tactic(auto, using(pt_logicals::specs::Types::told_extended))]
+#[tactic(auto, using(crate::specs::Types::told_extended))]
 fn chain_with(alloc: Global, chain: Ebrs, kind: u8, run: Run) -> Result<Ebrs, AllocError>
     requires { run.first < 2 ^ 32 }
     ensures { IfOk result (λ made. made ≡ new_chain kind run chain) }

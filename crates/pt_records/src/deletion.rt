@@ -4,11 +4,11 @@ ghost use Rattle.std.specs.Prelude.{◌≡◌, [], IfOk, IfErr};
 ghost use Rattle.pt_records.specs.Records.{whole_of, IsPrimary};
 ghost use Rattle.pt_records.specs.Deleted.{RecordDeleted, RecordNotDeleted};
 
+use crate::chain_edit::delete_logical;
 use crate::parts::{MbrParts, is_primary, layout_of, put_record, used_record};
 use pt_labels::{drop_label, drop_logical_labels};
-use pt_logicals::delete_logical;
 use pt_mbr::is_extended_kind;
-use pt_recover::{Ebrs, Layout};
+use pt_members::{Ebrs, Layout};
 use pt_words::Refusal;
 
 // The chain of an extended partition that goes.

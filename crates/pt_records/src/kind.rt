@@ -4,10 +4,11 @@ ghost use Rattle.std.specs.Prelude.{IfOk, IfErr};
 ghost use Rattle.pt_records.specs.Records.{whole_of};
 ghost use Rattle.pt_records.specs.Typed.{PrimaryTyped, PrimaryNotTyped, RecordTyped, RecordNotTyped};
 
+use crate::chain_edit::set_logical_kind;
 use crate::parts::{MbrParts, is_primary, layout_of, put_record, used_record};
-use pt_logicals::{is_container_type, record_type_of, set_logical_kind};
+use crate::types::{is_container_type, record_type_of};
 use pt_mbr::Record;
-use pt_recover::Layout;
+use pt_members::Layout;
 use pt_words::{Code, Refusal};
 
 // `t` of a record.

@@ -5,7 +5,7 @@ ghost use Rattle.pt_mbr.specs.declared.record.Record.{Record};
 ghost use Rattle.pt_records.specs.Records.{layout_with, whole_of, IsPrimary, HasRecord, with_record};
 
 use pt_mbr::Record;
-use pt_recover::{Body, Ebrs, Labels, Layout};
+use pt_members::{Body, Ebrs, Labels, Layout};
 
 /// What the layout of an MBR has.
 #[derive(Drop)]

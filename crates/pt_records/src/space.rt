@@ -1,50 +1,23 @@
 //! Where a record's partition may be placed.
 
-ghost use Rattle.std.specs.Prelude.{◌≡◌, ◌≢◌, ◌≤◌, ◌<◌, ◌^◌, ◌++◌, IfOk, IfErr, OnOk, flat_map};
+ghost use Rattle.std.specs.Prelude.{◌≡◌, ◌≢◌, ◌≤◌, ◌<◌, ◌^◌, IfOk, IfErr};
 ghost use Rattle.pt_space.specs.Area.{area_of};
 ghost use Rattle.pt_space.specs.Placed.{Placed, NotPlaced};
-ghost use Rattle.pt_records.specs.New.{run_of, disk_area};
+ghost use Rattle.pt_records.specs.New.{disk_area};
 
 use pt_mbr::Record;
-use pt_space::{Lead, Run, Space, place};
+use pt_space::{Lead, Run, Space, place, taken_by_records};
 use pt_words::{Asked, Refusal};
 use std::alloc::{AllocError, Global};
 
 /// The last sector that a record's start can tell.
 const LAST: u128 = 0xFFFF_FFFF;
 
-// Adds the sectors of a record, if it has any.
-fn push_run(taken: &mut Vec<Run>, slot: Option<Record>) -> Result<(), AllocError>
-    ensures { OnOk result (taken.new.items ≡ taken.old.items ++ run_of slot) }
-{
-    if let Some(r) = slot {
-        if r.size != 0 {
-            let first = u128::from(r.start);
-            taken.push(Run {
-                first,
-                last: first + u128::from(r.size) - 1,
-            })?;
-        }
-    }
-    Ok(())
-}
-
-// The sectors of the used records.
-fn taken_by(alloc: Global, records: &[Option<Record>; 4]) -> Result<Vec<Run>, AllocError>
-    ensures { IfOk result (λ taken. taken.items ≡ flat_map run_of records.now) }
-{
-    let mut taken = Vec::new(alloc);
-    for slot in records {
-        push_run(&mut taken, *slot)?;
-    }
-    Ok(taken)
-}
-
 // Where there is a place for one more on a disk of so many sectors.
 fn space_of(alloc: Global, sectors: u64, records: &[Option<Record>; 4]) -> Result<Space, AllocError>
     ensures { IfOk result (λ space. area_of space ≡ disk_area sectors records.now) }
 {
-    let taken = taken_by(alloc, records)?;
+    let taken = taken_by_records(alloc, records)?;
     Ok(Space {
         low: 1,
         high: u128::from(sectors.saturating_sub(1)).min(LAST),

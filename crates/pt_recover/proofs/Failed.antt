@@ -14,13 +14,14 @@ use Rattle.pt_gpt.specs.declared.error.CopyError.{CopyError}
 use Rattle.pt_gpt.specs.declared.error.CopyError.TheVariants as copy
 use Rattle.pt_mbr.specs.Extended.{extended_of}
 use Rattle.pt_recover.specs.Mbr.{IsMbrDisk, IsMbr, ExtendedReads}
-use Rattle.pt_recover.specs.Gpt.{HasRoom, TableReads}
-use Rattle.pt_recover.specs.Labels.{places_of, place_of, IsPlace}
+use Rattle.pt_gpt.specs.Array.{HasRoom}
+use Rattle.pt_recover.specs.Gpt.{TableReads}
+use Rattle.pt_members.specs.Slices.{places_of, place_of, IsPlace}
 use Rattle.pt_recover.specs.Steps.{RestReads, of_chain, of_table}
 use Rattle.pt_recover.specs.Denotes.{BodyIs, BodyReads, Reads, body, label, chain, table}
 use Rattle.pt_recover.specs.Answers.{FailedIn, told_failure}
-use Rattle.pt_recover.specs.declared.layout.Body.{Body}
-use Rattle.pt_recover.specs.declared.layout.Slice.{Slice}
+use Rattle.pt_members.specs.declared.layout.Body.{Body}
+use Rattle.pt_members.specs.declared.layout.Slice.{Slice}
 use Rattle.pt_recover.specs.declared.error.NoTable.{NoTable}
 use Rattle.pt_recover.specs.declared.error.NoTable.TheVariants.{NoCopy, Chain, TwoExtended, TooSmall, Device, Memory}
 

@@ -1,4 +1,3 @@
-pub mod Places
 pub mod Traces
 pub mod Chains
 pub mod Nothing
@@ -6,7 +5,6 @@ pub mod Sides
 pub mod LabelSteps
 pub mod Bodies
 pub mod Whole
-pub mod Equal
 pub mod Joined
 pub mod Searched
 pub mod Failed

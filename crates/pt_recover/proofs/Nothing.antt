@@ -8,18 +8,18 @@ use Rattle.pt_mbr.specs.declared.ebr.Ebr.{Ebr}
 use Rattle.pt_mbr.specs.declared.chain.ChainError.{ChainError}
 use Rattle.pt_mbr.specs.declared.chain.ChainError.TheVariants.{OutsideExtended}
 use Rattle.pt_mbr.specs.Extended.{ExtendedIs}
-use Rattle.pt_mbr.specs.Laws.{fault_has_no_chain}
+use Rattle.pt_mbr.specs.laws.Terms.{fault_has_no_chain}
 use Rattle.pt_mbr.specs.Extended.{extended_of, extent_of}
 use Rattle.pt_recover.specs.Mbr.{IsMbr, HasChain, ExtendedReads}
 use Rattle.pt_recover.specs.Denotes.{Denotes}
-use Rattle.pt_recover.specs.One.{mbr_one}
+use Rattle.pt_recover.specs.laws.One.{mbr_one}
 use Rattle.pt_recover.specs.Answers.{TellsNothing, IsOutside}
 use Rattle.pt_recover.specs.Steps.{IsChainFault}
 use Rattle.pt_recover.specs.Spans.{Adds}
 use Rattle.pt_mbr.specs.declared.extended.Extended.TheVariants as found
 use Rattle.pt_recover.specs.declared.error.NoTable.{NoTable}
 use Rattle.pt_recover.specs.declared.error.NoTable.TheVariants.{Chain as BadChain, TwoExtended}
-use Rattle.pt_recover.specs.declared.layout.Body.TheVariants.{Mbr, Gpt}
+use Rattle.pt_members.specs.declared.layout.Body.TheVariants.{Mbr, Gpt}
 use Rattle.pt_recover.specs.declared.trace.Run.{Run}
 use Rattle.pt_recover.proofs.Traces.{adds_none}
 

@@ -5,7 +5,7 @@ use Rattle.pt_sector.specs.Sectors.{Sectors}
 use Rattle.pt_gpt.specs.Errors.{IsOutside}
 use Rattle.pt_gpt.specs.Answers.{TellsHeadFault, TellsFault}
 use Rattle.pt_gpt.specs.Copy.{header_place, IsHead, InArray, Copy, HasCopy, IsCopyFault, SideReads}
-use Rattle.pt_gpt.specs.Laws.{side_reads_head_lem, side_reads_fault_lem, no_copy_lem}
+use Rattle.pt_gpt.specs.laws.Terms.{side_reads_head_lem, side_reads_fault_lem, no_copy_lem}
 use Rattle.pt_gpt.specs.declared.header.Header.{Header}
 use Rattle.pt_gpt.specs.declared.error.CopyError.{CopyError}
 use Rattle.pt_gpt.specs.declared.table.Side.{Side}

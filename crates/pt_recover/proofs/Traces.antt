@@ -6,9 +6,9 @@ use Rattle.std.proofs.lemmas.List.{drop_all, drop_more}
 use Rattle.pt_mbr.specs.Chain.{StandsAt}
 use Rattle.pt_mbr.specs.declared.ebr.Ebr.{Ebr}
 use Rattle.pt_recover.specs.Spans.{InRun, IsIn, Adds}
-use Rattle.pt_recover.specs.Labels.{IsPlace, place_of}
+use Rattle.pt_members.specs.Slices.{IsPlace, place_of}
 use Rattle.pt_recover.specs.declared.trace.Run.{Run}
-use Rattle.pt_recover.specs.declared.layout.Slice.{Slice}
+use Rattle.pt_members.specs.declared.layout.Slice.{Slice}
 
 pub in_none : (s : ℕ) → ¬ IsIn [] s
 unfolding IsIn

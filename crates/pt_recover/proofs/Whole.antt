@@ -3,15 +3,16 @@ use Rattle.std.proofs.Common.{◌≡◌, ◌<◌, ℕ, List, length, get_or, fil
 use Rattle.std.specs.Prelude.{◌⊎◌}
 use Rattle.std.proofs.lemmas.List.Elements.{filter_passes}
 use Rattle.pt_sector.specs.Sectors.{Sectors}
-use Rattle.pt_recover.specs.Labels.{places_of, slices_of, has_place, place_of, IsPlace, LabelsAre}
+use Rattle.pt_members.specs.Slices.{places_of, slices_of, has_place, place_of, IsPlace}
+use Rattle.pt_recover.specs.Labels.{LabelsAre}
 use Rattle.pt_recover.specs.Denotes.{BodyIs, BodyReads, Denotes, Reads, body, label}
-use Rattle.pt_recover.specs.One.{body_one}
+use Rattle.pt_recover.specs.laws.One.{body_one}
 use Rattle.pt_recover.specs.Answers.{TellsNothing, IsOutside, IsTraceOf}
 use Rattle.pt_recover.specs.Spans.{IsIn, Adds}
 use Rattle.pt_recover.specs.declared.error.NoTable.{NoTable}
-use Rattle.pt_recover.specs.declared.layout.Body.{Body}
-use Rattle.pt_recover.specs.declared.layout.Labelled.{Labelled}
-use Rattle.pt_recover.specs.declared.layout.Slice.{Slice}
+use Rattle.pt_members.specs.declared.layout.Body.{Body}
+use Rattle.pt_members.specs.declared.layout.Labelled.{Labelled}
+use Rattle.pt_members.specs.declared.layout.Slice.{Slice}
 use Rattle.pt_recover.specs.declared.trace.Run.{Run}
 use Rattle.pt_recover.proofs.Traces.{adds_same, adds_both}
 

@@ -13,7 +13,7 @@ use Rattle.pt_gpt.specs.Copy.{IsCopyFault}
 use Rattle.pt_gpt.specs.declared.table.Side.TheVariants.{Primary, Backup}
 use Rattle.pt_mbr.specs.Extended.{extended_of, extent_of}
 use Rattle.pt_recover.specs.Mbr.{IsMbrSector, IsMbrDisk, IsMbr}
-use Rattle.pt_recover.specs.Gpt.{HasRoom}
+use Rattle.pt_gpt.specs.Array.{HasRoom}
 use Rattle.pt_recover.specs.Denotes.{Denotes, Reads}
 use Rattle.pt_recover.specs.Spans.{IsIn}
 use Rattle.pt_recover.specs.declared.error.NoTable.{NoTable}

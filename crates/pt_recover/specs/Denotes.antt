@@ -4,11 +4,13 @@ use Rattle.pt_sector.specs.Sectors.{Sectors}
 use Rattle.pt_mbr.specs.declared.record.Record.{Record}
 use Rattle.pt_mbr.specs.Extended.{extended_of}
 use Rattle.pt_recover.specs.Mbr.{IsMbrDisk, IsMbr, HasChain, ExtendedReads}
-use Rattle.pt_recover.specs.Gpt.{HasRoom, TableIs, TableReads}
-use Rattle.pt_recover.specs.Labels.{places_of, IsPlace, LabelsAre}
-use Rattle.pt_recover.specs.declared.layout.Layout.{Layout}
-use Rattle.pt_recover.specs.declared.layout.Body.{Body}
-use Rattle.pt_recover.specs.declared.layout.Body.TheVariants.{Mbr, Gpt}
+use Rattle.pt_gpt.specs.Array.{HasRoom}
+use Rattle.pt_recover.specs.Gpt.{TableIs, TableReads}
+use Rattle.pt_members.specs.Slices.{places_of, IsPlace}
+use Rattle.pt_recover.specs.Labels.{LabelsAre}
+use Rattle.pt_members.specs.declared.layout.Layout.{Layout}
+use Rattle.pt_members.specs.declared.layout.Body.{Body}
+use Rattle.pt_members.specs.declared.layout.Body.TheVariants.{Mbr, Gpt}
 
 -- the records and the chain of an MBR disk, or the table of another one that is large enough
 abbrev pub BodyIs : ℕ → Sectors → Body → Type 0

@@ -1,7 +1,6 @@
 -- The table of a GPT disk, from its primary copy or else from its backup.
 use Rattle.std.specs.Prelude.{◌⊎◌, ℕ}
 use Rattle.pt_sector.specs.Sectors.{Sectors}
-pub use Rattle.pt_gpt.specs.Array.{HasRoom}
 use Rattle.pt_gpt.specs.Copy.{Copy, HasCopy, SideReads}
 use Rattle.pt_gpt.specs.declared.table.Table.{Table}
 use Rattle.pt_gpt.specs.declared.table.Side.TheVariants.{Primary, Backup}

@@ -6,7 +6,5 @@ pub mod Denotes
 pub mod Spans
 pub mod Answers
 pub mod Steps
-pub mod Same
-pub mod One
-pub mod Reasons
-pub mod Laws
+pub mod LeavesReads
+pub mod laws

@@ -3,7 +3,7 @@ use Rattle.std.specs.Prelude.{◌≡◌, ◌<◌, ℕ, List, [], ◌∷◌, leng
 use Rattle.pt_sector.specs.Sectors.{Sectors, sector}
 use Rattle.pt_mbr.specs.Mbr.{IsMbrFormed, AreRecords, BearsProtective}
 use Rattle.pt_mbr.specs.Chain.{Chain, ChainReads}
-pub use Rattle.pt_mbr.specs.Extended.{is_extended, extended_of, extent_of}
+use Rattle.pt_mbr.specs.Extended.{extent_of}
 use Rattle.pt_mbr.specs.declared.record.Record.{Record}
 use Rattle.pt_mbr.specs.declared.ebr.Ebr.{Ebr}
 

@@ -11,9 +11,10 @@ use Rattle.pt_bsd.specs.Label.{LabelBytes}
 use Rattle.pt_bsd.specs.declared.label.Label.{Label}
 use Rattle.pt_mbr.specs.Extended.{extended_of}
 use Rattle.pt_recover.specs.Mbr.{IsMbrDisk, IsMbr, ExtendedReads}
-use Rattle.pt_recover.specs.Gpt.{HasRoom, TableReads}
-use Rattle.pt_recover.specs.declared.layout.Slice.{Slice}
-use Rattle.pt_recover.specs.declared.layout.Labelled.{Labelled}
+use Rattle.pt_gpt.specs.Array.{HasRoom}
+use Rattle.pt_recover.specs.Gpt.{TableReads}
+use Rattle.pt_members.specs.declared.layout.Slice.{Slice}
+use Rattle.pt_members.specs.declared.layout.Labelled.{Labelled}
 use Rattle.pt_recover.specs.declared.error.NoTable.{NoTable}
 use Rattle.pt_recover.specs.declared.error.NoTable.TheVariants as no
 

@@ -12,11 +12,11 @@ ghost use Rattle.pt_recover.specs.Answers.{IsOutside, TellsNothing, fault_in, Fa
 
 use crate::error::NoTable;
 use crate::extended::read_lone;
-use crate::layout::Body;
 use crate::tables::read_either;
 use crate::trace::Trace;
 use pt_gpt::has_room;
 use pt_mbr::{Mbr, bears_protective, decode_mbr};
+use pt_members::Body;
 use pt_sector::{Disk, FailedRead, Lba, Sector, read_sector};
 use std::alloc::Global;
 

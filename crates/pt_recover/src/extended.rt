@@ -12,10 +12,10 @@ ghost use Rattle.pt_recover.specs.Spans.{Adds};
 ghost use Rattle.pt_recover.specs.Answers.{IsOutside, TellsNothing, fault_in, FailedIn};
 
 use crate::error::NoTable;
-use crate::layout::Ebrs;
 use crate::trace::Trace;
 use arrayvec::ArrayVec;
 use pt_mbr::{ChainError, Ebr, Extended, Mbr, Record, extended_of, walk_chain};
+use pt_members::Ebrs;
 use pt_sector::{Disk, Extent, Lba};
 use std::alloc::{AllocError, Global};
 

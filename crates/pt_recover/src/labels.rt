@@ -4,17 +4,18 @@ ghost use Rattle.std.specs.Prelude.{◌≡◌, ◌<◌, ◌++◌, All, IfOk, IfE
 ghost use Rattle.pt_sector.specs.Calls.{Blames};
 ghost use Rattle.pt_sector.specs.Reads.{OnlyReads, FailedIn, fault_of};
 ghost use Rattle.pt_sector.specs.Sectors.{IsSectorSize, sector};
-ghost use Rattle.pt_recover.specs.Labels.{place_of, IsPlace, LabelsAre};
+ghost use Rattle.pt_members.specs.Slices.{place_of, IsPlace};
+ghost use Rattle.pt_recover.specs.Labels.{LabelsAre};
 ghost use Rattle.pt_recover.specs.Steps.{labelled, LabelIs};
 ghost use Rattle.pt_recover.specs.Spans.{Adds};
 
-use crate::layout::{Labelled, Labels, Slice};
 use crate::trace::Trace;
 use pt_bsd::{Label, decode_label};
+use pt_members::{Labelled, Labels, Slice};
 use pt_sector::{Disk, Failure, Lba, Sector, read_sector};
 use std::alloc::{AllocError, Global};
 
-#[tactic(auto, using(pt_bsd::specs::Laws::no_label))]
+#[tactic(auto, using(pt_bsd::specs::laws::Terms::no_label))]
 fn label_of<const B: usize>(sector: &Sector<B>, slice: Slice) -> Option<Label>
     requires { IsSectorSize B }
     ensures { LabelIs slice sector.now result }
@@ -59,8 +60,9 @@ fn push_label(
     Ok(())
 }
 
-// The labels at some slices' label places, with those added to the trace.
-pub(crate) fn traced_labels<const B: usize, D: Disk<B>>(
+/// The labels at some slices' label places, in the slices' order, with those places added to the trace; a place without a
+/// label for its slice gives none.
+pub fn traced_labels<const B: usize, D: Disk<B>>(
     alloc: Global,
     disk: &mut D,
     slices: &[Slice],
@@ -81,21 +83,4 @@ pub(crate) fn traced_labels<const B: usize, D: Disk<B>>(
         push_label(&mut labels, slice.number, found)?;
     }
     Ok(Labels::new(labels))
-}
-
-/// The labels at some slices' label places, in the slices' order; a place without a label for its slice gives none.
-pub fn read_labels<const B: usize, D: Disk<B>>(
-    alloc: Global,
-    disk: &mut D,
-    slices: &[Slice],
-) -> Result<Labels, Failure>
-    requires size { IsSectorSize B }
-    requires within { All (λ p. place_of p < D.count disk.old) slices.now }
-    ensures same { OnlyReads D.Disk disk.old disk.new }
-    ensures blames { Blames fault_of result (D.faults disk.old) (D.faults disk.new) }
-    ensures place { IfErr result (FailedIn (IsPlace slices.now)) }
-    ensures ok { D.tells → IfOk result (λ ls. LabelsAre (D.told disk.old).seen slices.now ls) }
-{
-    let mut trace = Trace::new(alloc);
-    traced_labels(alloc, disk, slices, &mut trace)
 }

@@ -2,7 +2,7 @@
 //!
 //! An MBR disk denotes its records, the chain of its lone extended partition and its labels; every other disk the
 //! table of its primary copy, or else of its backup, and its labels. docs/model.md tells it in words, specs/Denotes.antt
-//! exactly. The laws of src/laws.rt stand as terms in specs/Laws.antt, for contracts above to cite.
+//! exactly. The laws of src/laws.rt stand as terms in specs/laws/Terms.antt, for contracts above to cite.
 #![tactic(auto)]
 
 mod body;
@@ -10,18 +10,16 @@ mod error;
 mod extended;
 mod labels;
 mod laws;
-mod layout;
 mod numbers;
 mod recovery;
-mod slices;
 mod tables;
 mod trace;
 
 pub use body::read_records;
 pub use error::NoTable;
-pub use labels::read_labels;
+pub use labels::traced_labels;
 pub use laws::{denotes_one, reads_decide, reason_is_nothing, reason_is_one, stop_keeps};
-pub use layout::{Body, Ebrs, Labelled, Labels, Layout, Slice};
+pub use pt_members::{Body, Ebrs, Labelled, Labels, Layout, Slice, is_slice_type, label_places};
 pub use recovery::{recover, recover_traced};
-pub use slices::{entry_place, is_slice_type, label_places, record_place};
+pub use tables::traced_copy;
 pub use trace::Trace;

@@ -3,8 +3,8 @@
 ghost use Rattle.std.specs.Prelude.{◌<◌, ◌^◌, All};
 ghost use Rattle.pt_recover.specs.Numbers.{SlotNumbers, EbrNumbers, BodyNumbers};
 
-use crate::layout::Body;
 use pt_mbr::{Ebr, Record};
+use pt_members::Body;
 
 fn has_32_bits(_number: u32)
     ensures { _number < 2 ^ 32 }

@@ -12,10 +12,9 @@ ghost use Rattle.pt_recover.specs.Answers.{IsOutside, TellsNothing, fault_in, Fa
 use crate::body::read_body;
 use crate::error::NoTable;
 use crate::labels::traced_labels;
-use crate::layout::Layout;
 use crate::numbers::body_numbers;
-use crate::slices::label_places;
 use crate::trace::Trace;
+use pt_members::{Layout, label_places};
 use pt_sector::Disk;
 use std::alloc::Global;
 

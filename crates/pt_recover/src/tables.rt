@@ -6,9 +6,10 @@ ghost use Rattle.pt_sector.specs.Reads.{OnlyReads};
 ghost use Rattle.pt_sector.specs.Sectors.{IsSectorSize};
 ghost use Rattle.pt_gpt.specs.Array.{counted};
 ghost use Rattle.pt_gpt.specs.Errors.{IsOutside as IsOutsideCopy, fault_in as fault_in_copy, FailedIn as FailedInCopy};
-ghost use Rattle.pt_gpt.specs.Copy.{IsPlaced, InArray, Copy, SideReads};
+ghost use Rattle.pt_gpt.specs.Copy.{IsPlaced, InArray, Copy, CopyWith, SideReads};
 ghost use Rattle.pt_gpt.specs.Answers.{TellsFault};
-ghost use Rattle.pt_recover.specs.Gpt.{HasRoom, TableIs, TableReads};
+ghost use Rattle.pt_gpt.specs.Array.{HasRoom};
+ghost use Rattle.pt_recover.specs.Gpt.{TableIs, TableReads};
 ghost use Rattle.pt_recover.specs.Steps.{AreCopyFaults};
 ghost use Rattle.pt_recover.specs.Spans.{Adds};
 ghost use Rattle.pt_recover.specs.Answers.{IsOutside, fault_in, FailedIn};
@@ -35,19 +36,20 @@ fn trace_array<const B: usize>(
     trace.add(header.array, header.array + (count - 1))
 }
 
-// The table of a side's copy.
-fn traced_copy<const B: usize, D: Disk<B>>(
+/// A side's copy, header and table, with the sectors that decide the side added to the trace.
+pub fn traced_copy<const B: usize, D: Disk<B>>(
     alloc: Global,
     disk: &mut D,
     side: Side,
     trace: &mut Trace,
-) -> Result<Table, CopyError>
+) -> Result<(Header, Table), CopyError>
     requires size { IsSectorSize B }
     requires room { HasRoom B (D.count disk.old) }
     ensures same { OnlyReads D.Disk disk.old disk.new }
     ensures blames { Blames fault_in_copy result (D.faults disk.old) (D.faults disk.new) }
     ensures place { D.tells → IfErr result (FailedInCopy (SideReads B (D.told disk.old).seen side)) }
-    ensures ok { D.tells → IfOk result (λ t. Copy B (D.told disk.old).seen side t) }
+    ensures ok { D.tells → IfOk result (λ c. Copy B (D.told disk.old).seen side c.1) }
+    ensures with { D.tells → IfOk result (λ c. CopyWith B (D.told disk.old).seen side c.0 c.1) }
     ensures err { D.tells → IfErr result (λ e. TellsFault B (D.told disk.old).seen side e) }
     ensures traced { D.tells → OnOk result (Adds trace.old trace.new (SideReads B (D.told disk.old).seen side)) }
     ensures traced_err { D.tells → IfErr result (λ e. IsOutsideCopy e
@@ -57,7 +59,8 @@ fn traced_copy<const B: usize, D: Disk<B>>(
     trace.add_one(header_at(side, sectors))?;
     let header = read_head(disk, side)?;
     trace_array::<B>(&header, side, sectors, trace)?;
-    read_table(alloc, disk, side, &header)
+    let table = read_table(alloc, disk, side, &header)?;
+    Ok((header, table))
 }
 
 /// The table of a disk with room for one: that of the primary copy, or else of the backup.
@@ -77,7 +80,7 @@ pub(crate) fn read_either<const B: usize, D: Disk<B>>(
     ensures traced_err { D.tells → IfErr result (λ e. IsOutside e ⊎ Adds trace.old trace.new (TableReads B (D.told disk.old).seen)) }
 {
     let primary = match traced_copy(alloc, disk, Side::Primary, trace) {
-        Ok(table) => return Ok(table),
+        Ok((_, table)) => return Ok(table),
         Err(e) => e,
     };
     match primary.failure() {
@@ -85,7 +88,7 @@ pub(crate) fn read_either<const B: usize, D: Disk<B>>(
         None => {}
     }
     let backup = match traced_copy(alloc, disk, Side::Backup, trace) {
-        Ok(table) => return Ok(table),
+        Ok((_, table)) => return Ok(table),
         Err(e) => e,
     };
     match backup.failure() {

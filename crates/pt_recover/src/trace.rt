@@ -1,6 +1,6 @@
 //! The sectors that a recovery read.
 
-ghost use Rattle.std.specs.Prelude.{◌≡◌, ◌≤◌, ◌↔◌, ℕ, List, IsTrue, OnOk};
+ghost use Rattle.std.specs.Prelude.{◌≡◌, ◌≤◌, ◌↔◌, ℕ, List, IsTrue, IfOk, OnOk};
 ghost use Rattle.pt_recover.specs.Spans.{IsIn, Apart, hull, joined, StandsAs, Adds};
 ghost use Rattle.pt_recover.specs.declared.trace.Run.{Run};
 
@@ -98,6 +98,15 @@ impl Trace {
         Trace {
             runs: Vec::new(alloc),
         }
+    }
+
+    /// An equal one.
+    pub fn copy(&self, alloc: Global) -> Result<Trace, AllocError>
+        ensures { IfOk result (λ t. t ≡ self.now) }
+    {
+        let mut runs = Vec::new(alloc);
+        runs.extend_from_slice(&self.runs)?;
+        Ok(Trace { runs })
     }
 
     /// Whether the sector is one of them.

@@ -4,7 +4,7 @@ use Rattle.std.proofs.lemmas.List.{map-append}
 use Rattle.pt_sector.specs.Sectors.{Sectors}
 use Rattle.pt_sector.specs.Device.{Wrote, FailedWrite, Flushed, FailedFlush}
 use Rattle.pt_sector.specs.Pending.{reading, pending_writes}
-use Rattle.pt_sector.specs.Reading.{reading-push}
+use Rattle.pt_sector.specs.laws.Reading.{reading-push}
 use Rattle.pt_sector.specs.Crash.{crash_told, moments_on}
 use Rattle.pt_sector.specs.declared.pending.Pending.{Pending}
 use Rattle.pt_sector.specs.declared.cache.WriteCache.{WriteCache}

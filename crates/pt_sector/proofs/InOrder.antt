@@ -14,7 +14,8 @@ use Rattle.std.proofs.lemmas.Grind.{common_steps}
 use Rattle.std.proofs.Math.ListN as N
 use Rattle.pt_sector.specs.Sectors.{Sectors}
 use Rattle.pt_sector.specs.Writes.{Writes, written}
-use Rattle.pt_sector.specs.Written.{value_after, written-append}
+use Rattle.pt_sector.specs.Written.{value_after}
+use Rattle.pt_sector.specs.laws.Written.{written-append}
 use Rattle.pt_sector.specs.Ascending.{sector_at, IsAscending, IsAt, IsGapFor}
 use Rattle.pt_sector.specs.Puts.{puts_as_writes}
 use Rattle.pt_sector.specs.declared.put.Put.{Put}

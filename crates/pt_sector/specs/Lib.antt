@@ -6,7 +6,6 @@ pub mod Written
 pub mod Device
 pub mod Past
 pub mod Since
-pub mod Bound
 pub mod Calls
 pub mod Reads
 pub mod Memory
@@ -14,7 +13,7 @@ pub mod Ascending
 pub mod Puts
 pub mod Overlays
 pub mod Pending
-pub mod Reading
 pub mod Stop
 pub mod Crash
 pub mod Schedule
+pub mod laws

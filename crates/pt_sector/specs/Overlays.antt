@@ -4,7 +4,7 @@ use Rattle.std.proofs.Common.{ap, ◌∙◌}
 use Rattle.std.proofs.lemmas.List.{map-append}
 use Rattle.pt_sector.specs.Sectors.{Sectors}
 use Rattle.pt_sector.specs.Writes.{written}
-use Rattle.pt_sector.specs.Written.{length-written}
+use Rattle.pt_sector.specs.laws.Written.{length-written}
 use Rattle.pt_sector.specs.Device.{Told, Moment, Elapses}
 use Rattle.pt_sector.specs.Past.{told_of}
 use Rattle.pt_sector.specs.Puts.{puts_as_writes}

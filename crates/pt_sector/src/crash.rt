@@ -7,7 +7,7 @@ ghost use Rattle.pt_sector.specs.Calls.{Blames, untouched_same, untouched_on};
 ghost use Rattle.pt_sector.specs.Reads.{OnlyReads};
 ghost use Rattle.pt_sector.specs.Past.{told_of};
 ghost use Rattle.pt_sector.specs.Memory.{zero_sectors};
-ghost use Rattle.pt_sector.specs.Reading.{length-reading, stopped_reading};
+ghost use Rattle.pt_sector.specs.laws.Reading.{length-reading, stopped_reading};
 ghost use Rattle.pt_sector.specs.Stop.{IsPicked};
 ghost use Rattle.pt_sector.specs.Crash.{crash_told};
 ghost use Rattle.pt_sector.specs.Schedule.{content, sector_count, faults_of, pending_room, IsFull, fails_in, reads_failed, CallPasses};

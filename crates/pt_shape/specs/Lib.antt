@@ -1,14 +1,11 @@
 pub mod Shape
 pub mod Keeps
-pub mod Laws
-pub mod Denoted
-pub mod Slots
 pub mod SliceMembers
 pub mod LabelPlaces
-pub mod Stands
 pub mod Ascending
 pub mod Along
 pub mod Links
 pub mod StandsOn
 pub mod Differ
 pub mod Covers
+pub mod laws

@@ -11,14 +11,14 @@ use Rattle.pt_gpt.specs.Array.{array_len, AllTyped}
 use Rattle.pt_gpt.specs.declared.table.Table.{Table}
 use Rattle.pt_bsd.specs.Counted.{IsCounted, FitsSlice}
 use Rattle.pt_bsd.specs.declared.label.Label.{Label}
-use Rattle.pt_recover.specs.Gpt.{HasRoom}
-use Rattle.pt_recover.specs.Mbr.{extended_of, extent_of}
-use Rattle.pt_recover.specs.Labels.{slices_of}
-use Rattle.pt_recover.specs.declared.layout.Slice.{Slice}
-use Rattle.pt_recover.specs.declared.layout.Labelled.{Labelled}
-use Rattle.pt_recover.specs.declared.layout.Layout.{Layout}
-use Rattle.pt_recover.specs.declared.layout.Body.{Body}
-use Rattle.pt_recover.specs.declared.layout.Body.TheVariants.{Mbr, Gpt}
+use Rattle.pt_gpt.specs.Array.{HasRoom}
+use Rattle.pt_mbr.specs.Extended.{extended_of, extent_of}
+use Rattle.pt_members.specs.Slices.{slices_of}
+use Rattle.pt_members.specs.declared.layout.Slice.{Slice}
+use Rattle.pt_members.specs.declared.layout.Labelled.{Labelled}
+use Rattle.pt_members.specs.declared.layout.Layout.{Layout}
+use Rattle.pt_members.specs.declared.layout.Body.{Body}
+use Rattle.pt_members.specs.declared.layout.Body.TheVariants.{Mbr, Gpt}
 
 -- a table of a GPT on n sectors: 1 to 128 entries, a usable range between the arrays, and a type in each used entry
 pub record FitsTable (b n : ℕ) (t : Table) : Type 0 where

@@ -6,7 +6,7 @@ use Rattle.std.proofs.lemmas.List.{get_or_default}
 use Rattle.std.proofs.lemmas.Bool.{cases_lt, cond-true, cond-false, lt-ltb, le-ltb}
 use Rattle.pt_space.specs.declared.space.Run.{Run}
 use Rattle.pt_space.specs.Area.{Area, Holds, IsTaken, IsFree, IsBlock}
-use Rattle.pt_space.specs.Blocks.{same_block}
+use Rattle.pt_space.specs.laws.Blocks.{same_block}
 use Rattle.pt_space.specs.Sweep.{part_of, longer_of, gap_of, best_past, BestBelow, Best}
 use Rattle.pt_space.proofs.Parts.{OneMore, longer_below, no_more, best_of_all}
 

@@ -7,7 +7,7 @@ use Rattle.pt_words.specs.declared.error.Refusal.TheVariants.{Overlap}
 use Rattle.pt_space.specs.declared.space.Run.{Run}
 use Rattle.pt_space.specs.Area.{Area, IsIn, IsUsable, IsTaken, IsFree, Leads}
 use Rattle.pt_space.specs.Placed.{record_taken, NotLed, lead_size, in_largest, NotEnded, NotPlaced, no_end}
-use Rattle.pt_space.specs.Rounding.{rounded_above}
+use Rattle.pt_space.specs.laws.Rounding.{rounded_above}
 use Rattle.pt_space.specs.Started.{HasStarted}
 use Rattle.pt_space.specs.Sweep.{Best}
 

@@ -3,3 +3,4 @@ pub mod Parts
 pub mod Gaps
 pub mod BlockEnds
 pub mod Leading
+pub mod Pushed

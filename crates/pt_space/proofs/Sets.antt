@@ -6,7 +6,8 @@ use Rattle.std.specs.List.Sorted.{IsPermutation}
 use Rattle.std.proofs.lemmas.List.Sorted.{Contains-permutation, IsPermutation-sym}
 use Rattle.pt_space.specs.declared.space.Run.{Run}
 use Rattle.pt_space.specs.Area.{Area, Holds, IsIn, IsFree}
-use Rattle.pt_space.specs.Alike.{SameSectors, with_taken, turned, block_alike, largest_alike}
+use Rattle.pt_space.specs.Alike.{SameSectors, with_taken}
+use Rattle.pt_space.specs.laws.Alike.{turned, block_alike, largest_alike}
 use Rattle.pt_space.specs.Sweep.{Best}
 
 -- a list in another order has the same sectors

@@ -1,6 +1,7 @@
 //! Where a new partition may be placed among taken sectors.
 //!
-//! It knows of no table: only of sectors by number. docs/commands.md has the words that a place is asked for by.
+//! It knows of sectors by number, and which of them the partitions in a table's places take. docs/commands.md has the
+//! words that a place is asked for by.
 #![tactic(auto)]
 
 mod block;
@@ -8,6 +9,7 @@ mod laws;
 mod placement;
 mod space;
 mod start;
+mod taken;
 
 pub use laws::{
     place_answers, placed_by_sectors, placed_is_free, placed_is_not_refused, placed_one,
@@ -15,3 +17,4 @@ pub use laws::{
 };
 pub use placement::place;
 pub use space::{Lead, Run, Space};
+pub use taken::{taken_by_entries, taken_by_logicals, taken_by_parts, taken_by_records};

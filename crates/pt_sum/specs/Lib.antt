@@ -1,4 +1,4 @@
 pub mod Crc
 pub mod Moves
 pub mod Words
-pub mod Laws
+pub mod laws

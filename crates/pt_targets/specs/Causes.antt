@@ -8,17 +8,17 @@ use Rattle.pt_gpt.specs.Copy.{HasCopy}
 use Rattle.pt_gpt.specs.declared.table.Side.TheVariants.{Primary}
 use Rattle.pt_gpt.specs.declared.table.Table.{Table}
 use Rattle.pt_recover.specs.Denotes.{Reads}
-use Rattle.pt_recover.specs.Labels.{places_of, place_of}
+use Rattle.pt_members.specs.Slices.{places_of, place_of}
 use Rattle.pt_recover.specs.Mbr.{IsMbrDisk}
-use Rattle.pt_recover.specs.declared.layout.Body.{Body}
-use Rattle.pt_recover.specs.declared.layout.Body.TheVariants.{Mbr, Gpt}
-use Rattle.pt_recover.specs.declared.layout.Layout.{Layout}
-use Rattle.pt_recover.specs.declared.layout.Slice.{Slice}
+use Rattle.pt_members.specs.declared.layout.Body.{Body}
+use Rattle.pt_members.specs.declared.layout.Body.TheVariants.{Mbr, Gpt}
+use Rattle.pt_members.specs.declared.layout.Layout.{Layout}
+use Rattle.pt_members.specs.declared.layout.Slice.{Slice}
 use Rattle.pt_layout.specs.Findings.{IsBodyBroken}
 use Rattle.pt_layout.specs.Guarded.{IsGuarded}
-use Rattle.pt_layout.specs.Tables.{IsGptTable}
+use Rattle.pt_members.specs.Tables.{IsGptTable}
 use Rattle.pt_layout.specs.declared.finding.Finding.{Finding}
-use Rattle.pt_layout.specs.Owned.{OwnedOf}
+use Rattle.pt_members.specs.Owned.{OwnedOf}
 use Rattle.pt_cases.specs.Cases.{ChangesLabels}
 use Rattle.pt_cases.specs.Causes.{WasMbr}
 use Rattle.pt_cases.specs.Targets.{Had, IsEncoded}

@@ -6,9 +6,8 @@ pub mod Selected
 pub mod Orders
 pub mod Firsts
 pub mod Splits
-pub mod Lifts
-pub mod Counts
 pub mod Misfits
 pub mod Unmade
 pub mod Unmendable
 pub mod Unplanned
+pub mod laws

@@ -5,12 +5,12 @@ use Rattle.std.specs.Prelude.{Contains}
 use Rattle.std.proofs.lemmas.List.Elements.{Contains-append_left, Contains-append_right}
 use Rattle.pt_sector.specs.Writes.{Writes, Puts}
 use Rattle.pt_sector.specs.Ascending.{IsAscending, sector_at}
-use Rattle.pt_layout.specs.Owned.{OwnedOf}
+use Rattle.pt_members.specs.Owned.{OwnedOf}
 use Rattle.pt_recover.specs.Spans.{IsIn}
-use Rattle.pt_recover.specs.declared.layout.Layout.{Layout}
+use Rattle.pt_members.specs.declared.layout.Layout.{Layout}
 use Rattle.pt_recover.specs.declared.trace.Run.{Run}
-use Rattle.pt_layout.specs.Grouped.{contains_head, contains_tail}
-use Rattle.pt_cases.specs.Select.{Rises, rises_ascends}
+use Rattle.pt_members.specs.laws.Grouped.{contains_head, contains_tail}
+use Rattle.pt_cases.specs.laws.Select.{Rises, rises_ascends}
 use Rattle.pt_targets.specs.Targets.{targeted}
 use Rattle.pt_targets.specs.declared.choice.Choice.{Choice}
 use Rattle.pt_targets.specs.declared.choice.Choice.TheVariants.{UnreadNew, Quiet}

@@ -14,7 +14,7 @@ use Rattle.pt_apply.specs.declared.plan.Write.{Write}
 use Rattle.pt_recover.specs.Spans.{InRun, IsIn}
 use Rattle.pt_recover.specs.declared.trace.Run.{Run}
 use Rattle.pt_cases.specs.Copies.{one_write}
-use Rattle.pt_apply.specs.Puts.{puts_split, puts_left, puts_right}
+use Rattle.pt_apply.specs.laws.Puts.{puts_split, puts_left, puts_right}
 use Rattle.pt_cases.specs.Targets.{Ends}
 use Rattle.pt_targets.specs.Selected.{Differs, IsLoud, IsQuiet, IsUnreadNew, AllBelow, Selects, NotAlone, selected_from, selected_all}
 use Rattle.pt_targets.specs.Selected.{selected_few, selected_ascend, selected_not}

@@ -8,11 +8,11 @@ use Rattle.pt_bsd.specs.declared.label.Label.{Label}
 use Rattle.pt_mbr.specs.Chain.{StandsAt}
 use Rattle.pt_mbr.specs.declared.ebr.Ebr.{Ebr}
 use Rattle.pt_mbr.specs.declared.record.Record.{Record}
-use Rattle.pt_recover.specs.Labels.{places_of, place_of, IsPlace}
-use Rattle.pt_recover.specs.Mbr.{extended_of, extent_of}
+use Rattle.pt_members.specs.Slices.{places_of, place_of, IsPlace}
+use Rattle.pt_mbr.specs.Extended.{extended_of, extent_of}
 use Rattle.pt_recover.specs.Spans.{IsIn}
-use Rattle.pt_recover.specs.declared.layout.Layout.{Layout}
-use Rattle.pt_recover.specs.declared.layout.Slice.{Slice}
+use Rattle.pt_members.specs.declared.layout.Layout.{Layout}
+use Rattle.pt_members.specs.declared.layout.Slice.{Slice}
 use Rattle.pt_recover.specs.declared.trace.Run.{Run}
 use Rattle.pt_cases.specs.Copies.{one_write}
 use Rattle.pt_shape.specs.Links.{link_to}

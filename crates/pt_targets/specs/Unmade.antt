@@ -8,7 +8,7 @@ use Rattle.pt_mbr.specs.Ebr.{EbrBytes}
 use Rattle.pt_mbr.specs.Mbr.{MbrBytes, BearsProtective}
 use Rattle.pt_mbr.specs.declared.ebr.Ebr.{Ebr}
 use Rattle.pt_mbr.specs.declared.record.Record.{Record}
-use Rattle.pt_recover.specs.Mbr.{extended_of, extent_of}
+use Rattle.pt_mbr.specs.Extended.{extended_of, extent_of}
 use Rattle.pt_shape.specs.Links.{link_to}
 use Rattle.pt_cases.specs.Records.{IsHeadTarget, IsEbrTarget}
 

@@ -1,7 +1,7 @@
 -- What keeps a layout that a disk denotes from being mended.
 use Rattle.std.specs.Prelude.{ℕ}
 use Rattle.pt_sector.specs.Sectors.{Sectors}
-use Rattle.pt_recover.specs.declared.layout.Layout.{Layout}
+use Rattle.pt_members.specs.declared.layout.Layout.{Layout}
 use Rattle.pt_layout.specs.Findings.{IsFirstForeign}
 use Rattle.pt_layout.specs.Sound.{Sound, IsUnsound}
 use Rattle.pt_layout.specs.declared.finding.Finding.{Finding}

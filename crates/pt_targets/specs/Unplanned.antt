@@ -4,10 +4,10 @@ use Rattle.pt_sector.specs.Sectors.{Sectors}
 use Rattle.pt_mbr.specs.declared.ebr.Ebr.{Ebr}
 use Rattle.pt_mbr.specs.declared.record.Record.{Record}
 use Rattle.pt_recover.specs.Denotes.{Denotes}
-use Rattle.pt_recover.specs.declared.layout.Body.TheVariants.{Mbr}
-use Rattle.pt_recover.specs.declared.layout.Layout.{Layout}
+use Rattle.pt_members.specs.declared.layout.Body.TheVariants.{Mbr}
+use Rattle.pt_members.specs.declared.layout.Layout.{Layout}
 use Rattle.pt_layout.specs.Healthy.{IsHealthy}
-use Rattle.pt_layout.specs.Members.{number_path}
+use Rattle.pt_members.specs.Members.{number_path}
 use Rattle.pt_layout.specs.Sound.{Sound, IsUnsound}
 use Rattle.pt_layout.specs.declared.finding.Finding.{Finding}
 use Rattle.pt_layout.specs.declared.finding.Finding.TheVariants.{ForeignLabel}

@@ -3,7 +3,7 @@
 ghost use Rattle.std.specs.Prelude.{◌≡◌, ◌≢◌, ◌↔◌, IsTrue, IfOk};
 ghost use Rattle.pt_apply.specs.Plans.{writes_of};
 ghost use Rattle.pt_recover.specs.Spans.{IsIn};
-ghost use Rattle.pt_layout.specs.Owned.{OwnedOf};
+ghost use Rattle.pt_members.specs.Owned.{OwnedOf};
 ghost use Rattle.pt_targets.specs.Selected.{Differs, IsLoud, IsQuiet, IsOf, IsUnreadNew, IsChosen, Selects, IsOwnedChange, IsOwnedOf};
 
 use crate::target::{Kind, Target};

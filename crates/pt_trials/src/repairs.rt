@@ -1,5 +1,6 @@
 //! Repairs of disks with each finding.
 
+ghost use Rattle.std.specs.Prelude.{◌≤◌};
 ghost use Rattle.pt_sector.specs.Sectors.{IsSectorSize};
 
 use crate::renames::{counts, is_healthy};
@@ -7,7 +8,7 @@ use pt_apply::Plan;
 use pt_bsd::{LabelEntry, empty_label, encode_label};
 use pt_gpt::{CopyError, Side};
 use pt_layout::{Body, Finding, Layout, NoTable, Path, Verdict, recover, verify};
-use pt_mbr::{ChainError, Mbr, encode_mbr, put_record};
+use pt_mbr::{ChainError, Mbr, Record, encode_mbr, put_record};
 use pt_plan::{CommitError, PlanError, RepairError, commit, plan_for, plan_for_repair, repair};
 use pt_samples::{
     change, crash_disk, entry, gpt_disk, holds, image_of, made, put, put_copy, put_mbr, record,
@@ -30,7 +31,10 @@ fn faults<const B: usize>(alloc: Global, plan: &Plan<B>) -> Result<Vec<Fault>, F
 }
 
 /// The first finding; none on a healthy disk.
-fn finding<const B: usize, D: Disk<B>>(alloc: Global, disk: &mut D) -> Result<Option<Finding>, Fail>
+pub(crate) fn finding<const B: usize, D: Disk<B>>(
+    alloc: Global,
+    disk: &mut D,
+) -> Result<Option<Finding>, Fail>
     requires { IsSectorSize B }
 {
     match verify(alloc, disk)? {
@@ -40,7 +44,7 @@ fn finding<const B: usize, D: Disk<B>>(alloc: Global, disk: &mut D) -> Result<Op
 }
 
 /// Whether a repair makes the disk healthy with the layout that it denoted, and one more changes no byte.
-fn mends<const B: usize, D: Disk<B>>(alloc: Global, disk: &mut D) -> Result<bool, Fail>
+pub(crate) fn mends<const B: usize, D: Disk<B>>(alloc: Global, disk: &mut D) -> Result<bool, Fail>
     requires { IsSectorSize B }
 {
     let layout = recover(alloc, disk)?;
@@ -264,29 +268,47 @@ fn labels_that_are_outside_or_foreign_are_refused(rt: HostRuntime) -> Result<(),
     Ok(())
 }
 
+/// What a repair says of a disk of zeros.
+fn of_zeros<const B: usize>(alloc: Global, sectors: u64) -> Result<Option<RepairError>, Fail>
+    requires size { IsSectorSize B }
+    requires few { sectors ≤ 256 }
+{
+    let mut disk: MemDisk<B> = MemDisk::new(alloc, sectors)?;
+    refused(alloc, &mut disk)
+}
+
+/// What it says of an MBR disk with these records.
+fn of_records<const B: usize>(
+    alloc: Global,
+    records: [Option<Record>; 4],
+) -> Result<Option<RepairError>, Fail>
+    requires { IsSectorSize B }
+{
+    let mut disk: MemDisk<B> = MemDisk::new(alloc, 256)?;
+    put_mbr(&mut disk, records)?;
+    refused(alloc, &mut disk)
+}
+
+/// What it says of a GPT disk with neither copy.
+fn without_copies<const B: usize>(alloc: Global) -> Result<Option<RepairError>, Fail>
+    requires { IsSectorSize B }
+{
+    let mut disk: MemDisk<B> = broken(alloc, 1)?;
+    change(&mut disk, 255, 20, 1)?;
+    refused(alloc, &mut disk)
+}
+
 /// What a repair says of disks that denote nothing.
 fn nothings<const B: usize>(alloc: Global) -> Result<[Option<RepairError>; 6], Fail>
     requires { IsSectorSize B }
 {
-    let mut no_sectors: MemDisk<B> = MemDisk::new(alloc, 0)?;
-    let mut small: MemDisk<B> = MemDisk::new(alloc, 11)?;
-    let mut zeros: MemDisk<B> = MemDisk::new(alloc, 256)?;
-    let mut headless: MemDisk<B> = broken(alloc, 1)?;
-    change(&mut headless, 255, 20, 1)?;
-    let mut two: MemDisk<B> = MemDisk::new(alloc, 256)?;
-    put_mbr(
-        &mut two,
-        [record(5, 64, 8), record(0x0F, 96, 8), None, None],
-    )?;
-    let mut chain: MemDisk<B> = MemDisk::new(alloc, 256)?;
-    put_mbr(&mut chain, [None, record(5, 64, 8), None, None])?;
     Ok([
-        refused(alloc, &mut no_sectors)?,
-        refused(alloc, &mut small)?,
-        refused(alloc, &mut zeros)?,
-        refused(alloc, &mut headless)?,
-        refused(alloc, &mut two)?,
-        refused(alloc, &mut chain)?,
+        of_zeros::<B>(alloc, 0)?,
+        of_zeros::<B>(alloc, 11)?,
+        of_zeros::<B>(alloc, 256)?,
+        without_copies::<B>(alloc)?,
+        of_records::<B>(alloc, [record(5, 64, 8), record(0x0F, 96, 8), None, None])?,
+        of_records::<B>(alloc, [None, record(5, 64, 8), None, None])?,
     ])
 }
 

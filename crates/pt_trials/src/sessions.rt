@@ -4,7 +4,7 @@ use crate::renames::name_is;
 use pt_edit::Refusal;
 use pt_plan::{Batch, CommitError, Reply, session};
 use pt_samples::{crash_disk, gpt_disk, holds, image_of, words};
-use pt_sector::Fault;
+use pt_sector::{Disk, Fault};
 use std::alloc::Global;
 use std::test::Fail;
 
@@ -20,17 +20,28 @@ fn batches(alloc: Global, texts: &[&str]) -> Result<Vec<Batch>, Fail> {
     Ok(made)
 }
 
+/// Whether a session of these words, each a batch, gets these replies.
+fn replies_are<D: Disk<512>>(
+    alloc: Global,
+    disk: &mut D,
+    texts: &[&str],
+    wanted: &[Reply],
+) -> Result<bool, Fail> {
+    let batches = batches(alloc, texts)?;
+    let replies = session(alloc, disk, &batches)?;
+    Ok(replies.as_slice() == wanted)
+}
+
 #[test]
 fn a_refused_batch_stops_no_session(rt: HostRuntime) -> Result<(), Fail> {
     let alloc = rt.alloc();
     let mut disk = gpt_disk(alloc)?;
-    let three = batches(alloc, &["c:1:a", "c:9:b", "c:1:d"])?;
-    let replies = session(alloc, &mut disk, &three)?;
     let refused = Reply::Refused(CommitError::Edit(Refusal::NoSuchPartition));
-    assert!(rt; replies.as_slice() == [Reply::Done, refused, Reply::Done].as_slice());
+    let wanted = [Reply::Done, refused, Reply::Done];
+    let three = ["c:1:a", "c:9:b", "c:1:d"];
+    assert!(rt; replies_are(alloc, &mut disk, &three, &wanted)?);
     assert!(rt; name_is(alloc, &mut disk, "d")?);
-    let none = session(alloc, &mut disk, &[])?;
-    assert!(rt; none.is_empty());
+    assert!(rt; replies_are(alloc, &mut disk, &[], &[])?);
     Ok(())
 }
 
@@ -40,10 +51,9 @@ fn nothing_is_done_after_a_first_call_that_fails(rt: HostRuntime) -> Result<(), 
     let before = image_of(alloc, &mut gpt_disk(alloc)?)?;
     let mut disk = crash_disk(alloc, &before)?;
     disk.fail_at(1, false);
-    let three = batches(alloc, &["c:1:a", "c:9:b", "c:1:d"])?;
-    let replies = session(alloc, &mut disk, &three)?;
-    let fault = Reply::Fault(Fault::Flush);
-    assert!(rt; replies.as_slice() == [fault, Reply::NotTried, Reply::NotTried].as_slice());
+    let wanted = [Reply::Fault(Fault::Flush), Reply::NotTried, Reply::NotTried];
+    let three = ["c:1:a", "c:9:b", "c:1:d"];
+    assert!(rt; replies_are(alloc, &mut disk, &three, &wanted)?);
     assert!(rt; holds(&mut disk, &before)?);
     Ok(())
 }

@@ -1,11 +1,12 @@
 //! A plan whose flush failed at the switch, and what comes then.
 
 use crate::renames::{counts, is_healthy, name_is};
+use crate::repairs::{finding, mends};
 use pt_apply::apply;
 use pt_gpt::CopyError;
-use pt_layout::{Finding, Layout, Verdict, recover, verify};
-use pt_plan::{commit, plan_for, repair};
-use pt_samples::{crash_disk, gpt_disk, holds, image_of, words};
+use pt_layout::{Finding, Layout, recover};
+use pt_plan::{commit, plan_for};
+use pt_samples::{crash_disk, gpt_disk, image_of, words};
 use pt_sector::{CrashDisk, Disk, Fault};
 use std::alloc::Global;
 use std::test::Fail;
@@ -29,18 +30,10 @@ fn at_the_switch(alloc: Global) -> Result<(CrashDisk<512>, Layout), Fail> {
 fn a_repair_after_a_fault_at_the_switch(rt: HostRuntime) -> Result<(), Fail> {
     let alloc = rt.alloc();
     let (mut disk, new) = at_the_switch(alloc)?;
-    assert!(rt; recover(alloc, &mut disk)?.same(&new));
-    match verify(alloc, &mut disk)? {
-        Verdict::Yes(_) => assert!(rt; false),
-        Verdict::No(found) => {
-            assert!(rt; found == Finding::PrimaryCopy(CopyError::Signature));
-        }
-    }
-    assert!(rt; repair(alloc, &mut disk) == Ok(()));
+    let found = finding(alloc, &mut disk)?;
+    assert!(rt; found == Some(Finding::PrimaryCopy(CopyError::Signature)));
+    assert!(rt; mends(alloc, &mut disk)?);
     assert!(rt; is_healthy(alloc, &mut disk, &new)?);
-    let mended = image_of(alloc, &mut disk)?;
-    assert!(rt; repair(alloc, &mut disk) == Ok(()));
-    assert!(rt; holds(&mut disk, &mended)?);
     Ok(())
 }
 

@@ -3,7 +3,7 @@
 ghost use Rattle.pt_sector.specs.Sectors.{IsSectorSize};
 
 use pt_bsd::{LabelEntry, empty_label};
-use pt_convert::{guids_for, to_gpt};
+use pt_edit::{guids_for, to_gpt};
 use pt_gpt::{Entries, Entry, Table};
 use pt_guid::{Guid, type_of_code};
 use pt_layout::{Body, Ebrs, Labelled, Labels, Layout};

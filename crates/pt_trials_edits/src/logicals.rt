@@ -1,8 +1,8 @@
 //! Edits of logical partitions, as docs/commands.md tells them.
 
 use pt_bsd::empty_label;
-use pt_logicals::{delete_logical, new_logical, set_logical_kind};
 use pt_mbr::{Ebr, Record};
+use pt_records::{delete_logical, new_logical, set_logical_kind};
 use pt_recover::{Ebrs, Labelled, Labels};
 use pt_sector::Lba;
 use pt_words::{Asked, Code, End, Refusal};

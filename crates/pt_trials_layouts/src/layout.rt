@@ -68,53 +68,54 @@ fn mbr(alloc: Global, records: [Option<Record>; 4], end: Option<u64>) -> Result<
     })
 }
 
-fn finding_of<const B: usize>(alloc: Global, layout: &Layout) -> Result<Option<Finding>, Fail>
+/// The first finding of the MBR that `mbr` makes.
+fn finding_of<const B: usize>(
+    alloc: Global,
+    records: [Option<Record>; 4],
+    end: Option<u64>,
+) -> Result<Option<Finding>, Fail>
     requires { IsSectorSize B }
 {
-    Ok(unsound::<B>(alloc, layout)?)
+    let layout = mbr(alloc, records, end)?;
+    Ok(unsound::<B>(alloc, &layout)?)
+}
+
+// An MBR with a partition past 2^32 sectors.
+#[test]
+fn a_partition_outside_comes_first(rt: HostRuntime) -> Result<(), Fail> {
+    let past = record(0x83, u32::MAX, u32::MAX);
+    let records = [past, record(0x83, 1, 1), record(0x83, 1, 1), None];
+    let found = finding_of::<512>(rt.alloc(), records, None)?;
+    assert!(rt; found == Some(Finding::OutsideUsable(number(1))));
+    Ok(())
 }
 
 #[test]
-fn findings_in_their_order(rt: HostRuntime) -> Result<(), Fail> {
-    let past = mbr(
-        rt.alloc(),
-        [
-            record(0x83, u32::MAX, u32::MAX),
-            record(0x83, 1, 1),
-            record(0x83, 1, 1),
-            None,
-        ],
+fn the_lowest_overlap_is_found(rt: HostRuntime) -> Result<(), Fail> {
+    let records = [
+        record(0x83, 4096, 8),
+        record(0x83, 1, 4096),
+        record(0x83, 1, 1),
         None,
-    )?;
-    assert!(rt; (finding_of::<512>(rt.alloc(), &past)?) == Some(Finding::OutsideUsable(number(1))));
-    let shared = mbr(
-        rt.alloc(),
-        [
-            record(0x83, 4096, 8),
-            record(0x83, 1, 4096),
-            record(0x83, 1, 1),
-            None,
-        ],
-        None,
-    )?;
-    assert!(rt;
-        (finding_of::<512>(rt.alloc(), &shared)?) == Some(Finding::Overlap(number(2), number(3)))
-    );
-    let buried = mbr(
-        rt.alloc(),
-        [None, record(0x05, 4096, 8192), None, None],
-        Some(7000),
-    )?;
-    assert!(rt;
-        (finding_of::<4096>(rt.alloc(), &buried)?) == Some(Finding::OnTable(number(5), Lba(7000)))
-    );
-    let sound = mbr(
-        rt.alloc(),
-        [record(0xA5, 1, 1), record(0x05, 4096, 8192), None, None],
-        Some(7144),
-    )?;
-    assert!(rt; (finding_of::<512>(rt.alloc(), &sound)?) == None);
-    assert!(rt; (finding_of::<4096>(rt.alloc(), &sound)?) == None);
+    ];
+    let found = finding_of::<512>(rt.alloc(), records, None)?;
+    assert!(rt; found == Some(Finding::Overlap(number(2), number(3))));
+    Ok(())
+}
+
+#[test]
+fn a_partition_on_a_record_of_the_chain(rt: HostRuntime) -> Result<(), Fail> {
+    let records = [None, record(0x05, 4096, 8192), None, None];
+    let found = finding_of::<4096>(rt.alloc(), records, Some(7000))?;
+    assert!(rt; found == Some(Finding::OnTable(number(5), Lba(7000))));
+    Ok(())
+}
+
+#[test]
+fn a_sound_mbr(rt: HostRuntime) -> Result<(), Fail> {
+    let records = [record(0xA5, 1, 1), record(0x05, 4096, 8192), None, None];
+    assert!(rt; finding_of::<512>(rt.alloc(), records, Some(7144))? == None);
+    assert!(rt; finding_of::<4096>(rt.alloc(), records, Some(7144))? == None);
     Ok(())
 }
 
@@ -141,26 +142,58 @@ fn sliced(alloc: Global) -> Result<Layout, Fail> {
     })
 }
 
+/// Who owns a sector of it.
+fn owner_at<const B: usize>(alloc: Global, at: u64) -> Result<Owner, Fail>
+    requires { IsSectorSize B }
+{
+    let layout = sliced(alloc)?;
+    Ok(owner::<B>(&layout, Lba(at)))
+}
+
+/// Where sector `k` of one of its partitions is.
+fn place_of(alloc: Global, path: &Path, k: u64) -> Result<Option<Lba>, Fail> {
+    let layout = sliced(alloc)?;
+    Ok(locate::<512>(&layout, path, k))
+}
+
+/// Its first finding; and of sector 2049, in sectors of 4096 bytes, whether it is of a table, and whether it is owned.
+fn told_of_slice(alloc: Global) -> Result<(Option<Finding>, bool, bool), Fail> {
+    let layout = sliced(alloc)?;
+    let finding = unsound::<512>(alloc, &layout)?;
+    let at = Lba(2049);
+    Ok((
+        finding,
+        is_table::<4096>(&layout, at),
+        is_owned::<4096>(&layout, at),
+    ))
+}
+
 #[test]
 fn owners_in_a_slice(rt: HostRuntime) -> Result<(), Fail> {
-    let layout = sliced(rt.alloc())?;
     let a = Path {
         number: 1,
         letter: Some(0),
     };
-    assert!(rt; (finding_of::<512>(rt.alloc(), &layout)?) == None);
-    assert!(rt; owner::<512>(&layout, Lba(0)) == Owner::Table);
-    assert!(rt; owner::<512>(&layout, Lba(2048)) == Owner::Reserved);
-    assert!(rt; owner::<512>(&layout, Lba(2049)) == Owner::Table);
-    assert!(rt; owner::<512>(&layout, Lba(2064)) == Owner::Partition(a));
-    assert!(rt; owner::<512>(&layout, Lba(4064)) == Owner::Reserved);
-    assert!(rt; owner::<512>(&layout, Lba(6144)) == Owner::Free);
-    assert!(rt; locate::<512>(&layout, &a, 1999) == Some(Lba(4063)));
-    assert!(rt; locate::<512>(&layout, &a, 2000) == None);
-    assert!(rt; locate::<512>(&layout, &number(1), 0) == None);
-    assert!(rt; is_table::<4096>(&layout, Lba(2049)) == false);
-    assert!(rt; is_owned::<4096>(&layout, Lba(2049)) == true);
-    assert!(rt; owner::<4096>(&layout, Lba(6143)) == Owner::Partition(number(1)));
+    assert!(rt; owner_at::<512>(rt.alloc(), 0)? == Owner::Table);
+    assert!(rt; owner_at::<512>(rt.alloc(), 2048)? == Owner::Reserved);
+    assert!(rt; owner_at::<512>(rt.alloc(), 2049)? == Owner::Table);
+    assert!(rt; owner_at::<512>(rt.alloc(), 2064)? == Owner::Partition(a));
+    assert!(rt; owner_at::<512>(rt.alloc(), 4064)? == Owner::Reserved);
+    assert!(rt; owner_at::<512>(rt.alloc(), 6144)? == Owner::Free);
+    assert!(rt; owner_at::<4096>(rt.alloc(), 6143)? == Owner::Partition(number(1)));
+    Ok(())
+}
+
+#[test]
+fn places_in_a_slice(rt: HostRuntime) -> Result<(), Fail> {
+    let a = Path {
+        number: 1,
+        letter: Some(0),
+    };
+    assert!(rt; place_of(rt.alloc(), &a, 1999)? == Some(Lba(4063)));
+    assert!(rt; place_of(rt.alloc(), &a, 2000)? == None);
+    assert!(rt; place_of(rt.alloc(), &number(1), 0)? == None);
+    assert!(rt; told_of_slice(rt.alloc())? == (None, false, true));
     Ok(())
 }
 

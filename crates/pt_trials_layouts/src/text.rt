@@ -3,9 +3,8 @@
 ghost use Rattle.std.specs.Prelude.{◌<◌, All, length, IfOk};
 ghost use Rattle.pt_sector.specs.Sectors.{IsSectorSize};
 
-use pt_apply::{Plan, Write};
+use pt_apply::{Plan, PlanTextError, Write, plan_text, read_plan};
 use pt_sector::Lba;
-use pt_text::{PlanTextError, plan_text, read_plan};
 use std::alloc::{AllocError, Global};
 use std::test::Fail;
 

@@ -1,14 +1,14 @@
 //! The plans of both copies on a disk of 4096 sectors.
 
 ghost use Rattle.std.specs.Prelude.{◌≡◌, ◌<◌, ◌≤◌, All, None, length, IfOk};
-ghost use Rattle.pt_tables.specs.declared.order.Order.TheVariants.{FromMbr};
+ghost use Rattle.pt_phases.specs.declared.order.Order.TheVariants.{FromMbr};
 
 use pt_gpt::{Entries, Table};
 use pt_guid::Guid;
 use pt_layout::{Body, Ebrs, Labels, Layout, Trace};
 use pt_mbr::Record;
+use pt_phases::{Order, Setting, both_copies};
 use pt_sector::{Lba, Sector};
-use pt_tables::{Order, Setting, both_copies};
 use pt_targets::{Kind, PlanError, Target};
 use std::alloc::{AllocError, Global};
 use std::test::Fail;

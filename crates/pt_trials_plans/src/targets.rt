@@ -41,7 +41,7 @@ fn guarded(alloc: Global, sectors: &[u64]) -> Result<Trace, Fail> {
 }
 
 /// An MBR of 1024 sectors with one partition, from sector 100 to 199.
-fn one_partition(alloc: Global) -> Layout {
+pub(crate) fn one_partition(alloc: Global) -> Layout {
     let record = Record {
         boot: 0,
         start_chs: [0; 3],

@@ -1,11 +1,11 @@
 //! Turns of targets by hand, over a disk of zeros with one partition.
 
+use crate::targets::one_partition;
 use pt_apply::Plan;
-use pt_layout::{Body, Ebrs, Labels, Layout, Trace};
-use pt_mbr::Record;
+use pt_layout::Trace;
+use pt_phases::{one_label, within_mbr};
 use pt_sector::Lba;
 use pt_targets::{Kind, PlanError, Target};
-use pt_turns::{one_label, within_mbr};
 use std::alloc::Global;
 use std::test::Fail;
 
@@ -29,26 +29,6 @@ fn kept(at: u64) -> Target<512> {
         bytes: ZEROS,
         under: ZEROS,
         kind: Kind::Stays,
-    }
-}
-
-/// An MBR of 1024 sectors with one partition, from sector 100 to 199.
-fn one_partition(alloc: Global) -> Layout {
-    let record = Record {
-        boot: 0,
-        start_chs: [0; 3],
-        kind: 0x83,
-        end_chs: [0; 3],
-        start: 100,
-        size: 100,
-    };
-    Layout {
-        sectors: 1024,
-        body: Body::Mbr {
-            records: [Some(record), None, None, None],
-            chain: Ebrs::new(Vec::new(alloc)),
-        },
-        labels: Labels::new(Vec::new(alloc)),
     }
 }
 

@@ -1,11 +1,9 @@
 //! The command `ptab`: shows, verifies, edits and repairs the partition table of a disk image, and plans and checks edits.
 #![tactic(auto)]
 
-mod apply;
-mod check;
-mod edit;
-mod plan;
+mod edits;
 mod plan_file;
+mod plans;
 mod repair;
 mod run;
 mod show;

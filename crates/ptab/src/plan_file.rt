@@ -4,12 +4,11 @@ ghost use Rattle.std.specs.Prelude.{◌≡◌, ◌≤◌, ◌+◌, ◌==◌, len
 ghost use Rattle.std.specs.String.{string_bytes};
 ghost use Rattle.pt_sector.specs.Sectors.{IsSectorSize};
 ghost use Rattle.pt_apply.specs.Plans.{phases_of};
-ghost use Rattle.pt_text.specs.PlanTexts.{PlanText};
+ghost use Rattle.pt_apply.specs.PlanTexts.{PlanText};
 
 use crate::texts::Failure;
-use pt_apply::Plan;
+use pt_apply::{Plan, PlanTextError, read_plan};
 use pt_file::{Access, open_plain};
-use pt_text::{PlanTextError, read_plan};
 use std::alloc::Global;
 use std::fs::{File, Files};
 use std::io::{ErrorKind, Read};

@@ -2,13 +2,12 @@
 
 ghost use Rattle.pt_sector.specs.Sectors.{IsSectorSize};
 
-use crate::apply::apply;
-use crate::check::check;
-use crate::edit::edit;
-use crate::plan::plan;
+use crate::edits::{edit, plan};
+use crate::plans::{apply, check};
 use crate::repair::repair;
 use crate::show::print_layout;
 use crate::texts::{Failure, Status, print_finding};
+use crate::words::Wanted;
 use pt_file::{Access, FileDisk};
 use pt_layout::{Path, Verdict, locate, parse_number, parse_path, recover, verify};
 use pt_line::{Job, Line, SectorSize, read_line};
@@ -36,7 +35,7 @@ fn show<const B: usize, R: Files<File = File> + AllocGlobal, O: Write>(
 {
     let mut disk = FileDisk::<B>::open(rt, image, Access::Read)?;
     let layout = recover::<B, _>(rt.alloc(), &mut disk)?;
-    printed(print_layout(out, &layout), Status::Done)
+    printed(print_layout::<B, O>(out, &layout), Status::Done)
 }
 
 fn verify_image<const B: usize, R: Files<File = File> + AllocGlobal, O: Write>(
@@ -99,12 +98,18 @@ fn answer<const B: usize, R: Files<File = File> + AllocGlobal, O: Write>(
             image,
             fresh,
             words,
-        } => edit::<B, R, O>(rt, image.as_str(), fresh.as_ref(), words.as_slice(), out),
+        } => {
+            let wanted = Wanted::read(rt.alloc(), fresh.as_ref(), words.as_slice())?;
+            edit::<B, R, O>(rt, image.as_str(), &wanted, out)
+        }
         Job::Plan {
             image,
             fresh,
             words,
-        } => plan::<B, R, O>(rt, image.as_str(), fresh.as_ref(), words.as_slice(), out),
+        } => {
+            let wanted = Wanted::read(rt.alloc(), fresh.as_ref(), words.as_slice())?;
+            plan::<B, R, O>(rt, image.as_str(), &wanted, out)
+        }
         Job::Check { image, file } => check::<B, R, O>(rt, image.as_str(), file.as_str(), out),
         Job::Apply { image, file } => apply::<B, R, O>(rt, image.as_str(), file.as_str(), out),
         Job::Repair { image } => repair::<B, R, O>(rt, image.as_str(), out),

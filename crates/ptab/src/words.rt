@@ -8,12 +8,32 @@ use std::alloc::Global;
 /// How many hexadecimal digits a fresh GUID takes.
 const DIGITS: usize = 32;
 
+/// Edits, and the fresh GUIDs that they take.
+#[derive(Drop)]
+pub struct Wanted {
+    pub edits: Vec<Edit>,
+    pub guids: Vec<Guid>,
+}
+
+impl Wanted {
+    /// Those of words, and of the text of the GUIDs.
+    pub fn read(
+        alloc: Global,
+        fresh: Option<&String>,
+        words: &[String],
+    ) -> Result<Wanted, Failure> {
+        let guids = fresh_guids(alloc, fresh)?;
+        let edits = edits_of(alloc, words)?;
+        Ok(Wanted { edits, guids })
+    }
+}
+
 /// The GUIDs of groups of 32 hexadecimal digits, none where there is no text.
-pub fn fresh_guids(alloc: Global, text: Option<&String>) -> Result<Vec<Guid>, Failure> {
-    let text = match text {
-        Some(text) => text.as_str(),
-        None => return Ok(Vec::new(alloc)),
+fn fresh_guids(alloc: Global, text: Option<&String>) -> Result<Vec<Guid>, Failure> {
+    let Some(text) = text else {
+        return Ok(Vec::new(alloc));
     };
+    let text = text.as_str();
     if text.len() % DIGITS != 0 {
         return Err(Failure::BadFresh);
     }
@@ -38,7 +58,7 @@ fn bad_word(alloc: Global, word: &str) -> Failure {
 }
 
 /// The edits of words, or the first word that is none.
-pub fn edits_of(alloc: Global, words: &[String]) -> Result<Vec<Edit>, Failure> {
+fn edits_of(alloc: Global, words: &[String]) -> Result<Vec<Edit>, Failure> {
     let mut edits = Vec::new(alloc);
     for word in words {
         let edit = match parse_edit(alloc, word.as_str()) {

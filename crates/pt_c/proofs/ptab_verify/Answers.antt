@@ -1,14 +1,19 @@
 use Rattle.std.proofs.Common.{ℕ}
 use Rattle.pt_sector.specs.Sectors.{Sectors}
-use Rattle.pt_c.specs.Known.{disk_of}
 use Rattle.pt_c.specs.Claims.{Verified}
 use Rattle.pt_c.proofs.Saying.{says_it}
 use Rattle.pt_c.proofs.ptab_verify.Goals as goal
 
 pub returns-in-512 : goal.returns-in-512
-returns-in-512 c =
-    says_it (λ (b : ℕ) (e : Sectors). Verified b c.args.view.now (disk_of b c.args.view.now e)) c.args.view.now.sector_size 512 _ _ _ _ _ c.in-512.is c.new.ensures c.give.ensures.code c.give.ensures.reply c.verified.ensures
+returns-in-512 g c =
+    let v = c.args.view.now in
+    says_it (λ (b : ℕ) (d : Sectors). Verified b v d)
+    v g.disk 512 _ _ _ _ _ c.in-512.is c.any.ensures
+    c.give.ensures.code c.give.ensures.reply c.verified.ensures
 
 pub returns-in-4096 : goal.returns-in-4096
-returns-in-4096 c =
-    says_it (λ (b : ℕ) (e : Sectors). Verified b c.args.view.now (disk_of b c.args.view.now e)) c.args.view.now.sector_size 4096 _ _ _ _ _ c.in-4096.is c.new-in-4096.ensures c.give-in-4096.ensures.code c.give-in-4096.ensures.reply c.verified-in-4096.ensures
+returns-in-4096 g c =
+    let v = c.args.view.now in
+    says_it (λ (b : ℕ) (d : Sectors). Verified b v d)
+    v g.disk 4096 _ _ _ _ _ c.in-4096.is c.any-in-4096.ensures
+    c.give-in-4096.ensures.code c.give-in-4096.ensures.reply c.verified-in-4096.ensures

@@ -1,5 +1,5 @@
 use Rattle.std.proofs.Common.{◌≡◌, ◌++◌, take, Some}
-use Rattle.pt_layout.specs.Members.{present, parts_in}
+use Rattle.pt_members.specs.Members.{present, parts_in}
 use Rattle.jawefon.proofs.listing.push_parts.Given as goal
 
 abbrev pub invariant-loop-k : goal.invariant-loop-k

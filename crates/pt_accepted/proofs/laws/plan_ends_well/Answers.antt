@@ -1,4 +1,4 @@
-use Rattle.pt_accepted.specs.Accepted.{plan_finishes}
+use Rattle.pt_accepted.specs.laws.Accepted.{plan_finishes}
 use Rattle.pt_accepted.proofs.laws.plan_ends_well.Goals as goal
 
 -- src/laws.rt

@@ -1,6 +1,6 @@
 use Rattle.std.proofs.Common.{rules, ◌≡◌, ℕ, length, ap, subst, arith}
 use Rattle.std.proofs.lemmas.Result.{err_from_is_err_and}
-use Rattle.pt_sector.specs.Since.{leaves_none}
+use Rattle.pt_sector.specs.laws.Since.{leaves_none}
 use Rattle.pt_apply.proofs.Applied.{reached_none, settled_on, leaves_phase, reached_on, failed_in, fault_in}
 use Rattle.pt_apply.proofs.Items.{length-phases}
 use Rattle.pt_apply.specs.Plans.{phases_of}

@@ -4,7 +4,7 @@ use Rattle.pt_sector.specs.Sectors.{Sectors}
 use Rattle.pt_sector.specs.Device.{Told}
 use Rattle.pt_mbr.specs.Chain.{StandsAt}
 use Rattle.pt_mbr.specs.declared.ebr.Ebr.{Ebr}
-use Rattle.pt_recover.specs.Mbr.{extended_of}
+use Rattle.pt_mbr.specs.Extended.{extended_of}
 use Rattle.pt_targets.specs.declared.target.Target.{Target}
 use Rattle.pt_chains.specs.Steps.{IsHeadOf, AreChainTargets}
 use Rattle.pt_targets.specs.Unmade.{HasUnmadeEbr}

@@ -1,6 +1,6 @@
 use Rattle.std.proofs.Common.{sym, subst, ◌∙◌}
 use Rattle.pt_mbr.specs.Ebr.{EbrBytes}
-use Rattle.pt_mbr.specs.One.{ebr_one}
+use Rattle.pt_mbr.specs.laws.One.{ebr_one}
 use Rattle.pt_mbr.specs.declared.ebr.Ebr.{Ebr}
 use Rattle.pt_chains.proofs.Equal.{ebr_decides}
 use Rattle.pt_chains.proofs.ebrs.reads_as.Goals as goal

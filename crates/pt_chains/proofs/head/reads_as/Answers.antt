@@ -1,6 +1,6 @@
 use Rattle.std.proofs.Common.{sym, ◌∙◌}
 use Rattle.std.proofs.lemmas.Bool.{false≢true}
-use Rattle.pt_mbr.specs.One.{records_one}
+use Rattle.pt_mbr.specs.laws.One.{records_one}
 use Rattle.pt_chains.proofs.Equal.{records_decide}
 use Rattle.pt_chains.proofs.Heads.{reads_so}
 use Rattle.pt_chains.proofs.head.reads_as.Goals as goal

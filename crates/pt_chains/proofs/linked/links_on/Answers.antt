@@ -4,7 +4,7 @@ use Rattle.pt_sector.specs.declared.address.Lba.{Lba}
 use Rattle.std.proofs.lemmas.Bool.{false≢true}
 use Rattle.pt_mbr.specs.Chain.{lba}
 use Rattle.pt_mbr.specs.declared.ebr.Ebr.{Ebr}
-use Rattle.pt_recover.specs.Mbr.{extent_of}
+use Rattle.pt_mbr.specs.Extended.{extent_of}
 use Rattle.pt_chains.proofs.Linking.{goes_on, stops, ended, GoesOn}
 use Rattle.pt_chains.proofs.linked.links_on.Goals as goal
 

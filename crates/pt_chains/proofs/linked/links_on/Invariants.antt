@@ -1,6 +1,6 @@
 use Rattle.std.proofs.Common.{Some}
 use Rattle.pt_mbr.specs.Chain.{lba}
-use Rattle.pt_recover.specs.Mbr.{extent_of}
+use Rattle.pt_mbr.specs.Extended.{extent_of}
 use Rattle.pt_chains.proofs.Linking.{GoesOn}
 use Rattle.pt_chains.proofs.linked.links_on.Given as goal
 

@@ -7,7 +7,7 @@ use Rattle.pt_sector.specs.Overlays.{room_left}
 use Rattle.pt_sector.specs.Device.{Told}
 use Rattle.pt_apply.specs.Plans.{phases_of, writes_of}
 use Rattle.pt_recover.specs.Denotes.{Denotes, Reads}
-use Rattle.pt_recover.specs.Laws.{denotes_one_lem}
+use Rattle.pt_recover.specs.laws.Terms.{denotes_one_lem}
 use Rattle.pt_recover.specs.Spans.{IsIn}
 use Rattle.pt_check.specs.Course.{Course}
 use Rattle.pt_check.specs.Failed.{fault_in}

@@ -1,4 +1,4 @@
-use Rattle.pt_copies.specs.Reached.{backup_first_reached, primary_first_reached, from_mbr_reached}
+use Rattle.pt_copies.specs.laws.Reached.{backup_first_reached, primary_first_reached, from_mbr_reached}
 use Rattle.pt_copies.proofs.laws.all_writes_are_reached.Goals as goal
 
 pub returns : goal.returns

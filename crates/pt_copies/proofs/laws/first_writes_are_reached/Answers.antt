@@ -1,4 +1,4 @@
-use Rattle.pt_copies.specs.Reached.{labels_and_backup_reached, closing_reached, copies_and_labels_reached}
+use Rattle.pt_copies.specs.laws.Reached.{labels_and_backup_reached, closing_reached, copies_and_labels_reached}
 use Rattle.pt_copies.proofs.laws.first_writes_are_reached.Goals as goal
 
 pub returns : goal.returns

@@ -1,4 +1,4 @@
-use Rattle.pt_copies.specs.Reached.{last_reached, protects_reached}
+use Rattle.pt_copies.specs.laws.Reached.{last_reached, protects_reached}
 use Rattle.pt_copies.proofs.laws.last_writes_are_of_the_head.Goals as goal
 
 pub returns : goal.returns

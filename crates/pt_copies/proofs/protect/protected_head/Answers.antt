@@ -1,5 +1,5 @@
 use Rattle.std.proofs.Common.{◌∙◌, sym}
-use Rattle.pt_cases.specs.Guards.{boot_kept}
+use Rattle.pt_cases.specs.laws.Guards.{boot_kept}
 use Rattle.pt_copies.proofs.protect.protected_head.Goals as goal
 
 pub returns : goal.returns

@@ -1,7 +1,7 @@
 -- What the words that are left make of the state is what all of them make.
 use Rattle.std.proofs.Common.{◌≤◌, drop, length, Result}
 use Rattle.std.specs.Option.{option_map}
-use Rattle.pt_recover.specs.declared.layout.Layout.{Layout}
+use Rattle.pt_members.specs.declared.layout.Layout.{Layout}
 use Rattle.pt_edit.specs.Edited.{Edited, EditedFrom}
 use Rattle.pt_edit.specs.Fold.{state_of}
 use Rattle.pt_words.specs.declared.error.Refusal.{Refusal}

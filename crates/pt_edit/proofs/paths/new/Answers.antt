@@ -1,5 +1,5 @@
 use Rattle.std.proofs.Common.{◌≢◌, ℕ, Option, None, IfErr, sym, subst}
-use Rattle.pt_recover.specs.declared.layout.Layout.{Layout}
+use Rattle.pt_members.specs.declared.layout.Layout.{Layout}
 use Rattle.pt_words.specs.declared.error.Refusal.TheVariants.{Memory}
 use Rattle.pt_edit.specs.Edited.{NotMade}
 use Rattle.pt_edit.proofs.paths.new.Goals as goal

@@ -1,6 +1,6 @@
-use Rattle.pt_exact.specs.Fits.{edit_may_be, edit_labels_fit, edit_readable}
-use Rattle.pt_exact.specs.FitsApart.{edit_apart}
-use Rattle.pt_exact.specs.FitsMade.{edit_made}
+use Rattle.pt_exact.specs.laws.Fits.{edit_may_be, edit_labels_fit, edit_readable}
+use Rattle.pt_exact.specs.laws.FitsApart.{edit_apart}
+use Rattle.pt_exact.specs.laws.FitsMade.{edit_made}
 use Rattle.pt_exact.proofs.laws.edits_fit_their_disk.Goals as goal
 
 pub returns : goal.returns

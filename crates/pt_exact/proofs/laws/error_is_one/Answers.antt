@@ -1,4 +1,4 @@
-use Rattle.pt_exact.specs.Answers.{error_is_one}
+use Rattle.pt_exact.specs.laws.Answers.{error_is_one}
 use Rattle.pt_exact.proofs.laws.error_is_one.Goals as goal
 
 pub returns : goal.returns

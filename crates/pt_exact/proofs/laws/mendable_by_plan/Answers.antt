@@ -1,4 +1,4 @@
-use Rattle.pt_exact.specs.Mended.{mendable_by_plan_lem}
+use Rattle.pt_exact.specs.laws.Mended.{mendable_by_plan_lem}
 use Rattle.pt_exact.proofs.laws.mendable_by_plan.Goals as goal
 
 pub returns : goal.returns

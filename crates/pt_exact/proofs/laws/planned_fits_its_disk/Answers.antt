@@ -1,5 +1,5 @@
-use Rattle.pt_cases.specs.Causes.{plan_may_be}
-use Rattle.pt_exact.specs.Planned.{planned_fits, planned_readable}
+use Rattle.pt_cases.specs.laws.Causes.{plan_may_be}
+use Rattle.pt_exact.specs.laws.Planned.{planned_fits, planned_readable}
 use Rattle.pt_exact.proofs.laws.planned_fits_its_disk.Goals as goal
 
 pub returns : goal.returns

@@ -1,4 +1,4 @@
-use Rattle.pt_exact.specs.Planned.{planned_is_sound}
+use Rattle.pt_exact.specs.laws.Planned.{planned_is_sound}
 use Rattle.pt_exact.proofs.laws.planned_is_sound.Goals as goal
 
 pub returns : goal.returns

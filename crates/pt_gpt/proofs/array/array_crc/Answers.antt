@@ -1,7 +1,7 @@
 use Rattle.std.proofs.Common.{◌≡◌, ◌∙◌, ◌+◌, ◌++◌, List, ℕ, sym, ap, arith, zero-add}
 use Rattle.std.specs.Prelude.{slice_index_or, None}
 use Rattle.pt_sum.specs.Crc.{after_bytes}
-use Rattle.pt_sum.specs.Laws.{after_bytes-append}
+use Rattle.pt_sum.specs.laws.Terms.{after_bytes-append}
 use Rattle.pt_gpt.specs.Entry.{entry_bytes}
 use Rattle.pt_gpt.specs.Array.{entries_bytes}
 use Rattle.pt_gpt.proofs.ArraySteps.{no_entries, next_entry, fits_next}

@@ -1,4 +1,4 @@
-use Rattle.pt_guid.specs.Laws.{types_are_used}
+use Rattle.pt_guid.specs.laws.Terms.{types_are_used}
 use Rattle.pt_guid.proofs.codes.types_are_used.Goals as goal
 
 pub returns : goal.returns

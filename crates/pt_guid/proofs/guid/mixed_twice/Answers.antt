@@ -1,4 +1,4 @@
-use Rattle.pt_guid.specs.Laws.{mixed_twice}
+use Rattle.pt_guid.specs.laws.Terms.{mixed_twice}
 use Rattle.pt_guid.proofs.guid.mixed_twice.Goals as goal
 
 pub returns : goal.returns

@@ -1,4 +1,4 @@
-use Rattle.pt_guid.specs.Laws.{text_reads_back}
+use Rattle.pt_guid.specs.laws.Terms.{text_reads_back}
 use Rattle.pt_guid.proofs.guid.text_reads_back.Goals as goal
 
 pub returns : goal.returns

@@ -1,4 +1,4 @@
-use Rattle.pt_labels.specs.Answers.{part_deleted_answers_lem}
+use Rattle.pt_labels.specs.laws.Answers.{part_deleted_answers_lem}
 use Rattle.pt_labels.proofs.laws.part_deleted_answers.Goals as goal
 
 pub returns : goal.returns

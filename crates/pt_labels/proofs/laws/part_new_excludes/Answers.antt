@@ -1,4 +1,4 @@
-use Rattle.pt_labels.specs.NewLaws.{new_excludes_lem}
+use Rattle.pt_labels.specs.laws.NewLaws.{new_excludes_lem}
 use Rattle.pt_labels.proofs.laws.part_new_excludes.Goals as goal
 
 pub returns : goal.returns

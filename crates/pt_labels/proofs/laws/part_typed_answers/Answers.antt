@@ -1,4 +1,4 @@
-use Rattle.pt_labels.specs.Answers.{part_typed_answers_lem}
+use Rattle.pt_labels.specs.laws.Answers.{part_typed_answers_lem}
 use Rattle.pt_labels.proofs.laws.part_typed_answers.Goals as goal
 
 pub returns : goal.returns

@@ -1,6 +1,6 @@
 use Rattle.std.proofs.Common.{rules, nat_lt}
 use Rattle.std.proofs.lemmas.Fn.{filter_same}
-use Rattle.pt_recover.specs.declared.layout.Labelled.{Labelled}
+use Rattle.pt_members.specs.declared.layout.Labelled.{Labelled}
 use Rattle.pt_labels.proofs.lists.below.Goals as goal
 
 pub returns : goal.returns

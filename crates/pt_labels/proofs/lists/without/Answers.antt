@@ -1,6 +1,6 @@
 use Rattle.std.proofs.Common.{rules, if◌then◌else◌, nat_eq, true, false}
 use Rattle.std.proofs.lemmas.Fn.{filter_same}
-use Rattle.pt_recover.specs.declared.layout.Labelled.{Labelled}
+use Rattle.pt_members.specs.declared.layout.Labelled.{Labelled}
 use Rattle.pt_labels.proofs.lists.without.Goals as goal
 
 pub returns : goal.returns

@@ -1,6 +1,6 @@
 use Rattle.std.proofs.Common.{◌≡◌, ◌<◌, ℕ, get_or, Some, None}
-use Rattle.pt_layout.specs.declared.member.Member.{Member}
-use Rattle.pt_layout.specs.Members.{slots}
+use Rattle.pt_members.specs.declared.member.Member.{Member}
+use Rattle.pt_members.specs.Members.{slots}
 use Rattle.pt_labels.specs.Slices.{IsSliceOf}
 use Rattle.pt_labels.proofs.slices.slice_of.Given as goal
 

@@ -1,5 +1,5 @@
 use Rattle.std.proofs.Common.{◌≡◌, ◌≤◌, ℕ, List, length, get_or, ap, subst, arith}
-use Rattle.pt_layout.specs.declared.member.Member.{Member}
+use Rattle.pt_members.specs.declared.member.Member.{Member}
 use Rattle.pt_layout.specs.Overlaps.{nobody}
 use Rattle.pt_layout.specs.Spots.{LeastIs}
 use Rattle.pt_layout.specs.Row.{HasFault, FaultAt}

@@ -1,6 +1,6 @@
 use Rattle.std.proofs.Common.{◌≡◌, ◌∙◌, ℕ, length, get_or, subst, arith}
 use Rattle.std.proofs.lemmas.List.{get_or_default}
-use Rattle.pt_layout.specs.Members.{Group}
+use Rattle.pt_members.specs.Members.{Group}
 use Rattle.pt_layout.specs.Spots.{LeastIs}
 use Rattle.pt_layout.specs.Row.{FaultIn, FaultOf, no_group}
 use Rattle.pt_layout.proofs.First.{Below, below_more}

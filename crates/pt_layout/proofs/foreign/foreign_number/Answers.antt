@@ -1,5 +1,5 @@
 use Rattle.std.proofs.Common.{◌≡◌, ℕ, List, subst}
-use Rattle.pt_layout.specs.Next.{NextIs}
+use Rattle.pt_members.specs.Next.{NextIs}
 use Rattle.pt_layout.specs.Foreign.{ForeignBytes}
 use Rattle.pt_layout.proofs.foreign.foreign_number.Goals as goal
 

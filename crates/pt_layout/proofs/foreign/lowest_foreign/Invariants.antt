@@ -1,8 +1,8 @@
 use Rattle.std.proofs.Common.{◌≡◌, get_or}
 use Rattle.pt_sector.specs.Reads.{OnlyReads}
-use Rattle.pt_layout.specs.Next.{NextIs}
+use Rattle.pt_members.specs.Next.{NextIs}
 use Rattle.pt_layout.specs.Foreign.{ForeignOf, no_slice}
-use Rattle.pt_layout.proofs.Lowest.{Under}
+use Rattle.pt_members.proofs.Lowest.{Under}
 use Rattle.pt_layout.proofs.foreign.lowest_foreign.Given as goal
 
 abbrev pub invariant-loop-k : goal.invariant-loop-k

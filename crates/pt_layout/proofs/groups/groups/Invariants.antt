@@ -1,6 +1,6 @@
 use Rattle.std.proofs.Common.{◌≡◌, ◌∷◌, take}
 use Rattle.std.specs.Prelude.{flat_map}
-use Rattle.pt_layout.specs.Members.{slots, present, group_in, top_group}
+use Rattle.pt_members.specs.Members.{slots, present, group_in, top_group}
 use Rattle.pt_layout.proofs.groups.groups.Given as goal
 
 abbrev pub invariant-loop-k : goal.invariant-loop-k

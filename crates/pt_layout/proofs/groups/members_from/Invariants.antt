@@ -1,6 +1,6 @@
 use Rattle.std.proofs.Common.{◌≡◌}
 use Rattle.std.specs.Prelude.{slice_range}
-use Rattle.pt_layout.specs.Members.{present, slots}
+use Rattle.pt_members.specs.Members.{present, slots}
 use Rattle.pt_layout.proofs.groups.members_from.Given as goal
 
 abbrev pub invariant-loop-k : goal.invariant-loop-k

@@ -1,8 +1,8 @@
 use Rattle.std.proofs.Common.{List, subst, rules}
 use Rattle.std.proofs.lemmas.List.Sorted.{IsNonDecreasingBy-from_sort_by_key, answers_always}
 use Rattle.pt_layout.specs.Overlaps.{FirstMeetingIs}
-use Rattle.pt_layout.specs.declared.member.Member.{Member}
-use Rattle.pt_layout.specs.Apart.{found_apart}
+use Rattle.pt_members.specs.declared.member.Member.{Member}
+use Rattle.pt_layout.specs.laws.Apart.{found_apart}
 use Rattle.pt_layout.proofs.overlap.first_overlap.Goals as goal
 
 pub returns : goal.returns

@@ -1,6 +1,6 @@
 use Rattle.std.proofs.Common.{List, Some, None, subst}
 use Rattle.pt_layout.specs.declared.faults.Fault.TheVariants.{Buried}
-use Rattle.pt_layout.specs.Members.{Group}
+use Rattle.pt_members.specs.Members.{Group}
 use Rattle.pt_layout.specs.Spots.{LeastIs}
 use Rattle.pt_layout.specs.Row.{FaultAmong}
 use Rattle.pt_layout.proofs.Faulty.{off_all, buried_first}

@@ -1,6 +1,6 @@
 use Rattle.std.proofs.Common.{List, Option, Some, None, sym, subst}
 use Rattle.pt_layout.specs.declared.overlap.Overlap.{Overlap}
-use Rattle.pt_layout.specs.Members.{Group}
+use Rattle.pt_members.specs.Members.{Group}
 use Rattle.pt_layout.specs.Row.{AllOrdered, SharedIs}
 use Rattle.pt_layout.proofs.Faulty.{ordered_all, apart_all, shared_first}
 use Rattle.pt_layout.proofs.soundness.overlapping.Goals as goal

@@ -1,6 +1,6 @@
 use Rattle.std.proofs.Common.{◌+◌, List, Option, Some, None, sym, subst}
 use Rattle.pt_gpt.specs.declared.entry.Entry.{Entry}
-use Rattle.pt_recover.specs.declared.layout.Body.{Body}
+use Rattle.pt_members.specs.declared.layout.Body.{Body}
 use Rattle.pt_layout.specs.Twins.{TwinsAre}
 use Rattle.pt_layout.specs.Steps.{SameGuidIs}
 use Rattle.pt_layout.proofs.Pairs.{mbr_distinct, distinct, first_pair}

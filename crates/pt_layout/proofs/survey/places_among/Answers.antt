@@ -1,5 +1,5 @@
 use Rattle.std.proofs.Common.{get_or, refl, arith}
-use Rattle.pt_recover.specs.declared.layout.Slice.{Slice}
+use Rattle.pt_members.specs.declared.layout.Slice.{Slice}
 use Rattle.pt_recover.proofs.Traces.{place_more, place_end}
 use Rattle.pt_layout.proofs.Surveys.{only_places}
 use Rattle.pt_layout.proofs.survey.places_among.Goals as goal

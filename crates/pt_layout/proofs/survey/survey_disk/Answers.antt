@@ -1,13 +1,14 @@
 use Rattle.std.proofs.Common.{◌≡◌, ◌∙◌, length, sym, subst, arith}
 use Rattle.pt_sector.specs.Sectors.{Sectors}
 use Rattle.pt_sector.specs.Device.{Told}
-use Rattle.pt_recover.specs.Gpt.{HasRoom}
+use Rattle.pt_gpt.specs.Array.{HasRoom}
 use Rattle.pt_recover.specs.Mbr.{IsMbrDisk}
 use Rattle.pt_recover.specs.declared.error.NoTable.TheVariants.{TooSmall}
 use Rattle.pt_layout.specs.Surveys.{HeadOf}
 use Rattle.pt_layout.specs.declared.health.Head.TheVariants.{Unprotected}
 use Rattle.pt_layout.proofs.Verdicts.{small_reason, empty_head, head_is, head_plain}
 use Rattle.pt_layout.proofs.Surveys.{nothing_survey}
+use Rattle.pt_layout.proofs.Traced.{empty_trace}
 use Rattle.pt_layout.proofs.survey.survey_disk.Goals as goal
 
 pub returns-then-sectors-eq0-clause-ok : goal.returns-then-sectors-eq0-clause-ok
@@ -17,8 +18,8 @@ returns-then-sectors-eq0-clause-ok g c = λ tells.
     let small : ¬ HasRoom g.row.B (length d) = λ room. omega (arith, none, room) in
     let is = empty_head d none in
     let why = small_reason g.row.B d is.0 small in
-    rw c.nothing.ensures (nothing_survey g.row.B d Unprotected TooSmall c.new.result is is.0 why.0 why.1
-    (λ big copy. small big) c.new.ensures)
+    rw c.nothing.ensures (nothing_survey g.row.B d Unprotected TooSmall c.new-guarded.result c.new-trace.result is is.0 why.0 why.1
+    (λ big copy. small big) c.new-guarded.ensures (empty_trace g.row.B d c.new-trace.result none is.0 small c.new-trace.ensures))
 
 pub survey_gpt-requires-clause-head : goal.survey_gpt-requires-clause-head
 survey_gpt-requires-clause-head g c = λ tells.

@@ -1,8 +1,8 @@
 use Rattle.std.proofs.Common.{◌≡◌, ◌∙◌, ℕ, length, sym, subst}
 use Rattle.pt_sector.specs.Sectors.{Sectors}
-use Rattle.pt_gpt.specs.Laws.{no_copy_lem}
+use Rattle.pt_gpt.specs.laws.Terms.{no_copy_lem}
 use Rattle.pt_gpt.specs.declared.table.Side.TheVariants.{Primary}
-use Rattle.pt_recover.specs.Gpt.{HasRoom}
+use Rattle.pt_gpt.specs.Array.{HasRoom}
 use Rattle.pt_recover.specs.declared.error.NoTable.TheVariants.{NoCopy}
 use Rattle.pt_layout.specs.declared.halves.Halves.{Halves}
 use Rattle.pt_layout.specs.declared.halves.Halves.TheVariants.{Both, OnlyPrimary, OnlyBackup, Neither}
@@ -69,5 +69,6 @@ returns-in-Neither-clause-ok g c = λ tells.
     subst (λ (h : Halves). HalvesAre g.row.B d h) c.in-Neither.is (c.requires.halves tells) in
     let why = neither_reason g.row.B d c.in-Neither.e c.in-Neither.f (c.requires.plain tells) room are.0 are.1 in
     rw c.nothing.ensures
-    (nothing_survey g.row.B d c.args.head (NoCopy c.in-Neither.e c.in-Neither.f) c.new.result (c.requires.head tells)
-    (c.requires.plain tells) why.0 why.1 (λ big copy. no_copy_lem g.row.B d Primary c.in-Neither.e are.0 copy) c.new.ensures)
+    (nothing_survey g.row.B d c.args.head (NoCopy c.in-Neither.e c.in-Neither.f) c.new.result c.args.trace (c.requires.head tells)
+    (c.requires.plain tells) why.0 why.1 (λ big copy. no_copy_lem g.row.B d Primary c.in-Neither.e are.0 copy) c.new.ensures
+    (c.requires.traced tells))

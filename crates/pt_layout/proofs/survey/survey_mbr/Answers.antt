@@ -8,7 +8,7 @@ use Rattle.pt_recover.specs.Answers.{TellsNothing, IsOutside, IsTraceOf, FailedI
 use Rattle.pt_recover.specs.Denotes.{Denotes, Reads}
 use Rattle.pt_recover.specs.Numbers.{Numbers}
 use Rattle.pt_recover.specs.declared.error.NoTable.{NoTable}
-use Rattle.pt_recover.specs.declared.layout.Layout.{Layout}
+use Rattle.pt_members.specs.declared.layout.Layout.{Layout}
 use Rattle.std.specs.Prelude.{◌⊎◌}
 use Rattle.pt_layout.specs.Healthy.{IsBodyWhole}
 use Rattle.pt_layout.specs.Surveys.{FindingIs}
@@ -38,8 +38,8 @@ returns-in_err-finding-in-Ok-clause-place g c = λ tells.
     (subst (λ (t : Told). FailedIn (Reads g.row.B t.seen) c.in_err-finding-in-Ok.field-0.0)
     (c.recover_traced-found.ensures.same.same tells) (c.in_err-finding-in-Ok.ensures.place tells)))
 
-pub returns-in_ok-finding-in-Ok-clause-ok : goal.returns-in_ok-finding-in-Ok-clause-ok
-returns-in_ok-finding-in-Ok-clause-ok g c = λ tells.
+pub returns-in_ok-guarded-in-Ok-clause-ok : goal.returns-in_ok-guarded-in-Ok-clause-ok
+returns-in_ok-guarded-in-Ok-clause-ok g c = λ tells.
     let d : Sectors = (g.D.Disk.told c.args.disk.now).seen in
     let denotes : Denotes g.row.B d (Some c.in-Ok.layout) =
     subst (λ (r : Result Layout NoTable). IfOk r (λ o. Denotes g.row.B d (Some o))) c.in-Ok.is
@@ -52,8 +52,8 @@ returns-in_ok-finding-in-Ok-clause-ok g c = λ tells.
     let trace : IsTraceOf g.row.B d c.recover_traced-found.result.1 =
     subst (λ (r : Result Layout NoTable). OnOk r (IsTraceOf g.row.B d c.recover_traced-found.result.1)) c.in-Ok.is
     (c.recover_traced-found.ensures.traced tells) in
-    mbr_survey g.row.B d c.in-Ok.layout c.in_ok-finding-in-Ok.finding c.recover_traced-found.result.1
-    (c.requires.mbr tells) denotes numbers finding trace
+    mbr_survey g.row.B d c.in-Ok.layout c.in_ok-finding-in-Ok.finding c.in_ok-guarded-in-Ok.guarded c.recover_traced-found.result.1
+    (c.requires.mbr tells) denotes numbers finding c.in_ok-guarded-in-Ok.ensures trace
 
 pub returns-in-Some-clause-place : goal.returns-in-Some-clause-place
 returns-in-Some-clause-place g c = λ tells.
@@ -64,8 +64,8 @@ returns-in-Some-clause-place g c = λ tells.
     read_failed g.row.B d c.in-Some.failure (reason_failed (Reads g.row.B d) c.in-Err.reason c.in-Some.failure
     (sym c.failure.ensures ∙ c.in-Some.is) failed)
 
-pub returns-in-None-clause-ok : goal.returns-in-None-clause-ok
-returns-in-None-clause-ok g c = λ tells.
+pub returns-in_ok-guarded-in-None-clause-ok : goal.returns-in_ok-guarded-in-None-clause-ok
+returns-in_ok-guarded-in-None-clause-ok g c = λ tells.
     let d : Sectors = (g.D.Disk.told c.args.disk.now).seen in
     let told : TellsNothing g.row.B d c.in-Err.reason =
     subst (λ (r : Result Layout NoTable). IfErr r (λ e. TellsNothing g.row.B d e)) c.in-Err.is
@@ -73,5 +73,6 @@ returns-in-None-clause-ok g c = λ tells.
     let trace : IsOutside c.in-Err.reason ⊎ IsTraceOf g.row.B d c.recover_traced-found.result.1 =
     subst (λ (r : Result Layout NoTable). IfErr r (λ e. IsOutside e
     ⊎ IsTraceOf g.row.B d c.recover_traced-found.result.1)) c.in-Err.is (c.recover_traced-found.ensures.traced_err tells) in
-    rw c.nothing.ensures (mbr_nothing g.row.B d c.in-Err.reason c.recover_traced-found.result.1 (c.requires.mbr tells)
-    (reason_inside c.in-Err.reason (sym c.failure.ensures ∙ c.in-None.is)) told trace)
+    rw c.nothing.ensures (mbr_nothing g.row.B d c.in-Err.reason c.in_ok-guarded-in-None.guarded c.recover_traced-found.result.1
+    (c.requires.mbr tells) (reason_inside c.in-Err.reason (sym c.failure.ensures ∙ c.in-None.is)) told
+    c.in_ok-guarded-in-None.ensures trace)

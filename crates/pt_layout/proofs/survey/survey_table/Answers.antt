@@ -4,13 +4,16 @@ use Rattle.pt_sector.specs.Sectors.{Sectors}
 use Rattle.pt_sector.specs.Device.{Told}
 use Rattle.pt_sector.specs.Reads.{FailedIn}
 use Rattle.pt_recover.specs.Denotes.{Denotes, Reads}
-use Rattle.pt_recover.specs.Labels.{places_of}
-use Rattle.pt_recover.specs.declared.layout.Body.TheVariants.{Gpt}
+use Rattle.pt_recover.specs.Answers.{IsTraceOf}
+use Rattle.pt_members.specs.Slices.{places_of, IsPlace}
+use Rattle.pt_recover.specs.Spans.{Adds}
+use Rattle.pt_members.specs.declared.layout.Body.TheVariants.{Gpt}
 use Rattle.pt_layout.specs.Surveys.{FindingIs}
 use Rattle.pt_layout.specs.Verdicts.{ArePlaces}
 use Rattle.pt_layout.proofs.Failing.{label_failed, read_failed}
 use Rattle.pt_layout.proofs.Verdicts.{gpt_denotes}
 use Rattle.pt_layout.proofs.Surveys.{table_survey}
+use Rattle.pt_layout.proofs.Traced.{whole_trace}
 use Rattle.pt_layout.proofs.survey.survey_table.Goals as goal
 
 pub returns-in_err-placed-clause-place : goal.returns-in_err-placed-clause-place
@@ -45,5 +48,10 @@ returns-clause-ok g c = λ tells.
     let places : ArePlaces (places_of g.row.B (length d) (Gpt c.args.table)) c.in_ok-placed.placed.places =
     subst (λ (n : ℕ). ArePlaces (places_of g.row.B n (Gpt c.args.table)) c.in_ok-placed.placed.places)
     (sym (g.met.D.Disk.sized c.args.disk.now tells)) c.in_ok-placed.ensures.places in
+    let traced : IsTraceOf g.row.B d c.with_labels.new.trace =
+    whole_trace g.row.B d (Gpt c.args.table) c.args.trace c.with_labels.new.trace (c.requires.body tells) (c.requires.traced tells)
+    (subst (λ (n : ℕ). Adds c.args.trace c.with_labels.new.trace (IsPlace (places_of g.row.B n (Gpt c.args.table))))
+    (sym (g.met.D.Disk.sized c.args.disk.now tells)) c.in_ok-placed.ensures.traced) in
     table_survey g.row.B d c.args.head c.args.table o c.in_ok-finding.finding c.args.primary c.in_ok-placed.placed.places
-    (c.requires.head tells) (c.requires.body tells) (c.in_ok-placed.ensures.ok tells) finding (c.requires.primary tells) places
+    c.with_labels.new.trace (c.requires.head tells) (c.requires.body tells) (c.in_ok-placed.ensures.ok tells) finding (c.requires.primary tells)
+    places traced

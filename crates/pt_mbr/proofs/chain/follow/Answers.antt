@@ -5,7 +5,7 @@ use Rattle.pt_sector.specs.Device.{Told}
 use Rattle.pt_mbr.specs.Chain.{lba, span_of, Walk}
 use Rattle.pt_mbr.specs.Decoded.{EndsIn}
 use Rattle.pt_mbr.proofs.Walks.{starts_out, too_long}
-use Rattle.pt_mbr.specs.Same.{inside_same}
+use Rattle.pt_mbr.specs.laws.Same.{inside_same}
 use Rattle.pt_mbr.proofs.chain.follow.Goals as goal
 
 pub returns-then-not-is_inside-clause-err : goal.returns-then-not-is_inside-clause-err

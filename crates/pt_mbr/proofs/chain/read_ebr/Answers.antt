@@ -5,7 +5,7 @@ use Rattle.pt_mbr.specs.Chain.{span_of}
 use Rattle.pt_mbr.specs.declared.ebr.EbrFault.{EbrFault}
 use Rattle.pt_mbr.specs.declared.ebr.EbrFault.TheVariants as ebr
 use Rattle.pt_mbr.proofs.Walks.{no_signature, bad_record, device}
-use Rattle.pt_mbr.specs.Same.{inside_same}
+use Rattle.pt_mbr.specs.laws.Same.{inside_same}
 use Rattle.pt_mbr.proofs.chain.read_ebr.Goals as goal
 
 pub returns-in_err-read_sector-clause-err : goal.returns-in_err-read_sector-clause-err

@@ -3,7 +3,7 @@ use Rattle.std.proofs.lemmas.Bool.{false≢true}
 use Rattle.std.proofs.lemmas.Result.{err_from_is_err_and}
 use Rattle.pt_mbr.specs.Chain.{span_of}
 use Rattle.pt_mbr.proofs.Walks.{chain_ends, walk_on, links_down, links_outside}
-use Rattle.pt_mbr.specs.Same.{inside_same}
+use Rattle.pt_mbr.specs.laws.Same.{inside_same}
 use Rattle.pt_mbr.proofs.chain.step.Goals as goal
 
 pub returns-in_err-ebr-clause-err : goal.returns-in_err-ebr-clause-err

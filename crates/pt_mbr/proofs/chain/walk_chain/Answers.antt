@@ -1,5 +1,5 @@
 use Rattle.pt_mbr.specs.Chain.{span_of}
-use Rattle.pt_mbr.specs.Reading.{of_list}
+use Rattle.pt_mbr.specs.laws.Reading.{of_list}
 use Rattle.pt_mbr.proofs.chain.walk_chain.Goals as goal
 
 pub returns-clause-read_ok : goal.returns-clause-read_ok

@@ -1,7 +1,7 @@
 use Rattle.std.proofs.Common.{List, All, subst, arith}
 use Rattle.std.proofs.lemmas.List.{take_all}
 use Rattle.std.proofs.lemmas.List.Elements.{All-more}
-use Rattle.pt_recover.specs.declared.layout.Slice.{Slice}
+use Rattle.pt_members.specs.declared.layout.Slice.{Slice}
 use Rattle.pt_places.proofs.Pieces.{NotHad, none_had}
 use Rattle.pt_places.proofs.had.had_label.Goals as goal
 

@@ -1,4 +1,4 @@
-use Rattle.pt_bsd.specs.Laws.{label_none}
+use Rattle.pt_bsd.specs.laws.Terms.{label_none}
 use Rattle.pt_places.proofs.had.label_for.Goals as goal
 
 pub returns-in-Err : goal.returns-in-Err

@@ -1,5 +1,5 @@
 use Rattle.std.proofs.Common.{◌≡◌, ◌+◌, ◌++◌, List, get_or, map, drop, refl, sym, subst, arith}
-use Rattle.pt_recover.specs.declared.layout.Slice.{Slice}
+use Rattle.pt_members.specs.declared.layout.Slice.{Slice}
 use Rattle.pt_places.specs.Spots.{slice_of, labels_of}
 use Rattle.pt_places.specs.declared.place.Spot.{Spot}
 use Rattle.pt_places.proofs.Sides.{fits_on, labels_on, slices_on}

@@ -1,6 +1,6 @@
 use Rattle.std.proofs.Common.{◌≡◌, ◌∙◌, sym, subst}
 use Rattle.std.proofs.lemmas.Bool.{false≢true}
-use Rattle.pt_bsd.specs.Equal.{label_decides}
+use Rattle.pt_bsd.specs.laws.Equal.{label_decides}
 use Rattle.pt_bsd.specs.declared.label.Label.{Label}
 use Rattle.pt_places.specs.Places.{HadAt}
 use Rattle.pt_places.proofs.Pieces.{kept_is, changed_is, new_is}

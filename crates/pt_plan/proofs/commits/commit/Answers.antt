@@ -1,5 +1,5 @@
 use Rattle.std.proofs.lemmas.Result.{err_from_is_err_and}
-use Rattle.pt_recover.specs.Laws.{denotes_one_lem}
+use Rattle.pt_recover.specs.laws.Terms.{denotes_one_lem}
 use Rattle.pt_plan.specs.Failed.{commit_fault_in}
 use Rattle.pt_plan.proofs.Exits.{at_failed_flush, at_refused, at_failed, at_done, met_read}
 use Rattle.pt_plan.proofs.commits.commit.Goals as goal

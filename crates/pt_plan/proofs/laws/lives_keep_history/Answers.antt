@@ -1,6 +1,6 @@
 use Rattle.pt_recover.specs.Denotes.{Denotes}
 use Rattle.pt_plan.specs.Batches.{EditedBy, Commits, Repairs}
-use Rattle.pt_plan.specs.Carried.{lives_keep_lem}
+use Rattle.pt_plan.specs.laws.Carried.{lives_keep_lem}
 use Rattle.pt_plan.proofs.laws.lives_keep_history.Goals as goal
 
 pub returns : goal.returns

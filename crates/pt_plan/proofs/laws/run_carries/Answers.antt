@@ -1,6 +1,6 @@
 use Rattle.pt_recover.specs.Denotes.{Denotes}
 use Rattle.pt_plan.specs.Batches.{EditedBy, Commits, Repairs}
-use Rattle.pt_plan.specs.Carried.{run_carries_lem}
+use Rattle.pt_plan.specs.laws.Carried.{run_carries_lem}
 use Rattle.pt_plan.proofs.laws.run_carries.Goals as goal
 
 pub returns : goal.returns

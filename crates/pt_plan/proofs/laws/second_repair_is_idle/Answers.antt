@@ -1,5 +1,5 @@
 use Rattle.std.proofs.Common.{⊎_elim}
-use Rattle.pt_plan.specs.Idle.{only_flushes_lem}
+use Rattle.pt_plan.specs.laws.Idle.{only_flushes_lem}
 use Rattle.pt_plan.proofs.laws.second_repair_is_idle.Goals as goal
 
 pub returns : goal.returns

@@ -1,6 +1,6 @@
 use Rattle.pt_recover.specs.Denotes.{Denotes}
 use Rattle.pt_plan.specs.Batches.{EditedBy, Commits}
-use Rattle.pt_plan.specs.Carried.{session_carries_lem}
+use Rattle.pt_plan.specs.laws.Carried.{session_carries_lem}
 use Rattle.pt_plan.proofs.laws.session_carries.Goals as goal
 
 pub returns : goal.returns

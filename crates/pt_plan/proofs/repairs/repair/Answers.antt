@@ -1,5 +1,5 @@
 use Rattle.std.proofs.lemmas.Result.{err_from_is_err_and}
-use Rattle.pt_recover.specs.Laws.{denotes_one_lem}
+use Rattle.pt_recover.specs.laws.Terms.{denotes_one_lem}
 use Rattle.pt_plan.specs.Mending.{repair_fault_in}
 use Rattle.pt_plan.proofs.Exits.{met_read}
 use Rattle.pt_plan.proofs.Mendable.{none_of_healthy}

@@ -1,6 +1,6 @@
 use Rattle.std.proofs.Common.{◌∙◌, ℕ, sym, subst, arith}
 use Rattle.std.proofs.lemmas.Result.{err_from_is_err_and}
-use Rattle.pt_recover.specs.Mbr.{extended_of}
+use Rattle.pt_mbr.specs.Extended.{extended_of}
 use Rattle.pt_shape.specs.Shape.{FitsTable}
 use Rattle.pt_shape.specs.Links.{IsLinked}
 use Rattle.pt_planner.proofs.Beginning.{of_disk, starts}

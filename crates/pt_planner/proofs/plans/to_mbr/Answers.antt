@@ -1,6 +1,6 @@
 use Rattle.std.proofs.Common.{◌<◌, ℕ, sym, subst}
 use Rattle.std.specs.Prelude.{Contains}
-use Rattle.pt_recover.specs.Mbr.{extended_of}
+use Rattle.pt_mbr.specs.Extended.{extended_of}
 use Rattle.pt_shape.specs.Links.{IsLinked}
 use Rattle.pt_targets.specs.Unmade.{HasUnmade}
 use Rattle.pt_targets.specs.Targets.{AreMbrTargets}

@@ -1,5 +1,5 @@
 use Rattle.std.proofs.Common.{◌∙◌, sym, refl}
-use Rattle.pt_logicals.specs.Types.{told_extended}
+use Rattle.pt_records.specs.Types.{told_extended}
 use Rattle.pt_records.specs.Deleted.{plain, extended, deleted_record, record_not_deleted}
 use Rattle.pt_records.proofs.deletion.delete_record.Goals as goal
 

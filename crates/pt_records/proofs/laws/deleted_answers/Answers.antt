@@ -1,4 +1,4 @@
-use Rattle.pt_records.specs.Answers.{deleted_answers_lem}
+use Rattle.pt_records.specs.laws.Answers.{deleted_answers_lem}
 use Rattle.pt_records.proofs.laws.deleted_answers.Goals as goal
 
 pub returns : goal.returns

@@ -1,4 +1,4 @@
-use Rattle.pt_records.specs.Answers.{typed_answers_lem}
+use Rattle.pt_records.specs.laws.Answers.{typed_answers_lem}
 use Rattle.pt_records.proofs.laws.typed_answers.Goals as goal
 
 pub returns : goal.returns

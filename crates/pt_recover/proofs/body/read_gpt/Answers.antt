@@ -1,6 +1,6 @@
 use Rattle.std.proofs.lemmas.Result.{err_from_is_err_and}
 use Rattle.std.proofs.Common.{length, refl}
-use Rattle.pt_recover.specs.Gpt.{HasRoom}
+use Rattle.pt_gpt.specs.Array.{HasRoom}
 use Rattle.pt_recover.specs.Answers.{IsOutside}
 use Rattle.pt_recover.proofs.Bodies.{enough, rest_gpt, rest_gpt_or, no_copies}
 use Rattle.pt_recover.proofs.Failed.{rest_of_table}

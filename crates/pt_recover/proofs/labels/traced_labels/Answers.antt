@@ -2,10 +2,11 @@ use Rattle.std.proofs.lemmas.Result.{err_from_is_err_and}
 use Rattle.std.proofs.Common.{◌∙◌, sym, subst, List, get_or, refl, arith}
 use Rattle.pt_sector.specs.Sectors.{Sectors, sector}
 use Rattle.pt_sector.specs.Device.{Told}
-use Rattle.pt_recover.specs.Labels.{LabelsAre, place_of}
+use Rattle.pt_members.specs.Slices.{place_of}
+use Rattle.pt_recover.specs.Labels.{LabelsAre}
 use Rattle.pt_recover.specs.Steps.{LabelIs}
-use Rattle.pt_recover.specs.declared.layout.Slice.{Slice}
-use Rattle.pt_recover.specs.declared.layout.Labelled.{Labelled}
+use Rattle.pt_members.specs.declared.layout.Slice.{Slice}
+use Rattle.pt_members.specs.declared.layout.Labelled.{Labelled}
 use Rattle.pt_recover.proofs.LabelSteps.{label_more, labels_end}
 use Rattle.pt_recover.proofs.Traces.{place_more}
 use Rattle.pt_recover.proofs.Failed.{place_failed}

@@ -1,13 +1,11 @@
 use Rattle.std.proofs.lemmas.Result.{err_from_is_err_and}
 use Rattle.std.proofs.Common.{◌∙◌, sym, subst, inr}
-use Rattle.std.specs.Prelude.{IfOk, IfErr}
 use Rattle.pt_sector.specs.Device.{Told}
 use Rattle.pt_gpt.specs.Answers.{TellsFault}
 use Rattle.pt_gpt.specs.Errors.{FailedIn}
 use Rattle.pt_gpt.specs.Copy.{IsHead, Copy, SideReads}
 use Rattle.pt_gpt.proofs.Heads.{fault_of_head}
 use Rattle.pt_recover.proofs.Sides.{head_read, array_read}
-use Rattle.pt_recover.proofs.Results.{on_ok_of, if_err_of}
 use Rattle.pt_recover.proofs.tables.traced_copy.Goals as goal
 
 pub returns-in_err-header-clause-err : goal.returns-in_err-header-clause-err
@@ -33,36 +31,43 @@ read_table-requires-clause-head g c = λ tells.
 
 pub returns-clause-same : goal.returns-clause-same
 returns-clause-same g c =
-    g.met.D.Disk.reads_on c.args.disk.now c.read_head.new.disk c.read_table.new.disk c.in_ok-header.ensures.same c.read_table.ensures.same
-
-pub returns-clause-ok : goal.returns-clause-ok
-returns-clause-ok g c = λ tells.
-    subst (λ (t : Told). IfOk c.read_table.result (λ x. Copy g.row.B t.seen c.args.side x)) (c.in_ok-header.ensures.same.same tells)
-    (c.read_table.ensures.ok tells)
-
-pub returns-clause-err : goal.returns-clause-err
-returns-clause-err g c = λ tells.
-    subst (λ (t : Told). IfErr c.read_table.result (λ e. TellsFault g.row.B t.seen c.args.side e))
-    (c.in_ok-header.ensures.same.same tells) (c.read_table.ensures.err tells)
-
-pub returns-clause-place : goal.returns-clause-place
-returns-clause-place g c = λ tells.
-    subst (λ (t : Told). IfErr c.read_table.result (FailedIn (SideReads g.row.B t.seen c.args.side)))
-    (c.in_ok-header.ensures.same.same tells) (c.read_table.ensures.place tells)
+    g.met.D.Disk.reads_on c.args.disk.now c.read_head.new.disk c.read_table.new.disk c.in_ok-header.ensures.same c.in_ok-table.ensures.same
 
 pub returns-clause-traced : goal.returns-clause-traced
-returns-clause-traced g c = λ tells. on_ok_of c.read_table.result
-    (array_read g.row.B
-    (g.D.Disk.told c.args.disk.now).seen c.args.side c.in_ok-header.header c.header_at.result c.sectors-sectors.result
-    c.args.trace.now c.add_one.new.self c.trace_array.new.trace
-    c.header_at.ensures (c.sectors-sectors.ensures
-    ∙ sym (g.met.D.Disk.sized c.args.disk.now tells)) c.in_ok-add_one.ensures c.in_ok-trace_array.ensures (c.in_ok-header.ensures.ok tells))
-
-pub returns-clause-traced_err : goal.returns-clause-traced_err
-returns-clause-traced_err g c = λ tells. if_err_of c.read_table.result (λ e. inr (
+returns-clause-traced g c = λ tells.
     array_read g.row.B
     (g.D.Disk.told c.args.disk.now).seen c.args.side c.in_ok-header.header c.header_at.result c.sectors-sectors.result
     c.args.trace.now c.add_one.new.self c.trace_array.new.trace
-    c.header_at.ensures (c.sectors-sectors.ensures
-    ∙ sym (g.met.D.Disk.sized c.args.disk.now tells)) c.in_ok-add_one.ensures c.in_ok-trace_array.ensures
-    (c.in_ok-header.ensures.ok tells)))
+    c.header_at.ensures (c.sectors-sectors.ensures ∙ sym (g.met.D.Disk.sized c.args.disk.now tells)) c.in_ok-add_one.ensures
+    c.in_ok-trace_array.ensures (c.in_ok-header.ensures.ok tells)
+
+pub returns-in_err-table-clause-same : goal.returns-in_err-table-clause-same
+returns-in_err-table-clause-same g c =
+    g.met.D.Disk.reads_on c.args.disk.now c.read_head.new.disk c.read_table.new.disk c.in_ok-header.ensures.same c.in_err-table.ensures.same
+
+pub returns-in_err-table-clause-err : goal.returns-in_err-table-clause-err
+returns-in_err-table-clause-err g c = λ tells.
+    let p = err_from_is_err_and c.from_residual-in_err-table.result c.from_residual-in_err-table.ensures.1 in
+    rw (p.1, p.2) (subst (λ (t : Told). TellsFault g.row.B t.seen c.args.side c.in_err-table.field-0.0)
+    (c.in_ok-header.ensures.same.same tells) (c.in_err-table.ensures.err tells))
+
+pub returns-in_err-table-clause-place : goal.returns-in_err-table-clause-place
+returns-in_err-table-clause-place g c = λ tells.
+    let p = err_from_is_err_and c.from_residual-in_err-table.result c.from_residual-in_err-table.ensures.1 in
+    rw (p.1, p.2) (subst (λ (t : Told). FailedIn (SideReads g.row.B t.seen c.args.side) c.in_err-table.field-0.0)
+    (c.in_ok-header.ensures.same.same tells) (c.in_err-table.ensures.place tells))
+
+pub returns-in_err-table-clause-traced_err : goal.returns-in_err-table-clause-traced_err
+returns-in_err-table-clause-traced_err g c = λ tells.
+    let p = err_from_is_err_and c.from_residual-in_err-table.result c.from_residual-in_err-table.ensures.1 in
+    rw (p.1, p.2) (inr (array_read g.row.B
+    (g.D.Disk.told c.args.disk.now).seen c.args.side c.in_ok-header.header c.header_at.result c.sectors-sectors.result
+    c.args.trace.now c.add_one.new.self c.trace_array.new.trace
+    c.header_at.ensures (c.sectors-sectors.ensures ∙ sym (g.met.D.Disk.sized c.args.disk.now tells)) c.in_ok-add_one.ensures
+    c.in_ok-trace_array.ensures (c.in_ok-header.ensures.ok tells)))
+
+pub returns-clause-ok : goal.returns-clause-ok
+returns-clause-ok g c = λ tells. rw (c.in_ok-header.ensures.same.same tells) at (c.in_ok-table.ensures.ok tells)
+
+pub returns-clause-with : goal.returns-clause-with
+returns-clause-with g c = λ tells. rw (c.in_ok-header.ensures.same.same tells) at (c.in_ok-table.ensures.with tells)

@@ -1,4 +1,4 @@
-use Rattle.pt_shape.specs.Along.{along_labels_lem}
+use Rattle.pt_shape.specs.laws.Along.{along_labels_lem}
 use Rattle.pt_shape.proofs.laws.along_labels.Goals as goal
 
 pub returns : goal.returns

@@ -1,4 +1,4 @@
-use Rattle.pt_shape.specs.Links.{chain_climbs_lem}
+use Rattle.pt_shape.specs.laws.Links.{chain_climbs_lem}
 use Rattle.pt_shape.proofs.laws.chain_climbs.Goals as goal
 
 pub returns : goal.returns

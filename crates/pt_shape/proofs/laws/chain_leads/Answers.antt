@@ -1,4 +1,4 @@
-use Rattle.pt_shape.specs.Links.{chain_leads_lem}
+use Rattle.pt_shape.specs.laws.Links.{chain_leads_lem}
 use Rattle.pt_shape.proofs.laws.chain_leads.Goals as goal
 
 pub returns : goal.returns

@@ -1,4 +1,4 @@
-use Rattle.pt_shape.specs.Covers.{covering_differs_lem}
+use Rattle.pt_shape.specs.laws.Covers.{covering_differs_lem}
 use Rattle.pt_shape.proofs.laws.covering_differs.Goals as goal
 
 pub returns : goal.returns

@@ -1,4 +1,4 @@
-use Rattle.pt_shape.specs.Stands.{ebr_lies_lem}
+use Rattle.pt_shape.specs.laws.Stands.{ebr_lies_lem}
 use Rattle.pt_shape.proofs.laws.ebr_lies.Goals as goal
 
 pub returns : goal.returns

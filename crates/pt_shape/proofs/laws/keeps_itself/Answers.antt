@@ -1,4 +1,4 @@
-use Rattle.pt_shape.specs.Laws.{keeps_refl}
+use Rattle.pt_shape.specs.laws.Terms.{keeps_refl}
 use Rattle.pt_shape.proofs.laws.keeps_itself.Goals as goal
 
 pub returns : goal.returns

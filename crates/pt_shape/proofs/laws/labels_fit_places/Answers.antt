@@ -1,4 +1,4 @@
-use Rattle.pt_shape.specs.Along.{label_fits_lem}
+use Rattle.pt_shape.specs.laws.Along.{label_fits_lem}
 use Rattle.pt_shape.proofs.laws.labels_fit_places.Goals as goal
 
 pub returns : goal.returns

@@ -1,4 +1,4 @@
-use Rattle.pt_shape.specs.Links.{shaped_logical_lem}
+use Rattle.pt_shape.specs.laws.Links.{shaped_logical_lem}
 use Rattle.pt_shape.proofs.laws.logicals_are_plain.Goals as goal
 
 pub returns : goal.returns

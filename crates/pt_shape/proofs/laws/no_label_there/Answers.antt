@@ -1,4 +1,4 @@
-use Rattle.pt_shape.specs.StandsOn.{no_label_there_lem}
+use Rattle.pt_shape.specs.laws.StandsOn.{no_label_there_lem}
 use Rattle.pt_shape.proofs.laws.no_label_there.Goals as goal
 
 pub returns : goal.returns

@@ -1,4 +1,4 @@
-use Rattle.pt_shape.specs.Differ.{own_differ_lem}
+use Rattle.pt_shape.specs.laws.Differ.{own_differ_lem}
 use Rattle.pt_shape.proofs.laws.own_sectors_differ.Goals as goal
 
 pub returns : goal.returns

@@ -1,4 +1,4 @@
-use Rattle.pt_shape.specs.Stands.{place_in_gpt_lem}
+use Rattle.pt_shape.specs.laws.Stands.{place_in_gpt_lem}
 use Rattle.pt_shape.proofs.laws.place_in_gpt.Goals as goal
 
 pub returns : goal.returns

@@ -1,4 +1,4 @@
-use Rattle.pt_shape.specs.LabelPlaces.{places_apart_lem}
+use Rattle.pt_shape.specs.laws.LabelPlaces.{places_apart_lem}
 use Rattle.pt_shape.proofs.laws.places_apart.Goals as goal
 
 pub returns : goal.returns

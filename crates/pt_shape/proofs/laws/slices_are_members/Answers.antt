@@ -1,4 +1,4 @@
-use Rattle.pt_shape.specs.SliceMembers.{slices_are_members_lem}
+use Rattle.pt_shape.specs.laws.SliceMembers.{slices_are_members_lem}
 use Rattle.pt_shape.proofs.laws.slices_are_members.Goals as goal
 
 pub returns : goal.returns

@@ -1,4 +1,4 @@
-use Rattle.pt_shape.specs.Ascending.{slices_ascend_lem}
+use Rattle.pt_shape.specs.laws.Ascending.{slices_ascend_lem}
 use Rattle.pt_shape.proofs.laws.slices_ascend.Goals as goal
 
 pub returns : goal.returns

@@ -1,4 +1,4 @@
-use Rattle.pt_space.specs.Laws.{placed_one_lem}
+use Rattle.pt_space.specs.laws.Terms.{placed_one_lem}
 use Rattle.pt_space.proofs.laws.placed_one.Goals as goal
 
 pub returns : goal.returns

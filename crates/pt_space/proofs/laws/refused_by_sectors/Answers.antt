@@ -1,4 +1,4 @@
-use Rattle.pt_space.specs.Alike.{refused_by_sectors_lem}
+use Rattle.pt_space.specs.laws.Alike.{refused_by_sectors_lem}
 use Rattle.pt_space.proofs.laws.refused_by_sectors.Goals as goal
 
 pub returns : goal.returns

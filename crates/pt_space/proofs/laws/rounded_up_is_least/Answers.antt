@@ -1,4 +1,4 @@
-use Rattle.pt_space.specs.Rounding.{rounded_up_is_least_lem}
+use Rattle.pt_space.specs.laws.Rounding.{rounded_up_is_least_lem}
 use Rattle.pt_space.proofs.laws.rounded_up_is_least.Goals as goal
 
 pub returns : goal.returns

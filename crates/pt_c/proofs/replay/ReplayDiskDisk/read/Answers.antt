@@ -5,7 +5,13 @@ use Rattle.pt_c.proofs.Walk.{asks_one}
 use Rattle.pt_c.proofs.replay.ReplayDiskDisk.read.Goals as goal
 
 pub returns-in-Some-clause-same : goal.returns-in-Some-clause-same
-returns-in-Some-clause-same g c = record { same_count = refl; same_name = refl; through = (refl, asks_same _ _ _ _); same = λ tells. refl; came = no_faults _ _ refl }
+returns-in-Some-clause-same g c = record {
+  same_count = refl;
+  same_name = refl;
+  through = (refl, asks_same _ _ _ _);
+  same = λ tells. refl;
+  came = no_faults _ _ refl;
+}
 
 pub returns-in-None-clause-same : goal.returns-in-None-clause-same
 returns-in-None-clause-same g c = record {

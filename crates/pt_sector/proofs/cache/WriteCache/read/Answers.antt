@@ -1,6 +1,6 @@
 use Rattle.std.proofs.Common.{arith}
 use Rattle.std.proofs.lemmas.Grind.{common_steps}
-use Rattle.pt_sector.specs.Reading.{sector-reading}
+use Rattle.pt_sector.specs.laws.Reading.{sector-reading}
 use Rattle.pt_sector.proofs.cache.WriteCache.read.Goals as goal
 
 pub returns : goal.returns

@@ -1,6 +1,6 @@
 use Rattle.std.proofs.Common.{◌≡◌, drop}
 use Rattle.pt_sector.specs.Sectors.{sector}
-use Rattle.pt_sector.specs.Reading.{read_at}
+use Rattle.pt_sector.specs.laws.Reading.{read_at}
 use Rattle.pt_sector.proofs.cache.WriteCache.read.Given as goal
 
 abbrev pub invariant-loop-write : goal.invariant-loop-write

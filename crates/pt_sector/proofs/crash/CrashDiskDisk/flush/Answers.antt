@@ -1,5 +1,5 @@
 use Rattle.std.proofs.Common.{◌∙◌, ap, length}
-use Rattle.pt_sector.specs.Reading.{length-reading}
+use Rattle.pt_sector.specs.laws.Reading.{length-reading}
 use Rattle.pt_sector.proofs.Crashes.{not_flushed, flushed}
 use Rattle.pt_sector.proofs.crash.CrashDiskDisk.flush.Goals as goal
 

@@ -4,7 +4,7 @@ use Rattle.pt_sector.specs.Device.{Told}
 use Rattle.pt_sector.specs.Calls.{no_faults, one_fault}
 use Rattle.pt_sector.specs.Reads.{through_same}
 use Rattle.pt_sector.specs.Sectors.{sector}
-use Rattle.pt_sector.specs.Written.{sector-written}
+use Rattle.pt_sector.specs.laws.Written.{sector-written}
 use Rattle.pt_sector.specs.Puts.{puts_as_writes}
 use Rattle.pt_sector.specs.Overlays.{shown, overlay_told}
 use Rattle.pt_sector.proofs.overlay.OverlayDisk.read.Goals as goal

@@ -1,0 +1,144 @@
+#!/usr/bin/env python3
+"""What the calls of the library for callers in C take at worst: for each image and call how many calls it takes until no sector is wanted,
+how many sectors they are given at last (both ends were read before the first one), the most bytes of memory that one of them holds, and
+the milliseconds of all, by ctypes and with the packing of the view.
+
+usage: bench/c_calls.py ARCHIVE     ARCHIVE is crates/pt_c/out/libpt_c.a, by packaging/build.py pt_c
+"""
+import ctypes
+import os
+import random
+import subprocess
+import sys
+import tempfile
+import time
+
+ROOT = os.path.join(os.path.dirname(os.path.abspath(__file__)), "..")
+sys.path[:0] = [os.path.join(ROOT, "tests"), os.path.join(ROOT, "bindings", "python")]
+import ptab as lib
+from images import FREEBSD, LARGE, SMALL, ebr, entry, guid, label, record
+
+DRAWN = random.Random(1).randbytes(16 * 256)
+
+
+def library(archive, folder):
+    """The archive as a shared object whose memory is counted."""
+    path = f"{folder}/counting.so"
+    subprocess.run(["cc", "-std=c11", "-O2", "-fPIC", "-shared", f"{ROOT}/tests/c_library_memory.c", "-Wl,--whole-archive", archive,
+                    "-Wl,--no-whole-archive", "-o", path], check=True)
+    it = lib.Ptab(path)
+    it.lib.test_refuse.argtypes = [ctypes.c_uint64, ctypes.c_uint64]
+    it.lib.test_most_bytes.restype = ctypes.c_uint64
+    return it
+
+
+# the images; what they hold stands in no sector that is read beforehand
+
+
+def gpt(sectors, count):
+    """A GPT of so many partitions."""
+    first = sectors.array + 2
+    return sectors.gpt(first + 8 * count + sectors.array + 1,
+                       {n: entry(first + 8 * n - 8, first + 8 * n - 1, unique=guid(n)) for n in range(1, count + 1)})
+
+
+def sliced_gpt(count):
+    """A GPT of so many slices, each with a label of seven partitions."""
+    image = SMALL.gpt(34 + 64 * count + 33, {n: entry(34 + 64 * n - 64, 34 + 64 * n - 1, FREEBSD, guid(n)) for n in range(1, count + 1)})
+    for n in range(count):
+        SMALL.put(image, 34 + 64 * n + 1, full_label())
+    return image
+
+
+def full_label():
+    return label(64, {k: (6, 16 + 6 * place, 7) for place, k in enumerate((0, 1, 3, 4, 5, 6, 7))})
+
+
+def chain(count, sliced):
+    """An MBR with so many logical partitions, and three other records; where they are sliced, each has a label of seven partitions."""
+    kind, size = 0xA5 if sliced else 0x83, 64
+    records = [record(kind, 100 + 100 * k, size) for k in range(3)] + [record(0x05, 1000, 128 * 100)]
+    image = SMALL.mbr(1000 + 128 * 100 + 100, records)
+    starts = [100 + 100 * k for k in range(3)]
+    for k in range(count):
+        at = 1000 + 100 * k
+        SMALL.put(image, at, ebr(record(kind, 2, size), record(0x05, 100 * (k + 1), 98) if k + 1 < count else bytes(16)))
+        starts.append(at + 2)
+    if sliced:
+        for start in starts:
+            SMALL.put(image, start + 1, full_label())
+    return image
+
+
+def without_primary(image):
+    SMALL.put(image, 1, bytes(512))
+    return image
+
+
+IMAGES = (
+    ("GPT, 1 partition", SMALL, gpt(SMALL, 1), ["c:1:data"]),
+    ("GPT, 128 partitions", SMALL, gpt(SMALL, 128), ["c:1:data"]),
+    ("GPT, 128 partitions, 4096", LARGE, gpt(LARGE, 128), ["c:1:data"]),
+    ("GPT, 128 partitions, to GPT anew", SMALL, gpt(SMALL, 128), ["o"]),
+    ("GPT, its primary lost", SMALL, without_primary(gpt(SMALL, 128)), ["c:1:data"]),
+    ("GPT, 128 slices with labels", SMALL, sliced_gpt(128), ["c:1:data"]),
+    ("GPT, 128 slices, a label's word", SMALL, sliced_gpt(128), ["d:1.a"]),
+    ("MBR, 3 partitions, 128 logical", SMALL, chain(128, False), ["t:1:07"]),
+    ("MBR, 131 slices with labels", SMALL, chain(128, True), ["t:1.a:08"]),
+    ("MBR, 131 slices, to GPT anew", SMALL, chain(128, True), ["o"]),
+    ("MBR, 127 slices with labels, to GPT", SMALL, chain(124, True), ["g"]),
+    ("MBR, 131 slices, to a GPT of 128 others", SMALL, chain(128, True),
+     ["a:1", "o", *(f"n:{k + 1}:{1070 + 100 * k}:{1089 + 100 * k}:A500" for k in range(128))]),
+)
+
+
+def measured(it, sectors, image, call):
+    """(the outcome, calls, sectors given, bytes of memory, milliseconds)"""
+    image, size = bytes(image), sectors.size
+    best = None
+    for _ in range(5):
+        disk = lib.Disk(it, lambda k: image[k * size:(k + 1) * size], len(image) // size, size)
+        most, ask = [0], disk._ask
+
+        def counted(inner):
+            def one(*arguments):
+                it.lib.test_refuse(0, 0)
+                status = inner(*arguments)
+                most[0] = max(most[0], it.lib.test_most_bytes())
+                return status
+            return ask(one)
+        disk._ask = counted
+        start = time.perf_counter()
+        try:
+            answer = call(disk)
+            outcome = "done" if not isinstance(answer, tuple) or not isinstance(answer[0], int) else str(answer[0])
+        except lib.Failed as failed:
+            answer, outcome = None, f"status {failed.status}, {failed.reply.about}.{failed.reply.number}"
+        took = (time.perf_counter() - start) * 1000
+        if best is None or took < best[4]:
+            best = (outcome, disk.calls, len(disk.known), most[0], took)
+    return best, answer
+
+
+def main():
+    worst = [0, 0, 0]
+    with tempfile.TemporaryDirectory() as folder:
+        it = library(os.path.abspath(sys.argv[1]), folder)
+        print("| Image | Call | Outcome | Calls | Sectors | Bytes of memory | ms |\n|---|---|---|---|---|---|---|")
+        for name, sectors, image, words in IMAGES:
+            many = [[(k, bytes(sectors.size)) for k in range(len(image) // sectors.size)][-4096:]]
+            calls = [("members", lambda disk: disk.members()), ("verify", lambda disk: disk.verify()),
+                     ("locate", lambda disk: disk.locate(1, "", 0)), ("plan " + " ".join(words)[:12], lambda disk: disk.plan(words, DRAWN)),
+                     ("repair", lambda disk: disk.repair()), (f"check of {len(many[0])} writes", lambda disk: disk.check(many))]
+            for what, call in calls:
+                (outcome, turns, given, most, took), answer = measured(it, sectors, image, call)
+                print(f"| {name} | {what} | {outcome} | {turns} | {given} | {most:,} | {took:.1f} |")
+                worst = [max(a, b) for a, b in zip(worst, (turns, given, most))]
+                if what.startswith("plan ") and answer:
+                    (outcome, turns, given, most, took), _ = measured(it, sectors, image, lambda disk: disk.check(answer))
+                    print(f"| {name} | check of that plan | {outcome} | {turns} | {given} | {most:,} | {took:.1f} |")
+                    worst = [max(a, b) for a, b in zip(worst, (turns, given, most))]
+    print(f"\nAt worst {worst[0]} calls, {worst[1]} sectors, {worst[2]:,} bytes.")
+
+
+main()

@@ -1,0 +1,35 @@
+-- A text that is being read.
+use Rattle.std.specs.Prelude.{Bool, ◌≡◌, ◌≢◌, ◌⊎◌, ◌<◌, ℕ, List, [], ◌∷◌, ◌++◌, length, slice_index}
+use Rattle.std.specs.Bool.{MatchBool}
+use Rattle.pt_apply.specs.Faults.{Fits}
+use Rattle.pt_sector.specs.Writes.{Writes}
+use Rattle.pt_apply.specs.Plans.{writes_of, phases_in}
+use Rattle.pt_apply.specs.Lines.{IsWriteLine, IsFlushLine, Step, Put, Flush}
+use Rattle.pt_apply.specs.declared.read.Line.{Line}
+use Rattle.pt_apply.specs.declared.read.Line.TheVariants as line
+use Rattle.pt_apply.specs.declared.read.Partial.{Partial}
+
+-- the byte stands nowhere in the text
+abbrev pub Lacks : ℕ → List ℕ → Type 0
+Lacks c text = (i : ℕ) → i < length text → slice_index text i ≢ c
+
+abbrev pub step_of : {b : _} → Line b → Step
+step_of (line.Write w) = Put (w.lba.0, w.bytes)
+step_of line.Flush = Flush
+
+-- a line's step is added
+abbrev pub Grows : ℕ → List ℕ → List Writes → Writes → List Writes → Writes → Type 0
+Grows b line phases last phases' last' =
+    ((w : ℕ × List ℕ) × IsWriteLine b line w × (phases' ≡ phases) × (last' ≡ last ++ w ∷ []))
+    ⊎ (IsFlushLine line × (0 < length last) × (phases' ≡ phases ++ last ∷ []) × (last' ≡ []))
+
+abbrev pub phases_read : {b : _} → Partial b → List Writes
+phases_read p = phases_in p.phases.items
+
+abbrev pub last_read : {b : _} → Partial b → Writes
+last_read p = writes_of p.last.items
+
+-- a line is added where it may come
+abbrev pub Takes : (b : ℕ) → List ℕ → Partial b → Partial b → Bool → Type 0
+Takes b line old new good =
+    MatchBool good (Grows b line (phases_read old) (last_read old) (phases_read new) (last_read new)) (¬ Fits b (last_read old) line)

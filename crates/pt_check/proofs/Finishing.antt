@@ -1,0 +1,19 @@
+-- What a survey of the finished disk tells.
+use Rattle.std.specs.Prelude.{ℕ, Option, Some, None, Result, Ok, Err}
+use Rattle.std.specs.Result.{result_ok}
+use Rattle.pt_sector.specs.Sectors.{Sectors}
+use Rattle.pt_recover.specs.Denotes.{Denotes}
+use Rattle.pt_recover.specs.declared.error.NoTable.{NoTable}
+use Rattle.pt_members.specs.declared.layout.Layout.{Layout}
+use Rattle.pt_layout.specs.Surveys.{FoundIs, FindingIs}
+use Rattle.pt_layout.specs.declared.finding.Finding.{Finding}
+use Rattle.pt_check.specs.Answers.{WrongIs}
+
+pub denotes_found : (b : ℕ) (d : Sectors) (found : Result Layout NoTable) → FoundIs b d found → Denotes b d (result_ok found)
+denotes_found b d (Ok o) is = is
+denotes_found b d (Err e) is = is.0
+
+pub wrong_found : (b : ℕ) (d : Sectors) (found : Result Layout NoTable) (f : Option Finding) → FindingIs b d found f → WrongIs b d f
+wrong_found b d found (Some f) is = is
+wrong_found b d (Ok o) None is = (o, is)
+wrong_found b d (Err e) None is = absurd is

@@ -1,6 +1,0 @@
-use Rattle.std.proofs.Common.{drop}
-use Rattle.pt_convert.specs.Outside.{HasEbr}
-use Rattle.pt_convert.proofs.room.has_ebr_outside.Given as goal
-
-abbrev pub invariant-loop-ebr : goal.invariant-loop-ebr
-invariant-loop-ebr g l = HasEbr g.row.B l.sectors l.chain → HasEbr g.row.B l.sectors (drop l.ebr-index l.chain)

@@ -1,9 +1,0 @@
-pub mod Partitions
-pub mod Room
-pub mod Outside
-pub mod Counted
-pub mod Converted
-pub mod Twins
-pub mod Placed
-pub mod Kept
-pub mod Laws

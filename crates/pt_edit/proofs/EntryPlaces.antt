@@ -1,0 +1,88 @@
+-- Partitions put into their places, one at a time.
+use Rattle.std.proofs.Common.{◌≡◌, ◌≢◌, ◌<◌, ◌≤◌, ◌+◌, ◌-◌, ◌^◌, ℕ, List, length, get_or, replicate, Option, None, refl, sym, ap, ◌∙◌}
+use Rattle.std.proofs.Common.{subst, arith, inl, inr}
+use Rattle.std.proofs.Math.ListN.{set}
+use Rattle.std.proofs.lemmas.List.{get_or_default, get_or-set_same, get_or-set_other, length-set, get_or-replicate}
+use Rattle.std.proofs.lemmas.Bool.{cases_lt}
+use Rattle.pt_guid.specs.declared.guid.Guid.{Guid}
+use Rattle.pt_gpt.specs.declared.entry.Entry.{Entry}
+use Rattle.pt_edit.specs.Converted.{IsAt, entry_of}
+use Rattle.pt_edit.specs.Placed.{Placeable, ArePlaced}
+use Rattle.pt_edit.specs.declared.partition.Partition.{Partition}
+
+-- the first k of the partitions are in place
+pub record UpTo (guids : List Guid) (ps : List Partition) (k : ℕ) (entries : List (Option Entry)) : Type 0 where
+  pub count : length entries ≡ 128
+  pub each : (j : ℕ) (p : Partition) (guid : Guid) → j < k → IsAt ps j p → IsAt guids (1 + j) guid
+      → get_or entries (p.number - 1) None ≡ entry_of guid p
+  pub others : (number : ℕ) → 1 ≤ number → number ≤ 128 → ((j : ℕ) (p : Partition) → j < k → IsAt ps j p → p.number ≢ number)
+      → get_or entries (number - 1) None ≡ None
+
+pub at_one : {X : Type 0} (xs : List X) (k : ℕ) (x y : X) → IsAt xs k x → IsAt xs k y → x ≡ y
+at_one xs k x y a b = sym a.1 ∙ (get_or_default xs k x y a.0 ∙ b.1)
+
+pub at_place : {X : Type 0} (xs : List X) (k : ℕ) (z : X) → k < length xs → IsAt xs k (get_or xs k z)
+at_place xs k z lt = (lt, get_or_default xs k (get_or xs k z) z lt)
+
+pub none_placed : (guids : List Guid) (ps : List Partition) → UpTo guids ps 0 (replicate 128 None)
+none_placed guids ps = record {
+  count = refl;
+  each = λ j p guid lt. absurd (omega arith);
+  others = λ number low high spare. get_or-replicate 128 (number - 1) None None (omega arith);
+}
+
+pub one_placed_on : (n : ℕ) (guids : List Guid) (ps : List Partition) (k : ℕ) (entries : List (Option Entry)) (p : Partition)
+    (guid : Guid) → Placeable n ps → UpTo guids ps k entries → IsAt ps k p → IsAt guids (1 + k) guid
+    → UpTo guids ps (k + 1) (set entries (p.number - 1) (entry_of guid p))
+one_placed_on n guids ps k entries p guid fit before at some =
+    let low = fit.low k p at in
+    let high = fit.high k p at in
+    let place : p.number - 1 < length entries = omega (arith, before.count) in
+    record {
+      count = length-set entries (p.number - 1) (entry_of guid p) ∙ before.count;
+      each = λ j q other lt there given. elim (cases_lt j k)
+          as (λ _. get_or (set entries (p.number - 1) (entry_of guid p)) (q.number - 1) None ≡ entry_of other q) [
+            | inl below ↦ (
+                let less = fit.rising j k q p below there at in
+                let first = fit.low j q there in
+                let apart : q.number - 1 ≢ p.number - 1 = λ same. omega arith in
+                get_or-set_other entries (p.number - 1) (q.number - 1) (entry_of guid p) None apart
+                ∙ before.each j q other below there given
+                )
+            | inr past ↦ (
+                let e : j ≡ k = omega arith in
+                let part : p ≡ q = at_one ps k p q at (subst (λ (m : ℕ). IsAt ps m q) e there) in
+                let unique : guid ≡ other = at_one guids (1 + k) guid other some (subst (λ (m : ℕ). IsAt guids (1 + m) other) e given) in
+                ap (λ (x : Partition). get_or (set entries (p.number - 1) (entry_of guid p)) (x.number - 1) None) (sym part)
+                ∙ (get_or-set_same entries (p.number - 1) (entry_of guid p) None place
+                ∙ (ap (λ (x : Partition). entry_of guid x) part ∙ ap (λ (g : Guid). entry_of g q) unique))
+                )
+          ];
+      others = λ number first last spare.
+          let differs : p.number ≢ number = spare k p (omega arith) at in
+          let apart : number - 1 ≢ p.number - 1 = λ same. differs (omega arith) in
+          get_or-set_other entries (p.number - 1) (number - 1) (entry_of guid p) None apart
+          ∙ before.others number first last (λ j q lt. spare j q (omega arith));
+    }
+
+pub one_placed : (guids : List Guid) (ps : List Partition) (k : ℕ) (entries : List (Option Entry)) (p : Partition) (guid : Guid)
+    → Placeable (2 ^ 64) ps → UpTo guids ps k entries → IsAt ps k p → IsAt guids (1 + k) guid
+    → UpTo guids ps (k + 1) (set entries (p.number - 1) (entry_of guid p))
+one_placed guids ps k entries p guid fit before at some = one_placed_on (2 ^ 64) guids ps k entries p guid fit before at some
+
+pub all_placed : (guids : List Guid) (ps : List Partition) (k : ℕ) (entries : List (Option Entry)) → length ps ≤ k
+    → UpTo guids ps k entries → ArePlaced guids ps entries
+all_placed guids ps k entries past done = record {
+  count = done.count;
+  each = λ j p guid at. done.each j p guid (omega (arith, at.0)) at;
+  others = λ number low high spare. done.others number low high (λ j p lt at. spare p (j, at.0, at.1));
+}
+
+pub below_more : (n m : ℕ) (ps : List Partition) → n ≤ m → Placeable n ps → Placeable m ps
+below_more n m ps more fit = record {
+  low = fit.low;
+  high = fit.high;
+  fits_first = λ k p at. let h = fit.fits_first k p at in omega arith;
+  fits_last = λ k p at. let h = fit.fits_last k p at in omega arith;
+  rising = fit.rising;
+}

@@ -1,0 +1,186 @@
+-- Where there is room, partitions find their places: their numbers rise from 1 to 128 at most, and their sectors are the disk's.
+use Rattle.std.proofs.Common.{◌≡◌, ◌≢◌, ◌<◌, ◌≤◌, ◌+◌, ◌-◌, ◌*◌, ℕ, zero, suc, Bool, true, false, List, [], ◌∷◌, ◌++◌, length}
+use Rattle.std.proofs.Common.{length-append, map, Option, Some, None, refl, sym, ap, ◌∙◌, subst, arith, inl, inr}
+use Rattle.std.specs.Prelude.{Contains, filter, cond}
+use Rattle.std.proofs.lemmas.Bool.{cases_lt}
+use Rattle.pt_gpt.specs.Array.{array_len}
+use Rattle.pt_mbr.specs.declared.record.Record.{Record}
+use Rattle.pt_mbr.specs.declared.ebr.Ebr.{Ebr}
+use Rattle.pt_mbr.specs.Extended.{is_extended}
+use Rattle.pt_gpt.specs.Array.{HasRoom}
+use Rattle.pt_members.specs.SliceLists.{next_number}
+use Rattle.pt_members.specs.declared.layout.Labelled.{Labelled}
+use Rattle.pt_members.specs.declared.layout.Layout.{Layout}
+use Rattle.pt_members.specs.declared.layout.Body.{Body}
+use Rattle.pt_members.specs.declared.layout.Body.TheVariants.{Mbr, Gpt}
+use Rattle.pt_members.specs.declared.member.Kind.TheVariants.{Extended}
+use Rattle.pt_members.specs.declared.member.Member.{Member}
+use Rattle.pt_members.specs.Members.{present, slots}
+use Rattle.pt_members.specs.laws.Grouped.{from_present, place_member}
+use Rattle.pt_edit.specs.Partitions.{HasFour, partition_of, primary, primaries, logical, logicals_from, partitions}
+use Rattle.pt_edit.specs.Room.{edge, IsOutside, NoRoom, small, partition, many}
+use Rattle.pt_edit.specs.Converted.{IsAt}
+use Rattle.pt_edit.specs.Placed.{Placeable}
+use Rattle.pt_edit.specs.Kept.{member_of, is_kept, is_kept_kind}
+use Rattle.pt_edit.specs.laws.Kept.{kept_lem}
+use Rattle.pt_edit.specs.declared.partition.Partition.{Partition}
+use Rattle.pt_edit.proofs.Searches.{not_true}
+
+-- their numbers rise, from low on and below high, and none begins more than one sector past its end
+abbrev pub Rising : ℕ → ℕ → List Partition → Type 0
+Rising low high [] = Unit {0}
+Rising low high (p ∷ ps) = (low ≤ p.number) × (p.number < high) × (p.first ≤ p.last + 1) × Rising (p.number + 1) high ps
+
+weaker : (a b c d : ℕ) (ps : List Partition) → a ≤ b → c ≤ d → Rising b c ps → Rising a d ps
+weaker a b c d [] low high rising = tt
+weaker a b c d (p ∷ ps) low high rising =
+    (omega (arith, rising.0), omega (arith, rising.1), rising.2, weaker (p.number + 1) (p.number + 1) c d ps (omega arith) high rising.3)
+
+joined : (a b c : ℕ) (ps qs : List Partition) → a ≤ b → b ≤ c → Rising a b ps → Rising b c qs → Rising a c (ps ++ qs)
+joined a b c [] qs low high one two = weaker a b c c qs low (omega arith) two
+joined a b c (p ∷ ps) qs low high one two =
+    (one.0, omega (arith, one.1), one.2, joined (p.number + 1) b c ps qs (omega (arith, one.1)) high one.3 two)
+
+one_rising : (n at : ℕ) (r : Record) → Rising n (n + 1) (partition_of n at r ∷ [])
+one_rising n at r = (omega arith, omega arith, omega arith, tt)
+
+primary_rising : (n : ℕ) (r : Option Record) → Rising n (n + 1) (primary n r)
+unfolding primary
+primary_rising n None = tt
+primary_rising n (Some r) = by_case (is_extended r.kind) refl where
+  by_case : (c : Bool) → is_extended r.kind ≡ c → Rising n (n + 1) (primary n (Some r))
+  by_case true is = rw is tt
+  by_case false is = rw is (one_rising n 0 r)
+
+primaries_rising : (n : ℕ) (rs : List (Option Record)) → Rising n (n + length rs) (primaries n rs)
+unfolding primaries
+primaries_rising n [] = tt
+primaries_rising n (r ∷ rs) =
+    let e : (n + 1) + length rs ≡ n + length (r ∷ rs) = omega arith in
+    joined n (n + 1) (n + length (r ∷ rs)) (primary n r) (primaries (n + 1) rs) (omega arith) (omega arith) (primary_rising n r)
+    (subst (λ (h : ℕ). Rising (n + 1) h (primaries (n + 1) rs)) e (primaries_rising (n + 1) rs))
+
+logical_rising : (n : ℕ) (e : Ebr) → Rising n (next_number n e) (logical n e) × (next_number n e ≡ n + length (logical n e))
+unfolding logical next_number
+logical_rising n e = by_case e.logical refl where
+  by_case : (o : Option Record) → e.logical ≡ o → Rising n (next_number n e) (logical n e) × (next_number n e ≡ n + length (logical n e))
+  by_case None is = rw is (tt, omega arith)
+  by_case (Some r) is = rw is (one_rising n e.at.0 r, refl)
+
+logicals_rising : (n : ℕ) (es : List Ebr) → Rising n (n + length (logicals_from n es)) (logicals_from n es)
+unfolding logicals_from
+logicals_rising n [] = tt
+logicals_rising n (e ∷ es) =
+    let one = logical_rising n e in
+    let m = next_number n e in
+    let count = length-append (logical n e) (logicals_from m es) in
+    let h : m + length (logicals_from m es) ≡ n + length (logical n e ++ logicals_from m es) = omega (arith, one.1, count) in
+    joined n m (n + length (logical n e ++ logicals_from m es)) (logical n e) (logicals_from m es) (omega (arith, one.1))
+    (omega (arith, h)) one.0
+    (subst (λ (k : ℕ). Rising m k (logicals_from m es)) h (logicals_rising m es))
+
+all_rising : (rs : List (Option Record)) (chain : List Ebr) → length rs ≡ 4 → length (logicals_from 5 chain) ≤ 124
+    → Rising 1 129 (partitions (Mbr rs chain))
+all_rising rs chain four few =
+    joined 1 5 129 (primaries 1 rs) (logicals_from 5 chain) (omega arith) (omega arith)
+    (weaker 1 1 (1 + length rs) 5 (primaries 1 rs) (omega arith) (omega (arith, four)) (primaries_rising 1 rs))
+    (weaker 5 5 (5 + length (logicals_from 5 chain)) 129 (logicals_from 5 chain) (omega arith) (omega arith) (logicals_rising 5 chain))
+
+-- so at each place
+rising_at : (low high : ℕ) (ps : List Partition) (k : ℕ) (p : Partition) → Rising low high ps → IsAt ps k p
+    → (low ≤ p.number) × (p.number < high) × (p.first ≤ p.last + 1)
+rising_at low high [] k p rising at = absurd (omega (arith, at.0))
+rising_at low high (q ∷ qs) zero p rising at =
+    subst (λ (x : Partition). (low ≤ x.number) × (x.number < high) × (x.first ≤ x.last + 1)) at.1 (rising.0, rising.1, rising.2)
+rising_at low high (q ∷ qs) (suc k) p rising at =
+    let h = rising_at (q.number + 1) high qs k p rising.3 (omega (arith, at.0), at.1) in (omega (arith, rising.0, h.0), h.1, h.2)
+
+rising_on : (low high : ℕ) (ps : List Partition) (i j : ℕ) (p q : Partition) → Rising low high ps → i < j → IsAt ps i p
+    → IsAt ps j q → p.number < q.number
+rising_on low high [] i j p q rising lt one two = absurd (omega (arith, one.0))
+rising_on low high (r ∷ rs) i zero p q rising lt one two = absurd (omega arith)
+rising_on low high (r ∷ rs) zero (suc j) p q rising lt one two =
+    let h = rising_at (r.number + 1) high rs j q rising.3 (omega (arith, two.0), two.1) in
+    subst (λ (x : Partition). x.number < q.number) one.1 (omega (arith, h.0))
+rising_on low high (r ∷ rs) (suc i) (suc j) p q rising lt one two =
+    rising_on (r.number + 1) high rs i j p q rising.3 (omega arith) (omega (arith, one.0), one.1) (omega (arith, two.0), two.1)
+
+-- a partition is a member
+mapped : {X Y : Type 0} (f : X → Y) (xs : List X) (x : X) → Contains xs x → Contains (map f xs) (f x)
+mapped f [] x in_xs = absurd (omega (arith, in_xs.1))
+mapped f (y ∷ ys) x (zero, lt, at) = (0, omega arith, ap f at)
+mapped f (y ∷ ys) x (suc k, lt, at) = let h = mapped f ys x (k, omega arith, at) in (suc h.0, omega (arith, h.1), h.2)
+
+unfiltered : {X : Type 0} (test : X → Bool) (xs : List X) (x : X) → Contains (filter test xs) x → Contains xs x × (test x ≡ true)
+unfiltered test [] x in_xs = absurd (omega (arith, in_xs.1))
+unfiltered {X} test (y ∷ ys) x in_xs = by_case (test y) refl (unfiltered test ys x) where
+  by_case : (c : Bool) → test y ≡ c → (Contains (filter test ys) x → Contains ys x × (test x ≡ true))
+      → Contains (y ∷ ys) x × (test x ≡ true)
+  by_case true is more = at_head (subst (λ (l : List X). Contains l x)
+      (ap (λ (c : Bool). cond c (y ∷ filter test ys) (filter test ys)) is) in_xs) where
+        at_head : Contains (y ∷ filter test ys) x → Contains (y ∷ ys) x × (test x ≡ true)
+        at_head (zero, lt, at) = ((0, omega arith, at), ap test (sym at) ∙ is)
+        at_head (suc k, lt, at) = let h = more (k, omega arith, at) in ((suc h.0.0, omega (arith, h.0.1), h.0.2), h.1)
+  by_case false is more =
+      let h = more (subst (λ (l : List X). Contains l x) (ap (λ (c : Bool). cond c (y ∷ filter test ys) (filter test ys)) is) in_xs) in
+      ((suc h.0.0, omega (arith, h.0.1), h.0.2), h.1)
+
+kept_is : (b : ℕ) (m : Member) → is_kept m ≡ true → m.kind ≢ Extended
+kept_is b m is same = let e : is_kept_kind m.kind ≡ false = ap is_kept_kind same in not_true (is_kept m) e is
+
+-- and so inside, where there is room
+inside : (b n : ℕ) (rs : List (Option Record)) (chain : List Ebr) (labels : List Labelled) (p : Partition)
+    → ¬ NoRoom b (record { sectors = n; body = Mbr rs chain; labels = labels }) → Contains (partitions (Mbr rs chain)) p
+    → IsOutside b n p.first p.last → ⊥
+inside b n rs chain labels p room in_ps out =
+    let o : Layout = record { sectors = n; body = Mbr rs chain; labels = labels } in
+    let kept = subst (λ (l : List Member). Contains l (member_of b p)) (sym (kept_lem b rs chain))
+    (mapped (member_of b) (partitions (Mbr rs chain)) p in_ps) in
+    let there = unfiltered is_kept (present (slots b (Mbr rs chain))) (member_of b p) kept in
+    let is_member = place_member b o (member_of b p)
+    (member_of b p, from_present (slots b (Mbr rs chain)) (member_of b p) there.0, inl refl) in
+    room (partition (member_of b p) is_member (kept_is b (member_of b p) there.1, out))
+
+has_room : (b : ℕ) (o : Layout) → ¬ NoRoom b o → HasRoom b o.sectors
+has_room b o room = elim (cases_lt o.sectors (2 * array_len b + 4)) as (λ _. HasRoom b o.sectors) [
+  | inl less ↦ absurd (room (small (λ more. omega arith)))
+  | inr more ↦ more
+]
+
+few_logicals : (b n : ℕ) (rs : List (Option Record)) (chain : List Ebr) (labels : List Labelled)
+    → ¬ NoRoom b (record { sectors = n; body = Mbr rs chain; labels = labels }) → length (logicals_from 5 chain) ≤ 124
+few_logicals b n rs chain labels room =
+    elim (cases_lt 124 (length (logicals_from 5 chain))) as (λ _. length (logicals_from 5 chain) ≤ 124) [
+      | inl more ↦ absurd (room (many more))
+      | inr few ↦ few
+    ]
+
+last_in : (b n first last : ℕ) → (IsOutside b n first last → ⊥) → last ≤ n - edge b
+last_in b n first last not =
+    elim (cases_lt (n - edge b) last) as (λ _. last ≤ n - edge b) [ inl past ↦ absurd (not (inr past)) | inr ok ↦ ok ]
+
+placed_mbr : (b n : ℕ) (rs : List (Option Record)) (chain : List Ebr) (labels : List Labelled) → length rs ≡ 4
+    → ¬ NoRoom b (record { sectors = n; body = Mbr rs chain; labels = labels }) → Placeable n (partitions (Mbr rs chain))
+placed_mbr b n rs chain labels four room =
+    let ps = partitions (Mbr rs chain) in
+    let enough : HasRoom b n = has_room b (record { sectors = n; body = Mbr rs chain; labels = labels }) room in
+    let rising : Rising 1 129 ps = all_rising rs chain four (few_logicals b n rs chain labels room) in
+    let last : (k : ℕ) (p : Partition) → IsAt ps k p
+    → p.last ≤ n - edge b = λ k p at. last_in b n p.first p.last (inside b n rs chain labels p room (k, at.0, at.1)) in
+    record {
+      low = λ k p at. (rising_at 1 129 ps k p rising at).0;
+      high = λ k p at. let h = (rising_at 1 129 ps k p rising at).1 in omega arith;
+      fits_first = λ k p at. let h = (rising_at 1 129 ps k p rising at).2 in let l = last k p at in omega arith;
+      fits_last = λ k p at. let l = last k p at in omega arith;
+      rising = λ i j p q lt one two. rising_on 1 129 ps i j p q rising lt one two;
+    }
+
+pub placed : (b : ℕ) (o : Layout) → HasFour o.body → ¬ NoRoom b o → Placeable o.sectors (partitions o.body)
+placed b o four room = by_body o.body refl where
+  by_body : (y : Body) → o.body ≡ y → Placeable o.sectors (partitions o.body)
+  by_body (Mbr rs chain) is =
+      let same : o ≡ record { sectors = o.sectors; body = Mbr rs chain; labels = o.labels } =
+      ap (λ (y : Body). record { sectors = o.sectors; body = y; labels = o.labels }) is in
+      subst (λ (y : Body). Placeable o.sectors (partitions y)) (sym is)
+      (placed_mbr b o.sectors rs chain o.labels (subst HasFour is four) (subst (λ (x : Layout). ¬ NoRoom b x) same room))
+  by_body (Gpt t) is = absurd (subst HasFour is four)

@@ -1,0 +1,150 @@
+//! Whether a layout leaves room for a GPT.
+
+ghost use Rattle.std.specs.Prelude.{◌≡◌, ◌<◌, ◌^◌, ◌↔◌, ℕ, IsTrue, length, Some};
+ghost use Rattle.pt_sector.specs.Sectors.{IsSectorSize};
+ghost use Rattle.pt_mbr.specs.Chain.{StandsAt};
+ghost use Rattle.pt_members.specs.Members.{parts, parts_in};
+ghost use Rattle.pt_members.specs.Tables.{IsEbr};
+ghost use Rattle.pt_edit.specs.Room.{edge, IsOutside, IsOutsider, NoRoom};
+ghost use Rattle.pt_edit.specs.Outside.{HasOutsider, HasNear, HasAny, HasEbr, IsChainInWay};
+
+use crate::partitions::logical_count;
+use pt_bsd::Label;
+use pt_gpt::array_sectors;
+use pt_mbr::Ebr;
+use pt_members::{Body, Kind, Layout, Member, find_label, part_slot, slot, slot_count};
+
+/// How many numbers from 5 on a GPT of 128 entries has.
+const LOGICALS: usize = 124;
+
+// The first usable sector of a new GPT; the last usable one is as far from the disk's end.
+pub(crate) fn first_usable<const B: usize>() -> u64
+    requires size { IsSectorSize B }
+    ensures value { result ≡ edge B }
+    ensures few { result < 35 }
+{
+    array_sectors::<B>() + 2
+}
+
+// Whether a new GPT can't use the first or the last of these sectors.
+fn is_outside<const B: usize>(sectors: u64, first: u128, last: u128) -> bool
+    requires size { IsSectorSize B }
+    ensures { IsTrue result ↔ IsOutside B sectors first last }
+{
+    let low = first_usable::<B>();
+    first < u128::from(low) || u128::from(sectors.saturating_sub(low)) < last
+}
+
+// Whether a member but the extended partition lies outside.
+fn is_outsider<const B: usize>(sectors: u64, m: &Member) -> bool
+    requires size { IsSectorSize B }
+    ensures { IsTrue result ↔ IsOutsider B sectors m.now }
+{
+    m.kind != Kind::Extended && is_outside::<B>(sectors, m.first, m.last)
+}
+
+// Whether a partition of a slice's label does.
+fn has_part_outside<const B: usize>(sectors: u64, label: &Label, slice: &Member) -> bool
+    requires size { IsSectorSize B }
+    requires small { slice.now.first < 2 ^ 66 }
+    requires counted { length label.now.entries ≡ 8 }
+    ensures { IsTrue result ↔ HasOutsider B sectors (parts_in (Some label.now) slice.now) }
+{
+    for k in 0..8usize {
+        if let Some(part) = part_slot(label, slice, k) {
+            if is_outsider::<B>(sectors, &part) {
+                return true;
+            }
+        }
+    }
+    false
+}
+
+// Whether one of a slice's label does, where it has one.
+fn has_labelled_outside<const B: usize>(layout: &Layout, slice: &Member) -> bool
+    requires size { IsSectorSize B }
+    requires small { slice.now.first < 2 ^ 66 }
+    ensures { IsTrue result ↔ HasOutsider B layout.now.sectors (parts layout.now slice.now) }
+{
+    match find_label(&layout.labels, slice.path.number) {
+        Some(label) => has_part_outside::<B>(layout.sectors, &label, slice),
+        None => false,
+    }
+}
+
+// Whether a member or a partition of its label does.
+fn is_near_outside<const B: usize>(layout: &Layout, m: &Member) -> bool
+    requires size { IsSectorSize B }
+    requires small { m.now.first < 2 ^ 66 }
+    ensures { IsTrue result ↔ HasNear B layout.now m.now }
+{
+    if is_outsider::<B>(layout.sectors, m) {
+        return true;
+    }
+    m.kind == Kind::Slice && has_labelled_outside::<B>(layout, m)
+}
+
+// Whether any does.
+fn has_outsider<const B: usize>(layout: &Layout) -> bool
+    requires size { IsSectorSize B }
+    ensures { IsTrue result ↔ HasAny B layout.now }
+{
+    for k in 0..slot_count::<B>(&layout.body) {
+        if let Some(m) = slot::<B>(&layout.body, k) {
+            if is_near_outside::<B>(layout, &m) {
+                return true;
+            }
+        }
+    }
+    false
+}
+
+// Whether an extended boot record does.
+fn is_ebr_outside<const B: usize>(sectors: u64, ebr: &Ebr) -> bool
+    requires size { IsSectorSize B }
+    ensures { IsTrue result ↔ IsOutside B sectors ebr.now.at.0 ebr.now.at.0 }
+{
+    let at = u128::from(ebr.at.0);
+    is_outside::<B>(sectors, at, at)
+}
+
+// Whether one of a chain does.
+fn has_ebr_outside<const B: usize>(sectors: u64, chain: &[Ebr]) -> bool
+    requires size { IsSectorSize B }
+    ensures { IsTrue result ↔ HasEbr B sectors chain.now }
+{
+    for ebr in chain {
+        if is_ebr_outside::<B>(sectors, ebr) {
+            return true;
+        }
+    }
+    false
+}
+
+// Whether a chain stands in the way: by its places, or by too many logical partitions.
+fn is_chain_in_way<const B: usize>(sectors: u64, body: &Body) -> bool
+    requires size { IsSectorSize B }
+    ensures { IsTrue result ↔ IsChainInWay B sectors body.now }
+{
+    match body {
+        Body::Mbr { chain, .. } => {
+            has_ebr_outside::<B>(sectors, chain.as_slice())
+                || logical_count(chain.as_slice()) > LOGICALS
+        }
+        Body::Gpt(_) => false,
+    }
+}
+
+// Whether there is no room.
+pub(crate) fn has_no_room<const B: usize>(layout: &Layout) -> bool
+    requires size { IsSectorSize B }
+    ensures { IsTrue result ↔ NoRoom B layout.now }
+{
+    if layout.sectors < 2 * array_sectors::<B>() + 4 {
+        return true;
+    }
+    if has_outsider::<B>(layout) {
+        return true;
+    }
+    is_chain_in_way::<B>(layout.sectors, &layout.body)
+}

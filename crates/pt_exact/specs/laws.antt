@@ -1,0 +1,20 @@
+-- Lemmas on the definitions of specs/: no contract is made of them.
+pub mod Answers
+pub mod Both
+pub mod Changes
+pub mod Each
+pub mod EachCase
+pub mod Fits
+pub mod FitsApart
+pub mod FitsMade
+pub mod Mended
+pub mod OneLabel
+pub mod Order
+pub mod Own
+pub mod Planned
+pub mod SameBytes
+pub mod SameHeads
+pub mod SameLabels
+pub mod SameTargets
+pub mod Tables
+pub mod Turns

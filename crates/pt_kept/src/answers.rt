@@ -1,0 +1,27 @@
+//! The laws of the planner's errors, for what words make of what a disk denotes.
+
+ghost use Rattle.std.specs.Prelude.{◌≡◌, ◌*◌, ◌≤◌, ◌^◌, ℕ, List, Option, Ok, IfSome, length};
+ghost use Rattle.pt_guid.specs.declared.guid.Guid.{Guid};
+ghost use Rattle.pt_sector.specs.Sectors.{Sectors, IsSectorSize};
+ghost use Rattle.pt_sector.specs.Writes.{Writes};
+ghost use Rattle.pt_recover.specs.Denotes.{Denotes};
+ghost use Rattle.pt_recover.specs.Numbers.{Numbers};
+ghost use Rattle.pt_members.specs.declared.layout.Layout.{Layout};
+ghost use Rattle.pt_words.specs.declared.word.Edit.{Edit};
+ghost use Rattle.pt_edit.specs.Edited.{Edited};
+ghost use Rattle.pt_cases.specs.Cases.{IsPlan};
+ghost use Rattle.pt_targets.specs.Errors.{IsFailure};
+ghost use Rattle.pt_targets.specs.Unplanned.{Unplanned};
+ghost use Rattle.pt_targets.specs.declared.error.PlanError.{PlanError};
+
+/// What words make of the layout that a disk denotes, or of nothing, has a plan or an error and not both, and two errors
+/// are one, but for failures of the device and of memory. The premises are what recovery and the disk's own law say: the
+/// disk has at most 2^64 bytes and denotes the layout, whose records' numbers have 32 bits.
+pub fn words_have_one_answer()
+    ensures planned { (b : ℕ) (d : Sectors) (old : Option Layout) (words : List Edit) (guids : List Guid) (p : Layout)
+        (phases : List Writes) (e : PlanError) → IsSectorSize b → length d * b ≤ 2 ^ 64 → Denotes b d old → IfSome old Numbers
+        → Edited b (length d) old words guids (Ok p) → IsPlan b d p phases → Unplanned b d p e → IsFailure e }
+    ensures refused { (b : ℕ) (d : Sectors) (old : Option Layout) (words : List Edit) (guids : List Guid) (p : Layout)
+        (e f : PlanError) → IsSectorSize b → length d * b ≤ 2 ^ 64 → Denotes b d old → IfSome old Numbers
+        → Edited b (length d) old words guids (Ok p) → Unplanned b d p e → Unplanned b d p f → ¬ IsFailure e → ¬ IsFailure f → e ≡ f }
+{}

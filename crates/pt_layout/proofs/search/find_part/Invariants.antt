@@ -1,8 +1,0 @@
-use Rattle.std.proofs.Common.{◌≡◌, ◌<◌, ℕ, get_or, Some, None}
-use Rattle.pt_layout.specs.Members.{parts_in}
-use Rattle.pt_layout.specs.Search.{Answers}
-use Rattle.pt_layout.specs.declared.member.Member.{Member}
-use Rattle.pt_layout.proofs.search.find_part.Given as goal
-
-abbrev pub invariant-loop-k : goal.invariant-loop-k
-invariant-loop-k l = (j : ℕ) (x : Member) → j < l.k → get_or (parts_in (Some l.label) l.slice) j None ≡ Some x → ¬ Answers l.wanted x

@@ -1,6 +1,0 @@
-use Rattle.std.proofs.Common.{◌≡◌, drop}
-use Rattle.pt_layout.specs.Members.{label_of}
-use Rattle.pt_layout.proofs.slots.label_in.Given as goal
-
-abbrev pub invariant-loop-k : goal.invariant-loop-k
-invariant-loop-k l = label_of l.labels l.number ≡ label_of (drop l.k l.labels) l.number

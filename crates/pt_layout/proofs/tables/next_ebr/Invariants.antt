@@ -1,7 +1,0 @@
-use Rattle.std.proofs.Common.{take}
-use Rattle.pt_mbr.specs.Chain.{StandsAt}
-use Rattle.pt_layout.specs.Next.{NextIs}
-use Rattle.pt_layout.proofs.tables.next_ebr.Given as goal
-
-abbrev pub invariant-loop-k : goal.invariant-loop-k
-invariant-loop-k l = NextIs (λ s. StandsAt s (take l.k l.chain)) l.from l.next

@@ -1,5 +1,0 @@
-use Rattle.pt_logicals.specs.LinkLaws.{logical_deleted_linked_lem}
-use Rattle.pt_logicals.proofs.laws.logical_deleted_is_linked.Goals as goal
-
-pub returns : goal.returns
-returns c = logical_deleted_linked_lem

@@ -1,0 +1,69 @@
+-- The slices with a label place, one place more at a time.
+use Rattle.std.proofs.Common.{◌≡◌, ◌<◌, ◌≤◌, ◌+◌, ℕ, List, [], ◌∷◌, ◌++◌, length, get_or, take, filter, Option, None, sym, ap, ◌∙◌}
+use Rattle.std.proofs.Common.{refl, subst, inl, inr, append-nil}
+use Rattle.std.specs.Prelude.{◌⊎◌, flat_map}
+use Rattle.std.proofs.lemmas.List.{take_more, take_all}
+use Rattle.std.proofs.lemmas.List.Elements.{filter-append}
+use Rattle.std.proofs.lemmas.Grind.{flat_map-append}
+use Rattle.pt_members.specs.declared.layout.Slice.{Slice}
+use Rattle.pt_members.specs.declared.layout.Body.{Body}
+use Rattle.pt_members.specs.declared.member.Kind.{Kind}
+use Rattle.pt_members.specs.declared.member.Kind.TheVariants as kind
+use Rattle.pt_members.specs.declared.member.Member.{Member}
+use Rattle.pt_members.specs.Members.{slots}
+use Rattle.pt_members.specs.Slices.{slice_of, slice_in, slices_of, has_place, placed_in, places_of, IsPlace}
+use Rattle.pt_members.specs.Next.{NextIs, least_of}
+use Rattle.pt_members.proofs.Lowest.{next_same, next_or}
+
+-- those of the first k places
+abbrev pub placed_before : ℕ → List (Option Member) → ℕ → List Slice
+placed_before n os k = filter (has_place n) (flat_map slice_in (take k os))
+
+one_more : (n k : ℕ) (os : List (Option Member)) → k < length os
+    → placed_before n os (k + 1) ≡ placed_before n os k ++ placed_in n (get_or os k None)
+one_more n k os lt =
+    let there = flat_map slice_in (take k os) in
+    let here = slice_in (get_or os k None) in
+    ap (λ (l : List (Option Member)). filter (has_place n) (flat_map slice_in l)) (take_more os k None lt)
+    ∙ ap (filter (has_place n)) (flat_map-append slice_in (take k os) (get_or os k None ∷ [])
+    ∙ ap (λ (l : List Slice). there ++ l) (append-nil here)) ∙ filter-append (has_place n) there here
+
+pub placed_more : (n k : ℕ) (os : List (Option Member)) (ss : List Slice) → k < length os
+    → ss ≡ placed_before n os k ++ placed_in n (get_or os k None) → ss ≡ placed_before n os (k + 1)
+placed_more n k os ss lt is = is ∙ sym (one_more n k os lt)
+
+pub placed_end : (b n k : ℕ) (y : Body) → length (slots b y) ≤ k → placed_before n (slots b y) k ≡ places_of b n y
+unfolding places_of slices_of
+placed_end b n k y past = ap (λ (l : List (Option Member)). filter (has_place n) (flat_map slice_in l)) (take_all k (slots b y) past)
+
+place_split : (ps qs : List Slice) (s : ℕ) → IsPlace (ps ++ qs) s → IsPlace ps s ⊎ IsPlace qs s
+place_split [] qs s is = inr is
+place_split (p ∷ ps) qs s (inl here) = inl (inl here)
+place_split (p ∷ ps) qs s (inr there) =
+    elim (place_split ps qs s there) as (λ _. IsPlace (p ∷ ps) s ⊎ IsPlace qs s) [ inl x ↦ inl (inr x) | inr x ↦ inr x ]
+
+place_joined : (ps qs : List Slice) (s : ℕ) → IsPlace ps s ⊎ IsPlace qs s → IsPlace (ps ++ qs) s
+place_joined [] qs s (inl none) = absurd none
+place_joined [] qs s (inr there) = there
+place_joined (p ∷ ps) qs s (inl (inl here)) = inl here
+place_joined (p ∷ ps) qs s (inl (inr there)) = inr (place_joined ps qs s (inl there))
+place_joined (p ∷ ps) qs s (inr there) = inr (place_joined ps qs s (inr there))
+
+-- what isn't a slice has no place
+pub no_slice : (n : ℕ) (m : Member) → ¬ (m.kind ≡ kind.Slice) → filter (has_place n) (slice_of m) ≡ []
+no_slice n m other = by_kind m.kind refl where
+  by_kind : (k : Kind) → m.kind ≡ k → filter (has_place n) (slice_of m) ≡ []
+  by_kind kind.Leaf is = rw is refl
+  by_kind kind.Slice is = absurd (other is)
+  by_kind kind.Extended is = rw is refl
+
+-- the lowest label place of one place more
+pub lowest_more : (n k from : ℕ) (os : List (Option Member)) (a b : Option ℕ) → k < length os
+    → NextIs (IsPlace (placed_before n os k)) from a → NextIs (IsPlace (placed_in n (get_or os k None))) from b
+    → NextIs (IsPlace (placed_before n os (k + 1))) from (least_of a b)
+lowest_more n k from os a b lt p q =
+    let ps = placed_before n os k in
+    let qs = placed_in n (get_or os k None) in
+    subst (λ (l : List Slice). NextIs (IsPlace l) from (least_of a b)) (sym (one_more n k os lt))
+    (next_same (λ (s : ℕ). IsPlace ps s ⊎ IsPlace qs s) (IsPlace (ps ++ qs)) from (least_of a b) (place_joined ps qs) (place_split ps qs)
+    (next_or (IsPlace ps) (IsPlace qs) from a b p q))

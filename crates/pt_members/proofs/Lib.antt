@@ -1,0 +1,7 @@
+pub mod Equal
+pub mod ByPlace
+pub mod Homes
+pub mod InOrder
+pub mod LabelPlaces
+pub mod Lowest
+pub mod Rows

@@ -1,0 +1,12 @@
+pub mod Slices
+pub mod SliceLists
+pub mod Members
+pub mod Search
+pub mod Tables
+pub mod Owned
+pub mod Places
+pub mod Counts
+pub mod Next
+pub mod OnePath
+pub mod Rows
+pub mod laws

@@ -1,0 +1,47 @@
+-- Members by place, and the search for one.
+use Rattle.std.specs.Prelude.{◌≡◌, ◌<◌, ◌≤◌, ◌⊎◌, ◌+◌, ℕ, List, length, slice_index_or, Option, Some, None}
+use Rattle.pt_members.specs.declared.layout.Layout.{Layout}
+use Rattle.pt_members.specs.declared.member.Kind.TheVariants.{Leaf, Slice}
+use Rattle.pt_members.specs.declared.member.Member.{Member}
+use Rattle.pt_members.specs.declared.search.Wanted.{Wanted}
+use Rattle.pt_members.specs.declared.search.Wanted.TheVariants.{LeafWith, LeafNamed, SliceWith}
+use Rattle.pt_path.specs.Paths.{rank}
+use Rattle.pt_members.specs.Members.{Exists, Holds, slots, parts}
+
+-- the member stands in one of the places
+abbrev pub AtPlace : List (Option Member) → Member → Type 0
+AtPlace places m = (k : ℕ) × (k < length places) × (slice_index_or places k None ≡ Some m)
+
+-- x is m, or a partition of its label
+abbrev pub IsNear : Layout → Member → Member → Type 0
+IsNear o m x = (x ≡ m) ⊎ ((m.kind ≡ Slice) × AtPlace (parts o m) x)
+
+-- x is a record, an entry, a logical partition, or a partition of the label of one
+abbrev pub InLayout : ℕ → Layout → Member → Type 0
+InLayout b o x = (m : Member) × AtPlace (slots b o.body) m × IsNear o m x
+
+-- the member is as wanted
+abbrev pub Answers : Wanted → Member → Type 0
+Answers (LeafWith lba) m = Exists m × (m.kind ≡ Leaf) × Holds m lba.0
+Answers (LeafNamed path k) m = Exists m × (m.kind ≡ Leaf) × (m.path ≡ path) × (m.first + k ≤ m.last)
+Answers (SliceWith lba) m = Exists m × (m.kind ≡ Slice) × Holds m lba.0
+
+-- of the members in P that are as wanted, x is the first in path order
+abbrev pub IsFirst : (Member → Type 0) → Wanted → Member → Type 0
+IsFirst P wanted x = P x × Answers wanted x × ((y : Member) → P y → Answers wanted y → rank x.path ≤ rank y.path)
+
+abbrev pub FoundAt : Wanted → Option Member → Option Member → Type 0
+FoundAt wanted place None = (x : Member) → place ≡ Some x → ¬ Answers wanted x
+FoundAt wanted place (Some x) = (place ≡ Some x) × Answers wanted x
+
+abbrev pub FoundIn : Wanted → List (Option Member) → Option Member → Type 0
+FoundIn wanted places None = (x : Member) → AtPlace places x → ¬ Answers wanted x
+FoundIn wanted places (Some x) = IsFirst (AtPlace places) wanted x
+
+abbrev pub FoundNear : Layout → Member → Wanted → Option Member → Type 0
+FoundNear o m wanted None = (x : Member) → IsNear o m x → ¬ Answers wanted x
+FoundNear o m wanted (Some x) = IsFirst (IsNear o m) wanted x
+
+abbrev pub Found : ℕ → Layout → Wanted → Option Member → Type 0
+Found b o wanted None = (x : Member) → InLayout b o x → ¬ Answers wanted x
+Found b o wanted (Some x) = IsFirst (InLayout b o) wanted x

@@ -1,0 +1,31 @@
+//! What a layout is, and its partitions listed once.
+//!
+//! A place is a record of sector 0, an entry of a GPT or an extended boot record; `slot` gives the partition that stands
+//! there, and `part_slot` that of an entry of a label. What else is said of partitions comes from these two lists, and
+//! stands for every layout, whatever disk denotes it.
+#![tactic(auto)]
+
+mod layout;
+mod member;
+mod owned;
+mod ownership;
+mod places;
+mod row;
+mod search;
+mod slices;
+mod slots;
+mod tables;
+
+pub use layout::{Body, Ebrs, Labelled, Labels, Layout, Slice};
+pub use member::{Kind, Member};
+pub use owned::is_owned;
+pub use ownership::Owner;
+pub use places::{locate, owner};
+pub use row::{Row, Source, part_row, row_at};
+pub use search::exists;
+pub use slices::label_places;
+pub use slots::{
+    entry_slot, find_label, is_slice_type, logical_number, logical_slot, part_slot, record_slot,
+    slot, slot_count, top_count,
+};
+pub use tables::{is_ebr, is_table, least, next_table};

@@ -1,0 +1,67 @@
+//! Slices, and where their labels stand.
+
+ghost use Rattle.std.specs.Prelude.{◌≡◌, ◌<◌, ◌+◌, ◌++◌, filter, option_to_list, length, slice_index_or, None, IfOk, IfSome, OnOk};
+ghost use Rattle.pt_sector.specs.Sectors.{IsSectorSize};
+ghost use Rattle.pt_members.specs.Members.{slots};
+ghost use Rattle.pt_members.specs.Slices.{has_place, slice_of, placed_in, places_of};
+
+use crate::layout::{Body, Slice};
+use crate::member::{Kind, Member};
+use crate::slots::{slot, slot_count};
+use std::alloc::{AllocError, Global};
+
+// The slice that a member is, where it is one and has a label place on a disk of so many sectors.
+#[tactic(auto, using(crate::proofs::LabelPlaces::no_slice))]
+fn placed(sectors: u64, m: &Member) -> Option<Slice>
+    ensures value { option_to_list result ≡ filter (has_place sectors) (slice_of m.now) }
+    ensures within { IfSome result (λ s. s.first + 1 < sectors) }
+{
+    if m.kind != Kind::Slice || m.last >= 1 << 63 || m.last <= m.first {
+        return None;
+    }
+    let first = m.first as u64;
+    if first + 1 >= sectors {
+        return None;
+    }
+    Some(Slice {
+        number: m.path.number,
+        first,
+        len: m.last as u64 - first + 1,
+    })
+}
+
+// The slice in a place, where it has a label place on a disk of so many sectors.
+pub(crate) fn placed_at<const B: usize>(sectors: u64, body: &Body, k: usize) -> Option<Slice>
+    requires { k < length (slots B body.now) }
+    ensures value { option_to_list result ≡ placed_in sectors (slice_index_or (slots B body.now) k None) }
+    ensures within { IfSome result (λ s. s.first + 1 < sectors) }
+{
+    let m = slot::<B>(body, k)?;
+    placed(sectors, &m)
+}
+
+fn push_place(places: &mut Vec<Slice>, place: Option<Slice>) -> Result<(), AllocError>
+    ensures { OnOk result (places.new.items ≡ places.old.items ++ option_to_list place) }
+{
+    if let Some(slice) = place {
+        places.push(slice)?;
+    }
+    Ok(())
+}
+
+/// The slices that have a label place on a disk of so many sectors, in order of their numbers.
+#[tactic(auto, using(crate::proofs::LabelPlaces::placed_more, crate::proofs::LabelPlaces::placed_end))]
+pub fn label_places<const B: usize>(
+    alloc: Global,
+    sectors: u64,
+    body: &Body,
+) -> Result<Vec<Slice>, AllocError>
+    requires { IsSectorSize B }
+    ensures { IfOk result (λ v. v.items ≡ places_of B sectors body.now) }
+{
+    let mut places = Vec::new(alloc);
+    for k in 0..slot_count::<B>(body) {
+        push_place(&mut places, placed_at::<B>(sectors, body, k))?;
+    }
+    Ok(places)
+}

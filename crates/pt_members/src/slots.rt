@@ -1,0 +1,307 @@
+//! The members of a layout in place: its records or entries, its logical partitions, and the entries of its labels.
+
+ghost use Rattle.std.specs.Prelude.{◌≡◌, ◌+◌, ◌<◌, ◌≤◌, ◌^◌, ◌↔◌, ℕ, IsTrue, length, get_or, take, count_by, is_some, Some, None};
+ghost use Rattle.std.specs.Prelude.{option_map, IfSome, slice_index_or};
+ghost use Rattle.pt_members.specs.Members.{records_as, entries_as, logicals_as, slots, tops, record_kind, logical_kind, entry_kind};
+ghost use Rattle.pt_members.specs.Members.{label_of, part_of, parts_in, sized_member, number_path, record_member, logical_member};
+ghost use Rattle.pt_members.specs.Members.{is_slice_kind, entry_member};
+ghost use Rattle.pt_members.specs.declared.layout.Body.TheVariants.{Mbr};
+ghost use Rattle.pt_members.specs.Counts.{used_before, logical_at};
+ghost use Rattle.pt_members.specs.OnePath.{HasFour};
+
+use crate::layout::{Body, Labelled, Labels};
+use crate::member::{Kind, Member};
+use pt_bsd::{Label, LabelEntry, RAW};
+use pt_gpt::Entry;
+use pt_guid::{Guid, type_of_code};
+use pt_mbr::{Ebr, FIRST_LOGICAL, Record, SLICE_KIND, is_extended_kind};
+use pt_path::Path;
+use pt_sector::Lba;
+
+/// The type code of slices in a GPT.
+const SLICE_CODE: u16 = 0xA500;
+
+/// Whether a GPT entry of this type is a slice: its type code is A500.
+pub fn is_slice_type(kind: &Guid) -> bool
+    ensures { result ≡ is_slice_kind kind.now.0 }
+{
+    match type_of_code(SLICE_CODE) {
+        Some(slice) => kind.0 == slice.0,
+        None => false,
+    }
+}
+
+fn record_kind_of<const B: usize>(kind: u8) -> Kind
+    ensures { result ≡ record_kind B kind }
+{
+    if B == 512 && kind == SLICE_KIND {
+        Kind::Slice
+    } else if is_extended_kind(kind) {
+        Kind::Extended
+    } else {
+        Kind::Leaf
+    }
+}
+
+fn logical_kind_of<const B: usize>(kind: u8) -> Kind
+    ensures { result ≡ logical_kind B kind }
+{
+    if B == 512 && kind == SLICE_KIND {
+        Kind::Slice
+    } else {
+        Kind::Leaf
+    }
+}
+
+// Of a start and a size that count from a sector.
+fn sized(path: Path, kind: Kind, at: u64, start: u32, size: u32) -> Member
+    ensures value { result ≡ sized_member path kind (at + start) size }
+    ensures small { result.first < 2 ^ 66 }
+{
+    let first = u128::from(at) + u128::from(start);
+    Member {
+        path,
+        kind,
+        first,
+        last: (first + u128::from(size)).saturating_sub(1),
+    }
+}
+
+// The path of a partition without a letter.
+fn numbered(number: u64) -> Path
+    ensures { result ≡ number_path number }
+{
+    Path {
+        number,
+        letter: None,
+    }
+}
+
+fn record_of<const B: usize>(number: u64, r: &Record) -> Member
+    ensures value { result ≡ record_member B number r.now }
+    ensures small { result.first < 2 ^ 66 }
+{
+    sized(
+        numbered(number),
+        record_kind_of::<B>(r.kind),
+        0,
+        r.start,
+        r.size,
+    )
+}
+
+fn logical_of<const B: usize>(number: u64, at: Lba, r: &Record) -> Member
+    ensures value { result ≡ logical_member B number at.0 r.now }
+    ensures small { result.first < 2 ^ 66 }
+{
+    sized(
+        numbered(number),
+        logical_kind_of::<B>(r.kind),
+        at.0,
+        r.start,
+        r.size,
+    )
+}
+
+fn entry_kind_of<const B: usize>(kind: &Guid) -> Kind
+    ensures { result ≡ entry_kind B kind.now.0 }
+{
+    if B == 512 && is_slice_type(kind) {
+        Kind::Slice
+    } else {
+        Kind::Leaf
+    }
+}
+
+fn entry_of<const B: usize>(number: u64, e: &Entry) -> Member
+    ensures value { result ≡ entry_member B number e.now }
+    ensures small { result.first < 2 ^ 66 }
+{
+    Member {
+        path: numbered(number),
+        kind: entry_kind_of::<B>(&e.kind),
+        first: u128::from(e.first),
+        last: u128::from(e.last),
+    }
+}
+
+/// The member of record `k`, from 0 on.
+pub fn record_slot<const B: usize>(records: &[Option<Record>; 4], k: usize) -> Option<Member>
+    requires { k < 4 }
+    ensures value { result ≡ option_map (record_member B (1 + k)) (slice_index_or records.now k None) }
+    ensures small { IfSome result (λ m. m.first < 2 ^ 66) }
+{
+    match &records[k] {
+        Some(r) => Some(record_of::<B>(1 + k as u64, r)),
+        None => None,
+    }
+}
+
+/// The member of entry `k`, from 0 on.
+pub fn entry_slot<const B: usize>(entries: &[Option<Entry>], k: usize) -> Option<Member>
+    requires { k < length entries.now }
+    ensures value { result ≡ option_map (entry_member B (1 + k)) (slice_index_or entries.now k None) }
+    ensures small { IfSome result (λ m. m.first < 2 ^ 66) }
+{
+    match &entries[k] {
+        Some(e) => Some(entry_of::<B>(1 + k as u64, e)),
+        None => None,
+    }
+}
+
+/// The number of the logical partition in extended boot record `k`, from 0 on, or of one that comes in front of it.
+pub fn logical_number(chain: &[Ebr], k: usize) -> u64
+    requires { k ≤ length chain.now }
+    ensures { result ≡ 5 + used_before k chain.now }
+{
+    let mut number = FIRST_LOGICAL;
+    for i in 0..k {
+        if chain[i].logical.is_some() {
+            number += 1;
+        }
+    }
+    number
+}
+
+/// The logical partition of extended boot record `k`, from 0 on.
+pub fn logical_slot<const B: usize>(chain: &[Ebr], k: usize) -> Option<Member>
+    requires { k < length chain.now }
+    ensures value { result ≡ logical_at B k chain.now }
+    ensures small { IfSome result (λ m. m.first < 2 ^ 66) }
+{
+    let ebr = chain[k];
+    match &ebr.logical {
+        Some(r) => Some(logical_of::<B>(logical_number(chain, k), ebr.at, r)),
+        None => None,
+    }
+}
+
+#[tactic(auto, using(crate::proofs::ByPlace::mbr_len))]
+fn mbr_count<const B: usize>(records: &[Option<Record>; 4], chain: &[Ebr]) -> usize
+    ensures value { result ≡ length (slots B (Mbr «records».now chain.now)) }
+    ensures four { length «records».now ≡ 4 }
+{
+    4 + chain.len()
+}
+
+#[tactic(auto, using(crate::proofs::ByPlace::mbr_len, crate::proofs::ByPlace::mbr_low, crate::proofs::ByPlace::mbr_high))]
+fn mbr_slot<const B: usize>(
+    records: &[Option<Record>; 4],
+    chain: &[Ebr],
+    k: usize,
+) -> Option<Member>
+    requires { k < length (slots B (Mbr «records».now chain.now)) }
+    ensures value { result ≡ slice_index_or (slots B (Mbr «records».now chain.now)) k None }
+    ensures small { IfSome result (λ m. m.first < 2 ^ 66) }
+{
+    if k < 4 {
+        record_slot::<B>(records, k)
+    } else {
+        logical_slot::<B>(chain, k - 4)
+    }
+}
+
+// How many places for members a table has, four of them for the records of an MBR.
+#[tactic(auto, using(crate::proofs::ByPlace::gpt_len))]
+pub(crate) fn count_slots<const B: usize>(body: &Body) -> usize
+    ensures value { result ≡ length (slots B body.now) }
+    ensures four { HasFour body.now }
+{
+    match body {
+        Body::Mbr { records, chain } => mbr_count::<B>(records, chain.as_slice()),
+        Body::Gpt(table) => table.entries.as_slice().len(),
+    }
+}
+
+/// How many places for members a table has: its records or entries, then its extended boot records.
+pub fn slot_count<const B: usize>(body: &Body) -> usize
+    ensures { result ≡ length (slots B body.now) }
+{
+    count_slots::<B>(body)
+}
+
+/// The member in a place, from 0 on: the records or entries first, then the chain's. None where that is unused.
+#[tactic(auto, using(crate::proofs::ByPlace::gpt_at, crate::proofs::ByPlace::gpt_len))]
+pub fn slot<const B: usize>(body: &Body, k: usize) -> Option<Member>
+    requires { k < length (slots B body.now) }
+    ensures value { result ≡ slice_index_or (slots B body.now) k None }
+    ensures small { IfSome result (λ m. m.first < 2 ^ 66) }
+{
+    match body {
+        Body::Mbr { records, chain } => mbr_slot::<B>(records, chain.as_slice(), k),
+        Body::Gpt(table) => entry_slot::<B>(table.entries.as_slice(), k),
+    }
+}
+
+#[tactic(auto, using(crate::proofs::ByPlace::label_here, crate::proofs::ByPlace::label_next, crate::proofs::ByPlace::label_end))]
+fn label_in(labels: &[Labelled], number: u64) -> Option<Label>
+    ensures { result ≡ label_of labels.now number }
+{
+    for k in 0..labels.len() {
+        if labels[k].number == number {
+            return Some(labels[k].label);
+        }
+    }
+    None
+}
+
+/// The label of the slice of a number.
+pub fn find_label(labels: &Labels, number: u64) -> Option<Label>
+    ensures { result ≡ label_of labels.now number }
+{
+    label_in(labels.as_slice(), number)
+}
+
+// The partition of an entry of a slice's label.
+fn part(label: &Label, slice: &Member, k: usize, e: &LabelEntry) -> Option<Member>
+    requires small { slice.now.first < 2 ^ 66 }
+    requires within { k < 8 }
+    ensures { result ≡ part_of label.now slice.now k (Some e.now) }
+{
+    if k == RAW || e.size == 0 {
+        return None;
+    }
+    let first = label.entry_first(slice.first, e);
+    Some(Member {
+        path: Path {
+            number: slice.path.number,
+            letter: Some(k as u8),
+        },
+        kind: Kind::Leaf,
+        first,
+        last: (first + u128::from(e.size)).saturating_sub(1),
+    })
+}
+
+/// The partition of entry `k`, from 0 for a, of a slice's label. None for c, and where the entry isn't counted or has
+/// no sectors.
+#[tactic(auto, using(crate::proofs::ByPlace::part_at))]
+pub fn part_slot(label: &Label, slice: &Member, k: usize) -> Option<Member>
+    requires small { slice.now.first < 2 ^ 66 }
+    requires within { k < 8 }
+    requires counted { length label.now.entries ≡ 8 }
+    ensures { result ≡ slice_index_or (parts_in (Some label.now) slice.now) k None }
+{
+    match &label.entries[k] {
+        Some(e) => part(label, slice, k, e),
+        None => None,
+    }
+}
+
+fn record_count(records: &[Option<Record>; 4]) -> usize
+    ensures { result ≡ length «records».now }
+{
+    records.len()
+}
+
+// How many places the records or entries have.
+#[tactic(auto, using(crate::proofs::ByPlace::mbr_tops, crate::proofs::ByPlace::gpt_tops, crate::proofs::ByPlace::tops_first))]
+pub fn top_count<const B: usize>(body: &Body) -> usize
+    ensures value { result ≡ length (tops B body.now) }
+    ensures within { result ≤ length (slots B body.now) }
+{
+    match body {
+        Body::Mbr { records, .. } => record_count(records),
+        Body::Gpt(table) => table.entries.as_slice().len(),
+    }
+}

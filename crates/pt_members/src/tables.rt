@@ -1,0 +1,120 @@
+//! The sectors that hold tables.
+
+ghost use Rattle.std.specs.Prelude.{◌≡◌, ◌<◌, ◌≤◌, ◌+◌, ◌↔◌, ◌⊎◌, IsTrue, length, slice_index_or, None};
+ghost use Rattle.pt_sector.specs.Sectors.{IsSectorSize};
+ghost use Rattle.pt_mbr.specs.Chain.{StandsAt};
+ghost use Rattle.pt_gpt.specs.Array.{array_len};
+ghost use Rattle.pt_members.specs.Slices.{placed_in, places_of, IsPlace};
+ghost use Rattle.pt_members.specs.Members.{slots};
+ghost use Rattle.pt_members.specs.Tables.{IsTable, IsEbr, IsBodyTable, IsGptTable};
+ghost use Rattle.pt_members.specs.Next.{NextIs, least_of};
+
+use crate::layout::{Body, Layout};
+use crate::slices::placed_at;
+use crate::slots::slot_count;
+use pt_gpt::first_usable;
+use pt_mbr::Ebr;
+use pt_sector::Lba;
+
+// The lesser of two sectors.
+pub fn least(a: Option<u64>, b: Option<u64>) -> Option<u64>
+    ensures { result ≡ least_of a b }
+{
+    match (a, b) {
+        (Some(x), Some(y)) => { if y < x { Some(y) } else { Some(x) } }
+        (Some(x), None) => Some(x),
+        (None, y) => y,
+    }
+}
+
+// The sector, where it isn't below the other.
+fn not_below(lba: u64, from: u64) -> Option<u64>
+    ensures { NextIs (λ s. s ≡ lba) from result }
+{
+    if from <= lba { Some(lba) } else { None }
+}
+
+fn next_ebr(chain: &[Ebr], from: u64) -> Option<u64>
+    ensures { NextIs (λ s. StandsAt s chain.now) from result }
+{
+    let mut next = None;
+    for k in 0..chain.len() {
+        next = least(next, not_below(chain[k].at.0, from));
+    }
+    next
+}
+
+fn next_of_gpt<const B: usize>(sectors: u64, from: u64) -> Option<u64>
+    requires { IsSectorSize B }
+    ensures { NextIs (IsGptTable B sectors) from result }
+{
+    let edge = first_usable::<B>();
+    if from < edge {
+        return Some(from);
+    }
+    if from >= sectors {
+        return None;
+    }
+    let end = sectors.saturating_sub(edge - 1);
+    if from < end { Some(end) } else { Some(from) }
+}
+
+fn next_of_body<const B: usize>(sectors: u64, body: &Body, from: u64) -> Option<u64>
+    requires { IsSectorSize B }
+    ensures { NextIs (IsBodyTable B sectors body.now) from result }
+{
+    match body {
+        Body::Mbr { chain, .. } => least(not_below(0, from), next_ebr(chain.as_slice(), from)),
+        Body::Gpt(_) => next_of_gpt::<B>(sectors, from),
+    }
+}
+
+// The label place of the slice in a place, where it has one.
+fn place_from<const B: usize>(sectors: u64, body: &Body, k: usize, from: u64) -> Option<u64>
+    requires { k < length (slots B body.now) }
+    ensures { NextIs (IsPlace (placed_in sectors (slice_index_or (slots B body.now) k None))) from result }
+{
+    let slice = placed_at::<B>(sectors, body, k)?;
+    not_below(slice.first + 1, from)
+}
+
+fn next_label<const B: usize>(sectors: u64, body: &Body, from: u64) -> Option<u64>
+    ensures { NextIs (IsPlace (places_of B sectors body.now)) from result }
+{
+    let mut next = None;
+    for k in 0..slot_count::<B>(body) {
+        next = least(next, place_from::<B>(sectors, body, k, from));
+    }
+    next
+}
+
+// The lowest table sector from one on.
+pub fn next_table<const B: usize>(layout: &Layout, from: u64) -> Option<u64>
+    requires { IsSectorSize B }
+    ensures { NextIs (IsTable B layout.now) from result }
+{
+    let body = next_of_body::<B>(layout.sectors, &layout.body, from);
+    let label = next_label::<B>(layout.sectors, &layout.body, from);
+    least(body, label)
+}
+
+/// Whether a sector is one of the layout's tables.
+///
+/// Of a GPT these are sector 0, both headers and both arrays, counted or not; of an MBR sector 0 and the extended
+/// boot records; of both the label places.
+pub fn is_table<const B: usize>(layout: &Layout, lba: Lba) -> bool
+    requires { IsSectorSize B }
+    ensures { IsTrue result ↔ IsTable B layout.now lba.0 }
+{
+    next_table::<B>(layout, lba.0) == Some(lba.0)
+}
+
+// Whether a sector is an extended boot record.
+pub fn is_ebr(body: &Body, lba: u64) -> bool
+    ensures { IsTrue result ↔ IsEbr body.now lba }
+{
+    match body {
+        Body::Mbr { chain, .. } => next_ebr(chain.as_slice(), lba) == Some(lba),
+        Body::Gpt(_) => false,
+    }
+}

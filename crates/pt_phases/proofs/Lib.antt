@@ -1,0 +1,9 @@
+pub mod Every
+pub mod Labels
+pub mod Plans
+pub mod Shapes
+pub mod Touching
+pub mod MbrTurn
+pub mod LabelTurn
+pub mod TurnShapes
+pub mod Turning

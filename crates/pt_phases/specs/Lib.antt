@@ -1,0 +1,5 @@
+pub mod Starts
+pub mod Phases
+pub mod Reserved
+pub mod Turns
+pub mod Outcomes

@@ -1,0 +1,50 @@
+//! What there is against the phases of both copies.
+
+ghost use Rattle.std.specs.Prelude.{◌≡◌, IfErr, OnOk};
+ghost use Rattle.pt_apply.specs.Plans.{phases_of};
+ghost use Rattle.pt_phases.specs.Phases.{Passes, RefusedBy, phases_before};
+
+use crate::order::Order;
+use crate::reserved::{Reserved, touches};
+use pt_apply::Plan;
+use pt_layout::{Layout, Trace};
+use pt_targets::{Kind, PlanError, Target, first_change, first_owned_of_kind};
+
+/// How many phases come before the one with which the disk turns.
+fn phases_before_switch(order: Order) -> usize
+    ensures { result ≡ phases_before order }
+{
+    match order {
+        Order::BackupFirst => 1,
+        Order::PrimaryFirst => 2,
+        Order::FromMbr => 1,
+    }
+}
+
+/// Whether there is nothing against the plan: no write of it and no label that changes is of an owned sector, no label
+/// changes beside the switch, and no guarded sector is written before it.
+pub(crate) fn accept<const B: usize>(
+    order: Order,
+    old: &Option<Layout>,
+    guarded: &Trace,
+    targets: &[Target<B>],
+    plan: &Plan<B>,
+) -> Result<(), PlanError>
+    ensures ok { OnOk result (Passes old.now guarded.now order targets.now (phases_of plan.now)) }
+    ensures err { IfErr result (RefusedBy old.now guarded.now order targets.now (phases_of plan.now)) }
+{
+    if touches(&Reserved::Owned(old), &plan.phases) {
+        return Err(PlanError::ReusedInOneBatch);
+    }
+    if let Some(_) = first_owned_of_kind(old, targets, Kind::Changes) {
+        return Err(PlanError::ReusedInOneBatch);
+    }
+    if let Some(_) = first_change(targets) {
+        return Err(PlanError::NotOneSwitch);
+    }
+    let count = phases_before_switch(order).min(plan.phases.len());
+    if touches(&Reserved::Guarded(guarded), &plan.phases[..count]) {
+        return Err(PlanError::NotOneSwitch);
+    }
+    Ok(())
+}

@@ -1,0 +1,52 @@
+//! Sectors that a plan may not write, or not yet.
+
+ghost use Rattle.std.specs.Prelude.{◌≡◌, ◌↔◌, IsTrue, take};
+ghost use Rattle.pt_apply.specs.Plans.{writes_of, phases_in, writes_in};
+ghost use Rattle.pt_phases.specs.Phases.{Touches};
+ghost use Rattle.pt_phases.specs.Reserved.{IsReserved};
+
+use pt_apply::Write;
+use pt_layout::{Layout, Trace};
+use pt_sector::Lba;
+use pt_targets::owned_in;
+
+/// Sectors that a plan may not write, or not yet.
+#[derive(Clone, Copy)]
+pub(crate) enum Reserved<'a> {
+    /// Those that a partition of the layout owns.
+    Owned(&'a Option<Layout>),
+    /// Those of a trace.
+    Guarded(&'a Trace),
+}
+
+fn is_reserved<const B: usize>(reserved: &Reserved, at: Lba) -> bool
+    ensures { IsTrue result ↔ IsReserved B reserved.now at.0 }
+{
+    match reserved {
+        Reserved::Owned(layout) => owned_in::<B>(layout, at),
+        Reserved::Guarded(trace) => trace.contains(at),
+    }
+}
+
+fn phase_touches<const B: usize>(reserved: &Reserved, phase: &[Write<B>]) -> bool
+    ensures { IsTrue result ↔ Touches (IsReserved B reserved.now) (writes_of phase.now) }
+{
+    for write in phase {
+        if is_reserved::<B>(reserved, write.lba) {
+            return true;
+        }
+    }
+    false
+}
+
+/// Whether a write of one of these phases is of such a sector.
+pub(crate) fn touches<const B: usize>(reserved: &Reserved, phases: &[Vec<Write<B>>]) -> bool
+    ensures { IsTrue result ↔ Touches (IsReserved B reserved.now) (writes_in (phases_in phases.now)) }
+{
+    for phase in phases {
+        if phase_touches(reserved, phase) {
+            return true;
+        }
+    }
+    false
+}

@@ -1,8 +1,0 @@
-use Rattle.std.proofs.Common.{take}
-use Rattle.pt_apply.specs.Plans.{phases_in, writes_in}
-use Rattle.pt_tables.specs.Phases.{Touches}
-use Rattle.pt_tables.specs.Reserved.{IsReserved}
-use Rattle.pt_tables.proofs.reserved.touches.Given as goal
-
-abbrev pub invariant-loop-phase : goal.invariant-loop-phase
-invariant-loop-phase g l = ¬ Touches (IsReserved g.row.B l.reserved) (writes_in (phases_in (take l.phase-index l.phases)))

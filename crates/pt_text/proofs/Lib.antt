@@ -1,4 +1,0 @@
-pub mod Cuts
-pub mod Texts
-pub mod Growing
-pub mod OneReading

@@ -1,5 +1,0 @@
-use Rattle.pt_text.proofs.OneReading.{fault_one}
-use Rattle.pt_text.proofs.laws.text_fault_is_one.Goals as goal
-
-pub returns : goal.returns
-returns c = fault_one

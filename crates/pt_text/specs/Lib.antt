@@ -1,5 +1,0 @@
-pub mod Lines
-pub mod PlanTexts
-pub mod Faults
-pub mod Canonical
-pub mod Reading

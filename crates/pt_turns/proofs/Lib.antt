@@ -1,4 +1,0 @@
-pub mod MbrTurn
-pub mod LabelTurn
-pub mod Shapes
-pub mod Turning
