@@ -16,9 +16,9 @@ def reset(image, kept):
 
 
 def run(words, given=None):
-    """Runs a command, with its standard input from a file."""
+    """Runs a command, with its standard input from a file. The environment is small, since the loader's instructions count it."""
     with open(given or os.devnull, "rb") as it:
-        return subprocess.run(words, stdin=it, capture_output=True, text=True)
+        return subprocess.run(words, stdin=it, capture_output=True, text=True, env={"PATH": os.environ["PATH"], "LC_ALL": "C"})
 
 
 def wall(words, image, kept, changes, given=None):

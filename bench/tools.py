@@ -21,10 +21,8 @@ from images import SMALL, ebr, record  # noqa: E402
 MIB = 1 << 20
 LOGICALS = 120
 ONE, FULL, CHAIN, LARGE = "1 partition, 64 MiB", "128 partitions, 256 MiB", f"{LOGICALS} logicals, 256 MiB", "1 partition, sparse 1 TiB"
-# The sectors that decide the answer: sector 0, both headers and both arrays; or sector 0 and each extended boot record, where
-# verify reads sector 0 once more, to learn that it is an MBR's.
+# The sectors that decide the answer: sector 0, both headers and both arrays; or sector 0 and each extended boot record.
 NAMED = {ONE: 67, FULL: 67, LARGE: 67, CHAIN: 1 + LOGICALS}
-TWICE = {"show": 0, "verify": 1}
 RENAME = 105
 
 
@@ -90,7 +88,7 @@ def faults(found):
             yield f"{title}: a rename reads {sectors} sectors, more than {RENAME}"
         if tool != "ptab" or job == "rename":
             continue
-        if sectors > NAMED[title] + (TWICE[job] if title == CHAIN else 0):
+        if sectors > NAMED[title]:
             yield f"{title}: {job} reads {sectors} sectors, more than {NAMED[title]}"
         if many >= found[(title, job, "sfdisk")][0]:
             yield f"{title}: {job} takes more instructions than sfdisk"

@@ -5,8 +5,8 @@ for, those with the longest chain behind them first, as `rt ci` does it. Prints 
 usage: packaging/build.py [--over-ci] CRATE...     CRATE is a program or a static library, as ptab or pt_c
   --over-ci   takes what `rt ci` has just proved and built; only a static library, which `rt ci` doesn't build, is proved once more
 
-What was built before is taken where neither a source nor the kit has changed since. `rt run` and `rt lib` do the same, one crate after
-the other, and are what is run where the kit's own module isn't as this script knows it.
+What was proved and built before is taken where neither a source nor the kit has changed since. `rt run` and `rt lib` do the same, one
+crate after the other, and are what is run where the kit's own module isn't as this script knows it.
 """
 import contextlib
 import copy
@@ -54,8 +54,30 @@ def is_built(rt, crate):
     return False
 
 
+def library_of(rt, crate):
+    """A sum of all that a library is made from, and of itself and those below it as they stand: a proof is over these files alone."""
+    found = hashlib.sha256(sum_of(rt, crate).encode())
+    for lib in [*crate.below(), crate]:
+        for folder, folders, files in os.walk(lib.rlib):
+            folders.sort()
+            for name in sorted(files):
+                file = os.stat(f"{folder}/{name}")
+                found.update(repr((os.path.relpath(f"{folder}/{name}", lib.rlib), file.st_size, file.st_mtime_ns)).encode())
+    return found.hexdigest()
+
+
+def is_proved(rt, crate):
+    """Whether a library stands as an earlier run of this script proved it."""
+    with contextlib.suppress(OSError), open(f"{crate.folder}/out/proved", encoding="utf-8") as it:
+        return os.path.isdir(crate.rlib) and it.read() == library_of(rt, crate)
+    return False
+
+
 def prove(rt, crate, jobs):
     """Proves one crate over those below it, and builds it. Returns whether that went well; where not, what the prover said is shown."""
+    is_library = not crate.is_program and not crate.is_static
+    if is_library and is_proved(rt, crate):
+        return True
     sys.stderr.write(f"build.py: proving {crate.name}\n")
     os.makedirs(f"{crate.folder}/out", exist_ok=True)
     crate, flags = copy.copy(crate), ["--jobs", str(jobs)]
@@ -68,7 +90,23 @@ def prove(rt, crate, jobs):
         if status:
             crate.out.seek(0)
             print(f"build.py: {crate.name} isn't proved:", crate.out.read(), sep="\n", file=sys.stderr, flush=True)
+    if is_library and status == 0:
+        with open(f"{crate.folder}/out/proved", "w", encoding="utf-8") as it:
+            it.write(library_of(rt, crate))
     return status == 0
+
+
+def longest_chain(crates):
+    """The names of the crates of the longest chain by lines, each standing on the one before. The list has each behind those below it."""
+    lines, under = {}, {}
+    for crate in crates:
+        under[crate.name] = max(crate.deps, key=lambda it: lines[it.name], default=None)
+        lines[crate.name] = crate.count(rb"\n") + (lines[under[crate.name].name] if under[crate.name] else 0)
+    crate, chain = max(crates, key=lambda it: lines[it.name]), []
+    while crate:
+        chain.append(crate.name)
+        crate = under[crate.name]
+    return chain
 
 
 def prove_all(rt, tops):
@@ -77,10 +115,12 @@ def prove_all(rt, tops):
     for top in tops:
         whole += [it for it in [*top.below(), top] if it not in whole]
     held = rt.rtlib.lock(whole)
-    tasks = {}
+    tasks, chain = {}, longest_chain(whole)
     for crate in whole:
         below = [(it.name, "proof") for it in crate.below()]
-        call = lambda given, jobs, crate=crate, below=below: all(given[it] for it in below) and prove(rt, crate, jobs)
+        # all wait for the longest chain, so its crates share the processors with what runs beside them
+        most = min(4, rt.processors()) if crate.name in chain else 1
+        call = lambda given, jobs, it=crate, below=below, most=most: all(given[dep] for dep in below) and prove(rt, it, max(jobs, most))
         tasks[crate.name, "proof"] = (below, crate.count(rb"\n"), rt.need(crate), call)
     try:
         return all(rt.in_lanes(tasks).values())

@@ -83,7 +83,8 @@ WORDS = ("", "x", "z:1:x", "cc:1:x", "N:1:0:0",
          "n:18446744073709551616:0:0", "n:1:0:18446744073709551616", "n:1:0:+18446744073709551616",
          "d", "d:", "d:0", "d:01", "d:1.i", "d:1.A", "d:1:2", "d:+1", "t:1", "t:0:83", "t:1:", "t:1:8", "t:1:ABC", "t:1:83:83", "t:1:0x83",
          "c", "c:1", "c:0:x", "c:01:x", "c:-1:x", "c:1a:x", "c:1.a:x", "c:18446744073709551616:x",
-         "u:1", "u:0:00000000-0000-4000-8000-000000000000", "u:1.a:00000000-0000-4000-8000-000000000000", "u:1:00000000000040008000000000000000",
+         "u:1", "u:0:00000000-0000-4000-8000-000000000000", "u:1.a:00000000-0000-4000-8000-000000000000",
+         "u:1:00000000000040008000000000000000",
          "u:1:{00000000-0000-4000-8000-000000000000}", "u:1:00000000-0000-4000-8000-00000000000", "U", "U:", "U:x",
          "A:1:1", "A:0:1:1", "A:1:64:1", "A:1:01:1", "A:1:1:2", "A:1:1:", "A:1.a:1:1", "A:1:1:1:1", "e:", "e:1", "g:", "o:", "o:1")
 
@@ -117,7 +118,8 @@ def bad_texts():
     for line in (write_of(1, 511), write_of(1, 513), write_of(1, 256), write_of(1, 4096), write_of(1, 512, "g"),
                  write_of("+1"), write_of("-1"), write_of("01"), write_of("00"), write_of(""), write_of("1 "),
                  write_of(" 1"), write_of("\t1"), write_of("0x1"), write_of("1.0"), write_of("\u0661"),
-                 write_of(2 ** 64), write_of(10 ** 40), write_of(1, end="\r\n"), write_of(1, end=" \n"), write_of(1, end=""), write_of(1)[1:],
+                 write_of(2 ** 64), write_of(10 ** 40), write_of(1, end="\r\n"), write_of(1, end=" \n"), write_of(1, end=""),
+                 write_of(1)[1:],
                  b" " + write_of(1), b"w" + write_of(1)[1:], b"W\t" + write_of(1)[2:], b"WW" + write_of(1)[1:], b"W\n", b"W 1\n", b"W 1 \n",
                  b"f\n", b" F\n", b"F \n", b"FF\n", b"F\r\n", b"F\0\n", b"\n", b"\0", b"\0\n", b"#\n", b"x", "\ufeff".encode()):
         yield line, 1
@@ -149,7 +151,9 @@ def plans(ptab, folder):
         expect(ptab, [command, missing, one], missing, "", "device\n", 5)
         expect(ptab, [command, "--sector-size", "4096", image, one], image, "", "refused: plan text 1\n", 3)
         for writes, answer in ((write_of(4096), "no 2 1"), (write_of(2 ** 64 - 1), "no 2 1"), (write_of(0), "no 8 6"),
-                               (write_of(100, 512, "A"), "no 6 100"), (write_of(100, 512, "a") + write_of(101, 512, "B"), "no 6 100"), (write_of(1) * (MOST // 1030), "no 1")):
+                               (write_of(100, 512, "A"), "no 6 100"),
+                               (write_of(100, 512, "a") + write_of(101, 512, "B"), "no 6 100"),
+                               (write_of(1) * (MOST // 1030), "no 1")):
             expect(ptab, [command, image, file_of(folder, "plan", writes + b"F\n")], image, f"{answer}\n", "", 1)
         large = file_of(folder, "plan", write_of(512, 4096) + b"F\n")
         expect(ptab, [command, "--sector-size", "4096", image, large], image, "no 2 1\n", "", 1)
@@ -170,7 +174,8 @@ def usage(ptab, image):
                 ["check", image, image], ["apply", image, image], ["repair", image])
     for words in ([], ["show"], ["verify"], ["locate", image], ["locate", image, "1"], ["locate", image, "1", "0", "0"],
                   ["edit", image], ["nothing"], ["nothing", image], ["show", image, image], ["show", "--depth", image],
-                  ["plan"], ["plan", image], ["check"], ["check", image], ["check", image, image, image], ["check", "--fresh", "", image, image],
+                  ["plan"], ["plan", image], ["check"], ["check", image], ["check", image, image, image],
+                  ["check", "--fresh", "", image, image],
                   ["apply", image], ["apply", image, image, "c:1:x"], ["plan", image, "--fresh"], ["edit", image, "--fresh"],
                   ["edit", image, "--fresh", "", "--fresh", "", "c:1:x"], ["show", "--fresh", "", image],
                   ["repair"], ["repair", image, image], ["repair", image, "c:1:x"], ["repair", "--fresh", "", image],

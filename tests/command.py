@@ -47,7 +47,8 @@ class Command:
             if self.sparse is None:
                 return it.read()
             found = os.fstat(it.fileno())
-            return found.st_size, found.st_blocks, [os.pread(it.fileno(), self.sectors.size, lba * self.sectors.size) for lba in self.sparse]
+            kept = [os.pread(it.fileno(), self.sectors.size, lba * self.sectors.size) for lba in self.sparse]
+            return found.st_size, found.st_blocks, kept
 
     def sector_at(self, lba):
         with open(self.path, "rb") as it:

@@ -216,7 +216,8 @@ def sliced():
     """Slices with a label of either form, one without a label and one that is too short for it."""
     base = 100
     return Gpt("slices", SMALL, 600,
-               {1: entry(base, 199, FREEBSD, guid(1), name="bsd"), 3: entry(200, 299, FREEBSD, guid(3), 2 ** 63 + 4), 4: entry(300, 349, FREEBSD, guid(4)),
+               {1: entry(base, 199, FREEBSD, guid(1), name="bsd"), 3: entry(200, 299, FREEBSD, guid(3), 2 ** 63 + 4),
+                4: entry(300, 349, FREEBSD, guid(4)),
                 5: entry(350, 350, FREEBSD, guid(5)), 128: entry(500, 566, unique=guid(6), name="x" * 36)},
                labels={base + 1: label(100, {0: (30, base + 16, 7), 3: (20, base + 50, 1)}, raw_offset=base),
                        201: label(100, {0: (40, 16, 7), 1: (44, 56, 1)})})
@@ -228,7 +229,8 @@ def full(sectors, count):
     first = sectors.array + 2
     step = (count - sectors.array - 1 - first) // 128
     return Gpt(f"128 entries, {sectors.size}", sectors, count,
-               {k: entry(first + (k - 1) * step, first + k * step - 1, kinds[k % 4], guid(k), k % 8 + (k % 5 << 60), f"part {k}") for k in range(1, 129)})
+               {k: entry(first + (k - 1) * step, first + k * step - 1, kinds[k % 4], guid(k), k % 8 + (k % 5 << 60), f"part {k}")
+                for k in range(1, 129)})
 
 
 def small_tables():

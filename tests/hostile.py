@@ -1,7 +1,8 @@
 #!/usr/bin/env python3
 """Shows, verifies and locates in images that are valid but for bytes, sectors, sums and lengths changed at random by a fixed
 seed, half of them with their sums mended: every run ends in a named answer, the three answers go together, and no image is
-changed. Then each is repaired: it ends healthy with the partitions that it had and nothing else changed, or is refused and stays. The images are of every kind: GPT from either copy, MBR, chains, labels of both forms, both sector sizes.
+changed. Then each is repaired: it ends healthy with the partitions that it had and nothing else changed, or is refused and stays. The
+images are of every kind: GPT from either copy, MBR, chains, labels of both forms, both sector sizes.
 
 usage: tests/hostile.py PTAB [COUNT [WORKERS]]
 """

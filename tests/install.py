@@ -76,7 +76,8 @@ def runs(folder, prefix):
 
 
 def which_program(folder, ptab):
-    """Without PTAB packaging/build.py is asked, here one that writes down its words and tells this program's path; a fault of it is kept."""
+    """Without PTAB packaging/build.py is asked, here one that writes down its words and tells this program's path; a fault
+    of it is kept."""
     top = f"{folder}/top"
     os.makedirs(f"{top}/packaging")
     for name in ("install.sh", "man", "completion"):

@@ -132,7 +132,8 @@ def unsound_gpts(sectors):
     """(a finding from 7 on, an image) of GPTs whose copies are whole."""
     first, last = sectors.array + 2, 200 - sectors.array - 2
     for name, entries in (
-            ("7 outside 1", {1: entry(first - 1, first + 9)}), ("7 outside 1", {1: entry(100, 99)}), ("7 outside 2", {2: entry(100, last + 1)}),
+            ("7 outside 1", {1: entry(first - 1, first + 9)}), ("7 outside 1", {1: entry(100, 99)}),
+            ("7 outside 2", {2: entry(100, last + 1)}),
             ("7 outside 1", {1: entry(100, 2 ** 63)}), ("7 outside 3", {1: entry(100, 110), 3: entry(1, 2 ** 64 - 1, unique=guid(3))}),
             ("8 overlap 1 2", {1: entry(100, 120), 2: entry(120, 130, unique=guid(2))}),
             ("8 overlap 2 1", {1: entry(110, 120), 2: entry(100, 130, unique=guid(2))}),
@@ -178,7 +179,8 @@ def whole_mbrs(sectors):
 
 
 def refused(ptab, size):
-    """Findings 7 to 11, alone and beside a damage that a repair mends; disks without a table; and MBR disks, on which nothing is to mend."""
+    """Findings 7 to 11, alone and beside a damage that a repair mends; disks without a table; and MBR disks, on which
+    nothing is to mend."""
     sectors = SMALL if size == 512 else LARGE
     with tempfile.TemporaryDirectory(dir="/dev/shm" if os.access("/dev/shm", os.W_OK) else None) as folder:
         it = Image(ptab, f"{folder}/image", sectors)

@@ -78,7 +78,8 @@ def recipe(command):
         here = command if size == 512 else command.large()
         here.healthy()
         found = here.run("show")[0]
-        if not re.fullmatch(rf"gpt {sectors} \d+ \d+ [0-9a-f]{{8}}-[0-9a-f]{{4}}-4[0-9a-f]{{3}}-[89ab][0-9a-f]{{3}}-[0-9a-f]{{12}}\n", found):
+        random = "[0-9a-f]{8}-[0-9a-f]{4}-4[0-9a-f]{3}-[89ab][0-9a-f]{3}-[0-9a-f]{12}"
+        if not re.fullmatch(rf"gpt {sectors} \d+ \d+ {random}\n", found):
             sys.exit(f"{line} makes {found}")
 
 

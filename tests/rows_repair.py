@@ -101,7 +101,8 @@ def nothing_to_mend(command):
 def left_to_a_choice(command):
     """Findings 7 to 11, which a repair doesn't mend: also where a copy is lost, when verify tells that first."""
     for it, sectors in ((command, SMALL), (command.large(), LARGE)):
-        for finding, entries in (("7 outside 1", {1: entry(120, 119)}), ("8 overlap 1 2", {1: entry(100, 110), 2: entry(110, 120, unique=guid(2))}),
+        for finding, entries in (("7 outside 1", {1: entry(120, 119)}),
+                                 ("8 overlap 1 2", {1: entry(100, 110), 2: entry(110, 120, unique=guid(2))}),
                                  ("10 same guid 1 2", {1: entry(100, 110), 2: entry(111, 120)})):
             image = sectors.gpt(200, entries)
             it.on(image).unhealthy(finding).not_repaired()

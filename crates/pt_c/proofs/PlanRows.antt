@@ -8,7 +8,8 @@ use Rattle.pt_sector.specs.Sectors.{Sectors}
 use Rattle.pt_sector.specs.Writes.{Writes}
 use Rattle.pt_apply.specs.declared.plan.Write.{Write}
 use Rattle.pt_apply.specs.Plans.{writes_of, phases_in}
-use Rattle.pt_c.specs.Given.{rows_in, bytes_in, rows_from, bytes_of, sectors_of, AreRows, AreFull, phases_read, IsNumbered, Took, AreRead, IsGrowing}
+use Rattle.pt_c.specs.Given.{rows_in, bytes_in, rows_from, bytes_of, sectors_of, AreRows, AreFull, phases_read, IsNumbered}
+use Rattle.pt_c.specs.Given.{Took, AreRead, IsGrowing}
 use Rattle.pt_c.specs.declared.rows.WriteRow.{WriteRow}
 use Rattle.pt_c.specs.declared.taking.Partial.{Partial}
 

@@ -1,7 +1,8 @@
 -- The numbers that stand for the checker's reasons in what is printed.
 use Rattle.std.specs.Prelude.{ℕ}
 use Rattle.pt_check.specs.declared.answer.Why.{Why}
-use Rattle.pt_check.specs.declared.answer.Why.TheVariants.{TooManyWrites, OutOfRange, BootCode, ReadSector, Neither, NotATable, Owned, Final}
+use Rattle.pt_check.specs.declared.answer.Why.TheVariants.{TooManyWrites, OutOfRange, BootCode, ReadSector, Neither, NotATable}
+use Rattle.pt_check.specs.declared.answer.Why.TheVariants.{Owned, Final}
 
 abbrev pub why_number : Why → ℕ
 why_number TooManyWrites = 1

@@ -9,7 +9,8 @@ use pt_gpt::{
     header_at,
 };
 use pt_guid::{Guid, type_of_code};
-use pt_mbr::{Mbr, Record, encode_mbr, protective};
+use pt_mbr::{Mbr, encode_mbr, protective};
+use pt_samples::record;
 use pt_sector::{Disk, Lba, MemDisk, Sector};
 use std::alloc::Global;
 use std::test::Fail;
@@ -46,17 +47,6 @@ pub fn put<const B: usize, D: Disk<B>>(disk: &mut D, at: u64, bytes: &Sector<B>)
     if at < disk.sectors() {
         let _ = disk.write(Lba(at), bytes);
     }
-}
-
-fn record(kind: u8, start: u32, size: u32) -> Option<Record> {
-    Some(Record {
-        boot: 0,
-        start_chs: [0; 3],
-        kind,
-        end_chs: [0; 3],
-        start,
-        size,
-    })
 }
 
 /// A label for a slice, in either form, with entries a and b; now and then one of another length.

@@ -14,9 +14,9 @@ use Rattle.pt_gpt.specs.Array.{HasRoom}
 use Rattle.pt_members.specs.declared.layout.Layout.{Layout}
 use Rattle.pt_members.specs.declared.layout.Body.{Body}
 use Rattle.pt_members.specs.declared.layout.Body.TheVariants.{Mbr, Gpt}
-use Rattle.pt_members.specs.OnePath as bodies
+use Rattle.pt_members.specs.OnePath.{HasFour}
 use Rattle.pt_members.specs.Tables.{IsEbr}
-use Rattle.pt_members.specs.Members.{Group, groups_of, IsMember}
+use Rattle.pt_members.specs.Members.{Group, groups_of, IsMember, present, logicals}
 use Rattle.pt_members.specs.declared.member.Kind.{Kind}
 use Rattle.pt_members.specs.declared.member.Kind.TheVariants.{Leaf, Slice, Extended}
 use Rattle.pt_members.specs.declared.member.Member.{Member}
@@ -24,7 +24,7 @@ use Rattle.pt_words.specs.laws.Searches.{Decided, both_decided, either_decided, 
 use Rattle.pt_words.specs.laws.Searches.{numbers_decided, search_below, search_list}
 use Rattle.pt_words.specs.declared.error.Refusal.{Refusal}
 use Rattle.pt_words.specs.declared.error.Refusal.TheVariants.{NotForThisTable, UnknownCode, NoRoomForGpt, NoFreshGuid, SameGuid}
-use Rattle.pt_edit.specs.Partitions.{HasFour, partitions, logicals}
+use Rattle.pt_edit.specs.Partitions.{partitions}
 use Rattle.pt_edit.specs.Room.{edge, IsOutside, IsOutsider, NoRoom, small, partition, ebr, many}
 use Rattle.pt_edit.specs.Converted.{HasRecords, new_type, HasUnknown, entry_of, guids_taken, HasTwins, IsGptOf, MayConvert, Converted}
 use Rattle.pt_edit.specs.Converted.{NotConverted, no_mbr, unknown, no_room, too_few, twins}
@@ -104,9 +104,9 @@ ebr_decided b n (Gpt t) = inr (λ has. has.1)
 room_decided : (b : ℕ) (o : Layout) → Decided (NoRoom b o)
 room_decided b o =
     joined (le_decided (2 * array_len b + 4) o.sectors) (member_outside_decided b o) (ebr_decided b o.sectors o.body)
-    (lt_decided 124 (length (logicals o.body))) where
+    (lt_decided 124 (length (present (logicals b o.body)))) where
       joined : Decided (HasRoom b o.sectors) → Decided (HasOutside b o) → Decided (EbrOutside b o.sectors o.body)
-          → Decided (124 < length (logicals o.body)) → Decided (NoRoom b o)
+          → Decided (124 < length (present (logicals b o.body))) → Decided (NoRoom b o)
       joined (inr less) out chain more = inl (small less)
       joined (inl enough) (inl out) chain more = inl (partition out.0 out.1 out.2)
       joined (inl enough) (inr in_all) (inl chain) more = inl (ebr chain.0 chain.1 chain.2)
@@ -200,11 +200,6 @@ tabled b n guids ps fit enough =
       };
     }
 
--- a layout of four records
-four_of : (y : Body) → bodies.HasFour y → HasRecords y → HasFour y
-four_of (Mbr records chain) four is = four
-four_of (Gpt t) four is = absurd is
-
 records_decided : (y : Body) → Decided (HasRecords y)
 records_decided (Mbr records chain) = inl tt
 records_decided (Gpt t) = inr (λ is. is)
@@ -213,14 +208,14 @@ abbrev ConvertedOr : ℕ → List Guid → Layout → Type 0
 ConvertedOr b guids o = ((p : Layout) × Converted b guids o p) ⊎ ((r : Refusal) × NotConverted b guids o r)
 
 -- each layout of a GPT or of four records becomes a GPT, or there is a reason why not
-pub convert_answers_lem : (b : ℕ) (guids : List Guid) (o : Layout) → bodies.HasFour o.body
+pub convert_answers_lem : (b : ℕ) (guids : List Guid) (o : Layout) → HasFour o.body
     → ((p : Layout) × Converted b guids o p) ⊎ ((r : Refusal) × NotConverted b guids o r)
 convert_answers_lem b guids o four =
     joined (records_decided o.body) (unknown_decided (partitions o.body)) (room_decided b o)
     (cases_lt (length guids) (guids_taken o)) (twins_decided guids (length (partitions o.body))) where
       made : MayConvert b guids o → ConvertedOr b guids o
       made may =
-          let fit = placed b o (four_of o.body four may.is_mbr) may.room in
+          let fit = placed b o four may.room in
           let t = tabled b o.sectors guids (partitions o.body) fit may.enough in
           inl (
             record { sectors = o.sectors; body = Gpt t.table; labels = o.labels },

@@ -5,7 +5,7 @@ pub mod EntryAnswers
 pub mod FourRecords
 pub mod Answering
 pub mod NoMemory
-pub mod Steps
+pub mod Listing
 pub mod Counts
 pub mod Searches
 pub mod Alike

@@ -15,14 +15,16 @@ use Rattle.pt_members.specs.declared.layout.Body.{Body}
 use Rattle.pt_members.specs.declared.layout.Body.TheVariants.{Mbr, Gpt}
 use Rattle.pt_members.specs.declared.member.Kind.TheVariants.{Extended}
 use Rattle.pt_members.specs.declared.member.Member.{Member}
-use Rattle.pt_members.specs.Members.{present, slots}
+use Rattle.pt_members.specs.Members.{present, slots, logicals, logicals_as}
+use Rattle.pt_members.specs.OnePath.{HasFour}
 use Rattle.pt_members.specs.laws.Grouped.{from_present, place_member}
-use Rattle.pt_edit.specs.Partitions.{HasFour, partition_of, primary, primaries, logical, logicals_from, partitions}
+use Rattle.pt_edit.specs.Partitions.{partitions}
 use Rattle.pt_edit.specs.Room.{edge, IsOutside, NoRoom, small, partition, many}
 use Rattle.pt_edit.specs.Converted.{IsAt}
 use Rattle.pt_edit.specs.Placed.{Placeable}
 use Rattle.pt_edit.specs.Kept.{member_of, is_kept, is_kept_kind}
-use Rattle.pt_edit.specs.laws.Kept.{kept_lem}
+use Rattle.pt_edit.specs.laws.Kept.{kept_lem, logicals_same}
+use Rattle.pt_edit.specs.laws.Parts.{partition_of, primary, primaries, logical, logicals_from, partitions_mbr, partitions_gpt}
 use Rattle.pt_edit.specs.declared.partition.Partition.{Partition}
 use Rattle.pt_edit.proofs.Searches.{not_true}
 
@@ -82,9 +84,10 @@ logicals_rising n (e ∷ es) =
 all_rising : (rs : List (Option Record)) (chain : List Ebr) → length rs ≡ 4 → length (logicals_from 5 chain) ≤ 124
     → Rising 1 129 (partitions (Mbr rs chain))
 all_rising rs chain four few =
-    joined 1 5 129 (primaries 1 rs) (logicals_from 5 chain) (omega arith) (omega arith)
+    subst (Rising 1 129) (sym (partitions_mbr rs chain))
+    (joined 1 5 129 (primaries 1 rs) (logicals_from 5 chain) (omega arith) (omega arith)
     (weaker 1 1 (1 + length rs) 5 (primaries 1 rs) (omega arith) (omega (arith, four)) (primaries_rising 1 rs))
-    (weaker 5 5 (5 + length (logicals_from 5 chain)) 129 (logicals_from 5 chain) (omega arith) (omega arith) (logicals_rising 5 chain))
+    (weaker 5 5 (5 + length (logicals_from 5 chain)) 129 (logicals_from 5 chain) (omega arith) (omega arith) (logicals_rising 5 chain)))
 
 -- so at each place
 rising_at : (low high : ℕ) (ps : List Partition) (k : ℕ) (p : Partition) → Rising low high ps → IsAt ps k p
@@ -149,10 +152,12 @@ has_room b o room = elim (cases_lt o.sectors (2 * array_len b + 4)) as (λ _. Ha
 
 few_logicals : (b n : ℕ) (rs : List (Option Record)) (chain : List Ebr) (labels : List Labelled)
     → ¬ NoRoom b (record { sectors = n; body = Mbr rs chain; labels = labels }) → length (logicals_from 5 chain) ≤ 124
+unfolding logicals
 few_logicals b n rs chain labels room =
-    elim (cases_lt 124 (length (logicals_from 5 chain))) as (λ _. length (logicals_from 5 chain) ≤ 124) [
+    let same = logicals_same b 5 chain in
+    elim (cases_lt 124 (length (present (logicals_as b 5 chain)))) as (λ _. length (logicals_from 5 chain) ≤ 124) [
       | inl more ↦ absurd (room (many more))
-      | inr few ↦ few
+      | inr few ↦ omega (arith, same, few)
     ]
 
 last_in : (b n first last : ℕ) → (IsOutside b n first last → ⊥) → last ≤ n - edge b
@@ -175,6 +180,15 @@ placed_mbr b n rs chain labels four room =
       rising = λ i j p q lt one two. rising_on 1 129 ps i j p q rising lt one two;
     }
 
+none_placeable : (n : ℕ) → Placeable n []
+none_placeable n = record {
+  low = λ k p at. absurd (omega (arith, at.0));
+  high = λ k p at. absurd (omega (arith, at.0));
+  fits_first = λ k p at. absurd (omega (arith, at.0));
+  fits_last = λ k p at. absurd (omega (arith, at.0));
+  rising = λ i j p q lt one two. absurd (omega (arith, one.0));
+}
+
 pub placed : (b : ℕ) (o : Layout) → HasFour o.body → ¬ NoRoom b o → Placeable o.sectors (partitions o.body)
 placed b o four room = by_body o.body refl where
   by_body : (y : Body) → o.body ≡ y → Placeable o.sectors (partitions o.body)
@@ -183,4 +197,6 @@ placed b o four room = by_body o.body refl where
       ap (λ (y : Body). record { sectors = o.sectors; body = y; labels = o.labels }) is in
       subst (λ (y : Body). Placeable o.sectors (partitions y)) (sym is)
       (placed_mbr b o.sectors rs chain o.labels (subst HasFour is four) (subst (λ (x : Layout). ¬ NoRoom b x) same room))
-  by_body (Gpt t) is = absurd (subst HasFour is four)
+  by_body (Gpt t) is =
+      subst (λ (y : Body). Placeable o.sectors (partitions y)) (sym is)
+      (subst (Placeable o.sectors) (sym (partitions_gpt t)) (none_placeable o.sectors))

@@ -1,7 +1,7 @@
 -- The searches for what lies outside, one place at a time.
 use Rattle.std.proofs.Common.{◌≡◌, ◌<◌, ◌≤◌, ◌+◌, ℕ, zero, suc, Bool, true, false, List, [], ◌∷◌, length, get_or, drop, Option, Some, None}
 use Rattle.std.proofs.Common.{refl, sym, ap, ◌∙◌, subst, arith, inl, inr}
-use Rattle.std.proofs.lemmas.List.{drop_all}
+use Rattle.std.proofs.lemmas.List.{drop_all, drop_more}
 use Rattle.pt_mbr.specs.Chain.{StandsAt}
 use Rattle.pt_mbr.specs.declared.ebr.Ebr.{Ebr}
 use Rattle.pt_bsd.specs.declared.label.Label.{Label}
@@ -13,7 +13,6 @@ use Rattle.pt_members.specs.laws.Grouped.{place_member, member_place}
 use Rattle.pt_members.specs.declared.member.Member.{Member}
 use Rattle.pt_edit.specs.Room.{IsOutside, IsOutsider, NoRoom, small, partition, ebr, many}
 use Rattle.pt_edit.specs.Outside.{HasOutsider, HasNear, HasAny, HasEbr, IsChainInWay}
-use Rattle.pt_edit.proofs.Steps.{opened}
 
 -- a chain's record stands where it does
 pub stands : (es : List Ebr) (k : ℕ) (z : Ebr) → k < length es → StandsAt (get_or es k z).at.0 es
@@ -24,7 +23,7 @@ stands (e ∷ es) (suc k) z lt = inr (stands es k z (omega arith))
 -- where this one doesn't lie outside, another one after it does
 pub next_ebr : (b n : ℕ) (es : List Ebr) (k : ℕ) (z : Ebr) → k < length es
     → ¬ IsOutside b n (get_or es k z).at.0 (get_or es k z).at.0 → HasEbr b n (drop k es) → HasEbr b n (drop (k + 1) es)
-next_ebr b n es k z lt inside has = by_place (subst (HasEbr b n) (opened es k z lt) has) where
+next_ebr b n es k z lt inside has = by_place (subst (HasEbr b n) (drop_more es k z lt) has) where
   by_place : HasEbr b n (get_or es k z ∷ drop (k + 1) es) → HasEbr b n (drop (k + 1) es)
   by_place (s, inl same, outside) = absurd (inside (subst (λ (x : ℕ). IsOutside b n x x) same outside))
   by_place (s, inr later, outside) = (s, later, outside)

@@ -1,5 +1,5 @@
 -- The partitions of an MBR are its members but the extended one.
-use Rattle.std.specs.Prelude.{◌-◌, ℕ, Bool, true, false}
+use Rattle.std.specs.Prelude.{ℕ, Bool, true, false}
 use Rattle.pt_members.specs.declared.member.Kind.{Kind}
 use Rattle.pt_members.specs.declared.member.Kind.TheVariants.{Leaf, Slice, Extended}
 use Rattle.pt_members.specs.declared.member.Member.{Member}

@@ -8,7 +8,6 @@ pub mod Whole
 pub mod Partitions
 pub mod Room
 pub mod Outside
-pub mod Counted
 pub mod Converted
 pub mod Twins
 pub mod Placed

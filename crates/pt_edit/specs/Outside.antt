@@ -5,9 +5,9 @@ use Rattle.pt_mbr.specs.declared.ebr.Ebr.{Ebr}
 use Rattle.pt_members.specs.declared.layout.Layout.{Layout}
 use Rattle.pt_members.specs.declared.layout.Body.{Body}
 use Rattle.pt_members.specs.declared.member.Member.{Member}
+use Rattle.pt_members.specs.Members.{present, logicals}
 use Rattle.pt_members.specs.Search.{AtPlace, IsNear, InLayout}
 use Rattle.pt_members.specs.Tables.{IsEbr}
-use Rattle.pt_edit.specs.Partitions.{logicals}
 use Rattle.pt_edit.specs.Room.{IsOutside, IsOutsider}
 
 -- in one of the places
@@ -28,4 +28,4 @@ HasEbr b n chain = (s : ℕ) × StandsAt s chain × IsOutside b n s s
 
 -- one, or there are too many logical partitions
 abbrev pub IsChainInWay : ℕ → ℕ → Body → Type 0
-IsChainInWay b n body = ((s : ℕ) × IsEbr body s × IsOutside b n s s) ⊎ (124 < length (logicals body))
+IsChainInWay b n body = ((s : ℕ) × IsEbr body s × IsOutside b n s s) ⊎ (124 < length (present (logicals b body)))

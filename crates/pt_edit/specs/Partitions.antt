@@ -1,47 +1,35 @@
--- The partitions of an MBR in the order of their numbers, without the extended one.
-use Rattle.std.specs.Prelude.{◌≡◌, ℕ, ◌+◌, ◌-◌, List, [], ◌∷◌, ◌++◌, length, Option, Some, None, if◌then◌else◌}
-use Rattle.pt_mbr.specs.declared.record.Record.{Record}
-use Rattle.pt_mbr.specs.declared.ebr.Ebr.{Ebr}
-use Rattle.pt_mbr.specs.Extended.{is_extended}
-use Rattle.pt_members.specs.SliceLists.{next_number}
+-- The partitions that `g` keeps: the records and logical partitions of an MBR but the extended one, in the order of their numbers.
+--
+-- They are read off the rows with sectors of 512 bytes. The size of sectors decides only which partitions are slices, and that
+-- doesn't matter here: `any_size` of specs/laws/Parts.antt says that every other size gives the same ones.
+use Rattle.std.specs.Prelude.{ℕ, List, [], ◌∷◌, flat_map, Option, Some, None, if◌then◌else◌}
 use Rattle.pt_members.specs.declared.layout.Body.{Body}
-use Rattle.pt_members.specs.declared.layout.Body.TheVariants.{Mbr, Gpt}
+use Rattle.pt_members.specs.declared.member.Member.{Member}
+use Rattle.pt_members.specs.declared.row.Row.{Row}
+use Rattle.pt_members.specs.declared.row.Source.{Source}
+use Rattle.pt_members.specs.declared.row.Source.TheVariants as source
+use Rattle.pt_members.specs.Rows.{rows}
+use Rattle.pt_edit.specs.Kept.{is_kept}
 use Rattle.pt_edit.specs.declared.partition.Partition.{Partition}
 
--- of a record whose start counts from a sector
-abbrev pub partition_of : ℕ → ℕ → Record → Partition
-partition_of number at r = record { number = number; kind = r.kind; first = at + r.start; last = at + r.start + r.size - 1 }
+-- the partition that a member with a record of this type is, unless it is the extended one
+abbrev pub kept_as : ℕ → Member → List Partition
+kept_as kind m = if is_kept m then record { number = m.path.number; kind = kind; first = m.first; last = m.last } ∷ [] else []
 
--- of a record of sector 0, where it is used and not extended
-unfoldable pub primary : ℕ → Option Record → List Partition
-primary number None = []
-primary number (Some r) = if is_extended r.kind then [] else partition_of number 0 r ∷ []
+-- by what stands in the member's place: only a record makes it a partition of an MBR
+abbrev pub kept_by : Member → Source → List Partition
+kept_by m (source.Record r) = kept_as r.kind m
+kept_by m (source.Entry e) = []
+kept_by m (source.Part e) = []
 
--- those of the records from a number on
-unfoldable pub primaries : ℕ → List (Option Record) → List Partition
-primaries number [] = []
-primaries number (r ∷ rs) = primary number r ++ primaries (number + 1) rs
+abbrev pub kept_of : Row → List Partition
+kept_of row = kept_by row.member row.source
 
--- of an extended boot record, where it isn't empty
-unfoldable pub logical : ℕ → Ebr → List Partition
-logical number e = elim e.logical as (λ o. List Partition) [ None ↦ [] | Some r ↦ partition_of number e.at.0 r ∷ [] ]
+-- in a place: none where it is unused
+abbrev pub kept_at : Option Row → List Partition
+kept_at None = []
+kept_at (Some row) = kept_of row
 
--- the logical partitions of a chain from a number on; an empty extended boot record takes no number
-unfoldable pub logicals_from : ℕ → List Ebr → List Partition
-logicals_from number [] = []
-logicals_from number (e ∷ es) = logical number e ++ logicals_from (next_number number e) es
-
--- the logical partitions
-abbrev pub logicals : Body → List Partition
-logicals (Mbr records chain) = logicals_from 5 chain
-logicals (Gpt t) = []
-
--- all of them
+-- all of them; a GPT has none
 abbrev pub partitions : Body → List Partition
-partitions (Mbr records chain) = primaries 1 records ++ logicals_from 5 chain
-partitions (Gpt t) = []
-
--- an MBR has four records
-abbrev pub HasFour : Body → Type 0
-HasFour (Mbr records chain) = length records ≡ 4
-HasFour (Gpt t) = ⊥
+partitions body = flat_map kept_at (rows 512 body)

@@ -5,9 +5,8 @@ use Rattle.pt_gpt.specs.Array.{HasRoom}
 use Rattle.pt_members.specs.declared.layout.Layout.{Layout}
 use Rattle.pt_members.specs.declared.member.Kind.TheVariants.{Extended}
 use Rattle.pt_members.specs.declared.member.Member.{Member}
-use Rattle.pt_members.specs.Members.{IsMember}
+use Rattle.pt_members.specs.Members.{IsMember, present, logicals}
 use Rattle.pt_members.specs.Tables.{IsEbr}
-use Rattle.pt_edit.specs.Partitions.{logicals}
 
 -- the first usable sector of a new GPT; the last usable one is as far from the disk's end
 abbrev pub edge : ℕ → ℕ
@@ -27,4 +26,4 @@ pub data NoRoom (b : ℕ) (o : Layout) : Type 0 where
   small : ¬ HasRoom b o.sectors → NoRoom b o
   partition : (m : Member) → IsMember b o m → IsOutsider b o.sectors m → NoRoom b o
   ebr : (s : ℕ) → IsEbr o.body s → IsOutside b o.sectors s s → NoRoom b o
-  many : 124 < length (logicals o.body) → NoRoom b o
+  many : 124 < length (present (logicals b o.body)) → NoRoom b o

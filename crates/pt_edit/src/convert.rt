@@ -2,7 +2,8 @@
 
 ghost use Rattle.std.specs.Prelude.{◌≡◌, ◌≢◌, ◌≤◌, ◌+◌, IfOk, IfErr, OnOk, length};
 ghost use Rattle.pt_sector.specs.Sectors.{IsSectorSize};
-ghost use Rattle.pt_edit.specs.Partitions.{HasFour, partitions};
+ghost use Rattle.pt_members.specs.OnePath.{HasFour};
+ghost use Rattle.pt_edit.specs.Partitions.{partitions};
 ghost use Rattle.pt_edit.specs.Placed.{Placeable};
 ghost use Rattle.pt_edit.specs.Room.{edge};
 ghost use Rattle.pt_edit.specs.Converted.{HasRecords, MayConvert, IsGptOf, Converted, NotConverted};
@@ -28,7 +29,7 @@ fn partitions_in(alloc: Global, body: &Body) -> Result<Vec<Partition>, Refusal>
     ensures err { IfErr result (λ refusal. refusal ≢ Refusal.Memory → ¬ HasRecords body.now) }
 {
     match body {
-        Body::Mbr { records, chain } => Ok(partitions_of(alloc, records, chain.as_slice())?),
+        Body::Mbr { .. } => Ok(partitions_of(alloc, body)?),
         Body::Gpt(_) => Err(Refusal::NotForThisTable),
     }
 }

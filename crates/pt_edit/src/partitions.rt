@@ -1,57 +1,48 @@
 //! The partitions of an MBR in the order of their numbers.
+//!
+//! They are read off the rows of `pt_members` with sectors of 512 bytes. The size of sectors decides only which partitions are
+//! slices, and that doesn't matter here.
 
-ghost use Rattle.std.specs.Prelude.{◌≡◌, ◌≤◌, ◌+◌, ◌++◌, IfOk, OnOk, length, option_to_list};
-ghost use Rattle.pt_edit.specs.Partitions.{primary, primaries, logical, logicals_from};
-ghost use Rattle.pt_members.specs.SliceLists.{next_number};
+ghost use Rattle.std.specs.Prelude.{◌≡◌, ◌<◌, ◌++◌, ◌^◌, IfOk, OnOk, length, option_to_list, slice_index_or, None};
+ghost use Rattle.pt_members.specs.Members.{slots};
+ghost use Rattle.pt_members.specs.OnePath.{HasFour};
+ghost use Rattle.pt_members.specs.Rows.{rows};
+ghost use Rattle.pt_edit.specs.Partitions.{kept_of, kept_at, partitions};
 ghost use Rattle.pt_edit.specs.Converted.{guids_taken};
 
 use crate::partition::Partition;
-use pt_mbr::{Ebr, Record, is_extended_kind};
-use pt_members::{Body, Layout};
+use pt_mbr::{Ebr, Record};
+use pt_members::{Body, Kind, Layout, Row, Source, row_at, slot_count};
 use std::alloc::{AllocError, Global};
 
-/// The number of the first logical partition.
-const FIRST_LOGICAL: u64 = 5;
-
-// The partition of a record of sector 0.
-#[tactic(auto, unfolding(crate::specs::Partitions::primary))]
-fn primary_in(number: u64, record: &Option<Record>) -> Option<Partition>
-    ensures { option_to_list result ≡ primary number «record».now }
+// The partition that a row is: none where it is the extended one, or the entry of a GPT or of a label.
+fn kept(row: &Row) -> Option<Partition>
+    ensures { option_to_list result ≡ kept_of row.now }
 {
-    match record {
-        Some(record) => {
-            if is_extended_kind(record.kind) {
-                None
-            } else {
-                Some(Partition::of(number, 0, record))
+    let member = &row.member;
+    match row.source {
+        Source::Record(record) => {
+            if member.kind == Kind::Extended {
+                return None;
             }
+            Some(Partition {
+                number: member.path.number,
+                kind: record.kind,
+                first: member.first,
+                last: member.last,
+            })
         }
-        None => None,
+        Source::Entry(_) | Source::Part(_) => None,
     }
 }
 
-// The logical partition of an extended boot record.
-#[tactic(auto, unfolding(crate::specs::Partitions::logical))]
-fn logical_in(number: u64, ebr: &Ebr) -> Option<Partition>
-    ensures { option_to_list result ≡ logical number ebr.now }
+// The partition in a place.
+fn partition_at(body: &Body, k: usize) -> Option<Partition>
+    requires { k < length (slots 512 body.now) }
+    ensures { option_to_list result ≡ kept_at (slice_index_or (rows 512 body.now) k None) }
 {
-    match &ebr.logical {
-        Some(record) => Some(Partition::of(number, ebr.at.0, record)),
-        None => None,
-    }
-}
-
-// The number of the logical partition behind an extended boot record.
-#[tactic(auto, unfolding(pt_members::specs::SliceLists::next_number))]
-fn number_after(number: u64, ebr: &Ebr) -> u64
-    requires { number + 1 ≤ 18446744073709551615 }
-    ensures value { result ≡ next_number number ebr.now }
-    ensures most { result ≤ number + 1 }
-{
-    match ebr.logical {
-        Some(_) => number + 1,
-        None => number,
-    }
+    let row = row_at::<512>(body, k)?;
+    kept(&row)
 }
 
 fn push(partitions: &mut Vec<Partition>, partition: Option<Partition>) -> Result<(), AllocError>
@@ -63,85 +54,54 @@ fn push(partitions: &mut Vec<Partition>, partition: Option<Partition>) -> Result
     Ok(())
 }
 
-fn push_primaries(
-    partitions: &mut Vec<Partition>,
-    records: &[Option<Record>],
-) -> Result<(), AllocError>
-    ensures { OnOk result (partitions.new.items ≡ partitions.old.items ++ primaries 1 records.now) }
+// What types say of an MBR: it has four records, and fewer extended boot records than can be counted.
+fn mbr_bounds(records: &[Option<Record>; 4], chain: &[Ebr])
+    ensures four { length «records».now ≡ 4 }
+    ensures few { length chain.now < 2 ^ 62 }
 {
-    for k in 0..records.len() {
-        let partition = primary_in(k as u64 + 1, &records[k]);
-        push(partitions, partition)?;
-    }
-    Ok(())
+    let _count = records.len() + chain.len();
 }
 
-fn push_logicals(partitions: &mut Vec<Partition>, chain: &[Ebr]) -> Result<(), AllocError>
-    ensures { OnOk result (partitions.new.items ≡ partitions.old.items ++ logicals_from 5 chain.now) }
+// What they say of a body, which contracts see without types: an MBR has four records, and there are fewer places than can be counted.
+#[tactic(auto, using(pt_members::proofs::ByPlace::mbr_len, pt_members::proofs::ByPlace::gpt_len))]
+fn bounds(body: &Body)
+    ensures four { HasFour body.now }
+    ensures few { length (slots 512 body.now) < 2 ^ 63 }
 {
-    let mut number = FIRST_LOGICAL;
-    for k in 0..chain.len() {
-        let partition = logical_in(number, &chain[k]);
-        push(partitions, partition)?;
-        number = number_after(number, &chain[k]);
+    match body {
+        Body::Mbr { records, chain } => mbr_bounds(records, chain.as_slice()),
+        Body::Gpt(table) => {
+            let _count = table.entries.as_slice().len();
+        }
     }
-    Ok(())
 }
 
 // All of them, but the extended partition.
-pub(crate) fn partitions_of(
-    alloc: Global,
-    records: &[Option<Record>; 4],
-    chain: &[Ebr],
-) -> Result<Vec<Partition>, AllocError>
-    ensures ok { IfOk result (λ v. v.items ≡ primaries 1 «records».now ++ logicals_from 5 chain.now) }
-    ensures four { length «records».now ≡ 4 }
+#[tactic(auto, using(crate::proofs::Listing::kept_more, crate::proofs::Listing::kept_end))]
+pub(crate) fn partitions_of(alloc: Global, body: &Body) -> Result<Vec<Partition>, AllocError>
+    ensures ok { IfOk result (λ v. v.items ≡ partitions body.now) }
+    ensures four { HasFour body.now }
 {
+    bounds(body);
     let mut partitions = Vec::new(alloc);
-    push_primaries(&mut partitions, &records[..])?;
-    push_logicals(&mut partitions, chain)?;
+    for k in 0..slot_count::<512>(body) {
+        push(&mut partitions, partition_at(body, k))?;
+    }
     Ok(partitions)
-}
-
-// How many logical partitions a chain has.
-pub(crate) fn logical_count(chain: &[Ebr]) -> usize
-    ensures value { result ≡ length (logicals_from 5 chain.now) }
-    ensures most { result ≤ length chain.now }
-{
-    let mut count = 0;
-    for ebr in chain {
-        if ebr.logical.is_some() {
-            count += 1;
-        }
-    }
-    count
-}
-
-// How many partitions four records have, without the extended one.
-fn primary_count(records: &[Option<Record>]) -> usize
-    ensures value { result ≡ length (primaries 1 records.now) }
-    ensures most { result ≤ length records.now }
-{
-    let mut count = 0;
-    for record in records {
-        if let Some(record) = record {
-            if !is_extended_kind(record.kind) {
-                count += 1;
-            }
-        }
-    }
-    count
 }
 
 /// How many fresh GUIDs the layout takes as it becomes a GPT: one for the disk, and one for each partition, but not for the extended
 /// one.
+#[tactic(auto, using(crate::proofs::Listing::kept_end))]
 pub fn guids_for(layout: &Layout) -> usize
     ensures { result ≡ guids_taken layout.now }
 {
-    match &layout.body {
-        Body::Mbr { records, chain } => {
-            1 + primary_count(&records[..]) + logical_count(chain.as_slice())
+    bounds(&layout.body);
+    let mut count = 1;
+    for k in 0..slot_count::<512>(&layout.body) {
+        if partition_at(&layout.body, k).is_some() {
+            count += 1;
         }
-        Body::Gpt(_) => 1,
     }
+    count
 }

@@ -3,19 +3,20 @@
 ghost use Rattle.std.specs.Prelude.{◌≡◌, ◌<◌, ◌^◌, ◌↔◌, ℕ, IsTrue, length, Some};
 ghost use Rattle.pt_sector.specs.Sectors.{IsSectorSize};
 ghost use Rattle.pt_mbr.specs.Chain.{StandsAt};
-ghost use Rattle.pt_members.specs.Members.{parts, parts_in};
+ghost use Rattle.pt_members.specs.Members.{parts, parts_in, logicals_as, present};
 ghost use Rattle.pt_members.specs.Tables.{IsEbr};
 ghost use Rattle.pt_edit.specs.Room.{edge, IsOutside, IsOutsider, NoRoom};
 ghost use Rattle.pt_edit.specs.Outside.{HasOutsider, HasNear, HasAny, HasEbr, IsChainInWay};
 
-use crate::partitions::logical_count;
 use pt_bsd::Label;
 use pt_gpt::array_sectors;
-use pt_mbr::Ebr;
-use pt_members::{Body, Kind, Layout, Member, find_label, part_slot, slot, slot_count};
+use pt_mbr::{Ebr, FIRST_LOGICAL};
+use pt_members::{
+    Body, Kind, Layout, Member, find_label, logical_number, part_slot, slot, slot_count,
+};
 
 /// How many numbers from 5 on a GPT of 128 entries has.
-const LOGICALS: usize = 124;
+const LOGICALS: u64 = 124;
 
 // The first usable sector of a new GPT; the last usable one is as far from the disk's end.
 pub(crate) fn first_usable<const B: usize>() -> u64
@@ -121,15 +122,23 @@ fn has_ebr_outside<const B: usize>(sectors: u64, chain: &[Ebr]) -> bool
     false
 }
 
+// Whether a chain has more logical partitions than there are numbers for them.
+#[tactic(auto, using(crate::proofs::Counts::logicals_counted))]
+fn has_many<const B: usize>(chain: &[Ebr]) -> bool
+    ensures { IsTrue result ↔ (124 < length (present (logicals_as B 5 chain.now))) }
+{
+    logical_number(chain, chain.len()) - FIRST_LOGICAL > LOGICALS
+}
+
 // Whether a chain stands in the way: by its places, or by too many logical partitions.
+#[tactic(auto, unfolding(pt_members::specs::Members::logicals))]
 fn is_chain_in_way<const B: usize>(sectors: u64, body: &Body) -> bool
     requires size { IsSectorSize B }
     ensures { IsTrue result ↔ IsChainInWay B sectors body.now }
 {
     match body {
         Body::Mbr { chain, .. } => {
-            has_ebr_outside::<B>(sectors, chain.as_slice())
-                || logical_count(chain.as_slice()) > LOGICALS
+            has_ebr_outside::<B>(sectors, chain.as_slice()) || has_many::<B>(chain.as_slice())
         }
         Body::Gpt(_) => false,
     }

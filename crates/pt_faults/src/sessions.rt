@@ -5,21 +5,9 @@ use crate::device::{Stop, denoted, fail, served, stopped, stops_at};
 use pt_edit::edit;
 use pt_layout::Layout;
 use pt_plan::{Batch, Reply};
-use pt_samples::{crash_disk, words};
+use pt_samples::{batches, crash_disk};
 use std::alloc::Global;
 use std::test::Fail;
-
-/// A batch for each word.
-fn batches(alloc: Global, texts: &[&str]) -> Result<Vec<Batch>, Fail> {
-    let mut made = Vec::new(alloc);
-    for text in texts {
-        made.push(Batch {
-            edits: words(alloc, &[text])?,
-            guids: Vec::new(alloc),
-        })?;
-    }
-    Ok(made)
-}
 
 /// The layouts that the batches lead to, one after the other, from this one on.
 fn steps(alloc: Global, batches: &[Batch], old: &Layout) -> Result<Vec<Layout>, Fail> {

@@ -1,9 +1,8 @@
 -- What a conversion to GPT keeps.
-use Rattle.std.specs.Prelude.{◌≡◌, ◌≢◌, ◌<◌, ◌≤◌, ◌⊎◌, ◌+◌, ◌-◌, ◌*◌, ◌++◌, ◌∷◌, [], ℕ, suc, Bool, true, false, List, flat_map}
-use Rattle.std.specs.Prelude.{length, replicate, slice_index_or, Option, Some, None, IfSome, Contains, if◌then◌else◌, nat_eq}
+use Rattle.std.specs.Prelude.{◌≡◌, ◌≢◌, ◌<◌, ◌≤◌, ◌⊎◌, ◌+◌, ◌-◌, ◌*◌, ◌++◌, ◌∷◌, [], ℕ, suc, Bool, true, false, cond, List, flat_map}
+use Rattle.std.specs.Prelude.{map, filter, length, replicate, slice_index_or, Option, Some, None, IfSome, Contains, if◌then◌else◌, nat_eq}
 use Rattle.std.proofs.Common.{refl, sym, ap, subst, ◌∙◌, inl, inr, arith}
 use Rattle.std.proofs.lemmas.Bool.{cases_lt, true≢false, eqb-true, eqb-false}
-use Rattle.std.proofs.lemmas.Grind.{flat_map-append}
 use Rattle.std.proofs.lemmas.Slice.Eq.{bytes_eq-Decides}
 use Rattle.pt_guid.specs.Codes.{freebsd, type_of}
 use Rattle.pt_guid.specs.laws.Terms.{codes_differ}
@@ -16,21 +15,25 @@ use Rattle.pt_gpt.specs.declared.table.Table.{Table}
 use Rattle.pt_mbr.specs.declared.record.Record.{Record}
 use Rattle.pt_mbr.specs.declared.ebr.Ebr.{Ebr}
 use Rattle.pt_gpt.specs.Array.{HasRoom}
-use Rattle.pt_mbr.specs.Extended.{is_extended}
-use Rattle.pt_members.specs.Members.{records_as, entries_as, logicals_as}
-use Rattle.pt_members.specs.laws.SliceLists.{primary_some, logical_none, logical_some, entry_some}
+use Rattle.pt_members.specs.Members.{entries_as, present, slots}
+use Rattle.pt_members.specs.laws.SliceLists.{entry_some}
 use Rattle.pt_members.specs.laws.SliceLists.{slices_gpt, slices_mbr}
 use Rattle.pt_members.specs.Members.{is_slice_kind}
-use Rattle.pt_members.specs.Slices.{slice_from, slices_of}
-use Rattle.pt_members.specs.SliceLists.{next_number}
-use Rattle.pt_members.specs.laws.SliceLists.{record_slice, primary_slice, primary_slices, logical_slice, logical_slices}
+use Rattle.pt_members.specs.Slices as slices
+use Rattle.pt_members.specs.Slices.{slice_from, slice_as, slice_of, slices_of}
 use Rattle.pt_members.specs.laws.SliceLists.{entry_slice, entry_slices}
 use Rattle.pt_members.specs.declared.layout.Slice.{Slice}
 use Rattle.pt_members.specs.declared.layout.Layout.{Layout}
 use Rattle.pt_members.specs.declared.layout.Body.{Body}
 use Rattle.pt_members.specs.declared.layout.Body.TheVariants.{Mbr, Gpt}
 use Rattle.pt_members.specs.Members.{label_of}
-use Rattle.pt_edit.specs.Partitions.{partition_of, primary, primaries, logical, logicals_from, partitions, HasFour}
+use Rattle.pt_members.specs.OnePath.{HasFour}
+use Rattle.pt_members.specs.declared.member.Kind.{Kind}
+use Rattle.pt_members.specs.declared.member.Kind.TheVariants as kind
+use Rattle.pt_members.specs.declared.member.Member.{Member}
+use Rattle.pt_edit.specs.Kept.{member_of, is_kept, is_kept_kind}
+use Rattle.pt_edit.specs.Partitions.{partitions}
+use Rattle.pt_edit.specs.laws.Kept.{kept_lem}
 use Rattle.pt_edit.specs.Room.{NoRoom, small}
 use Rattle.pt_edit.specs.Converted.{new_type, HasUnknown, IsAt, entry_of, IsGptOf, Converted, HasRecords}
 use Rattle.pt_edit.specs.Placed.{Placeable}
@@ -48,55 +51,53 @@ use Rattle.pt_kept.proofs.GptWords.{code_typed}
 abbrev slice_in : Partition → List Slice
 slice_in p = if nat_eq p.kind 0xA5 then slice_from p.number p.first p.last ∷ [] else []
 
-plain_extended : (kind : ℕ) → is_extended kind ≡ true → nat_eq kind 0xA5 ≡ false
-plain_extended kind is = by_slice (nat_eq kind 0xA5) refl where
-  by_slice : (t : Bool) → nat_eq kind 0xA5 ≡ t → nat_eq kind 0xA5 ≡ false
-  by_slice true so = absurd (true≢false (sym is ∙ ap is_extended (eqb-true kind 0xA5 so)))
-  by_slice false so = so
+-- ---- the slices of an MBR are those of its partitions
 
-lone : (p : Partition) → flat_map slice_in (p ∷ []) ≡ slice_in p
-lone p = by_slice (nat_eq p.kind 0xA5) refl where
-  by_slice : (t : Bool) → nat_eq p.kind 0xA5 ≡ t → flat_map slice_in (p ∷ []) ≡ slice_in p
+of_present : (ms : List (Option Member)) → flat_map slices.slice_in ms ≡ flat_map slice_of (present ms)
+of_present [] = refl
+of_present (None ∷ ms) = of_present ms
+of_present (Some m ∷ ms) = ap (λ (l : List Slice). slice_of m ++ l) (of_present ms)
+
+-- what isn't kept is no slice
+no_slice_as : (k : Kind) (s : Slice) → is_kept_kind k ≡ false → slice_as k s ≡ []
+no_slice_as kind.Leaf s not = refl
+no_slice_as kind.Slice s not = absurd (true≢false not)
+no_slice_as kind.Extended s not = refl
+
+of_kept : (ms : List Member) → flat_map slice_of (filter is_kept ms) ≡ flat_map slice_of ms
+of_kept [] = refl
+of_kept (m ∷ ms) = by_kept (is_kept m) refl (of_kept ms) where
+  others : List Member
+  others = filter is_kept ms
+
+  by_kept : (c : Bool) → is_kept m ≡ c → flat_map slice_of (filter is_kept ms) ≡ flat_map slice_of ms
+      → flat_map slice_of (filter is_kept (m ∷ ms)) ≡ flat_map slice_of (m ∷ ms)
+  by_kept true is more =
+      ap (λ (c : Bool). flat_map slice_of (cond c (m ∷ others) others)) is ∙ ap (λ (l : List Slice). slice_of m ++ l) more
+  by_kept false is more =
+      ap (λ (c : Bool). flat_map slice_of (cond c (m ∷ others) others)) is
+      ∙ (more
+      ∙ ap (λ (l : List Slice). l ++ flat_map slice_of ms) (sym (no_slice_as m.kind (slice_from m.path.number m.first m.last) is)))
+
+of_member : (p : Partition) → slice_of (member_of 512 p) ≡ slice_in p
+of_member p = by_slice (nat_eq p.kind 0xA5) refl where
+  by_slice : (t : Bool) → nat_eq p.kind 0xA5 ≡ t → slice_of (member_of 512 p) ≡ slice_in p
   by_slice true so = rw so refl
   by_slice false so = rw so refl
 
-one_primary : (n : ℕ) (r : Option Record) → flat_map slice_in (primary n r) ≡ primary_slice n r
-unfolding primary primary_slice record_slice
-one_primary n None = refl
-one_primary n (Some r) = by_type (is_extended r.kind) refl where
-  by_type : (t : Bool) → is_extended r.kind ≡ t → flat_map slice_in (primary n (Some r)) ≡ primary_slice n (Some r)
-  by_type true is =
-      let plain = plain_extended r.kind is in
-      let left : flat_map slice_in (primary n (Some r)) ≡ record_slice n 0 r = rw (is, plain) refl in
-      left ∙ sym (primary_some n r)
-  by_type false is =
-      let left : flat_map slice_in (primary n (Some r)) ≡ record_slice n 0 r = rw is (lone (partition_of n 0 r)) in
-      left ∙ sym (primary_some n r)
+of_members : (ps : List Partition) → flat_map slice_of (map (member_of 512) ps) ≡ flat_map slice_in ps
+of_members [] = refl
+of_members (p ∷ ps) =
+    ap (λ (l : List Slice). l ++ flat_map slice_of (map (member_of 512) ps)) (of_member p)
+    ∙ ap (λ (l : List Slice). slice_in p ++ l) (of_members ps)
 
-all_primaries : (n : ℕ) (rs : List (Option Record)) → flat_map slice_in (primaries n rs) ≡ primary_slices n rs
-unfolding primaries primary_slices primary_slice records_as
-all_primaries n [] = refl
-all_primaries n (r ∷ rs) =
-    flat_map-append slice_in (primary n r) (primaries (n + 1) rs)
-    ∙ (ap (λ (l : List Slice). l ++ flat_map slice_in (primaries (n + 1) rs)) (one_primary n r)
-    ∙ ap (λ (l : List Slice). primary_slice n r ++ l) (all_primaries (n + 1) rs))
-
-one_logical : (n : ℕ) (e : Ebr) (o : Option Record) → e.logical ≡ o → flat_map slice_in (logical n e) ≡ logical_slice n e
-unfolding logical record_slice
-one_logical n e None is =
-    let left : flat_map slice_in (logical n e) ≡ [] = rw is refl in
-    left ∙ sym (logical_none n e is)
-one_logical n e (Some r) is =
-    let left : flat_map slice_in (logical n e) ≡ record_slice n e.at.0 r = rw is (lone (partition_of n e.at.0 r)) in
-    left ∙ sym (logical_some n e r is)
-
-all_logicals : (n : ℕ) (es : List Ebr) → flat_map slice_in (logicals_from n es) ≡ logical_slices n es
-unfolding logicals_from logical_slices logical_slice logicals_as next_number
-all_logicals n [] = refl
-all_logicals n (e ∷ es) =
-    flat_map-append slice_in (logical n e) (logicals_from (next_number n e) es)
-    ∙ (ap (λ (l : List Slice). l ++ flat_map slice_in (logicals_from (next_number n e) es)) (one_logical n e e.logical refl)
-    ∙ ap (λ (l : List Slice). logical_slice n e ++ l) (all_logicals (next_number n e) es))
+partition_slices : (rs : List (Option Record)) (chain : List Ebr)
+    → slices_of 512 (Mbr rs chain) ≡ flat_map slice_in (partitions (Mbr rs chain))
+unfolding slices_of
+partition_slices rs chain =
+    of_present (slots 512 (Mbr rs chain))
+    ∙ (sym (of_kept (present (slots 512 (Mbr rs chain))))
+    ∙ (ap (flat_map slice_of) (kept_lem 512 rs chain) ∙ of_members (partitions (Mbr rs chain))))
 
 -- numbers that rise
 abbrev IsRising : ℕ → List Partition → Type 0
@@ -329,9 +330,10 @@ has_room b o room = elim (cases_lt o.sectors (2 * array_len b + 4)) as (λ _. Ha
 ]
 
 -- the slices of a table and of an MBR, with sectors of either size
-slices_by_size : (b : ℕ) (t : Table) (rs : List (Option Record)) (chain : List Ebr) → entry_slices 1 t.entries ≡ primary_slices 1 rs
-    ++ logical_slices 5 chain → (d : Bool) → nat_eq b 512 ≡ d → slices_of b (Gpt t) ≡ slices_of b (Mbr rs chain)
-slices_by_size b t rs chain same true large = slices_gpt b t true large ∙ (same ∙ sym (slices_mbr b rs chain true large))
+slices_by_size : (b : ℕ) (t : Table) (rs : List (Option Record)) (chain : List Ebr) → entry_slices 1 t.entries
+    ≡ slices_of 512 (Mbr rs chain) → (d : Bool) → nat_eq b 512 ≡ d → slices_of b (Gpt t) ≡ slices_of b (Mbr rs chain)
+slices_by_size b t rs chain same true large =
+    slices_gpt b t true large ∙ (same ∙ ap (λ (x : ℕ). slices_of x (Mbr rs chain)) (sym (eqb-true b 512 large)))
 slices_by_size b t rs chain same false small_sectors = slices_gpt b t false small_sectors ∙ sym (slices_mbr b rs chain false small_sectors)
 
 -- `g`
@@ -349,11 +351,8 @@ keeps_converted b guids o p shaped c = subst (λ (q : Layout). Keeps b o.sectors
       let room = has_room b o c.may.room in
       let place = placed b o (subst HasFour (sym is) fits.four) c.may.room in
       let stands = table_stands b o.sectors guids ps t c.is_table c.may.enough c.may.known place in
-      let same : entry_slices 1 t.entries ≡ primary_slices 1 rs ++ logical_slices 5 chain =
-      (standing 1 t.entries ps stands ∙ (ap (flat_map slice_in) ps_is
-      ∙ (flat_map-append slice_in (primaries 1 rs) (logicals_from 5 chain)
-      ∙ (ap (λ (l : List Slice). l ++ flat_map slice_in (logicals_from 5 chain)) (all_primaries 1 rs)
-      ∙ ap (λ (l : List Slice). primary_slices 1 rs ++ l) (all_logicals 5 chain))))) in
+      let same : entry_slices 1 t.entries ≡ slices_of 512 (Mbr rs chain) =
+      standing 1 t.entries ps stands ∙ (ap (flat_map slice_in) ps_is ∙ sym (partition_slices rs chain)) in
       let slices = slices_by_size b t rs chain same (nat_eq b 512) refl in
       keeps_gpt b o t o.labels
       (record {

@@ -1,5 +1,5 @@
 -- How one more extended boot record enters a chain that fits.
-use Rattle.std.specs.Prelude.{◌≡◌, ◌≢◌, ◌<◌, ◌⊎◌, ◌++◌, ◌∷◌, [], ℕ, zero, suc, Bool, true, false, List, flat_map, length}
+use Rattle.std.specs.Prelude.{◌≡◌, ◌<◌, ◌⊎◌, ◌∷◌, [], ℕ, zero, suc, Bool, true, false, List, flat_map, length}
 use Rattle.std.specs.Prelude.{slice_index_or, slice_set, slice_get, Option, Some, None, Contains}
 use Rattle.std.specs.List.{insert}
 use Rattle.std.proofs.Common.{refl, sym, ap, subst, ◌∙◌, inl, inr, arith}

@@ -6,7 +6,8 @@ use Rattle.pt_gpt.specs.laws.Terms.{no_copy_lem}
 use Rattle.pt_gpt.specs.declared.error.CopyError.{CopyError}
 use Rattle.pt_gpt.specs.declared.table.Side.TheVariants.{Primary, Backup}
 use Rattle.pt_gpt.specs.declared.table.Table.{Table}
-use Rattle.pt_recover.specs.Mbr.{IsMbrDisk}
+use Rattle.pt_recover.specs.Mbr.{IsMbrDisk, IsMbr}
+use Rattle.pt_mbr.specs.declared.mbr.Mbr.{Mbr as Records}
 use Rattle.pt_mbr.specs.Protective.{IsProtective}
 use Rattle.pt_gpt.specs.declared.header.Header.{Header}
 use Rattle.pt_members.specs.Slices.{places_of}
@@ -14,7 +15,7 @@ use Rattle.pt_recover.specs.Labels.{LabelsAre}
 use Rattle.pt_gpt.specs.Array.{HasRoom}
 use Rattle.pt_recover.specs.Gpt.{TableIs}
 use Rattle.pt_recover.specs.Denotes.{BodyIs, Denotes}
-use Rattle.pt_recover.specs.Answers.{IsReason}
+use Rattle.pt_recover.specs.Answers.{IsReason, HeadIs as RecordsAre}
 use Rattle.pt_recover.specs.declared.error.NoTable.TheVariants as no
 use Rattle.pt_members.specs.declared.layout.Layout.{Layout}
 use Rattle.pt_members.specs.declared.layout.Body.{Body}
@@ -179,10 +180,17 @@ head_is d n head.Protected is count some = (λ disk. is.0 disk.1, subst (λ (m :
 head_is d n head.Unprotected is count some =
     (λ disk. is.0 disk.1, λ any protective. is.1 (subst (λ (m : ℕ). IsProtective m (sector d 0)) (sym count) protective))
 
-pub head_plain : (d : Sectors) (h : Head) → HeadOf d h → h ≢ head.Mbr → ¬ IsMbrDisk d
-head_plain d head.Mbr is other = absurd (other refl)
-head_plain d head.Protected is other = is.0
-head_plain d head.Unprotected is other = is.0
+-- what sector 0 says of its records
+pub records_mbr : (d : Sectors) (n : ℕ) (o : Option Records) (m : Records) → RecordsAre (sector d 0) o → o ≡ Some m → n ≡ length d → 0 < n
+    → IsMbr d m.records
+records_mbr d n None m are is count some = absurd (let e : None ≡ Some m = is in cc)
+records_mbr d n (Some r) m are is count some =
+    let same : r ≡ m = cc in
+    subst (λ (x : Records). IsMbr d x.records) same ((subst (λ (k : ℕ). 0 < k) count some, are.0), are.1)
+
+pub records_plain : (d : Sectors) (o : Option Records) → RecordsAre (sector d 0) o → o ≡ None → ¬ IsMbrDisk d
+records_plain d None are is disk = are disk.1
+records_plain d (Some r) are is disk = absurd (let e : Some r ≡ None = is in cc)
 
 pub empty_head : (d : Sectors) → length d ≡ 0 → HeadOf d head.Unprotected
 empty_head d none = (λ disk. omega (arith, disk.0, none), λ some. absurd (omega (arith, some, none)))

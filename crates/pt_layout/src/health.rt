@@ -1,17 +1,18 @@
 //! Whether a disk is healthy.
 
-ghost use Rattle.std.specs.Prelude.{◌≡◌, ◌<◌, ◌↔◌, ℕ, IfOk, IfErr, IsTrue};
+ghost use Rattle.std.specs.Prelude.{◌≡◌, ◌<◌, ℕ, IfOk, IfErr};
 ghost use Rattle.pt_sector.specs.Calls.{Blames};
 ghost use Rattle.pt_sector.specs.Reads.{OnlyReads, FailedIn, fault_of, read_of};
 ghost use Rattle.pt_sector.specs.Sectors.{IsSectorSize, Sectors, sector};
-ghost use Rattle.pt_recover.specs.Mbr.{IsMbrSector};
+ghost use Rattle.pt_recover.specs.Answers.{HeadIs as RecordsAre};
 ghost use Rattle.pt_layout.specs.Verdicts.{HeadIs};
 ghost use Rattle.pt_layout.specs.Findings.{VerdictIs, VerdictReads};
 ghost use Rattle.pt_layout.specs.Surveys.{IsSurvey};
 
 use crate::finding::{Finding, Verdict};
 use crate::survey::{Survey, survey_disk};
-use pt_mbr::{bears_protective, decode_mbr, is_protective};
+use pt_mbr::{Mbr, is_protective};
+use pt_recover::records_of;
 use pt_sector::{Disk, FailedRead, Failure, Lba, Sector, read_sector};
 use std::alloc::Global;
 
@@ -26,42 +27,47 @@ pub enum Head {
     Unprotected,
 }
 
-fn is_mbr_sector<const B: usize>(sector: &Sector<B>) -> bool
-    requires { IsSectorSize B }
-    ensures { IsTrue result ↔ IsMbrSector sector.now }
-{
-    match decode_mbr(sector) {
-        Some(_) => !bears_protective(sector),
-        None => false,
-    }
-}
-
-fn head_in<const B: usize>(sectors: u64, sector: &Sector<B>) -> Head
-    requires { IsSectorSize B }
+// What sector 0 says, where these are the records of an MBR disk's, or none of another's.
+fn head_in<const B: usize>(sectors: u64, sector: &Sector<B>, records: &Option<Mbr>) -> Head
+    requires size { IsSectorSize B }
+    requires records { RecordsAre sector.now records.now }
     ensures { HeadIs sectors sector.now result }
 {
-    if is_mbr_sector(sector) {
-        Head::Mbr
-    } else if is_protective(sectors, sector) {
-        Head::Protected
-    } else {
-        Head::Unprotected
+    match records {
+        Some(_) => Head::Mbr,
+        None => {
+            if is_protective(sectors, sector) {
+                Head::Protected
+            } else {
+                Head::Unprotected
+            }
+        }
     }
 }
 
-/// What sector 0 says.
-pub(crate) fn read_head<const B: usize, D: Disk<B>>(disk: &mut D) -> Result<Head, FailedRead>
+/// What sector 0 says, and the records of an MBR disk.
+#[derive(Drop)]
+pub(crate) struct First {
+    pub head: Head,
+    pub records: Option<Mbr>,
+}
+
+/// What sector 0 says, and its records where it is that of an MBR disk.
+pub(crate) fn read_first<const B: usize, D: Disk<B>>(disk: &mut D) -> Result<First, FailedRead>
     requires size { IsSectorSize B }
     requires some { 0 < D.count disk.old }
     ensures same { OnlyReads D.Disk disk.old disk.new }
     ensures blames { Blames read_of result (D.faults disk.old) (D.faults disk.new) }
     ensures place { IfErr result (λ e. e.0.0 ≡ 0) }
-    ensures ok { D.tells → IfOk result (HeadIs (D.count disk.old) (sector (D.told disk.old).seen 0)) }
+    ensures head { D.tells → IfOk result (λ f. HeadIs (D.count disk.old) (sector (D.told disk.old).seen 0) f.head) }
+    ensures records { D.tells → IfOk result (λ f. RecordsAre (sector (D.told disk.old).seen 0) f.records) }
 {
     let sectors = disk.sectors();
     let mut sector = [0; B];
     read_sector(disk, Lba(0), &mut sector)?;
-    Ok(head_in(sectors, &sector))
+    let records = records_of(&sector);
+    let head = head_in(sectors, &sector, &records);
+    Ok(First { head, records })
 }
 
 // The verdict that a survey comes to.

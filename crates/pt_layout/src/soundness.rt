@@ -56,6 +56,9 @@ fn twin_of(entries: &[Option<Entry>], k: usize) -> Option<usize>
     requires { k < length entries.now }
     ensures { TwinIs entries.now k result }
 {
+    if entries[k].is_none() {
+        return None;
+    }
     for i in 0..k {
         if has_same_unique(&entries[i], &entries[k]) {
             return Some(i);

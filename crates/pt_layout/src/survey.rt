@@ -9,7 +9,7 @@ ghost use Rattle.pt_gpt.specs.declared.table.Side.TheVariants.{Primary, Backup};
 ghost use Rattle.pt_recover.specs.Denotes.{BodyIs, Denotes, Reads};
 ghost use Rattle.pt_gpt.specs.Array.{HasRoom};
 ghost use Rattle.pt_members.specs.Slices.{places_of, place_of, IsPlace};
-ghost use Rattle.pt_recover.specs.Mbr.{IsMbrDisk};
+ghost use Rattle.pt_recover.specs.Mbr.{IsMbr, IsMbrDisk};
 ghost use Rattle.pt_recover.specs.Numbers.{Numbers};
 ghost use Rattle.pt_recover.specs.Spans.{Adds};
 ghost use Rattle.pt_members.specs.declared.layout.Body.TheVariants.{Gpt};
@@ -22,12 +22,13 @@ ghost use Rattle.pt_layout.specs.Surveys.{HeadOf, FindingIs, IsSurvey};
 use crate::finding::Finding;
 use crate::foreign::first_foreign;
 use crate::halves::{Half, Halves, read_halves};
-use crate::health::{Head, read_head};
+use crate::health::{Head, read_first};
 use crate::soundness::unsound;
 use pt_gpt::{Side, Table, has_room};
+use pt_mbr::Mbr;
 use pt_members::{Body, Layout, Slice, label_places};
 use pt_path::Path;
-use pt_recover::{NoTable, Trace, recover_traced, traced_labels};
+use pt_recover::{NoTable, Trace, recover_known, traced_labels};
 use pt_sector::{Disk, Failure};
 use std::alloc::{AllocError, Global};
 
@@ -281,17 +282,21 @@ fn survey_gpt<const B: usize, D: Disk<B>>(
     survey_halves(alloc, disk, head, halves, trace)
 }
 
-// The survey of an MBR disk.
-fn survey_mbr<const B: usize, D: Disk<B>>(alloc: Global, disk: &mut D) -> Result<Survey, Failure>
+// The survey of an MBR disk with these records.
+fn survey_mbr<const B: usize, D: Disk<B>>(
+    alloc: Global,
+    disk: &mut D,
+    mbr: Mbr,
+) -> Result<Survey, Failure>
     requires size { IsSectorSize B }
-    requires mbr { D.tells → IsMbrDisk (D.told disk.old).seen }
+    requires mbr { D.tells → IsMbr (D.told disk.old).seen mbr.records }
     ensures same { OnlyReads D.Disk disk.old disk.new }
     ensures blames { Blames fault_of result (D.faults disk.old) (D.faults disk.new) }
     ensures place { D.tells → IfErr result (FailedIn (VerdictReads B (D.told disk.old).seen)) }
     ensures numbers { IfOk result (λ x. IfOk x.found Numbers) }
     ensures ok { D.tells → IfOk result (IsSurvey B (D.told disk.old).seen) }
 {
-    let (found, trace) = recover_traced(alloc, disk);
+    let (found, trace) = recover_known(alloc, disk, Some(mbr));
     match found {
         Ok(layout) => {
             let finding = judge(alloc, disk, &layout)?;
@@ -317,8 +322,8 @@ fn survey_mbr<const B: usize, D: Disk<B>>(alloc: Global, disk: &mut D) -> Result
 
 /// Reads a disk once, and tells all that it says of its layout and its health.
 ///
-/// Of a disk that isn't an MBR disk it reads sector 0, the two sides of a GPT and the label places of its layout, once
-/// each; a layout with nothing else wrong has its label places read once more. Of an MBR disk it reads sector 0 twice.
+/// It reads sector 0 and the two sides of a GPT, or the chain of an MBR disk, and the label places of the layout, once
+/// each; a layout with nothing else wrong has its label places read once more.
 pub fn survey_disk<const B: usize, D: Disk<B>>(
     alloc: Global,
     disk: &mut D,
@@ -335,9 +340,9 @@ pub fn survey_disk<const B: usize, D: Disk<B>>(
         let (guarded, trace) = (Trace::new(alloc), Trace::new(alloc));
         return Ok(nothing(Head::Unprotected, reason, guarded, trace));
     }
-    let head = read_head(disk)?;
-    match head {
-        Head::Mbr => survey_mbr(alloc, disk),
-        _ => survey_gpt(alloc, disk, head),
+    let first = read_first(disk)?;
+    match first.records {
+        Some(mbr) => survey_mbr(alloc, disk, mbr),
+        None => survey_gpt(alloc, disk, first.head),
     }
 }

@@ -9,7 +9,8 @@ use Rattle.std.proofs.lemmas.Bool.{eq-eqb}
 use Rattle.std.proofs.lemmas.List.{drop_all}
 use Rattle.pt_members.specs.declared.layout.Labelled.{Labelled}
 use Rattle.std.specs.Prelude.{cond, nat_eq}
-use Rattle.pt_members.specs.Members.{records_as, entries_as, logicals_as, record_member, entry_member, logical_member, slots, tops, logicals}
+use Rattle.pt_members.specs.Members.{records_as, entries_as, logicals_as, record_member, entry_member, logical_member, slots, tops}
+use Rattle.pt_members.specs.Members.{logicals}
 use Rattle.pt_members.specs.Members.{label_of, parts_as, parts_in, part_of}
 use Rattle.pt_members.specs.Counts.{used_before, no_ebr, logical_at}
 use Rattle.pt_bsd.specs.declared.label.Label.{Label}

@@ -72,6 +72,14 @@ row_there b y k m s lt is so =
     ap (λ (o : Option Member). row_of o s) is ∙ ap (row_of (get_or (slots b y) k None)) so
     ∙ sym (row_in (slots b y) (sources y) k lt (sources_len b y))
 
+row_of_none : (m : Option Member) → row_of m None ≡ None
+row_of_none None = refl
+row_of_none (Some m) = refl
+
+pub row_unused : (b : ℕ) (y : Body) (k : ℕ) → k < length (slots b y) → None ≡ get_or (sources y) k None → None ≡ get_or (rows b y) k None
+row_unused b y k lt is =
+    sym (row_of_none (get_or (slots b y) k None)) ∙ row_there b y k (get_or (slots b y) k None) None lt refl is
+
 pub row_small : (m : Option Member) (s : Option Source) (r : Option Row) → IfSome m (λ (x : Member). x.first < 2 ^ 66)
     → r ≡ row_of m s → IfSome r (λ (x : Row). x.member.first < 2 ^ 66)
 row_small None s r small is = subst (λ (o : Option Row). IfSome o (λ (x : Row). x.member.first < 2 ^ 66)) (sym is) tt

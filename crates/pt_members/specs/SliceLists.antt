@@ -1,5 +1,5 @@
 -- Names for parts of the list of slices, with sectors of 512 bytes, for proofs that walk records, a chain or entries.
-use Rattle.std.specs.Prelude.{if◌then◌else◌, ◌+◌, ◌-◌, ℕ}
+use Rattle.std.specs.Prelude.{if◌then◌else◌, ◌+◌, ℕ}
 use Rattle.std.specs.Prelude.{is_some}
 use Rattle.pt_mbr.specs.declared.ebr.Ebr.{Ebr}
 

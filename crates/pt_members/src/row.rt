@@ -70,13 +70,17 @@ fn joined(member: Option<Member>, source: Option<Source>) -> Option<Row>
 }
 
 /// The partition in a place, from 0 on, with its record or entry. None where that is unused.
-#[tactic(auto, using(crate::proofs::Rows::row_there, crate::proofs::Rows::row_small))]
+#[tactic(auto, using(crate::proofs::Rows::row_there, crate::proofs::Rows::row_unused, crate::proofs::Rows::row_small))]
 pub fn row_at<const B: usize>(body: &Body, k: usize) -> Option<Row>
     requires { k < length (slots B body.now) }
     ensures value { result ≡ slice_index_or (rows B body.now) k None }
     ensures small { IfSome result (λ r. r.member.first < 2 ^ 66) }
 {
-    joined(slot::<B>(body, k), source_at::<B>(body, k))
+    let source = source_at::<B>(body, k);
+    match source {
+        Some(_) => joined(slot::<B>(body, k), source),
+        None => None,
+    }
 }
 
 // The entry of a letter.

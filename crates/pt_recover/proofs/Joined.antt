@@ -5,9 +5,9 @@ use Rattle.std.specs.Prelude.{◌⊎◌, ◌↔◌}
 use Rattle.std.specs.List.{insert, remove}
 use Rattle.std.proofs.lemmas.Bool.{cases_lt}
 use Rattle.std.proofs.lemmas.Bool.Decides.{nat_tests}
-use Rattle.std.proofs.lemmas.List.{drop_all, take_more, length-take-le, drop_more}
+use Rattle.std.proofs.lemmas.List.{drop_all, take_all, take_more, length-take-le, drop_more}
 use Rattle.std.proofs.Math.Seq.{take-append_seam, drop-append_seam}
-use Rattle.pt_recover.specs.Spans.{InRun, IsIn, Follows, Apart, hull, joined, StandsAs}
+use Rattle.pt_recover.specs.Spans.{InRun, IsIn, Follows, Apart, hull, joined, StandsAs, Stands}
 use Rattle.pt_recover.specs.declared.trace.Run.{Run}
 use Rattle.pt_recover.specs.declared.trace.Order.TheVariants.{Below, Above, Touching}
 
@@ -142,9 +142,35 @@ apart_joined x (r ∷ rs) some apart = elim (which r x) as (λ w. Apart (joined 
       subst (λ (l : List Run). Apart l) (sym (joined_touching x r rs touching)) (apart_joined (hull x r) rs (some_hull x r some) parts.2)
 ]
 
--- what stands before a place, and what joining from there on gives
-abbrev pub Stands : List Run → List Run → ℕ → Run → Type 0
-Stands whole xs at x = take at xs ++ joined x (drop at xs) ≡ whole
+-- a run that begins past the last of the others, with a gap, comes behind them all
+all_below : (x r : Run) (rs : List Run) (z : Run) → Apart (r ∷ rs) → (get_or (r ∷ rs) (length rs) z).last + 1 < x.first
+    → r.last + 1 < x.first
+all_below x r [] z apart is = is
+all_below x r (q ∷ qs) z apart is =
+    let parts = apart_split r (q ∷ qs) apart in
+    omega (arith, parts.1, (apart_split q qs parts.2).0, all_below x q qs z parts.2 is)
+
+joined_last : (x r : Run) (rs : List Run) (z : Run) → Apart (r ∷ rs) → (get_or (r ∷ rs) (length rs) z).last + 1 < x.first
+    → joined x (r ∷ rs) ≡ (r ∷ rs) ++ x ∷ []
+joined_last x r [] z apart is = joined_below x r [] is ∙ ap (λ (l : List Run). r ∷ l) (joined_none x)
+joined_last x r (q ∷ qs) z apart is =
+    joined_below x r (q ∷ qs) (all_below x r (q ∷ qs) z apart is)
+    ∙ ap (λ (l : List Run). r ∷ l) (joined_last x q qs z (apart_split r (q ∷ qs) apart).2 is)
+
+pub stands_first : (x : Run) (xs : List Run) → Stands (joined x xs) xs 0 x
+stands_first x xs = refl
+
+pub stands_last : (x : Run) (xs : List Run) (k : ℕ) (z : Run) → Apart xs → length xs ≡ k + 1 → StandsAs (get_or xs k z) x Below
+    → Stands (joined x xs) xs (length xs) x
+stands_last x [] k z apart count below = absurd (omega (arith, count))
+stands_last x (r ∷ rs) k z apart count below =
+    let xs : List Run = r ∷ rs in
+    let same : k ≡ length rs = omega (arith, count) in
+    let e = joined_last x r rs z apart (subst (λ (n : ℕ). (get_or (r ∷ rs) n z).last + 1 < x.first) same below) in
+    ap (λ (l : List Run). l ++ joined x (drop (length xs) xs)) (take_all (length xs) xs (omega arith))
+    ∙ ap (λ (l : List Run). xs ++ joined x l) (drop_all (length xs) xs (omega arith))
+    ∙ ap (λ (l : List Run). xs ++ l) (joined_none x)
+    ∙ sym e
 
 pub stands_below : (whole xs : List Run) (at : ℕ) (z r x : Run) → at < length xs → get_or xs at z ≡ r → StandsAs r x Below
     → Stands whole xs at x → Stands whole xs (at + 1) x

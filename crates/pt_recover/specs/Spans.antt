@@ -1,5 +1,5 @@
 -- The sectors of a trace.
-use Rattle.std.specs.Prelude.{ℕ, ◌<◌, ◌≤◌, ◌+◌, ◌⊎◌, ◌↔◌, List, [], ◌∷◌, min, max, nat_lt, if◌then◌else◌}
+use Rattle.std.specs.Prelude.{ℕ, ◌≡◌, ◌<◌, ◌≤◌, ◌+◌, ◌⊎◌, ◌↔◌, List, [], ◌∷◌, ◌++◌, take, drop, min, max, nat_lt, if◌then◌else◌}
 use Rattle.pt_recover.specs.declared.trace.Run.{Run}
 use Rattle.pt_recover.specs.declared.trace.Order.{Order}
 use Rattle.pt_recover.specs.declared.trace.Order.TheVariants.{Below, Above, Touching}
@@ -30,6 +30,10 @@ unfoldable pub joined : Run → List Run → List Run
 joined x [] = x ∷ []
 joined x (r ∷ rs) =
     if nat_lt (r.last + 1) x.first then r ∷ joined x rs else (if nat_lt (x.last + 1) r.first then x ∷ r ∷ rs else joined (hull x r) rs)
+
+-- what stands before a place, and what joining from there on gives
+abbrev pub Stands : List Run → List Run → ℕ → Run → Type 0
+Stands whole xs at x = take at xs ++ joined x (drop at xs) ≡ whole
 
 -- where a run stands to another: all below with a gap, all above with one, or touching it
 abbrev pub StandsAs : Run → Run → Order → Type 0

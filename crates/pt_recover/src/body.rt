@@ -1,6 +1,6 @@
 //! What stands in a table: the records and the chain of an MBR disk, or the table of a GPT disk.
 
-ghost use Rattle.std.specs.Prelude.{◌≡◌, ◌<◌, ◌⊎◌, IfOk, IfErr, OnOk};
+ghost use Rattle.std.specs.Prelude.{◌≡◌, ◌<◌, ◌⊎◌, IfOk, IfErr, IfSome, OnOk};
 ghost use Rattle.pt_sector.specs.Calls.{Blames};
 ghost use Rattle.pt_sector.specs.Reads.{OnlyReads, read_of};
 ghost use Rattle.pt_sector.specs.Sectors.{IsSectorSize, sector};
@@ -20,7 +20,8 @@ use pt_members::Body;
 use pt_sector::{Disk, FailedRead, Lba, Sector, read_sector};
 use std::alloc::Global;
 
-fn head_of<const B: usize>(sector: &Sector<B>) -> Option<Mbr>
+/// The records of a sector 0 of an MBR disk; none of another sector.
+pub fn records_of<const B: usize>(sector: &Sector<B>) -> Option<Mbr>
     requires { IsSectorSize B }
     ensures { HeadIs sector.now result }
 {
@@ -34,8 +35,8 @@ fn head_of<const B: usize>(sector: &Sector<B>) -> Option<Mbr>
     Some(mbr)
 }
 
-/// The records of sector 0 of an MBR disk; none of a disk that isn't one.
-pub fn read_records<const B: usize, D: Disk<B>>(disk: &mut D) -> Result<Option<Mbr>, FailedRead>
+// The records of sector 0 of an MBR disk; none of a disk that isn't one.
+fn read_records<const B: usize, D: Disk<B>>(disk: &mut D) -> Result<Option<Mbr>, FailedRead>
     requires size { IsSectorSize B }
     requires some { 0 < D.count disk.old }
     ensures same { OnlyReads D.Disk disk.old disk.new }
@@ -45,7 +46,7 @@ pub fn read_records<const B: usize, D: Disk<B>>(disk: &mut D) -> Result<Option<M
 {
     let mut sector = [0; B];
     read_sector(disk, Lba(0), &mut sector)?;
-    Ok(head_of(&sector))
+    Ok(records_of(&sector))
 }
 
 // The table of a disk that isn't an MBR disk.
@@ -96,8 +97,8 @@ fn read_mbr<const B: usize, D: Disk<B>>(
     })
 }
 
-/// The body that the disk denotes, with the sectors that decide it added to the trace.
-pub(crate) fn read_body<const B: usize, D: Disk<B>>(
+// The body that the disk denotes, with the sectors that decide it added to the trace.
+fn read_body<const B: usize, D: Disk<B>>(
     alloc: Global,
     disk: &mut D,
     trace: &mut Trace,
@@ -118,5 +119,50 @@ pub(crate) fn read_body<const B: usize, D: Disk<B>>(
     match read_records(disk)? {
         Some(mbr) => read_mbr(alloc, disk, &mbr, trace),
         None => read_gpt(alloc, disk, trace),
+    }
+}
+
+// The same of an MBR disk with these records, which were read before: sector 0 is traced, and not read again.
+fn read_after<const B: usize, D: Disk<B>>(
+    alloc: Global,
+    disk: &mut D,
+    mbr: &Mbr,
+    trace: &mut Trace,
+) -> Result<Body, NoTable>
+    requires size { IsSectorSize B }
+    requires is_mbr { D.tells → IsMbr (D.told disk.old).seen mbr.now.records }
+    ensures same { OnlyReads D.Disk disk.old disk.new }
+    ensures blames { Blames fault_in result (D.faults disk.old) (D.faults disk.new) }
+    ensures place { D.tells → IfErr result (FailedIn (BodyReads B (D.told disk.old).seen)) }
+    ensures ok { D.tells → IfOk result (λ y. BodyIs B (D.told disk.old).seen y) }
+    ensures err { D.tells → IfErr result (λ e. TellsNothing B (D.told disk.old).seen e) }
+    ensures traced { D.tells → OnOk result (Adds trace.old trace.new (BodyReads B (D.told disk.old).seen)) }
+    ensures traced_err { D.tells → IfErr result (λ e. IsOutside e ⊎ Adds trace.old trace.new (BodyReads B (D.told disk.old).seen)) }
+{
+    trace.add_one(0)?;
+    read_mbr(alloc, disk, mbr, trace)
+}
+
+/// The body that the disk denotes, with the sectors that decide it added to the trace. Where the records of an MBR disk
+/// are known, sector 0 isn't read again.
+pub(crate) fn body_of<const B: usize, D: Disk<B>>(
+    alloc: Global,
+    disk: &mut D,
+    known: &Option<Mbr>,
+    trace: &mut Trace,
+) -> Result<Body, NoTable>
+    requires size { IsSectorSize B }
+    requires known { D.tells → IfSome known.now (λ m. IsMbr (D.told disk.old).seen m.records) }
+    ensures same { OnlyReads D.Disk disk.old disk.new }
+    ensures blames { Blames fault_in result (D.faults disk.old) (D.faults disk.new) }
+    ensures place { D.tells → IfErr result (FailedIn (BodyReads B (D.told disk.old).seen)) }
+    ensures ok { D.tells → IfOk result (λ y. BodyIs B (D.told disk.old).seen y) }
+    ensures err { D.tells → IfErr result (λ e. TellsNothing B (D.told disk.old).seen e) }
+    ensures traced { D.tells → OnOk result (Adds trace.old trace.new (BodyReads B (D.told disk.old).seen)) }
+    ensures traced_err { D.tells → IfErr result (λ e. IsOutside e ⊎ Adds trace.old trace.new (BodyReads B (D.told disk.old).seen)) }
+{
+    match known {
+        Some(mbr) => read_after(alloc, disk, mbr, trace),
+        None => read_body(alloc, disk, trace),
     }
 }

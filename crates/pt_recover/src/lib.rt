@@ -15,11 +15,11 @@ mod recovery;
 mod tables;
 mod trace;
 
-pub use body::read_records;
+pub use body::records_of;
 pub use error::NoTable;
 pub use labels::traced_labels;
 pub use laws::{denotes_one, reads_decide, reason_is_nothing, reason_is_one, stop_keeps};
 pub use pt_members::{Body, Ebrs, Labelled, Labels, Layout, Slice, is_slice_type, label_places};
-pub use recovery::{recover, recover_traced};
+pub use recovery::{recover, recover_known, recover_traced};
 pub use tables::traced_copy;
 pub use trace::Trace;

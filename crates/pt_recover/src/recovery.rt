@@ -1,19 +1,21 @@
 //! Recovery: the layout that a disk denotes.
 
-ghost use Rattle.std.specs.Prelude.{◌≡◌, ◌⊎◌, OnOk, IfOk, IfErr, Some};
+ghost use Rattle.std.specs.Prelude.{◌≡◌, ◌⊎◌, OnOk, IfOk, IfErr, IfSome, Some};
 ghost use Rattle.pt_sector.specs.Calls.{Blames};
 ghost use Rattle.pt_sector.specs.Reads.{OnlyReads};
 ghost use Rattle.pt_sector.specs.Sectors.{IsSectorSize};
 ghost use Rattle.pt_recover.specs.Denotes.{Denotes, Reads};
+ghost use Rattle.pt_recover.specs.Mbr.{IsMbr};
 ghost use Rattle.pt_recover.specs.Numbers.{Numbers};
 ghost use Rattle.pt_recover.specs.Spans.{Adds};
 ghost use Rattle.pt_recover.specs.Answers.{IsOutside, TellsNothing, fault_in, FailedIn, IsTraceOf};
 
-use crate::body::read_body;
+use crate::body::body_of;
 use crate::error::NoTable;
 use crate::labels::traced_labels;
 use crate::numbers::body_numbers;
 use crate::trace::Trace;
+use pt_mbr::Mbr;
 use pt_members::{Layout, label_places};
 use pt_sector::Disk;
 use std::alloc::Global;
@@ -22,9 +24,11 @@ use std::alloc::Global;
 fn recover_into<const B: usize, D: Disk<B>>(
     alloc: Global,
     disk: &mut D,
+    known: &Option<Mbr>,
     trace: &mut Trace,
 ) -> Result<Layout, NoTable>
     requires size { IsSectorSize B }
+    requires known { D.tells → IfSome known.now (λ m. IsMbr (D.told disk.old).seen m.records) }
     ensures same { OnlyReads D.Disk disk.old disk.new }
     ensures blames { Blames fault_in result (D.faults disk.old) (D.faults disk.new) }
     ensures place { D.tells → IfErr result (FailedIn (Reads B (D.told disk.old).seen)) }
@@ -35,7 +39,7 @@ fn recover_into<const B: usize, D: Disk<B>>(
     ensures traced_err { D.tells → IfErr result (λ e. IsOutside e ⊎ Adds trace.old trace.new (Reads B (D.told disk.old).seen)) }
 {
     let sectors = disk.sectors();
-    let body = read_body(alloc, disk, trace)?;
+    let body = body_of(alloc, disk, known, trace)?;
     body_numbers(&body);
     let places = label_places::<B>(alloc, sectors, &body)?;
     let labels = traced_labels(alloc, disk, &places, trace)?;
@@ -74,7 +78,28 @@ pub fn recover_traced<const B: usize, D: Disk<B>>(
     ensures traced { D.tells → OnOk result.0 (IsTraceOf B (D.told disk.old).seen result.1) }
     ensures traced_err { D.tells → IfErr result.0 (λ e. IsOutside e ⊎ IsTraceOf B (D.told disk.old).seen result.1) }
 {
+    recover_known(alloc, disk, None)
+}
+
+/// The same, where sector 0 may have been read before: `known` has the records of an MBR disk, whose sector 0 isn't read
+/// again then, though the trace has it. With none it is read.
+pub fn recover_known<const B: usize, D: Disk<B>>(
+    alloc: Global,
+    disk: &mut D,
+    known: Option<Mbr>,
+) -> (Result<Layout, NoTable>, Trace)
+    requires size { IsSectorSize B }
+    requires known { D.tells → IfSome known (λ m. IsMbr (D.told disk.old).seen m.records) }
+    ensures same { OnlyReads D.Disk disk.old disk.new }
+    ensures blames { Blames fault_in result.0 (D.faults disk.old) (D.faults disk.new) }
+    ensures place { D.tells → IfErr result.0 (FailedIn (Reads B (D.told disk.old).seen)) }
+    ensures ok { D.tells → IfOk result.0 (λ o. Denotes B (D.told disk.old).seen (Some o)) }
+    ensures numbers { IfOk result.0 Numbers }
+    ensures err { D.tells → IfErr result.0 (λ e. TellsNothing B (D.told disk.old).seen e) }
+    ensures traced { D.tells → OnOk result.0 (IsTraceOf B (D.told disk.old).seen result.1) }
+    ensures traced_err { D.tells → IfErr result.0 (λ e. IsOutside e ⊎ IsTraceOf B (D.told disk.old).seen result.1) }
+{
     let mut trace = Trace::new(alloc);
-    let answer = recover_into(alloc, disk, &mut trace);
+    let answer = recover_into(alloc, disk, &known, &mut trace);
     (answer, trace)
 }

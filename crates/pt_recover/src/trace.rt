@@ -1,7 +1,7 @@
 //! The sectors that a recovery read.
 
-ghost use Rattle.std.specs.Prelude.{◌≡◌, ◌≤◌, ◌↔◌, ℕ, List, IsTrue, IfOk, OnOk};
-ghost use Rattle.pt_recover.specs.Spans.{IsIn, Apart, hull, joined, StandsAs, Adds};
+ghost use Rattle.std.specs.Prelude.{◌≡◌, ◌≤◌, ◌↔◌, ℕ, List, length, IsTrue, IfOk, OnOk};
+ghost use Rattle.pt_recover.specs.Spans.{IsIn, Apart, hull, joined, StandsAs, Stands, Adds};
 ghost use Rattle.pt_recover.specs.declared.trace.Run.{Run};
 
 use pt_sector::Lba;
@@ -46,15 +46,34 @@ impl Run {
     }
 }
 
+// From which place on a run is to be compared with others, which ascend: from none on where the last one ends below it,
+// as it does where sectors are read in their order.
+#[tactic(auto, using(crate::proofs::Joined::stands_first, crate::proofs::Joined::stands_last))]
+fn place_of(runs: &[Run], new: &Run) -> usize
+    requires { Apart runs.now }
+    ensures within { result ≤ length runs.now }
+    ensures stands { Stands (joined new.now runs.now) runs.now result new.now }
+{
+    let count = runs.len();
+    if count == 0 {
+        return 0;
+    }
+    match runs[count - 1].order(new) {
+        Order::Below => count,
+        _ => 0,
+    }
+}
+
 // Puts a run among others, which ascend, and joins it with those that it touches. They are emptied where memory is
 // wanted.
 fn join(runs: &mut Vec<Run>, new: Run) -> Result<(), AllocError>
-    requires { new.first ≤ new.last }
+    requires some { new.first ≤ new.last }
+    requires apart { Apart runs.old.items }
     ensures ok { OnOk result (runs.new.items ≡ joined new runs.old.items) }
-    ensures apart { Apart runs.old.items → Apart runs.new.items }
+    ensures apart { Apart runs.new.items }
 {
     let mut run = new;
-    let mut at = 0;
+    let mut at = place_of(runs, &new);
     while at < runs.len() {
         let here = runs[at];
         match here.order(&run) {

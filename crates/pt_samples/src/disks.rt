@@ -11,7 +11,7 @@ use pt_gpt::{
 };
 use pt_guid::{Guid, fresh};
 use pt_mbr::{Mbr, Record, encode_mbr, protective};
-use pt_plan::commit;
+use pt_plan::{Batch, commit};
 use pt_sector::{CrashDisk, Disk, Fault, Lba, MemDisk, Sector};
 use std::alloc::Global;
 use std::test::Fail;
@@ -28,6 +28,18 @@ pub const DISK: Guid = Guid([3, 2, 1, 0, 5, 4, 7, 0x46, 0x88, 9, 10, 11, 12, 13,
 pub fn guids() -> [Guid; 2] {
     let counted = [0, 1, 2, 3, 4, 5, 6, 7, 8, 9, 10, 11, 12, 13, 14, 15];
     [fresh(counted), fresh([0; 16])]
+}
+
+/// A batch for each word.
+pub fn batches(alloc: Global, texts: &[&str]) -> Result<Vec<Batch>, Fail> {
+    let mut made = Vec::new(alloc);
+    for text in texts {
+        made.push(Batch {
+            edits: words(alloc, &[text])?,
+            guids: Vec::new(alloc),
+        })?;
+    }
+    Ok(made)
 }
 
 /// The words of a command line.

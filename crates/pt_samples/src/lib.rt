@@ -4,6 +4,6 @@
 mod disks;
 
 pub use disks::{
-    DISK, Image, LINUX, change, crash_disk, entry, gpt_disk, guids, holds, image_of, made, put,
-    put_copy, put_mbr, record, sector, table_disk, words,
+    DISK, Image, LINUX, batches, change, crash_disk, entry, gpt_disk, guids, holds, image_of, made,
+    put, put_copy, put_mbr, record, sector, table_disk, words,
 };

@@ -117,9 +117,9 @@ fn first_name(layout: &Layout) -> Option<u16> {
 }
 
 /// The same for the layout whose partition has this name.
-fn named<const B: usize>(
+fn named<const B: usize, D: Disk<B>>(
     alloc: Global,
-    disk: &mut MemDisk<B>,
+    disk: &mut D,
     first: u64,
     unit: u16,
 ) -> Result<Option<([usize; 5], Answer)>, Fail>
@@ -197,16 +197,20 @@ fn gpt_disk(alloc: Global) -> Result<MemDisk<512>, Fail> {
     Ok(disk)
 }
 
-/// The answer to a plan of these writes, each a phase of its own.
-fn answer_to(alloc: Global, writes: &[Write<512>]) -> Result<Answer, Fail> {
-    let mut disk = gpt_disk(alloc)?;
+/// A plan of these writes, each a phase of its own.
+fn plan_of(alloc: Global, writes: &[Write<512>]) -> Result<Plan<512>, AllocError> {
     let mut phases = Vec::new(alloc);
     for write in writes {
-        let mut phase = Vec::new(alloc);
-        phase.push(*write)?;
-        phases.push(phase)?;
+        phases.push(Vec::from_slice(alloc, &[*write])?)?;
     }
-    Ok(check(alloc, &mut disk, &Plan { phases })?)
+    Ok(Plan { phases })
+}
+
+/// The answer to such a plan.
+fn answer_to(alloc: Global, writes: &[Write<512>]) -> Result<Answer, Fail> {
+    let plan = plan_of(alloc, writes)?;
+    let mut disk = gpt_disk(alloc)?;
+    Ok(check(alloc, &mut disk, &plan)?)
 }
 
 /// A sector of the disk, with another first byte if one is given.
@@ -231,29 +235,40 @@ fn zeros(lba: u64) -> Write<512> {
 }
 
 #[test]
-fn answers_to_other_plans(rt: HostRuntime) -> Result<(), Fail> {
+fn answers_to_one_write(rt: HostRuntime) -> Result<(), Fail> {
     let alloc = rt.alloc();
     assert!(rt; answer_to(alloc, &[zeros(4096)])? == Answer::No(Why::OutOfRange(1)));
-    assert!(rt;
-        answer_to(alloc, &[sector_of(alloc, 0, Some(1))?])? == Answer::No(Why::BootCode(1))
-    );
-    let back = [zeros(1), zeros(4095), sector_of(alloc, 1, None)?];
-    assert!(rt; answer_to(alloc, &back)? == Answer::No(Why::Neither(2)));
+    let other_code = sector_of(alloc, 0, Some(1))?;
+    assert!(rt; answer_to(alloc, &[other_code])? == Answer::No(Why::BootCode(1)));
     assert!(rt; answer_to(alloc, &[zeros(100)])? == Answer::No(Why::NotATable(Lba(100))));
     assert!(rt; answer_to(alloc, &[zeros(0)])? == Answer::No(Why::Final(Finding::Protective)));
+    Ok(())
+}
+
+#[test]
+fn answers_to_more_writes(rt: HostRuntime) -> Result<(), Fail> {
+    let alloc = rt.alloc();
+    let back = [zeros(1), zeros(4095), sector_of(alloc, 1, None)?];
+    assert!(rt; answer_to(alloc, &back)? == Answer::No(Why::Neither(2)));
     let none = Finding::NoTable(NoTable::NoCopy(CopyError::Signature, CopyError::Signature));
     assert!(rt; answer_to(alloc, &[zeros(4095), zeros(1)])? == Answer::No(Why::Final(none)));
     Ok(())
 }
 
-#[test]
-fn primary_array_under_an_open_header(rt: HostRuntime) -> Result<(), Fail> {
-    let mut disk = gpt_disk(rt.alloc())?;
-    let new = layout::<512>(rt.alloc(), 4096, 2048, 98)?;
-    let mut plan = make_plan(rt.alloc(), &mut disk, &new)?;
+/// The planner's plan for a new name on this disk, without its second phase.
+fn without_second_phase(alloc: Global, disk: &mut MemDisk<512>) -> Result<Plan<512>, Fail> {
+    let new = layout::<512>(alloc, 4096, 2048, 98)?;
+    let mut plan = make_plan(alloc, disk, &new)?;
     if plan.phases.len() > 1 {
         drop(plan.phases.remove(1));
     }
+    Ok(plan)
+}
+
+#[test]
+fn primary_array_under_an_open_header(rt: HostRuntime) -> Result<(), Fail> {
+    let mut disk = gpt_disk(rt.alloc())?;
+    let plan = without_second_phase(rt.alloc(), &mut disk)?;
     assert!(rt; check(rt.alloc(), &mut disk, &plan)? == Answer::No(Why::ReadSector(2, Lba(2))));
     Ok(())
 }
@@ -318,7 +333,20 @@ fn rename(alloc: Global, number: u64, name: &str) -> Result<Vec<Edit>, AllocErro
     Ok(edits)
 }
 
-/// The answer to a new name of one letter.
+/// The answer to a commit of that.
+fn committed<const B: usize, D: Disk<B>>(
+    alloc: Global,
+    disk: &mut D,
+    number: u64,
+    name: &str,
+) -> Result<Result<(), CommitError>, Fail>
+    requires { IsSectorSize B }
+{
+    let edits = rename(alloc, number, name)?;
+    Ok(commit(alloc, disk, &edits, &[]))
+}
+
+/// Its number.
 fn renamed<const B: usize>(
     alloc: Global,
     disk: &mut MemDisk<B>,
@@ -327,8 +355,7 @@ fn renamed<const B: usize>(
 ) -> Result<u8, Fail>
     requires { IsSectorSize B }
 {
-    let edits = rename(alloc, number, name)?;
-    Ok(commit_number(commit(alloc, disk, &edits, &[])))
+    Ok(commit_number(committed(alloc, disk, number, name)?))
 }
 
 /// An empty table, then commits that are refused, and one that isn't.
@@ -360,6 +387,16 @@ fn commits_of_names(rt: HostRuntime) -> Result<(), Fail> {
     Ok(())
 }
 
+/// The name that a disk denotes; none where it denotes nothing.
+fn denoted_name<const B: usize>(alloc: Global, disk: &mut MemDisk<B>) -> Option<u16>
+    requires { IsSectorSize B }
+{
+    match recover(alloc, disk) {
+        Ok(layout) => first_name(&layout),
+        Err(_) => None,
+    }
+}
+
 /// The name that a crash leaves after a commit of another whose call of this number fails, and whether it failed.
 fn after_failure<const B: usize>(
     alloc: Global,
@@ -370,19 +407,15 @@ fn after_failure<const B: usize>(
     requires { IsSectorSize B }
 {
     let mut disk: CrashDisk<B> = CrashDisk::new(alloc, 80, 40)?;
-    let table = layout::<B>(alloc, 80, 40, 97)?;
-    let made = plan_and_write(alloc, &mut disk, &table)?.is_some();
+    let made = named(alloc, &mut disk, 40, 97)?.is_some();
     disk.fail_at(call, kept);
-    let failed = match commit(alloc, &mut disk, &rename(alloc, 1, "b")?, &[]) {
+    let failed = match committed(alloc, &mut disk, 1, "b")? {
         Ok(()) => false,
         Err(CommitError::Device(_)) => true,
         Err(_) => return Ok((None, made)),
     };
     let mut stopped = disk.stop(choices);
-    match recover(alloc, &mut stopped) {
-        Ok(layout) => Ok((first_name(&layout), failed)),
-        Err(_) => Ok((None, failed)),
-    }
+    Ok((denoted_name(alloc, &mut stopped), failed))
 }
 
 /// One call of a commit fails, and then one so many calls later, until none does: the name is the old one, and then the
@@ -440,16 +473,12 @@ fn first_record<const B: usize, D: Disk<B>>(
     }
 }
 
-#[test]
-fn an_mbr_gets_a_partition(rt: HostRuntime) -> Result<(), Fail> {
-    let alloc = rt.alloc();
-    let mut disk: MemDisk<512> = MemDisk::new(alloc, 8192)?;
-    let mut mbr = [0; 512];
-    mbr[510] = 0x55;
-    mbr[511] = 0xAA;
-    disk.write(Lba(0), &mbr)?;
-    let mut edits = Vec::new(alloc);
-    edits.push(Edit::New {
+/// The answer to a commit of a slice from 2048 to 6143.
+fn slice_committed(
+    alloc: Global,
+    disk: &mut MemDisk<512>,
+) -> Result<Result<(), CommitError>, Fail> {
+    let slice = Edit::New {
         path: Path {
             number: 1,
             letter: None,
@@ -457,19 +486,34 @@ fn an_mbr_gets_a_partition(rt: HostRuntime) -> Result<(), Fail> {
         start: 2048,
         end: End::At(6143),
         code: Some(Code::Two(0xA5)),
-    })?;
-    assert!(rt; commit(alloc, &mut disk, &edits, &[]) == Ok(()));
-    assert!(rt; first_record(alloc, &mut disk)? == Some((0xA5, 2048, 4096)));
+    };
+    let mut edits = Vec::new(alloc);
+    edits.push(slice)?;
+    Ok(commit(alloc, disk, &edits, &[]))
+}
+
+#[test]
+fn an_mbr_gets_a_partition(rt: HostRuntime) -> Result<(), Fail> {
+    let mut disk: MemDisk<512> = MemDisk::new(rt.alloc(), 8192)?;
+    assert!(rt; sign(&mut disk));
+    assert!(rt; slice_committed(rt.alloc(), &mut disk)? == Ok(()));
+    assert!(rt; first_record(rt.alloc(), &mut disk)? == Some((0xA5, 2048, 4096)));
     Ok(())
 }
 
 /// What a new name on a healthy disk of 4096 sectors answers where its call of this number fails.
 fn rename_with_failure(alloc: Global, call: u64) -> Result<Result<(), CommitError>, Fail> {
     let mut disk: CrashDisk<512> = CrashDisk::new(alloc, 4096, 40)?;
-    let table = layout::<512>(alloc, 4096, 2048, 97)?;
-    let _made = plan_and_write(alloc, &mut disk, &table)?;
+    let _made = named(alloc, &mut disk, 2048, 97)?;
     disk.fail_at(call, false);
-    Ok(commit(alloc, &mut disk, &rename(alloc, 1, "b")?, &[]))
+    committed(alloc, &mut disk, 1, "b")
+}
+
+/// How many writes each phase of its plan has.
+fn phases_of_rename(alloc: Global) -> Result<[usize; 5], Fail> {
+    let edits = rename(alloc, 1, "b")?;
+    let mut disk = gpt_disk(alloc)?;
+    Ok(counts(&plan_for(alloc, &mut disk, &edits, &[])?))
 }
 
 // The first call is a flush, and then come 105 reads: the survey reads sector 0 and both sides of the table once (67), the
@@ -477,17 +521,9 @@ fn rename_with_failure(alloc: Global, call: u64) -> Result<Result<(), CommitErro
 // and a flush follows each of the four phases.
 #[test]
 fn a_commit_reads_little(rt: HostRuntime) -> Result<(), Fail> {
-    let mut disk = gpt_disk(rt.alloc())?;
-    let edits = rename(rt.alloc(), 1, "b")?;
-    match plan_for(rt.alloc(), &mut disk, &edits, &[]) {
-        Ok(plan) => assert!(rt; counts(&plan) == [33, 1, 32, 1, 0]),
-        Err(_) => assert!(rt; false),
-    }
-    let after_reads = match rename_with_failure(rt.alloc(), 107)? {
-        Err(CommitError::Device(Fault::Write(_))) => true,
-        _ => false,
-    };
-    assert!(rt; after_reads);
+    assert!(rt; phases_of_rename(rt.alloc())? == [33, 1, 32, 1, 0]);
+    let after_reads = rename_with_failure(rt.alloc(), 107)?;
+    assert!(rt; matches!(after_reads, Err(CommitError::Device(Fault::Write(_)))));
     assert!(rt; rename_with_failure(rt.alloc(), 178)? == Ok(()));
     Ok(())
 }

@@ -4,9 +4,9 @@ ghost use Rattle.std.specs.Prelude.{◌*◌, ◌<◌, ◌^◌};
 ghost use Rattle.pt_file.specs.Untold.{untold, in_bound};
 ghost use Rattle.pt_sector.specs.Calls.{untouched_same, untouched_on};
 
+use crate::repairs::usable;
 use pt_apply::Write;
-use pt_layout::{Body, Verdict, verify};
-use pt_plan::commit;
+use pt_plan::{CommitError, commit};
 use pt_samples::{guids, words};
 use pt_sector::{Disk, Fault, Lba, Moments};
 use std::alloc::Global;
@@ -99,21 +99,16 @@ impl Disk<512> for SparseDisk {
     }
 }
 
+/// The answer to a commit of an empty table.
+fn emptied(alloc: Global, disk: &mut SparseDisk) -> Result<Result<(), CommitError>, Fail> {
+    let words = words(alloc, &["o"])?;
+    Ok(commit(alloc, disk, &words, &guids()))
+}
+
 #[test]
 fn a_table_on_a_huge_disk(rt: HostRuntime) -> Result<(), Fail> {
-    let alloc = rt.alloc();
-    let mut disk = SparseDisk::new(alloc);
-    let words = words(alloc, &["o"])?;
-    assert!(rt; commit(alloc, &mut disk, &words, &guids()) == Ok(()));
-    match verify(alloc, &mut disk)? {
-        Verdict::Yes(layout) => match &layout.body {
-            Body::Gpt(table) => {
-                assert!(rt; table.first == 34);
-                assert!(rt; table.last == 1099511627742);
-            }
-            Body::Mbr { .. } => assert!(rt; false),
-        },
-        Verdict::No(_) => assert!(rt; false),
-    }
+    let mut disk = SparseDisk::new(rt.alloc());
+    assert!(rt; emptied(rt.alloc(), &mut disk)? == Ok(()));
+    assert!(rt; usable(rt.alloc(), &mut disk)? == Some((34, 1099511627742)));
     Ok(())
 }

@@ -24,6 +24,15 @@ pub(crate) fn is_healthy<const B: usize, D: Disk<B>>(
     }
 }
 
+/// The layout with this name of its first partition.
+fn named<const B: usize>(alloc: Global, layout: &Layout, name: &str) -> Result<Layout, Fail>
+    requires { IsSectorSize B }
+{
+    let word = format!(in alloc; "c:1:{name}")?;
+    let words = words(alloc, &[word.as_str()])?;
+    Ok(edit::<B>(alloc, Some(layout), layout.sectors, &words, &[])?)
+}
+
 /// Whether a disk is healthy and its first partition has this name: giving it anew changes nothing.
 pub(crate) fn name_is<const B: usize, D: Disk<B>>(
     alloc: Global,
@@ -32,13 +41,8 @@ pub(crate) fn name_is<const B: usize, D: Disk<B>>(
 ) -> Result<bool, Fail>
     requires { IsSectorSize B }
 {
-    let word = format!(in alloc; "c:1:{name}")?;
     match verify(alloc, disk)? {
-        Verdict::Yes(layout) => {
-            let words = words(alloc, &[word.as_str()])?;
-            let named = edit::<B>(alloc, Some(&layout), layout.sectors, &words, &[])?;
-            Ok(named.same(&layout))
-        }
+        Verdict::Yes(layout) => Ok(named::<B>(alloc, &layout, name)?.same(&layout)),
         Verdict::No(_) => Ok(false),
     }
 }

@@ -6,13 +6,14 @@ ghost use Rattle.pt_sector.specs.Sectors.{IsSectorSize};
 use crate::renames::{counts, is_healthy};
 use pt_apply::Plan;
 use pt_bsd::{LabelEntry, empty_label, encode_label};
-use pt_gpt::{CopyError, Side};
+use pt_edit::Edit;
+use pt_gpt::{CopyError, Entry, Side};
 use pt_layout::{Body, Finding, Layout, NoTable, Path, Verdict, recover, verify};
 use pt_mbr::{ChainError, Mbr, Record, encode_mbr, put_record};
 use pt_plan::{CommitError, PlanError, RepairError, commit, plan_for, plan_for_repair, repair};
 use pt_samples::{
-    change, crash_disk, entry, gpt_disk, holds, image_of, made, put, put_copy, put_mbr, record,
-    sector, table_disk, words,
+    Image, change, crash_disk, entry, gpt_disk, holds, image_of, made, put, put_copy, put_mbr,
+    record, sector, table_disk, words,
 };
 use pt_sector::{Disk, Fault, Lba, MemDisk, Sector};
 use std::alloc::Global;
@@ -55,25 +56,36 @@ pub(crate) fn mends<const B: usize, D: Disk<B>>(alloc: Global, disk: &mut D) -> 
     Ok(mended && holds(disk, &image)?)
 }
 
-/// A GPT disk of 256 sectors, and a way to break it: 0 leaves it as it is.
+/// The entries of a table with two partitions.
+fn entries() -> [Option<Entry>; 4] {
+    [entry(1, 100, 120), None, entry(3, 130, 140), None]
+}
+
+/// Breaks a disk with that table in a way: 0 leaves it as it is.
+fn spoil<const B: usize>(disk: &mut MemDisk<B>, way: u8) -> Result<(), Fault>
+    requires { IsSectorSize B }
+{
+    let fewer = [entry(1, 100, 120), None, None, None];
+    match way {
+        1 => change(disk, 1, 0, 0),
+        2 => change(disk, 2, 511, 1),
+        3 => change(disk, 2, 0, 1),
+        4 => change(disk, 255, 0, 0),
+        5 => put_copy(disk, Side::Backup, &fewer, 1),
+        6 => put_copy(disk, Side::Primary, &entries(), 254),
+        7 => put_copy(disk, Side::Backup, &entries(), 0),
+        8 => put(disk, 0, &[0; B]),
+        9 => change(disk, 0, 462, 1),
+        _ => Ok(()),
+    }
+}
+
+/// A GPT disk of 256 sectors that is broken in a way.
 fn broken<const B: usize>(alloc: Global, way: u8) -> Result<MemDisk<B>, Fail>
     requires { IsSectorSize B }
 {
-    let entries = [entry(1, 100, 120), None, entry(3, 130, 140), None];
-    let fewer = [entry(1, 100, 120), None, None, None];
-    let mut disk: MemDisk<B> = table_disk(alloc, &entries)?;
-    match way {
-        1 => change(&mut disk, 1, 0, 0)?,
-        2 => change(&mut disk, 2, 511, 1)?,
-        3 => change(&mut disk, 2, 0, 1)?,
-        4 => change(&mut disk, 255, 0, 0)?,
-        5 => put_copy(&mut disk, Side::Backup, &fewer, 1)?,
-        6 => put_copy(&mut disk, Side::Primary, &entries, 254)?,
-        7 => put_copy(&mut disk, Side::Backup, &entries, 0)?,
-        8 => put(&mut disk, 0, &[0; B])?,
-        9 => change(&mut disk, 0, 462, 1)?,
-        _ => {}
-    }
+    let mut disk: MemDisk<B> = table_disk(alloc, &entries())?;
+    spoil(&mut disk, way)?;
     Ok(disk)
 }
 
@@ -91,18 +103,29 @@ const FOUND: [Option<Finding>; 10] = [
     Some(Finding::Protective),
 ];
 
+/// What a broken disk is found as, and whether it is mended.
+fn found_and_mended<const B: usize>(alloc: Global, way: u8) -> Result<(Option<Finding>, bool), Fail>
+    requires { IsSectorSize B }
+{
+    let mut disk: MemDisk<B> = broken(alloc, way)?;
+    let found = finding(alloc, &mut disk)?;
+    Ok((found, mends(alloc, &mut disk)?))
+}
+
 #[test]
 fn broken_copies_are_mended(rt: HostRuntime) -> Result<(), Fail> {
     let alloc = rt.alloc();
     for way in 0..10u8 {
-        let mut small: MemDisk<512> = broken(alloc, way)?;
-        assert!(rt; finding(alloc, &mut small)? == FOUND[way as usize]);
-        assert!(rt; mends(alloc, &mut small)?);
-        let mut large: MemDisk<4096> = broken(alloc, way)?;
-        assert!(rt; finding(alloc, &mut large)? == FOUND[way as usize]);
-        assert!(rt; mends(alloc, &mut large)?);
+        let wanted = (FOUND[way as usize], true);
+        assert!(rt; found_and_mended::<512>(alloc, way)? == wanted);
+        assert!(rt; found_and_mended::<4096>(alloc, way)? == wanted);
     }
     Ok(())
+}
+
+/// How many writes each phase of a repair has.
+fn repair_counts(alloc: Global, disk: &mut MemDisk<512>) -> Result<[usize; 5], Fail> {
+    Ok(counts(&plan_for_repair(alloc, disk)?))
 }
 
 #[test]
@@ -112,11 +135,9 @@ fn the_primary_is_mended_in_four_phases(rt: HostRuntime) -> Result<(), Fail> {
     change(&mut disk, 2, 200, 1)?;
     let found = finding(alloc, &mut disk)?;
     assert!(rt; found == Some(Finding::PrimaryCopy(CopyError::ArrayCrc)));
-    let plan = plan_for_repair(alloc, &mut disk)?;
-    assert!(rt; counts(&plan) == [1, 32, 1, 33, 0]);
+    assert!(rt; repair_counts(alloc, &mut disk)? == [1, 32, 1, 33, 0]);
     assert!(rt; mends(alloc, &mut disk)?);
-    let healthy = plan_for_repair(alloc, &mut disk)?;
-    assert!(rt; counts(&healthy) == [0; 5]);
+    assert!(rt; repair_counts(alloc, &mut disk)? == [0; 5]);
     Ok(())
 }
 
@@ -131,7 +152,10 @@ fn grown(alloc: Global, disk: &mut MemDisk<512>) -> Result<MemDisk<512>, Fail> {
 }
 
 /// The first and last usable sector of a healthy GPT disk.
-fn usable<D: Disk<512>>(alloc: Global, disk: &mut D) -> Result<Option<(u64, u64)>, Fail> {
+pub(crate) fn usable<D: Disk<512>>(
+    alloc: Global,
+    disk: &mut D,
+) -> Result<Option<(u64, u64)>, Fail> {
     match verify(alloc, disk)? {
         Verdict::Yes(layout) => match &layout.body {
             Body::Gpt(table) => Ok(Some((table.first, table.last))),
@@ -141,18 +165,34 @@ fn usable<D: Disk<512>>(alloc: Global, disk: &mut D) -> Result<Option<(u64, u64)
     }
 }
 
+/// The disk with a partition, grown.
+fn grown_disk(alloc: Global) -> Result<MemDisk<512>, Fail> {
+    let mut disk = gpt_disk(alloc)?;
+    grown(alloc, &mut disk)
+}
+
+/// The usable sectors after a commit of `e`.
+fn usable_after_extend(alloc: Global, disk: &mut MemDisk<512>) -> Result<Option<(u64, u64)>, Fail> {
+    let words = words(alloc, &["e"])?;
+    commit(alloc, disk, &words, &[])?;
+    usable(alloc, disk)
+}
+
+#[test]
+fn a_disk_that_grew_misses_its_backup(rt: HostRuntime) -> Result<(), Fail> {
+    let mut disk = grown_disk(rt.alloc())?;
+    let found = finding(rt.alloc(), &mut disk)?;
+    assert!(rt; found == Some(Finding::BackupCopy(CopyError::Signature)));
+    assert!(rt; repair_counts(rt.alloc(), &mut disk)? == [33, 1, 32, 1, 1]);
+    Ok(())
+}
+
 #[test]
 fn a_disk_that_grew_keeps_its_usable_sectors(rt: HostRuntime) -> Result<(), Fail> {
-    let alloc = rt.alloc();
-    let mut disk = grown(alloc, &mut gpt_disk(alloc)?)?;
-    let found = finding(alloc, &mut disk)?;
-    assert!(rt; found == Some(Finding::BackupCopy(CopyError::Signature)));
-    let plan = plan_for_repair(alloc, &mut disk)?;
-    assert!(rt; counts(&plan) == [33, 1, 32, 1, 1]);
-    assert!(rt; mends(alloc, &mut disk)?);
-    assert!(rt; usable(alloc, &mut disk)? == Some((34, 4062)));
-    commit(alloc, &mut disk, &words(alloc, &["e"])?, &[])?;
-    assert!(rt; usable(alloc, &mut disk)? == Some((34, 5062)));
+    let mut disk = grown_disk(rt.alloc())?;
+    assert!(rt; mends(rt.alloc(), &mut disk)?);
+    assert!(rt; usable(rt.alloc(), &mut disk)? == Some((34, 4062)));
+    assert!(rt; usable_after_extend(rt.alloc(), &mut disk)? == Some((34, 5062)));
     Ok(())
 }
 
@@ -226,27 +266,29 @@ fn unsound_tables_are_refused(rt: HostRuntime) -> Result<(), Fail> {
     Ok(())
 }
 
+/// Links the logical partition of a disk to an empty record in it, in sector 7000.
+fn put_record_inside(disk: &mut MemDisk<512>) -> Result<(), Fault> {
+    let link = record(0x05, 2904, 1);
+    let linked = put_record(&sector(disk, 6143)?, 1, link.as_ref());
+    put(disk, 6143, &linked)?;
+    let empty = Mbr { records: [None; 4] };
+    put(disk, 7000, &encode_mbr(&empty, &[0; 512]))
+}
+
 #[test]
 fn a_record_of_the_chain_in_a_partition_is_refused(rt: HostRuntime) -> Result<(), Fail> {
     let alloc = rt.alloc();
     let mut disk: MemDisk<512> = made(alloc, 16384, true, &["n:2:4096:12287:05", "n:5:0:+1000"])?;
     assert!(rt; mends(alloc, &mut disk)?);
-    let link = record(0x05, 2904, 1);
-    let linked = put_record(&sector(&mut disk, 6143)?, 1, link.as_ref());
-    put(&mut disk, 6143, &linked)?;
-    let empty = Mbr { records: [None; 4] };
-    put(&mut disk, 7000, &encode_mbr(&empty, &[0; 512]))?;
+    put_record_inside(&mut disk)?;
     let on_table = Finding::OnTable(path(5), Lba(7000));
     assert!(rt; finding(alloc, &mut disk)? == Some(on_table));
     assert!(rt; refused(alloc, &mut disk)? == Some(RepairError::Unsound(on_table)));
     Ok(())
 }
 
-#[test]
-fn labels_that_are_outside_or_foreign_are_refused(rt: HostRuntime) -> Result<(), Fail> {
-    let alloc = rt.alloc();
-    let mut disk: MemDisk<512> = made(alloc, 8192, true, &["n:1:2048:6143:A5"])?;
-    assert!(rt; mends(alloc, &mut disk)?);
+/// A label of 4096 sectors whose partition a begins before the slice's first usable sector.
+fn label_outside() -> Sector<512> {
     let mut label = empty_label(4096);
     label.entries[0] = Some(LabelEntry {
         size: 2000,
@@ -256,7 +298,15 @@ fn labels_that_are_outside_or_foreign_are_refused(rt: HostRuntime) -> Result<(),
         frag: 0,
         cpg: 0,
     });
-    put(&mut disk, 2049, &encode_label(&label, &[0; 512]))?;
+    encode_label(&label, &[0; 512])
+}
+
+#[test]
+fn labels_that_are_outside_or_foreign_are_refused(rt: HostRuntime) -> Result<(), Fail> {
+    let alloc = rt.alloc();
+    let mut disk: MemDisk<512> = made(alloc, 8192, true, &["n:1:2048:6143:A5"])?;
+    assert!(rt; mends(alloc, &mut disk)?);
+    put(&mut disk, 2049, &label_outside())?;
     let outside = Finding::OutsideUsable(Path {
         number: 1,
         letter: Some(0),
@@ -332,22 +382,49 @@ fn disks_that_denote_nothing_are_refused(rt: HostRuntime) -> Result<(), Fail> {
     Ok(())
 }
 
-/// Whether each call of a repair that fails is told: the first flush, the reads, and then those of its plan. After a
-/// failed read no byte is changed.
-fn tells_each_fault<const B: usize>(alloc: Global, mut disk: MemDisk<B>) -> Result<bool, Fail>
+/// The fault of each call of a repair's plan, in order.
+fn faults_of_repair<const B: usize>(
+    alloc: Global,
+    disk: &mut MemDisk<B>,
+) -> Result<Vec<Fault>, Fail>
     requires { IsSectorSize B }
 {
-    let image = image_of(alloc, &mut disk)?;
-    let plan = plan_for_repair(alloc, &mut disk)?;
-    let faults = faults(alloc, &plan)?;
+    let plan = plan_for_repair(alloc, disk)?;
+    faults(alloc, &plan)
+}
+
+/// What a repair of this image answers where its call of this number fails, and whether no byte is changed.
+fn repair_with_failure<const B: usize>(
+    alloc: Global,
+    image: &Image<B>,
+    call: u64,
+) -> Result<(Result<(), RepairError>, bool), Fail>
+    requires { IsSectorSize B }
+{
+    let mut failing = crash_disk(alloc, image)?;
+    failing.fail_at(call, false);
+    let answer = repair(alloc, &mut failing);
+    failing.fail_at(0, false);
+    Ok((answer, holds(&mut failing, image)?))
+}
+
+/// Whether each call of a repair that fails is told: the first flush, the reads, and then those of its plan. After a
+/// failed read no byte is changed.
+fn each_is_told<const B: usize>(
+    alloc: Global,
+    image: &Image<B>,
+    sectors: u64,
+    faults: &[Fault],
+) -> Result<bool, Fail>
+    requires { IsSectorSize B }
+{
     let mut next = 0;
     for call in 1..1000u64 {
-        let mut failing = crash_disk(alloc, &image)?;
-        failing.fail_at(call, false);
-        let good = match repair(alloc, &mut failing) {
+        let (answer, unchanged) = repair_with_failure(alloc, image, call)?;
+        let good = match answer {
             Ok(()) => return Ok(next == faults.len()),
             Err(RepairError::Device(Fault::Read(at))) => {
-                next == 0 && call > 1 && at.0 < disk.sectors() && holds(&mut failing, &image)?
+                next == 0 && call > 1 && at.0 < sectors && unchanged
             }
             Err(RepairError::Device(Fault::Flush)) if call == 1 => true,
             Err(RepairError::Device(fault)) if next < faults.len() => {
@@ -363,6 +440,15 @@ fn tells_each_fault<const B: usize>(alloc: Global, mut disk: MemDisk<B>) -> Resu
     Ok(false)
 }
 
+/// The same of a repair of this disk.
+fn tells_each_fault<const B: usize>(alloc: Global, mut disk: MemDisk<B>) -> Result<bool, Fail>
+    requires { IsSectorSize B }
+{
+    let image = image_of(alloc, &mut disk)?;
+    let faults = faults_of_repair(alloc, &mut disk)?;
+    each_is_told(alloc, &image, disk.sectors(), &faults)
+}
+
 #[test]
 fn each_call_of_a_repair_that_fails_is_told(rt: HostRuntime) -> Result<(), Fail> {
     let alloc = rt.alloc();
@@ -375,23 +461,55 @@ fn each_call_of_a_repair_that_fails_is_told(rt: HostRuntime) -> Result<(), Fail>
     Ok(())
 }
 
+/// A GPT disk with a slice, but without a backup header.
+fn slice_without_backup(alloc: Global) -> Result<MemDisk<512>, Fail> {
+    let mut disk: MemDisk<512> = made(alloc, 4096, false, &["o", "n:1:2048:4062:A500"])?;
+    change(&mut disk, 4095, 0, 0)?;
+    Ok(disk)
+}
+
+/// The words for a partition in the slice's label.
+fn label_words(alloc: Global) -> Result<Vec<Edit>, Fail> {
+    words(alloc, &["a:1", "n:1.a:2064:2163"])
+}
+
+/// The answer to a commit of them.
+fn label_committed(
+    alloc: Global,
+    disk: &mut MemDisk<512>,
+) -> Result<Result<(), CommitError>, Fail> {
+    let edits = label_words(alloc)?;
+    Ok(commit(alloc, disk, &edits, &[]))
+}
+
+/// Whether all writes of a plan are of this sector.
+fn writes_alone(plan: &Plan<512>, lba: Lba) -> bool {
+    for phase in &plan.phases {
+        for write in phase {
+            if write.lba != lba {
+                return false;
+            }
+        }
+    }
+    true
+}
+
+/// How many writes each phase of their plan has, and whether all are of the label.
+fn label_plan(alloc: Global, disk: &mut MemDisk<512>) -> Result<([usize; 5], bool), Fail> {
+    let edits = label_words(alloc)?;
+    let plan = plan_for(alloc, disk, &edits, &[])?;
+    Ok((counts(&plan), writes_alone(&plan, Lba(2049))))
+}
+
 #[test]
 fn a_label_waits_for_a_repair(rt: HostRuntime) -> Result<(), Fail> {
     let alloc = rt.alloc();
-    let mut disk: MemDisk<512> = made(alloc, 4096, false, &["o", "n:1:2048:4062:A500"])?;
-    change(&mut disk, 4095, 0, 0)?;
-    let edits = words(alloc, &["a:1", "n:1.a:2064:2163"])?;
+    let mut disk = slice_without_backup(alloc)?;
     let refused = Err(CommitError::Plan(PlanError::NeedsRepair));
-    assert!(rt; commit(alloc, &mut disk, &edits, &[]) == refused);
+    assert!(rt; label_committed(alloc, &mut disk)? == refused);
     assert!(rt; mends(alloc, &mut disk)?);
-    let plan = plan_for(alloc, &mut disk, &edits, &[])?;
-    assert!(rt; counts(&plan) == [1, 0, 0, 0, 0]);
-    for phase in &plan.phases {
-        for write in phase {
-            assert!(rt; write.lba == Lba(2049));
-        }
-    }
-    assert!(rt; commit(alloc, &mut disk, &edits, &[]) == Ok(()));
+    assert!(rt; label_plan(alloc, &mut disk)? == ([1, 0, 0, 0, 0], true));
+    assert!(rt; label_committed(alloc, &mut disk)? == Ok(()));
     assert!(rt; finding(alloc, &mut disk)? == None);
     Ok(())
 }

@@ -2,23 +2,11 @@
 
 use crate::renames::name_is;
 use pt_edit::Refusal;
-use pt_plan::{Batch, CommitError, Reply, session};
-use pt_samples::{crash_disk, gpt_disk, holds, image_of, words};
+use pt_plan::{CommitError, Reply, session};
+use pt_samples::{batches, crash_disk, gpt_disk, holds, image_of};
 use pt_sector::{Disk, Fault};
 use std::alloc::Global;
 use std::test::Fail;
-
-/// A batch for each word.
-fn batches(alloc: Global, texts: &[&str]) -> Result<Vec<Batch>, Fail> {
-    let mut made = Vec::new(alloc);
-    for text in texts {
-        made.push(Batch {
-            edits: words(alloc, &[text])?,
-            guids: Vec::new(alloc),
-        })?;
-    }
-    Ok(made)
-}
 
 /// Whether a session of these words, each a batch, gets these replies.
 fn replies_are<D: Disk<512>>(

@@ -69,7 +69,40 @@ fn entry(code: u16, unique: Guid, first: u64, last: u64) -> Option<Entry> {
     }
 }
 
-/// Whether the layout becomes a GPT with these entries first, of these first and last usable sectors.
+/// A table of 128 entries, these first, with these first and last usable sectors.
+fn table(
+    alloc: Global,
+    entries: &[Option<Entry>],
+    (first, last): (u64, u64),
+) -> Result<Table, Fail> {
+    let mut all = Vec::from_slice(alloc, &[None; 128])?;
+    for (place, entry) in all.iter_mut().zip(entries) {
+        *place = *entry;
+    }
+    Ok(Table {
+        disk: FRESH[0],
+        first,
+        last,
+        entries: Entries::new(all),
+    })
+}
+
+/// The layout with a GPT in place of its MBR, with these entries first, of these first and last usable sectors.
+fn with_table(
+    alloc: Global,
+    layout: &Layout,
+    entries: &[Option<Entry>],
+    usable: (u64, u64),
+) -> Result<Layout, Fail> {
+    let labels = layout.labels.copy(alloc)?;
+    Ok(Layout {
+        sectors: layout.sectors,
+        body: Body::Gpt(table(alloc, entries, usable)?),
+        labels,
+    })
+}
+
+/// Whether the layout becomes that.
 fn becomes<const B: usize>(
     alloc: Global,
     layout: Layout,
@@ -78,20 +111,7 @@ fn becomes<const B: usize>(
 ) -> Result<bool, Fail>
     requires { IsSectorSize B }
 {
-    let mut all = Vec::from_slice(alloc, &[None; 128])?;
-    for (place, entry) in all.iter_mut().zip(entries) {
-        *place = *entry;
-    }
-    let wanted = Layout {
-        sectors: layout.sectors,
-        body: Body::Gpt(Table {
-            disk: FRESH[0],
-            first: usable.0,
-            last: usable.1,
-            entries: Entries::new(all),
-        }),
-        labels: layout.labels.copy(alloc)?,
-    };
+    let wanted = with_table(alloc, &layout, entries, usable)?;
     match to_gpt::<B>(alloc, layout, &FRESH) {
         Ok(made) => Ok(made.same(&wanted)),
         Err(_) => Ok(false),
@@ -117,13 +137,30 @@ fn a_partition_keeps_its_sectors(rt: HostRuntime) -> Result<(), Fail> {
     Ok(())
 }
 
+/// The refusal of a disk with partition 1 of this type and size.
+fn refused_one(
+    alloc: Global,
+    sectors: u64,
+    (kind, size): (u8, u32),
+    guids: &[Guid],
+) -> Result<u8, Fail> {
+    let layout = lone(alloc, sectors, kind, size)?;
+    Ok(refused::<512>(alloc, layout, guids))
+}
+
+/// The refusal of a disk without partitions.
+fn refused_empty(alloc: Global, sectors: u64) -> Result<u8, Fail> {
+    let layout = mbr(alloc, sectors, [None; 4], &[])?;
+    Ok(refused::<512>(alloc, layout, &FRESH))
+}
+
 #[test]
 fn too_little_room(rt: HostRuntime) -> Result<(), Fail> {
     let alloc = rt.alloc();
-    assert!(rt; refused::<512>(alloc, lone(alloc, 4096, 0x83, 2016)?, &FRESH) == 12);
-    assert!(rt; refused::<512>(alloc, mbr(alloc, 67, [None; 4], &[])?, &FRESH) == 12);
-    assert!(rt; refused::<512>(alloc, mbr(alloc, 68, [None; 4], &[])?, &FRESH) == 0);
-    assert!(rt; refused::<512>(alloc, lone(alloc, 67, 0x0B, 1)?, &FRESH) == 6);
+    assert!(rt; refused_one(alloc, 4096, (0x83, 2016), &FRESH)? == 12);
+    assert!(rt; refused_empty(alloc, 67)? == 12);
+    assert!(rt; refused_empty(alloc, 68)? == 0);
+    assert!(rt; refused_one(alloc, 67, (0x0B, 1), &FRESH)? == 6);
     Ok(())
 }
 
@@ -159,6 +196,12 @@ fn chained(alloc: Global, first: u32) -> Result<Layout, Fail> {
     mbr(alloc, 16384, records, &chain)
 }
 
+/// The refusal of that disk.
+fn refused_chain(alloc: Global, first: u32, guids: &[Guid]) -> Result<u8, Fail> {
+    let layout = chained(alloc, first)?;
+    Ok(refused::<512>(alloc, layout, guids))
+}
+
 #[test]
 fn logical_partitions_keep_their_numbers(rt: HostRuntime) -> Result<(), Fail> {
     let alloc = rt.alloc();
@@ -171,8 +214,14 @@ fn logical_partitions_keep_their_numbers(rt: HostRuntime) -> Result<(), Fail> {
         entry(0x0700, FRESH[3], 5003, 5003),
     ];
     assert!(rt; becomes::<512>(alloc, chained(alloc, 4096)?, &wanted, (34, 16350))?);
+    Ok(())
+}
+
+#[test]
+fn logical_partitions_want_guids_and_room(rt: HostRuntime) -> Result<(), Fail> {
+    let alloc = rt.alloc();
     assert!(rt; guids_for(&chained(alloc, 4096)?) == 4);
-    assert!(rt; refused::<512>(alloc, chained(alloc, 33)?, &FRESH) == 12);
+    assert!(rt; refused_chain(alloc, 33, &FRESH)? == 12);
     Ok(())
 }
 
@@ -190,10 +239,10 @@ fn fresh_guids(rt: HostRuntime) -> Result<(), Fail> {
     let alloc = rt.alloc();
     let disk = FRESH[0];
     let first = FRESH[1];
-    assert!(rt; refused::<512>(alloc, chained(alloc, 4096)?, &[disk, first, first]) == 10);
-    assert!(rt; refused::<512>(alloc, chained(alloc, 4096)?, &[disk, disk, first, first]) == 11);
-    assert!(rt; refused::<512>(alloc, lone(alloc, 4096, 0x83, 8)?, &[disk, disk]) == 0);
-    assert!(rt; refused::<512>(alloc, lone(alloc, 4096, 0x83, 8)?, &[disk]) == 10);
+    assert!(rt; refused_chain(alloc, 4096, &[disk, first, first])? == 10);
+    assert!(rt; refused_chain(alloc, 4096, &[disk, disk, first, first])? == 11);
+    assert!(rt; refused_one(alloc, 4096, (0x83, 8), &[disk, disk])? == 0);
+    assert!(rt; refused_one(alloc, 4096, (0x83, 8), &[disk])? == 10);
     Ok(())
 }
 
@@ -218,6 +267,12 @@ fn a_slice_keeps_its_label(rt: HostRuntime) -> Result<(), Fail> {
     let alloc = rt.alloc();
     let wanted = [entry(0xA500, FRESH[1], 2048, 3071)];
     assert!(rt; becomes::<512>(alloc, sliced(alloc, 16)?, &wanted, (34, 4062))?);
-    assert!(rt; refused::<512>(alloc, sliced(alloc, 2008)?, &FRESH) == 12);
+    Ok(())
+}
+
+#[test]
+fn a_partition_of_a_label_past_the_usable_sectors(rt: HostRuntime) -> Result<(), Fail> {
+    let layout = sliced(rt.alloc(), 2008)?;
+    assert!(rt; refused::<512>(rt.alloc(), layout, &FRESH) == 12);
     Ok(())
 }

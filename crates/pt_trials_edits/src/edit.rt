@@ -1,13 +1,13 @@
 //! What words do, and when they are refused, as docs/commands.md tells it.
 
-ghost use Rattle.std.specs.Prelude.{◌≡◌, IfSome};
+ghost use Rattle.std.specs.Prelude.{◌≡◌, IfOk, IfSome};
 ghost use Rattle.pt_sector.specs.Sectors.{IsSectorSize};
 
-use pt_bsd::{LabelEntry, empty_label};
-use pt_edit::{edit, parse_edit};
+use pt_bsd::{Label, LabelEntry, empty_label};
+use pt_edit::{Edit, edit, parse_edit};
 use pt_gpt::Entry;
 use pt_guid::Guid;
-use pt_layout::{Body, Ebrs, Labels, Layout, slot, slot_count};
+use pt_layout::{Body, Ebrs, Labelled, Labels, Layout, slot, slot_count};
 use std::alloc::Global;
 use std::test::Fail;
 
@@ -27,6 +27,18 @@ const LINUX: Guid = Guid([
 /// An empty GPT on 4,096 sectors with partition 1 from 2048 to 4062.
 const ONE: &str = "o n:1:0:0";
 
+/// The edits of a line of words; none where a text is no word.
+fn edits_of(alloc: Global, line: &str) -> Result<Option<Vec<Edit>>, Fail> {
+    let mut words = Vec::new(alloc);
+    for text in line.split(' ') {
+        match parse_edit(alloc, text) {
+            Ok(word) => words.push(word)?,
+            Err(_) => return Ok(None),
+        }
+    }
+    Ok(Some(words))
+}
+
 /// What a line of words makes on a disk of so many sectors, or the number of the refusal; 99 for no words.
 fn made<const B: usize>(
     alloc: Global,
@@ -38,16 +50,12 @@ fn made<const B: usize>(
     requires size { IsSectorSize B }
     requires same { IfSome old (λ o. o.now.sectors ≡ sectors) }
 {
-    let mut words = Vec::new(alloc);
-    for text in line.split(' ') {
-        match parse_edit(alloc, text) {
-            Ok(word) => words.push(word)?,
-            Err(_) => return Ok(Err(99)),
-        }
-    }
-    match edit::<B>(alloc, old, sectors, &words, guids) {
-        Ok(layout) => Ok(Ok(layout)),
-        Err(refusal) => Ok(Err(refusal.number())),
+    match edits_of(alloc, line)? {
+        Some(words) => match edit::<B>(alloc, old, sectors, &words, guids) {
+            Ok(layout) => Ok(Ok(layout)),
+            Err(refusal) => Ok(Err(refusal.number())),
+        },
+        None => Ok(Err(99)),
     }
 }
 
@@ -57,6 +65,18 @@ fn refusal(made: Result<Layout, u8>) -> u8 {
         Ok(_) => 0,
         Err(number) => number,
     }
+}
+
+/// The same of a line of words on a disk without a table.
+fn refused<const B: usize>(
+    alloc: Global,
+    sectors: u64,
+    line: &str,
+    guids: &[Guid],
+) -> Result<u8, Fail>
+    requires { IsSectorSize B }
+{
+    Ok(refusal(made::<B>(alloc, None, sectors, line, guids)?))
 }
 
 /// The entry of a number.
@@ -118,8 +138,7 @@ fn refusals_in_a_gpt(rt: HostRuntime) -> Result<(), Fail> {
         ("d:1", 9),
         ("a:8", 9),
     ] {
-        let made = made::<512>(rt.alloc(), None, 4096, line, &FRESH)?;
-        assert!(rt; refusal(made) == number);
+        assert!(rt; refused::<512>(rt.alloc(), 4096, line, &FRESH)? == number);
     }
     Ok(())
 }
@@ -140,12 +159,11 @@ fn places_of_new_entries(rt: HostRuntime) -> Result<(), Fail> {
 
 #[test]
 fn places_in_sectors_of_4096_bytes(rt: HostRuntime) -> Result<(), Fail> {
-    let none = made::<4096>(rt.alloc(), None, 256, ONE, &FRESH)?;
-    assert!(rt; refusal(none) == 3);
-    let one = made::<4096>(rt.alloc(), None, 256, "o a:1 n:1:0:0:A500 t:1:8200", &FRESH)?;
+    let line = "o a:1 n:1:0:0:A500 t:1:8200";
+    let one = made::<4096>(rt.alloc(), None, 256, line, &FRESH)?;
     assert!(rt; span(one, 1) == Some((6, 250)));
-    let small = made::<4096>(rt.alloc(), None, 11, "o", &FRESH)?;
-    assert!(rt; refusal(small) == 12);
+    assert!(rt; refused::<4096>(rt.alloc(), 256, ONE, &FRESH)? == 3);
+    assert!(rt; refused::<4096>(rt.alloc(), 11, "o", &FRESH)? == 12);
     Ok(())
 }
 
@@ -167,62 +185,88 @@ fn one_entry_changes(rt: HostRuntime) -> Result<(), Fail> {
     Ok(())
 }
 
+/// An empty GPT for 4096 sectors, on 8192.
+fn grown(alloc: Global) -> Result<Option<Layout>, Fail>
+    ensures { IfOk result (λ o. IfSome o (λ l. l.sectors ≡ 8192)) }
+{
+    match made::<512>(alloc, None, 4096, "o", &FRESH)? {
+        Ok(old) => Ok(Some(Layout {
+            sectors: 8192,
+            body: old.body,
+            labels: old.labels,
+        })),
+        Err(_) => Ok(None),
+    }
+}
+
+/// The usable sectors and the GUID of a table.
+fn table_of(made: Result<Layout, u8>) -> Option<(u64, u64, Guid)> {
+    match made {
+        Ok(layout) => match &layout.body {
+            Body::Gpt(table) => Some((table.first, table.last, table.disk)),
+            Body::Mbr { .. } => None,
+        },
+        Err(_) => None,
+    }
+}
+
+/// What a line of words makes of that one's table.
+fn table_after(alloc: Global, line: &str) -> Result<Option<(u64, u64, Guid)>, Fail> {
+    match grown(alloc)? {
+        Some(old) => Ok(table_of(made::<512>(alloc, Some(&old), 8192, line, &[])?)),
+        None => Ok(None),
+    }
+}
+
 #[test]
 fn the_table_changes(rt: HostRuntime) -> Result<(), Fail> {
-    let old = match made::<512>(rt.alloc(), None, 4096, "o", &FRESH)? {
-        Ok(layout) => layout,
-        Err(_) => return Ok(()),
-    };
-    let grown = Layout {
-        sectors: 8192,
-        body: old.body,
-        labels: old.labels,
-    };
     let line = "e U:14141414-1414-1414-1414-141414141414";
-    match made::<512>(rt.alloc(), Some(&grown), 8192, line, &[])? {
-        Ok(layout) => match &layout.body {
-            Body::Gpt(table) => {
-                assert!(rt; (table.first, table.last) == (34, 8158));
-                assert!(rt; table.disk == Guid([0x14; 16]));
-            }
-            Body::Mbr { .. } => assert!(rt; false),
-        },
-        Err(_) => assert!(rt; false),
-    }
+    let table = table_after(rt.alloc(), line)?;
+    assert!(rt; table == Some((34, 8158, Guid([0x14; 16]))));
     Ok(())
 }
 
 #[test]
 fn fresh_guids(rt: HostRuntime) -> Result<(), Fail> {
     let line = "o n:1:0:0 a:1 n:2:0:0";
-    let one = made::<512>(rt.alloc(), None, 4096, line, &FRESH[..2])?;
-    assert!(rt; refusal(one) == 10);
+    assert!(rt; refused::<512>(rt.alloc(), 4096, line, &FRESH[..2])? == 10);
     let same = [FRESH[0], FRESH[1], FRESH[1]];
-    let twice = made::<512>(rt.alloc(), None, 4096, line, &same)?;
-    assert!(rt; refusal(twice) == 11);
-    let third = made::<512>(rt.alloc(), None, 4096, line, &FRESH)?;
-    match entry(third, 2) {
-        Some(entry) => assert!(rt; entry.unique == FRESH[2]),
-        None => assert!(rt; false),
-    }
+    assert!(rt; refused::<512>(rt.alloc(), 4096, line, &same)? == 11);
     Ok(())
 }
 
 #[test]
+fn the_third_guid_is_the_second_entry_s(rt: HostRuntime) -> Result<(), Fail> {
+    let line = "o n:1:0:0 a:1 n:2:0:0";
+    let third = made::<512>(rt.alloc(), None, 4096, line, &FRESH)?;
+    assert!(rt; entry(third, 2).map(|entry| entry.unique) == Some(FRESH[2]));
+    Ok(())
+}
+
+/// Whether a line of words makes a layout with just these labels.
+fn labels_are(
+    alloc: Global,
+    old: Option<&Layout>,
+    sectors: u64,
+    line: &str,
+    labels: &[Labelled],
+) -> Result<bool, Fail>
+    requires { IfSome old (λ o. o.now.sectors ≡ sectors) }
+{
+    match made::<512>(alloc, old, sectors, line, &FRESH)? {
+        Ok(layout) => Ok(layout.labels.as_slice() == labels),
+        Err(_) => Ok(false),
+    }
+}
+
+#[test]
 fn a_new_slice_has_a_label(rt: HostRuntime) -> Result<(), Fail> {
-    match made::<512>(rt.alloc(), None, 4096, "o n:1:0:0:A500", &FRESH)? {
-        Ok(layout) => {
-            let labels = layout.labels.into_vec();
-            assert!(rt; labels.len() == 1);
-            assert!(rt; labels[0].number == 1);
-            assert!(rt; labels[0].label == empty_label(2015));
-        }
-        Err(_) => assert!(rt; false),
-    }
-    match made::<512>(rt.alloc(), None, 4096, "o n:1:0:0:A500 d:1", &FRESH)? {
-        Ok(layout) => assert!(rt; layout.labels.into_vec().len() == 0),
-        Err(_) => assert!(rt; false),
-    }
+    let wanted = [Labelled {
+        number: 1,
+        label: empty_label(2015),
+    }];
+    assert!(rt; labels_are(rt.alloc(), None, 4096, "o n:1:0:0:A500", &wanted)?);
+    assert!(rt; labels_are(rt.alloc(), None, 4096, "o n:1:0:0:A500 d:1", &[])?);
     Ok(())
 }
 
@@ -240,9 +284,14 @@ fn empty_mbr(alloc: Global, sectors: u64) -> Layout
     }
 }
 
+/// The number of the refusal of a line of words on that disk.
+fn refused_on_mbr(alloc: Global, sectors: u64, line: &str, guids: &[Guid]) -> Result<u8, Fail> {
+    let old = empty_mbr(alloc, sectors);
+    Ok(refusal(made::<512>(alloc, Some(&old), sectors, line, guids)?))
+}
+
 #[test]
 fn an_mbr_becomes_a_gpt(rt: HostRuntime) -> Result<(), Fail> {
-    let old = empty_mbr(rt.alloc(), 4096);
     for (line, number) in [
         ("n:1:2048:4063 g", 12),
         ("n:1:2048:4062 g", 0),
@@ -252,15 +301,19 @@ fn an_mbr_becomes_a_gpt(rt: HostRuntime) -> Result<(), Fail> {
         ("t:1.a:07", 1),
         ("n:1:2048:0:8300", 6),
     ] {
-        let made = made::<512>(rt.alloc(), Some(&old), 4096, line, &FRESH[..3])?;
-        assert!(rt; refusal(made) == number);
+        assert!(rt; refused_on_mbr(rt.alloc(), 4096, line, &FRESH[..3])? == number);
     }
     Ok(())
 }
 
+/// The first and the last sector of the partition of a number, where that disk has 16384 sectors.
+fn span_on_mbr(alloc: Global, line: &str, number: u64) -> Result<Option<(u128, u128)>, Fail> {
+    let old = empty_mbr(alloc, 16384);
+    Ok(span(made::<512>(alloc, Some(&old), 16384, line, &[])?, number))
+}
+
 #[test]
 fn partitions_of_an_mbr(rt: HostRuntime) -> Result<(), Fail> {
-    let old = empty_mbr(rt.alloc(), 16384);
     for (line, number, wanted) in [
         ("n:0:2048:4095 n:0:0:0", 2, Some((4096, 16383))),
         ("n:2:4096:12287:05 n:5:0:+1000", 5, Some((6144, 7143))),
@@ -282,59 +335,73 @@ fn partitions_of_an_mbr(rt: HostRuntime) -> Result<(), Fail> {
         ("n:2:4096:12287:05 n:5:0:+1000 d:2", 5, None),
         ("n:2:4096:12287:05 n:5:0:+1000 n:6:0:+1000", 5, None),
     ] {
-        let made = made::<512>(rt.alloc(), Some(&old), 16384, line, &[])?;
-        assert!(rt; span(made, number) == wanted);
+        assert!(rt; span_on_mbr(rt.alloc(), line, number)? == wanted);
     }
     Ok(())
+}
+
+/// The one label of a layout.
+fn one_label(made: Result<Layout, u8>) -> Option<Label> {
+    match made {
+        Ok(layout) => match layout.labels.as_slice() {
+            [one] => Some(one.label),
+            _ => None,
+        },
+        Err(_) => None,
+    }
+}
+
+/// A partition of this size, offset and type.
+fn part(size: u32, offset: u32, fstype: u8) -> LabelEntry {
+    LabelEntry {
+        size,
+        offset,
+        fragment: 0,
+        fstype,
+        frag: 0,
+        cpg: 0,
+    }
 }
 
 #[test]
 fn partitions_of_a_label(rt: HostRuntime) -> Result<(), Fail> {
     let old = empty_mbr(rt.alloc(), 8192);
     let line = "n:1:2048:6143:A5 a:1 n:1.b:2064:4063 t:1.b:01";
-    match made::<512>(rt.alloc(), Some(&old), 8192, line, &[])? {
-        Ok(layout) => {
-            let labels = layout.labels.into_vec();
-            assert!(rt; labels.len() == 1);
-            let part = LabelEntry {
-                size: 2000,
-                offset: 16,
-                fragment: 0,
-                fstype: 1,
-                frag: 0,
-                cpg: 0,
-            };
-            assert!(rt; labels[0].label.entries[1] == Some(part));
-        }
-        Err(_) => assert!(rt; false),
-    }
+    let label = one_label(made::<512>(rt.alloc(), Some(&old), 8192, line, &[])?);
+    assert!(rt; label.map(|label| label.entries[1]) == Some(Some(part(2000, 16, 1))));
     Ok(())
+}
+
+const HUGE: u64 = 8589934592;
+
+/// A disk with one slice from 4294967290 on, of 1,001 sectors, whose label has absolute offsets.
+fn with_absolute(alloc: Global) -> Result<Option<Layout>, Fail>
+    ensures { IfOk result (λ o. IfSome o (λ l. l.sectors ≡ 8589934592)) }
+{
+    let line = "o a:1 n:1:4294967290:+1001:A500";
+    let Ok(layout) = made::<512>(alloc, None, HUGE, line, &FRESH)? else {
+        return Ok(None);
+    };
+    let mut labels = layout.labels.into_vec();
+    if labels.len() != 1 {
+        return Ok(None);
+    }
+    labels[0].label.entries[2] = Some(part(1001, 4294967290, 0));
+    Ok(Some(Layout {
+        sectors: HUGE,
+        body: layout.body,
+        labels: Labels::new(labels),
+    }))
 }
 
 #[test]
 fn offsets_of_a_label(rt: HostRuntime) -> Result<(), Fail> {
-    let line = "o a:1 n:1:4294967290:+1001:A500";
-    match made::<512>(rt.alloc(), None, 8589934592, line, &FRESH)? {
-        Ok(layout) => {
-            let mut labels = layout.labels.into_vec();
-            assert!(rt; labels.len() == 1);
-            labels[0].label.entries[2] = Some(LabelEntry {
-                size: 1001,
-                offset: 4294967290,
-                fragment: 0,
-                fstype: 0,
-                frag: 0,
-                cpg: 0,
-            });
-            let old = Layout {
-                sectors: 8589934592,
-                body: layout.body,
-                labels: Labels::new(labels),
-            };
-            let new = made::<512>(rt.alloc(), Some(&old), 8589934592, "a:1 n:1.a:0:0", &[])?;
+    match with_absolute(rt.alloc())? {
+        Some(old) => {
+            let new = made::<512>(rt.alloc(), Some(&old), HUGE, "a:1 n:1.a:0:0", &[])?;
             assert!(rt; refusal(new) == 15);
         }
-        Err(_) => assert!(rt; false),
+        None => assert!(rt; false),
     }
     Ok(())
 }

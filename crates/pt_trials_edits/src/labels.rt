@@ -129,17 +129,28 @@ fn asked(start: u64, end: End, code: Option<Code>) -> Asked {
     }
 }
 
+/// Whether a new partition makes `wanted` of a label of 4096 sectors.
+fn becomes(
+    alloc: Global,
+    old: Label,
+    letter: u8,
+    asked: &Asked,
+    wanted: Label,
+) -> Result<bool, Fail> {
+    let wanted = mbr(alloc, 4096, Some(wanted))?;
+    let old = mbr(alloc, 4096, Some(old))?;
+    Ok(is(new_part::<512>(alloc, old, letter, asked), &wanted))
+}
+
 /// Whether partition a from 2064 to 4063 and then b from 4064 on of 1,000 sectors get these offsets.
 fn places_at(alloc: Global, base: u32, offsets: [u32; 2]) -> Result<bool, Fail> {
     let empty = based_at(4096, base);
-    let a = part(2000, offsets[0]);
-    let one = with_parts(empty, a, UNUSED);
-    let two = with_parts(empty, a, part(1000, offsets[1]));
+    let first = part(2000, offsets[0]);
+    let one = with_parts(empty, first, UNUSED);
+    let two = with_parts(empty, first, part(1000, offsets[1]));
     let a = asked(2064, End::At(4063), None);
-    let first = new_part::<512>(alloc, mbr(alloc, 4096, Some(empty))?, A, &a);
     let b = asked(4064, End::Length(1000), Some(Code::Two(7)));
-    let second = new_part::<512>(alloc, mbr(alloc, 4096, Some(one))?, B, &b);
-    Ok(is(first, &mbr(alloc, 4096, Some(one))?) && is(second, &mbr(alloc, 4096, Some(two))?))
+    Ok(becomes(alloc, empty, A, &a, one)? && becomes(alloc, one, B, &b, two)?)
 }
 
 #[test]
@@ -157,9 +168,24 @@ fn refused(old: Layout, alloc: Global, letter: u8, start: u64, end: End) -> u8 {
     }
 }
 
+/// The same in a slice of an MBR of this size, with this label.
+fn refused_in(
+    alloc: Global,
+    (size, label): (u32, Option<Label>),
+    letter: u8,
+    start: u64,
+    end: End,
+) -> Result<u8, Fail> {
+    let old = mbr(alloc, size, label)?;
+    Ok(refused(old, alloc, letter, start, end))
+}
+
 #[test]
 fn refusals_of_new_parts(rt: HostRuntime) -> Result<(), Fail> {
-    let one = with_parts(empty_label(4096), part(2000, 16), UNUSED);
+    let slice = (
+        4096,
+        Some(with_parts(empty_label(4096), part(2000, 16), UNUSED)),
+    );
     let rows = [
         (A, 0, End::Block, 2),
         (B, 0, End::Block, 0),
@@ -171,68 +197,69 @@ fn refusals_of_new_parts(rt: HostRuntime) -> Result<(), Fail> {
         (8, 4064, End::Block, 1),
     ];
     for (letter, start, end, number) in rows {
-        let old = mbr(rt.alloc(), 4096, Some(one))?;
-        assert!(rt; refused(old, rt.alloc(), letter, start, end) == number);
+        assert!(rt; refused_in(rt.alloc(), slice, letter, start, end)? == number);
     }
-    let foreign = mbr(rt.alloc(), 4096, None)?;
-    assert!(rt; refused(foreign, rt.alloc(), C, 0, End::Block) == 13);
+    assert!(rt; refused_in(rt.alloc(), (4096, None), C, 0, End::Block)? == 13);
     Ok(())
 }
 
 #[test]
 fn slices_without_room(rt: HostRuntime) -> Result<(), Fail> {
     for size in [2, 16] {
-        let old = mbr(rt.alloc(), size, Some(empty_label(size)))?;
-        assert!(rt; refused(old, rt.alloc(), A, 0, End::Block) == 3);
-        let old = mbr(rt.alloc(), size, Some(empty_label(size)))?;
-        assert!(rt; refused(old, rt.alloc(), A, 2064, End::Block) == 4);
+        let slice = (size, Some(empty_label(size)));
+        assert!(rt; refused_in(rt.alloc(), slice, A, 0, End::Block)? == 3);
+        assert!(rt; refused_in(rt.alloc(), slice, A, 2064, End::Block)? == 4);
     }
     Ok(())
 }
 
 #[test]
-fn offsets_past_32_bits(rt: HostRuntime) -> Result<(), Fail> {
+fn an_absolute_offset_past_32_bits(rt: HostRuntime) -> Result<(), Fail> {
     let absolute = gpt(rt.alloc(), based_at(1000, 4294967200))?;
     assert!(rt; refused(absolute, rt.alloc(), A, 4294967300, End::Length(10)) == 15);
-
-    let empty = empty_label(1000);
-    let relative = gpt(rt.alloc(), empty)?;
-    let asked = asked(4294967300, End::Length(10), None);
-    let made = new_part::<512>(rt.alloc(), relative, A, &asked);
-    assert!(rt;
-        is(
-            made,
-            &gpt(rt.alloc(), with_parts(empty, part(10, 100), UNUSED))?
-        )
-    );
     Ok(())
 }
 
 #[test]
-fn types_and_deletions(rt: HostRuntime) -> Result<(), Fail> {
-    let empty = empty_label(4096);
-    let one = with_parts(empty, part(2000, 16), UNUSED);
+fn a_relative_offset_past_them(rt: HostRuntime) -> Result<(), Fail> {
+    let empty = empty_label(1000);
+    let wanted = gpt(rt.alloc(), with_parts(empty, part(10, 100), UNUSED))?;
+    let asked = asked(4294967300, End::Length(10), None);
+    let made = new_part::<512>(rt.alloc(), gpt(rt.alloc(), empty)?, A, &asked);
+    assert!(rt; is(made, &wanted));
+    Ok(())
+}
+
+/// A slice of 4096 sectors whose label has one partition.
+fn with_one(alloc: Global) -> Result<Layout, Fail> {
+    let label = with_parts(empty_label(4096), part(2000, 16), UNUSED);
+    mbr(alloc, 4096, Some(label))
+}
+
+#[test]
+fn another_type(rt: HostRuntime) -> Result<(), Fail> {
     let swap = LabelEntry {
         fstype: 1,
         ..part(2000, 16)
     };
-    let old = mbr(rt.alloc(), 4096, Some(one))?;
-    let typed = set_part_kind::<512>(old, 1, A, &Code::Two(1));
-    assert!(rt;
-        is(
-            typed,
-            &mbr(rt.alloc(), 4096, Some(with_parts(empty, swap, UNUSED)))?
-        )
-    );
-    let old = mbr(rt.alloc(), 4096, Some(one))?;
-    assert!(rt;
-        is(
-            delete_part::<512>(old, 1, A),
-            &mbr(rt.alloc(), 4096, Some(empty))?
-        )
-    );
-    let old = mbr(rt.alloc(), 4096, Some(one))?;
-    assert!(rt; delete_part::<4096>(old, 1, A).is_err());
+    let label = with_parts(empty_label(4096), swap, UNUSED);
+    let wanted = mbr(rt.alloc(), 4096, Some(label))?;
+    let typed = set_part_kind::<512>(with_one(rt.alloc())?, 1, A, &Code::Two(1));
+    assert!(rt; is(typed, &wanted));
+    Ok(())
+}
+
+#[test]
+fn deletions(rt: HostRuntime) -> Result<(), Fail> {
+    let wanted = mbr(rt.alloc(), 4096, Some(empty_label(4096)))?;
+    let left = delete_part::<512>(with_one(rt.alloc())?, 1, A);
+    assert!(rt; is(left, &wanted));
+    Ok(())
+}
+
+#[test]
+fn no_deletion_in_sectors_of_4096_bytes(rt: HostRuntime) -> Result<(), Fail> {
+    assert!(rt; delete_part::<4096>(with_one(rt.alloc())?, 1, A).is_err());
     Ok(())
 }
 
@@ -248,15 +275,33 @@ fn numbered(alloc: Global, numbers: &[u64]) -> Result<Labels, Fail> {
     Ok(Labels::new(labels))
 }
 
+/// Whether they are those of slices of these numbers.
+fn are(alloc: Global, labels: Labels, numbers: &[u64]) -> Result<bool, Fail> {
+    Ok(labels.same(&numbered(alloc, numbers)?))
+}
+
 #[test]
-fn lists_of_labels(rt: HostRuntime) -> Result<(), Fail> {
-    let old = numbered(rt.alloc(), &[1, 5, 7])?;
-    let made = add_label(rt.alloc(), old, 6, &empty_label(20))?;
-    assert!(rt; made.same(&numbered(rt.alloc(), &[1, 5, 6, 7])?));
-    let made = put_label(raise_labels(made, 6), 8, &empty_label(20));
-    assert!(rt; made.same(&numbered(rt.alloc(), &[1, 5, 7, 8])?));
-    let made = lower_labels(made, 5);
-    assert!(rt; made.same(&numbered(rt.alloc(), &[1, 6, 7])?));
-    assert!(rt; drop_logical_labels(made).same(&numbered(rt.alloc(), &[1])?));
+fn a_label_is_added(rt: HostRuntime) -> Result<(), Fail> {
+    let alloc = rt.alloc();
+    let made = add_label(alloc, numbered(alloc, &[1, 5, 7])?, 6, &empty_label(20))?;
+    assert!(rt; are(alloc, made, &[1, 5, 6, 7])?);
+    Ok(())
+}
+
+#[test]
+fn labels_are_raised_and_put(rt: HostRuntime) -> Result<(), Fail> {
+    let alloc = rt.alloc();
+    let raised = raise_labels(numbered(alloc, &[1, 5, 6, 7])?, 6);
+    assert!(rt; are(alloc, put_label(raised, 8, &empty_label(20)), &[1, 5, 7, 8])?);
+    Ok(())
+}
+
+#[test]
+fn labels_are_lowered_and_dropped(rt: HostRuntime) -> Result<(), Fail> {
+    let alloc = rt.alloc();
+    let lowered = lower_labels(numbered(alloc, &[1, 5, 7, 8])?, 5);
+    assert!(rt; are(alloc, lowered, &[1, 6, 7])?);
+    let dropped = drop_logical_labels(numbered(alloc, &[1, 6, 7])?);
+    assert!(rt; are(alloc, dropped, &[1])?);
     Ok(())
 }

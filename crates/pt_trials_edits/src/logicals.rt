@@ -77,18 +77,39 @@ fn cut(alloc: Global, chain: &[Ebr], labels: &[Labelled], number: u64) -> Result
 }
 
 /// Whether an edit gives these.
-fn gives(edited: &Edited, chain: &[Ebr], labels: &[Labelled]) -> bool {
+fn gives(edited: &Edited, (chain, labels): (&[Ebr], &[Labelled])) -> bool {
     match edited {
         Ok((made, left)) => made.as_slice() == chain && left.as_slice() == labels,
         Err(_) => false,
     }
 }
 
-fn refused(edited: &Edited, wanted: Refusal) -> bool {
-    match edited {
-        Ok(_) => false,
-        Err(refusal) => *refusal == wanted,
-    }
+/// Whether the new partition makes this of that.
+fn put_gives(
+    alloc: Global,
+    (chain, labels): (&[Ebr], &[Labelled]),
+    asked: (u64, End, u8),
+    wanted: (&[Ebr], &[Labelled]),
+) -> Result<bool, Fail> {
+    Ok(gives(&put(alloc, chain, labels, asked)?, wanted))
+}
+
+/// Whether partition 5 taken away makes this of that.
+fn cut_gives(
+    alloc: Global,
+    (chain, labels): (&[Ebr], &[Labelled]),
+    wanted: (&[Ebr], &[Labelled]),
+) -> Result<bool, Fail> {
+    Ok(gives(&cut(alloc, chain, labels, 5)?, wanted))
+}
+
+/// What a new partition is refused with; none where it is made.
+fn put_refused(
+    alloc: Global,
+    chain: &[Ebr],
+    asked: (u64, End, u8),
+) -> Result<Option<Refusal>, Fail> {
+    Ok(put(alloc, chain, &[], asked)?.err())
 }
 
 /// A partition in the largest free block, and one where an empty record stands.
@@ -106,9 +127,9 @@ fn creation(alloc: Global) -> Result<bool, Fail> {
     ];
     let thousand = End::Length(1000);
     Ok(
-        gives(&put(alloc, &old, &[], (0, thousand, 0x83))?, &two, &[])
-            && gives(&cut(alloc, &two, &[], 5)?, &one, &[])
-            && gives(&put(alloc, &one, &[], (6144, thousand, 0x83))?, &two, &[]),
+        put_gives(alloc, (&old, &[]), (0, thousand, 0x83), (&two, &[]))?
+            && cut_gives(alloc, (&two, &[]), (&one, &[]))?
+            && put_gives(alloc, (&one, &[]), (6144, thousand, 0x83), (&two, &[]))?,
     )
 }
 
@@ -129,45 +150,24 @@ fn numbering(alloc: Global) -> Result<bool, Fail> {
     let labels = [labelled(5, 1000), labelled(6, 7)];
     let place = (6144, End::Length(1000), 0xA5);
     Ok(
-        gives(&put(alloc, &one, &label, place)?, &two, &labels)
-            && gives(&cut(alloc, &two, &labels, 5)?, &gone, &label),
-    )
-}
-
-fn refusals(alloc: Global) -> Result<bool, Fail> {
-    let old = [empty(4096, Some(Lba(6143))), used(6143, 0x83, None)];
-    let block = End::Block;
-    Ok(
-        refused(
-            &put(alloc, &old, &[], (0, block, 0x0F))?,
-            Refusal::ContainerType,
-        ) && refused(&put(alloc, &old, &[], (0, block, 0))?, Refusal::UnknownCode)
-            && refused(
-                &put(alloc, &old, &[], (8192, End::Length(1), 0xA5))?,
-                Refusal::ContainerType,
-            )
-            && refused(
-                &put(alloc, &old, &[], (6144, block, 0x83))?,
-                Refusal::Overlap,
-            )
-            && refused(&cut(alloc, &old, &[], 6)?, Refusal::NoSuchPartition),
+        put_gives(alloc, (&one, &label), place, (&two, &labels))?
+            && cut_gives(alloc, (&two, &labels), (&gone, &label))?,
     )
 }
 
 /// A chain of 128, which takes partitions only where an empty record stands.
-fn full_chain(alloc: Global) -> Result<bool, Fail> {
+fn full_chain(alloc: Global) -> Result<Vec<Ebr>, Fail> {
     let mut chain = Vec::new(alloc);
     for at in 6016..6144u64 {
         chain.push(empty(at, None))?;
     }
-    let thousand = End::Length(1000);
-    let taken = put(alloc, &chain, &[], (6144, thousand, 0x83))?;
-    Ok(
-        refused(
-            &put(alloc, &chain, &[], (8192, thousand, 0x83))?,
-            Refusal::NoSpace,
-        ) && taken.is_ok(),
-    )
+    Ok(chain)
+}
+
+/// What a new partition of 1,000 sectors from here on is refused with there.
+fn full_refused(alloc: Global, start: u64) -> Result<Option<Refusal>, Fail> {
+    let chain = full_chain(alloc)?;
+    put_refused(alloc, &chain, (start, End::Length(1000), 0x83))
 }
 
 /// Another type.
@@ -193,13 +193,24 @@ fn labels_move(rt: HostRuntime) -> Result<(), Fail> {
 
 #[test]
 fn refused_ones(rt: HostRuntime) -> Result<(), Fail> {
-    assert!(rt; refusals(rt.alloc())?);
+    let alloc = rt.alloc();
+    let old = [empty(4096, Some(Lba(6143))), used(6143, 0x83, None)];
+    for (asked, refusal) in [
+        ((0, End::Block, 0x0F), Refusal::ContainerType),
+        ((0, End::Block, 0), Refusal::UnknownCode),
+        ((8192, End::Length(1), 0xA5), Refusal::ContainerType),
+        ((6144, End::Block, 0x83), Refusal::Overlap),
+    ] {
+        assert!(rt; put_refused(alloc, &old, asked)? == Some(refusal));
+    }
+    assert!(rt; cut(alloc, &old, &[], 6)?.err() == Some(Refusal::NoSuchPartition));
     Ok(())
 }
 
 #[test]
 fn at_most_128(rt: HostRuntime) -> Result<(), Fail> {
-    assert!(rt; full_chain(rt.alloc())?);
+    assert!(rt; full_refused(rt.alloc(), 8192)? == Some(Refusal::NoSpace));
+    assert!(rt; full_refused(rt.alloc(), 6144)? == None);
     Ok(())
 }
 

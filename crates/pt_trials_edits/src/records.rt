@@ -70,6 +70,11 @@ fn not_typed(alloc: Global, number: u64, code: Code) -> Result<Option<Refusal>, 
     Ok(set_kind::<512>(three(alloc)?, number, &code).err())
 }
 
+/// Whether a word made just this disk.
+fn is(made: Result<Layout, Refusal>, wanted: MbrParts) -> bool {
+    made.is_ok_and(|made| made.same(&wanted.whole()))
+}
+
 #[test]
 fn another_type_alone(rt: HostRuntime) -> Result<(), Fail> {
     let mut wanted = three(rt.alloc())?;
@@ -80,21 +85,29 @@ fn another_type_alone(rt: HostRuntime) -> Result<(), Fail> {
         Some(record(0x07, 12288, 4096)),
     ];
     let made = set_kind::<512>(three(rt.alloc())?, 4, &Code::Two(0x07));
-    assert!(rt; made.is_ok_and(|made| made.same(&wanted.whole())));
+    assert!(rt; is(made, wanted));
     Ok(())
 }
 
 #[test]
 fn refused_types(rt: HostRuntime) -> Result<(), Fail> {
-    let alloc = rt.alloc();
-    for kind in [0x00, 0xEE] {
-        assert!(rt; not_typed(alloc, 1, Code::Two(kind))? == Some(Refusal::UnknownCode));
+    for (number, code, refusal) in [
+        (1, Code::Two(0x00), Refusal::UnknownCode),
+        (1, Code::Two(0xEE), Refusal::UnknownCode),
+        (4, Code::Four(0x8300), Refusal::UnknownCode),
+        (1, Code::Two(0x05), Refusal::ContainerType),
+        (5, Code::Two(0x83), Refusal::ContainerType),
+    ] {
+        assert!(rt; not_typed(rt.alloc(), number, code)? == Some(refusal));
     }
-    assert!(rt; not_typed(alloc, 4, Code::Four(0x8300))? == Some(Refusal::UnknownCode));
-    assert!(rt; not_typed(alloc, 1, Code::Two(0x05))? == Some(Refusal::ContainerType));
-    assert!(rt; not_typed(alloc, 5, Code::Two(0x83))? == Some(Refusal::ContainerType));
+    Ok(())
+}
+
+#[test]
+fn types_of_no_partition(rt: HostRuntime) -> Result<(), Fail> {
+    let code = Code::Two(0x83);
     for number in [0, 3, 6] {
-        assert!(rt; not_typed(alloc, number, Code::Two(0x83))? == Some(Refusal::NoSuchPartition));
+        assert!(rt; not_typed(rt.alloc(), number, code)? == Some(Refusal::NoSuchPartition));
     }
     Ok(())
 }
@@ -109,7 +122,12 @@ fn an_extended_partition_goes_with_its_chain(rt: HostRuntime) -> Result<(), Fail
     ];
     let wanted = parts(rt.alloc(), records, &[], &[labelled(1, 2048)])?;
     let made = delete(three(rt.alloc())?, 2);
-    assert!(rt; made.is_ok_and(|made| made.same(&wanted.whole())));
+    assert!(rt; is(made, wanted));
+    Ok(())
+}
+
+#[test]
+fn an_unused_number_has_no_partition(rt: HostRuntime) -> Result<(), Fail> {
     assert!(rt; delete(three(rt.alloc())?, 3).err() == Some(Refusal::NoSuchPartition));
     Ok(())
 }
@@ -171,7 +189,7 @@ fn make(
     match parts_of(made) {
         Some(old) => {
             let made = new::<512>(alloc, old, &asked(then));
-            Ok(made.is_ok_and(|made| made.same(&wanted.whole())))
+            Ok(is(made, wanted))
         }
         None => Ok(false),
     }
@@ -249,14 +267,17 @@ fn not_new(
 
 #[test]
 fn refused_partitions(rt: HostRuntime) -> Result<(), Fail> {
-    let alloc = rt.alloc();
-    let end = End::Block;
-    assert!(rt; not_new(alloc, false, 6, end, Code::Two(0x83))? == Some(Refusal::NoSuchPartition));
-    assert!(rt; not_new(alloc, true, 5, end, Code::Two(0x83))? == Some(Refusal::NoSuchPartition));
-    assert!(rt; not_new(alloc, false, 1, end, Code::Four(0x8300))? == Some(Refusal::NumberTaken));
-    assert!(rt; not_new(alloc, true, 0, end, Code::Four(0x8300))? == Some(Refusal::NoSpace));
-    assert!(rt; not_new(alloc, false, 0, end, Code::Four(0x8300))? == Some(Refusal::UnknownCode));
-    assert!(rt; not_new(alloc, false, 3, end, Code::Two(0x0F))? == Some(Refusal::ContainerType));
-    assert!(rt; not_new(alloc, false, 3, end, Code::Two(0x83))? == Some(Refusal::Overlap));
+    for (full, number, code, refusal) in [
+        (false, 6, Code::Two(0x83), Refusal::NoSuchPartition),
+        (true, 5, Code::Two(0x83), Refusal::NoSuchPartition),
+        (false, 1, Code::Four(0x8300), Refusal::NumberTaken),
+        (true, 0, Code::Four(0x8300), Refusal::NoSpace),
+        (false, 0, Code::Four(0x8300), Refusal::UnknownCode),
+        (false, 3, Code::Two(0x0F), Refusal::ContainerType),
+        (false, 3, Code::Two(0x83), Refusal::Overlap),
+    ] {
+        let refused = not_new(rt.alloc(), full, number, End::Block, code)?;
+        assert!(rt; refused == Some(refusal));
+    }
     Ok(())
 }

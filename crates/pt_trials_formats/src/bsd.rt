@@ -1,11 +1,13 @@
 //! Labels with known checksums.
 
 ghost use Rattle.std.specs.Prelude.{◌<◌};
+ghost use Rattle.pt_sector.specs.Sectors.{IsSectorSize};
 
 use pt_bsd::{
     Form, Label, LabelEntry, LabelError, bears_magic, decode_label, empty_label, encode_for,
     encode_label,
 };
+use pt_sector::Sector;
 
 // A file system's partition.
 fn partition(offset: u32, size: u32) -> LabelEntry {
@@ -41,16 +43,37 @@ fn changed(at: usize, bytes: [u8; 2], checksum: [u8; 2]) -> [u8; 512]
     sector
 }
 
+// The two bytes of a label's checksum, over bytes of this value.
+fn checksum<const B: usize>(label: &Label, under: u8) -> [u8; 2]
+    requires { IsSectorSize B }
+{
+    let sector: Sector<B> = encode_label(label, &[under; B]);
+    [sector[136], sector[137]]
+}
+
+// What is read of a label in a slice, over bytes of this value.
+fn read_back<const B: usize>(
+    label: &Label,
+    under: u8,
+    first: u64,
+    sectors: u64,
+) -> Result<Label, LabelError>
+    requires { IsSectorSize B }
+{
+    let sector: Sector<B> = encode_label(label, &[under; B]);
+    decode_label(&sector, first, sectors)
+}
+
 #[test]
 fn empty_labels_have_one_checksum(rt: HostRuntime) {
     for n in [0, 1, 4096, 4294967295] {
-        let small: [u8; 512] = encode_label(&empty_label(n), &[255; 512]);
-        assert!(rt; [small[136], small[137]] == [0x08, 0x22]);
-        assert!(rt; [small[275], small[276], small[511]] == [0, 255, 255]);
-        assert!(rt; decode_label(&small, 7, n as u64) == Ok(empty_label(n)));
-        let large: [u8; 4096] = encode_label(&empty_label(n), &[0; 4096]);
-        assert!(rt; [large[136], large[137]] == [0x08, 0x22]);
-        assert!(rt; decode_label(&large, 7, n as u64) == Ok(empty_label(n)));
+        let label = empty_label(n);
+        assert!(rt; checksum::<512>(&label, 255) == [0x08, 0x22]);
+        assert!(rt; read_back::<512>(&label, 255, 7, n as u64) == Ok(label));
+        assert!(rt; checksum::<4096>(&label, 0) == [0x08, 0x22]);
+        assert!(rt; read_back::<4096>(&label, 0, 7, n as u64) == Ok(label));
+        let sector: [u8; 512] = encode_label(&label, &[255; 512]);
+        assert!(rt; [sector[275], sector[276], sector[511]] == [0, 255, 255]);
     }
 }
 
@@ -66,44 +89,60 @@ fn three_entries(rt: HostRuntime) {
     assert!(rt; decode_label(&sector, 2048, 4096) == Ok(label));
 }
 
+// What is read of an empty label of 4096 sectors with other bytes.
+fn decoded(at: usize, bytes: [u8; 2], checksum: [u8; 2]) -> Result<Label, LabelError>
+    requires { at < 511 }
+{
+    decode_label(&changed(at, bytes, checksum), 2048, 4096)
+}
+
+#[test]
+fn labels_of_other_slices(rt: HostRuntime) {
+    let empty = empty_label(4096);
+    for sectors in [4097, 4294971392] {
+        let read = read_back::<512>(&empty, 0, 2048, sectors);
+        assert!(rt; read == Err(LabelError::RawPartition));
+    }
+}
+
 #[test]
 fn first_broken_rule(rt: HostRuntime) {
-    let empty = encode_label(&empty_label(4096), &[0u8; 512]);
-    assert!(rt; decode_label(&empty, 2048, 4097) == Err(LabelError::RawPartition));
-    assert!(rt; decode_label(&empty, 2048, 4294971392) == Err(LabelError::RawPartition));
     for count in [[2, 0], [9, 0], [255, 255]] {
-        assert!(rt;
-            decode_label(&changed(138, count, [0, 0]), 2048, 4096) == Err(LabelError::Count)
-        );
+        assert!(rt; decoded(138, count, [0, 0]) == Err(LabelError::Count));
     }
-    assert!(rt;
-        decode_label(&changed(40, [0, 8], [0x08, 0x28]), 2048, 4096) == Err(LabelError::SectorSize)
-    );
-    assert!(rt;
-        decode_label(&changed(132, [0x56, 0x45], [0x09, 0x22]), 2048, 4096)
-            == Err(LabelError::Magic)
-    );
-    assert!(rt;
-        decode_label(&changed(0, [0x56, 0x45], [0x09, 0x22]), 2048, 4096) == Err(LabelError::Magic)
-    );
-    assert!(rt;
-        decode_label(&changed(138, [8, 0], [0x09, 0x22]), 2048, 4096) == Err(LabelError::Checksum)
-    );
-    assert!(rt;
-        decode_label(&changed(138, [8, 0], [0x08, 0x22]), 2048, 4096) == Ok(empty_label(4096))
-    );
+    assert!(rt; decoded(40, [0, 8], [0x08, 0x28]) == Err(LabelError::SectorSize));
+    assert!(rt; decoded(132, [0x56, 0x45], [0x09, 0x22]) == Err(LabelError::Magic));
+    assert!(rt; decoded(0, [0x56, 0x45], [0x09, 0x22]) == Err(LabelError::Magic));
+    assert!(rt; decoded(138, [8, 0], [0x09, 0x22]) == Err(LabelError::Checksum));
+    assert!(rt; decoded(138, [8, 0], [0x08, 0x22]) == Ok(empty_label(4096)));
+}
+
+// A label of 4096 sectors with partitions of 2000 and of 1000 sectors, the second at this offset.
+fn with_two(mut label: Label, first: u32, second: u32) -> Label {
+    label.entries[0] = Some(partition(first, 2000));
+    label.entries[1] = Some(partition(second, 1000));
+    label
+}
+
+// The same without the second.
+fn with_one(mut label: Label, first: u32) -> Label {
+    label.entries[0] = Some(partition(first, 2000));
+    label
 }
 
 #[test]
 fn relative_label(rt: HostRuntime) {
-    let mut label = empty_label(4096);
-    label.entries[0] = Some(partition(16, 2000));
-    let first: [u8; 512] = encode_label(&label, &[0; 512]);
-    assert!(rt; [first[136], first[137]] == [0xCF, 0x25]);
-    label.entries[1] = Some(partition(2016, 1000));
-    let second: [u8; 512] = encode_label(&label, &first);
-    assert!(rt; [second[136], second[137]] == [0xC0, 0x21]);
-    assert!(rt; decode_label(&second, 2048, 4096) == Ok(label));
+    let one = with_one(empty_label(4096), 16);
+    assert!(rt; checksum::<512>(&one, 0) == [0xCF, 0x25]);
+    let two = with_two(empty_label(4096), 16, 2016);
+    let sector: [u8; 512] = encode_label(&two, &encode_label(&one, &[0; 512]));
+    assert!(rt; [sector[136], sector[137]] == [0xC0, 0x21]);
+    assert!(rt; decode_label(&sector, 2048, 4096) == Ok(two));
+}
+
+#[test]
+fn places_in_a_relative_label(rt: HostRuntime) {
+    let label = with_two(empty_label(4096), 16, 2016);
     assert!(rt; label.form() == Form::Relative);
     assert!(rt; label.entry_first(2048, &partition(2016, 1000)) == 4064);
     assert!(rt; label.entry_first(4294967296, &partition(4294967295, 1)) == 8589934591);
@@ -111,17 +150,18 @@ fn relative_label(rt: HostRuntime) {
 
 #[test]
 fn absolute_label(rt: HostRuntime) {
-    let mut label = absolute();
-    let empty: [u8; 512] = encode_label(&label, &[0; 512]);
-    assert!(rt; [empty[136], empty[137]] == [0x08, 0x2A]);
-    assert!(rt; decode_label(&empty, 2048, 4096) == Ok(label));
-    label.entries[0] = Some(partition(2064, 2000));
-    let first: [u8; 512] = encode_label(&label, &empty);
-    assert!(rt; [first[136], first[137]] == [0xCF, 0x25]);
-    label.entries[1] = Some(partition(4064, 1000));
-    let second: [u8; 4096] = encode_label(&label, &[0; 4096]);
-    assert!(rt; [second[136], second[137]] == [0xC0, 0x29]);
-    assert!(rt; decode_label(&second, 2048, 4096) == Ok(label));
+    let label = absolute();
+    assert!(rt; checksum::<512>(&label, 0) == [0x08, 0x2A]);
+    assert!(rt; read_back::<512>(&label, 0, 2048, 4096) == Ok(label));
+    let one: [u8; 512] = encode_label(&with_one(label, 2064), &encode_label(&label, &[0; 512]));
+    assert!(rt; [one[136], one[137]] == [0xCF, 0x25]);
+}
+
+#[test]
+fn partitions_of_an_absolute_label(rt: HostRuntime) {
+    let label = with_two(absolute(), 2064, 4064);
+    assert!(rt; checksum::<4096>(&label, 0) == [0xC0, 0x29]);
+    assert!(rt; read_back::<4096>(&label, 0, 2048, 4096) == Ok(label));
     assert!(rt; label.form() == Form::Absolute);
     assert!(rt; label.entry_first(2048, &partition(4064, 1000)) == 4064);
 }

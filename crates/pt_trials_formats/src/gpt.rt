@@ -1,6 +1,7 @@
-ghost use Rattle.std.specs.Prelude.{◌≡◌, ◌<◌, ◌≤◌, ◌+◌, ◌*◌, length};
+ghost use Rattle.std.specs.Prelude.{◌≡◌, ◌<◌, ◌≤◌, ◌+◌, ◌*◌, length, IfOk};
 ghost use Rattle.pt_sector.specs.Sectors.{IsSectorSize};
 ghost use Rattle.pt_gpt.specs.Array.{array_len};
+ghost use Rattle.pt_gpt.specs.Entry.{IsTyped};
 
 use pt_gpt::{
     CopyError, Entries, Entry, Header, Side, Table, array_at, array_crc, array_sectors,
@@ -114,26 +115,47 @@ fn begins(bytes: &[u8], front: &[u8]) -> bool {
     bytes.len() >= front.len() && &bytes[..front.len()] == front
 }
 
+/// Whether a side's copy of a table of three entries could be written to a disk of 128 sectors.
+fn put_side<const B: usize>(disk: &mut MemDisk<B>, side: Side, entries: &[Option<Entry>]) -> bool
+    requires { IsSectorSize B }
+{
+    let header = header_of::<B>(side, 128, entries, 3);
+    put_copy(disk, &header, entries)
+}
+
+/// A disk with both copies of a table; none where a write failed.
+fn with_copies<const B: usize>(
+    alloc: Global,
+    entries: &[Option<Entry>],
+) -> Result<Option<MemDisk<B>>, Fail>
+    requires { IsSectorSize B }
+{
+    let mut disk: MemDisk<B> = MemDisk::new(alloc, 128)?;
+    let primary = put_side(&mut disk, Side::Primary, entries);
+    let backup = put_side(&mut disk, Side::Backup, entries);
+    Ok(if primary && backup { Some(disk) } else { None })
+}
+
+/// Whether a table has the disk's GUID and these entries.
+fn has(table: &Table, entries: &[Option<Entry>]) -> bool {
+    table.disk == DISK
+        && table.entries.len() == entries.len()
+        && table.entries.as_slice() == entries
+}
+
 /// Whether both copies of a table are read back as they were written.
 fn copies_are_read<const B: usize>(alloc: Global) -> Result<bool, Fail>
     requires { IsSectorSize B }
 {
     let entries = [None, Some(partition(1, 70, 79)), Some(partition(2, 80, 80))];
-    let mut disk: MemDisk<B> = MemDisk::new(alloc, 128)?;
-    for side in [Side::Primary, Side::Backup] {
-        let header = header_of::<B>(side, 128, &entries, 3);
-        if !put_copy(&mut disk, &header, &entries) {
-            return Ok(false);
+    match with_copies::<B>(alloc, &entries)? {
+        Some(mut disk) => {
+            let primary = copy_of(alloc, &mut disk, Side::Primary)?;
+            let backup = copy_of(alloc, &mut disk, Side::Backup)?;
+            Ok(primary.same(&backup) && has(&primary, &entries))
         }
+        None => Ok(false),
     }
-    let primary = copy_of(alloc, &mut disk, Side::Primary)?;
-    let backup = copy_of(alloc, &mut disk, Side::Backup)?;
-    Ok(
-        primary.same(&backup)
-            && primary.disk == DISK
-            && primary.entries.len() == 3
-            && primary.entries.as_slice() == entries.as_slice(),
-    )
 }
 
 #[test]
@@ -156,7 +178,9 @@ const G_HEADER: &[u8; 92] =
 \x7f\x7f\x04\xc6";
 
 /// Its partition.
-fn g_entry() -> Entry {
+fn g_entry() -> Entry
+    ensures { IsTyped result }
+{
     Entry {
         kind: LINUX,
         unique: Guid([0, 0, 0, 0, 0, 0, 0, 0x40, 0x80, 0, 0, 0, 0, 0, 0, 0]),
@@ -175,25 +199,46 @@ fn g_entries() -> [Option<Entry>; 128]
     entries
 }
 
+fn g_header() -> Header {
+    header_of::<512>(Side::Primary, 4096, &g_entries(), 128)
+}
+
 #[test]
-fn bytes_that_other_programs_write(rt: HostRuntime) {
+fn sums_that_other_programs_write(rt: HostRuntime) {
     assert!(rt; array_crc(&[None; 128]) == 0xab54_d286);
-    let entries = g_entries();
-    assert!(rt; array_crc(&entries) == 0xc604_7f7f);
-    let header = header_of::<512>(Side::Primary, 4096, &entries, 128);
+    assert!(rt; array_crc(&g_entries()) == 0xc604_7f7f);
+}
+
+#[test]
+fn a_header_that_other_programs_write(rt: HostRuntime) {
+    let header = g_header();
     let sector: Sector<512> = encode_header(&header);
     assert!(rt; begins(&sector, G_HEADER));
     assert!(rt; decode_header(&sector) == Ok(header));
     assert!(rt; header_reads_back::<4096>(&header) == Ok(header));
+}
 
-    let entry = Entry {
+/// The same partition with half of a pair in each unit of its name.
+fn half_named() -> Entry
+    ensures { IsTyped result }
+{
+    Entry {
         name: [0xd83d; 36],
         ..g_entry()
-    };
-    let bytes = encode_entry(Some(&entry));
+    }
+}
+
+#[test]
+fn an_entry_that_other_programs_write(rt: HostRuntime) {
+    let bytes = encode_entry(Some(&half_named()));
     assert!(rt; &bytes[..16] == LINUX.0.as_slice());
     assert!(rt; &bytes[32..40] == [0, 8, 0, 0, 0, 0, 0, 0].as_slice());
     assert!(rt; &bytes[126..] == [0x3d, 0xd8].as_slice());
+}
+
+#[test]
+fn entries_are_read_back(rt: HostRuntime) {
+    let entry = half_named();
     assert!(rt; entry_reads_back(&entry) == Some(entry));
     assert!(rt; encode_entry(None) == [0; 128]);
     assert!(rt; decode_entry(&[0; 128]) == None);
@@ -211,13 +256,41 @@ fn primary_number(alloc: Global, header: &Header, size: Option<[u8; 4]>) -> Resu
     Ok(number_of(alloc, &mut disk))
 }
 
+/// The header of the primary copy of an empty table.
+fn good_header() -> Header {
+    header_of::<512>(Side::Primary, 4096, &[None; 128], 128)
+}
+
 #[test]
-fn headers_that_no_copy_has(rt: HostRuntime) -> Result<(), Fail> {
-    let good = header_of::<512>(Side::Primary, 4096, &[None; 128], 128);
+fn sizes_that_no_header_has(rt: HostRuntime) -> Result<(), Fail> {
+    let good = good_header();
     assert!(rt; primary_number(rt.alloc(), &good, None)? == 0);
     for size in [[91, 0, 0, 0], [1, 2, 0, 0], [0xff; 4]] {
         assert!(rt; primary_number(rt.alloc(), &good, Some(size))? == 3);
     }
+    Ok(())
+}
+
+#[test]
+fn counts_that_no_copy_has(rt: HostRuntime) -> Result<(), Fail> {
+    for count in [0, 129, u32::MAX] {
+        let header = Header {
+            count,
+            ..good_header()
+        };
+        assert!(rt; primary_number(rt.alloc(), &header, None)? == 7);
+    }
+    let header = Header {
+        entry_size: 256,
+        ..good_header()
+    };
+    assert!(rt; primary_number(rt.alloc(), &header, None)? == 7);
+    Ok(())
+}
+
+#[test]
+fn places_that_no_copy_has(rt: HostRuntime) -> Result<(), Fail> {
+    let good = good_header();
     let rows = [
         (Header { my: 2, ..good }, 5),
         (Header { array: 3, ..good }, 6),
@@ -228,38 +301,8 @@ fn headers_that_no_copy_has(rt: HostRuntime) -> Result<(), Fail> {
             },
             6,
         ),
-        (Header { count: 0, ..good }, 7),
-        (Header { count: 129, ..good }, 7),
-        (
-            Header {
-                count: u32::MAX,
-                ..good
-            },
-            7,
-        ),
-        (
-            Header {
-                entry_size: 256,
-                ..good
-            },
-            7,
-        ),
         (Header { first: 33, ..good }, 8),
         (Header { last: 4063, ..good }, 8),
-        (
-            Header {
-                alternate: 7,
-                ..good
-            },
-            0,
-        ),
-        (
-            Header {
-                array_crc: 0,
-                ..good
-            },
-            9,
-        ),
     ];
     for (header, want) in rows {
         assert!(rt; primary_number(rt.alloc(), &header, None)? == want);
@@ -268,27 +311,84 @@ fn headers_that_no_copy_has(rt: HostRuntime) -> Result<(), Fail> {
 }
 
 #[test]
-fn only_counted_bytes_count(rt: HostRuntime) -> Result<(), Fail> {
-    let entries = [
+fn fields_that_other_bytes_bear_out(rt: HostRuntime) -> Result<(), Fail> {
+    let other_alternate = Header {
+        alternate: 7,
+        ..good_header()
+    };
+    assert!(rt; primary_number(rt.alloc(), &other_alternate, None)? == 0);
+    let other_sum = Header {
+        array_crc: 0,
+        ..good_header()
+    };
+    assert!(rt; primary_number(rt.alloc(), &other_sum, None)? == 9);
+    Ok(())
+}
+
+fn three_entries() -> [Option<Entry>; 3] {
+    [
         Some(partition(1, 2048, 2050)),
         None,
         Some(partition(3, 34, 40)),
-    ];
-    let mut disk: MemDisk<512> = MemDisk::new(rt.alloc(), 4096)?;
+    ]
+}
+
+/// A disk with a primary copy of the three, and with a byte 1 in these places of its first array sector; none where a
+/// write failed.
+fn with_bytes(alloc: Global, places: &[usize]) -> Result<Option<MemDisk<512>>, Fail> {
+    let entries = three_entries();
+    let mut disk: MemDisk<512> = MemDisk::new(alloc, 4096)?;
     let header = header_of::<512>(Side::Primary, 4096, &entries, 3);
-    assert!(rt; put_copy(&mut disk, &header, &entries));
     let mut sector: Sector<512> = encode_array_sector(&entries, 0);
-    sector[384] = 1;
-    assert!(rt; put(&mut disk, 2, &sector));
-    let table = copy_of(rt.alloc(), &mut disk, Side::Primary)?;
-    assert!(rt; table.entries.as_slice() == entries.as_slice());
-    sector[383] = 1;
-    assert!(rt; put(&mut disk, 2, &sector));
-    assert!(rt; number_of(rt.alloc(), &mut disk) == 9);
-    let mut header_sector: Sector<512> = encode_header(&header);
-    header_sector[0] = 0;
-    assert!(rt; put(&mut disk, 1, &header_sector));
-    assert!(rt; number_of(rt.alloc(), &mut disk) == 1);
+    for place in places {
+        if *place < 512 {
+            sector[*place] = 1;
+        }
+    }
+    let done = put_copy(&mut disk, &header, &entries) && put(&mut disk, 2, &sector);
+    Ok(if done { Some(disk) } else { None })
+}
+
+/// Whether the three are read there.
+fn three_are_read(alloc: Global, places: &[usize]) -> Result<bool, Fail> {
+    match with_bytes(alloc, places)? {
+        Some(mut disk) => {
+            let table = copy_of(alloc, &mut disk, Side::Primary)?;
+            Ok(table.entries.as_slice() == three_entries().as_slice())
+        }
+        None => Ok(false),
+    }
+}
+
+/// The number that reading the copy tells there.
+fn number_with(alloc: Global, places: &[usize]) -> Result<Option<u8>, Fail> {
+    match with_bytes(alloc, places)? {
+        Some(mut disk) => Ok(Some(number_of(alloc, &mut disk))),
+        None => Ok(None),
+    }
+}
+
+/// The number that it tells there without a signature in the header; none where a write failed.
+fn number_without_signature(alloc: Global, places: &[usize]) -> Result<Option<u8>, Fail> {
+    let header = header_of::<512>(Side::Primary, 4096, &three_entries(), 3);
+    let mut sector: Sector<512> = encode_header(&header);
+    sector[0] = 0;
+    match with_bytes(alloc, places)? {
+        Some(mut disk) => {
+            let done = put(&mut disk, 1, &sector);
+            let number = number_of(alloc, &mut disk);
+            Ok(if done { Some(number) } else { None })
+        }
+        None => Ok(None),
+    }
+}
+
+#[test]
+fn only_counted_bytes_count(rt: HostRuntime) -> Result<(), Fail> {
+    let alloc = rt.alloc();
+    assert!(rt; three_are_read(alloc, &[384])?);
+    assert!(rt; number_with(alloc, &[384, 383])? == Some(9));
+    assert!(rt; number_without_signature(alloc, &[384, 383])? == Some(1));
     Ok(())
 }
 
@@ -314,23 +414,41 @@ fn a_failed_read_is_the_device_s(rt: HostRuntime) -> Result<(), Fail> {
     Ok(())
 }
 
-#[test]
-fn tables_are_copied_and_changed(rt: HostRuntime) -> Result<(), Fail> {
-    let mut items = Vec::new(rt.alloc());
-    items.push(Some(partition(1, 40, 50)))?;
-    items.push(None)?;
-    let table = Table {
+/// A table with one partition and room for another.
+fn small_table(alloc: Global) -> Result<Table, Fail>
+    ensures { IfOk result (λ t. length t.entries ≡ 2) }
+{
+    let items = Vec::from_slice(alloc, &[Some(partition(1, 40, 50)), None])?;
+    Ok(Table {
         disk: DISK,
         first: 34,
         last: 60,
         entries: Entries::new(items),
-    };
-    let mut other = table.copy(rt.alloc())?;
-    assert!(rt; other.same(&table));
+    })
+}
+
+#[test]
+fn tables_are_copied(rt: HostRuntime) -> Result<(), Fail> {
+    let table = small_table(rt.alloc())?;
+    assert!(rt; table.copy(rt.alloc())?.same(&table));
+    Ok(())
+}
+
+/// Of a copy with another second entry: whether it is the same table, that entry, and how many there are to go over and
+/// to take.
+fn changed_copy(alloc: Global) -> Result<(bool, Option<Entry>, usize, usize), Fail> {
+    let table = small_table(alloc)?;
+    let mut other = table.copy(alloc)?;
     other.entries.set(1, Some(partition(2, 51, 60)));
-    assert!(rt; !other.same(&table));
-    assert!(rt; other.entries.get(1) == Some(partition(2, 51, 60)));
-    assert!(rt; other.entries.iter().count() == 2);
-    assert!(rt; other.entries.into_vec().len() == 2);
+    let same = other.same(&table);
+    let second = other.entries.get(1);
+    let count = other.entries.iter().count();
+    Ok((same, second, count, other.entries.into_vec().len()))
+}
+
+#[test]
+fn tables_are_changed(rt: HostRuntime) -> Result<(), Fail> {
+    let changed = changed_copy(rt.alloc())?;
+    assert!(rt; changed == (false, Some(partition(2, 51, 60)), 2, 2));
     Ok(())
 }

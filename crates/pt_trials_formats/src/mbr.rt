@@ -124,31 +124,47 @@ fn write_chain<D: Disk<512>>(disk: &mut D, count: u32) -> Result<(), Fault>
     Ok(())
 }
 
+/// A disk with a chain of so many.
+fn disk_with_chain(alloc: Global, count: u32) -> Result<MemDisk<512>, Fail>
+    requires { count ≤ 129 }
+{
+    let mut disk: MemDisk<512> = MemDisk::new(alloc, 16384)?;
+    write_chain(&mut disk, count)?;
+    Ok(disk)
+}
+
 #[test]
-fn a_chain_has_128_at_most(rt: HostRuntime) -> Result<(), Fail> {
-    let mut disk: MemDisk<512> = MemDisk::new(rt.alloc(), 16384)?;
-    write_chain(&mut disk, 128)?;
+fn a_chain_may_have_128(rt: HostRuntime) -> Result<(), Fail> {
+    let mut disk = disk_with_chain(rt.alloc(), 128)?;
     let list = read_chain(&mut disk, extended());
     assert!(rt; matches!(&list, Ok(list) if list.len() == 128));
-    let mut disk: MemDisk<512> = MemDisk::new(rt.alloc(), 16384)?;
-    write_chain(&mut disk, 129)?;
-    let mut list = ArrayVec::new();
-    assert!(rt; walk_chain(&mut disk, &extended(), &mut list) == Err(ChainError::TooLong));
-    assert!(rt; list.len() == 128);
     Ok(())
 }
 
 #[test]
-fn a_failed_read_is_the_device(rt: HostRuntime) -> Result<(), Fail> {
-    let mut disk: CrashDisk<512> = CrashDisk::new(rt.alloc(), 16384, 2)?;
+fn a_chain_has_128_at_most(rt: HostRuntime) -> Result<(), Fail> {
+    let mut disk = disk_with_chain(rt.alloc(), 129)?;
+    let mut list = ArrayVec::new();
+    let walked = walk_chain(&mut disk, &extended(), &mut list);
+    assert!(rt; (walked, list.len()) == (Err(ChainError::TooLong), 128));
+    Ok(())
+}
+
+/// A disk with a chain of two, which fails to read the second once.
+fn failing_disk(alloc: Global) -> Result<CrashDisk<512>, Fail> {
+    let mut disk: CrashDisk<512> = CrashDisk::new(alloc, 16384, 2)?;
     disk.write(Lba(4096), &boot_record(link(0x05, 2047, 1)))?;
     disk.write(Lba(6143), &boot_record(EMPTY))?;
     disk.fail_at(2, false);
+    Ok(disk)
+}
+
+#[test]
+fn a_failed_read_is_the_device(rt: HostRuntime) -> Result<(), Fail> {
+    let mut disk = failing_disk(rt.alloc())?;
     let mut list = ArrayVec::new();
-    assert!(rt;
-        walk_chain(&mut disk, &extended(), &mut list) == Err(ChainError::Device(Lba(6143)))
-    );
-    assert!(rt; list.len() == 1);
+    let walked = walk_chain(&mut disk, &extended(), &mut list);
+    assert!(rt; (walked, list.len()) == (Err(ChainError::Device(Lba(6143))), 1));
     assert!(rt; read_chain(&mut disk, extended()).is_ok());
     Ok(())
 }
@@ -165,33 +181,56 @@ fn an_extended_partition_may_lie_past_the_disk(rt: HostRuntime) -> Result<(), Fa
     Ok(())
 }
 
+fn logical() -> Record {
+    record_of(0x83, 1, 1000)
+}
+
+/// What links to the one at 6143.
+fn next() -> Record {
+    record_of(0x05, 2047, 1001)
+}
+
+/// Bytes of 7 with records 1 and 2.
+fn with_two() -> Sector<512> {
+    let sector: Sector<512> = put_record(&[7; 512], 0, Some(&logical()));
+    put_record(&sector, 1, Some(&next()))
+}
+
+/// The same without records 3 and 4.
+fn with_two_alone() -> Sector<512> {
+    put_record(&put_record(&with_two(), 2, None), 3, None)
+}
+
 #[test]
-fn records_are_sixteen_bytes(rt: HostRuntime) -> Result<(), Fail> {
-    let logical = record_of(0x83, 1, 1000);
-    let next = record_of(0x05, 2047, 1001);
-    let sector: Sector<512> = put_record(&[7; 512], 0, Some(&logical));
+fn records_are_sixteen_bytes(rt: HostRuntime) {
+    let sector = with_two();
     assert!(rt;
         &sector[446..462]
             == b"\x00\xfe\xff\xff\x83\xfe\xff\xff\x01\x00\x00\x00\xe8\x03\x00\x00".as_slice()
     );
-    let sector = put_record(&sector, 1, Some(&next));
     assert!(rt;
         &sector[462..478]
             == b"\x00\xfe\xff\xff\x05\xfe\xff\xff\xff\x07\x00\x00\xe9\x03\x00\x00".as_slice()
     );
-    assert!(rt; sector[445] == 7);
-    assert!(rt; sector[478] == 7);
-    let sector = put_record(&put_record(&sector, 2, None), 3, None);
+    assert!(rt; [sector[445], sector[478]] == [7, 7]);
+}
+
+#[test]
+fn records_without_a_signature(rt: HostRuntime) {
+    let sector = with_two_alone();
     assert!(rt; &sector[478..510] == [0; 32].as_slice());
     assert!(rt; decode_mbr(&sector) == None);
-    let mut sector = sector;
+}
+
+#[test]
+fn records_with_a_signature(rt: HostRuntime) {
+    let mut sector = with_two_alone();
     sector[510] = 0x55;
     sector[511] = 0xAA;
     let records = decode_mbr(&sector).map(|m| m.records);
-    assert!(rt; records == Some([Some(logical), Some(next), None, None]));
+    assert!(rt; records == Some([Some(logical()), Some(next()), None, None]));
     sector[494] = 1;
     assert!(rt; decode_mbr(&sector) == None);
-    Ok(())
 }
 
 /// What these records decode to once they are written over bytes of 7.
@@ -290,20 +329,34 @@ const OTHER_LINK_BYTES: [u8; 16] = [
     0x00, 0xFE, 0xFF, 0xFF, 0x05, 0xFE, 0xFF, 0xFF, 0xFF, 0x0F, 0x00, 0x00, 0xE9, 0x03, 0x00, 0x00,
 ];
 
-#[test]
-fn links_have_known_bytes(rt: HostRuntime) -> Result<(), Fail> {
+/// The first extended boot record, which links to one at 6143.
+fn linked() -> Sector<512> {
     let link = link_to(Lba(4096), &ebr_at(6143, None));
-    let first = ebr_at(4096, Some(Lba(6143)));
-    let sector: Sector<512> = new_ebr(&first, &link);
+    new_ebr(&ebr_at(4096, Some(Lba(6143))), &link)
+}
+
+#[test]
+fn links_have_known_bytes(rt: HostRuntime) {
+    let sector = linked();
     assert!(rt; &sector[462..478] == LINK_BYTES.as_slice());
+    let first = ebr_at(4096, Some(Lba(6143)));
     assert!(rt; decode_ebr(&sector, Lba(4096), Lba(4096)) == Ok(first));
-    let moved = ebr_at(4096, Some(Lba(8191)));
+}
+
+/// The same record with a link to 8191 in its place.
+fn moved() -> Sector<512> {
     let other = link_to(Lba(4096), &ebr_at(8191, None));
-    let changed = change_ebr(&sector, &first, &moved, &other);
+    let old = ebr_at(4096, Some(Lba(6143)));
+    change_ebr(&linked(), &old, &ebr_at(4096, Some(Lba(8191))), &other)
+}
+
+#[test]
+fn a_link_changes_alone(rt: HostRuntime) {
+    let changed = moved();
     assert!(rt; &changed[462..478] == OTHER_LINK_BYTES.as_slice());
-    assert!(rt; changed[0..462] == sector[0..462]);
+    assert!(rt; changed[0..462] == linked()[0..462]);
+    let moved = ebr_at(4096, Some(Lba(8191)));
     assert!(rt; decode_ebr(&changed, Lba(4096), Lba(4096)) == Ok(moved));
-    Ok(())
 }
 
 #[test]
@@ -324,24 +377,45 @@ fn links_fit_their_fields(rt: HostRuntime) -> Result<(), Fail> {
     Ok(())
 }
 
-#[test]
-fn kept_records_keep_their_bytes(rt: HostRuntime) -> Result<(), Fail> {
-    let mut sector: Sector<512> = boot_record([Some(record_of(0x83, 2048, 100)), None]);
-    // an unused record may hold any bytes
+fn kept() -> Option<Record> {
+    Some(record_of(0x83, 2048, 100))
+}
+
+/// That record, and a third one if it is wanted.
+fn records(third: bool) -> [Option<Record>; 4] {
+    let added = if third {
+        Some(record_of(0x07, 4096, 100))
+    } else {
+        None
+    };
+    [kept(), None, added, None]
+}
+
+/// A boot record with one record; the unused one behind it has a byte, since it may hold any.
+fn with_kept() -> Sector<512> {
+    let mut sector: Sector<512> = boot_record([kept(), None]);
     sector[463] = 7;
-    let old = [Some(record_of(0x83, 2048, 100)), None, None, None];
-    let added = Some(record_of(0x07, 4096, 100));
-    let changed = change_records(&sector, &old, &[old[0], None, added, None]);
+    sector
+}
+
+/// The same with a third record.
+fn with_added() -> Sector<512> {
+    change_records(&with_kept(), &records(false), &records(true))
+}
+
+#[test]
+fn kept_records_keep_their_bytes(rt: HostRuntime) {
+    let sector = with_kept();
+    let changed = with_added();
     assert!(rt; changed[0..478] == sector[0..478]);
     assert!(rt; changed[494..512] == sector[494..512]);
-    assert!(rt;
-        decode_mbr(&changed)
-            == Some(Mbr {
-                records: [old[0], None, added, None]
-            })
-    );
-    let cleared = change_records(&changed, &[old[0], None, added, None], &[None; 4]);
+    let records = records(true);
+    assert!(rt; decode_mbr(&changed) == Some(Mbr { records }));
+}
+
+#[test]
+fn cleared_records_are_zeros(rt: HostRuntime) {
+    let cleared = change_records(&with_added(), &records(true), &[None; 4]);
     assert!(rt; &cleared[446..462] == [0; 16].as_slice());
     assert!(rt; cleared[463] == 7);
-    Ok(())
 }

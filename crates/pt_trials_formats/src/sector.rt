@@ -5,13 +5,13 @@ use pt_sector::{CrashDisk, Disk, Extent, Fault, Lba, MemDisk, Overlay, Room};
 use std::alloc::{AllocError, Global};
 use std::test::Fail;
 
-/// What a sector of equal bytes holds.
+/// What a sector of equal bytes holds; none too where there is no such sector.
 fn byte_at<const B: usize, D: Disk<B>>(disk: &mut D, lba: u64) -> Result<Option<u8>, Fault>
-    requires size { IsSectorSize B }
-    requires range { lba < D.count disk.old }
-    ensures count { D.count disk.new ≡ D.count disk.old }
-    ensures name { D.name disk.new ≡ D.name disk.old }
+    requires { IsSectorSize B }
 {
+    if lba >= disk.sectors() {
+        return Ok(None);
+    }
     let mut sector = [0; B];
     disk.read(Lba(lba), &mut sector)?;
     let byte = sector[0];
@@ -22,87 +22,134 @@ fn byte_at<const B: usize, D: Disk<B>>(disk: &mut D, lba: u64) -> Result<Option<
     })
 }
 
+/// Writes a sector of equal bytes; a fault of a flush where there is no such sector.
+fn write<const B: usize, D: Disk<B>>(disk: &mut D, lba: u64, byte: u8) -> Result<(), Fault>
+    requires { IsSectorSize B }
+{
+    if lba >= disk.sectors() {
+        return Err(Fault::Flush);
+    }
+    disk.write(Lba(lba), &[byte; B])
+}
+
 /// Two writes of sector 2, one of sector 5, a flush, and what sectors 1, 2 and 5 then hold.
 fn exercise<const B: usize, D: Disk<B>>(disk: &mut D) -> Result<[Option<u8>; 3], Fault>
-    requires size { IsSectorSize B }
-    requires range { 5 < D.count disk.old }
-    ensures count { D.count disk.new ≡ D.count disk.old }
-    ensures name { D.name disk.new ≡ D.name disk.old }
+    requires { IsSectorSize B }
 {
-    disk.write(Lba(2), &[7; B])?;
-    disk.write(Lba(5), &[8; B])?;
-    disk.write(Lba(2), &[9; B])?;
+    write(disk, 2, 7)?;
+    write(disk, 5, 8)?;
+    write(disk, 2, 9)?;
     disk.flush()?;
     Ok([byte_at(disk, 1)?, byte_at(disk, 2)?, byte_at(disk, 5)?])
 }
 
 const WRITTEN: [Option<u8>; 3] = [Some(0), Some(9), Some(8)];
 
-/// Whether each kind of disk reads as written, and an overlay leaves the disk below it as it was.
-fn each_disk<const B: usize>(alloc: Global) -> Result<bool, Fail>
+/// What is read from a disk in memory below an overlay that is written, and from the overlay.
+fn below_and_over<const B: usize>(
+    alloc: Global,
+    memory: &mut MemDisk<B>,
+) -> Result<(Option<u8>, [Option<u8>; 3]), Fail>
+    requires { IsSectorSize B }
+{
+    let room = Room::new(alloc, 2)?;
+    let mut overlay = Overlay::new(memory, room);
+    let over = exercise(&mut overlay)?;
+    drop(overlay);
+    Ok((byte_at(memory, 2)?, over))
+}
+
+/// Whether an overlay and the disk below it read as written, and the overlay leaves that disk as it was.
+fn each_in_memory<const B: usize>(alloc: Global) -> Result<bool, Fail>
     requires { IsSectorSize B }
 {
     let mut memory: MemDisk<B> = MemDisk::new(alloc, 8)?;
-    let room = Room::new(alloc, 2)?;
-    let mut overlay = Overlay::new(&mut memory, room);
-    let over = exercise(&mut overlay)?;
-    drop(overlay);
-    let below = byte_at(&mut memory, 2)?;
+    let (below, over) = below_and_over(alloc, &mut memory)?;
     let own = exercise(&mut memory)?;
+    Ok(over == WRITTEN && below == Some(0) && own == WRITTEN)
+}
+
+/// What a disk with pending writes reads.
+fn cached<const B: usize>(alloc: Global) -> Result<[Option<u8>; 3], Fail>
+    requires { IsSectorSize B }
+{
     let mut crash: CrashDisk<B> = CrashDisk::new(alloc, 8, 3)?;
-    let cached = exercise(&mut crash)?;
-    Ok(over == WRITTEN && below == Some(0) && own == WRITTEN && cached == WRITTEN)
+    Ok(exercise(&mut crash)?)
 }
 
 #[test]
 fn sectors_of_512_bytes(rt: HostRuntime) -> Result<(), Fail> {
-    assert!(rt; each_disk::<512>(rt.alloc())?);
+    assert!(rt; each_in_memory::<512>(rt.alloc())?);
+    assert!(rt; cached::<512>(rt.alloc())? == WRITTEN);
     Ok(())
 }
 
 #[test]
 fn sectors_of_4096_bytes(rt: HostRuntime) -> Result<(), Fail> {
-    assert!(rt; each_disk::<4096>(rt.alloc())?);
+    assert!(rt; each_in_memory::<4096>(rt.alloc())?);
+    assert!(rt; cached::<4096>(rt.alloc())? == WRITTEN);
     Ok(())
+}
+
+/// What three writes of an overlay with room for one sector answer, and what their two sectors then hold.
+fn in_room_for_one(alloc: Global) -> Result<([Result<(), Fault>; 3], [Option<u8>; 2]), Fail> {
+    let mut memory: MemDisk<512> = MemDisk::new(alloc, 8)?;
+    let room = Room::new(alloc, 1)?;
+    let mut overlay = Overlay::new(&mut memory, room);
+    let first = write(&mut overlay, 3, 7);
+    let again = write(&mut overlay, 3, 9);
+    let other = write(&mut overlay, 4, 7);
+    let held = [byte_at(&mut overlay, 3)?, byte_at(&mut overlay, 4)?];
+    Ok(([first, again, other], held))
 }
 
 #[test]
 fn an_overlay_keeps_its_room(rt: HostRuntime) -> Result<(), Fail> {
-    let mut memory: MemDisk<512> = MemDisk::new(rt.alloc(), 8)?;
-    let room = Room::new(rt.alloc(), 1)?;
-    let mut overlay = Overlay::new(&mut memory, room);
-    assert!(rt; overlay.write(Lba(3), &[7; 512]) == Ok(()));
-    assert!(rt; overlay.write(Lba(3), &[9; 512]) == Ok(()));
-    assert!(rt; overlay.write(Lba(4), &[7; 512]) == Err(Fault::Write(Lba(4))));
-    assert!(rt; byte_at(&mut overlay, 3)? == Some(9));
-    assert!(rt; byte_at(&mut overlay, 4)? == Some(0));
+    let (answers, held) = in_room_for_one(rt.alloc())?;
+    assert!(rt; answers == [Ok(()), Ok(()), Err(Fault::Write(Lba(4)))]);
+    assert!(rt; held == [Some(9), Some(0)]);
     Ok(())
 }
 
-#[test]
-fn puts_in_any_order_are_found(rt: HostRuntime) -> Result<(), Fail> {
-    let mut memory: MemDisk<512> = MemDisk::new(rt.alloc(), 8)?;
-    let room = Room::new(rt.alloc(), 3)?;
+/// What sectors 1, 4, 6 and 5 hold after 6, 1 and 4 were put in that order.
+fn after_three_puts(alloc: Global) -> Result<[Option<u8>; 4], Fail> {
+    let mut memory: MemDisk<512> = MemDisk::new(alloc, 8)?;
+    let room = Room::new(alloc, 3)?;
     let mut overlay = Overlay::new(&mut memory, room);
     overlay.put(Lba(6), &[6; 512]);
     overlay.put(Lba(1), &[1; 512]);
     overlay.put(Lba(4), &[4; 512]);
-    assert!(rt; byte_at(&mut overlay, 1)? == Some(1));
-    assert!(rt; byte_at(&mut overlay, 4)? == Some(4));
-    assert!(rt; byte_at(&mut overlay, 6)? == Some(6));
-    assert!(rt; byte_at(&mut overlay, 5)? == Some(0));
+    Ok([
+        byte_at(&mut overlay, 1)?,
+        byte_at(&mut overlay, 4)?,
+        byte_at(&mut overlay, 6)?,
+        byte_at(&mut overlay, 5)?,
+    ])
+}
+
+#[test]
+fn puts_in_any_order_are_found(rt: HostRuntime) -> Result<(), Fail> {
+    assert!(rt; after_three_puts(rt.alloc())? == [Some(1), Some(4), Some(6), Some(0)]);
     Ok(())
 }
 
 /// A disk with the pending values 7, then 9 of sector 2, and 8 of sector 5.
-fn with_pending(alloc: Global) -> Result<CrashDisk<512>, Fail>
-    ensures { IfOk result (λ d. ⟦<CrashDisk<512> as Disk<512>>⟧.count d ≡ 8) }
-{
+fn with_pending(alloc: Global) -> Result<CrashDisk<512>, Fail> {
     let mut disk: CrashDisk<512> = CrashDisk::new(alloc, 8, 3)?;
-    disk.write(Lba(2), &[7; 512])?;
-    disk.write(Lba(5), &[8; 512])?;
-    disk.write(Lba(2), &[9; 512])?;
+    write(&mut disk, 2, 7)?;
+    write(&mut disk, 5, 8)?;
+    write(&mut disk, 2, 9)?;
     Ok(disk)
+}
+
+/// What a stop with these choices leaves in sectors 1, 2 and 5 of it.
+fn left_by(alloc: Global, choices: &[usize]) -> Result<[Option<u8>; 3], Fail> {
+    let mut left = with_pending(alloc)?.stop(choices);
+    Ok([
+        byte_at(&mut left, 1)?,
+        byte_at(&mut left, 2)?,
+        byte_at(&mut left, 5)?,
+    ])
 }
 
 #[test]
@@ -118,29 +165,38 @@ fn a_stop_takes_one_choice_for_each_sector(rt: HostRuntime) -> Result<(), Fail> 
         (&[9, 9], 9, 8),
     ];
     for (choices, second, fifth) in rows {
-        let mut left = with_pending(rt.alloc())?.stop(choices);
-        assert!(rt; byte_at(&mut left, 2)? == Some(second));
-        assert!(rt; byte_at(&mut left, 5)? == Some(fifth));
-        assert!(rt; byte_at(&mut left, 1)? == Some(0));
+        assert!(rt; left_by(rt.alloc(), choices)? == [Some(0), Some(second), Some(fifth)]);
     }
     Ok(())
 }
 
+/// What three writes and a flush answer, of which the second write and the flush are set to fail and the third write has
+/// no room; and what the sector holds after the first write, after the second, and after a stop.
+fn calls_that_fail(
+    alloc: Global,
+    kept: bool,
+) -> Result<([Result<(), Fault>; 4], [Option<u8>; 3]), Fail> {
+    let mut disk: CrashDisk<512> = CrashDisk::new(alloc, 8, 2)?;
+    disk.fail_at(1, kept);
+    disk.fail_at(3, kept);
+    let first = write(&mut disk, 2, 7);
+    let one = byte_at(&mut disk, 2)?;
+    let second = write(&mut disk, 2, 9);
+    let two = byte_at(&mut disk, 2)?;
+    let third = write(&mut disk, 2, 1);
+    disk.fail_at(1, kept);
+    let flushed = disk.flush();
+    let left = byte_at(&mut disk.stop(&[2]), 2)?;
+    Ok(([first, second, third, flushed], [one, two, left]))
+}
+
 #[test]
 fn the_call_that_is_set_fails(rt: HostRuntime) -> Result<(), Fail> {
+    let failed = Err(Fault::Write(Lba(2)));
     for (kept, reads) in [(false, 7), (true, 9)] {
-        let mut disk: CrashDisk<512> = CrashDisk::new(rt.alloc(), 8, 2)?;
-        disk.fail_at(1, kept);
-        disk.fail_at(3, kept);
-        assert!(rt; disk.write(Lba(2), &[7; 512]) == Ok(()));
-        assert!(rt; byte_at(&mut disk, 2)? == Some(7));
-        assert!(rt; disk.write(Lba(2), &[9; 512]) == Err(Fault::Write(Lba(2))));
-        assert!(rt; byte_at(&mut disk, 2)? == Some(reads));
-        assert!(rt; disk.write(Lba(2), &[1; 512]) == Err(Fault::Write(Lba(2))));
-        disk.fail_at(1, kept);
-        assert!(rt; disk.flush() == Err(Fault::Flush));
-        let mut left = disk.stop(&[2]);
-        assert!(rt; byte_at(&mut left, 2)? == Some(9));
+        let (answers, bytes) = calls_that_fail(rt.alloc(), kept)?;
+        assert!(rt; answers == [Ok(()), failed, failed, Err(Fault::Flush)]);
+        assert!(rt; bytes == [Some(7), Some(reads), Some(9)]);
     }
     Ok(())
 }

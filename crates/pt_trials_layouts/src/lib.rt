@@ -1,5 +1,5 @@
-//! Tests of what a disk denotes, of its health, of plans that are applied and checked, and of their texts. They stand in a crate of their own, so that
-//! what they test isn't proved twice.
+//! Tests of what a disk denotes, of its health, of plans that are applied and checked, and of their texts. They stand in a crate of
+//! their own, so that what they test isn't proved twice.
 #![tactic(auto)]
 
 #[cfg(test)]

@@ -105,6 +105,16 @@ fn put<const B: usize, D: Disk<B>>(disk: &mut D, at: Lba, bytes: &Sector<B>) -> 
     at.0 < disk.sectors() && disk.write(at, bytes).is_ok()
 }
 
+/// Whether all of the targets could be written.
+fn put_all<const B: usize, D: Disk<B>>(disk: &mut D, targets: &[Target<B>]) -> bool {
+    for target in targets {
+        if !put(disk, target.at, &target.bytes) {
+            return false;
+        }
+    }
+    true
+}
+
 /// Writes the targets; none where there are none.
 fn put_targets<const B: usize, D: Disk<B>>(
     alloc: Global,
@@ -114,17 +124,16 @@ fn put_targets<const B: usize, D: Disk<B>>(
 ) -> Option<Vec<Target<B>>>
     requires { IsSectorSize B }
 {
-    let targets = match targets_of(alloc, disk, old, new) {
-        Ok(Some(targets)) => targets,
-        _ => return None,
-    };
-    for k in 0..targets.len() {
-        let target = targets[k];
-        if !put(disk, target.at, &target.bytes) {
-            return None;
+    match targets_of(alloc, disk, old, new) {
+        Ok(Some(targets)) => {
+            if put_all(disk, &targets) {
+                Some(targets)
+            } else {
+                None
+            }
         }
+        _ => None,
     }
-    Some(targets)
 }
 
 /// Bytes `from` to `to` of target `k`, and the sector that it is of.
@@ -180,118 +189,213 @@ fn first_chain<const B: usize>(alloc: Global) -> Result<Option<Vec<Target<B>>>, 
     Ok(put_targets(alloc, &mut disk, &without(alloc), &with_one(alloc)?))
 }
 
+/// How many targets a first chain has, and what is shown of one.
+fn of_first<const B: usize>(
+    alloc: Global,
+    k: usize,
+    place: usize,
+) -> Result<(usize, (u64, [u8; 16])), Fail>
+    requires { IsSectorSize B }
+{
+    match first_chain::<B>(alloc)? {
+        Some(targets) => Ok((targets.len(), shown(&targets, k, place))),
+        None => Ok((0, (0, [0; 16]))),
+    }
+}
+
 #[test]
 fn a_first_chain_has_known_bytes(rt: HostRuntime) -> Result<(), Fail> {
-    let targets = first_chain::<512>(rt.alloc())?.unwrap_or(Vec::new(rt.alloc()));
-    assert!(rt; targets.len() == 3);
-    assert!(rt; shown(&targets, 0, 462).0 == 0);
-    assert!(rt; shown(&targets, 0, 462).1[4] == 0x05);
-    assert!(rt; shown(&targets, 0, 0).1[7] == 0xEB);
-    assert!(rt; shown(&targets, 1, 462) == (4096, LINK));
-    assert!(rt; shown(&targets, 2, 446) == (6143, LOGICAL));
-    assert!(rt; shown(&targets, 2, 0) == (6143, [0; 16]));
-    let targets = first_chain::<4096>(rt.alloc())?.unwrap_or(Vec::new(rt.alloc()));
-    assert!(rt; targets.len() == 3);
-    assert!(rt; shown(&targets, 1, 462) == (4096, LINK));
+    let alloc = rt.alloc();
+    assert!(rt; of_first::<512>(alloc, 1, 462)? == (3, (4096, LINK)));
+    assert!(rt; of_first::<512>(alloc, 2, 446)? == (3, (6143, LOGICAL)));
+    assert!(rt; of_first::<512>(alloc, 2, 0)? == (3, (6143, [0; 16])));
+    assert!(rt; of_first::<4096>(alloc, 1, 462)? == (3, (4096, LINK)));
     Ok(())
+}
+
+#[test]
+fn a_first_chain_keeps_the_boot_code(rt: HostRuntime) -> Result<(), Fail> {
+    let (count, (at, record)) = of_first::<512>(rt.alloc(), 0, 462)?;
+    assert!(rt; (count, at, record[4]) == (3, 0, 0x05));
+    let (_, (_, code)) = of_first::<512>(rt.alloc(), 0, 0)?;
+    assert!(rt; code[7] == 0xEB);
+    Ok(())
+}
+
+/// A disk that holds the layout with one logical partition; none where it has no targets.
+fn disk_with_one(alloc: Global) -> Result<Option<MemDisk<512>>, Fail> {
+    let mut disk: MemDisk<512> = blank(alloc)?;
+    let done = put_targets(alloc, &mut disk, &without(alloc), &with_one(alloc)?).is_some();
+    Ok(if done { Some(disk) } else { None })
+}
+
+/// The targets of another layout on that disk, with other bytes in one sector, if the disk has it.
+fn after_one(alloc: Global, other: Lba, new: &Parts) -> Result<Option<Vec<Target<512>>>, Fail> {
+    match disk_with_one(alloc)? {
+        Some(mut disk) => {
+            put(&mut disk, other, &[7; 512]);
+            Ok(put_targets(alloc, &mut disk, &with_one(alloc)?, new))
+        }
+        None => Ok(None),
+    }
+}
+
+/// Whether there are four targets, and each of these rows, a target, a place in it and what is shown there, is so.
+fn four_show(targets: &[Target<512>], rows: &[(usize, usize, (u64, [u8; 16]))]) -> bool {
+    for (k, place, wanted) in rows {
+        if shown(targets, *k, *place) != *wanted {
+            return false;
+        }
+    }
+    targets.len() == 4
+}
+
+/// Whether the first two targets change nothing.
+fn first_two_stay(targets: &[Target<512>]) -> bool {
+    for k in 0..2usize {
+        if k >= targets.len() || targets[k].bytes != targets[k].under {
+            return false;
+        }
+    }
+    true
+}
+
+/// What is asked of the targets of one more logical partition.
+fn one_more(alloc: Global) -> Result<(bool, bool), Fail> {
+    let rows = [
+        (2, 446, (6143, LOGICAL)),
+        (2, 462, (6143, NEW_LINK)),
+        (3, 446, (8191, LOGICAL)),
+        (3, 462, (8191, [0; 16])),
+        (3, 0, (8191, [0; 16])),
+    ];
+    match after_one(alloc, Lba(8191), &with_two(alloc)?)? {
+        Some(targets) => Ok((first_two_stay(&targets), four_show(&targets, &rows))),
+        None => Ok((false, false)),
+    }
 }
 
 #[test]
 fn one_more_changes_the_last_link_alone(rt: HostRuntime) -> Result<(), Fail> {
-    let alloc = rt.alloc();
-    let mut disk: MemDisk<512> = blank(alloc)?;
-    let one = with_one(alloc)?;
-    assert!(rt; put_targets(alloc, &mut disk, &without(alloc), &one).is_some());
-    put(&mut disk, Lba(8191), &[7; 512]);
-    let targets = put_targets(alloc, &mut disk, &one, &with_two(alloc)?).unwrap_or(Vec::new(alloc));
-    assert!(rt; targets.len() == 4);
-    for k in 0..2usize {
-        assert!(rt; k < targets.len() && targets[k].bytes == targets[k].under);
-    }
-    assert!(rt; shown(&targets, 2, 446) == (6143, LOGICAL));
-    assert!(rt; shown(&targets, 2, 462) == (6143, NEW_LINK));
-    assert!(rt; shown(&targets, 3, 446) == (8191, LOGICAL));
-    assert!(rt; shown(&targets, 3, 462) == (8191, [0; 16]));
-    assert!(rt; shown(&targets, 3, 0) == (8191, [0; 16]));
+    let (two_stay, shown) = one_more(rt.alloc())?;
+    assert!(rt; two_stay);
+    assert!(rt; shown);
     Ok(())
+}
+
+/// The layout with one logical partition, and an extended partition that begins a sector lower.
+fn with_lower(alloc: Global) -> Result<Parts, Fail> {
+    let first = empty_at(4095, 4096);
+    let chain = [first, empty_at(4096, 6143), ebr_at(6143, None)];
+    with_chain(alloc, 4095, &chain)
+}
+
+/// Whether its links count from there.
+fn links_are_rebased(alloc: Global) -> Result<bool, Fail> {
+    let rows = [(2, 462, (4096, REBASED)), (3, 446, (6143, LOGICAL))];
+    match after_one(alloc, Lba(16384), &with_lower(alloc)?)? {
+        Some(targets) => Ok(four_show(&targets, &rows)),
+        None => Ok(false),
+    }
 }
 
 #[test]
 fn links_count_from_the_wanted_first_sector(rt: HostRuntime) -> Result<(), Fail> {
-    let alloc = rt.alloc();
+    assert!(rt; links_are_rebased(rt.alloc())?);
+    Ok(())
+}
+
+/// Whether a layout has no targets on a disk without partitions.
+fn has_no_targets(alloc: Global, new: &Parts) -> Result<bool, Fail> {
     let mut disk: MemDisk<512> = blank(alloc)?;
-    let one = with_one(alloc)?;
-    assert!(rt; put_targets(alloc, &mut disk, &without(alloc), &one).is_some());
-    let lower = with_chain(
-        alloc,
-        4095,
-        &[
-            empty_at(4095, 4096),
-            empty_at(4096, 6143),
-            ebr_at(6143, None),
-        ],
-    )?;
-    let targets = put_targets(alloc, &mut disk, &one, &lower).unwrap_or(Vec::new(alloc));
-    assert!(rt; targets.len() == 4);
-    assert!(rt; shown(&targets, 2, 462) == (4096, REBASED));
-    assert!(rt; shown(&targets, 3, 446) == (6143, LOGICAL));
+    Ok(matches!(targets_of(alloc, &mut disk, &without(alloc), new), Ok(None)))
+}
+
+#[test]
+fn a_protective_record_has_no_targets(rt: HostRuntime) -> Result<(), Fail> {
+    let mut protective = without(rt.alloc());
+    protective.records[0] = Some(record_of(0xEE, 1, 100));
+    assert!(rt; has_no_targets(rt.alloc(), &protective)?);
     Ok(())
 }
 
 #[test]
-fn what_would_not_read_back_has_no_targets(rt: HostRuntime) -> Result<(), Fail> {
-    let alloc = rt.alloc();
-    let mut disk: MemDisk<512> = blank(alloc)?;
-    let none = without(alloc);
-    let mut protective = without(alloc);
-    protective.records[0] = Some(record_of(0xEE, 1, 100));
-    assert!(rt; matches!(targets_of(alloc, &mut disk, &none, &protective), Ok(None)));
+fn a_container_in_the_chain_has_no_targets(rt: HostRuntime) -> Result<(), Fail> {
     let mut last = ebr_at(4096, None);
     last.logical = Some(record_of(0x0F, 1, 100));
-    let nested = with_chain(alloc, 4096, &[last])?;
+    let nested = with_chain(rt.alloc(), 4096, &[last])?;
     assert!(rt; is_linked(16384, &nested.records, &nested.chain));
-    assert!(rt; matches!(targets_of(alloc, &mut disk, &none, &nested), Ok(None)));
+    assert!(rt; has_no_targets(rt.alloc(), &nested)?);
+    Ok(())
+}
+
+/// Whether the chain with two logical partitions is linked on so many sectors, below these records.
+fn two_are_linked(
+    alloc: Global,
+    sectors: u64,
+    records: &[Option<Record>; 4],
+) -> Result<bool, Fail> {
+    let two = with_two(alloc)?;
+    Ok(is_linked(sectors, records, &two.chain))
+}
+
+/// Whether a chain is linked in an extended partition from `first` on.
+fn chain_is_linked(alloc: Global, first: u32, chain: &[Ebr]) -> Result<bool, Fail> {
+    let parts = with_chain(alloc, first, chain)?;
+    Ok(is_linked(16384, &parts.records, &parts.chain))
+}
+
+#[test]
+fn chains_lie_in_one_extended_partition(rt: HostRuntime) -> Result<(), Fail> {
+    let alloc = rt.alloc();
+    let records = with_two(alloc)?.records;
+    let extended = records[1];
+    assert!(rt; two_are_linked(alloc, 16384, &records)?);
+    assert!(rt; !two_are_linked(alloc, 8191, &records)?);
+    assert!(rt; !two_are_linked(alloc, 16384, &[None; 4])?);
+    assert!(rt; !two_are_linked(alloc, 16384, &[extended, extended, None, None])?);
     Ok(())
 }
 
 #[test]
 fn chains_link_upward_from_the_first_sector(rt: HostRuntime) -> Result<(), Fail> {
     let alloc = rt.alloc();
-    let two = with_two(alloc)?;
-    assert!(rt; is_linked(16384, &two.records, &two.chain));
-    assert!(rt; !is_linked(8191, &two.records, &two.chain));
-    assert!(rt; !is_linked(16384, &[None; 4], &two.chain));
-    let extended = two.records[1];
-    assert!(rt; !is_linked(16384, &[extended, extended, None, None], &two.chain));
-    let none = without(alloc);
-    assert!(rt; is_linked(16384, &none.records, &none.chain));
-    assert!(rt; !is_linked(16384, &two.records, &none.chain));
-    let open = with_chain(alloc, 4096, &[empty_at(4096, 6143)])?;
-    assert!(rt; !is_linked(16384, &open.records, &open.chain));
-    let past = with_chain(alloc, 4095, &[ebr_at(4096, None)])?;
-    assert!(rt; !is_linked(16384, &past.records, &past.chain));
+    assert!(rt; is_linked(16384, &[None; 4], &without(alloc).chain));
+    assert!(rt; !chain_is_linked(alloc, 4096, &[])?);
+    assert!(rt; !chain_is_linked(alloc, 4096, &[empty_at(4096, 6143)])?);
+    assert!(rt; !chain_is_linked(alloc, 4095, &[ebr_at(4096, None)])?);
     Ok(())
 }
 
-#[test]
-fn a_failed_read_is_told(rt: HostRuntime) -> Result<(), Fail> {
-    let alloc = rt.alloc();
+/// A disk of 16384 sectors, whose sector 0 is an empty boot record, and whose calls can fail.
+fn blank_crash_disk(alloc: Global) -> Result<CrashDisk<512>, Fail> {
     let mut disk: CrashDisk<512> = CrashDisk::new(alloc, 16384, 4)?;
     let mut head = [0; 512];
     head[510] = 0x55;
     head[511] = 0xAA;
     put(&mut disk, Lba(0), &head);
-    let none = without(alloc);
-    let one = with_one(alloc)?;
-    let places = [0u64, 4096, 6143];
-    for k in 0..3usize {
-        disk.fail_at(k as u64 + 1, false);
-        let failed = match targets_of(alloc, &mut disk, &none, &one) {
-            Err(Failure::Device(at)) => at.0,
-            _ => 1,
-        };
-        assert!(rt; failed == places[k]);
+    Ok(disk)
+}
+
+/// The sector whose read failed on the way to the targets of a first chain; none where they are there, and 1 where
+/// something else went wrong.
+fn failed_read(alloc: Global, disk: &mut CrashDisk<512>) -> Result<Option<u64>, Fail> {
+    Ok(
+        match targets_of(alloc, disk, &without(alloc), &with_one(alloc)?) {
+            Err(Failure::Device(at)) => Some(at.0),
+            Ok(Some(_)) => None,
+            _ => Some(1),
+        },
+    )
+}
+
+#[test]
+fn a_failed_read_is_told(rt: HostRuntime) -> Result<(), Fail> {
+    let mut disk = blank_crash_disk(rt.alloc())?;
+    for (call, place) in [(1, 0), (2, 4096), (3, 6143)] {
+        disk.fail_at(call, false);
+        assert!(rt; failed_read(rt.alloc(), &mut disk)? == Some(place));
     }
-    assert!(rt; matches!(targets_of(alloc, &mut disk, &none, &one), Ok(Some(_))));
+    assert!(rt; failed_read(rt.alloc(), &mut disk)? == None);
     Ok(())
 }

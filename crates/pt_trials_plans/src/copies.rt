@@ -102,6 +102,19 @@ fn with_primary<const B: usize>(
     Ok(outline(&plan))
 }
 
+/// The same with two labels.
+fn with_two_labels<const B: usize>(
+    alloc: Global,
+    sectors: u64,
+) -> Result<[(usize, u64); 5], AllocError>
+    requires size { IsSectorSize B }
+    requires room { 2 * array_len B + 4 ≤ sectors }
+    requires many { 256 ≤ sectors }
+{
+    let two = labels::<B>(alloc, sectors)?;
+    with_primary(alloc, sectors, two)
+}
+
 /// The plan with no labels from an MBR disk.
 fn with_mbr<const B: usize>(alloc: Global, sectors: u64) -> Result<[(usize, u64); 5], AllocError>
     requires size { IsSectorSize B }
@@ -123,12 +136,11 @@ fn outlines<const B: usize>(
     requires room { 2 * array_len B + 4 ≤ sectors }
     requires many { 256 ≤ sectors }
 {
-    let two = labels::<B>(alloc, sectors)?;
     Ok([
         without_primary::<B>(alloc, sectors)?,
         with_primary::<B>(alloc, sectors, Vec::new(alloc))?,
         with_mbr::<B>(alloc, sectors)?,
-        with_primary::<B>(alloc, sectors, two)?,
+        with_two_labels::<B>(alloc, sectors)?,
     ])
 }
 

@@ -6,7 +6,7 @@ use pt_bsd::{Label, LabelEntry, empty_label, encode_label};
 use pt_places::{LabelTargets, label_targets};
 use pt_recover::{Labelled, Labels, Layout, recover};
 use pt_sector::{Disk, Lba, MemDisk, Sector};
-use pt_targets::Kind;
+use pt_targets::{Kind, Target};
 use std::alloc::Global;
 use std::test::Fail;
 
@@ -94,33 +94,85 @@ fn labelled(alloc: Global, labels: &[(u64, Label)]) -> Result<Vec<Labelled>, Fai
     Ok(all)
 }
 
+/// The answer for these labels.
+fn answer_for(alloc: Global, labels: &[(u64, Label)]) -> Result<Option<LabelTargets<512>>, Fail> {
+    let mut disk = disk(alloc)?;
+    answer(alloc, &mut disk, labelled(alloc, labels)?)
+}
+
+/// Target `k` of four, where the label of slice 1 is kept, that of slice 2 changes, and slice 3 has a new one.
+fn target(alloc: Global, k: usize) -> Result<Option<Target<512>>, Fail> {
+    match answer_for(alloc, &[(1, label(1)), (2, label(3)), (3, label(4))])? {
+        Some(LabelTargets::Targets(targets)) if targets.len() == 4 && k < targets.len() => {
+            Ok(Some(targets[k]))
+        }
+        _ => Ok(None),
+    }
+}
+
+/// Whether a target is of this kind and sector, with these bytes.
+fn is(target: Option<Target<512>>, kind: Kind, at: u64, bytes: &Sector<512>) -> bool {
+    match target {
+        Some(target) => target.kind == kind && target.at == Lba(at) && target.bytes == *bytes,
+        None => false,
+    }
+}
+
+/// Whether a target stands over these bytes.
+fn is_over(target: Option<Target<512>>, under: &Sector<512>) -> bool {
+    match target {
+        Some(target) => target.under == *under,
+        None => false,
+    }
+}
+
 #[test]
-fn kept_changed_new_and_none(rt: HostRuntime) -> Result<(), Fail> {
-    let mut disk = disk(rt.alloc())?;
-    let labels = labelled(rt.alloc(), &[(1, label(1)), (2, label(3)), (3, label(4))])?;
-    let Some(LabelTargets::Targets(targets)) = answer(rt.alloc(), &mut disk, labels)? else {
-        assert!(rt; false);
-        return Ok(());
-    };
-    let [kept, changed, new, none] = targets.as_slice() else {
-        assert!(rt; false);
-        return Ok(());
-    };
-    assert!(rt; kept.kind == Kind::Stays);
-    assert!(rt; kept.at == Lba(9));
-    assert!(rt; kept.bytes == encode_label(&label(1), &[0x22; 512]));
-    assert!(rt; changed.kind == Kind::Changes);
-    assert!(rt; changed.at == Lba(17));
-    assert!(rt; changed.bytes == encode_label(&label(3), &[0x22; 512]));
-    assert!(rt; changed.under == encode_label(&label(2), &[0x22; 512]));
-    assert!(rt; new.kind == Kind::New);
-    assert!(rt; new.at == Lba(25));
-    assert!(rt; new.bytes == encode_label(&label(4), &[0; 512]));
-    assert!(rt; new.under == [0x22; 512]);
-    assert!(rt; none.kind == Kind::Stays);
-    assert!(rt; none.at == Lba(33));
-    assert!(rt; none.bytes == [0; 512]);
+fn a_kept_label(rt: HostRuntime) -> Result<(), Fail> {
+    let kept = target(rt.alloc(), 0)?;
+    assert!(rt; is(kept, Kind::Stays, 9, &encode_label(&label(1), &[0x22; 512])));
     Ok(())
+}
+
+#[test]
+fn a_changed_label(rt: HostRuntime) -> Result<(), Fail> {
+    let changed = target(rt.alloc(), 1)?;
+    assert!(rt;
+        is(
+            changed,
+            Kind::Changes,
+            17,
+            &encode_label(&label(3), &[0x22; 512])
+        )
+    );
+    assert!(rt; is_over(changed, &encode_label(&label(2), &[0x22; 512])));
+    Ok(())
+}
+
+#[test]
+fn a_new_label(rt: HostRuntime) -> Result<(), Fail> {
+    let new = target(rt.alloc(), 2)?;
+    assert!(rt; is(new, Kind::New, 25, &encode_label(&label(4), &[0; 512])));
+    assert!(rt; is_over(new, &[0x22; 512]));
+    Ok(())
+}
+
+#[test]
+fn no_label(rt: HostRuntime) -> Result<(), Fail> {
+    let none = target(rt.alloc(), 3)?;
+    assert!(rt; is(none, Kind::Stays, 33, &[0; 512]));
+    Ok(())
+}
+
+/// The number of the slice that is told of as foreign.
+fn foreign(
+    alloc: Global,
+    disk: &mut MemDisk<512>,
+    labels: Vec<Labelled>,
+) -> Result<Option<u64>, Fail> {
+    match answer(alloc, disk, labels)? {
+        Some(LabelTargets::Foreign(number)) => Ok(Some(number)),
+        _ => Ok(None),
+    }
 }
 
 #[test]
@@ -134,34 +186,20 @@ fn the_first_foreign_place(rt: HostRuntime) -> Result<(), Fail> {
     put(&mut disk, 25, &magic);
     put(&mut disk, 33, &magic);
     let labels = labelled(rt.alloc(), &[(1, label(1)), (2, label(2))])?;
-    let found = answer(rt.alloc(), &mut disk, labels)?;
-    assert!(rt;
-        match found {
-            Some(LabelTargets::Foreign(number)) => number == 3,
-            _ => false,
-        }
-    );
+    assert!(rt; foreign(rt.alloc(), &mut disk, labels)? == Some(3));
     Ok(())
 }
 
 #[test]
-fn labels_that_cannot_be(rt: HostRuntime) -> Result<(), Fail> {
-    let mut disk = disk(rt.alloc())?;
-    let turned = labelled(rt.alloc(), &[(2, label(2)), (1, label(1))])?;
-    let found = answer(rt.alloc(), &mut disk, turned)?;
-    assert!(rt;
-        match found {
-            Some(LabelTargets::Misplaced) => true,
-            _ => false,
-        }
-    );
-    let short = labelled(rt.alloc(), &[(1, label(1)), (2, empty_label(7))])?;
-    let found = answer(rt.alloc(), &mut disk, short)?;
-    assert!(rt;
-        match found {
-            Some(LabelTargets::Unreadable) => true,
-            _ => false,
-        }
-    );
+fn labels_out_of_order(rt: HostRuntime) -> Result<(), Fail> {
+    let found = answer_for(rt.alloc(), &[(2, label(2)), (1, label(1))])?;
+    assert!(rt; matches!(found, Some(LabelTargets::Misplaced)));
+    Ok(())
+}
+
+#[test]
+fn a_label_of_another_length(rt: HostRuntime) -> Result<(), Fail> {
+    let found = answer_for(rt.alloc(), &[(1, label(1)), (2, empty_label(7))])?;
+    assert!(rt; matches!(found, Some(LabelTargets::Unreadable)));
     Ok(())
 }

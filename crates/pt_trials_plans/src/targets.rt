@@ -32,7 +32,8 @@ fn kept(at: u64) -> Target<512> {
     target(at, Kind::Stays, ZEROS)
 }
 
-fn guarded(alloc: Global, sectors: &[u64]) -> Result<Trace, Fail> {
+/// These sectors, guarded.
+pub(crate) fn guarded(alloc: Global, sectors: &[u64]) -> Result<Trace, Fail> {
     let mut trace = Trace::new(alloc);
     for sector in sectors {
         trace.add_one(*sector)?;

@@ -29,9 +29,15 @@ pub fn print_layout<const B: usize, O: Write>(out: &mut O, layout: &Layout) -> i
 }
 
 fn print_gpt<O: Write>(out: &mut O, sectors: u64, table: &Table) -> io::Result<()> {
+    write!(out, "gpt {sectors} {} {} ", table.first, table.last)?;
+    print_guid(out, &table.disk)?;
+    writeln!(out)
+}
+
+fn print_guid<O: Write>(out: &mut O, guid: &Guid) -> io::Result<()> {
     let mut text = [0; 36];
-    let disk = table.disk.to_text(&mut text);
-    writeln!(out, "gpt {sectors} {} {} {disk}", table.first, table.last)
+    let shown = guid.to_text(&mut text);
+    write!(out, "{shown}")
 }
 
 /// Prints the partitions of a slice's label.
@@ -64,9 +70,8 @@ fn print_row<O: Write>(out: &mut O, row: &Row) -> io::Result<()> {
 
 fn print_entry<O: Write>(out: &mut O, entry: &Entry) -> io::Result<()> {
     print_kind(out, &entry.kind)?;
-    let mut text = [0; 36];
-    let unique = entry.unique.to_text(&mut text);
-    write!(out, " {:016x} {unique}", entry.attributes)?;
+    write!(out, " {:016x} ", entry.attributes)?;
+    print_guid(out, &entry.unique)?;
     if entry.name[0] != 0 {
         write!(out, " ")?;
         print_name(out, &entry.name)?;
@@ -77,11 +82,7 @@ fn print_entry<O: Write>(out: &mut O, entry: &Entry) -> io::Result<()> {
 fn print_kind<O: Write>(out: &mut O, kind: &Guid) -> io::Result<()> {
     match code_of_type(kind) {
         Some(code) => write!(out, "{code:04X}"),
-        None => {
-            let mut text = [0; 36];
-            let shown = kind.to_text(&mut text);
-            write!(out, "{shown}")
-        }
+        None => print_guid(out, kind),
     }
 }
 

@@ -9,18 +9,18 @@ pub returns-in_err-body-clause-traced_err : goal.returns-in_err-body-clause-trac
 returns-in_err-body-clause-traced_err g c = λ tells.
     let p = err_from_is_err_and c.from_residual.result c.from_residual.ensures.1 in
     rw (p.1, p.2)
-    (none_read g.row.B (g.D.Disk.told c.args.disk.now).seen c.in_err-body.field-0.0 c.args.trace.now c.read_body.new.trace
+    (none_read g.row.B (g.D.Disk.told c.args.disk.now).seen c.in_err-body.field-0.0 c.args.trace.now c.body_of.new.trace
     (c.in_err-body.ensures.err tells) (c.in_err-body.ensures.traced_err tells))
 
 pub traced_labels-requires-clause-within : goal.traced_labels-requires-clause-within
 traced_labels-requires-clause-within g c =
-    places_within g.row.B c.sectors-sectors.result (g.D.Disk.count c.read_body.new.disk) c.in_ok-body.body c.deref.result.now
+    places_within g.row.B c.sectors-sectors.result (g.D.Disk.count c.body_of.new.disk) c.in_ok-body.body c.deref.result.now
     (c.deref.ensures.value ∙ c.in_ok-places.ensures) (c.sectors-sectors.ensures ∙ sym c.in_ok-body.ensures.same.same_count)
 
 pub returns-clause-traced : goal.returns-clause-traced
 returns-clause-traced g c = λ tells.
     all_read g.row.B c.sectors-sectors.result
-    (g.D.Disk.told c.args.disk.now).seen c.in_ok-body.body c.deref.result.now c.args.trace.now c.read_body.new.trace
+    (g.D.Disk.told c.args.disk.now).seen c.in_ok-body.body c.deref.result.now c.args.trace.now c.body_of.new.trace
     c.traced_labels.new.trace
     (c.in_ok-body.ensures.ok tells) (c.deref.ensures.value ∙ c.in_ok-places.ensures)
     (c.sectors-sectors.ensures ∙ sym (g.met.D.Disk.sized c.args.disk.now tells))

@@ -3,7 +3,7 @@ use Rattle.std.proofs.Common.{◌∙◌, sym, subst, inr}
 use Rattle.pt_sector.specs.Device.{Told}
 use Rattle.pt_gpt.specs.Answers.{TellsFault}
 use Rattle.pt_gpt.specs.Errors.{FailedIn}
-use Rattle.pt_gpt.specs.Copy.{IsHead, Copy, SideReads}
+use Rattle.pt_gpt.specs.Copy.{IsHead, SideReads}
 use Rattle.pt_gpt.proofs.Heads.{fault_of_head}
 use Rattle.pt_recover.proofs.Sides.{head_read, array_read}
 use Rattle.pt_recover.proofs.tables.traced_copy.Goals as goal

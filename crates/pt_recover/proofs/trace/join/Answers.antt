@@ -46,8 +46,8 @@ returns-in-Ok-clause-ok c =
 
 pub returns-in-Ok-clause-apart : goal.returns-in-Ok-clause-apart
 returns-in-Ok-clause-apart c =
-    λ apart. subst (λ (l : List Run). Apart l) (sym (returns-in-Ok-clause-ok c))
-    (apart_joined c.args.new c.args.runs.now.items c.requires apart)
+    subst (λ (l : List Run). Apart l) (sym (returns-in-Ok-clause-ok c))
+    (apart_joined c.args.new c.args.runs.now.items c.requires.some c.requires.apart)
 
 pub returns-in-Err-clause-apart : goal.returns-in-Err-clause-apart
-returns-in-Err-clause-apart c = λ apart. subst (λ (l : List Run). Apart l) (sym c.clear.ensures.items) apart_none
+returns-in-Err-clause-apart c = subst (λ (l : List Run). Apart l) (sym c.clear.ensures.items) apart_none

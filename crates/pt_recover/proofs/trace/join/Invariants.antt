@@ -1,6 +1,5 @@
 use Rattle.std.proofs.Common.{◌≤◌, ◌-◌, length}
-use Rattle.pt_recover.specs.Spans.{joined}
-use Rattle.pt_recover.proofs.Joined.{Stands}
+use Rattle.pt_recover.specs.Spans.{joined, Stands}
 use Rattle.pt_recover.proofs.trace.join.Given as goal
 
 abbrev pub invariant-loop-at : goal.invariant-loop-at

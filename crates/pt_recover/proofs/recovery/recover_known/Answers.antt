@@ -4,7 +4,7 @@ use Rattle.pt_recover.specs.Answers.{IsOutside, IsTraceOf}
 use Rattle.pt_recover.specs.Denotes.{Reads}
 use Rattle.pt_recover.specs.Spans.{Adds}
 use Rattle.pt_recover.proofs.Whole.{trace_is, trace_or}
-use Rattle.pt_recover.proofs.recovery.recover_traced.Goals as goal
+use Rattle.pt_recover.proofs.recovery.recover_known.Goals as goal
 
 pub returns-clause-traced : goal.returns-clause-traced
 returns-clause-traced g c = λ tells.
