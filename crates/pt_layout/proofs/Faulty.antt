@@ -147,12 +147,19 @@ apart_all b o none g is =
     let same : get_or (groups_of b o) is.0 no_group ≡ g = get_or_default (groups_of b o) is.0 no_group g is.1 ∙ is.2 in
     subst (λ (h : Group). IsApart h.members) same (none is.0 is.1)
 
+-- apart from the lemma below, so that no tactic reads what holds of each group
+taken_low : (groups : List Group) (j k : ℕ) → j < length (take k groups) → j < k
+taken_low groups j k lt = omega (arith, lt, length-take k groups)
+
+below_both : (j k n : ℕ) → j < k → k < n → j < n
+below_both j k n low lt = omega arith
+
 apart_front : (groups : List Group) (k : ℕ) (g : Group) → ((j : ℕ) → j < k → IsApart (get_or groups j no_group).members)
     → k < length groups → Contains (take k groups) g → IsApart g.members
 apart_front groups k g apart lt is =
-    let low : is.0 < k = omega (arith, is.1, length-take k groups) in
+    let low : is.0 < k = taken_low groups is.0 k is.1 in
     let same : get_or groups is.0 no_group ≡ g =
-    get_or_default groups is.0 no_group g (omega arith) ∙ sym (get_or-take k groups is.0 g low) ∙ is.2 in
+    get_or_default groups is.0 no_group g (below_both is.0 k (length groups) low lt) ∙ sym (get_or-take k groups is.0 g low) ∙ is.2 in
     subst (λ (h : Group). IsApart h.members) same (apart is.0 low)
 
 pub shared_first : (b : ℕ) (o : Layout) (x : Overlap) → SharedIs (groups_of b o) (Some x) → IsFirstShared b o x.before x.it

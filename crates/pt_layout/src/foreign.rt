@@ -14,7 +14,6 @@ use pt_path::Path;
 use pt_sector::{Disk, FailedRead, Failure, Lba, Sector, read_sector};
 use std::alloc::Global;
 
-#[tactic(auto, using(pt_bsd::specs::laws::Terms::no_label))]
 fn is_foreign<const B: usize>(sector: &Sector<B>, slice: Slice) -> bool
     requires { IsSectorSize B }
     ensures { IsTrue result ↔ ForeignBytes slice sector.now }

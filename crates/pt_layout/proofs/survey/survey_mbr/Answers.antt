@@ -38,6 +38,20 @@ returns-in_err-finding-in-Ok-clause-place g c = λ tells.
     (subst (λ (t : Told). FailedIn (Reads g.row.B t.seen) c.in_err-finding-in-Ok.field-0.0)
     (c.recover_known-found.ensures.same.same tells) (c.in_err-finding-in-Ok.ensures.place tells)))
 
+pub returns-in_err-guarded-in-Ok-clause-place : goal.returns-in_err-guarded-in-Ok-clause-place
+returns-in_err-guarded-in-Ok-clause-place g c = λ tells.
+    let p = err_from_is_err_and c.from_residual-in_err-guarded-in-Ok.result c.from_residual-in_err-guarded-in-Ok.ensures.1 in
+    rw (p.1, p.2) tt
+
+pub returns-in_err-guarded-in-None-clause-place : goal.returns-in_err-guarded-in-None-clause-place
+returns-in_err-guarded-in-None-clause-place g c = λ tells.
+    let p = err_from_is_err_and c.from_residual-in_err-guarded-in-None.result c.from_residual-in_err-guarded-in-None.ensures.1 in
+    rw (p.1, p.2) tt
+
+pub returns-in_ok-guarded-in-Ok-clause-numbers : goal.returns-in_ok-guarded-in-Ok-clause-numbers
+returns-in_ok-guarded-in-Ok-clause-numbers g c =
+    subst (λ (r : Result Layout NoTable). IfOk r Numbers) c.in-Ok.is c.recover_known-found.ensures.numbers
+
 pub returns-in_ok-guarded-in-Ok-clause-ok : goal.returns-in_ok-guarded-in-Ok-clause-ok
 returns-in_ok-guarded-in-Ok-clause-ok g c = λ tells.
     let d : Sectors = (g.D.Disk.told c.args.disk.now).seen in
