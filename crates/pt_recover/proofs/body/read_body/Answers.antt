@@ -1,11 +1,12 @@
 use Rattle.std.proofs.Common.{◌≡◌, ℕ, List, Result, length, ap, subst}
-use Rattle.std.specs.Prelude.{◌⊎◌, ◌<◌, OnOk, IfErr}
+use Rattle.std.specs.Prelude.{◌⊎◌, ◌<◌, OnOk, IfOk, IfErr}
 use Rattle.std.proofs.lemmas.Result.{on_ok_weaker, IfErr-weaker}
+use Rattle.pt_sector.specs.Calls.{blames_after}
 use Rattle.pt_sector.specs.Sectors.{Sectors}
 use Rattle.pt_sector.specs.Device.{Told}
-use Rattle.pt_recover.specs.Answers.{IsOutside, FailedIn}
+use Rattle.pt_recover.specs.Answers.{IsOutside, TellsNothing, fault_in, FailedIn}
 use Rattle.pt_recover.specs.Steps.{RestReads}
-use Rattle.pt_recover.specs.Denotes.{BodyReads}
+use Rattle.pt_recover.specs.Denotes.{BodyIs, BodyReads}
 use Rattle.pt_recover.specs.Spans.{Adds}
 use Rattle.pt_recover.specs.declared.error.NoTable.{NoTable}
 use Rattle.pt_recover.specs.declared.trace.Run.{Run}
@@ -83,3 +84,41 @@ pub returns-in-None-clause-place : goal.returns-in-None-clause-place
 returns-in-None-clause-place g c = λ tells.
     failed_rest g.row.B (g.D.Disk.told c.args.disk.now).seen (g.D.Disk.told c.read_records.new.disk) c.read_gpt.result
     (ap (λ (t : Told). t.seen) (c.in_ok-mbr.ensures.same.same tells)) (c.read_gpt.ensures.place tells)
+
+pub returns-in-Some-clause-same : goal.returns-in-Some-clause-same
+returns-in-Some-clause-same g c =
+    g.met.D.Disk.reads_on c.args.disk.now c.read_records.new.disk c.read_mbr.new.disk c.in_ok-mbr.ensures.same c.read_mbr.ensures.same
+
+pub returns-in-Some-clause-blames : goal.returns-in-Some-clause-blames
+returns-in-Some-clause-blames g c =
+    blames_after fault_in c.read_mbr.result (g.D.Disk.faults c.args.disk.now) (g.D.Disk.faults c.read_records.new.disk)
+    (g.D.Disk.faults c.read_mbr.new.disk) c.in_ok-mbr.ensures.blames c.read_mbr.ensures.blames
+
+pub returns-in-Some-clause-ok : goal.returns-in-Some-clause-ok
+returns-in-Some-clause-ok g c = λ tells.
+    subst (λ (t : Told). IfOk c.read_mbr.result (λ y. BodyIs g.row.B t.seen y)) (c.in_ok-mbr.ensures.same.same tells)
+    (c.read_mbr.ensures.ok tells)
+
+pub returns-in-Some-clause-err : goal.returns-in-Some-clause-err
+returns-in-Some-clause-err g c = λ tells.
+    subst (λ (t : Told). IfErr c.read_mbr.result (λ e. TellsNothing g.row.B t.seen e)) (c.in_ok-mbr.ensures.same.same tells)
+    (c.read_mbr.ensures.err tells)
+
+pub returns-in-None-clause-same : goal.returns-in-None-clause-same
+returns-in-None-clause-same g c =
+    g.met.D.Disk.reads_on c.args.disk.now c.read_records.new.disk c.read_gpt.new.disk c.in_ok-mbr.ensures.same c.read_gpt.ensures.same
+
+pub returns-in-None-clause-blames : goal.returns-in-None-clause-blames
+returns-in-None-clause-blames g c =
+    blames_after fault_in c.read_gpt.result (g.D.Disk.faults c.args.disk.now) (g.D.Disk.faults c.read_records.new.disk)
+    (g.D.Disk.faults c.read_gpt.new.disk) c.in_ok-mbr.ensures.blames c.read_gpt.ensures.blames
+
+pub returns-in-None-clause-ok : goal.returns-in-None-clause-ok
+returns-in-None-clause-ok g c = λ tells.
+    subst (λ (t : Told). IfOk c.read_gpt.result (λ y. BodyIs g.row.B t.seen y)) (c.in_ok-mbr.ensures.same.same tells)
+    (c.read_gpt.ensures.ok tells)
+
+pub returns-in-None-clause-err : goal.returns-in-None-clause-err
+returns-in-None-clause-err g c = λ tells.
+    subst (λ (t : Told). IfErr c.read_gpt.result (λ e. TellsNothing g.row.B t.seen e)) (c.in_ok-mbr.ensures.same.same tells)
+    (c.read_gpt.ensures.err tells)

@@ -1,14 +1,17 @@
 use Rattle.std.proofs.lemmas.Result.{err_from_is_err_and}
-use Rattle.std.proofs.Common.{◌∙◌, sym, subst, List, get_or, refl, arith}
+use Rattle.std.proofs.Common.{◌<◌, ◌∙◌, ℕ, sym, ap, subst, List, get_or, refl, arith}
 use Rattle.pt_sector.specs.Sectors.{Sectors, sector}
+use Rattle.pt_sector.specs.Calls.{with_fault}
 use Rattle.pt_sector.specs.Device.{Told}
+use Rattle.pt_sector.specs.Reads.{fault_of}
+use Rattle.pt_sector.specs.declared.disk.Fault.{Fault}
 use Rattle.pt_members.specs.Slices.{place_of}
 use Rattle.pt_recover.specs.Labels.{LabelsAre}
 use Rattle.pt_recover.specs.Steps.{LabelIs}
 use Rattle.pt_members.specs.declared.layout.Slice.{Slice}
 use Rattle.pt_members.specs.declared.layout.Labelled.{Labelled}
 use Rattle.pt_recover.proofs.LabelSteps.{label_more, labels_end}
-use Rattle.pt_recover.proofs.Traces.{place_more}
+use Rattle.pt_recover.proofs.Traces.{place_more, place_end}
 use Rattle.pt_recover.proofs.Failed.{place_failed}
 use Rattle.pt_recover.proofs.labels.traced_labels.Goals as goal
 
@@ -41,3 +44,33 @@ returns-in_err-found-clause-place g c =
     let p = err_from_is_err_and c.from_residual.result c.from_residual.ensures.1 in
     rw (p.1, p.2) (place_failed c.args.slices.now c.loop-k.k (record { number = 0; first = 0; len = 0 }) c.in_err-found.field-0.0
     (omega arith) c.in_err-found.ensures.place)
+
+pub returns-clause-same : goal.returns-clause-same
+returns-clause-same g c = c.loop-k.invariant.same
+
+pub returns-clause-blames : goal.returns-clause-blames
+returns-clause-blames g c = c.loop-k.invariant.quiet
+
+pub returns-clause-traced : goal.returns-clause-traced
+returns-clause-traced g c =
+    place_end c.args.trace.now c.loop-k.trace c.args.slices.now c.loop-k.k (omega arith) c.loop-k.invariant.traced
+
+pub returns-in_err-found-clause-same : goal.returns-in_err-found-clause-same
+returns-in_err-found-clause-same g c =
+    g.met.D.Disk.reads_on c.args.disk.now c.loop-k.disk c.read_label.new.disk c.loop-k.invariant.same c.in_err-found.ensures.same
+
+pub returns-in_err-found-clause-blames : goal.returns-in_err-found-clause-blames
+returns-in_err-found-clause-blames g c =
+    let p = err_from_is_err_and c.from_residual.result c.from_residual.ensures.1 in
+    rw (p.1, p.2) (c.in_err-found.ensures.blames
+    ∙ ap (λ (fs : List Fault). with_fault fs (fault_of c.in_err-found.field-0.0)) c.loop-k.invariant.quiet)
+
+pub returns-in_err-push_label-clause-same : goal.returns-in_err-push_label-clause-same
+returns-in_err-push_label-clause-same g c =
+    g.met.D.Disk.reads_on c.args.disk.now c.loop-k.disk c.read_label.new.disk c.loop-k.invariant.same c.in_ok-found.ensures.same
+
+pub read_label-requires-clause-within : goal.read_label-requires-clause-within
+read_label-requires-clause-within g c =
+    let z : Slice = record { number = 0; first = 0; len = 0 } in
+    subst (λ (n : ℕ). place_of (get_or c.args.slices.now c.loop-k.k z) < n) (sym c.loop-k.invariant.same.same_count)
+    (c.requires.within c.loop-k.k z (omega arith))

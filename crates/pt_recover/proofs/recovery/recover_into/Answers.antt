@@ -1,9 +1,23 @@
 use Rattle.std.proofs.lemmas.Result.{err_from_is_err_and}
-use Rattle.std.proofs.Common.{◌≡◌, ◌∙◌, sym, length}
+use Rattle.std.proofs.Common.{◌≡◌, ◌∙◌, List, Option, length, refl, sym, ap, inl}
+use Rattle.pt_sector.specs.Calls.{with_fault}
+use Rattle.pt_sector.specs.Reads.{fault_of}
 use Rattle.pt_sector.specs.Sectors.{Sectors}
+use Rattle.pt_sector.specs.declared.disk.Fault.{Fault}
+use Rattle.pt_sector.specs.declared.reading.Failure.{Failure}
+use Rattle.pt_sector.specs.declared.reading.Failure.TheVariants as failure
+use Rattle.pt_recover.specs.Answers.{IsOutside, fault_in, told_failure}
 use Rattle.pt_recover.proofs.Whole.{places_within, all_read, none_read}
 use Rattle.pt_recover.proofs.Failed.{reads_failed, label_failed}
 use Rattle.pt_recover.proofs.recovery.recover_into.Goals as goal
+
+told_outside : (f : Failure) → IsOutside (told_failure f)
+told_outside (failure.Device at) = tt
+told_outside failure.Memory = tt
+
+told_fault : (f : Failure) → fault_of f ≡ fault_in (told_failure f)
+told_fault (failure.Device at) = refl
+told_fault failure.Memory = refl
 
 pub returns-in_err-body-clause-traced_err : goal.returns-in_err-body-clause-traced_err
 returns-in_err-body-clause-traced_err g c = λ tells.
@@ -47,3 +61,31 @@ returns-clause-ok g c = λ tells.
       c.in_ok-body.ensures.ok tells,
       rw (c.in_ok-body.ensures.same.same tells, c.deref.ensures.value, c.in_ok-places.ensures, count) at (c.in_ok-labels.ensures.ok tells),
     )
+
+pub returns-clause-same : goal.returns-clause-same
+returns-clause-same g c =
+    g.met.D.Disk.reads_on c.args.disk.now c.body_of.new.disk c.traced_labels.new.disk c.in_ok-body.ensures.same c.in_ok-labels.ensures.same
+
+pub returns-clause-blames : goal.returns-clause-blames
+returns-clause-blames g c = c.in_ok-labels.ensures.blames ∙ c.in_ok-body.ensures.blames
+
+pub returns-in_err-labels-clause-same : goal.returns-in_err-labels-clause-same
+returns-in_err-labels-clause-same g c =
+    g.met.D.Disk.reads_on c.args.disk.now c.body_of.new.disk c.traced_labels.new.disk c.in_ok-body.ensures.same c.in_err-labels.ensures.same
+
+pub returns-in_err-labels-clause-blames : goal.returns-in_err-labels-clause-blames
+returns-in_err-labels-clause-blames g c =
+    let p = err_from_is_err_and c.from_residual-in_err-labels.result c.from_residual-in_err-labels.ensures.1 in
+    rw (p.1, p.2) (c.in_err-labels.ensures.blames
+    ∙ ap (λ (fs : List Fault). with_fault fs (fault_of c.in_err-labels.field-0.0)) c.in_ok-body.ensures.blames
+    ∙ ap (λ (o : Option Fault). with_fault (g.D.Disk.faults c.args.disk.now) o) (told_fault c.in_err-labels.field-0.0))
+
+pub returns-in_err-labels-clause-err : goal.returns-in_err-labels-clause-err
+returns-in_err-labels-clause-err g c = λ tells.
+    let p = err_from_is_err_and c.from_residual-in_err-labels.result c.from_residual-in_err-labels.ensures.1 in
+    rw (p.1, p.2) (inl (told_outside c.in_err-labels.field-0.0))
+
+pub returns-in_err-labels-clause-traced_err : goal.returns-in_err-labels-clause-traced_err
+returns-in_err-labels-clause-traced_err g c = λ tells.
+    let p = err_from_is_err_and c.from_residual-in_err-labels.result c.from_residual-in_err-labels.ensures.1 in
+    rw (p.1, p.2) (inl (told_outside c.in_err-labels.field-0.0))

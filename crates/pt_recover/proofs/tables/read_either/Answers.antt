@@ -1,15 +1,32 @@
-use Rattle.pt_gpt.specs.Errors.{FailedIn as FailedInCopy}
-use Rattle.std.proofs.Common.{◌∙◌, sym, subst, inr}
+use Rattle.pt_gpt.specs.Errors.{failure_in as failure_of_copy, fault_in as fault_in_copy, FailedIn as FailedInCopy}
+use Rattle.pt_gpt.specs.declared.error.CopyError.{CopyError}
+use Rattle.pt_gpt.specs.declared.error.CopyError.TheVariants as copy
+use Rattle.pt_sector.specs.Calls.{with_fault}
+use Rattle.pt_sector.specs.declared.disk.Fault.{Fault}
+use Rattle.pt_sector.specs.declared.reading.Failure.{Failure}
+use Rattle.pt_sector.specs.declared.reading.Failure.TheVariants as failure
+use Rattle.std.proofs.Common.{◌≡◌, ◌∙◌, Option, Some, None, refl, sym, ap, subst, inr}
 use Rattle.pt_sector.specs.Sectors.{Sectors}
 use Rattle.pt_sector.specs.Device.{Told}
 use Rattle.pt_gpt.specs.Copy.{Copy, SideReads}
 use Rattle.pt_gpt.specs.declared.table.Side.TheVariants.{Backup}
 use Rattle.pt_recover.specs.Gpt.{TableReads}
 use Rattle.pt_recover.specs.Spans.{Adds}
-use Rattle.pt_recover.specs.Answers.{FailedIn}
+use Rattle.pt_recover.specs.Answers.{fault_in, told_failure, FailedIn}
 use Rattle.pt_recover.proofs.Sides.{primary_read, none_there, inside_adds, both_read}
 use Rattle.pt_recover.proofs.Failed.{primary_failed, backup_failed, inside_of}
 use Rattle.pt_recover.proofs.tables.read_either.Goals as goal
+
+no_fault : (e : CopyError) → failure_of_copy e ≡ None → fault_in_copy e ≡ None
+no_fault (copy.Device at) none = absurd cc
+no_fault _ none = refl
+
+same_fault : (e : CopyError) (f : Failure) → failure_of_copy e ≡ Some f → fault_in_copy e ≡ fault_in (told_failure f)
+same_fault (copy.Device at) (failure.Device y) same = cc
+same_fault (copy.Device at) failure.Memory same = absurd cc
+same_fault copy.Memory (failure.Device y) same = absurd cc
+same_fault copy.Memory failure.Memory same = refl
+same_fault _ f same = absurd cc
 
 pub returns-in-Ok-clause-traced : goal.returns-in-Ok-clause-traced
 returns-in-Ok-clause-traced g c = λ tells.
@@ -58,3 +75,29 @@ returns-in-Some-failure-clause-place g c = λ tells.
     (sym c.failure-2.ensures ∙ c.in-Some-failure.is)
     (subst (λ (t : Told). FailedInCopy (SideReads g.row.B t.seen Backup) c.in-Err-traced_copy.e) (c.in-Err.ensures.same.same tells)
     (c.in-Err-traced_copy.ensures.place tells)))
+
+pub returns-in-Ok-traced_copy-clause-same : goal.returns-in-Ok-traced_copy-clause-same
+returns-in-Ok-traced_copy-clause-same g c =
+    g.met.D.Disk.reads_on c.args.disk.now c.traced_copy.new.disk c.traced_copy-2.new.disk c.in-Err.ensures.same
+    c.in-Ok-traced_copy.ensures.same
+
+pub returns-in-Some-failure-clause-same : goal.returns-in-Some-failure-clause-same
+returns-in-Some-failure-clause-same g c =
+    g.met.D.Disk.reads_on c.args.disk.now c.traced_copy.new.disk c.traced_copy-2.new.disk c.in-Err.ensures.same
+    c.in-Err-traced_copy.ensures.same
+
+pub returns-in-None-failure-clause-same : goal.returns-in-None-failure-clause-same
+returns-in-None-failure-clause-same g c =
+    g.met.D.Disk.reads_on c.args.disk.now c.traced_copy.new.disk c.traced_copy-2.new.disk c.in-Err.ensures.same
+    c.in-Err-traced_copy.ensures.same
+
+pub returns-in-Some-clause-blames : goal.returns-in-Some-clause-blames
+returns-in-Some-clause-blames g c =
+    c.in-Err.ensures.blames ∙ ap (λ (o : Option Fault). with_fault (g.D.Disk.faults c.args.disk.now) o)
+    (same_fault c.in-Err.e c.in-Some.failure (sym c.failure.ensures ∙ c.in-Some.is) ∙ ap fault_in (sym c.from.ensures))
+
+pub returns-in-Ok-traced_copy-clause-blames : goal.returns-in-Ok-traced_copy-clause-blames
+returns-in-Ok-traced_copy-clause-blames g c =
+    c.in-Ok-traced_copy.ensures.blames ∙ c.in-Err.ensures.blames
+    ∙ ap (λ (o : Option Fault). with_fault (g.D.Disk.faults c.args.disk.now) o)
+    (no_fault c.in-Err.e (sym c.failure.ensures ∙ c.in-None.is))

@@ -1,8 +1,10 @@
 use Rattle.std.proofs.lemmas.Result.{err_from_is_err_and}
-use Rattle.std.proofs.Common.{◌∙◌, sym, subst, inr}
+use Rattle.std.proofs.Common.{◌∙◌, List, sym, ap, subst, inr}
+use Rattle.pt_sector.specs.Calls.{with_fault}
 use Rattle.pt_sector.specs.Device.{Told}
+use Rattle.pt_sector.specs.declared.disk.Fault.{Fault}
 use Rattle.pt_gpt.specs.Answers.{TellsFault}
-use Rattle.pt_gpt.specs.Errors.{FailedIn}
+use Rattle.pt_gpt.specs.Errors.{FailedIn, fault_in}
 use Rattle.pt_gpt.specs.Copy.{IsHead, SideReads}
 use Rattle.pt_gpt.proofs.Heads.{fault_of_head}
 use Rattle.pt_recover.proofs.Sides.{head_read, array_read}
@@ -71,3 +73,26 @@ returns-clause-ok g c = λ tells. rw (c.in_ok-header.ensures.same.same tells) at
 
 pub returns-clause-with : goal.returns-clause-with
 returns-clause-with g c = λ tells. rw (c.in_ok-header.ensures.same.same tells) at (c.in_ok-table.ensures.with tells)
+
+pub returns-clause-blames : goal.returns-clause-blames
+returns-clause-blames g c = c.in_ok-table.ensures.blames ∙ c.in_ok-header.ensures.blames
+
+pub returns-in_err-header-clause-same : goal.returns-in_err-header-clause-same
+returns-in_err-header-clause-same g c = c.in_err-header.ensures.same
+
+pub returns-in_err-header-clause-blames : goal.returns-in_err-header-clause-blames
+returns-in_err-header-clause-blames g c =
+    let p = err_from_is_err_and c.from_residual-in_err-header.result c.from_residual-in_err-header.ensures.1 in
+    rw (p.1, p.2) c.in_err-header.ensures.blames
+
+pub returns-in_err-table-clause-blames : goal.returns-in_err-table-clause-blames
+returns-in_err-table-clause-blames g c =
+    let p = err_from_is_err_and c.from_residual-in_err-table.result c.from_residual-in_err-table.ensures.1 in
+    rw (p.1, p.2) (c.in_err-table.ensures.blames
+    ∙ ap (λ (fs : List Fault). with_fault fs (fault_in c.in_err-table.field-0.0)) c.in_ok-header.ensures.blames)
+
+pub read_table-requires-clause-room : goal.read_table-requires-clause-room
+read_table-requires-clause-room g c = rw c.in_ok-header.ensures.same.same_count c.requires.room
+
+pub read_table-requires-clause-placed : goal.read_table-requires-clause-placed
+read_table-requires-clause-placed g c = rw c.in_ok-header.ensures.same.same_count c.in_ok-header.ensures.placed
