@@ -217,23 +217,15 @@ fn on_plan<'a>(
 fn command<'a>(alloc: Global, sizes: &'a [&'a str]) -> Result<Command<'a>, AllocError>
     ensures { IfOk result (IsCommand (spec.ptab sizes.entry)) }
 {
-    let show = page(alloc, "show", SHOW_ABOUT, SHOW);
-    let verify = page(alloc, "verify", VERIFY_ABOUT, VERIFY);
-    let locate = page(alloc, "locate", LOCATE_ABOUT, LOCATE);
-    let edit = page(alloc, "edit", EDIT_ABOUT, EDIT);
-    let plan = page(alloc, "plan", PLAN_ABOUT, PLAN);
-    let check = page(alloc, "check", CHECK_ABOUT, CHECK);
-    let apply = page(alloc, "apply", APPLY_ABOUT, APPLY);
-    let repair = page(alloc, "repair", REPAIR_ABOUT, REPAIR);
     top(alloc)
-        .subcommand(on_image(alloc, sizes, show)?)?
-        .subcommand(on_image(alloc, sizes, verify)?)?
-        .subcommand(on_place(alloc, sizes, locate)?)?
-        .subcommand(on_words(alloc, sizes, edit)?)?
-        .subcommand(on_words(alloc, sizes, plan)?)?
-        .subcommand(on_plan(alloc, sizes, check)?)?
-        .subcommand(on_plan(alloc, sizes, apply)?)?
-        .subcommand(on_image(alloc, sizes, repair)?)
+        .subcommand(on_image(alloc, sizes, page(alloc, "show", SHOW_ABOUT, SHOW))?)?
+        .subcommand(on_image(alloc, sizes, page(alloc, "verify", VERIFY_ABOUT, VERIFY))?)?
+        .subcommand(on_place(alloc, sizes, page(alloc, "locate", LOCATE_ABOUT, LOCATE))?)?
+        .subcommand(on_words(alloc, sizes, page(alloc, "edit", EDIT_ABOUT, EDIT))?)?
+        .subcommand(on_words(alloc, sizes, page(alloc, "plan", PLAN_ABOUT, PLAN))?)?
+        .subcommand(on_plan(alloc, sizes, page(alloc, "check", CHECK_ABOUT, CHECK))?)?
+        .subcommand(on_plan(alloc, sizes, page(alloc, "apply", APPLY_ABOUT, APPLY))?)?
+        .subcommand(on_image(alloc, sizes, page(alloc, "repair", REPAIR_ABOUT, REPAIR))?)
 }
 
 fn text_of(alloc: Global, matches: &ArgMatches<'_>, id: &str) -> Result<String, AllocError>
