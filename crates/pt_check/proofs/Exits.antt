@@ -19,13 +19,14 @@ use Rattle.pt_check.specs.Misplaced.{MisplacedIs}
 use Rattle.pt_check.specs.laws.Accepted.{is_switch}
 use Rattle.pt_members.specs.Owned.{OwnedOf}
 use Rattle.pt_members.specs.Tables.{TableOf}
-use Rattle.pt_check.specs.Answers.{WrongIs, Answers, Promises}
+use Rattle.pt_check.specs.Answers.{WrongIs, Answers, Promises, concluded}
 use Rattle.pt_check.specs.declared.answer.Why.{Why}
 use Rattle.pt_check.specs.declared.answer.Why.TheVariants.{TooManyWrites, OutOfRange, BootCode, ReadSector, Neither, NotATable, Owned}
 use Rattle.pt_check.specs.declared.answer.Why.TheVariants.{Final}
 use Rattle.pt_check.specs.declared.answer.Answer.TheVariants.{No, Yes}
 use Rattle.pt_check.specs.declared.objection.Found.{Found}
-use Rattle.pt_check.specs.declared.trial.Trial.TheVariants.{Refused}
+use Rattle.pt_check.specs.declared.trial.Trial.{Trial}
+use Rattle.pt_check.specs.declared.trial.Trial.TheVariants.{Passed, Refused}
 use Rattle.pt_check.proofs.Answering.{Known, known_writes, known_phase, known_all, cleared, safe}
 use Rattle.pt_check.proofs.Firsts.{first_sector}
 
@@ -84,7 +85,7 @@ module _ (b : ℕ) (d : Sectors) (phases : List Writes) where
         known_phase (Denotes b) (Reads b) (TableOf b) (OwnedOf b) (IsFinding b)
         (denotes_one_lem b) d phases fit.few fit.inside fit.boot old new leads i switch course t turns
 
-    pub refused : (w : Why) → TrialIs (Denotes b) (Reads b) phases d old new (Refused w) → Answers b d phases (No w)
+    refused : (w : Why) → TrialIs (Denotes b) (Reads b) phases d old new (Refused w) → Answers b d phases (No w)
     refused (ReadSector p lba) r =
         (r.why, none_before 3 (2 * p) (inr refl) (in_phase r.why.i r.switch r.course (2 * p) (inl (ap (λ (n : ℕ). 2 * n) r.why.number))))
     refused (Neither p) r = (
@@ -145,14 +146,14 @@ module _ (b : ℕ) (d : Sectors) (phases : List Writes) where
         )
 
         module _ (no_owned : NoOwned) where
-          pub final : (f : Finding) → WrongIs b (after phases d) (Some f) → Answers b d phases (No (Final f))
+          final : (f : Finding) → WrongIs b (after phases d) (Some f) → Answers b d phases (No (Final f))
           final f wrong = (
             wrong,
             none_before 6 0 (inl refl)
                 (past_phases 6 (omega arith) (λ lt. no_stray) (λ lt. no_owned) (λ lt. absurd (omega (arith, lt)))),
           )
 
-          pub yes : WrongIs b (after phases d) None → Answers b d phases (Yes (switch_number switch))
+          yes : WrongIs b (after phases d) None → Answers b d phases (Yes (switch_number switch))
           yes well = (
             (λ v. none_before 7 0 (inl refl)
                 (past_phases 7 (omega arith) (λ lt. no_stray) (λ lt. no_owned)
@@ -160,14 +161,14 @@ module _ (b : ℕ) (d : Sectors) (phases : List Writes) where
             is_switch (Denotes b) (Reads b) (denotes_one_lem b) phases d old new leads switch course.layouts,
           )
 
-          pub promised : WrongIs b (after phases d) None → Promises b d phases (Yes (switch_number switch))
+          promised : WrongIs b (after phases d) None → Promises b d phases (Yes (switch_number switch))
           promised well =
               safe (Denotes b) (Reads b) (TableOf b) (OwnedOf b) (IsFinding b)
               (denotes_one_lem b) d phases fit.few fit.inside fit.boot old new leads switch course
               (decide b) (Healthy b) well no_stray no_owned
 
       -- a write in the wrong place
-      pub misplaced_no : (w : Why) → MisplacedIs b (writes_in phases) old new (Some w) → Answers b d phases (No w)
+      misplaced_no : (w : Why) → MisplacedIs b (writes_in phases) old new (Some w) → Answers b d phases (No w)
       misplaced_no (NotATable lba) (f, is, first) = subst (λ (x : Lba). Answers b d phases (No (NotATable x))) is (stray f first)
       misplaced_no (Owned lba) (no_stray, (f, is, first)) =
           subst (λ (x : Lba). Answers b d phases (No (Owned x))) is (owned no_stray f first)
@@ -177,3 +178,12 @@ module _ (b : ℕ) (d : Sectors) (phases : List Writes) where
       misplaced_no (ReadSector p lba) is = absurd is
       misplaced_no (Neither p) is = absurd is
       misplaced_no (Final f) is = absurd is
+
+    pub concluding : (t : Trial) (m : Option Why) (f : Option Finding) → TrialIs (Denotes b) (Reads b) phases d old new t
+        → MisplacedIs b (writes_in phases) old new m → WrongIs b (after phases d) f
+        → Answers b d phases (concluded t m f) × Promises b d phases (concluded t m f)
+    concluding (Refused w) m f tried misplaced wrong = (refused w tried, tt)
+    concluding (Passed switch) (Some w) f course misplaced wrong = (misplaced_no switch course w misplaced, tt)
+    concluding (Passed switch) None (Some f) course misplaced wrong = (final switch course misplaced.0 misplaced.1 f wrong, tt)
+    concluding (Passed switch) None None course misplaced wrong =
+        (yes switch course misplaced.0 misplaced.1 wrong, promised switch course misplaced.0 misplaced.1 wrong)

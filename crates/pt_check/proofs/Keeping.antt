@@ -1,5 +1,5 @@
 -- What each disk stopped in a plan keeps, by the writes of the plan alone.
-use Rattle.std.proofs.Common.{◌≡◌, ◌∙◌, ◌⊎◌, inl, inr, ⊎_elim, ℕ, zero, suc, List, [], ◌∷◌, length, take, refl, sym, subst, arith, Bool}
+use Rattle.std.proofs.Common.{◌≡◌, ◌∙◌, inl, inr, ⊎_elim, ℕ, zero, suc, List, [], ◌∷◌, length, take, refl, sym, subst, arith, Bool}
 use Rattle.std.proofs.Common.{true, false, Option}
 use Rattle.pt_layout.specs.declared.finding.Finding.{Finding}
 use Rattle.std.specs.Str.{bytes_eq}

@@ -12,8 +12,13 @@ use Rattle.pt_layout.specs.Healthy.{Healthy}
 use Rattle.pt_members.specs.Owned.{OwnedOf}
 use Rattle.pt_members.specs.Tables.{TableOf}
 use Rattle.pt_check.specs.Reasons.{IsAnswer}
+use Rattle.pt_check.specs.Course.{switch_number}
 use Rattle.pt_check.specs.declared.answer.Answer.{Answer}
 use Rattle.pt_check.specs.declared.answer.Answer.TheVariants.{No, Yes}
+use Rattle.pt_check.specs.declared.answer.Why.{Why}
+use Rattle.pt_check.specs.declared.answer.Why.TheVariants.{Final}
+use Rattle.pt_check.specs.declared.trial.Trial.{Trial}
+use Rattle.pt_check.specs.declared.trial.Trial.TheVariants.{Passed, Refused}
 
 -- the first thing that is wrong with d, none where it is healthy
 abbrev pub WrongIs : ℕ → Sectors → Option Finding → Type 0
@@ -33,3 +38,10 @@ Promises b d phases (Yes switch) = Safe (Denotes b) (Healthy b) (TableOf b) (Own
 abbrev pub Fits : {b : _} → ℕ → Plan b → Answer → Type 0
 Fits n plan (No why) = Unit {0}
 Fits n plan (Yes switch) = InRange n plan
+
+-- the answer from its parts: the reason of the phases, that of the writes' places, that of the finished disk, else the switch
+abbrev pub concluded : Trial → Option Why → Option Finding → Answer
+concluded (Refused w) misplaced finding = No w
+concluded (Passed switch) (Some w) finding = No w
+concluded (Passed switch) None (Some f) = No (Final f)
+concluded (Passed switch) None None = Yes (switch_number switch)

@@ -5,7 +5,7 @@ ghost use Rattle.pt_sector.specs.Calls.{Blames};
 ghost use Rattle.pt_sector.specs.Reads.{OnlyReads};
 ghost use Rattle.pt_sector.specs.Sectors.{IsSectorSize};
 ghost use Rattle.pt_apply.specs.Plans.{phases_of, writes_in};
-ghost use Rattle.pt_check.specs.Answers.{Answers, Promises, Fits};
+ghost use Rattle.pt_check.specs.Answers.{Answers, Promises, Fits, concluded};
 ghost use Rattle.pt_check.specs.Course.{switch_number};
 ghost use Rattle.pt_check.specs.Failed.{fault_in};
 ghost use Rattle.pt_check.specs.Misplaced.{MisplacedIs};
@@ -22,6 +22,7 @@ use crate::recovered::{Recovered, read_layout};
 use crate::trial::{Layouts, Trial, try_phases};
 use crate::writes::count_writes;
 use pt_apply::Plan;
+use pt_layout::Finding;
 use pt_sector::Disk;
 use std::alloc::Global;
 
@@ -104,18 +105,27 @@ fn check_phases<const B: usize, D: Disk<B>>(
         finding,
     } = end;
     let layouts = Layouts { old, new };
-    let switch = match try_phases(alloc, disk, plan, count, &layouts, trace)? {
+    let trial = try_phases(alloc, disk, plan, count, &layouts, trace)?;
+    Ok(conclude(trial, misplaced(plan, &layouts), finding))
+}
+
+/// The answer from its parts: the first reason against the plan, or the switch. What is wrong with the finished disk
+/// comes last.
+fn conclude(trial: Trial, misplaced: Option<Why>, finding: Option<Finding>) -> Answer
+    ensures { result ≡ concluded trial misplaced finding }
+{
+    let switch = match trial {
         Trial::Passed(switch) => switch,
-        Trial::Refused(why) => return Ok(Answer::No(why)),
+        Trial::Refused(why) => return Answer::No(why),
     };
-    if let Some(why) = misplaced(plan, &layouts) {
-        return Ok(Answer::No(why));
+    if let Some(why) = misplaced {
+        return Answer::No(why);
     }
     match finding {
-        None => Ok(Answer::Yes {
+        None => Answer::Yes {
             switch: number(switch),
-        }),
-        Some(finding) => Ok(Answer::No(Why::Final(finding))),
+        },
+        Some(finding) => Answer::No(Why::Final(finding)),
     }
 }
 

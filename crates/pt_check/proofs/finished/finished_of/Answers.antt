@@ -1,4 +1,3 @@
-use Rattle.std.proofs.Common.{sym, subst}
 use Rattle.pt_check.proofs.Finishing.{denotes_found, wrong_found}
 use Rattle.pt_check.proofs.finished.finished_of.Goals as goal
 
