@@ -1,4 +1,3 @@
-pub mod Commands
 pub mod Values
 pub mod Rows
 pub mod Walks

@@ -53,6 +53,10 @@ plan_rules sizes = needed (codes "IMAGE") ∷ needed (codes "PLANFILE") ∷ sect
 abbrev pub subcommand : Text → List Rule → Shape
 subcommand name rules = record (new_shape name) { rules = rules }
 
+-- the same as a command of its own
+abbrev pub page : Text → List Rule → App
+page name rules = record { top = subcommand name rules; subs = [] }
+
 -- the command but for its subcommands, of which one is required
 abbrev pub top : App
 top = record { top = record (new_shape (codes "ptab")) { has_version = true; subcommand_required = true }; subs = [] }

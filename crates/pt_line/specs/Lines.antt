@@ -1,16 +1,16 @@
 -- What a command line asks for, by `clap`'s meaning of its words at the command.
-use Rattle.std.specs.Prelude.{◌≡◌, ◌≢◌, ◌⊎◌, false, List, [], ◌∷◌, map, Option, Some, None, Result, Ok, Err, String, string_bytes, codes}
+use Rattle.std.specs.Prelude.{◌≡◌, ◌≢◌, ◌⊎◌, false, List, [], ◌∷◌, map, Option, Some, None, Result, IfOk, Ok, Err, String, string_bytes, codes}
 use Rattle.std.specs.Prelude.{unwrap_or, option_map}
 use Rattle.std.specs.Borrow.{Bor}
 use Rattle.std.specs.declared.alloc.Global.{Global}
 use Rattle.clap.specs.Walk.{texts}
-use Rattle.clap.specs.Words.{App, IsAmong, Kinds, Row, Rule, Text, all_of, app_of, fault_of, first_of, new_app, rule_of, subcommand_of}
+use Rattle.clap.specs.Words.{App, IsAmong, Kinds, Row, Rule, Text, all_of, app_of, fault_of, first_of, rule_of, subcommand_of, with_subcommand}
 use Rattle.clap.specs.declared.builder.arg.Arg.{Arg}
 use Rattle.clap.specs.declared.builder.command.Command.{Command}
 use Rattle.clap.specs.declared.builder.command.Command.TheViews.{out-Command}
 use Rattle.clap.specs.declared.error.kind.ErrorKind.{ErrorKind}
 use Rattle.clap.specs.declared.error.kind.ErrorKind.TheVariants.{DisplayHelp, DisplayVersion, OutOfMemory}
-use Rattle.pt_line.specs.CommandLine.{ptab, subcommand}
+use Rattle.pt_line.specs.CommandLine.{ptab}
 use Rattle.pt_line.specs.declared.line.Job.{Job}
 use Rattle.pt_line.specs.declared.line.Job.TheVariants as job
 use Rattle.pt_line.specs.declared.line.Line.{Line}
@@ -29,9 +29,9 @@ pub record IsCommand (a : App) (c : Command) : Type 0 where
   pub app : app_of c ≡ a
   pub local : (out-Command c).has_globals ≡ false
 
--- a command that had no argument has these
-abbrev pub AddsRules : List Rule → Command → Command → Type 0
-AddsRules rules old new = (name : Text) → IsCommand (new_app name) old → IsCommand (record { top = subcommand name rules; subs = [] }) new
+-- where a command and a page were made, the page comes behind the command's others
+abbrev pub AddsPage : {E : Type 0} → Result Command E → Result Command E → Result Command E → Type 0
+AddsPage ptab page result = (a s : App) → IfOk ptab (IsCommand a) → IfOk page (IsCommand s) → IfOk result (IsCommand (with_subcommand a s.top))
 
 -- ---- the job
 

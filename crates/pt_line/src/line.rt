@@ -6,7 +6,7 @@ ghost use Rattle.clap.specs.Walk.{texts as slice_texts};
 ghost use Rattle.clap.specs.Words.{found_of, kind_of, new_app, rows_of, subcommand_rows_of};
 ghost use Rattle.pt_line.specs.CommandLine as spec;
 ghost use Rattle.pt_line.specs.declared.line.LineError.TheVariants.{Memory};
-ghost use Rattle.pt_line.specs.Lines.{AddsRules, GivesIf, IfJob, IsArg, IsCommand, IsSizeNamed, IsSizeOrLess, Means, MeansJob, Tells};
+ghost use Rattle.pt_line.specs.Lines.{AddsPage, GivesIf, IfJob, IsArg, IsCommand, IsSizeNamed, IsSizeOrLess, Means, MeansJob, Tells};
 ghost use Rattle.pt_line.specs.Lines.{text_in, texts_in};
 
 use crate::help::{
@@ -169,63 +169,87 @@ fn top<'a>(alloc: Global) -> Command<'a>
 fn on_image<'a>(
     alloc: Global,
     sizes: &'a [&'a str],
-    page: Command<'a>,
+    name: &'a str,
+    about: &'a str,
+    after: &'a str,
 ) -> Result<Command<'a>, AllocError>
-    ensures { IfOk result (AddsRules (spec.image_rules sizes.entry) page.entry) }
+    ensures { IfOk result (IsCommand (spec.page name.entry.now (spec.image_rules sizes.entry))) }
 {
-    page.arg(image(alloc))?.arg(sector_size(alloc, sizes))
+    let args = vec![in alloc; image(alloc), sector_size(alloc, sizes)]?;
+    page(alloc, name, about, after).args(args)
 }
 
 fn on_place<'a>(
     alloc: Global,
     sizes: &'a [&'a str],
-    page: Command<'a>,
+    name: &'a str,
+    about: &'a str,
+    after: &'a str,
 ) -> Result<Command<'a>, AllocError>
-    ensures { IfOk result (AddsRules (spec.place_rules sizes.entry) page.entry) }
+    ensures { IfOk result (IsCommand (spec.page name.entry.now (spec.place_rules sizes.entry))) }
 {
-    page.arg(image(alloc))?
-        .arg(needed(alloc, "PATH", "A partition, as 3, 5 or 2.a"))?
-        .arg(needed(alloc, "K", "A sector of the partition, from 0 on"))?
-        .arg(sector_size(alloc, sizes))
+    let args = vec![in alloc;
+        image(alloc),
+        needed(alloc, "PATH", "A partition, as 3, 5 or 2.a"),
+        needed(alloc, "K", "A sector of the partition, from 0 on"),
+        sector_size(alloc, sizes),
+    ]?;
+    page(alloc, name, about, after).args(args)
 }
 
 fn on_words<'a>(
     alloc: Global,
     sizes: &'a [&'a str],
-    page: Command<'a>,
+    name: &'a str,
+    about: &'a str,
+    after: &'a str,
 ) -> Result<Command<'a>, AllocError>
-    ensures { IfOk result (AddsRules (spec.word_rules sizes.entry) page.entry) }
+    ensures { IfOk result (IsCommand (spec.page name.entry.now (spec.word_rules sizes.entry))) }
 {
-    page.arg(image(alloc))?
-        .arg(fresh(alloc))?
-        .arg(sector_size(alloc, sizes))?
-        .arg(words(alloc))
+    let args = vec![in alloc;
+        image(alloc),
+        fresh(alloc),
+        sector_size(alloc, sizes),
+        words(alloc),
+    ]?;
+    page(alloc, name, about, after).args(args)
 }
 
 fn on_plan<'a>(
     alloc: Global,
     sizes: &'a [&'a str],
-    page: Command<'a>,
+    name: &'a str,
+    about: &'a str,
+    after: &'a str,
 ) -> Result<Command<'a>, AllocError>
-    ensures { IfOk result (AddsRules (spec.plan_rules sizes.entry) page.entry) }
+    ensures { IfOk result (IsCommand (spec.page name.entry.now (spec.plan_rules sizes.entry))) }
 {
-    page.arg(image(alloc))?
-        .arg(plan_file(alloc))?
-        .arg(sector_size(alloc, sizes))
+    let args = vec![in alloc; image(alloc), plan_file(alloc), sector_size(alloc, sizes)]?;
+    page(alloc, name, about, after).args(args)
+}
+
+/// The command with one more page, where both were made.
+fn with_page<'a>(
+    ptab: Result<Command<'a>, AllocError>,
+    page: Result<Command<'a>, AllocError>,
+) -> Result<Command<'a>, AllocError>
+    ensures { AddsPage ptab.entry page.entry result }
+{
+    ptab?.subcommand(page?)
 }
 
 fn command<'a>(alloc: Global, sizes: &'a [&'a str]) -> Result<Command<'a>, AllocError>
     ensures { IfOk result (IsCommand (spec.ptab sizes.entry)) }
 {
-    top(alloc)
-        .subcommand(on_image(alloc, sizes, page(alloc, "show", SHOW_ABOUT, SHOW))?)?
-        .subcommand(on_image(alloc, sizes, page(alloc, "verify", VERIFY_ABOUT, VERIFY))?)?
-        .subcommand(on_place(alloc, sizes, page(alloc, "locate", LOCATE_ABOUT, LOCATE))?)?
-        .subcommand(on_words(alloc, sizes, page(alloc, "edit", EDIT_ABOUT, EDIT))?)?
-        .subcommand(on_words(alloc, sizes, page(alloc, "plan", PLAN_ABOUT, PLAN))?)?
-        .subcommand(on_plan(alloc, sizes, page(alloc, "check", CHECK_ABOUT, CHECK))?)?
-        .subcommand(on_plan(alloc, sizes, page(alloc, "apply", APPLY_ABOUT, APPLY))?)?
-        .subcommand(on_image(alloc, sizes, page(alloc, "repair", REPAIR_ABOUT, REPAIR))?)
+    let ptab = Ok(top(alloc));
+    let ptab = with_page(ptab, on_image(alloc, sizes, "show", SHOW_ABOUT, SHOW));
+    let ptab = with_page(ptab, on_image(alloc, sizes, "verify", VERIFY_ABOUT, VERIFY));
+    let ptab = with_page(ptab, on_place(alloc, sizes, "locate", LOCATE_ABOUT, LOCATE));
+    let ptab = with_page(ptab, on_words(alloc, sizes, "edit", EDIT_ABOUT, EDIT));
+    let ptab = with_page(ptab, on_words(alloc, sizes, "plan", PLAN_ABOUT, PLAN));
+    let ptab = with_page(ptab, on_plan(alloc, sizes, "check", CHECK_ABOUT, CHECK));
+    let ptab = with_page(ptab, on_plan(alloc, sizes, "apply", APPLY_ABOUT, APPLY));
+    with_page(ptab, on_image(alloc, sizes, "repair", REPAIR_ABOUT, REPAIR))
 }
 
 fn text_of(alloc: Global, matches: &ArgMatches<'_>, id: &str) -> Result<String, AllocError>
