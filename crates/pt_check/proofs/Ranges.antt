@@ -1,17 +1,12 @@
 -- Writes in range, of the flat list and of the plan.
 use Rattle.std.proofs.Common.{◌≡◌, ◌∙◌, ⊎_elim, ℕ, ◌+◌, ◌<◌, List, ◌++◌, length, take, drop, get_or, slice_get, Some, refl, ap, arith}
-use Rattle.std.proofs.Common.{Vec, Ok, Err}
-use Rattle.std.specs.Prelude.{Result, IfOk}
+use Rattle.std.proofs.Common.{Vec}
 use Rattle.std.specs.declared.alloc.Global.{Global}
 use Rattle.std.proofs.lemmas.Bool.{cases_lt}
 use Rattle.std.proofs.lemmas.List.{get_or_default, length-map}
 use Rattle.pt_sector.specs.Writes.{Writes}
-use Rattle.pt_apply.specs.Plans.{writes_of, phases_in, phases_of, PhasesInRange, writes_in, NoneIs}
+use Rattle.pt_apply.specs.Plans.{writes_of, phases_in, PhasesInRange, writes_in, NoneIs}
 use Rattle.pt_apply.specs.declared.plan.Write.{Write}
-use Rattle.pt_apply.specs.declared.plan.Plan.{Plan}
-use Rattle.pt_check.specs.Answers.{Fits}
-use Rattle.pt_check.specs.declared.answer.Answer.{Answer}
-use Rattle.pt_check.specs.declared.answer.Answer.TheVariants.{No, Yes}
 use Rattle.pt_check.proofs.Firsts.{get_left, get_right, write_at, writes_split}
 
 below_or : (a n : ℕ) → ¬ ¬ (a < n) → a < n
@@ -36,13 +31,3 @@ in_range n ps nothing = λ k d lt j e low. at k d lt j e low
         ∙ get_left (writes_of p.items) (writes_in (drop (k + 1) (phases_in ps))) j (omega (arith, low, len))
         ∙ write_at p.items j w low (get_or_default p.items j e w low) in
         below_or w.lba.0 n (nothing _ (w.lba.0, w.bytes) here)
-
-pub fits : {b : _} (n : ℕ) (plan : Plan b) (answer : Answer) → NoneIs (λ (w : ℕ × List ℕ). ¬ (w.0 < n)) (writes_in (phases_of plan))
-    → Fits n plan answer
-fits n plan (No w) nothing = tt
-fits n plan (Yes s) nothing = in_range n plan.phases.items nothing
-
-pub fits_all : {b : _} {E : Type 0} (n : ℕ) (plan : Plan b) (r : Result Answer E)
-    → NoneIs (λ (w : ℕ × List ℕ). ¬ (w.0 < n)) (writes_in (phases_of plan)) → IfOk r (λ a. Fits n plan a)
-fits_all n plan (Ok a) nothing = fits n plan a nothing
-fits_all n plan (Err e) nothing = tt

@@ -2,10 +2,10 @@
 
 ghost use Rattle.std.specs.Prelude.{◌≡◌, ◌≤◌, length, IfOk};
 ghost use Rattle.pt_sector.specs.Calls.{Blames};
-ghost use Rattle.pt_sector.specs.Reads.{OnlyReads};
+ghost use Rattle.pt_sector.specs.Reads.{OnlyReads, read_of};
 ghost use Rattle.pt_sector.specs.Sectors.{IsSectorSize};
 ghost use Rattle.pt_apply.specs.Plans.{phases_of, writes_in};
-ghost use Rattle.pt_check.specs.Answers.{Answers, Promises, Fits, concluded};
+ghost use Rattle.pt_check.specs.Answers.{Answers, AreInRange, AreJudged, Promises, Fits, concluded};
 ghost use Rattle.pt_check.specs.Course.{switch_number};
 ghost use Rattle.pt_check.specs.Failed.{fault_in};
 ghost use Rattle.pt_check.specs.Misplaced.{MisplacedIs};
@@ -23,7 +23,7 @@ use crate::trial::{Layouts, Trial, try_phases};
 use crate::writes::count_writes;
 use pt_apply::Plan;
 use pt_layout::Finding;
-use pt_sector::Disk;
+use pt_sector::{Disk, FailedRead};
 use std::alloc::Global;
 
 /// Whether the plan may be applied to the disk as it is now, wherever the plan comes from.
@@ -66,17 +66,41 @@ pub fn check_known<const B: usize, D: Disk<B>>(
     ensures answers { D.tells → IfOk result (λ a. Answers B (D.told disk.old).seen (phases_of plan.now) a) }
     ensures promises { D.tells → IfOk result (λ a. Promises B (D.told disk.old).seen (phases_of plan.now) a) }
 {
+    match judge_writes(disk, plan)? {
+        Judged::Refused(why) => Ok(Answer::No(why)),
+        Judged::Fit(count) => check_phases(alloc, disk, plan, count, before),
+    }
+}
+
+/// What the writes by themselves come to: a reason against the plan, or their number.
+#[derive(Clone, Copy)]
+enum Judged {
+    Refused(Why),
+    Fit(usize),
+}
+
+/// Whether the writes are few, each of a sector of the disk, and none of another boot code.
+fn judge_writes<const B: usize, D: Disk<B>>(
+    disk: &mut D,
+    plan: &Plan<B>,
+) -> Result<Judged, FailedRead>
+    requires size { IsSectorSize B }
+    ensures same { OnlyReads D.Disk disk.old disk.new }
+    ensures blames { Blames read_of result (D.faults disk.old) (D.faults disk.new) }
+    ensures in_range { IfOk result (AreInRange (D.count disk.old) plan.now) }
+    ensures judged { D.tells → IfOk result (AreJudged B (D.told disk.old).seen (phases_of plan.now)) }
+{
     let count = match count_writes(plan) {
         Some(count) => count,
-        None => return Ok(Answer::No(Why::TooManyWrites)),
+        None => return Ok(Judged::Refused(Why::TooManyWrites)),
     };
     let sectors = disk.sectors();
     if let Some(found) = first_in_plan(&OutOfRange { sectors }, plan) {
-        return Ok(Answer::No(Why::OutOfRange(found.number)));
+        return Ok(Judged::Refused(Why::OutOfRange(found.number)));
     }
     match other_boot_code(disk, plan)? {
-        None => check_phases(alloc, disk, plan, count, before),
-        Some(number) => Ok(Answer::No(Why::BootCode(number))),
+        None => Ok(Judged::Fit(count)),
+        Some(number) => Ok(Judged::Refused(Why::BootCode(number))),
     }
 }
 

@@ -5,8 +5,8 @@ use Rattle.pt_check.specs.First.{IsFirst, FirstWriteIs}
 use Rattle.pt_check.specs.Reasons.{FirstWrite}
 use Rattle.pt_check.specs.declared.objection.Found.{Found}
 use Rattle.pt_check.proofs.Exits.{outside, boot}
-use Rattle.pt_check.proofs.Ranges.{fits_all}
-use Rattle.pt_check.proofs.checker.check_known.Goals as goal
+use Rattle.pt_check.proofs.Ranges.{in_range}
+use Rattle.pt_check.proofs.checker.judge_writes.Goals as goal
 
 abbrev Past : ℕ → ℕ × List ℕ → Type 0
 Past n w = ¬ (w.0 < n)
@@ -16,16 +16,16 @@ past_first : (phases : List Writes) (n m : ℕ) (f : Found) → n ≡ m → Firs
 past_first phases n m f same (k, w, number, lba, first) =
     record { at = k; write = w; is = number; first = subst (λ (z : ℕ). IsFirst (Past z) (writes_in phases) k w) same first }
 
-pub returns-in-Some-first_in_plan-clause-answers : goal.returns-in-Some-first_in_plan-clause-answers
-returns-in-Some-first_in_plan-clause-answers g c = λ tells.
+pub returns-in-Some-first_in_plan-clause-judged : goal.returns-in-Some-first_in_plan-clause-judged
+returns-in-Some-first_in_plan-clause-judged g c = λ tells.
     let d = (g.D.Disk.told c.args.disk.now).seen in
     let phases = phases_of c.args.plan.now in
     outside g.row.B d phases c.in-Some-first_in_plan.found.number (omega (arith, c.in-Some.ensures.few.0, c.in-Some.ensures.few.1))
     (past_first phases c.sectors-sectors.result (length d) c.in-Some-first_in_plan.found
     (c.sectors-sectors.ensures ∙ sym (g.met.D.Disk.sized c.args.disk.now tells)) c.in-Some-first_in_plan.ensures)
 
-pub returns-in-Some-2-clause-answers : goal.returns-in-Some-2-clause-answers
-returns-in-Some-2-clause-answers g c = λ tells.
+pub returns-in-Some-2-clause-judged : goal.returns-in-Some-2-clause-judged
+returns-in-Some-2-clause-judged g c = λ tells.
     let d = (g.D.Disk.told c.args.disk.now).seen in
     let phases = phases_of c.args.plan.now in
     boot g.row.B d phases c.in-Some-2.number (omega (arith, c.in-Some.ensures.few.0, c.in-Some.ensures.few.1))
@@ -34,5 +34,8 @@ returns-in-Some-2-clause-answers g c = λ tells.
     (rw c.in-Some-2.is at (c.in_ok-other_boot_code.ensures.found tells))
 
 pub returns-in-None-2-clause-in_range : goal.returns-in-None-2-clause-in_range
-returns-in-None-2-clause-in_range g c =
-    fits_all _ c.args.plan.now c.check_phases.result (rw c.sectors-sectors.ensures at c.in_default.ensures)
+returns-in-None-2-clause-in_range g c = (
+  c.in-Some.ensures.few.0,
+  omega (arith, c.in-Some.ensures.few.0, c.in-Some.ensures.few.1),
+  in_range _ c.args.plan.now.phases.items (rw c.sectors-sectors.ensures at c.in_default.ensures),
+)
