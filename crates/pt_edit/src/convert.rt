@@ -84,6 +84,22 @@ fn table_for<const B: usize>(
     })
 }
 
+// The table of the GPT that a layout becomes.
+fn table_of<const B: usize>(
+    alloc: Global,
+    layout: &Layout,
+    guids: &[Guid],
+) -> Result<Table, Refusal>
+    requires size { IsSectorSize B }
+    ensures may { OnOk result (MayConvert B guids.now layout.now) }
+    ensures ok { IfOk result (λ t. IsGptOf B layout.now.sectors guids.now (partitions layout.now.body) t) }
+    ensures err { IfErr result (λ refusal. refusal ≢ Refusal.Memory → NotConverted B guids.now layout.now refusal) }
+{
+    let partitions = partitions_in(alloc, &layout.body)?;
+    may_convert::<B>(layout, &partitions, guids)?;
+    Ok(table_for::<B>(alloc, layout.sectors, &partitions, guids)?)
+}
+
 /// The layout of an MBR as that of a GPT of 128 entries: each partition but the extended one keeps its number and its sectors and gets
 /// the type GUID of its type, no attributes and an empty name; the labels stay. Of `guids` the first is the disk's, the others are the
 /// partitions', by ascending number; there may be more. [`guids_for`](crate::guids_for) says how many are taken.
@@ -102,9 +118,7 @@ pub fn to_gpt<const B: usize>(
     ensures ok { IfOk result (λ made. Converted B guids.now layout made) }
     ensures err { IfErr result (λ refusal. refusal ≢ Refusal.Memory → NotConverted B guids.now layout refusal) }
 {
-    let partitions = partitions_in(alloc, &layout.body)?;
-    may_convert::<B>(&layout, &partitions, guids)?;
-    let table = table_for::<B>(alloc, layout.sectors, &partitions, guids)?;
+    let table = table_of::<B>(alloc, &layout, guids)?;
     Ok(Layout {
         sectors: layout.sectors,
         body: Body::Gpt(table),

@@ -4,6 +4,7 @@ ghost use Rattle.std.specs.Prelude.{◌≡◌, ◌≢◌, ◌≤◌, ◌<◌, �
 ghost use Rattle.pt_space.specs.Area.{area_of};
 ghost use Rattle.pt_edit.specs.NewEntry.{IsUnused, TakesNumber, NoNumber, new_type, table_area, HasPlace, NoPlace, IsWrongSize};
 ghost use Rattle.pt_edit.specs.NewEntry.{new_entry_of, new_labels, with_new_entry, EntryMade, EntryNotMade};
+ghost use Rattle.pt_edit.specs.Changes.{Elsewhere};
 ghost use Rattle.pt_edit.specs.Whole.{whole_of};
 
 use crate::entries::is_elsewhere;
@@ -189,6 +190,35 @@ fn next_guid(fresh: &[Guid]) -> Option<Guid>
     Some(fresh[0])
 }
 
+// The place and the GUID of a new entry.
+fn choose<const B: usize>(
+    alloc: Global,
+    table: &Table,
+    asked: &Asked,
+    fresh: &[Guid],
+) -> Result<(Spot, Guid), Refusal>
+    ensures place { IfOk result (λ r. HasPlace table.now asked.now r.0.number r.0.kind.0 r.0.run) }
+    ensures small { IfOk result (λ r. r.0.run.first < 2 ^ 64) }
+    ensures fits { IfOk result (λ r. r.0.run.last < 2 ^ 64) }
+    ensures size { IfOk result (λ r. ¬ IsWrongSize B r.0.kind.0 r.0.run) }
+    ensures next { IfOk result (λ r. fresh.now ≡ r.1 ∷ drop 1 fresh.now) }
+    ensures alone { IfOk result (λ r. ¬ Elsewhere table.now r.0.number r.1) }
+    ensures err { IfErr result (λ refusal. refusal ≢ Refusal.Memory → EntryNotMade B table.now asked.now fresh.now refusal) }
+{
+    let spot = find_spot(alloc, table, asked)?;
+    if is_wrong_size::<B>(&spot) {
+        return Err(Refusal::ContainerType);
+    }
+    let guid = match next_guid(fresh) {
+        Some(guid) => guid,
+        None => return Err(Refusal::NoFreshGuid),
+    };
+    if is_elsewhere(table, spot.number, &guid) {
+        return Err(Refusal::SameGuid);
+    }
+    Ok((spot, guid))
+}
+
 // The layout with a new entry, which takes the first of the fresh GUIDs.
 pub(crate) fn new_entry<const B: usize>(
     alloc: Global,
@@ -199,16 +229,6 @@ pub(crate) fn new_entry<const B: usize>(
     ensures ok { IfOk result (λ made. EntryMade B gpt.table asked.now fresh.now (whole_of gpt) made) }
     ensures err { IfErr result (λ refusal. refusal ≢ Refusal.Memory → EntryNotMade B gpt.table asked.now fresh.now refusal) }
 {
-    let spot = find_spot(alloc, &gpt.table, asked)?;
-    if is_wrong_size::<B>(&spot) {
-        return Err(Refusal::ContainerType);
-    }
-    let guid = match next_guid(fresh) {
-        Some(guid) => guid,
-        None => return Err(Refusal::NoFreshGuid),
-    };
-    if is_elsewhere(&gpt.table, spot.number, &guid) {
-        return Err(Refusal::SameGuid);
-    }
-    Ok(put_new::<B>(alloc, gpt, &spot, &guid)?)
+    let chosen = choose::<B>(alloc, &gpt.table, asked, fresh)?;
+    Ok(put_new::<B>(alloc, gpt, &chosen.0, &chosen.1)?)
 }

@@ -2,9 +2,13 @@
 
 ghost use Rattle.std.specs.Prelude.{◌≡◌, IfOk, IfErr, IfSome, IfNone, Some, None};
 ghost use Rattle.pt_edit.specs.Spots.{is_slice, entry_type, EntryTyped, EntryNotTyped, EntryDeleted, EntryNotDeleted};
+ghost use Rattle.pt_edit.specs.Changes.{with_body, with_entry};
 ghost use Rattle.pt_edit.specs.Whole.{whole_of};
+ghost use Rattle.pt_members.specs.declared.layout.Layout.{Layout};
+ghost use Rattle.pt_members.specs.declared.layout.Body.TheVariants.{Gpt as OfGpt};
 
 use crate::gpt::{Gpt, used_entry};
+use pt_gpt::{Entry, Table};
 use pt_guid::{Guid, type_of_code};
 use pt_members::{Layout, is_slice_type};
 use pt_words::{Code, Refusal};
@@ -27,16 +31,12 @@ pub(crate) fn entry_type_of(code: &Code) -> Option<Guid>
     }
 }
 
-// The layout with another type of an entry.
-pub(crate) fn set_entry_kind<const B: usize>(
-    gpt: Gpt,
-    number: u64,
-    code: &Code,
-) -> Result<Layout, Refusal>
-    ensures ok { IfOk result (λ made. EntryTyped B gpt.table number code.now (whole_of gpt) made) }
-    ensures err { IfErr result (EntryNotTyped B gpt.table number code.now) }
+// A used entry with another type.
+fn retyped<const B: usize>(table: &Table, number: u64, code: &Code) -> Result<Entry, Refusal>
+    ensures ok { IfOk result (λ e. (o : Layout) → EntryTyped B table.now number code.now o (with_body o (OfGpt (with_entry table.now number e)))) }
+    ensures err { IfErr result (EntryNotTyped B table.now number code.now) }
 {
-    let mut entry = match used_entry(&gpt.table, number) {
+    let mut entry = match used_entry(table, number) {
         Some(entry) => entry,
         None => return Err(Refusal::NoSuchPartition),
     };
@@ -51,6 +51,19 @@ pub(crate) fn set_entry_kind<const B: usize>(
         return Err(Refusal::ContainerType);
     }
     entry.kind = kind;
+    Ok(entry)
+}
+
+// The layout with another type of an entry.
+pub(crate) fn set_entry_kind<const B: usize>(
+    gpt: Gpt,
+    number: u64,
+    code: &Code,
+) -> Result<Layout, Refusal>
+    ensures ok { IfOk result (λ made. EntryTyped B gpt.table number code.now (whole_of gpt) made) }
+    ensures err { IfErr result (EntryNotTyped B gpt.table number code.now) }
+{
+    let entry = retyped::<B>(&gpt.table, number, code)?;
     Ok(gpt.with_entry(number, entry))
 }
 

@@ -30,15 +30,15 @@ pub struct State {
 // The state after `o`.
 fn take_empty<const B: usize>(
     alloc: Global,
-    state: State,
+    state: &State,
     sectors: u64,
     guids: &[Guid],
 ) -> Result<State, Refusal>
     requires size { IsSectorSize B }
-    requires taken { state.taken ≤ length guids.now }
+    requires taken { state.now.taken ≤ length guids.now }
     ensures taken { IfOk result (λ made. made.taken ≤ length guids.now) }
-    ensures ok { IfOk result (λ made. Emptied B sectors (state_of guids.now state) (state_of guids.now made)) }
-    ensures err { IfErr result (λ refusal. refusal ≢ Refusal.Memory → EmptyRefused B sectors (state_of guids.now state) refusal) }
+    ensures ok { IfOk result (λ made. Emptied B sectors (state_of guids.now state.now) (state_of guids.now made)) }
+    ensures err { IfErr result (λ refusal. refusal ≢ Refusal.Memory → EmptyRefused B sectors (state_of guids.now state.now) refusal) }
 {
     if sectors < 2 * array_sectors::<B>() + 4 {
         return Err(Refusal::NoRoomForGpt);
@@ -158,7 +158,7 @@ pub(crate) fn take_word<const B: usize>(
             alignment: *k,
             taken: state.taken,
         }),
-        Edit::Empty => take_empty::<B>(alloc, state, sectors, guids),
+        Edit::Empty => take_empty::<B>(alloc, &state, sectors, guids),
         _ => take_layout::<B>(alloc, state, word, guids),
     }
 }

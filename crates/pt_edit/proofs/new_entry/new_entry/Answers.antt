@@ -1,39 +1,7 @@
-use Rattle.std.proofs.Common.{refl}
 use Rattle.std.proofs.lemmas.Result.{err_from_is_err_and}
-use Rattle.pt_edit.specs.NewEntry.{no_place, wrong_size, no_guid, same_guid}
-use Rattle.pt_edit.proofs.Places.{refuted}
 use Rattle.pt_edit.proofs.new_entry.new_entry.Goals as goal
 
-pub returns-in_err-spot-clause-err : goal.returns-in_err-spot-clause-err
-returns-in_err-spot-clause-err g c =
+pub returns-in_err-chosen-clause-err : goal.returns-in_err-chosen-clause-err
+returns-in_err-chosen-clause-err g c =
     let p = err_from_is_err_and c.from_residual.result c.from_residual.ensures.1 in
-    rw (p.1, p.2) (λ some. no_place (c.in_err-spot.ensures.err some))
-
-pub returns-then-is_wrong_size-clause-err : goal.returns-then-is_wrong_size-clause-err
-returns-then-is_wrong_size-clause-err g c =
-    λ _. wrong_size _ _ _ c.in_ok-spot.ensures.ok (c.is_wrong_size.ensures.0 c.if-is_wrong_size.true) refl
-
-pub returns-in-None-clause-err : goal.returns-in-None-clause-err
-returns-in-None-clause-err g c = λ _.
-    no_guid _ _ _ c.in_ok-spot.ensures.ok (refuted _ c.is_wrong_size.result c.is_wrong_size.ensures c.if-is_wrong_size.false)
-    c.in-None.ensures.none refl
-
-pub returns-then-is_elsewhere-clause-err : goal.returns-then-is_elsewhere-clause-err
-returns-then-is_elsewhere-clause-err g c = λ _.
-    same_guid _ _ _ _ _ c.in_ok-spot.ensures.ok (refuted _ c.is_wrong_size.result c.is_wrong_size.ensures c.if-is_wrong_size.false)
-    c.in-Some.ensures.some
-    (c.is_elsewhere.ensures.0 c.if-is_elsewhere.true) refl
-
-pub returns-clause-ok : goal.returns-clause-ok
-returns-clause-ok g c = record {
-  number = c.in_ok-spot.spot.number;
-  kind = c.in_ok-spot.spot.kind.0;
-  run = c.in_ok-spot.spot.run;
-  guid = c.in-Some.guid;
-  rest = _;
-  place = c.in_ok-spot.ensures.ok;
-  size = refuted _ c.is_wrong_size.result c.is_wrong_size.ensures c.if-is_wrong_size.false;
-  next = c.in-Some.ensures.some;
-  alone = refuted _ c.is_elsewhere.result c.is_elsewhere.ensures c.if-is_elsewhere.false;
-  made = c.in_ok-put_new.ensures;
-}
+    rw (p.1, p.2) c.in_err-chosen.ensures.err

@@ -1,15 +1,14 @@
 -- What the words that are left make of the state is what all of them make.
 use Rattle.std.proofs.Common.{◌≤◌, drop, length, Result}
-use Rattle.std.specs.Option.{option_map}
 use Rattle.pt_members.specs.declared.layout.Layout.{Layout}
-use Rattle.pt_edit.specs.Edited.{Edited, EditedFrom}
+use Rattle.pt_edit.specs.Edited.{EditedFrom}
 use Rattle.pt_edit.specs.Fold.{state_of}
 use Rattle.pt_words.specs.declared.error.Refusal.{Refusal}
-use Rattle.pt_edit.proofs.fold.edit.Given as goal
+use Rattle.pt_edit.proofs.fold.take_words.Given as goal
 
 abbrev pub invariant-loop-word : goal.invariant-loop-word
 invariant-loop-word g l = record {
   taken : l.state.taken ≤ length l.guids;
   so_far : (r : Result Layout Refusal) → EditedFrom g.row.B l.sectors (drop l.word-index l.edits) (state_of l.guids l.state) r
-      → Edited g.row.B l.sectors (option_map (λ o. o.now) l.old) l.edits l.guids r;
+      → EditedFrom g.row.B l.sectors l.edits (state_of l.guids l.fn.first) r;
 }

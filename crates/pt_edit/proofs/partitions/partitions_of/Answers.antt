@@ -1,0 +1,12 @@
+use Rattle.std.proofs.Common.{◌++◌, List, ap, ◌∙◌}
+use Rattle.std.specs.Prelude.{option_to_list}
+use Rattle.pt_members.specs.Rows.{rows}
+use Rattle.pt_edit.specs.declared.partition.Partition.{Partition}
+use Rattle.pt_edit.proofs.Listing.{kept_more}
+use Rattle.pt_edit.proofs.partitions.partitions_of.Goals as goal
+
+pub loop-k-preserved : goal.loop-k-preserved
+loop-k-preserved c =
+    let here = option_to_list c.partition_at.result in
+    kept_more (rows 512 c.args.body.now) c.loop-k.k c.push.new.partitions.items here c.partition_at.ensures
+    (c.in_ok-push.ensures ∙ ap (λ (ps : List Partition). ps ++ here) c.loop-k.invariant)

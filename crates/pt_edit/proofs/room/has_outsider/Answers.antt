@@ -1,0 +1,24 @@
+use Rattle.std.proofs.Common.{arith, refl, sym, ◌∙◌}
+use Rattle.pt_edit.proofs.room.has_outsider.Goals as goal
+
+pub returns-then-is_near_outside : goal.returns-then-is_near_outside
+returns-then-is_near_outside g c =
+    let near = c.is_near_outside.ensures.0 c.if-is_near_outside.true in (
+      λ _. (
+        near.0,
+        (
+          c.in-Some.m,
+          (c.loop-k.k, omega (arith, c.loop-k-test.true, c.slot_count-k-end.ensures), sym c.slot.ensures.value ∙ c.in-Some.is),
+          near.1,
+        ),
+        near.2,
+      ),
+      λ _. refl,
+    )
+
+pub returns : goal.returns
+returns g c = (
+  λ f. absurd (cc f),
+  λ has. absurd (c.loop-k.invariant has.1.1.0 has.1.0 (omega (arith, has.1.1.1, c.loop-k-test.false, c.slot_count-k-end.ensures)) has.1.1.2
+      (has.0, has.1.2, has.2)),
+)
