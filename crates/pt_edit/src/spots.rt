@@ -33,7 +33,8 @@ pub(crate) fn entry_type_of(code: &Code) -> Option<Guid>
 
 // A used entry with another type.
 fn retyped<const B: usize>(table: &Table, number: u64, code: &Code) -> Result<Entry, Refusal>
-    ensures ok { IfOk result (λ e. (o : Layout) → EntryTyped B table.now number code.now o (with_body o (OfGpt (with_entry table.now number e)))) }
+    ensures ok { IfOk result (λ e. (o : Layout)
+        → EntryTyped B table.now number code.now o (with_body o (OfGpt (with_entry table.now number e)))) }
     ensures err { IfErr result (EntryNotTyped B table.now number code.now) }
 {
     let mut entry = match used_entry(table, number) {

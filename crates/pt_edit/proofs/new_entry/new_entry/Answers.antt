@@ -5,3 +5,17 @@ pub returns-in_err-chosen-clause-err : goal.returns-in_err-chosen-clause-err
 returns-in_err-chosen-clause-err g c =
     let p = err_from_is_err_and c.from_residual.result c.from_residual.ensures.1 in
     rw (p.1, p.2) c.in_err-chosen.ensures.err
+
+pub returns-clause-ok : goal.returns-clause-ok
+returns-clause-ok g c = record {
+  number = c.in_ok-chosen.chosen.0.number;
+  kind = c.in_ok-chosen.chosen.0.kind.0;
+  run = c.in_ok-chosen.chosen.0.run;
+  guid = c.in_ok-chosen.chosen.1;
+  rest = _;
+  place = c.in_ok-chosen.ensures.place;
+  size = c.in_ok-chosen.ensures.size;
+  next = c.in_ok-chosen.ensures.next;
+  alone = c.in_ok-chosen.ensures.alone;
+  made = c.in_ok-put_new.ensures;
+}
