@@ -1,5 +1,5 @@
 -- Where a device failed in a verdict.
-use Rattle.std.specs.Prelude.{◌≡◌, ◌<◌, ◌⊎◌, ℕ, List, length, get_or, Some, None}
+use Rattle.std.specs.Prelude.{◌≡◌, ◌<◌, ◌⊎◌, ℕ, List, length, get_or, Some, None, Result, Ok, Err, IfErr}
 use Rattle.std.proofs.Common.{sym, subst, inl, inr}
 use Rattle.pt_sector.specs.Sectors.{Sectors}
 use Rattle.pt_gpt.specs.Copy.{SideReads}
@@ -22,6 +22,8 @@ use Rattle.pt_members.specs.declared.layout.Body.{Body}
 use Rattle.pt_members.specs.declared.layout.Slice.{Slice}
 use Rattle.pt_recover.proofs.Failed.{place_at}
 use Rattle.pt_layout.specs.Findings.{VerdictReads}
+use Rattle.pt_layout.specs.Verdicts.{FailsAs}
+use Rattle.pt_layout.specs.declared.survey.Survey.{Survey}
 
 -- a copy's failure
 pub told_failed : (S : ℕ → Type 0) (e : CopyError) (f : Failure) → failure_of_copy e ≡ Some f → FailedInCopy S e → FailedIn S f
@@ -60,6 +62,17 @@ label_failed b n d y e is count =
 
 pub read_failed : (b : ℕ) (d : Sectors) (e : Failure) → FailedIn (Reads b d) e → FailedIn (VerdictReads b d) e
 read_failed b d e = failed_more (Reads b d) (VerdictReads b d) e (λ s reads. inl reads)
+
+pub survey_failed : (b : ℕ) (d : Sectors) (r : Result Survey Failure) → IfErr r (FailedIn (Reads b d)) → IfErr r (FailedIn (VerdictReads b d))
+survey_failed b d (Ok x) failed = tt
+survey_failed b d (Err e) failed = read_failed b d e failed
+
+-- a survey that recovery's reason ends
+pub reason_fails : (b : ℕ) (d : Sectors) (e : NoTable) (r : Result Survey Failure) → FailedInDisk (Reads b d) e
+    → IfErr r (FailsAs e) → IfErr r (FailedIn (VerdictReads b d))
+reason_fails b d e (Ok x) failed as_reason = tt
+reason_fails b d e (Err f) failed (inl is) = read_failed b d f (reason_failed (Reads b d) e f is failed)
+reason_fails b d e (Err f) failed (inr is) = rw is.1 tt
 
 abbrev pub BothReads : ℕ → Sectors → ℕ → Type 0
 BothReads b d s = SideReads b d Primary s ⊎ SideReads b d Backup s

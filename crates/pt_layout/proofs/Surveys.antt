@@ -1,7 +1,8 @@
 -- What a survey tells, put together.
-use Rattle.std.proofs.Common.{◌≡◌, ◌<◌, ◌^◌, ℕ, List, length, Bool, false, Option, Some, None, Ok, All, sym, subst, arith, inl, inr}
-use Rattle.std.specs.Prelude.{◌↔◌, ◌⊎◌, IsTrue}
+use Rattle.std.proofs.Common.{◌≡◌, ◌<◌, ◌^◌, ℕ, List, length, Bool, false, Option, Some, None, Ok, All, refl, sym, subst, arith, inl, inr}
+use Rattle.std.specs.Prelude.{◌↔◌, ◌⊎◌, IsTrue, IfOk, Result, Err}
 use Rattle.pt_sector.specs.Sectors.{Sectors}
+use Rattle.pt_sector.specs.declared.reading.Failure.{Failure}
 use Rattle.pt_gpt.specs.Copy.{HasCopy}
 use Rattle.pt_gpt.specs.declared.table.Table.{Table}
 use Rattle.pt_gpt.specs.declared.table.Side.TheVariants.{Primary}
@@ -24,7 +25,9 @@ use Rattle.pt_layout.specs.declared.health.Head.TheVariants as head
 use Rattle.pt_layout.specs.Guarded.{IsGuarded, place}
 use Rattle.pt_layout.specs.laws.Guarded.{guarded_reads, reads_guarded, guarded_places, guarded_nowhere}
 use Rattle.pt_layout.specs.Surveys.{HeadOf, FindingIs, IsSurvey}
-use Rattle.pt_layout.specs.Verdicts.{LayoutOf, ArePlaces, IsBodyTrace, nothing_of}
+use Rattle.pt_layout.specs.declared.survey.Survey.{Survey}
+use Rattle.pt_layout.specs.Verdicts.{LayoutOf, ArePlaces, IsBodyTrace, IsNothingOf, nothing_of}
+use Rattle.pt_layout.proofs.Failing.{reason_inside}
 use Rattle.pt_layout.proofs.Traced.{body_trace}
 use Rattle.pt_layout.proofs.Verdicts.{gpt_denotes}
 
@@ -109,3 +112,10 @@ mbr_nothing b d e guarded trace mbr inside told same traced = record {
   guarded = traced_guarded b d guarded trace mbr same (inside_trace b d e trace inside traced);
   trace = inside_trace b d e trace inside traced;
 }
+
+-- an MBR disk that denotes nothing, where its reason is no failure
+pub reason_survey : (b : ℕ) (d : Sectors) (e : NoTable) (trace : List Run) (r : Result Survey Failure)
+    → IsMbrDisk d → TellsNothing b d e → IsOutside e ⊎ IsTraceOf b d trace → IfOk r (IsNothingOf e trace) → IfOk r (IsSurvey b d)
+reason_survey b d e trace (Ok x) mbr told traced is =
+    rw is.1 (mbr_nothing b d e trace trace mbr (reason_inside e is.0) told refl traced)
+reason_survey b d e trace (Err f) mbr told traced is = tt

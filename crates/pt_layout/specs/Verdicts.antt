@@ -1,6 +1,8 @@
 -- The steps to a verdict.
-use Rattle.std.specs.Prelude.{◌≡◌, ◌≢◌, ◌-◌, ◌↔◌, ℕ, List, length, false, Option, Some, None, Err}
+use Rattle.std.specs.Prelude.{◌≡◌, ◌≢◌, ◌-◌, ◌↔◌, ◌⊎◌, ℕ, List, length, false, Option, Some, None, Err}
 use Rattle.pt_sector.specs.Sectors.{Sectors}
+use Rattle.pt_sector.specs.declared.reading.Failure.{Failure}
+use Rattle.pt_sector.specs.declared.reading.Failure.TheVariants as failure
 use Rattle.pt_mbr.specs.Protective.{IsProtective}
 use Rattle.pt_gpt.specs.declared.table.Table.{Table}
 use Rattle.pt_gpt.specs.declared.table.Side.TheVariants.{Primary, Backup}
@@ -9,6 +11,7 @@ use Rattle.pt_members.specs.Slices.{places_of, IsPlace}
 use Rattle.pt_recover.specs.Labels.{LabelsAre}
 use Rattle.pt_recover.specs.Denotes.{BodyReads}
 use Rattle.pt_recover.specs.Spans.{IsIn}
+use Rattle.pt_recover.specs.Answers.{failure_in}
 use Rattle.pt_recover.specs.declared.error.NoTable.{NoTable}
 use Rattle.pt_members.specs.declared.layout.Layout.{Layout}
 use Rattle.pt_members.specs.declared.layout.Slice.{Slice}
@@ -52,6 +55,14 @@ LayoutOf b d t o = (o.sectors ≡ length d) × (o.body ≡ Gpt t) × LabelsAre d
 abbrev pub nothing_of : Head → NoTable → List Run → List Run → Survey
 nothing_of h e guarded trace =
     record { head = h; found = Err e; finding = Some (finding.NoTable e); primary = false; guarded = guarded; trace = trace }
+
+-- the survey of an MBR disk that denotes nothing for this reason, which is no failure
+abbrev pub IsNothingOf : NoTable → List Run → Survey → Type 0
+IsNothingOf e trace x = (failure_in e ≡ None) × (x ≡ nothing_of head.Mbr e trace trace)
+
+-- the failure that the reason is, or one of the memory where it is none
+abbrev pub FailsAs : NoTable → Failure → Type 0
+FailsAs e f = (failure_in e ≡ Some f) ⊎ ((failure_in e ≡ None) × (f ≡ failure.Memory))
 
 -- the first thing that is wrong with two copies of n sectors
 abbrev pub PairIs : ℕ → Head → Half → Half → Option Finding → Type 0

@@ -1,6 +1,6 @@
 //! The two copies of a GPT, with their headers.
 
-ghost use Rattle.std.specs.Prelude.{◌≡◌, ◌⊎◌, IfOk, IfErr, OnOk, Ok, Err};
+ghost use Rattle.std.specs.Prelude.{◌≡◌, ◌⊎◌, IfOk, IfErr, OnOk, Ok, Err, true, false};
 ghost use Rattle.pt_sector.specs.Calls.{Blames};
 ghost use Rattle.pt_sector.specs.Reads.{OnlyReads, FailedIn, fault_of};
 ghost use Rattle.pt_sector.specs.Sectors.{IsSectorSize};
@@ -81,6 +81,30 @@ fn half_or_fault<const B: usize, D: Disk<B>>(
     }
 }
 
+// The backup side's copy, or the rule that it breaks, with the sectors that decide the side added to the trace where they
+// decide the table.
+fn read_backup<const B: usize, D: Disk<B>>(
+    alloc: Global,
+    disk: &mut D,
+    decides: bool,
+    trace: &mut Trace,
+) -> Result<Result<Half, CopyError>, Failure>
+    requires size { IsSectorSize B }
+    requires room { HasRoom B (D.count disk.old) }
+    ensures same { OnlyReads D.Disk disk.old disk.new }
+    ensures blames { Blames fault_of result (D.faults disk.old) (D.faults disk.new) }
+    ensures place { D.tells → IfErr result (FailedIn (SideReads B (D.told disk.old).seen Backup)) }
+    ensures ok { D.tells → IfOk result (λ h. HalfOrFault B (D.told disk.old).seen Backup h) }
+    ensures traced { D.tells → decides ≡ true → OnOk result (Adds trace.old trace.new (SideReads B (D.told disk.old).seen Backup)) }
+    ensures untraced { decides ≡ false → trace.new ≡ trace.old }
+{
+    if decides {
+        return half_or_fault(alloc, disk, Side::Backup, trace);
+    }
+    let mut beside = Trace::new(alloc);
+    half_or_fault(alloc, disk, Side::Backup, &mut beside)
+}
+
 /// Both copies of a disk with room for them, with the sectors that decide its table added to the trace.
 pub(crate) fn read_halves<const B: usize, D: Disk<B>>(
     alloc: Global,
@@ -96,16 +120,17 @@ pub(crate) fn read_halves<const B: usize, D: Disk<B>>(
     ensures ok { D.tells → IfOk result (λ h. HalvesAre B (D.told disk.old).seen h) }
     ensures traced { D.tells → OnOk result (Adds trace.old trace.new (TableReads B (D.told disk.old).seen)) }
 {
-    match half_or_fault(alloc, disk, Side::Primary, trace)? {
-        Ok(primary) => {
-            let mut beside = Trace::new(alloc);
-            let backup = half_or_fault(alloc, disk, Side::Backup, &mut beside)?;
-            Ok(with_primary(primary, backup))
-        }
-        Err(e) => {
-            let backup = half_or_fault(alloc, disk, Side::Backup, trace)?;
-            Ok(without_primary(e, backup))
-        }
+    let primary = half_or_fault(alloc, disk, Side::Primary, trace)?;
+    let backup = read_backup(alloc, disk, primary.is_err(), trace)?;
+    Ok(paired(primary, backup))
+}
+
+fn paired(primary: Result<Half, CopyError>, backup: Result<Half, CopyError>) -> Halves
+    ensures { result ≡ paired_as primary backup }
+{
+    match primary {
+        Ok(primary) => with_primary(primary, backup),
+        Err(e) => without_primary(e, backup),
     }
 }
 

@@ -9,12 +9,14 @@ ghost use Rattle.pt_gpt.specs.declared.table.Side.TheVariants.{Primary, Backup};
 ghost use Rattle.pt_recover.specs.Denotes.{BodyIs, Denotes, Reads};
 ghost use Rattle.pt_gpt.specs.Array.{HasRoom};
 ghost use Rattle.pt_members.specs.Slices.{places_of, place_of, IsPlace};
+ghost use Rattle.pt_recover.specs.Labels.{LabelsAre};
 ghost use Rattle.pt_recover.specs.Mbr.{IsMbr, IsMbrDisk};
 ghost use Rattle.pt_recover.specs.Numbers.{Numbers};
 ghost use Rattle.pt_recover.specs.Spans.{Adds};
 ghost use Rattle.pt_members.specs.declared.layout.Body.TheVariants.{Gpt};
 ghost use Rattle.pt_layout.specs.Halves.{HalfIs, HalvesAre};
-ghost use Rattle.pt_layout.specs.Verdicts.{LayoutOf, PairIs, BrokenIs, ArePlaces, IsBodyTrace, nothing_of};
+ghost use Rattle.pt_layout.specs.Verdicts.{LayoutOf, PairIs, BrokenIs, ArePlaces, IsBodyTrace, FailsAs, IsNothingOf, nothing_of};
+ghost use Rattle.pt_recover.specs.Answers.{IsTraceOf};
 ghost use Rattle.pt_layout.specs.Healthy.{IsBodyWhole};
 ghost use Rattle.pt_layout.specs.Findings.{VerdictReads};
 ghost use Rattle.pt_layout.specs.Surveys.{HeadOf, FindingIs, IsSurvey};
@@ -26,7 +28,7 @@ use crate::health::{Head, read_first};
 use crate::soundness::unsound;
 use pt_gpt::{Side, Table, has_room};
 use pt_mbr::Mbr;
-use pt_members::{Body, Layout, Slice, label_places};
+use pt_members::{Body, Labels, Layout, Slice, label_places};
 use pt_path::Path;
 use pt_recover::{NoTable, Trace, recover_known, traced_labels};
 use pt_sector::{Disk, Failure};
@@ -130,6 +132,35 @@ struct Placed {
     places: Trace,
 }
 
+/// The labels of some slices, with their places.
+#[derive(Drop)]
+struct Marks {
+    labels: Labels,
+    places: Trace,
+}
+
+// The labels of some slices on the disk, and their places added to the trace.
+fn read_marks<const B: usize, D: Disk<B>>(
+    alloc: Global,
+    disk: &mut D,
+    slices: &[Slice],
+    trace: &mut Trace,
+) -> Result<Marks, Failure>
+    requires size { IsSectorSize B }
+    requires small { All (λ p. place_of p < 2 ^ 64) slices.now }
+    requires within { All (λ p. place_of p < D.count disk.old) slices.now }
+    ensures same { OnlyReads D.Disk disk.old disk.new }
+    ensures blames { Blames fault_of result (D.faults disk.old) (D.faults disk.new) }
+    ensures place { IfErr result (FailedIn (IsPlace slices.now)) }
+    ensures places { IfOk result (λ m. ArePlaces slices.now m.places) }
+    ensures ok { D.tells → IfOk result (λ m. LabelsAre (D.told disk.old).seen slices.now m.labels) }
+    ensures traced { OnOk result (Adds trace.old trace.new (IsPlace slices.now)) }
+{
+    let places = places_among(alloc, slices)?;
+    let labels = traced_labels(alloc, disk, slices, trace)?;
+    Ok(Marks { labels, places })
+}
+
 // The table's GPT with the disk's labels, and their places added to the trace.
 fn with_labels<const B: usize, D: Disk<B>>(
     alloc: Global,
@@ -149,14 +180,16 @@ fn with_labels<const B: usize, D: Disk<B>>(
     let sectors = disk.sectors();
     let body = Body::Gpt(table);
     let slices = label_places::<B>(alloc, sectors, &body)?;
-    let places = places_among(alloc, &slices)?;
-    let labels = traced_labels(alloc, disk, &slices, trace)?;
+    let marks = read_marks(alloc, disk, &slices, trace)?;
     let layout = Layout {
         sectors,
         body,
-        labels,
+        labels: marks.labels,
     };
-    Ok(Placed { layout, places })
+    Ok(Placed {
+        layout,
+        places: marks.places,
+    })
 }
 
 // The first thing that is wrong with the two copies, and with sector 0.
@@ -282,6 +315,48 @@ fn survey_gpt<const B: usize, D: Disk<B>>(
     survey_halves(alloc, disk, head, halves, trace)
 }
 
+// The survey of an MBR disk that denotes this layout, read with this trace.
+fn survey_layout<const B: usize, D: Disk<B>>(
+    alloc: Global,
+    disk: &mut D,
+    layout: Layout,
+    trace: Trace,
+) -> Result<Survey, Failure>
+    requires size { IsSectorSize B }
+    requires mbr { D.tells → IsMbrDisk (D.told disk.old).seen }
+    requires denotes { D.tells → Denotes B (D.told disk.old).seen (Some layout) }
+    requires numbers { Numbers layout }
+    requires traced { D.tells → IsTraceOf B (D.told disk.old).seen trace }
+    ensures same { OnlyReads D.Disk disk.old disk.new }
+    ensures blames { Blames fault_of result (D.faults disk.old) (D.faults disk.new) }
+    ensures place { D.tells → IfErr result (FailedIn (Reads B (D.told disk.old).seen)) }
+    ensures numbers { IfOk result (λ x. IfOk x.found Numbers) }
+    ensures ok { D.tells → IfOk result (IsSurvey B (D.told disk.old).seen) }
+{
+    let finding = judge(alloc, disk, &layout)?;
+    let guarded = trace.copy(alloc)?;
+    Ok(Survey {
+        head: Head::Mbr,
+        found: Ok(layout),
+        finding,
+        primary: false,
+        guarded,
+        trace,
+    })
+}
+
+// The survey of an MBR disk that denotes nothing for this reason, if the reason is no failure.
+fn without_layout(alloc: Global, reason: NoTable, trace: Trace) -> Result<Survey, Failure>
+    ensures err { IfErr result (FailsAs reason) }
+    ensures ok { IfOk result (IsNothingOf reason trace) }
+{
+    if let Some(failure) = reason.failure() {
+        return Err(failure);
+    }
+    let guarded = trace.copy(alloc)?;
+    Ok(nothing(Head::Mbr, reason, guarded, trace))
+}
+
 // The survey of an MBR disk with these records.
 fn survey_mbr<const B: usize, D: Disk<B>>(
     alloc: Global,
@@ -298,25 +373,8 @@ fn survey_mbr<const B: usize, D: Disk<B>>(
 {
     let (found, trace) = recover_known(alloc, disk, Some(mbr));
     match found {
-        Ok(layout) => {
-            let finding = judge(alloc, disk, &layout)?;
-            let guarded = trace.copy(alloc)?;
-            Ok(Survey {
-                head: Head::Mbr,
-                found: Ok(layout),
-                finding,
-                primary: false,
-                guarded,
-                trace,
-            })
-        }
-        Err(reason) => match reason.failure() {
-            Some(failure) => Err(failure),
-            None => {
-                let guarded = trace.copy(alloc)?;
-                Ok(nothing(Head::Mbr, reason, guarded, trace))
-            }
-        },
+        Ok(layout) => survey_layout(alloc, disk, layout, trace),
+        Err(reason) => without_layout(alloc, reason, trace),
     }
 }
 
