@@ -63,7 +63,8 @@ label_failed b n d y e is count =
 pub read_failed : (b : ℕ) (d : Sectors) (e : Failure) → FailedIn (Reads b d) e → FailedIn (VerdictReads b d) e
 read_failed b d e = failed_more (Reads b d) (VerdictReads b d) e (λ s reads. inl reads)
 
-pub survey_failed : (b : ℕ) (d : Sectors) (r : Result Survey Failure) → IfErr r (FailedIn (Reads b d)) → IfErr r (FailedIn (VerdictReads b d))
+pub survey_failed : (b : ℕ) (d : Sectors) (r : Result Survey Failure) → IfErr r (FailedIn (Reads b d))
+    → IfErr r (FailedIn (VerdictReads b d))
 survey_failed b d (Ok x) failed = tt
 survey_failed b d (Err e) failed = read_failed b d e failed
 

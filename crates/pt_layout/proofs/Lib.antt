@@ -5,6 +5,7 @@ pub mod Pairs
 pub mod Extended
 pub mod Foreignness
 pub mod Verdicts
+pub mod Chosen
 pub mod Surveys
 pub mod Traced
 pub mod Failing

@@ -10,6 +10,7 @@ pub mod Steps
 pub mod Halves
 pub mod Foreign
 pub mod Verdicts
+pub mod Chosen
 pub mod OneFinding
 pub mod Guarded
 pub mod Surveys

@@ -16,6 +16,7 @@ ghost use Rattle.pt_recover.specs.Spans.{Adds};
 ghost use Rattle.pt_members.specs.declared.layout.Body.TheVariants.{Gpt};
 ghost use Rattle.pt_layout.specs.Halves.{HalfIs, HalvesAre};
 ghost use Rattle.pt_layout.specs.Verdicts.{LayoutOf, PairIs, BrokenIs, ArePlaces, IsBodyTrace, FailsAs, IsNothingOf, nothing_of};
+ghost use Rattle.pt_layout.specs.Chosen.{ChosenIs, Stands, chosen_of};
 ghost use Rattle.pt_recover.specs.Answers.{IsTraceOf};
 ghost use Rattle.pt_layout.specs.Healthy.{IsBodyWhole};
 ghost use Rattle.pt_layout.specs.Findings.{VerdictReads};
@@ -212,22 +213,95 @@ fn broken_pair(sectors: u64, head: Head, primary: &Half, backup: &Half) -> Optio
     }
 }
 
-// The survey of a GPT disk that denotes this table, with this wrong with the copies, or nothing. The trace has the sectors
-// that decide the table.
+/// The table that a GPT disk denotes, whether it is the primary copy's, and what is wrong with the copies, or nothing.
+#[derive(Drop)]
+struct Chosen {
+    table: Table,
+    primary: bool,
+    broken: Option<Finding>,
+}
+
+// The table of the two halves, or why there is none.
+fn choose(sectors: u64, head: Head, halves: Halves) -> Result<Chosen, NoTable>
+    requires { 1 ≤ sectors }
+    ensures { ChosenIs sectors head halves result }
+{
+    match halves {
+        Halves::Both(primary, backup) => {
+            let broken = broken_pair(sectors, head, &primary, &backup);
+            Ok(choice(primary, true, broken))
+        }
+        Halves::OnlyPrimary(primary, e) => {
+            let broken = Some(Finding::BackupCopy(e));
+            Ok(choice(primary, true, broken))
+        }
+        Halves::OnlyBackup(e, backup) => {
+            let broken = Some(Finding::PrimaryCopy(e));
+            Ok(choice(backup, false, broken))
+        }
+        Halves::Neither(e, f) => Err(NoTable::NoCopy(e, f)),
+    }
+}
+
+fn choice(half: Half, primary: bool, broken: Option<Finding>) -> Chosen
+    ensures { result ≡ chosen_of half primary broken }
+{
+    Chosen {
+        table: half.table,
+        primary,
+        broken,
+    }
+}
+
+/// A layout with its label places, and the first thing that is wrong with the disk.
+#[derive(Drop)]
+struct Judged {
+    layout: Layout,
+    places: Trace,
+    finding: Option<Finding>,
+}
+
+// The layout of a GPT disk that denotes this table, with this wrong with the copies, or nothing: its label places are
+// added to the trace.
+fn judge_table<const B: usize, D: Disk<B>>(
+    alloc: Global,
+    disk: &mut D,
+    table: Table,
+    broken: Option<Finding>,
+    trace: &mut Trace,
+) -> Result<Judged, Failure>
+    requires size { IsSectorSize B }
+    requires body { D.tells → BodyIs B (D.told disk.old).seen (Gpt table) }
+    requires broken { D.tells → BrokenIs B (D.told disk.old).seen (Gpt table) broken }
+    ensures same { OnlyReads D.Disk disk.old disk.new }
+    ensures blames { Blames fault_of result (D.faults disk.old) (D.faults disk.new) }
+    ensures place { D.tells → IfErr result (FailedIn (Reads B (D.told disk.old).seen)) }
+    ensures body { IfOk result (λ j. j.layout.body ≡ Gpt table) }
+    ensures places { IfOk result (λ j. ArePlaces (places_of B (D.count disk.old) (Gpt table)) j.places) }
+    ensures ok { D.tells → IfOk result (λ j. LayoutOf B (D.told disk.old).seen table j.layout) }
+    ensures finding { D.tells → IfOk result (λ j. FindingIs B (D.told disk.old).seen (Ok j.layout) j.finding) }
+    ensures traced { OnOk result (Adds trace.old trace.new (IsPlace (places_of B (D.count disk.old) (Gpt table)))) }
+{
+    let placed = with_labels(alloc, disk, table, trace)?;
+    let finding = judge_after(alloc, disk, &placed.layout, broken)?;
+    Ok(Judged {
+        layout: placed.layout,
+        places: placed.places,
+        finding,
+    })
+}
+
+// The survey of a GPT disk that denotes the chosen table. The trace has the sectors that decide the table.
 fn survey_table<const B: usize, D: Disk<B>>(
     alloc: Global,
     disk: &mut D,
     head: Head,
-    table: Table,
-    primary: bool,
-    broken: Option<Finding>,
+    chosen: Chosen,
     mut trace: Trace,
 ) -> Result<Survey, Failure>
     requires size { IsSectorSize B }
     requires head { D.tells → HeadOf (D.told disk.old).seen head }
-    requires body { D.tells → BodyIs B (D.told disk.old).seen (Gpt table) }
-    requires primary { D.tells → IsTrue primary ↔ HasCopy B (D.told disk.old).seen Primary }
-    requires broken { D.tells → BrokenIs B (D.told disk.old).seen (Gpt table) broken }
+    requires chosen { D.tells → Stands B (D.told disk.old).seen chosen }
     requires traced { D.tells → IsBodyTrace B (D.told disk.old).seen trace }
     ensures same { OnlyReads D.Disk disk.old disk.new }
     ensures blames { Blames fault_of result (D.faults disk.old) (D.faults disk.new) }
@@ -235,14 +309,14 @@ fn survey_table<const B: usize, D: Disk<B>>(
     ensures numbers { IfOk result (λ x. IfOk x.found Numbers) }
     ensures ok { D.tells → IfOk result (IsSurvey B (D.told disk.old).seen) }
 {
-    let placed = with_labels(alloc, disk, table, &mut trace)?;
-    let finding = judge_after(alloc, disk, &placed.layout, broken)?;
+    let primary = chosen.primary;
+    let judged = judge_table(alloc, disk, chosen.table, chosen.broken, &mut trace)?;
     Ok(Survey {
         head,
-        found: Ok(placed.layout),
-        finding,
+        found: Ok(judged.layout),
+        finding: judged.finding,
         primary,
-        guarded: placed.places,
+        guarded: judged.places,
         trace,
     })
 }
@@ -267,24 +341,9 @@ fn survey_halves<const B: usize, D: Disk<B>>(
     ensures numbers { IfOk result (λ x. IfOk x.found Numbers) }
     ensures ok { D.tells → IfOk result (IsSurvey B (D.told disk.old).seen) }
 {
-    let sectors = disk.sectors();
-    match halves {
-        Halves::Both(primary, backup) => {
-            let broken = broken_pair(sectors, head, &primary, &backup);
-            survey_table(alloc, disk, head, primary.table, true, broken, trace)
-        }
-        Halves::OnlyPrimary(primary, e) => {
-            let broken = Some(Finding::BackupCopy(e));
-            survey_table(alloc, disk, head, primary.table, true, broken, trace)
-        }
-        Halves::OnlyBackup(e, backup) => {
-            let broken = Some(Finding::PrimaryCopy(e));
-            survey_table(alloc, disk, head, backup.table, false, broken, trace)
-        }
-        Halves::Neither(e, f) => {
-            let reason = NoTable::NoCopy(e, f);
-            Ok(nothing(head, reason, Trace::new(alloc), trace))
-        }
+    match choose(disk.sectors(), head, halves) {
+        Ok(chosen) => survey_table(alloc, disk, head, chosen, trace),
+        Err(reason) => Ok(nothing(head, reason, Trace::new(alloc), trace)),
     }
 }
 

@@ -1,9 +1,3 @@
-use Rattle.std.proofs.Common.{Some, Ok, sym, subst}
-use Rattle.pt_sector.specs.Sectors.{Sectors}
-use Rattle.pt_sector.specs.Device.{Told}
-use Rattle.pt_recover.specs.Denotes.{Denotes}
-use Rattle.pt_layout.specs.Healthy.{IsBodyWhole}
-use Rattle.pt_layout.specs.Surveys.{FindingIs}
 use Rattle.pt_layout.proofs.Verdicts.{mbr_whole}
 use Rattle.pt_layout.proofs.Surveys.{mbr_survey}
 use Rattle.pt_layout.proofs.survey.survey_layout.Goals as goal
