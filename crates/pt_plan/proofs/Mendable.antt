@@ -9,12 +9,6 @@ use Rattle.pt_recover.specs.declared.error.NoTable.{NoTable as Reason}
 use Rattle.pt_recover.specs.declared.error.NoTable.TheVariants as reason
 use Rattle.pt_members.specs.declared.layout.Layout.{Layout}
 use Rattle.pt_layout.specs.Healthy.{Healthy, IsHealthy}
-use Rattle.pt_members.specs.Owned.{OwnedOf}
-use Rattle.pt_members.specs.Tables.{TableOf}
-use Rattle.pt_check.specs.Answers.{Answers}
-use Rattle.pt_check.specs.declared.answer.Answer.TheVariants.{No}
-use Rattle.pt_check.specs.declared.answer.Why.{Why}
-use Rattle.pt_apply.specs.Promises.{Safe}
 use Rattle.pt_accepted.specs.laws.Accepted.{plan_finishes, plan_not_refused}
 use Rattle.pt_cases.specs.Cases.{IsPlan, idle, backup_first, primary_first, from_mbr, one_label, within_mbr}
 use Rattle.pt_exact.specs.laws.Mended.{repair_is_planned_lem, mendable_by_plan_lem}
@@ -25,8 +19,9 @@ use Rattle.pt_targets.specs.declared.error.PlanError.{PlanError}
 use Rattle.pt_targets.specs.declared.error.PlanError.TheVariants as plan
 use Rattle.pt_plan.specs.Batches.{IsMendPlan, IsReadyToMend, IsMendRefusal}
 use Rattle.pt_plan.specs.Mending.{repair_unplanned}
+use Rattle.pt_plan.specs.Steps.{IsSafe, NotSafeToMend}
 use Rattle.pt_plan.specs.declared.repair_error.RepairError.{RepairError}
-use Rattle.pt_plan.specs.declared.repair_error.RepairError.TheVariants.{NoTable, Check}
+use Rattle.pt_plan.specs.declared.repair_error.RepairError.TheVariants.{NoTable, Unsound, Device, Memory, Plan, Check}
 
 -- of a disk that is healthy no plan for its layout has phases
 pub none_of_healthy : (b : ℕ) (d : Sectors) (o : Layout) (phases : List Writes) → Denotes b d (Some o) → IsPlan b d o phases
@@ -68,18 +63,23 @@ module _ (b : ℕ) (d : Sectors) (size : IsSectorSize b) where
 
   -- a plan, once the checker accepts it, which it does
   module _ (phases : List Writes) (is : IsMendPlan b d phases) where
-    pub ready_to_mend : (switch : ℕ) → Safe (Denotes b) (Healthy b) (TableOf b) (OwnedOf b) phases d switch → IsReadyToMend b d phases
-    ready_to_mend switch safe = record {
+    pub ready_to_mend : IsSafe b d phases → IsReadyToMend b d phases
+    ready_to_mend safe = record {
       layout = is.layout;
       mendable = is.mendable;
       planned = is.planned;
       finished = (plan_finishes b d is.layout phases size is.planned).denotes;
-      switch = switch;
-      safe = safe;
+      switch = safe.switch;
+      safe = safe.safe;
     }
 
-    pub never_refused : (why : Why) → Answers b d phases (No why) → IsMendRefusal b d (Check why)
-    never_refused why against = absurd (plan_not_refused b d is.layout phases why size is.planned against)
+    pub not_safe_to_mend : (e : RepairError) → NotSafeToMend b d phases e → IsMendRefusal b d e
+    not_safe_to_mend (NoTable r) none = absurd none
+    not_safe_to_mend (Unsound f) none = absurd none
+    not_safe_to_mend (Plan e) none = absurd none
+    not_safe_to_mend (Check why) against = absurd (plan_not_refused b d is.layout phases why size is.planned against)
+    not_safe_to_mend (Device fault) failed = tt
+    not_safe_to_mend Memory failed = tt
 
 -- a disk that denotes nothing
 pub nothing_to_mend : (b : ℕ) (d : Sectors) (old : Option Layout) (r : Option Reason) → old ≡ None → Denotes b d old

@@ -4,7 +4,7 @@ use Rattle.std.proofs.Common.{true, false, IsTrue, ◌↔◌, refl, sym, ap, sub
 use Rattle.pt_sector.specs.Sectors.{Sectors, IsSectorSize}
 use Rattle.pt_sector.specs.Writes.{Writes}
 use Rattle.pt_recover.specs.Answers.{IsReason, failure_in}
-use Rattle.pt_recover.specs.declared.error.NoTable.{NoTable as NoTableReason}
+use Rattle.pt_recover.specs.declared.error.NoTable.{NoTable as Reason}
 use Rattle.pt_recover.specs.declared.error.NoTable.TheVariants as reason
 use Rattle.pt_layout.specs.Healthy.{Healthy}
 use Rattle.pt_members.specs.Owned.{OwnedOf}
@@ -13,9 +13,9 @@ use Rattle.pt_accepted.specs.laws.Accepted.{plan_finishes, plan_not_refused}
 use Rattle.pt_cases.specs.Cases.{IsPlan}
 use Rattle.pt_planner.specs.Known.{ReasonIs}
 use Rattle.pt_targets.specs.Unplanned.{Unplanned}
-use Rattle.pt_plan.specs.Batches.{Words, Makes, EditedBy, IsPlanned, IsReady, IsRefusal}
+use Rattle.pt_plan.specs.Batches.{Words, Makes, MakesTable, EditedBy, IsPlanned, IsReady, IsRefusal}
 use Rattle.pt_plan.specs.Commits.{Leads}
-use Rattle.pt_plan.specs.Steps.{sectors_in, StartsFrom, NoStart, NotEdited, NotPlanned, IsSafe, NotSafe}
+use Rattle.pt_plan.specs.Steps.{sectors_in, StartsFrom, MayStart, NotEdited, NotPlanned, IsSafe, NotSafe}
 use Rattle.pt_plan.specs.declared.error.CommitError.{CommitError}
 use Rattle.pt_plan.specs.declared.error.CommitError.TheVariants.{NoTable, Edit, Plan, Check, Device, Memory}
 use Rattle.pt_recover.specs.Denotes.{Denotes}
@@ -86,20 +86,21 @@ pub never : (x : Bool) (X : Type 0) → x ≡ false → (IsTrue x ↔ X) → X �
 never true X is both holds = absurd cc
 never false X is both holds = let yes : IsTrue false = both.1 holds in absurd cc
 
--- a disk that denotes nothing
-pub no_start : (b : ℕ) (batch : Words) (d : Sectors) (o : Option Layout) (r : NoTableReason) → Denotes b d o → ReasonIs b d o (Some r)
-    → (Makes batch → ⊥) → NoStart b batch d (NoTable r)
-no_start b batch d None r from reason never = (from, reason, never)
-no_start b batch d (Some l) r from reason never = absurd reason
+-- a disk that denotes nothing has a reason, which is no failure
+reason_inside : (b : ℕ) (d : Sectors) (r : Reason) → ReasonIs b d None (Some r) → failure_in r ≡ None
+reason_inside b d (reason.Device at) is = absurd is
+reason_inside b d reason.Memory is = absurd is
+reason_inside b d _ is = refl
 
--- its reason is no failure
-pub reason_inside : (b : ℕ) (d : Sectors) (o : Option Layout) (r : NoTableReason) → ReasonIs b d o (Some r) → failure_in r ≡ None
-reason_inside b d (Some l) r reason = absurd reason
-reason_inside b d None (reason.Device at) reason = absurd reason
-reason_inside b d None reason.Memory reason = absurd reason
-reason_inside b d None _ reason = refl
+pub starts : (b : ℕ) (batch : Words) (d : Sectors) (o : Option Layout) (r : Option Reason) → Denotes b d o → ReasonIs b d o r
+    → MayStart r (MakesTable batch.edits) (Ok tt) → StartsFrom b batch d o
+starts b batch d None None from is may = absurd is
+starts b batch d None (Some r) from is may = record { from = from; may = λ none. may }
+starts b batch d (Some l) r from is may = record { from = from; may = λ none. absurd cc }
 
--- a disk that denotes a layout
-pub some_start : (b : ℕ) (batch : Words) (d : Sectors) (o : Option Layout) → Denotes b d o → ReasonIs b d o None → StartsFrom b batch d o
-some_start b batch d None from reason = absurd reason
-some_start b batch d (Some l) from reason = record { from = from; may = λ none. absurd cc }
+pub no_start : (b n : ℕ) (batch : Words) (d : Sectors) (o : Option Layout) (r : Option Reason) → Denotes b d o → ReasonIs b d o r
+    → (e : CommitError) → MayStart r (MakesTable batch.edits) (Err e) → IsRefusal b n batch d e
+no_start b n batch d o None from is e none = absurd none
+no_start b n batch d None (Some r) from is e (never, told) =
+    subst (IsRefusal b n batch d) (sym (told (reason_inside b d r is))) (from, is, never)
+no_start b n batch d (Some l) (Some r) from is e against = absurd is

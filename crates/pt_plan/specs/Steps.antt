@@ -1,9 +1,10 @@
 -- What the steps of a commit answer.
-use Rattle.std.specs.Prelude.{◌≡◌, ◌≢◌, ℕ, List, Option, Some, None, Err}
+use Rattle.std.specs.Prelude.{◌≡◌, ◌≢◌, ℕ, List, Option, Some, None, Result, Ok, Err}
 use Rattle.pt_sector.specs.Sectors.{Sectors}
 use Rattle.pt_sector.specs.Writes.{Writes}
 use Rattle.pt_apply.specs.Promises.{Safe}
-use Rattle.pt_recover.specs.Answers.{IsReason}
+use Rattle.pt_recover.specs.Answers.{failure_in}
+use Rattle.pt_recover.specs.declared.error.NoTable.{NoTable as Reason}
 use Rattle.pt_recover.specs.Denotes.{Denotes}
 use Rattle.pt_members.specs.declared.layout.Layout.{Layout}
 use Rattle.pt_layout.specs.Healthy.{Healthy}
@@ -16,6 +17,8 @@ use Rattle.pt_targets.specs.Unplanned.{Unplanned}
 use Rattle.pt_plan.specs.Batches.{Words, Makes, EditedBy}
 use Rattle.pt_plan.specs.declared.error.CommitError.{CommitError}
 use Rattle.pt_plan.specs.declared.error.CommitError.TheVariants.{NoTable, Edit, Plan, Check, Device, Memory}
+use Rattle.pt_plan.specs.declared.repair_error.RepairError.{RepairError}
+use Rattle.pt_plan.specs.declared.repair_error.RepairError.TheVariants as repair
 
 -- a failure of the device or of memory
 abbrev pub IsCommitFailure : CommitError → Type 0
@@ -33,10 +36,12 @@ pub record StartsFrom (b : ℕ) (batch : Words) (d : Sectors) (o : Option Layout
   pub from : Denotes b d o
   pub may : o ≡ None → Makes batch
 
--- why it may not start
-abbrev pub NoStart : ℕ → Words → Sectors → CommitError → Type 0
-NoStart b batch d (NoTable e) = Denotes b d None × IsReason b d e × (Makes batch → ⊥)
-NoStart b batch d e = IsCommitFailure e
+-- whether it may start, by the reason why the disk denotes nothing: where there is one, only words that make a table may
+abbrev pub MayStart : Option Reason → Type 0 → Result Unit CommitError → Type 0
+MayStart None makes (Ok x) = Unit {0}
+MayStart None makes (Err e) = ⊥
+MayStart (Some r) makes (Ok x) = makes
+MayStart (Some r) makes (Err e) = (makes → ⊥) × (failure_in r ≡ None → e ≡ NoTable r)
 
 -- why the words make no layout
 abbrev pub NotEdited : ℕ → ℕ → Option Layout → Words → CommitError → Type 0
@@ -58,3 +63,10 @@ pub record IsSafe (b : ℕ) (d : Sectors) (phases : List Writes) : Type 0 where
 abbrev pub NotSafe : ℕ → Sectors → List Writes → CommitError → Type 0
 NotSafe b d phases (Check why) = Answers b d phases (No why)
 NotSafe b d phases e = IsCommitFailure e
+
+-- the same of a repair
+abbrev pub NotSafeToMend : ℕ → Sectors → List Writes → RepairError → Type 0
+NotSafeToMend b d phases (repair.Check why) = Answers b d phases (No why)
+NotSafeToMend b d phases (repair.Device fault) = Unit {0}
+NotSafeToMend b d phases repair.Memory = Unit {0}
+NotSafeToMend b d phases e = ⊥

@@ -8,10 +8,10 @@ ghost use Rattle.pt_apply.specs.Plans.{phases_of, InRange};
 ghost use Rattle.pt_recover.specs.Answers.{failure_in};
 ghost use Rattle.pt_cases.specs.Cases.{IsPlan};
 ghost use Rattle.pt_check.specs.Recovered.{IsOf};
-ghost use Rattle.pt_planner.specs.Known.{IsKnown};
+ghost use Rattle.pt_planner.specs.Known.{IsKnown, ReasonIs};
 ghost use Rattle.pt_plan.specs.Batches.{IsPlanned, IsReady, IsRefusal, MakesTable, EditedBy};
 ghost use Rattle.pt_plan.specs.Failed.{commit_fault_in as fault_in, HidesNoFailure};
-ghost use Rattle.pt_plan.specs.Steps.{sectors_in, StartsFrom, NoStart, NotEdited, NotPlanned, IsSafe, NotSafe};
+ghost use Rattle.pt_plan.specs.Steps.{sectors_in, MayStart, NotEdited, NotPlanned, IsSafe, NotSafe};
 ghost use Rattle.pt_plan.specs.declared.error.CommitError.TheVariants as commit;
 
 use crate::error::CommitError;
@@ -51,28 +51,18 @@ fn no_table(reason: NoTable) -> CommitError
     }
 }
 
-/// What is known of the disk, where the words may start from what it denotes.
-fn start<const B: usize, D: Disk<B>>(
-    alloc: Global,
-    disk: &mut D,
-    edits: &[Edit],
-    guids: &[Guid],
-) -> Result<Known, CommitError>
-    requires size { IsSectorSize B }
-    ensures same { OnlyReads D.Disk disk.old disk.new }
-    ensures blames { Blames fault_in result (D.faults disk.old) (D.faults disk.new) }
+/// Whether the words may start from what the disk denotes, by the reason why it denotes nothing: only such as make a table
+/// may start from nothing.
+fn may_start(reason: Option<NoTable>, edits: &[Edit]) -> Result<(), CommitError>
     ensures hides { IfErr result HidesNoFailure }
-    ensures ok { D.tells → IfOk result
-        (λ known. IsKnown B (D.told disk.old).seen known
-        × StartsFrom B (record { edits = edits.now; guids = guids.now }) (D.told disk.old).seen known.old) }
-    ensures err { D.tells → IfErr result (NoStart B (record { edits = edits.now; guids = guids.now }) (D.told disk.old).seen) }
+    ensures blames { IfErr result (λ e. fault_in e ≡ None) }
+    ensures may { MayStart reason (MakesTable edits.now) result }
 {
-    let (known, reason) = read_known(alloc, disk)?;
     match reason {
-        None => Ok(known),
+        None => Ok(()),
         Some(reason) => {
             if makes_table(edits) {
-                Ok(known)
+                Ok(())
             } else {
                 Err(no_table(reason))
             }
@@ -152,29 +142,31 @@ fn checked<const B: usize, D: Disk<B>>(
     }
 }
 
-/// What the disk denotes, and the plan that leads from there to what the words make of it.
-fn prepared<const B: usize, D: Disk<B>>(
+/// The plan that leads from what the disk denotes to what the words make of it, by what is known of the disk.
+fn plan_by<const B: usize, D: Disk<B>>(
     alloc: Global,
     disk: &mut D,
+    known: &Known,
+    reason: Option<NoTable>,
     edits: &[Edit],
     guids: &[Guid],
-) -> Result<(Recovered, Plan<B>), CommitError>
+) -> Result<Plan<B>, CommitError>
     requires size { IsSectorSize B }
+    requires known { D.tells → IsKnown B (D.told disk.old).seen known.now }
+    requires reason { D.tells → ReasonIs B (D.told disk.old).seen known.now.old reason }
     ensures same { OnlyReads D.Disk disk.old disk.new }
     ensures blames { Blames fault_in result (D.faults disk.old) (D.faults disk.new) }
     ensures hides { IfErr result HidesNoFailure }
-    ensures in_range { IfOk result (λ r. InRange (D.count disk.old) r.1) }
-    ensures phases { IfOk result (λ r. All (λ p. 0 < length p.items) r.1.phases.items) }
-    ensures known { D.tells → IfOk result (λ r. IsOf B (D.told disk.old).seen r.0) }
+    ensures in_range { IfOk result (InRange (D.count disk.old)) }
+    ensures phases { IfOk result (λ plan. All (λ p. 0 < length p.items) plan.phases.items) }
     ensures planned { D.tells → IfOk result
-        (λ r. IsPlanned B (D.count disk.old) (record { edits = edits.now; guids = guids.now }) (D.told disk.old).seen (phases_of r.1)) }
+        (λ plan. IsPlanned B (D.count disk.old) (record { edits = edits.now; guids = guids.now }) (D.told disk.old).seen (phases_of plan)) }
     ensures refused { D.tells → IfErr result
         (IsRefusal B (D.count disk.old) (record { edits = edits.now; guids = guids.now }) (D.told disk.old).seen) }
 {
-    let known = start(alloc, disk, edits, guids)?;
+    may_start(reason, edits)?;
     let wanted = edited::<B>(alloc, &known.old, disk.sectors(), edits, guids)?;
-    let plan = planned(alloc, disk, &known, &wanted)?;
-    Ok((recovered(known), plan))
+    planned(alloc, disk, known, &wanted)
 }
 
 /// The plan that leads from what the disk denotes to what the words make of it. Nothing is flushed or written. It is
@@ -196,8 +188,8 @@ pub fn plan_for<const B: usize, D: Disk<B>>(
     ensures refused { D.tells → IfErr result
         (IsRefusal B (D.count disk.old) (record { edits = edits.now; guids = guids.now }) (D.told disk.old).seen) }
 {
-    let (_known, plan) = prepared(alloc, disk, edits, guids)?;
-    Ok(plan)
+    let read = read_known(alloc, disk)?;
+    plan_by(alloc, disk, &read.0, read.1, edits, guids)
 }
 
 /// The same plan, once the checker has accepted it. Nothing is flushed or written.
@@ -217,7 +209,8 @@ pub fn checked_plan_for<const B: usize, D: Disk<B>>(
     ensures refused { D.tells → IfErr result
         (IsRefusal B (D.count disk.old) (record { edits = edits.now; guids = guids.now }) (D.told disk.old).seen) }
 {
-    let (before, plan) = prepared(alloc, disk, edits, guids)?;
-    checked(alloc, disk, &plan, before)?;
+    let (known, reason) = read_known(alloc, disk)?;
+    let plan = plan_by(alloc, disk, &known, reason, edits, guids)?;
+    checked(alloc, disk, &plan, recovered(known))?;
     Ok(plan)
 }

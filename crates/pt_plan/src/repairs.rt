@@ -1,13 +1,15 @@
 //! Repairs of a disk, which keep its layout.
 
-ghost use Rattle.std.specs.Prelude.{◌≡◌, ◌<◌, All, length, Some, None, IfOk, IfErr};
+ghost use Rattle.std.specs.Prelude.{◌≡◌, ◌<◌, All, length, Some, None, OnOk, IfOk, IfErr};
 ghost use Rattle.pt_sector.specs.Sectors.{IsSectorSize};
 ghost use Rattle.pt_sector.specs.Calls.{Blames};
 ghost use Rattle.pt_sector.specs.Reads.{OnlyReads};
 ghost use Rattle.pt_apply.specs.Plans.{phases_of, InRange};
 ghost use Rattle.pt_check.specs.Recovered.{IsOf};
+ghost use Rattle.pt_planner.specs.Known.{IsKnown, ReasonIs};
 ghost use Rattle.pt_plan.specs.Batches.{IsMendPlan, IsReadyToMend, IsMendRefusal, Repairs};
 ghost use Rattle.pt_plan.specs.Mending.{repair_fault_in as fault_in, MendHidesNoFailure};
+ghost use Rattle.pt_plan.specs.Steps.{IsSafe, NotSafeToMend};
 ghost use Rattle.pt_plan.specs.declared.repair_error.RepairError.TheVariants as repair_error;
 ghost use Rattle.pt_recover.specs.Answers.{failure_in};
 ghost use Rattle.pt_recover.specs.declared.error.NoTable.{NoTable as Reason};
@@ -17,7 +19,7 @@ use crate::repair_error::RepairError;
 use pt_apply::{Plan, apply};
 use pt_check::{Answer, Recovered, check_known};
 use pt_layout::NoTable;
-use pt_planner::{plan_from, read_known};
+use pt_planner::{Known, plan_from, read_known};
 use pt_sector::Disk;
 use std::alloc::Global;
 
@@ -37,26 +39,28 @@ fn no_layout(reason: Option<NoTable>) -> RepairError
     }
 }
 
-/// What the disk denotes, and the plan that makes it healthy with that.
+/// The plan that makes the disk healthy with the layout that it denotes, by what is known of the disk.
 fn mended<const B: usize, D: Disk<B>>(
     alloc: Global,
     disk: &mut D,
-) -> Result<(Recovered, Plan<B>), RepairError>
+    known: &Known,
+    reason: Option<NoTable>,
+) -> Result<Plan<B>, RepairError>
     requires size { IsSectorSize B }
+    requires known { D.tells → IsKnown B (D.told disk.old).seen known.now }
+    requires reason { D.tells → ReasonIs B (D.told disk.old).seen known.now.old reason }
     ensures same { OnlyReads D.Disk disk.old disk.new }
     ensures blames { Blames fault_in result (D.faults disk.old) (D.faults disk.new) }
     ensures hides { IfErr result MendHidesNoFailure }
-    ensures in_range { IfOk result (λ r. InRange (D.count disk.old) r.1) }
-    ensures phases { IfOk result (λ r. All (λ p. 0 < length p.items) r.1.phases.items) }
-    ensures known { D.tells → IfOk result (λ r. IsOf B (D.told disk.old).seen r.0) }
-    ensures planned { D.tells → IfOk result (λ r. IsMendPlan B (D.told disk.old).seen (phases_of r.1)) }
+    ensures in_range { IfOk result (InRange (D.count disk.old)) }
+    ensures phases { IfOk result (λ plan. All (λ p. 0 < length p.items) plan.phases.items) }
+    ensures planned { D.tells → IfOk result (λ plan. IsMendPlan B (D.told disk.old).seen (phases_of plan)) }
     ensures refused { D.tells → IfErr result (IsMendRefusal B (D.told disk.old).seen) }
 {
-    let (known, reason) = read_known(alloc, disk)?;
     match &known.old {
         Some(layout) => {
-            let plan = plan_from(alloc, disk, &known, layout)?;
-            Ok((recovered(known), plan))
+            let plan = plan_from(alloc, disk, known, layout)?;
+            Ok(plan)
         }
         None => Err(no_layout(reason)),
     }
@@ -78,8 +82,30 @@ pub fn plan_for_repair<const B: usize, D: Disk<B>>(
     ensures planned { D.tells → IfOk result (λ plan. IsMendPlan B (D.told disk.old).seen (phases_of plan)) }
     ensures refused { D.tells → IfErr result (IsMendRefusal B (D.told disk.old).seen) }
 {
-    let (_known, plan) = mended(alloc, disk)?;
-    Ok(plan)
+    let read = read_known(alloc, disk)?;
+    mended(alloc, disk, &read.0, read.1)
+}
+
+/// Checks a plan for a disk that was read already.
+fn checked<const B: usize, D: Disk<B>>(
+    alloc: Global,
+    disk: &mut D,
+    plan: &Plan<B>,
+    before: Recovered,
+) -> Result<(), RepairError>
+    requires size { IsSectorSize B }
+    requires known { D.tells → IsOf B (D.told disk.old).seen before }
+    ensures same { OnlyReads D.Disk disk.old disk.new }
+    ensures blames { Blames fault_in result (D.faults disk.old) (D.faults disk.new) }
+    ensures hides { IfErr result MendHidesNoFailure }
+    ensures ok { D.tells → OnOk result (IsSafe B (D.told disk.old).seen (phases_of plan.now)) }
+    ensures err { D.tells → IfErr result (NotSafeToMend B (D.told disk.old).seen (phases_of plan.now)) }
+{
+    let answer = check_known(alloc, disk, plan, before)?;
+    match answer {
+        Answer::Yes { .. } => Ok(()),
+        Answer::No(why) => Err(RepairError::Check(why)),
+    }
 }
 
 /// The same plan, once the checker has accepted it. Nothing is flushed or written.
@@ -95,11 +121,10 @@ pub fn checked_plan_for_repair<const B: usize, D: Disk<B>>(
     ensures ready { D.tells → IfOk result (λ plan. IsReadyToMend B (D.told disk.old).seen (phases_of plan)) }
     ensures refused { D.tells → IfErr result (IsMendRefusal B (D.told disk.old).seen) }
 {
-    let (before, plan) = mended(alloc, disk)?;
-    match check_known(alloc, disk, &plan, before)? {
-        Answer::Yes { .. } => Ok(plan),
-        Answer::No(why) => Err(RepairError::Check(why)),
-    }
+    let (known, reason) = read_known(alloc, disk)?;
+    let plan = mended(alloc, disk, &known, reason)?;
+    checked(alloc, disk, &plan, recovered(known))?;
+    Ok(plan)
 }
 
 /// Makes the disk healthy, and keeps its layout: both copies of a GPT and the protective record are written anew.

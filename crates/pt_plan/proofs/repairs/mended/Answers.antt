@@ -5,23 +5,18 @@ use Rattle.pt_plan.proofs.repairs.mended.Goals as goal
 
 pub returns-in_err-plan-in-Some-clause-refused : goal.returns-in_err-plan-in-Some-clause-refused
 returns-in_err-plan-in-Some-clause-refused g c = λ tells.
-    let p = err_from_is_err_and c.from_residual-in_err-plan-in-Some.result c.from_residual-in_err-plan-in-Some.ensures.1 in
-    rw (p.1, p.2) (mend_refused g.row.B (g.D.Disk.told c.args.disk.now).seen c.requires.size c.in_ok-known.known.old
-    (c.in_ok-known.ensures.known tells).old c.in-Some.layout c.in-Some.is
-    c.in_err-plan-in-Some.field-0.0 (rw (c.in_ok-known.ensures.same.same tells) at (c.in_err-plan-in-Some.ensures.err tells)))
+    let p = err_from_is_err_and c.from_residual.result c.from_residual.ensures.1 in
+    rw (p.1, p.2) (mend_refused g.row.B (g.D.Disk.told c.args.disk.now).seen c.requires.size c.args.known.now.old
+    (c.requires.known tells).old c.in-Some.layout c.in-Some.is
+    c.in_err-plan-in-Some.field-0.0 (c.in_err-plan-in-Some.ensures.err tells))
 
 pub returns-in_ok-plan-in-Some-clause-planned : goal.returns-in_ok-plan-in-Some-clause-planned
 returns-in_ok-plan-in-Some-clause-planned g c = λ tells.
-    mend_planned g.row.B (g.D.Disk.told c.args.disk.now).seen c.requires.size c.in_ok-known.known.old
-    (c.in_ok-known.ensures.known tells).old c.in-Some.layout c.in-Some.is
-    (phases_of c.in_ok-plan-in-Some.plan) (rw (c.in_ok-known.ensures.same.same tells) at (c.in_ok-plan-in-Some.ensures.plan tells))
+    mend_planned g.row.B (g.D.Disk.told c.args.disk.now).seen c.requires.size c.args.known.now.old
+    (c.requires.known tells).old c.in-Some.layout c.in-Some.is
+    (phases_of c.in_ok-plan-in-Some.plan) (c.in_ok-plan-in-Some.ensures.plan tells)
 
 pub returns-in-None-clause-refused : goal.returns-in-None-clause-refused
 returns-in-None-clause-refused g c = λ tells.
-    nothing_to_mend g.row.B (g.D.Disk.told c.args.disk.now).seen c.in_ok-known.known.old c.in_ok-known.reason c.in-None.is
-    (c.in_ok-known.ensures.known tells).old (c.in_ok-known.ensures.reason tells)
-    c.no_layout.result c.no_layout.ensures.told
-
-pub returns-in_ok-plan-in-Some-clause-known : goal.returns-in_ok-plan-in-Some-clause-known
-returns-in_ok-plan-in-Some-clause-known g c = λ tells.
-    rw c.recovered.ensures (record { denotes = (c.in_ok-known.ensures.known tells).old; reads = (c.in_ok-known.ensures.known tells).trace })
+    nothing_to_mend g.row.B (g.D.Disk.told c.args.disk.now).seen c.args.known.now.old c.args.reason c.in-None.is
+    (c.requires.known tells).old (c.requires.reason tells) c.no_layout.result c.no_layout.ensures.told
