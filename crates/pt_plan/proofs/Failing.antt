@@ -1,13 +1,11 @@
 -- A plan that was checked, and not applied to its end: how it failed.
-use Rattle.std.proofs.Common.{◌≡◌, inr, ℕ, zero, suc, List, [], ◌∷◌, sym, subst, Some, slice_get, slice_index_or}
+use Rattle.std.proofs.Common.{◌≡◌, inr, ℕ, List, [], sym, subst, Some, slice_index_or}
 use Rattle.pt_sector.specs.Sectors.{Sectors}
 use Rattle.pt_sector.specs.Writes.{Writes}
 use Rattle.pt_sector.specs.Device.{Told, Flushed}
 use Rattle.pt_sector.specs.Calls.{IsReadIn, ReadFaults, with_fault}
-use Rattle.pt_sector.specs.declared.address.Lba.{Lba}
 use Rattle.pt_sector.specs.declared.disk.Fault.{Fault}
 use Rattle.pt_sector.specs.declared.disk.Fault.TheVariants.{Read, Write, Flush}
-use Rattle.pt_apply.specs.Plans.{faults_of}
 use Rattle.pt_apply.specs.Runs.{FailedIn}
 use Rattle.pt_check.specs.Answers.{Answers, Promises}
 use Rattle.pt_check.specs.Failed.{fault_in}

@@ -1,6 +1,6 @@
 -- The steps before a commit's first write.
-use Rattle.std.proofs.Common.{◌≡◌, ◌∙◌, ℕ, zero, suc, ◌+◌, ◌<◌, List, [], ◌∷◌, length, drop, get_or, Option, Some, None, Ok, Err, Bool}
-use Rattle.std.proofs.Common.{true, false, IsTrue, ◌↔◌, refl, sym, ap, subst, arith, add-one}
+use Rattle.std.proofs.Common.{◌≡◌, ◌∙◌, ℕ, zero, suc, ◌+◌, ◌<◌, List, [], ◌∷◌, length, drop, get_or, Option, Some, None, Ok, Err}
+use Rattle.std.proofs.Common.{refl, sym, ap, subst, arith, add-one}
 use Rattle.pt_sector.specs.Sectors.{Sectors, IsSectorSize}
 use Rattle.pt_sector.specs.Writes.{Writes}
 use Rattle.pt_recover.specs.Answers.{IsReason, failure_in}
@@ -81,10 +81,6 @@ ready b n batch d phases size is safe = record {
   switch = safe.switch;
   safe = safe.safe;
 }
-
-pub never : (x : Bool) (X : Type 0) → x ≡ false → (IsTrue x ↔ X) → X → ⊥
-never true X is both holds = absurd cc
-never false X is both holds = let yes : IsTrue false = both.1 holds in absurd cc
 
 -- a disk that denotes nothing has a reason, which is no failure
 reason_inside : (b : ℕ) (d : Sectors) (r : Reason) → ReasonIs b d None (Some r) → failure_in r ≡ None
