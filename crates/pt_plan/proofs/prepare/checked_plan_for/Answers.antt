@@ -7,7 +7,8 @@ use Rattle.pt_plan.proofs.prepare.checked_plan_for.Goals as goal
 pub returns-in_err-plan-clause-refused : goal.returns-in_err-plan-clause-refused
 returns-in_err-plan-clause-refused g c = λ tells.
     let p = err_from_is_err_and c.from_residual-in_err-plan.result c.from_residual-in_err-plan.ensures.1 in
-    rw (p.1, p.2) (rw (c.in_ok-known.ensures.same.same_count, c.in_ok-known.ensures.same.same tells) at (c.in_err-plan.ensures.refused tells))
+    rw (p.1, p.2) (rw (c.in_ok-known.ensures.same.same_count, c.in_ok-known.ensures.same.same tells)
+    at (c.in_err-plan.ensures.refused tells))
 
 pub checked-requires : goal.checked-requires
 checked-requires g c = (
