@@ -43,37 +43,34 @@ fn changed(at: usize, bytes: [u8; 2], checksum: [u8; 2]) -> [u8; 512]
     sector
 }
 
-// The two bytes of a label's checksum, over bytes of this value.
-fn checksum<const B: usize>(label: &Label, under: u8) -> [u8; 2]
-    requires { IsSectorSize B }
-{
-    let sector: Sector<B> = encode_label(label, &[under; B]);
-    [sector[136], sector[137]]
-}
-
-// What is read of a label in a slice, over bytes of this value.
-fn read_back<const B: usize>(
+// The two bytes of a label's checksum over bytes of this value, and what is read of it there in a slice.
+fn stored<const B: usize>(
     label: &Label,
     under: u8,
     first: u64,
     sectors: u64,
-) -> Result<Label, LabelError>
+) -> ([u8; 2], Result<Label, LabelError>)
     requires { IsSectorSize B }
 {
     let sector: Sector<B> = encode_label(label, &[under; B]);
-    decode_label(&sector, first, sectors)
+    let checksum = [sector[136], sector[137]];
+    (checksum, decode_label(&sector, first, sectors))
+}
+
+// Three bytes behind an empty label, over bytes of 255.
+fn behind(label: &Label) -> [u8; 3] {
+    let sector: [u8; 512] = encode_label(label, &[255; 512]);
+    [sector[275], sector[276], sector[511]]
 }
 
 #[test]
 fn empty_labels_have_one_checksum(rt: HostRuntime) {
     for n in [0, 1, 4096, 4294967295] {
         let label = empty_label(n);
-        assert!(rt; checksum::<512>(&label, 255) == [0x08, 0x22]);
-        assert!(rt; read_back::<512>(&label, 255, 7, n as u64) == Ok(label));
-        assert!(rt; checksum::<4096>(&label, 0) == [0x08, 0x22]);
-        assert!(rt; read_back::<4096>(&label, 0, 7, n as u64) == Ok(label));
-        let sector: [u8; 512] = encode_label(&label, &[255; 512]);
-        assert!(rt; [sector[275], sector[276], sector[511]] == [0, 255, 255]);
+        let want = ([0x08, 0x22], Ok(label));
+        assert!(rt; stored::<512>(&label, 255, 7, n as u64) == want);
+        assert!(rt; stored::<4096>(&label, 0, 7, n as u64) == want);
+        assert!(rt; behind(&label) == [0, 255, 255]);
     }
 }
 
@@ -89,10 +86,11 @@ fn three_entries(rt: HostRuntime) {
     assert!(rt; decode_label(&sector, 2048, 4096) == Ok(label));
 }
 
-// What is read of an empty label of 4096 sectors with other bytes.
-fn decoded(at: usize, bytes: [u8; 2], checksum: [u8; 2]) -> Result<Label, LabelError>
-    requires { at < 511 }
-{
+// What is read of an empty label of 4096 sectors with other bytes at a place below 511.
+fn decoded(at: usize, bytes: [u8; 2], checksum: [u8; 2]) -> Result<Label, LabelError> {
+    if at >= 511 {
+        return Err(LabelError::RawPartition);
+    }
     decode_label(&changed(at, bytes, checksum), 2048, 4096)
 }
 
@@ -100,21 +98,26 @@ fn decoded(at: usize, bytes: [u8; 2], checksum: [u8; 2]) -> Result<Label, LabelE
 fn labels_of_other_slices(rt: HostRuntime) {
     let empty = empty_label(4096);
     for sectors in [4097, 4294971392] {
-        let read = read_back::<512>(&empty, 0, 2048, sectors);
+        let (_, read) = stored::<512>(&empty, 0, 2048, sectors);
         assert!(rt; read == Err(LabelError::RawPartition));
     }
 }
 
 #[test]
 fn first_broken_rule(rt: HostRuntime) {
-    for count in [[2, 0], [9, 0], [255, 255]] {
-        assert!(rt; decoded(138, count, [0, 0]) == Err(LabelError::Count));
+    let rows = [
+        (138, [2, 0], [0, 0], Err(LabelError::Count)),
+        (138, [9, 0], [0, 0], Err(LabelError::Count)),
+        (138, [255, 255], [0, 0], Err(LabelError::Count)),
+        (40, [0, 8], [0x08, 0x28], Err(LabelError::SectorSize)),
+        (132, [0x56, 0x45], [0x09, 0x22], Err(LabelError::Magic)),
+        (0, [0x56, 0x45], [0x09, 0x22], Err(LabelError::Magic)),
+        (138, [8, 0], [0x09, 0x22], Err(LabelError::Checksum)),
+        (138, [8, 0], [0x08, 0x22], Ok(empty_label(4096))),
+    ];
+    for (at, bytes, checksum, want) in rows {
+        assert!(rt; decoded(at, bytes, checksum) == want);
     }
-    assert!(rt; decoded(40, [0, 8], [0x08, 0x28]) == Err(LabelError::SectorSize));
-    assert!(rt; decoded(132, [0x56, 0x45], [0x09, 0x22]) == Err(LabelError::Magic));
-    assert!(rt; decoded(0, [0x56, 0x45], [0x09, 0x22]) == Err(LabelError::Magic));
-    assert!(rt; decoded(138, [8, 0], [0x09, 0x22]) == Err(LabelError::Checksum));
-    assert!(rt; decoded(138, [8, 0], [0x08, 0x22]) == Ok(empty_label(4096)));
 }
 
 // A label of 4096 sectors with partitions of 2000 and of 1000 sectors, the second at this offset.
@@ -133,7 +136,7 @@ fn with_one(mut label: Label, first: u32) -> Label {
 #[test]
 fn relative_label(rt: HostRuntime) {
     let one = with_one(empty_label(4096), 16);
-    assert!(rt; checksum::<512>(&one, 0) == [0xCF, 0x25]);
+    assert!(rt; stored::<512>(&one, 0, 2048, 4096).0 == [0xCF, 0x25]);
     let two = with_two(empty_label(4096), 16, 2016);
     let sector: [u8; 512] = encode_label(&two, &encode_label(&one, &[0; 512]));
     assert!(rt; [sector[136], sector[137]] == [0xC0, 0x21]);
@@ -148,20 +151,23 @@ fn places_in_a_relative_label(rt: HostRuntime) {
     assert!(rt; label.entry_first(4294967296, &partition(4294967295, 1)) == 8589934591);
 }
 
+// The two bytes of a label's checksum over another label.
+fn checksum_over(label: &Label, other: &Label) -> [u8; 2] {
+    let sector: [u8; 512] = encode_label(label, &encode_label(other, &[0; 512]));
+    [sector[136], sector[137]]
+}
+
 #[test]
 fn absolute_label(rt: HostRuntime) {
     let label = absolute();
-    assert!(rt; checksum::<512>(&label, 0) == [0x08, 0x2A]);
-    assert!(rt; read_back::<512>(&label, 0, 2048, 4096) == Ok(label));
-    let one: [u8; 512] = encode_label(&with_one(label, 2064), &encode_label(&label, &[0; 512]));
-    assert!(rt; [one[136], one[137]] == [0xCF, 0x25]);
+    assert!(rt; stored::<512>(&label, 0, 2048, 4096) == ([0x08, 0x2A], Ok(label)));
+    assert!(rt; checksum_over(&with_one(label, 2064), &label) == [0xCF, 0x25]);
 }
 
 #[test]
 fn partitions_of_an_absolute_label(rt: HostRuntime) {
     let label = with_two(absolute(), 2064, 4064);
-    assert!(rt; checksum::<4096>(&label, 0) == [0xC0, 0x29]);
-    assert!(rt; read_back::<4096>(&label, 0, 2048, 4096) == Ok(label));
+    assert!(rt; stored::<4096>(&label, 0, 2048, 4096) == ([0xC0, 0x29], Ok(label)));
     assert!(rt; label.form() == Form::Absolute);
     assert!(rt; label.entry_first(2048, &partition(4064, 1000)) == 4064);
 }
@@ -194,14 +200,19 @@ fn magic(rt: HostRuntime) {
     assert!(rt; !bears_magic(&[0u8; 4096]));
 }
 
+// What a label is over bytes of 7, for a slice of so many sectors from here on.
+fn encoded(label: &Label, first: u64, sectors: u64) -> Option<Sector<512>> {
+    encode_for(label, first, sectors, &[7; 512])
+}
+
 #[test]
 fn labels_are_read_back(rt: HostRuntime) {
-    let sector = [7u8; 512];
     let label = absolute();
-    assert!(rt; encode_for(&label, 2048, 4096, &sector) == Some(encode_label(&label, &sector)));
-    assert!(rt; encode_for(&label, 2049, 4096, &sector) == None);
-    assert!(rt; encode_for(&label, 2048, 4095, &sector) == None);
+    let sector = encode_label(&label, &[7u8; 512]);
+    assert!(rt; encoded(&label, 2048, 4096) == Some(sector));
     let mut gap = label;
     gap.entries[1] = None;
-    assert!(rt; encode_for(&gap, 2048, 4096, &sector) == None);
+    for (label, first, sectors) in [(label, 2049, 4096), (label, 2048, 4095), (gap, 2048, 4096)] {
+        assert!(rt; encoded(&label, first, sectors) == None);
+    }
 }

@@ -10,7 +10,7 @@ use pt_gpt::{
 };
 use pt_guid::Guid;
 use pt_sector::{CrashDisk, Disk, Lba, MemDisk, Sector};
-use std::alloc::Global;
+use std::alloc::{AllocError, Global};
 use std::test::Fail;
 
 /// 00010203-0405-4607-8809-0a0b0c0d0e0f, as it is stored.
@@ -333,85 +333,101 @@ fn three_entries() -> [Option<Entry>; 3] {
     ]
 }
 
-/// A disk with a primary copy of the three, and with a byte 1 in these places of its first array sector; none where a
-/// write failed.
-fn with_bytes(alloc: Global, places: &[usize]) -> Result<Option<MemDisk<512>>, Fail> {
-    let entries = three_entries();
-    let mut disk: MemDisk<512> = MemDisk::new(alloc, 4096)?;
-    let header = header_of::<512>(Side::Primary, 4096, &entries, 3);
-    let mut sector: Sector<512> = encode_array_sector(&entries, 0);
+/// The first array sector of the three, with a byte 1 in these places.
+fn array_with(entries: &[Option<Entry>; 3], places: &[usize]) -> Sector<512> {
+    let mut sector: Sector<512> = encode_array_sector(entries, 0);
     for place in places {
         if *place < 512 {
             sector[*place] = 1;
         }
     }
-    let done = put_copy(&mut disk, &header, &entries) && put(&mut disk, 2, &sector);
-    Ok(if done { Some(disk) } else { None })
+    sector
+}
+
+/// Whether a primary copy of the three could be written with such an array sector, and with this header where there is
+/// one.
+fn put_three(disk: &mut MemDisk<512>, places: &[usize], header: Option<&Sector<512>>) -> bool {
+    let entries = three_entries();
+    let done = put_copy(disk, &three_header(), &entries)
+        && put(disk, 2, &array_with(&entries, places));
+    match header {
+        Some(header) => put(disk, 1, header) && done,
+        None => done,
+    }
+}
+
+fn three_header() -> Header {
+    header_of::<512>(Side::Primary, 4096, &three_entries(), 3)
 }
 
 /// Whether the three are read there.
-fn three_are_read(alloc: Global, places: &[usize]) -> Result<bool, Fail> {
-    match with_bytes(alloc, places)? {
-        Some(mut disk) => {
-            let table = copy_of(alloc, &mut disk, Side::Primary)?;
-            Ok(table.entries.as_slice() == three_entries().as_slice())
-        }
-        None => Ok(false),
+fn three_are_read(alloc: Global, disk: &mut MemDisk<512>) -> bool {
+    match copy_of(alloc, disk, Side::Primary) {
+        Ok(table) => table.entries.as_slice() == three_entries().as_slice(),
+        Err(_) => false,
     }
 }
 
-/// The number that reading the copy tells there.
-fn number_with(alloc: Global, places: &[usize]) -> Result<Option<u8>, Fail> {
-    match with_bytes(alloc, places)? {
-        Some(mut disk) => Ok(Some(number_of(alloc, &mut disk))),
-        None => Ok(None),
-    }
+/// The number that reading the copy tells there; none where a write failed.
+fn number_with(
+    alloc: Global,
+    places: &[usize],
+    header: Option<&Sector<512>>,
+) -> Result<Option<u8>, AllocError> {
+    let mut disk = MemDisk::new(alloc, 4096)?;
+    let done = put_three(&mut disk, places, header);
+    let number = number_of(alloc, &mut disk);
+    Ok(if done { Some(number) } else { None })
 }
 
-/// The number that it tells there without a signature in the header; none where a write failed.
-fn number_without_signature(alloc: Global, places: &[usize]) -> Result<Option<u8>, Fail> {
-    let header = header_of::<512>(Side::Primary, 4096, &three_entries(), 3);
-    let mut sector: Sector<512> = encode_header(&header);
+/// The header of the three without a signature.
+fn unsigned_header() -> Sector<512> {
+    let mut sector: Sector<512> = encode_header(&three_header());
     sector[0] = 0;
-    match with_bytes(alloc, places)? {
-        Some(mut disk) => {
-            let done = put(&mut disk, 1, &sector);
-            let number = number_of(alloc, &mut disk);
-            Ok(if done { Some(number) } else { None })
-        }
-        None => Ok(None),
-    }
+    sector
 }
 
 #[test]
-fn only_counted_bytes_count(rt: HostRuntime) -> Result<(), Fail> {
+fn only_counted_bytes_count(rt: HostRuntime) {
     let alloc = rt.alloc();
-    assert!(rt; three_are_read(alloc, &[384])?);
-    assert!(rt; number_with(alloc, &[384, 383])? == Some(9));
-    assert!(rt; number_without_signature(alloc, &[384, 383])? == Some(1));
-    Ok(())
+    let mut disk = MemDisk::new(alloc, 4096).expect(&rt, "memory");
+    assert!(rt; put_three(&mut disk, &[384], None));
+    assert!(rt; three_are_read(alloc, &mut disk));
+    assert!(rt; number_with(alloc, &[384, 383], None) == Ok(Some(9)));
+    assert!(rt; number_with(alloc, &[384, 383], Some(&unsigned_header())) == Ok(Some(1)));
 }
 
-/// The error in reading a copy of an empty table in the last sectors, with the k-th read failing.
-fn failing_read<const B: usize>(alloc: Global, k: u64) -> Result<Option<CopyError>, Fail>
+/// The error in reading a copy of an empty table in the last sectors of 128, with the k-th read failing.
+fn failure_of<const B: usize>(alloc: Global, disk: &mut CrashDisk<B>, k: u64) -> Option<CopyError>
+    requires { IsSectorSize B }
+{
+    let header = header_of::<B>(Side::Backup, 128, &[None; 128], 128);
+    put(disk, header.my, &encode_header(&header));
+    disk.fail_at(k, false);
+    copy_of(alloc, disk, Side::Backup).err()
+}
+
+/// The same of a disk of so many sectors.
+fn failing_read<const B: usize>(alloc: Global, k: u64) -> Result<Option<CopyError>, AllocError>
     requires { IsSectorSize B }
 {
     let mut disk: CrashDisk<B> = CrashDisk::new(alloc, 128, 1)?;
-    let header = header_of::<B>(Side::Backup, 128, &[None; 128], 128);
-    put(&mut disk, header.my, &encode_header(&header));
-    disk.fail_at(k, false);
-    Ok(copy_of(alloc, &mut disk, Side::Backup).err())
+    Ok(failure_of(alloc, &mut disk, k))
 }
 
 #[test]
-fn a_failed_read_is_the_device_s(rt: HostRuntime) -> Result<(), Fail> {
-    assert!(rt; (failing_read::<512>(rt.alloc(), 0)?) == None);
-    assert!(rt; (failing_read::<512>(rt.alloc(), 1)?) == Some(CopyError::Device(Lba(127))));
-    assert!(rt; (failing_read::<512>(rt.alloc(), 2)?) == Some(CopyError::Device(Lba(95))));
-    assert!(rt; (failing_read::<512>(rt.alloc(), 33)?) == Some(CopyError::Device(Lba(126))));
-    assert!(rt; (failing_read::<4096>(rt.alloc(), 2)?) == Some(CopyError::Device(Lba(123))));
-    assert!(rt; (failing_read::<4096>(rt.alloc(), 6)?) == None);
-    Ok(())
+fn a_failed_read_is_the_device_s(rt: HostRuntime) {
+    for (k, want) in [
+        (0, None),
+        (1, Some(CopyError::Device(Lba(127)))),
+        (2, Some(CopyError::Device(Lba(95)))),
+        (33, Some(CopyError::Device(Lba(126)))),
+    ] {
+        assert!(rt; failing_read::<512>(rt.alloc(), k) == Ok(want));
+    }
+    let device = Some(CopyError::Device(Lba(123)));
+    assert!(rt; failing_read::<4096>(rt.alloc(), 2) == Ok(device));
+    assert!(rt; failing_read::<4096>(rt.alloc(), 6) == Ok(None));
 }
 
 /// A table with one partition and room for another.

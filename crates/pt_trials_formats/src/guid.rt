@@ -36,6 +36,14 @@ fn fresh_guid(rt: HostRuntime) {
     assert!(rt; fresh(drawn).to_text(&mut buffer) == "00010203-0405-4607-8809-0a0b0c0d0e0f");
 }
 
+/// Whether a code and a GUID's text each give the other.
+fn are_one_type(code: u16, text: &str) -> bool {
+    match parse(text) {
+        Ok(guid) => type_of_code(code) == Some(guid) && code_of_type(&guid) == Some(code),
+        Err(_) => false,
+    }
+}
+
 #[test]
 fn six_codes(rt: HostRuntime) {
     for (code, text) in [
@@ -46,13 +54,7 @@ fn six_codes(rt: HostRuntime) {
         (0xA500, "516E7CB4-6ECF-11D6-8FF8-00022D09712B"),
         (0xA503, "516E7CB6-6ECF-11D6-8FF8-00022D09712B"),
     ] {
-        match parse(text) {
-            Ok(guid) => {
-                assert!(rt; type_of_code(code) == Some(guid));
-                assert!(rt; code_of_type(&guid) == Some(code));
-            }
-            Err(_) => assert!(rt; false),
-        }
+        assert!(rt; are_one_type(code, text));
     }
 }
 

@@ -8,8 +8,7 @@ use pt_mbr::{
     walk_chain,
 };
 use pt_sector::{CrashDisk, Disk, Extent, Fault, Lba, MemDisk, Sector};
-use std::alloc::Global;
-use std::test::Fail;
+use std::alloc::{AllocError, Global};
 
 /// A record as this project writes it.
 fn record_of(kind: u8, start: u32, size: u32) -> Record {
@@ -52,24 +51,27 @@ fn counts(list: &ArrayVec<Ebr, 128>) -> (usize, usize) {
     )
 }
 
+/// What two writes answer, and then the counts of a chain.
+type Answer = ([Result<(), Fault>; 2], Result<(usize, usize), ChainError>);
+
+const WRITTEN: [Result<(), Fault>; 2] = [Ok(()); 2];
+
 /// The answer for a chain from 4096 on, with an empty extended boot record in 6143.
-fn answer<const B: usize>(
-    alloc: Global,
-    first: &Sector<B>,
-) -> Result<Result<(usize, usize), ChainError>, Fail>
+fn answer<const B: usize>(alloc: Global, first: &Sector<B>) -> Result<Answer, AllocError>
     requires { IsSectorSize B }
 {
     let mut disk: MemDisk<B> = MemDisk::new(alloc, 16384)?;
-    disk.write(Lba(4096), first)?;
-    disk.write(Lba(6143), &boot_record(EMPTY))?;
-    Ok(match read_chain(&mut disk, extended()) {
+    let first = disk.write(Lba(4096), first);
+    let second = disk.write(Lba(6143), &boot_record(EMPTY));
+    let read = match read_chain(&mut disk, extended()) {
         Ok(list) => Ok(counts(&list)),
         Err(e) => Err(e),
-    })
+    };
+    Ok(([first, second], read))
 }
 
 #[test]
-fn links_are_judged(rt: HostRuntime) -> Result<(), Fail> {
+fn links_are_judged(rt: HostRuntime) {
     let rows = [
         (link(0x05, 2047, 1), Ok((2, 0))),
         (link(0x0F, 2047, 1), Ok((2, 0))),
@@ -89,21 +91,22 @@ fn links_are_judged(rt: HostRuntime) -> Result<(), Fail> {
         ([Some(record_of(0x83, 1, 1000)), None], Ok((1, 1))),
     ];
     for (records, want) in rows {
-        assert!(rt; (answer::<512>(rt.alloc(), &boot_record(records))?) == want);
+        assert!(rt; answer::<512>(rt.alloc(), &boot_record(records)) == Ok((WRITTEN, want)));
     }
-    assert!(rt; (answer::<4096>(rt.alloc(), &boot_record(link(0x05, 2047, 1)))?) == Ok((2, 0)));
-    Ok(())
+    let records = boot_record(link(0x05, 2047, 1));
+    assert!(rt; answer::<4096>(rt.alloc(), &records) == Ok((WRITTEN, Ok((2, 0)))));
 }
 
 #[test]
-fn bytes_are_judged_in_order(rt: HostRuntime) -> Result<(), Fail> {
+fn bytes_are_judged_in_order(rt: HostRuntime) {
     let mut first: Sector<512> = boot_record(EMPTY);
     first[479] = 1;
-    assert!(rt; answer(rt.alloc(), &first)? == Err(ChainError::BadRecord(Lba(4096))));
+    let bad = Err(ChainError::BadRecord(Lba(4096)));
+    assert!(rt; answer(rt.alloc(), &first) == Ok((WRITTEN, bad)));
     first[510] = 0;
     first[511] = 0;
-    assert!(rt; answer(rt.alloc(), &first)? == Err(ChainError::NoSignature(Lba(4096))));
-    Ok(())
+    let unsigned = Err(ChainError::NoSignature(Lba(4096)));
+    assert!(rt; answer(rt.alloc(), &first) == Ok((WRITTEN, unsigned)));
 }
 
 /// Extended boot records in 4096, 4098, and so on, each but the last linking to the next.
@@ -124,61 +127,49 @@ fn write_chain<D: Disk<512>>(disk: &mut D, count: u32) -> Result<(), Fault>
     Ok(())
 }
 
-/// A disk with a chain of so many.
-fn disk_with_chain(alloc: Global, count: u32) -> Result<MemDisk<512>, Fail>
-    requires { count ≤ 129 }
-{
-    let mut disk: MemDisk<512> = MemDisk::new(alloc, 16384)?;
-    write_chain(&mut disk, count)?;
-    Ok(disk)
-}
-
 #[test]
-fn a_chain_may_have_128(rt: HostRuntime) -> Result<(), Fail> {
-    let mut disk = disk_with_chain(rt.alloc(), 128)?;
+fn a_chain_may_have_128(rt: HostRuntime) {
+    let mut disk = MemDisk::new(rt.alloc(), 16384).expect(&rt, "memory");
+    assert!(rt; write_chain(&mut disk, 128) == Ok(()));
     let list = read_chain(&mut disk, extended());
     assert!(rt; matches!(&list, Ok(list) if list.len() == 128));
-    Ok(())
+}
+
+/// What a walk answers, and how many extended boot records it found.
+fn walk_of<D: Disk<512>>(disk: &mut D) -> (Result<(), ChainError>, usize) {
+    let mut list = ArrayVec::new();
+    let walked = walk_chain(disk, &extended(), &mut list);
+    (walked, list.len())
 }
 
 #[test]
-fn a_chain_has_128_at_most(rt: HostRuntime) -> Result<(), Fail> {
-    let mut disk = disk_with_chain(rt.alloc(), 129)?;
-    let mut list = ArrayVec::new();
-    let walked = walk_chain(&mut disk, &extended(), &mut list);
-    assert!(rt; (walked, list.len()) == (Err(ChainError::TooLong), 128));
-    Ok(())
+fn a_chain_has_128_at_most(rt: HostRuntime) {
+    let mut disk = MemDisk::new(rt.alloc(), 16384).expect(&rt, "memory");
+    assert!(rt; write_chain(&mut disk, 129) == Ok(()));
+    assert!(rt; walk_of(&mut disk) == (Err(ChainError::TooLong), 128));
 }
 
-/// A disk with a chain of two, which fails to read the second once.
-fn failing_disk(alloc: Global) -> Result<CrashDisk<512>, Fail> {
-    let mut disk: CrashDisk<512> = CrashDisk::new(alloc, 16384, 2)?;
-    disk.write(Lba(4096), &boot_record(link(0x05, 2047, 1)))?;
-    disk.write(Lba(6143), &boot_record(EMPTY))?;
+#[test]
+fn a_failed_read_is_the_device(rt: HostRuntime) {
+    let mut disk = CrashDisk::new(rt.alloc(), 16384, 2).expect(&rt, "memory");
+    let first = disk.write(Lba(4096), &boot_record(link(0x05, 2047, 1)));
+    let second = disk.write(Lba(6143), &boot_record(EMPTY));
+    assert!(rt; [first, second] == WRITTEN);
+    // of a chain of two, the second is not read once
     disk.fail_at(2, false);
-    Ok(disk)
-}
-
-#[test]
-fn a_failed_read_is_the_device(rt: HostRuntime) -> Result<(), Fail> {
-    let mut disk = failing_disk(rt.alloc())?;
-    let mut list = ArrayVec::new();
-    let walked = walk_chain(&mut disk, &extended(), &mut list);
-    assert!(rt; (walked, list.len()) == (Err(ChainError::Device(Lba(6143))), 1));
+    assert!(rt; walk_of(&mut disk) == (Err(ChainError::Device(Lba(6143))), 1));
     assert!(rt; read_chain(&mut disk, extended()).is_ok());
-    Ok(())
 }
 
 #[test]
-fn an_extended_partition_may_lie_past_the_disk(rt: HostRuntime) -> Result<(), Fail> {
-    let mut disk: MemDisk<4096> = MemDisk::new(rt.alloc(), 8)?;
+fn an_extended_partition_may_lie_past_the_disk(rt: HostRuntime) {
+    let mut disk: MemDisk<4096> = MemDisk::new(rt.alloc(), 8).expect(&rt, "memory");
     assert!(rt;
         matches!(
             read_chain(&mut disk, extended()),
             Err(ChainError::OutsideExtended(Lba(4096)))
         )
     );
-    Ok(())
 }
 
 fn logical() -> Record {
@@ -248,7 +239,7 @@ fn written<const B: usize>(records: [Option<Record>; 4]) -> Option<[Option<Recor
 }
 
 #[test]
-fn what_is_written_is_read(rt: HostRuntime) -> Result<(), Fail> {
+fn what_is_written_is_read(rt: HostRuntime) {
     let mut bootable = record_of(0xA5, 2048, 4096);
     bootable.boot = 0x80;
     let records = [
@@ -263,7 +254,6 @@ fn what_is_written_is_read(rt: HostRuntime) -> Result<(), Fail> {
     assert!(rt; written::<512>([Some(bootable), None, None, None]) == None);
     let unused = record_of(0x83, 7, 0);
     assert!(rt; written::<512>([Some(unused), None, None, None]) == Some([None; 4]));
-    Ok(())
 }
 
 /// The record that protects a disk, or none where the sector does not protect it alone.
@@ -287,7 +277,7 @@ fn protection<const B: usize>(sectors: u64, under: u8) -> Option<[u8; 16]>
 }
 
 #[test]
-fn the_first_record_protects(rt: HostRuntime) -> Result<(), Fail> {
+fn the_first_record_protects(rt: HostRuntime) {
     let all = b"\x00\x00\x02\x00\xee\xff\xff\xff\x01\x00\x00\x00\xff\xff\xff\xff";
     assert!(rt;
         protection::<512>(2048, 9)
@@ -299,17 +289,15 @@ fn the_first_record_protects(rt: HostRuntime) -> Result<(), Fail> {
     );
     assert!(rt; protection::<512>(4294967296, 0) == Some(*all));
     assert!(rt; protection::<512>(4294967297, 0) == Some(*all));
-    Ok(())
 }
 
 #[test]
-fn an_empty_record_may_bear_the_protective_type(rt: HostRuntime) -> Result<(), Fail> {
+fn an_empty_record_may_bear_the_protective_type(rt: HostRuntime) {
     for k in 0..4usize {
         let sector: Sector<4096> = put_record(&[0; 4096], k, Some(&record_of(0xEE, 1, 0)));
         assert!(rt; bears_protective(&sector));
     }
     assert!(rt; !bears_protective(&[0; 4096]));
-    Ok(())
 }
 
 /// An extended boot record at a place, with a logical partition of 1000 sectors behind it.
@@ -360,7 +348,7 @@ fn a_link_changes_alone(rt: HostRuntime) {
 }
 
 #[test]
-fn links_fit_their_fields(rt: HostRuntime) -> Result<(), Fail> {
+fn links_fit_their_fields(rt: HostRuntime) {
     let empty = Ebr {
         at: Lba(4096 + 0xFFFF_FFFF),
         logical: None,
@@ -374,7 +362,6 @@ fn links_fit_their_fields(rt: HostRuntime) -> Result<(), Fail> {
     assert!(rt; link_to(Lba(4096), &long) == Some(record_of(0x05, 2047, 0xFFFF_FFFF)));
     long.logical = Some(record_of(0x83, 2, 0xFFFF_FFFE));
     assert!(rt; link_to(Lba(4096), &long) == None);
-    Ok(())
 }
 
 fn kept() -> Option<Record> {

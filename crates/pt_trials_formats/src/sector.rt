@@ -3,7 +3,6 @@ ghost use Rattle.pt_sector.specs.Sectors.{IsSectorSize};
 
 use pt_sector::{CrashDisk, Disk, Extent, Fault, Lba, MemDisk, Overlay, Room};
 use std::alloc::{AllocError, Global};
-use std::test::Fail;
 
 /// What a sector of equal bytes holds; none too where there is no such sector.
 fn byte_at<const B: usize, D: Disk<B>>(disk: &mut D, lba: u64) -> Result<Option<u8>, Fault>
@@ -32,128 +31,140 @@ fn write<const B: usize, D: Disk<B>>(disk: &mut D, lba: u64, byte: u8) -> Result
     disk.write(Lba(lba), &[byte; B])
 }
 
-/// Two writes of sector 2, one of sector 5, a flush, and what sectors 1, 2 and 5 then hold.
-fn exercise<const B: usize, D: Disk<B>>(disk: &mut D) -> Result<[Option<u8>; 3], Fault>
+/// What a read of a sector of equal bytes answers.
+type Read = Result<Option<u8>, Fault>;
+
+/// What sectors 1, 2 and 5 hold.
+fn three_of<const B: usize, D: Disk<B>>(disk: &mut D) -> [Read; 3]
+    requires { IsSectorSize B }
+{
+    [byte_at(disk, 1), byte_at(disk, 2), byte_at(disk, 5)]
+}
+
+/// Two writes of sector 2, and between them one of sector 5.
+fn write_three<const B: usize, D: Disk<B>>(disk: &mut D) -> Result<(), Fault>
     requires { IsSectorSize B }
 {
     write(disk, 2, 7)?;
     write(disk, 5, 8)?;
-    write(disk, 2, 9)?;
-    disk.flush()?;
-    Ok([byte_at(disk, 1)?, byte_at(disk, 2)?, byte_at(disk, 5)?])
+    write(disk, 2, 9)
 }
 
-const WRITTEN: [Option<u8>; 3] = [Some(0), Some(9), Some(8)];
+/// What these writes and a flush answer, and what sectors 1, 2 and 5 then hold.
+fn exercise<const B: usize, D: Disk<B>>(disk: &mut D) -> Exercise
+    requires { IsSectorSize B }
+{
+    let written = write_three(disk);
+    let flushed = disk.flush();
+    (written, flushed, three_of(disk))
+}
 
-/// What is read from a disk in memory below an overlay that is written, and from the overlay.
-fn below_and_over<const B: usize>(
-    alloc: Global,
-    memory: &mut MemDisk<B>,
-) -> Result<(Option<u8>, [Option<u8>; 3]), Fail>
+type Exercise = (Result<(), Fault>, Result<(), Fault>, [Read; 3]);
+
+const DONE: Exercise = (Ok(()), Ok(()), [Ok(Some(0)), Ok(Some(9)), Ok(Some(8))]);
+
+/// What an overlay over a disk in memory answers.
+fn over<const B: usize>(alloc: Global, memory: &mut MemDisk<B>) -> Result<Exercise, AllocError>
     requires { IsSectorSize B }
 {
     let room = Room::new(alloc, 2)?;
     let mut overlay = Overlay::new(memory, room);
-    let over = exercise(&mut overlay)?;
-    drop(overlay);
-    Ok((byte_at(memory, 2)?, over))
+    Ok(exercise(&mut overlay))
 }
 
-/// Whether an overlay and the disk below it read as written, and the overlay leaves that disk as it was.
-fn each_in_memory<const B: usize>(alloc: Global) -> Result<bool, Fail>
+/// What an overlay answers, what the disk below it then holds, and what that disk answers.
+fn each_in_memory<const B: usize>(
+    alloc: Global,
+) -> Result<(Result<Exercise, AllocError>, Read, Exercise), AllocError>
     requires { IsSectorSize B }
 {
     let mut memory: MemDisk<B> = MemDisk::new(alloc, 8)?;
-    let (below, over) = below_and_over(alloc, &mut memory)?;
-    let own = exercise(&mut memory)?;
-    Ok(over == WRITTEN && below == Some(0) && own == WRITTEN)
+    let over = over(alloc, &mut memory);
+    let below = byte_at(&mut memory, 2);
+    Ok((over, below, exercise(&mut memory)))
 }
 
-/// What a disk with pending writes reads.
-fn cached<const B: usize>(alloc: Global) -> Result<[Option<u8>; 3], Fail>
+/// What a disk with pending writes answers.
+fn cached<const B: usize>(alloc: Global) -> Result<Exercise, AllocError>
     requires { IsSectorSize B }
 {
     let mut crash: CrashDisk<B> = CrashDisk::new(alloc, 8, 3)?;
-    Ok(exercise(&mut crash)?)
+    Ok(exercise(&mut crash))
 }
 
 #[test]
-fn sectors_of_512_bytes(rt: HostRuntime) -> Result<(), Fail> {
-    assert!(rt; each_in_memory::<512>(rt.alloc())?);
-    assert!(rt; cached::<512>(rt.alloc())? == WRITTEN);
-    Ok(())
+fn sectors_of_512_bytes(rt: HostRuntime) {
+    assert!(rt; each_in_memory::<512>(rt.alloc()) == Ok((Ok(DONE), Ok(Some(0)), DONE)));
+    assert!(rt; cached::<512>(rt.alloc()) == Ok(DONE));
 }
 
 #[test]
-fn sectors_of_4096_bytes(rt: HostRuntime) -> Result<(), Fail> {
-    assert!(rt; each_in_memory::<4096>(rt.alloc())?);
-    assert!(rt; cached::<4096>(rt.alloc())? == WRITTEN);
-    Ok(())
+fn sectors_of_4096_bytes(rt: HostRuntime) {
+    assert!(rt; each_in_memory::<4096>(rt.alloc()) == Ok((Ok(DONE), Ok(Some(0)), DONE)));
+    assert!(rt; cached::<4096>(rt.alloc()) == Ok(DONE));
 }
 
-/// What three writes of an overlay with room for one sector answer, and what their two sectors then hold.
-fn in_room_for_one(alloc: Global) -> Result<([Result<(), Fault>; 3], [Option<u8>; 2]), Fail> {
-    let mut memory: MemDisk<512> = MemDisk::new(alloc, 8)?;
+/// What three writes of two sectors answer, and what these sectors then hold.
+fn write_two<D: Disk<512>>(disk: &mut D) -> ([Result<(), Fault>; 3], [Read; 2]) {
+    let answers = [write(disk, 3, 7), write(disk, 3, 9), write(disk, 4, 7)];
+    (answers, [byte_at(disk, 3), byte_at(disk, 4)])
+}
+
+/// What an overlay with room for one sector answers to them.
+fn in_room_for_one(
+    alloc: Global,
+    memory: &mut MemDisk<512>,
+) -> Result<([Result<(), Fault>; 3], [Read; 2]), AllocError> {
     let room = Room::new(alloc, 1)?;
-    let mut overlay = Overlay::new(&mut memory, room);
-    let first = write(&mut overlay, 3, 7);
-    let again = write(&mut overlay, 3, 9);
-    let other = write(&mut overlay, 4, 7);
-    let held = [byte_at(&mut overlay, 3)?, byte_at(&mut overlay, 4)?];
-    Ok(([first, again, other], held))
+    let mut overlay = Overlay::new(memory, room);
+    Ok(write_two(&mut overlay))
 }
 
 #[test]
-fn an_overlay_keeps_its_room(rt: HostRuntime) -> Result<(), Fail> {
-    let (answers, held) = in_room_for_one(rt.alloc())?;
-    assert!(rt; answers == [Ok(()), Ok(()), Err(Fault::Write(Lba(4)))]);
-    assert!(rt; held == [Some(9), Some(0)]);
-    Ok(())
+fn an_overlay_keeps_its_room(rt: HostRuntime) {
+    let mut memory = MemDisk::new(rt.alloc(), 8).expect(&rt, "memory");
+    let answers = [Ok(()), Ok(()), Err(Fault::Write(Lba(4)))];
+    let held = [Ok(Some(9)), Ok(Some(0))];
+    assert!(rt; in_room_for_one(rt.alloc(), &mut memory) == Ok((answers, held)));
 }
 
-/// What sectors 1, 4, 6 and 5 hold after 6, 1 and 4 were put in that order.
-fn after_three_puts(alloc: Global) -> Result<[Option<u8>; 4], Fail> {
-    let mut memory: MemDisk<512> = MemDisk::new(alloc, 8)?;
+/// What sectors 1, 4, 6 and 5 hold.
+fn four_of<D: Disk<512>>(disk: &mut D) -> [Read; 4] {
+    [
+        byte_at(disk, 1),
+        byte_at(disk, 4),
+        byte_at(disk, 6),
+        byte_at(disk, 5),
+    ]
+}
+
+/// What these hold in an overlay after 6, 1 and 4 were put in that order.
+fn after_three_puts(alloc: Global, memory: &mut MemDisk<512>) -> Result<[Read; 4], AllocError> {
     let room = Room::new(alloc, 3)?;
-    let mut overlay = Overlay::new(&mut memory, room);
+    let mut overlay = Overlay::new(memory, room);
     overlay.put(Lba(6), &[6; 512]);
     overlay.put(Lba(1), &[1; 512]);
     overlay.put(Lba(4), &[4; 512]);
-    Ok([
-        byte_at(&mut overlay, 1)?,
-        byte_at(&mut overlay, 4)?,
-        byte_at(&mut overlay, 6)?,
-        byte_at(&mut overlay, 5)?,
-    ])
+    Ok(four_of(&mut overlay))
 }
 
 #[test]
-fn puts_in_any_order_are_found(rt: HostRuntime) -> Result<(), Fail> {
-    assert!(rt; after_three_puts(rt.alloc())? == [Some(1), Some(4), Some(6), Some(0)]);
-    Ok(())
+fn puts_in_any_order_are_found(rt: HostRuntime) {
+    let mut memory = MemDisk::new(rt.alloc(), 8).expect(&rt, "memory");
+    let held = [Ok(Some(1)), Ok(Some(4)), Ok(Some(6)), Ok(Some(0))];
+    assert!(rt; after_three_puts(rt.alloc(), &mut memory) == Ok(held));
 }
 
-/// A disk with the pending values 7, then 9 of sector 2, and 8 of sector 5.
-fn with_pending(alloc: Global) -> Result<CrashDisk<512>, Fail> {
+/// What the three writes of a disk that keeps them pending answer, and what a stop with these choices then leaves in
+/// sectors 1, 2 and 5 of it: the pending values are 7, then 9 of sector 2, and 8 of sector 5.
+fn left_by(alloc: Global, choices: &[usize]) -> Result<(Result<(), Fault>, [Read; 3]), AllocError> {
     let mut disk: CrashDisk<512> = CrashDisk::new(alloc, 8, 3)?;
-    write(&mut disk, 2, 7)?;
-    write(&mut disk, 5, 8)?;
-    write(&mut disk, 2, 9)?;
-    Ok(disk)
-}
-
-/// What a stop with these choices leaves in sectors 1, 2 and 5 of it.
-fn left_by(alloc: Global, choices: &[usize]) -> Result<[Option<u8>; 3], Fail> {
-    let mut left = with_pending(alloc)?.stop(choices);
-    Ok([
-        byte_at(&mut left, 1)?,
-        byte_at(&mut left, 2)?,
-        byte_at(&mut left, 5)?,
-    ])
+    let written = write_three(&mut disk);
+    Ok((written, three_of(&mut disk.stop(choices))))
 }
 
 #[test]
-fn a_stop_takes_one_choice_for_each_sector(rt: HostRuntime) -> Result<(), Fail> {
+fn a_stop_takes_one_choice_for_each_sector(rt: HostRuntime) {
     let durable: &[usize] = &[];
     let rows: [(&[usize], u8, u8); 7] = [
         (durable, 0, 0),
@@ -165,56 +176,62 @@ fn a_stop_takes_one_choice_for_each_sector(rt: HostRuntime) -> Result<(), Fail> 
         (&[9, 9], 9, 8),
     ];
     for (choices, second, fifth) in rows {
-        assert!(rt; left_by(rt.alloc(), choices)? == [Some(0), Some(second), Some(fifth)]);
+        let held = [Ok(Some(0)), Ok(Some(second)), Ok(Some(fifth))];
+        assert!(rt; left_by(rt.alloc(), choices) == Ok((Ok(()), held)));
     }
-    Ok(())
 }
 
 /// What three writes and a flush answer, of which the second write and the flush are set to fail and the third write has
-/// no room; and what the sector holds after the first write, after the second, and after a stop.
+/// no room; and what the sector holds after the first write and after the second.
+fn answers_that_fail(disk: &mut CrashDisk<512>, kept: bool) -> ([Result<(), Fault>; 4], [Read; 2]) {
+    disk.fail_at(1, kept);
+    disk.fail_at(3, kept);
+    let first = write(disk, 2, 7);
+    let one = byte_at(disk, 2);
+    let second = write(disk, 2, 9);
+    let two = byte_at(disk, 2);
+    let third = write(disk, 2, 1);
+    disk.fail_at(1, kept);
+    ([first, second, third, disk.flush()], [one, two])
+}
+
+/// The same, and what the sector holds after a stop.
 fn calls_that_fail(
     alloc: Global,
     kept: bool,
-) -> Result<([Result<(), Fault>; 4], [Option<u8>; 3]), Fail> {
+) -> Result<([Result<(), Fault>; 4], [Read; 2], Read), AllocError> {
     let mut disk: CrashDisk<512> = CrashDisk::new(alloc, 8, 2)?;
-    disk.fail_at(1, kept);
-    disk.fail_at(3, kept);
-    let first = write(&mut disk, 2, 7);
-    let one = byte_at(&mut disk, 2)?;
-    let second = write(&mut disk, 2, 9);
-    let two = byte_at(&mut disk, 2)?;
-    let third = write(&mut disk, 2, 1);
-    disk.fail_at(1, kept);
-    let flushed = disk.flush();
-    let left = byte_at(&mut disk.stop(&[2]), 2)?;
-    Ok(([first, second, third, flushed], [one, two, left]))
+    let (answers, held) = answers_that_fail(&mut disk, kept);
+    Ok((answers, held, byte_at(&mut disk.stop(&[2]), 2)))
 }
 
 #[test]
-fn the_call_that_is_set_fails(rt: HostRuntime) -> Result<(), Fail> {
+fn the_call_that_is_set_fails(rt: HostRuntime) {
     let failed = Err(Fault::Write(Lba(2)));
+    let answers = [Ok(()), failed, failed, Err(Fault::Flush)];
     for (kept, reads) in [(false, 7), (true, 9)] {
-        let (answers, bytes) = calls_that_fail(rt.alloc(), kept)?;
-        assert!(rt; answers == [Ok(()), failed, failed, Err(Fault::Flush)]);
-        assert!(rt; bytes == [Some(7), Some(reads), Some(9)]);
+        let held = [Ok(Some(7)), Ok(Some(reads))];
+        assert!(rt; calls_that_fail(rt.alloc(), kept) == Ok((answers, held, Ok(Some(9)))));
     }
-    Ok(())
 }
 
-#[test]
-fn a_read_fails_where_it_is_set(rt: HostRuntime) -> Result<(), Fail> {
-    let mut disk: CrashDisk<4096> = CrashDisk::new(rt.alloc(), 4, 1)?;
+/// What three reads of a sector answer, of which the second is set to fail, and then a flush.
+fn read_thrice(disk: &mut CrashDisk<4096>) -> ([Read; 3], Result<(), Fault>) {
     disk.fail_at(2, false);
-    assert!(rt; byte_at(&mut disk, 3) == Ok(Some(0)));
-    assert!(rt; byte_at(&mut disk, 3) == Err(Fault::Read(Lba(3))));
-    assert!(rt; byte_at(&mut disk, 3) == Ok(Some(0)));
+    let reads = [byte_at(disk, 3), byte_at(disk, 3), byte_at(disk, 3)];
     disk.fail_at(0, false);
-    assert!(rt; disk.flush() == Ok(()));
-    Ok(())
+    (reads, disk.flush())
 }
 
 #[test]
-fn extents_end_below_two_to_the_63(rt: HostRuntime) -> Result<(), Fail> {
+fn a_read_fails_where_it_is_set(rt: HostRuntime) {
+    let mut disk = CrashDisk::new(rt.alloc(), 4, 1).expect(&rt, "memory");
+    let reads = [Ok(Some(0)), Err(Fault::Read(Lba(3))), Ok(Some(0))];
+    assert!(rt; read_thrice(&mut disk) == (reads, Ok(())));
+}
+
+#[test]
+fn extents_end_below_two_to_the_63(rt: HostRuntime) {
     let top = 9_223_372_036_854_775_807;
     let rows = [
         (5, 5, true),
@@ -226,11 +243,28 @@ fn extents_end_below_two_to_the_63(rt: HostRuntime) -> Result<(), Fail> {
     for (first, last, exists) in rows {
         assert!(rt; Extent::new(Lba(first), Lba(last)).is_some() == exists);
     }
-    Ok(())
+}
+
+/// Of an extent: its length, whether one from 10 to 20 meets it, whether it is inside that one, and whether its first
+/// sector, its last and sector 31 are in it.
+fn beside_ten_to_twenty(first: u64, last: u64) -> Option<(u64, bool, bool, [bool; 3])> {
+    let one = Extent::new(Lba(10), Lba(20))?;
+    let other = Extent::new(Lba(first), Lba(last))?;
+    let contained = [
+        other.contains(other.first()),
+        other.contains(other.last()),
+        other.contains(Lba(31)),
+    ];
+    Some((
+        other.len(),
+        one.meets(&other),
+        other.inside(&one),
+        contained,
+    ))
 }
 
 #[test]
-fn extents_are_sets_of_sectors(rt: HostRuntime) -> Result<(), Fail> {
+fn extents_are_sets_of_sectors(rt: HostRuntime) {
     // each from 10 to 20 and another: the other's length, whether they meet, and whether the other is inside
     let rows = [
         (10, 20, 11, true, true),
@@ -242,16 +276,7 @@ fn extents_are_sets_of_sectors(rt: HostRuntime) -> Result<(), Fail> {
         (0, 9, 10, false, false),
     ];
     for (first, last, len, meets, inside) in rows {
-        if let (Some(one), Some(other)) = (
-            Extent::new(Lba(10), Lba(20)),
-            Extent::new(Lba(first), Lba(last)),
-        ) {
-            assert!(rt; other.len() == len);
-            assert!(rt; one.meets(&other) == meets);
-            assert!(rt; other.inside(&one) == inside);
-            assert!(rt; other.contains(other.first()) && other.contains(other.last()));
-            assert!(rt; !other.contains(Lba(31)));
-        }
+        let want = Some((len, meets, inside, [true, true, false]));
+        assert!(rt; beside_ten_to_twenty(first, last) == want);
     }
-    Ok(())
 }
