@@ -5,7 +5,6 @@ ghost use Rattle.pt_apply.specs.Plans.{PhaseInRange, PhasesInRange, InRange};
 use pt_apply::{Plan, Write, apply};
 use pt_sector::{CrashDisk, Disk, Fault, Lba, MemDisk};
 use std::alloc::{AllocError, Global};
-use std::test::Fail;
 
 /// Writes of so many sectors from a first one, each with this byte throughout.
 fn phase<const B: usize>(
@@ -52,45 +51,59 @@ fn byte_at<const B: usize, D: Disk<B>>(disk: &mut D, lba: u64) -> Result<u8, Fau
     Ok(sector[B - 1])
 }
 
-fn applied<const B: usize>(alloc: Global) -> Result<[u8; 4], Fail>
+/// Sectors 0, 1, 33 and 4095.
+fn four_of<const B: usize>(disk: &mut MemDisk<B>) -> [Result<u8, Fault>; 4]
+    requires size { IsSectorSize B }
+    requires range { ⟦<MemDisk<B> as Disk<B>>⟧.count disk.old ≡ 4096 }
+{
+    [
+        byte_at(disk, 0),
+        byte_at(disk, 1),
+        byte_at(disk, 33),
+        byte_at(disk, 4095),
+    ]
+}
+
+/// What the plan's application answers, and what these sectors then hold.
+fn applied<const B: usize>(
+    alloc: Global,
+) -> Result<(Result<(), Fault>, [Result<u8, Fault>; 4]), AllocError>
     requires { IsSectorSize B }
 {
     let plan = renaming::<B>(alloc)?;
     let mut disk: MemDisk<B> = MemDisk::new(alloc, 4096)?;
-    apply(&mut disk, &plan)?;
-    Ok([
-        byte_at(&mut disk, 0)?,
-        byte_at(&mut disk, 1)?,
-        byte_at(&mut disk, 33)?,
-        byte_at(&mut disk, 4095)?,
-    ])
+    let answer = apply(&mut disk, &plan);
+    Ok((answer, four_of(&mut disk)))
+}
+
+const APPLIED: (Result<(), Fault>, [Result<u8, Fault>; 4]) = (Ok(()), [Ok(0), Ok(4), Ok(3), Ok(1)]);
+
+#[test]
+fn a_plan_of_512_byte_sectors(rt: HostRuntime) {
+    assert!(rt; applied::<512>(rt.alloc()) == Ok(APPLIED));
 }
 
 #[test]
-fn a_plan_of_512_byte_sectors(rt: HostRuntime) -> Result<(), Fail> {
-    assert!(rt; applied::<512>(rt.alloc())? == [0, 4, 3, 1]);
-    Ok(())
-}
-
-#[test]
-fn a_plan_of_4096_byte_sectors(rt: HostRuntime) -> Result<(), Fail> {
-    assert!(rt; applied::<4096>(rt.alloc())? == [0, 4, 3, 1]);
-    Ok(())
+fn a_plan_of_4096_byte_sectors(rt: HostRuntime) {
+    assert!(rt; applied::<4096>(rt.alloc()) == Ok(APPLIED));
 }
 
 /// The flush that ends phase 2 is the 36th call of the device, and fails; sectors 1 and 2 after a crash.
-fn stopped(alloc: Global, choices: &[usize]) -> Result<(Result<(), Fault>, u8, u8), Fail> {
+fn stopped(
+    alloc: Global,
+    choices: &[usize],
+) -> Result<(Result<(), Fault>, [Result<u8, Fault>; 2]), AllocError> {
     let plan = renaming::<512>(alloc)?;
     let mut disk: CrashDisk<512> = CrashDisk::new(alloc, 4096, 64)?;
     disk.fail_at(36, true);
     let answer = apply(&mut disk, &plan);
     let mut left = disk.stop(choices);
-    Ok((answer, byte_at(&mut left, 1)?, byte_at(&mut left, 2)?))
+    Ok((answer, [byte_at(&mut left, 1), byte_at(&mut left, 2)]))
 }
 
 #[test]
-fn a_failed_flush_ends_it_in_its_phase(rt: HostRuntime) -> Result<(), Fail> {
-    assert!(rt; stopped(rt.alloc(), &[0])? == (Err(Fault::Flush), 0, 0));
-    assert!(rt; stopped(rt.alloc(), &[1])? == (Err(Fault::Flush), 2, 0));
-    Ok(())
+fn a_failed_flush_ends_it_in_its_phase(rt: HostRuntime) {
+    let failed = Err(Fault::Flush);
+    assert!(rt; stopped(rt.alloc(), &[0]) == Ok((failed, [Ok(0), Ok(0)])));
+    assert!(rt; stopped(rt.alloc(), &[1]) == Ok((failed, [Ok(2), Ok(0)])));
 }

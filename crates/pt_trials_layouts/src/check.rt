@@ -7,7 +7,6 @@ use pt_gpt::CopyError;
 use pt_layout::{Finding, NoTable};
 use pt_sector::{CrashDisk, Disk, Fault, Lba, MemDisk, Sector};
 use std::alloc::{AllocError, Global};
-use std::test::Fail;
 
 /// How many sectors the disks have.
 const SECTORS: u64 = 128;
@@ -28,153 +27,166 @@ fn head<const B: usize>(boot: u8, sectors: u8) -> Sector<B>
     bytes
 }
 
+/// A write of a sector: of zeros, or of an MBR's with this first byte and a partition of so many sectors.
+type Step = (u64, Option<(u8, u8)>);
+
+const EMPTY: Step = (0, Some((0, 0)));
+
+const FOUR: Step = (0, Some((0, 4)));
+
+const EIGHT: Step = (0, Some((0, 8)));
+
+fn write_of<const B: usize>(step: Step) -> Write<B>
+    requires { IsSectorSize B }
+{
+    let (lba, bytes) = step;
+    Write {
+        lba: Lba(lba),
+        bytes: match bytes {
+            Some((boot, sectors)) => head(boot, sectors),
+            None => [0; B],
+        },
+    }
+}
+
+/// A phase of one write.
+fn phase_of<const B: usize>(alloc: Global, step: Step) -> Result<Vec<Write<B>>, AllocError>
+    requires { IsSectorSize B }
+{
+    let mut phase = Vec::new(alloc);
+    phase.push(write_of(step))?;
+    Ok(phase)
+}
+
 /// Each write a phase of its own.
-fn one_by_one<const B: usize>(alloc: Global, writes: &[Write<B>]) -> Result<Plan<B>, AllocError>
+fn one_by_one<const B: usize>(alloc: Global, steps: &[Step]) -> Result<Plan<B>, AllocError>
     requires { IsSectorSize B }
 {
     let mut phases = Vec::new(alloc);
-    for write in writes {
-        let mut phase = Vec::new(alloc);
-        phase.push(*write)?;
-        phases.push(phase)?;
+    for step in steps {
+        phases.push(phase_of(alloc, *step)?)?;
     }
     Ok(Plan { phases })
 }
 
 /// All writes in one phase.
-fn at_once<const B: usize>(alloc: Global, writes: &[Write<B>]) -> Result<Plan<B>, AllocError>
+fn at_once<const B: usize>(alloc: Global, steps: &[Step]) -> Result<Plan<B>, AllocError>
     requires { IsSectorSize B }
 {
     let mut phase = Vec::new(alloc);
-    for write in writes {
-        phase.push(*write)?;
+    for step in steps {
+        phase.push(write_of(*step))?;
     }
     let mut phases = Vec::new(alloc);
     phases.push(phase)?;
     Ok(Plan { phases })
 }
 
-/// The answer to a plan on an MBR disk without a partition.
-fn on_mbr<const B: usize>(alloc: Global, plan: &Plan<B>) -> Result<Answer, Fail>
+/// The answer to a plan on an MBR disk without a partition; a fault of a write of sector 0 where it can't be written.
+fn on_mbr<const B: usize>(alloc: Global, plan: &Plan<B>) -> Result<Answer, CheckError>
     requires { IsSectorSize B }
 {
     let mut disk: MemDisk<B> = MemDisk::new(alloc, SECTORS)?;
-    disk.write(Lba(0), &head(0, 0))?;
-    Ok(check(alloc, &mut disk, plan)?)
-}
-
-fn of_head<const B: usize>(boot: u8, sectors: u8) -> Write<B>
-    requires { IsSectorSize B }
-{
-    Write {
-        lba: Lba(0),
-        bytes: head(boot, sectors),
+    match disk.write(Lba(0), &head(0, 0)) {
+        Ok(()) => check(alloc, &mut disk, plan),
+        Err(fault) => Err(CheckError::Device(fault)),
     }
 }
 
-fn of_zeros<const B: usize>(lba: u64) -> Write<B>
+/// The answer to writes in phases of their own, and in one phase.
+fn in_turn<const B: usize>(alloc: Global, steps: &[Step]) -> Result<Answer, CheckError>
     requires { IsSectorSize B }
 {
-    Write {
-        lba: Lba(lba),
-        bytes: [0; B],
-    }
+    on_mbr::<B>(alloc, &one_by_one(alloc, steps)?)
 }
 
-/// Answers to plans on an MBR disk, the same with both sizes of sectors.
-fn answers<const B: usize>(alloc: Global) -> Result<[Answer; 11], Fail>
+fn together<const B: usize>(alloc: Global, steps: &[Step]) -> Result<Answer, CheckError>
     requires { IsSectorSize B }
 {
-    let none = one_by_one::<B>(alloc, &[])?;
-    let same = one_by_one::<B>(alloc, &[of_head(0, 0)])?;
-    let partition = one_by_one::<B>(alloc, &[of_head(0, 0), of_head(0, 8), of_head(0, 8)])?;
-    let outside = one_by_one::<B>(alloc, &[of_head(0, 8), of_zeros(128)])?;
-    let boot = one_by_one::<B>(alloc, &[of_head(0, 0), of_head(1, 0)])?;
-    let read = at_once::<B>(alloc, &[of_zeros(1), of_head(0, 8)])?;
-    let other = one_by_one::<B>(alloc, &[of_head(0, 4), of_head(0, 8)])?;
-    let back = one_by_one::<B>(alloc, &[of_head(0, 8), of_head(0, 0), of_head(0, 8)])?;
-    let lost = one_by_one::<B>(alloc, &[of_zeros(0), of_head(0, 0)])?;
-    let stray = one_by_one::<B>(alloc, &[of_head(0, 8), of_zeros(100)])?;
-    let ends = one_by_one::<B>(alloc, &[of_zeros(0)])?;
-    Ok([
-        on_mbr(alloc, &none)?,
-        on_mbr(alloc, &same)?,
-        on_mbr(alloc, &partition)?,
-        on_mbr(alloc, &outside)?,
-        on_mbr(alloc, &boot)?,
-        on_mbr(alloc, &read)?,
-        on_mbr(alloc, &other)?,
-        on_mbr(alloc, &back)?,
-        on_mbr(alloc, &lost)?,
-        on_mbr(alloc, &stray)?,
-        on_mbr(alloc, &ends)?,
-    ])
+    on_mbr::<B>(alloc, &at_once(alloc, steps)?)
 }
 
-const ANSWERS: [Answer; 11] = [
-    Answer::Yes { switch: 0 },
-    Answer::Yes { switch: 0 },
-    Answer::Yes { switch: 2 },
-    Answer::No(Why::OutOfRange(2)),
-    Answer::No(Why::BootCode(2)),
-    Answer::No(Why::ReadSector(1, Lba(0))),
-    Answer::No(Why::Neither(1)),
-    Answer::No(Why::Neither(2)),
-    Answer::No(Why::Neither(1)),
-    Answer::No(Why::NotATable(Lba(100))),
-    Answer::No(Why::Final(Finding::NoTable(NoTable::NoCopy(
-        CopyError::Signature,
-        CopyError::Signature,
-    )))),
+const ENDS: Answer = Answer::No(Why::Final(Finding::NoTable(NoTable::NoCopy(
+    CopyError::Signature,
+    CopyError::Signature,
+))));
+
+/// Writes in phases of their own, and the answer to them.
+const PLANS: [(&[Step], Answer); 10] = [
+    (&[], Answer::Yes { switch: 0 }),
+    (&[EMPTY], Answer::Yes { switch: 0 }),
+    (&[EMPTY, EIGHT, EIGHT], Answer::Yes { switch: 2 }),
+    (&[EIGHT, (128, None)], Answer::No(Why::OutOfRange(2))),
+    (&[EMPTY, (0, Some((1, 0)))], Answer::No(Why::BootCode(2))),
+    (&[FOUR, EIGHT], Answer::No(Why::Neither(1))),
+    (&[EIGHT, EMPTY, EIGHT], Answer::No(Why::Neither(2))),
+    (&[(0, None), EMPTY], Answer::No(Why::Neither(1))),
+    (&[EIGHT, (100, None)], Answer::No(Why::NotATable(Lba(100)))),
+    (&[(0, None)], ENDS),
 ];
 
-#[test]
-fn plans_of_512_byte_sectors(rt: HostRuntime) -> Result<(), Fail> {
-    assert!(rt; answers::<512>(rt.alloc())? == ANSWERS);
-    Ok(())
+const READ: Answer = Answer::No(Why::ReadSector(1, Lba(0)));
+
+/// Whether these are the answers, and the one to two writes in one phase.
+fn are_answered<const B: usize>(alloc: Global) -> bool
+    requires { IsSectorSize B }
+{
+    for (steps, want) in PLANS {
+        if in_turn::<B>(alloc, steps) != Ok(want) {
+            return false;
+        }
+    }
+    together::<B>(alloc, &[(1, None), EIGHT]) == Ok(READ)
 }
 
 #[test]
-fn plans_of_4096_byte_sectors(rt: HostRuntime) -> Result<(), Fail> {
-    assert!(rt; answers::<4096>(rt.alloc())? == ANSWERS);
-    Ok(())
+fn plans_of_512_byte_sectors(rt: HostRuntime) {
+    assert!(rt; are_answered::<512>(rt.alloc()));
+}
+
+#[test]
+fn plans_of_4096_byte_sectors(rt: HostRuntime) {
+    assert!(rt; are_answered::<4096>(rt.alloc()));
 }
 
 /// The answer to a phase of so many writes of sector 2.
-fn to_many(alloc: Global, count: usize) -> Result<Answer, Fail> {
-    let writes = Vec::from_elem(alloc, of_zeros::<512>(2), count)?;
-    on_mbr(alloc, &at_once(alloc, &writes)?)
+fn to_many(alloc: Global, count: usize) -> Result<Answer, CheckError> {
+    together::<512>(alloc, &Vec::from_elem(alloc, (2, None), count)?)
 }
 
 #[test]
-fn more_than_4096_writes(rt: HostRuntime) -> Result<(), Fail> {
-    assert!(rt; to_many(rt.alloc(), 4096)? == Answer::No(Why::NotATable(Lba(2))));
-    assert!(rt; to_many(rt.alloc(), 4097)? == Answer::No(Why::TooManyWrites));
-    Ok(())
+fn more_than_4096_writes(rt: HostRuntime) {
+    assert!(rt; to_many(rt.alloc(), 4096) == Ok(Answer::No(Why::NotATable(Lba(2)))));
+    assert!(rt; to_many(rt.alloc(), 4097) == Ok(Answer::No(Why::TooManyWrites)));
+}
+
+/// The answer to a plan without writes on a disk without sectors.
+fn without_sectors(alloc: Global) -> Result<Answer, CheckError> {
+    let plan = one_by_one(alloc, &[])?;
+    let mut disk: MemDisk<512> = MemDisk::new(alloc, 0)?;
+    check(alloc, &mut disk, &plan)
 }
 
 #[test]
-fn a_disk_without_sectors(rt: HostRuntime) -> Result<(), Fail> {
-    let mut disk: MemDisk<512> = MemDisk::new(rt.alloc(), 0)?;
-    let plan = one_by_one(rt.alloc(), &[])?;
-    assert!(rt;
-        check(rt.alloc(), &mut disk, &plan)?
-            == Answer::No(Why::Final(Finding::NoTable(NoTable::TooSmall)))
-    );
-    Ok(())
+fn a_disk_without_sectors(rt: HostRuntime) {
+    let want = Answer::No(Why::Final(Finding::NoTable(NoTable::TooSmall)));
+    assert!(rt; without_sectors(rt.alloc()) == Ok(want));
+}
+
+/// What a plan that changes nothing meets where this call of the disk from now on fails.
+fn failing(alloc: Global, disk: &mut CrashDisk<512>, call: u64) -> Result<Answer, CheckError> {
+    let plan = one_by_one(alloc, &[EMPTY])?;
+    disk.fail_at(call, false);
+    check(alloc, disk, &plan)
 }
 
 #[test]
-fn a_failed_read(rt: HostRuntime) -> Result<(), Fail> {
-    let mut disk: CrashDisk<512> = CrashDisk::new(rt.alloc(), SECTORS, 4)?;
-    let plan = one_by_one(rt.alloc(), &[of_head(0, 0)])?;
+fn a_failed_read(rt: HostRuntime) {
+    let mut disk = CrashDisk::new(rt.alloc(), SECTORS, 4).expect(&rt, "memory");
     for call in 1..5 {
-        disk.fail_at(call, false);
-        assert!(rt; check(rt.alloc(), &mut disk, &plan).is_err() == true);
+        let answer = failing(rt.alloc(), &mut disk, call);
+        assert!(rt; matches!(answer, Err(CheckError::Device(_))));
     }
-    disk.fail_at(1, false);
-    assert!(rt;
-        check(rt.alloc(), &mut disk, &plan) == Err(CheckError::Device(Fault::Read(Lba(0))))
-    );
-    Ok(())
+    let want = CheckError::Device(Fault::Read(Lba(0)));
+    assert!(rt; failing(rt.alloc(), &mut disk, 1) == Err(want));
 }

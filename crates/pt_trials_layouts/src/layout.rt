@@ -14,8 +14,7 @@ use pt_layout::{
 };
 use pt_mbr::{Ebr, Record, protective};
 use pt_sector::{CrashDisk, Disk, Lba, MemDisk, Sector};
-use std::alloc::Global;
-use std::test::Fail;
+use std::alloc::{AllocError, Global};
 
 /// Writes a sector, where there is one.
 fn put<const B: usize, D: Disk<B>>(disk: &mut D, at: u64, bytes: &Sector<B>) {
@@ -44,7 +43,11 @@ fn number(number: u64) -> Path {
 
 /// An MBR of 16,384 sectors with these records, and in its second one, if that is extended, a logical partition from
 /// 6144 to 7143 and an empty extended boot record at `end`.
-fn mbr(alloc: Global, records: [Option<Record>; 4], end: Option<u64>) -> Result<Layout, Fail> {
+fn mbr(
+    alloc: Global,
+    records: [Option<Record>; 4],
+    end: Option<u64>,
+) -> Result<Layout, AllocError> {
     let mut chain = Vec::new(alloc);
     if let Some(at) = end {
         chain.push(Ebr {
@@ -73,54 +76,50 @@ fn finding_of<const B: usize>(
     alloc: Global,
     records: [Option<Record>; 4],
     end: Option<u64>,
-) -> Result<Option<Finding>, Fail>
+) -> Result<Option<Finding>, AllocError>
     requires { IsSectorSize B }
 {
     let layout = mbr(alloc, records, end)?;
-    Ok(unsound::<B>(alloc, &layout)?)
+    unsound::<B>(alloc, &layout)
 }
 
 // An MBR with a partition past 2^32 sectors.
 #[test]
-fn a_partition_outside_comes_first(rt: HostRuntime) -> Result<(), Fail> {
+fn a_partition_outside_comes_first(rt: HostRuntime) {
     let past = record(0x83, u32::MAX, u32::MAX);
     let records = [past, record(0x83, 1, 1), record(0x83, 1, 1), None];
-    let found = finding_of::<512>(rt.alloc(), records, None)?;
-    assert!(rt; found == Some(Finding::OutsideUsable(number(1))));
-    Ok(())
+    let found = finding_of::<512>(rt.alloc(), records, None);
+    assert!(rt; found == Ok(Some(Finding::OutsideUsable(number(1)))));
 }
 
 #[test]
-fn the_lowest_overlap_is_found(rt: HostRuntime) -> Result<(), Fail> {
+fn the_lowest_overlap_is_found(rt: HostRuntime) {
     let records = [
         record(0x83, 4096, 8),
         record(0x83, 1, 4096),
         record(0x83, 1, 1),
         None,
     ];
-    let found = finding_of::<512>(rt.alloc(), records, None)?;
-    assert!(rt; found == Some(Finding::Overlap(number(2), number(3))));
-    Ok(())
+    let found = finding_of::<512>(rt.alloc(), records, None);
+    assert!(rt; found == Ok(Some(Finding::Overlap(number(2), number(3)))));
 }
 
 #[test]
-fn a_partition_on_a_record_of_the_chain(rt: HostRuntime) -> Result<(), Fail> {
+fn a_partition_on_a_record_of_the_chain(rt: HostRuntime) {
     let records = [None, record(0x05, 4096, 8192), None, None];
-    let found = finding_of::<4096>(rt.alloc(), records, Some(7000))?;
-    assert!(rt; found == Some(Finding::OnTable(number(5), Lba(7000))));
-    Ok(())
+    let found = finding_of::<4096>(rt.alloc(), records, Some(7000));
+    assert!(rt; found == Ok(Some(Finding::OnTable(number(5), Lba(7000)))));
 }
 
 #[test]
-fn a_sound_mbr(rt: HostRuntime) -> Result<(), Fail> {
+fn a_sound_mbr(rt: HostRuntime) {
     let records = [record(0xA5, 1, 1), record(0x05, 4096, 8192), None, None];
-    assert!(rt; finding_of::<512>(rt.alloc(), records, Some(7144))? == None);
-    assert!(rt; finding_of::<4096>(rt.alloc(), records, Some(7144))? == None);
-    Ok(())
+    assert!(rt; finding_of::<512>(rt.alloc(), records, Some(7144)) == Ok(None));
+    assert!(rt; finding_of::<4096>(rt.alloc(), records, Some(7144)) == Ok(None));
 }
 
 /// A slice from 2048 to 6143 whose label has a partition a from 2064 to 4063.
-fn sliced(alloc: Global) -> Result<Layout, Fail> {
+fn sliced(alloc: Global) -> Result<Layout, AllocError> {
     let mut label: Label = empty_label(4096);
     label.entries[0] = Some(LabelEntry {
         size: 2000,
@@ -143,7 +142,7 @@ fn sliced(alloc: Global) -> Result<Layout, Fail> {
 }
 
 /// Who owns a sector of it.
-fn owner_at<const B: usize>(alloc: Global, at: u64) -> Result<Owner, Fail>
+fn owner_at<const B: usize>(alloc: Global, at: u64) -> Result<Owner, AllocError>
     requires { IsSectorSize B }
 {
     let layout = sliced(alloc)?;
@@ -151,13 +150,13 @@ fn owner_at<const B: usize>(alloc: Global, at: u64) -> Result<Owner, Fail>
 }
 
 /// Where sector `k` of one of its partitions is.
-fn place_of(alloc: Global, path: &Path, k: u64) -> Result<Option<Lba>, Fail> {
+fn place_of(alloc: Global, path: &Path, k: u64) -> Result<Option<Lba>, AllocError> {
     let layout = sliced(alloc)?;
     Ok(locate::<512>(&layout, path, k))
 }
 
 /// Its first finding; and of sector 2049, in sectors of 4096 bytes, whether it is of a table, and whether it is owned.
-fn told_of_slice(alloc: Global) -> Result<(Option<Finding>, bool, bool), Fail> {
+fn told_of_slice(alloc: Global) -> Result<(Option<Finding>, bool, bool), AllocError> {
     let layout = sliced(alloc)?;
     let finding = unsound::<512>(alloc, &layout)?;
     let at = Lba(2049);
@@ -169,80 +168,81 @@ fn told_of_slice(alloc: Global) -> Result<(Option<Finding>, bool, bool), Fail> {
 }
 
 #[test]
-fn owners_in_a_slice(rt: HostRuntime) -> Result<(), Fail> {
+fn owners_in_a_slice(rt: HostRuntime) {
     let a = Path {
         number: 1,
         letter: Some(0),
     };
-    assert!(rt; owner_at::<512>(rt.alloc(), 0)? == Owner::Table);
-    assert!(rt; owner_at::<512>(rt.alloc(), 2048)? == Owner::Reserved);
-    assert!(rt; owner_at::<512>(rt.alloc(), 2049)? == Owner::Table);
-    assert!(rt; owner_at::<512>(rt.alloc(), 2064)? == Owner::Partition(a));
-    assert!(rt; owner_at::<512>(rt.alloc(), 4064)? == Owner::Reserved);
-    assert!(rt; owner_at::<512>(rt.alloc(), 6144)? == Owner::Free);
-    assert!(rt; owner_at::<4096>(rt.alloc(), 6143)? == Owner::Partition(number(1)));
-    Ok(())
+    for (at, want) in [
+        (0, Owner::Table),
+        (2048, Owner::Reserved),
+        (2049, Owner::Table),
+        (2064, Owner::Partition(a)),
+        (4064, Owner::Reserved),
+        (6144, Owner::Free),
+    ] {
+        assert!(rt; owner_at::<512>(rt.alloc(), at) == Ok(want));
+    }
+    let whole = Owner::Partition(number(1));
+    assert!(rt; owner_at::<4096>(rt.alloc(), 6143) == Ok(whole));
 }
 
 #[test]
-fn places_in_a_slice(rt: HostRuntime) -> Result<(), Fail> {
+fn places_in_a_slice(rt: HostRuntime) {
     let a = Path {
         number: 1,
         letter: Some(0),
     };
-    assert!(rt; place_of(rt.alloc(), &a, 1999)? == Some(Lba(4063)));
-    assert!(rt; place_of(rt.alloc(), &a, 2000)? == None);
-    assert!(rt; place_of(rt.alloc(), &number(1), 0)? == None);
-    assert!(rt; told_of_slice(rt.alloc())? == (None, false, true));
-    Ok(())
+    assert!(rt; place_of(rt.alloc(), &a, 1999) == Ok(Some(Lba(4063))));
+    assert!(rt; place_of(rt.alloc(), &a, 2000) == Ok(None));
+    assert!(rt; place_of(rt.alloc(), &number(1), 0) == Ok(None));
+    assert!(rt; told_of_slice(rt.alloc()) == Ok((None, false, true)));
 }
 
-/// What `verify` finds on a disk of zero sectors but for this sector 0; no finding where it is healthy.
+/// What `verify` finds on a disk; no finding where it is healthy.
+fn found_on<const B: usize>(alloc: Global, disk: &mut MemDisk<B>) -> Option<Finding>
+    requires { IsSectorSize B }
+{
+    match verify(alloc, disk) {
+        Ok(Verdict::Yes(_)) => None,
+        Ok(Verdict::No(finding)) => Some(finding),
+        Err(_) => Some(Finding::CopiesDiffer),
+    }
+}
+
+/// The same of a disk of zero sectors but for this sector 0.
 fn verdict<const B: usize>(
     alloc: Global,
-    sectors: u64,
+    sectors: u8,
     zeroth: &Sector<B>,
-) -> Result<Option<Finding>, Fail>
-    requires size { IsSectorSize B }
-    requires few { sectors < 100 }
+) -> Result<Option<Finding>, AllocError>
+    requires { IsSectorSize B }
 {
-    let mut disk: MemDisk<B> = MemDisk::new(alloc, sectors)?;
-    if sectors > 0 {
-        let _ = disk.write(Lba(0), zeroth);
-    }
-    match verify(alloc, &mut disk) {
-        Ok(Verdict::Yes(_)) => Ok(None),
-        Ok(Verdict::No(finding)) => Ok(Some(finding)),
-        Err(_) => Ok(Some(Finding::CopiesDiffer)),
-    }
+    let mut disk: MemDisk<B> = MemDisk::new(alloc, u64::from(sectors))?;
+    put(&mut disk, 0, zeroth);
+    Ok(found_on(alloc, &mut disk))
 }
 
 #[test]
-fn verdicts_on_small_disks(rt: HostRuntime) -> Result<(), Fail> {
+fn verdicts_on_small_disks(rt: HostRuntime) {
     let mut signed = [0; 512];
     signed[510] = 0x55;
     signed[511] = 0xAA;
+    assert!(rt; verdict::<512>(rt.alloc(), 1, &signed) == Ok(None));
+    let small = Finding::NoTable(NoTable::TooSmall);
     let none = Finding::NoTable(NoTable::NoCopy(CopyError::Signature, CopyError::Signature));
-    assert!(rt; (verdict::<512>(rt.alloc(), 1, &signed)?) == None);
-    assert!(rt;
-        (verdict::<512>(rt.alloc(), 0, &[0; 512])?) == Some(Finding::NoTable(NoTable::TooSmall))
-    );
-    assert!(rt;
-        (verdict::<512>(rt.alloc(), 67, &[0; 512])?) == Some(Finding::NoTable(NoTable::TooSmall))
-    );
-    assert!(rt; (verdict::<512>(rt.alloc(), 68, &[0; 512])?) == Some(none));
-    assert!(rt;
-        (verdict::<4096>(rt.alloc(), 11, &[0; 4096])?) == Some(Finding::NoTable(NoTable::TooSmall))
-    );
-    assert!(rt; (verdict::<4096>(rt.alloc(), 12, &[0; 4096])?) == Some(none));
-    Ok(())
+    for (sectors, want) in [(0, small), (67, small), (68, none)] {
+        assert!(rt; verdict::<512>(rt.alloc(), sectors, &[0; 512]) == Ok(Some(want)));
+    }
+    for (sectors, want) in [(11, small), (12, none)] {
+        assert!(rt; verdict::<4096>(rt.alloc(), sectors, &[0; 4096]) == Ok(Some(want)));
+    }
 }
 
-/// A healthy GPT disk of 200 sectors whose 128 entries are unused.
-fn empty_gpt<const B: usize>(alloc: Global) -> Result<CrashDisk<B>, Fail>
+/// Makes a disk of 200 sectors a healthy GPT disk whose 128 entries are unused.
+fn put_gpt<const B: usize>(disk: &mut CrashDisk<B>)
     requires { IsSectorSize B }
 {
-    let mut disk: CrashDisk<B> = CrashDisk::new(alloc, 200, 3)?;
     let edge = array_sectors::<B>() + 2;
     let entries: [Option<Entry>; 128] = [None; 128];
     for (side, other) in [(Side::Primary, Side::Backup), (Side::Backup, Side::Primary)] {
@@ -257,10 +257,9 @@ fn empty_gpt<const B: usize>(alloc: Global) -> Result<CrashDisk<B>, Fail>
             entry_size: 128,
             array_crc: array_crc(&entries),
         };
-        put(&mut disk, header_at(side, 200), &encode_header(&header));
+        put(disk, header_at(side, 200), &encode_header(&header));
     }
-    put(&mut disk, 0, &protective(200, &[0; B]));
-    Ok(disk)
+    put(disk, 0, &protective(200, &[0; B]));
 }
 
 /// How many sectors a survey of a disk reads, where those are fewer than 200: the first read that fails unseen is past
@@ -277,24 +276,36 @@ fn survey_reads<const B: usize>(alloc: Global, disk: &mut CrashDisk<B>) -> u64
     200
 }
 
-#[test]
-fn a_survey_reads_once(rt: HostRuntime) -> Result<(), Fail> {
-    let mut disk = empty_gpt::<512>(rt.alloc())?;
-    assert!(rt; survey_reads(rt.alloc(), &mut disk) == 67);
-    let mut large = empty_gpt::<4096>(rt.alloc())?;
-    assert!(rt; survey_reads(rt.alloc(), &mut large) == 11);
+/// The same of a healthy GPT disk, and whether a survey of it tells so where no read fails.
+fn healthy_gpt<const B: usize>(alloc: Global) -> Result<(u64, bool), AllocError>
+    requires { IsSectorSize B }
+{
+    let mut disk: CrashDisk<B> = CrashDisk::new(alloc, 200, 3)?;
+    put_gpt(&mut disk);
+    let reads = survey_reads(alloc, &mut disk);
     disk.fail_at(0, false);
-    match survey_disk(rt.alloc(), &mut disk) {
+    Ok((reads, is_told_healthy(alloc, &mut disk)))
+}
+
+fn is_told_healthy<const B: usize>(alloc: Global, disk: &mut CrashDisk<B>) -> bool
+    requires { IsSectorSize B }
+{
+    match survey_disk(alloc, disk) {
         Ok(told) => {
-            assert!(rt; told.head == Head::Protected);
-            assert!(rt; told.finding == None);
-            assert!(rt; told.found.is_ok());
-            assert!(rt; told.primary);
-            assert!(rt; !told.guarded.contains(Lba(0)));
+            told.head == Head::Protected
+                && told.finding == None
+                && told.found.is_ok()
+                && told.primary
+                && !told.guarded.contains(Lba(0))
         }
-        Err(_) => assert!(rt; false),
+        Err(_) => false,
     }
-    Ok(())
+}
+
+#[test]
+fn a_survey_reads_once(rt: HostRuntime) {
+    assert!(rt; healthy_gpt::<512>(rt.alloc()) == Ok((67, true)));
+    assert!(rt; healthy_gpt::<4096>(rt.alloc()) == Ok((11, true)));
 }
 
 #[test]

@@ -11,8 +11,7 @@ use pt_guid::Guid;
 use pt_mbr::{ChainError, Mbr, Record, encode_mbr};
 use pt_recover::{Body, Ebrs, Labels, Layout, NoTable, recover, recover_traced};
 use pt_sector::{CrashDisk, Disk, Lba, MemDisk, Sector};
-use std::alloc::Global;
-use std::test::Fail;
+use std::alloc::{AllocError, Global};
 
 /// Writes a sector, and answers whether it could.
 fn put<const B: usize, D: Disk<B>>(disk: &mut D, at: u64, bytes: &Sector<B>) -> bool {
@@ -54,7 +53,7 @@ fn labels_of(layout: &Layout) -> (u64, usize) {
 }
 
 /// The same layout in other memory, taken apart and put together again.
-fn again(alloc: Global, layout: &Layout) -> Result<Layout, Fail> {
+fn again(alloc: Global, layout: &Layout) -> Result<Layout, AllocError> {
     let Layout {
         sectors,
         body,
@@ -74,54 +73,65 @@ fn again(alloc: Global, layout: &Layout) -> Result<Layout, Fail> {
     })
 }
 
-/// An MBR disk whose partition 1 is a slice from 2048 on, with a label in 2049 for 4096 sectors. With sectors of 4096
-/// bytes there are no labels.
-fn slice_is_read<const B: usize>(alloc: Global, len: u32) -> Result<(u64, usize), Fail>
-    requires size { IsSectorSize B }
+/// The labels of a layout that is the same in other memory, as `labels_of` tells them; 9 and 9 where it isn't.
+fn labels_again(alloc: Global, layout: &Layout) -> (u64, usize) {
+    match again(alloc, layout) {
+        Ok(other) if layout.same(&other) => labels_of(&other),
+        _ => (9, 9),
+    }
+}
+
+/// Whether the disk could be written, which of sectors 0, 1, 2049 and 2050 were read, and the labels.
+type Slice = (bool, [bool; 4], (u64, usize));
+
+/// What is read of an MBR disk whose partition 1 is a slice from 2048 on, with a label in 2049 for 4096 sectors.
+fn slice_of<const B: usize>(alloc: Global, disk: &mut MemDisk<B>, len: u32) -> Slice
+    requires { IsSectorSize B }
+{
+    let label = encode_label(&empty_label(4096), &[0; B]);
+    let made = put_records(disk, 0, [(0xA5, 2048, len), NONE]) && put(disk, 2049, &label);
+    let (layout, trace) = recover_traced(alloc, disk);
+    let read = [
+        trace.contains(Lba(0)),
+        trace.contains(Lba(1)),
+        trace.contains(Lba(2049)),
+        trace.contains(Lba(2050)),
+    ];
+    let labels = match layout {
+        Ok(layout) => labels_again(alloc, &layout),
+        Err(_) => (9, 9),
+    };
+    (made, read, labels)
+}
+
+/// The same of a disk of 8192 sectors. With sectors of 4096 bytes there are no labels.
+fn slice_is_read<const B: usize>(alloc: Global, len: u32) -> Result<Slice, AllocError>
+    requires { IsSectorSize B }
 {
     let mut disk: MemDisk<B> = MemDisk::new(alloc, 8192)?;
-    let label = encode_label(&empty_label(4096), &[0; B]);
-    if !put_records(&mut disk, 0, [(0xA5, 2048, len), NONE]) || !put(&mut disk, 2049, &label) {
-        return Ok((9, 9));
-    }
-    let (layout, trace) = recover_traced(alloc, &mut disk);
-    let layout = layout?;
-    if !trace.contains(Lba(0)) || trace.contains(Lba(1)) || trace.contains(Lba(2050)) {
-        return Ok((9, 9));
-    }
-    if trace.contains(Lba(2049)) != (B == 512) {
-        return Ok((9, 9));
-    }
-    let other = again(alloc, &layout)?;
-    Ok(if layout.same(&other) {
-        labels_of(&other)
-    } else {
-        (9, 9)
-    })
+    Ok(slice_of(alloc, &mut disk, len))
 }
 
 #[test]
-fn labels_are_those_of_the_slice(rt: HostRuntime) -> Result<(), Fail> {
-    assert!(rt; (slice_is_read::<512>(rt.alloc(), 4096)?) == (1, 1));
-    assert!(rt; (slice_is_read::<512>(rt.alloc(), 4097)?) == (0, 0));
-    assert!(rt; (slice_is_read::<4096>(rt.alloc(), 4096)?) == (0, 0));
-    Ok(())
+fn labels_are_those_of_the_slice(rt: HostRuntime) {
+    let read = [true, false, true, false];
+    let unread = [true, false, false, false];
+    assert!(rt; slice_is_read::<512>(rt.alloc(), 4096) == Ok((true, read, (1, 1))));
+    assert!(rt; slice_is_read::<512>(rt.alloc(), 4097) == Ok((true, read, (0, 0))));
+    assert!(rt; slice_is_read::<4096>(rt.alloc(), 4096) == Ok((true, unread, (0, 0))));
 }
 
-/// What is recovered from 16384 sectors with an extended partition from 4096 to 12287, an empty extended boot record in
-/// 4096, and one in 6143 with a logical partition and this link; which of five sectors were read; a second record of sector 0.
-fn chain_is_read<const B: usize>(
+/// Whether a disk could be written, what is recovered from it, and which of five sectors were read.
+type Chain = (bool, Result<usize, NoTable>, [bool; 5]);
+
+/// How many extended boot records are recovered, 0 for a GPT; and which of five sectors were read.
+fn chain_of<const B: usize>(
     alloc: Global,
-    second: (u8, u32, u32),
-    link: (u8, u32, u32),
-) -> Result<(Result<usize, NoTable>, [bool; 5]), Fail>
-    requires size { IsSectorSize B }
+    disk: &mut MemDisk<B>,
+) -> (Result<usize, NoTable>, [bool; 5])
+    requires { IsSectorSize B }
 {
-    let mut disk: MemDisk<B> = MemDisk::new(alloc, 16384)?;
-    let zeroth = put_records(&mut disk, 0, [(0x05, 4096, 8192), second]);
-    let first = put_records(&mut disk, 4096, [NONE, (0x05, 2047, 1001)]);
-    let next = put_records(&mut disk, 6143, [(0x83, 1, 1000), link]);
-    let (answer, trace) = recover_traced(alloc, &mut disk);
+    let (answer, trace) = recover_traced(alloc, disk);
     let read = [
         trace.contains(Lba(0)),
         trace.contains(Lba(1)),
@@ -129,46 +139,58 @@ fn chain_is_read<const B: usize>(
         trace.contains(Lba(6143)),
         trace.contains(Lba(6144)),
     ];
-    let answer = match answer {
+    let count = match answer {
         Ok(layout) => match &layout.body {
-            Body::Mbr { chain, .. } if zeroth && first && next => Ok(chain.as_slice().len()),
+            Body::Mbr { chain, .. } => Ok(chain.as_slice().len()),
             _ => Ok(0),
         },
         Err(e) => Err(e),
     };
-    Ok((answer, read))
+    (count, read)
+}
+
+/// The same of 16384 sectors with an extended partition from 4096 to 12287, an empty extended boot record in 4096, and one
+/// in 6143 with a logical partition and this link; a second record of sector 0.
+fn chain_is_read<const B: usize>(
+    alloc: Global,
+    second: (u8, u32, u32),
+    link: (u8, u32, u32),
+) -> Result<Chain, AllocError>
+    requires size { IsSectorSize B }
+{
+    let mut disk: MemDisk<B> = MemDisk::new(alloc, 16384)?;
+    let zeroth = put_records(&mut disk, 0, [(0x05, 4096, 8192), second]);
+    let first = put_records(&mut disk, 4096, [NONE, (0x05, 2047, 1001)]);
+    let next = put_records(&mut disk, 6143, [(0x83, 1, 1000), link]);
+    let (answer, read) = chain_of(alloc, &mut disk);
+    Ok((zeroth & first & next, answer, read))
 }
 
 /// The chain, its faults and two extended records, with the sectors read.
-fn chains<const B: usize>(alloc: Global) -> Result<bool, Fail>
+fn chains<const B: usize>(alloc: Global) -> bool
     requires { IsSectorSize B }
 {
     let all = [true, false, true, true, false];
-    let whole = chain_is_read::<B>(alloc, NONE, NONE)?;
-    let down = chain_is_read::<B>(alloc, NONE, (0x05, 0, 1))?;
-    let out = chain_is_read::<B>(alloc, NONE, (0x0F, 8192, 1))?;
-    let two = chain_is_read::<B>(alloc, (0x0F, 1, 1), (0x05, 0, 1))?;
-    Ok(
-        whole == (Ok(2), all)
-            && down == (Err(NoTable::Chain(ChainError::NotUpward(Lba(6143)))), all)
-            && out
-                == (
-                    Err(NoTable::Chain(ChainError::OutsideExtended(Lba(12288)))),
-                    all,
-                )
-            && two
-                == (
-                    Err(NoTable::TwoExtended),
-                    [true, false, false, false, false],
-                ),
-    )
+    let down = NoTable::Chain(ChainError::NotUpward(Lba(6143)));
+    let out = NoTable::Chain(ChainError::OutsideExtended(Lba(12288)));
+    let zeroth = [true, false, false, false, false];
+    [
+        chain_is_read::<B>(alloc, NONE, NONE),
+        chain_is_read::<B>(alloc, NONE, (0x05, 0, 1)),
+        chain_is_read::<B>(alloc, NONE, (0x0F, 8192, 1)),
+        chain_is_read::<B>(alloc, (0x0F, 1, 1), (0x05, 0, 1)),
+    ] == [
+        Ok((true, Ok(2), all)),
+        Ok((true, Err(down), all)),
+        Ok((true, Err(out), all)),
+        Ok((true, Err(NoTable::TwoExtended), zeroth)),
+    ]
 }
 
 #[test]
-fn chains_at_both_sizes(rt: HostRuntime) -> Result<(), Fail> {
-    assert!(rt; chains::<512>(rt.alloc())?);
-    assert!(rt; chains::<4096>(rt.alloc())?);
-    Ok(())
+fn chains_at_both_sizes(rt: HostRuntime) {
+    assert!(rt; chains::<512>(rt.alloc()));
+    assert!(rt; chains::<4096>(rt.alloc()));
 }
 
 /// Writes a side's copy of a table with one slice from 70 to 99.
@@ -222,70 +244,90 @@ fn answer_of<const B: usize, D: Disk<B>>(alloc: Global, disk: &mut D) -> Result<
     }
 }
 
-/// A GPT with a labelled slice, from the primary copy, from the backup, with neither, and with a read that fails.
-fn copies<const B: usize>(alloc: Global) -> Result<bool, Fail>
+/// Whether all could be written, and what is recovered.
+type Copies = ([bool; 3], [Result<u8, NoTable>; 4]);
+
+/// A GPT with a labelled slice, from the primary copy, with a read that fails, from the backup, and with neither.
+fn copies_of<const B: usize>(alloc: Global, disk: &mut CrashDisk<B>) -> Copies
+    requires { IsSectorSize B }
+{
+    let label = encode_label(&empty_label(30), &[0; B]);
+    let made = put_copy(disk, Side::Primary, Side::Backup)
+        && put_copy(disk, Side::Backup, Side::Primary)
+        && put(disk, 71, &label);
+    let primary = answer_of(alloc, disk);
+    disk.fail_at(2, false);
+    let failed = answer_of(alloc, disk);
+    let cut = put(disk, 1, &[0; B]);
+    let backup = answer_of(alloc, disk);
+    let gone = put(disk, 199, &[0; B]);
+    let neither = answer_of(alloc, disk);
+    ([made, cut, gone], [primary, failed, backup, neither])
+}
+
+fn copies<const B: usize>(alloc: Global) -> Result<Copies, AllocError>
     requires { IsSectorSize B }
 {
     let mut disk: CrashDisk<B> = CrashDisk::new(alloc, 200, 16)?;
-    let label = encode_label(&empty_label(30), &[0; B]);
-    let made = put_copy(&mut disk, Side::Primary, Side::Backup)
-        && put_copy(&mut disk, Side::Backup, Side::Primary)
-        && put(&mut disk, 71, &label);
-    let primary = answer_of(alloc, &mut disk);
-    disk.fail_at(2, false);
-    let failed = answer_of(alloc, &mut disk);
-    let cut = put(&mut disk, 1, &[0; B]);
-    let backup = answer_of(alloc, &mut disk);
-    let gone = put(&mut disk, 199, &[0; B]);
-    let neither = answer_of(alloc, &mut disk);
-    let nothing = NoTable::NoCopy(CopyError::Signature, CopyError::Signature);
-    Ok(
-        made && primary == Ok(1)
-            && failed == Err(NoTable::Device(Lba(1)))
-            && cut
-            && backup == Ok(1)
-            && gone
-            && neither == Err(nothing),
-    )
+    Ok(copies_of(alloc, &mut disk))
 }
+
+const COPIES: Copies = (
+    [true; 3],
+    [Ok(1), Err(NoTable::Device(Lba(1))), Ok(1), Err(NO_COPY)],
+);
+
+const NO_COPY: NoTable = NoTable::NoCopy(CopyError::Signature, CopyError::Signature);
 
 #[test]
-fn copies_at_both_sizes(rt: HostRuntime) -> Result<(), Fail> {
-    assert!(rt; copies::<512>(rt.alloc())?);
-    assert!(rt; copies::<4096>(rt.alloc())?);
-    Ok(())
+fn copies_at_both_sizes(rt: HostRuntime) {
+    assert!(rt; copies::<512>(rt.alloc()) == Ok(COPIES));
+    assert!(rt; copies::<4096>(rt.alloc()) == Ok(COPIES));
 }
 
-/// What is recovered from so many sectors, zero but for an MBR with this record, if that isn't `NONE`.
-fn small<const B: usize>(
-    alloc: Global,
-    sectors: u64,
-    one: (u8, u32, u32),
-) -> Result<Result<u8, NoTable>, Fail>
-    requires size { IsSectorSize B }
-    requires few { sectors < 100 }
+/// 1 for an MBR that is recovered, 0 for a GPT.
+fn is_mbr<const B: usize>(alloc: Global, disk: &mut MemDisk<B>) -> Result<u8, NoTable>
+    requires { IsSectorSize B }
 {
-    let mut disk: MemDisk<B> = MemDisk::new(alloc, sectors)?;
-    let made = one == NONE || put_records(&mut disk, 0, [one, NONE]);
-    match recover(alloc, &mut disk) {
+    match recover(alloc, disk) {
         Ok(layout) => match &layout.body {
-            Body::Mbr { .. } if made => Ok(Ok(1)),
-            _ => Ok(Ok(0)),
+            Body::Mbr { .. } => Ok(1),
+            _ => Ok(0),
         },
-        Err(e) => Ok(Err(e)),
+        Err(e) => Err(e),
     }
 }
 
+/// Whether they could be written, and what is recovered from so many sectors, zero but for an MBR with this record, if
+/// that isn't `NONE`.
+fn small<const B: usize>(
+    alloc: Global,
+    sectors: u8,
+    one: (u8, u32, u32),
+) -> Result<(bool, Result<u8, NoTable>), AllocError>
+    requires { IsSectorSize B }
+{
+    let mut disk: MemDisk<B> = MemDisk::new(alloc, u64::from(sectors))?;
+    let made = one == NONE || put_records(&mut disk, 0, [one, NONE]);
+    Ok((made, is_mbr(alloc, &mut disk)))
+}
+
 #[test]
-fn small_disks(rt: HostRuntime) -> Result<(), Fail> {
-    let nothing = NoTable::NoCopy(CopyError::Signature, CopyError::Signature);
-    assert!(rt; (small::<512>(rt.alloc(), 0, NONE)?) == Err(NoTable::TooSmall));
-    assert!(rt; (small::<512>(rt.alloc(), 67, NONE)?) == Err(NoTable::TooSmall));
-    assert!(rt; (small::<512>(rt.alloc(), 68, NONE)?) == Err(nothing));
-    assert!(rt; (small::<4096>(rt.alloc(), 11, NONE)?) == Err(NoTable::TooSmall));
-    assert!(rt; (small::<4096>(rt.alloc(), 12, NONE)?) == Err(nothing));
-    assert!(rt; (small::<512>(rt.alloc(), 1, (0x83, 1, 1))?) == Ok(1));
-    assert!(rt; (small::<512>(rt.alloc(), 1, (0xEE, 1, 0))?) == Err(NoTable::TooSmall));
-    assert!(rt; (small::<4096>(rt.alloc(), 12, (0xEE, 1, 0))?) == Err(nothing));
-    Ok(())
+fn small_disks(rt: HostRuntime) {
+    for (sectors, one, want) in [
+        (0, NONE, Err(NoTable::TooSmall)),
+        (67, NONE, Err(NoTable::TooSmall)),
+        (68, NONE, Err(NO_COPY)),
+        (1, (0x83, 1, 1), Ok(1)),
+        (1, (0xEE, 1, 0), Err(NoTable::TooSmall)),
+    ] {
+        assert!(rt; small::<512>(rt.alloc(), sectors, one) == Ok((true, want)));
+    }
+    for (sectors, one, want) in [
+        (11, NONE, Err(NoTable::TooSmall)),
+        (12, NONE, Err(NO_COPY)),
+        (12, (0xEE, 1, 0), Err(NO_COPY)),
+    ] {
+        assert!(rt; small::<4096>(rt.alloc(), sectors, one) == Ok((true, want)));
+    }
 }

@@ -9,7 +9,13 @@ use std::alloc::{AllocError, Global};
 use std::test::Fail;
 
 // A line or more: so many pairs of digits between two texts.
-fn lines(alloc: Global, start: &str, pair: &str, count: u64, end: &str) -> Result<String, Fail> {
+fn lines(
+    alloc: Global,
+    start: &str,
+    pair: &str,
+    count: u64,
+    end: &str,
+) -> Result<String, AllocError> {
     let mut text = String::new(alloc);
     text.push_str(start)?;
     for _ in 0..count {
@@ -40,67 +46,92 @@ fn short_texts(rt: HostRuntime) {
     }
 }
 
-#[test]
-fn lines_of_writes(rt: HostRuntime) -> Result<(), Fail> {
-    for (start, pair, count, end, want) in [
-        ("W 1 ", "00", 512, "\nF\n", None),
-        ("W 0 ", "00", 512, "\nF\n", None),
-        ("W 1 ", "aF", 512, "\nF\n", None),
-        ("W 18446744073709551615 ", "00", 512, "\nF\n", None),
-        (
-            "W 18446744073709551616 ",
-            "00",
-            512,
-            "\nF\n",
-            Some(PlanTextError::BadLine(1)),
-        ),
-        ("W 01 ", "00", 512, "\nF\n", Some(PlanTextError::BadLine(1))),
-        ("W +1 ", "00", 512, "\nF\n", Some(PlanTextError::BadLine(1))),
-        ("W  1 ", "00", 512, "\nF\n", Some(PlanTextError::BadLine(1))),
-        ("W 1  ", "00", 512, "\nF\n", Some(PlanTextError::BadLine(1))),
-        ("W\t1 ", "00", 512, "\nF\n", Some(PlanTextError::BadLine(1))),
-        ("w 1 ", "00", 512, "\nF\n", Some(PlanTextError::BadLine(1))),
-        ("W 1 ", "0g", 512, "\nF\n", Some(PlanTextError::BadLine(1))),
-        ("W 1 ", "00", 511, "\nF\n", Some(PlanTextError::BadLine(1))),
-        ("W 1 ", "00", 513, "\nF\n", Some(PlanTextError::BadLine(1))),
-        ("W 1 ", "00", 512, " \nF\n", Some(PlanTextError::BadLine(1))),
-        (
-            "W 1 ",
-            "00",
-            512,
-            "\r\nF\n",
-            Some(PlanTextError::BadLine(1)),
-        ),
-        ("W 1 ", "00", 512, "", Some(PlanTextError::BadLine(1))),
-        ("W 1 ", "00", 512, "\n", Some(PlanTextError::NoFinalFlush)),
-        ("W 1 ", "00", 512, "\nF", Some(PlanTextError::BadLine(2))),
-        (
-            "W 1 ",
-            "00",
-            512,
-            "\nF\r\n",
-            Some(PlanTextError::BadLine(2)),
-        ),
-        ("W 1 ", "00", 512, "\nf\n", Some(PlanTextError::BadLine(2))),
-        (
-            "W 1 ",
-            "00",
-            512,
-            "\nF\nF\n",
-            Some(PlanTextError::BadLine(3)),
-        ),
-        (
-            "W 1 ",
-            "00",
-            512,
-            "\nF\n\n",
-            Some(PlanTextError::BadLine(3)),
-        ),
-    ] {
-        let text = lines(rt.alloc(), start, pair, count, end)?;
-        assert!(rt; fault(rt.alloc(), &text) == want);
+// What is told of such a text.
+fn fault_of(
+    alloc: Global,
+    start: &str,
+    pair: &str,
+    count: u64,
+    end: &str,
+) -> Result<Option<PlanTextError>, AllocError> {
+    let text = lines(alloc, start, pair, count, end)?;
+    Ok(fault(alloc, &text))
+}
+
+// Whether this is told of a text with each of these starts.
+fn starts_are(alloc: Global, starts: &[&str], want: Option<PlanTextError>) -> bool {
+    for start in starts {
+        if fault_of(alloc, start, "00", 512, "\nF\n") != Ok(want) {
+            return false;
+        }
     }
-    Ok(())
+    true
+}
+
+// Whether this is told of a text with each of these ends.
+fn ends_are(alloc: Global, ends: &[&str], want: Option<PlanTextError>) -> bool {
+    for end in ends {
+        if fault_of(alloc, "W 1 ", "00", 512, end) != Ok(want) {
+            return false;
+        }
+    }
+    true
+}
+
+// What is told of a text with so many of these pairs.
+fn pairs_are(alloc: Global, pair: &str, count: u64) -> Result<Option<PlanTextError>, AllocError> {
+    fault_of(alloc, "W 1 ", pair, count, "\nF\n")
+}
+
+// Whether starts that no line has are told.
+fn bad_starts_are_told(alloc: Global) -> bool {
+    let starts = [
+        "W 18446744073709551616 ",
+        "W 01 ",
+        "W +1 ",
+        "W  1 ",
+        "W 1  ",
+        "W\t1 ",
+        "w 1 ",
+    ];
+    starts_are(alloc, &starts, Some(PlanTextError::BadLine(1)))
+}
+
+// Whether ends that no text has are told.
+fn bad_ends_are_told(alloc: Global) -> bool {
+    ends_are(
+        alloc,
+        &[" \nF\n", "\r\nF\n", ""],
+        Some(PlanTextError::BadLine(1)),
+    ) && ends_are(alloc, &["\n"], Some(PlanTextError::NoFinalFlush))
+        && ends_are(
+            alloc,
+            &["\nF", "\nF\r\n", "\nf\n"],
+            Some(PlanTextError::BadLine(2)),
+        )
+        && ends_are(
+            alloc,
+            &["\nF\nF\n", "\nF\n\n"],
+            Some(PlanTextError::BadLine(3)),
+        )
+}
+
+#[test]
+fn lines_of_writes(rt: HostRuntime) {
+    let bad = Ok(Some(PlanTextError::BadLine(1)));
+    assert!(rt;
+        starts_are(
+            rt.alloc(),
+            &["W 1 ", "W 0 ", "W 18446744073709551615 "],
+            None
+        )
+    );
+    assert!(rt; bad_starts_are_told(rt.alloc()));
+    assert!(rt; bad_ends_are_told(rt.alloc()));
+    assert!(rt; pairs_are(rt.alloc(), "aF", 512) == Ok(None));
+    assert!(rt; pairs_are(rt.alloc(), "0g", 512) == bad);
+    assert!(rt; pairs_are(rt.alloc(), "00", 511) == bad);
+    assert!(rt; pairs_are(rt.alloc(), "00", 513) == bad);
 }
 
 fn two_phases<const B: usize>(alloc: Global) -> Result<Plan<B>, AllocError>
