@@ -1,6 +1,6 @@
 #!/usr/bin/env python3
-"""Proves crates and all that they stand on, from nothing, and builds them: side by side, each with the processors that nothing else waits
-for, those with the longest chain behind them first, as `rt ci` does it. Prints where each of them stands.
+"""Proves crates and all that they stand on, from nothing, and builds them: side by side, those first that the others wait for. Prints
+where each of them stands.
 
 usage: packaging/build.py [--over-ci] CRATE...     CRATE is a program or a static library, as ptab or pt_c
   --over-ci   takes what `rt ci` has just proved and built; only a static library, which `rt ci` doesn't build, is proved once more
@@ -10,16 +10,24 @@ crate after the other, and are what is run where the kit's own module isn't as t
 """
 import contextlib
 import copy
+import functools
 import hashlib
 import importlib.machinery
 import importlib.util
 import os
+import queue
 import shutil
 import subprocess
 import sys
 import tempfile
+import threading
 
 ROOT = os.path.dirname(os.path.dirname(os.path.abspath(__file__)))
+# Measured: a check takes as long before its first proof as so many lines of code take to prove; each of its processes so much memory, in
+# bytes; and with so many processes it ends so many times sooner.
+LINES_OF_A_START = 80
+MEMORY_OF_A_JOB = 1_500_000_000
+GAIN = {1: 1, 2: 1.5, 4: 2.5}
 
 
 def kit():
@@ -96,17 +104,58 @@ def prove(rt, crate, jobs):
     return status == 0
 
 
-def longest_chain(crates):
-    """The names of the crates of the longest chain by lines, each standing on the one before. The list has each behind those below it."""
-    lines, under = {}, {}
+def slack_of(crates, time):
+    """How much shorter the longest chain through each crate is than the longest of all, as a part of it: 0 for those that all wait for. The
+    list has each crate behind those below it, and time says how long each takes."""
+    below, behind = {}, {it.name: 0 for it in crates}
     for crate in crates:
-        under[crate.name] = max(crate.deps, key=lambda it: lines[it.name], default=None)
-        lines[crate.name] = crate.count(rb"\n") + (lines[under[crate.name].name] if under[crate.name] else 0)
-    crate, chain = max(crates, key=lambda it: lines[it.name]), []
-    while crate:
-        chain.append(crate.name)
-        crate = under[crate.name]
-    return chain
+        below[crate.name] = time[crate.name] + max((below[it.name] for it in crate.deps), default=0)
+    for crate in reversed(crates):
+        for it in crate.deps:
+            behind[it.name] = max(behind[it.name], time[crate.name] + behind[crate.name])
+    longest = max(below.values())
+    return {it: 1 - (below[it] + behind[it]) / longest for it in time}
+
+
+def plan_of(crates):
+    """With how many processes each crate is proved, and the system's priority for them: 0 is the first, 19 the last. A crate takes as long as
+    its lines of code, and as what each check takes before its first proof. Each process more takes more of the processors' time in all, so
+    only what others wait for has more; and a lone process, which can't be made up for, comes before many."""
+    time = {it.name: it.count(rb"\n") + LINES_OF_A_START for it in crates}
+    jobs = {it: 4 if slack < 0.01 else 2 if slack < 0.07 else 1 for it, slack in slack_of(crates, time).items()}
+    slack = slack_of(crates, {it: time[it] / GAIN[jobs[it]] for it in time})
+    return jobs, {it: min(19, round(40 * slack[it]) + jobs[it] - 1) for it in time}
+
+
+def side_by_side(rt, crates, prove_one):
+    """Proves each crate once those below it are proved, as many side by side as memory holds. Those that the rest waits for come first, by
+    the priority that the system gives their processes, and the others take what is left. Returns whether all went well."""
+    (jobs, last), memory, done = plan_of(crates), 0.85 * rt.free(), queue.Queue()
+    left, running, answers, failures = sorted(crates, key=lambda it: last[it.name]), {}, {}, []
+
+    def work(crate, most):
+        # a thread's own priority, which the processes that it starts have too
+        os.setpriority(os.PRIO_PROCESS, threading.get_native_id(), last[crate.name])
+        try:
+            done.put((crate, prove_one(crate, most)))
+        except BaseException as why:
+            failures.append(why)
+            done.put((crate, False))
+
+    while running or (left and all(answers.values())):
+        ready = [it for it in left if all(answers.values()) and all(dep.name in answers for dep in it.deps)]
+        for crate in ready:
+            most = min(jobs[crate.name], rt.processors())
+            if not running or (sum(running.values()) + most) * MEMORY_OF_A_JOB <= memory:
+                left.remove(crate)
+                running[crate] = most
+                threading.Thread(target=work, args=(crate, most)).start()
+        crate, answer = done.get()
+        answers[crate.name] = answer
+        del running[crate]
+    for why in failures[:1]:
+        raise why
+    return all(answers.values())
 
 
 def prove_all(rt, tops):
@@ -115,15 +164,8 @@ def prove_all(rt, tops):
     for top in tops:
         whole += [it for it in [*top.below(), top] if it not in whole]
     held = rt.rtlib.lock(whole)
-    tasks, chain = {}, longest_chain(whole)
-    for crate in whole:
-        below = [(it.name, "proof") for it in crate.below()]
-        # all wait for the longest chain, so its crates share the processors with what runs beside them
-        most = min(4, rt.processors()) if crate.name in chain else 1
-        call = lambda given, jobs, it=crate, below=below, most=most: all(given[dep] for dep in below) and prove(rt, it, max(jobs, most))
-        tasks[crate.name, "proof"] = (below, crate.count(rb"\n"), rt.need(crate), call)
     try:
-        return all(rt.in_lanes(tasks).values())
+        return side_by_side(rt, whole, lambda crate, jobs: prove(rt, crate, jobs))
     finally:
         for it in held:
             os.close(it)
@@ -141,6 +183,8 @@ def build(names, is_over_ci):
     rt.rtlib.Crate = rt.Crate
     rt.rtlib.guarded()
     rt.Crate.cuts_libraries = True
+    # The kit sums a crate's sources once for each path that leads to it, a minute in all. One sum says as much.
+    rt.Crate.stamp = functools.cache(rt.Crate.stamp)
     rt.Crate.allowed = rt.handles_of(ROOT)
     known = {}
     crates = [rt.Crate(f"{ROOT}/crates/{it}", ROOT, known) for it in names]
