@@ -58,13 +58,16 @@ no_plan_here rows bytes k row p within is so_far wrong phases taken = here so_fa
   split = sym (take-append-drop k rows) ∙ ap (λ (t : List WriteRow). take k rows ++ t) (drop_more rows k row within
       ∙ ap (λ (y : WriteRow). y ∷ drop (k + 1) rows) (sym is))
 
+  on : List WriteRow → List WriteRow
+  on t = t ++ row ∷ drop (k + 1) rows
+
   here : ((take k rows ≡ []) × (p.number ≡ 1) × (length p.last.items ≡ 0))
       ⊎ ((before : List WriteRow) × (last : WriteRow) × (take k rows ≡ before ++ last ∷ []) × (last.phase ≡ p.number)
       × (1 ≤ length p.last.items)) → ⊥
   here (inl (none, one, empty)) = wrong.not_last (first_phase 1 phases row (drop (k + 1) rows) taken.full (sym taken.rows_are ∙ split
-      ∙ ap (λ (t : List WriteRow). t ++ row ∷ drop (k + 1) rows) none) ∙ sym one)
+      ∙ ap on none) ∙ sym one)
   here (inr (before, last, so, at, some)) = next (next_phase 1 phases before last row (drop (k + 1) rows) taken.full (sym taken.rows_are
-      ∙ split ∙ ap (λ (t : List WriteRow). t ++ row ∷ drop (k + 1) rows) so ∙ append_assoc before (last ∷ []) (row ∷ drop (k + 1) rows))) where
+      ∙ split ∙ ap on so ∙ append_assoc before (last ∷ []) (row ∷ drop (k + 1) rows))) where
         next : (row.phase ≡ last.phase) ⊎ (row.phase ≡ last.phase + 1) → ⊥
         next (inl same) = wrong.not_last (same ∙ at)
         next (inr one) = wrong.not_next some (one ∙ ap (λ (m : ℕ). m + 1) at)

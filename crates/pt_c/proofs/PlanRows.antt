@@ -123,8 +123,8 @@ module _ {b : ℕ} where
       record {
         front = λ full. subst (λ (items : List (Vec (Write b) Global)). AreFull (phases_in items)) (sym phases_same) full;
         last = phase ∙ sym number_same;
-        some = let len = length-append old.last.items (write_of row sector ∷ []) in let on = ap (λ (t : List (Write b)). length t) last_on in
-            omega (arith, len, on);
+        some = let n = length-append old.last.items (write_of row sector ∷ []) in let on = ap (λ (t : List (Write b)). length t) last_on in
+            omega (arith, n, on);
         numbered = number_same ∙ (numbered ∙ ap (λ (items : List (Vec (Write b) Global)). 1 + length (phases_in items)) (sym phases_same));
         rows = ap (λ (x : List Writes). rows_from 1 x) e ∙ (rows_same ps p w
             ∙ ap (λ (n : ℕ). rows_from 1 (ps ++ p ∷ []) ++ record { sector = row.sector; phase = n } ∷ []) (sym (phase ∙ numbered)));
@@ -215,9 +215,9 @@ module _ {b : ℕ} where
     last = inl (refl, one, ap (λ (t : List (Write b)). length t) no_last);
   }
 
-  pub one_grows : (rows : List WriteRow) (k : ℕ) (row : WriteRow) (sector : List ℕ) (old new : Partial b)
-      → k < length rows → row ≡ get_or rows k row → IsGrowing (take k rows) old → Took row sector old new → IsGrowing (take (k + 1) rows) new
-  one_grows rows k row sector old new within is so_far took = record {
+  pub one_grows : (rows : List WriteRow) (k : ℕ) (row : WriteRow) (held : List ℕ) (old new : Partial b)
+      → k < length rows → row ≡ get_or rows k row → IsGrowing (take k rows) old → Took row held old new → IsGrowing (take (k + 1) rows) new
+  one_grows rows k row held old new low is so_far took = record {
     front = took.front so_far.front;
-    last = inr (take k rows, row, take_more rows k row within ∙ ap (λ (y : WriteRow). take k rows ++ y ∷ []) (sym is), took.last, took.some);
+    last = inr (take k rows, row, take_more rows k row low ∙ ap (λ (y : WriteRow). take k rows ++ y ∷ []) (sym is), took.last, took.some);
   }

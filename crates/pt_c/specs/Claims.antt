@@ -176,7 +176,7 @@ PlannedFor b v d words drawn old new s r =
 -- the same of the plan that C gives by rows
 abbrev pub CheckedFor : ℕ → View → Sectors → List WriteRow → List ℕ → Status → Reply → Type 0
 CheckedFor b v d rows bytes s r =
-    IsUnasked ((¬ IsView b v) ⊎ AreNoPlan b rows bytes) s ⊎ ((phases : List Writes) × AreTaken b phases rows bytes × Checked b v d phases s r)
+    IsUnasked ((¬ IsView b v) ⊎ AreNoPlan b rows bytes) s ⊎ ((plan : List Writes) × AreTaken b plan rows bytes × Checked b v d plan s r)
 
 -- what the disk denotes is listed, or has no room; else the buffers stay as they were
 abbrev pub Members : ℕ → View → Sectors → Listing → Listing → Status → Reply → Type 0

@@ -1,10 +1,11 @@
 -- What a command line asks for, by `clap`'s meaning of its words at the command.
-use Rattle.std.specs.Prelude.{◌≡◌, ◌≢◌, ◌⊎◌, false, List, [], ◌∷◌, map, Option, Some, None, Result, IfOk, Ok, Err, String, string_bytes, codes}
-use Rattle.std.specs.Prelude.{unwrap_or, option_map}
+use Rattle.std.specs.Prelude.{◌≡◌, ◌≢◌, ◌⊎◌, false, List, [], ◌∷◌, map, Option, Some, None, Result, IfOk, Ok, Err, String, string_bytes}
+use Rattle.std.specs.Prelude.{codes, unwrap_or, option_map}
 use Rattle.std.specs.Borrow.{Bor}
 use Rattle.std.specs.declared.alloc.Global.{Global}
 use Rattle.clap.specs.Walk.{texts}
-use Rattle.clap.specs.Words.{App, IsAmong, Kinds, Row, Rule, Text, all_of, app_of, fault_of, first_of, rule_of, subcommand_of, with_subcommand}
+use Rattle.clap.specs.Words.{App, IsAmong, Kinds, Row, Rule, Text, all_of, app_of, fault_of, first_of, rule_of}
+use Rattle.clap.specs.Words.{subcommand_of, with_subcommand}
 use Rattle.clap.specs.declared.builder.arg.Arg.{Arg}
 use Rattle.clap.specs.declared.builder.command.Command.{Command}
 use Rattle.clap.specs.declared.builder.command.Command.TheViews.{out-Command}
@@ -31,7 +32,7 @@ pub record IsCommand (a : App) (c : Command) : Type 0 where
 
 -- where a command and a page were made, the page comes behind the command's others
 abbrev pub AddsPage : {E : Type 0} → Result Command E → Result Command E → Result Command E → Type 0
-AddsPage ptab page result = (a s : App) → IfOk ptab (IsCommand a) → IfOk page (IsCommand s) → IfOk result (IsCommand (with_subcommand a s.top))
+AddsPage ptab page made = (a s : App) → IfOk ptab (IsCommand a) → IfOk page (IsCommand s) → IfOk made (IsCommand (with_subcommand a s.top))
 
 -- ---- the job
 

@@ -18,6 +18,9 @@ lba_decides : (a b : Lba) → Decides (lba_eq.eq-value.it a b) (a ≡ b)
 lba_decides a b =
     decides_as (a.0 == b.0) (a.0 ≡ b.0) (a ≡ b) (Decides-eqb a.0 b.0) (λ h i. record { 0 = h i }) (λ e. ap (λ (x : Lba). x.0) e)
 
+sizes_same : (a b : Record) → a ≡ b → a.size ≡ b.size
+sizes_same a b e = ap (λ (x : Record). x.size) e
+
 pub record_decides : (a b : Record) → Decides (record_eq.eq-value.it a b) (a ≡ b)
 record_decides a b =
     decides_as (record_eq.eq-value.it a b) ((a.boot ≡ b.boot) × ((a.start_chs ≡ b.start_chs)
@@ -37,7 +40,7 @@ record_decides a b =
       ap (λ (x : Record). x.boot) e,
       (
         ap (λ (x : Record). x.start_chs) e,
-        (ap (λ (x : Record). x.kind) e, (ap (λ (x : Record). x.end_chs) e, (ap (λ (x : Record). x.start) e, ap (λ (x : Record). x.size) e))),
+        (ap (λ (x : Record). x.kind) e, (ap (λ (x : Record). x.end_chs) e, (ap (λ (x : Record). x.start) e, sizes_same a b e))),
       ),
     ))
 

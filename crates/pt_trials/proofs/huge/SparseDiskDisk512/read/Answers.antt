@@ -3,4 +3,4 @@ use Rattle.pt_sector.specs.Calls.{no_faults}
 use Rattle.pt_trials.proofs.huge.SparseDiskDisk512.read.Goals as goal
 
 pub returns-clause-same : goal.returns-clause-same
-returns-clause-same c = record { same_count = refl; same_name = refl; through = tt; same = λ tells. absurd tells; came = no_faults _ _ refl }
+returns-clause-same c = record { same_count = refl; same_name = refl; through = tt; same = λ t. absurd t; came = no_faults _ _ refl }
