@@ -175,8 +175,9 @@ fn on_image<'a>(
 ) -> Result<Command<'a>, AllocError>
     ensures { IfOk result (IsCommand (spec.page name.entry.now (spec.image_rules sizes.entry))) }
 {
-    let args = vec![in alloc; image(alloc), sector_size(alloc, sizes)]?;
-    page(alloc, name, about, after).args(args)
+    page(alloc, name, about, after)
+        .arg(image(alloc))?
+        .arg(sector_size(alloc, sizes))
 }
 
 fn on_place<'a>(
@@ -188,13 +189,11 @@ fn on_place<'a>(
 ) -> Result<Command<'a>, AllocError>
     ensures { IfOk result (IsCommand (spec.page name.entry.now (spec.place_rules sizes.entry))) }
 {
-    let args = vec![in alloc;
-        image(alloc),
-        needed(alloc, "PATH", "A partition, as 3, 5 or 2.a"),
-        needed(alloc, "K", "A sector of the partition, from 0 on"),
-        sector_size(alloc, sizes),
-    ]?;
-    page(alloc, name, about, after).args(args)
+    page(alloc, name, about, after)
+        .arg(image(alloc))?
+        .arg(needed(alloc, "PATH", "A partition, as 3, 5 or 2.a"))?
+        .arg(needed(alloc, "K", "A sector of the partition, from 0 on"))?
+        .arg(sector_size(alloc, sizes))
 }
 
 fn on_words<'a>(
@@ -206,13 +205,11 @@ fn on_words<'a>(
 ) -> Result<Command<'a>, AllocError>
     ensures { IfOk result (IsCommand (spec.page name.entry.now (spec.word_rules sizes.entry))) }
 {
-    let args = vec![in alloc;
-        image(alloc),
-        fresh(alloc),
-        sector_size(alloc, sizes),
-        words(alloc),
-    ]?;
-    page(alloc, name, about, after).args(args)
+    page(alloc, name, about, after)
+        .arg(image(alloc))?
+        .arg(fresh(alloc))?
+        .arg(sector_size(alloc, sizes))?
+        .arg(words(alloc))
 }
 
 fn on_plan<'a>(
@@ -224,11 +221,14 @@ fn on_plan<'a>(
 ) -> Result<Command<'a>, AllocError>
     ensures { IfOk result (IsCommand (spec.page name.entry.now (spec.plan_rules sizes.entry))) }
 {
-    let args = vec![in alloc; image(alloc), plan_file(alloc), sector_size(alloc, sizes)]?;
-    page(alloc, name, about, after).args(args)
+    page(alloc, name, about, after)
+        .arg(image(alloc))?
+        .arg(plan_file(alloc))?
+        .arg(sector_size(alloc, sizes))
 }
 
 /// The command with one more page, where both were made.
+#[inline]
 fn with_page<'a>(
     ptab: Result<Command<'a>, AllocError>,
     page: Result<Command<'a>, AllocError>,

@@ -2,6 +2,7 @@
 
 ghost use Rattle.std.specs.Prelude.{◌<◌, ◌^◌};
 
+use arrayvec::ArrayString;
 use pt_gpt::{Entry, Table};
 use pt_guid::{Guid, code_of_type};
 use pt_layout::{
@@ -9,6 +10,9 @@ use pt_layout::{
 };
 use std::io;
 use std::io::Write;
+
+/// How many bytes the text of a name takes at most: three for each of its units.
+const NAME_BYTES: usize = 108;
 
 /// How many entries a label has, those that it doesn't count among them.
 const LETTERS: usize = 8;
@@ -89,12 +93,16 @@ fn print_kind<O: Write>(out: &mut O, kind: &Guid) -> io::Result<()> {
 /// A name up to its first zero unit, with `?` for what has no printed form.
 fn print_name<O: Write>(out: &mut O, name: &[u16; 36]) -> io::Result<()> {
     let units = name.iter().copied().take_while(|&unit| unit != 0);
+    let mut text: ArrayString<NAME_BYTES> = ArrayString::new();
     for found in char::decode_utf16(units) {
         let shown = match found {
             Ok(c) => { if c < ' ' || c == '\u{7F}' { '?' } else { c } }
             Err(_) => '?',
         };
-        write!(out, "{shown}")?;
+        if text.try_push(shown).is_err() {
+            write!(out, "{}{shown}", text.as_str())?;
+            text.clear();
+        }
     }
-    Ok(())
+    write!(out, "{}", text.as_str())
 }
