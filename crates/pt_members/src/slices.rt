@@ -1,6 +1,6 @@
 //! Slices, and where their labels stand.
 
-ghost use Rattle.std.specs.Prelude.{◌≡◌, ◌<◌, ◌+◌, ◌++◌, filter, option_to_list, length, slice_index_or, None, IfOk, IfSome, OnOk};
+ghost use Rattle.std.specs.Prelude.{◌≡◌, ◌<◌, ◌+◌, ◌++◌, filter, option_to_list, length, slice_index_or, None, IfOk, IfSome, IsTrue, OnOk};
 ghost use Rattle.pt_sector.specs.Sectors.{IsSectorSize};
 ghost use Rattle.pt_members.specs.Members.{slots};
 ghost use Rattle.pt_members.specs.Slices.{has_place, slice_of, placed_in, places_of};
@@ -30,12 +30,30 @@ fn placed(sectors: u64, m: &Member) -> Option<Slice>
     })
 }
 
+// Whether what stands in a place is an unused entry of a GPT. Most are, and no member is made to see it.
+#[tactic(auto, using(crate::proofs::ByPlace::gpt_at, crate::proofs::ByPlace::gpt_len))]
+fn is_unused<const B: usize>(body: &Body, k: usize) -> bool
+    requires { k < length (slots B body.now) }
+    ensures { IsTrue result → slice_index_or (slots B body.now) k None ≡ None }
+{
+    match body {
+        Body::Mbr { .. } => false,
+        Body::Gpt(table) => match &table.entries.as_slice()[k] {
+            Some(_) => false,
+            None => true,
+        },
+    }
+}
+
 // The slice in a place, where it has a label place on a disk of so many sectors.
 pub(crate) fn placed_at<const B: usize>(sectors: u64, body: &Body, k: usize) -> Option<Slice>
     requires { k < length (slots B body.now) }
     ensures value { option_to_list result ≡ placed_in sectors (slice_index_or (slots B body.now) k None) }
     ensures within { IfSome result (λ s. s.first + 1 < sectors) }
 {
+    if is_unused::<B>(body, k) {
+        return None;
+    }
     let m = slot::<B>(body, k)?;
     placed(sectors, &m)
 }
