@@ -30,9 +30,10 @@ pub record IsCommand (a : App) (c : Command) : Type 0 where
   pub app : app_of c ≡ a
   pub local : (out-Command c).has_globals ≡ false
 
--- where a command and a page were made, the page comes behind the command's others
-abbrev pub AddsPage : {E : Type 0} → Result Command E → Result Command E → Result Command E → Type 0
-AddsPage ptab page made = (a s : App) → IfOk ptab (IsCommand a) → IfOk page (IsCommand s) → IfOk made (IsCommand (with_subcommand a s.top))
+-- where a page was made, it comes behind the command's others
+abbrev pub AddsPage : {E : Type 0} → Command → Result Command E → Result Command E → Type 0
+AddsPage ptab page made =
+    IfOk made (λ c. (a s : App) → IsCommand a ptab → IfOk page (IsCommand s) → IsCommand (with_subcommand a s.top) c)
 
 -- ---- the job
 

@@ -227,28 +227,27 @@ fn on_plan<'a>(
         .arg(sector_size(alloc, sizes))
 }
 
-/// The command with one more page, where both were made.
-#[inline]
+/// The command with one more page, where that was made.
 fn with_page<'a>(
-    ptab: Result<Command<'a>, AllocError>,
+    ptab: Command<'a>,
     page: Result<Command<'a>, AllocError>,
 ) -> Result<Command<'a>, AllocError>
     ensures { AddsPage ptab.entry page.entry result }
 {
-    ptab?.subcommand(page?)
+    ptab.subcommand(page?)
 }
 
 fn command<'a>(alloc: Global, sizes: &'a [&'a str]) -> Result<Command<'a>, AllocError>
     ensures { IfOk result (IsCommand (spec.ptab sizes.entry)) }
 {
-    let ptab = Ok(top(alloc));
-    let ptab = with_page(ptab, on_image(alloc, sizes, "show", SHOW_ABOUT, SHOW));
-    let ptab = with_page(ptab, on_image(alloc, sizes, "verify", VERIFY_ABOUT, VERIFY));
-    let ptab = with_page(ptab, on_place(alloc, sizes, "locate", LOCATE_ABOUT, LOCATE));
-    let ptab = with_page(ptab, on_words(alloc, sizes, "edit", EDIT_ABOUT, EDIT));
-    let ptab = with_page(ptab, on_words(alloc, sizes, "plan", PLAN_ABOUT, PLAN));
-    let ptab = with_page(ptab, on_plan(alloc, sizes, "check", CHECK_ABOUT, CHECK));
-    let ptab = with_page(ptab, on_plan(alloc, sizes, "apply", APPLY_ABOUT, APPLY));
+    let ptab = top(alloc);
+    let ptab = with_page(ptab, on_image(alloc, sizes, "show", SHOW_ABOUT, SHOW))?;
+    let ptab = with_page(ptab, on_image(alloc, sizes, "verify", VERIFY_ABOUT, VERIFY))?;
+    let ptab = with_page(ptab, on_place(alloc, sizes, "locate", LOCATE_ABOUT, LOCATE))?;
+    let ptab = with_page(ptab, on_words(alloc, sizes, "edit", EDIT_ABOUT, EDIT))?;
+    let ptab = with_page(ptab, on_words(alloc, sizes, "plan", PLAN_ABOUT, PLAN))?;
+    let ptab = with_page(ptab, on_plan(alloc, sizes, "check", CHECK_ABOUT, CHECK))?;
+    let ptab = with_page(ptab, on_plan(alloc, sizes, "apply", APPLY_ABOUT, APPLY))?;
     with_page(ptab, on_image(alloc, sizes, "repair", REPAIR_ABOUT, REPAIR))
 }
 
