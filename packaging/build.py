@@ -23,11 +23,12 @@ import tempfile
 import threading
 
 ROOT = os.path.dirname(os.path.dirname(os.path.abspath(__file__)))
-# Measured: a check takes as long before its first proof as so many lines of code take to prove; each of its processes so much memory, in
-# bytes; and with so many processes it ends so many times sooner.
+# Measured: a check takes as long before its first proof as so many lines of code take to prove; each of its processes takes so much memory,
+# in bytes; and with the most processes it ends so many times sooner.
 LINES_OF_A_START = 80
 MEMORY_OF_A_JOB = 1_500_000_000
-GAIN = {1: 1, 2: 1.5, 4: 2.5}
+MOST_JOBS = 4
+GAIN = 2.5
 
 
 def kit():
@@ -118,13 +119,13 @@ def slack_of(crates, time):
 
 
 def plan_of(crates):
-    """With how many processes each crate is proved, and the system's priority for them: 0 is the first, 19 the last. A crate takes as long as
-    its lines of code, and as what each check takes before its first proof. Each process more takes more of the processors' time in all, so
-    only what others wait for has more; and a lone process, which can't be made up for, comes before many."""
+    """With how many processes each crate is proved, and the system's priority for them: 0 is the first, 19 the last. A crate takes as long
+    as its lines of code, and as what each check takes before its first proof. More processes take more of the processors' time in all, so
+    only what all others wait for has them; what has one takes the longer, and is the less to be kept waiting."""
     time = {it.name: it.count(rb"\n") + LINES_OF_A_START for it in crates}
-    jobs = {it: 4 if slack < 0.01 else 2 if slack < 0.07 else 1 for it, slack in slack_of(crates, time).items()}
-    slack = slack_of(crates, {it: time[it] / GAIN[jobs[it]] for it in time})
-    return jobs, {it: min(19, round(40 * slack[it]) + jobs[it] - 1) for it in time}
+    jobs = {it: MOST_JOBS if slack < 0.01 else 1 for it, slack in slack_of(crates, time).items()}
+    slack = slack_of(crates, {it: time[it] / (GAIN if jobs[it] > 1 else 1) for it in time})
+    return jobs, {it: min(19, round(30 * slack[it])) for it in time}
 
 
 def side_by_side(rt, crates, prove_one):
