@@ -23,12 +23,9 @@ import tempfile
 import threading
 
 ROOT = os.path.dirname(os.path.dirname(os.path.abspath(__file__)))
-# Measured: a check takes as long before its first proof as so many lines of code take to prove; each of its processes takes so much memory,
-# in bytes; and with the most processes it ends so many times sooner.
+# Measured: a check takes as long before its first proof as so many lines of code take to prove, and each job so much memory, in bytes.
 LINES_OF_A_START = 80
 MEMORY_OF_A_JOB = 1_500_000_000
-MOST_JOBS = 4
-GAIN = 2.5
 
 
 def kit():
@@ -105,40 +102,36 @@ def prove(rt, crate, jobs):
     return status == 0
 
 
-def slack_of(crates, time):
-    """How much shorter the longest chain through each crate is than the longest of all, as a part of it: 0 for those that all wait for. The
-    list has each crate behind those below it, and time says how long each takes."""
+def slack_of(crates):
+    """How much shorter the longest chain through each crate is than the longest of all, as a part of it: 0 for those that all wait for. A
+    crate counts by its lines of code, and by what each check takes before its first proof. The list has each behind those below it."""
+    work = {it.name: it.count(rb"\n") + LINES_OF_A_START for it in crates}
     below, behind = {}, {it.name: 0 for it in crates}
     for crate in crates:
-        below[crate.name] = time[crate.name] + max((below[it.name] for it in crate.deps), default=0)
+        below[crate.name] = work[crate.name] + max((below[it.name] for it in crate.deps), default=0)
     for crate in reversed(crates):
         for it in crate.deps:
-            behind[it.name] = max(behind[it.name], time[crate.name] + behind[crate.name])
+            behind[it.name] = max(behind[it.name], work[crate.name] + behind[crate.name])
     longest = max(below.values())
-    return {it: 1 - (below[it] + behind[it]) / longest for it in time}
+    return {it: 1 - (below[it] + behind[it]) / longest for it in work}
 
 
-def plan_of(crates):
-    """With how many processes each crate is proved, and the system's priority for them: 0 is the first, 19 the last. A crate takes as long
-    as its lines of code, and as what each check takes before its first proof. More processes take more of the processors' time in all, so
-    only what all others wait for has them; what has one takes the longer, and is the less to be kept waiting."""
-    time = {it.name: it.count(rb"\n") + LINES_OF_A_START for it in crates}
-    jobs = {it: MOST_JOBS if slack < 0.01 else 1 for it, slack in slack_of(crates, time).items()}
-    slack = slack_of(crates, {it: time[it] / (GAIN if jobs[it] > 1 else 1) for it in time})
-    return jobs, {it: min(19, round(30 * slack[it])) for it in time}
+def jobs_for(slack):
+    """How many processes prove a crate. Each one more takes more of the processors' time in all, so only what others wait for has more."""
+    return 4 if slack < 0.01 else 2 if slack < 0.07 else 1
 
 
 def side_by_side(rt, crates, prove_one):
     """Proves each crate once those below it are proved, as many side by side as memory holds. Those that the rest waits for come first, by
     the priority that the system gives their processes, and the others take what is left. Returns whether all went well."""
-    (jobs, last), memory, done = plan_of(crates), 0.85 * rt.free(), queue.Queue()
-    left, running, answers, failures = sorted(crates, key=lambda it: last[it.name]), {}, {}, []
+    slack, memory, done = slack_of(crates), 0.85 * rt.free(), queue.Queue()
+    left, running, answers, failures = sorted(crates, key=lambda it: slack[it.name]), {}, {}, []
 
-    def work(crate, most):
+    def work(crate, jobs):
         # a thread's own priority, which the processes that it starts have too
-        os.setpriority(os.PRIO_PROCESS, threading.get_native_id(), last[crate.name])
+        os.setpriority(os.PRIO_PROCESS, threading.get_native_id(), min(19, round(40 * slack[crate.name])))
         try:
-            done.put((crate, prove_one(crate, most)))
+            done.put((crate, prove_one(crate, jobs)))
         except BaseException as why:
             failures.append(why)
             done.put((crate, False))
@@ -146,11 +139,11 @@ def side_by_side(rt, crates, prove_one):
     while running or (left and all(answers.values())):
         ready = [it for it in left if all(answers.values()) and all(dep.name in answers for dep in it.deps)]
         for crate in ready:
-            most = min(jobs[crate.name], rt.processors())
-            if not running or (sum(running.values()) + most) * MEMORY_OF_A_JOB <= memory:
+            jobs = min(jobs_for(slack[crate.name]), rt.processors())
+            if not running or (sum(running.values()) + jobs) * MEMORY_OF_A_JOB <= memory:
                 left.remove(crate)
-                running[crate] = most
-                threading.Thread(target=work, args=(crate, most)).start()
+                running[crate] = jobs
+                threading.Thread(target=work, args=(crate, jobs)).start()
         crate, answer = done.get()
         answers[crate.name] = answer
         del running[crate]
