@@ -9,17 +9,20 @@ tests/install.sh
 said=$(mktemp)
 trap 'rm -f "$said"' EXIT
 rt ci | tee "$said"
-# what `rt ci` proved and built, and the archive for callers in C over it
-built=$(python3 packaging/build.py --over-ci ptab pt_c)
-ptab=$(printf '%s\n' "$built" | sed -n 1p)
-archive=$(printf '%s\n' "$built" | sed -n 2p)
+# what `rt ci` proved and built
+ptab=$(python3 packaging/build.py --over-ci ptab)
 # the programs that only tests run
 doubles="$PWD/crates/pt_doubles/out/pt_doubles"
 faults="$PWD/crates/pt_faults/out/pt_faults"
+# the archive for callers in C, over what `rt ci` proved, and what is run on it
+archive="$PWD/crates/pt_c/out/libpt_c.a"
 # side by side, the longest first
 python3 tests/side_by_side.py <<LIST
+../packaging/build.py --over-ci pt_c
+then c_library.py "$ptab" "$archive"
+then package.py "$ptab" "$archive"
+then install.py "$ptab" "$archive"
 runs.py "$faults"
-c_library.py "$ptab" "$archive"
 hostile.py "$ptab" 8000
 no_memory.py "$ptab"
 no_device.py "$ptab"
@@ -28,12 +31,11 @@ malicious.py "$ptab" "$doubles"
 rows.py "$ptab" "$doubles"
 rows_4096.py "$ptab" "$doubles"
 repairs.py "$ptab"
+reads.py "$ptab"
 against_sfdisk.py "$ptab"
 against_sgdisk.py "$ptab"
-package.py "$ptab" "$archive"
 real_images.py "$ptab"
 bad_input.py "$ptab"
-install.py "$ptab" "$archive"
 docs.py "$ptab"
 recipes.py "$ptab"
 from_sgdisk.py "$ptab"

@@ -6,7 +6,7 @@ usage: bench/tools.py PTAB
 Wall time is the best of five runs. Instructions are callgrind's, in millions. Sectors read, writes and syncs are those of
 system calls on the image, as strace sees them: sectors are bytes read by 512, a write of any length is one. It ends with
 status 1 where ptab's show or verify reads a sector more than recovery and health name, or takes more instructions than
-sfdisk's; where a rename reads more than 105 sectors to write 67; and where a GPT on a disk of 1 TiB costs it more than one of 64 MiB.
+sfdisk's; where a rename reads more than 67 sectors to write 67; and where a GPT on a disk of 1 TiB costs it more than one of 64 MiB.
 """
 import os
 import subprocess
@@ -23,7 +23,7 @@ LOGICALS = 120
 ONE, FULL, CHAIN, LARGE = "1 partition, 64 MiB", "128 partitions, 256 MiB", f"{LOGICALS} logicals, 256 MiB", "1 partition, sparse 1 TiB"
 # The sectors that decide the answer: sector 0, both headers and both arrays; or sector 0 and each extended boot record.
 NAMED = {ONE: 67, FULL: 67, LARGE: 67, CHAIN: 1 + LOGICALS}
-RENAME = 105
+RENAME = 67
 
 
 def gpt_by_sgdisk(ptab, path, size, count):

@@ -6,6 +6,9 @@ import sys
 
 # the most sectors of an image that the program compares
 MOST = 16384
+# It copies the image for each plan. Without these, each copy of some MB is asked of the system and given back, which takes as long as
+# all else that it does (mallopt(3)).
+KEEPS_MEMORY = {"MALLOC_MMAP_THRESHOLD_": "1000000000", "MALLOC_TRIM_THRESHOLD_": "1000000000", "MALLOC_TOP_PAD_": "33554432"}
 
 
 def text_of(phases):
@@ -87,7 +90,7 @@ class Doubles:
             with open(file, "w", encoding="ascii") as it:
                 it.write(text)
         words = [self.program, str(command.sectors.size), command.path, *files]
-        done = subprocess.run(words, capture_output=True, text=True)
+        done = subprocess.run(words, capture_output=True, text=True, env={**os.environ, **KEEPS_MEMORY})
         if (done.stdout, done.returncode) != ("same\n", 0):
             sys.exit(f"beside plain versions, {' '.join(words[1:])}: {done.stdout}{done.stderr}, status {done.returncode}")
         for file in files:

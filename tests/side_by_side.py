@@ -2,7 +2,8 @@
 """Runs the scripts of this folder side by side, one for each processor, and prints what each said, in their order. Ends with 1 where
 one of them fails, and says which.
 
-usage: tests/side_by_side.py <LIST     LIST has one script a line, with its words
+usage: tests/side_by_side.py <LIST     LIST has one script a line, with its words. A line that begins with `then` waits for the last
+                                       line above it that doesn't, and isn't run where that one fails.
 """
 import os
 import shlex
@@ -25,15 +26,36 @@ def run(words):
         return status, said.read(), time.monotonic() - began
 
 
+def groups_of(lines):
+    """Each script that waits for none, with those behind it that wait for it."""
+    groups = []
+    for words in lines:
+        if words[0] == "then":
+            groups[-1].append(words[1:])
+        else:
+            groups.append([words])
+    return groups
+
+
+def answers_of(group):
+    """A group's answers, in order: the first script's, and then those of the others, which are run at once and take no lane."""
+    first, later = run(group[0]), group[1:]
+    if first[0] != 0 or not later:
+        return [first, *((1, "not run\n", 0) for _ in later)]
+    with ThreadPoolExecutor(len(later)) as more:
+        return [first, *more.map(run, later)]
+
+
 def main():
-    scripts = [shlex.split(line) for line in sys.stdin if line.strip()]
+    groups = groups_of(shlex.split(line) for line in sys.stdin if line.strip())
     failed = []
     with ThreadPoolExecutor(len(os.sched_getaffinity(0))) as lanes:
-        for words, (status, said, seconds) in zip(scripts, lanes.map(run, scripts)):
-            print(f"== {words[0]}, {seconds:.0f} s\n{said}", end="", flush=True)
-            if status:
-                failed.append(words[0])
-    if not scripts:
+        for group, answers in zip(groups, lanes.map(answers_of, groups)):
+            for words, (status, said, seconds) in zip(group, answers):
+                name = os.path.basename(words[0])
+                print(f"== {name}, {seconds:.0f} s\n{said}", end="", flush=True)
+                failed += [name] * (status != 0)
+    if not groups:
         sys.exit("side_by_side.py: no script")
     if failed:
         sys.exit(f"side_by_side.py: failed: {' '.join(failed)}")

@@ -23,7 +23,7 @@ use crate::trial::{Layouts, Trial, try_phases};
 use crate::writes::count_writes;
 use pt_apply::Plan;
 use pt_layout::Finding;
-use pt_sector::{Disk, FailedRead};
+use pt_sector::{Disk, FailedRead, ReadCache, Room};
 use std::alloc::Global;
 
 /// Whether the plan may be applied to the disk as it is now, wherever the plan comes from.
@@ -34,8 +34,27 @@ use std::alloc::Global;
 /// in no byte of the boot code (bytes 0 to 439 of sector 0); and the finished disk is healthy. A stop is in a phase
 /// from the end of the flush before it to the end of its own, with any choice of that phase's writes done.
 ///
-/// No copy of the disk is made: an overlay holds the plan's writes, 4,096 at most.
+/// No copy of the disk is made: an overlay holds the plan's writes, 4,096 at most, and a cache what was read, so that the
+/// disk is asked for each sector once.
 pub fn check<const B: usize, D: Disk<B>>(
+    alloc: Global,
+    disk: &mut D,
+    plan: &Plan<B>,
+) -> Result<Answer, CheckError>
+    requires size { IsSectorSize B }
+    ensures same { OnlyReads D.Disk disk.old disk.new }
+    ensures blames { Blames fault_in result (D.faults disk.old) (D.faults disk.new) }
+    ensures in_range { IfOk result (λ a. Fits (D.count disk.old) plan.now a) }
+    ensures answers { D.tells → IfOk result (λ a. Answers B (D.told disk.old).seen (phases_of plan.now) a) }
+    ensures promises { D.tells → IfOk result (λ a. Promises B (D.told disk.old).seen (phases_of plan.now) a) }
+{
+    let room = Room::for_cache(alloc)?;
+    let mut cache = ReadCache::new(disk, room);
+    read_and_check(alloc, &mut cache, plan)
+}
+
+/// The same answer, by a disk that may be asked for a sector more than once.
+fn read_and_check<const B: usize, D: Disk<B>>(
     alloc: Global,
     disk: &mut D,
     plan: &Plan<B>,
@@ -51,7 +70,8 @@ pub fn check<const B: usize, D: Disk<B>>(
     check_known(alloc, disk, plan, before)
 }
 
-/// The same answer, where it is known what the disk denotes, and by which sectors: those aren't read again.
+/// The same answer, where it is known what the disk denotes, and by which sectors: those aren't read before the first
+/// phase. After each phase its sectors are read again, so a caller gives a [`ReadCache`] over the disk.
 pub fn check_known<const B: usize, D: Disk<B>>(
     alloc: Global,
     disk: &mut D,

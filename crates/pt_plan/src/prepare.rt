@@ -21,7 +21,7 @@ use pt_edit::{Edit, edit};
 use pt_guid::Guid;
 use pt_layout::{Layout, NoTable};
 use pt_planner::{Known, plan_from, read_known};
-use pt_sector::Disk;
+use pt_sector::{Disk, ReadCache, Room};
 use std::alloc::Global;
 
 /// Whether the first word but `a` is `o`, which makes a table of nothing.
@@ -169,9 +169,8 @@ fn plan_by<const B: usize, D: Disk<B>>(
     planned(alloc, disk, known, &wanted)
 }
 
-/// The plan that leads from what the disk denotes to what the words make of it. Nothing is flushed or written. It is
-/// refused as `commit` refuses, and `Check` is never told; the checker is not asked, and accepts each such plan.
-pub fn plan_for<const B: usize, D: Disk<B>>(
+/// The plan of [`plan_for`], by a disk that may be asked for a sector more than once.
+fn read_and_plan<const B: usize, D: Disk<B>>(
     alloc: Global,
     disk: &mut D,
     edits: &[Edit],
@@ -192,8 +191,8 @@ pub fn plan_for<const B: usize, D: Disk<B>>(
     plan_by(alloc, disk, &read.0, read.1, edits, guids)
 }
 
-/// The same plan, once the checker has accepted it. Nothing is flushed or written.
-pub fn checked_plan_for<const B: usize, D: Disk<B>>(
+/// The plan of [`checked_plan_for`], by a disk that may be asked for a sector more than once.
+fn read_plan_and_check<const B: usize, D: Disk<B>>(
     alloc: Global,
     disk: &mut D,
     edits: &[Edit],
@@ -213,4 +212,50 @@ pub fn checked_plan_for<const B: usize, D: Disk<B>>(
     let plan = plan_by(alloc, disk, &known, reason, edits, guids)?;
     checked(alloc, disk, &plan, recovered(known))?;
     Ok(plan)
+}
+
+/// The plan that leads from what the disk denotes to what the words make of it. Nothing is flushed or written. It is
+/// refused as `commit` refuses, and `Check` is never told; the checker is not asked, and accepts each such plan.
+pub fn plan_for<const B: usize, D: Disk<B>>(
+    alloc: Global,
+    disk: &mut D,
+    edits: &[Edit],
+    guids: &[Guid],
+) -> Result<Plan<B>, CommitError>
+    requires size { IsSectorSize B }
+    ensures same { OnlyReads D.Disk disk.old disk.new }
+    ensures blames { Blames fault_in result (D.faults disk.old) (D.faults disk.new) }
+    ensures hides { IfErr result HidesNoFailure }
+    ensures in_range { IfOk result (InRange (D.count disk.old)) }
+    ensures phases { IfOk result (λ plan. All (λ p. 0 < length p.items) plan.phases.items) }
+    ensures planned { D.tells → IfOk result
+        (λ plan. IsPlanned B (D.count disk.old) (record { edits = edits.now; guids = guids.now }) (D.told disk.old).seen (phases_of plan)) }
+    ensures refused { D.tells → IfErr result
+        (IsRefusal B (D.count disk.old) (record { edits = edits.now; guids = guids.now }) (D.told disk.old).seen) }
+{
+    let room = Room::for_cache(alloc)?;
+    let mut cache = ReadCache::new(disk, room);
+    read_and_plan(alloc, &mut cache, edits, guids)
+}
+
+/// The same plan, once the checker has accepted it. Nothing is flushed or written.
+pub fn checked_plan_for<const B: usize, D: Disk<B>>(
+    alloc: Global,
+    disk: &mut D,
+    edits: &[Edit],
+    guids: &[Guid],
+) -> Result<Plan<B>, CommitError>
+    requires size { IsSectorSize B }
+    ensures same { OnlyReads D.Disk disk.old disk.new }
+    ensures blames { Blames fault_in result (D.faults disk.old) (D.faults disk.new) }
+    ensures hides { IfErr result HidesNoFailure }
+    ensures in_range { IfOk result (InRange (D.count disk.old)) }
+    ensures ready { D.tells → IfOk result
+        (λ plan. IsReady B (D.count disk.old) (record { edits = edits.now; guids = guids.now }) (D.told disk.old).seen (phases_of plan)) }
+    ensures refused { D.tells → IfErr result
+        (IsRefusal B (D.count disk.old) (record { edits = edits.now; guids = guids.now }) (D.told disk.old).seen) }
+{
+    let room = Room::for_cache(alloc)?;
+    let mut cache = ReadCache::new(disk, room);
+    read_plan_and_check(alloc, &mut cache, edits, guids)
 }

@@ -8,6 +8,7 @@ use pt_check::{CheckError, Why};
 use pt_layout::{Finding, NoTable};
 use pt_planner::PlanError;
 use pt_sector::{Failure, Fault};
+use std::alloc::AllocError;
 use std::error::Error;
 use std::fmt;
 
@@ -69,6 +70,14 @@ impl From<NoTable> for RepairError {
             NoTable::Memory => RepairError::Memory,
             why => RepairError::NoTable(why),
         }
+    }
+}
+
+impl From<AllocError> for RepairError {
+    ghost from_gives = { λ _ e. e ≡ repair.Memory };
+
+    fn from(_error: AllocError) -> RepairError {
+        RepairError::Memory
     }
 }
 

@@ -20,7 +20,7 @@ use pt_apply::{Plan, apply};
 use pt_check::{Answer, Recovered, check_known};
 use pt_layout::NoTable;
 use pt_planner::{Known, plan_from, read_known};
-use pt_sector::Disk;
+use pt_sector::{Disk, ReadCache, Room};
 use std::alloc::Global;
 
 /// What is told of a disk that denotes nothing. The reason is what the disk holds, and no failure; where it were one,
@@ -82,6 +82,25 @@ pub fn plan_for_repair<const B: usize, D: Disk<B>>(
     ensures planned { D.tells → IfOk result (λ plan. IsMendPlan B (D.told disk.old).seen (phases_of plan)) }
     ensures refused { D.tells → IfErr result (IsMendRefusal B (D.told disk.old).seen) }
 {
+    let room = Room::for_cache(alloc)?;
+    let mut cache = ReadCache::new(disk, room);
+    read_and_mend(alloc, &mut cache)
+}
+
+/// The plan of [`plan_for_repair`], by a disk that may be asked for a sector more than once.
+fn read_and_mend<const B: usize, D: Disk<B>>(
+    alloc: Global,
+    disk: &mut D,
+) -> Result<Plan<B>, RepairError>
+    requires size { IsSectorSize B }
+    ensures same { OnlyReads D.Disk disk.old disk.new }
+    ensures blames { Blames fault_in result (D.faults disk.old) (D.faults disk.new) }
+    ensures hides { IfErr result MendHidesNoFailure }
+    ensures in_range { IfOk result (InRange (D.count disk.old)) }
+    ensures phases { IfOk result (λ plan. All (λ p. 0 < length p.items) plan.phases.items) }
+    ensures planned { D.tells → IfOk result (λ plan. IsMendPlan B (D.told disk.old).seen (phases_of plan)) }
+    ensures refused { D.tells → IfErr result (IsMendRefusal B (D.told disk.old).seen) }
+{
     let read = read_known(alloc, disk)?;
     mended(alloc, disk, &read.0, read.1)
 }
@@ -110,6 +129,24 @@ fn checked<const B: usize, D: Disk<B>>(
 
 /// The same plan, once the checker has accepted it. Nothing is flushed or written.
 pub fn checked_plan_for_repair<const B: usize, D: Disk<B>>(
+    alloc: Global,
+    disk: &mut D,
+) -> Result<Plan<B>, RepairError>
+    requires size { IsSectorSize B }
+    ensures same { OnlyReads D.Disk disk.old disk.new }
+    ensures blames { Blames fault_in result (D.faults disk.old) (D.faults disk.new) }
+    ensures hides { IfErr result MendHidesNoFailure }
+    ensures in_range { IfOk result (InRange (D.count disk.old)) }
+    ensures ready { D.tells → IfOk result (λ plan. IsReadyToMend B (D.told disk.old).seen (phases_of plan)) }
+    ensures refused { D.tells → IfErr result (IsMendRefusal B (D.told disk.old).seen) }
+{
+    let room = Room::for_cache(alloc)?;
+    let mut cache = ReadCache::new(disk, room);
+    read_mend_and_check(alloc, &mut cache)
+}
+
+/// The plan of [`checked_plan_for_repair`], by a disk that may be asked for a sector more than once.
+fn read_mend_and_check<const B: usize, D: Disk<B>>(
     alloc: Global,
     disk: &mut D,
 ) -> Result<Plan<B>, RepairError>

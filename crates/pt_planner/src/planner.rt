@@ -17,7 +17,7 @@ use crate::plans::{places_of, to_gpt, to_mbr};
 use crate::state::{is_done, is_same, may_be};
 use pt_apply::Plan;
 use pt_layout::{Body, Layout, unsound};
-use pt_sector::Disk;
+use pt_sector::{Disk, ReadCache, Room};
 use pt_targets::PlanError;
 use std::alloc::Global;
 
@@ -80,6 +80,25 @@ pub fn plan_from<const B: usize, D: Disk<B>>(
 /// ascend. Where an MBR becomes another one, or labels alone change, the changed sectors that recovery doesn't read come
 /// first, and then the one that it reads, alone.
 pub fn make_plan<const B: usize, D: Disk<B>>(
+    alloc: Global,
+    disk: &mut D,
+    wanted: &Layout,
+) -> Result<Plan<B>, PlanError>
+    requires size { IsSectorSize B }
+    ensures same { OnlyReads D.Disk disk.old disk.new }
+    ensures blames { Blames fault_in result (D.faults disk.old) (D.faults disk.new) }
+    ensures in_range { IfOk result (InRange (D.count disk.old)) }
+    ensures some { IfOk result (λ plan. All (λ p. 0 < length p.items) plan.phases.items) }
+    ensures plan { D.tells → IfOk result (λ plan. IsPlan B (D.told disk.old).seen wanted.now (phases_of plan)) }
+    ensures err { D.tells → IfErr result (Unplanned B (D.told disk.old).seen wanted.now) }
+{
+    let room = Room::for_cache(alloc)?;
+    let mut cache = ReadCache::new(disk, room);
+    read_and_plan(alloc, &mut cache, wanted)
+}
+
+/// The same plan, by a disk that may be asked for a sector more than once.
+fn read_and_plan<const B: usize, D: Disk<B>>(
     alloc: Global,
     disk: &mut D,
     wanted: &Layout,

@@ -13,6 +13,7 @@ mod overlay;
 mod own;
 mod pending;
 mod put;
+mod read_cache;
 mod reading;
 mod room;
 mod stop;
@@ -26,5 +27,8 @@ pub use moments::Moments;
 pub use overlay::Overlay;
 #[doc(hidden)]
 pub use own::Own;
+#[doc(hidden)]
+pub use read_cache::KeepsSectors;
+pub use read_cache::ReadCache;
 pub use reading::{FailedRead, Failure, read_sector};
 pub use room::Room;

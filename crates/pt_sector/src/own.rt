@@ -31,6 +31,14 @@ impl<const B: usize> Own<B> {
         Ok(Own { puts, room })
     }
 
+    /// Gives up all sectors, and keeps the room for them.
+    pub(crate) fn clear(&mut self)
+        ensures puts { self.new.puts.items ≡ [] }
+        ensures room { self.new.room ≡ self.old.room }
+    {
+        self.puts.clear();
+    }
+
     /// The bytes of a sector, if it has some.
     pub(crate) fn get(&self, lba: Lba, into: &mut [u8; B]) -> bool
         ensures { (v : List ℕ) → value_after (puts_as_writes self.now.puts.items) lba.0 v ≡ (if result then into.new else v) }

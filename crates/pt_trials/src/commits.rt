@@ -516,14 +516,18 @@ fn phases_of_rename(alloc: Global) -> Result<[usize; 5], Fail> {
     Ok(counts(&plan_for(alloc, &mut disk, &edits, &[])?))
 }
 
-// The first call is a flush, and then come 105 reads: the survey reads sector 0 and both sides of the table once (67), the
-// survey of the finished disk one sector, and the recovery of the disk after each phase 34, 1, 1 and 1. There are 67 writes,
-// and a flush follows each of the four phases.
+// The first call is a flush, and then come 67 reads: sector 0 and both sides of the table, each sector once. What is read again,
+// for the finished disk and for the disk after each phase, is kept. There are 67 writes, and a flush follows each of the four
+// phases.
 #[test]
 fn a_commit_reads_little(rt: HostRuntime) -> Result<(), Fail> {
     assert!(rt; phases_of_rename(rt.alloc())? == [33, 1, 32, 1, 0]);
-    let after_reads = rename_with_failure(rt.alloc(), 107)?;
+    let last_read = rename_with_failure(rt.alloc(), 68)?;
+    assert!(rt; matches!(last_read, Err(CommitError::Device(Fault::Read(_)))));
+    let after_reads = rename_with_failure(rt.alloc(), 69)?;
     assert!(rt; matches!(after_reads, Err(CommitError::Device(Fault::Write(_)))));
-    assert!(rt; rename_with_failure(rt.alloc(), 178)? == Ok(()));
+    let last_flush = rename_with_failure(rt.alloc(), 139)?;
+    assert!(rt; last_flush == Err(CommitError::Device(Fault::Flush)));
+    assert!(rt; rename_with_failure(rt.alloc(), 140)? == Ok(()));
     Ok(())
 }

@@ -1,7 +1,7 @@
 ghost use Rattle.std.specs.Prelude.{◌≡◌, ◌<◌, ◌*◌, ◌≤◌, ◌^◌, IfOk};
 ghost use Rattle.pt_sector.specs.Sectors.{IsSectorSize};
 
-use pt_sector::{CrashDisk, Disk, Extent, Fault, Lba, MemDisk, Overlay, Room};
+use pt_sector::{CrashDisk, Disk, Extent, Fault, Lba, MemDisk, Overlay, ReadCache, Room};
 use std::alloc::{AllocError, Global};
 
 /// What a sector of equal bytes holds; none too where there is no such sector.
@@ -228,6 +228,59 @@ fn a_read_fails_where_it_is_set(rt: HostRuntime) {
     let mut disk = CrashDisk::new(rt.alloc(), 4, 1).expect(&rt, "memory");
     let reads = [Ok(Some(0)), Err(Fault::Read(Lba(3))), Ok(Some(0))];
     assert!(rt; read_thrice(&mut disk) == (reads, Ok(())));
+}
+
+/// What a cache answers over a disk whose third call is set to fail: sector 3 three times, then sector 4 twice.
+fn read_through(disk: &mut CrashDisk<512>, room: Room<512>) -> [Read; 5] {
+    disk.fail_at(3, false);
+    let mut cache = ReadCache::new(disk, room);
+    [
+        byte_at(&mut cache, 3),
+        byte_at(&mut cache, 3),
+        byte_at(&mut cache, 3),
+        byte_at(&mut cache, 4),
+        byte_at(&mut cache, 4),
+    ]
+}
+
+/// The same with room for so many sectors.
+fn in_room_for(alloc: Global, sectors: usize) -> Result<[Read; 5], AllocError> {
+    let room = Room::new(alloc, sectors)?;
+    let mut disk: CrashDisk<512> = CrashDisk::new(alloc, 8, 2)?;
+    Ok(read_through(&mut disk, room))
+}
+
+#[test]
+fn a_cache_asks_once_while_it_has_room(rt: HostRuntime) {
+    let held = Ok(Some(0));
+    assert!(rt; in_room_for(rt.alloc(), 2) == Ok([held; 5]));
+    let failed = Err(Fault::Read(Lba(4)));
+    assert!(rt; in_room_for(rt.alloc(), 1) == Ok([held, held, held, held, failed]));
+    let failed = Err(Fault::Read(Lba(3)));
+    assert!(rt; in_room_for(rt.alloc(), 0) == Ok([held, held, failed, held, held]));
+}
+
+/// What the sectors then hold.
+const HELD: [Read; 3] = [Ok(Some(0)), Ok(Some(9)), Ok(Some(8))];
+
+/// What a cache of the usual room answers over each kind of disk, and what the disk in memory then holds.
+fn through_a_cache<const B: usize>(
+    alloc: Global,
+) -> Result<(Exercise, Exercise, [Read; 3]), AllocError>
+    requires { IsSectorSize B }
+{
+    let (room, again) = (Room::for_cache(alloc)?, Room::for_cache(alloc)?);
+    let mut memory: MemDisk<B> = MemDisk::new(alloc, 8)?;
+    let mut crash: CrashDisk<B> = CrashDisk::new(alloc, 8, 3)?;
+    let first = exercise(&mut ReadCache::new(&mut memory, room));
+    let second = exercise(&mut ReadCache::new(&mut crash, again));
+    Ok((first, second, three_of(&mut memory)))
+}
+
+#[test]
+fn a_cache_writes_through(rt: HostRuntime) {
+    assert!(rt; through_a_cache::<512>(rt.alloc()) == Ok((DONE, DONE, HELD)));
+    assert!(rt; through_a_cache::<4096>(rt.alloc()) == Ok((DONE, DONE, HELD)));
 }
 
 #[test]

@@ -1,4 +1,4 @@
-use Rattle.pt_plan.proofs.prepare.plan_for.Goals as goal
+use Rattle.pt_plan.proofs.prepare.read_and_plan.Goals as goal
 
 pub returns-clause-planned : goal.returns-clause-planned
 returns-clause-planned g c = λ tells.

@@ -1,0 +1,128 @@
+#!/usr/bin/env python3
+"""Counts the sectors that a call asks the image for: an edit, a plan, a check and a repair read no sector twice, whether they are done or
+refused, on tables of every kind and both sector sizes. A rename in a GPT reads at most 140 sectors and writes 67.
+
+usage: tests/reads.py PTAB
+"""
+import collections
+import os
+import re
+import subprocess
+import sys
+import tempfile
+from concurrent.futures import ThreadPoolExecutor
+
+from images import FREEBSD, LARGE, SMALL, ebr, entry, guid, label, record
+
+CALL = re.compile(r"(lseek|read|write)\(\d+<[^>]*/image>.* = (\d+)$", re.MULTILINE)
+FRESH = bytes(range(16)).hex()
+EDITS = (["c:1:root"], ["n:0:0:0"], ["d:1"], ["t:1:8300"], ["g"], ["o"], ["n:1.b:0:+3"], ["d:1.a"], ["d:5"], ["t:9:8300"])
+
+
+def fail(*told):
+    sys.exit("reads: " + " ".join(str(it) for it in told))
+
+
+def gpts(sectors):
+    count = 4 * sectors.array + 300
+    first = sectors.array + 2
+    one = {1: entry(first, first + 9, name="data"), 2: entry(first + 20, first + 120, FREEBSD, guid(2))}
+    whole = sectors.gpt(count, one)
+    sectors.put(whole, first + 21, label(101, {0: (30, 16, 7)}))
+    yield "a GPT with a label", whole
+    for name, lba in (("its primary copy", 1), ("its backup copy", count - 1)):
+        broken = bytearray(whole)
+        sectors.put(broken, lba, bytes(sectors.size))
+        yield f"a GPT without {name}", broken
+
+
+def mbrs(sectors):
+    sliced = sectors.mbr(400, [record(0xA5, 10, 100), record(0x83, 120, 30, 0x80), record(0xA5, 150, 200)])
+    for first in (10, 150):
+        sectors.put(sliced, first + 1, label(100, {0: (30, 16, 7)}))
+    yield "an MBR with labels", sliced
+    for steps in (1, 40):
+        chain = sectors.mbr(12 + 25 * (steps + 2), [record(0x83, 1, 9), record(0x05, 10, 25 * (steps + 2))])
+        for k in range(steps):
+            link = record(0x05, 25 * (k + 1), 25) if k + 1 < steps else bytes(16)
+            sectors.put(chain, 10 + 25 * k, ebr(record(0xA5, 1, 24), link))
+            sectors.put(chain, 10 + 25 * k + 2, label(24, {0: (4, 16, 7)}))
+        yield f"an MBR with {steps} logical partitions", chain
+
+
+def sectors_of(calls, size):
+    """How often each sector was read, and how many were written, by the calls of one file, whose place each of them moves."""
+    read, wrote, at = collections.Counter(), 0, 0
+    for name, result in CALL.findall(calls):
+        if name == "lseek":
+            at = int(result)
+            continue
+        touched = range(at // size, -(-(at + int(result)) // size))
+        at += int(result)
+        if name == "read":
+            read.update(touched)
+        else:
+            wrote += len(touched)
+    return read, wrote
+
+
+class Counted:
+    """The command, with its calls on an image counted."""
+
+    def __init__(self, ptab, folder):
+        self.ptab, self.folder, self.passed = ptab, folder, 0
+        self.path = os.path.join(folder, "image")
+
+    def run(self, what, sectors, image, command, words):
+        """(what it said, how often it read each sector, how many it wrote)"""
+        with open(self.path, "wb") as file:
+            file.write(image)
+        log = os.path.join(self.folder, "calls")
+        size = ["--sector-size", str(sectors.size)]
+        done = subprocess.run(["strace", "-y", "-e", "trace=lseek,read,write", "-o", log, self.ptab, command, *size, self.path, *words],
+                              stdin=subprocess.DEVNULL, capture_output=True, check=False)
+        with open(log, encoding="utf-8", errors="replace") as file:
+            read, wrote = sectors_of(file.read(), sectors.size)
+        if not read:
+            fail(what, command, words, "no read was counted", done.stderr)
+        return done.stdout, read, wrote
+
+    def file(self, plan):
+        path = os.path.join(self.folder, "plan")
+        with open(path, "wb") as file:
+            file.write(plan)
+        return path
+
+    def once(self, what, sectors, image, command, words=()):
+        said, read, wrote = self.run(what, sectors, image, command, words)
+        twice = {lba: times for lba, times in read.items() if times > 1}
+        if twice:
+            fail(what, command, *words, "sectors read more than once:", twice)
+        self.passed += 1
+        return said, sum(read.values()), wrote
+
+
+def counted(ptab, sectors):
+    with tempfile.TemporaryDirectory() as folder:
+        it = Counted(ptab, folder)
+        for what, image in [*gpts(sectors), *mbrs(sectors)]:
+            it.once(what, sectors, image, "repair")
+            for words in EDITS:
+                fresh = ["--fresh", FRESH]
+                plan, _, _ = it.once(what, sectors, image, "plan", [*fresh, *words])
+                it.once(what, sectors, image, "check", [it.file(plan)])
+                _, read, wrote = it.once(what, sectors, image, "edit", [*fresh, *words])
+                if sectors is SMALL and what == "a GPT with a label" and words == ["c:1:root"] and not (read <= 140 and wrote == 67):
+                    fail(what, words, f"{read} sectors read, {wrote} written")
+        return it.passed
+
+
+def main():
+    if len(sys.argv) != 2:
+        sys.exit("usage: tests/reads.py PTAB")
+    with ThreadPoolExecutor(2) as lanes:
+        passed = sum(lanes.map(lambda sectors: counted(sys.argv[1], sectors), (SMALL, LARGE)))
+    print(f"sectors read once: {passed} passed, 0 failed")
+
+
+main()
