@@ -180,13 +180,13 @@ fn failing(alloc: Global, disk: &mut CrashDisk<512>, call: u64) -> Result<Answer
     check(alloc, disk, &plan)
 }
 
+// Three sectors decide, and each is read once: sector 0, and where the two headers would be.
 #[test]
 fn a_failed_read(rt: HostRuntime) {
     let mut disk = CrashDisk::new(rt.alloc(), SECTORS, 4).expect(&rt, "memory");
-    for call in 1..5 {
-        let answer = failing(rt.alloc(), &mut disk, call);
-        assert!(rt; matches!(answer, Err(CheckError::Device(_))));
+    for (call, lba) in [(1, 0), (2, 1), (3, SECTORS - 1)] {
+        let want = CheckError::Device(Fault::Read(Lba(lba)));
+        assert!(rt; failing(rt.alloc(), &mut disk, call) == Err(want));
     }
-    let want = CheckError::Device(Fault::Read(Lba(0)));
-    assert!(rt; failing(rt.alloc(), &mut disk, 1) == Err(want));
+    assert!(rt; failing(rt.alloc(), &mut disk, 4).is_ok());
 }
