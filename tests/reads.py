@@ -1,6 +1,7 @@
 #!/usr/bin/env python3
 """Counts the sectors that a call asks the image for: an edit, a plan, a check and a repair read no sector twice, whether they are done or
-refused, on tables of every kind and both sector sizes. A rename in a GPT reads at most 140 sectors and writes 67.
+refused, on tables of every kind and both sector sizes. On each of them edits of several kinds are done. A rename in a GPT reads at most 140
+sectors and writes 67.
 
 usage: tests/reads.py PTAB
 """
@@ -16,7 +17,13 @@ from images import FREEBSD, LARGE, SMALL, ebr, entry, guid, label, record
 
 CALL = re.compile(r"(lseek|read|write)\(\d+<[^>]*/image>.* = (\d+)$", re.MULTILINE)
 FRESH = bytes(range(16)).hex()
-EDITS = (["c:1:root"], ["n:0:0:0"], ["d:1"], ["t:1:8300"], ["g"], ["o"], ["n:1.b:0:+3"], ["d:1.a"], ["d:5"], ["t:9:8300"])
+REFUSED = 3
+# the edits that are done on tables of each kind; the others are refused there, and with sectors of 4096 bytes those of a label's partition
+ON_ENTRIES = ("c:1:root", "a:1 n:0:0:0", "a:1 n:5:0:0", "d:1", "t:1:8200", "o")
+ON_RECORDS = ("a:1 n:0:0:0", "d:1")
+ON_LABELS = ("a:1 n:1.b:0:+3", "d:1.a", "t:1.a:02")
+ON_CHAINS = ("a:1 n:5:0:0", "d:5", "d:5.a", "t:5.a:02")
+EDITS = dict.fromkeys((*ON_ENTRIES, "d:2.a", *ON_LABELS, *ON_CHAINS, "g", "t:9:8300"))
 
 
 def fail(*told):
@@ -24,30 +31,33 @@ def fail(*told):
 
 
 def gpts(sectors):
+    """(what it is, the image, the edits that are done on it) of each GPT"""
     count = 4 * sectors.array + 300
     first = sectors.array + 2
     one = {1: entry(first, first + 9, name="data"), 2: entry(first + 20, first + 120, FREEBSD, guid(2))}
     whole = sectors.gpt(count, one)
     sectors.put(whole, first + 21, label(101, {0: (30, 16, 7)}))
-    yield "a GPT with a label", whole
+    yield "a GPT with a label", whole, (*ON_ENTRIES, "d:2.a")
     for name, lba in (("its primary copy", 1), ("its backup copy", count - 1)):
         broken = bytearray(whole)
         sectors.put(broken, lba, bytes(sectors.size))
-        yield f"a GPT without {name}", broken
+        yield f"a GPT without {name}", broken, ON_ENTRIES
 
 
 def mbrs(sectors):
+    """(what it is, the image, the edits that are done on it) of each MBR"""
     sliced = sectors.mbr(400, [record(0xA5, 10, 100), record(0x83, 120, 30, 0x80), record(0xA5, 150, 200)])
-    for first in (10, 150):
-        sectors.put(sliced, first + 1, label(100, {0: (30, 16, 7)}))
-    yield "an MBR with labels", sliced
+    for first, length in ((10, 100), (150, 200)):
+        sectors.put(sliced, first + 1, label(length, {0: (30, 16, 7)}))
+    # a GPT's first copy takes sectors 1 to 33, or 1 to 5 of 4096 bytes
+    yield "an MBR with labels", sliced, (*ON_RECORDS, *ON_LABELS, *(["o"] if sectors is LARGE else []))
     for steps in (1, 40):
         chain = sectors.mbr(12 + 25 * (steps + 2), [record(0x83, 1, 9), record(0x05, 10, 25 * (steps + 2))])
         for k in range(steps):
             link = record(0x05, 25 * (k + 1), 25) if k + 1 < steps else bytes(16)
             sectors.put(chain, 10 + 25 * k, ebr(record(0xA5, 1, 24), link))
             sectors.put(chain, 10 + 25 * k + 2, label(24, {0: (4, 16, 7)}))
-        yield f"an MBR with {steps} logical partitions", chain
+        yield f"an MBR with {steps} logical partitions", chain, (*ON_RECORDS, *ON_CHAINS)
 
 
 def sectors_of(calls, size):
@@ -74,7 +84,7 @@ class Counted:
         self.path = os.path.join(folder, "image")
 
     def run(self, what, sectors, image, command, words):
-        """(what it said, how often it read each sector, how many it wrote)"""
+        """(how it ended and what it said, how often it read each sector, how many it wrote)"""
         with open(self.path, "wb") as file:
             file.write(image)
         log = os.path.join(self.folder, "calls")
@@ -85,7 +95,7 @@ class Counted:
             read, wrote = sectors_of(file.read(), sectors.size)
         if not read:
             fail(what, command, words, "no read was counted", done.stderr)
-        return done.stdout, read, wrote
+        return done, read, wrote
 
     def file(self, plan):
         path = os.path.join(self.folder, "plan")
@@ -93,27 +103,34 @@ class Counted:
             file.write(plan)
         return path
 
-    def once(self, what, sectors, image, command, words=()):
-        said, read, wrote = self.run(what, sectors, image, command, words)
+    def once(self, what, sectors, image, command, words=(), status=0):
+        """(what it said, how many sectors it read, how many it wrote) of a call that ends with this status"""
+        done, read, wrote = self.run(what, sectors, image, command, words)
+        if done.returncode != status:
+            fail(what, command, *words, f"ended with {done.returncode}", done.stderr)
         twice = {lba: times for lba, times in read.items() if times > 1}
         if twice:
             fail(what, command, *words, "sectors read more than once:", twice)
         self.passed += 1
-        return said, sum(read.values()), wrote
+        return done.stdout, sum(read.values()), wrote
 
 
 def counted(ptab, sectors):
     with tempfile.TemporaryDirectory() as folder:
         it = Counted(ptab, folder)
-        for what, image in [*gpts(sectors), *mbrs(sectors)]:
+        for what, image, done in [*gpts(sectors), *mbrs(sectors)]:
             it.once(what, sectors, image, "repair")
-            for words in EDITS:
-                fresh = ["--fresh", FRESH]
-                plan, _, _ = it.once(what, sectors, image, "plan", [*fresh, *words])
-                it.once(what, sectors, image, "check", [it.file(plan)])
-                _, read, wrote = it.once(what, sectors, image, "edit", [*fresh, *words])
-                if sectors is SMALL and what == "a GPT with a label" and words == ["c:1:root"] and not (read <= 140 and wrote == 67):
-                    fail(what, words, f"{read} sectors read, {wrote} written")
+            for edits in EDITS:
+                is_done = edits in done and (sectors is SMALL or "." not in edits)
+                words, status = ["--fresh", FRESH, *edits.split()], 0 if is_done else REFUSED
+                plan, _, _ = it.once(what, sectors, image, "plan", words, status)
+                if is_done:
+                    it.once(what, sectors, image, "check", [it.file(plan)])
+                _, read, wrote = it.once(what, sectors, image, "edit", words, status)
+                if sectors is SMALL and what == "a GPT with a label" and edits == "c:1:root" and not (read <= 140 and wrote == 67):
+                    fail(what, edits, f"{read} sectors read, {wrote} written")
+                if (wrote > 0) != is_done:
+                    fail(what, edits, f"{wrote} sectors written")
         return it.passed
 
 
