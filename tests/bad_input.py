@@ -3,7 +3,6 @@
 
 usage: tests/bad_input.py PTAB
 """
-import hashlib
 import os
 import shutil
 import subprocess
@@ -16,23 +15,23 @@ MOST = 8 * 1024 * 1024
 checked = 0
 
 
-def digest(path):
+def content(path):
     if not os.path.isfile(path):
         return None
     with open(path, "rb") as it:
-        return hashlib.sha256(it.read()).hexdigest()
+        return it.read()
 
 
 def expect(ptab, words, image, out, err, status):
     global checked
-    before = digest(image)
+    before = content(image)
     done = subprocess.run([ptab, *words], capture_output=True, text=True)
     if err is None and not done.stderr:
         sys.exit(f"ptab {' '.join(words)} says nothing on standard error")
     found = (done.stdout, done.stderr if err is not None else None, done.returncode)
     if found != (out, err, status):
         sys.exit(f"ptab {' '.join(words)}:\n  found  {found}\n  wanted {(out, err, status)}\n{done.stderr}")
-    if digest(image) != before:
+    if content(image) != before:
         sys.exit(f"ptab {' '.join(words)} changed {image}")
     checked += 1
 
@@ -209,7 +208,7 @@ def read_only(ptab, folder):
                 sys.exit(f"ptab {' '.join(words)} of an image with mode {mode:o}: {done.stdout}{done.stderr}status {done.returncode}")
             checked += 1
     os.chmod(image, 0o600)
-    if digest(image) != hashlib.sha256(one_partition()).hexdigest():
+    if content(image) != one_partition():
         sys.exit("an image that is for reading was changed")
 
 

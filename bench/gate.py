@@ -1,0 +1,130 @@
+#!/usr/bin/env python3
+"""Runs build.sh or test.sh in an empty clone of what is committed here, and prints how long it took, what it took of the processors, and
+what other machines took of them meanwhile; then the chain of crates that the rest waited for, and what each crate took. Run it with
+nothing else running.
+
+usage: bench/gate.py build.sh|test.sh
+
+`rt ci` keeps on a machine what it has proved. So test.sh begins from nothing only on a machine that has kept nothing of this tree: the
+line `rt: ok` among what it prints says what was done.
+"""
+import collections
+import os
+import resource
+import subprocess
+import sys
+import tempfile
+import threading
+import time
+
+ROOT = os.path.dirname(os.path.dirname(os.path.abspath(__file__)))
+TICK = os.sysconf("SC_CLK_TCK")
+# A process of the prover shorter than this is missed, and of the others that much of their end.
+SECONDS = 1
+# The column of /proc/stat that has what others took.
+STOLEN = 7
+
+
+class Check:
+    """One process of the prover: when it began and was last seen, in seconds, and what it took of the processors."""
+
+    def __init__(self, words, folder, began):
+        self.crate = words[words.index("--crate-name") + 1]
+        self.kind = "tests" if "--test" in words else "wrong bodies" if "rt-edit" in folder else "proof"
+        self.began = began
+        self.ended = began
+        self.took = 0
+
+
+def look(checks, began):
+    """Adds what can be seen of the prover's processes now."""
+    for pid in filter(str.isdigit, os.listdir("/proc")):
+        try:
+            with open(f"/proc/{pid}/stat", encoding="utf-8", errors="replace") as it:
+                name, _, fields = it.read().partition("(")[2].rpartition(")")
+            if name != "rattle":
+                continue
+            fields, now = fields.split(), time.monotonic() - began
+            key = pid, fields[19]
+            if key not in checks:
+                with open(f"/proc/{pid}/cmdline", encoding="utf-8", errors="replace") as it:
+                    words = it.read().split("\0")
+                if "--crate-name" not in words:
+                    continue
+                checks[key] = Check(words, os.readlink(f"/proc/{pid}/cwd"), now)
+            checks[key].ended = now
+            checks[key].took = (int(fields[11]) + int(fields[12])) / TICK
+        except OSError:
+            # it has ended meanwhile
+            pass
+
+
+def processors():
+    """The ticks of all processors so far, and those that other machines took."""
+    with open("/proc/stat", encoding="ascii") as it:
+        ticks = [int(it) for it in it.readline().split()[1:9]]
+    return sum(ticks), ticks[STOLEN]
+
+
+def below(root):
+    """The libraries of the repository that each crate names."""
+    with open(f"{root}/crates.txt", encoding="utf-8") as it:
+        lines = [line.partition("#")[0].partition(":") for line in it]
+    named = {left.split()[0]: right.split() for left, _, right in lines if left.strip()}
+    return {crate: [it for it in names if it in named] for crate, names in named.items()}
+
+
+def chain(checks, deps):
+    """From the crate that was proved last to one that waits for none: each time the one below it that was proved last."""
+    proofs = [it for it in checks if it.kind == "proof" and it.crate in deps]
+    began = {it.crate: min(other.began for other in proofs if other.crate == it.crate) for it in proofs}
+    ended = {it.crate: max(other.ended for other in proofs if other.crate == it.crate) for it in proofs}
+    found, crates = [], list(ended)
+    while crates:
+        last = max(crates, key=ended.get)
+        found.append(f"{last} {began[last]:.0f}")
+        crates = [it for it in deps[last] if it in ended]
+    return found[::-1]
+
+
+def show(checks, deps):
+    print(f"waited for, and when each began: {', '.join(chain(checks, deps))}")
+    took = collections.Counter()
+    for it in checks:
+        took[it.crate, it.kind] += it.took
+    for (crate, kind), seconds in took.most_common():
+        print(f"  {seconds:6.0f} s  {crate}: {kind}")
+    kinds = collections.Counter()
+    for (_, kind), seconds in took.items():
+        kinds[kind] += seconds
+    print(", ".join(f"{kind} {seconds / 60:.0f} min" for kind, seconds in kinds.most_common()))
+
+
+def main():
+    if len(sys.argv) != 2 or sys.argv[1] not in ("build.sh", "test.sh"):
+        sys.exit(__doc__)
+    checks = {}
+    with tempfile.TemporaryDirectory() as room:
+        subprocess.run(["git", "clone", "--quiet", ROOT, f"{room}/clone"], check=True)
+        done, began, before = threading.Event(), time.monotonic(), processors()
+
+        def watch():
+            while not done.wait(SECONDS):
+                look(checks, began)
+
+        watching = threading.Thread(target=watch)
+        watching.start()
+        status = subprocess.run([f"./{sys.argv[1]}"], cwd=f"{room}/clone").returncode
+        took, after = time.monotonic() - began, processors()
+        done.set()
+        watching.join()
+        used = resource.getrusage(resource.RUSAGE_CHILDREN)
+        deps = below(f"{room}/clone")
+    whole, stolen = after[0] - before[0], after[1] - before[1]
+    print(f"{sys.argv[1]}, status {status}: {took // 60:.0f} min {took % 60:.0f} s; {(used.ru_utime + used.ru_stime) / 60:.0f} minutes of "
+          f"{os.cpu_count()} processors, of which others took {100 * stolen / max(whole, 1):.1f} %")
+    show(checks.values(), deps)
+    sys.exit(status)
+
+
+main()
