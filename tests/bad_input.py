@@ -7,9 +7,8 @@ import os
 import shutil
 import subprocess
 import sys
-import tempfile
 
-from images import one_partition
+from images import one_partition, room
 
 MOST = 8 * 1024 * 1024
 checked = 0
@@ -214,7 +213,7 @@ def read_only(ptab, folder):
 
 def main():
     ptab = os.path.abspath(sys.argv[1])
-    with tempfile.TemporaryDirectory() as folder:
+    with room() as folder:
         read_only(ptab, folder)
         not_images(ptab, folder)
         image = gpt(folder)

@@ -14,14 +14,13 @@ import re
 import shutil
 import subprocess
 import sys
-import tempfile
 
 HERE = os.path.dirname(os.path.abspath(__file__))
 ROOT = os.path.dirname(HERE)
 sys.path[:0] = [HERE, os.path.join(ROOT, "bindings", "python")]
 import images
 import ptab as lib
-from images import LARGE, SMALL
+from images import LARGE, SMALL, room
 from writes import choices, written
 
 
@@ -463,8 +462,7 @@ def in_rust(folder):
 def main():
     ptab, archive = os.path.abspath(sys.argv[1]), os.path.abspath(sys.argv[2])
     count = int(sys.argv[3]) if len(sys.argv) > 3 else 1000
-    memory = "/dev/shm" if os.access("/dev/shm", os.W_OK) else None
-    with tempfile.TemporaryDirectory(dir=memory) as folder:
+    with room() as folder:
         shared, refusing, example = built(archive, folder)
         it = lib.Ptab(shared)
         runs = beside(it, ptab, folder, count)

@@ -1,10 +1,10 @@
 """What all eight commands answer on one image, sound, unsound or without a table."""
 import os
-import tempfile
 from concurrent.futures import ProcessPoolExecutor
 
 from command import Command
 from doubles import Doubles
+from images import room
 from plans import checks, lay, plan_file, same
 
 
@@ -48,8 +48,7 @@ def run(rows, ptab, doubles):
     """How many answers were compared, with what the rows say and with the plain versions'."""
     Command.checked = 0
     Command.doubles = Doubles(doubles) if doubles else None
-    memory = "/dev/shm" if os.access("/dev/shm", os.W_OK) else None
-    with tempfile.TemporaryDirectory(dir=memory) as folder:
+    with room() as folder:
         rows(Command(ptab, f"{folder}/image"))
     return Command.checked, Command.doubles.checked if doubles else 0
 

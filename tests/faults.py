@@ -20,11 +20,6 @@ def library(name, folder):
     return path
 
 
-def place():
-    """A folder for images, in memory where there is room."""
-    return "/dev/shm" if os.access("/dev/shm", os.W_OK) else None
-
-
 class Failing:
     """The command with the library before it, its numbers in a file beside the image, and its streams in two files."""
 

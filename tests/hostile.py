@@ -12,11 +12,10 @@ import random
 import re
 import struct
 import sys
-import tempfile
 import zlib
 
 import images
-from images import LARGE, SMALL, ebr, entry, guid, label, record
+from images import LARGE, SMALL, ebr, entry, guid, label, record, room
 
 NUMBER = r"\d+"
 PLACE = r"\d+(\.[a-h])?"
@@ -246,8 +245,7 @@ def main():
     ptab = os.path.abspath(sys.argv[1])
     count = int(sys.argv[2]) if len(sys.argv) > 2 else 100_000
     workers = int(sys.argv[3]) if len(sys.argv) > 3 else os.cpu_count() or 1
-    memory = "/dev/shm" if os.access("/dev/shm", os.W_OK) else None
-    with tempfile.TemporaryDirectory(dir=memory) as folder, multiprocessing.Pool(workers) as pool:
+    with room() as folder, multiprocessing.Pool(workers) as pool:
         size = 100
         jobs = [(ptab, seed, size, f"{folder}/image{seed}") for seed in range((count + size - 1) // size)]
         for finished, done in enumerate(pool.imap_unordered(batch, jobs), 1):

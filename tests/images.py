@@ -1,5 +1,7 @@
 """Disk images by docs/format.md, made byte by byte and with none of the product's code, for both sector sizes."""
+import os
 import struct
+import tempfile
 import uuid
 import zlib
 
@@ -59,6 +61,11 @@ def label(length, entries, raw_offset=0, count=8, checksum=None, sector_size=512
 
 def checksum_of(label_bytes):
     return struct.unpack_from("<H", label_bytes, 136)[0]
+
+
+def room():
+    """A folder for images that goes with the block that it is for, in memory where that can be."""
+    return tempfile.TemporaryDirectory(dir="/dev/shm" if os.access("/dev/shm", os.W_OK) else None)
 
 
 class Sectors:

@@ -17,6 +17,7 @@ from concurrent.futures import ProcessPoolExecutor
 
 import faults
 from faults import Failing, fail
+from images import room
 from plans import phases_of
 
 ALL = 2 ** 32 - 1
@@ -162,7 +163,7 @@ def full_streams(ptab, disk):
     what was done stands."""
     name, _, image, words = disk
     image, runs = bytes(image), 0
-    with tempfile.TemporaryDirectory(dir=faults.place()) as folder, open("/dev/full", "wb") as full:
+    with room() as folder, open("/dev/full", "wb") as full:
         it = Failing(ptab, "", folder)
         it.put(image)
         it.write_plan(it.run(("plan", it.path, *words))[0])
@@ -193,7 +194,7 @@ def on_disk(ptab, loaded, disk, command, step, whole):
     name, sectors, image, words = disk
     image, size = bytes(image), ("--sector-size", str(sectors.size))
     rest, writing = lines(words)[command]
-    with tempfile.TemporaryDirectory(dir=faults.place()) as folder:
+    with room() as folder:
         it = Failing(ptab, loaded, folder)
         it.put(image)
         if rest is None:

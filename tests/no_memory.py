@@ -13,6 +13,7 @@ from concurrent.futures import ProcessPoolExecutor
 
 import faults
 from faults import Failing, fail
+from images import room
 
 ALL = 2 ** 32 - 1
 REFUSED = ("", "memory\n", 6)
@@ -56,7 +57,7 @@ def refuse(it, name, image, words, step):
 def on_disk(ptab, loaded, disk, step):
     name, sectors, image, words = disk
     image = bytes(image)
-    with tempfile.TemporaryDirectory(dir=faults.place()) as folder:
+    with room() as folder:
         it = Failing(ptab, loaded, folder)
         it.put(image)
         return [refuse(it, name, image, line, step) for line in list(commands(it, sectors, words))]

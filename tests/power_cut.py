@@ -11,12 +11,11 @@ import os
 import random
 import subprocess
 import sys
-import tempfile
 from concurrent.futures import ProcessPoolExecutor
 
 import images
 from damages import Gpt, damages, sliced
-from images import FREEBSD, LARGE, SMALL, ebr, entry, guid, label, one_partition, record
+from images import FREEBSD, LARGE, SMALL, ebr, entry, guid, label, one_partition, record, room
 from writes import choices, recorded, written
 
 FRESH = "--fresh 000102030405060708090a0b0c0d0e0f" + "0" * 32
@@ -247,8 +246,7 @@ def repairs():
 
 def cut_repairs(ptab, part, parts):
     """How many stopped images were looked at."""
-    memory = "/dev/shm" if os.access("/dev/shm", os.W_OK) else None
-    with tempfile.TemporaryDirectory(dir=memory) as folder:
+    with room() as folder:
         for damage, sectors in repairs()[part::parts]:
             repair_cut(ptab, folder, damage, sectors)
     return checked
@@ -256,8 +254,7 @@ def cut_repairs(ptab, part, parts):
 
 def cut_edits(ptab, sectors, table):
     """The same."""
-    memory = "/dev/shm" if os.access("/dev/shm", os.W_OK) else None
-    with tempfile.TemporaryDirectory(dir=memory) as folder:
+    with room() as folder:
         for name, image, words, counts, switch in table():
             cut(ptab, folder, name, image, words.split(" "), counts, switch, sectors)
     return checked

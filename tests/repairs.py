@@ -10,13 +10,12 @@ import hashlib
 import os
 import subprocess
 import sys
-import tempfile
 from concurrent.futures import ProcessPoolExecutor
 from itertools import islice
 
 import images
 from damages import damages, large_tables, small_tables
-from images import FREEBSD, LARGE, SMALL, chained, ebr, entry, guid, label, record
+from images import FREEBSD, LARGE, SMALL, chained, ebr, entry, guid, label, record, room
 from tools import by_fdisk, by_parted, by_sfdisk, must, run
 
 LONG_AGO = 1_000_000_000
@@ -84,7 +83,7 @@ def mended(ptab, number, part):
     """Every damage of a table whose number is `part`, modulo the workers'. How many answers were compared."""
     gpt = [*small_tables(), *large_tables()][number]
     seen = set()
-    with tempfile.TemporaryDirectory(dir="/dev/shm" if os.access("/dev/shm", os.W_OK) else None) as folder:
+    with room() as folder:
         it = Image(ptab, f"{folder}/image", gpt.sectors)
         it.put(gpt.image())
         it.gives(gpt.name, "verify", "yes\n")
@@ -109,7 +108,7 @@ def in_turn(ptab, number):
     """One copy is lost and mended, then the other: in both orders, and the image is as it was. Where both are lost, there is no table."""
     gpt = [*small_tables()][number]
     size, copy = gpt.sectors.size, (gpt.sectors.array + 1) * gpt.sectors.size
-    with tempfile.TemporaryDirectory(dir="/dev/shm" if os.access("/dev/shm", os.W_OK) else None) as folder:
+    with room() as folder:
         it = Image(ptab, f"{folder}/image", gpt.sectors)
         for order in (("primary", "backup", "primary"), ("backup", "primary", "backup")):
             image = gpt.image()
@@ -182,7 +181,7 @@ def refused(ptab, size):
     """Findings 7 to 11, alone and beside a damage that a repair mends; disks without a table; and MBR disks, on which
     nothing is to mend."""
     sectors = SMALL if size == 512 else LARGE
-    with tempfile.TemporaryDirectory(dir="/dev/shm" if os.access("/dev/shm", os.W_OK) else None) as folder:
+    with room() as folder:
         it = Image(ptab, f"{folder}/image", sectors)
         for name, image in [*unsound_gpts(sectors), *unsound_mbrs(sectors)]:
             it.put(image)
