@@ -14,15 +14,16 @@ import resource
 import subprocess
 import sys
 import tempfile
-import threading
 import time
 
 ROOT = os.path.dirname(os.path.dirname(os.path.abspath(__file__)))
 TICK = os.sysconf("SC_CLK_TCK")
-# A process of the prover shorter than this is missed, and of the others that much of their end.
+# How often it looks: a process of the prover that is shorter may be missed, and so is that much of the end of each.
 SECONDS = 1
 # The column of /proc/stat that has what others took.
 STOLEN = 7
+# The processes of the prover, and those with which it goes on where it may use more than one.
+PROVER = ("rattle", "antt-kernel")
 
 
 class Check:
@@ -37,14 +38,15 @@ class Check:
 
 
 def look(checks, began):
-    """Adds what can be seen of the prover's processes now."""
+    """Adds what can be seen now of the prover's processes, those of this session."""
+    session = str(os.getsid(0))
     for pid in filter(str.isdigit, os.listdir("/proc")):
         try:
             with open(f"/proc/{pid}/stat", encoding="utf-8", errors="replace") as it:
                 name, _, fields = it.read().partition("(")[2].rpartition(")")
-            if name != "rattle":
-                continue
             fields, now = fields.split(), time.monotonic() - began
+            if name not in PROVER or fields[3] != session:
+                continue
             key = pid, fields[19]
             if key not in checks:
                 with open(f"/proc/{pid}/cmdline", encoding="utf-8", errors="replace") as it:
@@ -106,18 +108,12 @@ def main():
     checks = {}
     with tempfile.TemporaryDirectory() as room:
         subprocess.run(["git", "clone", "--quiet", ROOT, f"{room}/clone"], check=True)
-        done, began, before = threading.Event(), time.monotonic(), processors()
-
-        def watch():
-            while not done.wait(SECONDS):
-                look(checks, began)
-
-        watching = threading.Thread(target=watch)
-        watching.start()
-        status = subprocess.run([f"./{sys.argv[1]}"], cwd=f"{room}/clone").returncode
-        took, after = time.monotonic() - began, processors()
-        done.set()
-        watching.join()
+        began, before = time.monotonic(), processors()
+        script = subprocess.Popen([f"./{sys.argv[1]}"], cwd=f"{room}/clone")
+        while script.poll() is None:
+            look(checks, began)
+            time.sleep(SECONDS)
+        took, after, status = time.monotonic() - began, processors(), script.returncode
         used = resource.getrusage(resource.RUSAGE_CHILDREN)
         deps = below(f"{room}/clone")
     whole, stolen = after[0] - before[0], after[1] - before[1]

@@ -1,7 +1,6 @@
 #!/usr/bin/env python3
 """Runs the scripts of this folder side by side, one for each processor, and prints what each said, in their order. Ends with 1 where
-one of them fails, and says which. Those that others wait for, and these others, go before the rest
-by the system's priorities.
+one of them fails, and says which. Those that others wait for, and these others, go before the rest by the system's priorities.
 
 usage: tests/side_by_side.py <LIST     LIST has one script a line, with its words. A line that begins with `then` waits for the last
                                        line above it that doesn't, and isn't run where that one fails.
