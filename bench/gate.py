@@ -31,6 +31,7 @@ class Check:
 
     def __init__(self, words, folder, began):
         self.crate = words[words.index("--crate-name") + 1]
+        # the kit tries a wrong body in a folder of that name
         self.kind = "tests" if "--test" in words else "wrong bodies" if "rt-edit" in folder else "proof"
         self.began = began
         self.ended = began
@@ -118,7 +119,7 @@ def main():
         deps = below(f"{room}/clone")
     whole, stolen = after[0] - before[0], after[1] - before[1]
     print(f"{sys.argv[1]}, status {status}: {took // 60:.0f} min {took % 60:.0f} s; {(used.ru_utime + used.ru_stime) / 60:.0f} minutes of "
-          f"{os.cpu_count()} processors, of which others took {100 * stolen / max(whole, 1):.1f} %")
+          f"{len(os.sched_getaffinity(0))} processors, of which others took {100 * stolen / max(whole, 1):.1f} %")
     show(checks.values(), deps)
     sys.exit(status)
 

@@ -6,7 +6,7 @@ set -euo pipefail
 cd "$(dirname "$0")/.."
 room=$(mktemp -d)
 trap 'rm -rf "$room"' EXIT
-git ls-files -z | tar -c --null -T - | tar -x -C "$room"
+tar -c --exclude='crates/*/out' crates crates.txt HANDLES | tar -x -C "$room"
 cd "$room"
 names=("$@")
 if [ $# -eq 0 ]; then names=($(ls -d crates/*/must-fail-more | cut -d / -f 2)); fi
