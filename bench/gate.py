@@ -1,7 +1,8 @@
 #!/usr/bin/env python3
 """Runs build.sh or test.sh in an empty clone of what is committed here, and prints how long it took, what it took of the processors, and
-what other machines took of them meanwhile; then the chain of crates that the rest waited for, and what each crate took. Run it with
-nothing else running.
+what other machines took of them meanwhile; then the chain of crates that the rest waited for, what each crate took, and of wrong bodies
+what each took, in the order of their names. (The first of a crate takes its whole proof; behind the last of several comes one check of the
+crate as it stands.) Run it with nothing else running. An interrupt ends it, and shows what was seen until then.
 
 usage: bench/gate.py build.sh|test.sh
 
@@ -11,6 +12,7 @@ line `rt: ok` among what it prints says what was done.
 import collections
 import os
 import resource
+import signal
 import subprocess
 import sys
 import tempfile
@@ -33,6 +35,7 @@ class Check:
         self.crate = words[words.index("--crate-name") + 1]
         # the kit tries a wrong body in a folder of that name
         self.kind = "tests" if "--test" in words else "wrong bodies" if "rt-edit" in folder else "proof"
+        self.folder = folder
         self.began = began
         self.ended = began
         self.took = 0
@@ -90,13 +93,22 @@ def chain(checks, deps):
     return found[::-1]
 
 
+def parts(checks, crate):
+    """What each wrong body of a crate took, in seconds, in the order in which they were tried: each has a folder of its own."""
+    took = {}
+    for it in sorted((it for it in checks if it.crate == crate and it.kind == "wrong bodies"), key=lambda it: it.began):
+        took[it.folder] = took.get(it.folder, 0) + it.took
+    return " ".join(f"{seconds:.0f}" for seconds in took.values())
+
+
 def show(checks, deps):
     print(f"waited for, and when each began: {', '.join(chain(checks, deps))}")
     took = collections.Counter()
     for it in checks:
         took[it.crate, it.kind] += it.took
     for (crate, kind), seconds in took.most_common():
-        print(f"  {seconds:6.0f} s  {crate}: {kind}")
+        each = f": {parts(checks, crate)}" if kind == "wrong bodies" else ""
+        print(f"  {seconds:6.0f} s  {crate}: {kind}{each}")
     kinds = collections.Counter()
     for (_, kind), seconds in took.items():
         kinds[kind] += seconds
@@ -111,9 +123,14 @@ def main():
         subprocess.run(["git", "clone", "--quiet", ROOT, f"{room}/clone"], check=True)
         began, before = time.monotonic(), processors()
         script = subprocess.Popen([f"./{sys.argv[1]}"], cwd=f"{room}/clone")
-        while script.poll() is None:
-            look(checks, began)
-            time.sleep(SECONDS)
+        try:
+            while script.poll() is None:
+                look(checks, began)
+                time.sleep(SECONDS)
+        except KeyboardInterrupt:
+            # the script has the interrupt too, where both were started by hand
+            script.send_signal(signal.SIGINT)
+            script.wait()
         took, after, status = time.monotonic() - began, processors(), script.returncode
         used = resource.getrusage(resource.RUSAGE_CHILDREN)
         deps = below(f"{room}/clone")
