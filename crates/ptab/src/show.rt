@@ -40,8 +40,7 @@ fn print_gpt<O: Write>(out: &mut O, sectors: u64, table: &Table) -> io::Result<(
 
 fn print_guid<O: Write>(out: &mut O, guid: &Guid) -> io::Result<()> {
     let mut text = [0; 36];
-    let shown = guid.to_text(&mut text);
-    write!(out, "{shown}")
+    out.write_all(guid.to_text(&mut text).as_bytes())
 }
 
 /// Prints the partitions of a slice's label.
@@ -77,10 +76,10 @@ fn print_entry<O: Write>(out: &mut O, entry: &Entry) -> io::Result<()> {
     write!(out, " {:016x} ", entry.attributes)?;
     print_guid(out, &entry.unique)?;
     if entry.name[0] != 0 {
-        write!(out, " ")?;
+        out.write_all(b" ")?;
         print_name(out, &entry.name)?;
     }
-    writeln!(out)
+    out.write_all(b"\n")
 }
 
 fn print_kind<O: Write>(out: &mut O, kind: &Guid) -> io::Result<()> {
@@ -104,5 +103,5 @@ fn print_name<O: Write>(out: &mut O, name: &[u16; 36]) -> io::Result<()> {
             text.clear();
         }
     }
-    write!(out, "{}", text.as_str())
+    out.write_all(text.as_str().as_bytes())
 }
