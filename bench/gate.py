@@ -4,6 +4,9 @@ what other machines took of them meanwhile; then the chain of crates that the re
 what each took, in the order of their names. (The first of a crate takes its whole proof; behind the last of several comes one check of the
 crate as it stands.) Run it with nothing else running. An interrupt ends it, and shows what was seen until then.
 
+A virtual processor may be slow without saying so, where other machines use the same host. So a short loop is timed before the run and
+during it: how long it took at its fastest, and on the average.
+
 usage: bench/gate.py build.sh|test.sh
 
 `rt ci` keeps on a machine what it has proved. So test.sh begins from nothing only on a machine that has kept nothing of this tree: the
@@ -24,6 +27,9 @@ TICK = os.sysconf("SC_CLK_TCK")
 SECONDS = 1
 # The column of /proc/stat that has what others took.
 STOLEN = 7
+# The steps of the loop that is timed, some milliseconds, and how often it is timed before the run.
+STEPS = 200_000
+TIMES_BEFORE = 100
 # The processes of the prover, and those with which it goes on where it may use more than one.
 PROVER = ("rattle", "antt-kernel")
 
@@ -70,6 +76,27 @@ def processors():
     with open("/proc/stat", encoding="ascii") as it:
         ticks = [int(it) for it in it.readline().split()[1:9]]
     return sum(ticks), ticks[STOLEN]
+
+
+def loop():
+    """What a loop of the interpreter takes of a processor now, in milliseconds."""
+    began = time.thread_time()
+    for _ in range(STEPS):
+        pass
+    return 1000 * (time.thread_time() - began)
+
+
+def mean(times):
+    return sum(times) / max(len(times), 1)
+
+
+def idle_loops():
+    """The same, several times while nothing else runs."""
+    times = []
+    for _ in range(TIMES_BEFORE):
+        times.append(loop())
+        time.sleep(0.05)
+    return times
 
 
 def below(root):
@@ -121,11 +148,13 @@ def main():
     checks = {}
     with tempfile.TemporaryDirectory() as room:
         subprocess.run(["git", "clone", "--quiet", ROOT, f"{room}/clone"], check=True)
+        idle, busy = idle_loops(), []
         began, before = time.monotonic(), processors()
         script = subprocess.Popen([f"./{sys.argv[1]}"], cwd=f"{room}/clone")
         try:
             while script.poll() is None:
                 look(checks, began)
+                busy.append(loop())
                 time.sleep(SECONDS)
         except KeyboardInterrupt:
             # the script has the interrupt too, where both were started by hand
@@ -137,6 +166,7 @@ def main():
     whole, stolen = after[0] - before[0], after[1] - before[1]
     print(f"{sys.argv[1]}, status {status}: {took // 60:.0f} min {took % 60:.0f} s; {(used.ru_utime + used.ru_stime) / 60:.0f} minutes of "
           f"{len(os.sched_getaffinity(0))} processors, of which others took {100 * stolen / max(whole, 1):.1f} %")
+    print(f"a loop takes {min(idle + busy):.1f} ms at its fastest; it took {mean(idle):.1f} before the run, and {mean(busy):.1f} during it")
     show(checks.values(), deps)
     sys.exit(status)
 
