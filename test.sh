@@ -4,11 +4,14 @@
 # refused and calls on the image failing. It ends with the line of `rt ci`.
 set -euo pipefail
 cd "$(dirname "$0")"
+began=$(date +%s)
 export PATH="$PATH:/usr/sbin:/sbin"
 tests/install.sh
 said=$(mktemp)
 trap 'rm -f "$said"' EXIT
+proving=$(date +%s)
 rt ci | tee "$said"
+proved=$(date +%s)
 # what `rt ci` proved and built
 ptab=$(python3 packaging/build.py --over-ci ptab)
 # the programs that only tests run
@@ -41,4 +44,5 @@ recipes.py "$ptab"
 from_sgdisk.py "$ptab"
 man_page.py "$ptab"
 LIST
+echo "test.sh: $(($(date +%s) - began)) seconds on $(nproc) processors, of which rt ci took $((proved - proving))"
 tail -n 1 "$said"

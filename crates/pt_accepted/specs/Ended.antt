@@ -24,7 +24,7 @@ use Rattle.pt_cases.specs.laws.Frames.{is_place}
 use Rattle.pt_cases.specs.laws.Met.{labels_set_met}
 use Rattle.pt_shape.specs.laws.Ascending.{places_ascend_lem}
 use Rattle.pt_shape.specs.laws.Along.{along_label}
-use Rattle.pt_cases.specs.Targets.{Ends, IsLabelTarget, kept, Met, LabelsMet}
+use Rattle.pt_cases.specs.Targets.{ComesToHold, IsLabelTarget, kept, Met, LabelsMet}
 
 -- after these phases the place of a slice holds the target of its label
 pub record HoldsTarget (b : ℕ) (d : Sectors) (o : Option Layout) (phases : List Writes) (w : Slice) (l : Label) : Type 0 where
@@ -36,7 +36,7 @@ module _ (b : ℕ) (d : Sectors) (o : Option Layout) (p : Layout) (phases : List
     (stands : Contains (places_of b p.sectors p.body) w)
     (wanted : Contains p.labels (record { number = w.number; label = l })) where
   held_by : (ws : Writes) → HasFour p.body → LabelsMet b d o p ws
-      → ((s : ℕ) (v : List ℕ) → IsPlace (places_of b p.sectors p.body) s → Ends d ws s v → sector (after phases d) s ≡ v)
+      → ((s : ℕ) (v : List ℕ) → IsPlace (places_of b p.sectors p.body) s → ComesToHold d ws s v → sector (after phases d) s ≡ v)
       → HoldsTarget b d o phases w l
   held_by ws four met ended =
       let it =

@@ -14,7 +14,7 @@ use Rattle.pt_members.specs.Owned.{OwnedOf}
 use Rattle.pt_check.specs.Answers.{Answers}
 use Rattle.pt_apply.specs.Plans.{writes_in, NoneIs}
 use Rattle.pt_check.specs.Misplaced.{InNoTable, InOwned}
-use Rattle.pt_check.specs.Reasons.{most_writes, IsOutside, ChangesBoot, IsFit}
+use Rattle.pt_check.specs.Reasons.{most_writes, IsPastLast, ChangesBoot, IsFit}
 use Rattle.pt_check.specs.laws.Walk.{Stays, Turns, stays_is_course, turns_is_course}
 use Rattle.pt_check.specs.declared.answer.Answer.TheVariants.{Yes}
 use Rattle.pt_cases.specs.Cases.{Common}
@@ -70,7 +70,7 @@ module _ (b : ℕ) (d : Sectors) (o : Option Layout) (p : Layout) (phases : List
   fit : IsFit d phases
   fit = record {
     few = few;
-    inside = none_is (IsOutside d) (writes_in phases) (λ s v puts outside. outside (each s v puts).inside);
+    inside = none_is (IsPastLast d) (writes_in phases) (λ s v puts outside. outside (each s v puts).inside);
     boot = none_is (ChangesBoot d) (writes_in phases) (λ s v puts changes. changes.1 ((each s v puts).boot changes.0));
   }
 

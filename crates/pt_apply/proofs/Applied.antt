@@ -10,7 +10,7 @@ use Rattle.pt_sector.specs.Since.{LeavesOnly}
 use Rattle.pt_sector.specs.laws.Since.{leaves_through}
 use Rattle.pt_sector.specs.declared.disk.Fault.{Fault}
 use Rattle.pt_apply.specs.Plans.{writes_of, phases_in, faults_of}
-use Rattle.pt_apply.specs.Runs.{Settled, StoppedIn, StoppedSomewhere, Passed, Reached, FailedIn, FaultOf}
+use Rattle.pt_apply.specs.Runs.{Settled, StoppedIn, StoppedSomewhere, Passed, Reached, CallFailed, FaultOf}
 use Rattle.pt_apply.specs.Moments.{Within, Ended}
 use Rattle.pt_apply.specs.declared.plan.Write.{Write}
 use Rattle.pt_apply.specs.laws.Items.{phase-at}
@@ -137,7 +137,7 @@ module _ {b : _} (ps : List (Vec (Write b) Global)) (i : ℕ) (p : Vec (Write b)
       }
 
   pub failed_in : (old : Told) (e : Fault) → Reached (phases_in ps) d i 0 old mid → Ended mid.seen (writes_of ws) mid new e
-      → FailedIn (phases_in ps) d old new e
+      → CallFailed (phases_in ps) d old new e
   failed_in old e run ended = record {
     phase = i;
     call = ended.call;

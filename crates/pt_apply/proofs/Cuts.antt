@@ -10,14 +10,14 @@ use Rattle.std.specs.Option.{MatchOption}
 use Rattle.std.specs.Bool.{MatchBool}
 use Rattle.std.proofs.Math.Seq.{get_or-append_seam}
 use Rattle.pt_sector.specs.Writes.{Writes}
-use Rattle.pt_apply.specs.Faults.{Fits}
+use Rattle.pt_apply.specs.Faults.{MayFollow}
 use Rattle.std.specs.Result.{result_unwrap_or}
 use Rattle.hex.specs.Hex.{decode_sized, is_hex_digit}
 use Rattle.hex.specs.declared.error.FromHexError.{FromHexError}
 use Rattle.hex.proofs.HexLemmas.{IsOk-decode_sized}
 use Rattle.pt_path.proofs.Numbers.{lacks}
 use Rattle.pt_apply.specs.Reading.{Lacks}
-use Rattle.pt_apply.specs.Lines.{IsWriteLine, IsFlushLine, Step, Put, Flush, IsLine}
+use Rattle.pt_apply.specs.Lines.{IsWriteLine, IsFlushLine, LineItem, Put, Flush, IsLine}
 
 -- what holds anyway is said of none
 pub if_none : {X P : Type 0} (found : Option X) → P → IfNone found P
@@ -90,7 +90,7 @@ write_lineless b line w is =
     (lacks_cons 10 87 (32 ∷ (decimal w.0 ++ 32 ∷ is.digits)) (λ e. cc e)
     (lacks_cons 10 32 (decimal w.0 ++ 32 ∷ is.digits) (λ e. cc e) behind))
 
-pub line_lineless : (b : ℕ) (line : List ℕ) (s : Step) → IsLine b line s → Lacks 10 line
+pub line_lineless : (b : ℕ) (line : List ℕ) (s : LineItem) → IsLine b line s → Lacks 10 line
 line_lineless b line (Put w) is = write_lineless b line w is
 line_lineless b line Flush is = subst (Lacks 10) (sym is) (lacks_cons 10 70 [] (λ e. cc e) (lacks_nil 10))
 
@@ -110,7 +110,7 @@ write_one b line v w hv hw =
 pub write_no_flush : (b : ℕ) (line : List ℕ) (w : ℕ × List ℕ) → IsWriteLine b line w → IsFlushLine line → ⊥
 write_no_flush b line w is flush = let e = same_head 87 70 _ _ (sym is.written ∙ flush) in cc e
 
-pub step_one : (b : ℕ) (line : List ℕ) (s t : Step) → IsLine b line s → IsLine b line t → s ≡ t
+pub step_one : (b : ℕ) (line : List ℕ) (s t : LineItem) → IsLine b line s → IsLine b line t → s ≡ t
 step_one b line (Put v) (Put w) hs ht = ap Put (write_one b line v w hs ht)
 step_one b line (Put v) Flush hs ht = absurd (write_no_flush b line v hs ht)
 step_one b line Flush (Put w) hs ht = absurd (write_no_flush b line w ht hs)
@@ -144,7 +144,7 @@ fields_one b line number digits w whole lack is =
     one_cut 32 number (decimal w.0) digits is.digits lack (decimal_spaceless w.0 is.fits)
     (same_tail 32 32 _ _ (same_tail 87 87 _ _ (sym whole ∙ is.written)))
 
-pub no_fit : (b : ℕ) (last : Writes) (line : List ℕ) → ((s : Step) → ¬ IsLine b line s) → ¬ Fits b last line
+pub no_fit : (b : ℕ) (last : Writes) (line : List ℕ) → ((s : LineItem) → ¬ IsLine b line s) → ¬ MayFollow b last line
 no_fit b last line none (inl is) = none (Put is.0) is.1
 no_fit b last line none (inr is) = none Flush is.0
 

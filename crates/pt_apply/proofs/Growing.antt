@@ -7,9 +7,9 @@ use Rattle.std.proofs.lemmas.List.Elements.{All-nil, All-cons, All-head, All-tai
 use Rattle.std.specs.Str.{IsUtf8}
 use Rattle.std.proofs.lemmas.Str.{IsUtf8-drop, IsCharBoundary-after_ascii}
 use Rattle.pt_sector.specs.Writes.{Writes}
-use Rattle.pt_apply.specs.Lines.{joined, Step, Put, Flush, IsLine, AreLines}
+use Rattle.pt_apply.specs.Lines.{joined, LineItem, Put, Flush, IsLine, AreLines}
 use Rattle.pt_apply.specs.PlanTexts.{Begins, PlanText, steps_of, puts, NoneEmpty}
-use Rattle.pt_apply.specs.Faults.{Fits, IsBadLine, LacksFlush}
+use Rattle.pt_apply.specs.Faults.{MayFollow, IsBadLine, LacksFlush}
 use Rattle.pt_apply.specs.Reading.{Grows, Lacks}
 use Rattle.pt_apply.proofs.Cuts.{one_cut, lacks_cons, lacks_nil, write_lineless}
 
@@ -31,26 +31,26 @@ length_joined (line ∷ lines) rest =
     let len = length-append line (10 ∷ joined lines rest) in
     omega (arith, more, len)
 
-pub lines_append : (b : ℕ) (a c : List (List ℕ)) (s t : List Step) → AreLines b a s → AreLines b c t → AreLines b (a ++ c) (s ++ t)
+pub lines_append : (b : ℕ) (a c : List (List ℕ)) (s t : List LineItem) → AreLines b a s → AreLines b c t → AreLines b (a ++ c) (s ++ t)
 lines_append b [] c [] t ha hc = hc
 lines_append b [] c (x ∷ s) t ha hc = absurd ha
 lines_append b (line ∷ a) c [] t ha hc = absurd ha
 lines_append b (line ∷ a) c (x ∷ s) t ha hc = (ha.0, lines_append b a c s t ha.1 hc)
 
-one_line : (b : ℕ) (line : List ℕ) (s : Step) → IsLine b line s → AreLines b (line ∷ []) (s ∷ [])
+one_line : (b : ℕ) (line : List ℕ) (s : LineItem) → IsLine b line s → AreLines b (line ∷ []) (s ∷ [])
 one_line b line s is = (is, tt)
 
 steps_more : (phases : List Writes) (p : Writes) → steps_of (phases ++ p ∷ []) ≡ steps_of phases ++ (puts p ++ Flush ∷ [])
 steps_more [] p = refl
 steps_more (q ∷ phases) p =
-    ap (λ (t : List Step). puts q ++ Flush ∷ t) (steps_more phases p)
+    ap (λ (t : List LineItem). puts q ++ Flush ∷ t) (steps_more phases p)
     ∙ sym (append_assoc (puts q) (Flush ∷ steps_of phases) (puts p ++ Flush ∷ []))
 
 with_write : (phases : List Writes) (last : Writes) (w : ℕ × List ℕ)
     → (steps_of phases ++ puts last) ++ Put w ∷ [] ≡ steps_of phases ++ puts (last ++ w ∷ [])
 with_write phases last w =
     append_assoc (steps_of phases) (puts last) (Put w ∷ [])
-    ∙ ap (λ (t : List Step). steps_of phases ++ t) (sym (map-append Put last (w ∷ [])))
+    ∙ ap (λ (t : List LineItem). steps_of phases ++ t) (sym (map-append Put last (w ∷ [])))
 
 with_flush : (phases : List Writes) (last : Writes)
     → (steps_of phases ++ puts last) ++ Flush ∷ [] ≡ steps_of (phases ++ last ∷ []) ++ puts []
@@ -103,13 +103,13 @@ reading_fits b text rest n phases last h =
     let is = h.number in
     omega (arith, len, whole, is)
 
-pub fits_lineless : (b : ℕ) (last : Writes) (line : List ℕ) → Fits b last line → Lacks 10 line
+pub fits_lineless : (b : ℕ) (last : Writes) (line : List ℕ) → MayFollow b last line → Lacks 10 line
 fits_lineless b last line (inl is) = write_lineless b line is.0 is.1
 fits_lineless b last line (inr is) = subst (Lacks 10) (sym is.0) (lacks_cons 10 70 [] (λ e. cc e) (lacks_nil 10))
 
 -- a line that may not come
 pub reading_bad : (b : ℕ) (text line after : List ℕ) (n : ℕ) (phases : List Writes) (last : Writes)
-    → IsReading b text (line ++ 10 ∷ after) n phases last → Lacks 10 line → ¬ Fits b last line → IsBadLine b text n
+    → IsReading b text (line ++ 10 ∷ after) n phases last → Lacks 10 line → ¬ MayFollow b last line → IsBadLine b text n
 reading_bad b text line after n phases last h lineless not = record {
   lines = h.lines;
   phases = phases;
@@ -119,7 +119,7 @@ reading_bad b text line after n phases last h lineless not = record {
   begins = h.begins;
   number = h.number;
   more = let len = length-append line (10 ∷ after) in omega (arith, len);
-  bad = λ l a is fits. not (subst (Fits b last) (one_cut 10 l line a after (fits_lineless b last l fits) lineless (sym is)).0 fits);
+  bad = λ l a is fits. not (subst (MayFollow b last) (one_cut 10 l line a after (fits_lineless b last l fits) lineless (sym is)).0 fits);
 }
 
 -- a last line that no newline ends

@@ -4,20 +4,20 @@ use Rattle.std.proofs.Common.{subst, arith, append_assoc}
 use Rattle.std.proofs.lemmas.List.{append-nil}
 use Rattle.std.proofs.lemmas.List.Elements.{All-head, All-tail}
 use Rattle.pt_sector.specs.Writes.{Writes}
-use Rattle.pt_apply.specs.Lines.{joined, IsWriteLine, IsFlushLine, Step, Put, Flush, IsLine, AreLines}
+use Rattle.pt_apply.specs.Lines.{joined, IsWriteLine, IsFlushLine, LineItem, Put, Flush, IsLine, AreLines}
 use Rattle.pt_apply.specs.PlanTexts.{PlanText, steps_of, puts, NoneEmpty}
-use Rattle.pt_apply.specs.Faults.{Fits, IsBadLine, LacksFlush, IsTextFault}
+use Rattle.pt_apply.specs.Faults.{MayFollow, IsBadLine, LacksFlush, IsTextFault}
 use Rattle.pt_apply.specs.declared.error.PlanTextError.{PlanTextError}
 use Rattle.pt_apply.specs.declared.error.PlanTextError.TheVariants.{BadLine, NoFinalFlush, Memory}
 use Rattle.pt_apply.proofs.Cuts.{one_cut, line_lineless, step_one}
 
 -- the phases of steps, after these writes of the first
-phases_back : Writes → List Step → List Writes
+phases_back : Writes → List LineItem → List Writes
 phases_back last [] = []
 phases_back last (Put w ∷ ss) = phases_back (last ++ w ∷ []) ss
 phases_back last (Flush ∷ ss) = last ∷ phases_back [] ss
 
-back_puts : (p last : Writes) (ss : List Step) → phases_back last (puts p ++ ss) ≡ phases_back (last ++ p) ss
+back_puts : (p last : Writes) (ss : List LineItem) → phases_back last (puts p ++ ss) ≡ phases_back (last ++ p) ss
 unfolding phases_back
 back_puts [] last ss = ap (λ (t : Writes). phases_back t ss) (sym (append-nil last))
 back_puts (w ∷ p) last ss = back_puts p (last ++ w ∷ []) ss ∙ ap (λ (t : Writes). phases_back t ss) (append_assoc last (w ∷ []) p)
@@ -28,7 +28,7 @@ back_steps [] = refl
 back_steps (p ∷ ps) = back_puts p [] (Flush ∷ steps_of ps) ∙ ap (λ (t : List Writes). p ∷ t) (back_steps ps)
 
 -- whether the phase has a write after these steps
-abbrev Goes : Bool → List Step → Bool → Type 0
+abbrev Goes : Bool → List LineItem → Bool → Type 0
 Goes s [] t = s ≡ t
 Goes s (Put w ∷ ss) t = Goes true ss t
 Goes s (Flush ∷ ss) t = (s ≡ true) × Goes false ss t
@@ -37,11 +37,11 @@ abbrev has : Writes → Bool
 has [] = false
 has (w ∷ ws) = true
 
-goes_true : (p : Writes) (ss : List Step) (t : Bool) → Goes true ss t → Goes true (puts p ++ ss) t
+goes_true : (p : Writes) (ss : List LineItem) (t : Bool) → Goes true ss t → Goes true (puts p ++ ss) t
 goes_true [] ss t h = h
 goes_true (w ∷ p) ss t h = goes_true p ss t h
 
-goes_puts : (p : Writes) (s : Bool) (ss : List Step) (t : Bool) → 0 < length p → Goes true ss t → Goes s (puts p ++ ss) t
+goes_puts : (p : Writes) (s : Bool) (ss : List LineItem) (t : Bool) → 0 < length p → Goes true ss t → Goes s (puts p ++ ss) t
 goes_puts [] s ss t some h = absurd (omega arith)
 goes_puts (w ∷ p) s ss t some h = goes_true p ss t h
 
@@ -56,7 +56,7 @@ goes_last (w ∷ p) = goes_on p
 goes_plan : (phases : List Writes) (last : Writes) → NoneEmpty phases → Goes false (steps_of phases ++ puts last) (has last)
 goes_plan [] last some = goes_last last
 goes_plan (p ∷ ps) last some =
-    subst (λ (ss : List Step). Goes false ss (has last)) (sym (append_assoc (puts p) (Flush ∷ steps_of ps) (puts last)))
+    subst (λ (ss : List LineItem). Goes false ss (has last)) (sym (append_assoc (puts p) (Flush ∷ steps_of ps) (puts last)))
     (goes_puts p false (Flush ∷ (steps_of ps ++ puts last)) (has last) (All-head (λ (q : Writes). 0 < length q) p ps some)
     (refl, goes_plan ps last (All-tail (λ (q : Writes). 0 < length q) p ps some)))
 
@@ -65,27 +65,27 @@ abbrev Stuck : ℕ → Bool → List ℕ → Type 0
 Stuck b t rest =
     (line after : List ℕ) → rest ≡ line ++ 10 ∷ after → ¬ (((w : ℕ × List ℕ) × IsWriteLine b line w) ⊎ (IsFlushLine line × (t ≡ true)))
 
-pub record Same (ss ss' : List Step) (lines lines' : List (List ℕ)) (r r' : List ℕ) (t t' : Bool) : Type 0 where
+pub record Same (ss ss' : List LineItem) (lines lines' : List (List ℕ)) (r r' : List ℕ) (t t' : Bool) : Type 0 where
   pub steps : ss ≡ ss'
   pub count : length lines ≡ length lines'
   pub rest : r ≡ r'
   pub state : t ≡ t'
 
-not_stuck : (b : ℕ) (s : Bool) (step : Step) (ss : List Step) (t : Bool) (line rest more : List ℕ) → IsLine b line step
+not_stuck : (b : ℕ) (s : Bool) (step : LineItem) (ss : List LineItem) (t : Bool) (line rest more : List ℕ) → IsLine b line step
     → Goes s (step ∷ ss) t → rest ≡ line ++ 10 ∷ more → Stuck b s rest → ⊥
 not_stuck b s (Put w) ss t line rest more is goes e stuck = stuck line more e (inl (w, is))
 not_stuck b s Flush ss t line rest more is goes e stuck = stuck line more e (inr (is, goes.0))
 
-next : Step → Bool
+next : LineItem → Bool
 next (Put w) = true
 next Flush = false
 
-goes_next : (s : Bool) (step : Step) (ss : List Step) (t : Bool) → Goes s (step ∷ ss) t → Goes (next step) ss t
+goes_next : (s : Bool) (step : LineItem) (ss : List LineItem) (t : Bool) → Goes s (step ∷ ss) t → Goes (next step) ss t
 unfolding next
 goes_next s (Put w) ss t h = h
 goes_next s Flush ss t h = h.1
 
-one_reading : (b : ℕ) (lines lines' : List (List ℕ)) (ss ss' : List Step) (s t t' : Bool) (rest rest' : List ℕ)
+one_reading : (b : ℕ) (lines lines' : List (List ℕ)) (ss ss' : List LineItem) (s t t' : Bool) (rest rest' : List ℕ)
     → AreLines b lines ss → AreLines b lines' ss' → Goes s ss t → Goes s ss' t' → joined lines rest ≡ joined lines' rest'
     → Stuck b t rest → Stuck b t' rest' → Same ss ss' lines lines' rest rest' t t'
 one_reading b [] [] [] [] s t t' rest rest' h h' g g' e stuck stuck' = record { steps = refl; count = refl; rest = e; state = sym g ∙ g' }
@@ -102,10 +102,10 @@ one_reading b (l ∷ lines) (m ∷ lines') (x ∷ ss) [] s t t' rest rest' h h' 
 one_reading b (l ∷ lines) (m ∷ lines') (x ∷ ss) (y ∷ ss') s t t' rest rest' h h' g g' e stuck stuck' =
     let cut = one_cut 10 l m (joined lines rest) (joined lines' rest') (line_lineless b l x h.0) (line_lineless b m y h'.0) e in
     let step = step_one b m x y (subst (λ (k : List ℕ). IsLine b k x) cut.0 h.0) h'.0 in
-    let state = subst (λ (z : Step). Goes (next z) ss' t') (sym step) (goes_next s y ss' t' g') in
+    let state = subst (λ (z : LineItem). Goes (next z) ss' t') (sym step) (goes_next s y ss' t' g') in
     let more = one_reading b lines lines' ss ss' (next x) t t' rest rest' h.1 h'.1 (goes_next s x ss t g) state cut.1 stuck stuck' in
     record {
-      steps = ap (λ (z : Step). z ∷ ss) step ∙ ap (λ (zs : List Step). y ∷ zs) more.steps;
+      steps = ap (λ (z : LineItem). z ∷ ss) step ∙ ap (λ (zs : List LineItem). y ∷ zs) more.steps;
       count = ap suc more.count;
       rest = more.rest;
       state = more.state;
@@ -124,18 +124,18 @@ some_has [] some = absurd (omega arith)
 some_has (w ∷ ws) some = refl
 
 fits_of : (b : ℕ) (last : Writes) (line : List ℕ)
-    → ((w : ℕ × List ℕ) × IsWriteLine b line w) ⊎ (IsFlushLine line × (has last ≡ true)) → Fits b last line
+    → ((w : ℕ × List ℕ) × IsWriteLine b line w) ⊎ (IsFlushLine line × (has last ≡ true)) → MayFollow b last line
 fits_of b last line (inl is) = inl is
 fits_of b last line (inr is) = inr (is.0, has_some last is.1)
 
 -- lines that begin a plan up to where no line may come
-record Reads (b : ℕ) (text : List ℕ) (lines : List (List ℕ)) (steps : List Step) (rest : List ℕ) (t : Bool) : Type 0 where
+record Reads (b : ℕ) (text : List ℕ) (lines : List (List ℕ)) (steps : List LineItem) (rest : List ℕ) (t : Bool) : Type 0 where
   pub whole : text ≡ joined lines rest
   pub each : AreLines b lines steps
   pub goes : Goes false steps t
   pub stuck : Stuck b t rest
 
-same_reads : (b : ℕ) (text : List ℕ) (lines lines' : List (List ℕ)) (ss ss' : List Step) (rest rest' : List ℕ) (t t' : Bool)
+same_reads : (b : ℕ) (text : List ℕ) (lines lines' : List (List ℕ)) (ss ss' : List LineItem) (rest rest' : List ℕ) (t t' : Bool)
     → Reads b text lines ss rest t → Reads b text lines' ss' rest' t' → Same ss ss' lines lines' rest rest' t t'
 same_reads b text lines lines' ss ss' rest rest' t t' h k =
     one_reading b lines lines' ss ss' false t t' rest rest' h.each k.each h.goes k.goes (sym h.whole ∙ k.whole) h.stuck k.stuck
@@ -146,7 +146,7 @@ reads_plan b phases text h =
     record {
       whole = h.whole;
       each = subst (AreLines b h.lines) e h.begins.each;
-      goes = subst (λ (ss : List Step). Goes false ss false) e (goes_plan phases [] h.begins.some);
+      goes = subst (λ (ss : List LineItem). Goes false ss false) e (goes_plan phases [] h.begins.some);
       stuck = empty_stuck b false;
     }
 

@@ -10,7 +10,7 @@ use Rattle.std.proofs.lemmas.Grind.{common_steps}
 use Rattle.pt_sector.specs.Sectors.{Sectors, sector}
 use Rattle.pt_sector.specs.Writes.{Writes, Stopped, MayHold, Puts, written}
 use Rattle.pt_sector.specs.laws.Written.{length-written}
-use Rattle.pt_sector.specs.Device.{Told, Moment, MayLeave, Takes, Wrote, FailedWrite, Flushed, FailedFlush, Elapses, now_of}
+use Rattle.pt_sector.specs.Device.{Told, Moment, MayLeave, TakesWrite, Wrote, FailedWrite, Flushed, FailedFlush, Elapses, now_of}
 use Rattle.pt_sector.specs.declared.disk.Fault.{Fault}
 use Rattle.pt_sector.specs.declared.disk.Fault.TheVariants as fault
 use Rattle.pt_apply.specs.declared.plan.Write.{Write}
@@ -84,7 +84,7 @@ puts-along ws a k x v puts same is = rw (← same, ← is) puts
 -- one write more, taken or not
 may_on : (d : Sectors) (ws : Writes) (mid new : Told) (a : ℕ) (x : List ℕ) → length mid.durable ≡ length d → Puts ws a x
     → ((k : ℕ) (v : List ℕ) → k < length d → MayHold mid.durable mid.pending k v → MayHold d ws k v)
-    → Takes mid new a x → (k : ℕ) (v : List ℕ) → k < length d → MayHold new.durable new.pending k v → MayHold d ws k v
+    → TakesWrite mid new a x → (k : ℕ) (v : List ℕ) → k < length d → MayHold new.durable new.pending k v → MayHold d ws k v
 may_on d ws mid new a x len put may (inl (durable, pending)) k v lt (inl is) =
     ⊎_elim (λ old. may k v lt (inl old)) (λ it. inr (puts-along ws a k x v put it.0 it.1))
     (sector-set mid.durable a x k v (omega (arith, lt, len)) (rw durable at is))
@@ -95,7 +95,7 @@ may_on d ws mid new a x len put may (inr (durable, pending)) k v lt (inr puts) =
     ⊎_elim (λ old. may k v lt (inr old)) (λ it. inr (puts-along ws a k x v put it.0 it.1))
     (puts-push mid.pending a x k v (subst (λ (p : Writes). Puts p k v) pending puts))
 
-count_on : (d : Sectors) (mid new : Told) (a : ℕ) (x : List ℕ) → length mid.durable ≡ length d → Takes mid new a x
+count_on : (d : Sectors) (mid new : Told) (a : ℕ) (x : List ℕ) → length mid.durable ≡ length d → TakesWrite mid new a x
     → length new.durable ≡ length d
 count_on d mid new a x len (inl (durable, pending)) = ap length durable ∙ length-set mid.durable a x ∙ len
 count_on d mid new a x len (inr (durable, pending)) = ap length durable ∙ len

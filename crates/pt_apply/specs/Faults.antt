@@ -7,8 +7,8 @@ use Rattle.pt_apply.specs.declared.error.PlanTextError.{PlanTextError}
 use Rattle.pt_apply.specs.declared.error.PlanTextError.TheVariants.{BadLine, NoFinalFlush, Memory}
 
 -- a line that may come after these writes of a phase: a write, or a flush where there is a write
-abbrev pub Fits : ℕ → Writes → List ℕ → Type 0
-Fits b last line = ((w : ℕ × List ℕ) × IsWriteLine b line w) ⊎ (IsFlushLine line × (0 < length last))
+abbrev pub MayFollow : ℕ → Writes → List ℕ → Type 0
+MayFollow b last line = ((w : ℕ × List ℕ) × IsWriteLine b line w) ⊎ (IsFlushLine line × (0 < length last))
 
 -- after lines that begin a plan there is more, and no line that may come stands there: this line is the first bad one
 pub record IsBadLine (b : ℕ) (text : List ℕ) (n : ℕ) : Type 0 where
@@ -20,7 +20,7 @@ pub record IsBadLine (b : ℕ) (text : List ℕ) (n : ℕ) : Type 0 where
   pub begins : Begins b lines phases last
   pub number : n ≡ length lines + 1
   pub more : 0 < length rest
-  pub bad : (line after : List ℕ) → rest ≡ line ++ 10 ∷ after → ¬ Fits b last line
+  pub bad : (line after : List ℕ) → rest ≡ line ++ 10 ∷ after → ¬ MayFollow b last line
 
 -- each line is good, and the text ends inside a phase
 pub record LacksFlush (b : ℕ) (text : List ℕ) : Type 0 where
@@ -38,8 +38,8 @@ IsTextFault b text NoFinalFlush = LacksFlush b text
 IsTextFault b text Memory = ⊥
 
 -- what an error says of a text
-abbrev pub Refuses : ℕ → List ℕ → PlanTextError → Type 0
-Refuses b text e = (e ≡ Memory) ⊎ IsTextFault b text e
+abbrev pub TextRefused : ℕ → List ℕ → PlanTextError → Type 0
+TextRefused b text e = (e ≡ Memory) ⊎ IsTextFault b text e
 
 abbrev pub error_number : PlanTextError → ℕ
 error_number (BadLine _) = 1

@@ -9,9 +9,9 @@ joined [] rest = rest
 joined (line ∷ lines) rest = line ++ 10 ∷ joined lines rest
 
 -- what a line stands for: a write of a sector, or the flush that ends a phase
-pub data Step : Type 0 where
-  Put : ℕ × List ℕ → Step
-  Flush : Step
+pub data LineItem : Type 0 where
+  Put : ℕ × List ℕ → LineItem
+  Flush : LineItem
 
 -- W, the sector in decimal, and its b bytes in hexadecimal digits of either case, with one space between them
 pub record IsWriteLine (b : ℕ) (line : List ℕ) (w : ℕ × List ℕ) : Type 0 where
@@ -24,12 +24,12 @@ pub record IsWriteLine (b : ℕ) (line : List ℕ) (w : ℕ × List ℕ) : Type 
 abbrev pub IsFlushLine : List ℕ → Type 0
 IsFlushLine line = line ≡ 70 ∷ []
 
-abbrev pub IsLine : ℕ → List ℕ → Step → Type 0
+abbrev pub IsLine : ℕ → List ℕ → LineItem → Type 0
 IsLine b line (Put w) = IsWriteLine b line w
 IsLine b line Flush = IsFlushLine line
 
 -- the lines are these steps', one for each
-abbrev pub AreLines : ℕ → List (List ℕ) → List Step → Type 0
+abbrev pub AreLines : ℕ → List (List ℕ) → List LineItem → Type 0
 AreLines b [] [] = Unit {0}
 AreLines b [] (s ∷ ss) = ⊥
 AreLines b (line ∷ lines) [] = ⊥

@@ -1,13 +1,13 @@
 -- Plans as texts.
 use Rattle.std.specs.Prelude.{◌≡◌, ◌<◌, ℕ, List, [], ◌∷◌, ◌++◌, length, map, All}
 use Rattle.pt_sector.specs.Writes.{Writes}
-use Rattle.pt_apply.specs.Lines.{joined, Step, Put, Flush, AreLines}
+use Rattle.pt_apply.specs.Lines.{joined, LineItem, Put, Flush, AreLines}
 
-abbrev pub puts : Writes → List Step
+abbrev pub puts : Writes → List LineItem
 puts ws = map Put ws
 
 -- the steps of phases: the writes of each, and the flush that ends it
-abbrev pub steps_of : List Writes → List Step
+abbrev pub steps_of : List Writes → List LineItem
 steps_of [] = []
 steps_of (p ∷ ps) = puts p ++ Flush ∷ steps_of ps
 

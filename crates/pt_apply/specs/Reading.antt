@@ -1,10 +1,10 @@
 -- A text that is being read.
 use Rattle.std.specs.Prelude.{Bool, ◌≡◌, ◌≢◌, ◌⊎◌, ◌<◌, ℕ, List, [], ◌∷◌, ◌++◌, length, slice_index}
 use Rattle.std.specs.Bool.{MatchBool}
-use Rattle.pt_apply.specs.Faults.{Fits}
+use Rattle.pt_apply.specs.Faults.{MayFollow}
 use Rattle.pt_sector.specs.Writes.{Writes}
 use Rattle.pt_apply.specs.Plans.{writes_of, phases_in}
-use Rattle.pt_apply.specs.Lines.{IsWriteLine, IsFlushLine, Step, Put, Flush}
+use Rattle.pt_apply.specs.Lines.{IsWriteLine, IsFlushLine, LineItem, Put, Flush}
 use Rattle.pt_apply.specs.declared.read.Line.{Line}
 use Rattle.pt_apply.specs.declared.read.Line.TheVariants as line
 use Rattle.pt_apply.specs.declared.read.Partial.{Partial}
@@ -13,7 +13,7 @@ use Rattle.pt_apply.specs.declared.read.Partial.{Partial}
 abbrev pub Lacks : ℕ → List ℕ → Type 0
 Lacks c text = (i : ℕ) → i < length text → slice_index text i ≢ c
 
-abbrev pub step_of : {b : _} → Line b → Step
+abbrev pub step_of : {b : _} → Line b → LineItem
 step_of (line.Write w) = Put (w.lba.0, w.bytes)
 step_of line.Flush = Flush
 
@@ -30,6 +30,6 @@ abbrev pub last_read : {b : _} → Partial b → Writes
 last_read p = writes_of p.last.items
 
 -- a line is added where it may come
-abbrev pub Takes : (b : ℕ) → List ℕ → Partial b → Partial b → Bool → Type 0
-Takes b line old new good =
-    MatchBool good (Grows b line (phases_read old) (last_read old) (phases_read new) (last_read new)) (¬ Fits b (last_read old) line)
+abbrev pub TakesLine : (b : ℕ) → List ℕ → Partial b → Partial b → Bool → Type 0
+TakesLine b line old new good =
+    MatchBool good (Grows b line (phases_read old) (last_read old) (phases_read new) (last_read new)) (¬ MayFollow b (last_read old) line)

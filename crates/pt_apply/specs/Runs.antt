@@ -42,7 +42,7 @@ pub record Reached (phases : List Writes) (d : Sectors) (i begun : ℕ) (old new
   pub at_end : (c : Sectors) → MayLeave new c → StoppedIn phases d i c
 
 -- a call of phase i failed, and this is its fault; it was the last that was begun
-pub record FailedIn (phases : List Writes) (d : Sectors) (old new : Told) (fault : Fault) : Type 0 where
+pub record CallFailed (phases : List Writes) (d : Sectors) (old new : Told) (fault : Fault) : Type 0 where
   pub phase : ℕ
   pub call : ℕ
   pub within : phase < length phases

@@ -6,13 +6,12 @@
 #![tactic(auto)]
 
 mod error;
-mod laws;
+pub mod laws;
 mod plan;
 mod read;
 mod write;
 
 pub use error::PlanTextError;
-pub use laws::{plan_has_no_fault, plan_is_one, text_fault_is_one};
 pub use plan::{Plan, Write, apply};
 pub use read::read_plan;
 pub use write::plan_text;

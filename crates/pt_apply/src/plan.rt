@@ -4,7 +4,7 @@ ghost use Rattle.pt_sector.specs.Writes.{Stopped, written};
 ghost use Rattle.pt_sector.specs.Calls.{Blames};
 ghost use Rattle.pt_sector.specs.Since.{LeavesOnly};
 ghost use Rattle.pt_apply.specs.Plans.{writes_of, phases_of, finished, faults_of, InRange, PhaseInRange};
-ghost use Rattle.pt_apply.specs.Runs.{Settled, StoppedSomewhere, Reached, FailedIn, FaultOf};
+ghost use Rattle.pt_apply.specs.Runs.{Settled, StoppedSomewhere, Reached, CallFailed, FaultOf};
 ghost use Rattle.pt_apply.specs.Moments.{Within, Ended};
 
 use pt_sector::{Disk, Fault, Lba, Sector};
@@ -39,7 +39,7 @@ pub fn apply<const B: usize, D: Disk<B>>(disk: &mut D, plan: &Plan<B>) -> Result
         (StoppedSomewhere (phases_of plan.now) (D.told disk.old).seen) }
     ensures passed { D.tells → OnOk result
         (Reached (phases_of plan.now) (D.told disk.old).seen (length (phases_of plan.now)) 0 (D.told disk.old) (D.told disk.new)) }
-    ensures failed { D.tells → IfErr result (FailedIn (phases_of plan.now) (D.told disk.old).seen (D.told disk.old) (D.told disk.new)) }
+    ensures failed { D.tells → IfErr result (CallFailed (phases_of plan.now) (D.told disk.old).seen (D.told disk.old) (D.told disk.new)) }
 {
     for phase in &plan.phases {
         write_phase(disk, phase)?;

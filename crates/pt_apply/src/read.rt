@@ -4,10 +4,10 @@ ghost use Rattle.std.specs.Prelude.{◌≡◌, ◌≢◌, ◌<◌, ◌++◌, ◌
 ghost use Rattle.hex.specs.Hex.{decode_sized};
 ghost use Rattle.pt_sector.specs.Sectors.{IsSectorSize};
 ghost use Rattle.pt_apply.specs.Plans.{phases_of};
-ghost use Rattle.pt_apply.specs.Lines.{Step, IsLine, IsWriteLine};
+ghost use Rattle.pt_apply.specs.Lines.{LineItem, IsLine, IsWriteLine};
 ghost use Rattle.pt_apply.specs.PlanTexts.{PlanText};
-ghost use Rattle.pt_apply.specs.Faults.{Refuses};
-ghost use Rattle.pt_apply.specs.Reading.{Lacks, step_of, Takes};
+ghost use Rattle.pt_apply.specs.Faults.{TextRefused};
+ghost use Rattle.pt_apply.specs.Reading.{Lacks, step_of, TakesLine};
 
 use crate::error::PlanTextError;
 use crate::plan::{Plan, Write};
@@ -75,7 +75,7 @@ fn read_write<const B: usize>(line: &str) -> Option<Write<B>>
 fn read_line<const B: usize>(line: &str) -> Option<Line<B>>
     requires { IsSectorSize B }
     ensures some { IfSome result (λ l. IsLine B line.now (step_of l)) }
-    ensures none { IfNone result ((s : Step) → ¬ IsLine B line.now s) }
+    ensures none { IfNone result ((s : LineItem) → ¬ IsLine B line.now s) }
 {
     if line == "F" {
         return Some(Line::Flush);
@@ -90,7 +90,7 @@ fn take_line<const B: usize>(
     line: &str,
 ) -> Result<bool, AllocError>
     requires { IsSectorSize B }
-    ensures { IfOk result (Takes B line.now partial.old partial.new) }
+    ensures { IfOk result (TakesLine B line.now partial.old partial.new) }
 {
     match read_line(line) {
         Some(Line::Write(write)) => partial.last.push(write)?,
@@ -111,7 +111,7 @@ pub fn read_plan<const B: usize>(alloc: Global, text: &str) -> Result<Plan<B>, P
     requires size { IsSectorSize B }
     ensures ok { IfOk result (λ plan. PlanText B (phases_of plan) text.now) }
     ensures phases { IfOk result (λ plan. All (λ p. 0 < length p.items) plan.phases.items) }
-    ensures err { IfErr result (Refuses B text.now) }
+    ensures err { IfErr result (TextRefused B text.now) }
 {
     let mut partial = Partial {
         phases: Vec::new(alloc),

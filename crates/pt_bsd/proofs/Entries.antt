@@ -7,7 +7,7 @@ use Rattle.std.proofs.lemmas.List.{drop-drop, drop_at, length-take-le}
 use Rattle.byteorder.specs.Endian.{little_number}
 use Rattle.pt_bsd.specs.Bytes.{number_at}
 use Rattle.pt_bsd.specs.Label.{HasEntry, place_of}
-use Rattle.pt_bsd.specs.Writing.{put_at, entry_from, EntryFits, ChangesOnly, IsPut, PutSoFar}
+use Rattle.pt_bsd.specs.Writing.{put_at, entry_from, LabelEntryFits, ChangesOnly, EntryIsPut, PutSoFar}
 use Rattle.pt_bsd.specs.declared.label.LabelEntry.{LabelEntry}
 use Rattle.pt_bsd.proofs.Front.{read_back}
 use Rattle.pt_bsd.proofs.Parts.{range_kept, changes_wider, changes_both}
@@ -23,7 +23,7 @@ number_put place at i n part bytes here within =
     sym (drop-drop i at (take at bytes ++ rest)) ∙ ap (drop i) (drop_at (take at bytes) rest at (length-take-le at bytes within)) in
     rw (few, here, behind) refl
 
-entry_front : (e : LabelEntry) (rest : List ℕ) → EntryFits e → HasEntry e 0 (entry_from e ++ rest)
+entry_front : (e : LabelEntry) (rest : List ℕ) → LabelEntryFits e → HasEntry e 0 (entry_from e ++ rest)
 unfolding entry_from put_at
 entry_front e rest fits = record {
   size = read_back 4 e.size fits.size;
@@ -34,7 +34,7 @@ entry_front e rest fits = record {
   cpg = read_back 2 e.cpg fits.cpg;
 }
 
-pub entry_put : (e : LabelEntry) (at : ℕ) (bytes : List ℕ) → at ≤ length bytes → EntryFits e
+pub entry_put : (e : LabelEntry) (at : ℕ) (bytes : List ℕ) → at ≤ length bytes → LabelEntryFits e
     → HasEntry e at (put_at at (entry_from e) bytes)
 entry_put e at bytes within fits =
     let part = entry_from e in
@@ -72,13 +72,13 @@ entry_kept e place i j old new only apart here = record {
 }
 
 pub put_kept : (o : Option LabelEntry) (place i j : ℕ) (old new : List ℕ) → ChangesOnly i j old new → (place + 16 ≤ i) ⊎ (j ≤ place)
-    → IsPut o place old → IsPut o place new
+    → EntryIsPut o place old → EntryIsPut o place new
 put_kept None place i j old new only apart here = here
 put_kept (Some e) place i j old new only apart here = entry_kept e place i j old new only apart here
 
 -- one entry more
 pub put_more : (entries : List (Option LabelEntry)) (i : ℕ) (old mid new : List ℕ) → PutSoFar entries i old mid
-    → IsPut (slice_index_or entries i None) (place_of i) new → ChangesOnly (place_of i) (place_of i + 16) mid new
+    → EntryIsPut (slice_index_or entries i None) (place_of i) new → ChangesOnly (place_of i) (place_of i + 16) mid new
     → PutSoFar entries (i + 1) old new
 put_more entries i old mid new before here only = record {
   each = λ k lt. elim (cases_lt k i) [

@@ -6,9 +6,9 @@ use Rattle.std.proofs.lemmas.Bool.{cases_lt}
 use Rattle.byteorder.specs.Endian.{little_number}
 use Rattle.pt_sum.specs.Words.{xor_of}
 use Rattle.pt_bsd.specs.Bytes.{number_at}
-use Rattle.pt_bsd.specs.Label.{HasSum, HasRaw, HasFields, IsEntry, LabelBytes, entry_of, place_of, counted_in}
+use Rattle.pt_bsd.specs.Label.{HasSum, HasRaw, HasLabelFields, IsEntry, LabelBytes, entry_of, place_of, counted_in}
 use Rattle.pt_bsd.specs.Counted.{count_of, IsThere, IsCounted, IsRaw, FitsSlice}
-use Rattle.pt_bsd.specs.Writing.{ChangesOnly, HasFront, IsPut, PutSoFar}
+use Rattle.pt_bsd.specs.Writing.{ChangesOnly, HasFront, EntryIsPut, PutSoFar}
 use Rattle.pt_bsd.specs.declared.label.Label.{Label}
 use Rattle.pt_bsd.specs.declared.label.LabelEntry.{LabelEntry}
 use Rattle.pt_bsd.proofs.Parts.{range_kept}
@@ -24,7 +24,7 @@ keeps_of n a b c entries sum p q up (inl low) =
 keeps_of n a b c entries sum p q up (inr (high, low)) =
     range_kept 136 138 p q b c sum up (inr high) ∙ range_kept 148 (place_of n) p q a b entries up (inl low)
 
-fields_kept : (l : Label) (a b : List ℕ) → Keeps a b → HasFields l a → HasFields l b
+fields_kept : (l : Label) (a b : List ℕ) → Keeps a b → HasLabelFields l a → HasLabelFields l b
 fields_kept l a b keeps f =
     let low : (p n : ℕ) → p + n ≤ 136 → number_at p n b ≡ number_at p n a =
     λ p n le. ap (little_number n) (keeps p (p + n) (omega arith) (inl le)) in
@@ -53,12 +53,12 @@ there_below (Some e ∷ entries) zero lt = tt
 there_below (Some e ∷ entries) (suc k) lt = there_below entries k (omega arith)
 
 is_entry : (o : Option LabelEntry) (k n : ℕ) (bytes : List ℕ) → counted_in bytes ≡ n → (k < n → IsThere o) → (n ≤ k → o ≡ None)
-    → (k < n → IsPut o (place_of k) bytes) → IsEntry o k bytes
+    → (k < n → EntryIsPut o (place_of k) bytes) → IsEntry o k bytes
 is_entry None k n bytes count there none put = elim (cases_lt k n) [ inl lt ↦ absurd (there lt) | inr ge ↦ omega (arith, count) ]
 is_entry (Some e) k n bytes count there none put =
     elim (cases_lt k n) [ inl lt ↦ (omega (arith, count), put lt) | inr ge ↦ absurd (subst IsThere (none ge) tt) ]
 
-raw_of : (o : Option LabelEntry) (first len : ℕ) (bytes : List ℕ) → IsRaw o first len → IsPut o 180 bytes → HasRaw first len bytes
+raw_of : (o : Option LabelEntry) (first len : ℕ) (bytes : List ℕ) → IsRaw o first len → EntryIsPut o 180 bytes → HasRaw first len bytes
 raw_of None first len bytes raw put = absurd raw
 raw_of (Some e) first len bytes (size, inl relative) put = record { size = put.size ∙ size; start = inl (put.offset ∙ relative) }
 raw_of (Some e) first len bytes (size, inr absolute) put = record { size = put.size ∙ size; start = inr (put.offset ∙ absolute) }
@@ -71,7 +71,7 @@ unfolding HasSum
 written l n first len a b c is most front entries changed sum counted raw =
     let keeps = keeps_of n a b c entries.only changed in
     let count : counted_in c ≡ n = ap (little_number 2) (keeps 138 140 (lit≤ tt) (inr (lit≤ tt, lit≤ tt))) ∙ front.count in
-    let put : (k : ℕ) → k < n → IsPut (entry_of l k) (place_of k) c =
+    let put : (k : ℕ) → k < n → EntryIsPut (entry_of l k) (place_of k) c =
     λ k lt. put_kept (entry_of l k) (place_of k) 136 138 b c changed (inr (omega arith)) (entries.each k lt) in
     record {
       magics = record {

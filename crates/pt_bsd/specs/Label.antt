@@ -47,7 +47,7 @@ abbrev pub geometry_at : List ℕ → List ℕ
 geometry_at bytes = number_at 44 4 bytes ∷ number_at 48 4 bytes ∷ number_at 52 4 bytes ∷ number_at 56 4 bytes ∷ []
 
 -- the numbers and names of the label stand in their places
-pub record HasFields (l : Label) (bytes : List ℕ) : Type 0 where
+pub record HasLabelFields (l : Label) (bytes : List ℕ) : Type 0 where
   pub kind : number_at 4 2 bytes ≡ l.kind
   pub subtype : number_at 6 2 bytes ≡ l.subtype
   pub type_name : slice_range bytes 8 24 ≡ l.type_name
@@ -88,7 +88,7 @@ pub record LabelBytes (l : Label) (first len : ℕ) (bytes : List ℕ) : Type 0 
   pub sum : HasSum bytes
   pub sector_size : HasSectorSize bytes
   pub raw : HasRaw first len bytes
-  pub fields : HasFields l bytes
+  pub fields : HasLabelFields l bytes
   pub entries : HasEntries l bytes
 
 -- the bytes are a label of such a slice

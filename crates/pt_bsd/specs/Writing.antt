@@ -4,7 +4,7 @@ use Rattle.std.specs.Prelude.{slice_index_or}
 use Rattle.std.specs.List.{flat_map}
 use Rattle.byteorder.specs.Endian.{little_bytes}
 use Rattle.pt_bsd.specs.Bytes.{number_at}
-use Rattle.pt_bsd.specs.Label.{HasMagics, HasSectorSize, HasFields, HasEntry, counted_in, place_of}
+use Rattle.pt_bsd.specs.Label.{HasMagics, HasSectorSize, HasLabelFields, HasEntry, counted_in, place_of}
 use Rattle.pt_bsd.specs.declared.label.Label.{Label}
 use Rattle.pt_bsd.specs.declared.label.LabelEntry.{LabelEntry}
 
@@ -60,7 +60,7 @@ entry_from e =
     (put_at 4 (little_bytes 4 e.offset)
     (put_at 0 (little_bytes 4 e.size) (replicate 16 0)))))
 
-pub record EntryFits (e : LabelEntry) : Type 0 where
+pub record LabelEntryFits (e : LabelEntry) : Type 0 where
   pub size : e.size < 2 ^ 32
   pub offset : e.offset < 2 ^ 32
   pub fragment : e.fragment < 2 ^ 32
@@ -72,14 +72,14 @@ pub record HasFront (l : Label) (n : ℕ) (bytes : List ℕ) : Type 0 where
   pub count : counted_in bytes ≡ n
   pub sum : number_at 136 2 bytes ≡ 0
   pub sector_size : HasSectorSize bytes
-  pub fields : HasFields l bytes
+  pub fields : HasLabelFields l bytes
 
 -- an entry that is there stands at this place
-abbrev pub IsPut : Option LabelEntry → ℕ → List ℕ → Type 0
-IsPut None place bytes = ⊤
-IsPut (Some e) place bytes = HasEntry e place bytes
+abbrev pub EntryIsPut : Option LabelEntry → ℕ → List ℕ → Type 0
+EntryIsPut None place bytes = ⊤
+EntryIsPut (Some e) place bytes = HasEntry e place bytes
 
 -- the first i entries are put in their places, and nothing else changed
 pub record PutSoFar (entries : List (Option LabelEntry)) (i : ℕ) (old new : List ℕ) : Type 0 where
-  pub each : (k : ℕ) → k < i → IsPut (slice_index_or entries k None) (place_of k) new
+  pub each : (k : ℕ) → k < i → EntryIsPut (slice_index_or entries k None) (place_of k) new
   pub only : ChangesOnly 148 (place_of i) old new

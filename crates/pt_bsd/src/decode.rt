@@ -3,7 +3,7 @@
 ghost use Rattle.std.specs.Prelude.{◌≡◌, ◌<◌, ◌≤◌, ◌+◌, ◌↔◌, ℕ, [], ◌∷◌, None, IfOk, IfErr, IsTrue, length, slice_range, slice_index_or};
 ghost use Rattle.pt_sector.specs.Sectors.{IsSectorSize};
 ghost use Rattle.pt_bsd.specs.Bytes.{number_at};
-ghost use Rattle.pt_bsd.specs.Label.{geometry_at, counted_in, HasMagic, HasMagics, HasCount, HasSum, HasSectorSize, HasRaw, HasFields};
+ghost use Rattle.pt_bsd.specs.Label.{geometry_at, counted_in, HasMagic, HasMagics, HasCount, HasSum, HasSectorSize, HasRaw, HasLabelFields};
 ghost use Rattle.pt_bsd.specs.Label.{HasEntry, HasEntries, IsEntry, LabelBytes, IsLabelFault};
 
 use crate::label::{Label, LabelEntry, LabelError};
@@ -135,7 +135,7 @@ fn entries_in(bytes: &[u8]) -> [Option<LabelEntry>; 8]
 fn label_in(bytes: &[u8]) -> Label
     requires long { 512 ≤ length bytes.now }
     requires count { HasCount bytes.now }
-    ensures fields { HasFields result bytes.now }
+    ensures fields { HasLabelFields result bytes.now }
     ensures entries { HasEntries result bytes.now }
 {
     Label {

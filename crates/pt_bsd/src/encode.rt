@@ -9,8 +9,8 @@ ghost use Rattle.pt_sum.specs.Words.{xor_of};
 ghost use Rattle.pt_bsd.specs.Bytes.{number_at};
 ghost use Rattle.pt_bsd.specs.Label.{LabelBytes, HasEntry, place_of};
 ghost use Rattle.pt_bsd.specs.Counted.{end_of, count_of, IsCounted, FitsSlice};
-ghost use Rattle.pt_bsd.specs.Writing.{put_at, ChangesOnly, head_from, HeadFits, tail_from, TailFits, entry_from, EntryFits, HasFront};
-ghost use Rattle.pt_bsd.specs.Writing.{IsPut, PutSoFar};
+ghost use Rattle.pt_bsd.specs.Writing.{put_at, ChangesOnly, head_from, HeadFits, tail_from, TailFits, entry_from, LabelEntryFits, HasFront};
+ghost use Rattle.pt_bsd.specs.Writing.{EntryIsPut, PutSoFar};
 
 use crate::decode::{ENTRIES, ENTRY, MAGIC, decode_label};
 use crate::label::{Label, LabelEntry};
@@ -97,7 +97,7 @@ fn tail(label: &Label, count: u16) -> [u8; 16]
 #[tactic(auto, unfolding(crate::specs::Writing::entry_from))]
 fn entry_bytes(entry: &LabelEntry) -> [u8; 16]
     ensures bytes { result ≡ entry_from entry.now }
-    ensures fits { EntryFits entry.now }
+    ensures fits { LabelEntryFits entry.now }
 {
     let mut bytes = [0; 16];
     put_u32(&mut bytes, 0, entry.size);

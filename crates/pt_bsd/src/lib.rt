@@ -8,14 +8,10 @@ mod empty;
 mod encode;
 mod form;
 mod label;
-mod laws;
+pub mod laws;
 
 pub use decode::{bears_magic, decode_label};
 pub use empty::empty_label;
 pub use encode::{encode_for, encode_label};
 pub use form::Form;
 pub use label::{Label, LabelEntry, LabelError, RAW, RESERVED};
-pub use laws::{
-    changed_label_fits, empty_label_fits, fault_is_no_label, fitting_label_has_form,
-    label_fault_is_one, label_is_one, read_label_fits,
-};

@@ -8,7 +8,7 @@ use Rattle.pt_sector.specs.declared.address.Lba.{Lba}
 use Rattle.pt_mbr.specs.Chain.{IsInside, IsUpward, StandsAt, lba}
 use Rattle.pt_mbr.specs.declared.ebr.Ebr.{Ebr}
 use Rattle.pt_mbr.specs.declared.record.Record.{Record}
-use Rattle.pt_shape.specs.Links.{LinkedOn, IsLinked}
+use Rattle.pt_shape.specs.Links.{LinkedOn, IsLoneChain}
 use Rattle.pt_mbr.specs.Extended.{extent_of}
 
 -- what is left from a place on opens with what stands there
@@ -76,7 +76,7 @@ on_disk x n None (e ∷ es) linked k z lt = absurd linked
 on_disk x n (Some at) (e ∷ es) linked zero z lt = let next = linked_next x n (Some at) e es linked in next.0.1.1
 on_disk x n (Some at) (e ∷ es) linked (suc k) z lt = on_disk x n e.next es linked.3 k z (omega (arith, lt))
 
-pub all_on_disk : (n : ℕ) (rs : List Record) (chain : List Ebr) → IsLinked n rs chain → (k : ℕ) (z : Ebr) → k < length chain
+pub all_on_disk : (n : ℕ) (rs : List Record) (chain : List Ebr) → IsLoneChain n rs chain → (k : ℕ) (z : Ebr) → k < length chain
     → (get_or chain k z).at.0 < n
 all_on_disk n [] chain none k z lt = absurd (let e = ap length none in omega (arith, e, lt))
 all_on_disk n (r ∷ []) chain linked k z lt = on_disk (extent_of r) n (Some (lba (extent_of r).first)) chain linked.1 k z lt

@@ -9,9 +9,9 @@ use Rattle.pt_mbr.specs.Mbr.{MbrBytes, BearsProtective}
 use Rattle.pt_mbr.specs.declared.ebr.Ebr.{Ebr}
 use Rattle.pt_mbr.specs.declared.record.Record.{Record}
 use Rattle.pt_mbr.specs.Extended.{extended_of}
-use Rattle.pt_shape.specs.Links.{IsLinked, link_to}
+use Rattle.pt_shape.specs.Links.{IsLoneChain, link_to}
 use Rattle.pt_cases.specs.Records.{IsHeadTarget, IsEbrOver, IsEbrMade, IsEbrTarget, over, made}
-use Rattle.pt_targets.specs.Targets.{HasChain, HasEbrs, AreMbrTargets}
+use Rattle.pt_targets.specs.Targets.{HasLoneChain, HasEbrs, AreMbrTargets}
 use Rattle.pt_targets.specs.declared.target.Target.{Target}
 use Rattle.pt_chains.specs.Steps.{StartsAt, IsHeadOf, AreChainTargets, AreMbr, AreEbr}
 use Rattle.pt_targets.specs.Unmade.{FitsEbr, IsUnmadeHead, IsUnmadeEbr, HasUnmadeEbr, HasUnmadeIn}
@@ -80,13 +80,13 @@ made_unmade b d old first e es nowhere none unfit = record {
 
 -- of the lone extended record
 has_chain : (b n : ℕ) (d : Sectors) (old : List Ebr) (rs : List Record) (first : ℕ) (chain : List Ebr) (ts : List (Target b))
-    → StartsAt rs first → IsLinked n rs chain → HasEbrs d old first chain ts → HasChain d old rs chain ts
+    → StartsAt rs first → IsLoneChain n rs chain → HasEbrs d old first chain ts → HasLoneChain d old rs chain ts
 has_chain b n d old [] first chain ts starts linked has = tt
 has_chain b n d old (r ∷ []) first chain ts starts linked has = subst (λ (f : ℕ). HasEbrs d old f chain ts) starts has
 has_chain b n d old (r ∷ s ∷ rs) first chain ts starts linked has = absurd linked
 
 pub has_unmade : (b n : ℕ) (d : Sectors) (old : List Ebr) (rs : List Record) (first : ℕ) (chain : List Ebr) → StartsAt rs first
-    → IsLinked n rs chain → HasUnmadeEbr b d old first chain → HasUnmadeIn b d old rs chain
+    → IsLoneChain n rs chain → HasUnmadeEbr b d old first chain → HasUnmadeIn b d old rs chain
 has_unmade b n d old [] first chain starts linked none = subst (λ (l : List Ebr). HasUnmadeEbr b d old first l) linked none
 has_unmade b n d old (r ∷ []) first chain starts linked none = subst (λ (f : ℕ). HasUnmadeEbr b d old f chain) starts none
 has_unmade b n d old (r ∷ s ∷ rs) first chain starts linked none = absurd linked
@@ -94,7 +94,7 @@ has_unmade b n d old (r ∷ s ∷ rs) first chain starts linked none = absurd li
 -- sector 0 and the chain
 pub are_targets : (b n : ℕ) (d : Sectors) (old_records records : List (Option Record)) (old chain : List Ebr) (head : Target b)
     (first : ℕ) (ts : List (Target b))
-    → IsHeadOf d old_records records head → StartsAt (extended_of records) first → IsLinked n (extended_of records) chain
+    → IsHeadOf d old_records records head → StartsAt (extended_of records) first → IsLoneChain n (extended_of records) chain
     → AreChainTargets d head old first chain ts → AreMbrTargets d old_records old records chain ts
 are_targets b n d old_records records old chain head first ts is starts linked all = record {
   head = record { target = head; contains = all.start; at = is.at; under = is.under; is = is.is };

@@ -7,7 +7,7 @@ ghost use Rattle.pt_sector.specs.Sectors.{IsSectorSize};
 ghost use Rattle.pt_mbr.specs.Chain.{StandsAt};
 ghost use Rattle.pt_mbr.specs.declared.ebr.Ebr.{Ebr};
 ghost use Rattle.pt_mbr.specs.Extended.{extended_of};
-ghost use Rattle.pt_shape.specs.Links.{IsLinked};
+ghost use Rattle.pt_shape.specs.Links.{IsLoneChain};
 ghost use Rattle.pt_targets.specs.Targets.{AreMbrTargets};
 ghost use Rattle.pt_targets.specs.declared.target.Target.{Target};
 ghost use Rattle.pt_chains.specs.Steps.{IsHeadOf, IsEbrOf, AreChainTargets};
@@ -19,7 +19,7 @@ use crate::head::head_target;
 use pt_mbr::{Ebr, Record};
 use pt_recover::Ebrs;
 use pt_sector::{Disk, FailedRead, Failure, Lba, read_sector};
-use pt_targets::{Kind, Target};
+use pt_targets::{Target, TargetKind};
 use std::alloc::{AllocError, Global};
 
 // Whether one of them stands there.
@@ -55,7 +55,7 @@ fn head_at<const B: usize, D: Disk<B>>(
             at: Lba(0),
             bytes,
             under,
-            kind: Kind::Changes,
+            kind: TargetKind::Changes,
         })),
         None => Ok(None),
     }
@@ -90,7 +90,7 @@ fn ebr_at<const B: usize, D: Disk<B>>(
             at: ebr.at,
             bytes,
             under,
-            kind: Kind::Changes,
+            kind: TargetKind::Changes,
         })),
         None => Ok(None),
     }
@@ -155,7 +155,7 @@ pub fn mbr_targets<const B: usize, D: Disk<B>>(
     chain: &Ebrs,
 ) -> Result<Option<Vec<Target<B>>>, Failure>
     requires size { IsSectorSize B }
-    requires linked { IsLinked (D.count disk.old) (extended_of records.now) chain.now }
+    requires linked { IsLoneChain (D.count disk.old) (extended_of records.now) chain.now }
     requires some { 0 < D.count disk.old }
     ensures same { OnlyReads D.Disk disk.old disk.new }
     ensures blames { Blames fault_of result (D.faults disk.old) (D.faults disk.new) }

@@ -3,7 +3,7 @@
 ghost use Rattle.std.specs.Prelude.{◌≡◌, ◌↔◌, ◌≤◌, [], length, Some, IsTrue};
 ghost use Rattle.pt_mbr.specs.Chain.{IsInside, IsUpward, lba};
 ghost use Rattle.pt_mbr.specs.Extended.{extended_of, extent_of};
-ghost use Rattle.pt_shape.specs.Links.{IsLinked, LinkedOn};
+ghost use Rattle.pt_shape.specs.Links.{IsLoneChain, LinkedOn};
 
 use pt_mbr::{Ebr, Extended, Record, extended_of};
 use pt_recover::Ebrs;
@@ -53,7 +53,7 @@ fn links_on(extended: &Record, sectors: u64, chain: &[Ebr]) -> bool
 /// sectors: at most 128 of them, the first in the first sector of the extended partition, each in its extent and on the
 /// disk, each linking upward to the next, the last to none. Without an extended record there are none; two have none.
 pub fn is_linked(sectors: u64, records: &[Option<Record>; 4], chain: &Ebrs) -> bool
-    ensures { IsTrue result ↔ IsLinked sectors (extended_of records.now) chain.now }
+    ensures { IsTrue result ↔ IsLoneChain sectors (extended_of records.now) chain.now }
 {
     let chain = chain.as_slice();
     match extended_of(records) {

@@ -9,7 +9,7 @@ use Rattle.pt_apply.specs.Promises.{Safe, Keeps, Switches}
 use Rattle.pt_check.specs.laws.Accepted.{no_read, no_neither, same_or, most_or}
 use Rattle.pt_check.specs.Course.{IsCalm, Course, switch_number}
 use Rattle.pt_apply.specs.Plans.{writes_in, NoneIs}
-use Rattle.pt_check.specs.Reasons.{stage, turn, most_writes, FirstWrite, FirstSector, IsOutside, ChangesBoot, ReadsSector, Leads}
+use Rattle.pt_check.specs.Reasons.{stage, turn, most_writes, FirstWrite, FirstSector, IsPastLast, ChangesBoot, ReadsSector, Leads}
 use Rattle.pt_check.specs.Reasons.{GivesNeither, IsStray, IsOwned, Holds}
 use Rattle.pt_check.specs.declared.answer.Why.{Why}
 use Rattle.pt_check.specs.declared.answer.Why.TheVariants.{TooManyWrites, OutOfRange, BootCode, ReadSector, Neither, NotATable, Owned}
@@ -23,7 +23,7 @@ module _ {L : Type 0} (denotes : Sectors → Option L → Type 0) (reads : Secto
     (phases : List Writes) where
   pub record Known (n t : ℕ) : Type 0 where
     pub few : 0 < n → length (writes_in phases) ≤ most_writes
-    pub inside : 1 < n → NoneIs (IsOutside d) (writes_in phases)
+    pub inside : 1 < n → NoneIs (IsPastLast d) (writes_in phases)
     pub boot : 2 < n → NoneIs (ChangesBoot d) (writes_in phases)
     pub read : (p lba : ℕ) → (3 < n) ⊎ ((3 ≡ n) × (2 * p < t)) → ¬ ReadsSector reads d phases p lba
     pub neither : (p : ℕ) → (3 < n) ⊎ ((3 ≡ n) × (2 * p + 1 < t)) → ¬ GivesNeither denotes d phases p
@@ -50,7 +50,7 @@ module _ {L : Type 0} (denotes : Sectors → Option L → Type 0) (reads : Secto
   cleared n t turns known TooManyWrites before =
       λ many. absurd (omega (arith, many, known.few (stage_below 0 n t turns (λ is. absurd (omega (arith, is))) before)))
   cleared n t turns known (OutOfRange k) before =
-      no_first (IsOutside d) k (known.inside (stage_below 1 n t turns (λ is. absurd (omega (arith, is))) before))
+      no_first (IsPastLast d) k (known.inside (stage_below 1 n t turns (λ is. absurd (omega (arith, is))) before))
   cleared n t turns known (BootCode k) before =
       no_first (ChangesBoot d) k (known.boot (stage_below 2 n t turns (λ is. absurd (omega (arith, is))) before))
   cleared n t turns known (ReadSector p lba) before = known.read p lba.0 before
@@ -65,7 +65,7 @@ module _ {L : Type 0} (denotes : Sectors → Option L → Type 0) (reads : Secto
 
   -- before the phases
   pub known_writes : (n : ℕ) → n ≤ 3 → (0 < n → length (writes_in phases) ≤ most_writes)
-      → (1 < n → NoneIs (IsOutside d) (writes_in phases)) → (2 < n → NoneIs (ChangesBoot d) (writes_in phases)) → Known n 0
+      → (1 < n → NoneIs (IsPastLast d) (writes_in phases)) → (2 < n → NoneIs (ChangesBoot d) (writes_in phases)) → Known n 0
   known_writes n le few inside boot = record {
     few = few;
     inside = inside;
@@ -77,7 +77,7 @@ module _ {L : Type 0} (denotes : Sectors → Option L → Type 0) (reads : Secto
     final = λ lt. absurd (omega (arith, le, lt));
   }
 
-  module _ (few : length (writes_in phases) ≤ most_writes) (inside : NoneIs (IsOutside d) (writes_in phases))
+  module _ (few : length (writes_in phases) ≤ most_writes) (inside : NoneIs (IsPastLast d) (writes_in phases))
       (boot : NoneIs (ChangesBoot d) (writes_in phases))
       (old new : Option L) (leads : Leads denotes d phases old new) where
     -- in the phases: i were passed, and at the second turn phase i is calm

@@ -12,7 +12,7 @@ use Rattle.pt_layout.specs.laws.Terms.{finding_excludes_lem}
 use Rattle.pt_check.specs.Course.{Course, IsCalm, switch_number}
 use Rattle.pt_apply.specs.Plans.{writes_in, NoneIs}
 use Rattle.pt_check.specs.First.{FirstWriteIs}
-use Rattle.pt_check.specs.Reasons.{stage, turn, most_writes, FirstWrite, IsOutside, ChangesBoot, IsFit, Leads, IsStray, IsOwned, Holds}
+use Rattle.pt_check.specs.Reasons.{stage, turn, most_writes, FirstWrite, IsPastLast, ChangesBoot, IsFit, Leads, IsStray, IsOwned, Holds}
 use Rattle.pt_check.specs.Trials.{TrialIs}
 use Rattle.pt_sector.specs.declared.address.Lba.{Lba}
 use Rattle.pt_check.specs.Misplaced.{MisplacedIs}
@@ -53,7 +53,7 @@ module _ (b : ℕ) (d : Sectors) (phases : List Writes) where
   none_before n t turns known v before =
       cleared (Denotes b) (Reads b) (TableOf b) (OwnedOf b) (IsFinding b) (denotes_one_lem b) d phases n t turns known v before
 
-  so_far : (n : ℕ) → n ≤ 3 → (0 < n → length (writes_in phases) ≤ most_writes) → (1 < n → NoneIs (IsOutside d) (writes_in phases))
+  so_far : (n : ℕ) → n ≤ 3 → (0 < n → length (writes_in phases) ≤ most_writes) → (1 < n → NoneIs (IsPastLast d) (writes_in phases))
       → (2 < n → NoneIs (ChangesBoot d) (writes_in phases)) → So n 0
   so_far n le few inside boot =
       known_writes (Denotes b) (Reads b) (TableOf b) (OwnedOf b) (IsFinding b) (denotes_one_lem b) d phases n le few inside boot
@@ -65,7 +65,7 @@ module _ (b : ℕ) (d : Sectors) (phases : List Writes) where
         (so_far 0 (omega arith) (λ lt. absurd (omega (arith, lt))) (λ lt. absurd (omega (arith, lt))) (λ lt. absurd (omega (arith, lt)))),
   )
 
-  pub outside : (n : ℕ) → length (writes_in phases) ≤ most_writes → FirstWrite phases (IsOutside d) n
+  pub outside : (n : ℕ) → length (writes_in phases) ≤ most_writes → FirstWrite phases (IsPastLast d) n
       → Answers b d phases (No (OutOfRange n))
   outside n few first = (
     first,
@@ -73,7 +73,7 @@ module _ (b : ℕ) (d : Sectors) (phases : List Writes) where
         (so_far 1 (omega arith) (λ lt. few) (λ lt. absurd (omega (arith, lt))) (λ lt. absurd (omega (arith, lt)))),
   )
 
-  pub boot : (n : ℕ) → length (writes_in phases) ≤ most_writes → NoneIs (IsOutside d) (writes_in phases)
+  pub boot : (n : ℕ) → length (writes_in phases) ≤ most_writes → NoneIs (IsPastLast d) (writes_in phases)
       → FirstWrite phases (ChangesBoot d) n → Answers b d phases (No (BootCode n))
   boot n few inside first =
       (first, none_before 2 0 (inl refl) (so_far 2 (omega arith) (λ lt. few) (λ lt. inside) (λ lt. absurd (omega (arith, lt)))))

@@ -37,9 +37,9 @@ Promises b d phases (No why) = Unit {0}
 Promises b d phases (Yes switch) = Safe (Denotes b) (Healthy b) (TableOf b) (OwnedOf b) phases d switch
 
 -- after a yes: each write is of a sector below n
-abbrev pub Fits : {b : _} → ℕ → Plan b → Answer → Type 0
-Fits n plan (No why) = Unit {0}
-Fits n plan (Yes switch) = InRange n plan
+abbrev pub WritesFit : {b : _} → ℕ → Plan b → Answer → Type 0
+WritesFit n plan (No why) = Unit {0}
+WritesFit n plan (Yes switch) = InRange n plan
 
 -- writes that fit are as many as is told, not too many, and each of a sector below n
 abbrev pub AreInRange : {b : _} → ℕ → Plan b → Judged → Type 0

@@ -8,7 +8,7 @@ use Rattle.pt_layout.specs.declared.finding.Finding.{Finding}
 use Rattle.pt_check.specs.Course.{phase_at, disk_after}
 use Rattle.pt_apply.specs.Plans.{writes_in}
 use Rattle.pt_check.specs.First.{IsFirst}
-use Rattle.pt_check.specs.Reasons.{stage, turn, FirstWrite, FirstSector, IsOutside, ChangesBoot, ReadsSector, Leads, IsStray, IsOwned}
+use Rattle.pt_check.specs.Reasons.{stage, turn, FirstWrite, FirstSector, IsPastLast, ChangesBoot, ReadsSector, Leads, IsStray, IsOwned}
 use Rattle.pt_check.specs.Reasons.{IsSwitch, Holds, IsAnswer}
 use Rattle.pt_check.specs.declared.answer.Answer.{Answer}
 use Rattle.pt_check.specs.declared.answer.Answer.TheVariants.{No, Yes}
@@ -65,7 +65,7 @@ module _ {L : Type 0} (denotes : Sectors → Option L → Type 0) (reads : Secto
   same_kind : (v w : Why) → stage v ≡ stage w → turn v ≡ turn w → Holds denotes reads table owned finds d phases v
       → Holds denotes reads table owned finds d phases w → SameReason finds (after phases d) v w
   same_kind TooManyWrites TooManyWrites s t a b = inl refl
-  same_kind (OutOfRange n) (OutOfRange m) s t a b = inl (ap (λ (k : ℕ). OutOfRange k) (number_one phases (IsOutside d) n m a b))
+  same_kind (OutOfRange n) (OutOfRange m) s t a b = inl (ap (λ (k : ℕ). OutOfRange k) (number_one phases (IsPastLast d) n m a b))
   same_kind (BootCode n) (BootCode m) s t a b = inl (ap (λ (k : ℕ). BootCode k) (number_one phases (ChangesBoot d) n m a b))
   same_kind (ReadSector p l) (ReadSector q m) s t a b =
       let same : p ≡ q = omega (arith, t) in

@@ -56,8 +56,8 @@ pub record FirstSector (phases : List Writes) (P : ℕ × List ℕ → Type 0) (
   pub first : IsFirst P (writes_in phases) at write
 
 -- a write of a sector past the last
-abbrev pub IsOutside : Sectors → ℕ × List ℕ → Type 0
-IsOutside d w = ¬ (w.0 < length d)
+abbrev pub IsPastLast : Sectors → ℕ × List ℕ → Type 0
+IsPastLast d w = ¬ (w.0 < length d)
 
 -- a write of sector 0 with another boot code
 abbrev pub ChangesBoot : Sectors → ℕ × List ℕ → Type 0
@@ -66,7 +66,7 @@ ChangesBoot d w = (w.0 ≡ 0) × ¬ (take 440 w.1 ≡ boot_code d)
 -- not too many writes, each within the disk, and none that changes the boot code
 pub record IsFit (d : Sectors) (phases : List Writes) : Type 0 where
   pub few : length (writes_in phases) ≤ most_writes
-  pub inside : NoneIs (IsOutside d) (writes_in phases)
+  pub inside : NoneIs (IsPastLast d) (writes_in phases)
   pub boot : NoneIs (ChangesBoot d) (writes_in phases)
 
 -- this phase, counted from 1, has several writes, and the first of a sector that recovery reads on the disk before it is of this one
@@ -128,7 +128,7 @@ module _ {L : Type 0} (denotes : Sectors → Option L → Type 0) (reads : Secto
   -- each reason
   abbrev pub Holds : Why → Type 0
   Holds TooManyWrites = most_writes < length (writes_in phases)
-  Holds (OutOfRange n) = FirstWrite phases (IsOutside d) n
+  Holds (OutOfRange n) = FirstWrite phases (IsPastLast d) n
   Holds (BootCode n) = FirstWrite phases (ChangesBoot d) n
   Holds (ReadSector p lba) = ReadsSector reads d phases p lba.0
   Holds (Neither p) = GivesNeither denotes d phases p

@@ -6,6 +6,6 @@ use Rattle.pt_recover.specs.Spans.{IsIn}
 use Rattle.pt_check.specs.declared.recovered.Recovered.{Recovered}
 
 -- d denotes its layout, and its trace has the sectors that recovery of d reads
-pub record IsOf (b : ℕ) (d : Sectors) (r : Recovered) : Type 0 where
+pub record IsRecoveredOf (b : ℕ) (d : Sectors) (r : Recovered) : Type 0 where
   pub denotes : Denotes b d r.layout
   pub reads : (s : ℕ) → IsIn r.trace s ↔ Reads b d s

@@ -5,12 +5,12 @@ ghost use Rattle.pt_sector.specs.Calls.{Blames};
 ghost use Rattle.pt_sector.specs.Reads.{OnlyReads, read_of};
 ghost use Rattle.pt_sector.specs.Sectors.{IsSectorSize};
 ghost use Rattle.pt_apply.specs.Plans.{phases_of, writes_in};
-ghost use Rattle.pt_check.specs.Answers.{Answers, AreInRange, AreJudged, Promises, Fits, concluded};
+ghost use Rattle.pt_check.specs.Answers.{Answers, AreInRange, AreJudged, Promises, WritesFit, concluded};
 ghost use Rattle.pt_check.specs.Course.{switch_number};
 ghost use Rattle.pt_check.specs.Failed.{fault_in};
 ghost use Rattle.pt_check.specs.Misplaced.{MisplacedIs};
 ghost use Rattle.pt_check.specs.Reasons.{IsFit};
-ghost use Rattle.pt_check.specs.Recovered.{IsOf};
+ghost use Rattle.pt_check.specs.Recovered.{IsRecoveredOf};
 
 use crate::answer::{Answer, Why};
 use crate::boot::other_boot_code;
@@ -44,7 +44,7 @@ pub fn check<const B: usize, D: Disk<B>>(
     requires size { IsSectorSize B }
     ensures same { OnlyReads D.Disk disk.old disk.new }
     ensures blames { Blames fault_in result (D.faults disk.old) (D.faults disk.new) }
-    ensures in_range { IfOk result (λ a. Fits (D.count disk.old) plan.now a) }
+    ensures in_range { IfOk result (λ a. WritesFit (D.count disk.old) plan.now a) }
     ensures answers { D.tells → IfOk result (λ a. Answers B (D.told disk.old).seen (phases_of plan.now) a) }
     ensures promises { D.tells → IfOk result (λ a. Promises B (D.told disk.old).seen (phases_of plan.now) a) }
 {
@@ -62,7 +62,7 @@ fn read_and_check<const B: usize, D: Disk<B>>(
     requires size { IsSectorSize B }
     ensures same { OnlyReads D.Disk disk.old disk.new }
     ensures blames { Blames fault_in result (D.faults disk.old) (D.faults disk.new) }
-    ensures in_range { IfOk result (λ a. Fits (D.count disk.old) plan.now a) }
+    ensures in_range { IfOk result (λ a. WritesFit (D.count disk.old) plan.now a) }
     ensures answers { D.tells → IfOk result (λ a. Answers B (D.told disk.old).seen (phases_of plan.now) a) }
     ensures promises { D.tells → IfOk result (λ a. Promises B (D.told disk.old).seen (phases_of plan.now) a) }
 {
@@ -79,10 +79,10 @@ pub fn check_known<const B: usize, D: Disk<B>>(
     before: Recovered,
 ) -> Result<Answer, CheckError>
     requires size { IsSectorSize B }
-    requires known { D.tells → IsOf B (D.told disk.old).seen before }
+    requires known { D.tells → IsRecoveredOf B (D.told disk.old).seen before }
     ensures same { OnlyReads D.Disk disk.old disk.new }
     ensures blames { Blames fault_in result (D.faults disk.old) (D.faults disk.new) }
-    ensures in_range { IfOk result (λ a. Fits (D.count disk.old) plan.now a) }
+    ensures in_range { IfOk result (λ a. WritesFit (D.count disk.old) plan.now a) }
     ensures answers { D.tells → IfOk result (λ a. Answers B (D.told disk.old).seen (phases_of plan.now) a) }
     ensures promises { D.tells → IfOk result (λ a. Promises B (D.told disk.old).seen (phases_of plan.now) a) }
 {
@@ -136,7 +136,7 @@ fn check_phases<const B: usize, D: Disk<B>>(
     requires few { length (writes_in (phases_of plan.now)) ≤ 4096 }
     requires room { count ≡ length (writes_in (phases_of plan.now)) }
     requires fit { D.tells → IsFit (D.told disk.old).seen (phases_of plan.now) }
-    requires known { D.tells → IsOf B (D.told disk.old).seen before }
+    requires known { D.tells → IsRecoveredOf B (D.told disk.old).seen before }
     ensures same { OnlyReads D.Disk disk.old disk.new }
     ensures blames { Blames fault_in result (D.faults disk.old) (D.faults disk.new) }
     ensures answers { D.tells → IfOk result (λ a. Answers B (D.told disk.old).seen (phases_of plan.now) a) }

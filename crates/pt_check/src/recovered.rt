@@ -3,7 +3,7 @@ ghost use Rattle.pt_sector.specs.Calls.{Blames};
 ghost use Rattle.pt_sector.specs.Reads.{OnlyReads};
 ghost use Rattle.pt_sector.specs.Sectors.{IsSectorSize};
 ghost use Rattle.pt_check.specs.Failed.{fault_in};
-ghost use Rattle.pt_check.specs.Recovered.{IsOf};
+ghost use Rattle.pt_check.specs.Recovered.{IsRecoveredOf};
 
 use crate::error::CheckError;
 use pt_recover::{Layout, Trace, recover_traced};
@@ -25,7 +25,7 @@ pub(crate) fn read_layout<const B: usize, D: Disk<B>>(
     requires size { IsSectorSize B }
     ensures same { OnlyReads D.Disk disk.old disk.new }
     ensures blames { Blames fault_in result (D.faults disk.old) (D.faults disk.new) }
-    ensures recovered { D.tells → IfOk result (λ r. IsOf B (D.told disk.old).seen r) }
+    ensures recovered { D.tells → IfOk result (λ r. IsRecoveredOf B (D.told disk.old).seen r) }
 {
     let (answer, trace) = recover_traced(alloc, disk);
     let error = match answer {

@@ -10,7 +10,7 @@ ghost use Rattle.pt_apply.specs.Plans.{writes_of, phases_of, writes_in};
 ghost use Rattle.pt_recover.specs.Denotes.{Denotes, Reads};
 ghost use Rattle.pt_recover.specs.Spans.{IsIn};
 ghost use Rattle.pt_check.specs.Failed.{fault_in};
-ghost use Rattle.pt_check.specs.Recovered.{IsOf};
+ghost use Rattle.pt_check.specs.Recovered.{IsRecoveredOf};
 ghost use Rattle.pt_check.specs.Trials.{TouchedIs, StepIs, TrialIs};
 
 use crate::answer::Why;
@@ -122,7 +122,7 @@ pub(crate) fn try_phases<const B: usize, D: Disk<B>>(
 ) -> Result<Trial, CheckError>
     requires size { IsSectorSize B }
     requires room { count ≡ length (writes_in (phases_of plan.now)) }
-    requires old { D.tells → IsOf B (D.told disk.old).seen (record { layout = layouts.now.old; trace = trace }) }
+    requires old { D.tells → IsRecoveredOf B (D.told disk.old).seen (record { layout = layouts.now.old; trace = trace }) }
     ensures same { OnlyReads D.Disk disk.old disk.new }
     ensures blames { Blames fault_in result (D.faults disk.old) (D.faults disk.new) }
     ensures tried { D.tells → IfOk result

@@ -9,14 +9,11 @@ ghost use Rattle.pt_copies.specs.Added.{AddsBackup};
 
 use pt_apply::Write;
 use pt_gpt::{
-    Entry, Header, Side, Table, array_at, array_crc, array_sectors, encode_array_sector,
-    encode_header, header_at,
+    ENTRY_SIZE, Entry, Header, Side, Table, array_at, array_crc, array_sectors,
+    encode_array_sector, encode_header, header_at,
 };
 use pt_sector::{Lba, Sector};
 use std::alloc::{AllocError, Global};
-
-/// The size of an entry, in bytes.
-const ENTRY_SIZE: u32 = 128;
 
 fn other_side(side: Side) -> Side
     ensures { result ≡ opposite side }
@@ -43,7 +40,7 @@ pub(crate) fn header_sector<const B: usize>(sectors: u64, table: &Table, side: S
         disk: table.disk,
         array: array_at::<B>(side, sectors),
         count: table.entries.len() as u32,
-        entry_size: ENTRY_SIZE,
+        entry_size: ENTRY_SIZE as u32,
         array_crc: array_crc(table.entries.as_slice()),
     })
 }

@@ -31,7 +31,7 @@ use Rattle.pt_edit.specs.Changes.{Elsewhere}
 use Rattle.pt_edit.specs.Spots.{EntryTyped, EntryNotTyped, EntryDeleted, EntryNotDeleted}
 use Rattle.pt_edit.specs.NewEntry.{EntryMade, EntryNotMade}
 use Rattle.pt_edit.specs.Edited.{State, initial, empty_gpt, no_room, no_guid, InKind, Typed, NotTyped, Deleted, NotDeleted, Made, NotMade}
-use Rattle.pt_edit.specs.Edited.{asked_for, MakesOn, RefusesOn, taken_by, MakesOf, RefusedOf, Takes, Refuses, Ends, EditedFrom, Edited}
+use Rattle.pt_edit.specs.Edited.{asked_for, MakesOn, RefusesOn, taken_by, MakesOf, RefusedOf, Takes, Refuses, WordsEnd, EditedFrom, Edited}
 use Rattle.pt_words.specs.declared.asked.Asked.{Asked}
 use Rattle.pt_edit.proofs.EntryAnswers.{changed_or, changed_freely_or, table_made_or, elsewhere_decided, entry_typed_or, entry_deleted_or}
 use Rattle.pt_edit.proofs.EntryAnswers.{entry_made_or}
@@ -218,7 +218,7 @@ takes_or b n ToGpt s four = makes_of_or b ToGpt s four
 takes_or b n Empty s four = empty_or b n s
 
 -- the end of the words
-ends_with : (o : Option Layout) → (r : Result Layout Refusal) × Ends o r
+ends_with : (o : Option Layout) → (r : Result Layout Refusal) × WordsEnd o r
 ends_with None = (Err NotForThisTable, refl)
 ends_with (Some o) = (Ok o, refl)
 

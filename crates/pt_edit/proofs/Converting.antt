@@ -25,10 +25,11 @@ use Rattle.pt_words.specs.laws.Searches.{numbers_decided, search_below, search_l
 use Rattle.pt_words.specs.declared.error.Refusal.{Refusal}
 use Rattle.pt_words.specs.declared.error.Refusal.TheVariants.{NotForThisTable, UnknownCode, NoRoomForGpt, NoFreshGuid, SameGuid}
 use Rattle.pt_edit.specs.Partitions.{partitions}
-use Rattle.pt_edit.specs.Room.{edge, IsOutside, IsOutsider, NoRoom, small, partition, ebr, many}
+use Rattle.pt_gpt.specs.Array.{edge}
+use Rattle.pt_edit.specs.Room.{LiesOutside, IsOutsider, NoRoom, small, partition, ebr, many}
 use Rattle.pt_edit.specs.Converted.{HasRecords, new_type, HasUnknown, entry_of, guids_taken, HasTwins, IsGptOf, MayConvert, Converted}
 use Rattle.pt_edit.specs.Converted.{NotConverted, no_mbr, unknown, no_room, too_few, twins}
-use Rattle.pt_edit.specs.Twins.{IsSame, HasTwin}
+use Rattle.pt_edit.specs.Twins.{IsSameGuid, HasTwin}
 use Rattle.pt_edit.specs.Placed.{Placeable}
 use Rattle.pt_edit.specs.declared.partition.Partition.{Partition}
 use Rattle.pt_edit.proofs.Alike.{same_of, of_same, twice_of, no_twins}
@@ -52,7 +53,7 @@ extended_decided Leaf = inr (λ e. absurd cc)
 extended_decided Slice = inr (λ e. absurd cc)
 extended_decided Extended = inl refl
 
-outside_decided : (b n first last : ℕ) → Decided (IsOutside b n first last)
+outside_decided : (b n first last : ℕ) → Decided (LiesOutside b n first last)
 outside_decided b n first last = either_decided (lt_decided first (edge b)) (lt_decided (n - edge b) last)
 
 outsider_decided : (b n : ℕ) (m : Member) → Decided (IsOutsider b n m)
@@ -81,21 +82,21 @@ member_outside_decided b o =
 
 -- an extended boot record that lies outside
 abbrev StandsOutside : ℕ → ℕ → List Ebr → Type 0
-StandsOutside b n chain = (s : ℕ) × StandsAt s chain × IsOutside b n s s
+StandsOutside b n chain = (s : ℕ) × StandsAt s chain × LiesOutside b n s s
 
 stands_decided : (b n : ℕ) (chain : List Ebr) → Decided (StandsOutside b n chain)
 stands_decided b n [] = inr (λ has. has.1)
 stands_decided b n (e ∷ es) = joined (outside_decided b n e.at.0 e.at.0) (stands_decided b n es) where
-  joined : Decided (IsOutside b n e.at.0 e.at.0) → Decided (StandsOutside b n es) → Decided (StandsOutside b n (e ∷ es))
+  joined : Decided (LiesOutside b n e.at.0 e.at.0) → Decided (StandsOutside b n es) → Decided (StandsOutside b n (e ∷ es))
   joined (inl out) more = inl (e.at.0, inl refl, out)
   joined (inr not) (inl has) = inl (has.0, inr has.1, has.2)
   joined (inr not) (inr none) = inr (λ has. (elim has.1 as (λ _. ⊥) [
-    | inl same ↦ not (subst (λ (s : ℕ). IsOutside b n s s) same has.2)
+    | inl same ↦ not (subst (λ (s : ℕ). LiesOutside b n s s) same has.2)
     | inr later ↦ none (has.0, later, has.2)
   ]))
 
 abbrev EbrOutside : ℕ → ℕ → Body → Type 0
-EbrOutside b n y = (s : ℕ) × IsEbr y s × IsOutside b n s s
+EbrOutside b n y = (s : ℕ) × IsEbr y s × LiesOutside b n s s
 
 ebr_decided : (b n : ℕ) (y : Body) → Decided (EbrOutside b n y)
 ebr_decided b n (Mbr records chain) = stands_decided b n chain
@@ -128,12 +129,12 @@ guids_decided g h = alike_decided (λ same. ap guid_from same) (λ same. ap (λ 
 no_guid : Guid
 no_guid = record { 0 = [] }
 
-same_decided : (guids : List Guid) (i j : ℕ) → Decided (IsSame guids i j)
+same_decided : (guids : List Guid) (i j : ℕ) → Decided (IsSameGuid guids i j)
 same_decided guids i j =
     joined (lt_decided i (length guids)) (lt_decided j (length guids))
     (guids_decided (get_or guids i no_guid) (get_or guids j no_guid)) where
       joined : Decided (i < length guids) → Decided (j < length guids) → Decided (get_or guids i no_guid ≡ get_or guids j no_guid)
-          → Decided (IsSame guids i j)
+          → Decided (IsSameGuid guids i j)
       joined (inl low) (inl high) (inl same) = inl (same_of guids i j no_guid low high same)
       joined (inl low) (inl high) (inr other) = inr (λ is. other (of_same guids i j no_guid is))
       joined (inl low) (inr past) same = inr (λ is. past is.2.0)
@@ -141,7 +142,7 @@ same_decided guids i j =
 
 twin_decided : (guids : List Guid) (j : ℕ) → Decided (HasTwin guids j)
 twin_decided guids j =
-    elim (search_below (λ i. IsSame guids (1 + i) (1 + j)) (λ i. same_decided guids (1 + i) (1 + j)) j)
+    elim (search_below (λ i. IsSameGuid guids (1 + i) (1 + j)) (λ i. same_decided guids (1 + i) (1 + j)) j)
     as (λ _. Decided (HasTwin guids j)) [
       | inl found ↦ inl (found.place, found.within, found.holds)
       | inr none ↦ inr (λ has. none has.0 has.1 has.2)

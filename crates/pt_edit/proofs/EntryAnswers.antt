@@ -20,13 +20,16 @@ use Rattle.pt_space.specs.declared.space.Run.{Run}
 use Rattle.pt_space.specs.laws.Answers.{PlacedOr, place_answers_lem}
 use Rattle.pt_labels.specs.Lists.{without_label}
 use Rattle.pt_edit.proofs.Converting.{guids_decided}
-use Rattle.pt_edit.specs.Changes.{IsGpt, HasEntry, with_entry, with_body, Changed, Missing, no_gpt, no_entry, NotChanged, missing, barred}
+use Rattle.pt_edit.specs.Changes.{IsGpt, HasUsedEntry, with_entry, with_body, Changed, Missing, no_gpt, no_entry, NotChanged, missing}
+use Rattle.pt_edit.specs.Changes.{barred}
 use Rattle.pt_edit.specs.Changes.{IsElsewhere, Elsewhere, TableMade, NoTable}
 use Rattle.pt_labels.specs.laws.Retyped.{IsRetyped, retyped_or}
 use Rattle.pt_edit.specs.Spots.{is_slice, entry_type, EntryTyped, EntryNotTyped, EntryDeleted}
 use Rattle.pt_edit.specs.Spots.{EntryNotDeleted}
-use Rattle.pt_edit.specs.NewEntry.{IsUnused, TakesNumber, given, lowest, NoNumber, no_such_number, taken, all_taken, new_type, table_area}
-use Rattle.pt_edit.specs.NewEntry.{HasPlace, NoPlace, no_number, no_type, no_sectors, run_length, IsWrongSize, with_new_entry, EntryMade}
+use Rattle.pt_edit.specs.NewEntry.{IsUnusedEntry, TakesNumber, given, lowest, NoNumber, no_such_number, taken, all_taken, new_type}
+use Rattle.pt_edit.specs.NewEntry.{table_area}
+use Rattle.pt_edit.specs.NewEntry.{EntryHasPlace, NoPlace, no_number, no_type, no_sectors, run_length, IsWrongSize, with_new_entry}
+use Rattle.pt_edit.specs.NewEntry.{EntryMade}
 use Rattle.pt_edit.specs.NewEntry.{EntryNotMade, no_place, wrong_size, no_guid, same_guid}
 use Rattle.pt_words.specs.declared.asked.Asked.{Asked}
 
@@ -36,7 +39,7 @@ absent_decided (Some x) = inr (λ e. absurd cc)
 
 -- the used entry of a number
 abbrev EntryOr : Table → ℕ → Type 0
-EntryOr t number = ((e : Entry) × HasEntry t number e) ⊎ ((e : Entry) → ¬ HasEntry t number e)
+EntryOr t number = ((e : Entry) × HasUsedEntry t number e) ⊎ ((e : Entry) → ¬ HasUsedEntry t number e)
 
 entry_or : (t : Table) (number : ℕ) → EntryOr t number
 entry_or t number =
@@ -54,7 +57,7 @@ record EntryOf (number : ℕ) (o : Layout) : Type 0 where
   pub table : Table
   pub entry : Entry
   pub is : o.body ≡ Gpt table
-  pub has : HasEntry table number entry
+  pub has : HasUsedEntry table number entry
 
 abbrev MissingOr : ℕ → Layout → Type 0
 MissingOr number o = EntryOf number o ⊎ ((r : Refusal) × Missing number o r)
@@ -119,13 +122,13 @@ IsElsewhereAt t number guid k = (e : Entry) × IsElsewhere t number guid k e
 
 elsewhere_at_decided : (t : Table) (number : ℕ) (guid : Guid) (k : ℕ) → Decided (IsElsewhereAt t number guid k)
 elsewhere_at_decided t number guid k = joined (entry_or t k) where
-  one_entry : (e f : Entry) → HasEntry t k e → HasEntry t k f → e ≡ f
+  one_entry : (e f : Entry) → HasUsedEntry t k e → HasUsedEntry t k f → e ≡ f
   one_entry e f x y =
       let a = x.used in
       let b = y.used in
       cc
 
-  same_or : (e : Entry) → HasEntry t k e → Decided (k ≡ number) → Decided (e.unique ≡ guid) → Decided (IsElsewhereAt t number guid k)
+  same_or : (e : Entry) → HasUsedEntry t k e → Decided (k ≡ number) → Decided (e.unique ≡ guid) → Decided (IsElsewhereAt t number guid k)
   same_or e has (inl here) same = inr (λ x. x.1.other here)
   same_or e has (inr other) (inl same) = inl (e, record { is_entry = has; other = other; same = same })
   same_or e has (inr other) (inr not) = inr (λ x.
@@ -150,9 +153,9 @@ TypedOr b t number code o = ((p : Layout) × EntryTyped b t number code o p) ⊎
 pub entry_typed_or : (b : ℕ) (t : Table) (number : ℕ) (code : Code) (o : Layout)
     → ((p : Layout) × EntryTyped b t number code o p) ⊎ ((r : Refusal) × EntryNotTyped b t number code r)
 entry_typed_or b t number code o =
-    told (retyped_or (HasEntry t number) (entry_type code) (λ (e : Entry). e.kind.0) (is_slice b) (entry_or t number)
+    told (retyped_or (HasUsedEntry t number) (entry_type code) (λ (e : Entry). e.kind.0) (is_slice b) (entry_or t number)
     (option_cases (entry_type code))) where
-      told : IsRetyped (HasEntry t number) (entry_type code) (λ (e : Entry). e.kind.0) (is_slice b)
+      told : IsRetyped (HasUsedEntry t number) (entry_type code) (λ (e : Entry). e.kind.0) (is_slice b)
           ⊎ ((r : Refusal) × EntryNotTyped b t number code r) → TypedOr b t number code o
       told (inr why) = inr why
       told (inl (e, kind, has, known, old, new)) = inl (
@@ -188,7 +191,7 @@ entry_deleted_or t number o = joined (entry_or t number) where
   )
 
 -- the number of a new entry
-unused_decided : (t : Table) (number : ℕ) → Decided (IsUnused t number)
+unused_decided : (t : Table) (number : ℕ) → Decided (IsUnusedEntry t number)
 unused_decided t number =
     alike_decided
     (λ x. record { first = x.0.0; last = x.0.1; none = x.1 })
@@ -200,7 +203,7 @@ abbrev NumberOr : Table → ℕ → Type 0
 NumberOr t wanted = ((number : ℕ) × TakesNumber t wanted number) ⊎ ((r : Refusal) × NoNumber t wanted r)
 
 lowest_or : (t : Table) (wanted : ℕ) → wanted ≡ 0 → NumberOr t wanted
-lowest_or t wanted is = elim (search_below (IsUnused t) (unused_decided t) (length t.entries + 1)) as (λ _. NumberOr t wanted) [
+lowest_or t wanted is = elim (search_below (IsUnusedEntry t) (unused_decided t) (length t.entries + 1)) as (λ _. NumberOr t wanted) [
   | inl found ↦ inl (
     found.place,
     lowest is found.holds
@@ -227,7 +230,7 @@ number_or t wanted = elim (cases_eq wanted 0) as (λ _. NumberOr t wanted) [
 
 -- its number, its type and its sectors
 abbrev PlaceOr : Table → Asked → Type 0
-PlaceOr t a = ((number : ℕ) × (kind : List ℕ) × (run : Run) × HasPlace t a number kind run) ⊎ ((r : Refusal) × NoPlace t a r)
+PlaceOr t a = ((number : ℕ) × (kind : List ℕ) × (run : Run) × EntryHasPlace t a number kind run) ⊎ ((r : Refusal) × NoPlace t a r)
 
 place_or : (t : Table) (a : Asked) → PlaceOr t a
 place_or t a =
@@ -252,7 +255,7 @@ abbrev MadeOr : ℕ → Table → Asked → List Guid → Layout → Type 0
 MadeOr b t a fresh o = ((p : Layout) × EntryMade b t a fresh o p) ⊎ ((r : Refusal) × EntryNotMade b t a fresh r)
 
 with_guid : (b : ℕ) (t : Table) (a : Asked) (fresh : List Guid) (o : Layout) (number : ℕ) (kind : List ℕ) (run : Run)
-    → HasPlace t a number kind run → ¬ IsWrongSize b kind run
+    → EntryHasPlace t a number kind run → ¬ IsWrongSize b kind run
     → (l : List Guid) → fresh ≡ l → MadeOr b t a fresh o
 with_guid b t a fresh o number kind run has size [] is = inr (NoFreshGuid, no_guid number kind run has size is refl)
 with_guid b t a fresh o number kind run has size (guid ∷ rest) is = elim (elsewhere_decided t number guid) as (λ _. MadeOr b t a fresh o) [
@@ -277,7 +280,8 @@ with_guid b t a fresh o number kind run has size (guid ∷ rest) is = elim (else
 pub entry_made_or : (b : ℕ) (t : Table) (a : Asked) (fresh : List Guid) (o : Layout)
     → ((p : Layout) × EntryMade b t a fresh o p) ⊎ ((r : Refusal) × EntryNotMade b t a fresh r)
 entry_made_or b t a fresh o = joined (place_or t a) where
-  sized : (number : ℕ) (kind : List ℕ) (run : Run) → HasPlace t a number kind run → Decided (IsWrongSize b kind run) → MadeOr b t a fresh o
+  sized : (number : ℕ) (kind : List ℕ) (run : Run) → EntryHasPlace t a number kind run → Decided (IsWrongSize b kind run)
+      → MadeOr b t a fresh o
   sized number kind run has (inl wrong) = inr (ContainerType, wrong_size number kind run has wrong refl)
   sized number kind run has (inr size) = with_guid b t a fresh o number kind run has size fresh refl
 

@@ -6,22 +6,22 @@ use Rattle.std.proofs.lemmas.List.{get_or_default, get_or-set_same, get_or-set_o
 use Rattle.std.proofs.lemmas.Bool.{cases_lt}
 use Rattle.pt_guid.specs.declared.guid.Guid.{Guid}
 use Rattle.pt_gpt.specs.declared.entry.Entry.{Entry}
-use Rattle.pt_edit.specs.Converted.{IsAt, entry_of}
+use Rattle.pt_edit.specs.Converted.{IsItemAt, entry_of}
 use Rattle.pt_edit.specs.Placed.{Placeable, ArePlaced}
 use Rattle.pt_edit.specs.declared.partition.Partition.{Partition}
 
 -- the first k of the partitions are in place
 pub record UpTo (guids : List Guid) (ps : List Partition) (k : ℕ) (entries : List (Option Entry)) : Type 0 where
   pub count : length entries ≡ 128
-  pub each : (j : ℕ) (p : Partition) (guid : Guid) → j < k → IsAt ps j p → IsAt guids (1 + j) guid
+  pub each : (j : ℕ) (p : Partition) (guid : Guid) → j < k → IsItemAt ps j p → IsItemAt guids (1 + j) guid
       → get_or entries (p.number - 1) None ≡ entry_of guid p
-  pub others : (number : ℕ) → 1 ≤ number → number ≤ 128 → ((j : ℕ) (p : Partition) → j < k → IsAt ps j p → p.number ≢ number)
+  pub others : (number : ℕ) → 1 ≤ number → number ≤ 128 → ((j : ℕ) (p : Partition) → j < k → IsItemAt ps j p → p.number ≢ number)
       → get_or entries (number - 1) None ≡ None
 
-pub at_one : {X : Type 0} (xs : List X) (k : ℕ) (x y : X) → IsAt xs k x → IsAt xs k y → x ≡ y
+pub at_one : {X : Type 0} (xs : List X) (k : ℕ) (x y : X) → IsItemAt xs k x → IsItemAt xs k y → x ≡ y
 at_one xs k x y a b = sym a.1 ∙ (get_or_default xs k x y a.0 ∙ b.1)
 
-pub at_place : {X : Type 0} (xs : List X) (k : ℕ) (z : X) → k < length xs → IsAt xs k (get_or xs k z)
+pub at_place : {X : Type 0} (xs : List X) (k : ℕ) (z : X) → k < length xs → IsItemAt xs k (get_or xs k z)
 at_place xs k z lt = (lt, get_or_default xs k (get_or xs k z) z lt)
 
 pub none_placed : (guids : List Guid) (ps : List Partition) → UpTo guids ps 0 (replicate 128 None)
@@ -32,7 +32,7 @@ none_placed guids ps = record {
 }
 
 pub one_placed_on : (n : ℕ) (guids : List Guid) (ps : List Partition) (k : ℕ) (entries : List (Option Entry)) (p : Partition)
-    (guid : Guid) → Placeable n ps → UpTo guids ps k entries → IsAt ps k p → IsAt guids (1 + k) guid
+    (guid : Guid) → Placeable n ps → UpTo guids ps k entries → IsItemAt ps k p → IsItemAt guids (1 + k) guid
     → UpTo guids ps (k + 1) (set entries (p.number - 1) (entry_of guid p))
 one_placed_on n guids ps k entries p guid fit before at some =
     let low = fit.low k p at in
@@ -51,8 +51,9 @@ one_placed_on n guids ps k entries p guid fit before at some =
                 )
             | inr past ↦ (
                 let e : j ≡ k = omega arith in
-                let part : p ≡ q = at_one ps k p q at (subst (λ (m : ℕ). IsAt ps m q) e there) in
-                let unique : guid ≡ other = at_one guids (1 + k) guid other some (subst (λ (m : ℕ). IsAt guids (1 + m) other) e given) in
+                let part : p ≡ q = at_one ps k p q at (subst (λ (m : ℕ). IsItemAt ps m q) e there) in
+                let unique : guid ≡ other = at_one guids (1 + k) guid other some (subst (λ (m : ℕ). IsItemAt guids
+                (1 + m) other) e given) in
                 ap (λ (x : Partition). get_or (set entries (p.number - 1) (entry_of guid p)) (x.number - 1) None) (sym part)
                 ∙ (get_or-set_same entries (p.number - 1) (entry_of guid p) None place
                 ∙ (ap (λ (x : Partition). entry_of guid x) part ∙ ap (λ (g : Guid). entry_of g q) unique))
@@ -66,7 +67,7 @@ one_placed_on n guids ps k entries p guid fit before at some =
     }
 
 pub one_placed : (guids : List Guid) (ps : List Partition) (k : ℕ) (entries : List (Option Entry)) (p : Partition) (guid : Guid)
-    → Placeable (2 ^ 64) ps → UpTo guids ps k entries → IsAt ps k p → IsAt guids (1 + k) guid
+    → Placeable (2 ^ 64) ps → UpTo guids ps k entries → IsItemAt ps k p → IsItemAt guids (1 + k) guid
     → UpTo guids ps (k + 1) (set entries (p.number - 1) (entry_of guid p))
 one_placed guids ps k entries p guid fit before at some = one_placed_on (2 ^ 64) guids ps k entries p guid fit before at some
 

@@ -34,7 +34,7 @@ use Rattle.pt_edit.specs.Changes as changes
 use Rattle.pt_edit.specs.Spots as spots
 use Rattle.pt_edit.specs.NewEntry as entries
 use Rattle.pt_edit.specs.Edited.{State, initial, EmptyRefused, InKind, NotTyped, NotDeleted, NotMade, asked_for, RefusesOn, RefusedOf}
-use Rattle.pt_edit.specs.Edited.{Refuses, Ends, EditedFrom, Edited}
+use Rattle.pt_edit.specs.Edited.{Refuses, WordsEnd, EditedFrom, Edited}
 use Rattle.pt_edit.specs.Edited as edited
 use Rattle.pt_words.specs.declared.asked.Asked.{Asked}
 use Rattle.pt_edit.proofs.FourRecords.{either_kind}
@@ -258,7 +258,7 @@ refuses b n Extend s r x e = refused_of b Extend s.alignment s.fresh s.layout r 
 refuses b n ToGpt s r x e = refused_of b ToGpt s.alignment s.fresh s.layout r x e
 refuses b n Empty s r x e = emptied b n s r x e
 
-ends : (o : Option Layout) (r : Result Layout Refusal) → Ends o r → r ≡ Err Memory → ⊥
+ends : (o : Option Layout) (r : Result Layout Refusal) → WordsEnd o r → r ≡ Err Memory → ⊥
 ends None r x e = absurd cc
 ends (Some o) r x e = absurd cc
 

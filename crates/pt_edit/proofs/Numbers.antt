@@ -19,8 +19,9 @@ use Rattle.pt_members.specs.Members.{present, slots, logicals, logicals_as}
 use Rattle.pt_members.specs.OnePath.{HasFour}
 use Rattle.pt_members.specs.laws.Grouped.{from_present, place_member}
 use Rattle.pt_edit.specs.Partitions.{partitions}
-use Rattle.pt_edit.specs.Room.{edge, IsOutside, NoRoom, small, partition, many}
-use Rattle.pt_edit.specs.Converted.{IsAt}
+use Rattle.pt_gpt.specs.Array.{edge}
+use Rattle.pt_edit.specs.Room.{LiesOutside, NoRoom, small, partition, many}
+use Rattle.pt_edit.specs.Converted.{IsItemAt}
 use Rattle.pt_edit.specs.Placed.{Placeable}
 use Rattle.pt_edit.specs.Kept.{member_of, is_kept, is_kept_kind}
 use Rattle.pt_edit.specs.laws.Kept.{kept_lem, logicals_same}
@@ -90,7 +91,7 @@ all_rising rs chain four few =
     (weaker 5 5 (5 + length (logicals_from 5 chain)) 129 (logicals_from 5 chain) (omega arith) (omega arith) (logicals_rising 5 chain)))
 
 -- so at each place
-rising_at : (low high : ℕ) (ps : List Partition) (k : ℕ) (p : Partition) → Rising low high ps → IsAt ps k p
+rising_at : (low high : ℕ) (ps : List Partition) (k : ℕ) (p : Partition) → Rising low high ps → IsItemAt ps k p
     → (low ≤ p.number) × (p.number < high) × (p.first ≤ p.last + 1)
 rising_at low high [] k p rising at = absurd (omega (arith, at.0))
 rising_at low high (q ∷ qs) zero p rising at =
@@ -98,8 +99,8 @@ rising_at low high (q ∷ qs) zero p rising at =
 rising_at low high (q ∷ qs) (suc k) p rising at =
     let h = rising_at (q.number + 1) high qs k p rising.3 (omega (arith, at.0), at.1) in (omega (arith, rising.0, h.0), h.1, h.2)
 
-rising_on : (low high : ℕ) (ps : List Partition) (i j : ℕ) (p q : Partition) → Rising low high ps → i < j → IsAt ps i p
-    → IsAt ps j q → p.number < q.number
+rising_on : (low high : ℕ) (ps : List Partition) (i j : ℕ) (p q : Partition) → Rising low high ps → i < j → IsItemAt ps i p
+    → IsItemAt ps j q → p.number < q.number
 rising_on low high [] i j p q rising lt one two = absurd (omega (arith, one.0))
 rising_on low high (r ∷ rs) i zero p q rising lt one two = absurd (omega arith)
 rising_on low high (r ∷ rs) zero (suc j) p q rising lt one two =
@@ -134,7 +135,7 @@ kept_is b m is same = let e : is_kept_kind m.kind ≡ false = ap is_kept_kind sa
 -- and so inside, where there is room
 inside : (b n : ℕ) (rs : List (Option Record)) (chain : List Ebr) (labels : List Labelled) (p : Partition)
     → ¬ NoRoom b (record { sectors = n; body = Mbr rs chain; labels = labels }) → Contains (partitions (Mbr rs chain)) p
-    → IsOutside b n p.first p.last → ⊥
+    → LiesOutside b n p.first p.last → ⊥
 inside b n rs chain labels p room in_ps out =
     let o : Layout = record { sectors = n; body = Mbr rs chain; labels = labels } in
     let kept = subst (λ (l : List Member). Contains l (member_of b p)) (sym (kept_lem b rs chain))
@@ -160,7 +161,7 @@ few_logicals b n rs chain labels room =
       | inr few ↦ omega (arith, same, few)
     ]
 
-last_in : (b n first last : ℕ) → (IsOutside b n first last → ⊥) → last ≤ n - edge b
+last_in : (b n first last : ℕ) → (LiesOutside b n first last → ⊥) → last ≤ n - edge b
 last_in b n first last not =
     elim (cases_lt (n - edge b) last) as (λ _. last ≤ n - edge b) [ inl past ↦ absurd (not (inr past)) | inr ok ↦ ok ]
 
@@ -170,7 +171,7 @@ placed_mbr b n rs chain labels four room =
     let ps = partitions (Mbr rs chain) in
     let enough : HasRoom b n = has_room b (record { sectors = n; body = Mbr rs chain; labels = labels }) room in
     let rising : Rising 1 129 ps = all_rising rs chain four (few_logicals b n rs chain labels room) in
-    let last : (k : ℕ) (p : Partition) → IsAt ps k p
+    let last : (k : ℕ) (p : Partition) → IsItemAt ps k p
     → p.last ≤ n - edge b = λ k p at. last_in b n p.first p.last (inside b n rs chain labels p room (k, at.0, at.1)) in
     record {
       low = λ k p at. (rising_at 1 129 ps k p rising at).0;

@@ -11,7 +11,7 @@ use Rattle.pt_members.specs.declared.layout.Layout.{Layout}
 use Rattle.pt_members.specs.Members.{parts_as, parts_in, slots}
 use Rattle.pt_members.specs.laws.Grouped.{place_member, member_place}
 use Rattle.pt_members.specs.declared.member.Member.{Member}
-use Rattle.pt_edit.specs.Room.{IsOutside, IsOutsider, NoRoom, small, partition, ebr, many}
+use Rattle.pt_edit.specs.Room.{LiesOutside, IsOutsider, NoRoom, small, partition, ebr, many}
 use Rattle.pt_edit.specs.Outside.{HasOutsider, HasNear, HasAny, HasEbr, IsChainInWay}
 
 -- a chain's record stands where it does
@@ -22,10 +22,10 @@ stands (e ∷ es) (suc k) z lt = inr (stands es k z (omega arith))
 
 -- where this one doesn't lie outside, another one after it does
 pub next_ebr : (b n : ℕ) (es : List Ebr) (k : ℕ) (z : Ebr) → k < length es
-    → ¬ IsOutside b n (get_or es k z).at.0 (get_or es k z).at.0 → HasEbr b n (drop k es) → HasEbr b n (drop (k + 1) es)
+    → ¬ LiesOutside b n (get_or es k z).at.0 (get_or es k z).at.0 → HasEbr b n (drop k es) → HasEbr b n (drop (k + 1) es)
 next_ebr b n es k z lt inside has = by_place (subst (HasEbr b n) (drop_more es k z lt) has) where
   by_place : HasEbr b n (get_or es k z ∷ drop (k + 1) es) → HasEbr b n (drop (k + 1) es)
-  by_place (s, inl same, outside) = absurd (inside (subst (λ (x : ℕ). IsOutside b n x x) same outside))
+  by_place (s, inl same, outside) = absurd (inside (subst (λ (x : ℕ). LiesOutside b n x x) same outside))
   by_place (s, inr later, outside) = (s, later, outside)
 
 pub no_ebr_left : (b n : ℕ) (es : List Ebr) (k : ℕ) → length es ≤ k → HasEbr b n (drop k es) → ⊥

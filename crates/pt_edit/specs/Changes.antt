@@ -2,7 +2,7 @@
 use Rattle.std.specs.Prelude.{◌≡◌, ◌≢◌, ◌≤◌, ◌<◌, ◌+◌, ◌-◌, ◌^◌, ℕ, Bool, List, length, slice_index_or, slice_set, Some, None}
 use Rattle.std.specs.Prelude.{if◌then◌else◌, nat_lt, bit_or, bit_and}
 use Rattle.pt_guid.specs.declared.guid.Guid.{Guid}
-use Rattle.pt_gpt.specs.Array.{array_len}
+use Rattle.pt_gpt.specs.Array.{edge}
 use Rattle.pt_gpt.specs.declared.entry.Entry.{Entry}
 use Rattle.pt_gpt.specs.declared.table.Table.{Table}
 use Rattle.pt_members.specs.declared.layout.Layout.{Layout}
@@ -18,7 +18,7 @@ IsGpt (Mbr records chain) = ⊥
 IsGpt (Gpt t) = Unit {0}
 
 -- the table's used entry of a number, from 1 on
-pub record HasEntry (t : Table) (number : ℕ) (e : Entry) : Type 0 where
+pub record HasUsedEntry (t : Table) (number : ℕ) (e : Entry) : Type 0 where
   pub first : 1 ≤ number
   pub last : number ≤ length t.entries
   pub used : slice_index_or t.entries (number - 1) None ≡ Some e
@@ -36,19 +36,19 @@ pub record Changed (number : ℕ) (Allowed : Table → Type 0) (change : Entry �
   pub table : Table
   pub entry : Entry
   pub is_table : o.body ≡ Gpt table
-  pub is_entry : HasEntry table number entry
+  pub is_entry : HasUsedEntry table number entry
   pub allowed : Allowed table
   pub made : p ≡ with_body o (Gpt (with_entry table number (change entry)))
 
 -- there is none: no GPT, or no such used entry
 pub data Missing (number : ℕ) (o : Layout) (r : Refusal) : Type 0 where
   no_gpt : ¬ IsGpt o.body → r ≡ NotForThisTable → Missing number o r
-  no_entry : (t : Table) → o.body ≡ Gpt t → ((e : Entry) → ¬ HasEntry t number e) → r ≡ NoSuchPartition → Missing number o r
+  no_entry : (t : Table) → o.body ≡ Gpt t → ((e : Entry) → ¬ HasUsedEntry t number e) → r ≡ NoSuchPartition → Missing number o r
 
 -- or it isn't allowed
 pub data NotChanged (number : ℕ) (Barred : Table → Type 0) (why : Refusal) (o : Layout) (r : Refusal) : Type 0 where
   missing : Missing number o r → NotChanged number Barred why o r
-  barred : (t : Table) (e : Entry) → o.body ≡ Gpt t → HasEntry t number e → Barred t → r ≡ why → NotChanged number Barred why o r
+  barred : (t : Table) (e : Entry) → o.body ≡ Gpt t → HasUsedEntry t number e → Barred t → r ≡ why → NotChanged number Barred why o r
 
 -- `c`: a used entry takes the name
 abbrev pub Named : ℕ → List ℕ → Layout → Layout → Type 0
@@ -60,7 +60,7 @@ NameRefused number name o r = NotChanged number (λ t. 36 < length (units_of nam
 
 -- a used entry of another number has this GUID as its own
 pub record IsElsewhere (t : Table) (number : ℕ) (guid : Guid) (k : ℕ) (e : Entry) : Type 0 where
-  pub is_entry : HasEntry t k e
+  pub is_entry : HasUsedEntry t k e
   pub other : k ≢ number
   pub same : e.unique ≡ guid
 
@@ -97,10 +97,6 @@ NoTable o r = (¬ IsGpt o.body) × (r ≡ NotForThisTable)
 -- `U`: the disk takes the GUID
 abbrev pub DiskSet : Guid → Layout → Layout → Type 0
 DiskSet guid o p = TableMade (λ t. record t { disk = guid }) o p
-
--- the first usable sector of a new GPT; the last usable one is as far from the disk's end
-abbrev pub edge : ℕ → ℕ
-edge b = array_len b + 2
 
 -- `e`: the last usable sector is where the present end of the disk allows it
 abbrev pub Extended : ℕ → Layout → Layout → Type 0

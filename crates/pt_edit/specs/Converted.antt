@@ -10,7 +10,8 @@ use Rattle.pt_members.specs.declared.layout.Body.TheVariants.{Mbr, Gpt}
 use Rattle.pt_words.specs.declared.error.Refusal.{Refusal}
 use Rattle.pt_words.specs.declared.error.Refusal.TheVariants.{NotForThisTable, UnknownCode, NoRoomForGpt, NoFreshGuid, SameGuid}
 use Rattle.pt_edit.specs.Partitions.{partitions}
-use Rattle.pt_edit.specs.Room.{edge, NoRoom}
+use Rattle.pt_gpt.specs.Array.{edge}
+use Rattle.pt_edit.specs.Room.{NoRoom}
 use Rattle.pt_edit.specs.declared.partition.Partition.{Partition}
 
 -- it is the table of an MBR
@@ -27,8 +28,8 @@ abbrev pub HasUnknown : List Partition → Type 0
 HasUnknown ps = (p : Partition) × Contains ps p × (new_type p.kind ≡ None)
 
 -- x stands in a list's place, counted from 0
-abbrev pub IsAt : {X : Type 0} → List X → ℕ → X → Type 0
-IsAt xs k x = (k < length xs) × (slice_index_or xs k x ≡ x)
+abbrev pub IsItemAt : {X : Type 0} → List X → ℕ → X → Type 0
+IsItemAt xs k x = (k < length xs) × (slice_index_or xs k x ≡ x)
 
 -- how many fresh GUIDs a layout takes: one for the disk, and one for each partition
 abbrev pub guids_taken : Layout → ℕ
@@ -39,8 +40,8 @@ pub record IsTwice (guids : List Guid) (count i j : ℕ) : Type 0 where
   pub guid : Guid
   pub order : i < j
   pub within : j < count
-  pub lower : IsAt guids (1 + i) guid
-  pub higher : IsAt guids (1 + j) guid
+  pub lower : IsItemAt guids (1 + i) guid
+  pub higher : IsItemAt guids (1 + j) guid
 
 abbrev pub HasTwins : List Guid → ℕ → Type 0
 HasTwins guids count = (i j : ℕ) × IsTwice guids count i j
@@ -54,11 +55,11 @@ entry_of guid p =
 
 -- a GPT of these partitions on n sectors of b bytes, with GUIDs in order: the disk's, then the partitions'
 pub record IsGptOf (b n : ℕ) (guids : List Guid) (ps : List Partition) (t : Table) : Type 0 where
-  pub disk : IsAt guids 0 t.disk
+  pub disk : IsItemAt guids 0 t.disk
   pub first : t.first ≡ edge b
   pub last : t.last ≡ n - edge b
   pub count : length t.entries ≡ 128
-  pub each : (k : ℕ) (p : Partition) (guid : Guid) → IsAt ps k p → IsAt guids (1 + k) guid
+  pub each : (k : ℕ) (p : Partition) (guid : Guid) → IsItemAt ps k p → IsItemAt guids (1 + k) guid
       → slice_index_or t.entries (p.number - 1) None ≡ entry_of guid p
   pub others : (number : ℕ) → 1 ≤ number → number ≤ 128 → ((p : Partition) → Contains ps p → p.number ≢ number)
       → slice_index_or t.entries (number - 1) None ≡ None

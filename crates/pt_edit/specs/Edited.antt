@@ -3,7 +3,7 @@ use Rattle.std.specs.Prelude.{◌≡◌, ◌-◌, ◌/◌, ◌⊎◌, ℕ, List,
 use Rattle.std.specs.String.{string_bytes}
 use Rattle.pt_guid.specs.declared.guid.Guid.{Guid}
 use Rattle.pt_gpt.specs.declared.table.Table.{Table}
-use Rattle.pt_gpt.specs.Array.{HasRoom}
+use Rattle.pt_gpt.specs.Array.{HasRoom, edge}
 use Rattle.pt_members.specs.declared.layout.Layout.{Layout}
 use Rattle.pt_members.specs.declared.layout.Body.{Body}
 use Rattle.pt_members.specs.declared.layout.Body.TheVariants.{Mbr, Gpt}
@@ -13,7 +13,7 @@ use Rattle.pt_records.specs.Deleted.{RecordDeleted, RecordNotDeleted}
 use Rattle.pt_records.specs.Created.{RecordNew, RecordNotNew}
 use Rattle.pt_labels.specs.New.{PartNew, PartNotNew}
 use Rattle.pt_labels.specs.Parts.{PartTyped, PartNotTyped, PartDeleted, PartNotDeleted}
-use Rattle.pt_edit.specs.Changes.{Named, NameRefused, UniqueSet, UniqueRefused, BitSet, BitRefused, DiskSet, Extended, NoTable, edge}
+use Rattle.pt_edit.specs.Changes.{Named, NameRefused, UniqueSet, UniqueRefused, BitSet, BitRefused, DiskSet, Extended, NoTable}
 use Rattle.pt_edit.specs.Spots.{EntryTyped, EntryNotTyped, EntryDeleted, EntryNotDeleted}
 use Rattle.pt_edit.specs.NewEntry.{EntryMade, EntryNotMade}
 use Rattle.pt_words.specs.declared.asked.Asked.{Asked}
@@ -159,13 +159,13 @@ Refuses b n Empty s r = EmptyRefused b n s r
 Refuses b n w s r = RefusedOf b w s.alignment s.fresh s.layout r
 
 -- the end of the words: the layout, or a refusal where there still is none
-abbrev pub Ends : Option Layout → Result Layout Refusal → Type 0
-Ends None r = r ≡ Err NotForThisTable
-Ends (Some o) r = r ≡ Ok o
+abbrev pub WordsEnd : Option Layout → Result Layout Refusal → Type 0
+WordsEnd None r = r ≡ Err NotForThisTable
+WordsEnd (Some o) r = r ≡ Ok o
 
 -- the words in order from a state on; the first that is refused ends them
 abbrev pub EditedFrom : ℕ → ℕ → List Edit → State → Result Layout Refusal → Type 0
-EditedFrom b n [] s r = Ends s.layout r
+EditedFrom b n [] s r = WordsEnd s.layout r
 EditedFrom b n (w ∷ ws) s r =
     ((t : State) × Takes b n w s t × EditedFrom b n ws t r) ⊎ ((e : Refusal) × Refuses b n w s e × (r ≡ Err e))
 

@@ -14,7 +14,7 @@ use Rattle.pt_space.specs.Area.{Area}
 use Rattle.pt_space.specs.Placed.{Placed, NotPlaced}
 use Rattle.pt_space.specs.Taken.{taken_by}
 use Rattle.pt_labels.specs.Lists.{with_new_label}
-use Rattle.pt_edit.specs.Changes.{HasEntry, Elsewhere, with_entry}
+use Rattle.pt_edit.specs.Changes.{HasUsedEntry, Elsewhere, with_entry}
 use Rattle.pt_edit.specs.Spots.{is_slice, entry_type}
 use Rattle.pt_words.specs.declared.asked.Asked.{Asked}
 use Rattle.pt_words.specs.declared.error.Refusal.{Refusal}
@@ -24,21 +24,21 @@ use Rattle.pt_words.specs.declared.word.Code.{Code}
 use Rattle.pt_words.specs.declared.word.Code.TheVariants.{Four}
 
 -- an entry of this number is unused
-pub record IsUnused (t : Table) (number : ℕ) : Type 0 where
+pub record IsUnusedEntry (t : Table) (number : ℕ) : Type 0 where
   pub first : 1 ≤ number
   pub last : number ≤ length t.entries
   pub none : slice_index_or t.entries (number - 1) None ≡ None
 
 -- the number of a new entry: the one that is asked for, or for 0 the lowest that is unused
 pub data TakesNumber (t : Table) (wanted number : ℕ) : Type 0 where
-  given : wanted ≢ 0 → IsUnused t wanted → number ≡ wanted → TakesNumber t wanted number
-  lowest : wanted ≡ 0 → IsUnused t number → ((k : ℕ) → IsUnused t k → number ≤ k) → TakesNumber t wanted number
+  given : wanted ≢ 0 → IsUnusedEntry t wanted → number ≡ wanted → TakesNumber t wanted number
+  lowest : wanted ≡ 0 → IsUnusedEntry t number → ((k : ℕ) → IsUnusedEntry t k → number ≤ k) → TakesNumber t wanted number
 
 -- why there is none
 pub data NoNumber (t : Table) (wanted : ℕ) (r : Refusal) : Type 0 where
   no_such_number : length t.entries < wanted → r ≡ NoSuchPartition → NoNumber t wanted r
-  taken : (e : Entry) → HasEntry t wanted e → r ≡ NumberTaken → NoNumber t wanted r
-  all_taken : wanted ≡ 0 → ((k : ℕ) → ¬ IsUnused t k) → r ≡ NoSpace → NoNumber t wanted r
+  taken : (e : Entry) → HasUsedEntry t wanted e → r ≡ NumberTaken → NoNumber t wanted r
+  all_taken : wanted ≡ 0 → ((k : ℕ) → ¬ IsUnusedEntry t k) → r ≡ NoSpace → NoNumber t wanted r
 
 -- the type of a new entry: that of the code, without one a Linux filesystem
 abbrev pub new_type : Option Code → Option (List ℕ)
@@ -50,7 +50,7 @@ abbrev pub table_area : Table → Area
 table_area t = record { low = t.first; high = t.last; taken = taken_by (entries_as 512 1 t.entries); empties = None }
 
 -- the number, the type and the sectors of a new entry
-pub record HasPlace (t : Table) (a : Asked) (number : ℕ) (kind : List ℕ) (run : Run) : Type 0 where
+pub record EntryHasPlace (t : Table) (a : Asked) (number : ℕ) (kind : List ℕ) (run : Run) : Type 0 where
   pub takes : TakesNumber t a.number number
   pub known : new_type a.code ≡ Some kind
   pub placed : Placed (table_area t) a.alignment a.start a.end run
@@ -100,7 +100,7 @@ pub record EntryMade (b : ℕ) (t : Table) (a : Asked) (fresh : List Guid) (o p 
   pub run : Run
   pub guid : Guid
   pub rest : List Guid
-  pub place : HasPlace t a number kind run
+  pub place : EntryHasPlace t a number kind run
   pub size : ¬ IsWrongSize b kind run
   pub next : fresh ≡ guid ∷ rest
   pub alone : ¬ Elsewhere t number guid
@@ -109,9 +109,9 @@ pub record EntryMade (b : ℕ) (t : Table) (a : Asked) (fresh : List Guid) (o p 
 -- why there is none
 pub data EntryNotMade (b : ℕ) (t : Table) (a : Asked) (fresh : List Guid) (r : Refusal) : Type 0 where
   no_place : NoPlace t a r → EntryNotMade b t a fresh r
-  wrong_size : (number : ℕ) (kind : List ℕ) (run : Run) → HasPlace t a number kind run → IsWrongSize b kind run → r ≡ ContainerType
+  wrong_size : (number : ℕ) (kind : List ℕ) (run : Run) → EntryHasPlace t a number kind run → IsWrongSize b kind run → r ≡ ContainerType
       → EntryNotMade b t a fresh r
-  no_guid : (number : ℕ) (kind : List ℕ) (run : Run) → HasPlace t a number kind run → ¬ IsWrongSize b kind run → fresh ≡ []
+  no_guid : (number : ℕ) (kind : List ℕ) (run : Run) → EntryHasPlace t a number kind run → ¬ IsWrongSize b kind run → fresh ≡ []
       → r ≡ NoFreshGuid → EntryNotMade b t a fresh r
-  same_guid : (number : ℕ) (kind : List ℕ) (run : Run) (guid : Guid) (rest : List Guid) → HasPlace t a number kind run
+  same_guid : (number : ℕ) (kind : List ℕ) (run : Run) (guid : Guid) (rest : List Guid) → EntryHasPlace t a number kind run
       → ¬ IsWrongSize b kind run → fresh ≡ guid ∷ rest → Elsewhere t number guid → r ≡ SameGuid → EntryNotMade b t a fresh r

@@ -8,7 +8,7 @@ use Rattle.pt_members.specs.declared.member.Member.{Member}
 use Rattle.pt_members.specs.Members.{present, logicals}
 use Rattle.pt_members.specs.Search.{AtPlace, IsNear, InLayout}
 use Rattle.pt_members.specs.Tables.{IsEbr}
-use Rattle.pt_edit.specs.Room.{IsOutside, IsOutsider}
+use Rattle.pt_edit.specs.Room.{LiesOutside, IsOutsider}
 
 -- in one of the places
 abbrev pub HasOutsider : ℕ → ℕ → List (Option Member) → Type 0
@@ -24,8 +24,8 @@ HasAny b o = (x : Member) × InLayout b o x × IsOutsider b o.sectors x
 
 -- an extended boot record
 abbrev pub HasEbr : ℕ → ℕ → List Ebr → Type 0
-HasEbr b n chain = (s : ℕ) × StandsAt s chain × IsOutside b n s s
+HasEbr b n chain = (s : ℕ) × StandsAt s chain × LiesOutside b n s s
 
 -- one, or there are too many logical partitions
 abbrev pub IsChainInWay : ℕ → ℕ → Body → Type 0
-IsChainInWay b n body = ((s : ℕ) × IsEbr body s × IsOutside b n s s) ⊎ (124 < length (present (logicals b body)))
+IsChainInWay b n body = ((s : ℕ) × IsEbr body s × LiesOutside b n s s) ⊎ (124 < length (present (logicals b body)))

@@ -8,7 +8,7 @@ use Rattle.pt_members.specs.declared.layout.Layout.{Layout}
 use Rattle.pt_members.specs.declared.layout.Body.TheVariants.{Gpt}
 use Rattle.pt_labels.specs.Lists.{without_label}
 use Rattle.pt_labels.specs.Retyped.{NotRetyped}
-use Rattle.pt_edit.specs.Changes.{HasEntry, with_entry, with_body}
+use Rattle.pt_edit.specs.Changes.{HasUsedEntry, with_entry, with_body}
 use Rattle.pt_words.specs.declared.error.Refusal.{Refusal}
 use Rattle.pt_words.specs.declared.error.Refusal.TheVariants.{NoSuchPartition}
 use Rattle.pt_words.specs.declared.word.Code.{Code}
@@ -27,7 +27,7 @@ entry_type (Four code) = type_of code
 pub record EntryTyped (b : ℕ) (t : Table) (number : ℕ) (code : Code) (o p : Layout) : Type 0 where
   pub entry : Entry
   pub kind : List ℕ
-  pub is_entry : HasEntry t number entry
+  pub is_entry : HasUsedEntry t number entry
   pub known : entry_type code ≡ Some kind
   pub old : is_slice b entry.kind.0 ≡ false
   pub new : is_slice b kind ≡ false
@@ -35,12 +35,12 @@ pub record EntryTyped (b : ℕ) (t : Table) (number : ℕ) (code : Code) (o p : 
 
 -- why it hasn't
 abbrev pub EntryNotTyped : ℕ → Table → ℕ → Code → Refusal → Type 0
-EntryNotTyped b t number code = NotRetyped (HasEntry t number) (entry_type code) (λ (e : Entry). e.kind.0) (is_slice b)
+EntryNotTyped b t number code = NotRetyped (HasUsedEntry t number) (entry_type code) (λ (e : Entry). e.kind.0) (is_slice b)
 
 -- `d`: an entry goes, with the label that it has as a slice
 pub record EntryDeleted (t : Table) (number : ℕ) (o p : Layout) : Type 0 where
   pub entry : Entry
-  pub is_entry : HasEntry t number entry
+  pub is_entry : HasUsedEntry t number entry
   pub made : p ≡ record {
     sectors = o.sectors;
     body = Gpt (record t { entries = slice_set t.entries (number - 1) None });
@@ -49,5 +49,5 @@ pub record EntryDeleted (t : Table) (number : ℕ) (o p : Layout) : Type 0 where
 
 -- why it doesn't
 pub record EntryNotDeleted (t : Table) (number : ℕ) (r : Refusal) : Type 0 where
-  pub none : (e : Entry) → ¬ HasEntry t number e
+  pub none : (e : Entry) → ¬ HasUsedEntry t number e
   pub is : r ≡ NoSuchPartition

@@ -5,7 +5,7 @@ ghost use Rattle.std.specs.Option.{option_map};
 ghost use Rattle.pt_sector.specs.Sectors.{IsSectorSize};
 ghost use Rattle.pt_members.specs.declared.layout.Layout.{Layout};
 ghost use Rattle.pt_words.specs.declared.error.Refusal.{Refusal};
-ghost use Rattle.pt_edit.specs.Edited.{Ends, EditedFrom, Edited};
+ghost use Rattle.pt_edit.specs.Edited.{WordsEnd, EditedFrom, Edited};
 ghost use Rattle.pt_edit.specs.Fold.{state_of};
 
 use crate::state::{FIRST_ALIGNMENT, State, take_word};
@@ -34,7 +34,7 @@ fn take_words<const B: usize>(
 ) -> Result<State, Refusal>
     requires size { IsSectorSize B }
     requires taken { first.taken ≤ length guids.now }
-    ensures ok { IfOk result (λ made. (r : Result Layout Refusal) → Ends made.layout r
+    ensures ok { IfOk result (λ made. (r : Result Layout Refusal) → WordsEnd made.layout r
         → EditedFrom B sectors edits.now (state_of guids.now first) r) }
     ensures err { IfErr result (λ refusal. refusal ≢ Refusal.Memory
         → EditedFrom B sectors edits.now (state_of guids.now first) (Err refusal)) }
@@ -48,7 +48,7 @@ fn take_words<const B: usize>(
 
 // What a last state is.
 fn ended(state: State) -> Result<Layout, Refusal>
-    ensures { Ends state.layout result }
+    ensures { WordsEnd state.layout result }
 {
     match state.layout {
         Some(layout) => Ok(layout),

@@ -2,7 +2,7 @@
 
 ghost use Rattle.std.specs.Prelude.{◌≡◌, ◌≤◌, IfOk, IfErr, IfSome, IfNone, length};
 ghost use Rattle.pt_gpt.specs.declared.entry.Entry.{Entry};
-ghost use Rattle.pt_edit.specs.Changes.{HasEntry, Missing, NoTable, with_entry};
+ghost use Rattle.pt_edit.specs.Changes.{HasUsedEntry, Missing, NoTable, with_entry};
 ghost use Rattle.pt_edit.specs.Whole.{whole_of, without_spot};
 
 use pt_gpt::{Entry, Table};
@@ -20,8 +20,8 @@ pub struct Gpt {
 
 // The table's used entry of a number, from 1 on.
 pub(crate) fn used_entry(table: &Table, number: u64) -> Option<Entry>
-    ensures some { IfSome result (λ e. HasEntry table.now number e) }
-    ensures none { IfNone result ((e : Entry) → ¬ HasEntry table.now number e) }
+    ensures some { IfSome result (λ e. HasUsedEntry table.now number e) }
+    ensures none { IfNone result ((e : Entry) → ¬ HasUsedEntry table.now number e) }
 {
     if number == 0 || number > table.entries.len() as u64 {
         return None;
@@ -94,7 +94,7 @@ impl Gpt {
 // The parts of a layout, with a used entry of its table.
 pub(crate) fn with_used(layout: Layout, number: u64) -> Result<(Gpt, Entry), Refusal>
     ensures whole { IfOk result (λ r. layout ≡ whole_of r.0) }
-    ensures entry { IfOk result (λ r. HasEntry r.0.table number r.1) }
+    ensures entry { IfOk result (λ r. HasUsedEntry r.0.table number r.1) }
     ensures err { IfErr result (Missing number layout) }
 {
     let gpt = Gpt::of(layout)?;

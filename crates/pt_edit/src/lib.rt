@@ -5,14 +5,13 @@
 //! specs/Room.antt where there is room for a GPT, specs/Converted.antt what is made and why not.
 #![tactic(auto)]
 
-mod conversion;
 mod convert;
 mod entries;
 mod entry_types;
 mod fold;
 mod gpt;
 mod kinds;
-mod laws;
+pub mod laws;
 mod name;
 mod new_entry;
 mod partition;
@@ -25,11 +24,7 @@ mod state;
 mod tables;
 mod twins;
 
-pub use conversion::{
-    convert_answers, converted_one, converted_taken, partitions_kept, refusal_one,
-};
 pub use convert::to_gpt;
 pub use fold::edit;
-pub use laws::{edit_answers, edited_one, memory_is_no_answer};
 pub use partitions::guids_for;
-pub use pt_words::{Code, Edit, EditError, End, Refusal, fault_is_no_word, parse_edit};
+pub use pt_words::{Code, Edit, EditError, End, Refusal, parse_edit};

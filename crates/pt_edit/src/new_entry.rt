@@ -2,7 +2,7 @@
 
 ghost use Rattle.std.specs.Prelude.{◌≡◌, ◌≢◌, ◌≤◌, ◌<◌, ◌^◌, ◌↔◌, ℕ, [], IsTrue, IfOk, IfErr, IfSome, IfNone, ◌∷◌, drop, Some, None};
 ghost use Rattle.pt_space.specs.Area.{area_of};
-ghost use Rattle.pt_edit.specs.NewEntry.{IsUnused, TakesNumber, NoNumber, new_type, table_area, HasPlace, NoPlace, IsWrongSize};
+ghost use Rattle.pt_edit.specs.NewEntry.{IsUnusedEntry, TakesNumber, NoNumber, new_type, table_area, EntryHasPlace, NoPlace, IsWrongSize};
 ghost use Rattle.pt_edit.specs.NewEntry.{new_entry_of, new_labels, with_new_entry, EntryMade, EntryNotMade};
 ghost use Rattle.pt_edit.specs.Changes.{Elsewhere};
 ghost use Rattle.pt_edit.specs.Whole.{whole_of};
@@ -35,9 +35,9 @@ pub struct Spot {
 
 // The lowest number of an unused entry.
 fn lowest_unused(table: &Table) -> Option<u64>
-    ensures some { IfSome result (IsUnused table.now) }
-    ensures least { IfSome result (λ n. (k : ℕ) → IsUnused table.now k → n ≤ k) }
-    ensures none { IfNone result ((k : ℕ) → ¬ IsUnused table.now k) }
+    ensures some { IfSome result (IsUnusedEntry table.now) }
+    ensures least { IfSome result (λ n. (k : ℕ) → IsUnusedEntry table.now k → n ≤ k) }
+    ensures none { IfNone result ((k : ℕ) → ¬ IsUnusedEntry table.now k) }
 {
     for index in 0..table.entries.len() {
         if table.entries.get(index).is_none() {
@@ -94,7 +94,7 @@ fn table_space(alloc: Global, table: &Table) -> Result<Space, AllocError>
 
 // The place of a new entry.
 fn find_spot(alloc: Global, table: &Table, asked: &Asked) -> Result<Spot, Refusal>
-    ensures ok { IfOk result (λ s. HasPlace table.now asked.now s.number s.kind.0 s.run) }
+    ensures ok { IfOk result (λ s. EntryHasPlace table.now asked.now s.number s.kind.0 s.run) }
     ensures small { IfOk result (λ s. s.run.first < 2 ^ 64) }
     ensures fits { IfOk result (λ s. s.run.last < 2 ^ 64) }
     ensures err { IfErr result (λ refusal. refusal ≢ Refusal.Memory → NoPlace table.now asked.now refusal) }
@@ -160,7 +160,7 @@ fn put_new<const B: usize>(
 ) -> Result<Layout, AllocError>
     requires first { spot.now.run.first < 2 ^ 64 }
     requires last { spot.now.run.last < 2 ^ 64 }
-    requires unused { IsUnused gpt.table spot.now.number }
+    requires unused { IsUnusedEntry gpt.table spot.now.number }
     requires size { ¬ IsWrongSize B spot.now.kind.0 spot.now.run }
     ensures { IfOk result (λ made. made ≡ with_new_entry B gpt.table spot.now.number spot.now.kind.0 guid.now spot.now.run (whole_of gpt)) }
 {
@@ -197,7 +197,7 @@ fn choose<const B: usize>(
     asked: &Asked,
     fresh: &[Guid],
 ) -> Result<(Spot, Guid), Refusal>
-    ensures place { IfOk result (λ r. HasPlace table.now asked.now r.0.number r.0.kind.0 r.0.run) }
+    ensures place { IfOk result (λ r. EntryHasPlace table.now asked.now r.0.number r.0.kind.0 r.0.run) }
     ensures small { IfOk result (λ r. r.0.run.first < 2 ^ 64) }
     ensures fits { IfOk result (λ r. r.0.run.last < 2 ^ 64) }
     ensures size { IfOk result (λ r. ¬ IsWrongSize B r.0.kind.0 r.0.run) }

@@ -5,12 +5,9 @@ ghost use Rattle.pt_edit.specs.Converted.{entry_of};
 ghost use Rattle.pt_edit.specs.Placed.{Placeable, ArePlaced};
 
 use crate::partition::Partition;
-use pt_gpt::Entry;
+use pt_gpt::{Entry, MOST_ENTRIES};
 use pt_guid::{Guid, type_of_record};
 use std::alloc::{AllocError, Global};
-
-/// How many entries a new GPT has.
-const ENTRIES: usize = 128;
 
 // The entry of a partition; none where its type has no GUID.
 fn entry_for(partition: &Partition, unique: &Guid) -> Option<Entry>
@@ -41,7 +38,7 @@ pub(crate) fn entries_for(
     requires enough { 1 + length partitions.now ≤ length guids.now }
     ensures { IfOk result (λ v. ArePlaced guids.now partitions.now v.items) }
 {
-    let mut entries = Vec::from_slice(alloc, &[None; ENTRIES])?;
+    let mut entries = Vec::from_slice(alloc, &[None; MOST_ENTRIES])?;
     for k in 0..partitions.len() {
         let partition = &partitions[k];
         entries[partition.number as usize - 1] = entry_for(partition, &guids[1 + k]);

@@ -5,11 +5,11 @@ ghost use Rattle.pt_sector.specs.Sectors.{IsSectorSize};
 ghost use Rattle.pt_mbr.specs.Chain.{StandsAt};
 ghost use Rattle.pt_members.specs.Members.{parts, parts_in, logicals_as, present};
 ghost use Rattle.pt_members.specs.Tables.{IsEbr};
-ghost use Rattle.pt_edit.specs.Room.{edge, IsOutside, IsOutsider, NoRoom};
+ghost use Rattle.pt_edit.specs.Room.{LiesOutside, IsOutsider, NoRoom};
 ghost use Rattle.pt_edit.specs.Outside.{HasOutsider, HasNear, HasAny, HasEbr, IsChainInWay};
 
 use pt_bsd::Label;
-use pt_gpt::array_sectors;
+use pt_gpt::{first_usable, has_room};
 use pt_mbr::{Ebr, FIRST_LOGICAL};
 use pt_members::{
     Body, Kind, Layout, Member, find_label, logical_number, part_slot, slot, slot_count,
@@ -18,19 +18,10 @@ use pt_members::{
 /// How many numbers from 5 on a GPT of 128 entries has.
 const LOGICALS: u64 = 124;
 
-// The first usable sector of a new GPT; the last usable one is as far from the disk's end.
-pub(crate) fn first_usable<const B: usize>() -> u64
-    requires size { IsSectorSize B }
-    ensures value { result ≡ edge B }
-    ensures few { result < 35 }
-{
-    array_sectors::<B>() + 2
-}
-
 // Whether a new GPT can't use the first or the last of these sectors.
 fn is_outside<const B: usize>(sectors: u64, first: u128, last: u128) -> bool
     requires size { IsSectorSize B }
-    ensures { IsTrue result ↔ IsOutside B sectors first last }
+    ensures { IsTrue result ↔ LiesOutside B sectors first last }
 {
     let low = first_usable::<B>();
     first < u128::from(low) || u128::from(sectors.saturating_sub(low)) < last
@@ -103,7 +94,7 @@ fn has_outsider<const B: usize>(layout: &Layout) -> bool
 // Whether an extended boot record does.
 fn is_ebr_outside<const B: usize>(sectors: u64, ebr: &Ebr) -> bool
     requires size { IsSectorSize B }
-    ensures { IsTrue result ↔ IsOutside B sectors ebr.now.at.0 ebr.now.at.0 }
+    ensures { IsTrue result ↔ LiesOutside B sectors ebr.now.at.0 ebr.now.at.0 }
 {
     let at = u128::from(ebr.at.0);
     is_outside::<B>(sectors, at, at)
@@ -149,7 +140,7 @@ pub(crate) fn has_no_room<const B: usize>(layout: &Layout) -> bool
     requires size { IsSectorSize B }
     ensures { IsTrue result ↔ NoRoom B layout.now }
 {
-    if layout.sectors < 2 * array_sectors::<B>() + 4 {
+    if !has_room::<B>(layout.sectors) {
         return true;
     }
     if has_outsider::<B>(layout) {

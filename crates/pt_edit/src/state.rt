@@ -10,7 +10,7 @@ use crate::entries::{rename, set_bit, set_unique};
 use crate::partitions::guids_for;
 use crate::paths::{delete, new, set_kind};
 use crate::tables::{empty, extend, set_disk};
-use pt_gpt::array_sectors;
+use pt_gpt::has_room;
 use pt_guid::Guid;
 use pt_members::{Body, Layout};
 use pt_words::{Asked, Edit, Refusal};
@@ -40,7 +40,7 @@ fn take_empty<const B: usize>(
     ensures ok { IfOk result (λ made. Emptied B sectors (state_of guids.now state.now) (state_of guids.now made)) }
     ensures err { IfErr result (λ refusal. refusal ≢ Refusal.Memory → EmptyRefused B sectors (state_of guids.now state.now) refusal) }
 {
-    if sectors < 2 * array_sectors::<B>() + 4 {
+    if !has_room::<B>(sectors) {
         return Err(Refusal::NoRoomForGpt);
     }
     if state.taken >= guids.len() {

@@ -3,18 +3,15 @@
 ghost use Rattle.std.specs.Prelude.{◌≡◌, IfOk, IfErr};
 ghost use Rattle.pt_sector.specs.Sectors.{IsSectorSize};
 ghost use Rattle.pt_gpt.specs.Array.{HasRoom};
-ghost use Rattle.pt_edit.specs.Changes.{DiskSet, Extended, NoTable, edge};
+ghost use Rattle.pt_edit.specs.Changes.{DiskSet, Extended, NoTable};
 ghost use Rattle.pt_edit.specs.Edited.{empty_gpt};
 
 use crate::gpt::Gpt;
-use pt_gpt::{Entries, Table, array_sectors};
+use pt_gpt::{Entries, MOST_ENTRIES, Table, first_usable};
 use pt_guid::Guid;
 use pt_members::{Body, Labels, Layout};
 use pt_words::Refusal;
 use std::alloc::{AllocError, Global};
-
-/// How many entries a new GPT has.
-const ENTRIES: usize = 128;
 
 // The layout with another GUID of the disk.
 pub(crate) fn set_disk(layout: Layout, guid: &Guid) -> Result<Layout, Refusal>
@@ -24,14 +21,6 @@ pub(crate) fn set_disk(layout: Layout, guid: &Guid) -> Result<Layout, Refusal>
     let mut gpt = Gpt::of(layout)?;
     gpt.table.disk = *guid;
     Ok(gpt.whole())
-}
-
-// The first usable sector of a new GPT.
-pub(crate) fn first_usable<const B: usize>() -> u64
-    requires size { IsSectorSize B }
-    ensures { result ≡ edge B }
-{
-    array_sectors::<B>() + 2
 }
 
 // The layout with its last usable sector where the present end of the disk allows it.
@@ -55,7 +44,7 @@ pub(crate) fn empty<const B: usize>(
     requires room { HasRoom B sectors }
     ensures { IfOk result (λ made. made ≡ empty_gpt B sectors guid.now) }
 {
-    let entries = Vec::from_slice(alloc, &[None; ENTRIES])?;
+    let entries = Vec::from_slice(alloc, &[None; MOST_ENTRIES])?;
     let first = first_usable::<B>();
     Ok(Layout {
         sectors,

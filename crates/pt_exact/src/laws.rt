@@ -13,7 +13,7 @@ ghost use Rattle.pt_layout.specs.Sound.{Sound};
 ghost use Rattle.pt_layout.specs.declared.finding.Finding.{Finding};
 ghost use Rattle.pt_shape.specs.Keeps.{Keeps};
 ghost use Rattle.pt_cases.specs.Cases.{ChangesLabels, IsPlan};
-ghost use Rattle.pt_cases.specs.Causes.{MayBe, WasMbr};
+ghost use Rattle.pt_cases.specs.Causes.{MayBePlanned, HadMbr};
 ghost use Rattle.pt_targets.specs.Causes.{WritesBoth, SharesSector, IsReused};
 ghost use Rattle.pt_targets.specs.Errors.{IsFailure};
 ghost use Rattle.pt_targets.specs.Misfits.{LabelsFit, HasUnreadable};
@@ -50,7 +50,7 @@ pub fn planned_needs_no_repair()
 /// It may be of its disk, its labels go with its slices, and each label would be read back from some bytes of its place.
 pub fn planned_fits_its_disk()
     ensures body { (b : ℕ) (d : Sectors) (o : Option Layout) (p : Layout) (phases : List Writes) → Denotes b d o
-        → IsPlan b d p phases → MayBe b d o p }
+        → IsPlan b d p phases → MayBePlanned b d o p }
     ensures labels { (b : ℕ) (d : Sectors) (o : Option Layout) (p : Layout) (phases : List Writes) → Denotes b d o
         → IsPlan b d p phases → LabelsFit b p }
     ensures readable { (b : ℕ) (d : Sectors) (o : Option Layout) (p : Layout) (phases : List Writes) → Denotes b d o
@@ -82,13 +82,13 @@ pub fn label_change_is_planned()
 /// back as it is written; and no two of them are one. So is the disk's own.
 pub fn edits_fit_their_disk()
     ensures body { (b : ℕ) (d : Sectors) (o : Option Layout) (p : Layout) → IsSectorSize b → Denotes b d o
-        → Keeps b (length d) o p → Sound b p → MayBe b d o p }
+        → Keeps b (length d) o p → Sound b p → MayBePlanned b d o p }
     ensures labels { (b : ℕ) (d : Sectors) (o : Option Layout) (p : Layout) → IsSectorSize b → Denotes b d o
         → Keeps b (length d) o p → Sound b p → LabelsFit b p }
     ensures readable { (b : ℕ) (d : Sectors) (o : Option Layout) (p : Layout) → IsSectorSize b → Denotes b d o
         → Keeps b (length d) o p → Sound b p → ¬ HasUnreadable b d o p }
     ensures made { (b : ℕ) (d : Sectors) (o : Option Layout) (p : Layout) (records : List (Option Record)) (chain : List Ebr)
-        → IsSectorSize b → Denotes b d o → Keeps b (length d) o p → Sound b p → p.body ≡ Mbr records chain → (was : WasMbr o)
+        → IsSectorSize b → Denotes b d o → Keeps b (length d) o p → Sound b p → p.body ≡ Mbr records chain → (was : HadMbr o)
         → ¬ HasUnmade b d was.records was.chain records chain }
     ensures apart { (b : ℕ) (d : Sectors) (o : Option Layout) (p : Layout) → IsSectorSize b → Denotes b d o
         → Keeps b (length d) o p → Sound b p → ¬ SharesSector b d o p }

@@ -3,7 +3,7 @@ use Rattle.std.proofs.Common.{◌≡◌, ℕ, List, refl, ap, ◌∙◌, subst, 
 use Rattle.std.specs.Prelude.{◌⊎◌, length, Option, None}
 use Rattle.pt_sector.specs.Sectors.{Sectors, sector}
 use Rattle.pt_sum.specs.Crc.{crc_of}
-use Rattle.pt_gpt.specs.Errors.{IsOutside, NeedsNoMemory, FailedIn, fault_in}
+use Rattle.pt_gpt.specs.Errors.{IsOutsideCopy, NeedsNoMemory, FailedInCopy, fault_in}
 use Rattle.pt_gpt.specs.Header.{HeaderBytes, IsHeaderFault}
 use Rattle.pt_gpt.specs.Copy.{header_place, IsPlaced, IsPlaceFault, IsHead, no_header, misplaced, no_head, other_crc, array_of, HasArrayCrc}
 use Rattle.pt_gpt.specs.Copy.{CopyWith}
@@ -27,7 +27,7 @@ head_of b d side h at n place count bytes placed = record {
 }
 
 pub fault_of_header : (b : ℕ) (d : Sectors) (side : Side) (e : CopyError) (at n : ℕ) → at ≡ header_place side n → n ≡ length d
-    → IsOutside e ⊎ IsHeaderFault b e (sector d at) → TellsHeadFault b d side e
+    → IsOutsideCopy e ⊎ IsHeaderFault b e (sector d at) → TellsHeadFault b d side e
 fault_of_header b d side e at n place count (inl out) = inl out
 fault_of_header b d side e at n place count (inr fault) =
     inr (no_header e (subst (λ (k : ℕ). IsHeaderFault b e (sector d k)) (place_of d side at n place count) fault))
@@ -42,7 +42,7 @@ pub fault_of_head : (b : ℕ) (d : Sectors) (side : Side) (e : CopyError) → Te
 fault_of_head b d side e (inl out) = inl out
 fault_of_head b d side e (inr fault) = inr (no_head e fault)
 
-pub failed_in : (S T : ℕ → Type 0) (e : CopyError) → ((s : ℕ) → S s → T s) → FailedIn S e → FailedIn T e
+pub failed_in : (S T : ℕ → Type 0) (e : CopyError) → ((s : ℕ) → S s → T s) → FailedInCopy S e → FailedInCopy T e
 failed_in S T (Device at) weaker here = weaker at.0 here
 failed_in S T _ weaker here = tt
 

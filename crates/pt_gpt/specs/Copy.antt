@@ -95,7 +95,7 @@ abbrev pub HasCopy : ℕ → Sectors → Side → Type 0
 HasCopy b d side = (t : Table) × Copy b d side t
 
 -- the side's header is h, and the array that it tells of is written as t's entries
-pub record IsWritten (b : ℕ) (d : Sectors) (side : Side) (h : Header) (t : Table) : Type 0 where
+pub record IsWrittenCopy (b : ℕ) (d : Sectors) (side : Side) (h : Header) (t : Table) : Type 0 where
   pub is_head : IsHead b d side h
   pub disk : t.disk ≡ h.disk
   pub first : t.first ≡ h.first

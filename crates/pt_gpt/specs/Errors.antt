@@ -23,10 +23,10 @@ error_number (Device at) = 10
 error_number Memory = 11
 
 -- an error that the disk's content doesn't explain
-abbrev pub IsOutside : CopyError → Type 0
-IsOutside (Device at) = Unit {0}
-IsOutside Memory = Unit {0}
-IsOutside _ = ⊥
+abbrev pub IsOutsideCopy : CopyError → Type 0
+IsOutsideCopy (Device at) = Unit {0}
+IsOutsideCopy Memory = Unit {0}
+IsOutsideCopy _ = ⊥
 
 -- the failure that it is
 abbrev pub failure_in : CopyError → Option Failure
@@ -45,6 +45,6 @@ fault_in (Device at) = Some (Read at)
 fault_in _ = None
 
 -- the sector whose read failed is one of these
-abbrev pub FailedIn : (ℕ → Type 0) → CopyError → Type 0
-FailedIn S (Device at) = S at.0
-FailedIn S _ = Unit {0}
+abbrev pub FailedInCopy : (ℕ → Type 0) → CopyError → Type 0
+FailedInCopy S (Device at) = S at.0
+FailedInCopy S _ = Unit {0}

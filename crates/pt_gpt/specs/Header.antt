@@ -13,8 +13,8 @@ header_size bytes = number_at 12 4 bytes
 abbrev pub summed : List ℕ → List ℕ
 summed bytes = take 16 bytes ++ replicate 4 0 ++ slice_range bytes 20 (header_size bytes)
 
-abbrev pub HasSignature : List ℕ → Type 0
-HasSignature bytes = slice_range bytes 0 8 ≡ codes "EFI PART"
+abbrev pub HasHeaderSignature : List ℕ → Type 0
+HasHeaderSignature bytes = slice_range bytes 0 8 ≡ codes "EFI PART"
 
 abbrev pub HasRevision : List ℕ → Type 0
 HasRevision bytes = number_at 8 4 bytes ≡ 0x00010000
@@ -39,7 +39,7 @@ pub record HeaderFields (h : Header) (bytes : List ℕ) : Type 0 where
 
 -- the bytes of a sector are a header with these fields; bytes 20 to 23 and those past 92 are free but for the CRC
 pub record HeaderBytes (b : ℕ) (h : Header) (bytes : List ℕ) : Type 0 where
-  pub signature : HasSignature bytes
+  pub signature : HasHeaderSignature bytes
   pub revision : HasRevision bytes
   pub size : HasSize b bytes
   pub crc : HasCrc bytes
@@ -47,8 +47,8 @@ pub record HeaderBytes (b : ℕ) (h : Header) (bytes : List ℕ) : Type 0 where
 
 -- the first of the rules of a header that the bytes break
 abbrev pub IsHeaderFault : ℕ → CopyError → List ℕ → Type 0
-IsHeaderFault b Signature bytes = ¬ HasSignature bytes
-IsHeaderFault b Revision bytes = HasSignature bytes × (¬ HasRevision bytes)
-IsHeaderFault b HeaderSize bytes = HasSignature bytes × HasRevision bytes × (¬ HasSize b bytes)
-IsHeaderFault b HeaderCrc bytes = HasSignature bytes × HasRevision bytes × HasSize b bytes × (¬ HasCrc bytes)
+IsHeaderFault b Signature bytes = ¬ HasHeaderSignature bytes
+IsHeaderFault b Revision bytes = HasHeaderSignature bytes × (¬ HasRevision bytes)
+IsHeaderFault b HeaderSize bytes = HasHeaderSignature bytes × HasRevision bytes × (¬ HasSize b bytes)
+IsHeaderFault b HeaderCrc bytes = HasHeaderSignature bytes × HasRevision bytes × HasSize b bytes × (¬ HasCrc bytes)
 IsHeaderFault b _ bytes = ⊥

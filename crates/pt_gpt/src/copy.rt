@@ -4,7 +4,7 @@ ghost use Rattle.std.specs.Prelude.{◌≡◌, ◌⊎◌, ◌+◌, ◌*◌, ◌<
 ghost use Rattle.pt_sector.specs.Sectors.{IsSectorSize, sector};
 ghost use Rattle.pt_sector.specs.Calls.{Blames};
 ghost use Rattle.pt_sector.specs.Reads.{OnlyReads};
-ghost use Rattle.pt_gpt.specs.Errors.{IsOutside, NeedsNoMemory, fault_in, FailedIn};
+ghost use Rattle.pt_gpt.specs.Errors.{IsOutsideCopy, NeedsNoMemory, fault_in, FailedInCopy};
 ghost use Rattle.pt_gpt.specs.Header.{HeaderBytes, IsHeaderFault};
 ghost use Rattle.pt_gpt.specs.Array.{array_len};
 ghost use Rattle.pt_gpt.specs.Copy.{header_place, IsPlaced, IsHead, CopyWith, Copy, SideReads};
@@ -25,10 +25,10 @@ fn read_header<const B: usize, D: Disk<B>>(disk: &mut D, at: u64) -> Result<Head
     requires within { at < D.count disk.old }
     ensures same { OnlyReads D.Disk disk.old disk.new }
     ensures blames { Blames fault_in result (D.faults disk.old) (D.faults disk.new) }
-    ensures place { IfErr result (FailedIn (λ s. s ≡ at)) }
+    ensures place { IfErr result (FailedInCopy (λ s. s ≡ at)) }
     ensures memory { IfErr result NeedsNoMemory }
     ensures ok { D.tells → IfOk result (λ h. HeaderBytes B h (sector (D.told disk.old).seen at)) }
-    ensures err { D.tells → IfErr result (λ e. IsOutside e ⊎ IsHeaderFault B e (sector (D.told disk.old).seen at)) }
+    ensures err { D.tells → IfErr result (λ e. IsOutsideCopy e ⊎ IsHeaderFault B e (sector (D.told disk.old).seen at)) }
 {
     let mut bytes = [0; B];
     read_sector(disk, Lba(at), &mut bytes)?;
@@ -45,7 +45,7 @@ pub fn read_head<const B: usize, D: Disk<B>>(disk: &mut D, side: Side) -> Result
     requires room { 2 * array_len B + 4 ≤ D.count disk.old }
     ensures same { OnlyReads D.Disk disk.old disk.new }
     ensures blames { Blames fault_in result (D.faults disk.old) (D.faults disk.new) }
-    ensures place { IfErr result (FailedIn (λ s. s ≡ header_place side (D.count disk.old))) }
+    ensures place { IfErr result (FailedInCopy (λ s. s ≡ header_place side (D.count disk.old))) }
     ensures memory { IfErr result NeedsNoMemory }
     ensures placed { IfOk result (λ h. IsPlaced B side (D.count disk.old) h) }
     ensures ok { D.tells → IfOk result (λ h. IsHead B (D.told disk.old).seen side h) }
@@ -77,7 +77,7 @@ pub fn read_table<const B: usize, D: Disk<B>>(
     ensures ok { D.tells → IfOk result (λ t. Copy B (D.told disk.old).seen side t) }
     ensures with { D.tells → IfOk result (λ t. CopyWith B (D.told disk.old).seen side header.now t) }
     ensures err { D.tells → IfErr result (λ e. TellsFault B (D.told disk.old).seen side e) }
-    ensures place { D.tells → IfErr result (FailedIn (SideReads B (D.told disk.old).seen side)) }
+    ensures place { D.tells → IfErr result (FailedInCopy (SideReads B (D.told disk.old).seen side)) }
 {
     let (crc, entries) = read_entries(alloc, disk, header.array, header.count)?;
     if crc != header.array_crc {
@@ -106,7 +106,7 @@ pub fn read_copy<const B: usize, D: Disk<B>>(
     ensures blames { Blames fault_in result (D.faults disk.old) (D.faults disk.new) }
     ensures ok { D.tells → IfOk result (λ t. Copy B (D.told disk.old).seen side t) }
     ensures err { D.tells → IfErr result (λ e. TellsFault B (D.told disk.old).seen side e) }
-    ensures place { D.tells → IfErr result (FailedIn (SideReads B (D.told disk.old).seen side)) }
+    ensures place { D.tells → IfErr result (FailedInCopy (SideReads B (D.told disk.old).seen side)) }
 {
     let header = read_head(disk, side)?;
     read_table(alloc, disk, side, &header)

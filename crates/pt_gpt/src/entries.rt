@@ -6,7 +6,7 @@ ghost use Rattle.pt_sum.specs.Crc.{crc_of};
 ghost use Rattle.pt_sector.specs.Sectors.{IsSectorSize};
 ghost use Rattle.pt_sector.specs.Calls.{Blames};
 ghost use Rattle.pt_sector.specs.Reads.{OnlyReads};
-ghost use Rattle.pt_gpt.specs.Errors.{IsOutside, fault_in, FailedIn};
+ghost use Rattle.pt_gpt.specs.Errors.{IsOutsideCopy, fault_in, FailedInCopy};
 ghost use Rattle.pt_gpt.specs.Array.{counted, AreEntries};
 ghost use Rattle.pt_gpt.specs.Copy.{bytes_from};
 ghost use Rattle.pt_gpt.specs.declared.entry.Entry.{Entry};
@@ -46,8 +46,8 @@ pub(crate) fn read_entries<const B: usize, D: Disk<B>>(
     requires within { at + counted B count ≤ D.count disk.old }
     ensures same { OnlyReads D.Disk disk.old disk.new }
     ensures blames { Blames fault_in result (D.faults disk.old) (D.faults disk.new) }
-    ensures outside { IfErr result IsOutside }
-    ensures place { IfErr result (FailedIn (λ s. (at ≤ s) × (s < at + counted B count))) }
+    ensures outside { IfErr result IsOutsideCopy }
+    ensures place { IfErr result (FailedInCopy (λ s. (at ≤ s) × (s < at + counted B count))) }
     ensures number { IfOk result (λ r. length r.1 ≡ count) }
     ensures crc { D.tells → IfOk result (λ r. r.0 ≡ crc_of (take (count * 128) (bytes_from (D.told disk.old).seen at (counted B count)))) }
     ensures entries { D.tells → IfOk result (λ r. AreEntries r.1

@@ -3,7 +3,7 @@
 ghost use Rattle.std.specs.Prelude.{◌≡◌, ◌-◌, ◌<◌, ◌≤◌, ◌^◌, ◌↔◌, ◌++◌, IfOk, IfErr, IsTrue, length, slice_range, replicate, take, drop};
 ghost use Rattle.pt_sum.specs.Crc.{crc_of};
 ghost use Rattle.pt_sector.specs.Sectors.{IsSectorSize};
-ghost use Rattle.pt_gpt.specs.Header.{HeaderFields, HeaderBytes, IsHeaderFault, HasSignature, HasCrc, header_size};
+ghost use Rattle.pt_gpt.specs.Header.{HeaderFields, HeaderBytes, IsHeaderFault, HasHeaderSignature, HasCrc, header_size};
 ghost use Rattle.pt_gpt.specs.HeaderSector.{unsummed_from, summed_from, HeaderFits};
 
 use crate::bytes::{guid_at, put_guid, put_u32, put_u64};
@@ -47,7 +47,7 @@ pub struct Header {
 
 fn has_signature(bytes: &[u8]) -> bool
     requires { 512 ≤ length bytes.now }
-    ensures { IsTrue result ↔ HasSignature bytes.now }
+    ensures { IsTrue result ↔ HasHeaderSignature bytes.now }
 {
     &bytes[..8] == b"EFI PART".as_slice()
 }

@@ -8,7 +8,7 @@ ghost use Rattle.pt_gpt.specs.Header.{HeaderBytes, IsHeaderFault};
 ghost use Rattle.pt_gpt.specs.Entry.{EntryBytes, IsTyped};
 ghost use Rattle.pt_gpt.specs.Array.{AreEntries, AllFit, AllTyped, array_bytes};
 ghost use Rattle.pt_gpt.specs.Copy.{header_place, IsHead, IsHeadFault, Copy, HasCopy, IsCopyFault, InArray, SideReads, SameSide, CopyWith};
-ghost use Rattle.pt_gpt.specs.Copy.{IsWritten};
+ghost use Rattle.pt_gpt.specs.Copy.{IsWrittenCopy};
 ghost use Rattle.pt_gpt.specs.declared.header.Header.{Header};
 ghost use Rattle.pt_gpt.specs.declared.entry.Entry.{Entry};
 ghost use Rattle.pt_gpt.specs.declared.error.CopyError.{CopyError};
@@ -94,5 +94,5 @@ pub fn entries_read_back()
 /// A header, and an array that is written as a table's entries, are that table's copy.
 pub fn written_is_copy()
     ensures { (b : ℕ) (d : Sectors) (side : Side) (h : Header) (t : Table) → IsSectorSize b → AllFit t.entries → AllTyped t.entries
-        → IsWritten b d side h t → CopyWith b d side h t }
+        → IsWrittenCopy b d side h t → CopyWith b d side h t }
 {}

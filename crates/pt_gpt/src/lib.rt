@@ -10,7 +10,7 @@ mod entries;
 mod entry;
 mod error;
 mod header;
-mod laws;
+pub mod laws;
 mod place;
 mod table;
 mod view;
@@ -20,11 +20,6 @@ pub use copy::{read_copy, read_head, read_table};
 pub use entry::{Entry, decode_entry, encode_entry};
 pub use error::CopyError;
 pub use header::{Header, decode_header, encode_header};
-pub use laws::{
-    copy_is_one, copy_is_shaped, entries_read_back, entry_is_one, entry_reads_back, fault_is_one,
-    header_is_one, header_reads_back, no_copy, no_header, side_reads_are, side_reads_decide,
-    written_is_copy,
-};
 pub use place::{
     MOST_ENTRIES, array_at, array_sectors, counted_sectors, first_usable, has_room, header_at,
 };

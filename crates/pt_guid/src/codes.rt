@@ -1,6 +1,6 @@
 //! The type codes.
 
-ghost use Rattle.std.specs.Prelude.{◌≡◌, ◌≢◌, ℕ, List, IfSome, IfNone, Some, None, replicate};
+ghost use Rattle.std.specs.Prelude.{◌≡◌, ◌≢◌, ℕ, IfSome, IfNone, Some, None};
 ghost use Rattle.pt_guid.specs.Codes.{type_of, type_of_record};
 
 use crate::guid::Guid;
@@ -92,13 +92,3 @@ pub fn code_of_type(guid: &Guid) -> Option<u16>
     }
     None
 }
-
-/// No two codes stand for one type.
-pub fn codes_differ()
-    ensures { (a b : ℕ) (stored : List ℕ) → type_of a ≡ Some stored → type_of b ≡ Some stored → a ≡ b }
-{}
-
-/// No code stands for the type of an unused entry, which is zero.
-pub fn types_are_used()
-    ensures { (code : ℕ) → type_of code ≢ Some (replicate 16 0) }
-{}

@@ -1,6 +1,6 @@
 //! GUIDs, their texts, and fresh ones.
 
-ghost use Rattle.std.specs.Prelude.{◌≡◌, ◌<◌, ◌↔◌, ℕ, List, All, IsTrue, IfOk, IfErr, Some, None, length, replicate};
+ghost use Rattle.std.specs.Prelude.{◌≡◌, ◌<◌, ◌↔◌, All, IsTrue, IfOk, IfErr, Some, None, length, replicate};
 ghost use Rattle.uuid.specs.Text.{hyphenated_text, lower};
 ghost use Rattle.pt_guid.specs.Mixed.{mixed, stored_of, text_of};
 ghost use Rattle.pt_guid.specs.Fresh.{fresh_of};
@@ -91,18 +91,3 @@ pub fn fresh(mut drawn: [u8; 16]) -> Guid
     drawn[8] = (drawn[8] & 0x3F) | 0x80;
     Guid(Uuid::from_bytes(drawn).to_bytes_le())
 }
-
-/// Sixteen bytes that are rearranged twice are as before.
-pub fn mixed_twice()
-    ensures { (bytes : List ℕ) → length bytes ≡ 16 → mixed (mixed bytes) ≡ bytes }
-{}
-
-/// A text stands for one GUID.
-pub fn one_value()
-    ensures { (text a b : List ℕ) → stored_of text ≡ Some a → stored_of text ≡ Some b → a ≡ b }
-{}
-
-/// The text of a GUID stands for it.
-pub fn text_reads_back()
-    ensures { (stored : List ℕ) → length stored ≡ 16 → All (λ byte. byte < 256) stored → stored_of (text_of stored) ≡ Some stored }
-{}

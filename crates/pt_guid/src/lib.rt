@@ -5,6 +5,7 @@
 
 mod codes;
 mod guid;
+pub mod laws;
 
-pub use codes::{code_of_type, codes_differ, type_of_code, type_of_record, types_are_used};
-pub use guid::{Guid, GuidError, fresh, mixed_twice, one_value, parse, text_reads_back};
+pub use codes::{code_of_type, type_of_code, type_of_record};
+pub use guid::{Guid, GuidError, fresh, parse};

@@ -15,17 +15,17 @@ use Rattle.pt_members.specs.laws.SliceLists.{record_slice, primary_slice, primar
 use Rattle.pt_members.specs.declared.layout.Slice.{Slice}
 use Rattle.pt_kept.proofs.Lists.{slices_by, filter_in, filter_out}
 use Rattle.pt_kept.proofs.Entries.{is_not, is_not_true, is_not_false}
-use Rattle.pt_shape.specs.Ascending.{IsAscending}
+use Rattle.pt_shape.specs.Ascending.{NumbersAscend}
 use Rattle.pt_shape.specs.laws.Ascending.{logicals_ascend}
 
 -- all numbers pass a test, or none does
-pub ascending_kept : (f : ℕ → Bool) (n : ℕ) (ss : List Slice) → ((m : ℕ) → n ≤ m → f m ≡ true) → IsAscending n ss → slices_by f ss ≡ ss
+pub ascending_kept : (f : ℕ → Bool) (n : ℕ) (ss : List Slice) → ((m : ℕ) → n ≤ m → f m ≡ true) → NumbersAscend n ss → slices_by f ss ≡ ss
 ascending_kept f n [] all up = refl
 ascending_kept f n (s ∷ ss) all up =
     filter_in (λ (x : Slice). f x.number) s ss (all s.number up.0)
     ∙ ap (λ (l : List Slice). s ∷ l) (ascending_kept f (s.number + 1) ss (λ m le. all m (omega (arith, le, up.0))) up.1)
 
-pub ascending_gone : (f : ℕ → Bool) (n : ℕ) (ss : List Slice) → ((m : ℕ) → n ≤ m → f m ≡ false) → IsAscending n ss → slices_by f ss ≡ []
+pub ascending_gone : (f : ℕ → Bool) (n : ℕ) (ss : List Slice) → ((m : ℕ) → n ≤ m → f m ≡ false) → NumbersAscend n ss → slices_by f ss ≡ []
 ascending_gone f n [] all up = refl
 ascending_gone f n (s ∷ ss) all up =
     filter_out (λ (x : Slice). f x.number) s ss (all s.number up.0)

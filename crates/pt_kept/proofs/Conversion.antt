@@ -35,7 +35,7 @@ use Rattle.pt_edit.specs.Kept.{member_of, is_kept, is_kept_kind}
 use Rattle.pt_edit.specs.Partitions.{partitions}
 use Rattle.pt_edit.specs.laws.Kept.{kept_lem}
 use Rattle.pt_edit.specs.Room.{NoRoom, small}
-use Rattle.pt_edit.specs.Converted.{new_type, HasUnknown, IsAt, entry_of, IsGptOf, Converted, HasRecords}
+use Rattle.pt_edit.specs.Converted.{new_type, HasUnknown, IsItemAt, entry_of, IsGptOf, Converted, HasRecords}
 use Rattle.pt_edit.specs.Placed.{Placeable}
 use Rattle.pt_edit.specs.declared.partition.Partition.{Partition}
 use Rattle.pt_edit.proofs.Numbers.{placed}
@@ -104,14 +104,14 @@ abbrev IsRising : ℕ → List Partition → Type 0
 IsRising low [] = Unit {0}
 IsRising low (p ∷ ps) = (low ≤ p.number) × IsRising (p.number + 1) ps
 
-later : (p q : Partition) (ps : List Partition) (k : ℕ) → IsAt ps k q → IsAt (p ∷ ps) (suc k) q
+later : (p q : Partition) (ps : List Partition) (k : ℕ) → IsItemAt ps k q → IsItemAt (p ∷ ps) (suc k) q
 later p q ps k at = (omega (arith, at.0), at.1)
 
-rising_of : (low : ℕ) (ps : List Partition) → ((k : ℕ) (p : Partition) → IsAt ps k p → low ≤ p.number)
-    → ((i j : ℕ) (p q : Partition) → i < j → IsAt ps i p → IsAt ps j q → p.number < q.number) → IsRising low ps
+rising_of : (low : ℕ) (ps : List Partition) → ((k : ℕ) (p : Partition) → IsItemAt ps k p → low ≤ p.number)
+    → ((i j : ℕ) (p q : Partition) → i < j → IsItemAt ps i p → IsItemAt ps j q → p.number < q.number) → IsRising low ps
 rising_of low [] least up = tt
 rising_of low (p ∷ ps) least up =
-    let here : IsAt (p ∷ ps) 0 p = (omega arith, refl) in (
+    let here : IsItemAt (p ∷ ps) 0 p = (omega arith, refl) in (
       least 0 p here,
       rising_of (p.number + 1) ps (λ k q at. let lt = up 0 (suc k) p q (omega arith) here (later p q ps k at) in
           omega (arith, lt)) (λ i j q r lt a c. up (suc i) (suc j) q r (omega (arith, lt)) (later p q ps i a) (later p r ps j c)),
@@ -267,13 +267,14 @@ entry_made guid p (Some stored) is known =
           ∙ (entry_some p.number e ∙ ap (λ (c : Bool). if c then slice_from p.number p.first p.last ∷ [] else []) type.slice);
     }
 
-found : (ps : List Partition) (number : ℕ) → ((j : ℕ) × (p : Partition) × IsAt ps j p × (p.number ≡ number))
+found : (ps : List Partition) (number : ℕ) → ((j : ℕ) × (p : Partition) × IsItemAt ps j p × (p.number ≡ number))
     ⊎ ((p : Partition) → Contains ps p → p.number ≢ number)
 found [] number = inr (λ p is. absurd (omega (arith, is.1)))
 found (q ∷ ps) number = found_at q ps number (found ps number) (nat_eq q.number number) refl where
-  found_at : (q : Partition) (ps : List Partition) (number : ℕ) → ((j : ℕ) × (p : Partition) × IsAt ps j p × (p.number ≡ number))
+  found_at : (q : Partition) (ps : List Partition) (number : ℕ) → ((j : ℕ) × (p : Partition) × IsItemAt ps j p × (p.number ≡ number))
       ⊎ ((p : Partition) → Contains ps p → p.number ≢ number) → (t : Bool) → nat_eq q.number number ≡ t
-      → ((j : ℕ) × (p : Partition) × IsAt (q ∷ ps) j p × (p.number ≡ number)) ⊎ ((p : Partition) → Contains (q ∷ ps) p → p.number ≢ number)
+      → ((j : ℕ) × (p : Partition) × IsItemAt (q ∷ ps) j p × (p.number ≡ number)) ⊎ ((p : Partition) → Contains (q ∷ ps) p
+      → p.number ≢ number)
   found_at q ps number more true so = inl (0, q, (omega arith, refl), eqb-true q.number number so)
   found_at q ps number (inl (j, p, at, same)) false so = inl (suc j, p, later q p ps j at, same)
   found_at q ps number (inr none) false so = inr (λ p is. (elim (contains_cases q p ps is) [
@@ -286,10 +287,10 @@ no_guid = record { 0 = [] }
 
 -- each partition's entry in the table
 made_entry : (b n : ℕ) (guids : List Guid) (ps : List Partition) (t : Table) (j : ℕ) (p : Partition) → IsGptOf b n guids ps t
-    → 1 + length ps ≤ length guids → ¬ HasUnknown ps → IsAt ps j p → BecomesEntry p (slice_index_or t.entries (p.number - 1) None)
+    → 1 + length ps ≤ length guids → ¬ HasUnknown ps → IsItemAt ps j p → BecomesEntry p (slice_index_or t.entries (p.number - 1) None)
 made_entry b n guids ps t j p is enough known at =
     let guid = slice_index_or guids (1 + j) no_guid in
-    let own : IsAt guids (1 + j) guid = at_place guids (1 + j) no_guid (omega (arith, at.0, enough)) in
+    let own : IsItemAt guids (1 + j) guid = at_place guids (1 + j) no_guid (omega (arith, at.0, enough)) in
     subst (BecomesEntry p) (sym (is.each j p guid at own))
     (entry_made guid p (new_type p.kind) refl (λ none. known (p, (j, at.0, at.1), none)))
 
@@ -299,7 +300,7 @@ all_typed b n guids ps t is enough known k lt = by_number (found ps (k + 1)) whe
   at : (k + 1) - 1 ≡ k
   at = omega arith
 
-  by_number : ((j : ℕ) × (p : Partition) × IsAt ps j p × (p.number ≡ k + 1)) ⊎ ((p : Partition) → Contains ps p → p.number ≢ k + 1)
+  by_number : ((j : ℕ) × (p : Partition) × IsItemAt ps j p × (p.number ≡ k + 1)) ⊎ ((p : Partition) → Contains ps p → p.number ≢ k + 1)
       → IfSome (slice_index_or t.entries k None) IsTyped
   by_number (inl (j, p, stands, same)) =
       let made = made_entry b n guids ps t j p is enough known stands in

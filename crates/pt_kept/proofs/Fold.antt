@@ -20,7 +20,8 @@ use Rattle.pt_records.specs.Created.{NewIn, new_record, new_logical, RecordNew}
 use Rattle.pt_labels.specs.New.{PartNew}
 use Rattle.pt_edit.specs.Spots.{EntryTyped, EntryDeleted}
 use Rattle.pt_edit.specs.NewEntry.{EntryMade}
-use Rattle.pt_edit.specs.Edited.{State, initial, InKind, Typed, Deleted, Made, asked_for, MakesOn, MakesOf, Takes, Ends, EditedFrom, Edited}
+use Rattle.pt_edit.specs.Edited.{State, initial, InKind, Typed, Deleted, Made, asked_for, MakesOn, MakesOf, Takes, WordsEnd, EditedFrom}
+use Rattle.pt_edit.specs.Edited.{Edited}
 use Rattle.pt_words.specs.declared.asked.Asked.{Asked}
 use Rattle.pt_shape.specs.Shape.{Shaped}
 use Rattle.pt_shape.specs.Keeps.{Keeps}
@@ -148,7 +149,7 @@ takes_kept b n old (SetBit number bit value) s t small kept is = makes_kept b n 
 takes_kept b n old Extend s t small kept is = makes_kept b n old Extend s t small kept is
 takes_kept b n old ToGpt s t small kept is = makes_kept b n old ToGpt s t small kept is
 
-ends_kept : (b n : ℕ) (old o : Option Layout) (p : Layout) → LayoutKept b n old o → Ends o (Ok p) → Keeps b n old p
+ends_kept : (b n : ℕ) (old o : Option Layout) (p : Layout) → LayoutKept b n old o → WordsEnd o (Ok p) → Keeps b n old p
 ends_kept b n old None p kept is = absurd cc
 ends_kept b n old (Some o) p kept is = let same : o ≡ p = cc in subst (Keeps b n old) same kept
 

@@ -26,9 +26,9 @@ use Rattle.pt_members.specs.declared.layout.Body.TheVariants.{Gpt}
 use Rattle.pt_words.specs.declared.word.Code.{Code}
 use Rattle.pt_words.specs.declared.word.Code.TheVariants.{Two, Four}
 use Rattle.pt_space.specs.laws.Terms.{placed_is_free_lem}
-use Rattle.pt_edit.specs.Changes.{HasEntry, Changed, DiskSet, Extended, edge, with_entry, with_body}
+use Rattle.pt_edit.specs.Changes.{HasUsedEntry, Changed, DiskSet, Extended, with_entry, with_body}
 use Rattle.pt_edit.specs.Spots.{is_slice, entry_type, EntryTyped, EntryDeleted}
-use Rattle.pt_edit.specs.NewEntry.{IsUnused, TakesNumber, given, lowest, new_type, table_area, run_length, new_entry_of, new_labels}
+use Rattle.pt_edit.specs.NewEntry.{IsUnusedEntry, TakesNumber, given, lowest, new_type, table_area, run_length, new_entry_of, new_labels}
 use Rattle.pt_edit.specs.NewEntry.{with_new_entry, EntryMade}
 use Rattle.pt_edit.specs.Edited.{empty_gpt}
 use Rattle.pt_words.specs.declared.asked.Asked.{Asked}
@@ -51,7 +51,7 @@ new_typed None kind is = type_typed (Four 0x8300) kind is
 new_typed (Some code) kind is = type_typed code kind is
 
 -- a used entry has a type
-used_typed : (b : ℕ) (o : Layout) (t : Table) (number : ℕ) (e : Entry) → Shaped b o → o.body ≡ Gpt t → HasEntry t number e → IsTyped e
+used_typed : (b : ℕ) (o : Layout) (t : Table) (number : ℕ) (e : Entry) → Shaped b o → o.body ≡ Gpt t → HasUsedEntry t number e → IsTyped e
 used_typed b o t number e shaped is has =
     subst (λ (x : Option Entry). IfSome x IsTyped) has.used
     ((table_fits b o t shaped is).typed (number - 1) (omega (arith, has.first, has.last)))
@@ -61,7 +61,7 @@ same_entry_slice : (n : ℕ) (e f : Entry) → f.kind ≡ e.kind → f.first ≡
     → entry_slice n (Some f) ≡ entry_slice n (Some e)
 same_entry_slice n e f kind first last = entry_some n f ∙ (rw (kind, first, last) refl ∙ sym (entry_some n e))
 
-keeps_change : (b number : ℕ) (o p : Layout) (t : Table) (e f : Entry) → Shaped b o → o.body ≡ Gpt t → HasEntry t number e
+keeps_change : (b number : ℕ) (o p : Layout) (t : Table) (e f : Entry) → Shaped b o → o.body ≡ Gpt t → HasUsedEntry t number e
     → f.kind ≡ e.kind → f.first ≡ e.first → f.last ≡ e.last → p ≡ with_body o (Gpt (with_entry t number f)) → Keeps b o.sectors (Some o) p
 keeps_change b number o p t e f shaped is has kind first last made =
     subst (λ (q : Layout). Keeps b o.sectors (Some o) q) (sym made)
@@ -145,8 +145,8 @@ pub keeps_deleted : (b number : ℕ) (o p : Layout) (t : Table) → Shaped b o �
 keeps_deleted b number o p t shaped is x = subst (λ (q : Layout). Keeps b o.sectors (Some o) q) (sym x.made)
     (keeps_without b number o t shaped is x.is_entry.first x.is_entry.last)
 
-unused_of : (t : Table) (wanted number : ℕ) → TakesNumber t wanted number → IsUnused t number
-unused_of t wanted number (given some unused same) = subst (IsUnused t) (sym same) unused
+unused_of : (t : Table) (wanted number : ℕ) → TakesNumber t wanted number → IsUnusedEntry t number
+unused_of t wanted number (given some unused same) = subst (IsUnusedEntry t) (sym same) unused
 unused_of t wanted number (lowest asked unused least) = unused
 
 and_left : (p q : Bool) → (p && q) ≡ true → p ≡ true
@@ -168,7 +168,7 @@ keeps_made b a fresh o p t small shaped is x = subst (λ (q : Layout). Keeps b o
       fits : FitsTable b o.sectors t
       fits = table_fits b o t shaped is
 
-      unused : IsUnused t x.number
+      unused : IsUnusedEntry t x.number
       unused = unused_of t a.number x.number x.place.takes
 
       typed : IsTyped e

@@ -27,7 +27,7 @@ use Rattle.pt_words.specs.declared.word.Code.TheVariants.{Two, Four}
 use Rattle.pt_records.specs.Types.{record_type, is_container}
 use Rattle.pt_records.specs.Chains.{ebr_at, LogicalTyped, LogicalDeleted}
 use Rattle.pt_shape.specs.Shape.{FitsRecord, FitsLogical, Linked, FitsExtended, FitsMbr, AreLabelsOf, Shaped}
-use Rattle.pt_shape.specs.Keeps.{IsOldLabel, IsNewLabel, IsTyped, IsMadeLogical, Keeps}
+use Rattle.pt_shape.specs.Keeps.{IsOldLabel, IsNewLabel, IsRetyped, IsMadeLogical, Keeps}
 use Rattle.pt_kept.proofs.Lists.{slices_by, contains_filter}
 use Rattle.pt_kept.proofs.Entries.{is_not, is_not_false}
 use Rattle.pt_kept.proofs.Chain.{primaries_below, renumbered, number_by, number_least, next_of, chain_same, chain_lowered, lower}
@@ -161,7 +161,7 @@ keeps_logical_typed b number code o rs chain made shaped is typed =
               contains_at chain k no_ebr lt,
               ap (λ (y : Ebr). y.at) here,
               typed.is_logical.has,
-              subst (IsTyped typed.partition) one refl,
+              subst (IsRetyped typed.partition) one refl,
             ))
         | inr there ↦ same_logical chain e q there has
       ]

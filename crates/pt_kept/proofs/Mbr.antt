@@ -20,7 +20,7 @@ use Rattle.pt_members.specs.declared.layout.Body.TheVariants.{Mbr}
 use Rattle.pt_members.specs.Counts.{used_before}
 use Rattle.pt_members.specs.Members.{label_of}
 use Rattle.pt_shape.specs.Shape.{FitsLogical, Linked, FitsChain, FitsExtended, FitsMbr, FitsBody, AreLabelsOf, Shaped}
-use Rattle.pt_shape.specs.Keeps.{LabelStays, IsOldLabel, IsNewLabel, IsTyped, IsMadeRecord, IsMadeLogical, IsMbrBody, Keeps, records_in}
+use Rattle.pt_shape.specs.Keeps.{LabelStays, IsOldLabel, IsNewLabel, IsRetyped, IsMadeRecord, IsMadeLogical, IsMbrBody, Keeps, records_in}
 use Rattle.pt_shape.specs.Keeps.{chain_in}
 use Rattle.pt_shape.specs.laws.Terms.{label_stays_refl_lem}
 use Rattle.pt_kept.proofs.Lists.{contains_cases, contains_later}
@@ -32,11 +32,11 @@ mbr_of o rs chain ls = record { sectors = o.sectors; body = Mbr rs chain; labels
 
 -- a record of the old records, perhaps with another type
 abbrev pub WasRecord : List (Option Record) → ℕ → Record → Type 0
-WasRecord rs k r = (old : Record) × (slice_index_or rs k None ≡ Some old) × IsTyped old r
+WasRecord rs k r = (old : Record) × (slice_index_or rs k None ≡ Some old) × IsRetyped old r
 
 -- a logical partition of the old chain in the same sector, perhaps with another type
 abbrev pub WasLogical : List Ebr → Ebr → Record → Type 0
-WasLogical chain e r = (was : Ebr) × (old : Record) × Contains chain was × (was.at ≡ e.at) × (was.logical ≡ Some old) × IsTyped old r
+WasLogical chain e r = (was : Ebr) × (old : Record) × Contains chain was × (was.at ≡ e.at) × (was.logical ≡ Some old) × IsRetyped old r
 
 -- an MBR keeps of another what its labels, its records and its logical partitions do
 pub keeps_mbr : (b : ℕ) (o : Layout) (rs : List (Option Record)) (chain : List Ebr) (new : List (Option Record)) (made : List Ebr)

@@ -12,7 +12,7 @@ use Rattle.pt_shape.specs.Shape.{FitsLabel, AreLabelsOf}
 use Rattle.pt_kept.proofs.Lists.{slices_by, filter_in, filter_out, are_filter, label_of_by, label_of_head, label_of_tail, contains_cases}
 use Rattle.pt_kept.proofs.Lists.{contains_later, contains_filter}
 use Rattle.pt_kept.proofs.Entries.{is_not, is_not_true, is_not_false, is_below, is_above}
-use Rattle.pt_shape.specs.Ascending.{IsAscending}
+use Rattle.pt_shape.specs.Ascending.{NumbersAscend}
 use Rattle.pt_shape.specs.laws.Ascending.{ascend_from}
 use Rattle.pt_kept.proofs.Chain.{AreBelow, ascending_kept, ascending_gone, renumbered, lower, lower_above, lower_below, slices_lowered}
 use Rattle.pt_kept.proofs.Raised.{greatest, raise, raise_below, raise_above, slices_raised}
@@ -144,8 +144,8 @@ raise_step k a p (inr x) (inl y) = absurd (omega (arith, x, y))
 raise_step k a p (inr x) (inr y) = omega (arith, raise_above k a x (omega (arith, p)), raise_above k (a + 1) y p)
 
 -- raised slices ascend as well
-pub raised_ascend : (k low : ℕ) (ss : List Slice) → low < greatest → AreBelow (greatest - 1) ss → IsAscending low ss
-    → IsAscending (raise k low) (slices_raised k ss)
+pub raised_ascend : (k low : ℕ) (ss : List Slice) → low < greatest → AreBelow (greatest - 1) ss → NumbersAscend low ss
+    → NumbersAscend (raise k low) (slices_raised k ss)
 raised_ascend k low [] small below up = tt
 raised_ascend k low (s ∷ ss) small below up =
     let n = s.number in
@@ -164,7 +164,7 @@ pub raised_free : (k : ℕ) (ss : List Slice) → AreBelow greatest ss → NoneH
 raised_free k [] below = tt
 raised_free k (s ∷ ss) below = (raise_free k s.number below.0 (cases_lt s.number k), raised_free k ss below.1)
 
-split_one : (k : ℕ) (s : Slice) (ss : List Slice) → IsAscending (s.number + 1) ss → s.number ≢ k
+split_one : (k : ℕ) (s : Slice) (ss : List Slice) → NumbersAscend (s.number + 1) ss → s.number ≢ k
     → slices_by (is_below k) ss ++ slices_by (is_above k) ss ≡ ss → (s.number < k) ⊎ (k ≤ s.number)
     → slices_by (is_below k) (s ∷ ss) ++ slices_by (is_above k) (s ∷ ss) ≡ s ∷ ss
 split_one k s ss up other more (inl lt) =
@@ -184,7 +184,7 @@ split_one k s ss up other more (inr ge) =
     ∙ ap (λ (l : List Slice). s ∷ l) kept)
 
 -- so those of lower and of higher numbers are all
-pub split_at : (k low : ℕ) (ss : List Slice) → IsAscending low ss → NoneHas k ss
+pub split_at : (k low : ℕ) (ss : List Slice) → NumbersAscend low ss → NoneHas k ss
     → slices_by (is_below k) ss ++ slices_by (is_above k) ss ≡ ss
 split_at k low [] up none = refl
 split_at k low (s ∷ ss) up none = split_one k s ss up.1 none.0 (split_at k (s.number + 1) ss up.1 none.1) (cases_lt s.number k)

@@ -28,19 +28,19 @@ use Rattle.pt_labels.specs.Lists.{raised, with_new_label}
 use Rattle.pt_words.specs.declared.word.Code.{Code}
 use Rattle.pt_words.specs.declared.word.End.{End}
 use Rattle.pt_space.specs.declared.space.Run.{Run}
-use Rattle.pt_space.specs.Area.{IsIn}
+use Rattle.pt_space.specs.Area.{IsInRuns}
 use Rattle.pt_space.specs.laws.Terms.{placed_is_free_lem}
 use Rattle.pt_records.specs.Types.{new_type, is_slice}
 use Rattle.pt_records.specs.Chains.{ebr_at, number_at, with_logical}
 use Rattle.pt_records.specs.Entered.{IsEmptyAt, IsPlaceFor, with_ebr, Entered, reused, added}
-use Rattle.pt_records.specs.ChainNew.{logical_area, len_of, record_for, Misfit, labels_with, NewKind, LogicalNew, empty_sector, taken_of}
+use Rattle.pt_records.specs.ChainNew.{logical_area, len_of, record_for, IsMisfit, labels_with, NewKind, LogicalNew, empty_sector, taken_of}
 use Rattle.pt_shape.specs.Shape.{FitsLogical, FitsChain, FitsExtended, FitsMbr, AreLabelsOf, Shaped}
 use Rattle.pt_shape.specs.Keeps.{IsOldLabel, IsNewLabel, IsMadeLogical, Keeps}
 use Rattle.pt_shape.specs.laws.Terms.{same_but_parts_refl}
 use Rattle.pt_kept.proofs.Lists.{slices_by, are_entered, label_of_new, label_of_old, contains_cases, contains_filter}
 use Rattle.pt_kept.proofs.Entries.{is_below, is_above, around}
 use Rattle.pt_kept.proofs.Tables.{contains_append, empty_fits, slice_len}
-use Rattle.pt_shape.specs.Ascending.{IsAscending}
+use Rattle.pt_shape.specs.Ascending.{NumbersAscend}
 use Rattle.pt_shape.specs.laws.Ascending.{slices_ascend_lem}
 use Rattle.pt_kept.proofs.Chain.{AreBelow, below_append, below_more, primaries_below, logicals_below, renumbered, number_by, number_least}
 use Rattle.pt_kept.proofs.Chain.{chain_same, next_of}
@@ -105,7 +105,7 @@ kept_plain b number o rs chain shaped is few =
     let old = slices_of b (Mbr rs chain) in
     let fits = body_fits b o rs chain shaped is in
     let below = old_below b rs chain fits.four few (nat_eq b 512) refl in
-    let order : IsAscending 1 old = subst (λ (y : Body). IsAscending 1 (slices_of b y)) is (slices_ascend_lem b o shaped) in
+    let order : NumbersAscend 1 old = subst (λ (y : Body). NumbersAscend 1 (slices_of b y)) is (slices_ascend_lem b o shaped) in
     let up = raised_ascend number 1 old (omega arith) (below_more top (greatest - 1) old (omega arith) below) order in
     let all : around number [] (slices_raised number old) ≡ slices_raised number old =
     split_at number (raise number 1) (slices_raised number old) up
@@ -196,7 +196,7 @@ made_logical : (kind len : ℕ) → IsMadeLogical (record_for kind len)
 made_logical kind len = record { made = record { boot = refl; start_chs = refl; end_chs = refl }; next = refl }
 
 finish : (b number kind len s : ℕ) (o : Layout) (rs : List (Option Record)) (chain made : List Ebr) → Shaped b o
-    → o.body ≡ Mbr rs chain → length chain ≤ 128 → 1 ≤ len → s + len < 2 ^ 63 → ¬ Misfit b kind len
+    → o.body ≡ Mbr rs chain → length chain ≤ 128 → 1 ≤ len → s + len < 2 ^ 63 → ¬ IsMisfit b kind len
     → Grown b number kind len s rs chain made
     → Keeps b o.sectors (Some o) (mbr_of o rs made (labels_with b kind len number o.labels))
 finish b number kind len s o rs chain made shaped is few some small fit g = by_kind (nat_eq b 512) (nat_eq kind 0xA5) refl refl where
@@ -388,7 +388,7 @@ record_good code kind len typed some small =
 
 -- where a new extended boot record comes in, another stands below it
 behind_one : (p : Record) (chain : List Ebr) (s k : ℕ) → FitsChain (extent_of p) chain → p.start ≤ s
-    → ¬ IsIn (taken_of chain) s → IsPlaceFor chain s k → 1 ≤ k
+    → ¬ IsInRuns (taken_of chain) s → IsPlaceFor chain s k → 1 ≤ k
 behind_one p chain s k fits low free place = elim (cases_lt 0 k) as (λ _. 1 ≤ k) [
   | inl some ↦ some
   | inr none ↦ (
@@ -403,7 +403,7 @@ behind_one p chain s k fits low free place = elim (cases_lt 0 k) as (λ _. 1 ≤
 -- the entered chain
 grown_of : (b number kind len s : ℕ) (rs : List (Option Record)) (p : Record) (chain made : List Ebr) → FitsMbr rs chain
     → slice_get (extended_of rs) 0 ≡ Some p → length chain ≤ 128 → p.start ≤ s → s ≤ p.start + p.size - 1
-    → (¬ IsIn (taken_of chain) s) ⊎ Contains (flat_map empty_sector chain) s → FitsLogical (Some (record_for kind len))
+    → (¬ IsInRuns (taken_of chain) s) ⊎ Contains (flat_map empty_sector chain) s → FitsLogical (Some (record_for kind len))
     → Entered chain s (record_for kind len) number made → Grown b number kind len s rs chain made
 grown_of b number kind len s rs p chain made fits is few low high free good (reused k empty at so) =
     subst (Grown b number kind len s rs chain) (sym so) (filled b number kind len s k rs chain fits few empty at good)

@@ -27,7 +27,7 @@ use Rattle.pt_words.specs.declared.word.End.{End}
 use Rattle.pt_space.specs.laws.Terms.{placed_is_free_lem}
 use Rattle.pt_records.specs.Types.{is_slice}
 use Rattle.pt_records.specs.ChainNew.{len_of}
-use Rattle.pt_records.specs.Numbers.{IsUnused, TakesNumber, as_asked, lowest_one}
+use Rattle.pt_records.specs.Numbers.{IsUnusedNumber, TakesRecordNumber, as_asked, lowest_one}
 use Rattle.pt_records.specs.New.{extended_record, disk_area, record_at, new_chain, new_labels, RecordMade}
 use Rattle.pt_shape.specs.Shape.{FitsRecord, FitsExtended, FitsMbr, AreLabelsOf, Shaped}
 use Rattle.pt_shape.specs.Keeps.{IsMadeRecord, IsMadeLogical, Keeps}
@@ -42,7 +42,7 @@ use Rattle.pt_kept.proofs.Records.{extended_first, extended_same, extended_yes, 
 use Rattle.pt_kept.proofs.Records.{set_records, within_four, leaf_record, no_record_slice}
 
 -- the number of a new record is one of the four, and unused
-unused_of : (rs : List (Option Record)) (asked number : ℕ) → TakesNumber rs asked number → IsUnused rs number
+unused_of : (rs : List (Option Record)) (asked number : ℕ) → TakesRecordNumber rs asked number → IsUnusedNumber rs number
 unused_of rs asked number (as_asked same unused) = unused
 unused_of rs asked number (lowest_one none lowest) = lowest.unused
 
@@ -146,7 +146,7 @@ keeps_record_new b asked alignment start end code o p rs chain shaped is new =
       old : FitsMbr rs chain
       old = body_fits b o rs chain shaped is
 
-      unused : IsUnused rs number
+      unused : IsUnusedNumber rs number
       unused = unused_of rs asked number new.chosen.takes
 
       lt : k < length rs

@@ -14,7 +14,7 @@ use Rattle.pt_members.specs.Members.{label_of}
 use Rattle.pt_labels.specs.Lists.{labelled, relabelled_as, with_label}
 use Rattle.pt_labels.specs.Parts.{with_part}
 use Rattle.pt_shape.specs.Shape.{FitsLabel, AreLabelsOf}
-use Rattle.pt_shape.specs.Ascending.{IsAscending}
+use Rattle.pt_shape.specs.Ascending.{NumbersAscend}
 use Rattle.pt_shape.specs.Keeps.{SameButParts}
 use Rattle.pt_kept.proofs.Lists.{label_of_head, label_of_tail}
 
@@ -22,7 +22,7 @@ same_label : (k : ℕ) (l : Label) (x : Labelled) → x.number ≢ k → relabel
 same_label k l x other = rw (ne_eqb x.number k other) refl
 
 -- above all numbers nothing changes
-none_above : (k low : ℕ) (l : Label) (ss : List Slice) (ls : List Labelled) → k < low → IsAscending low ss → AreLabelsOf ss ls
+none_above : (k low : ℕ) (l : Label) (ss : List Slice) (ls : List Labelled) → k < low → NumbersAscend low ss → AreLabelsOf ss ls
     → with_label k l ls ≡ ls
 none_above k low l [] ls lt up are = ap (with_label k l) are ∙ sym are
 none_above k low l (s ∷ ss) ls lt up (inl (m, rest, is, fits, behind)) =
@@ -34,7 +34,7 @@ none_above k low l (s ∷ ss) ls lt up (inr behind) = none_above k (s.number + 1
 
 -- where the label of a number changes to one that fits its slice as well
 with_one : (k : ℕ) (old new : Label) (s : Slice) (ss : List Slice) (ls : List Labelled)
-    → ((x : Slice) → FitsLabel x old → FitsLabel x new) → IsAscending (s.number + 1) ss → label_of ls k ≡ Some old
+    → ((x : Slice) → FitsLabel x old → FitsLabel x new) → NumbersAscend (s.number + 1) ss → label_of ls k ≡ Some old
     → ((rest : List Labelled) → AreLabelsOf ss rest → label_of rest k ≡ Some old → AreLabelsOf ss (with_label k new rest))
     → (t : Bool) → nat_eq s.number k ≡ t → AreLabelsOf (s ∷ ss) ls → AreLabelsOf (s ∷ ss) (with_label k new ls)
 with_one k old new s ss ls fit up has more true so (inl (m, rest, is, fits, behind)) =
@@ -67,7 +67,7 @@ with_one k old new s ss ls fit up has more false so (inl (m, rest, is, fits, beh
 with_one k old new s ss ls fit up has more t so (inr behind) = inr (more ls behind has)
 
 pub are_with : (k low : ℕ) (old new : Label) (ss : List Slice) (ls : List Labelled)
-    → ((x : Slice) → FitsLabel x old → FitsLabel x new) → IsAscending low ss → label_of ls k ≡ Some old → AreLabelsOf ss ls
+    → ((x : Slice) → FitsLabel x old → FitsLabel x new) → NumbersAscend low ss → label_of ls k ≡ Some old → AreLabelsOf ss ls
     → AreLabelsOf ss (with_label k new ls)
 are_with k low old new [] ls fit up has are = ap (with_label k new) are
 are_with k low old new (s ∷ ss) ls fit up has are =

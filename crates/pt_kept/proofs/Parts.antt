@@ -10,7 +10,7 @@ use Rattle.pt_members.specs.declared.layout.Layout.{Layout}
 use Rattle.pt_members.specs.declared.member.Member.{Member}
 use Rattle.pt_members.specs.Members.{label_of}
 use Rattle.pt_labels.specs.Lists.{with_label}
-use Rattle.pt_labels.specs.Parts.{HasEntry, PartMade, with_part, with_entry_of}
+use Rattle.pt_labels.specs.Parts.{HasPartEntry, PartMade, with_part, with_entry_of}
 use Rattle.pt_shape.specs.Shape.{Shaped}
 use Rattle.pt_shape.specs.Keeps.{LabelStays, Keeps}
 use Rattle.pt_shape.specs.laws.Terms.{label_stays_refl_lem}
@@ -26,7 +26,7 @@ there es k e has = elim (cases_lt k (length es)) as (λ _. k < length es) [
 
 -- another entry of a letter in a slice's label
 pub keeps_entry_of : (b number letter : ℕ) (o : Layout) (m : Member) (l : Label) (old new : LabelEntry) → Shaped b o
-    → HasEntry b o number letter m l old → Keeps b o.sectors (Some o) (with_entry_of number l letter new o)
+    → HasPartEntry b o number letter m l old → Keeps b o.sectors (Some o) (with_entry_of number l letter new o)
 keeps_entry_of b number letter o m l old new shaped has = record {
   sectors = refl;
   shaped = record {

@@ -23,7 +23,7 @@ use Rattle.pt_records.specs.Records.{IsPrimary}
 use Rattle.pt_records.specs.Typed.{PrimaryTyped}
 use Rattle.pt_records.specs.Deleted.{PrimaryDeleted, plain, extended}
 use Rattle.pt_shape.specs.Shape.{FitsRecord, FitsSlot, FitsExtended, FitsMbr, AreLabelsOf, Shaped}
-use Rattle.pt_shape.specs.Keeps.{IsTyped, IsMadeRecord, Keeps}
+use Rattle.pt_shape.specs.Keeps.{IsRetyped, IsMadeRecord, Keeps}
 use Rattle.pt_kept.proofs.Lists.{slices_by, are_filter, label_of_by, contains_filter}
 use Rattle.pt_kept.proofs.Entries.{is_not, is_not_true, is_below, records_without, records_same}
 use Rattle.pt_shape.specs.laws.Ascending.{logicals_ascend}
@@ -135,7 +135,7 @@ keeps_record_typed b number code o rs new chain shaped is typed =
     (λ s stands. same_slice b o rs chain s s (label_of o.labels s.number) is (subst (λ (l : List Slice). Contains l s) slices stands) refl
     refl refl)
     (set_records rs k (Some r) lt (λ q found. (let same : r ≡ q = cc in
-    inl (typed.found, typed.is_record.used, subst (IsTyped typed.found) same refl)))) (same_logical chain)) where
+    inl (typed.found, typed.is_record.used, subst (IsRetyped typed.found) same refl)))) (same_logical chain)) where
       k : ℕ
       k = number - 1
 

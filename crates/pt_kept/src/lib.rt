@@ -4,8 +4,4 @@
 //! refusal of the planner, the first whose cause holds.
 #![tactic(auto)]
 
-mod answers;
-mod laws;
-
-pub use answers::words_have_one_answer;
-pub use laws::{edit_keeps, edit_of_disk_keeps};
+pub mod laws;

@@ -15,17 +15,17 @@ use Rattle.pt_space.specs.declared.space.Run.{Run}
 use Rattle.pt_space.specs.Area.{Area}
 use Rattle.pt_space.specs.Taken.{taken_by}
 use Rattle.pt_space.specs.Placed.{Placed, NotPlaced}
-use Rattle.pt_labels.specs.Parts.{HasEntry, NoEntry, with_entry_of, part_type}
+use Rattle.pt_labels.specs.Parts.{HasPartEntry, NoEntry, with_entry_of, part_type}
 
 -- an entry that is no partition yet: it is counted, isn't c, and has no sectors
 pub record HasUnused (b : ℕ) (o : Layout) (number letter : ℕ) (m : Member) (l : Label) (e : LabelEntry) : Type 0 where
-  pub entry : HasEntry b o number letter m l e
+  pub entry : HasPartEntry b o number letter m l e
   pub empty : e.size ≡ 0
 
 -- why there is none
 pub data NoUnused (b : ℕ) (o : Layout) (number letter : ℕ) (r : Refusal) : Type 0 where
   missing : NoEntry b o number letter r → NoUnused b o number letter r
-  taken : (m : Member) (l : Label) (e : LabelEntry) → HasEntry b o number letter m l e → e.size ≢ 0 → r ≡ NumberTaken
+  taken : (m : Member) (l : Label) (e : LabelEntry) → HasPartEntry b o number letter m l e → e.size ≢ 0 → r ≡ NumberTaken
       → NoUnused b o number letter r
 
 -- the type of a new partition: 7 where no code is given

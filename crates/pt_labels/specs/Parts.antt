@@ -18,7 +18,7 @@ abbrev pub raw : ℕ
 raw = 2
 
 -- an entry that a slice's label counts, another than c
-pub record HasEntry (b : ℕ) (o : Layout) (number letter : ℕ) (m : Member) (l : Label) (e : LabelEntry) : Type 0 where
+pub record HasPartEntry (b : ℕ) (o : Layout) (number letter : ℕ) (m : Member) (l : Label) (e : LabelEntry) : Type 0 where
   pub slice : HasSlice b o.body number m
   pub label : label_of o.labels number ≡ Some l
   pub other : letter ≢ raw
@@ -35,13 +35,13 @@ pub data NoEntry (b : ℕ) (o : Layout) (number letter : ℕ) (r : Refusal) : Ty
 
 -- a partition of a slice's label: such an entry of some size
 pub record HasPart (b : ℕ) (o : Layout) (number letter : ℕ) (m : Member) (l : Label) (e : LabelEntry) : Type 0 where
-  pub entry : HasEntry b o number letter m l e
+  pub entry : HasPartEntry b o number letter m l e
   pub sized : e.size ≢ 0
 
 -- why there is none
 pub data NoPart (b : ℕ) (o : Layout) (number letter : ℕ) (r : Refusal) : Type 0 where
   no_entry : NoEntry b o number letter r → NoPart b o number letter r
-  unused : (m : Member) (l : Label) (e : LabelEntry) → HasEntry b o number letter m l e → e.size ≡ 0 → r ≡ NoSuchPartition
+  unused : (m : Member) (l : Label) (e : LabelEntry) → HasPartEntry b o number letter m l e → e.size ≡ 0 → r ≡ NoSuchPartition
       → NoPart b o number letter r
 
 -- the label with another entry of a letter

@@ -5,11 +5,9 @@ ghost use Rattle.pt_labels.specs.Lists.{labelled, without_label, relabelled_as, 
 ghost use Rattle.pt_labels.specs.Lists.{lowered_as, lowered, raised_as, raised, without_logicals};
 
 use pt_bsd::Label;
+use pt_mbr::FIRST_LOGICAL;
 use pt_members::{Labelled, Labels};
 use std::alloc::{AllocError, Global};
-
-/// The number of the first logical partition.
-const FIRST_LOGICAL: u64 = 5;
 
 fn without(mut items: Vec<Labelled>, number: u64) -> Vec<Labelled>
     ensures { result.items ≡ without_label number items.items }

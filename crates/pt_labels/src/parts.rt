@@ -1,17 +1,15 @@
 //! The words `t` and `d` with a letter, of a partition of a slice's label.
 
 ghost use Rattle.std.specs.Prelude.{◌≡◌, ◌<◌, ◌^◌, IfOk, IfErr, slice_index_or, None};
-ghost use Rattle.pt_labels.specs.Parts.{HasEntry, NoEntry, HasPart, NoPart, with_part, with_entry_of, part_type, PartTyped, PartNotTyped};
+ghost use Rattle.pt_labels.specs.Parts.{HasPartEntry, NoEntry, HasPart, NoPart, with_part, with_entry_of, part_type, PartTyped};
+ghost use Rattle.pt_labels.specs.Parts.{PartNotTyped};
 ghost use Rattle.pt_labels.specs.Parts.{PartDeleted, PartNotDeleted};
 
 use crate::lists::put_label;
 use crate::slices::slice_of;
-use pt_bsd::{Label, LabelEntry};
+use pt_bsd::{Label, LabelEntry, RAW};
 use pt_members::{Layout, Member, find_label};
 use pt_words::{Code, Refusal};
-
-/// The letter of the raw entry, c.
-const RAW: u8 = 2;
 
 /// An entry of a slice's label, with both.
 #[derive(Clone, Copy)]
@@ -37,7 +35,7 @@ pub(crate) fn entry_of<const B: usize>(
     number: u64,
     letter: u8,
 ) -> Result<Spot, Refusal>
-    ensures ok { IfOk result (λ s. HasEntry B layout.now number letter s.slice s.label s.entry) }
+    ensures ok { IfOk result (λ s. HasPartEntry B layout.now number letter s.slice s.label s.entry) }
     ensures err { IfErr result (NoEntry B layout.now number letter) }
     ensures small { IfOk result (λ s. s.slice.first < 2 ^ 66) }
 {
@@ -49,7 +47,7 @@ pub(crate) fn entry_of<const B: usize>(
         Some(label) => label,
         None => return Err(Refusal::ForeignLabel),
     };
-    if letter == RAW {
+    if letter as usize == RAW {
         return Err(Refusal::ContainerType);
     }
     match counted(&label, letter) {

@@ -16,7 +16,7 @@ use Rattle.pt_layout.specs.declared.halves.Halves.{Halves}
 use Rattle.pt_layout.specs.declared.halves.Halves.TheVariants.{Both, OnlyPrimary, OnlyBackup, Neither}
 use Rattle.pt_layout.specs.declared.health.Head.{Head}
 use Rattle.pt_layout.specs.declared.survey.Chosen.{Chosen}
-use Rattle.pt_layout.specs.Chosen.{ChosenIs, Stands, chosen_of}
+use Rattle.pt_layout.specs.Chosen.{ChosenIs, TableStands, chosen_of}
 use Rattle.pt_layout.specs.Halves.{HalfIs, HalvesAre}
 use Rattle.pt_layout.specs.Surveys.{HeadOf, IsSurvey}
 use Rattle.pt_layout.specs.Verdicts.{IsBodyTrace, nothing_of}
@@ -28,24 +28,24 @@ primary_stands : (b : ℕ) (d : Sectors) (p : Half) → ¬ IsMbrDisk d → HasRo
 primary_stands b d p plain room is = (p.table, record { room = room; head = p.header; stands = is })
 
 pub chosen_stands : (b : ℕ) (d : Sectors) (h : Head) (x : Halves) (c : Chosen) → ¬ IsMbrDisk d → HeadOf d h → HasRoom b (length d)
-    → HalvesAre b d x → ChosenIs (length d) h x (Ok c) → Stands b d c
+    → HalvesAre b d x → ChosenIs (length d) h x (Ok c) → TableStands b d c
 chosen_stands b d h (Both p q) c plain is room are (f, pair, same) =
     let e : c ≡ chosen_of p true f = cc in
-    subst (Stands b d) (sym e) (
+    subst (TableStands b d) (sym e) (
       primary_body b d p.header p.table plain room are.0,
       (λ yes. primary_stands b d p plain room are.0, λ copy. refl),
       pair_broken b d h p q f plain is room are.0 are.1 pair,
     )
 chosen_stands b d h (OnlyPrimary p e) c plain is room are same =
     let e : c ≡ chosen_of p true (Some (BackupCopy e)) = cc in
-    subst (Stands b d) (sym e) (
+    subst (TableStands b d) (sym e) (
       primary_body b d p.header p.table plain room are.0,
       (λ yes. primary_stands b d p plain room are.0, λ copy. refl),
       (primary_stands b d p plain room are.0, are.1),
     )
 chosen_stands b d h (OnlyBackup e q) c plain is room are same =
     let s : c ≡ chosen_of q false (Some (PrimaryCopy e)) = cc in
-    subst (Stands b d) (sym s) (
+    subst (TableStands b d) (sym s) (
       backup_body b d e q.header q.table plain room are.0 are.1,
       (λ yes. absurd cc, λ copy. absurd (no_copy_lem b d Primary e are.0 copy)),
       are.0,

@@ -7,7 +7,7 @@ use Rattle.pt_sector.specs.Reads.{FailedIn, failed_more}
 use Rattle.pt_sector.specs.declared.address.Lba.{Lba}
 use Rattle.pt_sector.specs.declared.reading.Failure.{Failure}
 use Rattle.pt_sector.specs.declared.reading.Failure.TheVariants as failure
-use Rattle.pt_gpt.specs.Errors.{IsOutside as IsOutsideCopy, failure_in as failure_of_copy, FailedIn as FailedInCopy}
+use Rattle.pt_gpt.specs.Errors.{IsOutsideCopy, failure_in as failure_of_copy, FailedInCopy}
 use Rattle.pt_gpt.specs.declared.table.Side.TheVariants.{Primary, Backup}
 use Rattle.pt_gpt.specs.declared.error.CopyError.{CopyError}
 use Rattle.pt_gpt.specs.declared.error.CopyError.TheVariants as copy
@@ -15,7 +15,7 @@ use Rattle.pt_recover.specs.Mbr.{IsMbrDisk}
 use Rattle.pt_gpt.specs.Array.{HasRoom}
 use Rattle.pt_members.specs.Slices.{places_of, place_of, IsPlace}
 use Rattle.pt_recover.specs.Denotes.{BodyIs, Reads, body, label, table}
-use Rattle.pt_recover.specs.Answers.{IsOutside, failure_in as failure_of_disk, FailedIn as FailedInDisk}
+use Rattle.pt_recover.specs.Answers.{IsOutsideDisk, failure_in as failure_of_disk, FailedInDisk}
 use Rattle.pt_recover.specs.declared.error.NoTable.{NoTable}
 use Rattle.pt_recover.specs.declared.error.NoTable.TheVariants as no
 use Rattle.pt_members.specs.declared.layout.Body.{Body}
@@ -47,7 +47,7 @@ copy_inside (copy.Device at) none = absurd cc
 copy_inside copy.Memory none = absurd cc
 copy_inside _ none = λ out. out
 
-pub reason_inside : (e : NoTable) → failure_of_disk e ≡ None → ¬ IsOutside e
+pub reason_inside : (e : NoTable) → failure_of_disk e ≡ None → ¬ IsOutsideDisk e
 reason_inside (no.Device at) none = absurd cc
 reason_inside no.Memory none = absurd cc
 reason_inside _ none = λ out. out

@@ -14,9 +14,10 @@ use Rattle.pt_layout.specs.declared.faults.Fault.TheVariants.{Outside, Buried}
 use Rattle.pt_path.specs.Paths.{rank}
 use Rattle.pt_members.specs.Members.{Exists, Group, groups_of}
 use Rattle.pt_layout.specs.Overlaps.{nobody, IsApart}
-use Rattle.pt_layout.specs.Spots.{IsBefore, spot, LeastIs}
+use Rattle.pt_layout.specs.Spots.{SpotIsBefore, spot, LeastIs}
 use Rattle.pt_layout.specs.Row.{FaultAmong, no_group, AllOrdered, SharedIs}
-use Rattle.pt_layout.specs.Sound.{IsInside, IsOf, AllInside, AllApart, OffTables, IsBuried, IsOutside, IsFirstOutside, IsFirstShared}
+use Rattle.pt_layout.specs.Sound.{LiesInside, IsMemberOf, AllInside, AllApart, OffTables, IsBuried, IsOutside, IsFirstOutside}
+use Rattle.pt_layout.specs.Sound.{IsFirstShared}
 use Rattle.pt_layout.specs.Sound.{IsFirstBuried}
 
 stable_le : (a b : ℕ) → ¬ (¬ (a ≤ b)) → a ≤ b
@@ -25,7 +26,7 @@ stable_le a b nn = elim (cases_lt b a) as (λ _. a ≤ b) [ inl lt ↦ absurd (n
 stable_lt : (a b : ℕ) → ¬ (¬ (a < b)) → a < b
 stable_lt a b nn = elim (cases_lt a b) as (λ _. a < b) [ inl lt ↦ lt | inr ge ↦ absurd (nn (λ lt. omega arith)) ]
 
-inside_stable : (g : Group) (m : Member) → ¬ (¬ IsInside g m) → IsInside g m
+inside_stable : (g : Group) (m : Member) → ¬ (¬ LiesInside g m) → LiesInside g m
 inside_stable g m nn = record {
   exists = (stable_le m.first m.last (λ no. nn (λ is. no is.exists.0)), stable_lt m.last (2 ^ 63) (λ no. nn (λ is. no is.exists.1)));
   low = stable_le g.low m.first (λ no. nn (λ is. no is.low));
@@ -34,7 +35,7 @@ inside_stable g m nn = record {
 
 -- a member of a group, by places
 of_place : (b : ℕ) (o : Layout) (j i : ℕ) → j < length (groups_of b o) → i < length (get_or (groups_of b o) j no_group).members
-    → IsOf b o (get_or (groups_of b o) j no_group) (get_or (get_or (groups_of b o) j no_group).members i nobody)
+    → IsMemberOf b o (get_or (groups_of b o) j no_group) (get_or (get_or (groups_of b o) j no_group).members i nobody)
 of_place b o j i low lt = record {
   stands = Contains-get_or (groups_of b o) j no_group low;
   sibling = Contains-get_or (get_or (groups_of b o) j no_group).members i nobody lt;
@@ -48,7 +49,7 @@ record Placed (b : ℕ) (o : Layout) (P : Group → Member → Type 0) : Type 0 
   lt : i < length (get_or (groups_of b o) j no_group).members
   here : P (get_or (groups_of b o) j no_group) (get_or (get_or (groups_of b o) j no_group).members i nobody)
 
-to_place : (b : ℕ) (o : Layout) (P : Group → Member → Type 0) (g : Group) (m : Member) → IsOf b o g m → P g m → Placed b o P
+to_place : (b : ℕ) (o : Layout) (P : Group → Member → Type 0) (g : Group) (m : Member) → IsMemberOf b o g m → P g m → Placed b o P
 to_place b o P g m is p =
     let j = is.stands.0 in
     let i = is.sibling.0 in
@@ -64,7 +65,7 @@ to_place b o P g m is p =
     }
 
 abbrev IsOut : Path → Group → Member → Type 0
-IsOut q g m = (m.path ≡ q) × (¬ IsInside g m)
+IsOut q g m = (m.path ≡ q) × (¬ LiesInside g m)
 
 outside_of : (b : ℕ) (o : Layout) (q : Path) (t : ℕ) → FaultAmong b o Outside (groups_of b o) q t → IsOutside b o q
 outside_of b o q t (j, low, (i, lt, (zero_at, path, out))) = record {
@@ -80,10 +81,10 @@ outside_at b o q is =
     let p = to_place b o (IsOut q) is.group is.member is.is_of (is.path, is.outside) in
     (p.j, p.low, (p.i, p.lt, (refl, p.here.0, p.here.1)))
 
-not_before : (p q : Path) (s t : ℕ) → ¬ IsBefore (spot q t) (spot p s) → rank p ≤ rank q
+not_before : (p q : Path) (s t : ℕ) → ¬ SpotIsBefore (spot q t) (spot p s) → rank p ≤ rank q
 not_before p q s t none = elim (cases_lt (rank q) (rank p)) as (λ _. rank p ≤ rank q) [ inl lt ↦ absurd (none (inl lt)) | inr ge ↦ ge ]
 
-not_lower : (p q : Path) (s t : ℕ) → q ≡ p → ¬ IsBefore (spot q t) (spot p s) → s ≤ t
+not_lower : (p q : Path) (s t : ℕ) → q ≡ p → ¬ SpotIsBefore (spot q t) (spot p s) → s ≤ t
 not_lower p q s t same none = elim (cases_lt t s) as (λ _. s ≤ t) [ inl lt ↦ absurd (none (inr (ap rank same, lt))) | inr ge ↦ ge ]
 
 pub inside_all : (b : ℕ) (o : Layout) → LeastIs (FaultAmong b o Outside (groups_of b o)) None → AllInside b o
@@ -118,7 +119,7 @@ IsIn b o t q g m = (m.path ≡ q) × Exists m × IsBuried b o m t
 
 buried_at : (b : ℕ) (o : Layout) (m : Member) (t : ℕ) → AllInside b o → IsBuried b o m t → FaultAmong b o Buried (groups_of b o) m.path t
 buried_at b o m t inside is =
-    let of : IsOf b o is.is_member.group m = record { stands = is.is_member.stands; sibling = is.is_member.sibling } in
+    let of : IsMemberOf b o is.is_member.group m = record { stands = is.is_member.stands; sibling = is.is_member.sibling } in
     let p = to_place b o (IsIn b o t m.path) is.is_member.group m of (refl, (inside is.is_member.group m of).exists, is) in
     (p.j, p.low, (p.i, p.lt, (p.here.0, p.here.1, (p.here.2.kind, p.here.2.holds, p.here.2.table, p.here.2.foreign))))
 

@@ -5,7 +5,7 @@ use Rattle.std.proofs.lemmas.Bool.{cases_lt}
 use Rattle.pt_path.specs.declared.path.Path.{Path}
 use Rattle.pt_layout.specs.declared.spot.Spot.{Spot}
 use Rattle.pt_path.specs.Paths.{rank}
-use Rattle.pt_layout.specs.Spots.{IsBefore, spot, LeastIs, FirstIs}
+use Rattle.pt_layout.specs.Spots.{SpotIsBefore, spot, LeastIs, FirstSpotIs}
 
 lower : (a b x y z w : ℕ) → (a < b) ⊎ ((a ≡ b) × (x < y)) → (b < z) ⊎ ((b ≡ z) × (y < w)) → (a < z) ⊎ ((a ≡ z) × (x < w))
 lower a b x y z w (inl p) (inl q) = inl (omega arith)
@@ -13,7 +13,7 @@ lower a b x y z w (inl p) (inr q) = inl (omega arith)
 lower a b x y z w (inr p) (inl q) = inl (omega arith)
 lower a b x y z w (inr p) (inr q) = inr (omega arith, omega arith)
 
-before_on : (a b c : Spot) → IsBefore a b → IsBefore b c → IsBefore a c
+before_on : (a b c : Spot) → SpotIsBefore a b → SpotIsBefore b c → SpotIsBefore a c
 before_on a b c p q = lower (rank a.path) (rank b.path) a.lba b.lba (rank c.path) c.lba p q
 
 -- a before c, and b not before c
@@ -33,7 +33,7 @@ apart a x b y c z p q = elim (cases_lt b c) as (λ _. (a < b) ⊎ ((a ≡ b) × 
   ]
 ]
 
-before_apart : (a b c : Spot) → IsBefore a c → ¬ IsBefore b c → IsBefore a b
+before_apart : (a b c : Spot) → SpotIsBefore a c → ¬ SpotIsBefore b c → SpotIsBefore a b
 before_apart a b c p q = apart (rank a.path) a.lba (rank b.path) b.lba (rank c.path) c.lba p q
 
 pub least_same : (P Q : Path → ℕ → Type 0) (r : Option Spot) → ((q : Path) (t : ℕ) → P q t → Q q t)
@@ -44,16 +44,16 @@ least_same P Q (Some s) there back is = (there s.path s.lba is.0, λ q t x. is.1
 abbrev both : (P Q : Path → ℕ → Type 0) → Path → ℕ → Type 0
 both P Q q t = P q t ⊎ Q q t
 
-pub least_or : (P Q : Path → ℕ → Type 0) (a b r : Option Spot) → LeastIs P a → LeastIs Q b → FirstIs a b r
+pub least_or : (P Q : Path → ℕ → Type 0) (a b r : Option Spot) → LeastIs P a → LeastIs Q b → FirstSpotIs a b r
     → LeastIs (λ q t. P q t ⊎ Q q t) r
 least_or P Q None None r p q is =
     subst (λ (o : Option Spot). LeastIs (both P Q) o) (sym is) (λ u t x. elim x as (λ _. ⊥) [ inl y ↦ p u t y | inr y ↦ q u t y ])
 least_or P Q None (Some y) r p q is =
     subst (λ (o : Option Spot). LeastIs (both P Q) o) (sym is)
-    (inr q.0, λ u t x. elim x as (λ _. ¬ IsBefore (spot u t) y) [ inl z ↦ absurd (p u t z) | inr z ↦ q.1 u t z ])
+    (inr q.0, λ u t x. elim x as (λ _. ¬ SpotIsBefore (spot u t) y) [ inl z ↦ absurd (p u t z) | inr z ↦ q.1 u t z ])
 least_or P Q (Some x) None r p q is =
     subst (λ (o : Option Spot). LeastIs (both P Q) o) (sym is)
-    (inl p.0, λ u t y. elim y as (λ _. ¬ IsBefore (spot u t) x) [ inl z ↦ p.1 u t z | inr z ↦ absurd (q u t z) ])
+    (inl p.0, λ u t y. elim y as (λ _. ¬ SpotIsBefore (spot u t) x) [ inl z ↦ p.1 u t z | inr z ↦ absurd (q u t z) ])
 least_or P Q (Some x) (Some y) r p q (inl second) = subst (λ (o : Option Spot). LeastIs (both P Q) o) (sym second.1) (
   inr q.0,
   λ u t z before. elim z as (λ _. ⊥) [
@@ -78,7 +78,7 @@ Below F k q t = (j : ℕ) × (j < k) × F j q t
 pub below_none : (F : ℕ → Path → ℕ → Type 0) → LeastIs (Below F 0) None
 below_none F q t is = omega (arith, is.1)
 
-pub below_more : (F : ℕ → Path → ℕ → Type 0) (k : ℕ) (a b r : Option Spot) → LeastIs (Below F k) a → LeastIs (F k) b → FirstIs a b r
+pub below_more : (F : ℕ → Path → ℕ → Type 0) (k : ℕ) (a b r : Option Spot) → LeastIs (Below F k) a → LeastIs (F k) b → FirstSpotIs a b r
     → LeastIs (Below F (k + 1)) r
 below_more F k a b r p q is =
     least_same (λ u t. Below F k u t ⊎ F k u t) (Below F (k + 1)) r there back (least_or (Below F k) (F k) a b r p q is) where

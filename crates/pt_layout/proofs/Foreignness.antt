@@ -9,7 +9,7 @@ use Rattle.pt_members.specs.declared.layout.Slice.{Slice}
 use Rattle.pt_members.specs.declared.layout.Layout.{Layout}
 use Rattle.pt_members.specs.Members.{number_path}
 use Rattle.pt_layout.specs.Healthy.{IsForeign, HasForeign}
-use Rattle.pt_members.specs.Next.{NextIs}
+use Rattle.pt_members.specs.Next.{NextSectorIs}
 use Rattle.pt_layout.specs.Foreign.{ForeignAmong, ForeignIs, no_slice}
 
 among_has : (b : ℕ) (d : Sectors) (o : Layout) (n : ℕ) → ForeignAmong d (places_of b o.sectors o.body) n → HasForeign b d o n
@@ -32,10 +32,11 @@ has_among b d o n is =
       ),
     )
 
-pub foreign_none : (b : ℕ) (d : Sectors) (o : Layout) → NextIs (ForeignAmong d (places_of b o.sectors o.body)) 0 None → ForeignIs b d o None
+pub foreign_none : (b : ℕ) (d : Sectors) (o : Layout) → NextSectorIs (ForeignAmong d (places_of b o.sectors o.body)) 0 None
+    → ForeignIs b d o None
 foreign_none b d o none n is = none n (omega arith) (has_among b d o n is)
 
-pub foreign_some : (b : ℕ) (d : Sectors) (o : Layout) (n : ℕ) → NextIs (ForeignAmong d (places_of b o.sectors o.body)) 0 (Some n)
+pub foreign_some : (b : ℕ) (d : Sectors) (o : Layout) (n : ℕ) → NextSectorIs (ForeignAmong d (places_of b o.sectors o.body)) 0 (Some n)
     → ForeignIs b d o (Some (number_path n))
 foreign_some b d o n is = record {
   whole_slice = refl;

@@ -6,7 +6,7 @@ use Rattle.pt_sector.specs.declared.reading.Failure.{Failure}
 use Rattle.pt_gpt.specs.Copy.{HasCopy}
 use Rattle.pt_gpt.specs.declared.table.Table.{Table}
 use Rattle.pt_gpt.specs.declared.table.Side.TheVariants.{Primary}
-use Rattle.pt_recover.specs.Answers.{IsReason, IsOutside, TellsNothing, IsTraceOf}
+use Rattle.pt_recover.specs.Answers.{IsReason, IsOutsideDisk, TellsNothing, IsTraceOf}
 use Rattle.pt_recover.specs.Denotes.{BodyIs, Denotes}
 use Rattle.pt_gpt.specs.Array.{HasRoom}
 use Rattle.pt_members.specs.Slices.{places_of, place_of, IsPlace}
@@ -91,17 +91,17 @@ mbr_survey b d o f guarded trace mbr denotes numbers finding same traced = recor
   trace = traced;
 }
 
-inside_trace : (b : ℕ) (d : Sectors) (e : NoTable) (guarded : List Run) → ¬ IsOutside e → IsOutside e ⊎ IsTraceOf b d guarded
+inside_trace : (b : ℕ) (d : Sectors) (e : NoTable) (guarded : List Run) → ¬ IsOutsideDisk e → IsOutsideDisk e ⊎ IsTraceOf b d guarded
     → IsTraceOf b d guarded
 inside_trace b d e guarded inside (inl out) = absurd (inside out)
 inside_trace b d e guarded inside (inr trace) = trace
 
-inside_reason : (b : ℕ) (d : Sectors) (e : NoTable) → ¬ IsOutside e → TellsNothing b d e → Denotes b d None × IsReason b d e
+inside_reason : (b : ℕ) (d : Sectors) (e : NoTable) → ¬ IsOutsideDisk e → TellsNothing b d e → Denotes b d None × IsReason b d e
 inside_reason b d e inside (inl out) = absurd (inside out)
 inside_reason b d e inside (inr told) = told
 
 pub mbr_nothing : (b : ℕ) (d : Sectors) (e : NoTable) (guarded trace : List Run)
-    → IsMbrDisk d → ¬ IsOutside e → TellsNothing b d e → guarded ≡ trace → IsOutside e ⊎ IsTraceOf b d trace
+    → IsMbrDisk d → ¬ IsOutsideDisk e → TellsNothing b d e → guarded ≡ trace → IsOutsideDisk e ⊎ IsTraceOf b d trace
     → IsSurvey b d (nothing_of head.Mbr e guarded trace)
 mbr_nothing b d e guarded trace mbr inside told same traced = record {
   head = mbr;
@@ -115,7 +115,7 @@ mbr_nothing b d e guarded trace mbr inside told same traced = record {
 
 -- an MBR disk that denotes nothing, where its reason is no failure
 pub reason_survey : (b : ℕ) (d : Sectors) (e : NoTable) (trace : List Run) (r : Result Survey Failure)
-    → IsMbrDisk d → TellsNothing b d e → IsOutside e ⊎ IsTraceOf b d trace → IfOk r (IsNothingOf e trace) → IfOk r (IsSurvey b d)
+    → IsMbrDisk d → TellsNothing b d e → IsOutsideDisk e ⊎ IsTraceOf b d trace → IfOk r (IsNothingOf e trace) → IfOk r (IsSurvey b d)
 reason_survey b d e trace (Ok x) mbr told traced is =
     rw is.1 (mbr_nothing b d e trace trace mbr (reason_inside e is.0) told refl traced)
 reason_survey b d e trace (Err f) mbr told traced is = tt

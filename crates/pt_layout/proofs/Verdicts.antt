@@ -15,7 +15,7 @@ use Rattle.pt_recover.specs.Labels.{LabelsAre}
 use Rattle.pt_gpt.specs.Array.{HasRoom}
 use Rattle.pt_recover.specs.Gpt.{TableIs}
 use Rattle.pt_recover.specs.Denotes.{BodyIs, Denotes}
-use Rattle.pt_recover.specs.Answers.{IsReason, HeadIs as RecordsAre}
+use Rattle.pt_recover.specs.Answers.{IsReason, RecordsAre}
 use Rattle.pt_recover.specs.declared.error.NoTable.TheVariants as no
 use Rattle.pt_members.specs.declared.layout.Layout.{Layout}
 use Rattle.pt_members.specs.declared.layout.Body.{Body}

@@ -27,5 +27,5 @@ ChosenIs n h (OnlyBackup e q) r = r ≡ Ok (chosen_of q false (Some (PrimaryCopy
 ChosenIs n h (Neither e f) r = r ≡ Err (NoCopy e f)
 
 -- the disk's table, and what it says of the copies
-abbrev pub Stands : ℕ → Sectors → Chosen → Type 0
-Stands b d c = BodyIs b d (Gpt c.table) × (IsTrue c.primary ↔ HasCopy b d Primary) × BrokenIs b d (Gpt c.table) c.broken
+abbrev pub TableStands : ℕ → Sectors → Chosen → Type 0
+TableStands b d c = BodyIs b d (Gpt c.table) × (IsTrue c.primary ↔ HasCopy b d Primary) × BrokenIs b d (Gpt c.table) c.broken

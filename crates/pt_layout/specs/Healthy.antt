@@ -8,7 +8,7 @@ use Rattle.pt_gpt.specs.declared.header.Header.{Header}
 use Rattle.pt_gpt.specs.declared.table.Table.{Table}
 use Rattle.pt_gpt.specs.declared.table.Side.TheVariants.{Primary, Backup}
 use Rattle.pt_members.specs.Slices.{places_of, place_of}
-use Rattle.pt_recover.specs.Labels.{HasLabel}
+use Rattle.pt_recover.specs.Labels.{SliceHasLabel}
 use Rattle.pt_recover.specs.Denotes.{Denotes}
 use Rattle.pt_members.specs.declared.layout.Slice.{Slice}
 use Rattle.pt_members.specs.declared.layout.Layout.{Layout}
@@ -41,7 +41,7 @@ IsBodyWhole b d (Gpt t) = IsWhole b d t
 
 -- the slice's label place bears the magic of a label and holds none
 abbrev pub IsForeign : Sectors → Slice → Type 0
-IsForeign d p = HasMagic (sector d (place_of p)) × (¬ HasLabel d p)
+IsForeign d p = HasMagic (sector d (place_of p)) × (¬ SliceHasLabel d p)
 
 -- a slice of the layout has such a place
 pub record HasForeign (b : ℕ) (d : Sectors) (o : Layout) (n : ℕ) : Type 0 where

@@ -10,7 +10,7 @@ use Rattle.pt_members.specs.Members.{Exists, Holds, Group, group_of}
 use Rattle.pt_layout.specs.declared.overlap.Overlap.{Overlap}
 use Rattle.pt_layout.specs.Overlaps.{nobody, IsOrdered, IsApart, IsFirstOverlap}
 use Rattle.pt_members.specs.Tables.{IsTable}
-use Rattle.pt_layout.specs.Sound.{IsInside, IsOwnPlace}
+use Rattle.pt_layout.specs.Sound.{LiesInside, IsOwnPlace}
 
 -- a table's sector from a first to a last
 abbrev pub TableWithin : ℕ → Layout → ℕ → ℕ → ℕ → Type 0
@@ -22,27 +22,27 @@ BuriedIn b o m s = (m.kind ≢ Extended) × Holds m s × IsTable b o s × (¬ Is
 
 -- the member has the fault, at a sector
 abbrev pub HasFault : ℕ → Layout → Fault → Group → Member → Path → ℕ → Type 0
-HasFault b o Outside g m q t = (t ≡ 0) × (m.path ≡ q) × (¬ IsInside g m)
+HasFault b o Outside g m q t = (t ≡ 0) × (m.path ≡ q) × (¬ LiesInside g m)
 HasFault b o Buried g m q t = (m.path ≡ q) × Exists m × BuriedIn b o m t
 
 abbrev pub no_group : Group
 no_group = group_of 0 0 []
 
 -- member i of a group has it
-abbrev pub FaultAt : ℕ → Layout → Fault → Group → ℕ → Path → ℕ → Type 0
-FaultAt b o fault g i q t = HasFault b o fault g (slice_index_or g.members i nobody) q t
+abbrev pub FaultAtMember : ℕ → Layout → Fault → Group → ℕ → Path → ℕ → Type 0
+FaultAtMember b o fault g i q t = HasFault b o fault g (slice_index_or g.members i nobody) q t
 
 -- a member of a group has it
 abbrev pub FaultIn : ℕ → Layout → Fault → Group → Path → ℕ → Type 0
-FaultIn b o fault g q t = (i : ℕ) × (i < length g.members) × FaultAt b o fault g i q t
+FaultIn b o fault g q t = (i : ℕ) × (i < length g.members) × FaultAtMember b o fault g i q t
 
 -- a member of group j has it
-abbrev pub FaultOf : ℕ → Layout → Fault → List Group → ℕ → Path → ℕ → Type 0
-FaultOf b o fault groups j q t = FaultIn b o fault (slice_index_or groups j no_group) q t
+abbrev pub FaultOfGroup : ℕ → Layout → Fault → List Group → ℕ → Path → ℕ → Type 0
+FaultOfGroup b o fault groups j q t = FaultIn b o fault (slice_index_or groups j no_group) q t
 
 -- a member of one of the groups has it
 abbrev pub FaultAmong : ℕ → Layout → Fault → List Group → Path → ℕ → Type 0
-FaultAmong b o fault groups q t = (j : ℕ) × (j < length groups) × FaultOf b o fault groups j q t
+FaultAmong b o fault groups q t = (j : ℕ) × (j < length groups) × FaultOfGroup b o fault groups j q t
 
 -- in each group every member's first sector is not past its last
 abbrev pub AllOrdered : List Group → Type 0

@@ -15,19 +15,19 @@ use Rattle.pt_layout.specs.Overlaps.{IsApart, IsFirstOverlap}
 use Rattle.pt_members.specs.Tables.{IsTable, IsEbr}
 
 -- the member's sectors exist, and each is usable in its group
-pub record IsInside (g : Group) (m : Member) : Type 0 where
+pub record LiesInside (g : Group) (m : Member) : Type 0 where
   pub exists : Exists m
   pub low : g.low ≤ m.first
   pub high : m.last ≤ g.high
 
 -- a member of this group
-pub record IsOf (b : ℕ) (o : Layout) (g : Group) (m : Member) : Type 0 where
+pub record IsMemberOf (b : ℕ) (o : Layout) (g : Group) (m : Member) : Type 0 where
   pub stands : Contains (groups_of b o) g
   pub sibling : Contains g.members m
 
 -- every member's sectors exist and are usable
 abbrev pub AllInside : ℕ → Layout → Type 0
-AllInside b o = (g : Group) (m : Member) → IsOf b o g m → IsInside g m
+AllInside b o = (g : Group) (m : Member) → IsMemberOf b o g m → LiesInside g m
 
 -- no sector is in two siblings
 abbrev pub AllApart : ℕ → Layout → Type 0
@@ -80,9 +80,9 @@ pub record Sound (b : ℕ) (o : Layout) : Type 0 where
 pub record IsOutside (b : ℕ) (o : Layout) (p : Path) : Type 0 where
   pub group : Group
   pub member : Member
-  pub is_of : IsOf b o group member
+  pub is_of : IsMemberOf b o group member
   pub path : member.path ≡ p
-  pub outside : ¬ IsInside group member
+  pub outside : ¬ LiesInside group member
 
 -- the first of them in path order
 pub record IsFirstOutside (b : ℕ) (o : Layout) (p : Path) : Type 0 where

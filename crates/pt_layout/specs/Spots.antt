@@ -4,8 +4,8 @@ use Rattle.pt_path.specs.declared.path.Path.{Path}
 use Rattle.pt_layout.specs.declared.spot.Spot.{Spot}
 use Rattle.pt_path.specs.Paths.{rank}
 
-abbrev pub IsBefore : Spot → Spot → Type 0
-IsBefore a b = (rank a.path < rank b.path) ⊎ ((rank a.path ≡ rank b.path) × (a.lba < b.lba))
+abbrev pub SpotIsBefore : Spot → Spot → Type 0
+SpotIsBefore a b = (rank a.path < rank b.path) ⊎ ((rank a.path ≡ rank b.path) × (a.lba < b.lba))
 
 abbrev pub spot : Path → ℕ → Spot
 spot path lba = record { path = path; lba = lba }
@@ -13,10 +13,10 @@ spot path lba = record { path = path; lba = lba }
 -- the first of P, none where there is none
 abbrev pub LeastIs : (Path → ℕ → Type 0) → Option Spot → Type 0
 LeastIs P None = (q : Path) (t : ℕ) → ¬ P q t
-LeastIs P (Some s) = P s.path s.lba × ((q : Path) (t : ℕ) → P q t → ¬ IsBefore (spot q t) s)
+LeastIs P (Some s) = P s.path s.lba × ((q : Path) (t : ℕ) → P q t → ¬ SpotIsBefore (spot q t) s)
 
 -- the first of two
-abbrev pub FirstIs : Option Spot → Option Spot → Option Spot → Type 0
-FirstIs None y r = r ≡ y
-FirstIs (Some x) None r = r ≡ Some x
-FirstIs (Some x) (Some y) r = (IsBefore y x × (r ≡ Some y)) ⊎ ((¬ IsBefore y x) × (r ≡ Some x))
+abbrev pub FirstSpotIs : Option Spot → Option Spot → Option Spot → Type 0
+FirstSpotIs None y r = r ≡ y
+FirstSpotIs (Some x) None r = r ≡ Some x
+FirstSpotIs (Some x) (Some y) r = (SpotIsBefore y x × (r ≡ Some y)) ⊎ ((¬ SpotIsBefore y x) × (r ≡ Some x))

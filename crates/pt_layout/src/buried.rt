@@ -3,7 +3,7 @@
 ghost use Rattle.std.specs.Prelude.{◌≡◌, ◌≤◌, ◌<◌, ◌^◌, ◌↔◌, IsTrue};
 ghost use Rattle.pt_sector.specs.Sectors.{IsSectorSize};
 ghost use Rattle.pt_members.specs.Members.{Exists};
-ghost use Rattle.pt_members.specs.Next.{NextIs};
+ghost use Rattle.pt_members.specs.Next.{NextSectorIs};
 ghost use Rattle.pt_layout.specs.Sound.{IsOwnPlace};
 ghost use Rattle.pt_layout.specs.Row.{TableWithin, BuriedIn};
 
@@ -12,7 +12,7 @@ use pt_members::{Kind, Layout, Member, is_ebr, next_table};
 // The lowest table sector from one up to another.
 fn table_within<const B: usize>(layout: &Layout, first: u64, last: u64) -> Option<u64>
     requires { IsSectorSize B }
-    ensures { NextIs (TableWithin B layout.now first last) 0 result }
+    ensures { NextSectorIs (TableWithin B layout.now first last) 0 result }
 {
     let table = next_table::<B>(layout, first)?;
     if table <= last { Some(table) } else { None }
@@ -28,7 +28,7 @@ fn is_own_place(layout: &Layout, m: &Member, lba: u64) -> bool
 pub(crate) fn buried_in<const B: usize>(layout: &Layout, m: &Member) -> Option<u64>
     requires size { IsSectorSize B }
     requires exists { Exists m.now }
-    ensures { NextIs (BuriedIn B layout.now m.now) 0 result }
+    ensures { NextSectorIs (BuriedIn B layout.now m.now) 0 result }
 {
     if m.kind == Kind::Extended {
         return None;

@@ -3,7 +3,7 @@
 ghost use Rattle.std.specs.Prelude.{◌≡◌, ◌<◌, length, slice_index_or};
 ghost use Rattle.pt_sector.specs.Sectors.{IsSectorSize};
 ghost use Rattle.pt_layout.specs.Spots.{LeastIs};
-ghost use Rattle.pt_layout.specs.Row.{HasFault, FaultIn, FaultOf, FaultAmong};
+ghost use Rattle.pt_layout.specs.Row.{HasFault, FaultIn, FaultOfGroup, FaultAmong};
 
 use crate::buried::buried_in;
 use crate::groups::Siblings;

@@ -5,7 +5,7 @@ ghost use Rattle.pt_sector.specs.Calls.{Blames};
 ghost use Rattle.pt_sector.specs.Reads.{OnlyReads, FailedIn, fault_of, read_of};
 ghost use Rattle.pt_sector.specs.Sectors.{IsSectorSize};
 ghost use Rattle.pt_members.specs.Slices.{place_of, places_of, IsPlace};
-ghost use Rattle.pt_members.specs.Next.{NextIs};
+ghost use Rattle.pt_members.specs.Next.{NextSectorIs};
 ghost use Rattle.pt_layout.specs.Foreign.{ForeignBytes, ForeignOf, ForeignAmong, ForeignIs};
 
 use pt_bsd::{bears_magic, decode_label};
@@ -30,7 +30,7 @@ fn is_foreign<const B: usize>(sector: &Sector<B>, slice: Slice) -> bool
 // The number of a slice, where this is its label place and foreign.
 fn number_if_foreign<const B: usize>(sector: &Sector<B>, slice: Slice) -> Option<u64>
     requires { IsSectorSize B }
-    ensures { NextIs (λ n. (n ≡ slice.number) × ForeignBytes slice sector.now) 0 result }
+    ensures { NextSectorIs (λ n. (n ≡ slice.number) × ForeignBytes slice sector.now) 0 result }
 {
     if is_foreign(sector, slice) {
         Some(slice.number)
@@ -49,7 +49,7 @@ fn foreign_number<const B: usize, D: Disk<B>>(
     ensures same { OnlyReads D.Disk disk.old disk.new }
     ensures blames { Blames read_of result (D.faults disk.old) (D.faults disk.new) }
     ensures place { IfErr result (λ e. e.0.0 ≡ place_of slice) }
-    ensures ok { D.tells → IfOk result (NextIs (ForeignOf (D.told disk.old).seen slice) 0) }
+    ensures ok { D.tells → IfOk result (NextSectorIs (ForeignOf (D.told disk.old).seen slice) 0) }
 {
     let at = Lba(slice.first + 1);
     let mut sector = [0; B];
@@ -67,7 +67,7 @@ fn lowest_foreign<const B: usize, D: Disk<B>>(
     ensures same { OnlyReads D.Disk disk.old disk.new }
     ensures blames { Blames read_of result (D.faults disk.old) (D.faults disk.new) }
     ensures place { IfErr result (λ e. IsPlace slices.now e.0.0) }
-    ensures ok { D.tells → IfOk result (NextIs (ForeignAmong (D.told disk.old).seen slices.now) 0) }
+    ensures ok { D.tells → IfOk result (NextSectorIs (ForeignAmong (D.told disk.old).seen slices.now) 0) }
 {
     let mut lowest = None;
     for k in 0..slices.len() {

@@ -4,7 +4,7 @@ ghost use Rattle.std.specs.Prelude.{◌≡◌, ◌+◌, ◌<◌, ◌≤◌, ◌^
 ghost use Rattle.std.specs.Prelude.{slice_index_or, option_to_list, flat_map, Some, None};
 ghost use Rattle.pt_mbr.specs.Extended.{extended_of};
 ghost use Rattle.pt_layout.specs.Held.{has_any, held_by};
-ghost use Rattle.pt_layout.specs.Sound.{IsInside};
+ghost use Rattle.pt_layout.specs.Sound.{LiesInside};
 ghost use Rattle.pt_members.specs.Members.{Group as GroupValue, group_of, groups_of, group_in, top_group, strays, slots, tops, logicals};
 ghost use Rattle.pt_members.specs.Members.{parts, parts_in, present};
 
@@ -51,7 +51,7 @@ impl Siblings {
 
     /// Whether the sectors of a member exist and are usable here.
     pub(crate) fn has_inside(&self, m: &Member) -> bool
-        ensures { IsTrue result ↔ IsInside self.now m.now }
+        ensures { IsTrue result ↔ LiesInside self.now m.now }
     {
         m.first <= m.last && m.last < 1 << 63 && self.low <= m.first && m.last <= self.high
     }

@@ -4,7 +4,7 @@ ghost use Rattle.std.specs.Prelude.{◌≡◌, ◌⊎◌, IfOk, IfErr, OnOk, Ok,
 ghost use Rattle.pt_sector.specs.Calls.{Blames};
 ghost use Rattle.pt_sector.specs.Reads.{OnlyReads, FailedIn, fault_of};
 ghost use Rattle.pt_sector.specs.Sectors.{IsSectorSize};
-ghost use Rattle.pt_gpt.specs.Errors.{IsOutside as IsOutsideCopy, fault_in as fault_in_copy, FailedIn as FailedInCopy};
+ghost use Rattle.pt_gpt.specs.Errors.{IsOutsideCopy, fault_in as fault_in_copy, FailedInCopy};
 ghost use Rattle.pt_gpt.specs.Answers.{TellsFault};
 ghost use Rattle.pt_gpt.specs.Copy.{SideReads};
 ghost use Rattle.pt_gpt.specs.declared.table.Side.TheVariants.{Primary, Backup};

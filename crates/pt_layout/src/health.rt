@@ -4,7 +4,7 @@ ghost use Rattle.std.specs.Prelude.{◌≡◌, ◌<◌, ℕ, IfOk, IfErr};
 ghost use Rattle.pt_sector.specs.Calls.{Blames};
 ghost use Rattle.pt_sector.specs.Reads.{OnlyReads, FailedIn, fault_of, read_of};
 ghost use Rattle.pt_sector.specs.Sectors.{IsSectorSize, Sectors, sector};
-ghost use Rattle.pt_recover.specs.Answers.{HeadIs as RecordsAre};
+ghost use Rattle.pt_recover.specs.Answers.{RecordsAre};
 ghost use Rattle.pt_layout.specs.Verdicts.{HeadIs};
 ghost use Rattle.pt_layout.specs.Findings.{VerdictIs, VerdictReads};
 ghost use Rattle.pt_layout.specs.Surveys.{IsSurvey};

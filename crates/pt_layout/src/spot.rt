@@ -1,7 +1,7 @@
 //! Members and sectors in path order.
 
 ghost use Rattle.std.specs.Prelude.{◌↔◌, IsTrue};
-ghost use Rattle.pt_layout.specs.Spots.{IsBefore, FirstIs};
+ghost use Rattle.pt_layout.specs.Spots.{SpotIsBefore, FirstSpotIs};
 
 use pt_path::Path;
 
@@ -13,7 +13,7 @@ pub struct Spot {
 }
 
 fn spot_before(a: &Spot, b: &Spot) -> bool
-    ensures { IsTrue result ↔ IsBefore a.now b.now }
+    ensures { IsTrue result ↔ SpotIsBefore a.now b.now }
 {
     if a.path.is_before(b.path) {
         return true;
@@ -23,7 +23,7 @@ fn spot_before(a: &Spot, b: &Spot) -> bool
 
 // The one that comes first, by path and then by sector.
 pub(crate) fn first_of(a: Option<Spot>, b: Option<Spot>) -> Option<Spot>
-    ensures { FirstIs a b result }
+    ensures { FirstSpotIs a b result }
 {
     match (a, b) {
         (Some(x), Some(y)) => {

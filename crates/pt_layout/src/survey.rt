@@ -16,7 +16,7 @@ ghost use Rattle.pt_recover.specs.Spans.{Adds};
 ghost use Rattle.pt_members.specs.declared.layout.Body.TheVariants.{Gpt};
 ghost use Rattle.pt_layout.specs.Halves.{HalfIs, HalvesAre};
 ghost use Rattle.pt_layout.specs.Verdicts.{LayoutOf, PairIs, BrokenIs, ArePlaces, IsBodyTrace, FailsAs, IsNothingOf, nothing_of};
-ghost use Rattle.pt_layout.specs.Chosen.{ChosenIs, Stands, chosen_of};
+ghost use Rattle.pt_layout.specs.Chosen.{ChosenIs, TableStands, chosen_of};
 ghost use Rattle.pt_recover.specs.Answers.{IsTraceOf};
 ghost use Rattle.pt_layout.specs.Healthy.{IsBodyWhole};
 ghost use Rattle.pt_layout.specs.Findings.{VerdictReads};
@@ -301,7 +301,7 @@ fn survey_table<const B: usize, D: Disk<B>>(
 ) -> Result<Survey, Failure>
     requires size { IsSectorSize B }
     requires head { D.tells → HeadOf (D.told disk.old).seen head }
-    requires chosen { D.tells → Stands B (D.told disk.old).seen chosen }
+    requires chosen { D.tells → TableStands B (D.told disk.old).seen chosen }
     requires traced { D.tells → IsBodyTrace B (D.told disk.old).seen trace }
     ensures same { OnlyReads D.Disk disk.old disk.new }
     ensures blames { Blames fault_of result (D.faults disk.old) (D.faults disk.new) }

@@ -4,7 +4,7 @@ use Rattle.std.proofs.Common.{ap, ◌∙◌, subst, arith, inl, inr}
 use Rattle.std.specs.Prelude.{◌⊎◌, slice_index, slice_range}
 use Rattle.std.proofs.lemmas.List.{ext_get_or, get_or-drop, get_or-take, length-drop, length-take-le}
 use Rattle.pt_mbr.specs.Bytes.{HasSignature}
-use Rattle.pt_mbr.specs.Record.{RecordIs, IsUsable, IsWritten, boot_of, place_of, record_bytes}
+use Rattle.pt_mbr.specs.Record.{RecordIs, ReadsAsUsed, IsWritten, boot_of, place_of, record_bytes}
 use Rattle.pt_mbr.specs.Mbr.{IsBootIndicator, HasBootIndicators, MbrBytes, BearsProtective}
 use Rattle.pt_mbr.specs.Changes.{mbr_of, IsChanged, IsStep, IsPlainRecord, ArePlain}
 use Rattle.pt_mbr.specs.declared.record.Record.{Record}
@@ -34,7 +34,7 @@ Stays k b c = (i : ℕ) → place_of k ≤ i → i < place_of k + 16 → slice_i
 pub record Stands (o : Option Record) (k : ℕ) (c : List ℕ) : Type 0 where
   pub bytes : slice_range c (place_of k) (place_of k + 16) ≡ record_bytes o
   pub boot : slice_index c (place_of k) ≡ boot_of o
-  pub read : IsUsable o → RecordIs o (place_of k) c
+  pub read : ReadsAsUsed o → RecordIs o (place_of k) c
 
 abbrev pub Turned : Type 0 → Option Record → ℕ → List ℕ → List ℕ → Type 0
 Turned Same o k b c = (Same × Stays k b c) ⊎ ((¬ Same) × Stands o k c)
@@ -78,7 +78,7 @@ changed Same o k u c few long count (inl stays) = inl (stays.0, range_same (plac
 changed Same o k u c few long count (inr stands) = inr (stands.0, stands.1.bytes)
 
 -- what a plain record is read as
-pub plain_usable : (o : Option Record) → IsPlainRecord o → IsUsable o
+pub plain_usable : (o : Option Record) → IsPlainRecord o → ReadsAsUsed o
 plain_usable None plain = tt
 plain_usable (Some r) plain = (plain.typed, plain.sized)
 
@@ -86,7 +86,7 @@ pub plain_boot : (o : Option Record) → IsPlainRecord o → IsBootIndicator (bo
 plain_boot None plain = inl refl
 plain_boot (Some r) plain = plain.boot
 
-pub reads : (o n : Option Record) (k : ℕ) (u c : List ℕ) → k < 4 → 512 ≤ length u → length c ≡ length u → IsUsable n
+pub reads : (o n : Option Record) (k : ℕ) (u c : List ℕ) → k < 4 → 512 ≤ length u → length c ≡ length u → ReadsAsUsed n
     → RecordIs o (place_of k) u → Turned (o ≡ n) n k u c → RecordIs n (place_of k) c
 reads o n k u c few long count usable is (inl stays) =
     record_kept n (place_of k) u c (omega (arith, few, long)) count stays.1

@@ -11,7 +11,7 @@ use Rattle.std.proofs.lemmas.Slice.{drop-append-drop}
 use Rattle.byteorder.specs.Endian.{little_number, little_bytes}
 use Rattle.byteorder.specs.Numbers.{little_number-reads_back}
 use Rattle.pt_mbr.specs.Bytes.{put_at}
-use Rattle.pt_mbr.specs.Record.{HasFields, RecordIs, RecordFits, IsUsable, place_of, record_bytes}
+use Rattle.pt_mbr.specs.Record.{HasFields, RecordIs, RecordFits, ReadsAsUsed, place_of, record_bytes}
 use Rattle.pt_mbr.specs.declared.record.Record.{Record}
 use Rattle.pt_mbr.specs.laws.Kept.{range_at}
 
@@ -79,7 +79,7 @@ has_fields r at c rest same fits =
     }
 
 pub reads_again : (o : Option Record) (at : ℕ) (c rest : List ℕ) → drop at c ≡ record_bytes o ++ rest
-    → ((r : Record) → o ≡ Some r → RecordFits r) → IsUsable o → RecordIs o at c
+    → ((r : Record) → o ≡ Some r → RecordFits r) → ReadsAsUsed o → RecordIs o at c
 unfolding record_bytes
 reads_again None at c rest same fits usable = λ used. used.0 (index_at at 4 c _ same)
 reads_again (Some r) at c rest same fits usable =
@@ -141,7 +141,7 @@ zero_at at i c zeros few none =
     ∙ ap (λ (n : ℕ). get_or (take n (drop at c)) i 0) (sym count) ∙ ap (λ (t : List ℕ). get_or t i 0) zeros ∙ none
 
 pub record_put : (o : Option (Bor Record)) (at : ℕ) (c : List ℕ)
-    → MatchOption o (slice_range c at (at + 16) ≡ replicate 16 0) (λ r. HasFields r.now at c) → IsUsable (option_map (λ r. r.now) o)
+    → MatchOption o (slice_range c at (at + 16) ≡ replicate 16 0) (λ r. HasFields r.now at c) → ReadsAsUsed (option_map (λ r. r.now) o)
     → RecordIs (option_map (λ r. r.now) o) at c
 record_put None at c zeros usable = λ used. used.0 (zero_at at 4 c zeros (omega arith) refl)
 record_put (Some r) at c fields usable = ((λ none. usable.0 (sym fields.kind ∙ none), λ none. usable.1 (sym fields.size ∙ none)), fields)

@@ -7,7 +7,7 @@ use Rattle.std.proofs.lemmas.List.{ext_get_or, get_or-drop, get_or-take, get_or-
 use Rattle.std.proofs.lemmas.List.{length-take-le}
 use Rattle.pt_sector.specs.declared.address.Lba.{Lba}
 use Rattle.pt_mbr.specs.Bytes.{number_at, put_at, HasSignature}
-use Rattle.pt_mbr.specs.Record.{IsUsed, RecordIs, IsUsable, IsExtendedKind, IsWritten, boot_of, record_bytes}
+use Rattle.pt_mbr.specs.Record.{IsUsed, RecordIs, ReadsAsUsed, IsExtendedKind, IsWritten, boot_of, record_bytes}
 use Rattle.pt_mbr.specs.Mbr.{IsBootIndicator, HasBootIndicators}
 use Rattle.pt_mbr.specs.Ebr.{EbrBytes, NextIs, HasZeros, HasBadLogical, HasBadLink}
 use Rattle.pt_mbr.specs.Changes.{IsChanged, IsStep, IsPlainRecord, IsPlainLogical, LinksTo}
@@ -27,7 +27,7 @@ extends : (kind : ℕ) → IsExtendedKind kind → kind ≢ 0
 extends kind (inl five) none = omega (arith, five, none)
 extends kind (inr fifteen) none = omega (arith, fifteen, none)
 
-link_usable : (first : ℕ) (next : Option Lba) (link : Option Record) → LinksTo first next link → IsUsable link
+link_usable : (first : ℕ) (next : Option Lba) (link : Option Record) → LinksTo first next link → ReadsAsUsed link
 link_usable first next None leads = tt
 link_usable first None (Some r) leads = absurd leads
 link_usable first (Some y) (Some r) leads = (extends r.kind leads.extended, leads.sized)

@@ -3,14 +3,14 @@ use Rattle.std.proofs.Common.{◌≡◌, ℕ, zero, suc, ◌+◌, ◌<◌, ◌�
 use Rattle.std.proofs.Common.{ap, ◌∙◌, subst, arith, inl, inr}
 use Rattle.std.specs.Prelude.{◌⊎◌, slice_index, slice_range}
 use Rattle.pt_mbr.specs.Bytes.{put_at, HasSignature}
-use Rattle.pt_mbr.specs.Record.{RecordIs, IsUsable, IsWritten, boot_of, place_of, record_bytes}
+use Rattle.pt_mbr.specs.Record.{RecordIs, ReadsAsUsed, IsWritten, boot_of, place_of, record_bytes}
 use Rattle.pt_mbr.specs.Mbr.{IsMbrFormed, IsBootIndicator, HasBootIndicators, AreRecords}
 use Rattle.pt_mbr.specs.declared.record.Record.{Record}
 use Rattle.pt_mbr.proofs.Encoding.{put_here, put_other, index_at, first_at}
 use Rattle.pt_mbr.specs.laws.Kept.{range_same, record_kept}
 
 -- a record that some bytes are may be written
-pub usable_of : (o : Option Record) (at : ℕ) (b : List ℕ) → RecordIs o at b → IsUsable o
+pub usable_of : (o : Option Record) (at : ℕ) (b : List ℕ) → RecordIs o at b → ReadsAsUsed o
 usable_of None at b is = tt
 usable_of (Some r) at b is = ((λ none. is.0.0 (is.1.kind ∙ none)), λ none. is.0.1 (is.1.size ∙ none))
 

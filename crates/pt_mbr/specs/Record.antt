@@ -41,9 +41,9 @@ abbrev pub IsPut : Option Record → ℕ → List ℕ → List ℕ → Type 0
 IsPut o k b c = c ≡ put_at (place_of k) (record_bytes o) b
 
 -- a record that is used reads as one
-abbrev pub IsUsable : Option Record → Type 0
-IsUsable None = Unit {0}
-IsUsable (Some r) = (r.kind ≢ 0) × (r.size ≢ 0)
+abbrev pub ReadsAsUsed : Option Record → Type 0
+ReadsAsUsed None = Unit {0}
+ReadsAsUsed (Some r) = (r.kind ≢ 0) × (r.size ≢ 0)
 
 -- a record's numbers and places fit their fields
 pub record RecordFits (r : Record) : Type 0 where
@@ -63,4 +63,4 @@ pub record IsWritten (o : Option Record) (k : ℕ) (b c : List ℕ) : Type 0 whe
   pub bytes : slice_range c (place_of k) (place_of k + 16) ≡ record_bytes o
   pub boot : slice_index c (place_of k) ≡ boot_of o
   pub kept : (j : ℕ) (p : Option Record) → j < 4 → j ≢ k → RecordIs p (place_of j) b → RecordIs p (place_of j) c
-  pub read : IsUsable o → RecordIs o (place_of k) c
+  pub read : ReadsAsUsed o → RecordIs o (place_of k) c

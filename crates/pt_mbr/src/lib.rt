@@ -10,7 +10,7 @@ mod change;
 mod ebr;
 mod encode;
 mod extended;
-mod laws;
+pub mod laws;
 mod mbr;
 mod protection;
 mod record;
@@ -20,10 +20,6 @@ pub use change::{change_ebr, change_records, link_to, new_ebr, reach_of};
 pub use ebr::{Ebr, EbrFault, decode_ebr};
 pub use encode::encode_mbr;
 pub use extended::{Extended, extended_of};
-pub use laws::{
-    chain_reads_are, chain_reads_decide, chains_are_one, ebr_is_one, ebr_is_rebased,
-    faults_are_one, mbr_is_one, protective_is_borne, record_is_its_bytes, record_is_one,
-};
 pub use mbr::{Mbr, bears_protective, decode_mbr, put_record};
 pub use protection::{is_protective, protective};
 pub use record::{FARTHEST, FIRST_LOGICAL, PROTECTIVE, Record, SLICE_KIND, is_extended_kind};

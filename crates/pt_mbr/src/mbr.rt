@@ -3,7 +3,7 @@ ghost use Rattle.std.specs.Prelude.{slice_index, slice_range, replicate};
 ghost use Rattle.pt_sector.specs.Sectors.{IsSectorSize};
 ghost use Rattle.std.specs.Option.{option_map};
 ghost use Rattle.pt_mbr.specs.Bytes.{put_at};
-ghost use Rattle.pt_mbr.specs.Record.{RecordIs, RecordFits, HasFields, IsUsable, IsPut, place_of, record_bytes};
+ghost use Rattle.pt_mbr.specs.Record.{RecordIs, RecordFits, HasFields, ReadsAsUsed, IsPut, place_of, record_bytes};
 ghost use Rattle.pt_mbr.specs.declared.record.Record.{Record};
 ghost use Rattle.pt_mbr.specs.Mbr.{IsMbrFormed, MbrBytes, AreRecords, BearsProtective, HasBootIndicators, IsBootIndicator};
 
@@ -117,7 +117,7 @@ pub fn put_record<const B: usize>(sector: &Sector<B>, k: usize, value: Option<&R
     ensures fields { MatchOption value.entry (slice_range result (place_of k) (place_of k + 16) ≡ replicate 16 0)
         (λ r. HasFields r.now (place_of k) result) }
     ensures kept { (j : ℕ) (p : Option Record) → j < 4 → j ≢ k → RecordIs p (place_of j) sector.now → RecordIs p (place_of j) result }
-    ensures read { IsUsable (option_map (λ r. r.now) value.entry) → RecordIs (option_map (λ r. r.now) value.entry) (place_of k) result }
+    ensures read { ReadsAsUsed (option_map (λ r. r.now) value.entry) → RecordIs (option_map (λ r. r.now) value.entry) (place_of k) result }
 {
     put_part(sector, 446 + 16 * k, &encoded(value))
 }

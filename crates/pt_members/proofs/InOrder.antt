@@ -20,7 +20,7 @@ use Rattle.pt_members.specs.declared.search.Wanted.TheVariants.{LeafWith, LeafNa
 use Rattle.pt_path.specs.Paths.{rank}
 use Rattle.pt_members.specs.Counts.{used_before, no_ebr}
 use Rattle.pt_members.specs.Members.{slots, parts_in, part_of, label_of, record_member, logical_member, entry_member}
-use Rattle.pt_members.specs.Search.{AtPlace, IsNear, InLayout, Answers, FoundAt, FoundIn, FoundNear, Found}
+use Rattle.pt_members.specs.Search.{AtPlace, IsNear, InLayout, IsAsWanted, FoundAt, FoundIn, FoundNear, Found}
 use Rattle.pt_members.specs.OnePath.{HasFour, slot_whole, some_one, part_is, part_path, parts_letter}
 use Rattle.pt_members.proofs.ByPlace.{count_step, mbr_len, mbr_low, mbr_high, gpt_len, gpt_at, parts_len, parts_none, part_at}
 
@@ -32,10 +32,10 @@ part_rank l m x k lt is = ap rank (part_path l m x k (get_or l.entries k None) (
 -- the first that answers, of a label's partitions
 pub part_first : (l : Label) (m x : Member) (wanted : Wanted) (k : ℕ) → k < length l.entries
     → FoundAt wanted (get_or (parts_in (Some l) m) k None) (Some x)
-    → ((j : ℕ) (y : Member) → j < k → get_or (parts_in (Some l) m) j None ≡ Some y → ¬ Answers wanted y)
+    → ((j : ℕ) (y : Member) → j < k → get_or (parts_in (Some l) m) j None ≡ Some y → ¬ IsAsWanted wanted y)
     → FoundIn wanted (parts_in (Some l) m) (Some x)
 part_first l m x wanted k lt found none = ((k, omega (arith, lt, parts_len l m), found.0), found.1, first) where
-  first : (y : Member) → AtPlace (parts_in (Some l) m) y → Answers wanted y → rank x.path ≤ rank y.path
+  first : (y : Member) → AtPlace (parts_in (Some l) m) y → IsAsWanted wanted y → rank x.path ≤ rank y.path
   first y (j, within, at) is = elim (cases_lt j k) as (λ _. rank x.path ≤ rank y.path) [
     | inl low ↦ absurd (none j y low at is)
     | inr high ↦ omega (arith, part_rank l m x k lt found.0, part_rank l m y j (omega (arith, within, parts_len l m)) at)
@@ -56,17 +56,17 @@ part_leaf (Some l) m x (k, lt, at) =
     part_kind l m x k (get_or l.entries k None) (sym (part_at l m k (omega (arith, lt, parts_len l m))) ∙ at)
 
 -- a member that answers comes before the partitions of its label that do
-pub near_self : (o : Layout) (m : Member) (wanted : Wanted) → Answers wanted m → FoundNear o m wanted (Some m)
+pub near_self : (o : Layout) (m : Member) (wanted : Wanted) → IsAsWanted wanted m → FoundNear o m wanted (Some m)
 near_self o m (LeafWith lba) is = (inl refl, is, first) where
-  first : (y : Member) → IsNear o m y → Answers (LeafWith lba) y → rank m.path ≤ rank y.path
+  first : (y : Member) → IsNear o m y → IsAsWanted (LeafWith lba) y → rank m.path ≤ rank y.path
   first y (inl same) also = (let e = ap (λ (z : Member). rank z.path) same in omega arith)
   first y (inr part) also = absurd (let e : Leaf ≡ Slice = sym is.1 ∙ part.0 in cc)
 near_self o m (LeafNamed path k) is = (inl refl, is, first) where
-  first : (y : Member) → IsNear o m y → Answers (LeafNamed path k) y → rank m.path ≤ rank y.path
+  first : (y : Member) → IsNear o m y → IsAsWanted (LeafNamed path k) y → rank m.path ≤ rank y.path
   first y (inl same) also = (let e = ap (λ (z : Member). rank z.path) same in omega arith)
   first y (inr part) also = absurd (let e : Leaf ≡ Slice = sym is.1 ∙ part.0 in cc)
 near_self o m (SliceWith lba) is = (inl refl, is, first) where
-  first : (y : Member) → IsNear o m y → Answers (SliceWith lba) y → rank m.path ≤ rank y.path
+  first : (y : Member) → IsNear o m y → IsAsWanted (SliceWith lba) y → rank m.path ≤ rank y.path
   first y (inl same) also = (let e = ap (λ (z : Member). rank z.path) same in omega arith)
   first y (inr part) also = absurd (let e : Leaf ≡ Slice = sym (part_leaf (label_of o.labels m.path.number) m y part.1) ∙ also.1 in cc)
 
@@ -149,10 +149,10 @@ near_number o u x (inr part) = ap (λ (p : Path). p.number) (parts_letter (label
 -- the first near the first slot that has one is the first of all
 pub slot_first : (b : ℕ) (o : Layout) (wanted : Wanted) (i : ℕ) (u x : Member) → HasFour o.body → rank x.path ≤ rank u.path + 8
     → i < length (slots b o.body) → get_or (slots b o.body) i None ≡ Some u → FoundNear o u wanted (Some x)
-    → ((j : ℕ) (m y : Member) → j < i → get_or (slots b o.body) j None ≡ Some m → IsNear o m y → ¬ Answers wanted y)
+    → ((j : ℕ) (m y : Member) → j < i → get_or (slots b o.body) j None ≡ Some m → IsNear o m y → ¬ IsAsWanted wanted y)
     → Found b o wanted (Some x)
 slot_first b o wanted i u x four close within at found none = ((u, (i, within, at), found.0), found.1, first) where
-  first : (y : Member) → InLayout b o y → Answers wanted y → rank x.path ≤ rank y.path
+  first : (y : Member) → InLayout b o y → IsAsWanted wanted y → rank x.path ≤ rank y.path
   first y (v, (j, lt, there), near) is = elim (cases_lt j i) as (λ _. rank x.path ≤ rank y.path) [
     | inl low ↦ absurd (none j v y low there near is)
     | inr high ↦ elim (cases_lt i j) as (λ _. rank x.path ≤ rank y.path) [

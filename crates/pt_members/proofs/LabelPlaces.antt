@@ -12,7 +12,7 @@ use Rattle.pt_members.specs.declared.member.Kind.TheVariants as kind
 use Rattle.pt_members.specs.declared.member.Member.{Member}
 use Rattle.pt_members.specs.Members.{slots}
 use Rattle.pt_members.specs.Slices.{slice_of, slice_in, slices_of, has_place, placed_in, places_of, IsPlace}
-use Rattle.pt_members.specs.Next.{NextIs, least_of}
+use Rattle.pt_members.specs.Next.{NextSectorIs, least_of}
 use Rattle.pt_members.proofs.Lowest.{next_same, next_or}
 
 -- those of the first k places
@@ -59,11 +59,11 @@ no_slice n m other = by_kind m.kind refl where
 
 -- the lowest label place of one place more
 pub lowest_more : (n k from : ℕ) (os : List (Option Member)) (a b : Option ℕ) → k < length os
-    → NextIs (IsPlace (placed_before n os k)) from a → NextIs (IsPlace (placed_in n (get_or os k None))) from b
-    → NextIs (IsPlace (placed_before n os (k + 1))) from (least_of a b)
+    → NextSectorIs (IsPlace (placed_before n os k)) from a → NextSectorIs (IsPlace (placed_in n (get_or os k None))) from b
+    → NextSectorIs (IsPlace (placed_before n os (k + 1))) from (least_of a b)
 lowest_more n k from os a b lt p q =
     let ps = placed_before n os k in
     let qs = placed_in n (get_or os k None) in
-    subst (λ (l : List Slice). NextIs (IsPlace l) from (least_of a b)) (sym (one_more n k os lt))
+    subst (λ (l : List Slice). NextSectorIs (IsPlace l) from (least_of a b)) (sym (one_more n k os lt))
     (next_same (λ (s : ℕ). IsPlace ps s ⊎ IsPlace qs s) (IsPlace (ps ++ qs)) from (least_of a b) (place_joined ps qs) (place_split ps qs)
     (next_or (IsPlace ps) (IsPlace qs) from a b p q))

@@ -21,27 +21,27 @@ abbrev pub InLayout : ℕ → Layout → Member → Type 0
 InLayout b o x = (m : Member) × AtPlace (slots b o.body) m × IsNear o m x
 
 -- the member is as wanted
-abbrev pub Answers : Wanted → Member → Type 0
-Answers (LeafWith lba) m = Exists m × (m.kind ≡ Leaf) × Holds m lba.0
-Answers (LeafNamed path k) m = Exists m × (m.kind ≡ Leaf) × (m.path ≡ path) × (m.first + k ≤ m.last)
-Answers (SliceWith lba) m = Exists m × (m.kind ≡ Slice) × Holds m lba.0
+abbrev pub IsAsWanted : Wanted → Member → Type 0
+IsAsWanted (LeafWith lba) m = Exists m × (m.kind ≡ Leaf) × Holds m lba.0
+IsAsWanted (LeafNamed path k) m = Exists m × (m.kind ≡ Leaf) × (m.path ≡ path) × (m.first + k ≤ m.last)
+IsAsWanted (SliceWith lba) m = Exists m × (m.kind ≡ Slice) × Holds m lba.0
 
 -- of the members in P that are as wanted, x is the first in path order
-abbrev pub IsFirst : (Member → Type 0) → Wanted → Member → Type 0
-IsFirst P wanted x = P x × Answers wanted x × ((y : Member) → P y → Answers wanted y → rank x.path ≤ rank y.path)
+abbrev pub IsFirstWanted : (Member → Type 0) → Wanted → Member → Type 0
+IsFirstWanted P wanted x = P x × IsAsWanted wanted x × ((y : Member) → P y → IsAsWanted wanted y → rank x.path ≤ rank y.path)
 
 abbrev pub FoundAt : Wanted → Option Member → Option Member → Type 0
-FoundAt wanted place None = (x : Member) → place ≡ Some x → ¬ Answers wanted x
-FoundAt wanted place (Some x) = (place ≡ Some x) × Answers wanted x
+FoundAt wanted place None = (x : Member) → place ≡ Some x → ¬ IsAsWanted wanted x
+FoundAt wanted place (Some x) = (place ≡ Some x) × IsAsWanted wanted x
 
 abbrev pub FoundIn : Wanted → List (Option Member) → Option Member → Type 0
-FoundIn wanted places None = (x : Member) → AtPlace places x → ¬ Answers wanted x
-FoundIn wanted places (Some x) = IsFirst (AtPlace places) wanted x
+FoundIn wanted places None = (x : Member) → AtPlace places x → ¬ IsAsWanted wanted x
+FoundIn wanted places (Some x) = IsFirstWanted (AtPlace places) wanted x
 
 abbrev pub FoundNear : Layout → Member → Wanted → Option Member → Type 0
-FoundNear o m wanted None = (x : Member) → IsNear o m x → ¬ Answers wanted x
-FoundNear o m wanted (Some x) = IsFirst (IsNear o m) wanted x
+FoundNear o m wanted None = (x : Member) → IsNear o m x → ¬ IsAsWanted wanted x
+FoundNear o m wanted (Some x) = IsFirstWanted (IsNear o m) wanted x
 
 abbrev pub Found : ℕ → Layout → Wanted → Option Member → Type 0
-Found b o wanted None = (x : Member) → InLayout b o x → ¬ Answers wanted x
-Found b o wanted (Some x) = IsFirst (InLayout b o) wanted x
+Found b o wanted None = (x : Member) → InLayout b o x → ¬ IsAsWanted wanted x
+Found b o wanted (Some x) = IsFirstWanted (InLayout b o) wanted x

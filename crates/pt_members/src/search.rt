@@ -3,7 +3,7 @@
 ghost use Rattle.std.specs.Prelude.{◌≡◌, ◌<◌, ◌≤◌, ◌+◌, ◌^◌, ◌↔◌, IsTrue, IfSome, Some, None, length, slice_index_or};
 ghost use Rattle.pt_members.specs.Members.{parts, parts_in, Exists, Holds};
 ghost use Rattle.pt_path.specs.Paths.{rank};
-ghost use Rattle.pt_members.specs.Search.{Answers, FoundAt, FoundIn, FoundNear, Found};
+ghost use Rattle.pt_members.specs.Search.{IsAsWanted, FoundAt, FoundIn, FoundNear, Found};
 
 use crate::layout::Layout;
 use crate::member::{Kind, Member};
@@ -36,7 +36,7 @@ fn holds(m: &Member, lba: Lba) -> bool
 }
 
 fn answers(m: &Member, wanted: &Wanted) -> bool
-    ensures { IsTrue result ↔ Answers wanted.now m.now }
+    ensures { IsTrue result ↔ IsAsWanted wanted.now m.now }
 {
     if !exists(m) {
         return false;

@@ -7,7 +7,7 @@ ghost use Rattle.pt_gpt.specs.Array.{array_len};
 ghost use Rattle.pt_members.specs.Slices.{placed_in, places_of, IsPlace};
 ghost use Rattle.pt_members.specs.Members.{slots};
 ghost use Rattle.pt_members.specs.Tables.{IsTable, IsEbr, IsBodyTable, IsGptTable};
-ghost use Rattle.pt_members.specs.Next.{NextIs, least_of};
+ghost use Rattle.pt_members.specs.Next.{NextSectorIs, least_of};
 
 use crate::layout::{Body, Layout};
 use crate::slices::placed_at;
@@ -29,13 +29,13 @@ pub fn least(a: Option<u64>, b: Option<u64>) -> Option<u64>
 
 // The sector, where it isn't below the other.
 fn not_below(lba: u64, from: u64) -> Option<u64>
-    ensures { NextIs (λ s. s ≡ lba) from result }
+    ensures { NextSectorIs (λ s. s ≡ lba) from result }
 {
     if from <= lba { Some(lba) } else { None }
 }
 
 fn next_ebr(chain: &[Ebr], from: u64) -> Option<u64>
-    ensures { NextIs (λ s. StandsAt s chain.now) from result }
+    ensures { NextSectorIs (λ s. StandsAt s chain.now) from result }
 {
     let mut next = None;
     for k in 0..chain.len() {
@@ -46,7 +46,7 @@ fn next_ebr(chain: &[Ebr], from: u64) -> Option<u64>
 
 fn next_of_gpt<const B: usize>(sectors: u64, from: u64) -> Option<u64>
     requires { IsSectorSize B }
-    ensures { NextIs (IsGptTable B sectors) from result }
+    ensures { NextSectorIs (IsGptTable B sectors) from result }
 {
     let edge = first_usable::<B>();
     if from < edge {
@@ -61,7 +61,7 @@ fn next_of_gpt<const B: usize>(sectors: u64, from: u64) -> Option<u64>
 
 fn next_of_body<const B: usize>(sectors: u64, body: &Body, from: u64) -> Option<u64>
     requires { IsSectorSize B }
-    ensures { NextIs (IsBodyTable B sectors body.now) from result }
+    ensures { NextSectorIs (IsBodyTable B sectors body.now) from result }
 {
     match body {
         Body::Mbr { chain, .. } => least(not_below(0, from), next_ebr(chain.as_slice(), from)),
@@ -72,14 +72,14 @@ fn next_of_body<const B: usize>(sectors: u64, body: &Body, from: u64) -> Option<
 // The label place of the slice in a place, where it has one.
 fn place_from<const B: usize>(sectors: u64, body: &Body, k: usize, from: u64) -> Option<u64>
     requires { k < length (slots B body.now) }
-    ensures { NextIs (IsPlace (placed_in sectors (slice_index_or (slots B body.now) k None))) from result }
+    ensures { NextSectorIs (IsPlace (placed_in sectors (slice_index_or (slots B body.now) k None))) from result }
 {
     let slice = placed_at::<B>(sectors, body, k)?;
     not_below(slice.first + 1, from)
 }
 
 fn next_label<const B: usize>(sectors: u64, body: &Body, from: u64) -> Option<u64>
-    ensures { NextIs (IsPlace (places_of B sectors body.now)) from result }
+    ensures { NextSectorIs (IsPlace (places_of B sectors body.now)) from result }
 {
     let mut next = None;
     for k in 0..slot_count::<B>(body) {
@@ -91,7 +91,7 @@ fn next_label<const B: usize>(sectors: u64, body: &Body, from: u64) -> Option<u6
 // The lowest table sector from one on.
 pub fn next_table<const B: usize>(layout: &Layout, from: u64) -> Option<u64>
     requires { IsSectorSize B }
-    ensures { NextIs (IsTable B layout.now) from result }
+    ensures { NextSectorIs (IsTable B layout.now) from result }
 {
     let body = next_of_body::<B>(layout.sectors, &layout.body, from);
     let label = next_label::<B>(layout.sectors, &layout.body, from);

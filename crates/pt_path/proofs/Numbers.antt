@@ -6,7 +6,7 @@ use Rattle.std.specs.Str.Parse.{AllDigits, digits_value, IsNumeral, without_lead
 use Rattle.std.proofs.lemmas.Bool.{cases_lt}
 use Rattle.std.proofs.lemmas.Str.Parse.{IsNumeralModel, numerals_by_value, tells_digits, not_in_digits, without_leading_plus_none}
 use Rattle.std.proofs.lemmas.Fmt.{decimal_is_IsNumeral, decimal_digit, first_decimal, decimal-digits_value, parse-decimal}
-use Rattle.pt_path.specs.Texts.{IsNumber, IsPlain}
+use Rattle.pt_path.specs.Texts.{IsNumber, IsPlainText}
 
 own : IsNumeralModel (AllDigits 10) (digits_value 10)
 own = numerals_by_value (AllDigits 10) tells_digits
@@ -26,9 +26,9 @@ zero_alone n fits is =
     ]
 
 -- a number has nothing in front
-pub plain_number : (text : List ℕ) (n : ℕ) → IsNumber text n → IsPlain text
+pub plain_number : (text : List ℕ) (n : ℕ) → IsNumber text n → IsPlainText text
 plain_number text n is =
-    subst IsPlain (sym is.digits) (
+    subst IsPlainText (sym is.digits) (
       lacks n 43 0 is.fits (λ h. omega (arith, h.0, h.1)) (digits_of_decimal n is.fits).0,
       zero_alone n
           is.fits,
@@ -39,7 +39,7 @@ abbrev pub IsTaken : List ℕ → Type 0
 IsTaken text = IsNumeral 10 (without_leading_plus text) × (digits_value 10 (without_leading_plus text) < 2 ^ 64)
 
 -- what is read of a plain text
-pub read_number : (text : List ℕ) (n : ℕ) → IsPlain text → IsTaken text × (n ≡ digits_value 10 (without_leading_plus text))
+pub read_number : (text : List ℕ) (n : ℕ) → IsPlainText text → IsTaken text × (n ≡ digits_value 10 (without_leading_plus text))
     → IsNumber text n
 read_number text n plain h =
     let e = without_leading_plus_none text plain.0 in

@@ -9,8 +9,8 @@ pub record IsNumber (text : List ℕ) (n : ℕ) : Type 0 where
   pub digits : text ≡ decimal n
 
 -- neither a plus nor, before more, a zero stands in front
-abbrev pub IsPlain : List ℕ → Type 0
-IsPlain text = (slice_index text 0 ≢ 43) × (slice_index text 0 ≡ 48 → length text ≡ 1)
+abbrev pub IsPlainText : List ℕ → Type 0
+IsPlainText text = (slice_index text 0 ≢ 43) × (slice_index text 0 ≡ 48 → length text ≡ 1)
 
 -- what stands behind the number of a path: nothing, or a dot and a letter from a on
 abbrev pub letter_text : Option ℕ → List ℕ

@@ -1,14 +1,14 @@
 //! Numbers and paths as texts.
 
 ghost use Rattle.std.specs.Prelude.{◌≡◌, ◌≢◌, ◌<◌, ◌+◌, ℕ, IfSome, IfNone, [], ◌∷◌, ◌↔◌, IsTrue};
-ghost use Rattle.pt_path.specs.Texts.{IsNumber, IsPath, IsPlain, IsUndotted, IsDotted};
+ghost use Rattle.pt_path.specs.Texts.{IsNumber, IsPath, IsPlainText, IsUndotted, IsDotted};
 ghost use Rattle.pt_path.specs.declared.path.Path.{Path};
 
 use crate::path::Path;
 
 // Whether a text has neither a plus nor, before more, a zero in front, which the parser takes.
 fn is_plain(text: &str) -> bool
-    ensures { IsTrue result ↔ IsPlain text.now }
+    ensures { IsTrue result ↔ IsPlainText text.now }
 {
     let bytes = text.as_bytes();
     if bytes.is_empty() {

@@ -16,8 +16,8 @@ use Rattle.pt_cases.specs.laws.Causes.{had_one}
 use Rattle.pt_shape.specs.laws.Ascending.{places_ascend_lem}
 use Rattle.pt_shape.specs.laws.Along.{along_label}
 use Rattle.pt_cases.specs.Targets.{Had, IsEncoded}
-use Rattle.pt_targets.specs.Causes.{IsNewLabel, IsOtherLabel}
-use Rattle.pt_targets.specs.Targets.{Targeted, IsPlaceTarget, AreNewWrites, InOrder}
+use Rattle.pt_targets.specs.Causes.{LabelComes, IsOtherLabel}
+use Rattle.pt_targets.specs.Targets.{Targeted, IsPlaceTarget, AreNewWrites, InSectorOrder}
 use Rattle.pt_targets.specs.declared.target.Target.{Target}
 use Rattle.pt_phases.specs.Phases.{Alters}
 use Rattle.pt_phases.specs.Starts.{CopiesStart}
@@ -26,7 +26,7 @@ use Rattle.pt_phases.proofs.Labels.{reads_is}
 
 module _ {b : ℕ} (d : Sectors) (o : Option Layout) (p : Layout) (t : Table) (chosen : Order) (guarded : List Run)
     (given : Option (List ℕ)) (ts sorted : List (Target b))
-    (size : IsSectorSize b) (start : CopiesStart d o p t chosen guarded given ts) (order : InOrder ts sorted) where
+    (size : IsSectorSize b) (start : CopiesStart d o p t chosen guarded given ts) (order : InSectorOrder ts sorted) where
   -- the target of a wanted label
   target_at : (w : Slice) (l : Label) → Contains (places_of b p.sectors p.body) w
       → Contains p.labels (record { number = w.number; label = l }) → Targeted d o ts w (Some l)
@@ -36,7 +36,7 @@ module _ {b : ℕ} (d : Sectors) (o : Option Layout) (p : Layout) (t : Table) (c
       (places_ascend_lem b p.sectors p.body four) start.places.has stands wanted
 
   -- a new label that isn't read there already is written
-  pub new_put : (labels : Writes) → AreNewWrites guarded sorted labels → (s : ℕ) → IsNewLabel b d o p s → (v : List ℕ) × Puts labels s v
+  pub new_put : (labels : Writes) → AreNewWrites guarded sorted labels → (s : ℕ) → LabelComes b d o p s → (v : List ℕ) × Puts labels s v
   new_put labels news s is = by_kind target.4
     where
       w : Slice

@@ -16,8 +16,8 @@ use Rattle.pt_targets.specs.Causes.{TargetsIn, TargetsOf, NotOneTurn, HasNoTurn,
 use Rattle.pt_targets.specs.Causes as causes
 use Rattle.pt_targets.specs.laws.Lifts.{labels_met}
 use Rattle.pt_targets.specs.Starts.{StopsBy}
-use Rattle.pt_cases.specs.Targets.{Ends}
-use Rattle.pt_targets.specs.Targets.{TellDisk, InOrder, IsChange, IsOneChange, NotOneChange}
+use Rattle.pt_cases.specs.Targets.{ComesToHold}
+use Rattle.pt_targets.specs.Targets.{TellDisk, InSectorOrder, IsChange, IsOneChange, NotOneChange}
 use Rattle.pt_targets.specs.declared.error.PlanError.{PlanError}
 use Rattle.pt_targets.specs.declared.error.PlanError.TheVariants.{NotOneSwitch, ReusedInOneBatch, NeedsRepair, Unsound, Device, Memory}
 use Rattle.pt_targets.specs.declared.target.Target.{Target}
@@ -35,7 +35,7 @@ module _ {b : ℕ} (d : Sectors) (o : Option Layout) (p : Layout) (broken : Bool
       (subst (λ (y : Body). IsPlace (places_of b (length d) y) t.at.0) (sym is.changes.same)
       (subst (λ (n : ℕ). IsPlace (places_of b n p.body) t.at.0) is.start.sectors (is.places.each t has)))
 
-  module _ (sorted : List (Target b)) (order : InOrder places sorted) where
+  module _ (sorted : List (Target b)) (order : InSectorOrder places sorted) where
     tell_sorted : TellDisk d sorted
     tell_sorted t has = is.places.tell t (order.only t has)
 
@@ -117,7 +117,7 @@ module _ {b : ℕ} (d : Sectors) (o : Option Layout) (p : Layout) (broken : Bool
     one : IsOneChange d turn.sorted loud
     one = turn.change d (tell_sorted turn.sorted turn.free.order)
 
-    loud_only : (u : Target b) → IsChange places u → Ends d (one_write loud.0 loud.1) u.at.0 u.bytes → u.at.0 ≡ one.target.at.0
+    loud_only : (u : Target b) → IsChange places u → ComesToHold d (one_write loud.0 loud.1) u.at.0 u.bytes → u.at.0 ≡ one.target.at.0
     loud_only u change (inl (inl here)) = sym here.0 ∙ sym one.at
     loud_only u change (inl (inr none)) = absurd none
     loud_only u change (inr stays) = absurd (change.1 (stays.0 ∙ sym (is.places.tell u change.0)))

@@ -28,12 +28,12 @@ use Rattle.pt_shape.specs.laws.Stands.{place_usable}
 use Rattle.pt_shape.specs.Along.{Along}
 use Rattle.pt_cases.specs.Targets.{Had, IsEncoded, WritesLabels}
 use Rattle.pt_cases.specs.laws.Within.{reads_gpt, side_within}
-use Rattle.pt_targets.specs.Causes.{IsNewLabel, IsOtherLabel, WritesBoth}
+use Rattle.pt_targets.specs.Causes.{LabelComes, IsOtherLabel, WritesBoth}
 use Rattle.pt_targets.specs.laws.Counts.{few_gpt_places}
 use Rattle.pt_targets.specs.laws.Lifts.{labels_written}
 use Rattle.pt_targets.specs.Selected.{climbs, climbs_one}
-use Rattle.pt_targets.specs.Targets.{Targeted, IsPlaceTarget, AreNewWrites, InOrder}
-use Rattle.pt_targets.specs.declared.target.Kind.TheVariants.{Stays, New, Changes}
+use Rattle.pt_targets.specs.Targets.{Targeted, IsPlaceTarget, AreNewWrites, InSectorOrder}
+use Rattle.pt_targets.specs.declared.target.TargetKind.TheVariants.{Stays, New, Changes}
 use Rattle.pt_targets.specs.declared.target.Target.{Target}
 use Rattle.pt_phases.specs.Starts.{CopiesStart, OrderIs}
 use Rattle.pt_phases.specs.declared.order.Order.{Order}
@@ -126,7 +126,7 @@ module _ {b : ℕ} (d : Sectors) (o : Option Layout) (p : Layout) (t : Table) (c
   pub writes_both : WritesBoth o p
   writes_both = record { table = t; body = start.body; other = start.other }
 
-  module _ (sorted : List (Target b)) (order : InOrder ts sorted) where
+  module _ (sorted : List (Target b)) (order : InSectorOrder ts sorted) where
     -- the writes of the new labels, where no label changes
     pub labels_are : (ws : Writes) → AreNewWrites guarded sorted ws → ((x : Target b) → Contains sorted x → ¬ (x.kind ≡ Changes))
         → WritesLabels b d o p ws
@@ -145,7 +145,7 @@ module _ {b : ℕ} (d : Sectors) (o : Option Layout) (p : Layout) (t : Table) (c
         goes_at (Targeted d o ts) (places_of b p.sectors p.body) p.labels x.at.0 start.places.has (start.places.each x (order.only x has))
 
     -- a new label that is written
-    pub new_label : (ws : Writes) → AreNewWrites guarded sorted ws → (s : ℕ) (v : List ℕ) → Puts ws s v → IsNewLabel b d o p s
+    pub new_label : (ws : Writes) → AreNewWrites guarded sorted ws → (s : ℕ) (v : List ℕ) → Puts ws s v → LabelComes b d o p s
     new_label ws news s v puts = by_goes at_place.goes
       where
         it : (x : Target b) × Contains sorted x × (x.kind ≡ New) × (x.at.0 ≡ s) × (x.bytes ≡ v) × ¬ ((x.bytes ≡ x.under) × IsIn guarded s)
@@ -167,7 +167,7 @@ module _ {b : ℕ} (d : Sectors) (o : Option Layout) (p : Layout) (t : Table) (c
         under = start.places.tell it.0 (order.only it.0 it.1) ∙ ap (λ (k : ℕ). sector d k) it.3
 
         by_target : (l : Label) → Contains p.labels (record { number = w.number; label = l }) → IsPlaceTarget d o w (Some l) it.0
-            → IsNewLabel b d o p s
+            → LabelComes b d o p s
         by_target l has (inl stays) = absurd (let no : Stays ≡ New = sym stays.0 ∙ it.2 in cc)
         by_target l has (inr (inl changes)) = absurd (let no : Changes ≡ New = sym changes.0 ∙ it.2 in cc)
         by_target l has (inr (inr (kind, none, fresh))) = record {
@@ -185,7 +185,7 @@ module _ {b : ℕ} (d : Sectors) (o : Option Layout) (p : Layout) (t : Table) (c
         by_goes :
             ((l : Label) × Contains p.labels (record { number = w.number; label = l }) × Targeted d o ts w (Some l))
             ⊎ Targeted d o ts w None
-            → IsNewLabel b d o p s
+            → LabelComes b d o p s
         by_goes (inl (l, has, is)) = by_target l has (same_target it.0 it.1 w (Some l) at_place.at is)
         by_goes (inr is) =
             absurd (let stays = (same_target it.0 it.1 w None at_place.at is).0 in let no : Stays ≡ New = sym stays ∙ it.2 in cc)

@@ -21,13 +21,13 @@ use Rattle.pt_cases.specs.Copies.{one_write}
 use Rattle.pt_apply.specs.laws.Puts.{puts_right}
 use Rattle.pt_layout.specs.laws.Guarded.{reads_guarded}
 use Rattle.pt_cases.specs.laws.Guards.{guarded_is_read}
-use Rattle.pt_shape.specs.Links.{IsLinked}
+use Rattle.pt_shape.specs.Links.{IsLoneChain}
 use Rattle.pt_targets.specs.Causes.{NoneOwned, TargetsIn, TargetsOf, NotOneTurn, HasNoTurn}
 use Rattle.pt_targets.specs.Causes as causes
 use Rattle.pt_targets.specs.laws.Counts.{most_mbr_places}
 use Rattle.pt_targets.specs.laws.Lifts.{labels_met, mbr_met}
 use Rattle.pt_targets.specs.Starts.{StopsBy}
-use Rattle.pt_targets.specs.Targets.{TellDisk, InOrder, IsSplit, NotOneLoud}
+use Rattle.pt_targets.specs.Targets.{TellDisk, InSectorOrder, IsSplit, NotOneLoud}
 use Rattle.pt_targets.specs.declared.error.PlanError.{PlanError}
 use Rattle.pt_targets.specs.declared.error.PlanError.TheVariants.{NotOneSwitch, ReusedInOneBatch, NeedsRepair, Unsound, Device, Memory}
 use Rattle.pt_targets.specs.declared.target.Target.{Target}
@@ -35,7 +35,7 @@ use Rattle.pt_phases.specs.Outcomes.{IsTurn, NoTurn}
 use Rattle.pt_phases.specs.Turns.{MbrStart}
 
 -- a chain of a lone extended record is short
-chain_few : (n : ℕ) (rs : List Record) (chain : List Ebr) → IsLinked n rs chain → length chain ≤ 128
+chain_few : (n : ℕ) (rs : List Record) (chain : List Ebr) → IsLoneChain n rs chain → length chain ≤ 128
 chain_few n [] chain linked = (let none : length chain ≡ 0 = ap length linked in omega (arith, none))
 chain_few n (r ∷ []) chain linked = linked.0
 chain_few n (r ∷ q ∷ rs) chain linked = absurd linked
@@ -78,7 +78,7 @@ module _ {b : ℕ} (d : Sectors) (o : Option Layout) (p : Layout) (guarded : Lis
       (most_mbr_places b p.sectors is.records is.chain is.four chain) in
       omega (arith, chain, labels, is.heads.count, is.places.count, length-append heads places)
 
-  module _ (sorted : List (Target b)) (order : InOrder both sorted) where
+  module _ (sorted : List (Target b)) (order : InSectorOrder both sorted) where
     tell_sorted : TellDisk d sorted
     tell_sorted t has = tell_both t (order.only t has)
 

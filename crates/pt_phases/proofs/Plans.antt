@@ -23,12 +23,12 @@ use Rattle.pt_copies.specs.laws.Reached.{protects_reached}
 use Rattle.pt_targets.specs.Causes.{WouldWrite, copy, head, WouldPrecede, backup, primary, NoneTaken, HasNoCopies}
 use Rattle.pt_targets.specs.Causes as cause
 use Rattle.pt_targets.specs.Starts.{StopsBy}
-use Rattle.pt_targets.specs.Targets.{AreNewWrites, InOrder, HasTwoOfOne}
+use Rattle.pt_targets.specs.Targets.{AreNewWrites, InSectorOrder, HasTwoOfOne}
 use Rattle.pt_targets.specs.declared.error.PlanError.{PlanError}
 use Rattle.pt_targets.specs.declared.error.PlanError.TheVariants.{NotOneSwitch, ReusedInOneBatch, NeedsRepair, Unsound, Device, Memory}
 use Rattle.pt_targets.specs.declared.target.Target.{Target}
 use Rattle.pt_phases.specs.Phases.{Closes, Arranged, writes_before, Touches, Alters, RefusedBy, Passes}
-use Rattle.pt_phases.specs.Starts.{CopiesStart, OrderIs, HeadIs}
+use Rattle.pt_phases.specs.Starts.{CopiesStart, OrderIs, HeadAsRead}
 use Rattle.pt_phases.specs.declared.order.Order.{Order}
 use Rattle.pt_phases.specs.declared.order.Order.TheVariants.{BackupFirst, PrimaryFirst, FromMbr}
 use Rattle.pt_cases.specs.Asked.{Asked, backup_first_puts, primary_first_puts, from_mbr_puts}
@@ -36,12 +36,12 @@ use Rattle.pt_phases.proofs.Every.{new_put, other_alters}
 use Rattle.pt_phases.proofs.Labels.{labels_are, new_label, other_label, writes_both}
 
 -- a last phase over sector 0 as it was given is one over sector 0
-closes_protects : (d : Sectors) (given : Option (List ℕ)) (last : List Writes) → HeadIs d given → Closes (length d) given last
+closes_protects : (d : Sectors) (given : Option (List ℕ)) (last : List Writes) → HeadAsRead d given → Closes (length d) given last
     → Protects (length d) (sector d 0) last
 closes_protects d (Some old) last is closes = subst (λ (x : List ℕ). Protects (length d) x last) is closes
 closes_protects d None last is closes = inl (is, closes)
 
-given_is : (d : Sectors) (given : Option (List ℕ)) (old : List ℕ) → HeadIs d given → given ≡ Some old → old ≡ sector d 0
+given_is : (d : Sectors) (given : Option (List ℕ)) (old : List ℕ) → HeadAsRead d given → given ≡ Some old → old ≡ sector d 0
 given_is d (Some x) old is same = (let one : x ≡ old = cc in sym one ∙ is)
 given_is d None old is same = absurd cc
 
@@ -50,7 +50,7 @@ nothing_more ws s v puts = ⊎_elim (λ here. here) (λ none. absurd none) (puts
 
 module _ {b : ℕ} (d : Sectors) (o : Option Layout) (p : Layout) (t : Table) (chosen : Order) (guarded : List Run)
     (given : Option (List ℕ)) (ts sorted : List (Target b))
-    (size : IsSectorSize b) (start : CopiesStart d o p t chosen guarded given ts) (order : InOrder ts sorted) (labels : Writes)
+    (size : IsSectorSize b) (start : CopiesStart d o p t chosen guarded given ts) (order : InSectorOrder ts sorted) (labels : Writes)
     (news : AreNewWrites guarded sorted labels) where
   abbrev n : ℕ
   n = length d
@@ -286,7 +286,7 @@ shared_stops d o p t chosen guarded given ts size start two =
 
 module _ {b : ℕ} (n : ℕ) (o : Option Layout) (t : Table) (chosen : Order) (guarded : List Run) (given : Option (List ℕ))
     (ts sorted first second : List (Target b)) (labels : Writes) (phases : List Writes)
-    (size : IsSectorSize b) (order : InOrder ts sorted) (first_is : first ≡ sorted) (second_is : second ≡ sorted)
+    (size : IsSectorSize b) (order : InSectorOrder ts sorted) (first_is : first ≡ sorted) (second_is : second ≡ sorted)
     (news : AreNewWrites guarded first labels) (are : Arranged b n t given labels chosen phases) where
   abbrev news_sorted : AreNewWrites guarded sorted labels
   news_sorted = subst (λ (l : List (Target b)). AreNewWrites guarded l labels) first_is news

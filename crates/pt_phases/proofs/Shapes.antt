@@ -15,7 +15,7 @@ use Rattle.pt_cases.specs.Cases.{backup_first_phases, primary_first_phases, from
 use Rattle.pt_cases.specs.Copies.{Protects, IsProtectedFrom}
 use Rattle.pt_copies.specs.Written.{last_of, WroteCopies}
 use Rattle.pt_targets.specs.Selected.{AllBelow}
-use Rattle.pt_targets.specs.Targets.{InOrder}
+use Rattle.pt_targets.specs.Targets.{InSectorOrder}
 use Rattle.pt_targets.specs.declared.target.Target.{Target}
 use Rattle.pt_phases.specs.Phases.{Closes, Arranged}
 use Rattle.pt_phases.specs.declared.order.Order.{Order}
@@ -65,7 +65,7 @@ unwrapped None other old is some = absurd (some refl)
 unwrapped (Some x) other old is some = ap Some (sym is)
 
 -- targets that are the same in another order are of the same sectors
-pub sorted_below : {b : ℕ} (n : ℕ) (ts sorted seen : List (Target b)) → InOrder ts sorted → seen ≡ sorted → All (λ t. t.at.0 < n) ts
+pub sorted_below : {b : ℕ} (n : ℕ) (ts sorted seen : List (Target b)) → InSectorOrder ts sorted → seen ≡ sorted → All (λ t. t.at.0 < n) ts
     → AllBelow n seen
 sorted_below {b = b} n ts sorted seen order same below t has =
     All-contains (λ (x : Target b). x.at.0 < n) ts t below (order.only t (subst (λ (l : List (Target b)). Contains l t) same has))

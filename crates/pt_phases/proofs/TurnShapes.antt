@@ -17,7 +17,7 @@ use Rattle.pt_cases.specs.Copies.{one_write}
 use Rattle.pt_apply.specs.laws.Puts.{puts_left, puts_right}
 use Rattle.pt_cases.specs.laws.Frames.{puts_at, rises_in_tail, put_there}
 use Rattle.pt_cases.specs.laws.Select.{Rises}
-use Rattle.pt_targets.specs.Selected.{AllBelow, Climbs, climbs}
+use Rattle.pt_targets.specs.Selected.{AllBelow, TargetsClimb, climbs}
 use Rattle.pt_targets.specs.Splits.{writes_in_range}
 use Rattle.pt_targets.specs.Targets.{targeted, TellDisk, IsSplit}
 use Rattle.pt_targets.specs.declared.target.Target.{Target}
@@ -81,7 +81,7 @@ ascends_rises (w ∷ ws) up = (
 )
 
 -- the first is the lowest
-lowest : {b : ℕ} (t : Target b) (ts : List (Target b)) (u : Target b) → Climbs (t ∷ ts) → Contains (t ∷ ts) u → t.at.0 ≤ u.at.0
+lowest : {b : ℕ} (t : Target b) (ts : List (Target b)) (u : Target b) → TargetsClimb (t ∷ ts) → Contains (t ∷ ts) u → t.at.0 ≤ u.at.0
 lowest t ts u climb (zero, lt, at) = (let here : t.at.0 ≡ u.at.0 = ap (λ (x : Target _). x.at.0) at in omega (arith, here))
 lowest t ts u climb (suc k, lt, at) = (let less = climb.0 u (k, omega (arith, lt), at) in omega (arith, less))
 
@@ -90,7 +90,7 @@ behind t ts u other (zero, lt, at) = absurd (other (ap (λ (x : Target _). x.at.
 behind t ts u other (suc k, lt, at) = (k, omega (arith, lt), at)
 
 -- where each write is of one of their sectors, and none but the first can be of the first one's, the rest are of the others'
-rest_among : {b : ℕ} (t : Target b) (ts : List (Target b)) (w : ℕ × List ℕ) (ws : Writes) → Climbs (t ∷ ts) → Rises (w ∷ ws)
+rest_among : {b : ℕ} (t : Target b) (ts : List (Target b)) (w : ℕ × List ℕ) (ws : Writes) → TargetsClimb (t ∷ ts) → Rises (w ∷ ws)
     → ((s : ℕ) (v : List ℕ) → Puts (w ∷ ws) s v → IsAmong (t ∷ ts) s) → (s : ℕ) (v : List ℕ) → Puts ws s v → IsAmong ts s
 rest_among t ts w ws climb rises among s v puts =
     let first = among w.0 w.1 (inl (refl, refl)) in
@@ -100,7 +100,7 @@ rest_among t ts w ws climb rises among s v puts =
     (it.0, behind t ts it.0 (λ same. omega (arith, same, low, first.2, less, it.2)) it.1, it.2)
 
 -- ascending writes of their sectors are no more than they are
-no_more : {b : ℕ} (ts : List (Target b)) (ws : Writes) → Climbs ts → Rises ws → ((s : ℕ) (v : List ℕ) → Puts ws s v → IsAmong ts s)
+no_more : {b : ℕ} (ts : List (Target b)) (ws : Writes) → TargetsClimb ts → Rises ws → ((s : ℕ) (v : List ℕ) → Puts ws s v → IsAmong ts s)
     → length ws ≤ length ts
 no_more ts [] climb rises among = omega arith
 no_more [] (w ∷ ws) climb rises among = (let it = among w.0 w.1 (inl (refl, refl)) in absurd (omega (arith, it.1.1)))
@@ -108,7 +108,7 @@ no_more (t ∷ ts) (w ∷ ws) climb rises among =
     (let few = no_more ts ws climb.1 rises.1 (rest_among t ts w ws climb rises among) in omega (arith, few))
 
 -- and fewer where one of them isn't written
-fewer : {b : ℕ} (ts : List (Target b)) (ws : Writes) (x : Target b) → Climbs ts → Rises ws
+fewer : {b : ℕ} (ts : List (Target b)) (ws : Writes) (x : Target b) → TargetsClimb ts → Rises ws
     → ((s : ℕ) (v : List ℕ) → Puts ws s v → IsAmong ts s) → Contains ts x
     → ((v : List ℕ) → ¬ Puts ws x.at.0 v) → length ws + 1 ≤ length ts
 fewer [] ws x climb rises among (k, lt, at) never = absurd (omega (arith, lt))

@@ -7,7 +7,7 @@ use Rattle.pt_members.specs.declared.layout.Layout.{Layout}
 use Rattle.pt_recover.specs.declared.trace.Run.{Run}
 use Rattle.pt_cases.specs.Cases.{within_mbr_phases}
 use Rattle.pt_targets.specs.Causes.{NoneOwned}
-use Rattle.pt_targets.specs.Targets.{TellDisk, HasTwoOfOne, InOrder, IsChange, IsSplit, NotOneLoud, IsOneChange, NotOneChange}
+use Rattle.pt_targets.specs.Targets.{TellDisk, HasTwoOfOne, InSectorOrder, IsChange, IsSplit, NotOneLoud, IsOneChange, NotOneChange}
 use Rattle.pt_targets.specs.declared.error.PlanError.{PlanError}
 use Rattle.pt_targets.specs.declared.error.PlanError.TheVariants.{NotOneSwitch, ReusedInOneBatch, Memory}
 use Rattle.pt_targets.specs.declared.target.Target.{Target}
@@ -20,7 +20,7 @@ pub record OneOwned {b : _} (o : Option Layout) (ts : List (Target b)) : Type 0 
 
 -- the targets by ascending sector, and none that changes is owned
 pub record AreFree {b : _} (o : Option Layout) (ts sorted : List (Target b)) : Type 0 where
-  pub order : InOrder ts sorted
+  pub order : InSectorOrder ts sorted
   pub free : NoneOwned o sorted
 
 -- why they aren't

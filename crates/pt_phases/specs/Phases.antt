@@ -12,7 +12,7 @@ use Rattle.pt_cases.specs.Copies.{IsProtectedFrom, Protects}
 use Rattle.pt_copies.specs.Written.{WroteCopies}
 use Rattle.pt_targets.specs.declared.error.PlanError.{PlanError}
 use Rattle.pt_targets.specs.declared.error.PlanError.TheVariants.{NotOneSwitch, ReusedInOneBatch, NeedsRepair, Unsound, Device, Memory}
-use Rattle.pt_targets.specs.declared.target.Kind.TheVariants.{Changes}
+use Rattle.pt_targets.specs.declared.target.TargetKind.TheVariants.{Changes}
 use Rattle.pt_targets.specs.declared.target.Target.{Target}
 use Rattle.pt_phases.specs.declared.order.Order.{Order}
 use Rattle.pt_phases.specs.declared.order.Order.TheVariants.{BackupFirst, PrimaryFirst, FromMbr}

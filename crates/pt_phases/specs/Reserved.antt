@@ -6,6 +6,6 @@ use Rattle.pt_phases.specs.declared.reserved.Reserved.{Reserved}
 use Rattle.pt_phases.specs.declared.reserved.Reserved.TheVariants.{Owned, Guarded}
 
 -- the sector is one of them
-abbrev pub IsReserved : ℕ → Reserved → ℕ → Type 0
-IsReserved b (Owned layout) s = OwnedOf b layout.now s
-IsReserved b (Guarded trace) s = IsIn trace.now s
+abbrev pub IsAnyReserved : ℕ → Reserved → ℕ → Type 0
+IsAnyReserved b (Owned layout) s = OwnedOf b layout.now s
+IsAnyReserved b (Guarded trace) s = IsIn trace.now s

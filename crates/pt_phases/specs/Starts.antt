@@ -26,9 +26,9 @@ OrderIs b d PrimaryFirst = (¬ IsMbrDisk d) × (¬ HasCopy b d Primary)
 OrderIs b d FromMbr = IsMbrDisk d
 
 -- sector 0 as it was read; where it wasn't, it is protective
-abbrev pub HeadIs : Sectors → Option (List ℕ) → Type 0
-HeadIs d (Some bytes) = bytes ≡ sector d 0
-HeadIs d None = IsProtective (length d) (sector d 0)
+abbrev pub HeadAsRead : Sectors → Option (List ℕ) → Type 0
+HeadAsRead d (Some bytes) = bytes ≡ sector d 0
+HeadAsRead d None = IsProtective (length d) (sector d 0)
 
 -- the table t of p is written in both copies, with the labels of p that are new
 pub record CopiesStart {b : _} (d : Sectors) (o : Option Layout) (p : Layout) (t : Table) (chosen : Order) (guarded : List Run)
@@ -38,6 +38,6 @@ pub record CopiesStart {b : _} (d : Sectors) (o : Option Layout) (p : Layout) (t
   pub fits : FitsTable b (length d) t
   pub other : ¬ ChangesLabels o p
   pub order : OrderIs b d chosen
-  pub head : HeadIs d given
+  pub head : HeadAsRead d given
   pub guards : (s : ℕ) → IsIn guarded s ↔ IsGuarded b d s
   pub places : AreLabelTargets d o p label_targets

@@ -14,8 +14,8 @@ use Rattle.pt_layout.specs.Guarded.{IsGuarded}
 use Rattle.pt_layout.specs.Healthy.{IsBodyWhole}
 use Rattle.pt_layout.specs.declared.finding.Finding.{Finding}
 use Rattle.pt_cases.specs.Cases.{ChangesLabels}
-use Rattle.pt_cases.specs.Causes.{WasMbr}
-use Rattle.pt_shape.specs.Links.{IsLinked}
+use Rattle.pt_cases.specs.Causes.{HadMbr}
+use Rattle.pt_shape.specs.Links.{IsLoneChain}
 use Rattle.pt_targets.specs.Starts.{Start}
 use Rattle.pt_targets.specs.Targets.{AreLabelTargets, AreMbrTargets}
 use Rattle.pt_targets.specs.declared.target.Target.{Target}
@@ -24,12 +24,12 @@ use Rattle.pt_targets.specs.declared.target.Target.{Target}
 pub record MbrStart {b : _} (d : Sectors) (o : Option Layout) (p : Layout) (guarded : List Run)
     (head_targets label_targets : List (Target b)) : Type 0 where
   pub start : Start b d o p
-  pub was : WasMbr o
+  pub was : HadMbr o
   pub records : List (Option Record)
   pub chain : List Ebr
   pub body : p.body ≡ Mbr records chain
   pub four : length records ≡ 4
-  pub linked : IsLinked (length d) (extended_of records) chain
+  pub linked : IsLoneChain (length d) (extended_of records) chain
   pub guards : (s : ℕ) → IsIn guarded s ↔ IsGuarded b d s
   pub heads : AreMbrTargets d was.records was.chain records chain head_targets
   pub places : AreLabelTargets d o p label_targets

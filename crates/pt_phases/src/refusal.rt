@@ -8,7 +8,7 @@ use crate::order::Order;
 use crate::reserved::{Reserved, touches};
 use pt_apply::Plan;
 use pt_layout::{Layout, Trace};
-use pt_targets::{Kind, PlanError, Target, first_change, first_owned_of_kind};
+use pt_targets::{PlanError, Target, TargetKind, first_change, first_owned_of_kind};
 
 /// How many phases come before the one with which the disk turns.
 fn phases_before_switch(order: Order) -> usize
@@ -36,7 +36,7 @@ pub(crate) fn accept<const B: usize>(
     if touches(&Reserved::Owned(old), &plan.phases) {
         return Err(PlanError::ReusedInOneBatch);
     }
-    if let Some(_) = first_owned_of_kind(old, targets, Kind::Changes) {
+    if let Some(_) = first_owned_of_kind(old, targets, TargetKind::Changes) {
         return Err(PlanError::ReusedInOneBatch);
     }
     if let Some(_) = first_change(targets) {

@@ -3,7 +3,7 @@
 ghost use Rattle.std.specs.Prelude.{◌≡◌, ◌↔◌, IsTrue, take};
 ghost use Rattle.pt_apply.specs.Plans.{writes_of, phases_in, writes_in};
 ghost use Rattle.pt_phases.specs.Phases.{Touches};
-ghost use Rattle.pt_phases.specs.Reserved.{IsReserved};
+ghost use Rattle.pt_phases.specs.Reserved.{IsAnyReserved};
 
 use pt_apply::Write;
 use pt_layout::{Layout, Trace};
@@ -20,7 +20,7 @@ pub(crate) enum Reserved<'a> {
 }
 
 fn is_reserved<const B: usize>(reserved: &Reserved, at: Lba) -> bool
-    ensures { IsTrue result ↔ IsReserved B reserved.now at.0 }
+    ensures { IsTrue result ↔ IsAnyReserved B reserved.now at.0 }
 {
     match reserved {
         Reserved::Owned(layout) => owned_in::<B>(layout, at),
@@ -29,7 +29,7 @@ fn is_reserved<const B: usize>(reserved: &Reserved, at: Lba) -> bool
 }
 
 fn phase_touches<const B: usize>(reserved: &Reserved, phase: &[Write<B>]) -> bool
-    ensures { IsTrue result ↔ Touches (IsReserved B reserved.now) (writes_of phase.now) }
+    ensures { IsTrue result ↔ Touches (IsAnyReserved B reserved.now) (writes_of phase.now) }
 {
     for write in phase {
         if is_reserved::<B>(reserved, write.lba) {
@@ -41,7 +41,7 @@ fn phase_touches<const B: usize>(reserved: &Reserved, phase: &[Write<B>]) -> boo
 
 /// Whether a write of one of these phases is of such a sector.
 pub(crate) fn touches<const B: usize>(reserved: &Reserved, phases: &[Vec<Write<B>>]) -> bool
-    ensures { IsTrue result ↔ Touches (IsReserved B reserved.now) (writes_in (phases_in phases.now)) }
+    ensures { IsTrue result ↔ Touches (IsAnyReserved B reserved.now) (writes_in (phases_in phases.now)) }
 {
     for phase in phases {
         if phase_touches(reserved, phase) {

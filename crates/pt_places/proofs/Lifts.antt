@@ -12,7 +12,7 @@ use Rattle.pt_members.specs.declared.layout.Labelled.{Labelled}
 use Rattle.pt_members.specs.declared.layout.Layout.{Layout}
 use Rattle.pt_members.specs.declared.layout.Slice.{Slice}
 use Rattle.pt_cases.specs.Causes.{IsLeft}
-use Rattle.pt_shape.specs.Ascending.{IsAscending}
+use Rattle.pt_shape.specs.Ascending.{NumbersAscend}
 use Rattle.pt_shape.specs.Along.{Along}
 use Rattle.pt_shape.specs.laws.Along.{along_label, along_without}
 use Rattle.pt_cases.specs.Targets.{Had, IsEncoded, IsLabelTarget, kept, changed, new}
@@ -20,7 +20,7 @@ use Rattle.pt_targets.specs.Targets.{IsPlaceTarget, Targeted, AreLabelTargets}
 use Rattle.pt_targets.specs.declared.target.Target.{Target}
 use Rattle.pt_targets.specs.Misfits.{LabelsFit, IsFirstLeft, HasUnreadable, NoneLeft}
 use Rattle.pt_places.specs.Answers.{PlacesAnswer}
-use Rattle.pt_places.specs.Places.{IsAt, IsRead, IsLeftAt, IsFirstAt, OldAre, HadAt, IsOf, IsBytes, stood, other, fresh, IsTarget}
+use Rattle.pt_places.specs.Places.{IsAt, IsRead, IsLeftAt, IsFirstAt, OldAre, HadAt, IsOfPlace, IsBytes, stood, other, fresh, IsTarget}
 use Rattle.pt_places.specs.Places.{keeps, changes, sets, IsTargetOf, AreTargets, HasNone, NoneIsLeft, AnswerOf, AreWithin}
 use Rattle.pt_places.specs.declared.answer.LabelTargets.{LabelTargets}
 use Rattle.pt_places.specs.declared.answer.LabelTargets.TheVariants.{Misplaced, Foreign, Unreadable, Targets}
@@ -28,7 +28,7 @@ use Rattle.pt_places.specs.declared.place.Place.{Place}
 use Rattle.pt_places.proofs.Lists.{slices_in, labels_in, first_in, along_places, low_in, one_place, rise_split, slice_in, label_in}
 use Rattle.pt_places.proofs.Lists.{place_in, pair_left, pair_right, pair_count}
 
-pub of_target : {b : ℕ} (old : List Slice) (q : Place b) (t : Target b) → IsTargetOf old q t → IsOf q t
+pub of_target : {b : ℕ} (old : List Slice) (q : Place b) (t : Target b) → IsTargetOf old q t → IsOfPlace q t
 of_target old q t (inl (l, is, keeps stays had reads)) = stays.of_place
 of_target old q t (inl (l, is, changes m had differ written)) = written.of_place
 of_target old q t (inl (l, is, sets none written)) = written.of_place
@@ -48,7 +48,7 @@ within n old places (Targets ts) ats (none, are) = λ t has.
 
 module _ {b : ℕ} (d : Sectors) (o : Option Layout) (p : Layout) (old : List Slice) (places : List (Place b)) (n : ℕ)
     (slices : slices_in places ≡ places_of b p.sectors p.body) (labels : labels_in places ≡ p.labels)
-    (rise : IsAscending 1 (places_of b p.sectors p.body))
+    (rise : NumbersAscend 1 (places_of b p.sectors p.body))
     (ats : All (IsAt n) places) (reads : All (IsRead d) places) (olds : OldAre b (length d) o old) where
   along : (Q : Slice → Option Label → Type 0) → ((q : Place b) → Contains places q → Q q.spot.slice q.spot.label)
       → Along Q (places_of b p.sectors p.body) p.labels
@@ -68,8 +68,8 @@ module _ {b : ℕ} (d : Sectors) (o : Option Layout) (p : Layout) (old : List Sl
   standing : Along Standing (places_of b p.sectors p.body) p.labels
   standing = along Standing (λ q has. (q, has, refl, refl))
 
-  rises : IsAscending 1 (slices_in places)
-  rises = subst (λ (ws : List Slice). IsAscending 1 ws) (sym slices) rise
+  rises : NumbersAscend 1 (slices_in places)
+  rises = subst (λ (ws : List Slice). NumbersAscend 1 ws) (sym slices) rise
 
   left_place : (w : Slice) → IsLeft b d p w → (q : Place b) × Contains places q × (q.spot.slice ≡ w) × IsLeftAt q
   left_place w left =
@@ -99,8 +99,8 @@ module _ {b : ℕ} (d : Sectors) (o : Option Layout) (p : Layout) (old : List Sl
       let has : Contains places first.place =
       subst (λ (x : List (Place b)). Contains x first.place) (sym first.split)
       (Contains-append_right first.before (first.place ∷ first.rest) first.place (first_in first.place first.rest)) in
-      let up : IsAscending first.place.spot.slice.number (slices_in (first.place ∷ first.rest)) =
-      rise_split 1 first.before first.place first.rest (subst (λ (x : List (Place b)). IsAscending 1 (slices_in x)) first.split rises) in
+      let up : NumbersAscend first.place.spot.slice.number (slices_in (first.place ∷ first.rest)) =
+      rise_split 1 first.before first.place first.rest (subst (λ (x : List (Place b)). NumbersAscend 1 (slices_in x)) first.split rises) in
       record {
         slice = first.place.spot.slice;
         left = is_left first.place has first.left;

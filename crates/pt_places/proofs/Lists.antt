@@ -8,7 +8,7 @@ use Rattle.pt_members.specs.Slices.{place_of, IsPlace}
 use Rattle.pt_recover.specs.Steps.{labelled}
 use Rattle.pt_members.specs.declared.layout.Labelled.{Labelled}
 use Rattle.pt_members.specs.declared.layout.Slice.{Slice}
-use Rattle.pt_shape.specs.Ascending.{IsAscending}
+use Rattle.pt_shape.specs.Ascending.{NumbersAscend}
 use Rattle.pt_shape.specs.Along.{Along}
 use Rattle.pt_targets.specs.declared.target.Target.{Target}
 use Rattle.pt_places.specs.Places.{spot_of, IsTargetOf, AreTargets}
@@ -40,7 +40,7 @@ along_places Q (p ∷ ps) each =
     along_one Q p.spot.slice p.spot.label (slices_in ps) (labels_in ps) (each p (first_in p ps))
     (along_places Q ps (λ q has. each q (later_in p q ps has)))
 
-pub low_in : {b : ℕ} (low : ℕ) (ps : List (Place b)) (q : Place b) → IsAscending low (slices_in ps) → Contains ps q
+pub low_in : {b : ℕ} (low : ℕ) (ps : List (Place b)) (q : Place b) → NumbersAscend low (slices_in ps) → Contains ps q
     → low ≤ q.spot.slice.number
 low_in low [] q rise (k, lt, at) = absurd (omega (arith, lt))
 low_in {b = b} low (p ∷ ps) q rise (zero, lt, at) =
@@ -49,7 +49,7 @@ low_in low (p ∷ ps) q rise (suc k, lt, at) =
     (let up = low_in (p.spot.slice.number + 1) ps q rise.1 (k, omega (arith, lt), at) in omega (arith, rise.0, up))
 
 -- two places of one number are one
-pub one_place : {b : ℕ} (low : ℕ) (ps : List (Place b)) (p q : Place b) → IsAscending low (slices_in ps) → Contains ps p → Contains ps q
+pub one_place : {b : ℕ} (low : ℕ) (ps : List (Place b)) (p q : Place b) → NumbersAscend low (slices_in ps) → Contains ps p → Contains ps q
     → p.spot.slice.number ≡ q.spot.slice.number → p ≡ q
 one_place low [] p q rise (k, lt, at) other same = absurd (omega (arith, lt))
 one_place low (r ∷ ps) p q rise (zero, lt, at) (zero, above, is) same = sym at ∙ is
@@ -65,7 +65,7 @@ one_place low (r ∷ ps) p q rise (suc k, lt, at) (suc j, above, is) same =
     one_place (r.spot.slice.number + 1) ps p q rise.1 (k, omega (arith, lt), at) (j, omega (arith, above), is) same
 
 pub rise_split : {b : ℕ} (low : ℕ) (xs : List (Place b)) (p : Place b) (ys : List (Place b))
-    → IsAscending low (slices_in (xs ++ p ∷ ys)) → IsAscending p.spot.slice.number (slices_in (p ∷ ys))
+    → NumbersAscend low (slices_in (xs ++ p ∷ ys)) → NumbersAscend p.spot.slice.number (slices_in (p ∷ ys))
 rise_split low [] p ys rise = (omega arith, rise.1)
 rise_split low (x ∷ xs) p ys rise = rise_split (x.spot.slice.number + 1) xs p ys rise.1
 

@@ -10,10 +10,10 @@ use Rattle.pt_bsd.specs.declared.label.Label.{Label}
 use Rattle.pt_bsd.specs.declared.label.LabelEntry.{LabelEntry}
 use Rattle.pt_members.specs.declared.layout.Slice.{Slice}
 use Rattle.pt_targets.specs.declared.target.Target.{Target}
-use Rattle.pt_targets.specs.declared.target.Kind.TheVariants.{New, Changes}
+use Rattle.pt_targets.specs.declared.target.TargetKind.TheVariants.{New, Changes}
 use Rattle.pt_places.specs.declared.place.Spot.{Spot}
-use Rattle.pt_places.specs.Places.{spot_of, OneHad, HadBytes, HadAt, Reads, IsBytes, stood, other, fresh, IsTargetOf, AreTargets}
-use Rattle.pt_places.specs.Places.{LabelledIs, IsLeftAt, IsFirstAt, keeps, changes, sets, KeptIs, WrittenIs, Fits}
+use Rattle.pt_places.specs.Places.{spot_of, OneHad, HadBytes, HadAt, PlacesRead, IsBytes, stood, other, fresh, IsTargetOf, AreTargets}
+use Rattle.pt_places.specs.Places.{LabelledIs, IsLeftAt, IsFirstAt, keeps, changes, sets, KeptIs, WrittenIs, LabelFits}
 use Rattle.pt_places.specs.declared.place.Place.{Place}
 
 abbrev pub NotHad : ℕ → List ℕ → Slice → Type 0
@@ -39,25 +39,25 @@ stays_read l first m n bytes is fits =
 
 module _ {b : ℕ} (old : List Slice) (p : Place b) where
   -- a label that stands there is one for the slice where it fits that
-  unfit_kept : (l : Label) → HadAt old p l → ¬ Reads p l p.bytes → ¬ Fits p l
+  unfit_kept : (l : Label) → HadAt old p l → ¬ PlacesRead p l p.bytes → ¬ LabelFits p l
   unfit_kept l had not fits =
       let first = p.spot.slice.first in
       let here : LabelBytes l first had.slice.len p.bytes = subst (λ (s : ℕ). LabelBytes l s had.slice.len p.bytes) had.start had.label in
       not (stays_read l first had.slice.len p.spot.slice.len p.bytes here fits.1)
 
   -- a label that doesn't fit is read from no bytes
-  unread : (l : Label) → ¬ Fits p l → (v : List ℕ) → ¬ Reads p l v
+  unread : (l : Label) → ¬ LabelFits p l → (v : List ℕ) → ¬ PlacesRead p l v
   unread l unfit v reads =
       let s = p.spot.slice in
       unfit (label_counted l s.first s.len v reads, label_fits l s.first s.len v reads)
 
   -- a label that stands there and isn't one for the slice has no right bytes
-  stuck_kept : (l : Label) → HadAt old p l → ¬ Reads p l p.bytes → (v : List ℕ) → ¬ IsBytes old p l v
-  stuck_kept l had not v (stood has reads same) = not (subst (λ (x : List ℕ). Reads p l x) same reads)
+  stuck_kept : (l : Label) → HadAt old p l → ¬ PlacesRead p l p.bytes → (v : List ℕ) → ¬ IsBytes old p l v
+  stuck_kept l had not v (stood has reads same) = not (subst (λ (x : List ℕ). PlacesRead p l x) same reads)
   stuck_kept l had not v (other m has differ is) = differ (had_same old p.spot.slice.first p.bytes m l has had)
   stuck_kept l had not v (fresh none is) = none l had
 
-  stuck_written : (l : Label) → ¬ HadAt old p l → ¬ Fits p l → (v : List ℕ) → ¬ IsBytes old p l v
+  stuck_written : (l : Label) → ¬ HadAt old p l → ¬ LabelFits p l → (v : List ℕ) → ¬ IsBytes old p l v
   stuck_written l had unfit v (stood has reads same) = had has
   stuck_written l had unfit v (other m has differ is) = unread l unfit v is.reads
   stuck_written l had unfit v (fresh none is) = unread l unfit v is.reads

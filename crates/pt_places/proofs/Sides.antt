@@ -6,11 +6,11 @@ use Rattle.pt_bsd.specs.declared.label.Label.{Label}
 use Rattle.pt_recover.specs.Steps.{labelled}
 use Rattle.pt_members.specs.declared.layout.Labelled.{Labelled}
 use Rattle.pt_members.specs.declared.layout.Slice.{Slice}
-use Rattle.pt_shape.specs.Ascending.{IsAscending}
-use Rattle.pt_places.specs.Spots.{Takes, Fit, slice_of, labels_of}
+use Rattle.pt_shape.specs.Ascending.{NumbersAscend}
+use Rattle.pt_places.specs.Spots.{TakesLabel, Fit, slice_of, labels_of}
 use Rattle.pt_places.specs.declared.place.Spot.{Spot}
 
-head_low : (low : ℕ) (ps : List Slice) (x : Labelled) (rest : List Labelled) → IsAscending low ps → Fit ps (x ∷ rest) → low ≤ x.number
+head_low : (low : ℕ) (ps : List Slice) (x : Labelled) (rest : List Labelled) → NumbersAscend low ps → Fit ps (x ∷ rest) → low ≤ x.number
 head_low low [] x rest rise is = absurd cc
 head_low low (q ∷ ps) x rest rise (inl (m, more, same, it, later)) =
     let here : x ≡ record { number = q.number; label = m } = cc in
@@ -18,8 +18,8 @@ head_low low (q ∷ ps) x rest rise (inl (m, more, same, it, later)) =
     omega (arith, rise.0, number)
 head_low low (q ∷ ps) x rest rise (inr (it, later)) = (let up = head_low (q.number + 1) ps x rest rise.1 later in omega (arith, rise.0, up))
 
-fit_more : (q : Slice) (ps : List Slice) (ls : List Labelled) (from to : ℕ) (o : Option Label) → IsAscending (q.number + 1) ps
-    → Takes q.number ls from to o → Fit (q ∷ ps) (drop from ls) → Fit ps (drop to ls)
+fit_more : (q : Slice) (ps : List Slice) (ls : List Labelled) (from to : ℕ) (o : Option Label) → NumbersAscend (q.number + 1) ps
+    → TakesLabel q.number ls from to o → Fit (q ∷ ps) (drop from ls) → Fit ps (drop to ls)
 fit_more q ps ls from to (Some l) rise (next, same) fit = by_case (subst (λ (x : List Labelled). Fit (q ∷ ps) x) same fit) where
   one : Labelled
   one = record { number = q.number; label = l }
@@ -31,18 +31,18 @@ fit_more q ps ls from to (Some l) rise (next, same) fit = by_case (subst (λ (x 
 fit_more q ps ls from to None rise (next, none) (inl (m, rest, is, it, later)) = absurd (none m rest is)
 fit_more q ps ls from to None rise (next, none) (inr (it, later)) = subst (λ (j : ℕ). Fit ps (drop j ls)) (sym next) later
 
-rise_drop : (low k : ℕ) (ps : List Slice) → IsAscending low ps → (more : ℕ) × IsAscending more (drop k ps)
+rise_drop : (low k : ℕ) (ps : List Slice) → NumbersAscend low ps → (more : ℕ) × NumbersAscend more (drop k ps)
 rise_drop low zero ps is = (low, is)
 rise_drop low (suc k) [] is = (low, tt)
 rise_drop low (suc k) (p ∷ ps) is = rise_drop (p.number + 1) k ps is.1
 
 -- a slice more, with its label or with none
-pub fits_on : (ps : List Slice) (ls : List Labelled) (k from to : ℕ) (z : Slice) (o : Option Label) → k < length ps → IsAscending 1 ps
-    → Takes (get_or ps k z).number ls from to o → Fit (drop k ps) (drop from ls) → Fit (drop (k + 1) ps) (drop to ls)
+pub fits_on : (ps : List Slice) (ls : List Labelled) (k from to : ℕ) (z : Slice) (o : Option Label) → k < length ps → NumbersAscend 1 ps
+    → TakesLabel (get_or ps k z).number ls from to o → Fit (drop k ps) (drop from ls) → Fit (drop (k + 1) ps) (drop to ls)
 fits_on ps ls k from to z o lt rise takes fit =
     let split : drop k ps ≡ get_or ps k z ∷ drop (k + 1) ps = drop_more ps k z lt in
     let up = rise_drop 1 k ps rise in
-    let rises : IsAscending up.0 (get_or ps k z ∷ drop (k + 1) ps) = subst (λ (x : List Slice). IsAscending up.0 x) split up.1 in
+    let rises : NumbersAscend up.0 (get_or ps k z ∷ drop (k + 1) ps) = subst (λ (x : List Slice). NumbersAscend up.0 x) split up.1 in
     fit_more (get_or ps k z) (drop (k + 1) ps) ls from to o rises.1 takes (subst (λ (x : List Slice). Fit x (drop from ls)) split fit)
 
 -- a label that is left over goes with no slice
@@ -59,11 +59,12 @@ labels_push (x ∷ ss) s =
     ap (λ (y : List Labelled). labelled x.slice.number x.label ++ y) (labels_push ss s)
     ∙ sym (append_assoc (labelled x.slice.number x.label) (labels_of ss) (labelled s.slice.number s.label))
 
-taken : (n : ℕ) (ls : List Labelled) (from to : ℕ) (o : Option Label) → Takes n ls from to o → labelled n o ++ drop to ls ≡ drop from ls
+taken : (n : ℕ) (ls : List Labelled) (from to : ℕ) (o : Option Label) → TakesLabel n ls from to o → labelled n o ++ drop to ls
+    ≡ drop from ls
 taken n ls from to (Some l) (next, same) = sym same
 taken n ls from to None (next, none) = ap (λ (j : ℕ). drop j ls) next
 
-pub labels_on : (ss : List Spot) (s : Spot) (ls : List Labelled) (from to : ℕ) → Takes s.slice.number ls from to s.label
+pub labels_on : (ss : List Spot) (s : Spot) (ls : List Labelled) (from to : ℕ) → TakesLabel s.slice.number ls from to s.label
     → labels_of ss ++ drop from ls ≡ ls → labels_of (ss ++ s ∷ []) ++ drop to ls ≡ ls
 labels_on ss s ls from to takes before =
     ap (λ (y : List Labelled). y ++ drop to ls) (labels_push ss s)

@@ -8,8 +8,8 @@ use Rattle.pt_members.specs.Slices.{places_of, place_of}
 use Rattle.pt_members.specs.declared.layout.Layout.{Layout}
 use Rattle.pt_members.specs.declared.layout.Slice.{Slice}
 use Rattle.pt_cases.specs.Targets.{IsEncoded}
-use Rattle.pt_targets.specs.declared.target.Kind.{Kind}
-use Rattle.pt_targets.specs.declared.target.Kind.TheVariants.{Stays, New, Changes}
+use Rattle.pt_targets.specs.declared.target.TargetKind.{TargetKind}
+use Rattle.pt_targets.specs.declared.target.TargetKind.TheVariants.{Stays, New, Changes}
 use Rattle.pt_targets.specs.declared.target.Target.{Target}
 use Rattle.pt_places.specs.declared.answer.LabelTargets.{LabelTargets}
 use Rattle.pt_places.specs.declared.answer.LabelTargets.TheVariants.{Misplaced, Foreign, Unreadable, Targets}
@@ -42,9 +42,9 @@ pub record IsFirstAt {b : _} (ps : List (Place b)) (n : ℕ) : Type 0 where
   pub none : All (λ (p : Place b). ¬ IsLeftAt p) before
 
 -- the first such place, or that there is none
-abbrev pub FirstIs : {b : _} → List (Place b) → Option ℕ → Type 0
-FirstIs ps (Some n) = IsFirstAt ps n
-FirstIs ps None = All (λ (p : Place _). ¬ IsLeftAt p) ps
+abbrev pub FirstLeftIs : {b : _} → List (Place b) → Option ℕ → Type 0
+FirstLeftIs ps (Some n) = IsFirstAt ps n
+FirstLeftIs ps None = All (λ (p : Place _). ¬ IsLeftAt p) ps
 
 -- the slices of the old layout that have a label place
 abbrev pub OldAre : ℕ → ℕ → Option Layout → List Slice → Type 0
@@ -67,56 +67,56 @@ HadIs old first bytes (Some m) = HadBytes old first bytes m
 HadIs old first bytes None = (m : Label) → ¬ HadBytes old first bytes m
 
 -- a target of this place
-pub record IsOf {b : _} (p : Place b) (t : Target b) : Type 0 where
+pub record IsOfPlace {b : _} (p : Place b) (t : Target b) : Type 0 where
   pub at : t.at ≡ p.at
   pub under : t.under ≡ p.bytes
 
 pub record StaysAt {b : _} (p : Place b) (t : Target b) : Type 0 where
-  pub of_place : IsOf p t
+  pub of_place : IsOfPlace p t
   pub kind : t.kind ≡ Stays
   pub bytes : t.bytes ≡ p.bytes
 
-abbrev pub Reads : {b : _} → Place b → Label → List ℕ → Type 0
-Reads p l v = LabelBytes l p.spot.slice.first p.spot.slice.len v
+abbrev pub PlacesRead : {b : _} → Place b → Label → List ℕ → Type 0
+PlacesRead p l v = LabelBytes l p.spot.slice.first p.spot.slice.len v
 
 abbrev pub KeptIs : {b : _} → Place b → Label → Option (Target b) → Type 0
-KeptIs p l (Some t) = StaysAt p t × Reads p l p.bytes
-KeptIs p l None = ¬ Reads p l p.bytes
+KeptIs p l (Some t) = StaysAt p t × PlacesRead p l p.bytes
+KeptIs p l None = ¬ PlacesRead p l p.bytes
 
 -- the label can be written for the slice of the place
-abbrev pub Fits : {b : _} → Place b → Label → Type 0
-Fits p l = IsCounted l × FitsSlice l p.spot.slice.first p.spot.slice.len
+abbrev pub LabelFits : {b : _} → Place b → Label → Type 0
+LabelFits p l = IsCounted l × FitsSlice l p.spot.slice.first p.spot.slice.len
 
 -- a label that was written over these bytes. If it stands there already as it would be written, it is written just so
-pub record IsWritten {b : _} (p : Place b) (l : Label) (over : List ℕ) (kind : Kind) (t : Target b) : Type 0 where
-  pub of_place : IsOf p t
+pub record IsWrittenLabel {b : _} (p : Place b) (l : Label) (over : List ℕ) (kind : TargetKind) (t : Target b) : Type 0 where
+  pub of_place : IsOfPlace p t
   pub kind_is : t.kind ≡ kind
   pub encoded : IsEncoded l p.spot.slice over t.bytes
   pub one : IsEncoded l p.spot.slice over p.bytes → t.bytes ≡ p.bytes
 
-abbrev pub WrittenIs : {b : _} → Place b → Label → List ℕ → Kind → Option (Target b) → Type 0
-WrittenIs p l over kind (Some t) = IsWritten p l over kind t
-WrittenIs p l over kind None = ¬ Fits p l
+abbrev pub WrittenIs : {b : _} → Place b → Label → List ℕ → TargetKind → Option (Target b) → Type 0
+WrittenIs p l over kind (Some t) = IsWrittenLabel p l over kind t
+WrittenIs p l over kind None = ¬ LabelFits p l
 
 abbrev pub HadAt : {b : _} → List Slice → Place b → Label → Type 0
 HadAt old p m = HadBytes old p.spot.slice.first p.bytes m
 
 -- what the place must hold for this label
 pub data IsBytes {b : _} (old : List Slice) (p : Place b) (l : Label) (v : List ℕ) : Type 0 where
-  stood : HadAt old p l → Reads p l v → v ≡ p.bytes → IsBytes old p l v
+  stood : HadAt old p l → PlacesRead p l v → v ≡ p.bytes → IsBytes old p l v
   other : (m : Label) → HadAt old p m → m ≢ l → IsEncoded l p.spot.slice p.bytes v → IsBytes old p l v
   fresh : ((m : Label) → ¬ HadAt old p m) → IsEncoded l p.spot.slice (replicate b 0) v → IsBytes old p l v
 
 -- the target of a place with this label
 pub data IsTarget {b : _} (old : List Slice) (p : Place b) (l : Label) (t : Target b) : Type 0 where
-  keeps : StaysAt p t → HadAt old p l → Reads p l p.bytes → IsTarget old p l t
-  changes : (m : Label) → HadAt old p m → m ≢ l → IsWritten p l p.bytes Changes t → IsTarget old p l t
-  sets : ((m : Label) → ¬ HadAt old p m) → IsWritten p l (replicate b 0) New t → IsTarget old p l t
+  keeps : StaysAt p t → HadAt old p l → PlacesRead p l p.bytes → IsTarget old p l t
+  changes : (m : Label) → HadAt old p m → m ≢ l → IsWrittenLabel p l p.bytes Changes t → IsTarget old p l t
+  sets : ((m : Label) → ¬ HadAt old p m) → IsWrittenLabel p l (replicate b 0) New t → IsTarget old p l t
 
 -- no bytes are right for the label, since it doesn't fit
 pub record HasNoBytes {b : _} (old : List Slice) (p : Place b) (l : Label) : Type 0 where
   pub none : (v : List ℕ) → ¬ IsBytes old p l v
-  pub unfit : ¬ Fits p l
+  pub unfit : ¬ LabelFits p l
 
 abbrev pub LabelledIs : {b : _} → List Slice → Place b → Label → Option (Target b) → Type 0
 LabelledIs old p l (Some t) = IsTarget old p l t

@@ -8,9 +8,10 @@ use Rattle.pt_shape.specs.Along.{Along}
 use Rattle.pt_places.specs.declared.place.Spot.{Spot}
 
 -- the next label is taken if it has this number
-abbrev pub Takes : ℕ → List Labelled → ℕ → ℕ → Option Label → Type 0
-Takes n ls from to (Some l) = (to ≡ from + 1) × (drop from ls ≡ record { number = n; label = l } ∷ drop to ls)
-Takes n ls from to None = (to ≡ from) × ((l : Label) (rest : List Labelled) → ¬ (drop from ls ≡ record { number = n; label = l } ∷ rest))
+abbrev pub TakesLabel : ℕ → List Labelled → ℕ → ℕ → Option Label → Type 0
+TakesLabel n ls from to (Some l) = (to ≡ from + 1) × (drop from ls ≡ record { number = n; label = l } ∷ drop to ls)
+TakesLabel n ls from to None = (to ≡ from) × ((l : Label) (rest : List Labelled) → ¬ (drop from ls
+    ≡ record { number = n; label = l } ∷ rest))
 
 -- each label goes with a slice
 abbrev pub Fit : List Slice → List Labelled → Type 0

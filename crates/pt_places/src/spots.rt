@@ -1,8 +1,8 @@
 //! Slices and labels, side by side.
 
 ghost use Rattle.std.specs.Prelude.{◌≡◌, ◌≤◌, length, IfOk, MatchOption};
-ghost use Rattle.pt_shape.specs.Ascending.{IsAscending};
-ghost use Rattle.pt_places.specs.Spots.{Takes, Fit, AreSpots};
+ghost use Rattle.pt_shape.specs.Ascending.{NumbersAscend};
+ghost use Rattle.pt_places.specs.Spots.{TakesLabel, Fit, AreSpots};
 
 use crate::place::Spot;
 use pt_bsd::Label;
@@ -12,7 +12,7 @@ use std::alloc::{AllocError, Global};
 // The next label, if it has this number.
 fn take_label(labels: &[Labelled], taken: &mut usize, number: u64) -> Option<Label>
     requires { taken.old ≤ length labels.now }
-    ensures takes { Takes number labels.now taken.old taken.new result }
+    ensures takes { TakesLabel number labels.now taken.old taken.new result }
     ensures within { taken.new ≤ length labels.now }
 {
     if *taken < labels.len() && labels[*taken].number == number {
@@ -29,7 +29,7 @@ pub(crate) fn spots(
     slices: &[Slice],
     labels: &[Labelled],
 ) -> Result<Option<Vec<Spot>>, AllocError>
-    requires { IsAscending 1 slices.now }
+    requires { NumbersAscend 1 slices.now }
     ensures { IfOk result (λ o. MatchOption o (¬ Fit slices.now labels.now) (λ v. AreSpots slices.now labels.now v.items)) }
 {
     let mut spots = Vec::new(alloc);

@@ -2,14 +2,14 @@
 
 ghost use Rattle.std.specs.Prelude.{◌≡◌, ◌↔◌, ◌<◌, ℕ, IsTrue, IfOk, MatchOption, length, slice_index};
 ghost use Rattle.pt_sector.specs.Sectors.{IsSectorSize};
-ghost use Rattle.pt_places.specs.Places.{IsLeftAt, FirstIs, StaysAt, KeptIs, WrittenIs, LabelledIs, TargetIs, AreTargets, HasNone};
+ghost use Rattle.pt_places.specs.Places.{IsLeftAt, FirstLeftIs, StaysAt, KeptIs, WrittenIs, LabelledIs, TargetIs, AreTargets, HasNone};
 
 use crate::had::had_label;
 use crate::place::Place;
 use pt_bsd::{Label, bears_magic, decode_label, encode_for};
 use pt_recover::Slice;
 use pt_sector::Sector;
-use pt_targets::{Kind, Target};
+use pt_targets::{Target, TargetKind};
 use std::alloc::{AllocError, Global};
 
 fn is_left<const B: usize>(place: &Place<B>) -> bool
@@ -25,7 +25,7 @@ fn is_left<const B: usize>(place: &Place<B>) -> bool
 // The number of the first slice that has no label and bears a magic.
 pub(crate) fn first_left<const B: usize>(places: &[Place<B>]) -> Option<u64>
     requires { IsSectorSize B }
-    ensures { FirstIs places.now result }
+    ensures { FirstLeftIs places.now result }
 {
     for k in 0..places.len() {
         if is_left(&places[k]) {
@@ -42,7 +42,7 @@ fn stays<const B: usize>(place: &Place<B>) -> Target<B>
         at: place.at,
         bytes: place.bytes,
         under: place.bytes,
-        kind: Kind::Stays,
+        kind: TargetKind::Stays,
     }
 }
 
@@ -82,7 +82,7 @@ fn written<const B: usize>(
     place: &Place<B>,
     label: &Label,
     under: &Sector<B>,
-    kind: Kind,
+    kind: TargetKind,
 ) -> Option<Target<B>>
     requires { IsSectorSize B }
     ensures { WrittenIs place.now label.now under.now kind result }
@@ -113,10 +113,10 @@ fn labelled<const B: usize>(place: &Place<B>, label: &Label, old: &[Slice]) -> O
             if had == *label {
                 kept(place, label)
             } else {
-                written(place, label, &place.bytes, Kind::Changes)
+                written(place, label, &place.bytes, TargetKind::Changes)
             }
         }
-        None => written(place, label, &[0; B], Kind::New),
+        None => written(place, label, &[0; B], TargetKind::New),
     }
 }
 

@@ -12,7 +12,7 @@ use Rattle.pt_sector.specs.declared.disk.Fault.TheVariants.{Read, Write, Flush}
 use Rattle.pt_sector.specs.Since.{LeavesOnly}
 use Rattle.pt_sector.specs.laws.Since.{leaves_once, leaves_through, leaves_weaker}
 use Rattle.pt_apply.specs.Plans.{faults_of}
-use Rattle.pt_apply.specs.Runs.{Settled, StoppedSomewhere, FailedIn}
+use Rattle.pt_apply.specs.Runs.{Settled, StoppedSomewhere, CallFailed}
 use Rattle.pt_apply.specs.Promises.{Keeps}
 use Rattle.pt_recover.specs.declared.error.NoTable.{NoTable as Reason}
 use Rattle.pt_members.specs.declared.layout.Layout.{Layout}
@@ -158,7 +158,7 @@ module _ {W : Type 0} (denotes : Sectors → Option Layout → Type 0) (reason :
       bounded : LeavesOnly old new (Bounded denotes reason makes edited plans unplanned healthy table owned words old.seen)
       bounded = leaves_through old now new _ (so_far old mid now seen flush same _) (leaves_weaker now new _ _ stopped_bounded run)
 
-      pub at_failed : (fault : Fault) → FailedIn phases now.seen now new fault
+      pub at_failed : (fault : Fault) → CallFailed phases now.seen now new fault
           → Committed denotes reason makes edited plans unplanned healthy table owned words (Err (Device fault)) old new
       at_failed fault failed = record {
         history = record {
@@ -173,7 +173,7 @@ module _ {W : Type 0} (denotes : Sectors → Option Layout → Type 0) (reason :
           flushed = flush;
           phases = phases;
           ready = ready;
-          failed = subst (λ (x : Told). FailedIn phases x.seen x new fault) same failed;
+          failed = subst (λ (x : Told). CallFailed phases x.seen x new fault) same failed;
         });
         bounds = bounded;
       }

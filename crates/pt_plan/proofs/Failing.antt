@@ -6,7 +6,7 @@ use Rattle.pt_sector.specs.Device.{Told, Flushed}
 use Rattle.pt_sector.specs.Calls.{IsReadIn, ReadFaults, with_fault}
 use Rattle.pt_sector.specs.declared.disk.Fault.{Fault}
 use Rattle.pt_sector.specs.declared.disk.Fault.TheVariants.{Read, Write, Flush}
-use Rattle.pt_apply.specs.Runs.{FailedIn}
+use Rattle.pt_apply.specs.Runs.{CallFailed}
 use Rattle.pt_check.specs.Answers.{Answers, Promises}
 use Rattle.pt_check.specs.Failed.{fault_in}
 use Rattle.pt_check.specs.declared.answer.Answer.{Answer}
@@ -39,7 +39,7 @@ module _ (b : ℕ) (phases : List Writes) (old : Told) where
 
     pub unapplied : (switch : ℕ) (answer : Answer) → answer ≡ Yes switch → Answers b mid.seen phases answer
         → Promises b mid.seen phases answer
-        → (new : Told) (fault : Fault) → FailedIn phases now.seen now new fault → FailsBy b phases fault old new
+        → (new : Told) (fault : Fault) → CallFailed phases now.seen now new fault → FailsBy b phases fault old new
     unapplied switch answer is right safe new fault failed = by_call fault new (record {
       mid = mid;
       flushed = flush;
@@ -48,5 +48,5 @@ module _ (b : ℕ) (phases : List Writes) (old : Told) where
           (subst (λ (a : Answer). Answers b mid.seen phases a) is right);
       safe = subst (λ (d : Sectors). Promises b d phases (Yes switch)) flush.seen
           (subst (λ (a : Answer). Promises b mid.seen phases a) is safe);
-      failed = subst (λ (x : Told). FailedIn phases x.seen x new fault) same failed;
+      failed = subst (λ (x : Told). CallFailed phases x.seen x new fault) same failed;
     })

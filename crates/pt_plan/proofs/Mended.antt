@@ -10,7 +10,7 @@ use Rattle.pt_sector.specs.declared.disk.Fault.{Fault}
 use Rattle.pt_sector.specs.declared.disk.Fault.TheVariants.{Read, Write, Flush}
 use Rattle.pt_sector.specs.Since.{LeavesOnly}
 use Rattle.pt_sector.specs.laws.Since.{leaves_once, leaves_through, leaves_weaker}
-use Rattle.pt_apply.specs.Runs.{Settled, StoppedSomewhere, Reached, FailedIn}
+use Rattle.pt_apply.specs.Runs.{Settled, StoppedSomewhere, Reached, CallFailed}
 use Rattle.pt_apply.specs.Promises.{Keeps}
 use Rattle.pt_recover.specs.declared.error.NoTable.{NoTable as Reason}
 use Rattle.pt_members.specs.declared.layout.Layout.{Layout}
@@ -53,7 +53,7 @@ idle_done old mid now new phases flush same none settled reached =
     }
 
 -- no call of a plan without phases fails
-idle_failed : (d : Sectors) (phases : List Writes) (old new : Told) (fault : Fault) → phases ≡ [] → FailedIn phases d old new fault → ⊥
+idle_failed : (d : Sectors) (phases : List Writes) (old new : Told) (fault : Fault) → phases ≡ [] → CallFailed phases d old new fault → ⊥
 idle_failed d phases old new fault none failed =
     let within = failed.within in
     omega (arith, ap length none)
@@ -157,7 +157,7 @@ module _ {W : Type 0} (denotes : Sectors → Option Layout → Type 0) (reason :
       no_phases : healthy old.seen → phases ≡ []
       no_phases well = none mid.seen ready.layout phases ready.mendable.from ready.planned (subst healthy (sym flush.seen) well)
 
-      pub at_failed : (fault : Fault) → FailedIn phases now.seen now new fault
+      pub at_failed : (fault : Fault) → CallFailed phases now.seen now new fault
           → Repaired denotes reason edited plans unmendable healthy table owned (Err (Device fault)) old new
       at_failed fault failed = record {
         history = record {
@@ -172,7 +172,7 @@ module _ {W : Type 0} (denotes : Sectors → Option Layout → Type 0) (reason :
           flushed = flush;
           phases = phases;
           ready = ready;
-          failed = subst (λ (x : Told). FailedIn phases x.seen x new fault) same failed;
+          failed = subst (λ (x : Told). CallFailed phases x.seen x new fault) same failed;
         });
         bounds = bounded;
         idle = λ well. absurd (idle_failed now.seen phases now new fault (no_phases well) failed);

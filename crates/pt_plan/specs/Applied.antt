@@ -5,7 +5,7 @@ use Rattle.pt_sector.specs.Writes.{Writes, after}
 use Rattle.pt_sector.specs.Device.{Told, Flushed, FailedFlush}
 use Rattle.pt_sector.specs.declared.disk.Fault.{Fault}
 use Rattle.pt_sector.specs.declared.disk.Fault.TheVariants.{Read, Write, Flush}
-use Rattle.pt_apply.specs.Runs.{Settled, StoppedSomewhere, FailedIn}
+use Rattle.pt_apply.specs.Runs.{Settled, StoppedSomewhere, CallFailed}
 use Rattle.pt_check.specs.Answers.{Answers, Promises}
 use Rattle.pt_check.specs.declared.answer.Answer.{Answer}
 use Rattle.pt_check.specs.declared.answer.Answer.TheVariants.{No, Yes}
@@ -36,7 +36,7 @@ pub record FailedApplying (b : ℕ) (phases : List Writes) (old new : Told) (fau
   pub switch : ℕ
   pub answers : Answers b old.seen phases (Yes switch)
   pub safe : Promises b old.seen phases (Yes switch)
-  pub failed : FailedIn phases mid.seen mid new fault
+  pub failed : CallFailed phases mid.seen mid new fault
 
 -- at the return after a device's fault. A read's: only the first flush was done. A write's: a call of the plan failed, after
 -- a yes. A flush's: the first one failed, or the plan's

@@ -4,7 +4,7 @@ use Rattle.pt_sector.specs.declared.disk.Fault.{Fault}
 use Rattle.pt_sector.specs.declared.disk.Fault.TheVariants.{Read}
 use Rattle.pt_sector.specs.declared.reading.Failure.{Failure}
 use Rattle.pt_sector.specs.declared.reading.Failure.TheVariants as failure
-use Rattle.pt_recover.specs.Answers.{IsOutside}
+use Rattle.pt_recover.specs.Answers.{IsOutsideDisk}
 use Rattle.pt_words.specs.declared.error.Refusal.{Refusal}
 use Rattle.pt_words.specs.declared.error.Refusal.TheVariants as refusal
 use Rattle.pt_check.specs.declared.error.CheckError.{CheckError}
@@ -30,7 +30,7 @@ commit_fault_in _ = None
 
 -- neither the device's fault nor want of memory is told within another error
 abbrev pub HidesNoFailure : CommitError → Type 0
-HidesNoFailure (commit.NoTable e) = ¬ IsOutside e
+HidesNoFailure (commit.NoTable e) = ¬ IsOutsideDisk e
 HidesNoFailure (commit.Edit r) = r ≢ refusal.Memory
 HidesNoFailure (commit.Plan e) = ¬ IsFailure e
 HidesNoFailure _ = Unit {0}

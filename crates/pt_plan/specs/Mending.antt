@@ -4,7 +4,7 @@ use Rattle.pt_sector.specs.declared.disk.Fault.{Fault}
 use Rattle.pt_sector.specs.declared.disk.Fault.TheVariants.{Read}
 use Rattle.pt_sector.specs.declared.reading.Failure.{Failure}
 use Rattle.pt_sector.specs.declared.reading.Failure.TheVariants as failure
-use Rattle.pt_recover.specs.Answers.{IsOutside}
+use Rattle.pt_recover.specs.Answers.{IsOutsideDisk}
 use Rattle.pt_check.specs.declared.error.CheckError.{CheckError}
 use Rattle.pt_check.specs.declared.error.CheckError.TheVariants as check
 use Rattle.pt_targets.specs.Errors.{IsFailure}
@@ -28,7 +28,7 @@ repair_fault_in _ = None
 
 -- neither the device's fault nor want of memory is told within another error
 abbrev pub MendHidesNoFailure : RepairError → Type 0
-MendHidesNoFailure (repair.NoTable e) = ¬ IsOutside e
+MendHidesNoFailure (repair.NoTable e) = ¬ IsOutsideDisk e
 MendHidesNoFailure (repair.Plan e) = ¬ IsFailure e
 MendHidesNoFailure _ = Unit {0}
 

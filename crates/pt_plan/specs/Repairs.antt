@@ -6,7 +6,7 @@ use Rattle.pt_sector.specs.Device.{Told, Flushed, FailedFlush}
 use Rattle.pt_sector.specs.Since.{LeavesOnly}
 use Rattle.pt_sector.specs.declared.disk.Fault.{Fault}
 use Rattle.pt_sector.specs.declared.disk.Fault.TheVariants.{Read, Write, Flush}
-use Rattle.pt_apply.specs.Runs.{Settled, FailedIn}
+use Rattle.pt_apply.specs.Runs.{Settled, CallFailed}
 use Rattle.pt_apply.specs.Promises.{Keeps, Safe}
 use Rattle.pt_recover.specs.declared.error.NoTable.{NoTable as Reason}
 use Rattle.pt_members.specs.declared.layout.Layout.{Layout}
@@ -58,7 +58,7 @@ module _ (denotes : Sectors → Option Layout → Type 0) (plans : Sectors → L
     pub flushed : Flushed old mid
     pub phases : List Writes
     pub ready : ReadyToMend mid.seen phases
-    pub failed : FailedIn phases mid.seen mid new fault
+    pub failed : CallFailed phases mid.seen mid new fault
 
   -- at the return after a device's fault. A read's: only the first flush was done. A write's: a checked plan's call failed.
   -- A flush's: the first one failed, or a checked plan's

@@ -74,13 +74,13 @@ module _ {W : Type 0} (commits : W → Result Unit CommitError → Told → Told
       (old : Told) × (new : Told) × (c : Sectors) × Settled old d × Ran steps old new × IsLeftBy old new c × Lives runs c e
 
 -- what is known of calls that a crash ended: it came before the first, inside one of them, or once all had answered
-pub data IsPartOf {W : Type 0} (calls : List (Call W)) (past : List (Past W)) : Type 0 where
-  not_begun : past ≡ [] → IsPartOf calls past
-  cut_short : IsCutShort calls past → IsPartOf calls past
-  finished : past ≡ answered calls → IsPartOf calls past
+pub data IsPartOfRun {W : Type 0} (calls : List (Call W)) (past : List (Past W)) : Type 0 where
+  not_begun : past ≡ [] → IsPartOfRun calls past
+  cut_short : IsCutShort calls past → IsPartOfRun calls past
+  finished : past ≡ answered calls → IsPartOfRun calls past
 
 -- what is known of the calls of all runs: of each run such a part, in order
 abbrev pub IsPastOf : {W : Type 0} → List (List (Step W)) → List (Past W) → Type 0
 IsPastOf [] past = past ≡ []
 IsPastOf (steps ∷ runs) past =
-    (here : List (Past _)) × (rest : List (Past _)) × (past ≡ here ++ rest) × IsPartOf (calls_of_all steps) here × IsPastOf runs rest
+    (here : List (Past _)) × (rest : List (Past _)) × (past ≡ here ++ rest) × IsPartOfRun (calls_of_all steps) here × IsPastOf runs rest

@@ -4,7 +4,7 @@
 mod checked;
 mod commits;
 mod error;
-mod laws;
+pub mod laws;
 mod prepare;
 mod repair_error;
 mod repairs;
@@ -13,11 +13,6 @@ mod sessions;
 pub use checked::apply_checked;
 pub use commits::commit;
 pub use error::CommitError;
-pub use laws::{
-    calls_carry_on, commit_carries, crash_begins_again, history_begins, lives_keep_history,
-    no_calls_carry, repair_carries, run_carries, run_keeps_history, second_repair_is_idle,
-    session_carries, two_calls_carry,
-};
 pub use prepare::{checked_plan_for, plan_for};
 pub use pt_planner::PlanError;
 pub use repair_error::RepairError;

@@ -7,7 +7,7 @@ ghost use Rattle.pt_sector.specs.Reads.{OnlyReads};
 ghost use Rattle.pt_apply.specs.Plans.{phases_of, InRange};
 ghost use Rattle.pt_recover.specs.Answers.{failure_in};
 ghost use Rattle.pt_cases.specs.Cases.{IsPlan};
-ghost use Rattle.pt_check.specs.Recovered.{IsOf};
+ghost use Rattle.pt_check.specs.Recovered.{IsRecoveredOf};
 ghost use Rattle.pt_planner.specs.Known.{IsKnown, ReasonIs};
 ghost use Rattle.pt_plan.specs.Batches.{IsPlanned, IsReady, IsRefusal, MakesTable, EditedBy};
 ghost use Rattle.pt_plan.specs.Failed.{commit_fault_in as fault_in, HidesNoFailure};
@@ -128,7 +128,7 @@ fn checked<const B: usize, D: Disk<B>>(
     before: Recovered,
 ) -> Result<(), CommitError>
     requires size { IsSectorSize B }
-    requires known { D.tells → IsOf B (D.told disk.old).seen before }
+    requires known { D.tells → IsRecoveredOf B (D.told disk.old).seen before }
     ensures same { OnlyReads D.Disk disk.old disk.new }
     ensures blames { Blames fault_in result (D.faults disk.old) (D.faults disk.new) }
     ensures hides { IfErr result HidesNoFailure }

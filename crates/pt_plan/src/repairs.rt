@@ -5,7 +5,7 @@ ghost use Rattle.pt_sector.specs.Sectors.{IsSectorSize};
 ghost use Rattle.pt_sector.specs.Calls.{Blames};
 ghost use Rattle.pt_sector.specs.Reads.{OnlyReads};
 ghost use Rattle.pt_apply.specs.Plans.{phases_of, InRange};
-ghost use Rattle.pt_check.specs.Recovered.{IsOf};
+ghost use Rattle.pt_check.specs.Recovered.{IsRecoveredOf};
 ghost use Rattle.pt_planner.specs.Known.{IsKnown, ReasonIs};
 ghost use Rattle.pt_plan.specs.Batches.{IsMendPlan, IsReadyToMend, IsMendRefusal, Repairs};
 ghost use Rattle.pt_plan.specs.Mending.{repair_fault_in as fault_in, MendHidesNoFailure};
@@ -113,7 +113,7 @@ fn checked<const B: usize, D: Disk<B>>(
     before: Recovered,
 ) -> Result<(), RepairError>
     requires size { IsSectorSize B }
-    requires known { D.tells → IsOf B (D.told disk.old).seen before }
+    requires known { D.tells → IsRecoveredOf B (D.told disk.old).seen before }
     ensures same { OnlyReads D.Disk disk.old disk.new }
     ensures blames { Blames fault_in result (D.faults disk.old) (D.faults disk.new) }
     ensures hides { IfErr result MendHidesNoFailure }

@@ -10,9 +10,9 @@ use Rattle.pt_members.specs.declared.layout.Body.TheVariants.{Mbr, Gpt}
 use Rattle.pt_members.specs.declared.layout.Layout.{Layout}
 use Rattle.pt_layout.specs.Healthy.{IsHealthy}
 use Rattle.pt_layout.specs.Sound.{Sound}
-use Rattle.pt_cases.specs.Causes.{MayBe, MayHave, WasMbr}
+use Rattle.pt_cases.specs.Causes.{MayBePlanned, MayHave, HadMbr}
 use Rattle.pt_shape.specs.Shape.{FitsTable}
-use Rattle.pt_shape.specs.Links.{IsLinked}
+use Rattle.pt_shape.specs.Links.{IsLoneChain}
 use Rattle.pt_targets.specs.Starts.{Start}
 use Rattle.pt_planner.specs.Known.{IsKnown}
 use Rattle.pt_planner.specs.declared.known.Known.{Known}
@@ -21,7 +21,7 @@ use Rattle.pt_planner.specs.declared.known.Known.{Known}
 pub record IsOfDisk (b n : ℕ) (o : Option Layout) (p : Layout) : Type 0 where
   pub sectors : p.sectors ≡ n
   pub mbr : (records : List (Option Record)) (chain : List Ebr) → p.body ≡ Mbr records chain
-      → WasMbr o × IsLinked n (extended_of records) chain
+      → HadMbr o × IsLoneChain n (extended_of records) chain
   pub fits : (t : Table) → p.body ≡ Gpt t → FitsTable b n t
 
 abbrev blank : ℕ → Sectors
@@ -31,15 +31,15 @@ blank_count : (n : ℕ) → length (blank n) ≡ n
 blank_count zero = refl
 blank_count (suc n) = ap suc (blank_count n)
 
-may_be_of : (b n : ℕ) (o : Option Layout) (p : Layout) (d : Sectors) → length d ≡ n → MayBe b d o p → IsOfDisk b n o p
+may_be_of : (b n : ℕ) (o : Option Layout) (p : Layout) (d : Sectors) → length d ≡ n → MayBePlanned b d o p → IsOfDisk b n o p
 may_be_of b n o p d count may = record {
   sectors = may.sectors ∙ count;
   mbr = λ records chain body. let has : MayHave b d o (Mbr records chain) = subst (MayHave b d o) body may.body in
-      (has.0, subst (λ (k : ℕ). IsLinked k (extended_of records) chain) count has.1);
+      (has.0, subst (λ (k : ℕ). IsLoneChain k (extended_of records) chain) count has.1);
   fits = λ t body. let has : MayHave b d o (Gpt t) = subst (MayHave b d o) body may.body in subst (λ (k : ℕ). FitsTable b k t) count has;
 }
 
-pub of_disk : (b n : ℕ) (o : Option Layout) (p : Layout) (may : Bool) → ((d : Sectors) → length d ≡ n → IsTrue may ↔ MayBe b d o p)
+pub of_disk : (b n : ℕ) (o : Option Layout) (p : Layout) (may : Bool) → ((d : Sectors) → length d ≡ n → IsTrue may ↔ MayBePlanned b d o p)
     → may ≡ true → IsOfDisk b n o p
 of_disk b n o p may is so = may_be_of b n o p (blank n) (blank_count n) ((is (blank n) (blank_count n)).0 so)
 

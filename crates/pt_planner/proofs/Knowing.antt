@@ -13,7 +13,7 @@ use Rattle.pt_layout.specs.laws.Terms.{finding_excludes_lem}
 use Rattle.pt_layout.specs.Surveys.{FoundIs, FindingIs, IsSurvey}
 use Rattle.pt_layout.specs.declared.finding.Finding.{Finding}
 use Rattle.pt_layout.specs.declared.survey.Survey.{Survey}
-use Rattle.pt_planner.specs.Known.{WrongIs, IsEither, IsKnown, IsKnownOf, FoundAs, ReasonIs}
+use Rattle.pt_planner.specs.Known.{KnownWrong, IsEither, IsKnown, IsKnownOf, FoundAs, ReasonIs}
 use Rattle.pt_planner.specs.declared.known.Known.{Known}
 
 old_is : (b : ℕ) (d : Sectors) (found : Result Layout NoTable) (old : Option Layout) (reason : Option NoTable)
@@ -22,9 +22,9 @@ old_is b d (Ok o) old reason found_as is = subst (Denotes b d) (sym found_as.0) 
 old_is b d (Err e) old reason found_as is = subst (Denotes b d) (sym found_as.0) is.0
 
 wrong_is : (b : ℕ) (d : Sectors) (found : Result Layout NoTable) (old : Option Layout) (reason : Option NoTable) (finding : Option Finding)
-    → FoundAs found old reason → FindingIs b d found finding → WrongIs b d old finding
+    → FoundAs found old reason → FindingIs b d found finding → KnownWrong b d old finding
 wrong_is b d found old reason (Some f) found_as is = is
-wrong_is b d (Ok o) old reason None found_as is = subst (λ (x : Option Layout). WrongIs b d x None) (sym found_as.0) is
+wrong_is b d (Ok o) old reason None found_as is = subst (λ (x : Option Layout). KnownWrong b d x None) (sym found_as.0) is
 wrong_is b d (Err e) old reason None found_as is = absurd is
 
 pub reason_is : (b : ℕ) (d : Sectors) (found : Result Layout NoTable) (old : Option Layout) (reason : Option NoTable)
@@ -57,13 +57,13 @@ known_is b d read x reason found_as is = record {
 some_same : {X : Type 0} {x y : X} → Some x ≡ Some y → x ≡ y
 some_same same = cc
 
-healthy_with : (b : ℕ) (d : Sectors) (old : Option Layout) (p : Layout) → old ≡ Some p → WrongIs b d old None → IsHealthy b d p
-healthy_with b d old p same is = subst (λ (x : Option Layout). WrongIs b d x None) same is
+healthy_with : (b : ℕ) (d : Sectors) (old : Option Layout) (p : Layout) → old ≡ Some p → KnownWrong b d old None → IsHealthy b d p
+healthy_with b d old p same is = subst (λ (x : Option Layout). KnownWrong b d x None) same is
 
 excluded : (b : ℕ) (d : Sectors) (x : Known) (p : Layout) (finding : Option Finding) → x.finding ≡ finding → IsKnown b d x
     → IsHealthy b d p → finding ≡ None
 excluded b d x p (Some f) same known healthy =
-    absurd (finding_excludes_lem b d f (subst (WrongIs b d x.old) same known.finding) (p, healthy))
+    absurd (finding_excludes_lem b d f (subst (KnownWrong b d x.old) same known.finding) (p, healthy))
 excluded b d x p None same known healthy = refl
 
 none_by : (finding : Option Finding) (none : Bool) → is_some finding ≡ not none → none ≡ true → finding ≡ None
@@ -78,7 +78,7 @@ none_tells finding false is at = absurd (let some : false ≡ true = sym (ap is_
 pub done_here : (b : ℕ) (d : Sectors) (x : Known) (p : Layout) (none : Bool) → x.old ≡ Some p → is_some x.finding ≡ not none
     → IsKnown b d x → IsTrue none ↔ IsHealthy b d p
 done_here b d x p none same is known = (
-  (λ so. healthy_with b d x.old p same (subst (WrongIs b d x.old) (none_by x.finding none is so) known.finding)),
+  (λ so. healthy_with b d x.old p same (subst (KnownWrong b d x.old) (none_by x.finding none is so) known.finding)),
   (λ healthy. none_tells x.finding none is (excluded b d x p x.finding refl known healthy)),
 )
 

@@ -23,11 +23,11 @@ use Rattle.pt_layout.specs.declared.finding.Finding.TheVariants as finding
 use Rattle.pt_layout.specs.declared.health.Head.{Head}
 use Rattle.pt_layout.specs.declared.health.Head.TheVariants as head
 use Rattle.pt_cases.specs.Cases.{ChangesLabels}
-use Rattle.pt_cases.specs.Causes.{MayBe}
+use Rattle.pt_cases.specs.Causes.{MayBePlanned}
 use Rattle.pt_shape.specs.Shape.{FitsTable}
-use Rattle.pt_shape.specs.Links.{IsLinked}
+use Rattle.pt_shape.specs.Links.{IsLoneChain}
 use Rattle.pt_targets.specs.Misfits.{NoneLeft}
-use Rattle.pt_phases.specs.Starts.{OrderIs, HeadIs, CopiesStart}
+use Rattle.pt_phases.specs.Starts.{OrderIs, HeadAsRead, CopiesStart}
 use Rattle.pt_phases.specs.declared.order.Order.{Order}
 use Rattle.pt_targets.specs.Causes.{HasNoTurn, HasNoCopies}
 use Rattle.pt_targets.specs.Starts.{Start, StopsBy}
@@ -36,7 +36,7 @@ use Rattle.pt_targets.specs.declared.error.PlanError.{PlanError}
 use Rattle.pt_targets.specs.declared.error.PlanError.TheVariants.{NotOneSwitch, ReusedInOneBatch, NeedsRepair, Unsound, Device, Memory}
 use Rattle.pt_targets.specs.declared.target.Target.{Target}
 use Rattle.pt_phases.specs.Turns.{MbrStart, LabelStart, Unbroken}
-use Rattle.pt_planner.specs.Known.{WrongIs, IsKnown}
+use Rattle.pt_planner.specs.Known.{KnownWrong, IsKnown}
 use Rattle.pt_planner.specs.State.{IsBrokenBy, OrderOf, PlacesStop}
 use Rattle.pt_targets.specs.Unplanned.{other_disk, misplaced, targets, unreadable, turn, copies, Hindered, Unplanned}
 use Rattle.pt_planner.specs.declared.known.Known.{Known}
@@ -92,7 +92,7 @@ module _ (b : ℕ) (d : Sectors) (o : Layout) (from : Denotes b d (Some o)) wher
       → (q : Layout) × Denotes b d (Some q) × L q → broken ≡ false → Unbroken b d o broken
   whole_here L broken whole (q, is, more) so = rw so (subst (λ (l : Layout). IsBodyWhole b d l.body) (same_here q is) (whole q more))
 
-  unbroken_by : (finding : Option Finding) (broken : Bool) → WrongIs b d (Some o) finding → IsBrokenBy finding broken
+  unbroken_by : (finding : Option Finding) (broken : Bool) → KnownWrong b d (Some o) finding → IsBrokenBy finding broken
       → Unbroken b d o broken
   unbroken_by None broken healthy so = rw so healthy.whole
   unbroken_by (Some (finding.NoTable e)) broken is so =
@@ -122,7 +122,7 @@ label_start {b = b} d x p t broken places known start body changes is are = reco
   body = body;
   changes = changes;
   unbroken = unbroken_by b d changes.old (subst (Denotes b d) changes.is_old known.old) x.finding broken
-      (subst (λ (o : Option Layout). WrongIs b d o x.finding) changes.is_old known.finding) is;
+      (subst (λ (o : Option Layout). KnownWrong b d o x.finding) changes.is_old known.finding) is;
   places = are;
 }
 
@@ -137,7 +137,7 @@ order_by b d head.Unprotected false order is has so = rw so (is.0, λ there. (le
 pub copies_start : {b : ℕ} (d : Sectors) (x : Known) (p : Layout) (t : Table) (order : Order) (given : Option (List ℕ))
     (places : List (Target b))
     → IsKnown b d x → Start b d x.old p → p.body ≡ Gpt t
-    → FitsTable b (length d) t → ¬ ChangesLabels x.old p → OrderOf x.head x.primary order → HeadIs d given
+    → FitsTable b (length d) t → ¬ ChangesLabels x.old p → OrderOf x.head x.primary order → HeadAsRead d given
     → AreLabelTargets d x.old p places → CopiesStart d x.old p t order x.guarded given places
 copies_start {b = b} d x p t order given places known start body fits other so head are = record {
   start = start;
@@ -154,7 +154,7 @@ pub mbr_start : {b : ℕ} (d : Sectors) (x : Known) (p old : Layout) (old_record
     (old_chain chain : List Ebr) (heads places : List (Target b))
     → IsKnown b d x → Start b d x.old p
     → x.old ≡ Some old → old.body ≡ Mbr old_records old_chain → p.body ≡ Mbr records chain → length records ≡ 4
-    → IsLinked (length d) (extended_of records) chain
+    → IsLoneChain (length d) (extended_of records) chain
     → AreMbrTargets d old_records old_chain records chain heads → AreLabelTargets d x.old p places
     → MbrStart d x.old p x.guarded heads places
 mbr_start d x p old old_records records old_chain chain heads places known start is_old old_body body four linked are labels = record {
@@ -191,7 +191,7 @@ module _ (b : ℕ) (d : Sectors) (o : Option Layout) (p : Layout) (from : Denote
   no_places (Device fault) is = tt
   no_places Memory is = tt
 
-  pub none_of_disk : ¬ MayBe b d o p → Unplanned b d p NotOneSwitch
+  pub none_of_disk : ¬ MayBePlanned b d o p → Unplanned b d p NotOneSwitch
   none_of_disk isnt = record { sound = sound; not_done = not_done; old = o; from = from; cause = other_disk isnt }
 
 -- a disk that denotes an MBR has a sector

@@ -19,15 +19,15 @@ use Rattle.pt_layout.specs.declared.survey.Survey.{Survey}
 use Rattle.pt_planner.specs.declared.known.Known.{Known}
 
 -- the first thing that is wrong with the disk, none where it is healthy
-abbrev pub WrongIs : ℕ → Sectors → Option Layout → Option Finding → Type 0
-WrongIs b d o (Some f) = IsFinding b d f
-WrongIs b d (Some o) None = IsHealthy b d o
-WrongIs b d None None = ⊥
+abbrev pub KnownWrong : ℕ → Sectors → Option Layout → Option Finding → Type 0
+KnownWrong b d o (Some f) = IsFinding b d f
+KnownWrong b d (Some o) None = IsHealthy b d o
+KnownWrong b d None None = ⊥
 
 pub record IsKnown (b : ℕ) (d : Sectors) (x : Known) : Type 0 where
   pub head : HeadOf d x.head
   pub old : Denotes b d x.old
-  pub finding : WrongIs b d x.old x.finding
+  pub finding : KnownWrong b d x.old x.finding
   pub primary : ¬ IsMbrDisk d → HasRoom b (length d) → IsTrue x.primary ↔ HasCopy b d Primary
   pub guarded : (s : ℕ) → IsIn x.guarded s ↔ IsGuarded b d s
   pub trace : IsTraceOf b d x.trace

@@ -8,10 +8,10 @@ ghost use Rattle.pt_apply.specs.Plans.{phases_of, InRange};
 ghost use Rattle.pt_members.specs.declared.layout.Body.TheVariants.{Mbr, Gpt};
 ghost use Rattle.pt_mbr.specs.Extended.{extended_of};
 ghost use Rattle.pt_cases.specs.Cases.{IsPlan};
-ghost use Rattle.pt_cases.specs.Causes.{WasMbr};
+ghost use Rattle.pt_cases.specs.Causes.{HadMbr};
 ghost use Rattle.pt_shape.specs.Shape.{FitsTable};
-ghost use Rattle.pt_shape.specs.Links.{IsLinked};
-ghost use Rattle.pt_phases.specs.Starts.{HeadIs};
+ghost use Rattle.pt_shape.specs.Links.{IsLoneChain};
+ghost use Rattle.pt_phases.specs.Starts.{HeadAsRead};
 ghost use Rattle.pt_layout.specs.Surveys.{HeadOf};
 ghost use Rattle.pt_layout.specs.declared.health.Head.TheVariants as kind;
 ghost use Rattle.pt_recover.specs.Denotes.{Denotes};
@@ -85,7 +85,7 @@ pub(crate) fn to_mbr<const B: usize, D: Disk<B>>(
 ) -> Result<Plan<B>, PlanError>
     requires size { IsSectorSize B }
     requires body { wanted.now.body ≡ Mbr records.now chain.now }
-    requires linked { IsLinked (D.count disk.old) (extended_of records.now) chain.now }
+    requires linked { IsLoneChain (D.count disk.old) (extended_of records.now) chain.now }
     requires in_range { All (λ t. t.at.0 < D.count disk.old) places.items }
     requires known { D.tells → IsKnown B (D.told disk.old).seen known.now }
     requires start { D.tells → Start B (D.told disk.old).seen known.now.old wanted.now }
@@ -95,7 +95,7 @@ pub(crate) fn to_mbr<const B: usize, D: Disk<B>>(
     ensures in_range { IfOk result (InRange (D.count disk.old)) }
     ensures some { IfOk result (λ plan. All (λ p. 0 < length p.items) plan.phases.items) }
     ensures plan { D.tells → IfOk result (λ plan. IsPlan B (D.told disk.old).seen wanted.now (phases_of plan)) }
-    ensures err { D.tells → WasMbr known.now.old → IfErr result (Hindered B (D.told disk.old).seen known.now.old wanted.now) }
+    ensures err { D.tells → HadMbr known.now.old → IfErr result (Hindered B (D.told disk.old).seen known.now.old wanted.now) }
 {
     let layout = match &known.old {
         Some(layout) => layout,
@@ -126,7 +126,7 @@ fn head_of<const B: usize, D: Disk<B>>(
     ensures same { OnlyReads D.Disk disk.old disk.new }
     ensures blames { Blames read_of result (D.faults disk.old) (D.faults disk.new) }
     ensures given { head ≡ kind.Mbr → IfOk result (λ bytes. ¬ (bytes ≡ None)) }
-    ensures ok { D.tells → IfOk result (HeadIs (D.told disk.old).seen) }
+    ensures ok { D.tells → IfOk result (HeadAsRead (D.told disk.old).seen) }
 {
     if head == Head::Protected {
         return Ok(None);

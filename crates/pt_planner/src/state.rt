@@ -4,7 +4,7 @@ ghost use Rattle.std.specs.Prelude.{◌≡◌, ◌⊎◌, ◌↔◌, IsTrue, Opt
 ghost use Rattle.pt_sector.specs.Sectors.{Sectors, IsSectorSize};
 ghost use Rattle.pt_layout.specs.Healthy.{IsHealthy};
 ghost use Rattle.pt_cases.specs.Cases.{ChangesLabels};
-ghost use Rattle.pt_cases.specs.Causes.{MayBe, WasMbr};
+ghost use Rattle.pt_cases.specs.Causes.{MayBePlanned, HadMbr};
 ghost use Rattle.pt_planner.specs.Known.{IsKnown};
 ghost use Rattle.pt_planner.specs.State.{IsBrokenBy, OrderOf};
 
@@ -35,7 +35,7 @@ pub(crate) fn is_done<const B: usize>(known: &Known, wanted: &Layout) -> bool
 
 /// Whether the old layout is an MBR.
 fn was_mbr(old: &Option<Layout>) -> bool
-    ensures { IsTrue result ↔ WasMbr old.now }
+    ensures { IsTrue result ↔ HadMbr old.now }
 {
     match old {
         Some(layout) => match &layout.body {
@@ -49,7 +49,7 @@ fn was_mbr(old: &Option<Layout>) -> bool
 /// Whether a disk of so many sectors, with this layout or with none, may have the wanted one.
 pub(crate) fn may_be<const B: usize>(sectors: u64, old: &Option<Layout>, wanted: &Layout) -> bool
     requires { IsSectorSize B }
-    ensures { (d : Sectors) → length d ≡ sectors → IsTrue result ↔ MayBe B d old.now wanted.now }
+    ensures { (d : Sectors) → length d ≡ sectors → IsTrue result ↔ MayBePlanned B d old.now wanted.now }
 {
     if wanted.sectors != sectors {
         return false;

@@ -8,7 +8,7 @@ use Rattle.pt_space.specs.laws.Terms.{placed_is_free_lem}
 use Rattle.pt_words.specs.declared.word.End.{End}
 use Rattle.pt_words.specs.declared.word.Code.{Code}
 use Rattle.pt_records.specs.Records.{IsPrimary}
-use Rattle.pt_records.specs.Numbers.{TakesNumber, as_asked, lowest_one}
+use Rattle.pt_records.specs.Numbers.{TakesRecordNumber, as_asked, lowest_one}
 use Rattle.pt_records.specs.New.{disk_area, Chosen}
 
 pub placed_within : (n : ℕ) (records : List (Option Record)) (alignment start : ℕ) (end : End) (r : Run)
@@ -20,7 +20,7 @@ placed_within n records alignment start end r placed =
     let high : r.last ≤ min (n - 1) 4294967295 = (free.free r.last (some, omega arith)).0.1 in
     (low, some, omega (arith, high))
 
-takes_primary : (records : List (Option Record)) (asked number : ℕ) → TakesNumber records asked number → IsPrimary number
+takes_primary : (records : List (Option Record)) (asked number : ℕ) → TakesRecordNumber records asked number → IsPrimary number
 takes_primary records asked number (as_asked is unused) = unused.primary
 takes_primary records asked number (lowest_one is lowest) = lowest.unused.primary
 

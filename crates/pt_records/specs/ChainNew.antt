@@ -20,7 +20,7 @@ use Rattle.pt_words.specs.declared.word.End.{End}
 use Rattle.pt_words.specs.declared.error.Refusal.{Refusal}
 use Rattle.pt_words.specs.declared.error.Refusal.TheVariants.{NoSuchPartition, UnknownCode, ContainerType, NoSpace}
 use Rattle.pt_records.specs.Types.{new_type, is_slice}
-use Rattle.pt_records.specs.Entered.{Entered, IsFull}
+use Rattle.pt_records.specs.Entered.{Entered, ChainIsFull}
 
 -- an extended boot record's own sector
 abbrev pub own_sector : Ebr → List Run
@@ -57,7 +57,7 @@ abbrev pub record_for : ℕ → ℕ → Record
 record_for kind len = record { boot = 0; start_chs = farthest; kind = kind; end_chs = farthest; start = 1; size = len }
 
 -- a slice without a sector for its label, or longer than its label can tell
-pub record Misfit (b kind len : ℕ) : Type 0 where
+pub record IsMisfit (b kind len : ℕ) : Type 0 where
   pub slice : is_slice b kind ≡ true
   pub sectors : (len < 2) ⊎ (2 ^ 32 ≤ len)
 
@@ -87,7 +87,7 @@ pub record LogicalNew (b : ℕ) (extended : Option Record) (chain : List Ebr) (l
   pub is_parent : extended ≡ Some parent
   pub typed : NewKind code kind
   pub placed : Placed (logical_area parent chain) alignment start end place
-  pub fits : ¬ Misfit b kind (len_of place)
+  pub fits : ¬ IsMisfit b kind (len_of place)
   pub entered : Entered chain (place.first - 1) (record_for kind (len_of place)) number made
   pub moved : left ≡ labels_with b kind (len_of place) number labels
 
@@ -99,8 +99,8 @@ pub data LogicalNotNew (b : ℕ) (extended : Option Record) (chain : List Ebr) (
   no_place : (x : Record) (kind : ℕ) → extended ≡ Some x → NewKind code kind
       → NotPlaced (logical_area x chain) alignment start end r → LogicalNotNew b extended chain alignment start end code r
   misfit : (x : Record) (kind : ℕ) (p : Run) → extended ≡ Some x → NewKind code kind
-      → Placed (logical_area x chain) alignment start end p → Misfit b kind (len_of p) → r ≡ ContainerType
+      → Placed (logical_area x chain) alignment start end p → IsMisfit b kind (len_of p) → r ≡ ContainerType
       → LogicalNotNew b extended chain alignment start end code r
   full : (x : Record) (kind : ℕ) (p : Run) → extended ≡ Some x → NewKind code kind
-      → Placed (logical_area x chain) alignment start end p → ¬ Misfit b kind (len_of p) → IsFull chain (p.first - 1) → r ≡ NoSpace
+      → Placed (logical_area x chain) alignment start end p → ¬ IsMisfit b kind (len_of p) → ChainIsFull chain (p.first - 1) → r ≡ NoSpace
       → LogicalNotNew b extended chain alignment start end code r

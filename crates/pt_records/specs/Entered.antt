@@ -52,6 +52,6 @@ pub data Entered (chain : List Ebr) (s : ℕ) (r : Record) (number : ℕ) (made 
       → made ≡ with_ebr chain k s r → Entered chain s r number made
 
 -- it would take a 129th
-pub record IsFull (chain : List Ebr) (s : ℕ) : Type 0 where
+pub record ChainIsFull (chain : List Ebr) (s : ℕ) : Type 0 where
   pub none : NoEmptyIn chain s
   pub full : 128 ≤ length chain

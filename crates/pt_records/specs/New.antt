@@ -20,7 +20,7 @@ use Rattle.pt_space.specs.Placed.{Placed, NotPlaced}
 use Rattle.pt_records.specs.Types.{new_type, is_slice}
 use Rattle.pt_records.specs.ChainNew.{len_of, farthest}
 use Rattle.pt_records.specs.Records.{with_record, with_mbr}
-use Rattle.pt_records.specs.Numbers.{TakesNumber, NotNumbered}
+use Rattle.pt_records.specs.Numbers.{TakesRecordNumber, NotNumbered}
 
 -- the extended record, the first where there are more
 abbrev pub extended_record : List (Option Record) → Option Record
@@ -32,15 +32,15 @@ IsSecond records kind = (is_extended kind ≡ true) × (extended_record records 
 
 -- the number and the type of a new record
 pub record Chosen (records : List (Option Record)) (asked : ℕ) (code : Option Code) (number kind : ℕ) : Type 0 where
-  pub takes : TakesNumber records asked number
+  pub takes : TakesRecordNumber records asked number
   pub known : new_type code ≡ Some kind
   pub lone : ¬ IsSecond records kind
 
 -- why there are none
 pub data NotChosen (records : List (Option Record)) (asked : ℕ) (code : Option Code) (r : Refusal) : Type 0 where
   not_numbered : NotNumbered records asked r → NotChosen records asked code r
-  unknown : (number : ℕ) → TakesNumber records asked number → new_type code ≡ None → r ≡ UnknownCode → NotChosen records asked code r
-  second : (number kind : ℕ) → TakesNumber records asked number → new_type code ≡ Some kind → IsSecond records kind
+  unknown : (number : ℕ) → TakesRecordNumber records asked number → new_type code ≡ None → r ≡ UnknownCode → NotChosen records asked code r
+  second : (number kind : ℕ) → TakesRecordNumber records asked number → new_type code ≡ Some kind → IsSecond records kind
       → r ≡ ContainerType → NotChosen records asked code r
 
 -- where a record's partition may be placed on a disk of n sectors: from sector 1 on, as far as the disk and 32 bits reach

@@ -1,21 +1,18 @@
 //! A new logical partition.
 
 ghost use Rattle.std.specs.Prelude.{◌≡◌, ◌≢◌, ◌↔◌, IsTrue, IfOk, IfErr};
-ghost use Rattle.pt_records.specs.ChainNew.{record_for, Misfit, labels_with, NewKind, NoKind, LogicalNew, LogicalNotNew};
+ghost use Rattle.pt_records.specs.ChainNew.{record_for, IsMisfit, labels_with, NewKind, NoKind, LogicalNew, LogicalNotNew};
 
 use crate::chain_enter::enter;
 use crate::chain_space::place_in;
 use crate::types::{is_slice_kind, new_type_of};
 use pt_bsd::empty_label;
 use pt_labels::{add_label, raise_labels};
-use pt_mbr::{Record, is_extended_kind};
+use pt_mbr::{FARTHEST, Record, is_extended_kind};
 use pt_members::{Ebrs, Labels};
 use pt_sector::Lba;
 use pt_words::{Asked, Code, Refusal};
 use std::alloc::{AllocError, Global};
-
-/// The CHS field of the records that are made here.
-const FARTHEST: [u8; 3] = [0xFE, 0xFF, 0xFF];
 
 // The record of a new logical partition.
 fn record_of(kind: u8, size: u32) -> Record
@@ -33,7 +30,7 @@ fn record_of(kind: u8, size: u32) -> Record
 
 // Whether a slice has no sector for its label. Every number of 32 bits can be told by a label.
 fn is_misfit<const B: usize>(kind: u8, size: u32) -> bool
-    ensures { IsTrue result ↔ Misfit B kind size }
+    ensures { IsTrue result ↔ IsMisfit B kind size }
 {
     is_slice_kind::<B>(kind) && size < 2
 }

@@ -2,7 +2,7 @@
 
 ghost use Rattle.std.specs.Prelude.{◌≡◌, ◌≢◌, ◌<◌, ◌≤◌, length, IfOk, IfErr, IfSome, IfNone};
 ghost use Rattle.pt_records.specs.Chains.{number_at};
-ghost use Rattle.pt_records.specs.Entered.{IsEmptyAt, NoEmptyIn, IsPlaceFor, link_at, linked, with_ebr, Entered, IsFull};
+ghost use Rattle.pt_records.specs.Entered.{IsEmptyAt, NoEmptyIn, IsPlaceFor, link_at, linked, with_ebr, Entered, ChainIsFull};
 
 use crate::chain_edit::put_logical;
 use pt_mbr::{Ebr, Record};
@@ -85,7 +85,7 @@ fn put_ebr(chain: Ebrs, k: usize, at: Lba, logical: Record) -> Result<Ebrs, Refu
 // The chain with one more logical partition behind a sector, and its number.
 pub(crate) fn enter(chain: Ebrs, at: Lba, logical: Record) -> Result<(Ebrs, u64), Refusal>
     ensures ok { IfOk result (λ made. Entered chain at.0 logical made.1 made.0) }
-    ensures err { IfErr result (λ refusal. refusal ≢ Refusal.Memory → IsFull chain at.0 × (refusal ≡ Refusal.NoSpace)) }
+    ensures err { IfErr result (λ refusal. refusal ≢ Refusal.Memory → ChainIsFull chain at.0 × (refusal ≡ Refusal.NoSpace)) }
 {
     if let Some(k) = find_empty(chain.as_slice(), at) {
         let number = logical_number(chain.as_slice(), k);

@@ -12,7 +12,7 @@ use crate::space::place_record;
 use crate::types::{is_slice_kind, new_type_of};
 use pt_bsd::empty_label;
 use pt_labels::add_label;
-use pt_mbr::{Ebr, Record, is_extended_kind};
+use pt_mbr::{Ebr, FARTHEST, Record, is_extended_kind};
 use pt_members::{Ebrs, Labels, Layout};
 use pt_sector::Lba;
 use pt_space::Run;
@@ -21,9 +21,6 @@ use std::alloc::{AllocError, Global};
 
 /// The number that asks for one more logical partition.
 const ONE_MORE: u64 = 5;
-
-/// The CHS fields of a new record.
-const FARTHEST: [u8; 3] = [0xFE, 0xFF, 0xFF];
 
 // The extended record, the first where there are more.
 #[tactic(auto, using(crate::proofs::Extended::none_here, crate::proofs::Told::plain_told, crate::proofs::Told::found_told, crate::proofs::Extended::ended))]

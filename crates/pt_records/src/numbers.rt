@@ -1,7 +1,7 @@
 //! The numbers of new records.
 
 ghost use Rattle.std.specs.Prelude.{◌≡◌, ◌↔◌, ◌<◌, ◌≤◌, ℕ, IsTrue, IfOk, IfErr, IfSome, IfNone};
-ghost use Rattle.pt_records.specs.Numbers.{IsUnused, IsLowestUnused, TakesNumber, NotNumbered};
+ghost use Rattle.pt_records.specs.Numbers.{IsUnusedNumber, IsLowestUnused, TakesRecordNumber, NotNumbered};
 
 use crate::parts::is_primary;
 use pt_mbr::Record;
@@ -9,7 +9,7 @@ use pt_words::Refusal;
 
 // Whether a number is of no used record.
 fn is_unused(records: &[Option<Record>; 4], number: u64) -> bool
-    ensures { IsTrue result ↔ IsUnused records.now number }
+    ensures { IsTrue result ↔ IsUnusedNumber records.now number }
 {
     is_primary(number) && records[number as usize - 1].is_none()
 }
@@ -17,7 +17,7 @@ fn is_unused(records: &[Option<Record>; 4], number: u64) -> bool
 // The lowest such number.
 fn lowest_unused(records: &[Option<Record>; 4]) -> Option<u64>
     ensures some { IfSome result (IsLowestUnused records.now) }
-    ensures none { IfNone result ((k : ℕ) → ¬ IsUnused records.now k) }
+    ensures none { IfNone result ((k : ℕ) → ¬ IsUnusedNumber records.now k) }
 {
     for number in 1..5 {
         if is_unused(records, number) {
@@ -29,7 +29,7 @@ fn lowest_unused(records: &[Option<Record>; 4]) -> Option<u64>
 
 // The number of a new record for the one that is asked for.
 pub(crate) fn number_for(records: &[Option<Record>; 4], asked: u64) -> Result<u64, Refusal>
-    ensures ok { IfOk result (TakesNumber records.now asked) }
+    ensures ok { IfOk result (TakesRecordNumber records.now asked) }
     ensures err { IfErr result (NotNumbered records.now asked) }
 {
     if asked == 0 {

@@ -3,14 +3,8 @@
 ghost use Rattle.std.specs.Prelude.{◌≡◌};
 ghost use Rattle.pt_records.specs.Types.{record_type, new_type, is_slice, is_container};
 
-use pt_mbr::is_extended_kind;
+use pt_mbr::{PROTECTIVE, SLICE_KIND, is_extended_kind};
 use pt_words::Code;
-
-/// The type of a protective record.
-const PROTECTIVE: u8 = 0xEE;
-
-/// The type of a slice.
-const SLICE: u8 = 0xA5;
 
 /// The type of a new record without a code.
 const LINUX: u8 = 0x83;
@@ -45,7 +39,7 @@ pub fn new_type_of(code: &Option<Code>) -> Option<u8>
 pub fn is_slice_kind<const B: usize>(kind: u8) -> bool
     ensures { result ≡ is_slice B kind }
 {
-    B == 512 && kind == SLICE
+    B == 512 && kind == SLICE_KIND
 }
 
 /// Whether a type is that of records which hold other partitions: 05, 0F, and with sectors of 512 bytes A5.

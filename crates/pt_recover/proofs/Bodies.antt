@@ -11,7 +11,7 @@ use Rattle.pt_gpt.specs.Array.{HasRoom}
 use Rattle.pt_recover.specs.Gpt.{TableReads}
 use Rattle.pt_recover.specs.Denotes.{Denotes, BodyReads, head, chain, table}
 use Rattle.pt_recover.specs.laws.One.{mbr_one}
-use Rattle.pt_recover.specs.Answers.{TellsNothing, IsOutside}
+use Rattle.pt_recover.specs.Answers.{TellsNothing, IsOutsideDisk}
 use Rattle.pt_recover.specs.Steps.{RestReads, of_chain, of_table, AreCopyFaults}
 use Rattle.pt_recover.specs.Spans.{Adds}
 use Rattle.pt_recover.specs.declared.error.NoTable.{NoTable}
@@ -56,7 +56,7 @@ no_body b d (NoCopy e f) none faults (Gpt t) is =
     elim is.2 [ inl copy ↦ no_copy_lem b d Primary e faults.0 (t, copy) | inr other ↦ no_copy_lem b d Backup f faults.1 (t, other.1) ]
 no_body b d _ none faults y is = absurd faults
 
-pub no_copies : (b : ℕ) (d : Sectors) (e : NoTable) → ¬ IsMbrDisk d → HasRoom b (length d) → IsOutside e ⊎ AreCopyFaults b d e
+pub no_copies : (b : ℕ) (d : Sectors) (e : NoTable) → ¬ IsMbrDisk d → HasRoom b (length d) → IsOutsideDisk e ⊎ AreCopyFaults b d e
     → TellsNothing b d e
 no_copies b d e none room (inl out) = inl out
 no_copies b d (NoCopy e f) none room (inr faults) =

@@ -8,7 +8,7 @@ use Rattle.pt_mbr.specs.declared.chain.ChainError.{ChainError}
 use Rattle.pt_mbr.specs.declared.chain.ChainError.TheVariants.{NoSignature, BadRecord, NotUpward, OutsideExtended, TooLong, Device}
 use Rattle.pt_recover.specs.Spans.{Adds}
 use Rattle.pt_recover.specs.Steps.{ToldAs}
-use Rattle.pt_recover.specs.Answers.{IsOutside}
+use Rattle.pt_recover.specs.Answers.{IsOutsideDisk}
 use Rattle.pt_recover.specs.declared.trace.Run.{Run}
 use Rattle.pt_recover.specs.declared.error.NoTable.{NoTable}
 use Rattle.pt_recover.proofs.Traces.{adds_same}
@@ -25,18 +25,19 @@ of_reads d x list e old new P (inl out) are = inl out
 of_reads d x list e old new P (inr adds) are = inr (adds_same old new (λ s. StandsAt s list ⊎ IsReadBy e s) (ChainReads d x) adds are)
 
 with_fault : (d : Sectors) (x : Span) (list : List Ebr) (e : ChainError) (told : NoTable) (old new : List Run) → ToldAs e told
-    → IsOutside told ⊎ Adds old new (λ s. StandsAt s list ⊎ IsReadBy e s) → ReadsAre d x list e
-    → IsOutside told ⊎ Adds old new (ChainReads d x)
-with_fault d x list (Device y) told old new is adds are = inl (subst IsOutside (sym is) tt)
-with_fault d x list (NoSignature y) told old new is adds are = of_reads d x list (NoSignature y) old new (IsOutside told) adds are
-with_fault d x list (BadRecord y) told old new is adds are = of_reads d x list (BadRecord y) old new (IsOutside told) adds are
-with_fault d x list (NotUpward y) told old new is adds are = of_reads d x list (NotUpward y) old new (IsOutside told) adds are
-with_fault d x list (OutsideExtended y) told old new is adds are = of_reads d x list (OutsideExtended y) old new (IsOutside told) adds are
-with_fault d x list TooLong told old new is adds are = of_reads d x list TooLong old new (IsOutside told) adds are
+    → IsOutsideDisk told ⊎ Adds old new (λ s. StandsAt s list ⊎ IsReadBy e s) → ReadsAre d x list e
+    → IsOutsideDisk told ⊎ Adds old new (ChainReads d x)
+with_fault d x list (Device y) told old new is adds are = inl (subst IsOutsideDisk (sym is) tt)
+with_fault d x list (NoSignature y) told old new is adds are = of_reads d x list (NoSignature y) old new (IsOutsideDisk told) adds are
+with_fault d x list (BadRecord y) told old new is adds are = of_reads d x list (BadRecord y) old new (IsOutsideDisk told) adds are
+with_fault d x list (NotUpward y) told old new is adds are = of_reads d x list (NotUpward y) old new (IsOutsideDisk told) adds are
+with_fault d x list (OutsideExtended y) told old new is adds are = of_reads d x list (OutsideExtended y) old new
+    (IsOutsideDisk told) adds are
+with_fault d x list TooLong told old new is adds are = of_reads d x list TooLong old new (IsOutsideDisk told) adds are
 
 pub fault_traced : (d : Sectors) (x : Span) (list shown : List Ebr) (e : ChainError) (told : NoTable) (old new : List Run)
-    → shown ≡ list → ToldAs e told → IsOutside told ⊎ Adds old new (λ s. StandsAt s shown ⊎ IsReadBy e s) → ReadsAre d x list e
-    → IsOutside told ⊎ Adds old new (ChainReads d x)
+    → shown ≡ list → ToldAs e told → IsOutsideDisk told ⊎ Adds old new (λ s. StandsAt s shown ⊎ IsReadBy e s) → ReadsAre d x list e
+    → IsOutsideDisk told ⊎ Adds old new (ChainReads d x)
 fault_traced d x list shown e told old new same is adds are =
-    with_fault d x list e told old new is (subst (λ (l : List Ebr). IsOutside told
+    with_fault d x list e told old new is (subst (λ (l : List Ebr). IsOutsideDisk told
     ⊎ Adds old new (λ s. StandsAt s l ⊎ IsReadBy e s)) same adds) are

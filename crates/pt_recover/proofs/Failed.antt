@@ -8,7 +8,7 @@ use Rattle.pt_sector.specs.declared.reading.Failure.{Failure}
 use Rattle.pt_sector.specs.declared.reading.Failure.TheVariants as failure
 use Rattle.pt_mbr.specs.declared.record.Record.{Record}
 use Rattle.pt_gpt.specs.Copy.{SideReads, HasCopy}
-use Rattle.pt_gpt.specs.Errors.{IsOutside, failure_in as failure_of_copy, FailedIn as FailedInCopy}
+use Rattle.pt_gpt.specs.Errors.{IsOutsideCopy, failure_in as failure_of_copy, FailedInCopy}
 use Rattle.pt_gpt.specs.declared.table.Side.TheVariants.{Primary, Backup}
 use Rattle.pt_gpt.specs.declared.error.CopyError.{CopyError}
 use Rattle.pt_gpt.specs.declared.error.CopyError.TheVariants as copy
@@ -19,14 +19,14 @@ use Rattle.pt_recover.specs.Gpt.{TableReads}
 use Rattle.pt_members.specs.Slices.{places_of, place_of, IsPlace}
 use Rattle.pt_recover.specs.Steps.{RestReads, of_chain, of_table}
 use Rattle.pt_recover.specs.Denotes.{BodyIs, BodyReads, Reads, body, label, chain, table}
-use Rattle.pt_recover.specs.Answers.{FailedIn, told_failure}
+use Rattle.pt_recover.specs.Answers.{FailedInDisk, told_failure}
 use Rattle.pt_members.specs.declared.layout.Body.{Body}
 use Rattle.pt_members.specs.declared.layout.Slice.{Slice}
 use Rattle.pt_recover.specs.declared.error.NoTable.{NoTable}
 use Rattle.pt_recover.specs.declared.error.NoTable.TheVariants.{NoCopy, Chain, TwoExtended, TooSmall, Device, Memory}
 
 -- at one of more sectors
-pub wider : (S T : ℕ → Type 0) (e : NoTable) → ((s : ℕ) → S s → T s) → FailedIn S e → FailedIn T e
+pub wider : (S T : ℕ → Type 0) (e : NoTable) → ((s : ℕ) → S s → T s) → FailedInDisk S e → FailedInDisk T e
 wider S T (Device at) more is = more at.0 is
 wider S T (NoCopy e f) more is = tt
 wider S T (Chain e) more is = tt
@@ -35,13 +35,13 @@ wider S T TooSmall more is = tt
 wider S T Memory more is = tt
 
 -- what recovery tells of a failure
-failed_wider : (S T : ℕ → Type 0) (f : Failure) → ((s : ℕ) → S s → T s) → FailedAt S f → FailedIn T (told_failure f)
+failed_wider : (S T : ℕ → Type 0) (f : Failure) → ((s : ℕ) → S s → T s) → FailedAt S f → FailedInDisk T (told_failure f)
 failed_wider S T (failure.Device at) more is = more at.0 is
 failed_wider S T failure.Memory more is = tt
 
 -- and of a copy's
 pub told_wider : (S T : ℕ → Type 0) (e : CopyError) (f : Failure) → ((s : ℕ) → S s → T s) → failure_of_copy e ≡ Some f
-    → FailedInCopy S e → FailedIn T (told_failure f)
+    → FailedInCopy S e → FailedInDisk T (told_failure f)
 told_wider S T (copy.Device at) (failure.Device y) more same is = let here : at ≡ y = cc in more y.0 (subst (λ (l : Lba). S l.0) here is)
 told_wider S T (copy.Device at) failure.Memory more same is = tt
 told_wider S T copy.Memory (failure.Device y) more same is = absurd cc
@@ -49,39 +49,39 @@ told_wider S T copy.Memory failure.Memory more same is = tt
 told_wider S T _ f more same is = absurd cc
 
 -- an error that is no failure
-pub inside_of : (e : CopyError) → failure_of_copy e ≡ None → ¬ IsOutside e
+pub inside_of : (e : CopyError) → failure_of_copy e ≡ None → ¬ IsOutsideCopy e
 inside_of (copy.Device at) none = absurd cc
 inside_of copy.Memory none = absurd cc
 inside_of _ none = λ out. out
 
 pub rest_of_chain : (b : ℕ) (d : Sectors) (m : List (Option Record)) (e : NoTable) → IsMbr d m
-    → FailedIn (ExtendedReads d (extended_of m)) e → FailedIn (RestReads b d) e
+    → FailedInDisk (ExtendedReads d (extended_of m)) e → FailedInDisk (RestReads b d) e
 rest_of_chain b d m e is = wider (ExtendedReads d (extended_of m)) (RestReads b d) e (λ s reads. of_chain m is reads)
 
-pub rest_of_table : (b : ℕ) (d : Sectors) (e : NoTable) → ¬ IsMbrDisk d → HasRoom b (length d) → FailedIn (TableReads b d) e
-    → FailedIn (RestReads b d) e
+pub rest_of_table : (b : ℕ) (d : Sectors) (e : NoTable) → ¬ IsMbrDisk d → HasRoom b (length d) → FailedInDisk (TableReads b d) e
+    → FailedInDisk (RestReads b d) e
 rest_of_table b d e plain room = wider (TableReads b d) (RestReads b d) e (λ s reads. of_table plain room reads)
 
 body_of_rest : (b : ℕ) (d : Sectors) (s : ℕ) → RestReads b d s → BodyReads b d s
 body_of_rest b d s (of_chain m is reads) = chain m is reads
 body_of_rest b d s (of_table plain room reads) = table plain room reads
 
-pub body_failed : (b : ℕ) (d : Sectors) (e : NoTable) → FailedIn (RestReads b d) e → FailedIn (BodyReads b d) e
+pub body_failed : (b : ℕ) (d : Sectors) (e : NoTable) → FailedInDisk (RestReads b d) e → FailedInDisk (BodyReads b d) e
 body_failed b d e = wider (RestReads b d) (BodyReads b d) e (body_of_rest b d)
 
 pub primary_failed : (b : ℕ) (d : Sectors) (e : CopyError) (f : Failure) → failure_of_copy e ≡ Some f
-    → FailedInCopy (SideReads b d Primary) e → FailedIn (TableReads b d) (told_failure f)
+    → FailedInCopy (SideReads b d Primary) e → FailedInDisk (TableReads b d) (told_failure f)
 primary_failed b d e f = told_wider (SideReads b d Primary) (TableReads b d) e f (λ s reads. inl reads)
 
 pub backup_failed : (b : ℕ) (d : Sectors) (e : CopyError) (f : Failure) → ¬ HasCopy b d Primary → failure_of_copy e ≡ Some f
-    → FailedInCopy (SideReads b d Backup) e → FailedIn (TableReads b d) (told_failure f)
+    → FailedInCopy (SideReads b d Backup) e → FailedInDisk (TableReads b d) (told_failure f)
 backup_failed b d e f none = told_wider (SideReads b d Backup) (TableReads b d) e f (λ s reads. inr (none, reads))
 
-pub reads_failed : (b : ℕ) (d : Sectors) (e : NoTable) → FailedIn (BodyReads b d) e → FailedIn (Reads b d) e
+pub reads_failed : (b : ℕ) (d : Sectors) (e : NoTable) → FailedInDisk (BodyReads b d) e → FailedInDisk (Reads b d) e
 reads_failed b d e = wider (BodyReads b d) (Reads b d) e (λ s reads. body reads)
 
 pub label_failed : (b n : ℕ) (d : Sectors) (y : Body) (ps : List Slice) (f : Failure) → BodyIs b d y → ps ≡ places_of b n y
-    → n ≡ length d → FailedAt (IsPlace ps) f → FailedIn (Reads b d) (told_failure f)
+    → n ≡ length d → FailedAt (IsPlace ps) f → FailedInDisk (Reads b d) (told_failure f)
 label_failed b n d y ps f is are count =
     failed_wider (IsPlace ps) (Reads b d) f (λ s at. label y is
     (subst (λ (m : ℕ). IsPlace (places_of b m y) s) count (subst (λ (l : List Slice). IsPlace l s) are at)))

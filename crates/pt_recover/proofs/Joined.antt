@@ -7,7 +7,7 @@ use Rattle.std.proofs.lemmas.Bool.{cases_lt}
 use Rattle.std.proofs.lemmas.Bool.Decides.{nat_tests}
 use Rattle.std.proofs.lemmas.List.{drop_all, take_all, take_more, length-take-le, drop_more}
 use Rattle.std.proofs.Math.Seq.{take-append_seam, drop-append_seam}
-use Rattle.pt_recover.specs.Spans.{InRun, IsIn, Follows, Apart, hull, joined, StandsAs, Stands}
+use Rattle.pt_recover.specs.Spans.{InRun, IsIn, Follows, Apart, hull, joined, StandsAs, StandsBefore}
 use Rattle.pt_recover.specs.declared.trace.Run.{Run}
 use Rattle.pt_recover.specs.declared.trace.Order.TheVariants.{Below, Above, Touching}
 
@@ -157,11 +157,11 @@ joined_last x r (q ∷ qs) z apart is =
     joined_below x r (q ∷ qs) (all_below x r (q ∷ qs) z apart is)
     ∙ ap (λ (l : List Run). r ∷ l) (joined_last x q qs z (apart_split r (q ∷ qs) apart).2 is)
 
-pub stands_first : (x : Run) (xs : List Run) → Stands (joined x xs) xs 0 x
+pub stands_first : (x : Run) (xs : List Run) → StandsBefore (joined x xs) xs 0 x
 stands_first x xs = refl
 
 pub stands_last : (x : Run) (xs : List Run) (k : ℕ) (z : Run) → Apart xs → length xs ≡ k + 1 → StandsAs (get_or xs k z) x Below
-    → Stands (joined x xs) xs (length xs) x
+    → StandsBefore (joined x xs) xs (length xs) x
 stands_last x [] k z apart count below = absurd (omega (arith, count))
 stands_last x (r ∷ rs) k z apart count below =
     let xs : List Run = r ∷ rs in
@@ -173,7 +173,7 @@ stands_last x (r ∷ rs) k z apart count below =
     ∙ sym e
 
 pub stands_below : (whole xs : List Run) (at : ℕ) (z r x : Run) → at < length xs → get_or xs at z ≡ r → StandsAs r x Below
-    → Stands whole xs at x → Stands whole xs (at + 1) x
+    → StandsBefore whole xs at x → StandsBefore whole xs (at + 1) x
 stands_below whole xs at z r x lt here below before =
     let one : take (at + 1) xs ≡ take at xs ++ r ∷ [] = take_more xs at z lt ∙ ap (λ (y : Run). take at xs ++ y ∷ []) here in
     let split : drop at xs ≡ r ∷ drop (at + 1) xs = drop_more xs at z lt ∙ ap (λ (y : Run). y ∷ drop (at + 1) xs) here in
@@ -191,7 +191,7 @@ drop_removed xs at le =
     ap (λ (n : ℕ). drop n (remove xs at)) (sym (length-take-le at xs le)) ∙ drop-append_seam (take at xs) (drop (suc at) xs)
 
 pub stands_touching : (whole xs now : List Run) (at : ℕ) (z r x y : Run) → at < length xs → get_or xs at z ≡ r
-    → StandsAs r x Touching → Stands whole xs at x → now ≡ remove xs at → y ≡ hull x r → Stands whole now at y
+    → StandsAs r x Touching → StandsBefore whole xs at x → now ≡ remove xs at → y ≡ hull x r → StandsBefore whole now at y
 stands_touching whole xs now at z r x y lt here touching before same grown =
     let le : at ≤ length xs = omega arith in
     let split : drop at xs ≡ r ∷ drop (at + 1) xs = drop_more xs at z lt ∙ ap (λ (q : Run). q ∷ drop (at + 1) xs) here in
@@ -204,13 +204,13 @@ stands_touching whole xs now at z r x y lt here touching before same grown =
     ∙ before
 
 pub stands_above : (whole xs : List Run) (at : ℕ) (z r x : Run) → at < length xs → get_or xs at z ≡ r → StandsAs r x Above
-    → Stands whole xs at x → insert xs at x ≡ whole
+    → StandsBefore whole xs at x → insert xs at x ≡ whole
 stands_above whole xs at z r x lt here above before =
     let split : drop at xs ≡ r ∷ drop (at + 1) xs = drop_more xs at z lt ∙ ap (λ (y : Run). y ∷ drop (at + 1) xs) here in
     ap (λ (l : List Run). take at xs ++ x ∷ l) split
     ∙ ap (λ (l : List Run). take at xs ++ l) (sym (ap (joined x) split ∙ joined_above x r (drop (at + 1) xs) above)) ∙ before
 
-pub stands_end : (whole xs : List Run) (at : ℕ) (x : Run) → length xs ≤ at → Stands whole xs at x → insert xs at x ≡ whole
+pub stands_end : (whole xs : List Run) (at : ℕ) (x : Run) → length xs ≤ at → StandsBefore whole xs at x → insert xs at x ≡ whole
 stands_end whole xs at x past before =
     let none : drop at xs ≡ [] = drop_all at xs past in
     ap (λ (l : List Run). take at xs ++ x ∷ l) none

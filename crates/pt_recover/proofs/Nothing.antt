@@ -13,7 +13,7 @@ use Rattle.pt_mbr.specs.Extended.{extended_of, extent_of}
 use Rattle.pt_recover.specs.Mbr.{IsMbr, HasChain, ExtendedReads}
 use Rattle.pt_recover.specs.Denotes.{Denotes}
 use Rattle.pt_recover.specs.laws.One.{mbr_one}
-use Rattle.pt_recover.specs.Answers.{TellsNothing, IsOutside}
+use Rattle.pt_recover.specs.Answers.{TellsNothing, IsOutsideDisk}
 use Rattle.pt_recover.specs.Steps.{IsChainFault}
 use Rattle.pt_recover.specs.Spans.{Adds}
 use Rattle.pt_mbr.specs.declared.extended.Extended.TheVariants as found
@@ -46,7 +46,7 @@ lone_chain b d m r e is lone fault disk = inr (
 )
 
 pub bad_chain : (b : ℕ) (d : Sectors) (m : List (Option Record)) (r : Record) (x : Span) (e : NoTable) → IsMbr d m
-    → extended_of m ≡ r ∷ [] → x ≡ extent_of r → IsOutside e ⊎ IsChainFault d x e → TellsNothing b d e
+    → extended_of m ≡ r ∷ [] → x ≡ extent_of r → IsOutsideDisk e ⊎ IsChainFault d x e → TellsNothing b d e
 bad_chain b d m r x e is lone same (inl out) = inl out
 bad_chain b d m r x (BadChain e) is lone same (inr fault) =
     lone_chain b d m r e is lone (subst (λ (y : Span). ChainFault d y e) same fault.0) fault.1

@@ -2,7 +2,7 @@
 use Rattle.std.proofs.Common.{◌≡◌, ℕ, List, length, sym, ap, ◌∙◌, inl, inr}
 use Rattle.std.specs.Prelude.{◌⊎◌}
 use Rattle.pt_sector.specs.Sectors.{Sectors}
-use Rattle.pt_gpt.specs.Errors.{IsOutside}
+use Rattle.pt_gpt.specs.Errors.{IsOutsideCopy}
 use Rattle.pt_gpt.specs.Answers.{TellsHeadFault, TellsFault}
 use Rattle.pt_gpt.specs.Copy.{header_place, IsHead, InArray, Copy, HasCopy, IsCopyFault, SideReads}
 use Rattle.pt_gpt.specs.laws.Terms.{side_reads_head_lem, side_reads_fault_lem, no_copy_lem}
@@ -18,7 +18,7 @@ use Rattle.pt_recover.proofs.Traces.{adds_same, adds_both}
 
 pub head_read : (b : ℕ) (d : Sectors) (side : Side) (e : CopyError) (at n : ℕ) (old new : List Run) → at ≡ header_place side n
     → n ≡ length d → Adds old new (λ s. s ≡ at) → TellsHeadFault b d side e
-    → IsOutside e ⊎ Adds old new (SideReads b d side)
+    → IsOutsideCopy e ⊎ Adds old new (SideReads b d side)
 head_read b d side e at n old new here count adds (inl out) = inl out
 head_read b d side e at n old new here count adds (inr fault) =
     let place : at ≡ header_place side (length d) = here ∙ ap (header_place side) count in
@@ -43,11 +43,11 @@ primary_read b d t old new copy adds =
     adds_same old new (SideReads b d Primary) (TableReads b d) adds
     (λ s. (λ r. elim r [ inl here ↦ here | inr there ↦ absurd (there.0 (t, copy)) ], λ r. inl r))
 
-pub none_there : (b : ℕ) (d : Sectors) (e : CopyError) → TellsFault b d Primary e → ¬ IsOutside e → ¬ HasCopy b d Primary
+pub none_there : (b : ℕ) (d : Sectors) (e : CopyError) → TellsFault b d Primary e → ¬ IsOutsideCopy e → ¬ HasCopy b d Primary
 none_there b d e (inl out) inside = absurd (inside out)
 none_there b d e (inr fault) inside = no_copy_lem b d Primary e fault
 
-pub inside_fault : (b : ℕ) (d : Sectors) (side : Side) (e : CopyError) → TellsFault b d side e → ¬ IsOutside e → IsCopyFault b d side e
+pub inside_fault : (b : ℕ) (d : Sectors) (side : Side) (e : CopyError) → TellsFault b d side e → ¬ IsOutsideCopy e → IsCopyFault b d side e
 inside_fault b d side e (inl out) inside = absurd (inside out)
 inside_fault b d side e (inr fault) inside = fault
 

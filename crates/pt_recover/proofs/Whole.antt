@@ -7,7 +7,7 @@ use Rattle.pt_members.specs.Slices.{places_of, slices_of, has_place, place_of, I
 use Rattle.pt_recover.specs.Labels.{LabelsAre}
 use Rattle.pt_recover.specs.Denotes.{BodyIs, BodyReads, Denotes, Reads, body, label}
 use Rattle.pt_recover.specs.laws.One.{body_one}
-use Rattle.pt_recover.specs.Answers.{TellsNothing, IsOutside, IsTraceOf}
+use Rattle.pt_recover.specs.Answers.{TellsNothing, IsOutsideDisk, IsTraceOf}
 use Rattle.pt_recover.specs.Spans.{IsIn, Adds}
 use Rattle.pt_recover.specs.declared.error.NoTable.{NoTable}
 use Rattle.pt_members.specs.declared.layout.Body.{Body}
@@ -47,7 +47,7 @@ none_there b d s none (body reads) = reads
 none_there b d s none (label y is at) = absurd (none y is)
 
 pub none_read : (b : ℕ) (d : Sectors) (e : NoTable) (old new : List Run) → TellsNothing b d e
-    → IsOutside e ⊎ Adds old new (BodyReads b d) → IsOutside e ⊎ Adds old new (Reads b d)
+    → IsOutsideDisk e ⊎ Adds old new (BodyReads b d) → IsOutsideDisk e ⊎ Adds old new (Reads b d)
 none_read b d e old new told (inl out) = inl out
 none_read b d e old new (inl out) (inr adds) = inl out
 none_read b d e old new (inr told) (inr adds) =

@@ -54,14 +54,14 @@ IsReason b d TooSmall = (¬ IsMbrDisk d) × (¬ HasRoom b (length d))
 IsReason b d _ = ⊥
 
 -- an answer that the disk's content doesn't explain
-abbrev pub IsOutside : NoTable → Type 0
-IsOutside (Device at) = Unit {0}
-IsOutside Memory = Unit {0}
-IsOutside _ = ⊥
+abbrev pub IsOutsideDisk : NoTable → Type 0
+IsOutsideDisk (Device at) = Unit {0}
+IsOutsideDisk Memory = Unit {0}
+IsOutsideDisk _ = ⊥
 
 -- an answer that is no layout: the disk denotes nothing for this reason, or the device or memory failed
 abbrev pub TellsNothing : ℕ → Sectors → NoTable → Type 0
-TellsNothing b d e = IsOutside e ⊎ (Denotes b d None × IsReason b d e)
+TellsNothing b d e = IsOutsideDisk e ⊎ (Denotes b d None × IsReason b d e)
 
 -- the failure that an answer is
 abbrev pub failure_in : NoTable → Option Failure
@@ -84,11 +84,11 @@ abbrev pub IsTraceOf : ℕ → Sectors → List Run → Type 0
 IsTraceOf b d runs = (s : ℕ) → IsIn runs s ↔ Reads b d s
 
 -- the records of sector 0, none where it isn't that of an MBR disk
-abbrev pub HeadIs : List ℕ → Option Mbr → Type 0
-HeadIs bytes None = ¬ IsMbrSector bytes
-HeadIs bytes (Some m) = IsMbrSector bytes × AreRecords m.records bytes
+abbrev pub RecordsAre : List ℕ → Option Mbr → Type 0
+RecordsAre bytes None = ¬ IsMbrSector bytes
+RecordsAre bytes (Some m) = IsMbrSector bytes × AreRecords m.records bytes
 
 -- the sector whose read failed is one of these
-abbrev pub FailedIn : (ℕ → Type 0) → NoTable → Type 0
-FailedIn S (Device at) = S at.0
-FailedIn S _ = Unit {0}
+abbrev pub FailedInDisk : (ℕ → Type 0) → NoTable → Type 0
+FailedInDisk S (Device at) = S at.0
+FailedInDisk S _ = Unit {0}

@@ -11,12 +11,12 @@ use Rattle.pt_members.specs.Slices.{place_of}
 abbrev pub LabelAt : Sectors → Slice → Label → Type 0
 LabelAt d p l = LabelBytes l p.first p.len (sector d (place_of p))
 
-abbrev pub HasLabel : Sectors → Slice → Type 0
-HasLabel d p = (l : Label) × LabelAt d p l
+abbrev pub SliceHasLabel : Sectors → Slice → Type 0
+SliceHasLabel d p = (l : Label) × LabelAt d p l
 
 -- the labels at these places, in their order; a slice without a label is left out
 abbrev pub LabelsAre : Sectors → List Slice → List Labelled → Type 0
 LabelsAre d [] labels = labels ≡ []
 LabelsAre d (p ∷ ps) labels =
     ((l : Label) × (rest : List Labelled) × (labels ≡ record { number = p.number; label = l } ∷ rest) × LabelAt d p l × LabelsAre d ps rest)
-    ⊎ ((¬ HasLabel d p) × LabelsAre d ps labels)
+    ⊎ ((¬ SliceHasLabel d p) × LabelsAre d ps labels)

@@ -32,8 +32,8 @@ joined x (r ∷ rs) =
     if nat_lt (r.last + 1) x.first then r ∷ joined x rs else (if nat_lt (x.last + 1) r.first then x ∷ r ∷ rs else joined (hull x r) rs)
 
 -- what stands before a place, and what joining from there on gives
-abbrev pub Stands : List Run → List Run → ℕ → Run → Type 0
-Stands whole xs at x = take at xs ++ joined x (drop at xs) ≡ whole
+abbrev pub StandsBefore : List Run → List Run → ℕ → Run → Type 0
+StandsBefore whole xs at x = take at xs ++ joined x (drop at xs) ≡ whole
 
 -- where a run stands to another: all below with a gap, all above with one, or touching it
 abbrev pub StandsAs : Run → Run → Order → Type 0

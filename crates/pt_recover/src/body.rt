@@ -8,7 +8,7 @@ ghost use Rattle.pt_recover.specs.Mbr.{IsMbrDisk, IsMbr};
 ghost use Rattle.pt_recover.specs.Denotes.{BodyIs, BodyReads};
 ghost use Rattle.pt_recover.specs.Steps.{RestReads};
 ghost use Rattle.pt_recover.specs.Spans.{Adds};
-ghost use Rattle.pt_recover.specs.Answers.{IsOutside, TellsNothing, fault_in, FailedIn, HeadIs};
+ghost use Rattle.pt_recover.specs.Answers.{IsOutsideDisk, TellsNothing, fault_in, FailedInDisk, RecordsAre};
 
 use crate::error::NoTable;
 use crate::extended::read_lone;
@@ -23,7 +23,7 @@ use std::alloc::Global;
 /// The records of a sector 0 of an MBR disk; none of another sector.
 pub fn records_of<const B: usize>(sector: &Sector<B>) -> Option<Mbr>
     requires { IsSectorSize B }
-    ensures { HeadIs sector.now result }
+    ensures { RecordsAre sector.now result }
 {
     let mbr = match decode_mbr(sector) {
         Some(mbr) => mbr,
@@ -42,7 +42,7 @@ fn read_records<const B: usize, D: Disk<B>>(disk: &mut D) -> Result<Option<Mbr>,
     ensures same { OnlyReads D.Disk disk.old disk.new }
     ensures blames { Blames read_of result (D.faults disk.old) (D.faults disk.new) }
     ensures place { IfErr result (λ e. e.0.0 ≡ 0) }
-    ensures ok { D.tells → IfOk result (HeadIs (sector (D.told disk.old).seen 0)) }
+    ensures ok { D.tells → IfOk result (RecordsAre (sector (D.told disk.old).seen 0)) }
 {
     let mut sector = [0; B];
     read_sector(disk, Lba(0), &mut sector)?;
@@ -59,11 +59,11 @@ fn read_gpt<const B: usize, D: Disk<B>>(
     requires no_mbr { D.tells → ¬ IsMbrDisk (D.told disk.old).seen }
     ensures same { OnlyReads D.Disk disk.old disk.new }
     ensures blames { Blames fault_in result (D.faults disk.old) (D.faults disk.new) }
-    ensures place { D.tells → IfErr result (FailedIn (RestReads B (D.told disk.old).seen)) }
+    ensures place { D.tells → IfErr result (FailedInDisk (RestReads B (D.told disk.old).seen)) }
     ensures ok { D.tells → IfOk result (λ y. BodyIs B (D.told disk.old).seen y) }
     ensures err { D.tells → IfErr result (λ e. TellsNothing B (D.told disk.old).seen e) }
     ensures traced { D.tells → OnOk result (Adds trace.old trace.new (RestReads B (D.told disk.old).seen)) }
-    ensures traced_err { D.tells → IfErr result (λ e. IsOutside e ⊎ Adds trace.old trace.new (RestReads B (D.told disk.old).seen)) }
+    ensures traced_err { D.tells → IfErr result (λ e. IsOutsideDisk e ⊎ Adds trace.old trace.new (RestReads B (D.told disk.old).seen)) }
 {
     let sectors = disk.sectors();
     if !has_room::<B>(sectors) {
@@ -84,11 +84,11 @@ fn read_mbr<const B: usize, D: Disk<B>>(
     requires is_mbr { D.tells → IsMbr (D.told disk.old).seen mbr.now.records }
     ensures same { OnlyReads D.Disk disk.old disk.new }
     ensures blames { Blames fault_in result (D.faults disk.old) (D.faults disk.new) }
-    ensures place { D.tells → IfErr result (FailedIn (RestReads B (D.told disk.old).seen)) }
+    ensures place { D.tells → IfErr result (FailedInDisk (RestReads B (D.told disk.old).seen)) }
     ensures ok { D.tells → IfOk result (λ y. BodyIs B (D.told disk.old).seen y) }
     ensures err { D.tells → IfErr result (λ e. TellsNothing B (D.told disk.old).seen e) }
     ensures traced { D.tells → OnOk result (Adds trace.old trace.new (RestReads B (D.told disk.old).seen)) }
-    ensures traced_err { D.tells → IfErr result (λ e. IsOutside e ⊎ Adds trace.old trace.new (RestReads B (D.told disk.old).seen)) }
+    ensures traced_err { D.tells → IfErr result (λ e. IsOutsideDisk e ⊎ Adds trace.old trace.new (RestReads B (D.told disk.old).seen)) }
 {
     let chain = read_lone(alloc, disk, mbr, trace)?;
     Ok(Body::Mbr {
@@ -106,11 +106,11 @@ fn read_body<const B: usize, D: Disk<B>>(
     requires size { IsSectorSize B }
     ensures same { OnlyReads D.Disk disk.old disk.new }
     ensures blames { Blames fault_in result (D.faults disk.old) (D.faults disk.new) }
-    ensures place { D.tells → IfErr result (FailedIn (BodyReads B (D.told disk.old).seen)) }
+    ensures place { D.tells → IfErr result (FailedInDisk (BodyReads B (D.told disk.old).seen)) }
     ensures ok { D.tells → IfOk result (λ y. BodyIs B (D.told disk.old).seen y) }
     ensures err { D.tells → IfErr result (λ e. TellsNothing B (D.told disk.old).seen e) }
     ensures traced { D.tells → OnOk result (Adds trace.old trace.new (BodyReads B (D.told disk.old).seen)) }
-    ensures traced_err { D.tells → IfErr result (λ e. IsOutside e ⊎ Adds trace.old trace.new (BodyReads B (D.told disk.old).seen)) }
+    ensures traced_err { D.tells → IfErr result (λ e. IsOutsideDisk e ⊎ Adds trace.old trace.new (BodyReads B (D.told disk.old).seen)) }
 {
     if disk.sectors() == 0 {
         return Err(NoTable::TooSmall);
@@ -133,11 +133,11 @@ fn read_after<const B: usize, D: Disk<B>>(
     requires is_mbr { D.tells → IsMbr (D.told disk.old).seen mbr.now.records }
     ensures same { OnlyReads D.Disk disk.old disk.new }
     ensures blames { Blames fault_in result (D.faults disk.old) (D.faults disk.new) }
-    ensures place { D.tells → IfErr result (FailedIn (BodyReads B (D.told disk.old).seen)) }
+    ensures place { D.tells → IfErr result (FailedInDisk (BodyReads B (D.told disk.old).seen)) }
     ensures ok { D.tells → IfOk result (λ y. BodyIs B (D.told disk.old).seen y) }
     ensures err { D.tells → IfErr result (λ e. TellsNothing B (D.told disk.old).seen e) }
     ensures traced { D.tells → OnOk result (Adds trace.old trace.new (BodyReads B (D.told disk.old).seen)) }
-    ensures traced_err { D.tells → IfErr result (λ e. IsOutside e ⊎ Adds trace.old trace.new (BodyReads B (D.told disk.old).seen)) }
+    ensures traced_err { D.tells → IfErr result (λ e. IsOutsideDisk e ⊎ Adds trace.old trace.new (BodyReads B (D.told disk.old).seen)) }
 {
     trace.add_one(0)?;
     read_mbr(alloc, disk, mbr, trace)
@@ -155,11 +155,11 @@ pub(crate) fn body_of<const B: usize, D: Disk<B>>(
     requires known { D.tells → IfSome known.now (λ m. IsMbr (D.told disk.old).seen m.records) }
     ensures same { OnlyReads D.Disk disk.old disk.new }
     ensures blames { Blames fault_in result (D.faults disk.old) (D.faults disk.new) }
-    ensures place { D.tells → IfErr result (FailedIn (BodyReads B (D.told disk.old).seen)) }
+    ensures place { D.tells → IfErr result (FailedInDisk (BodyReads B (D.told disk.old).seen)) }
     ensures ok { D.tells → IfOk result (λ y. BodyIs B (D.told disk.old).seen y) }
     ensures err { D.tells → IfErr result (λ e. TellsNothing B (D.told disk.old).seen e) }
     ensures traced { D.tells → OnOk result (Adds trace.old trace.new (BodyReads B (D.told disk.old).seen)) }
-    ensures traced_err { D.tells → IfErr result (λ e. IsOutside e ⊎ Adds trace.old trace.new (BodyReads B (D.told disk.old).seen)) }
+    ensures traced_err { D.tells → IfErr result (λ e. IsOutsideDisk e ⊎ Adds trace.old trace.new (BodyReads B (D.told disk.old).seen)) }
 {
     match known {
         Some(mbr) => read_after(alloc, disk, mbr, trace),

@@ -9,7 +9,7 @@ ghost use Rattle.pt_mbr.specs.Extended.{extended_of, extent_of};
 ghost use Rattle.pt_recover.specs.Mbr.{IsMbr, HasChain, ExtendedReads};
 ghost use Rattle.pt_recover.specs.Steps.{ToldAs, IsChainFault};
 ghost use Rattle.pt_recover.specs.Spans.{Adds};
-ghost use Rattle.pt_recover.specs.Answers.{IsOutside, TellsNothing, fault_in, FailedIn};
+ghost use Rattle.pt_recover.specs.Answers.{IsOutsideDisk, TellsNothing, fault_in, FailedInDisk};
 
 use crate::error::NoTable;
 use crate::trace::Trace;
@@ -42,7 +42,7 @@ fn trace_fault(trace: &mut Trace, fault: &ChainError) -> Result<(), AllocError>
 // What a fault of the chain is told as, with the sectors that were read up to it.
 fn told_fault(list: &[Ebr], fault: ChainError, trace: &mut Trace) -> NoTable
     ensures told { ToldAs fault result }
-    ensures traced { IsOutside result ⊎ Adds trace.old trace.new (λ s. StandsAt s list.now ⊎ IsReadBy fault s) }
+    ensures traced { IsOutsideDisk result ⊎ Adds trace.old trace.new (λ s. StandsAt s list.now ⊎ IsReadBy fault s) }
 {
     if let ChainError::Device(at) = fault {
         return NoTable::Device(at);
@@ -78,11 +78,11 @@ fn read_extended<const B: usize, D: Disk<B>>(
     requires size { IsSectorSize B }
     ensures same { OnlyReads D.Disk disk.old disk.new }
     ensures blames { Blames fault_in result (D.faults disk.old) (D.faults disk.new) }
-    ensures place { D.tells → IfErr result (FailedIn (ChainReads (D.told disk.old).seen (span_of extent.now))) }
+    ensures place { D.tells → IfErr result (FailedInDisk (ChainReads (D.told disk.old).seen (span_of extent.now))) }
     ensures ok { D.tells → IfOk result (λ list. Chain (D.told disk.old).seen (span_of extent.now) list) }
-    ensures err { D.tells → IfErr result (λ e. IsOutside e ⊎ IsChainFault (D.told disk.old).seen (span_of extent.now) e) }
+    ensures err { D.tells → IfErr result (λ e. IsOutsideDisk e ⊎ IsChainFault (D.told disk.old).seen (span_of extent.now) e) }
     ensures traced { D.tells → OnOk result (Adds trace.old trace.new (ChainReads (D.told disk.old).seen (span_of extent.now))) }
-    ensures traced_err { D.tells → IfErr result (λ e. IsOutside e
+    ensures traced_err { D.tells → IfErr result (λ e. IsOutsideDisk e
         ⊎ Adds trace.old trace.new (ChainReads (D.told disk.old).seen (span_of extent.now))) }
 {
     let mut list = ArrayVec::new();
@@ -116,11 +116,11 @@ pub(crate) fn read_lone<const B: usize, D: Disk<B>>(
     requires is_mbr { D.tells → IsMbr (D.told disk.old).seen mbr.now.records }
     ensures same { OnlyReads D.Disk disk.old disk.new }
     ensures blames { Blames fault_in result (D.faults disk.old) (D.faults disk.new) }
-    ensures place { D.tells → IfErr result (FailedIn (ExtendedReads (D.told disk.old).seen (extended_of mbr.now.records))) }
+    ensures place { D.tells → IfErr result (FailedInDisk (ExtendedReads (D.told disk.old).seen (extended_of mbr.now.records))) }
     ensures ok { D.tells → IfOk result (λ list. HasChain (D.told disk.old).seen (extended_of mbr.now.records) list) }
     ensures err { D.tells → IfErr result (λ e. TellsNothing B (D.told disk.old).seen e) }
     ensures traced { D.tells → OnOk result (Adds trace.old trace.new (ExtendedReads (D.told disk.old).seen (extended_of mbr.now.records))) }
-    ensures traced_err { D.tells → IfErr result (λ e. IsOutside e
+    ensures traced_err { D.tells → IfErr result (λ e. IsOutsideDisk e
         ⊎ Adds trace.old trace.new (ExtendedReads (D.told disk.old).seen (extended_of mbr.now.records))) }
 {
     let record = match extended_of(&mbr.records) {

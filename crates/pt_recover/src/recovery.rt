@@ -8,7 +8,7 @@ ghost use Rattle.pt_recover.specs.Denotes.{Denotes, Reads};
 ghost use Rattle.pt_recover.specs.Mbr.{IsMbr};
 ghost use Rattle.pt_recover.specs.Numbers.{Numbers};
 ghost use Rattle.pt_recover.specs.Spans.{Adds};
-ghost use Rattle.pt_recover.specs.Answers.{IsOutside, TellsNothing, fault_in, FailedIn, IsTraceOf};
+ghost use Rattle.pt_recover.specs.Answers.{IsOutsideDisk, TellsNothing, fault_in, FailedInDisk, IsTraceOf};
 
 use crate::body::body_of;
 use crate::error::NoTable;
@@ -31,12 +31,12 @@ fn recover_into<const B: usize, D: Disk<B>>(
     requires known { D.tells → IfSome known.now (λ m. IsMbr (D.told disk.old).seen m.records) }
     ensures same { OnlyReads D.Disk disk.old disk.new }
     ensures blames { Blames fault_in result (D.faults disk.old) (D.faults disk.new) }
-    ensures place { D.tells → IfErr result (FailedIn (Reads B (D.told disk.old).seen)) }
+    ensures place { D.tells → IfErr result (FailedInDisk (Reads B (D.told disk.old).seen)) }
     ensures ok { D.tells → IfOk result (λ o. Denotes B (D.told disk.old).seen (Some o)) }
     ensures numbers { IfOk result Numbers }
     ensures err { D.tells → IfErr result (λ e. TellsNothing B (D.told disk.old).seen e) }
     ensures traced { D.tells → OnOk result (Adds trace.old trace.new (Reads B (D.told disk.old).seen)) }
-    ensures traced_err { D.tells → IfErr result (λ e. IsOutside e ⊎ Adds trace.old trace.new (Reads B (D.told disk.old).seen)) }
+    ensures traced_err { D.tells → IfErr result (λ e. IsOutsideDisk e ⊎ Adds trace.old trace.new (Reads B (D.told disk.old).seen)) }
 {
     let sectors = disk.sectors();
     let body = body_of(alloc, disk, known, trace)?;
@@ -55,7 +55,7 @@ pub fn recover<const B: usize, D: Disk<B>>(alloc: Global, disk: &mut D) -> Resul
     requires size { IsSectorSize B }
     ensures same { OnlyReads D.Disk disk.old disk.new }
     ensures blames { Blames fault_in result (D.faults disk.old) (D.faults disk.new) }
-    ensures place { D.tells → IfErr result (FailedIn (Reads B (D.told disk.old).seen)) }
+    ensures place { D.tells → IfErr result (FailedInDisk (Reads B (D.told disk.old).seen)) }
     ensures ok { D.tells → IfOk result (λ o. Denotes B (D.told disk.old).seen (Some o)) }
     ensures numbers { IfOk result Numbers }
     ensures err { D.tells → IfErr result (λ e. TellsNothing B (D.told disk.old).seen e) }
@@ -71,12 +71,12 @@ pub fn recover_traced<const B: usize, D: Disk<B>>(
     requires size { IsSectorSize B }
     ensures same { OnlyReads D.Disk disk.old disk.new }
     ensures blames { Blames fault_in result.0 (D.faults disk.old) (D.faults disk.new) }
-    ensures place { D.tells → IfErr result.0 (FailedIn (Reads B (D.told disk.old).seen)) }
+    ensures place { D.tells → IfErr result.0 (FailedInDisk (Reads B (D.told disk.old).seen)) }
     ensures ok { D.tells → IfOk result.0 (λ o. Denotes B (D.told disk.old).seen (Some o)) }
     ensures numbers { IfOk result.0 Numbers }
     ensures err { D.tells → IfErr result.0 (λ e. TellsNothing B (D.told disk.old).seen e) }
     ensures traced { D.tells → OnOk result.0 (IsTraceOf B (D.told disk.old).seen result.1) }
-    ensures traced_err { D.tells → IfErr result.0 (λ e. IsOutside e ⊎ IsTraceOf B (D.told disk.old).seen result.1) }
+    ensures traced_err { D.tells → IfErr result.0 (λ e. IsOutsideDisk e ⊎ IsTraceOf B (D.told disk.old).seen result.1) }
 {
     recover_known(alloc, disk, None)
 }
@@ -92,12 +92,12 @@ pub fn recover_known<const B: usize, D: Disk<B>>(
     requires known { D.tells → IfSome known (λ m. IsMbr (D.told disk.old).seen m.records) }
     ensures same { OnlyReads D.Disk disk.old disk.new }
     ensures blames { Blames fault_in result.0 (D.faults disk.old) (D.faults disk.new) }
-    ensures place { D.tells → IfErr result.0 (FailedIn (Reads B (D.told disk.old).seen)) }
+    ensures place { D.tells → IfErr result.0 (FailedInDisk (Reads B (D.told disk.old).seen)) }
     ensures ok { D.tells → IfOk result.0 (λ o. Denotes B (D.told disk.old).seen (Some o)) }
     ensures numbers { IfOk result.0 Numbers }
     ensures err { D.tells → IfErr result.0 (λ e. TellsNothing B (D.told disk.old).seen e) }
     ensures traced { D.tells → OnOk result.0 (IsTraceOf B (D.told disk.old).seen result.1) }
-    ensures traced_err { D.tells → IfErr result.0 (λ e. IsOutside e ⊎ IsTraceOf B (D.told disk.old).seen result.1) }
+    ensures traced_err { D.tells → IfErr result.0 (λ e. IsOutsideDisk e ⊎ IsTraceOf B (D.told disk.old).seen result.1) }
 {
     let mut trace = Trace::new(alloc);
     let answer = recover_into(alloc, disk, &known, &mut trace);

@@ -5,14 +5,14 @@ ghost use Rattle.pt_sector.specs.Calls.{Blames};
 ghost use Rattle.pt_sector.specs.Reads.{OnlyReads};
 ghost use Rattle.pt_sector.specs.Sectors.{IsSectorSize};
 ghost use Rattle.pt_gpt.specs.Array.{counted};
-ghost use Rattle.pt_gpt.specs.Errors.{IsOutside as IsOutsideCopy, fault_in as fault_in_copy, FailedIn as FailedInCopy};
+ghost use Rattle.pt_gpt.specs.Errors.{IsOutsideCopy, fault_in as fault_in_copy, FailedInCopy};
 ghost use Rattle.pt_gpt.specs.Copy.{IsPlaced, InArray, Copy, CopyWith, SideReads};
 ghost use Rattle.pt_gpt.specs.Answers.{TellsFault};
 ghost use Rattle.pt_gpt.specs.Array.{HasRoom};
 ghost use Rattle.pt_recover.specs.Gpt.{TableIs, TableReads};
 ghost use Rattle.pt_recover.specs.Steps.{AreCopyFaults};
 ghost use Rattle.pt_recover.specs.Spans.{Adds};
-ghost use Rattle.pt_recover.specs.Answers.{IsOutside, fault_in, FailedIn};
+ghost use Rattle.pt_recover.specs.Answers.{IsOutsideDisk, fault_in, FailedInDisk};
 
 use crate::error::NoTable;
 use crate::trace::Trace;
@@ -73,11 +73,11 @@ pub(crate) fn read_either<const B: usize, D: Disk<B>>(
     requires room { HasRoom B (D.count disk.old) }
     ensures same { OnlyReads D.Disk disk.old disk.new }
     ensures blames { Blames fault_in result (D.faults disk.old) (D.faults disk.new) }
-    ensures place { D.tells → IfErr result (FailedIn (TableReads B (D.told disk.old).seen)) }
+    ensures place { D.tells → IfErr result (FailedInDisk (TableReads B (D.told disk.old).seen)) }
     ensures ok { D.tells → IfOk result (λ t. TableIs B (D.told disk.old).seen t) }
-    ensures err { D.tells → IfErr result (λ e. IsOutside e ⊎ AreCopyFaults B (D.told disk.old).seen e) }
+    ensures err { D.tells → IfErr result (λ e. IsOutsideDisk e ⊎ AreCopyFaults B (D.told disk.old).seen e) }
     ensures traced { D.tells → OnOk result (Adds trace.old trace.new (TableReads B (D.told disk.old).seen)) }
-    ensures traced_err { D.tells → IfErr result (λ e. IsOutside e ⊎ Adds trace.old trace.new (TableReads B (D.told disk.old).seen)) }
+    ensures traced_err { D.tells → IfErr result (λ e. IsOutsideDisk e ⊎ Adds trace.old trace.new (TableReads B (D.told disk.old).seen)) }
 {
     let primary = match traced_copy(alloc, disk, Side::Primary, trace) {
         Ok((_, table)) => return Ok(table),

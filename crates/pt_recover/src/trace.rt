@@ -1,7 +1,7 @@
 //! The sectors that a recovery read.
 
 ghost use Rattle.std.specs.Prelude.{◌≡◌, ◌≤◌, ◌↔◌, ℕ, List, length, IsTrue, IfOk, OnOk};
-ghost use Rattle.pt_recover.specs.Spans.{IsIn, Apart, hull, joined, StandsAs, Stands, Adds};
+ghost use Rattle.pt_recover.specs.Spans.{IsIn, Apart, hull, joined, StandsAs, StandsBefore, Adds};
 ghost use Rattle.pt_recover.specs.declared.trace.Run.{Run};
 
 use pt_sector::Lba;
@@ -52,7 +52,7 @@ impl Run {
 fn place_of(runs: &[Run], new: &Run) -> usize
     requires { Apart runs.now }
     ensures within { result ≤ length runs.now }
-    ensures stands { Stands (joined new.now runs.now) runs.now result new.now }
+    ensures stands { StandsBefore (joined new.now runs.now) runs.now result new.now }
 {
     let count = runs.len();
     if count == 0 {

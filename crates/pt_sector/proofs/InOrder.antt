@@ -16,7 +16,7 @@ use Rattle.pt_sector.specs.Sectors.{Sectors}
 use Rattle.pt_sector.specs.Writes.{Writes, written}
 use Rattle.pt_sector.specs.Written.{value_after}
 use Rattle.pt_sector.specs.laws.Written.{written-append}
-use Rattle.pt_sector.specs.Ascending.{sector_at, IsAscending, IsAt, IsGapFor}
+use Rattle.pt_sector.specs.Ascending.{sector_at, IsAscending, IsWriteAt, IsGapFor}
 use Rattle.pt_sector.specs.Puts.{puts_as_writes}
 use Rattle.pt_sector.specs.declared.put.Put.{Put}
 
@@ -30,14 +30,14 @@ none_in_tail w ws k none i lt = none (suc i) (omega (arith, lt))
 rises_in_tail : (w : ℕ × List ℕ) (ws : Writes) → IsAscending (w ∷ ws) → IsAscending ws
 rises_in_tail w ws rises i j lt in_range = rises (suc i) (suc j) (omega (arith, lt)) (omega (arith, in_range))
 
-at_in_tail : (w : ℕ × List ℕ) (ws : Writes) (k i : ℕ) → IsAt (w ∷ ws) k (suc i) → IsAt ws k i
+at_in_tail : (w : ℕ × List ℕ) (ws : Writes) (k i : ℕ) → IsWriteAt (w ∷ ws) k (suc i) → IsWriteAt ws k i
 at_in_tail w ws k i is_at = record { in_range = omega (arith, is_at.in_range); has_sector = is_at.has_sector }
 
 -- the first is the only one of its sector
 none_after_first : (w : ℕ × List ℕ) (ws : Writes) → IsAscending (w ∷ ws) → HasNone ws w.0
 none_after_first w ws rises i lt same = omega (arith, same, rises 0 (suc i) (omega arith) (omega (arith, lt)))
 
-not_first : (w : ℕ × List ℕ) (ws : Writes) (k i : ℕ) → IsAscending (w ∷ ws) → IsAt ws k i → w.0 ≢ k
+not_first : (w : ℕ × List ℕ) (ws : Writes) (k i : ℕ) → IsAscending (w ∷ ws) → IsWriteAt ws k i → w.0 ≢ k
 not_first w ws k i rises is_at same = omega (arith, same, is_at.has_sector, rises 0 (suc i) (omega arith) (omega (arith, is_at.in_range)))
 
 pub none_in_gap : (ws : Writes) (k at : ℕ) → IsGapFor ws k at → HasNone ws k
@@ -52,7 +52,7 @@ value_of_none (w ∷ ws) k v none =
     let off : cond (w.0 == k) w.1 v ≡ v = grind (arith, nat_tests) in
     ap (value_after ws k) off ∙ value_of_none ws k v (none_in_tail w ws k none)
 
-pub value_of_one : (ws : Writes) (k i : ℕ) (v : List ℕ) → IsAscending ws → IsAt ws k i → value_after ws k v ≡ (get_or ws i (0, [])).1
+pub value_of_one : (ws : Writes) (k i : ℕ) (v : List ℕ) → IsAscending ws → IsWriteAt ws k i → value_after ws k v ≡ (get_or ws i (0, [])).1
 value_of_one [] k i v rises is_at = absurd (omega (arith, is_at.in_range))
 value_of_one (w ∷ ws) k zero v rises is_at =
     let here : w.0 ≡ k = is_at.has_sector in
@@ -70,7 +70,7 @@ written_late (w ∷ ws) k v d none =
     ap (written ws) (set_comm d k w.0 v w.1 (λ same. other (sym same)))
     ∙ written_late ws k v (slice_set d w.0 w.1) (none_in_tail w ws k none)
 
-pub written_over : (ws : Writes) (k i : ℕ) (v : List ℕ) (d : Sectors) → IsAscending ws → IsAt ws k i
+pub written_over : (ws : Writes) (k i : ℕ) (v : List ℕ) (d : Sectors) → IsAscending ws → IsWriteAt ws k i
     → written (slice_set ws i (k, v)) d ≡ slice_set (written ws d) k v
 written_over [] k i v d rises is_at = absurd (omega (arith, is_at.in_range))
 written_over (w ∷ ws) k zero v d rises is_at =
@@ -98,7 +98,7 @@ written_between ws k at v d gap =
 
 -- the order stays
 
-pub rises_over : (ws : Writes) (k at : ℕ) (v : List ℕ) → IsAscending ws → IsAt ws k at → IsAscending (slice_set ws at (k, v))
+pub rises_over : (ws : Writes) (k at : ℕ) (v : List ℕ) → IsAscending ws → IsWriteAt ws k at → IsAscending (slice_set ws at (k, v))
 rises_over ws k at v rises is_at i j lt in_range =
     grind (arith, common_steps, rises i j, rises i at, rises at j, is_at.in_range, is_at.has_sector)
 
@@ -158,7 +158,7 @@ pub length-puts : {b : _} (ps : List (Put b)) → length (puts_as_writes ps) ≡
 length-puts ps = length-map ps (λ (q : Put _). as_write q)
 
 module _ {b : _} (ps : List (Put b)) (p : Put b) (i : ℕ) where
-  pub put_over : IsAscending (puts_as_writes ps) → IsAt (puts_as_writes ps) p.lba.0 i → (d : Sectors)
+  pub put_over : IsAscending (puts_as_writes ps) → IsWriteAt (puts_as_writes ps) p.lba.0 i → (d : Sectors)
       → written (puts_as_writes (slice_set ps i p)) d ≡ slice_set (written (puts_as_writes ps) d) p.lba.0 p.bytes
   put_over rises is_at d =
       ap (λ (ws : Writes). written ws d) (puts-set ps i p) ∙ written_over (puts_as_writes ps) p.lba.0 i p.bytes d rises is_at
@@ -167,7 +167,8 @@ module _ {b : _} (ps : List (Put b)) (p : Put b) (i : ℕ) where
       → written (puts_as_writes (insert ps i p)) d ≡ slice_set (written (puts_as_writes ps) d) p.lba.0 p.bytes
   put_between gap d = ap (λ (ws : Writes). written ws d) (puts-insert ps i p) ∙ written_between (puts_as_writes ps) p.lba.0 i p.bytes d gap
 
-  pub order_over : IsAscending (puts_as_writes ps) → IsAt (puts_as_writes ps) p.lba.0 i → IsAscending (puts_as_writes (slice_set ps i p))
+  pub order_over : IsAscending (puts_as_writes ps) → IsWriteAt (puts_as_writes ps) p.lba.0 i → IsAscending (puts_as_writes
+      (slice_set ps i p))
   order_over rises is_at = subst IsAscending (sym (puts-set ps i p)) (rises_over (puts_as_writes ps) p.lba.0 i p.bytes rises is_at)
 
   pub order_between : IsAscending (puts_as_writes ps) → IsGapFor (puts_as_writes ps) p.lba.0 i
@@ -191,7 +192,7 @@ module _ {b : _} (ps : List (Put b)) (rises : IsAscending (puts_as_writes ps)) (
       grind (arith, nat_tests))
 
   pub searched : (r : Result ℕ ℕ) → IsSearchInRange r (length ps) → IsBinarySearchResult (λ (p : Put b). nat_cmp p.lba.0 k) ps r
-      → record { found : IfOk r (IsAt (puts_as_writes ps) k); absent : IfErr r (IsGapFor (puts_as_writes ps) k) }
+      → record { found : IfOk r (IsWriteAt (puts_as_writes ps) k); absent : IfErr r (IsGapFor (puts_as_writes ps) k) }
   searched (Ok at) in_range equal = record {
     found = record {
       in_range = omega (arith, in_range, length-puts ps);

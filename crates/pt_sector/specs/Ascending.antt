@@ -10,7 +10,7 @@ abbrev pub IsAscending : Writes → Type 0
 IsAscending ws = (i j : ℕ) → i < j → j < length ws → sector_at ws i < sector_at ws j
 
 -- write i is of sector k
-pub record IsAt (ws : Writes) (k i : ℕ) : Type 0 where
+pub record IsWriteAt (ws : Writes) (k i : ℕ) : Type 0 where
   pub in_range : i < length ws
   pub has_sector : sector_at ws i ≡ k
 
@@ -22,4 +22,4 @@ pub record IsGapFor (ws : Writes) (k i : ℕ) : Type 0 where
 
 -- one of the writes is of sector k
 abbrev pub Has : Writes → ℕ → Type 0
-Has ws k = (i : ℕ) × IsAt ws k i
+Has ws k = (i : ℕ) × IsWriteAt ws k i

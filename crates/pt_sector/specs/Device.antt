@@ -31,15 +31,15 @@ abbrev pub Elapses : Told → Told → Type 0
 Elapses old new = new.past ≡ old.past ++ now_of old ∷ []
 
 -- the value is durable at once, or it is the newest pending one
-abbrev pub Takes : Told → Told → ℕ → List ℕ → Type 0
-Takes old new k v =
+abbrev pub TakesWrite : Told → Told → ℕ → List ℕ → Type 0
+TakesWrite old new k v =
     ((new.durable ≡ slice_set old.durable k v) × (new.pending ≡ old.pending))
     ⊎ ((new.durable ≡ old.durable) × (new.pending ≡ old.pending ++ (k, v) ∷ []))
 
 -- a write that was done
 pub record Wrote (old new : Told) (k : ℕ) (v : List ℕ) : Type 0 where
   pub seen : new.seen ≡ slice_set old.seen k v
-  pub takes : Takes old new k v
+  pub takes : TakesWrite old new k v
   pub time : Elapses old new
 
 -- a write that failed: nothing, or pending and the sector as before or as written

@@ -28,8 +28,8 @@ abbrev pub content : {D : Type 0} {b : _} → (D → Told) → Overlay D b (Own 
 content told_below o = overlay_told (told_below o.disk.now).seen o.own o.past.items
 
 -- sector k is one of its own
-abbrev pub Keeps : {D : Type 0} {b : _} → Overlay D b (Own b) → ℕ → Type 0
-Keeps o k = Has (puts_as_writes o.own.puts.items) k
+abbrev pub IsOwnSector : {D : Type 0} {b : _} → Overlay D b (Own b) → ℕ → Type 0
+IsOwnSector o k = Has (puts_as_writes o.own.puts.items) k
 
 -- how many more sectors it can keep
 abbrev pub room_left : {b : _} → Own b → ℕ

@@ -6,7 +6,7 @@ ghost use Rattle.pt_sector.specs.Device.{Wrote, FailedWrite, Flushed};
 ghost use Rattle.pt_sector.specs.Calls.{Blames, untouched_same, untouched_on};
 ghost use Rattle.pt_sector.specs.Reads.{ReadsThrough, through_same, through_on};
 ghost use Rattle.pt_sector.specs.Past.{stopped_same};
-ghost use Rattle.pt_sector.specs.Overlays.{content, Keeps, length-shown, shown, room_left, room_for};
+ghost use Rattle.pt_sector.specs.Overlays.{content, IsOwnSector, length-shown, shown, room_left, room_for};
 
 use crate::address::Lba;
 use crate::disk::{Disk, Fault};
@@ -121,7 +121,7 @@ impl<'a, D: Disk<B>, const B: usize> Disk<B> for Overlay<'a, D, B> {
         ensures fault { IfErr result (λ e. e ≡ Write lba) }
         ensures done { OnOk result (Wrote (content D.told self.old) (content D.told self.new) lba.0 bytes.now) }
         ensures failed { OnErr result (FailedWrite (content D.told self.old) (content D.told self.new) lba.0 bytes.now) }
-        ensures refused { IsErr result ↔ ((room_left self.old.own ≡ 0) × (Keeps self.old lba.0 → ⊥)) }
+        ensures refused { IsErr result ↔ ((room_left self.old.own ≡ 0) × (IsOwnSector self.old lba.0 → ⊥)) }
         ensures kept { OnErr result (self.new.own ≡ self.old.own) }
         ensures room { room_left self.old.own ≤ room_left self.new.own + 1 }
     {

@@ -3,7 +3,7 @@ ghost use Rattle.std.specs.Prelude.{true, false, if◌then◌else◌};
 ghost use Rattle.pt_sector.specs.Sectors.{Sectors, IsSectorSize};
 ghost use Rattle.pt_sector.specs.Writes.{written};
 ghost use Rattle.pt_sector.specs.Written.{value_after};
-ghost use Rattle.pt_sector.specs.Ascending.{IsAscending, IsAt, IsGapFor, Has};
+ghost use Rattle.pt_sector.specs.Ascending.{IsAscending, IsWriteAt, IsGapFor, Has};
 ghost use Rattle.pt_sector.specs.Puts.{puts_as_writes};
 
 use crate::address::Lba;
@@ -82,7 +82,7 @@ impl<const B: usize> Own<B> {
 fn place<const B: usize>(puts: &[Put<B>], lba: Lba) -> Result<usize, usize>
     requires small { B ≤ 4096 }
     requires sorted { IsAscending (puts_as_writes puts.now) }
-    ensures found { IfOk result (IsAt (puts_as_writes puts.now) lba.0) }
+    ensures found { IfOk result (IsWriteAt (puts_as_writes puts.now) lba.0) }
     ensures absent { IfErr result (IsGapFor (puts_as_writes puts.now) lba.0) }
 {
     puts.binary_search_by_key(

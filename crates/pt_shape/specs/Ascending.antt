@@ -3,6 +3,6 @@ use Rattle.std.specs.Prelude.{◌≤◌, ◌+◌, ◌-◌, ◌∷◌, [], ℕ, L
 use Rattle.pt_members.specs.declared.layout.Slice.{Slice}
 
 -- each number is above the one before it
-abbrev pub IsAscending : ℕ → List Slice → Type 0
-IsAscending low [] = Unit {0}
-IsAscending low (s ∷ ss) = (low ≤ s.number) × IsAscending (s.number + 1) ss
+abbrev pub NumbersAscend : ℕ → List Slice → Type 0
+NumbersAscend low [] = Unit {0}
+NumbersAscend low (s ∷ ss) = (low ≤ s.number) × NumbersAscend (s.number + 1) ss

@@ -2,8 +2,8 @@
 use Rattle.std.specs.Prelude.{◌≡◌, ◌<◌, ℕ, List, Contains, length, get_or}
 
 -- thing k of a list
-abbrev pub IsAt : {X : Type 0} → List X → ℕ → X → Type 0
-IsAt ts k t = (k < length ts) × (get_or ts k t ≡ t)
+abbrev pub IsNth : {X : Type 0} → List X → ℕ → X → Type 0
+IsNth ts k t = (k < length ts) × (get_or ts k t ≡ t)
 
 -- each of these sectors has a thing in the list
 abbrev pub Covers : {X : Type 0} → (X → ℕ) → List X → List ℕ → Type 0

@@ -50,8 +50,8 @@ pub record IsMadeRecord (r : Record) : Type 0 where
   pub end_chs : r.end_chs ≡ 0xFE ∷ 0xFF ∷ 0xFF ∷ []
 
 -- a record with another type
-abbrev pub IsTyped : Record → Record → Type 0
-IsTyped old r = r ≡ record old { kind = r.kind }
+abbrev pub IsRetyped : Record → Record → Type 0
+IsRetyped old r = r ≡ record old { kind = r.kind }
 
 -- the records of sector 0
 abbrev pub records_in : Body → List (Option Record)
@@ -70,7 +70,7 @@ IsMbrBody (Gpt t) = ⊥
 -- record k of the old layout, perhaps with another type
 abbrev pub IsOldRecord : Option Layout → ℕ → Record → Type 0
 IsOldRecord None k r = ⊥
-IsOldRecord (Some o) k r = (old : Record) × (slice_index_or (records_in o.body) k None ≡ Some old) × IsTyped old r
+IsOldRecord (Some o) k r = (old : Record) × (slice_index_or (records_in o.body) k None ≡ Some old) × IsRetyped old r
 
 -- the logical partition of the old extended boot record in the same sector, perhaps with another type
 pub record IsOldLogicalOf (o : Layout) (e : Ebr) (r : Record) : Type 0 where
@@ -79,7 +79,7 @@ pub record IsOldLogicalOf (o : Layout) (e : Ebr) (r : Record) : Type 0 where
   pub place : was.at ≡ e.at
   pub old : Record
   pub logical : was.logical ≡ Some old
-  pub typed : IsTyped old r
+  pub typed : IsRetyped old r
 
 abbrev pub IsOldLogical : Option Layout → Ebr → Record → Type 0
 IsOldLogical None e r = ⊥

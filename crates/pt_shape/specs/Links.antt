@@ -32,10 +32,10 @@ LinkedOn x n None (e ∷ es) = ⊥
 LinkedOn x n (Some at) (e ∷ es) = (e.at ≡ at) × IsInside x n at × IsUpward at e.next × LinkedOn x n e.next es
 
 -- a chain of the lone extended record of n sectors, or none
-abbrev pub IsLinked : ℕ → List Record → List Ebr → Type 0
-IsLinked n [] chain = chain ≡ []
-IsLinked n (r ∷ []) chain = (length chain ≤ 128) × LinkedOn (extent_of r) n (Some (lba (extent_of r).first)) chain
-IsLinked n (r ∷ s ∷ rs) chain = ⊥
+abbrev pub IsLoneChain : ℕ → List Record → List Ebr → Type 0
+IsLoneChain n [] chain = chain ≡ []
+IsLoneChain n (r ∷ []) chain = (length chain ≤ 128) × LinkedOn (extent_of r) n (Some (lba (extent_of r).first)) chain
+IsLoneChain n (r ∷ s ∷ rs) chain = ⊥
 
 -- the link to the first of these, in an extended partition from `first` on
 abbrev pub link_to : ℕ → List Ebr → Option Record

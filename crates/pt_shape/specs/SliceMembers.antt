@@ -8,7 +8,7 @@ use Rattle.pt_members.specs.declared.member.Member.{Member}
 use Rattle.pt_members.specs.Members.{number_path, top_group}
 
 -- the slice is this member
-pub record IsSliceOf (s : Slice) (m : Member) : Type 0 where
+pub record IsSliceMember (s : Slice) (m : Member) : Type 0 where
   pub kind : m.kind ≡ kind.Slice
   pub path : m.path ≡ number_path s.number
   pub slice : s ≡ slice_from s.number m.first m.last

@@ -6,7 +6,7 @@ ghost use Rattle.pt_sector.specs.Sectors.{Sectors};
 ghost use Rattle.pt_recover.specs.Denotes.{Denotes};
 ghost use Rattle.pt_recover.specs.Numbers.{Numbers};
 ghost use Rattle.pt_members.specs.Slices.{slices_of, places_of, place_of, has_place, IsPlace};
-ghost use Rattle.pt_recover.specs.Labels.{HasLabel};
+ghost use Rattle.pt_recover.specs.Labels.{SliceHasLabel};
 ghost use Rattle.pt_members.specs.declared.layout.Slice.{Slice};
 ghost use Rattle.pt_members.specs.declared.layout.Layout.{Layout};
 ghost use Rattle.pt_members.specs.declared.layout.Body.TheVariants.{Mbr, Gpt};
@@ -25,14 +25,14 @@ ghost use Rattle.pt_bsd.specs.Label.{LabelBytes};
 ghost use Rattle.pt_bsd.specs.declared.label.Label.{Label};
 ghost use Rattle.pt_shape.specs.Shape.{FitsLabel, Shaped};
 ghost use Rattle.pt_shape.specs.Keeps.{Keeps};
-ghost use Rattle.pt_shape.specs.SliceMembers.{IsSliceOf, LiesUsable};
+ghost use Rattle.pt_shape.specs.SliceMembers.{IsSliceMember, LiesUsable};
 ghost use Rattle.pt_shape.specs.LabelPlaces.{EndsOnDisk};
-ghost use Rattle.pt_shape.specs.Ascending.{IsAscending};
+ghost use Rattle.pt_shape.specs.Ascending.{NumbersAscend};
 ghost use Rattle.pt_shape.specs.Along.{Along, FitsPlace};
 ghost use Rattle.pt_shape.specs.StandsOn.{StandsOn};
-ghost use Rattle.pt_shape.specs.Links.{AllLeadOn, Climbs, IsLinked, AllLinkOn};
+ghost use Rattle.pt_shape.specs.Links.{AllLeadOn, Climbs, IsLoneChain, AllLinkOn};
 ghost use Rattle.pt_shape.specs.Differ.{AllDiffer, own_sectors};
-ghost use Rattle.pt_shape.specs.Covers.{IsAt, Covers};
+ghost use Rattle.pt_shape.specs.Covers.{IsNth, Covers};
 
 /// What a disk denotes is shaped, if its records' numbers have 32 bits: recovery gives no other layout.
 pub fn denoted_is_shaped()
@@ -51,7 +51,7 @@ pub fn keeps_on()
 
 /// Each slice of a layout is a member of its number, on its sectors.
 pub fn slices_are_members()
-    ensures { (b : ℕ) (o : Layout) (s : Slice) → Contains (slices_of b o.body) s → (m : Member) × IsMember b o m × IsSliceOf s m }
+    ensures { (b : ℕ) (o : Layout) (s : Slice) → Contains (slices_of b o.body) s → (m : Member) × IsMember b o m × IsSliceMember s m }
 {}
 
 /// In a sound layout a slice has a sector, and all its sectors are usable on the disk.
@@ -89,7 +89,7 @@ pub fn place_in_gpt()
 
 /// The slices of a shaped layout ascend by their numbers.
 pub fn slices_ascend()
-    ensures { (b : ℕ) (o : Layout) → Shaped b o → IsAscending 1 (slices_of b o.body) }
+    ensures { (b : ℕ) (o : Layout) → Shaped b o → NumbersAscend 1 (slices_of b o.body) }
 {}
 
 /// The walk over the label places of a shaped and sound layout meets each with the label of its slice's number, which
@@ -143,7 +143,7 @@ pub fn links_lead()
 /// The chain of a shaped and sound MBR stands on the disk.
 pub fn chain_is_linked()
     ensures { (b : ℕ) (o : Layout) (rs : List (Option Record)) (chain : List Ebr) → Shaped b o → Sound b o → o.body ≡ Mbr rs chain
-        → IsLinked o.sectors (extended_of rs) chain }
+        → IsLoneChain o.sectors (extended_of rs) chain }
 {}
 
 /// Sector 0 and the extended boot records of an MBR, and the label places, are different sectors.
@@ -154,7 +154,7 @@ pub fn own_sectors_differ()
 /// Of as many numbers as there are different ones, with each of those among them, no two are the same.
 pub fn covering_differs()
     ensures { (ys xs : List ℕ) → AllDiffer ys → Covers (λ x. x) xs ys → length xs ≡ length ys
-        → (i j s t : ℕ) → i < j → IsAt xs i s → IsAt xs j t → s ≢ t }
+        → (i j s t : ℕ) → i < j → IsNth xs i s → IsNth xs j t → s ≢ t }
 {}
 
 /// On a disk that denotes a layout a label place has the label of its slice's number.
@@ -166,7 +166,7 @@ pub fn label_at_place()
 /// So the number has no label exactly where the place has none.
 pub fn no_label_there()
     ensures { (b : ℕ) (d : Sectors) (o : Layout) (w : Slice) → Denotes b d (Some o) → Contains (places_of b o.sectors o.body) w
-        → (label_of o.labels w.number ≡ None) ↔ (¬ HasLabel d w) }
+        → (label_of o.labels w.number ≡ None) ↔ (¬ SliceHasLabel d w) }
 {}
 
 /// A label of a slice is read in each slice from the same first sector that it fits: such a slice is as long.

@@ -2,7 +2,7 @@
 use Rattle.std.proofs.Common.{◌≡◌, ◌<◌, ◌≤◌, ◌+◌, ◌-◌, ℕ, List, length, get_or, refl, sym, ap, ◌∙◌, subst, arith, inl, inr}
 use Rattle.std.proofs.lemmas.Bool.{cases_lt}
 use Rattle.pt_space.specs.declared.space.Run.{Run}
-use Rattle.pt_space.specs.Area.{Area, Holds, IsTaken, IsFree}
+use Rattle.pt_space.specs.Area.{Area, RunHolds, IsTaken, IsFree}
 use Rattle.pt_space.specs.Placed.{Starts}
 use Rattle.pt_space.specs.Started.{HasStarted}
 use Rattle.pt_space.specs.Sweep.{EndsBlock}
@@ -13,7 +13,7 @@ use Rattle.pt_space.proofs.Gaps.{run_at, any_default}
 pub record EndsAfter (a : Area) (i first last : ℕ) : Type 0 where
   pub from : first ≤ last
   pub high : last ≤ a.high
-  pub passed : (j n : ℕ) (d : Run) → j < i → first ≤ n → n ≤ last → ¬ Holds (get_or a.taken j d) n
+  pub passed : (j n : ℕ) (d : Run) → j < i → first ≤ n → n ≤ last → ¬ RunHolds (get_or a.taken j d) n
   pub after : ¬ IsFree a (last + 1)
 
 pub ends_none : (a : Area) (first : ℕ) → IsFree a first → EndsAfter a 0 first a.high
@@ -29,18 +29,18 @@ module _ (a : Area) (i first last : ℕ) (items : List Run) (list : items ≡ a.
   at : (d : Run) → get_or a.taken i d ≡ run_at items i
   at = any_default a items i list inside
 
-  taken : (n : ℕ) → Holds (run_at items i) n → IsTaken a n
+  taken : (n : ℕ) → RunHolds (run_at items i) n → IsTaken a n
   taken n held = (run_at items i, (i, subst (λ (xs : List Run). i < length xs) list inside, at (run_at items i)), held)
 
   -- a run that lies elsewhere leaves the end
-  pub ends_same : ((n : ℕ) → first ≤ n → n ≤ last → ¬ Holds (run_at items i) n) → EndsAfter a (i + 1) first last
+  pub ends_same : ((n : ℕ) → first ≤ n → n ≤ last → ¬ RunHolds (run_at items i) n) → EndsAfter a (i + 1) first last
   ends_same elsewhere = record {
     from = ends.from;
     high = ends.high;
     passed = λ j n d lt low up held. elim (cases_lt j i) as (λ _. ⊥) [
       | inl before ↦ ends.passed j n d before low up held
       | inr past ↦ (let same : j ≡ i = omega arith in
-          elsewhere n low up (subst (λ (r : Run). Holds r n) (ap (λ (k : ℕ). get_or a.taken k d) same ∙ at d) held))
+          elsewhere n low up (subst (λ (r : Run). RunHolds r n) (ap (λ (k : ℕ). get_or a.taken k d) same ∙ at d) held))
     ];
     after = ends.after;
   }
@@ -74,7 +74,7 @@ ends_all a i first last all free ends = record {
   free = λ n low up. (let high = ends.high in (
     (omega (arith, free.0.0), omega arith),
     λ is.
-        ends.passed is.1.0 n is.0 (omega (arith, is.1.1)) low up (subst (λ (r : Run). Holds r n) (sym is.1.2) is.2),
+        ends.passed is.1.0 n is.0 (omega (arith, is.1.1)) low up (subst (λ (r : Run). RunHolds r n) (sym is.1.2) is.2),
   ));
   after = ends.after;
 }

@@ -5,7 +5,7 @@ use Rattle.std.specs.List.Sorted.{IsNonDecreasingBy}
 use Rattle.std.proofs.lemmas.List.{get_or_default}
 use Rattle.std.proofs.lemmas.Bool.{cases_lt, cond-true, cond-false, lt-ltb, le-ltb}
 use Rattle.pt_space.specs.declared.space.Run.{Run}
-use Rattle.pt_space.specs.Area.{Area, Holds, IsTaken, IsFree, IsBlock}
+use Rattle.pt_space.specs.Area.{Area, RunHolds, IsTaken, IsFree, IsBlock}
 use Rattle.pt_space.specs.laws.Blocks.{same_block}
 use Rattle.pt_space.specs.Sweep.{part_of, longer_of, gap_of, best_past, BestBelow, Best}
 use Rattle.pt_space.proofs.Parts.{OneMore, longer_below, no_more, best_of_all}
@@ -56,14 +56,14 @@ swept_start a alignment some = record {
 module _ (a : Area) (alignment i first : ℕ) (best : Option Run) (swept : Swept a alignment i first best)
     (sorted : IsNonDecreasingBy (λ (r : Run). r.first) a.taken) where
   -- no run that stands before i has a sector from the first on
-  not_passed : (n j : ℕ) (d : Run) → first ≤ n → j < i → ¬ Holds (get_or a.taken j d) n
+  not_passed : (n j : ℕ) (d : Run) → first ≤ n → j < i → ¬ RunHolds (get_or a.taken j d) n
   not_passed n j d from lt held =
       let some : (get_or a.taken j d).first ≤ (get_or a.taken j d).last = omega (arith, held.0, held.1) in
       let past = swept.passed j d lt some in
       omega (arith, held.1)
 
   module _ (run : Run) (at : IsAt a i run) where
-    run_taken : (n : ℕ) → Holds run n → IsTaken a n
+    run_taken : (n : ℕ) → RunHolds run n → IsTaken a n
     run_taken n held = (run, (i, at.inside, at.is run), held)
 
     gap_free : (n : ℕ) → first ≤ n → n < run.first → n ≤ a.high → IsFree a n
@@ -72,7 +72,7 @@ module _ (a : Area) (alignment i first : ℕ) (best : Option Run) (swept : Swept
           (omega arith, high),
           λ taken. (let q = taken.0 in let j = taken.1.0 in let here = taken.1.2 in
               elim (cases_lt j i) as (λ _. ⊥) [
-                | inl before ↦ not_passed n j q from before (subst (λ (r : Run). Holds r n) (sym here) taken.2)
+                | inl before ↦ not_passed n j q from before (subst (λ (r : Run). RunHolds r n) (sym here) taken.2)
                 | inr after ↦ (let order = sorted i j q after taken.1.1 in
                     let one = ap (λ (r : Run). r.first) (at.is q) in
                     let two = ap (λ (r : Run). r.first) here in
@@ -180,7 +180,7 @@ module _ (a : Area) (alignment i first : ℕ) (best : Option Run) (swept : Swept
     free = λ n held. (let low = swept.low in (
       (omega (arith, held.0), held.1),
       λ taken.
-          not_passed n taken.1.0 taken.0 held.0 (omega (arith, taken.1.1)) (subst (λ (r : Run). Holds r n) (sym taken.1.2) taken.2),
+          not_passed n taken.1.0 taken.0 held.0 (omega (arith, taken.1.1)) (subst (λ (r : Run). RunHolds r n) (sym taken.1.2) taken.2),
     ));
     before = swept.edge;
     after = λ free. omega (arith, free.0.1);

@@ -5,7 +5,7 @@ use Rattle.pt_words.specs.declared.word.End.{End}
 use Rattle.pt_words.specs.declared.error.Refusal.{Refusal}
 use Rattle.pt_words.specs.declared.error.Refusal.TheVariants.{Overlap}
 use Rattle.pt_space.specs.declared.space.Run.{Run}
-use Rattle.pt_space.specs.Area.{Area, IsIn, IsUsable, IsTaken, IsFree, Leads}
+use Rattle.pt_space.specs.Area.{Area, IsInRuns, IsUsable, IsTaken, IsFree, HasLead}
 use Rattle.pt_space.specs.Placed.{record_taken, NotLed, lead_size, in_largest, NotEnded, NotPlaced, no_end}
 use Rattle.pt_space.specs.laws.Rounding.{rounded_above}
 use Rattle.pt_space.specs.Started.{HasStarted}
@@ -16,19 +16,19 @@ module _ (a : Area) (lead : Option (List ℕ)) (empties : List ℕ) (first : ℕ
   usable : IsUsable a (first - 1)
   usable = (omega arith, omega (arith, free.0.1))
 
-  leads_by : (¬ IsTaken a (first - 1)) ⊎ Contains empties (first - 1) → Leads a lead first
-  leads_by takes = subst (λ (o : Option (List ℕ)). Leads a o first) (sym is_lead) (first - 1, omega arith, (usable, takes))
+  leads_by : (¬ IsTaken a (first - 1)) ⊎ Contains empties (first - 1) → HasLead a lead first
+  leads_by takes = subst (λ (o : Option (List ℕ)). HasLead a o first) (sym is_lead) (first - 1, omega arith, (usable, takes))
 
-  pub led_free : ¬ IsIn runs (first - 1) → Leads a lead first
-  led_free not = leads_by (inl (subst (λ (xs : List Run). ¬ IsIn xs (first - 1)) list not))
+  pub led_free : ¬ IsInRuns runs (first - 1) → HasLead a lead first
+  led_free not = leads_by (inl (subst (λ (xs : List Run). ¬ IsInRuns xs (first - 1)) list not))
 
-  pub led_empty : Contains empties (first - 1) → Leads a lead first
+  pub led_empty : Contains empties (first - 1) → HasLead a lead first
   led_empty there = leads_by (inr there)
 
-  pub led_taken : IsIn runs (first - 1) → ¬ Contains empties (first - 1) → NotLed a lead first Overlap
+  pub led_taken : IsInRuns runs (first - 1) → ¬ Contains empties (first - 1) → NotLed a lead first Overlap
   led_taken taken not = subst (λ (o : Option (List ℕ)). NotLed a o first Overlap) (sym is_lead)
       (record_taken (first - 1) (omega arith) usable (λ is. elim is.1 as (λ _. ⊥) [
-        | inl out ↦ out (subst (λ (xs : List Run). IsIn xs (first - 1)) list taken)
+        | inl out ↦ out (subst (λ (xs : List Run). IsInRuns xs (first - 1)) list taken)
         | inr there ↦ not there
       ]) refl)
 

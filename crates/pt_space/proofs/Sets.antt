@@ -5,13 +5,13 @@ use Rattle.std.proofs.lemmas.Bool.{cases_lt}
 use Rattle.std.specs.List.Sorted.{IsPermutation}
 use Rattle.std.proofs.lemmas.List.Sorted.{Contains-permutation, IsPermutation-sym}
 use Rattle.pt_space.specs.declared.space.Run.{Run}
-use Rattle.pt_space.specs.Area.{Area, Holds, IsIn, IsFree}
+use Rattle.pt_space.specs.Area.{Area, RunHolds, IsInRuns, IsFree}
 use Rattle.pt_space.specs.Alike.{SameSectors, with_taken}
 use Rattle.pt_space.specs.laws.Alike.{turned, block_alike, largest_alike}
 use Rattle.pt_space.specs.Sweep.{Best}
 
 -- a list in another order has the same sectors
-in_permutation : (xs ys : List Run) (k : ℕ) → IsPermutation xs ys → IsIn xs k → IsIn ys k
+in_permutation : (xs ys : List Run) (k : ℕ) → IsPermutation xs ys → IsInRuns xs k → IsInRuns ys k
 in_permutation xs ys k moved is = (is.0, Contains-permutation xs ys is.0 moved is.1, is.2)
 
 same_sectors : (xs ys : List Run) → IsPermutation xs ys → SameSectors xs ys
@@ -35,26 +35,26 @@ pub best_back : (a : Area) (ys : List Run) (alignment : ℕ) (r : Option Run) �
 best_back a ys alignment r moved is =
     best_alike (with_taken a ys) a.taken alignment r (turned a.taken ys (same_sectors a.taken ys moved)) is
 
-in_front : (r : Run) (rs : List Run) (k : ℕ) → Holds r k → IsIn (r ∷ rs) k
+in_front : (r : Run) (rs : List Run) (k : ℕ) → RunHolds r k → IsInRuns (r ∷ rs) k
 in_front r rs k held = (r, (0, omega arith, refl), held)
 
-in_rest : (r : Run) (rs : List Run) (k : ℕ) → IsIn rs k → IsIn (r ∷ rs) k
+in_rest : (r : Run) (rs : List Run) (k : ℕ) → IsInRuns rs k → IsInRuns (r ∷ rs) k
 in_rest r rs k (q, (j, lt, at), held) = (q, (suc j, omega arith, at), held)
 
-in_either : (r : Run) (rs : List Run) (k : ℕ) → IsIn (r ∷ rs) k → Holds r k ⊎ IsIn rs k
-in_either r rs k (q, (zero, lt, at), held) = inl (subst (λ (x : Run). Holds x k) (sym at) held)
+in_either : (r : Run) (rs : List Run) (k : ℕ) → IsInRuns (r ∷ rs) k → RunHolds r k ⊎ IsInRuns rs k
+in_either r rs k (q, (zero, lt, at), held) = inl (subst (λ (x : Run). RunHolds x k) (sym at) held)
 in_either r rs k (q, (suc j, lt, at), held) = inr (q, (j, omega arith, at), held)
 
-in_neither : (r : Run) (rs : List Run) (k : ℕ) → ¬ Holds r k → ¬ IsIn rs k → ¬ IsIn (r ∷ rs) k
+in_neither : (r : Run) (rs : List Run) (k : ℕ) → ¬ RunHolds r k → ¬ IsInRuns rs k → ¬ IsInRuns (r ∷ rs) k
 in_neither r rs k first rest is = elim (in_either r rs k is) as (λ _. ⊥) [ inl x ↦ first x | inr x ↦ rest x ]
 
-taken_or_not : (runs : List Run) (k : ℕ) → IsIn runs k ⊎ ¬ IsIn runs k
+taken_or_not : (runs : List Run) (k : ℕ) → IsInRuns runs k ⊎ ¬ IsInRuns runs k
 taken_or_not [] k = inr (λ is. omega (arith, is.1.1))
-taken_or_not (r ∷ rs) k = elim (taken_or_not rs k) as (λ _. IsIn (r ∷ rs) k ⊎ ¬ IsIn (r ∷ rs) k) [
+taken_or_not (r ∷ rs) k = elim (taken_or_not rs k) as (λ _. IsInRuns (r ∷ rs) k ⊎ ¬ IsInRuns (r ∷ rs) k) [
   | inl there ↦ inl (in_rest r rs k there)
-  | inr rest ↦ elim (cases_lt k r.first) as (λ _. IsIn (r ∷ rs) k ⊎ ¬ IsIn (r ∷ rs) k) [
+  | inr rest ↦ elim (cases_lt k r.first) as (λ _. IsInRuns (r ∷ rs) k ⊎ ¬ IsInRuns (r ∷ rs) k) [
     | inl below ↦ inr (in_neither r rs k (λ held. omega (arith, held.0)) rest)
-    | inr low ↦ elim (cases_lt r.last k) as (λ _. IsIn (r ∷ rs) k ⊎ ¬ IsIn (r ∷ rs) k) [
+    | inr low ↦ elim (cases_lt r.last k) as (λ _. IsInRuns (r ∷ rs) k ⊎ ¬ IsInRuns (r ∷ rs) k) [
       | inl past ↦ inr (in_neither r rs k (λ held. omega (arith, held.1)) rest)
       | inr high ↦ inl (in_front r rs k (low, high))
     ]

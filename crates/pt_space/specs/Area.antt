@@ -20,18 +20,18 @@ empties_of (leads.Record sectors) = Some sectors.items
 abbrev pub area_of : Space → Area
 area_of s = record { low = s.low; high = s.high; taken = s.taken.items; empties = empties_of s.lead }
 
-abbrev pub Holds : Run → ℕ → Type 0
-Holds r k = (r.first ≤ k) × (k ≤ r.last)
+abbrev pub RunHolds : Run → ℕ → Type 0
+RunHolds r k = (r.first ≤ k) × (k ≤ r.last)
 
 abbrev pub IsUsable : Area → ℕ → Type 0
 IsUsable a k = (a.low ≤ k) × (k ≤ a.high)
 
 -- the sector is in one of the runs
-abbrev pub IsIn : List Run → ℕ → Type 0
-IsIn runs k = (r : Run) × Contains runs r × Holds r k
+abbrev pub IsInRuns : List Run → ℕ → Type 0
+IsInRuns runs k = (r : Run) × Contains runs r × RunHolds r k
 
 abbrev pub IsTaken : Area → ℕ → Type 0
-IsTaken a k = IsIn a.taken k
+IsTaken a k = IsInRuns a.taken k
 
 abbrev pub IsFree : Area → ℕ → Type 0
 IsFree a k = IsUsable a k × (¬ IsTaken a k)
@@ -39,7 +39,7 @@ IsFree a k = IsUsable a k × (¬ IsTaken a k)
 -- free sectors with none before or after them
 pub record IsBlock (a : Area) (b : Run) : Type 0 where
   pub some : b.first ≤ b.last
-  pub free : (k : ℕ) → Holds b k → IsFree a k
+  pub free : (k : ℕ) → RunHolds b k → IsFree a k
   pub before : (k : ℕ) → k + 1 ≡ b.first → ¬ IsFree a k
   pub after : ¬ IsFree a (b.last + 1)
 
@@ -48,12 +48,12 @@ abbrev pub TakesRecord : Area → List ℕ → ℕ → Type 0
 TakesRecord a empties k = IsUsable a k × ((¬ IsTaken a k) ⊎ Contains empties k)
 
 -- the sector before a partition's first, where it has to hold an extended boot record
-abbrev pub Leads : Area → Option (List ℕ) → ℕ → Type 0
-Leads a None first = Unit {0}
-Leads a (Some empties) first = (k : ℕ) × (k + 1 ≡ first) × TakesRecord a empties k
+abbrev pub HasLead : Area → Option (List ℕ) → ℕ → Type 0
+HasLead a None first = Unit {0}
+HasLead a (Some empties) first = (k : ℕ) × (k + 1 ≡ first) × TakesRecord a empties k
 
 -- sectors for a partition and the record that leads it
 pub record IsFreeRun (a : Area) (r : Run) : Type 0 where
   pub some : r.first ≤ r.last
-  pub free : (k : ℕ) → Holds r k → IsFree a k
-  pub leads : Leads a a.empties r.first
+  pub free : (k : ℕ) → RunHolds r k → IsFree a k
+  pub leads : HasLead a a.empties r.first

@@ -5,7 +5,7 @@ use Rattle.pt_words.specs.declared.word.End.{End}
 use Rattle.pt_words.specs.declared.word.End.TheVariants.{Block, Length, At}
 use Rattle.pt_words.specs.declared.error.Refusal.{Refusal}
 use Rattle.pt_words.specs.declared.error.Refusal.TheVariants.{NoSpace, OutsideUsable, Overlap}
-use Rattle.pt_space.specs.Area.{Area, Holds, IsUsable, IsTaken, IsFree, IsBlock, TakesRecord, Leads}
+use Rattle.pt_space.specs.Area.{Area, RunHolds, IsUsable, IsTaken, IsFree, IsBlock, TakesRecord, HasLead}
 
 -- the least multiple of an alignment that isn't below a sector, as a law says; with alignment 0 the sector itself
 abbrev pub rounded_up : ℕ → ℕ → ℕ
@@ -41,7 +41,7 @@ pub record IsLargest (a : Area) (alignment : ℕ) (b : Run) : Type 0 where
 -- the first sector of a partition, for the start that a word asks for
 pub data Starts (a : Area) (alignment start first : ℕ) : Type 0 where
   in_largest : (b : Run) → start ≡ 0 → IsLargest a alignment b → first ≡ start_of a alignment b → Starts a alignment start first
-  at_given : start ≢ 0 → IsFree a first → Leads a a.empties first → first ≡ rounded_up alignment start → Starts a alignment start first
+  at_given : start ≢ 0 → IsFree a first → HasLead a a.empties first → first ≡ rounded_up alignment start → Starts a alignment start first
 
 -- why a sector doesn't take a partition's extended boot record
 pub data RecordRefused (a : Area) (empties : List ℕ) (first : ℕ) (r : Refusal) : Type 0 where
@@ -86,7 +86,7 @@ pub data NotEnded (high last first : ℕ) (end : End) (r : Refusal) : Type 0 whe
 pub record StartsIn (a : Area) (alignment start : ℕ) (b : Run) (first : ℕ) : Type 0 where
   pub starts : Starts a alignment start first
   pub is_block : IsBlock a b
-  pub holds : Holds b first
+  pub holds : RunHolds b first
 
 -- where a partition is placed
 pub record Placed (a : Area) (alignment start : ℕ) (end : End) (r : Run) : Type 0 where

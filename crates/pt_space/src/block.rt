@@ -2,14 +2,14 @@
 
 ghost use Rattle.std.specs.Prelude.{◌≡◌, ◌<◌, ◌≤◌, ◌+◌, ◌↔◌, IsTrue, IfSome};
 ghost use Rattle.std.specs.List.Sorted.{IsNonDecreasingBy};
-ghost use Rattle.pt_space.specs.Area.{area_of, empties_of, IsIn, IsFree};
+ghost use Rattle.pt_space.specs.Area.{area_of, empties_of, IsInRuns, IsFree};
 ghost use Rattle.pt_space.specs.Placed.{lead_size, rounded_up};
 ghost use Rattle.pt_space.specs.Sweep.{Fits128, part_of, longer_of, best_past, Best, EndsBlock};
 
 use crate::space::{Lead, Run, Space};
 
 pub(crate) fn is_in(runs: &[Run], k: u128) -> bool
-    ensures { IsTrue result ↔ IsIn runs.now k }
+    ensures { IsTrue result ↔ IsInRuns runs.now k }
 {
     runs.iter().any(|run| run.first <= k && k <= run.last)
 }

@@ -5,16 +5,12 @@
 #![tactic(auto)]
 
 mod block;
-mod laws;
+pub mod laws;
 mod placement;
 mod space;
 mod start;
 mod taken;
 
-pub use laws::{
-    place_answers, placed_by_sectors, placed_is_free, placed_is_not_refused, placed_one,
-    refused_by_sectors, refused_one, rounded_up_is_least,
-};
 pub use placement::place;
 pub use space::{Lead, Run, Space};
 pub use taken::{taken_by_entries, taken_by_logicals, taken_by_parts, taken_by_records};

@@ -1,7 +1,7 @@
 //! A partition's first sector.
 
 ghost use Rattle.std.specs.Prelude.{◌≡◌, ◌≢◌, ◌↔◌, IsTrue, IfOk, IfErr, OnOk, Contains};
-ghost use Rattle.pt_space.specs.Area.{area_of, IsFree, Leads};
+ghost use Rattle.pt_space.specs.Area.{area_of, IsFree, HasLead};
 ghost use Rattle.pt_space.specs.Placed.{NotLed, NotStarted};
 ghost use Rattle.pt_space.specs.Started.{HasStarted};
 
@@ -12,7 +12,7 @@ use pt_words::Refusal;
 // Whether the sector before a free one takes an extended boot record, where it has to.
 fn check_lead(space: &Space, first: u128) -> Result<(), Refusal>
     requires { IsFree (area_of space.now) first }
-    ensures ok { OnOk result (Leads (area_of space.now) (area_of space.now).empties first) }
+    ensures ok { OnOk result (HasLead (area_of space.now) (area_of space.now).empties first) }
     ensures err { IfErr result (NotLed (area_of space.now) (area_of space.now).empties first) }
 {
     match &space.lead {

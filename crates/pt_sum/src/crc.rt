@@ -1,6 +1,6 @@
 //! CRC-32, eight bytes a step by eight tables.
 
-ghost use Rattle.std.specs.Prelude.{◌≡◌, ◌<◌, ◌+◌, ◌*◌, ◌++◌, ℕ, List, length, fold, bit_xor};
+ghost use Rattle.std.specs.Prelude.{◌≡◌, ◌<◌, ◌+◌, ◌*◌, ℕ, length, fold, bit_xor};
 ghost use Rattle.pt_sum.specs.Crc.{bits, after_bit, after_bytes, crc_of};
 ghost use Rattle.pt_sum.specs.Moves.{moved};
 
@@ -110,9 +110,3 @@ impl Crc {
         self.register ^ ALL_ONES
     }
 }
-
-/// The register after two parts is that after the second, begun where the first ended.
-pub fn sum_by_parts()
-    ensures { (register : ℕ) (first second : List ℕ) → after_bytes register (first ++ second) ≡ after_bytes
-        (after_bytes register first) second }
-{}

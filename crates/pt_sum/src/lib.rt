@@ -5,10 +5,11 @@
 #![tactic(auto)]
 
 mod crc;
+pub mod laws;
 mod tables;
 mod words;
 
-pub use crc::{Crc, crc32, sum_by_parts};
+pub use crc::{Crc, crc32};
 pub use words::xor16;
 
 #[cfg(test)]

@@ -7,10 +7,10 @@ use Rattle.std.proofs.lemmas.Bool.{cases_lt}
 use Rattle.std.proofs.lemmas.List.Sorted.{IsPermutation-sym, Contains-permutation, length_permutation, sum_by-IsPermutation}
 use Rattle.std.proofs.lemmas.List.Sums.{sum_by-cons}
 use Rattle.pt_sector.specs.Ascending.{IsAscending}
-use Rattle.pt_targets.specs.Orders.{HasTwins}
+use Rattle.pt_targets.specs.Orders.{HasTwinTargets}
 use Rattle.pt_targets.specs.Selected.{count_targeted}
-use Rattle.pt_targets.specs.Targets.{targeted, sector_of, HasTwoOfOne, InOrder}
-use Rattle.pt_targets.specs.declared.target.Kind.TheVariants.{Stays}
+use Rattle.pt_targets.specs.Targets.{targeted, sector_of, HasTwoOfOne, InSectorOrder}
+use Rattle.pt_targets.specs.declared.target.TargetKind.TheVariants.{Stays}
 use Rattle.pt_targets.specs.declared.target.Target.{Target}
 
 sector_get : {b : ℕ} (ts : List (Target b)) (i : ℕ) (t : Target b) → i < length ts → sector_of ts i ≡ (get_or ts i t).at.0
@@ -19,7 +19,7 @@ sector_get (x ∷ ts) zero t lt = refl
 sector_get (x ∷ ts) (suc i) t lt = sector_get ts i t (omega (arith, lt))
 
 module _ {b : ℕ} (ts : List (Target b)) where
-  pub twins_at : (k : ℕ) (t u : Target b) → 1 ≤ k → k < length ts → (get_or ts (k - 1) t).at.0 ≡ (get_or ts k u).at.0 → HasTwins ts
+  pub twins_at : (k : ℕ) (t u : Target b) → 1 ≤ k → k < length ts → (get_or ts (k - 1) t).at.0 ≡ (get_or ts k u).at.0 → HasTwinTargets ts
   twins_at k t u from lt same =
       let back : k ≡ k - 1 + 1 = omega (arith, from) in (
         k - 1,
@@ -40,7 +40,7 @@ module _ {b : ℕ} (ts : List (Target b)) where
       ∙ sector_get ts k u lt))
       (cases_lt (j + 1) k)
 
-  ascends : IsNonDecreasingBy (λ (t : Target b). t.at.0) ts → ¬ HasTwins ts → IsAscending (targeted ts)
+  ascends : IsNonDecreasingBy (λ (t : Target b). t.at.0) ts → ¬ HasTwinTargets ts → IsAscending (targeted ts)
   ascends up apart i j less lt =
       let within : j < length ts = omega (arith, lt, count_targeted ts) in
       let any : Target b = record { at = record { 0 = 0 }; bytes = []; under = []; kind = Stays } in
@@ -102,13 +102,13 @@ find_two s (t ∷ ts) some = ⊎_elim
     (cases_lt 0 (is_of s t))
 
 module _ {b : ℕ} (ts sorted : List (Target b)) (same : IsPermutation ts sorted) where
-  pub two_of_one : HasTwins sorted → HasTwoOfOne ts
+  pub two_of_one : HasTwinTargets sorted → HasTwoOfOne ts
   two_of_one (k, lt, twins) =
       let s = sector_of sorted k in
       let two = two_at s sorted k (k + 1) (omega arith) lt refl (sym twins) in
       find_two s ts (subst (λ (n : ℕ). 2 ≤ n) (sum_by-IsPermutation (is_of s) ts sorted same) two)
 
-  pub in_order : IsNonDecreasingBy (λ (t : Target b). t.at.0) sorted → ¬ HasTwins sorted → InOrder ts sorted
+  pub in_order : IsNonDecreasingBy (λ (t : Target b). t.at.0) sorted → ¬ HasTwinTargets sorted → InSectorOrder ts sorted
   in_order up apart = record {
     ascending = ascends sorted up apart;
     count = length_permutation ts sorted same;

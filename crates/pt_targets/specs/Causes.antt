@@ -20,7 +20,7 @@ use Rattle.pt_members.specs.Tables.{IsGptTable}
 use Rattle.pt_layout.specs.declared.finding.Finding.{Finding}
 use Rattle.pt_members.specs.Owned.{OwnedOf}
 use Rattle.pt_cases.specs.Cases.{ChangesLabels}
-use Rattle.pt_cases.specs.Causes.{WasMbr}
+use Rattle.pt_cases.specs.Causes.{HadMbr}
 use Rattle.pt_cases.specs.Targets.{Had, IsEncoded}
 use Rattle.pt_targets.specs.Targets.{AreLabelTargets, AreMbrTargets, HasTwoOfOne, IsChange}
 use Rattle.pt_targets.specs.declared.target.Target.{Target}
@@ -32,7 +32,7 @@ pub record IsLabelled (b : ℕ) (p : Layout) (s : ℕ) (w : Slice) (l : Label) :
   pub place : place_of w ≡ s
 
 -- a label comes where o has none, and it doesn't stand there already, over zeros, for recovery of d to read
-pub record IsNewLabel (b : ℕ) (d : Sectors) (o : Option Layout) (p : Layout) (s : ℕ) : Type 0 where
+pub record LabelComes (b : ℕ) (d : Sectors) (o : Option Layout) (p : Layout) (s : ℕ) : Type 0 where
   pub slice : Slice
   pub label : Label
   pub labelled : IsLabelled b p s slice label
@@ -58,7 +58,7 @@ pub record WritesBoth (o : Option Layout) (p : Layout) : Type 0 where
 pub data WouldWrite (b : ℕ) (d : Sectors) (o : Option Layout) (p : Layout) (s : ℕ) : Type 0 where
   copy : 0 < s → IsGptTable b (length d) s → WouldWrite b d o p s
   head : s ≡ 0 → (¬ IsProtective (length d) (sector d 0)) ⊎ IsMbrDisk d → WouldWrite b d o p s
-  new : IsNewLabel b d o p s → WouldWrite b d o p s
+  new : LabelComes b d o p s → WouldWrite b d o p s
   other : IsOtherLabel b d o p s → WouldWrite b d o p s
 
 -- a sector that would be written before the disk turns: the backup copy where a primary one exists, else the primary
@@ -67,13 +67,13 @@ pub data WouldPrecede (b : ℕ) (d : Sectors) (o : Option Layout) (p : Layout) (
   backup : ¬ IsMbrDisk d → HasCopy b d Primary → length d ≤ s + (array_len b + 1) → s < length d → WouldPrecede b d o p s
   primary : ¬ IsMbrDisk d → ¬ HasCopy b d Primary → 0 < s → s < array_len b + 2 → WouldPrecede b d o p s
   both : IsMbrDisk d → 0 < s → IsGptTable b (length d) s → WouldPrecede b d o p s
-  new : IsNewLabel b d o p s → WouldPrecede b d o p s
+  new : LabelComes b d o p s → WouldPrecede b d o p s
 
 -- what the sectors of p must hold where no copy is written: only labels of a GPT change, or p is an MBR in place of one
 abbrev pub TargetsIn : (b : ℕ) → Sectors → Option Layout → Layout → Body → List (Target b) → Type 0
 TargetsIn b d o p (Gpt t) ts = ChangesLabels o p × AreLabelTargets d o p ts
 TargetsIn b d o p (Mbr records chain) ts =
-    (was : WasMbr o) × (heads places : List (Target b)) × AreMbrTargets d was.records was.chain records chain heads
+    (was : HadMbr o) × (heads places : List (Target b)) × AreMbrTargets d was.records was.chain records chain heads
     × AreLabelTargets d o p places
     × (ts ≡ heads ++ places)
 

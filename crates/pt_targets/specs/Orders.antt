@@ -4,5 +4,5 @@ use Rattle.pt_targets.specs.Targets.{sector_of}
 use Rattle.pt_targets.specs.declared.target.Target.{Target}
 
 -- two neighbours are of one sector
-abbrev pub HasTwins : {b : ℕ} → List (Target b) → Type 0
-HasTwins ts = (k : ℕ) × (k + 1 < length ts) × (sector_of ts k ≡ sector_of ts (k + 1))
+abbrev pub HasTwinTargets : {b : ℕ} → List (Target b) → Type 0
+HasTwinTargets ts = (k : ℕ) × (k + 1 < length ts) × (sector_of ts k ≡ sector_of ts (k + 1))

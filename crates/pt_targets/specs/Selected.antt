@@ -14,8 +14,8 @@ use Rattle.pt_cases.specs.laws.Select.{Rises, rises_ascends}
 use Rattle.pt_targets.specs.Targets.{targeted}
 use Rattle.pt_targets.specs.declared.choice.Choice.{Choice}
 use Rattle.pt_targets.specs.declared.choice.Choice.TheVariants.{UnreadNew, Quiet}
-use Rattle.pt_targets.specs.declared.target.Kind.{Kind}
-use Rattle.pt_targets.specs.declared.target.Kind.TheVariants.{New}
+use Rattle.pt_targets.specs.declared.target.TargetKind.{TargetKind}
+use Rattle.pt_targets.specs.declared.target.TargetKind.TheVariants.{New}
 use Rattle.pt_targets.specs.declared.target.Target.{Target}
 
 -- its sector holds something else
@@ -31,8 +31,8 @@ abbrev pub IsQuiet : {b : ℕ} → List Run → Target b → Type 0
 IsQuiet guarded t = Differs t × ¬ IsIn guarded t.at.0
 
 -- a target of this kind
-abbrev pub IsOf : {b : ℕ} → Kind → Target b → Type 0
-IsOf kind t = t.kind ≡ kind
+abbrev pub IsOfKind : {b : ℕ} → TargetKind → Target b → Type 0
+IsOfKind kind t = t.kind ≡ kind
 
 -- a new label that isn't read there already
 abbrev pub IsUnreadNew : {b : ℕ} → List Run → Target b → Type 0
@@ -47,7 +47,7 @@ abbrev pub IsOwnedChange : {b : ℕ} → Option Layout → Target b → Type 0
 IsOwnedChange {b = b} old t = Differs t × OwnedOf b old t.at.0
 
 -- a target of this kind, of a sector that a partition owns
-abbrev pub IsOwnedOf : {b : ℕ} → Option Layout → Kind → Target b → Type 0
+abbrev pub IsOwnedOf : {b : ℕ} → Option Layout → TargetKind → Target b → Type 0
 IsOwnedOf {b = b} old kind t = (t.kind ≡ kind) × OwnedOf b old t.at.0
 
 -- each target's sector is below n
@@ -55,9 +55,9 @@ abbrev pub AllBelow : {b : ℕ} → ℕ → List (Target b) → Type 0
 AllBelow n ts = (t : Target _) → Contains ts t → t.at.0 < n
 
 -- each sector is below those after it
-abbrev pub Climbs : {b : ℕ} → List (Target b) → Type 0
-Climbs [] = Unit {0}
-Climbs (t ∷ ts) = ((u : Target _) → Contains ts u → t.at.0 < u.at.0) × Climbs ts
+abbrev pub TargetsClimb : {b : ℕ} → List (Target b) → Type 0
+TargetsClimb [] = Unit {0}
+TargetsClimb (t ∷ ts) = ((u : Target _) → Contains ts u → t.at.0 < u.at.0) × TargetsClimb ts
 
 pub count_targeted : {b : ℕ} (ts : List (Target b)) → length (targeted ts) ≡ length ts
 count_targeted [] = refl
@@ -70,7 +70,7 @@ contains_sector (t ∷ ts) u (zero, lt, at) = (0, omega arith, ap (λ (x : Targe
 contains_sector (t ∷ ts) u (suc k, lt, at) =
     let later = contains_sector ts u (k, omega (arith, lt), at) in (suc later.0, omega (arith, later.1), later.2)
 
-pub climbs : {b : ℕ} (ts : List (Target b)) → IsAscending (targeted ts) → Climbs ts
+pub climbs : {b : ℕ} (ts : List (Target b)) → IsAscending (targeted ts) → TargetsClimb ts
 climbs [] up = tt
 climbs (t ∷ ts) up = (
   λ u has.
@@ -81,7 +81,7 @@ climbs (t ∷ ts) up = (
 )
 
 -- one target a sector
-pub climbs_one : {b : ℕ} (ts : List (Target b)) (t u : Target b) → Climbs ts → Contains ts t → Contains ts u → t.at.0 ≡ u.at.0 → t ≡ u
+pub climbs_one : {b : ℕ} (ts : List (Target b)) (t u : Target b) → TargetsClimb ts → Contains ts t → Contains ts u → t.at.0 ≡ u.at.0 → t ≡ u
 climbs_one [] t u climb (k, lt, at) has same = absurd (omega (arith, lt))
 climbs_one (x ∷ ts) t u climb (zero, lt, at) (zero, lt_u, at_u) same = sym at ∙ at_u
 climbs_one (x ∷ ts) t u climb (zero, lt, at) (suc j, lt_u, at_u) same =
@@ -97,7 +97,7 @@ climbs_one (x ∷ ts) t u climb (suc k, lt, at) (suc j, lt_u, at_u) same =
 
 -- those before one of them are below it
 pub climbs_past : {b : ℕ} (before : List (Target b)) (u : Target b) (rest : List (Target b)) (t : Target b)
-    → Climbs (before ++ u ∷ rest) → Contains before t → t.at.0 < u.at.0
+    → TargetsClimb (before ++ u ∷ rest) → Contains before t → t.at.0 < u.at.0
 climbs_past [] u rest t climb (k, lt, at) = absurd (omega (arith, lt))
 climbs_past (x ∷ before) u rest t climb (zero, lt, at) =
     let less = climb.0 u (Contains-append_right before (u ∷ rest) u (contains_head u rest)) in
@@ -161,7 +161,7 @@ module _ {b : ℕ} (P : Target b → Type 0) where
       omega (arith, few, more)
   selected_few (t ∷ ts) ws (inr (not, later)) = (let few = selected_few ts ws later in omega (arith, few))
 
-  selected_rise : (ts : List (Target b)) (ws : Writes) → Climbs ts → Selects P ts ws → Rises ws
+  selected_rise : (ts : List (Target b)) (ws : Writes) → TargetsClimb ts → Selects P ts ws → Rises ws
   selected_rise [] ws climb is = subst Rises (sym is) tt
   selected_rise (t ∷ ts) ws climb (inl (rest, holds, is, later)) = subst Rises (sym is) (
     λ s v puts.
@@ -206,7 +206,7 @@ module _ {b : ℕ} (P : Target b → Type 0) where
       → Selects P before (w ∷ []) → P u → TwoOf P ts
   selected_two ts before u rest w parts up is holds =
       let it = selected_from before (w ∷ []) is w.0 w.1 (inl (refl, refl)) in
-      let climb : Climbs (before ++ u ∷ rest) = subst Climbs parts (climbs ts up) in
+      let climb : TargetsClimb (before ++ u ∷ rest) = subst TargetsClimb parts (climbs ts up) in
       record {
         one = it.0;
         other = u;

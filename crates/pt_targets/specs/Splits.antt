@@ -15,7 +15,7 @@ use Rattle.pt_recover.specs.Spans.{InRun, IsIn}
 use Rattle.pt_recover.specs.declared.trace.Run.{Run}
 use Rattle.pt_cases.specs.Copies.{one_write}
 use Rattle.pt_apply.specs.laws.Puts.{puts_split, puts_left, puts_right}
-use Rattle.pt_cases.specs.Targets.{Ends}
+use Rattle.pt_cases.specs.Targets.{ComesToHold}
 use Rattle.pt_targets.specs.Selected.{Differs, IsLoud, IsQuiet, IsUnreadNew, AllBelow, Selects, NotAlone, selected_from, selected_all}
 use Rattle.pt_targets.specs.Selected.{selected_few, selected_ascend, selected_not}
 use Rattle.pt_targets.specs.Targets.{targeted, TellDisk, IsSplit, NotOneLoud, IsOneChange, NotOneChange, AreNewWrites}
@@ -74,7 +74,7 @@ module _ {b : ℕ} (guarded : List Run) (ts : List (Target b)) (up : IsAscending
         (λ right. selected_not (IsLoud guarded) ts (loud ∷ []) up l t has (λ is. is.0 same) x right)
         (puts_split quiet (one_write loud.0 loud.1) t.at.0 x puts)
 
-    ended : (t : Target b) → Contains ts t → Ends d (quiet ++ one_write loud.0 loud.1) t.at.0 t.bytes
+    ended : (t : Target b) → Contains ts t → ComesToHold d (quiet ++ one_write loud.0 loud.1) t.at.0 t.bytes
     ended t has = ⊎_elim
         (λ same. inr (same ∙ tell t has, stayed t has same))
         (λ differs. ⊎_elim

@@ -18,8 +18,8 @@ use Rattle.pt_cases.specs.Copies.{one_write}
 use Rattle.pt_shape.specs.Links.{link_to}
 use Rattle.pt_cases.specs.Records.{IsHeadTarget, IsEbrTarget}
 use Rattle.pt_shape.specs.Along.{Along}
-use Rattle.pt_cases.specs.Targets.{Had, IsEncoded, IsFresh, Ends}
-use Rattle.pt_targets.specs.declared.target.Kind.TheVariants.{Stays, New, Changes}
+use Rattle.pt_cases.specs.Targets.{Had, IsEncoded, IsFresh, ComesToHold}
+use Rattle.pt_targets.specs.declared.target.TargetKind.TheVariants.{Stays, New, Changes}
 use Rattle.pt_targets.specs.declared.target.Target.{Target}
 
 -- the targets as writes, in their order
@@ -70,15 +70,15 @@ HasEbrs {b = b} d old first (e ∷ es) ts =
     × HasEbrs d old first es ts
 
 -- of the lone extended record
-abbrev pub HasChain : {b : _} → Sectors → List Ebr → List Record → List Ebr → List (Target b) → Type 0
-HasChain d old [] chain ts = Unit {0}
-HasChain d old (r ∷ rs) chain ts = HasEbrs d old (extent_of r).first chain ts
+abbrev pub HasLoneChain : {b : _} → Sectors → List Ebr → List Record → List Ebr → List (Target b) → Type 0
+HasLoneChain d old [] chain ts = Unit {0}
+HasLoneChain d old (r ∷ rs) chain ts = HasEbrs d old (extent_of r).first chain ts
 
 -- these are the targets of sector 0 and of the chain, and no others
 pub record AreMbrTargets {b : _} (d : Sectors) (old_records : List (Option Record)) (old_chain : List Ebr)
     (records : List (Option Record)) (chain : List Ebr) (ts : List (Target b)) : Type 0 where
   pub head : HasHead d old_records records ts
-  pub ebrs : HasChain d old_chain (extended_of records) chain ts
+  pub ebrs : HasLoneChain d old_chain (extended_of records) chain ts
   pub each : (t : Target b) → Contains ts t → (t.at.0 ≡ 0) ⊎ StandsAt t.at.0 chain
   pub tell : TellDisk d ts
   pub count : length ts ≡ 1 + length chain
@@ -96,7 +96,7 @@ pub record HasTwoOfOne {b : _} (ts : List (Target b)) : Type 0 where
   pub same : sector_of ts i ≡ sector_of ts j
 
 -- the same targets, by ascending sector
-pub record InOrder {b : _} (ts sorted : List (Target b)) : Type 0 where
+pub record InSectorOrder {b : _} (ts sorted : List (Target b)) : Type 0 where
   pub ascending : IsAscending (targeted sorted)
   pub count : length sorted ≡ length ts
   pub all : (t : Target b) → Contains ts t → Contains sorted t
@@ -114,7 +114,7 @@ pub record IsSplit {b : _} (d : Sectors) (guarded : List Run) (ts : List (Target
   pub read : IsIn guarded loud.0
   pub each : (s : ℕ) (v : List ℕ) → Puts (quiet ++ one_write loud.0 loud.1) s v
       → (t : Target b) × IsChange ts t × (t.at.0 ≡ s) × (t.bytes ≡ v)
-  pub ends : (t : Target b) → Contains ts t → Ends d (quiet ++ one_write loud.0 loud.1) t.at.0 t.bytes
+  pub ends : (t : Target b) → Contains ts t → ComesToHold d (quiet ++ one_write loud.0 loud.1) t.at.0 t.bytes
   pub stays : (t : Target b) → Contains ts t → t.bytes ≡ t.under → (x : List ℕ) → ¬ Puts (quiet ++ one_write loud.0 loud.1) t.at.0 x
 
 -- none, or two, of the sectors that change are among these
@@ -129,7 +129,7 @@ pub record IsOneChange {b : _} (d : Sectors) (ts : List (Target b)) (loud : ℕ 
   pub change : IsChange ts target
   pub at : target.at.0 ≡ loud.0
   pub bytes : target.bytes ≡ loud.1
-  pub ends : (t : Target b) → Contains ts t → Ends d (one_write loud.0 loud.1) t.at.0 t.bytes
+  pub ends : (t : Target b) → Contains ts t → ComesToHold d (one_write loud.0 loud.1) t.at.0 t.bytes
   pub stays : (t : Target b) → Contains ts t → t.bytes ≡ t.under → (x : List ℕ) → ¬ Puts (one_write loud.0 loud.1) t.at.0 x
 
 -- no target changes, or two do

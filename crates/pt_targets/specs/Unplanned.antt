@@ -11,7 +11,7 @@ use Rattle.pt_members.specs.Members.{number_path}
 use Rattle.pt_layout.specs.Sound.{Sound, IsUnsound}
 use Rattle.pt_layout.specs.declared.finding.Finding.{Finding}
 use Rattle.pt_layout.specs.declared.finding.Finding.TheVariants.{ForeignLabel}
-use Rattle.pt_cases.specs.Causes.{MayBe, WasMbr}
+use Rattle.pt_cases.specs.Causes.{MayBePlanned, HadMbr}
 use Rattle.pt_targets.specs.Causes.{IsReused, HasNoTurn, HasNoCopies, IsUnmended}
 use Rattle.pt_targets.specs.Misfits.{LabelsFit, IsFirstLeft, HasUnreadable, NoneLeft}
 use Rattle.pt_targets.specs.Unmade.{HasUnmade}
@@ -22,7 +22,7 @@ use Rattle.pt_targets.specs.declared.error.PlanError.TheVariants.{NotOneSwitch, 
 -- change beside the switch, or before it
 pub data HasNoSwitch (b : ℕ) (d : Sectors) (o : Option Layout) (p : Layout) : Type 0 where
   unreadable : HasUnreadable b d o p → HasNoSwitch b d o p
-  unmade : (records : List (Option Record)) (chain : List Ebr) → p.body ≡ Mbr records chain → (was : WasMbr o)
+  unmade : (records : List (Option Record)) (chain : List Ebr) → p.body ≡ Mbr records chain → (was : HadMbr o)
       → HasUnmade b d was.records was.chain records chain → HasNoSwitch b d o p
   turn : HasNoTurn b d o p → HasNoSwitch b d o p
   copies : HasNoCopies b d o p → HasNoSwitch b d o p
@@ -30,7 +30,7 @@ pub data HasNoSwitch (b : ℕ) (d : Sectors) (o : Option Layout) (p : Layout) : 
 -- why no plan has one switch: the layout may not be one of this disk, or its labels don't go with its slices; or, where
 -- no foreign label would remain, its sectors don't come with one
 pub data NoSwitch (b : ℕ) (d : Sectors) (o : Option Layout) (p : Layout) : Type 0 where
-  other_disk : ¬ MayBe b d o p → NoSwitch b d o p
+  other_disk : ¬ MayBePlanned b d o p → NoSwitch b d o p
   misplaced : ¬ LabelsFit b p → NoSwitch b d o p
   targets : NoneLeft b d p → HasNoSwitch b d o p → NoSwitch b d o p
 

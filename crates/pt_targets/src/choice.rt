@@ -4,9 +4,9 @@ ghost use Rattle.std.specs.Prelude.{◌≡◌, ◌≢◌, ◌↔◌, IsTrue, IfO
 ghost use Rattle.pt_apply.specs.Plans.{writes_of};
 ghost use Rattle.pt_recover.specs.Spans.{IsIn};
 ghost use Rattle.pt_members.specs.Owned.{OwnedOf};
-ghost use Rattle.pt_targets.specs.Selected.{Differs, IsLoud, IsQuiet, IsOf, IsUnreadNew, IsChosen, Selects, IsOwnedChange, IsOwnedOf};
+ghost use Rattle.pt_targets.specs.Selected.{Differs, IsLoud, IsQuiet, IsOfKind, IsUnreadNew, IsChosen, Selects, IsOwnedChange, IsOwnedOf};
 
-use crate::target::{Kind, Target};
+use crate::target::{Target, TargetKind};
 use pt_apply::Write;
 use pt_layout::is_owned;
 use pt_recover::{Layout, Trace};
@@ -41,8 +41,8 @@ pub(crate) fn is_quiet<const B: usize>(target: &Target<B>, guarded: &Trace) -> b
 }
 
 /// Whether it is of this kind.
-pub(crate) fn is_of<const B: usize>(target: &Target<B>, kind: Kind) -> bool
-    ensures { IsTrue result ↔ IsOf kind target.now }
+pub(crate) fn is_of<const B: usize>(target: &Target<B>, kind: TargetKind) -> bool
+    ensures { IsTrue result ↔ IsOfKind kind target.now }
 {
     target.kind == kind
 }
@@ -68,7 +68,7 @@ pub(crate) fn is_owned_change<const B: usize>(target: &Target<B>, old: &Option<L
 pub(crate) fn is_owned_of<const B: usize>(
     target: &Target<B>,
     old: &Option<Layout>,
-    kind: Kind,
+    kind: TargetKind,
 ) -> bool
     ensures { IsTrue result ↔ IsOwnedOf old.now kind target.now }
 {
@@ -79,7 +79,7 @@ pub(crate) fn is_owned_of<const B: usize>(
 pub fn is_unread_new<const B: usize>(target: &Target<B>, guarded: &Trace) -> bool
     ensures { IsTrue result ↔ IsUnreadNew guarded.now target.now }
 {
-    is_of(target, Kind::New) && (is_change(target) || !guarded.contains(target.at))
+    is_of(target, TargetKind::New) && (is_change(target) || !guarded.contains(target.at))
 }
 
 /// Which targets are written.

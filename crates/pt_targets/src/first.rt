@@ -2,21 +2,21 @@
 
 ghost use Rattle.std.specs.Prelude.{IfSome, IfNone};
 ghost use Rattle.pt_targets.specs.Firsts.{IsSectorOf, NoneHas};
-ghost use Rattle.pt_targets.specs.Selected.{IsOwnedChange, IsOwnedOf, IsOf};
-ghost use Rattle.pt_targets.specs.declared.target.Kind.TheVariants.{Changes};
+ghost use Rattle.pt_targets.specs.Selected.{IsOwnedChange, IsOwnedOf, IsOfKind};
+ghost use Rattle.pt_targets.specs.declared.target.TargetKind.TheVariants.{Changes};
 
 use crate::choice::{is_of, is_owned_change, is_owned_of};
-use crate::target::{Kind, Target};
+use crate::target::{Target, TargetKind};
 use pt_recover::Layout;
 use pt_sector::Lba;
 
 /// The sector of the first target that replaces what stands there by something else.
 pub fn first_change<const B: usize>(targets: &[Target<B>]) -> Option<Lba>
-    ensures some { IfSome result (λ at. IsSectorOf (IsOf Changes) targets.now at.0) }
-    ensures none { IfNone result (NoneHas (IsOf Changes) targets.now) }
+    ensures some { IfSome result (λ at. IsSectorOf (IsOfKind Changes) targets.now at.0) }
+    ensures none { IfNone result (NoneHas (IsOfKind Changes) targets.now) }
 {
     for target in targets {
-        if is_of(target, Kind::Changes) {
+        if is_of(target, TargetKind::Changes) {
             return Some(target.at);
         }
     }
@@ -43,7 +43,7 @@ pub fn first_owned_change<const B: usize>(
 pub fn first_owned_of_kind<const B: usize>(
     old: &Option<Layout>,
     targets: &[Target<B>],
-    kind: Kind,
+    kind: TargetKind,
 ) -> Option<Lba>
     ensures some { IfSome result (λ at. IsSectorOf (IsOwnedOf old.now kind) targets.now at.0) }
     ensures none { IfNone result (NoneHas (IsOwnedOf old.now kind) targets.now) }

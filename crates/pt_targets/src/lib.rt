@@ -17,4 +17,4 @@ pub use first::{first_change, first_owned_change, first_owned_of_kind};
 pub use fresh::new_writes;
 pub use order::in_order;
 pub use split::{Split, split_changes};
-pub use target::{Kind, Target};
+pub use target::{Target, TargetKind};

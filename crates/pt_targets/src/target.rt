@@ -4,7 +4,7 @@ use pt_sector::{Lba, Sector};
 
 /// Why a sector is among the targets.
 #[derive(Clone, Copy, Debug, PartialEq, Eq)]
-pub enum Kind {
+pub enum TargetKind {
     /// It holds what it must.
     Stays,
     /// It gets a label, and the disk's layout has none there.
@@ -22,5 +22,5 @@ pub struct Target<const B: usize> {
     pub bytes: Sector<B>,
     /// What it holds on the disk.
     pub under: Sector<B>,
-    pub kind: Kind,
+    pub kind: TargetKind,
 }

@@ -3,10 +3,11 @@ ghost use Rattle.pt_sector.specs.Sectors.{IsSectorSize};
 ghost use Rattle.pt_gpt.specs.Array.{array_len};
 ghost use Rattle.pt_gpt.specs.Entry.{IsTyped};
 
+use pt_gpt::laws::{entry_reads_back, header_reads_back};
 use pt_gpt::{
     CopyError, Entries, Entry, Header, Side, Table, array_at, array_crc, array_sectors,
-    decode_entry, decode_header, encode_array_sector, encode_entry, encode_header,
-    entry_reads_back, header_at, header_reads_back, read_copy,
+    decode_entry, decode_header, encode_array_sector, encode_entry, encode_header, header_at,
+    read_copy,
 };
 use pt_guid::Guid;
 use pt_sector::{CrashDisk, Disk, Lba, MemDisk, Sector};

@@ -6,7 +6,7 @@ use pt_bsd::{Label, LabelEntry, empty_label, encode_label};
 use pt_places::{LabelTargets, label_targets};
 use pt_recover::{Labelled, Labels, Layout, recover};
 use pt_sector::{Disk, Lba, MemDisk, Sector};
-use pt_targets::{Kind, Target};
+use pt_targets::{Target, TargetKind};
 use std::alloc::Global;
 use std::test::Fail;
 
@@ -111,7 +111,7 @@ fn target(alloc: Global, k: usize) -> Result<Option<Target<512>>, Fail> {
 }
 
 /// Whether a target is of this kind and sector, with these bytes.
-fn is(target: Option<Target<512>>, kind: Kind, at: u64, bytes: &Sector<512>) -> bool {
+fn is(target: Option<Target<512>>, kind: TargetKind, at: u64, bytes: &Sector<512>) -> bool {
     match target {
         Some(target) => target.kind == kind && target.at == Lba(at) && target.bytes == *bytes,
         None => false,
@@ -129,7 +129,14 @@ fn is_over(target: Option<Target<512>>, under: &Sector<512>) -> bool {
 #[test]
 fn a_kept_label(rt: HostRuntime) -> Result<(), Fail> {
     let kept = target(rt.alloc(), 0)?;
-    assert!(rt; is(kept, Kind::Stays, 9, &encode_label(&label(1), &[0x22; 512])));
+    assert!(rt;
+        is(
+            kept,
+            TargetKind::Stays,
+            9,
+            &encode_label(&label(1), &[0x22; 512])
+        )
+    );
     Ok(())
 }
 
@@ -139,7 +146,7 @@ fn a_changed_label(rt: HostRuntime) -> Result<(), Fail> {
     assert!(rt;
         is(
             changed,
-            Kind::Changes,
+            TargetKind::Changes,
             17,
             &encode_label(&label(3), &[0x22; 512])
         )
@@ -151,7 +158,14 @@ fn a_changed_label(rt: HostRuntime) -> Result<(), Fail> {
 #[test]
 fn a_new_label(rt: HostRuntime) -> Result<(), Fail> {
     let new = target(rt.alloc(), 2)?;
-    assert!(rt; is(new, Kind::New, 25, &encode_label(&label(4), &[0; 512])));
+    assert!(rt;
+        is(
+            new,
+            TargetKind::New,
+            25,
+            &encode_label(&label(4), &[0; 512])
+        )
+    );
     assert!(rt; is_over(new, &[0x22; 512]));
     Ok(())
 }
@@ -159,7 +173,7 @@ fn a_new_label(rt: HostRuntime) -> Result<(), Fail> {
 #[test]
 fn no_label(rt: HostRuntime) -> Result<(), Fail> {
     let none = target(rt.alloc(), 3)?;
-    assert!(rt; is(none, Kind::Stays, 33, &[0; 512]));
+    assert!(rt; is(none, TargetKind::Stays, 33, &[0; 512]));
     Ok(())
 }
 

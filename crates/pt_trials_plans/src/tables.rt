@@ -9,7 +9,7 @@ use pt_layout::{Body, Ebrs, Labels, Layout, Trace};
 use pt_mbr::Record;
 use pt_phases::{Order, Setting, both_copies};
 use pt_sector::{Lba, Sector};
-use pt_targets::{Kind, PlanError, Target};
+use pt_targets::{PlanError, Target, TargetKind};
 use std::alloc::{AllocError, Global};
 use std::test::Fail;
 
@@ -31,7 +31,7 @@ fn table(alloc: Global) -> Result<Table, AllocError>
 }
 
 /// What a sector over zeros must hold.
-fn target(at: u64, kind: Kind) -> Target<512>
+fn target(at: u64, kind: TargetKind) -> Target<512>
     ensures { result.at.0 ≡ at }
 {
     Target {
@@ -43,7 +43,7 @@ fn target(at: u64, kind: Kind) -> Target<512>
 }
 
 /// One target.
-fn one(alloc: Global, at: u64, kind: Kind) -> Result<Vec<Target<512>>, AllocError>
+fn one(alloc: Global, at: u64, kind: TargetKind) -> Result<Vec<Target<512>>, AllocError>
     requires { at < 4096 }
     ensures { IfOk result (λ ts. All (λ t. t.at.0 < 4096) ts.items) }
 {
@@ -58,8 +58,8 @@ fn two(alloc: Global, first: u64, second: u64) -> Result<Vec<Target<512>>, Alloc
     requires second_in { second < 4096 }
     ensures { IfOk result (λ ts. All (λ t. t.at.0 < 4096) ts.items) }
 {
-    let mut places = one(alloc, first, Kind::New)?;
-    places.push(target(second, Kind::New))?;
+    let mut places = one(alloc, first, TargetKind::New)?;
+    places.push(target(second, TargetKind::New))?;
     Ok(places)
 }
 
@@ -152,7 +152,7 @@ fn orders_without_labels(rt: HostRuntime) -> Result<(), Fail> {
 fn orders_with_labels(rt: HostRuntime) -> Result<(), Fail> {
     let alloc = rt.alloc();
     let blank = Some(ZEROS);
-    let place = one(alloc, 100, Kind::New)?;
+    let place = one(alloc, 100, TargetKind::New)?;
     let labelled = counts_on_none(alloc, Order::PrimaryFirst, blank, place);
     assert!(rt; labelled == Ok([1, 33, 1, 33, 1]));
     let places = two(alloc, 200, 100)?;
@@ -181,7 +181,7 @@ fn counts_on_one(
 fn counts_of_label(
     alloc: Global,
     at: u64,
-    kind: Kind,
+    kind: TargetKind,
 ) -> Result<Result<[usize; 5], PlanError>, Fail>
     requires { at < 4096 }
 {
@@ -192,15 +192,15 @@ fn counts_of_label(
 #[test]
 fn labels_that_are_refused(rt: HostRuntime) -> Result<(), Fail> {
     let alloc = rt.alloc();
-    let owned = counts_of_label(alloc, 100, Kind::New)?;
+    let owned = counts_of_label(alloc, 100, TargetKind::New)?;
     assert!(rt; owned == Err(PlanError::ReusedInOneBatch));
-    let owned_change = counts_of_label(alloc, 199, Kind::Changes)?;
+    let owned_change = counts_of_label(alloc, 199, TargetKind::Changes)?;
     assert!(rt; owned_change == Err(PlanError::ReusedInOneBatch));
-    let change = counts_of_label(alloc, 200, Kind::Changes)?;
+    let change = counts_of_label(alloc, 200, TargetKind::Changes)?;
     assert!(rt; change == Err(PlanError::NotOneSwitch));
-    let early = counts_of_label(alloc, 50, Kind::New)?;
+    let early = counts_of_label(alloc, 50, TargetKind::New)?;
     assert!(rt; early == Err(PlanError::NotOneSwitch));
-    let late = counts_of_label(alloc, 200, Kind::New)?;
+    let late = counts_of_label(alloc, 200, TargetKind::New)?;
     assert!(rt; late == Ok([34, 1, 32, 1, 0]));
     Ok(())
 }

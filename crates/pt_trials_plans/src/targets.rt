@@ -5,7 +5,7 @@ use pt_mbr::Record;
 use pt_recover::{Body, Ebrs, Labels, Layout, Trace};
 use pt_sector::Lba;
 use pt_targets::{
-    Kind, Split, Target, first_change, first_owned_change, first_owned_of_kind, in_order,
+    Split, Target, TargetKind, first_change, first_owned_change, first_owned_of_kind, in_order,
     new_writes, one_change, split_changes,
 };
 use std::alloc::Global;
@@ -15,7 +15,7 @@ const CHANGED: [u8; 512] = [1; 512];
 
 const ZEROS: [u8; 512] = [0; 512];
 
-fn target(at: u64, kind: Kind, bytes: [u8; 512]) -> Target<512> {
+fn target(at: u64, kind: TargetKind, bytes: [u8; 512]) -> Target<512> {
     Target {
         at: Lba(at),
         bytes,
@@ -25,11 +25,11 @@ fn target(at: u64, kind: Kind, bytes: [u8; 512]) -> Target<512> {
 }
 
 fn changed(at: u64) -> Target<512> {
-    target(at, Kind::Changes, CHANGED)
+    target(at, TargetKind::Changes, CHANGED)
 }
 
 fn kept(at: u64) -> Target<512> {
-    target(at, Kind::Stays, ZEROS)
+    target(at, TargetKind::Stays, ZEROS)
 }
 
 /// These sectors, guarded.
@@ -169,9 +169,9 @@ fn a_lone_change(rt: HostRuntime) -> Result<(), Fail> {
 #[test]
 fn new_labels_that_are_not_read(rt: HostRuntime) -> Result<(), Fail> {
     let targets = [
-        target(64, Kind::New, ZEROS),
-        target(128, Kind::New, ZEROS),
-        target(192, Kind::New, CHANGED),
+        target(64, TargetKind::New, ZEROS),
+        target(128, TargetKind::New, ZEROS),
+        target(192, TargetKind::New, CHANGED),
         changed(256),
     ];
     let sectors = fresh(rt.alloc(), &targets, &[64, 192])?;
@@ -183,7 +183,7 @@ fn new_labels_that_are_not_read(rt: HostRuntime) -> Result<(), Fail> {
 #[test]
 fn labels_that_change(rt: HostRuntime) {
     assert!(rt; first_change(&[kept(0), changed(1), changed(2)]) == Some(Lba(1)));
-    assert!(rt; first_change(&[kept(0), target(1, Kind::New, CHANGED)]) == None);
+    assert!(rt; first_change(&[kept(0), target(1, TargetKind::New, CHANGED)]) == None);
 }
 
 #[test]
@@ -193,6 +193,6 @@ fn sectors_that_a_partition_owns(rt: HostRuntime) {
     assert!(rt; first_owned_change(&old, &targets) == Some(Lba(199)));
     assert!(rt; first_owned_change(&old, &[kept(100), changed(200)]) == None);
     assert!(rt; first_owned_change(&None, &targets) == None);
-    assert!(rt; first_owned_of_kind(&old, &targets, Kind::Stays) == Some(Lba(100)));
-    assert!(rt; first_owned_of_kind(&old, &targets, Kind::New) == None);
+    assert!(rt; first_owned_of_kind(&old, &targets, TargetKind::Stays) == Some(Lba(100)));
+    assert!(rt; first_owned_of_kind(&old, &targets, TargetKind::New) == None);
 }

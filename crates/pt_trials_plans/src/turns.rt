@@ -4,7 +4,7 @@ use crate::targets::{guarded, one_partition};
 use pt_apply::{Plan, Write};
 use pt_phases::{one_label, within_mbr};
 use pt_sector::Lba;
-use pt_targets::{Kind, PlanError, Target};
+use pt_targets::{PlanError, Target, TargetKind};
 use std::alloc::Global;
 use std::test::Fail;
 
@@ -18,7 +18,7 @@ fn changed(at: u64) -> Target<512> {
         at: Lba(at),
         bytes: CHANGED,
         under: ZEROS,
-        kind: Kind::Changes,
+        kind: TargetKind::Changes,
     }
 }
 
@@ -27,7 +27,7 @@ fn kept(at: u64) -> Target<512> {
         at: Lba(at),
         bytes: ZEROS,
         under: ZEROS,
-        kind: Kind::Stays,
+        kind: TargetKind::Stays,
     }
 }
 

@@ -1,6 +1,6 @@
 -- Where a new partition ends, by what stands in front.
 use Rattle.std.proofs.Common.{◌≡◌, ◌≢◌, ℕ, List, [], ◌∷◌, get_or, sym, ap, ◌∙◌, subst, arith}
-use Rattle.pt_words.specs.Words.{IsEnd, IsIn, Fits, number, greatest}
+use Rattle.pt_words.specs.Words.{IsEnd, IsNumberIn, Fits, number, greatest}
 use Rattle.pt_words.specs.declared.word.End.{End}
 use Rattle.pt_words.specs.declared.word.End.TheVariants.{Block, Length, At}
 use Rattle.pt_path.proofs.Numbers.{plain_number}
@@ -13,7 +13,7 @@ pub plus_end : (text digits : List ℕ) (e : End) → text ≡ 43 ∷ digits →
 plus_end text digits Block is end =
     let first = heads 43 48 digits [] (sym is ∙ end) in absurd (omega arith)
 plus_end text digits (Length count) is (behind, same, range) =
-    let rest : behind ≡ digits = cc in (count, subst (λ (t : List ℕ). IsIn 1 greatest t count) rest range)
+    let rest : behind ≡ digits = cc in (count, subst (λ (t : List ℕ). IsNumberIn 1 greatest t count) rest range)
 plus_end text digits (At sector) is range =
     absurd ((plain_number text sector range.number).0 (ap (λ (t : List ℕ). get_or t 0 0) is))
 

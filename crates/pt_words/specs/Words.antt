@@ -31,7 +31,7 @@ fields_after None = []
 fields_after (Some text) = fields text
 
 -- the text is a number in a range
-pub record IsIn (least most : ℕ) (text : List ℕ) (n : ℕ) : Type 0 where
+pub record IsNumberIn (least most : ℕ) (text : List ℕ) (n : ℕ) : Type 0 where
   pub number : IsNumber text n
   pub low : least ≤ n
   pub high : n ≤ most
@@ -43,8 +43,8 @@ IsNewPath text p = IsPath text p ⊎ ((text ≡ 48 ∷ []) × (p ≡ record { nu
 -- where a new partition ends: 0 for the block's end, a plus and a length, or a sector
 abbrev pub IsEnd : List ℕ → End → Type 0
 IsEnd text Block = text ≡ 48 ∷ []
-IsEnd text (Length count) = (digits : List ℕ) × (text ≡ 43 ∷ digits) × IsIn 1 greatest digits count
-IsEnd text (At sector) = IsIn 1 greatest text sector
+IsEnd text (Length count) = (digits : List ℕ) × (text ≡ 43 ∷ digits) × IsNumberIn 1 greatest digits count
+IsEnd text (At sector) = IsNumberIn 1 greatest text sector
 
 -- hexadecimal digits of either case, and their value
 pub record IsHex (count : ℕ) (text : List ℕ) (n : ℕ) : Type 0 where
@@ -65,21 +65,21 @@ IsCodeTail rest (Some code) = (text : List ℕ) × (rest ≡ text ∷ []) × IsC
 
 -- the fields are this word's
 abbrev pub IsWord : List (List ℕ) → Edit → Type 0
-IsWord fs (Align k) = (f : List ℕ) × (fs ≡ (97 ∷ []) ∷ f ∷ []) × IsIn 1 65536 f k
+IsWord fs (Align k) = (f : List ℕ) × (fs ≡ (97 ∷ []) ∷ f ∷ []) × IsNumberIn 1 65536 f k
 IsWord fs (New path start end code) =
     (p : List ℕ) × (s : List ℕ) × (e : List ℕ) × (rest : List (List ℕ)) × (fs ≡ (110 ∷ []) ∷ p ∷ s ∷ e ∷ rest)
-    × IsNewPath p path × IsIn 0 greatest s start × IsEnd e end × IsCodeTail rest code
+    × IsNewPath p path × IsNumberIn 0 greatest s start × IsEnd e end × IsCodeTail rest code
 IsWord fs (Delete path) = (f : List ℕ) × (fs ≡ (100 ∷ []) ∷ f ∷ []) × IsPath f path
 IsWord fs (SetKind path code) = (f : List ℕ) × (g : List ℕ) × (fs ≡ (116 ∷ []) ∷ f ∷ g ∷ []) × IsPath f path × IsCode g code
 IsWord fs (SetName number name) =
-    (f : List ℕ) × (g : List ℕ) × (rest : List (List ℕ)) × (fs ≡ (99 ∷ []) ∷ f ∷ g ∷ rest) × IsIn 1 greatest f number
+    (f : List ℕ) × (g : List ℕ) × (rest : List (List ℕ)) × (fs ≡ (99 ∷ []) ∷ f ∷ g ∷ rest) × IsNumberIn 1 greatest f number
     × (string_bytes name ≡ join_with_byte 58 (g ∷ rest))
 IsWord fs (SetUnique number guid) =
-    (f : List ℕ) × (g : List ℕ) × (fs ≡ (117 ∷ []) ∷ f ∷ g ∷ []) × IsIn 1 greatest f number × (stored_of g ≡ Some guid.0)
+    (f : List ℕ) × (g : List ℕ) × (fs ≡ (117 ∷ []) ∷ f ∷ g ∷ []) × IsNumberIn 1 greatest f number × (stored_of g ≡ Some guid.0)
 IsWord fs (SetDisk guid) = (f : List ℕ) × (fs ≡ (85 ∷ []) ∷ f ∷ []) × (stored_of f ≡ Some guid.0)
 IsWord fs (SetBit number bit value) =
-    (f : List ℕ) × (g : List ℕ) × (h : List ℕ) × (fs ≡ (65 ∷ []) ∷ f ∷ g ∷ h ∷ []) × IsIn 1 greatest f number × IsIn 0 63 g bit
-    × IsIn 0 1 h (if value then 1 else 0)
+    (f : List ℕ) × (g : List ℕ) × (h : List ℕ) × (fs ≡ (65 ∷ []) ∷ f ∷ g ∷ h ∷ []) × IsNumberIn 1 greatest f number × IsNumberIn 0 63 g bit
+    × IsNumberIn 0 1 h (if value then 1 else 0)
 IsWord fs Extend = fs ≡ (101 ∷ []) ∷ []
 IsWord fs ToGpt = fs ≡ (103 ∷ []) ∷ []
 IsWord fs Empty = fs ≡ (111 ∷ []) ∷ []
@@ -95,7 +95,7 @@ pub data Field : Type 0 where
 
 -- the field is one of its kind
 abbrev pub Fits : Field → List ℕ → Type 0
-Fits (number low high) f = (n : ℕ) × IsIn low high f n
+Fits (number low high) f = (n : ℕ) × IsNumberIn low high f n
 Fits path f = (p : Path) × IsPath f p
 Fits new_path f = (p : Path) × IsNewPath f p
 Fits end f = (e : End) × IsEnd f e

@@ -4,7 +4,7 @@ ghost use Rattle.std.specs.Prelude.{◌≡◌, IfOk, IfErr, IfSome, IfNone, [], 
 ghost use Rattle.std.specs.Option.{option_map};
 ghost use Rattle.pt_guid.specs.Mixed.{stored_of};
 ghost use Rattle.pt_path.specs.Texts.{IsPath};
-ghost use Rattle.pt_words.specs.Words.{fields, fields_after, IsIn, IsNewPath, IsEnd, IsCode, Misfit, Miscounted};
+ghost use Rattle.pt_words.specs.Words.{fields, fields_after, IsNumberIn, IsNewPath, IsEnd, IsCode, Misfit, Miscounted};
 ghost use Rattle.pt_words.specs.Words.{greatest, number, path, new_path, end, code, guid};
 
 use crate::error::EditError;
@@ -78,7 +78,7 @@ pub(crate) fn three_fields<'a>(
 
 // A number in a range.
 pub(crate) fn number_in(text: &str, low: u64, high: u64) -> Result<u64, EditError>
-    ensures ok { IfOk result (IsIn low high text.now) }
+    ensures ok { IfOk result (IsNumberIn low high text.now) }
     ensures err { IfErr result (Misfit (number low high) text.now) }
 {
     let found = match parse_number(text) {
@@ -96,7 +96,7 @@ pub(crate) fn number_in(text: &str, low: u64, high: u64) -> Result<u64, EditErro
 
 // The number of an entry.
 pub(crate) fn entry_number(text: &str) -> Result<u64, EditError>
-    ensures ok { IfOk result (IsIn 1 greatest text.now) }
+    ensures ok { IfOk result (IsNumberIn 1 greatest text.now) }
     ensures err { IfErr result (Misfit (number 1 greatest) text.now) }
 {
     number_in(text, 1, u64::MAX)

@@ -6,15 +6,12 @@
 mod asked;
 mod error;
 mod field;
-mod laws;
+pub mod laws;
 mod parse;
 mod word;
 mod words;
 
 pub use asked::Asked;
 pub use error::{EditError, Refusal};
-pub use laws::{
-    fault_is_no_word, memory_is_no_fault, text_answers, word_fault_is_one, word_is_one,
-};
 pub use parse::parse_edit;
 pub use word::{Code, Edit, End};

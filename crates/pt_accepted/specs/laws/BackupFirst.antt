@@ -28,7 +28,7 @@ use Rattle.pt_cases.specs.laws.Met.{labels_met_right}
 use Rattle.pt_accepted.specs.laws.Parts.{few_enough, middle, label_middle, backup_high, primary_low, label_good, one_good, array_good}
 use Rattle.pt_accepted.specs.laws.Parts.{backup_good, last_good, backup_there, primary_there, array_filled, labels_met, labels_end}
 use Rattle.pt_layout.specs.Guarded.{place}
-use Rattle.pt_cases.specs.Targets.{Ends}
+use Rattle.pt_cases.specs.Targets.{ComesToHold}
 use Rattle.pt_cases.specs.laws.Within.{side_within, zeros_no_copy, reads_gpt, closed_misses_low}
 
 module _ (b : ℕ) (d : Sectors) (o : Option Layout) (p : Layout) (t : Table) (phases : List Writes) (size : IsSectorSize b)
@@ -118,7 +118,7 @@ module _ (b : ℕ) (d : Sectors) (o : Option Layout) (p : Layout) (t : Table) (p
       (backup_there b d o p t size is.common.sound is.common.sectors is.copies (written is.copies.labels d)
       (length-written is.copies.labels d))
 
-  ended1 : (s : ℕ) (v : List ℕ) → IsPlace (places_of b p.sectors p.body) s → Ends d is.copies.labels s v → sector d1 s ≡ v
+  ended1 : (s : ℕ) (v : List ℕ) → IsPlace (places_of b p.sectors p.body) s → ComesToHold d is.copies.labels s v → sector d1 s ≡ v
   ended1 s v at ends =
       ap (λ (c : Sectors). sector c s) d1_is
       ∙ misses (written is.copies.labels d) backup_writes s
@@ -275,7 +275,7 @@ module _ (b : ℕ) (d : Sectors) (o : Option Layout) (p : Layout) (t : Table) (p
       (few_enough b d o p t size is.common.sound is.common.sectors is.copies _ (backup_first_count b d o p t phases is)) good walk ends
 
   -- each label place ends as it is to
-  pub backup_first_ended : (s : ℕ) (v : List ℕ) → IsPlace (places_of b p.sectors p.body) s → Ends d is.copies.labels s v
+  pub backup_first_ended : (s : ℕ) (v : List ℕ) → IsPlace (places_of b p.sectors p.body) s → ComesToHold d is.copies.labels s v
       → sector (after phases d) s ≡ v
   backup_first_ended s v at ends =
       let m = mid s at in

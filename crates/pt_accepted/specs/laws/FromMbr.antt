@@ -25,7 +25,7 @@ use Rattle.pt_accepted.specs.Landing.{Lands, IsGood, Each, landed}
 use Rattle.pt_cases.specs.laws.Met.{labels_met_right}
 use Rattle.pt_accepted.specs.laws.Parts.{few_enough, middle, label_middle, backup_high, primary_low, label_good, one_good, array_good}
 use Rattle.pt_accepted.specs.laws.Parts.{backup_good, head_good, backup_there, primary_there, array_filled, labels_met, labels_end}
-use Rattle.pt_cases.specs.Targets.{Ends}
+use Rattle.pt_cases.specs.Targets.{ComesToHold}
 
 module _ (b : ℕ) (d : Sectors) (o : Option Layout) (p : Layout) (t : Table) (phases : List Writes) (size : IsSectorSize b)
     (is : IsFromMbr b d o p t phases) where
@@ -112,7 +112,7 @@ module _ (b : ℕ) (d : Sectors) (o : Option Layout) (p : Layout) (t : Table) (p
       subst (λ (c : Sectors). CopyWith b c Backup (header_of b n t Backup) t) (sym d1_is)
       (backup_there b d o p t size is.common.sound is.common.sectors is.copies e3 m3)
 
-  ended1 : (s : ℕ) (v : List ℕ) → IsPlace (places_of b p.sectors p.body) s → Ends d new_labels s v → sector d1 s ≡ v
+  ended1 : (s : ℕ) (v : List ℕ) → IsPlace (places_of b p.sectors p.body) s → ComesToHold d new_labels s v → sector d1 s ≡ v
   ended1 s v at ends =
       ap (λ (c : Sectors). sector c s) d1_is
       ∙ misses e3 backup_writes s (λ x puts. (let up = high s x puts in let m = place_mid s at in omega (arith, up.0, m.1)))
@@ -160,7 +160,7 @@ module _ (b : ℕ) (d : Sectors) (o : Option Layout) (p : Layout) (t : Table) (p
       (few_enough b d o p t size is.common.sound is.common.sectors is.copies _ (from_mbr_count b d o p t phases is)) good walk ends
 
   -- each label place ends as it is to
-  pub from_mbr_ended : (s : ℕ) (v : List ℕ) → IsPlace (places_of b p.sectors p.body) s → Ends d is.copies.labels s v
+  pub from_mbr_ended : (s : ℕ) (v : List ℕ) → IsPlace (places_of b p.sectors p.body) s → ComesToHold d is.copies.labels s v
       → sector (after phases d) s ≡ v
   from_mbr_ended s v at ends =
       let m = place_mid s at in

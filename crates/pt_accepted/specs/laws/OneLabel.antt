@@ -26,7 +26,7 @@ use Rattle.pt_accepted.specs.Landing.{Lands, IsGood, Each, landed}
 use Rattle.pt_cases.specs.laws.Met.{labels_met_right}
 use Rattle.pt_shape.specs.laws.Denoted.{table_fits}
 use Rattle.pt_shape.specs.laws.Stands.{place_usable}
-use Rattle.pt_cases.specs.Targets.{LabelsMet, Ends}
+use Rattle.pt_cases.specs.Targets.{LabelsMet, ComesToHold}
 use Rattle.pt_cases.specs.laws.Within.{side_within}
 
 -- a change of labels alone writes one
@@ -87,7 +87,7 @@ module _ (b : ℕ) (d : Sectors) (o : Option Layout) (p : Layout) (t : Table) (p
       (λ s x puts reads. (let m = put_mid s x puts in
       ⊎_elim (λ h. omega (arith, h, m.1, room)) (λ a. omega (arith, a.0, m.1)) (side_within b d Backup s size reads))) whole.copies.second
 
-  ended_here : (s : ℕ) (v : List ℕ) → IsPlace (places_of b p.sectors p.body) s → Ends d ws s v → sector c s ≡ v
+  ended_here : (s : ℕ) (v : List ℕ) → IsPlace (places_of b p.sectors p.body) s → ComesToHold d ws s v → sector c s ≡ v
   ended_here s v at ends = ⊎_elim
       (λ puts. (let m = mid s at in one_end d is.loud.0 s is.loud.1 v (omega (arith, m.1, room)) puts))
       (λ kept. misses d ws s kept.1 ∙ sym kept.0)
@@ -139,6 +139,6 @@ module _ (b : ℕ) (d : Sectors) (o : Option Layout) (p : Layout) (t : Table) (p
   one_label_lands = landed b d o p phases (ws ∷ []) 0 is.common is.is (omega arith) good walk ends
 
   -- each label place ends as it is to
-  pub one_label_ended : (s : ℕ) (v : List ℕ) → IsPlace (places_of b p.sectors p.body) s → Ends d (one_write is.loud.0 is.loud.1) s v
+  pub one_label_ended : (s : ℕ) (v : List ℕ) → IsPlace (places_of b p.sectors p.body) s → ComesToHold d (one_write is.loud.0 is.loud.1) s v
       → sector (after phases d) s ≡ v
   one_label_ended s v at ends = ap (λ (ps : List Writes). sector (after ps d) s) is.is ∙ ended_here s v at ends

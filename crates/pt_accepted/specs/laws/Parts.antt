@@ -23,7 +23,7 @@ use Rattle.pt_accepted.specs.Landing.{IsGood, Each}
 use Rattle.pt_shape.specs.laws.Stands.{place_usable}
 use Rattle.pt_cases.specs.laws.Sides.{puts_array, puts_backup, array_there, backup_header, backup_array, side_written}
 use Rattle.pt_cases.specs.laws.Met.{labels_set_met}
-use Rattle.pt_cases.specs.Targets.{Ends, LabelsMet}
+use Rattle.pt_cases.specs.Targets.{ComesToHold, LabelsMet}
 
 pub array_small : (b : ℕ) → IsSectorSize b → array_len b ≤ 32
 array_small b (inl e) = rw e (omega arith)
@@ -139,7 +139,7 @@ module _ (b : ℕ) (d : Sectors) (o : Option Layout) (p : Layout) (t : Table) (s
 
   -- label places hold what they are to end as, once the labels are written over what the disk holds there
   pub labels_end : (e : Sectors) (s : ℕ) (v : List ℕ) → length e ≡ length d → sector e s ≡ sector d s
-      → IsPlace (places_of b p.sectors p.body) s → Ends d copies.labels s v → sector (written copies.labels e) s ≡ v
+      → IsPlace (places_of b p.sectors p.body) s → ComesToHold d copies.labels s v → sector (written copies.labels e) s ≡ v
   labels_end e s v count same at (inl puts) =
       let m = middle s at in put_there copies.labels e s v copies.writes.ascending (omega (arith, m.1, room, count)) puts
   labels_end e s v count same at (inr (is, never)) = misses e copies.labels s never ∙ same ∙ sym is

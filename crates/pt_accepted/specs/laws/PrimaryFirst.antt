@@ -30,7 +30,7 @@ use Rattle.pt_cases.specs.laws.Met.{labels_met_right}
 use Rattle.pt_accepted.specs.laws.Parts.{few_enough, middle, label_middle, backup_high, primary_low, label_good, one_good, array_good}
 use Rattle.pt_accepted.specs.laws.Parts.{backup_good, last_good, backup_there, primary_there, array_filled, labels_met, labels_end}
 use Rattle.pt_layout.specs.Guarded.{place}
-use Rattle.pt_cases.specs.Targets.{Ends}
+use Rattle.pt_cases.specs.Targets.{ComesToHold}
 use Rattle.pt_cases.specs.laws.Within.{side_within, zeros_no_head, reads_gpt}
 
 module _ (b : ℕ) (d : Sectors) (o : Option Layout) (p : Layout) (t : Table) (phases : List Writes) (size : IsSectorSize b)
@@ -166,7 +166,7 @@ module _ (b : ℕ) (d : Sectors) (o : Option Layout) (p : Layout) (t : Table) (p
   old2 : Denotes b d2 o
   old2 = ((stop_keeps_lem b d1 d2 p2 calm2 (stopped_written p2 d1)).denotes o).1 old1
 
-  ended2 : (s : ℕ) (v : List ℕ) → IsPlace (places_of b p.sectors p.body) s → Ends d is.copies.labels s v → sector d2 s ≡ v
+  ended2 : (s : ℕ) (v : List ℕ) → IsPlace (places_of b p.sectors p.body) s → ComesToHold d is.copies.labels s v → sector d2 s ≡ v
   ended2 s v at ends =
       ap (λ (c : Sectors). sector c s) d2_is
       ∙ labels_end b d o p t size is.common.sound is.common.sectors is.copies (written primary_array d1) s v
@@ -294,7 +294,7 @@ module _ (b : ℕ) (d : Sectors) (o : Option Layout) (p : Layout) (t : Table) (p
       (few_enough b d o p t size is.common.sound is.common.sectors is.copies _ (primary_first_count b d o p t phases is)) good walk ends
 
   -- each label place ends as it is to
-  pub primary_first_ended : (s : ℕ) (v : List ℕ) → IsPlace (places_of b p.sectors p.body) s → Ends d is.copies.labels s v
+  pub primary_first_ended : (s : ℕ) (v : List ℕ) → IsPlace (places_of b p.sectors p.body) s → ComesToHold d is.copies.labels s v
       → sector (after phases d) s ≡ v
   primary_first_ended s v at ends =
       let m = place_mid s at in

@@ -32,9 +32,9 @@ use Rattle.pt_cases.specs.laws.Frames.{LabelsRight, misses, one_is, one_end, put
 use Rattle.pt_accepted.specs.Landing.{Lands, IsGood, landed}
 use Rattle.pt_cases.specs.laws.Met.{labels_met_right}
 use Rattle.pt_shape.specs.laws.LabelPlaces.{place_below}
-use Rattle.pt_shape.specs.Links.{LinkedOn, IsLinked, link_to}
+use Rattle.pt_shape.specs.Links.{LinkedOn, IsLoneChain, link_to}
 use Rattle.pt_cases.specs.Records.{IsEbrTarget, over, made, EbrsEnd, ChainEnds}
-use Rattle.pt_cases.specs.Targets.{Ends}
+use Rattle.pt_cases.specs.Targets.{ComesToHold}
 
 -- a target reads as its extended boot record
 target_ebr : (b : ℕ) (d : Sectors) (old : List Ebr) (first : ℕ) (e : Ebr) (link : Option Record) (v : List ℕ)
@@ -51,7 +51,7 @@ stands_inside x n (Some at) (e ∷ es) s linked (inl here) =
 stands_inside x n (Some at) (e ∷ es) s linked (inr later) = stands_inside x n e.next es s linked.3 later
 
 module _ (b : ℕ) (d : Sectors) (old : List Ebr) (ws : Writes) (c : Sectors) (count : length c ≡ length d)
-    (ended : (s : ℕ) (v : List ℕ) → s < length d → Ends d ws s v → sector c s ≡ v) where
+    (ended : (s : ℕ) (v : List ℕ) → s < length d → ComesToHold d ws s v → sector c s ≡ v) where
   ends_walk : (x : Span) (from : Option Lba) (list : List Ebr) → LinkedOn x (length d) from list → EbrsEnd b d old ws x.first list
       → Walk c x from list None
   ends_walk x None [] linked end = refl
@@ -70,13 +70,13 @@ module _ (b : ℕ) (d : Sectors) (old : List Ebr) (ws : Writes) (c : Sectors) (c
         ends_walk x e.next es linked.3 later,
       )
 
-  pub chain_ends : (rs : List Record) (list : List Ebr) → IsLinked (length d) rs list → ChainEnds b d old ws rs list → HasChain c rs list
+  pub chain_ends : (rs : List Record) (list : List Ebr) → IsLoneChain (length d) rs list → ChainEnds b d old ws rs list → HasChain c rs list
   chain_ends [] list linked end = linked
   chain_ends (r ∷ []) list linked end =
       record { few = linked.0; whole = ends_walk (extent_of r) (Some (lba (extent_of r).first)) list linked.1 end }
   chain_ends (r ∷ s ∷ rs) list linked end = absurd linked
 
-chain_inside : (n : ℕ) (rs : List Record) (list : List Ebr) (s : ℕ) → IsLinked n rs list → StandsAt s list → s < n
+chain_inside : (n : ℕ) (rs : List Record) (list : List Ebr) (s : ℕ) → IsLoneChain n rs list → StandsAt s list → s < n
 chain_inside n [] list s linked stands = absurd (subst (StandsAt s) linked stands)
 chain_inside n (r ∷ []) list s linked stands = stands_inside (extent_of r) n (Some (lba (extent_of r).first)) list s linked.1 stands
 chain_inside n (r ∷ q ∷ rs) list s linked stands = absurd linked
@@ -85,8 +85,8 @@ chain_inside n (r ∷ q ∷ rs) list s linked stands = absurd linked
 module _ (b : ℕ) (d : Sectors) (o : Option Layout) (p : Layout) (old_records : List (Option Record)) (old_chain : List Ebr)
     (records : List (Option Record)) (chain : List Ebr) (ws : Writes)
     (met : MbrMet b d o p old_records old_chain records chain ws) (body : p.body ≡ Mbr records chain) (sectors : p.sectors ≡ length d)
-    (linked : IsLinked (length d) (extended_of records) chain) (some : 0 < length d)
-    (c : Sectors) (count : length c ≡ length d) (ended : (s : ℕ) (v : List ℕ) → s < length d → Ends d ws s v → sector c s ≡ v) where
+    (linked : IsLoneChain (length d) (extended_of records) chain) (some : 0 < length d)
+    (c : Sectors) (count : length c ≡ length d) (ended : (s : ℕ) (v : List ℕ) → s < length d → ComesToHold d ws s v → sector c s ≡ v) where
   pub place_lt : (s : ℕ) → IsPlace (places_of b p.sectors p.body) s → s < length d
   place_lt s at = let lt = place_below b p.sectors p.body s at in omega (arith, lt, sectors)
 
@@ -120,14 +120,14 @@ mbr_some b d o old records chain from is body = (subst (BodyIs b d) body (subst 
 pub quiet_is_done : (b : ℕ) (d : Sectors) (o : Option Layout) (p : Layout) (old : Layout) (old_records : List (Option Record))
     (old_chain : List Ebr) (records : List (Option Record)) (chain : List Ebr) (quiet : Writes)
     → MbrMet b d o p old_records old_chain records chain quiet → p.body ≡ Mbr records chain → p.sectors ≡ length d
-    → IsLinked (length d) (extended_of records) chain
+    → IsLoneChain (length d) (extended_of records) chain
     → Denotes b d o → o ≡ Some old → old.body ≡ Mbr old_records old_chain → Sound b p → IsAscending quiet → LeavesReads b d quiet
     → IsHealthy b d p
 quiet_is_done b d o p old old_records old_chain records chain quiet met body sectors linked from is_old old_body sound ascending unread =
     let c : Sectors = written quiet d in
     let count : length c ≡ length d = length-written quiet d in
     let some : 0 < length d = mbr_some b d o old old_records old_chain from is_old old_body in
-    let ended : (s : ℕ) (v : List ℕ) → s < length d → Ends d quiet s v → sector c s ≡ v =
+    let ended : (s : ℕ) (v : List ℕ) → s < length d → ComesToHold d quiet s v → sector c s ≡ v =
     λ s v lt ends. ⊎_elim (λ puts. put_there quiet d s v ascending lt puts) (λ kept. misses d quiet s kept.1 ∙ sym kept.0) ends in
     let new : Denotes b c (Some p) =
     mbr_denotes b d o p old_records old_chain records chain quiet met body sectors linked some c count ended in
@@ -172,7 +172,7 @@ module _ (b : ℕ) (d : Sectors) (o : Option Layout) (p : Layout) (records : Lis
   some : 0 < n
   some = mbr_some b d o is.old is.old_records is.old_chain is.common.from is.is_old is.old_body
 
-  ended : (s : ℕ) (v : List ℕ) → s < n → Ends d all s v → sector c s ≡ v
+  ended : (s : ℕ) (v : List ℕ) → s < n → ComesToHold d all s v → sector c s ≡ v
   ended s v lt (inl puts) = ⊎_elim
       (λ quiet. misses d1 loud s (λ x again. is.unread s v quiet (subst (Reads b d) (sym (one_is is.loud.0 s is.loud.1 x again)) is.read))
       ∙ put_there is.quiet d s v is.ascending lt quiet)
@@ -263,6 +263,6 @@ module _ (b : ℕ) (d : Sectors) (o : Option Layout) (p : Layout) (records : Lis
 
   -- each sector ends as it is to
   pub within_mbr_ended : (s : ℕ) (v : List ℕ) → IsPlace (places_of b p.sectors p.body) s
-      → Ends d (is.quiet ++ one_write is.loud.0 is.loud.1) s v → sector (after phases d) s ≡ v
+      → ComesToHold d (is.quiet ++ one_write is.loud.0 is.loud.1) s v → sector (after phases d) s ≡ v
   within_mbr_ended s v at ends =
       ap (λ (x : Sectors). sector x s) after_is ∙ ended s v (less s at) ends

@@ -30,13 +30,13 @@ use Rattle.pt_cases.specs.Copies.{one_write}
 use Rattle.pt_cases.specs.laws.Met.{labels_set_met}
 use Rattle.pt_shape.specs.laws.Ascending.{places_ascend_lem}
 use Rattle.pt_shape.specs.laws.Along.{along_label, along_without}
-use Rattle.pt_shape.specs.Links.{LinkedOn, IsLinked}
+use Rattle.pt_shape.specs.Links.{LinkedOn, IsLoneChain}
 use Rattle.pt_cases.specs.Targets.{Met, LabelsMet, Had, IsLabelSet, stood, set, there, Set, WritesLabels}
 use Rattle.pt_members.specs.OnePath.{HasFour}
 use Rattle.pt_shape.specs.laws.Denoted.{table_fits}
 use Rattle.pt_shape.specs.StandsOn.{StandsOn}
 use Rattle.pt_shape.specs.laws.StandsOn.{along_labels_are}
-use Rattle.pt_cases.specs.Causes.{MayHave, MayBe, IsLeft}
+use Rattle.pt_cases.specs.Causes.{MayHave, MayBePlanned, IsLeft}
 
 walk_linked : (d : Sectors) (x : Span) (from : Option Lba) (list : List Ebr) → Walk d x from list None → LinkedOn x (length d) from list
 walk_linked d x None [] walk = tt
@@ -44,7 +44,7 @@ walk_linked d x (Some at) [] walk = absurd cc
 walk_linked d x None (e ∷ es) walk = absurd walk
 walk_linked d x (Some at) (e ∷ es) walk = (walk.0.bytes.place, walk.0.inside, walk.1, walk_linked d x e.next es walk.2)
 
-chain_linked : (d : Sectors) (rs : List Record) (list : List Ebr) → HasChain d rs list → IsLinked (length d) rs list
+chain_linked : (d : Sectors) (rs : List Record) (list : List Ebr) → HasChain d rs list → IsLoneChain (length d) rs list
 chain_linked d [] list is = is
 chain_linked d (r ∷ []) list is = (is.few, walk_linked d (extent_of r) (Some (lba (extent_of r).first)) list is.whole)
 chain_linked d (r ∷ s ∷ rs) list is = absurd is
@@ -57,7 +57,7 @@ there_may b d p (Mbr records chain) same is =
 
 -- who has a plan may be of its disk
 pub plan_may_be : (b : ℕ) (d : Sectors) (o : Option Layout) (p : Layout) (phases : List Writes) → Denotes b d o → IsPlan b d p phases
-    → MayBe b d o p
+    → MayBePlanned b d o p
 plan_may_be b d o p phases from (idle healthy none) =
     let same : Some p ≡ o = denotes_one_lem b d (Some p) o healthy.denotes from in
     record {

@@ -14,7 +14,7 @@ use Rattle.pt_layout.specs.Healthy.{IsForeign}
 use Rattle.pt_cases.specs.laws.Frames.{LabelsRight}
 use Rattle.pt_shape.specs.Along.{Along}
 use Rattle.pt_shape.specs.laws.Along.{along_map}
-use Rattle.pt_cases.specs.Targets.{IsLabelTarget, kept, changed, new, Ends, Met, LabelsMet, stood, set, there, Set, WritesLabels}
+use Rattle.pt_cases.specs.Targets.{IsLabelTarget, kept, changed, new, ComesToHold, Met, LabelsMet, stood, set, there, Set, WritesLabels}
 
 -- a target is the label of its slice
 pub target_reads : (b : ℕ) (d : Sectors) (o : Option Layout) (w : Slice) (l : Label) (v : List ℕ) → IsLabelTarget b d o w l v
@@ -26,7 +26,7 @@ target_reads b d o w l v (new none is) = is.encoded.reads
 module _ (b : ℕ) (d : Sectors) (o : Option Layout) (ws : Writes) (c : Sectors) where
   -- each of these places holds in c what it was to end as
   abbrev pub Ended : List Slice → Type 0
-  Ended ps = (s : ℕ) (v : List ℕ) → IsPlace ps s → Ends d ws s v → sector c s ≡ v
+  Ended ps = (s : ℕ) (v : List ℕ) → IsPlace ps s → ComesToHold d ws s v → sector c s ≡ v
 
   met_labels : (ps : List Slice) (labels : List Labelled) → Along (Met b d o ws) ps labels → Ended ps → LabelsAre c ps labels
   met_labels [] labels is ended = is
@@ -64,7 +64,7 @@ module _ (b : ℕ) (d : Sectors) (o : Option Layout) (ws : Writes) (c : Sectors)
 
 -- where every place of p ended so, its labels are right
 pub labels_met_right : (b : ℕ) (d : Sectors) (o : Option Layout) (p : Layout) (ws : Writes) (c : Sectors) → LabelsMet b d o p ws
-    → ((s : ℕ) (v : List ℕ) → IsPlace (places_of b p.sectors p.body) s → Ends d ws s v → sector c s ≡ v) → LabelsRight b c p
+    → ((s : ℕ) (v : List ℕ) → IsPlace (places_of b p.sectors p.body) s → ComesToHold d ws s v → sector c s ≡ v) → LabelsRight b c p
 labels_met_right b d o p ws c met ended = (
   met_labels b d o ws c (places_of b p.sectors p.body) p.labels met ended,
   λ n f. met_no_foreign b d o ws c (places_of b p.sectors p.body) p.labels met ended f.slice f.stands f.foreign,

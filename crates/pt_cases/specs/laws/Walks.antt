@@ -15,15 +15,15 @@ use Rattle.pt_shape.specs.laws.Along.{along_map}
 use Rattle.pt_cases.specs.Targets.{IsLabelTarget, Met, LabelsMet}
 
 -- the place of a slice is among the targets, with what it must hold; an unlabelled one with what it holds, which isn't picked
-abbrev pub Targeted : ℕ → Sectors → Option Layout → Writes → (ℕ × List ℕ → Bool) → Slice → Option Label → Type 0
-Targeted b d o targets pick w (Some l) = (v : List ℕ) × IsLabelTarget b d o w l v × Puts targets (place_of w) v
-Targeted b d o targets pick w None =
+abbrev pub SliceTargeted : ℕ → Sectors → Option Layout → Writes → (ℕ × List ℕ → Bool) → Slice → Option Label → Type 0
+SliceTargeted b d o targets pick w (Some l) = (v : List ℕ) × IsLabelTarget b d o w l v × Puts targets (place_of w) v
+SliceTargeted b d o targets pick w None =
     (¬ HasMagic (sector d (place_of w))) × Puts targets (place_of w) (sector d (place_of w))
     × (pick (place_of w, sector d (place_of w)) ≡ false)
 
 module _ (b : ℕ) (d : Sectors) (o : Option Layout) (targets : Writes) (pick : ℕ × List ℕ → Bool) (rises : Rises targets)
     (holds : (s : ℕ) (v : List ℕ) → Puts targets s v → pick (s, v) ≡ false → v ≡ sector d s) where
-  targeted_met : (w : Slice) (l : Option Label) → Targeted b d o targets pick w l → Met b d o (filter pick targets) w l
+  targeted_met : (w : Slice) (l : Option Label) → SliceTargeted b d o targets pick w l → Met b d o (filter pick targets) w l
   targeted_met w (Some l) (v, target, puts) = (v, target, picked_ends pick d targets rises holds (place_of w) v puts)
   targeted_met w None (plain, puts, unpicked) = (
     plain,
@@ -35,10 +35,11 @@ module _ (b : ℕ) (d : Sectors) (o : Option Layout) (targets : Writes) (pick : 
   )
 
   -- the writes that are picked from the targets meet the labels
-  pub targets_meet : (p : Layout) → Along (Targeted b d o targets pick) (places_of b p.sectors p.body) p.labels
+  pub targets_meet : (p : Layout) → Along (SliceTargeted b d o targets pick) (places_of b p.sectors p.body) p.labels
       → LabelsMet b d o p (filter pick targets)
   targets_meet p along =
-      along_map (Targeted b d o targets pick) (Met b d o (filter pick targets)) (places_of b p.sectors p.body) p.labels targeted_met along
+      along_map (SliceTargeted b d o targets pick) (Met b d o (filter pick targets)) (places_of b p.sectors p.body) p.labels targeted_met
+      along
 
 -- the same writes in another order meet them as well
 met_alike : (b : ℕ) (d : Sectors) (o : Option Layout) (a c : Writes) → ((s : ℕ) (v : List ℕ) → Puts a s v ↔ Puts c s v)

@@ -4,7 +4,7 @@ use Rattle.std.specs.Prelude.{slice_range, codes}
 use Rattle.pt_sector.specs.Sectors.{Sectors, sector, IsSectorSize}
 use Rattle.pt_sector.specs.Writes.{Writes, Puts}
 use Rattle.pt_gpt.specs.Array.{array_len, counted}
-use Rattle.pt_gpt.specs.Header.{HasSignature}
+use Rattle.pt_gpt.specs.Header.{HasHeaderSignature}
 use Rattle.pt_gpt.specs.Copy.{header_place, array_place, IsHead, HasCopy, SideReads}
 use Rattle.pt_gpt.specs.declared.header.Header.{Header}
 use Rattle.pt_gpt.specs.declared.table.Side.{Side}
@@ -30,16 +30,16 @@ side_within b c side s size (inr (h, is, inside)) =
     inr (omega (arith, is.placed.place, inside.0), omega (arith, is.placed.place, inside.1, few))
 
 -- zeros are no header
-no_signature : (b : ℕ) → IsSectorSize b → ¬ HasSignature (replicate b 0)
+no_signature : (b : ℕ) → IsSectorSize b → ¬ HasHeaderSignature (replicate b 0)
 no_signature b (inl e) =
-    λ is. (let no : slice_range (replicate 512 0) 0 8 ≡ codes "EFI PART" = subst (λ (n : ℕ). HasSignature (replicate n 0)) e is in
+    λ is. (let no : slice_range (replicate 512 0) 0 8 ≡ codes "EFI PART" = subst (λ (n : ℕ). HasHeaderSignature (replicate n 0)) e is in
     absurd (cc no))
 no_signature b (inr e) =
-    λ is. (let no : slice_range (replicate 4096 0) 0 8 ≡ codes "EFI PART" = subst (λ (n : ℕ). HasSignature (replicate n 0)) e is in
+    λ is. (let no : slice_range (replicate 4096 0) 0 8 ≡ codes "EFI PART" = subst (λ (n : ℕ). HasHeaderSignature (replicate n 0)) e is in
     absurd (cc no))
 
 pub zeros_no_head : (b : ℕ) (c : Sectors) (h : Header) → IsSectorSize b → sector c 1 ≡ replicate b 0 → ¬ IsHead b c Primary h
-zeros_no_head b c h size zeros is = no_signature b size (subst HasSignature zeros is.bytes.signature)
+zeros_no_head b c h size zeros is = no_signature b size (subst HasHeaderSignature zeros is.bytes.signature)
 
 pub zeros_no_copy : (b : ℕ) (c : Sectors) → IsSectorSize b → sector c 1 ≡ replicate b 0 → ¬ HasCopy b c Primary
 zeros_no_copy b c size zeros (t, copy) = zeros_no_head b c copy.head size zeros copy.stands.is_head

@@ -19,7 +19,7 @@ use Rattle.pt_check.specs.Answers.{Answers}
 use Rattle.pt_check.specs.Course.{phase_at, disk_after, IsCalm, LayoutsAre, Course, switch_number}
 use Rattle.pt_apply.specs.Plans.{writes_in, NoneIs}
 use Rattle.pt_check.specs.Misplaced.{InNoTable, InOwned}
-use Rattle.pt_check.specs.Reasons.{FirstWrite, FirstSector, IsOutside, ChangesBoot, IsFit, ReadsSector, Leads, GivesNeither, IsSwitch}
+use Rattle.pt_check.specs.Reasons.{FirstWrite, FirstSector, IsPastLast, ChangesBoot, IsFit, ReadsSector, Leads, GivesNeither, IsSwitch}
 use Rattle.pt_check.specs.Reasons.{IsStray, IsOwned, Holds}
 use Rattle.pt_check.specs.declared.answer.Answer.TheVariants.{Yes}
 use Rattle.pt_check.specs.declared.answer.Why.{Why}
@@ -121,7 +121,7 @@ module _ {L : Type 0} (denotes : Sectors → Option L → Type 0) (reads : Secto
 
   pub no_reason : (v : Why) → ¬ Holds denotes reads table owned finds d phases v
   no_reason TooManyWrites = λ many. absurd (omega (arith, many, fit.few))
-  no_reason (OutOfRange n) = first_no (IsOutside d) n fit.inside
+  no_reason (OutOfRange n) = first_no (IsPastLast d) n fit.inside
   no_reason (BootCode n) = first_no (ChangesBoot d) n fit.boot
   no_reason (ReadSector p lba) = λ r. no_read denotes reads one phases d p lba.0 r (course.calm r.i r.below)
   no_reason (Neither p) = λ g. no_neither denotes reads one phases d old new leads (length phases) switch course.layouts p g g.below

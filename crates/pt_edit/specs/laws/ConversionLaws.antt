@@ -11,11 +11,11 @@ use Rattle.pt_members.specs.declared.layout.Layout.{Layout}
 use Rattle.pt_members.specs.declared.layout.Body.TheVariants.{Gpt}
 use Rattle.pt_words.specs.declared.error.Refusal.{Refusal}
 use Rattle.pt_edit.specs.Partitions.{partitions}
-use Rattle.pt_edit.specs.Converted.{IsAt, entry_of, IsGptOf, Converted, NotConverted, no_mbr, unknown, no_room, too_few, twins}
+use Rattle.pt_edit.specs.Converted.{IsItemAt, entry_of, IsGptOf, Converted, NotConverted, no_mbr, unknown, no_room, too_few, twins}
 use Rattle.pt_edit.specs.declared.partition.Partition.{Partition}
 
 -- a place of a list holds one thing
-one_at : {X : Type 0} (xs : List X) (k : ℕ) (x y : X) → IsAt xs k x → IsAt xs k y → x ≡ y
+one_at : {X : Type 0} (xs : List X) (k : ℕ) (x y : X) → IsItemAt xs k x → IsItemAt xs k y → x ≡ y
 one_at xs k x y a b = sym a.1 ∙ (get_or_default xs k x y a.0 ∙ b.1)
 
 -- lists of one length that agree in each place are one
@@ -31,7 +31,7 @@ same_lists (x ∷ xs) (y ∷ ys) d len same =
 
 -- a number is one of the partitions', or of none of them
 abbrev Numbered : List Partition → ℕ → Type 0
-Numbered ps n = (k : ℕ) × (p : Partition) × IsAt ps k p × (p.number ≡ n)
+Numbered ps n = (k : ℕ) × (p : Partition) × IsItemAt ps k p × (p.number ≡ n)
 
 abbrev Spare : List Partition → ℕ → Type 0
 Spare ps n = (p : Partition) → Contains ps p → p.number ≢ n
@@ -65,7 +65,7 @@ one_entry b n guids ps t u x y enough k lt =
     elim (numbered_or ps (k + 1)) as (λ _. slice_index_or t.entries k None ≡ slice_index_or u.entries k None) [
       | inl (i, p, at, is) ↦ (
           let guid : Guid = slice_index_or guids (1 + i) t.disk in
-          let some : IsAt guids (1 + i) guid = (omega (arith, at.0), get_or_default guids (1 + i) guid t.disk (omega (arith, at.0))) in
+          let some : IsItemAt guids (1 + i) guid = (omega (arith, at.0), get_or_default guids (1 + i) guid t.disk (omega (arith, at.0))) in
           let place : p.number - 1 ≡ k = omega arith in
           let one = subst (λ (m : ℕ). slice_index_or t.entries m None ≡ entry_of guid p) place (x.each i p guid at some) in
           let other = subst (λ (m : ℕ). slice_index_or u.entries m None ≡ entry_of guid p) place (y.each i p guid at some) in

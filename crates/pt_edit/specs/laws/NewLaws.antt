@@ -8,9 +8,10 @@ use Rattle.pt_gpt.specs.declared.table.Table.{Table}
 use Rattle.pt_members.specs.declared.layout.Layout.{Layout}
 use Rattle.pt_space.specs.declared.space.Run.{Run}
 use Rattle.pt_space.specs.laws.Terms.{placed_one_lem, placed_is_not_refused_lem, refused_one_lem}
-use Rattle.pt_edit.specs.Changes.{HasEntry, Elsewhere}
-use Rattle.pt_edit.specs.NewEntry.{IsUnused, TakesNumber, given, lowest, NoNumber, no_such_number, taken, all_taken, new_type, table_area}
-use Rattle.pt_edit.specs.NewEntry.{HasPlace, NoPlace, no_number, no_type, no_sectors, IsWrongSize, EntryMade, EntryNotMade, no_place}
+use Rattle.pt_edit.specs.Changes.{HasUsedEntry, Elsewhere}
+use Rattle.pt_edit.specs.NewEntry.{IsUnusedEntry, TakesNumber, given, lowest, NoNumber, no_such_number, taken, all_taken, new_type}
+use Rattle.pt_edit.specs.NewEntry.{table_area}
+use Rattle.pt_edit.specs.NewEntry.{EntryHasPlace, NoPlace, no_number, no_type, no_sectors, IsWrongSize, EntryMade, EntryNotMade, no_place}
 use Rattle.pt_edit.specs.NewEntry.{wrong_size, no_guid, same_guid}
 use Rattle.pt_words.specs.declared.asked.Asked.{Asked}
 use Rattle.pt_words.specs.declared.error.Refusal.{Refusal}
@@ -32,7 +33,7 @@ number_one t wanted m n (lowest zero unused least) (given some free is) = absurd
 number_one t wanted m n (lowest zero unused least) (lowest none free also) =
     let below = least n free in let above = also m unused in omega arith
 
-unused_entry : (t : Table) (n : ℕ) (e : Entry) → IsUnused t n → HasEntry t n e → ⊥
+unused_entry : (t : Table) (n : ℕ) (e : Entry) → IsUnusedEntry t n → HasUsedEntry t n e → ⊥
 unused_entry t n e free entry = some_none e (sym entry.used ∙ free.none)
 
 -- or refused
@@ -62,8 +63,8 @@ record IsSame (m n : ℕ) (kind type : List ℕ) (run other : Run) : Type 0 wher
   kinds : kind ≡ type
   runs : run ≡ other
 
-place_one : (t : Table) (a : Asked) (m n : ℕ) (kind type : List ℕ) (run other : Run) → HasPlace t a m kind run
-    → HasPlace t a n type other → IsSame m n kind type run other
+place_one : (t : Table) (a : Asked) (m n : ℕ) (kind type : List ℕ) (run other : Run) → EntryHasPlace t a m kind run
+    → EntryHasPlace t a n type other → IsSame m n kind type run other
 place_one t a m n kind type run other x y = record {
   number = number_one t a.number m n x.takes y.takes;
   kinds = some_one (new_type a.code) kind type x.known y.known;
@@ -71,7 +72,7 @@ place_one t a m n kind type run other x y = record {
 }
 
 -- or there is none
-place_taken : (t : Table) (a : Asked) (n : ℕ) (kind : List ℕ) (run : Run) (r : Refusal) → HasPlace t a n kind run → NoPlace t a r → ⊥
+place_taken : (t : Table) (a : Asked) (n : ℕ) (kind : List ℕ) (run : Run) (r : Refusal) → EntryHasPlace t a n kind run → NoPlace t a r → ⊥
 place_taken t a n kind run r x (no_number none) = number_taken t a.number n r x.takes none
 place_taken t a n kind run r x (no_type m takes none is) = some_none kind (sym x.known ∙ none)
 place_taken t a n kind run r x (no_sectors m type takes known none) =
@@ -99,14 +100,14 @@ entry_made_one b t a fresh o p q x y =
     let guid : x.guid ≡ y.guid = cc in
     x.made ∙ (rw (same.number, same.kinds, same.runs, guid) (sym y.made))
 
-wrong_there : (b : ℕ) (t : Table) (a : Asked) (m n : ℕ) (kind type : List ℕ) (run other : Run) → HasPlace t a m kind run
-    → HasPlace t a n type other → ¬ IsWrongSize b kind run → IsWrongSize b type other → ⊥
+wrong_there : (b : ℕ) (t : Table) (a : Asked) (m n : ℕ) (kind type : List ℕ) (run other : Run) → EntryHasPlace t a m kind run
+    → EntryHasPlace t a n type other → ¬ IsWrongSize b kind run → IsWrongSize b type other → ⊥
 wrong_there b t a m n kind type run other x y size wrong =
     let same = place_one t a m n kind type run other x y in
     size (subst (λ (k : List ℕ). IsWrongSize b k run) (sym same.kinds) (subst (λ (r : Run). IsWrongSize b type r) (sym same.runs) wrong))
 
 elsewhere_there : (t : Table) (a : Asked) (m n : ℕ) (kind type : List ℕ) (run other : Run) (g h : Guid) (gs hs : List Guid)
-    → g ∷ gs ≡ h ∷ hs → HasPlace t a m kind run → HasPlace t a n type other → ¬ Elsewhere t m g → Elsewhere t n h → ⊥
+    → g ∷ gs ≡ h ∷ hs → EntryHasPlace t a m kind run → EntryHasPlace t a n type other → ¬ Elsewhere t m g → Elsewhere t n h → ⊥
 elsewhere_there t a m n kind type run other g h gs hs lists x y alone twice =
     let same = place_one t a m n kind type run other x y in
     let guid : g ≡ h = cc in

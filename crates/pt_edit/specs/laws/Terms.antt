@@ -17,11 +17,11 @@ use Rattle.pt_labels.specs.laws.Terms.{not_deleted_one_lem}
 use Rattle.pt_labels.specs.laws.Retyped.{not_retyped_one, retyped_taken}
 use Rattle.pt_edit.specs.Spots.{is_slice, entry_type, EntryTyped, EntryNotTyped, EntryDeleted}
 use Rattle.pt_edit.specs.Spots.{EntryNotDeleted}
-use Rattle.pt_edit.specs.Changes.{IsGpt, HasEntry, Changed, Missing, no_gpt, no_entry, NotChanged, missing, barred, TableMade, NoTable}
+use Rattle.pt_edit.specs.Changes.{IsGpt, HasUsedEntry, Changed, Missing, no_gpt, no_entry, NotChanged, missing, barred, TableMade, NoTable}
 use Rattle.pt_edit.specs.Changes.{with_body}
 use Rattle.pt_edit.specs.laws.NewLaws.{cons_some, entry_made_one, entry_made_taken, entry_not_made_one}
 use Rattle.pt_edit.specs.Edited.{State, InKind, Typed, NotTyped, Deleted, NotDeleted, Made, NotMade, asked_for, MakesOf, RefusedOf, MakesOn}
-use Rattle.pt_edit.specs.Edited.{RefusesOn, Emptied, EmptyRefused, no_room, no_guid, Takes, Refuses, Ends, EditedFrom, Edited, initial}
+use Rattle.pt_edit.specs.Edited.{RefusesOn, Emptied, EmptyRefused, no_room, no_guid, Takes, Refuses, WordsEnd, EditedFrom, Edited, initial}
 use Rattle.pt_words.specs.declared.asked.Asked.{Asked}
 use Rattle.pt_words.specs.declared.error.Refusal.{Refusal}
 use Rattle.pt_words.specs.declared.word.Code.{Code}
@@ -34,7 +34,7 @@ one_table : (o : Body) (t u : Table) → o ≡ Gpt t → o ≡ Gpt u → t ≡ u
 one_table o t u a b = cc
 
 -- a number is of one used entry
-one_entry : (t : Table) (number : ℕ) (e f : Entry) → HasEntry t number e → HasEntry t number f → e ≡ f
+one_entry : (t : Table) (number : ℕ) (e f : Entry) → HasUsedEntry t number e → HasUsedEntry t number f → e ≡ f
 one_entry t number e f a b = cc
 
 gpt_is : (o : Body) (t : Table) → o ≡ Gpt t → IsGpt o
@@ -43,14 +43,14 @@ gpt_is o t is = subst IsGpt (sym is) tt
 -- a used entry of the layout's table
 record EntryOf (o : Layout) (number : ℕ) (t : Table) (e : Entry) : Type 0 where
   is_table : o.body ≡ Gpt t
-  is_entry : HasEntry t number e
+  is_entry : HasUsedEntry t number e
 
 same_table : (o : Layout) (number : ℕ) (t u : Table) (e f : Entry) → EntryOf o number t e → EntryOf o number u f → t ≡ u
 same_table o number t u e f a b = one_table o.body t u a.is_table b.is_table
 
 same_entry : (o : Layout) (number : ℕ) (t u : Table) (e f : Entry) → EntryOf o number t e → EntryOf o number u f → e ≡ f
 same_entry o number t u e f a b =
-    one_entry t number e f a.is_entry (subst (λ (x : Table). HasEntry x number f) (sym (same_table o number t u e f a b)) b.is_entry)
+    one_entry t number e f a.is_entry (subst (λ (x : Table). HasUsedEntry x number f) (sym (same_table o number t u e f a b)) b.is_entry)
 
 -- a layout with one entry changed is one
 changed_one : (number : ℕ) (Allowed : Table → Type 0) (change : Entry → Entry) (o p q : Layout) → Changed number Allowed change o p
@@ -63,11 +63,11 @@ changed_one number Allowed change o p q a b =
     a.made ∙ (rw (t, e) (sym b.made))
 
 -- what has a used entry misses none
-entry_there : (number : ℕ) (o : Layout) (t : Table) (e : Entry) (r : Refusal) → o.body ≡ Gpt t → HasEntry t number e
+entry_there : (number : ℕ) (o : Layout) (t : Table) (e : Entry) (r : Refusal) → o.body ≡ Gpt t → HasUsedEntry t number e
     → Missing number o r → ⊥
 entry_there number o t e r table entry (no_gpt not is) = not (gpt_is o.body t table)
 entry_there number o t e r table entry (no_entry u also none is) =
-    none e (subst (λ (x : Table). HasEntry x number e) (one_table o.body t u table also) entry)
+    none e (subst (λ (x : Table). HasUsedEntry x number e) (one_table o.body t u table also) entry)
 
 -- what changes isn't refused
 changed_taken : (number : ℕ) (Allowed Barred : Table → Type 0) (change : Entry → Entry) (why : Refusal) (o p : Layout) (r : Refusal)
@@ -113,7 +113,7 @@ entry_typed_one b t number code o p q x y =
 entry_typed_taken : (b : ℕ) (t : Table) (number : ℕ) (code : Code) (o p : Layout) (r : Refusal) → EntryTyped b t number code o p
     → EntryNotTyped b t number code r → ⊥
 entry_typed_taken b t number code o p r x y =
-    retyped_taken (HasEntry t number) (entry_type code) (λ (e : Entry). e.kind.0) (is_slice b) r
+    retyped_taken (HasUsedEntry t number) (entry_type code) (λ (e : Entry). e.kind.0) (is_slice b) r
     (λ u v has there. ap (λ (e : Entry). e.kind.0) (one_entry t number u v has there))
     (x.entry, x.kind, x.is_entry, x.known, x.old, x.new) y
 
@@ -319,7 +319,7 @@ refuses_one b n (SetBit number bit value) s r q x y = refused_of_one b (SetBit n
 refuses_one b n Extend s r q x y = refused_of_one b Extend s.alignment s.fresh s.layout r q x y
 refuses_one b n ToGpt s r q x y = refused_of_one b ToGpt s.alignment s.fresh s.layout r q x y
 
-ends_one : (o : Option Layout) (r q : Result Layout Refusal) → Ends o r → Ends o q → r ≡ q
+ends_one : (o : Option Layout) (r q : Result Layout Refusal) → WordsEnd o r → WordsEnd o q → r ≡ q
 ends_one None r q a b = a ∙ sym b
 ends_one (Some o) r q a b = a ∙ sym b
 

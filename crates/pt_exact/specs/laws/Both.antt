@@ -28,7 +28,7 @@ use Rattle.pt_shape.specs.laws.Along.{along_label}
 use Rattle.pt_cases.specs.Asked.{Asked, backup_first_puts, primary_first_puts, from_mbr_puts}
 use Rattle.pt_cases.specs.laws.Sides.{array_any}
 use Rattle.pt_cases.specs.Targets.{Had, IsEncoded, IsLabelSet, stood, set, there, Set}
-use Rattle.pt_targets.specs.Causes.{WouldWrite, IsNewLabel, IsOtherLabel, WouldPrecede, TargetsIn, TargetsOf, IsReused, HasNoTurn}
+use Rattle.pt_targets.specs.Causes.{WouldWrite, LabelComes, IsOtherLabel, WouldPrecede, TargetsIn, TargetsOf, IsReused, HasNoTurn}
 use Rattle.pt_targets.specs.Causes.{HasNoCopies, SharesSector}
 use Rattle.pt_targets.specs.Causes as cause
 use Rattle.pt_targets.specs.declared.target.Target.{Target}
@@ -82,7 +82,7 @@ module _ (b : ℕ) (d : Sectors) (o : Option Layout) (p : Layout) (t : Table) (s
       (subst (λ (k : ℕ). Had b d o k is.old) (sym is.labelled.place) is.had))
 
   -- new labels are written
-  new_put : (s : ℕ) → IsNewLabel b d o p s → (v : List ℕ) × Puts made.labels s v
+  new_put : (s : ℕ) → LabelComes b d o p s → (v : List ℕ) × Puts made.labels s v
   new_put s is =
       by_set (along_label (Set b d o made.labels) 1 (places_of b p.sectors p.body) p.labels is.slice is.label
       (places_ascend_lem b p.sectors p.body four) made.writes.set is.labelled.stands is.labelled.wanted)

@@ -9,7 +9,7 @@ use Rattle.pt_members.specs.declared.layout.Slice.{Slice}
 use Rattle.pt_members.specs.OnePath.{HasFour}
 use Rattle.pt_layout.specs.Sound.{Sound}
 use Rattle.pt_shape.specs.Along.{Along}
-use Rattle.pt_shape.specs.Covers.{IsAt, Covers}
+use Rattle.pt_shape.specs.Covers.{IsNth, Covers}
 use Rattle.pt_shape.specs.laws.Covers.{covering_differs_lem}
 use Rattle.pt_shape.specs.Differ.{AllDiffer, label_sectors}
 use Rattle.pt_shape.specs.laws.Differ.{labels_differ_lem}
@@ -21,7 +21,7 @@ abbrev pub place : {b : ℕ} → Target b → ℕ
 place t = t.at.0
 
 -- target i of some
-target_at : {b : ℕ} (ts : List (Target b)) (i : ℕ) → i < length ts → (t : Target b) × IsAt ts i t × (place t ≡ sector_of ts i)
+target_at : {b : ℕ} (ts : List (Target b)) (i : ℕ) → i < length ts → (t : Target b) × IsNth ts i t × (place t ≡ sector_of ts i)
 target_at [] i lt = absurd (omega (arith, lt))
 target_at (t ∷ ts) zero lt = (t, (omega arith, refl), refl)
 target_at (t ∷ ts) (suc i) lt = (let more = target_at ts i (omega (arith, lt)) in (more.0, (omega (arith, more.1.0), more.1.1), more.2))

@@ -11,17 +11,17 @@ use Rattle.pt_shape.specs.laws.Along.{labels_fit_lem, label_fits_lem}
 use Rattle.pt_shape.specs.Keeps.{Keeps, IsMbrBody}
 use Rattle.pt_shape.specs.Keeps as keep
 use Rattle.pt_shape.specs.Shape.{FitsBody}
-use Rattle.pt_cases.specs.Causes.{MayBe, MayHave, WasMbr}
-use Rattle.pt_shape.specs.Links.{IsLinked}
+use Rattle.pt_cases.specs.Causes.{MayBePlanned, MayHave, HadMbr}
+use Rattle.pt_shape.specs.Links.{IsLoneChain}
 use Rattle.pt_shape.specs.laws.Links.{chain_is_linked_lem}
 use Rattle.pt_targets.specs.Misfits.{LabelsFit, HasUnreadable}
 
 -- an old MBR layout has its records and its chain
-was_of : (old : Layout) (y : Body) → old.body ≡ y → IsMbrBody y → WasMbr (Some old)
+was_of : (old : Layout) (y : Body) → old.body ≡ y → IsMbrBody y → HadMbr (Some old)
 was_of old (Mbr records chain) same is = record { old = old; records = records; chain = chain; is_old = refl; body = same }
 was_of old (Gpt t) same is = absurd is
 
-was_mbr : (o : Option Layout) → keep.WasMbr o → WasMbr o
+was_mbr : (o : Option Layout) → keep.WasMbr o → HadMbr o
 was_mbr None is = absurd is
 was_mbr (Some old) is = was_of old old.body refl is
 
@@ -33,12 +33,12 @@ may_have b d o p (Gpt t) is keeps sound =
 may_have b d o p (Mbr records chain) is keeps sound =
     let linked = chain_is_linked_lem b p records chain keeps.shaped sound is in (
       was_mbr o (keeps.mbr (subst IsMbrBody (sym is) tt)),
-      subst (λ (n : ℕ). IsLinked n (extended_of records) chain) keeps.sectors linked,
+      subst (λ (n : ℕ). IsLoneChain n (extended_of records) chain) keeps.sectors linked,
     )
 
 -- the disk may have the layout
 pub edit_may_be : (b : ℕ) (d : Sectors) (o : Option Layout) (p : Layout) → IsSectorSize b → Denotes b d o → Keeps b (length d) o p
-    → Sound b p → MayBe b d o p
+    → Sound b p → MayBePlanned b d o p
 edit_may_be b d o p size from keeps sound = record { sectors = keeps.sectors; body = may_have b d o p p.body refl keeps sound }
 
 -- its labels go with its slices

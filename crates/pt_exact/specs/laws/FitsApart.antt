@@ -20,11 +20,11 @@ use Rattle.pt_shape.specs.Covers.{Covers}
 use Rattle.pt_shape.specs.Differ.{AllDiffer, label_sectors, chain_sectors, own_sectors}
 use Rattle.pt_shape.specs.laws.Differ.{own_differ_lem}
 use Rattle.pt_shape.specs.Keeps.{Keeps}
-use Rattle.pt_shape.specs.Links.{IsLinked}
+use Rattle.pt_shape.specs.Links.{IsLoneChain}
 use Rattle.pt_shape.specs.laws.Links.{chain_is_linked_lem}
 use Rattle.pt_shape.specs.Shape.{Shaped}
 use Rattle.pt_targets.specs.Causes.{SharesSector, TargetsIn, TargetsOf, WritesBoth}
-use Rattle.pt_targets.specs.Targets.{AreLabelTargets, AreMbrTargets, HasTwoOfOne, HasEbrs, HasChain}
+use Rattle.pt_targets.specs.Targets.{AreLabelTargets, AreMbrTargets, HasTwoOfOne, HasEbrs, HasLoneChain}
 use Rattle.pt_targets.specs.declared.target.Target.{Target}
 use Rattle.pt_exact.specs.laws.Each.{place, none_share, labels_cover, one_each}
 
@@ -36,7 +36,7 @@ ebrs_cover d old first (e ∷ es) ts is s (zero, lt, at) = (is.0.0, is.0.1, is.0
 ebrs_cover d old first (e ∷ es) ts is s (suc k, lt, at) = ebrs_cover d old first es ts is.1 s (k, omega (arith, lt), at)
 
 chain_covers : {b : ℕ} (d : Sectors) (old : List Ebr) (n : ℕ) (rs : List Record) (chain : List Ebr) (ts : List (Target b))
-    → IsLinked n rs chain → HasChain d old rs chain ts → Covers place ts (chain_sectors chain)
+    → IsLoneChain n rs chain → HasLoneChain d old rs chain ts → Covers place ts (chain_sectors chain)
 chain_covers d old n [] chain ts linked is =
     subst (λ (c : List Ebr). Covers place ts (chain_sectors c)) (sym linked) (λ s has. absurd (omega (arith, has.1)))
 chain_covers d old n (r ∷ rs) chain ts linked is = ebrs_cover d old (extent_of r).first chain ts is

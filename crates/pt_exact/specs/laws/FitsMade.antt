@@ -16,11 +16,11 @@ use Rattle.pt_members.specs.declared.layout.Layout.{Layout}
 use Rattle.pt_members.specs.laws.Grouped.{contains_head, contains_tail}
 use Rattle.pt_layout.specs.Sound.{Sound}
 use Rattle.pt_shape.specs.Keeps.{Keeps}
-use Rattle.pt_shape.specs.Links.{AllLeadOn, IsLinked, start_of}
+use Rattle.pt_shape.specs.Links.{AllLeadOn, IsLoneChain, start_of}
 use Rattle.pt_shape.specs.laws.Links.{shaped_plain_lem, shaped_logical_lem, chain_leads_lem, links_fit_lem}
 use Rattle.pt_shape.specs.laws.Links.{chain_is_linked_lem}
 use Rattle.pt_shape.specs.Shape.{Shaped}
-use Rattle.pt_cases.specs.Causes.{WasMbr}
+use Rattle.pt_cases.specs.Causes.{HadMbr}
 use Rattle.pt_targets.specs.Unmade.{HoldsRecords, HoldsEbr, LeadsOn, HasUnmade, HasUnmadeEbr, HasUnmadeIn}
 
 same_place : (x y : Lba) → x.0 ≡ y.0 → x ≡ y
@@ -45,10 +45,10 @@ chain_holds d (r ∷ []) list e has stands = walk_holds d (extent_of r) (Some (l
 chain_holds d (r ∷ s ∷ rs) list e has stands = absurd has
 
 -- the disk has the old records and the old chain
-old_there : (b : ℕ) (d : Sectors) (o : Option Layout) → Denotes b d o → (was : WasMbr o) → BodyIs b d (Mbr was.records was.chain)
+old_there : (b : ℕ) (d : Sectors) (o : Option Layout) → Denotes b d o → (was : HadMbr o) → BodyIs b d (Mbr was.records was.chain)
 old_there b d o from was = subst (BodyIs b d) was.body (subst (Denotes b d) was.is_old from).1
 
-old_records : (b : ℕ) (d : Sectors) (o : Option Layout) → Denotes b d o → (was : WasMbr o) → HoldsRecords d was.records
+old_records : (b : ℕ) (d : Sectors) (o : Option Layout) → Denotes b d o → (was : HadMbr o) → HoldsRecords d was.records
 old_records b d o from was =
     let is = old_there b d o from was in
     record { bytes = record { formed = is.0.0.1.formed; records = is.0.1 }; plain = is.0.0.1.plain }
@@ -82,12 +82,12 @@ chain_made b d p records chain old (r ∷ []) lone holds shaped sound is unmade 
     (λ e has. links_fit_lem b p records chain r e shaped sound is lone has)
     (λ e has. shaped_logical_lem b p records chain e shaped is has) unmade
 chain_made b d p records chain old (r ∷ s ∷ es) lone holds shaped sound is unmade =
-    absurd (subst (λ (l : List Record). IsLinked p.sectors l chain) lone (chain_is_linked_lem b p records chain shaped sound is))
+    absurd (subst (λ (l : List Record). IsLoneChain p.sectors l chain) lone (chain_is_linked_lem b p records chain shaped sound is))
 
 -- sector 0 and each extended boot record has its target
 pub edit_made : (b : ℕ) (d : Sectors) (o : Option Layout) (p : Layout) (records : List (Option Record)) (chain : List Ebr)
     → IsSectorSize b → Denotes b d o
-    → Keeps b (length d) o p → Sound b p → p.body ≡ Mbr records chain → (was : WasMbr o)
+    → Keeps b (length d) o p → Sound b p → p.body ≡ Mbr records chain → (was : HadMbr o)
     → ¬ HasUnmade b d was.records was.chain records chain
 edit_made b d o p records chain size from keeps sound is was (inl head) =
     head.unfit (shaped_plain_lem b p records chain keeps.shaped is, old_records b d o from was)

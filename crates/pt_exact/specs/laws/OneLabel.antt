@@ -26,7 +26,7 @@ use Rattle.pt_cases.specs.laws.Causes.{had_one}
 use Rattle.pt_cases.specs.Copies.{one_write}
 use Rattle.pt_cases.specs.laws.Frames.{one_is}
 use Rattle.pt_cases.specs.laws.Met.{target_reads}
-use Rattle.pt_shape.specs.Ascending.{IsAscending}
+use Rattle.pt_shape.specs.Ascending.{NumbersAscend}
 use Rattle.pt_shape.specs.laws.Ascending.{places_ascend_lem}
 use Rattle.pt_shape.specs.Along.{Along}
 use Rattle.pt_shape.specs.laws.Along.{along_at}
@@ -51,7 +51,7 @@ pub record Zip (P Q : Slice → Option Label → Type 0) (w : Slice) : Type 0 wh
   pub second : Q w label
 
 pub zipped : (P Q : Slice → Option Label → Type 0) (low : ℕ) (ps : List Slice) (labels : List Labelled) (w : Slice)
-    → IsAscending low ps → Along P ps labels → Along Q ps labels → Contains ps w → Zip P Q w
+    → NumbersAscend low ps → Along P ps labels → Along Q ps labels → Contains ps w → Zip P Q w
 zipped P Q low ps labels w up first second has = record {
   label = label_of labels w.number;
   first = along_at P low ps labels w up first has;

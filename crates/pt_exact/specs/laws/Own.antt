@@ -16,10 +16,10 @@ use Rattle.pt_shape.specs.laws.Ascending.{places_ascend_lem}
 use Rattle.pt_shape.specs.StandsOn.{StandsOn}
 use Rattle.pt_shape.specs.laws.StandsOn.{along_labels_are, denoted_four}
 use Rattle.pt_cases.specs.Cases.{ChangesLabels}
-use Rattle.pt_cases.specs.Causes.{MayBe, IsLeft}
+use Rattle.pt_cases.specs.Causes.{MayBePlanned, IsLeft}
 use Rattle.pt_cases.specs.laws.Causes.{there_may, had_one}
 use Rattle.pt_cases.specs.Targets.{Had, kept}
-use Rattle.pt_targets.specs.Causes.{IsNewLabel, IsOtherLabel}
+use Rattle.pt_targets.specs.Causes.{LabelComes, IsOtherLabel}
 use Rattle.pt_targets.specs.Misfits.{LabelsFit, HasUnreadable}
 
 module _ (b : ℕ) (d : Sectors) (o : Layout) (from : Denotes b d (Some o)) where
@@ -32,7 +32,7 @@ module _ (b : ℕ) (d : Sectors) (o : Layout) (from : Denotes b d (Some o)) wher
       (subst (λ (n : ℕ). LabelsAre d (places_of b n o.body) o.labels) (sym from.0) from.2)
 
   -- the disk may have it
-  pub own_may_be : MayBe b d (Some o) o
+  pub own_may_be : MayBePlanned b d (Some o) o
   own_may_be = record { sectors = from.0; body = there_may b d o o.body refl from.1 }
 
   -- and its labels go with its slices
@@ -67,7 +67,7 @@ module _ (b : ℕ) (d : Sectors) (o : Layout) (from : Denotes b d (Some o)) wher
       (kept (own_had is.slice is.label is.stands is.wanted) (own_label is.slice is.label is.stands is.wanted) refl)
 
   -- no label of it is new
-  pub own_not_new : (s : ℕ) → ¬ IsNewLabel b d (Some o) o s
+  pub own_not_new : (s : ℕ) → ¬ LabelComes b d (Some o) o s
   own_not_new s is =
       is.none is.label
       (subst (λ (k : ℕ). Had b d (Some o) k is.label) is.labelled.place (own_had is.slice is.label is.labelled.stands is.labelled.wanted))

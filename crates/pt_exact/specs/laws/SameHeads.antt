@@ -16,12 +16,12 @@ use Rattle.pt_members.specs.declared.layout.Slice.{Slice}
 use Rattle.pt_members.specs.OnePath.{HasFour}
 use Rattle.pt_shape.specs.laws.Along.{along_map}
 use Rattle.pt_cases.specs.Cases.{IsNeeded, MbrMet}
-use Rattle.pt_cases.specs.Causes.{WasMbr}
-use Rattle.pt_shape.specs.Links.{IsLinked, link_to}
+use Rattle.pt_cases.specs.Causes.{HadMbr}
+use Rattle.pt_shape.specs.Links.{IsLoneChain, link_to}
 use Rattle.pt_cases.specs.Records.{IsHeadTarget, IsEbrTarget, EbrsEnd, ChainEnds}
-use Rattle.pt_cases.specs.Targets.{Ends}
+use Rattle.pt_cases.specs.Targets.{ComesToHold}
 use Rattle.pt_targets.specs.Causes.{TargetsIn}
-use Rattle.pt_targets.specs.Targets.{AreLabelTargets, AreMbrTargets, HasEbrs, HasChain, HasTwoOfOne, IsChange}
+use Rattle.pt_targets.specs.Targets.{AreLabelTargets, AreMbrTargets, HasEbrs, HasLoneChain, HasTwoOfOne, IsChange}
 use Rattle.pt_targets.specs.declared.target.Target.{Target}
 use Rattle.pt_exact.specs.laws.SameBytes.{head_target_one, ebr_target_one}
 use Rattle.pt_exact.specs.laws.SameLabels.{Pair, same_pair, PlaceHas, PlacesHave, places_pair, Held, labels_have, met_have, changed_other}
@@ -56,14 +56,14 @@ ebrs_pair b d old P Q s first (e ∷ es) (it, more) (again, later) (inr there) =
 
 -- so they are at each of the chain
 chain_pair : (b : ℕ) (d : Sectors) (old : List Ebr) (P Q : ℕ → List ℕ → Type 0) (s : ℕ) (rs : List Record) (chain : List Ebr)
-    → IsLinked (length d) rs chain → ChainHas b d old P rs chain → ChainHas b d old Q rs chain → StandsAt s chain → Pair d P Q s
+    → IsLoneChain (length d) rs chain → ChainHas b d old P rs chain → ChainHas b d old Q rs chain → StandsAt s chain → Pair d P Q s
 chain_pair b d old P Q s [] chain linked have also at = absurd (subst (StandsAt s) linked at)
 chain_pair b d old P Q s (r ∷ rs) chain linked have also at = ebrs_pair b d old P Q s (extent_of r).first chain have also at
 
 -- two that bring about what p needs are a pair at each sector
 module _ (b : ℕ) (d : Sectors) (o : Option Layout) (p : Layout) (old_records : List (Option Record)) (old_chain : List Ebr)
     (records : List (Option Record)) (chain : List Ebr) (P Q : ℕ → List ℕ → Type 0)
-    (four : HasFour p.body) (linked : IsLinked (length d) (extended_of records) chain)
+    (four : HasFour p.body) (linked : IsLoneChain (length d) (extended_of records) chain)
     (has : MbrHas b d o p old_records old_chain records chain P) (also : MbrHas b d o p old_records old_chain records chain Q) where
   head_pair : Pair d P Q 0
   head_pair =
@@ -104,7 +104,7 @@ ebrs_have b d old heads places first (e ∷ es) ((t, has, at, under, is), more) 
 
 -- and those of the chain
 chain_has : (b : ℕ) (d : Sectors) (old : List Ebr) (heads places : List (Target b)) (rs : List Record) (chain : List Ebr)
-    → HasChain d old rs chain heads → ChainHas b d old (Held d (heads ++ places)) rs chain
+    → HasLoneChain d old rs chain heads → ChainHas b d old (Held d (heads ++ places)) rs chain
 chain_has b d old heads places [] chain has = tt
 chain_has b d old heads places (r ∷ rs) chain has = ebrs_have b d old heads places (extent_of r).first chain has
 
@@ -124,23 +124,23 @@ heads_have b d o p old_records old_chain records chain heads places mbr labels =
 }
 
 -- what was an MBR was one
-was_same : (o : Option Layout) (x y : WasMbr o) → Mbr x.records x.chain ≡ Mbr y.records y.chain
+was_same : (o : Option Layout) (x y : HadMbr o) → Mbr x.records x.chain ≡ Mbr y.records y.chain
 was_same o x y =
     let both : Some x.old ≡ Some y.old = sym x.is_old ∙ y.is_old in
     let same : x.old ≡ y.old = cc in
     sym x.body ∙ ap (λ (l : Layout). l.body) same ∙ y.body
 
 -- with the same records
-was_records : (o : Option Layout) (x y : WasMbr o) → x.records ≡ y.records
+was_records : (o : Option Layout) (x y : HadMbr o) → x.records ≡ y.records
 was_records o x y = let same = was_same o x y in cc
 
 -- and the same chain
-was_chain : (o : Option Layout) (x y : WasMbr o) → x.chain ≡ y.chain
+was_chain : (o : Option Layout) (x y : HadMbr o) → x.chain ≡ y.chain
 was_chain o x y = let same = was_same o x y in cc
 
 -- the targets of an MBR do so
 pub targets_have : (b : ℕ) (d : Sectors) (o : Option Layout) (p : Layout) (records : List (Option Record)) (chain : List Ebr)
-    (was : WasMbr o) (ts : List (Target b)) → TargetsIn b d o p (Mbr records chain) ts
+    (was : HadMbr o) (ts : List (Target b)) → TargetsIn b d o p (Mbr records chain) ts
     → MbrHas b d o p was.records was.chain records chain (Held d ts)
 targets_have b d o p records chain was ts (before, heads, places, mbr, labels, same) =
     subst (λ (r : List (Option Record)). MbrHas b d o p r was.chain records chain (Held d ts)) (was_records o before was)
@@ -158,20 +158,20 @@ target_needed b d o p records chain ts t (was, heads, places, mbr, labels, same)
 
 -- writes after which they end so bring it about
 ends_ebrs : (b : ℕ) (d : Sectors) (old : List Ebr) (ws : Writes) (first : ℕ) (chain : List Ebr) → EbrsEnd b d old ws first chain
-    → EbrsHave b d old (Ends d ws) first chain
+    → EbrsHave b d old (ComesToHold d ws) first chain
 ends_ebrs b d old ws first [] end = tt
 ends_ebrs b d old ws first (e ∷ es) (it, more) = (it, ends_ebrs b d old ws first es more)
 
 -- for the chain too
 ends_chain : (b : ℕ) (d : Sectors) (old : List Ebr) (ws : Writes) (rs : List Record) (chain : List Ebr) → ChainEnds b d old ws rs chain
-    → ChainHas b d old (Ends d ws) rs chain
+    → ChainHas b d old (ComesToHold d ws) rs chain
 ends_chain b d old ws [] chain end = tt
 ends_chain b d old ws (r ∷ rs) chain end = ends_ebrs b d old ws (extent_of r).first chain end
 
 -- so do writes that meet what it needs
 pub mbr_met_has : (b : ℕ) (d : Sectors) (o : Option Layout) (p : Layout) (old_records : List (Option Record)) (old_chain : List Ebr)
     (records : List (Option Record)) (chain : List Ebr) (ws : Writes)
-    → MbrMet b d o p old_records old_chain records chain ws → MbrHas b d o p old_records old_chain records chain (Ends d ws)
+    → MbrMet b d o p old_records old_chain records chain ws → MbrHas b d o p old_records old_chain records chain (ComesToHold d ws)
 mbr_met_has b d o p old_records old_chain records chain ws met = record {
   head = met.head;
   ebrs = ends_chain b d old_chain ws (extended_of records) chain met.ebrs;
@@ -180,11 +180,11 @@ mbr_met_has b d o p old_records old_chain records chain ws met = record {
 
 -- two lists of an MBR's targets change the same sectors
 pub mbr_targets_one : (b : ℕ) (d : Sectors) (o : Option Layout) (p : Layout) (records : List (Option Record)) (chain : List Ebr)
-    (ts us : List (Target b)) (t : Target b) → HasFour p.body → IsLinked (length d) (extended_of records) chain
+    (ts us : List (Target b)) (t : Target b) → HasFour p.body → IsLoneChain (length d) (extended_of records) chain
     → TargetsIn b d o p (Mbr records chain) ts → TargetsIn b d o p (Mbr records chain) us → ¬ HasTwoOfOne ts → IsChange ts t
     → (u : Target b) × IsChange us u × (u.at.0 ≡ t.at.0)
 mbr_targets_one b d o p records chain ts us t four linked are others one change =
-    let was : WasMbr o = are.0 in
+    let was : HadMbr o = are.0 in
     let has = targets_have b d o p records chain was ts are in
     let also = targets_have b d o p records chain was us others in
     let needed = target_needed b d o p records chain ts t are change.0 in

@@ -14,7 +14,7 @@ use Rattle.pt_cases.specs.laws.Causes.{had_one}
 use Rattle.pt_shape.specs.laws.Ascending.{places_ascend_lem}
 use Rattle.pt_shape.specs.Along.{Along}
 use Rattle.pt_shape.specs.laws.Along.{along_map}
-use Rattle.pt_cases.specs.Targets.{Ends, IsEncoded, IsLabelTarget, kept, changed, new, Met, LabelsMet}
+use Rattle.pt_cases.specs.Targets.{ComesToHold, IsEncoded, IsLabelTarget, kept, changed, new, Met, LabelsMet}
 use Rattle.pt_targets.specs.Targets.{AreLabelTargets, HasTwoOfOne, IsChange, Targeted}
 use Rattle.pt_targets.specs.declared.target.Target.{Target}
 use Rattle.pt_exact.specs.laws.OneLabel.{slice_of, same_target, zipped}
@@ -107,14 +107,15 @@ labels_have b d o p ts are =
 
 -- a write that meets it does so too
 met_has : (b : ℕ) (d : Sectors) (o : Option Layout) (ws : Writes) (w : Slice) (l : Option Label) → Met b d o ws w l
-    → PlaceHas b d o (Ends d ws) w l
+    → PlaceHas b d o (ComesToHold d ws) w l
 met_has b d o ws w (Some l) is = is
 met_has b d o ws w None is = inr (refl, is.1)
 
 -- and so do writes that meet them
-pub met_have : (b : ℕ) (d : Sectors) (o : Option Layout) (p : Layout) (ws : Writes) → LabelsMet b d o p ws → PlacesHave b d o p (Ends d ws)
+pub met_have : (b : ℕ) (d : Sectors) (o : Option Layout) (p : Layout) (ws : Writes) → LabelsMet b d o p ws → PlacesHave b d o p
+    (ComesToHold d ws)
 met_have b d o p ws met =
-    along_map (Met b d o ws) (PlaceHas b d o (Ends d ws)) (places_of b p.sectors p.body) p.labels (met_has b d o ws) met
+    along_map (Met b d o ws) (PlaceHas b d o (ComesToHold d ws)) (places_of b p.sectors p.body) p.labels (met_has b d o ws) met
 
 -- a target that changes has bytes beside it that aren't there yet either
 pub changed_other : (b : ℕ) (d : Sectors) (ts : List (Target b)) (t : Target b) (Q : ℕ → List ℕ → Type 0) → ¬ HasTwoOfOne ts

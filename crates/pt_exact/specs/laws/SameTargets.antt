@@ -8,8 +8,8 @@ use Rattle.pt_members.specs.declared.layout.Body.{Body}
 use Rattle.pt_members.specs.declared.layout.Body.TheVariants.{Mbr, Gpt}
 use Rattle.pt_members.specs.declared.layout.Layout.{Layout}
 use Rattle.pt_members.specs.OnePath.{HasFour}
-use Rattle.pt_cases.specs.Causes.{WasMbr, MayBe, MayHave}
-use Rattle.pt_shape.specs.Links.{IsLinked}
+use Rattle.pt_cases.specs.Causes.{HadMbr, MayBePlanned, MayHave}
+use Rattle.pt_shape.specs.Links.{IsLoneChain}
 use Rattle.pt_targets.specs.Causes.{SharesSector, TargetsIn, TargetsOf}
 use Rattle.pt_targets.specs.Misfits.{LabelsFit, HasUnreadable}
 use Rattle.pt_targets.specs.Targets.{HasTwoOfOne, IsChange}
@@ -22,16 +22,16 @@ use Rattle.pt_exact.specs.laws.SameLabels.{labels_one}
 -- sector that it needs would be read back, and no two of them are one
 pub record Fitting (b : ℕ) (d : Sectors) (o : Option Layout) (p : Layout) : Type 0 where
   pub four : HasFour p.body
-  pub may : MayBe b d o p
+  pub may : MayBePlanned b d o p
   pub labels : LabelsFit b p
   pub readable : ¬ HasUnreadable b d o p
-  pub made : (records : List (Option Record)) (chain : List Ebr) → p.body ≡ Mbr records chain → (was : WasMbr o)
+  pub made : (records : List (Option Record)) (chain : List Ebr) → p.body ≡ Mbr records chain → (was : HadMbr o)
       → ¬ HasUnmade b d was.records was.chain records chain
   pub apart : ¬ SharesSector b d o p
 
 -- its chain is linked
 pub fitting_linked : (b : ℕ) (d : Sectors) (o : Option Layout) (p : Layout) (records : List (Option Record)) (chain : List Ebr)
-    → Fitting b d o p → p.body ≡ Mbr records chain → IsLinked (length d) (extended_of records) chain
+    → Fitting b d o p → p.body ≡ Mbr records chain → IsLoneChain (length d) (extended_of records) chain
 fitting_linked b d o p records chain fits body =
     let may : MayHave b d o (Mbr records chain) = subst (MayHave b d o) body fits.may.body in may.1
 

@@ -17,12 +17,12 @@ use Rattle.pt_layout.specs.Healthy.{IsHealthy}
 use Rattle.pt_layout.specs.Sound.{Sound}
 use Rattle.pt_apply.specs.Plans.{writes_in}
 use Rattle.pt_cases.specs.Cases.{IsNeeded, IsPlan, IsWithinMbr}
-use Rattle.pt_cases.specs.Causes.{WasMbr}
+use Rattle.pt_cases.specs.Causes.{HadMbr}
 use Rattle.pt_cases.specs.Copies.{one_write}
 use Rattle.pt_apply.specs.laws.Puts.{puts_right, puts_split}
 use Rattle.pt_cases.specs.laws.Frames.{one_is}
-use Rattle.pt_shape.specs.Links.{IsLinked}
-use Rattle.pt_cases.specs.Targets.{Ends}
+use Rattle.pt_shape.specs.Links.{IsLoneChain}
+use Rattle.pt_cases.specs.Targets.{ComesToHold}
 use Rattle.pt_targets.specs.Causes.{WritesBoth, TargetsIn, TargetsOf, TurnsAmiss, IsReused}
 use Rattle.pt_targets.specs.Causes as cause
 use Rattle.pt_targets.specs.Errors.{IsFailure}
@@ -49,13 +49,13 @@ module _ (b : ℕ) (d : Sectors) (o : Option Layout) (p : Layout) (records : Lis
   abbrev all : Writes
   all = is.quiet ++ last
 
-  was : WasMbr o
+  was : HadMbr o
   was = record { old = is.old; records = is.old_records; chain = is.old_chain; is_old = is.is_old; body = is.old_body }
 
-  linked : IsLinked (length d) (extended_of records) chain
+  linked : IsLoneChain (length d) (extended_of records) chain
   linked = fitting_linked b d o p records chain fits is.body
 
-  plan_has : MbrHas b d o p is.old_records is.old_chain records chain (Ends d all)
+  plan_has : MbrHas b d o p is.old_records is.old_chain records chain (ComesToHold d all)
   plan_has = mbr_met_has b d o p is.old_records is.old_chain records chain all is.met
 
   listed : (ts : List (Target b)) → TargetsOf b d o p ts → TargetsIn b d o p (Mbr records chain) ts
@@ -66,7 +66,7 @@ module _ (b : ℕ) (d : Sectors) (o : Option Layout) (p : Layout) (records : Lis
   list_has ts are = targets_have b d o p records chain was ts (listed ts are)
 
   -- what is to stand where it doesn't is written
-  end_put : (s : ℕ) (v : List ℕ) → Ends d all s v → v ≢ sector d s → Puts all s v
+  end_put : (s : ℕ) (v : List ℕ) → ComesToHold d all s v → v ≢ sector d s → Puts all s v
   end_put s v (inl puts) differs = puts
   end_put s v (inr (same, never)) differs = absurd (differs same)
 
@@ -76,15 +76,16 @@ module _ (b : ℕ) (d : Sectors) (o : Option Layout) (p : Layout) (records : Lis
       let needed = target_needed b d o p records chain ts t (listed ts are) change.0 in
       let has = list_has ts are in
       let pair =
-      mbr_pair b d o p is.old_records is.old_chain records chain (Held d ts) (Ends d all) fits.four linked has plan_has t.at.0 needed in
-      let x = changed_other b d ts t (Ends d all) (one_of_each b d o p ts fits are) change pair in
+      mbr_pair b d o p is.old_records is.old_chain records chain (Held d ts) (ComesToHold d all) fits.four linked has plan_has t.at.0
+      needed in
+      let x = changed_other b d ts t (ComesToHold d all) (one_of_each b d o p ts fits are) change pair in
       (x.0, end_put t.at.0 x.0 x.1 x.2)
 
   loud_put : Puts all is.loud.0 is.loud.1
   loud_put = puts_right is.quiet last is.loud.0 is.loud.1 (inl (refl, refl))
 
   -- what comes to stand in the last sector isn't there yet
-  put_differs : (v : List ℕ) → Ends d all is.loud.0 v → v ≢ sector d is.loud.0
+  put_differs : (v : List ℕ) → ComesToHold d all is.loud.0 v → v ≢ sector d is.loud.0
   put_differs v (inl puts) same = (is.each is.loud.0 v puts).1 same
   put_differs v (inr (there, never)) same = never is.loud.1 loud_put
 
@@ -94,7 +95,8 @@ module _ (b : ℕ) (d : Sectors) (o : Option Layout) (p : Layout) (records : Lis
       let needed : IsNeeded b p chain is.loud.0 = (is.each is.loud.0 is.loud.1 loud_put).0 in
       let also = list_has ts are in
       let pair =
-      mbr_pair b d o p is.old_records is.old_chain records chain (Ends d all) (Held d ts) fits.four linked plan_has also is.loud.0 needed in
+      mbr_pair b d o p is.old_records is.old_chain records chain (ComesToHold d all) (Held d ts) fits.four linked plan_has also is.loud.0
+      needed in
       change_of b d ts is.loud.0 pair.second pair.also (pair.alike (put_differs pair.first pair.has))
 
   mbr : IsMbrDisk d

@@ -11,7 +11,7 @@ use Rattle.pt_sector.specs.Sectors.{Sectors, sector, IsSectorSize}
 use Rattle.pt_sum.specs.Crc.{crc_of}
 use Rattle.pt_gpt.specs.Entry.{EntryFields, EntryBytes, EntryIs, EntryFits, IsTyped, UnitsAt, used_bytes, entry_bytes}
 use Rattle.pt_gpt.specs.Array.{counted, AreEntries, entries_bytes, array_bytes, AllFit, AllTyped}
-use Rattle.pt_gpt.specs.Copy.{bytes_from, array_of, CopyWith, IsWritten}
+use Rattle.pt_gpt.specs.Copy.{bytes_from, array_of, CopyWith, IsWrittenCopy}
 use Rattle.pt_gpt.specs.declared.header.Header.{Header}
 use Rattle.pt_gpt.specs.declared.entry.Entry.{Entry}
 use Rattle.pt_gpt.specs.declared.table.Side.{Side}
@@ -182,7 +182,7 @@ array_back b d es at size fits each =
 
 -- a header, and an array that is written as a table's entries, are that table's copy
 pub written_is_copy_lem : (b : ℕ) (d : Sectors) (side : Side) (h : Header) (t : Table) → IsSectorSize b → AllFit t.entries
-    → AllTyped t.entries → IsWritten b d side h t → CopyWith b d side h t
+    → AllTyped t.entries → IsWrittenCopy b d side h t → CopyWith b d side h t
 written_is_copy_lem b d side h t size fits typed is =
     let bytes : array_of b d h ≡ array_bytes t.entries =
     rw (← is.count) (array_back b d t.entries h.array size fits (rw (← is.count) at is.array)) in

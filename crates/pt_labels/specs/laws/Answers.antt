@@ -25,7 +25,7 @@ use Rattle.pt_words.specs.declared.word.End.{End}
 use Rattle.pt_space.specs.declared.space.Run.{Run}
 use Rattle.pt_space.specs.laws.Answers.{PlacedOr, place_answers_lem}
 use Rattle.pt_labels.specs.Slices.{IsSliceOf, HasSlice}
-use Rattle.pt_labels.specs.Parts.{raw, HasEntry, NoEntry, no_slice, no_label, is_raw, uncounted, HasPart, NoPart, no_entry, unused}
+use Rattle.pt_labels.specs.Parts.{raw, HasPartEntry, NoEntry, no_slice, no_label, is_raw, uncounted, HasPart, NoPart, no_entry, unused}
 use Rattle.pt_labels.specs.Parts.{with_entry_of, part_type, PartTyped, PartNotTyped, no_part, unknown_code, PartDeleted, PartNotDeleted}
 use Rattle.pt_labels.specs.New.{HasUnused, NoUnused, missing, taken, new_type, area_in, len_of, HasOffset, new_entry, PartNew, PartNotNew}
 use Rattle.pt_labels.specs.New.{no_unused, no_type, no_place, no_offset}
@@ -83,7 +83,7 @@ slice_or b y number =
 -- an entry that the label counts, or a reason why there is none
 abbrev EntryOr : ℕ → Layout → ℕ → ℕ → Type 0
 EntryOr b o number letter =
-    ((m : Member) × (l : Label) × (e : LabelEntry) × HasEntry b o number letter m l e) ⊎ ((r : Refusal) × NoEntry b o number letter r)
+    ((m : Member) × (l : Label) × (e : LabelEntry) × HasPartEntry b o number letter m l e) ⊎ ((r : Refusal) × NoEntry b o number letter r)
 
 in_label : (b : ℕ) (o : Layout) (number letter : ℕ) (m : Member) (l : Label) → HasSlice b o.body number m
     → label_of o.labels number ≡ Some l → EntryOr b o number letter

@@ -23,10 +23,10 @@ use Rattle.pt_space.specs.laws.Terms.{placed_one_lem, placed_is_not_refused_lem,
 use Rattle.pt_labels.specs.Parts.{with_part}
 use Rattle.pt_labels.specs.New.{HasUnused, NoUnused, missing, taken, area_in, HasOffset, PartNew, PartNotNew, no_unused, no_type, no_place}
 use Rattle.pt_labels.specs.New.{no_offset, len_of, new_entry, placed_part}
-use Rattle.pt_labels.specs.laws.Terms.{some_none, IsSame, entry_one_lem, entry_there, no_entry_one}
+use Rattle.pt_labels.specs.laws.Terms.{some_none, IsSameEntry, entry_one_lem, entry_there, no_entry_one}
 
 unused_same : (b : ℕ) (o : Layout) (number letter : ℕ) (m n : Member) (l k : Label) (e f : LabelEntry)
-    → HasUnused b o number letter m l e → HasUnused b o number letter n k f → IsSame m n l k e f
+    → HasUnused b o number letter m l e → HasUnused b o number letter n k f → IsSameEntry m n l k e f
 unused_same b o number letter m n l k e f x y = entry_one_lem b o number letter m n l k e f x.entry y.entry
 
 unused_there : (b : ℕ) (o : Layout) (number letter : ℕ) (m : Member) (l : Label) (e : LabelEntry) (r : Refusal)
@@ -52,7 +52,7 @@ offset_one : (l : Label) (m : Member) (run : Run) (i j : ℕ) → HasOffset l m 
 offset_one l m run i j x y = one_by (form_of l) m.first i j run.first x.start y.start
 
 -- the area of one slice and label
-same_area : (m n : Member) (l k : Label) (e f : LabelEntry) → IsSame m n l k e f → area_in l m ≡ area_in k n
+same_area : (m n : Member) (l k : Label) (e f : LabelEntry) → IsSameEntry m n l k e f → area_in l m ≡ area_in k n
 same_area m n l k e f same = rw (same.label, same.slice)
 
 pub new_one_lem : (b number letter alignment start : ℕ) (end : End) (code : Option Code) (o p q : Layout)

@@ -12,7 +12,7 @@ use Rattle.pt_members.specs.Members.{slots, label_of}
 use Rattle.pt_words.specs.declared.error.Refusal.{Refusal}
 use Rattle.pt_words.specs.declared.word.Code.{Code}
 use Rattle.pt_labels.specs.Slices.{HasSlice}
-use Rattle.pt_labels.specs.Parts.{HasEntry, NoEntry, no_slice, no_label, is_raw, uncounted, HasPart, NoPart, no_entry, unused, PartMade}
+use Rattle.pt_labels.specs.Parts.{HasPartEntry, NoEntry, no_slice, no_label, is_raw, uncounted, HasPart, NoPart, no_entry, unused, PartMade}
 use Rattle.pt_labels.specs.Parts.{TypedAs, PartTyped, PartNotTyped, no_part, unknown_code, Zeroed, PartDeleted, PartNotDeleted}
 
 pub some_none : {A : Type 0} (x : A) → Some x ≡ None → ⊥
@@ -34,13 +34,13 @@ pub slice_one_lem : (b : ℕ) (y : Body) (number : ℕ) (m n : Member) → HasSl
 slice_one_lem b y number m n p q = same_place b y number m n p q (cases_lt p.place q.place) (cases_lt q.place p.place)
 
 -- a letter is one entry of one label of one slice
-pub record IsSame (m n : Member) (l k : Label) (e f : LabelEntry) : Type 0 where
+pub record IsSameEntry (m n : Member) (l k : Label) (e f : LabelEntry) : Type 0 where
   pub slice : m ≡ n
   pub label : l ≡ k
   pub entry : e ≡ f
 
 pub entry_one_lem : (b : ℕ) (o : Layout) (number letter : ℕ) (m n : Member) (l k : Label) (e f : LabelEntry)
-    → HasEntry b o number letter m l e → HasEntry b o number letter n k f → IsSame m n l k e f
+    → HasPartEntry b o number letter m l e → HasPartEntry b o number letter n k f → IsSameEntry m n l k e f
 entry_one_lem b o number letter m n l k e f x y =
     let label : l ≡ k = some_one (label_of o.labels number) l k x.label y.label in
     record {
@@ -52,7 +52,7 @@ entry_one_lem b o number letter m n l k e f x y =
 
 -- an entry that is there isn't missing
 pub entry_there : (b : ℕ) (o : Layout) (number letter : ℕ) (m : Member) (l : Label) (e : LabelEntry) (r : Refusal)
-    → HasEntry b o number letter m l e → NoEntry b o number letter r → ⊥
+    → HasPartEntry b o number letter m l e → NoEntry b o number letter r → ⊥
 entry_there b o number letter m l e r x (no_slice none is) = none m x.slice
 entry_there b o number letter m l e r x (no_label n slice none is) = some_none l (sym x.label ∙ none)
 entry_there b o number letter m l e r x (is_raw n k slice label same is) = x.other same

@@ -13,7 +13,7 @@ use Rattle.pt_plan.specs.Calls.{carry_through_lem}
 use Rattle.pt_plan.specs.Commits.{past}
 use Rattle.pt_plan.specs.History.{Past, Unchanged, Either, History, Has, Holds, Carries}
 use Rattle.pt_plan.specs.Running.{Step, a_commit, a_repair, a_session, no_session, calls_in, calls_of_all, IsLeftBy, KeepsHistory, Did}
-use Rattle.pt_plan.specs.Running.{Ran, Lives, IsPartOf, not_begun, cut_short, finished, IsPastOf}
+use Rattle.pt_plan.specs.Running.{Ran, Lives, IsPartOfRun, not_begun, cut_short, finished, IsPastOf}
 use Rattle.pt_plan.specs.Sessions.{Session, reply_of, call_of_reply, calls_of}
 use Rattle.pt_plan.specs.declared.error.CommitError.{CommitError}
 use Rattle.pt_plan.specs.declared.error.CommitError.TheVariants.{NoTable, Edit, Plan, Check, Device, Memory}
@@ -119,7 +119,7 @@ module _ {L W R : Type 0} (denotes : Sectors → Option L → Type 0) (edited : 
       crash_leaves : (steps : List (Step W)) (old new : Told) (d c : Sectors) (o : Option L) (earlier : List (Past W)) → Settled old d
           → Ran commits repairs steps old new → IsLeftBy old new c
           → Has denotes edited o earlier d
-          → (here : List (Past W)) × IsPartOf (calls_of_all steps) here × Has denotes edited o (earlier ++ here) c
+          → (here : List (Past W)) × IsPartOfRun (calls_of_all steps) here × Has denotes edited o (earlier ++ here) c
       crash_leaves steps old new d c o earlier settled ran left has =
           let start : Holds denotes edited o earlier old = begins_again_lem denotes edited old d o earlier settled has in
           let carry : CarryOn denotes edited (calls_of_all steps) old new = run_carries_lem steps old new ran in
@@ -147,7 +147,7 @@ module _ {L W R : Type 0} (denotes : Sectors → Option L → Type 0) (edited : 
             (subst (λ (x : Sectors). Has denotes edited o earlier x) (sym same) has),
       )
       lives_after (steps ∷ runs) d e o earlier (old, new, c, settled, ran, left, rest) has =
-          let here : (here : List (Past W)) × IsPartOf (calls_of_all steps) here × Has denotes edited o (earlier ++ here) c =
+          let here : (here : List (Past W)) × IsPartOfRun (calls_of_all steps) here × Has denotes edited o (earlier ++ here) c =
           crash_leaves steps old new d c o earlier settled ran left has in
           let after : (past : List (Past W)) × IsPastOf runs past × Has denotes edited o ((earlier ++ here.0) ++ past) e =
           lives_after runs c e o (earlier ++ here.0) rest here.2 in (

@@ -21,7 +21,7 @@ use Rattle.pt_records.specs.Types.{record_type, new_type, is_slice, is_container
 use Rattle.pt_records.specs.ChainNew.{len_of}
 use Rattle.pt_records.specs.laws.ChainAnswers.{logical_typed_answers_lem, logical_deleted_answers_lem, logical_new_answers_lem}
 use Rattle.pt_records.specs.Records.{OfMbr, IsPrimary, HasRecord, with_record, with_mbr}
-use Rattle.pt_records.specs.Numbers.{IsUnused, TakesNumber, as_asked, lowest_one, NotNumbered, past_records, used, none_unused}
+use Rattle.pt_records.specs.Numbers.{IsUnusedNumber, TakesRecordNumber, as_asked, lowest_one, NotNumbered, past_records, used, none_unused}
 use Rattle.pt_labels.specs.laws.Retyped.{IsRetyped, retyped_or}
 use Rattle.pt_records.specs.Typed.{PrimaryTyped, PrimaryNotTyped, TypedIn, typed_record, typed_logical}
 use Rattle.pt_records.specs.Typed.{NotTypedIn, record_not_typed, logical_not_typed, RecordTyped, RecordNotTyped}
@@ -150,7 +150,7 @@ deleted_answers_lem number o records chain is =
     ]
 
 -- the number of a new record
-unused_decided : (records : List (Option Record)) (number : ℕ) → Decided (IsUnused records number)
+unused_decided : (records : List (Option Record)) (number : ℕ) → Decided (IsUnusedNumber records number)
 unused_decided records number =
     alike_decided
     (λ x. record { primary = x.0; unused = x.1 })
@@ -158,10 +158,10 @@ unused_decided records number =
     (both_decided (primary_decided number) (absent_decided (slice_index_or records (number - 1) None)))
 
 abbrev NumberOr : List (Option Record) → ℕ → Type 0
-NumberOr records asked = ((number : ℕ) × TakesNumber records asked number) ⊎ ((r : Refusal) × NotNumbered records asked r)
+NumberOr records asked = ((number : ℕ) × TakesRecordNumber records asked number) ⊎ ((r : Refusal) × NotNumbered records asked r)
 
 lowest_or : (records : List (Option Record)) (asked : ℕ) → asked ≡ 0 → NumberOr records asked
-lowest_or records asked is = elim (search_below (IsUnused records) (unused_decided records) 5) as (λ _. NumberOr records asked) [
+lowest_or records asked is = elim (search_below (IsUnusedNumber records) (unused_decided records) 5) as (λ _. NumberOr records asked) [
   | inl found ↦ inl (
     found.place,
     lowest_one is (record {
@@ -195,7 +195,7 @@ second_decided records kind = both_decided (true_decided (is_extended kind)) (no
 
 chosen_or : (records : List (Option Record)) (asked : ℕ) (code : Option Code) → ChosenOr records asked code
 chosen_or records asked code = joined (number_or records asked) (option_cases (new_type code)) where
-  lone_or : (number kind : ℕ) → TakesNumber records asked number → new_type code ≡ Some kind → Decided (IsSecond records kind)
+  lone_or : (number kind : ℕ) → TakesRecordNumber records asked number → new_type code ≡ Some kind → Decided (IsSecond records kind)
       → ChosenOr records asked code
   lone_or number kind takes known (inl one) = inr (ContainerType, second number kind takes known one refl)
   lone_or number kind takes known (inr lone) = inl (number, kind, record { takes = takes; known = known; lone = lone })

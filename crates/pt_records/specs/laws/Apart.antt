@@ -14,11 +14,11 @@ use Rattle.pt_members.specs.Members.{record_member, records_as}
 use Rattle.pt_words.specs.declared.word.Code.{Code}
 use Rattle.pt_words.specs.declared.word.End.{End}
 use Rattle.pt_space.specs.declared.space.Run.{Run}
-use Rattle.pt_space.specs.Area.{IsIn, IsFree, IsFreeRun}
+use Rattle.pt_space.specs.Area.{IsInRuns, IsFree, IsFreeRun}
 use Rattle.pt_space.specs.laws.Terms.{placed_is_free_lem}
 use Rattle.pt_space.specs.Taken.{span_of, spanned_by}
 use Rattle.pt_records.specs.Records.{with_record}
-use Rattle.pt_records.specs.Numbers.{TakesNumber, as_asked, lowest_one}
+use Rattle.pt_records.specs.Numbers.{TakesRecordNumber, as_asked, lowest_one}
 use Rattle.pt_records.specs.New.{disk_area, record_at}
 use Rattle.pt_records.specs.Created.{NewIn, new_record, new_logical, RecordNew}
 use Rattle.pt_records.specs.laws.Terms.{in_mbr}
@@ -50,7 +50,7 @@ contains_run n (o ∷ os) (suc i) r is some =
     (Contains-append_right (span_at n o) (spanned_by (records_as 512 (n + 1) os)) (run_at r) (contains_run (n + 1) os i r is some))
 
 -- the sectors of used records are taken
-taken_in : (records : List (Option Record)) (k s : ℕ) → InRecord records k s → IsIn (spanned_by (records_as 512 1 records)) s
+taken_in : (records : List (Option Record)) (k s : ℕ) → InRecord records k s → IsInRuns (spanned_by (records_as 512 1 records)) s
 unfolding run_at
 taken_in records k s i =
     let from : i.part.start ≤ s = i.from in
@@ -93,7 +93,7 @@ split_new old number x j s least (inr other) i =
       to = i.to;
     })
 
-takes_least : (records : List (Option Record)) (asked number : ℕ) → TakesNumber records asked number → 1 ≤ number
+takes_least : (records : List (Option Record)) (asked number : ℕ) → TakesRecordNumber records asked number → 1 ≤ number
 takes_least records asked number (as_asked is unused) = unused.primary.0
 takes_least records asked number (lowest_one is lowest) = lowest.unused.primary.0
 

@@ -19,8 +19,8 @@ use Rattle.pt_records.specs.Types.{record_type, new_type, is_slice, is_container
 use Rattle.pt_labels.specs.laws.Retyped.{IsRetyped, retyped_or}
 use Rattle.pt_records.specs.Chains.{ebr_at, number_at, IsFound, IsLogical, HasLogical, with_logical, LogicalTyped, LogicalNotTyped}
 use Rattle.pt_records.specs.Chains.{LogicalDeleted, LogicalNotDeleted}
-use Rattle.pt_records.specs.Entered.{IsEmptyIn, NoEmptyIn, IsPlaceFor, with_ebr, Entered, reused, added, IsFull}
-use Rattle.pt_records.specs.ChainNew.{logical_area, len_of, record_for, Misfit, labels_with, NewKind, NoKind, unknown_code, extended_code}
+use Rattle.pt_records.specs.Entered.{IsEmptyIn, NoEmptyIn, IsPlaceFor, with_ebr, Entered, reused, added, ChainIsFull}
+use Rattle.pt_records.specs.ChainNew.{logical_area, len_of, record_for, IsMisfit, labels_with, NewKind, NoKind, unknown_code, extended_code}
 use Rattle.pt_records.specs.ChainNew.{LogicalNew, LogicalNotNew, no_parent, no_kind, no_place, misfit, full}
 
 -- a logical partition of the number is at the place
@@ -106,7 +106,7 @@ kind_or code = joined (option_cases (new_type code)) where
   joined (inr strange) = inr (UnknownCode, unknown_code strange refl)
   joined (inl kind) = plain_or kind.0 kind.1 (cases_Bool (is_extended kind.0))
 
-misfit_decided : (b kind len : ℕ) → Decided (Misfit b kind len)
+misfit_decided : (b kind len : ℕ) → Decided (IsMisfit b kind len)
 misfit_decided b kind len =
     alike_decided
     (λ x. record { slice = x.0; sectors = x.1 })
@@ -150,7 +150,7 @@ empty_decided s e = joined (eq_decided e.at.0 s) (option_cases e.logical) where
 
 -- one enters the chain, or the chain is full
 abbrev EnteredOr : List Ebr → ℕ → Record → Type 0
-EnteredOr chain s r = ((number : ℕ) × (made : List Ebr) × Entered chain s r number made) ⊎ IsFull chain s
+EnteredOr chain s r = ((number : ℕ) × (made : List Ebr) × Entered chain s r number made) ⊎ ChainIsFull chain s
 
 entered_or : (chain : List Ebr) (s : ℕ) (r : Record) → EnteredOr chain s r
 entered_or chain s r =
@@ -181,7 +181,7 @@ new_in : (b : ℕ) (extended : Option Record) (chain : List Ebr) (labels : List 
 new_in b extended chain labels alignment start end code x kind is typed (inr why) = inr (why.0, no_place x kind is typed why.1)
 new_in b extended chain labels alignment start end code x kind is typed (inl run) =
     joined (misfit_decided b kind (len_of run.0)) (entered_or chain (run.0.first - 1) (record_for kind (len_of run.0))) where
-      joined : Decided (Misfit b kind (len_of run.0)) → EnteredOr chain (run.0.first - 1) (record_for kind (len_of run.0))
+      joined : Decided (IsMisfit b kind (len_of run.0)) → EnteredOr chain (run.0.first - 1) (record_for kind (len_of run.0))
           → NewOr b extended chain labels alignment start end code
       joined (inl short) entered = inr (ContainerType, misfit x kind run.0 is typed run.1 short refl)
       joined (inr fits) (inr many) = inr (NoSpace, full x kind run.0 is typed run.1 fits many refl)

@@ -14,8 +14,8 @@ use Rattle.pt_words.specs.declared.word.End.{End}
 use Rattle.pt_words.specs.declared.error.Refusal.{Refusal}
 use Rattle.pt_records.specs.Types.{new_type}
 use Rattle.pt_records.specs.Chains.{number_at, with_logical}
-use Rattle.pt_records.specs.Entered.{IsEmptyAt, IsPlaceFor, with_ebr, Entered, reused, added, IsFull}
-use Rattle.pt_records.specs.ChainNew.{logical_area, len_of, record_for, Misfit, labels_with, NewKind, NoKind, unknown_code, extended_code}
+use Rattle.pt_records.specs.Entered.{IsEmptyAt, IsPlaceFor, with_ebr, Entered, reused, added, ChainIsFull}
+use Rattle.pt_records.specs.ChainNew.{logical_area, len_of, record_for, IsMisfit, labels_with, NewKind, NoKind, unknown_code, extended_code}
 use Rattle.pt_records.specs.ChainNew.{LogicalNew, LogicalNotNew, no_parent, no_kind, no_place, misfit, full}
 
 -- one extended boot record is the first empty one
@@ -51,7 +51,7 @@ entered_one_lem chain s r n m made other (added k none few x number is) (added j
     (number ∙ (ap (λ (i : ℕ). number_at chain i) e ∙ sym also), is ∙ (ap (λ (i : ℕ). with_ebr chain i s r) e ∙ sym so))
 
 -- and not one that is full
-entered_full : (chain : List Ebr) (s : ℕ) (r : Record) (n : ℕ) (made : List Ebr) → Entered chain s r n made → IsFull chain s → ⊥
+entered_full : (chain : List Ebr) (s : ℕ) (r : Record) (n : ℕ) (made : List Ebr) → Entered chain s r n made → ChainIsFull chain s → ⊥
 entered_full chain s r n made (reused k x number is) y = y.none k x.within x.here
 entered_full chain s r n made (added k none few x number is) y = omega (arith, few, y.full)
 
@@ -110,11 +110,11 @@ site_not extended chain alignment start end code x y k p r a also not =
 fits_not : (b : ℕ) (extended : Option Record) (chain : List Ebr) (alignment start : ℕ) (end : End) (code : Option Code)
     (x y : Record) (k j : ℕ) (p q : Run)
     → Site extended chain alignment start end code x k p → Site extended chain alignment start end code y j q
-    → ¬ Misfit b k (len_of p) → Misfit b j (len_of q) → ⊥
+    → ¬ IsMisfit b k (len_of p) → IsMisfit b j (len_of q) → ⊥
 fits_not b extended chain alignment start end code x y k j p q a c fits bad =
     let kind = same_kind extended chain alignment start end code x y k j p q a c in
     let run = same_run extended chain alignment start end code x y k j p q a c in
-    fits (subst (λ (n : ℕ). Misfit b n (len_of p)) (sym kind) (subst (λ (s : Run). Misfit b j (len_of s)) (sym run) bad))
+    fits (subst (λ (n : ℕ). IsMisfit b n (len_of p)) (sym kind) (subst (λ (s : Run). IsMisfit b j (len_of s)) (sym run) bad))
 
 site_of : (extended : Option Record) (chain : List Ebr) (alignment start : ℕ) (end : End) (code : Option Code) (x : Record) (k : ℕ)
     (p : Run)
@@ -168,7 +168,7 @@ logical_new_taken_lem b extended chain labels alignment start end code made left
     (new_site b extended chain labels alignment start end code made left x)
     (site_of extended chain alignment start end code p k q some typed placed) in
     entered_full chain (x.place.first - 1) (record_for x.kind (len_of x.place)) x.number made x.entered
-    (subst (λ (s : Run). IsFull chain (s.first - 1)) (sym run) all)
+    (subst (λ (s : Run). ChainIsFull chain (s.first - 1)) (sym run) all)
 
 pub logical_not_new_one_lem : (b : ℕ) (extended : Option Record) (chain : List Ebr) (alignment start : ℕ) (end : End)
     (code : Option Code) (r q : Refusal)

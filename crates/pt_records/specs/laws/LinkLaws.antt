@@ -14,7 +14,7 @@ use Rattle.pt_mbr.specs.declared.ebr.Ebr.{Ebr}
 use Rattle.pt_members.specs.declared.layout.Labelled.{Labelled}
 use Rattle.pt_members.specs.Members.{logicals_as}
 use Rattle.pt_space.specs.declared.space.Run.{Run}
-use Rattle.pt_space.specs.Area.{IsIn, IsFreeRun}
+use Rattle.pt_space.specs.Area.{IsInRuns, IsFreeRun}
 use Rattle.pt_space.specs.Placed.{Placed}
 use Rattle.pt_space.specs.laws.Terms.{placed_is_free_lem}
 use Rattle.pt_space.specs.Taken.{taken_by}
@@ -96,7 +96,7 @@ own_listed (e ∷ es) (suc i) within =
     Contains-append_right (own_sector e) (flat_map own_sector es) (own_run (ebr_at es i).at.0) (own_listed es i (omega arith))
 
 -- a sector that isn't taken is none of a chain's records
-pub not_own : (chain : List Ebr) (s i : ℕ) → i < length chain → ¬ IsIn (taken_of chain) s → (ebr_at chain i).at.0 ≢ s
+pub not_own : (chain : List Ebr) (s i : ℕ) → i < length chain → ¬ IsInRuns (taken_of chain) s → (ebr_at chain i).at.0 ≢ s
 not_own chain s i within free same =
     let at = (ebr_at chain i).at.0 in
     free (

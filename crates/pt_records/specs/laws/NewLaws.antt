@@ -13,7 +13,7 @@ use Rattle.pt_space.specs.laws.Terms.{placed_one_lem, placed_is_not_refused_lem,
 use Rattle.pt_records.specs.Types.{new_type}
 use Rattle.pt_records.specs.laws.ChainNewLaws.{logical_new_one_lem, logical_new_taken_lem, logical_not_new_one_lem}
 use Rattle.pt_records.specs.laws.Terms.{in_mbr}
-use Rattle.pt_records.specs.Numbers.{IsUnused, TakesNumber, as_asked, lowest_one, NotNumbered, past_records, used, none_unused}
+use Rattle.pt_records.specs.Numbers.{IsUnusedNumber, TakesRecordNumber, as_asked, lowest_one, NotNumbered, past_records, used, none_unused}
 use Rattle.pt_records.specs.Created.{NewIn, new_record, new_logical, NotNewIn, no_new_record, no_new_logical, RecordNew, RecordNotNew}
 use Rattle.pt_records.specs.New.{extended_record, IsSecond, Chosen, NotChosen, not_numbered, unknown, second, disk_area, IsShortSlice}
 use Rattle.pt_records.specs.New.{RecordMade, RecordNotMade, not_chosen, not_placed, too_short}
@@ -25,7 +25,7 @@ one_kind : (code : Option Code) (k j : ℕ) → new_type code ≡ Some k → new
 one_kind code k j x y = cc
 
 -- what is asked for gives one number
-takes_one : (records : List (Option Record)) (asked n m : ℕ) → TakesNumber records asked n → TakesNumber records asked m → n ≡ m
+takes_one : (records : List (Option Record)) (asked n m : ℕ) → TakesRecordNumber records asked n → TakesRecordNumber records asked m → n ≡ m
 takes_one records asked n m (as_asked is x) (as_asked so y) = sym is ∙ so
 takes_one records asked n m (as_asked is x) (lowest_one zero y) = absurd (omega (arith, is, zero, x.primary.0))
 takes_one records asked n m (lowest_one zero x) (as_asked is y) = absurd (omega (arith, is, zero, y.primary.0))
@@ -34,9 +34,10 @@ takes_one records asked n m (lowest_one zero x) (lowest_one also y) =
     let down : m ≤ n = y.lowest n x.unused in
     omega arith
 
-takes_not : (records : List (Option Record)) (asked n : ℕ) (r : Refusal) → TakesNumber records asked n → NotNumbered records asked r → ⊥
+takes_not : (records : List (Option Record)) (asked n : ℕ) (r : Refusal) → TakesRecordNumber records asked n → NotNumbered records asked r
+    → ⊥
 takes_not records asked n r (as_asked is x) (past_records past so) = omega (arith, is, past, x.primary.1)
-takes_not records asked n r (as_asked is x) (used there not so) = not (subst (λ (k : ℕ). IsUnused records k) (sym is) x)
+takes_not records asked n r (as_asked is x) (used there not so) = not (subst (λ (k : ℕ). IsUnusedNumber records k) (sym is) x)
 takes_not records asked n r (as_asked is x) (none_unused zero none so) = none n x
 takes_not records asked n r (lowest_one zero x) (past_records past so) = omega (arith, zero, past)
 takes_not records asked n r (lowest_one zero x) (used there not so) = omega (arith, zero, there.0)

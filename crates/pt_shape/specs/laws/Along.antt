@@ -12,14 +12,14 @@ use Rattle.pt_members.specs.Members.{label_of}
 use Rattle.pt_layout.specs.Sound.{Sound}
 use Rattle.pt_members.specs.laws.Grouped.{contains_head, contains_tail}
 use Rattle.pt_shape.specs.Shape.{FitsLabel, AreLabelsOf, Shaped}
-use Rattle.pt_shape.specs.Ascending.{IsAscending}
+use Rattle.pt_shape.specs.Ascending.{NumbersAscend}
 use Rattle.pt_shape.specs.laws.Ascending.{places_ascend_lem, fits_four}
 use Rattle.pt_shape.specs.laws.LabelPlaces.{slice_has_place_lem}
 use Rattle.pt_shape.specs.laws.Stands.{fits_ends}
 use Rattle.pt_shape.specs.Along.{Along, FitsPlace}
 
 -- slices that ascend, as far as their numbers tell
-pub along_above : (P Q : Slice → Option Label → Type 0) (low : ℕ) (ws : List Slice) (labels : List Labelled) → IsAscending low ws
+pub along_above : (P Q : Slice → Option Label → Type 0) (low : ℕ) (ws : List Slice) (labels : List Labelled) → NumbersAscend low ws
     → ((w : Slice) (l : Option Label) → low ≤ w.number → P w l → Q w l) → Along P ws labels → Along Q ws labels
 along_above P Q low [] labels up each is = is
 along_above P Q low (w ∷ ws) labels up each (inl (l, rest, same, it, later)) =
@@ -51,7 +51,7 @@ unfolding label_of
 later_label n m l rest labels other same = ap (λ (ls : List Labelled). label_of ls m) same ∙ rw (ne_eqb n m other, label_of) refl
 
 -- a number below those of the slices has no label
-none_below : (P : Slice → Option Label → Type 0) (n low : ℕ) (ws : List Slice) (labels : List Labelled) → IsAscending low ws → n < low
+none_below : (P : Slice → Option Label → Type 0) (n low : ℕ) (ws : List Slice) (labels : List Labelled) → NumbersAscend low ws → n < low
     → Along P ws labels → label_of labels n ≡ None
 unfolding label_of
 none_below P n low [] labels up below is = rw (is, label_of) refl
@@ -62,7 +62,7 @@ none_below P n low (w ∷ ws) labels up below (inr (it, later)) =
     none_below P n (w.number + 1) ws labels up.1 (omega (arith, up.0, below)) later
 
 -- ascending slices go each with the label of its number
-pub along_numbers : (P : Slice → Option Label → Type 0) (low : ℕ) (ws : List Slice) (labels : List Labelled) → IsAscending low ws
+pub along_numbers : (P : Slice → Option Label → Type 0) (low : ℕ) (ws : List Slice) (labels : List Labelled) → NumbersAscend low ws
     → Along P ws labels → Along (λ w l. P w l × (label_of labels w.number ≡ l)) ws labels
 along_numbers P low [] labels up is = is
 along_numbers P low (w ∷ ws) labels up (inl (l, rest, same, it, later)) =
@@ -87,7 +87,7 @@ along_in P (v ∷ ws) labels w (inr (it, later)) (zero, lt, at) = (None, subst (
 along_in P (v ∷ ws) labels w (inr (it, later)) (suc k, lt, at) = along_in P ws labels w later (k, omega (arith, lt), at)
 
 -- one of them, with the label of its number
-pub along_at : (P : Slice → Option Label → Type 0) (low : ℕ) (ws : List Slice) (labels : List Labelled) (w : Slice) → IsAscending low ws
+pub along_at : (P : Slice → Option Label → Type 0) (low : ℕ) (ws : List Slice) (labels : List Labelled) (w : Slice) → NumbersAscend low ws
     → Along P ws labels → Contains ws w → P w (label_of labels w.number)
 along_at P low ws labels w up is has =
     let h = along_in (λ v l. P v l × (label_of labels v.number ≡ l)) ws labels w (along_numbers P low ws labels up is) has in
@@ -95,7 +95,7 @@ along_at P low ws labels w up is has =
 
 -- a label of ascending slices is the one of its number
 label_there : (P : Slice → Option Label → Type 0) (low : ℕ) (ws : List Slice) (labels : List Labelled) (x : Labelled)
-    → IsAscending low ws → Along P ws labels → Contains labels x → label_of labels x.number ≡ Some x.label
+    → NumbersAscend low ws → Along P ws labels → Contains labels x → label_of labels x.number ≡ Some x.label
 label_there P low [] labels x up is has =
     (let none : length labels ≡ 0 = ap (λ (l : List Labelled). length l) is in absurd (omega (arith, none, has.1)))
 label_there P low (w ∷ ws) labels x up (inl (l, rest, same, it, later)) has =
@@ -116,7 +116,7 @@ label_there P low (w ∷ ws) labels x up (inr (it, later)) has = label_there P (
 
 -- the label with a slice's number is the one that it goes with
 pub along_label : (P : Slice → Option Label → Type 0) (low : ℕ) (ws : List Slice) (labels : List Labelled) (w : Slice) (l : Label)
-    → IsAscending low ws → Along P ws labels → Contains ws w → Contains labels (record { number = w.number; label = l }) → P w (Some l)
+    → NumbersAscend low ws → Along P ws labels → Contains ws w → Contains labels (record { number = w.number; label = l }) → P w (Some l)
 along_label P low ws labels w l up is stands has =
     let label : label_of labels w.number ≡ Some l = label_there P low ws labels (record { number = w.number; label = l }) up is has in
     subst (λ (m : Option Label). P w m) label (along_at P low ws labels w up is stands)

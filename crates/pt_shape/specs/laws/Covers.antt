@@ -5,7 +5,7 @@ use Rattle.std.proofs.lemmas.Bool.{cases_lt}
 use Rattle.std.proofs.lemmas.List.{get_or_default}
 use Rattle.pt_members.specs.laws.Grouped.{contains_head, contains_tail}
 use Rattle.pt_shape.specs.Differ.{AllDiffer}
-use Rattle.pt_shape.specs.Covers.{IsAt, Covers}
+use Rattle.pt_shape.specs.Covers.{IsNth, Covers}
 
 -- the list without thing k
 without : {X : Type 0} → ℕ → List X → List X
@@ -19,7 +19,7 @@ one_less k [] lt = absurd (omega (arith, lt))
 one_less zero (t ∷ ts) lt = omega arith
 one_less (suc k) (t ∷ ts) lt = (let less = one_less k ts (omega (arith, lt)) in omega (arith, less))
 
-still_in : {X : Type 0} (k i : ℕ) (ts : List X) (t : X) → IsAt ts i t → i ≢ k → Contains (without k ts) t
+still_in : {X : Type 0} (k i : ℕ) (ts : List X) (t : X) → IsNth ts i t → i ≢ k → Contains (without k ts) t
 unfolding without
 still_in k i [] t at other = absurd (omega (arith, at.0))
 still_in zero zero (u ∷ us) t at other = absurd (other refl)
@@ -28,7 +28,7 @@ still_in (suc k) zero (u ∷ us) t at other = (0, omega arith, at.1)
 still_in (suc k) (suc i) (u ∷ us) t at other =
     contains_tail u (without k us) t (still_in k i us t (omega (arith, at.0), at.1) (λ e. other (ap suc e)))
 
-same_thing : {X : Type 0} (k i : ℕ) (ts : List X) (t u : X) → IsAt ts k t → IsAt ts i u → i ≡ k → u ≡ t
+same_thing : {X : Type 0} (k i : ℕ) (ts : List X) (t u : X) → IsNth ts k t → IsNth ts i u → i ≡ k → u ≡ t
 same_thing k i ts t u at also same =
     let there : get_or ts i t ≡ t = ap (λ (n : ℕ). get_or ts n t) same ∙ at.1 in
     sym also.1 ∙ get_or_default ts i u t also.0 ∙ there
@@ -43,8 +43,8 @@ equal_or_not i k = elim (cases_lt i k) as (λ _. (i ≡ k) ⊎ (i ≢ k)) [
 ]
 
 -- without a thing whose sector isn't wanted, or is another thing's too, the sectors have theirs
-covers_less : {X : Type 0} (f : X → ℕ) (ts : List X) (ys : List ℕ) (k : ℕ) (t : X) → Covers f ts ys → IsAt ts k t
-    → (Contains ys (f t) → (i : ℕ) × (u : X) × IsAt ts i u × (i ≢ k) × (f u ≡ f t)) → Covers f (without k ts) ys
+covers_less : {X : Type 0} (f : X → ℕ) (ts : List X) (ys : List ℕ) (k : ℕ) (t : X) → Covers f ts ys → IsNth ts k t
+    → (Contains ys (f t) → (i : ℕ) × (u : X) × IsNth ts i u × (i ≢ k) × (f u ≡ f t)) → Covers f (without k ts) ys
 covers_less f ts ys k t covers at again s has = (
     let c = covers s has in
     elim (equal_or_not c.1.0 k) as (λ _. (u : _) × Contains (without k ts) u × (f u ≡ s)) [
@@ -69,7 +69,7 @@ enough f (y ∷ ys) ts differ covers =
     omega (arith, more, one_less c.1.0 ts c.1.1)
 
 pub covering_differs_lem : {X : Type 0} (f : X → ℕ) (ys : List ℕ) (ts : List X) → AllDiffer ys → Covers f ts ys → length ts ≡ length ys
-    → (i j : ℕ) (t u : X) → i < j → IsAt ts i t → IsAt ts j u → f t ≢ f u
+    → (i j : ℕ) (t u : X) → i < j → IsNth ts i t → IsNth ts j u → f t ≢ f u
 covering_differs_lem f ys ts differ covers count i j t u order at also same =
     let fewer = covers_less f ts ys j u covers also (λ has. (i, t, at, (λ e. omega (arith, e, order)), same)) in
     let least = enough f ys (without j ts) differ fewer in

@@ -16,7 +16,7 @@ use Rattle.pt_members.specs.laws.Grouped.{contains_head, contains_tail}
 use Rattle.pt_shape.specs.Shape.{Shaped}
 use Rattle.pt_shape.specs.laws.LabelPlaces.{place_slice_lem, places_apart_lem, ebr_no_place_lem}
 use Rattle.pt_shape.specs.laws.Stands.{ebr_lies_lem}
-use Rattle.pt_shape.specs.Ascending.{IsAscending}
+use Rattle.pt_shape.specs.Ascending.{NumbersAscend}
 use Rattle.pt_shape.specs.laws.Ascending.{places_ascend_lem, fits_four}
 use Rattle.pt_shape.specs.Links.{Climbs}
 use Rattle.pt_shape.specs.laws.Links.{chain_climbs_lem}
@@ -43,13 +43,13 @@ chain_place (e ∷ es) s (zero, lt, at) = inl (sym at)
 chain_place (e ∷ es) s (suc k, lt, at) = inr (chain_place es s (k, omega (arith, lt), at))
 
 -- slices that ascend have other numbers behind them
-above_all : (low : ℕ) (ws : List Slice) (w : Slice) → IsAscending low ws → Contains ws w → low ≤ w.number
+above_all : (low : ℕ) (ws : List Slice) (w : Slice) → NumbersAscend low ws → Contains ws w → low ≤ w.number
 above_all low [] w up (k, lt, at) = absurd (omega (arith, lt))
 above_all low (v ∷ ws) w up (zero, lt, at) = (let same : v.number ≡ w.number = ap (λ (x : Slice). x.number) at in omega (arith, up.0, same))
 above_all low (v ∷ ws) w up (suc k, lt, at) =
     (let more = above_all (v.number + 1) ws w up.1 (k, omega (arith, lt), at) in omega (arith, up.0, more))
 
-labels_differ : (b : ℕ) (o : Layout) (low : ℕ) (ws : List Slice) → Sound b o → IsAscending low ws
+labels_differ : (b : ℕ) (o : Layout) (low : ℕ) (ws : List Slice) → Sound b o → NumbersAscend low ws
     → ((w : Slice) → Contains ws w → Contains (slices_of b o.body) w) → AllDiffer (label_sectors ws)
 labels_differ b o low [] sound up each = tt
 labels_differ b o low (w ∷ ws) sound up each = (

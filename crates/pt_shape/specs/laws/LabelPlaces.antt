@@ -16,7 +16,7 @@ use Rattle.pt_members.specs.Tables.{IsEbr}
 use Rattle.pt_members.specs.laws.Grouped.{contains_head, contains_tail, place_member}
 use Rattle.pt_layout.specs.laws.OneHome.{slot_one}
 use Rattle.pt_shape.specs.laws.Slots.{slot_usable_lem}
-use Rattle.pt_shape.specs.SliceMembers.{IsSliceOf}
+use Rattle.pt_shape.specs.SliceMembers.{IsSliceMember}
 use Rattle.pt_shape.specs.laws.SliceMembers.{slice_member_lem, same_sectors, slice_lies_lem}
 use Rattle.pt_shape.specs.LabelPlaces.{EndsOnDisk}
 
@@ -83,14 +83,14 @@ place_lies_lem b o s sound is =
     record { low = omega (arith, h.2, lies.low); high = omega (arith, h.2, lies.high, long) }
 
 -- of two slices with one first sector
-same_slice : (s t : Slice) (x y : Member) → IsSliceOf s x → IsSliceOf t y → x ≡ y → s ≡ t
+same_slice : (s t : Slice) (x y : Member) → IsSliceMember s x → IsSliceMember t y → x ≡ y → s ≡ t
 same_slice s t x y is also same =
     let paths = sym is.path ∙ ap (λ (m : Member). m.path) same ∙ also.path in
     let numbers : s.number ≡ t.number = ap (λ (p : Path). p.number) paths in
     is.slice ∙ (ap (λ (m : Member). slice_from s.number m.first m.last) same
     ∙ (ap (λ (n : ℕ). slice_from n y.first y.last) numbers ∙ sym also.slice))
 
-plain_kind : (s : Slice) (m : Member) → IsSliceOf s m → m.kind ≢ kind.Extended
+plain_kind : (s : Slice) (m : Member) → IsSliceMember s m → m.kind ≢ kind.Extended
 plain_kind s m is other = let two : kind.Slice ≡ kind.Extended = sym is.kind ∙ other in absurd cc
 
 -- in a sound layout two slices with one label place are one

@@ -20,7 +20,7 @@ use Rattle.pt_members.specs.laws.Grouped.{contains_head, contains_tail}
 use Rattle.pt_shape.specs.Shape.{FitsRecord, FitsSlot, FitsLogical, Linked, FitsChain, FitsExtended, FitsMbr, FitsBody, Shaped}
 use Rattle.pt_shape.specs.laws.Slots.{logical_inside}
 use Rattle.pt_shape.specs.laws.Stands.{layout_of, extended_slot, extended_lies, linked_in}
-use Rattle.pt_shape.specs.Links.{start_of, AllLeadOn, Climbs, LinkedOn, IsLinked, link_to, AllLinkOn}
+use Rattle.pt_shape.specs.Links.{start_of, AllLeadOn, Climbs, LinkedOn, IsLoneChain, link_to, AllLinkOn}
 
 fits_mbr : (b : ℕ) (o : Layout) (rs : List (Option Record)) (chain : List Ebr) → Shaped b o → o.body ≡ Mbr rs chain → FitsMbr rs chain
 fits_mbr b o rs chain shaped is = subst (λ (y : Body). FitsBody b o.sectors y) is shaped.body
@@ -205,7 +205,7 @@ linked_on x n None (e ∷ es) below linked = absurd linked
 linked_on x n (Some f) (e ∷ es) below linked = (linked.0, (linked.1, below f.0 linked.1), linked.2, linked_on x n e.next es below linked.4)
 
 is_linked : (b n : ℕ) (rs : List (Option Record)) (chain : List Ebr) (ls : List Labelled) (es : List Record)
-    → Sound b (layout_of n (Mbr rs chain) ls) → extended_of rs ≡ es → FitsExtended es chain → IsLinked n es chain
+    → Sound b (layout_of n (Mbr rs chain) ls) → extended_of rs ≡ es → FitsExtended es chain → IsLoneChain n es chain
 is_linked b n rs chain ls [] sound extended fits = fits
 is_linked b n rs chain ls (r ∷ []) sound extended fits =
     let lies = extended_lies b n rs chain ls r [] sound extended in
@@ -214,7 +214,7 @@ is_linked b n rs chain ls (r ∷ s ∷ es) sound extended fits = absurd fits
 
 -- the chain stands on the disk
 pub chain_is_linked_lem : (b : ℕ) (o : Layout) (rs : List (Option Record)) (chain : List Ebr) → Shaped b o → Sound b o
-    → o.body ≡ Mbr rs chain → IsLinked o.sectors (extended_of rs) chain
+    → o.body ≡ Mbr rs chain → IsLoneChain o.sectors (extended_of rs) chain
 chain_is_linked_lem b o rs chain shaped sound is =
     is_linked b o.sectors rs chain o.labels (extended_of rs) (sound_as b o (Mbr rs chain) is sound) refl
     (fits_mbr b o rs chain shaped is).extended

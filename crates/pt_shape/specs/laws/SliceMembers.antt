@@ -13,9 +13,9 @@ use Rattle.pt_members.specs.Members.{number_path, slots, Group, top_group, IsMem
 use Rattle.pt_members.specs.Search.{AtPlace}
 use Rattle.pt_members.specs.laws.Grouped.{place_member}
 use Rattle.pt_members.specs.OnePath.{slot_whole}
-use Rattle.pt_layout.specs.Sound.{IsInside, Sound}
+use Rattle.pt_layout.specs.Sound.{LiesInside, Sound}
 use Rattle.pt_shape.specs.laws.Slots.{slot_usable_lem}
-use Rattle.pt_shape.specs.SliceMembers.{IsSliceOf, LiesUsable}
+use Rattle.pt_shape.specs.SliceMembers.{IsSliceMember, LiesUsable}
 
 none_there : (s : Slice) → Contains [] s → ⊥
 none_there s (k, lt, at) = omega (arith, lt)
@@ -46,7 +46,7 @@ stands (Some m ∷ os) s has = elim (Contains-append_cases (slice_of m) (flat_ma
 ]
 
 slice_is : (b : ℕ) (y : Body) (m : Member) (s : Slice) → AtPlace (slots b y) m → m.kind ≡ kind.Slice
-    → slice_from m.path.number m.first m.last ≡ s → IsSliceOf s m
+    → slice_from m.path.number m.first m.last ≡ s → IsSliceMember s m
 slice_is b y m s at is same =
     let number : m.path.number ≡ s.number = ap (λ (x : Slice). x.number) same in
     record {
@@ -56,7 +56,8 @@ slice_is b y m s at is same =
     }
 
 -- each slice, of any length, is a member in a slot
-pub slice_member_lem : (b : ℕ) (y : Body) (s : Slice) → Contains (slices_of b y) s → (m : Member) × AtPlace (slots b y) m × IsSliceOf s m
+pub slice_member_lem : (b : ℕ) (y : Body) (s : Slice) → Contains (slices_of b y) s → (m : Member) × AtPlace (slots b y) m
+    × IsSliceMember s m
 unfolding slices_of
 slice_member_lem b y s has =
     let h = stands (slots b y) s has in
@@ -65,7 +66,7 @@ slice_member_lem b y s has =
 
 -- so it is a member of its number, on its sectors
 pub slices_are_members_lem : (b : ℕ) (o : Layout) (s : Slice) → Contains (slices_of b o.body) s
-    → (m : Member) × IsMember b o m × IsSliceOf s m
+    → (m : Member) × IsMember b o m × IsSliceMember s m
 slices_are_members_lem b o s has =
     let h = slice_member_lem b o.body s has in
     (h.0, place_member b o h.0 (h.0, h.1, inl refl), h.2)
@@ -74,7 +75,7 @@ len_is : (first last : ℕ) → first ≤ last → last < 2 ^ 63 → extent_len 
 len_is first last order below = grind arith
 
 -- the sectors of a slice are those of its member
-pub same_sectors : (s : Slice) (m : Member) (g : Group) → IsSliceOf s m → IsInside g m
+pub same_sectors : (s : Slice) (m : Member) (g : Group) → IsSliceMember s m → LiesInside g m
     → (s.first ≡ m.first) × (s.first + s.len ≡ m.last + 1)
 same_sectors s m g is inside =
     let first : s.first ≡ m.first = ap (λ (x : Slice). x.first) is.slice in

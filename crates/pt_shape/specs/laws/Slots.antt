@@ -7,7 +7,7 @@ use Rattle.pt_members.specs.declared.member.Kind.TheVariants.{Extended}
 use Rattle.pt_members.specs.declared.member.Member.{Member}
 use Rattle.pt_members.specs.Members.{Group, group_of, groups_of, group_in, top_group, strays, present, slots, tops, logicals}
 use Rattle.pt_members.specs.Search.{AtPlace}
-use Rattle.pt_layout.specs.Sound.{IsInside, IsOf, Sound}
+use Rattle.pt_layout.specs.Sound.{LiesInside, IsMemberOf, Sound}
 use Rattle.pt_layout.specs.laws.OneHome.{holder}
 use Rattle.pt_members.specs.laws.Grouped.{present_split, place_left, to_present, to_flat, contains_head, contains_tail, top_members}
 use Rattle.pt_members.specs.laws.Grouped.{extended_group, held_by_extended, extended_group_is}
@@ -20,7 +20,7 @@ abbrev behind : ℕ → Layout → List Group
 behind b o = flat_map (group_in b o) (present (slots b o.body)) ++ strays b o.body
 
 -- a record or an entry is of the top group
-pub top_of : (b : ℕ) (o : Layout) (m : Member) → AtPlace (tops b o.body) m → IsOf b o (top_group b o.sectors o.body) m
+pub top_of : (b : ℕ) (o : Layout) (m : Member) → AtPlace (tops b o.body) m → IsMemberOf b o (top_group b o.sectors o.body) m
 unfolding groups_of
 top_of b o m at = record {
   stands = contains_head (the_top b o) (behind b o);
@@ -29,7 +29,7 @@ top_of b o m at = record {
 
 -- a logical partition is of the group of each extended record
 pub logical_of : (b : ℕ) (o : Layout) (e m : Member) → AtPlace (tops b o.body) e → e.kind ≡ Extended → AtPlace (logicals b o.body) m
-    → IsOf b o (extended_group b o e) m
+    → IsMemberOf b o (extended_group b o e) m
 unfolding groups_of
 logical_of b o e m at is part =
     let held : Contains (group_in b o e) (extended_group b o e) =
@@ -45,14 +45,15 @@ logical_of b o e m at is part =
 
 -- so it lies in that record's sectors
 pub logical_inside : (b : ℕ) (o : Layout) (e m : Member) → Sound b o → AtPlace (tops b o.body) e → e.kind ≡ Extended
-    → AtPlace (logicals b o.body) m → IsInside (group_of e.first e.last (present (logicals b o.body))) m
+    → AtPlace (logicals b o.body) m → LiesInside (group_of e.first e.last (present (logicals b o.body))) m
 logical_inside b o e m sound at is part =
-    subst (λ (g : Group). IsInside g m) (extended_group_is b o e) (sound.inside (extended_group b o e) m (logical_of b o e m at is part))
+    subst (λ (g : Group). LiesInside g m) (extended_group_is b o e) (sound.inside (extended_group b o e) m (logical_of b o e m at is part))
 
 -- what stands in a slot of a sound layout has sectors, all of them usable on the disk
-pub slot_usable_lem : (b : ℕ) (o : Layout) (m : Member) → Sound b o → AtPlace (slots b o.body) m → IsInside (top_group b o.sectors o.body) m
+pub slot_usable_lem : (b : ℕ) (o : Layout) (m : Member) → Sound b o → AtPlace (slots b o.body) m → LiesInside
+    (top_group b o.sectors o.body) m
 slot_usable_lem b o m sound at =
-    elim (present_split (tops b o.body) (logicals b o.body) m at) as (λ _. IsInside (top_group b o.sectors o.body) m) [
+    elim (present_split (tops b o.body) (logicals b o.body) m at) as (λ _. LiesInside (top_group b o.sectors o.body) m) [
       | inl top ↦ sound.inside (top_group b o.sectors o.body) m (top_of b o m top)
       | inr logical ↦ (
           let e = holder b o m sound logical in

@@ -7,7 +7,7 @@ use Rattle.pt_bsd.specs.Counted.{IsRaw, FitsSlice}
 use Rattle.pt_bsd.specs.declared.label.Label.{Label}
 use Rattle.pt_bsd.specs.declared.label.LabelEntry.{LabelEntry}
 use Rattle.pt_members.specs.Slices.{places_of}
-use Rattle.pt_recover.specs.Labels.{HasLabel, LabelsAre}
+use Rattle.pt_recover.specs.Labels.{SliceHasLabel, LabelsAre}
 use Rattle.pt_recover.specs.Denotes.{BodyIs, Denotes}
 use Rattle.pt_members.specs.declared.layout.Slice.{Slice}
 use Rattle.pt_members.specs.declared.layout.Labelled.{Labelled}
@@ -42,13 +42,13 @@ label_at_place_lem b d o w denotes has =
     along_at (StandsOn d) 1 (places_of b o.sectors o.body) o.labels w up
     (along_labels_are d (places_of b o.sectors o.body) o.labels are) has
 
-none_or_some : (d : Sectors) (w : Slice) (l : Option Label) → StandsOn d w l → (l ≡ None) ↔ (¬ HasLabel d w)
+none_or_some : (d : Sectors) (w : Slice) (l : Option Label) → StandsOn d w l → (l ≡ None) ↔ (¬ SliceHasLabel d w)
 none_or_some d w None stands = (λ e. stands, λ none. refl)
 none_or_some d w (Some l) stands = (λ e. absurd cc, λ none. absurd (none (l, stands)))
 
 -- so the number has no label exactly where the place has none
 pub no_label_there_lem : (b : ℕ) (d : Sectors) (o : Layout) (w : Slice) → Denotes b d (Some o)
-    → Contains (places_of b o.sectors o.body) w → (label_of o.labels w.number ≡ None) ↔ (¬ HasLabel d w)
+    → Contains (places_of b o.sectors o.body) w → (label_of o.labels w.number ≡ None) ↔ (¬ SliceHasLabel d w)
 no_label_there_lem b d o w denotes has = none_or_some d w (label_of o.labels w.number) (label_at_place_lem b d o w denotes has)
 
 one_length : (o : Option LabelEntry) (first m n : ℕ) → IsRaw o first m → IsRaw o first n → m ≡ n

@@ -9,7 +9,7 @@ use Rattle.pt_members.specs.declared.layout.Slice.{Slice}
 use Rattle.pt_members.specs.declared.layout.Layout.{Layout}
 use Rattle.pt_members.specs.Members.{label_of}
 use Rattle.pt_shape.specs.Shape.{Shaped}
-use Rattle.pt_shape.specs.Keeps.{SameButParts, LabelStays, IsOldLabel, IsNewLabel, IsMadeRecord, IsTyped, IsOldRecord, IsOldLogical}
+use Rattle.pt_shape.specs.Keeps.{SameButParts, LabelStays, IsOldLabel, IsNewLabel, IsMadeRecord, IsRetyped, IsOldRecord, IsOldLogical}
 use Rattle.pt_shape.specs.Keeps.{IsMadeLogical, Keeps}
 
 pub same_but_parts_refl : (l : Label) → SameButParts l l
@@ -61,23 +61,23 @@ label_trans b old s was (Some m) None first len (inr x) stays = absurd stays
 label_trans b old s was (Some m) (Some l) first len (inr x) stays =
     inr (subst (λ (n : ℕ). SameButParts (empty_of n) l) len (same_but_parts_trans (empty_of was.len) m l x stays))
 
-typed_trans : (q r s : Record) → IsTyped q r → IsTyped r s → IsTyped q s
+typed_trans : (q r s : Record) → IsRetyped q r → IsRetyped r s → IsRetyped q s
 typed_trans q r s x y = y ∙ ap (λ (k : Record). record k { kind = s.kind }) x
 
-made_typed : (r s : Record) → IsMadeRecord r → IsTyped r s → IsMadeRecord s
+made_typed : (r s : Record) → IsMadeRecord r → IsRetyped r s → IsMadeRecord s
 made_typed r s made is = record {
   boot = ap (λ (k : Record). k.boot) is ∙ made.boot;
   start_chs = ap (λ (k : Record). k.start_chs) is ∙ made.start_chs;
   end_chs = ap (λ (k : Record). k.end_chs) is ∙ made.end_chs;
 }
 
-record_trans : (old : Option Layout) (k : ℕ) (r s : Record) → IsOldRecord old k r ⊎ IsMadeRecord r → IsTyped r s
+record_trans : (old : Option Layout) (k : ℕ) (r s : Record) → IsOldRecord old k r ⊎ IsMadeRecord r → IsRetyped r s
     → IsOldRecord old k s ⊎ IsMadeRecord s
 record_trans None k r s (inl x) is = absurd x
 record_trans (Some o) k r s (inl (q, was, typed)) is = inl (q, was, typed_trans q r s typed is)
 record_trans old k r s (inr made) is = inr (made_typed r s made is)
 
-logical_trans : (old : Option Layout) (e f : Ebr) (r s : Record) → e.at ≡ f.at → IsOldLogical old e r ⊎ IsMadeLogical r → IsTyped r s
+logical_trans : (old : Option Layout) (e f : Ebr) (r s : Record) → e.at ≡ f.at → IsOldLogical old e r ⊎ IsMadeLogical r → IsRetyped r s
     → IsOldLogical old f s ⊎ IsMadeLogical s
 logical_trans None e f r s place (inl x) is = absurd x
 logical_trans (Some o) e f r s place (inl x) is =

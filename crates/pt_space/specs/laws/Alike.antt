@@ -4,7 +4,7 @@ use Rattle.std.proofs.Common.{inl, inr}
 use Rattle.pt_words.specs.declared.word.End.{End}
 use Rattle.pt_words.specs.declared.error.Refusal.{Refusal}
 use Rattle.pt_space.specs.declared.space.Run.{Run}
-use Rattle.pt_space.specs.Area.{Area, IsFree, IsBlock, TakesRecord, Leads}
+use Rattle.pt_space.specs.Area.{Area, IsFree, IsBlock, TakesRecord, HasLead}
 use Rattle.pt_space.specs.Placed.{IsLargest, Starts, in_largest, at_given, record_outside, record_taken, NotLed, NotStarted, no_room}
 use Rattle.pt_space.specs.Placed.{not_usable, not_free, not_led, StartsIn, Placed, NotPlaced, no_start, no_end}
 use Rattle.pt_space.specs.Alike.{SameSectors, with_taken}
@@ -40,8 +40,8 @@ record_alike : (a : Area) (ys : List Run) → SameSectors a.taken ys → (emptie
 record_alike a ys same empties k (usable, inl free) = (usable, inl (λ taken. free (same.back k taken)))
 record_alike a ys same empties k (usable, inr there) = (usable, inr there)
 
-leads_alike : (a : Area) (ys : List Run) → SameSectors a.taken ys → (empties : Option (List ℕ)) (first : ℕ) → Leads a empties first
-    → Leads (with_taken a ys) empties first
+leads_alike : (a : Area) (ys : List Run) → SameSectors a.taken ys → (empties : Option (List ℕ)) (first : ℕ) → HasLead a empties first
+    → HasLead (with_taken a ys) empties first
 leads_alike a ys same None first x = tt
 leads_alike a ys same (Some empties) first x = (x.0, x.1, record_alike a ys same empties x.0 x.2)
 

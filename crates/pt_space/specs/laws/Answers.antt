@@ -7,7 +7,7 @@ use Rattle.pt_words.specs.declared.error.Refusal.{Refusal}
 use Rattle.pt_words.specs.declared.error.Refusal.TheVariants.{NoSpace, OutsideUsable, Overlap}
 use Rattle.pt_words.specs.laws.Searches.{Decided, both_decided, either_decided, not_decided, le_decided, search_list, number_in_decided}
 use Rattle.pt_space.specs.declared.space.Run.{Run}
-use Rattle.pt_space.specs.Area.{Area, Holds, IsUsable, IsTaken, IsFree, IsBlock, Leads}
+use Rattle.pt_space.specs.Area.{Area, RunHolds, IsUsable, IsTaken, IsFree, IsBlock, HasLead}
 use Rattle.pt_space.specs.laws.Blocks.{same_block}
 use Rattle.pt_space.specs.laws.Rounding.{rounded_above}
 use Rattle.pt_space.specs.Sweep.{IsLargestBelow, EndsBlock}
@@ -20,7 +20,7 @@ usable_decided a k = both_decided (le_decided a.low k) (le_decided k a.high)
 
 taken_decided : (a : Area) (k : ℕ) → Decided (IsTaken a k)
 taken_decided a k =
-    elim (search_list (λ (r : Run). Holds r k) (λ r. both_decided (le_decided r.first k) (le_decided k r.last)) a.taken)
+    elim (search_list (λ (r : Run). RunHolds r k) (λ r. both_decided (le_decided r.first k) (le_decided k r.last)) a.taken)
     as (λ _. Decided (IsTaken a k)) [
       | inl found ↦ inl found
       | inr none ↦ inr (λ taken. none taken.0 taken.1 taken.2)
@@ -94,7 +94,7 @@ reach_up a (suc n) k end here = joined (free_decided a (k + 1)) (λ free. reach_
 record BlockWith (a : Area) (k : ℕ) : Type 0 where
   pub block : Run
   pub is : IsBlock a block
-  pub holds : Holds block k
+  pub holds : RunHolds block k
 
 -- each free sector is in a block
 block_with : (a : Area) (k : ℕ) → IsFree a k → BlockWith a k
@@ -246,12 +246,12 @@ largest_or a alignment =
     ]
 
 -- the sector before a partition's first leads it, or there is a reason why not
-record_or : (a : Area) (empties : List ℕ) (first : ℕ) → Leads a (Some empties) first ⊎ ((r : Refusal) × NotLed a (Some empties) first r)
+record_or : (a : Area) (empties : List ℕ) (first : ℕ) → HasLead a (Some empties) first ⊎ ((r : Refusal) × NotLed a (Some empties) first r)
 record_or a empties zero = inr (OutsideUsable, record_outside (λ k same usable. omega arith) refl)
 record_or a empties (suc k) =
     joined (usable_decided a k) (either_decided (not_decided (taken_decided a k)) (number_in_decided empties k)) where
       joined : Decided (IsUsable a k) → Decided ((¬ IsTaken a k) ⊎ Contains empties k)
-          → Leads a (Some empties) (suc k) ⊎ ((r : Refusal) × NotLed a (Some empties) (suc k) r)
+          → HasLead a (Some empties) (suc k) ⊎ ((r : Refusal) × NotLed a (Some empties) (suc k) r)
       joined (inl usable) (inl takes) = inl (k, omega arith, (usable, takes))
       joined (inl usable) (inr not) = inr (Overlap, record_taken k (omega arith) usable (λ takes. not takes.1) refl)
       joined (inr not) takes = inr (
@@ -260,7 +260,7 @@ record_or a empties (suc k) =
             (λ j same usable. (let e : j ≡ k = omega arith in not (subst (λ (n : ℕ). IsUsable a n) e usable))) refl,
       )
 
-leads_or : (a : Area) (empties : Option (List ℕ)) (first : ℕ) → Leads a empties first ⊎ ((r : Refusal) × NotLed a empties first r)
+leads_or : (a : Area) (empties : Option (List ℕ)) (first : ℕ) → HasLead a empties first ⊎ ((r : Refusal) × NotLed a empties first r)
 leads_or a None first = inl tt
 leads_or a (Some empties) first = record_or a empties first
 
@@ -291,7 +291,7 @@ at_sector a alignment start some = joined (usable_decided a f) (taken_decided a 
   f = rounded_up alignment start
 
   joined : Decided (IsUsable a (rounded_up alignment start)) → Decided (IsTaken a (rounded_up alignment start))
-      → Leads a a.empties (rounded_up alignment start) ⊎ ((r : Refusal) × NotLed a a.empties (rounded_up alignment start) r)
+      → HasLead a a.empties (rounded_up alignment start) ⊎ ((r : Refusal) × NotLed a a.empties (rounded_up alignment start) r)
       → StartsOr a alignment start
   joined (inr not) taken led = inr (OutsideUsable, not_usable some not refl)
   joined (inl usable) (inl taken) led = inr (Overlap, not_free some usable taken refl)

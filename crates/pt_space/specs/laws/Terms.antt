@@ -4,7 +4,7 @@ use Rattle.std.proofs.Common.{sym, ap, ◌∙◌, subst, inl, arith}
 use Rattle.pt_space.specs.declared.space.Run.{Run}
 use Rattle.pt_words.specs.declared.word.End.{End}
 use Rattle.pt_words.specs.declared.error.Refusal.{Refusal}
-use Rattle.pt_space.specs.Area.{Area, Holds, IsUsable, IsTaken, IsBlock, TakesRecord, Leads, IsFreeRun}
+use Rattle.pt_space.specs.Area.{Area, RunHolds, IsUsable, IsTaken, IsBlock, TakesRecord, HasLead, IsFreeRun}
 use Rattle.pt_space.specs.laws.Blocks.{same_run, same_block}
 use Rattle.pt_space.specs.Placed.{rounded_up, lead_size, start_of, room, IsLargest, Starts, in_largest, at_given, record_outside}
 use Rattle.pt_space.specs.Placed.{record_taken, NotLed, NotStarted, no_room, not_usable, not_free, not_led, Ends, NotEnded, before_start}
@@ -30,7 +30,7 @@ starts_one a alignment start f g (in_largest b zero x is) (at_given some free le
 starts_one a alignment start f g (at_given some free leads is) (in_largest b zero x so) = absurd (some zero)
 starts_one a alignment start f g (at_given some free leads is) (at_given other usable before so) = is ∙ sym so
 
-led : (a : Area) (empties : Option (List ℕ)) (f : ℕ) (r : Refusal) → Leads a empties f → NotLed a empties f r → ⊥
+led : (a : Area) (empties : Option (List ℕ)) (f : ℕ) (r : Refusal) → HasLead a empties f → NotLed a empties f r → ⊥
 led a None f r x y = y
 led a (Some empties) f r x (record_outside none is) = none x.0 x.1 x.2.0
 led a (Some empties) f r x (record_taken k at usable not is) =
@@ -101,7 +101,8 @@ same_first a alignment start b c f g x y = starts_one a alignment start f g x.st
 
 same_home : (a : Area) (alignment start : ℕ) (b c : Run) (f g : ℕ) → StartsIn a alignment start b f → StartsIn a alignment start c g → b ≡ c
 same_home a alignment start b c f g x y =
-    same_block a b c f x.is_block y.is_block x.holds (subst (λ (n : ℕ). Holds c n) (sym (same_first a alignment start b c f g x y)) y.holds)
+    same_block a b c f x.is_block y.is_block x.holds (subst (λ (n : ℕ). RunHolds c n) (sym
+    (same_first a alignment start b c f g x y)) y.holds)
 
 -- one run at most is placed
 pub placed_one_lem : (a : Area) (alignment start : ℕ) (end : End) (r q : Run) → Placed a alignment start end r
@@ -141,7 +142,7 @@ refused_one_lem a alignment start end r q (no_end b f x not) (no_end c g y nor) 
 
 -- in a block with room a record may stand before the start
 led_in_block : (a : Area) (alignment : ℕ) (b : Run) (empties : Option (List ℕ)) → IsBlock a b
-    → rounded_up alignment (b.first + lead_size empties) ≤ b.last → Leads a empties (rounded_up alignment (b.first + lead_size empties))
+    → rounded_up alignment (b.first + lead_size empties) ≤ b.last → HasLead a empties (rounded_up alignment (b.first + lead_size empties))
 led_in_block a alignment b None x some = tt
 led_in_block a alignment b (Some empties) x some =
     let above = rounded_above alignment (b.first + 1) in
@@ -149,10 +150,10 @@ led_in_block a alignment b (Some empties) x some =
     let free = x.free (first - 1) (omega arith, omega arith) in
     (first - 1, omega arith, (free.0, inl free.1))
 
-starts_led : (a : Area) (alignment start f : ℕ) → Starts a alignment start f → Leads a a.empties f
+starts_led : (a : Area) (alignment start f : ℕ) → Starts a alignment start f → HasLead a a.empties f
 starts_led a alignment start f (in_largest b zero x is) =
     let some = x.some in
-    subst (λ (n : ℕ). Leads a a.empties n) (sym is) (led_in_block a alignment b a.empties x.is_block (omega arith))
+    subst (λ (n : ℕ). HasLead a a.empties n) (sym is) (led_in_block a alignment b a.empties x.is_block (omega arith))
 starts_led a alignment start f (at_given some free leads is) = leads
 
 -- what is placed is free, and what leads it

@@ -17,10 +17,12 @@ use Rattle.pt_members.specs.declared.layout.Slice.{Slice}
 use Rattle.pt_recover.specs.declared.trace.Run.{Run}
 use Rattle.pt_shape.specs.laws.Along.{along_map}
 use Rattle.pt_cases.specs.Records.{IsHeadTarget, EbrsEnd, ChainEnds}
-use Rattle.pt_cases.specs.Targets.{IsEncoded, IsLabelTarget, kept, changed, new, Ends, Met, LabelsMet, stood, set, there, Set, WritesLabels}
+use Rattle.pt_cases.specs.Targets.{IsEncoded, IsLabelTarget, kept, changed, new, ComesToHold, Met, LabelsMet, stood, set, there, Set}
+use Rattle.pt_cases.specs.Targets.{WritesLabels}
 use Rattle.pt_targets.specs.Splits.{same_or_not, in_or_not}
-use Rattle.pt_targets.specs.Targets.{IsPlaceTarget, Targeted, AreLabelTargets, AreMbrTargets, AreNewWrites, InOrder, HasChain, HasEbrs}
-use Rattle.pt_targets.specs.declared.target.Kind.TheVariants.{Stays, New, Changes}
+use Rattle.pt_targets.specs.Targets.{IsPlaceTarget, Targeted, AreLabelTargets, AreMbrTargets, AreNewWrites, InSectorOrder, HasLoneChain}
+use Rattle.pt_targets.specs.Targets.{HasEbrs}
+use Rattle.pt_targets.specs.declared.target.TargetKind.TheVariants.{Stays, New, Changes}
 use Rattle.pt_targets.specs.declared.target.Target.{Target}
 
 -- what a label place must hold, from what its target says
@@ -33,13 +35,13 @@ label_target d o w l t under (inr (inr (kind, none, is))) = new none is
 
 module _ {b : ℕ} (d : Sectors) (o : Option Layout) (ws : Writes) (ts among : List (Target b))
     (all : (t : Target b) → Contains ts t → Contains among t)
-    (ends : (t : Target b) → Contains among t → Ends d ws t.at.0 t.bytes)
+    (ends : (t : Target b) → Contains among t → ComesToHold d ws t.at.0 t.bytes)
     (stays : (t : Target b) → Contains among t → t.bytes ≡ t.under → (x : List ℕ) → ¬ Puts ws t.at.0 x) where
   place_met : (w : Slice) (l : Option Label) → Targeted d o ts w l → Met b d o ws w l
   place_met w (Some l) (t, has, at, under, is) = (
     t.bytes,
     label_target d o w l t under is,
-    subst (λ (s : ℕ). Ends d ws s t.bytes) at (ends t (all t has)),
+    subst (λ (s : ℕ). ComesToHold d ws s t.bytes) at (ends t (all t has)),
   )
   place_met w None (t, has, at, under, (kind, plain, same)) = (
     subst (λ (u : List ℕ). ¬ HasMagic u) under plain,
@@ -52,32 +54,34 @@ module _ {b : ℕ} (d : Sectors) (o : Option Layout) (ws : Writes) (ts among : L
 
 module _ {b : ℕ} (d : Sectors) (old : List Ebr) (ws : Writes) (ts among : List (Target b))
     (all : (t : Target b) → Contains ts t → Contains among t)
-    (ends : (t : Target b) → Contains among t → Ends d ws t.at.0 t.bytes) where
+    (ends : (t : Target b) → Contains among t → ComesToHold d ws t.at.0 t.bytes) where
   ebrs_end : (first : ℕ) (chain : List Ebr) → HasEbrs d old first chain ts → EbrsEnd b d old ws first chain
   ebrs_end first [] has = tt
   ebrs_end first (e ∷ es) ((t, has, at, under, is), later) = (
-    (t.bytes, is, subst (λ (s : ℕ). Ends d ws s t.bytes) at (ends t (all t has))),
+    (t.bytes, is, subst (λ (s : ℕ). ComesToHold d ws s t.bytes) at (ends t (all t has))),
     ebrs_end first es later,
   )
 
-  chain_ends : (rs : List Record) (chain : List Ebr) → HasChain d old rs chain ts → ChainEnds b d old ws rs chain
+  chain_ends : (rs : List Record) (chain : List Ebr) → HasLoneChain d old rs chain ts → ChainEnds b d old ws rs chain
   chain_ends [] chain has = tt
   chain_ends (r ∷ rs) chain has = ebrs_end (extent_of r).first chain has
 
   -- where each target ends as it must, so do sector 0 and the chain
   pub mbr_met : (old_records records : List (Option Record)) (chain : List Ebr) → AreMbrTargets d old_records old records chain ts
-      → ((v : List ℕ) × IsHeadTarget old_records records (sector d 0) v × Ends d ws 0 v) × ChainEnds b d old ws (extended_of records) chain
+      → ((v : List ℕ) × IsHeadTarget old_records records (sector d 0) v × ComesToHold d ws 0 v) × ChainEnds b d old ws
+      (extended_of records) chain
   mbr_met old_records records chain are = (
     (
       are.head.target.bytes,
       are.head.is,
-      subst (λ (s : ℕ). Ends d ws s are.head.target.bytes) are.head.at (ends are.head.target (all are.head.target are.head.contains)),
+      subst (λ (s : ℕ). ComesToHold d ws s are.head.target.bytes) are.head.at (ends are.head.target
+          (all are.head.target are.head.contains)),
     ),
     chain_ends (extended_of records) chain are.ebrs,
   )
 
 module _ {b : ℕ} (d : Sectors) (o : Option Layout) (p : Layout) (ts sorted : List (Target b)) (guarded : List Run) (ws : Writes)
-    (are : AreLabelTargets d o p ts) (order : InOrder ts sorted) (settled : (t : Target b) → Contains ts t → ¬ (t.kind ≡ Changes))
+    (are : AreLabelTargets d o p ts) (order : InSectorOrder ts sorted) (settled : (t : Target b) → Contains ts t → ¬ (t.kind ≡ Changes))
     (reads : (s : ℕ) → IsPlace (places_of b p.sectors p.body) s → (Reads b d s ↔ IsIn guarded s))
     (news : AreNewWrites guarded sorted ws) where
   never : (w : Slice) (t : Target b) → Contains ts t → t.at.0 ≡ place_of w → ¬ (t.kind ≡ New) → (x : List ℕ) → ¬ Puts ws (place_of w) x

@@ -20,7 +20,8 @@ use Rattle.pt_path.specs.declared.path.Path.{Path}
 use Rattle.pt_words.specs.laws.Searches.{Decided, both_decided, alike_decided, le_decided, lt_decided, numbers_decided, option_cases}
 use Rattle.pt_words.specs.laws.Searches.{in_head}
 use Rattle.pt_words.specs.laws.Searches.{in_tail}
-use Rattle.pt_words.specs.Words.{greatest, Field, number, path, new_path, end, code, guid, IsIn, IsNewPath, IsEnd, IsHex, IsCode, Fits}
+use Rattle.pt_words.specs.Words.{greatest, Field, number, path, new_path, end, code, guid, IsNumberIn, IsNewPath, IsEnd, IsHex, IsCode}
+use Rattle.pt_words.specs.Words.{Fits}
 use Rattle.pt_words.specs.Words.{error_of, is_letter, exactly, kinds, FirstBad, IsFault, letter_fault, count_fault, field_fault}
 use Rattle.pt_words.specs.Words.{IsWordFault, IsWord}
 use Rattle.pt_words.specs.declared.error.EditError.{EditError}
@@ -42,19 +43,19 @@ number_decided text n =
     alike_decided (λ x. record { fits = x.0; digits = x.1 }) (λ is. (is.fits, is.digits))
     (both_decided (lt_decided n (2 ^ 64)) (numbers_decided text (decimal n)))
 
-in_decided : (least most : ℕ) (text : List ℕ) (n : ℕ) → Decided (IsIn least most text n)
+in_decided : (least most : ℕ) (text : List ℕ) (n : ℕ) → Decided (IsNumberIn least most text n)
 in_decided least most text n =
     alike_decided
     (λ x. record { number = x.0; low = x.1.0; high = x.1.1 })
     (λ is. (is.number, (is.low, is.high)))
     (both_decided (number_decided text n) (both_decided (le_decided least n) (le_decided n most)))
 
-number_field : (least most : ℕ) (text : List ℕ) → Decided ((n : ℕ) × IsIn least most text n)
+number_field : (least most : ℕ) (text : List ℕ) → Decided ((n : ℕ) × IsNumberIn least most text n)
 number_field least most text =
-    elim (in_decided least most text (digits_value 10 text)) as (λ _. Decided ((n : ℕ) × IsIn least most text n)) [
+    elim (in_decided least most text (digits_value 10 text)) as (λ _. Decided ((n : ℕ) × IsNumberIn least most text n)) [
       | inl is ↦ inl (digits_value 10 text, is)
       | inr not ↦ inr (λ x. (let e = value_of text x.0 x.1.number.fits x.1.number.digits in
-          not (subst (λ (n : ℕ). IsIn least most text n) (sym e) x.1)))
+          not (subst (λ (n : ℕ). IsNumberIn least most text n) (sym e) x.1)))
     ]
 
 -- paths
@@ -120,25 +121,25 @@ new_path_field text = joined (path_field text) (numbers_decided text (48 ∷ [])
 
 -- ends
 abbrev IsLong : List ℕ → Type 0
-IsLong text = (count : ℕ) × (digits : List ℕ) × (text ≡ 43 ∷ digits) × IsIn 1 greatest digits count
+IsLong text = (count : ℕ) × (digits : List ℕ) × (text ≡ 43 ∷ digits) × IsNumberIn 1 greatest digits count
 
 long_decided : (text : List ℕ) → Decided (IsLong text)
 long_decided [] = inr (λ x. (let is = x.2 in absurd cc))
 long_decided (c ∷ cs) = joined (cases_eq c 43) (number_field 1 greatest cs) where
-  joined : (c ≡ 43) ⊎ (c ≡ 43 → ⊥) → Decided ((n : ℕ) × IsIn 1 greatest cs n) → Decided (IsLong (c ∷ cs))
+  joined : (c ≡ 43) ⊎ (c ≡ 43 → ⊥) → Decided ((n : ℕ) × IsNumberIn 1 greatest cs n) → Decided (IsLong (c ∷ cs))
   joined (inr other) has = inr (λ x. (let is = x.2 in let head : c ≡ 43 = cc in other head))
   joined (inl plus) (inl has) = inl (has.0, cs, ap (λ (x : ℕ). x ∷ cs) plus, has.1)
   joined (inl plus) (inr none) = inr (λ x. (let is = x.2 in let tail : x.1 ≡ cs = cc in
-      none (x.0, subst (λ (t : List ℕ). IsIn 1 greatest t x.0) tail x.3)))
+      none (x.0, subst (λ (t : List ℕ). IsNumberIn 1 greatest t x.0) tail x.3)))
 
-end_told : (text : List ℕ) (e : End) → IsEnd text e → (text ≡ 48 ∷ []) ⊎ (IsLong text ⊎ ((n : ℕ) × IsIn 1 greatest text n))
+end_told : (text : List ℕ) (e : End) → IsEnd text e → (text ≡ 48 ∷ []) ⊎ (IsLong text ⊎ ((n : ℕ) × IsNumberIn 1 greatest text n))
 end_told text Block is = inl is
 end_told text (Length k) (digits, is, range) = inr (inl (k, digits, is, range))
 end_told text (At n) is = inr (inr (n, is))
 
 end_field : (text : List ℕ) → Decided ((e : End) × IsEnd text e)
 end_field text = joined (numbers_decided text (48 ∷ [])) (long_decided text) (number_field 1 greatest text) where
-  joined : Decided (text ≡ 48 ∷ []) → Decided (IsLong text) → Decided ((n : ℕ) × IsIn 1 greatest text n)
+  joined : Decided (text ≡ 48 ∷ []) → Decided (IsLong text) → Decided ((n : ℕ) × IsNumberIn 1 greatest text n)
       → Decided ((e : End) × IsEnd text e)
   joined (inl is) long at = inl (Block, is)
   joined (inr not) (inl x) at = inl (Length x.0, (x.1, x.2, x.3))
@@ -289,10 +290,22 @@ disk_word (f ∷ []) fit = (SetDisk (guid_from fit.0.0), (f, refl, fit.0.1))
 disk_word (f ∷ g ∷ r) fit = absurd fit.1
 
 -- 0 or 1 is a bit's value
-bit_word : (f g h : List ℕ) (n i v : ℕ) → IsIn 1 greatest f n → IsIn 0 63 g i → IsIn 0 1 h v → WordOf 65 (f ∷ g ∷ h ∷ [])
+bit_word : (f g h : List ℕ) (n i v : ℕ) → IsNumberIn 1 greatest f n → IsNumberIn 0 63 g i → IsNumberIn 0 1 h v → WordOf 65 (f ∷ g ∷ h ∷ [])
 bit_word f g h n i v a b c = elim (cases_eq v 0) as (λ _. WordOf 65 (f ∷ g ∷ h ∷ [])) [
-  | inl off ↦ (SetBit n i false, (f, g, h, refl, a, b, subst (λ (x : ℕ). IsIn 0 1 h x) off c))
-  | inr on ↦ (let one : v ≡ 1 = omega (arith, c.high) in (SetBit n i true, (f, g, h, refl, a, b, subst (λ (x : ℕ). IsIn 0 1 h x) one c)))
+  | inl off ↦ (SetBit n i false, (f, g, h, refl, a, b, subst (λ (x : ℕ). IsNumberIn 0 1 h x) off c))
+  | inr on ↦ (let one : v ≡ 1 = omega (arith, c.high) in (
+    SetBit n i true,
+    (
+      f,
+      g,
+      h,
+      refl,
+      a,
+      b,
+      subst (λ
+          (x : ℕ). IsNumberIn 0 1 h x) one c,
+    ),
+  ))
 ]
 
 bits_word : (rest : List (List ℕ)) → AllFit (number 1 greatest ∷ number 0 63 ∷ number 0 1 ∷ []) rest → WordOf 65 rest
@@ -320,7 +333,7 @@ name_or (f ∷ g ∷ r) name text = joined (number_field 1 greatest f) where
   two : nat_le 2 (length (f ∷ g ∷ r)) ≡ true
   two = grind (arith, nat_tests)
 
-  joined : Decided ((n : ℕ) × IsIn 1 greatest f n) → WordOr (99 ∷ []) (f ∷ g ∷ r)
+  joined : Decided ((n : ℕ) × IsNumberIn 1 greatest f n) → WordOr (99 ∷ []) (f ∷ g ∷ r)
   joined (inl x) = inl (SetName x.0 name, (f, g, r, refl, x.1, text))
   joined (inr not) = inr (
     error_of (number 1 greatest),

@@ -12,7 +12,8 @@ use Rattle.pt_guid.specs.declared.guid.Guid.{Guid}
 use Rattle.pt_path.specs.Texts.{IsNumber, IsPath, letter_text}
 use Rattle.pt_path.specs.laws.OneText.{number_is_one_lem, path_is_one_lem}
 use Rattle.pt_path.specs.declared.path.Path.{Path}
-use Rattle.pt_words.specs.Words.{Field, greatest, kinds, IsIn, IsNewPath, IsEnd, IsHex, IsCode, IsCodeTail, FirstBad, IsFault, letter_fault}
+use Rattle.pt_words.specs.Words.{Field, greatest, kinds, IsNumberIn, IsNewPath, IsEnd, IsHex, IsCode, IsCodeTail, FirstBad, IsFault}
+use Rattle.pt_words.specs.Words.{letter_fault}
 use Rattle.pt_words.specs.Words.{count_fault, field_fault, IsWordFault, IsWord}
 use Rattle.pt_words.specs.declared.error.EditError.{EditError}
 use Rattle.pt_words.specs.declared.word.Code.{Code}
@@ -42,7 +43,7 @@ not_head text rest x low is high =
     let same = ap (λ (t : List ℕ). slice_index t 0) is in
     omega (arith, same)
 
-in_one : (least most : ℕ) (s t : List ℕ) (m n : ℕ) → s ≡ t → IsIn least most s m → IsIn least most t n → m ≡ n
+in_one : (least most : ℕ) (s t : List ℕ) (m n : ℕ) → s ≡ t → IsNumberIn least most s m → IsNumberIn least most t n → m ≡ n
 in_one least most s t m n same a b = number_is_one_lem s m n a.number (subst (λ (x : List ℕ). IsNumber x n) (sym same) b.number)
 
 path_one : (s t : List ℕ) (p q : Path) → s ≡ t → IsPath s p → IsPath t q → p ≡ q

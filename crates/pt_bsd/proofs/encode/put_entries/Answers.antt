@@ -1,7 +1,7 @@
 use Rattle.std.proofs.Common.{◌+◌, None}
 use Rattle.std.specs.Prelude.{slice_index_or}
 use Rattle.pt_bsd.specs.Label.{place_of}
-use Rattle.pt_bsd.specs.Writing.{IsPut}
+use Rattle.pt_bsd.specs.Writing.{EntryIsPut}
 use Rattle.pt_bsd.proofs.Entries.{put_more}
 use Rattle.pt_bsd.proofs.Parts.{changes_none}
 use Rattle.pt_bsd.proofs.encode.put_entries.Goals as goal
@@ -15,9 +15,10 @@ loop-k-preserved c =
     let mid = c.loop-k.bytes in
     elim c.match-entries-k.branch [
       | in-Some w ↦
-          let here : IsPut (slice_index_or entries k None) (place_of k) w.put_entry.new.bytes = rw w.in-Some.is w.put_entry.ensures.here in
+          let here : EntryIsPut (slice_index_or entries k None) (place_of k) w.put_entry.new.bytes = rw w.in-Some.is
+          w.put_entry.ensures.here in
           rw w.bytes-is (put_more entries k old mid w.put_entry.new.bytes c.loop-k.invariant here w.put_entry.ensures.only)
       | in_default w ↦
-          let here : IsPut (slice_index_or entries k None) (place_of k) mid = rw w.in_default.is tt in
+          let here : EntryIsPut (slice_index_or entries k None) (place_of k) mid = rw w.in_default.is tt in
           rw w.bytes-is (put_more entries k old mid mid c.loop-k.invariant here (changes_none (place_of k) (place_of k + 16) mid))
     ]

@@ -1,7 +1,7 @@
 use Rattle.std.proofs.Common.{rules, sym, subst}
 use Rattle.pt_sector.specs.Device.{Told}
 use Rattle.pt_apply.specs.Plans.{phases_of}
-use Rattle.pt_check.specs.Recovered.{IsOf}
+use Rattle.pt_check.specs.Recovered.{IsRecoveredOf}
 use Rattle.pt_check.proofs.Exits.{concluding}
 use Rattle.pt_check.proofs.checker.check_phases.Goals as goal
 
@@ -30,7 +30,8 @@ try_phases-requires g c = (
     c.requires.size,
     (
       c.requires.room,
-      λ tells. subst (λ (t : Told). IsOf g.row.B t.seen c.args.before) (sym (c.in_ok-end.ensures.same.same tells)) (c.requires.known tells),
+      λ tells. subst (λ (t : Told). IsRecoveredOf g.row.B t.seen c.args.before) (sym (c.in_ok-end.ensures.same.same tells))
+          (c.requires.known tells),
     ),
   ),
 )

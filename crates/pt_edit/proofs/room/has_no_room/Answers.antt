@@ -1,4 +1,4 @@
-use Rattle.std.proofs.Common.{refl, arith}
+use Rattle.std.proofs.Common.{refl}
 use Rattle.pt_edit.proofs.Searches.{any_is, chain_is, chain_decides, not_true}
 use Rattle.pt_edit.proofs.room.has_no_room.Goals as goal
 
@@ -9,6 +9,6 @@ pub returns : goal.returns
 returns g c = (
   λ t. chain_is g.row.B c.args.layout.now (c.is_chain_in_way.ensures.0 t),
   λ bad. c.is_chain_in_way.ensures.1 (chain_decides g.row.B c.args.layout.now
-      (omega (arith, c.if-layout-array_sectors.false, c.array_sectors.ensures.value))
+      (c.has_room.ensures.0 c.if-not-has_room.false)
       (λ has. not_true c.has_outsider.result c.if-has_outsider.false (c.has_outsider.ensures.1 has)) bad),
 )

@@ -2,7 +2,7 @@ use Rattle.std.proofs.Common.{subst, sym}
 use Rattle.std.specs.Prelude.{IfOk, IfErr}
 use Rattle.std.proofs.lemmas.Result.{err_from_is_err_and}
 use Rattle.pt_sector.specs.Device.{Told}
-use Rattle.pt_gpt.specs.Errors.{FailedIn}
+use Rattle.pt_gpt.specs.Errors.{FailedInCopy}
 use Rattle.pt_gpt.specs.Copy.{Copy, IsHead, SideReads}
 use Rattle.pt_gpt.specs.Answers.{TellsFault}
 use Rattle.pt_gpt.proofs.Heads.{fault_of_head}
@@ -29,7 +29,7 @@ returns-clause-err g c tells =
 
 pub returns-clause-place : goal.returns-clause-place
 returns-clause-place g c tells =
-    subst (λ (s : Told). IfErr c.read_table.result (FailedIn (SideReads g.row.B s.seen c.args.side)))
+    subst (λ (s : Told). IfErr c.read_table.result (FailedInCopy (SideReads g.row.B s.seen c.args.side)))
     (c.in_ok-header.ensures.same.same tells) (c.read_table.ensures.place tells)
 
 pub returns-in_err-header-clause-err : goal.returns-in_err-header-clause-err

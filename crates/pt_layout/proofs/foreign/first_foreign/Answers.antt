@@ -3,7 +3,7 @@ use Rattle.pt_sector.specs.Sectors.{Sectors}
 use Rattle.pt_members.specs.Slices.{places_of}
 use Rattle.pt_members.specs.declared.layout.Slice.{Slice}
 use Rattle.pt_recover.proofs.Whole.{places_within}
-use Rattle.pt_members.specs.Next.{NextIs}
+use Rattle.pt_members.specs.Next.{NextSectorIs}
 use Rattle.pt_layout.specs.Foreign.{ForeignAmong}
 use Rattle.pt_layout.proofs.Foreignness.{foreign_none, foreign_some}
 use Rattle.pt_layout.proofs.foreign.first_foreign.Goals as goal
@@ -17,18 +17,19 @@ pub returns-in-Some-clause-ok : goal.returns-in-Some-clause-ok
 returns-in-Some-clause-ok g c = λ tells.
     let o = c.args.layout.now in
     let d : Sectors = (g.D.Disk.told c.args.disk.now).seen in
-    let among : NextIs (ForeignAmong d c.deref.result.now) 0 (Some c.in-Some.number) =
-    subst (λ (r : Option ℕ). NextIs (ForeignAmong d c.deref.result.now) 0 r) c.in-Some.is (c.in_ok-lowest.ensures.ok tells) in
+    let among : NextSectorIs (ForeignAmong d c.deref.result.now) 0 (Some c.in-Some.number) =
+    subst (λ (r : Option ℕ). NextSectorIs (ForeignAmong d c.deref.result.now) 0 r) c.in-Some.is (c.in_ok-lowest.ensures.ok tells) in
     let same : c.sectors-sectors.result ≡ o.sectors = c.sectors-sectors.ensures ∙ sym (c.requires.sectors tells) in
     let places = c.deref.ensures.value ∙ c.in_ok-places.ensures ∙ ap (λ (n : ℕ). places_of g.row.B n o.body) same in
-    foreign_some g.row.B d o c.in-Some.number (subst (λ (l : List Slice). NextIs (ForeignAmong d l) 0 (Some c.in-Some.number)) places among)
+    foreign_some g.row.B d o c.in-Some.number (subst (λ (l : List Slice). NextSectorIs (ForeignAmong d l) 0
+    (Some c.in-Some.number)) places among)
 
 pub returns-clause-ok : goal.returns-clause-ok
 returns-clause-ok g c = λ tells.
     let o = c.args.layout.now in
     let d : Sectors = (g.D.Disk.told c.args.disk.now).seen in
-    let among : NextIs (ForeignAmong d c.deref.result.now) 0 None =
-    subst (λ (r : Option ℕ). NextIs (ForeignAmong d c.deref.result.now) 0 r) c.in-None.is (c.in_ok-lowest.ensures.ok tells) in
+    let among : NextSectorIs (ForeignAmong d c.deref.result.now) 0 None =
+    subst (λ (r : Option ℕ). NextSectorIs (ForeignAmong d c.deref.result.now) 0 r) c.in-None.is (c.in_ok-lowest.ensures.ok tells) in
     let same : c.sectors-sectors.result ≡ o.sectors = c.sectors-sectors.ensures ∙ sym (c.requires.sectors tells) in
     let places = c.deref.ensures.value ∙ c.in_ok-places.ensures ∙ ap (λ (n : ℕ). places_of g.row.B n o.body) same in
-    foreign_none g.row.B d o (subst (λ (l : List Slice). NextIs (ForeignAmong d l) 0 None) places among)
+    foreign_none g.row.B d o (subst (λ (l : List Slice). NextSectorIs (ForeignAmong d l) 0 None) places among)

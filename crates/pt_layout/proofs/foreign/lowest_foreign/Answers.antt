@@ -2,7 +2,7 @@ use Rattle.std.proofs.lemmas.Result.{err_from_is_err_and}
 use Rattle.std.proofs.Common.{◌≡◌, ◌+◌, ◌∙◌, ℕ, Option, length, get_or, sym, subst, arith}
 use Rattle.pt_sector.specs.Sectors.{Sectors}
 use Rattle.pt_sector.specs.Device.{Told}
-use Rattle.pt_members.specs.Next.{NextIs}
+use Rattle.pt_members.specs.Next.{NextSectorIs}
 use Rattle.pt_layout.specs.Foreign.{ForeignOf, no_slice}
 use Rattle.pt_members.proofs.Lowest.{Under, next_more}
 use Rattle.pt_layout.proofs.Failing.{place_failed}
@@ -14,10 +14,10 @@ loop-k-preserved g c = record {
   quiet = c.in_ok-number.ensures.blames ∙ c.loop-k.invariant.quiet;
   lowest = λ tells.
       (let d : Sectors = (g.D.Disk.told c.args.disk.now).seen in
-      let here : NextIs (ForeignOf d (get_or c.args.slices.now c.loop-k.k no_slice)) 0 c.in_ok-number.number =
-      subst (λ (t : Told). NextIs (ForeignOf t.seen (get_or c.args.slices.now c.loop-k.k no_slice)) 0 c.in_ok-number.number)
+      let here : NextSectorIs (ForeignOf d (get_or c.args.slices.now c.loop-k.k no_slice)) 0 c.in_ok-number.number =
+      subst (λ (t : Told). NextSectorIs (ForeignOf t.seen (get_or c.args.slices.now c.loop-k.k no_slice)) 0 c.in_ok-number.number)
       (c.loop-k.invariant.same.same tells) (c.in_ok-number.ensures.ok tells) in
-      subst (λ (r : Option ℕ). NextIs (Under (λ j. ForeignOf d (get_or c.args.slices.now j no_slice)) (c.loop-k.k + 1)) 0 r)
+      subst (λ (r : Option ℕ). NextSectorIs (Under (λ j. ForeignOf d (get_or c.args.slices.now j no_slice)) (c.loop-k.k + 1)) 0 r)
       (sym c.least-lowest.ensures)
       (next_more (λ j. ForeignOf d (get_or c.args.slices.now j no_slice)) c.loop-k.k 0 c.loop-k.lowest c.in_ok-number.number
       (c.loop-k.invariant.lowest tells) here));
@@ -27,7 +27,7 @@ pub returns-clause-ok : goal.returns-clause-ok
 returns-clause-ok g c = λ tells.
     let d : Sectors = (g.D.Disk.told c.args.disk.now).seen in
     let all : c.loop-k.k ≡ length c.args.slices.now = omega arith in
-    subst (λ (k : ℕ). NextIs (Under (λ j. ForeignOf d (get_or c.args.slices.now j no_slice)) k) 0 c.loop-k.lowest) all
+    subst (λ (k : ℕ). NextSectorIs (Under (λ j. ForeignOf d (get_or c.args.slices.now j no_slice)) k) 0 c.loop-k.lowest) all
     (c.loop-k.invariant.lowest tells)
 
 pub returns-in_err-number-clause-place : goal.returns-in_err-number-clause-place

@@ -2,7 +2,7 @@ use Rattle.std.specs.Prelude.{Result, IfErr, OnOk, ◌⊎◌}
 use Rattle.std.proofs.Common.{sym, subst}
 use Rattle.pt_sector.specs.Sectors.{Sectors}
 use Rattle.pt_sector.specs.Device.{Told}
-use Rattle.pt_recover.specs.Answers.{TellsNothing, IsOutside, IsTraceOf, FailedIn as FailedInDisk}
+use Rattle.pt_recover.specs.Answers.{TellsNothing, IsOutsideDisk, IsTraceOf, FailedInDisk}
 use Rattle.pt_recover.specs.Denotes.{Reads}
 use Rattle.pt_recover.specs.declared.error.NoTable.{NoTable}
 use Rattle.pt_members.specs.declared.layout.Layout.{Layout}
@@ -34,8 +34,8 @@ returns-in-Err-clause-ok g c = λ tells.
     let told : TellsNothing g.row.B d c.in-Err.reason =
     subst (λ (r : Result Layout NoTable). IfErr r (λ e. TellsNothing g.row.B d e)) c.in-Err.is
     (c.recover_known-found.ensures.err tells) in
-    let trace : IsOutside c.in-Err.reason ⊎ IsTraceOf g.row.B d c.recover_known-found.result.1 =
-    subst (λ (r : Result Layout NoTable). IfErr r (λ e. IsOutside e
+    let trace : IsOutsideDisk c.in-Err.reason ⊎ IsTraceOf g.row.B d c.recover_known-found.result.1 =
+    subst (λ (r : Result Layout NoTable). IfErr r (λ e. IsOutsideDisk e
     ⊎ IsTraceOf g.row.B d c.recover_known-found.result.1)) c.in-Err.is (c.recover_known-found.ensures.traced_err tells) in
     reason_survey g.row.B d c.in-Err.reason c.recover_known-found.result.1 c.without_layout.result (c.requires.mbr tells).0 told trace
     c.without_layout.ensures.ok

@@ -1,8 +1,8 @@
 use Rattle.pt_members.specs.Members.{slots}
-use Rattle.pt_members.specs.Next.{NextIs}
+use Rattle.pt_members.specs.Next.{NextSectorIs}
 use Rattle.pt_members.specs.Slices.{IsPlace}
 use Rattle.pt_members.proofs.LabelPlaces.{placed_before}
 use Rattle.pt_members.proofs.tables.next_label.Given as goal
 
 abbrev pub invariant-loop-k : goal.invariant-loop-k
-invariant-loop-k g l = NextIs (IsPlace (placed_before l.sectors (slots g.row.B l.body) l.k)) l.from l.next
+invariant-loop-k g l = NextSectorIs (IsPlace (placed_before l.sectors (slots g.row.B l.body) l.k)) l.from l.next

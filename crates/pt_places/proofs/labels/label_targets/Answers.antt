@@ -1,7 +1,7 @@
 use Rattle.std.proofs.Common.{◌≡◌, ◌∙◌, ℕ, List, length, map, All, sym, ap, subst, rules}
 use Rattle.pt_sector.specs.Sectors.{Sectors}
 use Rattle.pt_members.specs.declared.layout.Slice.{Slice}
-use Rattle.pt_shape.specs.Ascending.{IsAscending}
+use Rattle.pt_shape.specs.Ascending.{NumbersAscend}
 use Rattle.pt_shape.specs.laws.Ascending.{places_ascend_lem}
 use Rattle.pt_places.specs.Places.{spot_of, IsAt, IsRead, OldAre}
 use Rattle.pt_places.specs.Spots.{AreSpots}
@@ -15,7 +15,7 @@ pub spots-requires : goal.spots-requires
 spots-requires g c =
     let y = c.args.wanted.now.body in
     let slices = c.deref.ensures.value ∙ c.in_ok-slices.ensures in
-    subst (λ (l : List Slice). IsAscending 1 l) (sym slices) (places_ascend_lem g.row.B c.sectors-sectors.result y c.has_four.ensures)
+    subst (λ (l : List Slice). NumbersAscend 1 l) (sym slices) (places_ascend_lem g.row.B c.sectors-sectors.result y c.has_four.ensures)
 
 pub read_places-requires : goal.read_places-requires
 read_places-requires g c =

@@ -3,13 +3,13 @@ use Rattle.std.proofs.lemmas.Bool.{false≢true}
 use Rattle.pt_bsd.specs.laws.Terms.{label_one, label_none}
 use Rattle.pt_bsd.specs.laws.Equal.{label_decides}
 use Rattle.pt_bsd.specs.declared.label.Label.{Label}
-use Rattle.pt_places.specs.Places.{Reads}
+use Rattle.pt_places.specs.Places.{PlacesRead}
 use Rattle.pt_places.proofs.targets.kept.Goals as goal
 
 pub returns-then-eq : goal.returns-then-eq
 returns-then-eq g c =
     let same : c.in-Ok.found ≡ c.args.label.now = (label_decides c.in-Ok.found c.args.label.now).0 (sym c.eq.ensures ∙ c.if-eq.true) in
-    (c.stays.ensures, subst (λ (l : Label). Reads c.args.place.now l c.args.place.now.bytes) same c.in-Ok.ensures.ok)
+    (c.stays.ensures, subst (λ (l : Label). PlacesRead c.args.place.now l c.args.place.now.bytes) same c.in-Ok.ensures.ok)
 
 pub returns-else-eq : goal.returns-else-eq
 returns-else-eq g c = λ reads.

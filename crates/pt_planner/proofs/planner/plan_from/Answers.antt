@@ -2,7 +2,7 @@ use Rattle.std.proofs.Common.{◌∙◌, ℕ, sym, subst, arith}
 use Rattle.std.proofs.lemmas.Result.{err_from_is_err_and}
 use Rattle.pt_mbr.specs.Extended.{extended_of}
 use Rattle.pt_shape.specs.Shape.{FitsTable}
-use Rattle.pt_shape.specs.Links.{IsLinked}
+use Rattle.pt_shape.specs.Links.{IsLoneChain}
 use Rattle.pt_planner.proofs.Beginning.{of_disk, starts}
 use Rattle.pt_planner.proofs.Making.{err_so, isnt, hindered, no_places, none_of_disk}
 use Rattle.pt_planner.proofs.planner.plan_from.Goals as goal
@@ -50,7 +50,7 @@ to_mbr-requires g c =
           (
             c.in-Mbr.is,
             (
-              subst (λ (n : ℕ). IsLinked n (extended_of c.in-Mbr.records) c.in-Mbr.chain) count
+              subst (λ (n : ℕ). IsLoneChain n (extended_of c.in-Mbr.records) c.in-Mbr.chain) count
                   (of.mbr c.in-Mbr.records c.in-Mbr.chain c.in-Mbr.is).1,
               (
                 rw c.in_ok-places.ensures.same.same_count c.in_ok-places.ensures.in_range,

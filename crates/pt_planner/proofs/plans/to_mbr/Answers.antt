@@ -1,7 +1,7 @@
 use Rattle.std.proofs.Common.{◌<◌, ℕ, sym, subst}
 use Rattle.std.specs.Prelude.{Contains}
 use Rattle.pt_mbr.specs.Extended.{extended_of}
-use Rattle.pt_shape.specs.Links.{IsLinked}
+use Rattle.pt_shape.specs.Links.{IsLoneChain}
 use Rattle.pt_targets.specs.Unmade.{HasUnmade}
 use Rattle.pt_targets.specs.Targets.{AreMbrTargets}
 use Rattle.pt_targets.specs.declared.target.Target.{Target}
@@ -42,7 +42,7 @@ returns-clause-plan g c = λ tells.
     (mbr_start d c.args.known.now c.args.wanted.now c.in-Some.layout c.in-Mbr.records c.args.records.now c.in-Mbr.chain c.args.chain.now
     c.in-Some-2.heads.items c.args.places.items (c.requires.known tells) (c.requires.start tells)
     c.in-Some.is c.in-Mbr.is c.requires.body c.are_four.ensures
-    (subst (λ (n : ℕ). IsLinked n (extended_of c.args.records.now) c.args.chain.now) (sym count) c.requires.linked) heads
+    (subst (λ (n : ℕ). IsLoneChain n (extended_of c.args.records.now) c.args.chain.now) (sym count) c.requires.linked) heads
     (c.requires.places tells)))
     c.within_mbr.ensures.plan
 
@@ -56,6 +56,6 @@ returns-clause-err g c = λ tells was.
     (mbr_start d c.args.known.now c.args.wanted.now c.in-Some.layout c.in-Mbr.records c.args.records.now c.in-Mbr.chain c.args.chain.now
     c.in-Some-2.heads.items c.args.places.items (c.requires.known tells) (c.requires.start tells)
     c.in-Some.is c.in-Mbr.is c.requires.body c.are_four.ensures
-    (subst (λ (n : ℕ). IsLinked n (extended_of c.args.records.now) c.args.chain.now) (sym count) c.requires.linked) heads
+    (subst (λ (n : ℕ). IsLoneChain n (extended_of c.args.records.now) c.args.chain.now) (sym count) c.requires.linked) heads
     (c.requires.places tells))))
     c.within_mbr.ensures.err

@@ -4,7 +4,7 @@ use Rattle.std.proofs.lemmas.Result.{on_ok_weaker, IfErr-weaker}
 use Rattle.pt_sector.specs.Calls.{blames_after}
 use Rattle.pt_sector.specs.Sectors.{Sectors}
 use Rattle.pt_sector.specs.Device.{Told}
-use Rattle.pt_recover.specs.Answers.{IsOutside, TellsNothing, fault_in, FailedIn}
+use Rattle.pt_recover.specs.Answers.{IsOutsideDisk, TellsNothing, fault_in, FailedInDisk}
 use Rattle.pt_recover.specs.Steps.{RestReads}
 use Rattle.pt_recover.specs.Denotes.{BodyIs, BodyReads}
 use Rattle.pt_recover.specs.Spans.{Adds}
@@ -23,17 +23,17 @@ traced_rest b d t old mid new r some same first =
 
 traced_err_rest : {A : Type 0} (b : ℕ) (d : Sectors) (t : Told) (old mid new : List Run) (r : Result A NoTable) → 0 < length d
     → t.seen ≡ d → Adds old mid (λ s. s ≡ 0)
-    → IfErr r (λ e. IsOutside e ⊎ Adds mid new (RestReads b t.seen)) → IfErr r (λ e. IsOutside e ⊎ Adds old new (BodyReads b d))
+    → IfErr r (λ e. IsOutsideDisk e ⊎ Adds mid new (RestReads b t.seen)) → IfErr r (λ e. IsOutsideDisk e ⊎ Adds old new (BodyReads b d))
 traced_err_rest b d t old mid new r some same first =
-    IfErr-weaker r (λ e. IsOutside e ⊎ Adds mid new (RestReads b t.seen)) (λ e. IsOutside e ⊎ Adds old new (BodyReads b d))
-    (λ e adds. body_read_or (IsOutside e) b d old mid new some first
-    (subst (λ (f : Sectors). IsOutside e ⊎ Adds mid new (RestReads b f)) same adds))
+    IfErr-weaker r (λ e. IsOutsideDisk e ⊎ Adds mid new (RestReads b t.seen)) (λ e. IsOutsideDisk e ⊎ Adds old new (BodyReads b d))
+    (λ e adds. body_read_or (IsOutsideDisk e) b d old mid new some first
+    (subst (λ (f : Sectors). IsOutsideDisk e ⊎ Adds mid new (RestReads b f)) same adds))
 
 failed_rest : {A : Type 0} (b : ℕ) (d : Sectors) (t : Told) (r : Result A NoTable) → t.seen ≡ d
-    → IfErr r (FailedIn (RestReads b t.seen)) → IfErr r (FailedIn (BodyReads b d))
+    → IfErr r (FailedInDisk (RestReads b t.seen)) → IfErr r (FailedInDisk (BodyReads b d))
 failed_rest b d t r same =
-    IfErr-weaker r (FailedIn (RestReads b t.seen)) (FailedIn (BodyReads b d))
-    (λ e failed. body_failed b d e (subst (λ (f : Sectors). FailedIn (RestReads b f) e) same failed))
+    IfErr-weaker r (FailedInDisk (RestReads b t.seen)) (FailedInDisk (BodyReads b d))
+    (λ e failed. body_failed b d e (subst (λ (f : Sectors). FailedInDisk (RestReads b f) e) same failed))
 
 pub returns-in-Some-clause-traced : goal.returns-in-Some-clause-traced
 returns-in-Some-clause-traced g c = λ tells.

@@ -1,7 +1,7 @@
 use Rattle.std.proofs.lemmas.Result.{err_from_is_err_and}
 use Rattle.std.proofs.Common.{length, refl}
 use Rattle.pt_gpt.specs.Array.{HasRoom}
-use Rattle.pt_recover.specs.Answers.{IsOutside}
+use Rattle.pt_recover.specs.Answers.{IsOutsideDisk}
 use Rattle.pt_recover.proofs.Bodies.{enough, rest_gpt, rest_gpt_or, no_copies}
 use Rattle.pt_recover.proofs.Failed.{rest_of_table}
 use Rattle.pt_recover.proofs.body.read_gpt.Goals as goal
@@ -36,7 +36,7 @@ pub returns-in_err-table-clause-traced_err : goal.returns-in_err-table-clause-tr
 returns-in_err-table-clause-traced_err g c = λ tells.
     let p = err_from_is_err_and c.from_residual.result c.from_residual.ensures.1 in
     rw (p.1, p.2) (let room : HasRoom g.row.B c.sectors-sectors.result = c.if-not-has_room.ensures.0 refl in
-    rest_gpt_or (IsOutside c.in_err-table.field-0.0) g.row.B
+    rest_gpt_or (IsOutsideDisk c.in_err-table.field-0.0) g.row.B
     (g.D.Disk.told c.args.disk.now).seen c.args.trace.now c.read_either.new.trace (c.requires.no_mbr tells)
     (enough g.row.B c.sectors-sectors.result (g.D.Disk.count c.args.disk.now)
     (length (g.D.Disk.told c.args.disk.now).seen) room c.sectors-sectors.ensures (g.met.D.Disk.sized c.args.disk.now tells))

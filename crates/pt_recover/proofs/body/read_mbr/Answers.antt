@@ -1,5 +1,5 @@
 use Rattle.std.proofs.lemmas.Result.{err_from_is_err_and}
-use Rattle.pt_recover.specs.Answers.{IsOutside}
+use Rattle.pt_recover.specs.Answers.{IsOutsideDisk}
 use Rattle.pt_recover.proofs.Bodies.{rest_mbr, rest_mbr_or}
 use Rattle.pt_recover.proofs.Failed.{rest_of_chain}
 use Rattle.pt_recover.proofs.body.read_mbr.Goals as goal
@@ -12,7 +12,7 @@ returns-clause-traced g c = λ tells.
 pub returns-in_err-chain-clause-traced_err : goal.returns-in_err-chain-clause-traced_err
 returns-in_err-chain-clause-traced_err g c = λ tells.
     let p = err_from_is_err_and c.from_residual.result c.from_residual.ensures.1 in
-    rw (p.1, p.2) (rest_mbr_or (IsOutside c.in_err-chain.field-0.0) g.row.B
+    rw (p.1, p.2) (rest_mbr_or (IsOutsideDisk c.in_err-chain.field-0.0) g.row.B
     (g.D.Disk.told c.args.disk.now).seen c.args.mbr.now.records c.args.trace.now c.read_lone.new.trace (c.requires.is_mbr tells)
     (c.in_err-chain.ensures.traced_err tells))
 

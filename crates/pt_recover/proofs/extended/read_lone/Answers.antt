@@ -8,7 +8,7 @@ use Rattle.pt_mbr.specs.Extended.{extended_of}
 use Rattle.pt_recover.specs.Mbr.{ExtendedReads}
 use Rattle.pt_recover.specs.Spans.{Adds}
 use Rattle.pt_recover.specs.Steps.{IsChainFault}
-use Rattle.pt_recover.specs.Answers.{TellsNothing, IsOutside}
+use Rattle.pt_recover.specs.Answers.{TellsNothing, IsOutsideDisk}
 use Rattle.pt_recover.specs.declared.error.NoTable.TheVariants as no
 use Rattle.pt_recover.proofs.Nothing.{two_extended, no_extent, bad_chain, lone_read_or}
 use Rattle.pt_recover.proofs.extended.read_lone.Goals as goal
@@ -26,7 +26,7 @@ returns-in-None-clause-err g c = λ tells.
 pub returns-clause-err : goal.returns-clause-err
 returns-clause-err g c = λ tells.
     let d : Sectors = (g.D.Disk.told c.args.disk.now).seen in
-    IfErr-weaker c.read_extended.result (λ e. IsOutside e ⊎ IsChainFault d (span_of c.in-Some.extent) e) (λ e. TellsNothing g.row.B d e)
+    IfErr-weaker c.read_extended.result (λ e. IsOutsideDisk e ⊎ IsChainFault d (span_of c.in-Some.extent) e) (λ e. TellsNothing g.row.B d e)
     (λ e told. bad_chain g.row.B d c.args.mbr.now.records c.in-One.record (span_of c.in-Some.extent) e
     (c.requires.is_mbr tells) c.in-One.ensures c.in-Some.ensures.some told)
     (c.read_extended.ensures.err tells)
@@ -34,9 +34,9 @@ returns-clause-err g c = λ tells.
 pub returns-clause-traced_err : goal.returns-clause-traced_err
 returns-clause-traced_err g c = λ tells.
     let d : Sectors = (g.D.Disk.told c.args.disk.now).seen in
-    IfErr-weaker c.read_extended.result (λ e. IsOutside e ⊎ Adds c.args.trace.now c.read_extended.new.trace
+    IfErr-weaker c.read_extended.result (λ e. IsOutsideDisk e ⊎ Adds c.args.trace.now c.read_extended.new.trace
     (ChainReads d (span_of c.in-Some.extent)))
-    (λ e. IsOutside e ⊎ Adds c.args.trace.now c.read_extended.new.trace (ExtendedReads d (extended_of c.args.mbr.now.records)))
-    (λ e told. lone_read_or (IsOutside e) d c.args.mbr.now.records c.in-One.record
+    (λ e. IsOutsideDisk e ⊎ Adds c.args.trace.now c.read_extended.new.trace (ExtendedReads d (extended_of c.args.mbr.now.records)))
+    (λ e told. lone_read_or (IsOutsideDisk e) d c.args.mbr.now.records c.in-One.record
     (span_of c.in-Some.extent) c.args.trace.now c.read_extended.new.trace c.in-One.ensures c.in-Some.ensures.some told)
     (c.read_extended.ensures.traced_err tells)

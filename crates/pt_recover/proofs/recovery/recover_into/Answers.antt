@@ -6,12 +6,12 @@ use Rattle.pt_sector.specs.Sectors.{Sectors}
 use Rattle.pt_sector.specs.declared.disk.Fault.{Fault}
 use Rattle.pt_sector.specs.declared.reading.Failure.{Failure}
 use Rattle.pt_sector.specs.declared.reading.Failure.TheVariants as failure
-use Rattle.pt_recover.specs.Answers.{IsOutside, fault_in, told_failure}
+use Rattle.pt_recover.specs.Answers.{IsOutsideDisk, fault_in, told_failure}
 use Rattle.pt_recover.proofs.Whole.{places_within, all_read, none_read}
 use Rattle.pt_recover.proofs.Failed.{reads_failed, label_failed}
 use Rattle.pt_recover.proofs.recovery.recover_into.Goals as goal
 
-told_outside : (f : Failure) → IsOutside (told_failure f)
+told_outside : (f : Failure) → IsOutsideDisk (told_failure f)
 told_outside (failure.Device at) = tt
 told_outside failure.Memory = tt
 

@@ -1,6 +1,6 @@
 use Rattle.std.specs.Prelude.{◌⊎◌}
 use Rattle.std.proofs.lemmas.Result.{on_ok_weaker, IfErr-weaker}
-use Rattle.pt_recover.specs.Answers.{IsOutside, IsTraceOf}
+use Rattle.pt_recover.specs.Answers.{IsOutsideDisk, IsTraceOf}
 use Rattle.pt_recover.specs.Denotes.{Reads}
 use Rattle.pt_recover.specs.Spans.{Adds}
 use Rattle.pt_recover.proofs.Whole.{trace_is, trace_or}
@@ -15,9 +15,9 @@ returns-clause-traced g c = λ tells.
 
 pub returns-clause-traced_err : goal.returns-clause-traced_err
 returns-clause-traced_err g c = λ tells.
-    IfErr-weaker c.recover_into-answer.result (λ e. IsOutside e
+    IfErr-weaker c.recover_into-answer.result (λ e. IsOutsideDisk e
     ⊎ Adds c.new-trace.result c.recover_into-answer.new.trace (Reads g.row.B (g.D.Disk.told c.args.disk.now).seen))
-    (λ e. IsOutside e ⊎ IsTraceOf g.row.B (g.D.Disk.told c.args.disk.now).seen c.recover_into-answer.new.trace)
-    (λ e adds. trace_or (IsOutside e) g.row.B
+    (λ e. IsOutsideDisk e ⊎ IsTraceOf g.row.B (g.D.Disk.told c.args.disk.now).seen c.recover_into-answer.new.trace)
+    (λ e adds. trace_or (IsOutsideDisk e) g.row.B
     (g.D.Disk.told c.args.disk.now).seen c.new-trace.result c.recover_into-answer.new.trace c.new-trace.ensures adds)
     (c.recover_into-answer.ensures.traced_err tells)

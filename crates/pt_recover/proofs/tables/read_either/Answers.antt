@@ -1,4 +1,4 @@
-use Rattle.pt_gpt.specs.Errors.{failure_in as failure_of_copy, fault_in as fault_in_copy, FailedIn as FailedInCopy}
+use Rattle.pt_gpt.specs.Errors.{failure_in as failure_of_copy, fault_in as fault_in_copy, FailedInCopy}
 use Rattle.pt_gpt.specs.declared.error.CopyError.{CopyError}
 use Rattle.pt_gpt.specs.declared.error.CopyError.TheVariants as copy
 use Rattle.pt_sector.specs.Calls.{with_fault}
@@ -12,7 +12,7 @@ use Rattle.pt_gpt.specs.Copy.{Copy, SideReads}
 use Rattle.pt_gpt.specs.declared.table.Side.TheVariants.{Backup}
 use Rattle.pt_recover.specs.Gpt.{TableReads}
 use Rattle.pt_recover.specs.Spans.{Adds}
-use Rattle.pt_recover.specs.Answers.{fault_in, told_failure, FailedIn}
+use Rattle.pt_recover.specs.Answers.{fault_in, told_failure, FailedInDisk}
 use Rattle.pt_recover.proofs.Sides.{primary_read, none_there, inside_adds, both_read}
 use Rattle.pt_recover.proofs.Failed.{primary_failed, backup_failed, inside_of}
 use Rattle.pt_recover.proofs.tables.read_either.Goals as goal
@@ -63,13 +63,13 @@ returns-in-None-failure-clause-traced_err g c = λ tells. inr (
 pub returns-in-Some-clause-place : goal.returns-in-Some-clause-place
 returns-in-Some-clause-place g c = λ tells.
     let d : Sectors = (g.D.Disk.told c.args.disk.now).seen in
-    subst (FailedIn (TableReads g.row.B d)) (sym c.from.ensures)
+    subst (FailedInDisk (TableReads g.row.B d)) (sym c.from.ensures)
     (primary_failed g.row.B d c.in-Err.e c.in-Some.failure (sym c.failure.ensures ∙ c.in-Some.is) (c.in-Err.ensures.place tells))
 
 pub returns-in-Some-failure-clause-place : goal.returns-in-Some-failure-clause-place
 returns-in-Some-failure-clause-place g c = λ tells.
     let d : Sectors = (g.D.Disk.told c.args.disk.now).seen in
-    subst (FailedIn (TableReads g.row.B d)) (sym c.from-in-Some-failure.ensures)
+    subst (FailedInDisk (TableReads g.row.B d)) (sym c.from-in-Some-failure.ensures)
     (backup_failed g.row.B d c.in-Err-traced_copy.e c.in-Some-failure.failure
     (none_there g.row.B d c.in-Err.e (c.in-Err.ensures.err tells) (inside_of c.in-Err.e (sym c.failure.ensures ∙ c.in-None.is)))
     (sym c.failure-2.ensures ∙ c.in-Some-failure.is)

@@ -4,7 +4,7 @@ use Rattle.pt_sector.specs.Calls.{with_fault}
 use Rattle.pt_sector.specs.Device.{Told}
 use Rattle.pt_sector.specs.declared.disk.Fault.{Fault}
 use Rattle.pt_gpt.specs.Answers.{TellsFault}
-use Rattle.pt_gpt.specs.Errors.{FailedIn, fault_in}
+use Rattle.pt_gpt.specs.Errors.{FailedInCopy, fault_in}
 use Rattle.pt_gpt.specs.Copy.{IsHead, SideReads}
 use Rattle.pt_gpt.proofs.Heads.{fault_of_head}
 use Rattle.pt_recover.proofs.Sides.{head_read, array_read}
@@ -56,7 +56,7 @@ returns-in_err-table-clause-err g c = λ tells.
 pub returns-in_err-table-clause-place : goal.returns-in_err-table-clause-place
 returns-in_err-table-clause-place g c = λ tells.
     let p = err_from_is_err_and c.from_residual-in_err-table.result c.from_residual-in_err-table.ensures.1 in
-    rw (p.1, p.2) (subst (λ (t : Told). FailedIn (SideReads g.row.B t.seen c.args.side) c.in_err-table.field-0.0)
+    rw (p.1, p.2) (subst (λ (t : Told). FailedInCopy (SideReads g.row.B t.seen c.args.side) c.in_err-table.field-0.0)
     (c.in_ok-header.ensures.same.same tells) (c.in_err-table.ensures.place tells))
 
 pub returns-in_err-table-clause-traced_err : goal.returns-in_err-table-clause-traced_err

@@ -1,12 +1,12 @@
 use Rattle.std.proofs.Common.{◌≤◌, ◌-◌, length}
-use Rattle.pt_recover.specs.Spans.{joined, Stands}
+use Rattle.pt_recover.specs.Spans.{joined, StandsBefore}
 use Rattle.pt_recover.proofs.trace.join.Given as goal
 
 abbrev pub invariant-loop-at : goal.invariant-loop-at
 invariant-loop-at l = record {
   inside : l.at ≤ length l.runs.items;
   some : l.run.first ≤ l.run.last;
-  stands : Stands (joined l.fn.new l.fn.runs.items) l.runs.items l.at l.run;
+  stands : StandsBefore (joined l.fn.new l.fn.runs.items) l.runs.items l.at l.run;
 }
 
 abbrev pub decreases-loop-at : goal.decreases-loop-at

@@ -1,7 +1,7 @@
 use Rattle.std.proofs.Common.{List, ◌∙◌, ap, sym, subst}
 use Rattle.std.proofs.lemmas.Bool.{iff_false}
 use Rattle.pt_space.specs.declared.space.Run.{Run}
-use Rattle.pt_space.specs.Area.{area_of, IsIn, IsFree}
+use Rattle.pt_space.specs.Area.{area_of, IsInRuns, IsFree}
 use Rattle.pt_space.specs.Placed.{rounded_up, at_given}
 use Rattle.pt_space.proofs.BlockEnds.{has_started}
 use Rattle.pt_space.proofs.start.given.Goals as goal
@@ -13,7 +13,7 @@ returns-clause-ok c =
     let free : IsFree a first = (
       (c.if-first-space.false, c.if-first-space-2.false),
       λ taken.
-          iff_false c.is_in.ensures c.if-is_in.false (subst (λ (xs : List Run). IsIn xs first) (sym c.deref.ensures.value) taken),
+          iff_false c.is_in.ensures c.if-is_in.false (subst (λ (xs : List Run). IsInRuns xs first) (sym c.deref.ensures.value) taken),
     ) in
     has_started a c.args.alignment c.args.start first c.block_end.result
     (at_given c.requires free c.in_ok-check_lead.ensures.ok (c.in-Some.ensures ∙ ap (rounded_up c.args.alignment) c.from.ensures))

@@ -1,5 +1,0 @@
-use Rattle.pt_edit.specs.laws.ConversionLaws.{not_converted_one_lem}
-use Rattle.pt_edit.proofs.conversion.refusal_one.Goals as goal
-
-pub returns : goal.returns
-returns c = not_converted_one_lem

@@ -1,0 +1,5 @@
+use Rattle.pt_edit.specs.laws.Kept.{kept_lem}
+use Rattle.pt_edit.proofs.laws.partitions_kept.Goals as goal
+
+pub returns : goal.returns
+returns c = kept_lem

@@ -1,5 +1,0 @@
-use Rattle.pt_guid.specs.laws.Terms.{codes_differ}
-use Rattle.pt_guid.proofs.codes.codes_differ.Goals as goal
-
-pub returns : goal.returns
-returns c = codes_differ

@@ -1,5 +1,0 @@
-use Rattle.pt_guid.specs.laws.Terms.{types_are_used}
-use Rattle.pt_guid.proofs.codes.types_are_used.Goals as goal
-
-pub returns : goal.returns
-returns c = types_are_used

@@ -1,5 +1,0 @@
-use Rattle.pt_guid.specs.laws.Terms.{mixed_twice}
-use Rattle.pt_guid.proofs.guid.mixed_twice.Goals as goal
-
-pub returns : goal.returns
-returns c = mixed_twice

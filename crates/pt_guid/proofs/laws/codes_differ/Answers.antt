@@ -1,0 +1,5 @@
+use Rattle.pt_guid.specs.laws.Terms.{codes_differ}
+use Rattle.pt_guid.proofs.laws.codes_differ.Goals as goal
+
+pub returns : goal.returns
+returns c = codes_differ
