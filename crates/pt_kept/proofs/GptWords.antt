@@ -7,11 +7,10 @@ use Rattle.std.proofs.lemmas.List.{length-replicate, get_or-replicate}
 use Rattle.pt_guid.specs.Codes.{type_of}
 use Rattle.pt_guid.specs.laws.Terms.{types_are_used}
 use Rattle.pt_guid.specs.declared.guid.Guid.{Guid}
-use Rattle.pt_gpt.specs.Array.{array_len, AllTyped}
+use Rattle.pt_gpt.specs.Array.{array_len, AllTyped, HasRoom, edge}
 use Rattle.pt_gpt.specs.Entry.{IsTyped}
 use Rattle.pt_gpt.specs.declared.entry.Entry.{Entry}
 use Rattle.pt_gpt.specs.declared.table.Table.{Table}
-use Rattle.pt_gpt.specs.Array.{HasRoom}
 use Rattle.pt_members.specs.laws.SliceLists.{entry_some}
 use Rattle.pt_members.specs.laws.SliceLists.{slices_gpt}
 use Rattle.pt_members.specs.Members.{is_slice_kind}
