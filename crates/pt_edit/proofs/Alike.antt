@@ -4,17 +4,17 @@ use Rattle.std.proofs.lemmas.List.{get_or_default}
 use Rattle.std.proofs.lemmas.Bool.{cases_lt}
 use Rattle.pt_guid.specs.declared.guid.Guid.{Guid}
 use Rattle.pt_edit.specs.Converted.{HasTwins}
-use Rattle.pt_edit.specs.Twins.{IsSameGuid, HasTwin}
+use Rattle.pt_edit.specs.Twins.{HaveOneGuid, HasTwin}
 
 pub same_of : (guids : List Guid) (i j : ℕ) (z : Guid) → i < length guids → j < length guids → get_or guids i z ≡ get_or guids j z
-    → IsSameGuid guids i j
+    → HaveOneGuid guids i j
 same_of guids i j z low high same = (
   get_or guids i z,
   (low, get_or_default guids i (get_or guids i z) z low),
   (high, get_or_default guids j (get_or guids i z) z high ∙ sym same),
 )
 
-pub of_same : (guids : List Guid) (i j : ℕ) (z : Guid) → IsSameGuid guids i j → get_or guids i z ≡ get_or guids j z
+pub of_same : (guids : List Guid) (i j : ℕ) (z : Guid) → HaveOneGuid guids i j → get_or guids i z ≡ get_or guids j z
 of_same guids i j z (guid, low, high) = get_or_default guids i z guid low.0 ∙ (low.1 ∙ (sym high.1 ∙ get_or_default guids j guid z high.0))
 
 -- what holds of no number below one, and not of that one, holds of none up to it
@@ -32,5 +32,5 @@ pub no_twins : (guids : List Guid) (count k : ℕ) → count ≤ k → ((j : ℕ
 no_twins guids count k past none (i, j, twice) =
     none j (omega (arith, twice.within)) (i, twice.order, (twice.guid, twice.lower, twice.higher))
 
-pub no_twin : (guids : List Guid) (j k : ℕ) → j ≤ k → ((i : ℕ) → i < k → ¬ IsSameGuid guids (1 + i) (1 + j)) → HasTwin guids j → ⊥
+pub no_twin : (guids : List Guid) (j k : ℕ) → j ≤ k → ((i : ℕ) → i < k → ¬ HaveOneGuid guids (1 + i) (1 + j)) → HasTwin guids j → ⊥
 no_twin guids j k past none (i, below, same) = none i (omega arith) same

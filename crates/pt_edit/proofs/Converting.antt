@@ -29,7 +29,7 @@ use Rattle.pt_gpt.specs.Array.{edge}
 use Rattle.pt_edit.specs.Room.{LiesOutside, IsOutsider, NoRoom, small, partition, ebr, many}
 use Rattle.pt_edit.specs.Converted.{HasRecords, new_type, HasUnknown, entry_of, guids_taken, HasTwins, IsGptOf, MayConvert, Converted}
 use Rattle.pt_edit.specs.Converted.{NotConverted, no_mbr, unknown, no_room, too_few, twins}
-use Rattle.pt_edit.specs.Twins.{IsSameGuid, HasTwin}
+use Rattle.pt_edit.specs.Twins.{HaveOneGuid, HasTwin}
 use Rattle.pt_edit.specs.Placed.{Placeable}
 use Rattle.pt_edit.specs.declared.partition.Partition.{Partition}
 use Rattle.pt_edit.proofs.Alike.{same_of, of_same, twice_of, no_twins}
@@ -129,12 +129,12 @@ guids_decided g h = alike_decided (λ same. ap guid_from same) (λ same. ap (λ 
 no_guid : Guid
 no_guid = record { 0 = [] }
 
-same_decided : (guids : List Guid) (i j : ℕ) → Decided (IsSameGuid guids i j)
+same_decided : (guids : List Guid) (i j : ℕ) → Decided (HaveOneGuid guids i j)
 same_decided guids i j =
     joined (lt_decided i (length guids)) (lt_decided j (length guids))
     (guids_decided (get_or guids i no_guid) (get_or guids j no_guid)) where
       joined : Decided (i < length guids) → Decided (j < length guids) → Decided (get_or guids i no_guid ≡ get_or guids j no_guid)
-          → Decided (IsSameGuid guids i j)
+          → Decided (HaveOneGuid guids i j)
       joined (inl low) (inl high) (inl same) = inl (same_of guids i j no_guid low high same)
       joined (inl low) (inl high) (inr other) = inr (λ is. other (of_same guids i j no_guid is))
       joined (inl low) (inr past) same = inr (λ is. past is.2.0)
@@ -142,7 +142,7 @@ same_decided guids i j =
 
 twin_decided : (guids : List Guid) (j : ℕ) → Decided (HasTwin guids j)
 twin_decided guids j =
-    elim (search_below (λ i. IsSameGuid guids (1 + i) (1 + j)) (λ i. same_decided guids (1 + i) (1 + j)) j)
+    elim (search_below (λ i. HaveOneGuid guids (1 + i) (1 + j)) (λ i. same_decided guids (1 + i) (1 + j)) j)
     as (λ _. Decided (HasTwin guids j)) [
       | inl found ↦ inl (found.place, found.within, found.holds)
       | inr none ↦ inr (λ has. none has.0 has.1 has.2)

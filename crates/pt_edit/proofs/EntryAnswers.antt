@@ -23,7 +23,7 @@ use Rattle.pt_edit.proofs.Converting.{guids_decided}
 use Rattle.pt_edit.specs.Changes.{IsGpt, HasUsedEntry, with_entry, with_body, Changed, Missing, no_gpt, no_entry, NotChanged, missing}
 use Rattle.pt_edit.specs.Changes.{barred}
 use Rattle.pt_edit.specs.Changes.{IsElsewhere, Elsewhere, TableMade, NoTable}
-use Rattle.pt_labels.specs.laws.Retyped.{IsRetyped, retyped_or}
+use Rattle.pt_labels.specs.laws.Retyped.{IsRetypedAs, retyped_or}
 use Rattle.pt_edit.specs.Spots.{is_slice, entry_type, EntryTyped, EntryNotTyped, EntryDeleted}
 use Rattle.pt_edit.specs.Spots.{EntryNotDeleted}
 use Rattle.pt_edit.specs.NewEntry.{IsUnusedEntry, TakesNumber, given, lowest, NoNumber, no_such_number, taken, all_taken, new_type}
@@ -155,7 +155,7 @@ pub entry_typed_or : (b : ℕ) (t : Table) (number : ℕ) (code : Code) (o : Lay
 entry_typed_or b t number code o =
     told (retyped_or (HasUsedEntry t number) (entry_type code) (λ (e : Entry). e.kind.0) (is_slice b) (entry_or t number)
     (option_cases (entry_type code))) where
-      told : IsRetyped (HasUsedEntry t number) (entry_type code) (λ (e : Entry). e.kind.0) (is_slice b)
+      told : IsRetypedAs (HasUsedEntry t number) (entry_type code) (λ (e : Entry). e.kind.0) (is_slice b)
           ⊎ ((r : Refusal) × EntryNotTyped b t number code r) → TypedOr b t number code o
       told (inr why) = inr why
       told (inl (e, kind, has, known, old, new)) = inl (

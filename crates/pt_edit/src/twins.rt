@@ -2,7 +2,7 @@
 
 ghost use Rattle.std.specs.Prelude.{◌≡◌, ◌<◌, ◌≤◌, ◌+◌, ◌↔◌, ℕ, IsTrue, length};
 ghost use Rattle.pt_edit.specs.Converted.{HasTwins};
-ghost use Rattle.pt_edit.specs.Twins.{HasTwin, IsSameGuid};
+ghost use Rattle.pt_edit.specs.Twins.{HasTwin, HaveOneGuid};
 
 use pt_guid::Guid;
 
@@ -10,7 +10,7 @@ use pt_guid::Guid;
 fn is_same(guids: &[Guid], i: usize, j: usize) -> bool
     requires lower { i < length guids.now }
     requires higher { j < length guids.now }
-    ensures { IsTrue result ↔ IsSameGuid guids.now i j }
+    ensures { IsTrue result ↔ HaveOneGuid guids.now i j }
 {
     guids[i] == guids[j]
 }

@@ -8,8 +8,8 @@ use Rattle.pt_words.specs.declared.error.Refusal.TheVariants.{NoSuchPartition, U
 use Rattle.pt_labels.specs.Retyped.{NotRetyped, missing, unknown, contains}
 
 -- what has the number, and its new type, neither of them a container's
-abbrev pub IsRetyped : {X K : Type 0} → (X → Type 0) → Option K → (X → K) → (K → Bool) → Type 0
-IsRetyped {X} {K} Has known kind_of container =
+abbrev pub IsRetypedAs : {X K : Type 0} → (X → Type 0) → Option K → (X → K) → (K → Bool) → Type 0
+IsRetypedAs {X} {K} Has known kind_of container =
     (x : X) × (kind : K) × Has x × (known ≡ Some kind) × (container (kind_of x) ≡ false) × (container kind ≡ false)
 
 no_kind : {K : Type 0} (kind : K) (known : Option K) → known ≡ Some kind → known ≡ None → ⊥
@@ -32,7 +32,7 @@ not_retyped_one Has known kind_of container r q (contains x kind has code why is
 
 -- what gets another type isn't refused, where all that has the number is of one type
 pub retyped_taken : {X K : Type 0} (Has : X → Type 0) (known : Option K) (kind_of : X → K) (container : K → Bool) (r : Refusal)
-    → ((x y : X) → Has x → Has y → kind_of x ≡ kind_of y) → IsRetyped Has known kind_of container
+    → ((x y : X) → Has x → Has y → kind_of x ≡ kind_of y) → IsRetypedAs Has known kind_of container
     → NotRetyped Has known kind_of container r → ⊥
 retyped_taken Has known kind_of container r one made (missing none is) = none made.0 made.2
 retyped_taken Has known kind_of container r one made (unknown y there strange is) = no_kind made.1 known made.3 strange
@@ -47,7 +47,7 @@ retyped_taken {X} {K} Has known kind_of container r one made (contains y kind th
 by_kinds : {X K : Type 0} (Has : X → Type 0) (known : Option K) (kind_of : X → K) (container : K → Bool) (x : X) (kind : K) → Has x
     → known ≡ Some kind → (container (kind_of x) ≡ true) ⊎ (container (kind_of x) ≡ false)
     → (container kind ≡ true) ⊎ (container kind ≡ false)
-    → IsRetyped Has known kind_of container ⊎ ((r : Refusal) × NotRetyped Has known kind_of container r)
+    → IsRetypedAs Has known kind_of container ⊎ ((r : Refusal) × NotRetyped Has known kind_of container r)
 by_kinds Has known kind_of container x kind has code (inl old) new = inr (ContainerType, contains x kind has code (inl old) refl)
 by_kinds Has known kind_of container x kind has code (inr old) (inl new) = inr (ContainerType, contains x kind has code (inr new) refl)
 by_kinds Has known kind_of container x kind has code (inr old) (inr new) = inl (x, kind, has, code, old, new)
@@ -55,7 +55,7 @@ by_kinds Has known kind_of container x kind has code (inr old) (inr new) = inl (
 -- it gets another type, or there is a reason why not
 pub retyped_or : {X K : Type 0} (Has : X → Type 0) (known : Option K) (kind_of : X → K) (container : K → Bool)
     → ((x : X) × Has x) ⊎ ((x : X) → ¬ Has x) → ((k : K) × (known ≡ Some k)) ⊎ (known ≡ None)
-    → IsRetyped Has known kind_of container ⊎ ((r : Refusal) × NotRetyped Has known kind_of container r)
+    → IsRetypedAs Has known kind_of container ⊎ ((r : Refusal) × NotRetyped Has known kind_of container r)
 retyped_or Has known kind_of container (inr none) code = inr (NoSuchPartition, missing none refl)
 retyped_or Has known kind_of container (inl has) (inr strange) = inr (UnknownCode, unknown has.0 has.1 strange refl)
 retyped_or Has known kind_of container (inl has) (inl kind) =

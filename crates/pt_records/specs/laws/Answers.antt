@@ -22,7 +22,7 @@ use Rattle.pt_records.specs.ChainNew.{len_of}
 use Rattle.pt_records.specs.laws.ChainAnswers.{logical_typed_answers_lem, logical_deleted_answers_lem, logical_new_answers_lem}
 use Rattle.pt_records.specs.Records.{OfMbr, IsPrimary, HasRecord, with_record, with_mbr}
 use Rattle.pt_records.specs.Numbers.{IsUnusedNumber, TakesRecordNumber, as_asked, lowest_one, NotNumbered, past_records, used, none_unused}
-use Rattle.pt_labels.specs.laws.Retyped.{IsRetyped, retyped_or}
+use Rattle.pt_labels.specs.laws.Retyped.{IsRetypedAs, retyped_or}
 use Rattle.pt_records.specs.Typed.{PrimaryTyped, PrimaryNotTyped, TypedIn, typed_record, typed_logical}
 use Rattle.pt_records.specs.Typed.{NotTypedIn, record_not_typed, logical_not_typed, RecordTyped, RecordNotTyped}
 use Rattle.pt_records.specs.Deleted.{PrimaryDeleted, plain, extended, DeletedIn, deleted_record, deleted_logical, NotDeletedIn}
@@ -65,7 +65,7 @@ primary_typed_or : (b number : ℕ) (code : Code) (records : List (Option Record
 primary_typed_or b number code records primary =
     told (retyped_or (HasRecord records number) (record_type code) (λ (x : Record). x.kind) (is_container b)
     (record_or records number primary) (option_cases (record_type code))) where
-      told : IsRetyped (HasRecord records number) (record_type code) (λ (x : Record). x.kind) (is_container b)
+      told : IsRetypedAs (HasRecord records number) (record_type code) (λ (x : Record). x.kind) (is_container b)
           ⊎ ((r : Refusal) × PrimaryNotTyped b number code records r) → PrimaryTypedOr b number code records
       told (inr why) = inr why
       told (inl (x, kind, has, known, old, new)) = inl (

@@ -16,7 +16,7 @@ use Rattle.pt_words.specs.declared.word.Code.{Code}
 use Rattle.pt_words.specs.declared.word.End.{End}
 use Rattle.pt_space.specs.laws.Answers.{PlacedOr, place_answers_lem}
 use Rattle.pt_records.specs.Types.{record_type, new_type, is_slice, is_container}
-use Rattle.pt_labels.specs.laws.Retyped.{IsRetyped, retyped_or}
+use Rattle.pt_labels.specs.laws.Retyped.{IsRetypedAs, retyped_or}
 use Rattle.pt_records.specs.Chains.{ebr_at, number_at, IsFound, IsLogical, HasLogical, with_logical, LogicalTyped, LogicalNotTyped}
 use Rattle.pt_records.specs.Chains.{LogicalDeleted, LogicalNotDeleted}
 use Rattle.pt_records.specs.Entered.{IsEmptyIn, NoEmptyIn, IsPlaceFor, with_ebr, Entered, reused, added, ChainIsFull}
@@ -61,7 +61,7 @@ logical_typed_answers_lem b number code chain =
       found (inl has) = inl ((has.0, has.1), has.2)
       found (inr none) = inr (λ x has. none (record { place = x.0; partition = x.1; is = has }))
 
-      told : IsRetyped (IsFound chain number) (record_type code) (λ (x : ℕ × Record). x.1.kind) (is_container b)
+      told : IsRetypedAs (IsFound chain number) (record_type code) (λ (x : ℕ × Record). x.1.kind) (is_container b)
           ⊎ ((r : Refusal) × LogicalNotTyped b number code chain r) → TypedOr b number code chain
       told (inr why) = inr why
       told (inl (x, kind, has, known, old, new)) = inl (
