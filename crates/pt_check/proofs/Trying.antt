@@ -6,7 +6,7 @@ use Rattle.pt_sector.specs.Sectors.{Sectors}
 use Rattle.pt_sector.specs.Writes.{Writes}
 use Rattle.pt_sector.specs.declared.address.Lba.{Lba}
 use Rattle.pt_recover.specs.Spans.{IsIn}
-use Rattle.pt_recover.specs.declared.trace.Run.{Run}
+use Rattle.pt_recover.specs.declared.trace.TracedRun.{TracedRun}
 use Rattle.pt_check.specs.Course.{phase_at, disk_after, IsCalm, LayoutsAre, Course}
 use Rattle.pt_check.specs.First.{IsFirst}
 use Rattle.pt_check.specs.Trials.{TouchedIs, StepIs, RefusedRead, RefusedNeither}
@@ -14,7 +14,7 @@ use Rattle.pt_check.specs.declared.trial.Step.TheVariants.{Goes, Neither}
 use Rattle.pt_check.proofs.Keeping.{none_puts}
 
 -- the trace has the sectors that recovery of d reads
-pub record Reading (reads : Sectors → ℕ → Type 0) (d : Sectors) (runs : List Run) : Type 0 where
+pub record Reading (reads : Sectors → ℕ → Type 0) (d : Sectors) (runs : List TracedRun) : Type 0 where
   pub same : (s : ℕ) → IsIn runs s ↔ reads d s
 
 first_same : (S T : ℕ → Type 0) → ((s : ℕ) → S s ↔ T s) → (ws : Writes) (k : ℕ) (w : ℕ × List ℕ)
@@ -30,7 +30,7 @@ module _ {L : Type 0} (denotes : Sectors → Option L → Type 0) (reads : Secto
     layouts = λ i le. subst (λ (j : ℕ). denotes (disk_after phases d j) old) (let none : 0 ≡ i = omega (arith, le) in none) is;
   }
 
-  module _ (i : ℕ) (below : i < length phases) (runs : List Run) (reading : Reading reads (disk_after phases d i) runs)
+  module _ (i : ℕ) (below : i < length phases) (runs : List TracedRun) (reading : Reading reads (disk_after phases d i) runs)
       (switch : Option ℕ) (course : Course denotes reads phases d old new i switch) where
     pub refused_read : (lba : Lba) → TouchedIs (IsIn runs) (phase_at phases i) (Some lba)
         → RefusedRead denotes reads phases d old new (i + 1) lba.0

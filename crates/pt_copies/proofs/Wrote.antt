@@ -6,7 +6,7 @@ use Rattle.pt_sector.specs.Sectors.{IsSectorSize}
 use Rattle.pt_sector.specs.Writes.{Writes, Puts}
 use Rattle.pt_apply.specs.Plans.{writes_of, phases_in, PhaseInRange, PhasesInRange, writes_in}
 use Rattle.pt_apply.specs.declared.plan.Write.{Write}
-use Rattle.pt_gpt.specs.Array.{array_len}
+use Rattle.pt_gpt.specs.Array.{array_len, HasRoom}
 use Rattle.pt_gpt.specs.Copy.{array_place}
 use Rattle.pt_gpt.specs.declared.table.Side.{Side}
 use Rattle.pt_gpt.specs.declared.table.Side.TheVariants.{Primary, Backup}
@@ -69,7 +69,7 @@ four_lengths p q r s last =
     omega (arith, first, second, third, fourth)
 
 module _ (b n : ℕ) (t : Table) (labels : List (Write b)) (ps : List (Vec (Write b) Global)) (size : IsSectorSize b)
-    (room : 2 * array_len b + 4 ≤ n) (below : PhaseInRange n labels) where
+    (room : HasRoom b n) (below : PhaseInRange n labels) where
   reached_below : (s : ℕ) (v : List ℕ) → Reaches b n (writes_of labels) s v → s < n
   reached_below s v reached = reaches_below b n (writes_of labels) s v room (λ k x puts. puts_below n labels k x below puts) reached
 

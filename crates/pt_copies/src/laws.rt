@@ -3,7 +3,7 @@
 ghost use Rattle.std.specs.Prelude.{◌≡◌, ◌+◌, ◌*◌, ◌<◌, ◌≤◌, ◌⊎◌, ◌++◌, ℕ, List, Option, Some};
 ghost use Rattle.pt_sector.specs.Writes.{Writes, Puts};
 ghost use Rattle.pt_mbr.specs.Protective.{IsProtective};
-ghost use Rattle.pt_gpt.specs.Array.{array_len};
+ghost use Rattle.pt_gpt.specs.Array.{HasRoom};
 ghost use Rattle.pt_gpt.specs.declared.table.Table.{Table};
 ghost use Rattle.pt_apply.specs.Plans.{writes_in};
 ghost use Rattle.pt_cases.specs.Copies.{closing, Protects};
@@ -14,24 +14,24 @@ ghost use Rattle.pt_copies.specs.Written.{last_of};
 
 /// Each write before the switch is of a copy or of a label.
 pub fn first_writes_are_reached()
-    ensures backup_first { (b n : ℕ) (t : Table) (backup : List ℕ) (labels : Writes) (s : ℕ) (v : List ℕ) → 2 * array_len b + 4 ≤ n
+    ensures backup_first { (b n : ℕ) (t : Table) (backup : List ℕ) (labels : Writes) (s : ℕ) (v : List ℕ) → HasRoom b n
         → Puts (labels_and_backup b n t backup labels) s v → Reaches b n labels s v }
     ensures primary_first { (b n : ℕ) (t : Table) (labels : Writes) (s : ℕ) (v : List ℕ)
         → Puts (closing b ++ primary_and_labels b n t labels) s v → Reaches b n labels s v }
     ensures from_mbr { (b n : ℕ) (t : Table) (primary backup : List ℕ) (labels : Writes) (s : ℕ) (v : List ℕ)
-        → 2 * array_len b + 4 ≤ n → Puts (copies_and_labels b n t primary backup labels) s v → Reaches b n labels s v }
+        → HasRoom b n → Puts (copies_and_labels b n t primary backup labels) s v → Reaches b n labels s v }
 {}
 
 /// Each write is of a copy or of a label, but for those of the last phase.
 pub fn all_writes_are_reached()
     ensures backup_first { (b n : ℕ) (t : Table) (primary backup : List ℕ) (labels : Writes) (last : List Writes) (s : ℕ) (v : List ℕ)
-        → 2 * array_len b + 4 ≤ n → Puts (writes_in (backup_first_phases b n t primary backup labels last)) s v
+        → HasRoom b n → Puts (writes_in (backup_first_phases b n t primary backup labels last)) s v
         → Puts (writes_in last) s v ⊎ Reaches b n labels s v }
     ensures primary_first { (b n : ℕ) (t : Table) (primary backup : List ℕ) (labels : Writes) (last : List Writes) (s : ℕ)
-        (v : List ℕ) → 2 * array_len b + 4 ≤ n → Puts (writes_in (primary_first_phases b n t primary backup labels last)) s v
+        (v : List ℕ) → HasRoom b n → Puts (writes_in (primary_first_phases b n t primary backup labels last)) s v
         → Puts (writes_in last) s v ⊎ Reaches b n labels s v }
     ensures from_mbr { (b n : ℕ) (t : Table) (primary backup : List ℕ) (labels : Writes) (head : List ℕ) (s : ℕ) (v : List ℕ)
-        → 2 * array_len b + 4 ≤ n → Puts (writes_in (from_mbr_phases b n t primary backup labels head)) s v
+        → HasRoom b n → Puts (writes_in (from_mbr_phases b n t primary backup labels head)) s v
         → ((s ≡ 0) × (v ≡ head)) ⊎ Reaches b n labels s v }
 {}
 

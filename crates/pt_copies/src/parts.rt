@@ -3,7 +3,7 @@
 ghost use Rattle.std.specs.Prelude.{◌≡◌, ◌+◌, ◌-◌, ◌*◌, ◌<◌, ◌≤◌, ◌^◌, ◌++◌, length, IfOk, OnOk};
 ghost use Rattle.pt_sector.specs.Sectors.{IsSectorSize};
 ghost use Rattle.pt_apply.specs.Plans.{writes_of};
-ghost use Rattle.pt_gpt.specs.Array.{array_len, AllFit};
+ghost use Rattle.pt_gpt.specs.Array.{array_len, AllFit, HasRoom};
 ghost use Rattle.pt_cases.specs.Copies.{other_side as opposite, header_of, IsWrittenHeader, array_writes, one_write};
 ghost use Rattle.pt_copies.specs.Added.{AddsBackup};
 
@@ -27,7 +27,7 @@ fn other_side(side: Side) -> Side
 /// The sector of a side's header for the table.
 pub(crate) fn header_sector<const B: usize>(sectors: u64, table: &Table, side: Side) -> Sector<B>
     requires size { IsSectorSize B }
-    requires room { 2 * array_len B + 4 ≤ sectors }
+    requires room { HasRoom B sectors }
     requires few { length table.now.entries ≤ 128 }
     ensures bytes { IsWrittenHeader B (header_of B sectors table.now side) result }
     ensures fit { AllFit table.now.entries }
@@ -88,7 +88,7 @@ pub(crate) fn push_backup<const B: usize>(
     table: &Table,
 ) -> Result<(), AllocError>
     requires size { IsSectorSize B }
-    requires room { 2 * array_len B + 4 ≤ sectors }
+    requires room { HasRoom B sectors }
     requires few { length table.now.entries ≤ 128 }
     ensures { OnOk result (AddsBackup B sectors table.now (writes_of writes.old.items) (writes_of writes.new.items)) }
 {

@@ -3,7 +3,7 @@
 ghost use Rattle.std.specs.Prelude.{◌≡◌, ◌+◌, ◌*◌, ◌<◌, ◌≤◌, ◌++◌, length, All, IfOk, OnOk};
 ghost use Rattle.pt_sector.specs.Sectors.{IsSectorSize};
 ghost use Rattle.pt_apply.specs.Plans.{writes_of, phases_of, phases_in, InRange, PhaseInRange, writes_in};
-ghost use Rattle.pt_gpt.specs.Array.{array_len};
+ghost use Rattle.pt_gpt.specs.Array.{array_len, HasRoom};
 ghost use Rattle.pt_cases.specs.Cases.{backup_first_phases, primary_first_phases, from_mbr_phases, primary_and_labels};
 ghost use Rattle.pt_copies.specs.Added.{ArePrimary};
 ghost use Rattle.pt_copies.specs.Written.{last_of, WroteCopies};
@@ -25,7 +25,7 @@ fn array_and_labels<const B: usize>(
     labels: &[Write<B>],
 ) -> Result<Vec<Write<B>>, AllocError>
     requires size { IsSectorSize B }
-    requires room { 2 * array_len B + 4 ≤ sectors }
+    requires room { HasRoom B sectors }
     ensures { IfOk result (λ ws. writes_of ws.items ≡ primary_and_labels B sectors table.now (writes_of labels.now)) }
 {
     let mut writes = Vec::new(alloc);
@@ -43,7 +43,7 @@ fn push_primary<const B: usize>(
     table: &Table,
 ) -> Result<(), AllocError>
     requires size { IsSectorSize B }
-    requires room { 2 * array_len B + 4 ≤ sectors }
+    requires room { HasRoom B sectors }
     requires few { length table.now.entries ≤ 128 }
     ensures { OnOk result (ArePrimary B sectors table.now (writes_of array.entry.items) (phases_in phases.old.items)
         (phases_in phases.new.items)) }
@@ -79,7 +79,7 @@ pub fn backup_first<const B: usize>(
     last: &Option<Sector<B>>,
 ) -> Result<Plan<B>, AllocError>
     requires size { IsSectorSize B }
-    requires room { 2 * array_len B + 4 ≤ sectors }
+    requires room { HasRoom B sectors }
     requires few { length table.now.entries ≤ 128 }
     requires labels_in_range { PhaseInRange sectors labels.items }
     ensures phases { IfOk result (λ plan. WroteCopies B sectors table.now
@@ -109,7 +109,7 @@ pub fn primary_first<const B: usize>(
     last: &Option<Sector<B>>,
 ) -> Result<Plan<B>, AllocError>
     requires size { IsSectorSize B }
-    requires room { 2 * array_len B + 4 ≤ sectors }
+    requires room { HasRoom B sectors }
     requires few { length table.now.entries ≤ 128 }
     requires labels_in_range { PhaseInRange sectors labels.items }
     ensures phases { IfOk result (λ plan. WroteCopies B sectors table.now
@@ -137,7 +137,7 @@ pub fn from_mbr<const B: usize>(
     head: &Sector<B>,
 ) -> Result<Plan<B>, AllocError>
     requires size { IsSectorSize B }
-    requires room { 2 * array_len B + 4 ≤ sectors }
+    requires room { HasRoom B sectors }
     requires few { length table.now.entries ≤ 128 }
     requires labels_in_range { PhaseInRange sectors labels.items }
     ensures phases { IfOk result (λ plan. WroteCopies B sectors table.now

@@ -3,7 +3,7 @@
 
 ghost use Rattle.std.specs.Prelude.{◌≡◌, ◌≤◌, ◌<◌, ◌+◌, ◌*◌, IfSome};
 ghost use Rattle.pt_sector.specs.Sectors.{IsSectorSize};
-ghost use Rattle.pt_gpt.specs.Array.{array_len};
+ghost use Rattle.pt_gpt.specs.Array.{HasRoom};
 
 use pt_bsd::{Label, bears_magic, decode_label};
 use pt_gpt::{Side, Table, array_sectors, counted_sectors, read_copy, read_head};
@@ -340,7 +340,7 @@ pub fn plain_unsound<const B: usize>(
 /// The first finding on the copies of a GPT and on sector 0.
 fn broken<const B: usize, D: Disk<B>>(alloc: Global, disk: &mut D) -> Option<Finding>
     requires size { IsSectorSize B }
-    requires room { 2 * array_len B + 4 ≤ D.count disk.old }
+    requires room { HasRoom B (D.count disk.old) }
 {
     let sectors = disk.sectors();
     let primary = match read_copy(alloc, disk, Side::Primary) {
@@ -470,7 +470,7 @@ fn read_side<const B: usize, D: Disk<B>>(
     read: &mut Vec<u64>,
 ) -> Result<(), Fail>
     requires size { IsSectorSize B }
-    requires room { 2 * array_len B + 4 ≤ D.count disk.old }
+    requires room { HasRoom B (D.count disk.old) }
     ensures { D.count disk.new ≡ D.count disk.old }
 {
     let sectors = disk.sectors();

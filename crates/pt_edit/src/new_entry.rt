@@ -27,7 +27,7 @@ const LONGEST_SLICE: u128 = 4294967295;
 
 /// The number, the type and the sectors of a new entry.
 #[derive(Clone, Copy)]
-pub struct Spot {
+pub struct NewEntry {
     pub number: u64,
     pub kind: Guid,
     pub run: Run,
@@ -93,7 +93,7 @@ fn table_space(alloc: Global, table: &Table) -> Result<Space, AllocError>
 }
 
 // The place of a new entry.
-fn find_spot(alloc: Global, table: &Table, asked: &Asked) -> Result<Spot, Refusal>
+fn find_spot(alloc: Global, table: &Table, asked: &Asked) -> Result<NewEntry, Refusal>
     ensures ok { IfOk result (λ s. EntryHasPlace table.now asked.now s.number s.kind.0 s.run) }
     ensures small { IfOk result (λ s. s.run.first < 2 ^ 64) }
     ensures fits { IfOk result (λ s. s.run.last < 2 ^ 64) }
@@ -106,11 +106,11 @@ fn find_spot(alloc: Global, table: &Table, asked: &Asked) -> Result<Spot, Refusa
     };
     let space = table_space(alloc, table)?;
     let run = place(space, asked.alignment, asked.start, asked.end)?;
-    Ok(Spot { number, kind, run })
+    Ok(NewEntry { number, kind, run })
 }
 
 // Whether no slice has so few or so many sectors.
-fn is_wrong_size<const B: usize>(spot: &Spot) -> bool
+fn is_wrong_size<const B: usize>(spot: &NewEntry) -> bool
     requires { spot.now.run.last < 2 ^ 64 }
     ensures { IsTrue result ↔ IsWrongSize B spot.now.kind.0 spot.now.run }
 {
@@ -119,7 +119,7 @@ fn is_wrong_size<const B: usize>(spot: &Spot) -> bool
 }
 
 // The new entry of a place.
-fn entry_at(spot: &Spot, guid: &Guid) -> Entry
+fn entry_at(spot: &NewEntry, guid: &Guid) -> Entry
     requires first { spot.now.run.first < 2 ^ 64 }
     requires last { spot.now.run.last < 2 ^ 64 }
     ensures { result ≡ new_entry_of spot.now.kind.0 guid.now spot.now.run }
@@ -138,7 +138,7 @@ fn entry_at(spot: &Spot, guid: &Guid) -> Entry
 fn label_new<const B: usize>(
     alloc: Global,
     labels: Labels,
-    spot: &Spot,
+    spot: &NewEntry,
 ) -> Result<Labels, AllocError>
     requires last { spot.now.run.last < 2 ^ 64 }
     requires size { ¬ IsWrongSize B spot.now.kind.0 spot.now.run }
@@ -155,7 +155,7 @@ fn label_new<const B: usize>(
 fn put_new<const B: usize>(
     alloc: Global,
     gpt: Gpt,
-    spot: &Spot,
+    spot: &NewEntry,
     guid: &Guid,
 ) -> Result<Layout, AllocError>
     requires first { spot.now.run.first < 2 ^ 64 }
@@ -196,7 +196,7 @@ fn choose<const B: usize>(
     table: &Table,
     asked: &Asked,
     fresh: &[Guid],
-) -> Result<(Spot, Guid), Refusal>
+) -> Result<(NewEntry, Guid), Refusal>
     ensures place { IfOk result (λ r. EntryHasPlace table.now asked.now r.0.number r.0.kind.0 r.0.run) }
     ensures small { IfOk result (λ r. r.0.run.first < 2 ^ 64) }
     ensures fits { IfOk result (λ r. r.0.run.last < 2 ^ 64) }

@@ -3,7 +3,7 @@ use Rattle.std.specs.Prelude.{◌≡◌, ◌<◌, ◌≤◌, ◌⊎◌, ◌↔�
 use Rattle.pt_sector.specs.Sectors.{Sectors, sector}
 use Rattle.pt_sum.specs.Crc.{crc_of}
 use Rattle.pt_gpt.specs.Header.{HeaderBytes, IsHeaderFault}
-use Rattle.pt_gpt.specs.Array.{array_len, counted, AreEntries, array_bytes, array_sector}
+use Rattle.pt_gpt.specs.Array.{array_len, counted, AreEntries, array_bytes, array_sector, HasRoom}
 use Rattle.pt_gpt.specs.declared.header.Header.{Header}
 use Rattle.pt_gpt.specs.declared.error.CopyError.{CopyError}
 use Rattle.pt_gpt.specs.declared.error.CopyError.TheVariants.{MyLba, ArrayPlace, EntryShape, UsableRange, ArrayCrc}
@@ -87,7 +87,7 @@ pub record CopyWith (b : ℕ) (d : Sectors) (side : Side) (h : Header) (t : Tabl
 
 -- the side's copy exists, and its table is t
 pub record Copy (b : ℕ) (d : Sectors) (side : Side) (t : Table) : Type 0 where
-  pub room : 2 * array_len b + 4 ≤ length d
+  pub room : HasRoom b (length d)
   pub head : Header
   pub stands : CopyWith b d side head t
 

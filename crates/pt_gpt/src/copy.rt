@@ -6,7 +6,7 @@ ghost use Rattle.pt_sector.specs.Calls.{Blames};
 ghost use Rattle.pt_sector.specs.Reads.{OnlyReads};
 ghost use Rattle.pt_gpt.specs.Errors.{IsOutsideCopy, NeedsNoMemory, fault_in, FailedInCopy};
 ghost use Rattle.pt_gpt.specs.Header.{HeaderBytes, IsHeaderFault};
-ghost use Rattle.pt_gpt.specs.Array.{array_len};
+ghost use Rattle.pt_gpt.specs.Array.{HasRoom};
 ghost use Rattle.pt_gpt.specs.Copy.{header_place, IsPlaced, IsHead, CopyWith, Copy, SideReads};
 ghost use Rattle.pt_gpt.specs.Answers.{TellsHeadFault, TellsFault};
 
@@ -42,7 +42,7 @@ fn read_header<const B: usize, D: Disk<B>>(disk: &mut D, at: u64) -> Result<Head
 #[tactic(auto, using(crate::proofs::Heads::place_needs_none))]
 pub fn read_head<const B: usize, D: Disk<B>>(disk: &mut D, side: Side) -> Result<Header, CopyError>
     requires size { IsSectorSize B }
-    requires room { 2 * array_len B + 4 ≤ D.count disk.old }
+    requires room { HasRoom B (D.count disk.old) }
     ensures same { OnlyReads D.Disk disk.old disk.new }
     ensures blames { Blames fault_in result (D.faults disk.old) (D.faults disk.new) }
     ensures place { IfErr result (FailedInCopy (λ s. s ≡ header_place side (D.count disk.old))) }
@@ -69,7 +69,7 @@ pub fn read_table<const B: usize, D: Disk<B>>(
     header: &Header,
 ) -> Result<Table, CopyError>
     requires size { IsSectorSize B }
-    requires room { 2 * array_len B + 4 ≤ D.count disk.old }
+    requires room { HasRoom B (D.count disk.old) }
     requires placed { IsPlaced B side (D.count disk.old) header.now }
     requires head { D.tells → IsHead B (D.told disk.old).seen side header.now }
     ensures same { OnlyReads D.Disk disk.old disk.new }
@@ -101,7 +101,7 @@ pub fn read_copy<const B: usize, D: Disk<B>>(
     side: Side,
 ) -> Result<Table, CopyError>
     requires size { IsSectorSize B }
-    requires room { 2 * array_len B + 4 ≤ D.count disk.old }
+    requires room { HasRoom B (D.count disk.old) }
     ensures same { OnlyReads D.Disk disk.old disk.new }
     ensures blames { Blames fault_in result (D.faults disk.old) (D.faults disk.new) }
     ensures ok { D.tells → IfOk result (λ t. Copy B (D.told disk.old).seen side t) }

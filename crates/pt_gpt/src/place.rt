@@ -69,7 +69,7 @@ pub fn header_at(side: Side, sectors: u64) -> u64
 /// The first sector of a side's array on a disk of so many sectors.
 pub fn array_at<const B: usize>(side: Side, sectors: u64) -> u64
     requires size { IsSectorSize B }
-    requires room { 2 * array_len B + 4 ≤ sectors }
+    requires room { HasRoom B sectors }
     ensures { result ≡ array_place B side sectors }
 {
     match side {
@@ -85,7 +85,7 @@ pub(crate) fn check_place<const B: usize>(
     sectors: u64,
 ) -> Result<(), CopyError>
     requires size { IsSectorSize B }
-    requires room { 2 * array_len B + 4 ≤ sectors }
+    requires room { HasRoom B sectors }
     ensures ok { OnOk result (IsPlaced B side sectors header.now) }
     ensures err { IfErr result (λ e. IsPlaceFault B side sectors header.now e) }
 {

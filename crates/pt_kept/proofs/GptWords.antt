@@ -7,7 +7,7 @@ use Rattle.std.proofs.lemmas.List.{length-replicate, get_or-replicate}
 use Rattle.pt_guid.specs.Codes.{type_of}
 use Rattle.pt_guid.specs.laws.Terms.{types_are_used}
 use Rattle.pt_guid.specs.declared.guid.Guid.{Guid}
-use Rattle.pt_gpt.specs.Array.{array_len, AllTyped, HasRoom, edge}
+use Rattle.pt_gpt.specs.Array.{AllTyped, HasRoom, edge}
 use Rattle.pt_gpt.specs.Entry.{IsTyped}
 use Rattle.pt_gpt.specs.declared.entry.Entry.{Entry}
 use Rattle.pt_gpt.specs.declared.table.Table.{Table}
@@ -180,7 +180,7 @@ keeps_made b a fresh o p t small shaped is x = subst (λ (q : Layout). Keeps b o
       top = let free = placed_is_free_lem (table_area t) a.alignment a.start a.end x.run x.place.placed in
           (free.free x.run.last (free.some, omega arith)).0.1
 
-      room : 2 * array_len b + 4 ≤ o.sectors
+      room : HasRoom b o.sectors
       room = fits.room
 
       by_slice : (c : Bool) → is_slice b x.kind ≡ c → Keeps b o.sectors (Some o) (with_new_entry b t x.number x.kind x.guid x.run o)

@@ -7,7 +7,7 @@ ghost use Rattle.pt_space.specs.Area.{area_of};
 ghost use Rattle.pt_space.specs.Placed.{Placed, NotPlaced};
 ghost use Rattle.pt_labels.specs.New.{HasUnused, NoUnused, new_type, area_in, len_of, HasOffset, new_entry, PartNew, PartNotNew};
 
-use crate::parts::{Spot, entry_of, part_type_of, put_entry};
+use crate::parts::{PartEntry, entry_of, part_type_of, put_entry};
 use pt_bsd::{Form, Label, LabelEntry};
 use pt_members::{Layout, Member};
 use pt_space::{Lead, Run, Space, place, taken_by_parts};
@@ -21,7 +21,7 @@ const FAST_FILE_SYSTEM: u8 = 7;
 const RESERVED: u128 = 16;
 
 // The entry of a letter of a slice's label, where it is counted, isn't c, and has no sectors.
-fn unused_of<const B: usize>(layout: &Layout, number: u64, letter: u8) -> Result<Spot, Refusal>
+fn unused_of<const B: usize>(layout: &Layout, number: u64, letter: u8) -> Result<PartEntry, Refusal>
     ensures ok { IfOk result (λ s. HasUnused B layout.now number letter s.slice s.label s.entry) }
     ensures err { IfErr result (NoUnused B layout.now number letter) }
     ensures small { IfOk result (λ s. s.slice.first < 2 ^ 66) }

@@ -13,7 +13,7 @@ use pt_words::{Code, Refusal};
 
 /// An entry of a slice's label, with both.
 #[derive(Clone, Copy)]
-pub(crate) struct Spot {
+pub(crate) struct PartEntry {
     pub(crate) slice: Member,
     pub(crate) label: Label,
     pub(crate) entry: LabelEntry,
@@ -34,7 +34,7 @@ pub(crate) fn entry_of<const B: usize>(
     layout: &Layout,
     number: u64,
     letter: u8,
-) -> Result<Spot, Refusal>
+) -> Result<PartEntry, Refusal>
     ensures ok { IfOk result (λ s. HasPartEntry B layout.now number letter s.slice s.label s.entry) }
     ensures err { IfErr result (NoEntry B layout.now number letter) }
     ensures small { IfOk result (λ s. s.slice.first < 2 ^ 66) }
@@ -51,7 +51,7 @@ pub(crate) fn entry_of<const B: usize>(
         return Err(Refusal::ContainerType);
     }
     match counted(&label, letter) {
-        Some(entry) => Ok(Spot {
+        Some(entry) => Ok(PartEntry {
             slice,
             label,
             entry,
@@ -61,7 +61,7 @@ pub(crate) fn entry_of<const B: usize>(
 }
 
 // The partition of a letter of a slice's label.
-fn part_of<const B: usize>(layout: &Layout, number: u64, letter: u8) -> Result<Spot, Refusal>
+fn part_of<const B: usize>(layout: &Layout, number: u64, letter: u8) -> Result<PartEntry, Refusal>
     ensures ok { IfOk result (λ s. HasPart B layout.now number letter s.slice s.label s.entry) }
     ensures err { IfErr result (NoPart B layout.now number letter) }
 {

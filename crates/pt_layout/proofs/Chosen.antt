@@ -9,7 +9,7 @@ use Rattle.pt_recover.specs.Mbr.{IsMbrDisk}
 use Rattle.pt_recover.specs.Spans.{IsIn}
 use Rattle.pt_recover.specs.declared.error.NoTable.{NoTable}
 use Rattle.pt_recover.specs.declared.error.NoTable.TheVariants.{NoCopy}
-use Rattle.pt_recover.specs.declared.trace.Run.{Run}
+use Rattle.pt_recover.specs.declared.trace.TracedRun.{TracedRun}
 use Rattle.pt_layout.specs.declared.finding.Finding.TheVariants.{PrimaryCopy, BackupCopy}
 use Rattle.pt_layout.specs.declared.halves.Half.{Half}
 use Rattle.pt_layout.specs.declared.halves.Halves.{Halves}
@@ -52,7 +52,7 @@ chosen_stands b d h (OnlyBackup e q) c plain is room are same =
     )
 chosen_stands b d h (Neither e f) c plain is room are same = absurd (let s : Ok c ≡ Err (NoCopy e f) = same in cc)
 
-pub none_chosen : (b : ℕ) (d : Sectors) (h : Head) (x : Halves) (e : NoTable) (guarded trace : List Run) → ¬ IsMbrDisk d → HeadOf d h
+pub none_chosen : (b : ℕ) (d : Sectors) (h : Head) (x : Halves) (e : NoTable) (guarded trace : List TracedRun) → ¬ IsMbrDisk d → HeadOf d h
     → HasRoom b (length d) → HalvesAre b d x → ChosenIs (length d) h x (Err e) → ((s : ℕ) → ¬ IsIn guarded s)
     → IsBodyTrace b d trace → IsSurvey b d (nothing_of h e guarded trace)
 none_chosen b d h (Both p q) e guarded trace plain is room are chosen empty traced = absurd (let s = chosen.2 in cc)

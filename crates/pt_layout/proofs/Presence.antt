@@ -9,7 +9,7 @@ use Rattle.pt_bsd.specs.declared.label.Label.{Label}
 use Rattle.pt_members.specs.declared.layout.Body.{Body}
 use Rattle.pt_members.specs.declared.member.Member.{Member}
 use Rattle.pt_members.specs.Members.{present, slots, tops, logicals, parts_in}
-use Rattle.pt_members.proofs.ByPlace.{parts_none}
+use Rattle.pt_members.proofs.ByPlace.{parts_len, parts_none}
 
 present-one : (o : Option Member) → present (o ∷ []) ≡ option_to_list o
 present-one o = append-nil (option_to_list o)
@@ -69,3 +69,6 @@ empty (x ∷ xs) is = absurd (omega arith)
 
 pub no_parts : (l : Option Label) (m : Member) → l ≡ None → present (parts_in l m) ≡ []
 no_parts l m none = ap present (empty (parts_in l m) (parts_none l m none))
+
+-- the members of the places before one, from none to all
+pub ruleset taken = (take_start, take_more, take_end, parts_len)

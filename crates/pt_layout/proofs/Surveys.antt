@@ -18,7 +18,7 @@ use Rattle.pt_members.specs.declared.layout.Layout.{Layout}
 use Rattle.pt_members.specs.declared.layout.Body.{Body}
 use Rattle.pt_members.specs.declared.layout.Body.TheVariants.{Gpt}
 use Rattle.pt_members.specs.declared.layout.Slice.{Slice}
-use Rattle.pt_recover.specs.declared.trace.Run.{Run}
+use Rattle.pt_recover.specs.declared.trace.TracedRun.{TracedRun}
 use Rattle.pt_layout.specs.declared.finding.Finding.{Finding}
 use Rattle.pt_layout.specs.declared.health.Head.{Head}
 use Rattle.pt_layout.specs.declared.health.Head.TheVariants as head
@@ -36,7 +36,7 @@ pub places_fit : (n : ℕ) (ps : List Slice) → n < 2 ^ 64 → All (λ p. place
 places_fit n ps range all = λ k d lt. omega (arith, all k d lt, range)
 
 -- what is added where there was nothing
-pub only_places : (old new : List Run) (ps : List Slice) → ((s : ℕ) → ¬ IsIn old s) → Adds old new (IsPlace ps) → ArePlaces ps new
+pub only_places : (old new : List TracedRun) (ps : List Slice) → ((s : ℕ) → ¬ IsIn old s) → Adds old new (IsPlace ps) → ArePlaces ps new
 only_places old new ps none adds s = (λ i. elim ((adds s).0 i) [ inl was ↦ absurd (none s was) | inr at ↦ at ], λ at. (adds s).1 (inr at))
 
 -- a GPT has no numbers of 32 bits
@@ -44,7 +44,7 @@ pub gpt_numbers : (o : Layout) (t : Table) → o.body ≡ Gpt t → Numbers o
 gpt_numbers o t same = subst (λ (y : Body). BodyNumbers y) (sym same) tt
 
 pub table_survey : (b : ℕ) (d : Sectors) (h : Head) (t : Table) (o : Layout) (f : Option Finding) (primary : Bool)
-    (guarded trace : List Run) → HeadOf d h → BodyIs b d (Gpt t) → LayoutOf b d t o → FindingIs b d (Ok o) f
+    (guarded trace : List TracedRun) → HeadOf d h → BodyIs b d (Gpt t) → LayoutOf b d t o → FindingIs b d (Ok o) f
     → IsTrue primary ↔ HasCopy b d Primary
     → ArePlaces (places_of b (length d) (Gpt t)) guarded → IsTraceOf b d trace
     → IsSurvey b d (record { head = h; found = Ok o; finding = f; primary = primary; guarded = guarded; trace = trace })
@@ -59,7 +59,7 @@ table_survey b d h t o f primary guarded trace is body of finding first places t
 }
 
 -- a disk that isn't an MBR disk, and denotes nothing
-pub nothing_survey : (b : ℕ) (d : Sectors) (h : Head) (e : NoTable) (guarded trace : List Run)
+pub nothing_survey : (b : ℕ) (d : Sectors) (h : Head) (e : NoTable) (guarded trace : List TracedRun)
     → HeadOf d h → ¬ IsMbrDisk d → Denotes b d None → IsReason b d e → (HasRoom b (length d) → ¬ HasCopy b d Primary)
     → ((s : ℕ) → ¬ IsIn guarded s) → IsBodyTrace b d trace → IsSurvey b d (nothing_of h e guarded trace)
 nothing_survey b d h e guarded trace is plain none reason without empty traced = record {
@@ -72,13 +72,13 @@ nothing_survey b d h e guarded trace is plain none reason without empty traced =
   trace = body_trace b d trace none traced;
 }
 
-traced_guarded : (b : ℕ) (d : Sectors) (guarded trace : List Run) → IsMbrDisk d → guarded ≡ trace → IsTraceOf b d trace → (s : ℕ)
+traced_guarded : (b : ℕ) (d : Sectors) (guarded trace : List TracedRun) → IsMbrDisk d → guarded ≡ trace → IsTraceOf b d trace → (s : ℕ)
     → IsIn guarded s ↔ IsGuarded b d s
 traced_guarded b d guarded trace mbr same traced s =
     rw same (λ i. reads_guarded b d s mbr ((traced s).0 i), λ g. (traced s).1 (guarded_reads b d s g))
 
 -- an MBR disk
-pub mbr_survey : (b : ℕ) (d : Sectors) (o : Layout) (f : Option Finding) (guarded trace : List Run)
+pub mbr_survey : (b : ℕ) (d : Sectors) (o : Layout) (f : Option Finding) (guarded trace : List TracedRun)
     → IsMbrDisk d → Denotes b d (Some o) → Numbers o → FindingIs b d (Ok o) f → guarded ≡ trace → IsTraceOf b d trace
     → IsSurvey b d (record { head = head.Mbr; found = Ok o; finding = f; primary = false; guarded = guarded; trace = trace })
 mbr_survey b d o f guarded trace mbr denotes numbers finding same traced = record {
@@ -91,7 +91,7 @@ mbr_survey b d o f guarded trace mbr denotes numbers finding same traced = recor
   trace = traced;
 }
 
-inside_trace : (b : ℕ) (d : Sectors) (e : NoTable) (guarded : List Run) → ¬ IsOutsideDisk e → IsOutsideDisk e ⊎ IsTraceOf b d guarded
+inside_trace : (b : ℕ) (d : Sectors) (e : NoTable) (guarded : List TracedRun) → ¬ IsOutsideDisk e → IsOutsideDisk e ⊎ IsTraceOf b d guarded
     → IsTraceOf b d guarded
 inside_trace b d e guarded inside (inl out) = absurd (inside out)
 inside_trace b d e guarded inside (inr trace) = trace
@@ -100,7 +100,7 @@ inside_reason : (b : ℕ) (d : Sectors) (e : NoTable) → ¬ IsOutsideDisk e →
 inside_reason b d e inside (inl out) = absurd (inside out)
 inside_reason b d e inside (inr told) = told
 
-pub mbr_nothing : (b : ℕ) (d : Sectors) (e : NoTable) (guarded trace : List Run)
+pub mbr_nothing : (b : ℕ) (d : Sectors) (e : NoTable) (guarded trace : List TracedRun)
     → IsMbrDisk d → ¬ IsOutsideDisk e → TellsNothing b d e → guarded ≡ trace → IsOutsideDisk e ⊎ IsTraceOf b d trace
     → IsSurvey b d (nothing_of head.Mbr e guarded trace)
 mbr_nothing b d e guarded trace mbr inside told same traced = record {
@@ -114,7 +114,7 @@ mbr_nothing b d e guarded trace mbr inside told same traced = record {
 }
 
 -- an MBR disk that denotes nothing, where its reason is no failure
-pub reason_survey : (b : ℕ) (d : Sectors) (e : NoTable) (trace : List Run) (r : Result Survey Failure)
+pub reason_survey : (b : ℕ) (d : Sectors) (e : NoTable) (trace : List TracedRun) (r : Result Survey Failure)
     → IsMbrDisk d → TellsNothing b d e → IsOutsideDisk e ⊎ IsTraceOf b d trace → IfOk r (IsNothingOf e trace) → IfOk r (IsSurvey b d)
 reason_survey b d e trace (Ok x) mbr told traced is =
     rw is.1 (mbr_nothing b d e trace trace mbr (reason_inside e is.0) told refl traced)

@@ -17,7 +17,7 @@ use Rattle.pt_members.specs.declared.layout.Layout.{Layout}
 use Rattle.pt_members.specs.declared.layout.Slice.{Slice}
 use Rattle.pt_members.specs.declared.layout.Body.{Body}
 use Rattle.pt_members.specs.declared.layout.Body.TheVariants.{Gpt}
-use Rattle.pt_recover.specs.declared.trace.Run.{Run}
+use Rattle.pt_recover.specs.declared.trace.TracedRun.{TracedRun}
 use Rattle.pt_layout.specs.declared.finding.Finding.{Finding}
 use Rattle.pt_layout.specs.declared.finding.Finding.TheVariants.{CopiesDiffer, Alternate, Protective}
 use Rattle.pt_layout.specs.declared.finding.Finding.TheVariants as finding
@@ -40,11 +40,11 @@ BrokenIs b d y None = IsBodyWhole b d y
 BrokenIs b d y (Some f) = IsBodyBroken b d y f
 
 -- the label places of these slices, and no other sectors
-abbrev pub ArePlaces : List Slice → List Run → Type 0
+abbrev pub ArePlaces : List Slice → List TracedRun → Type 0
 ArePlaces slices runs = (s : ℕ) → IsIn runs s ↔ IsPlace slices s
 
 -- the sectors that decide the body, and no others
-abbrev pub IsBodyTrace : ℕ → Sectors → List Run → Type 0
+abbrev pub IsBodyTrace : ℕ → Sectors → List TracedRun → Type 0
 IsBodyTrace b d runs = (s : ℕ) → IsIn runs s ↔ BodyReads b d s
 
 -- a GPT of this table with the disk's labels
@@ -52,12 +52,12 @@ abbrev pub LayoutOf : ℕ → Sectors → Table → Layout → Type 0
 LayoutOf b d t o = (o.sectors ≡ length d) × (o.body ≡ Gpt t) × LabelsAre d (places_of b (length d) (Gpt t)) o.labels
 
 -- the survey of a disk that denotes nothing
-abbrev pub nothing_of : Head → NoTable → List Run → List Run → Survey
+abbrev pub nothing_of : Head → NoTable → List TracedRun → List TracedRun → Survey
 nothing_of h e guarded trace =
     record { head = h; found = Err e; finding = Some (finding.NoTable e); primary = false; guarded = guarded; trace = trace }
 
 -- the survey of an MBR disk that denotes nothing for this reason, which is no failure
-abbrev pub IsNothingOf : NoTable → List Run → Survey → Type 0
+abbrev pub IsNothingOf : NoTable → List TracedRun → Survey → Type 0
 IsNothingOf e trace x = (failure_in e ≡ None) × (x ≡ nothing_of head.Mbr e trace trace)
 
 -- the failure that the reason is, or one of the memory where it is none

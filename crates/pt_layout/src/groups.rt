@@ -99,7 +99,7 @@ fn logical_members<const B: usize>(alloc: Global, body: &Body) -> Result<Vec<Mem
     members_from::<B>(alloc, body, top_count::<B>(body), slot_count::<B>(body))
 }
 
-#[tactic(auto, using(crate::proofs::Presence::take_start, crate::proofs::Presence::take_more, crate::proofs::Presence::take_end, pt_members::proofs::ByPlace::parts_len))]
+#[tactic(auto, using(crate::proofs::Presence::taken))]
 fn label_parts(alloc: Global, label: &Label, slice: &Member) -> Result<Vec<Member>, AllocError>
     requires small { slice.now.first < 2 ^ 66 }
     requires counted { length label.now.entries ≡ 8 }

@@ -10,7 +10,7 @@ use Rattle.pt_members.specs.Slices.{places_of, place_of, IsPlace}
 use Rattle.pt_recover.specs.Spans.{IsIn}
 use Rattle.pt_members.specs.declared.layout.Layout.{Layout}
 use Rattle.pt_members.specs.declared.layout.Slice.{Slice}
-use Rattle.pt_recover.specs.declared.trace.Run.{Run}
+use Rattle.pt_recover.specs.declared.trace.TracedRun.{TracedRun}
 use Rattle.pt_members.specs.OnePath.{HasFour}
 use Rattle.pt_cases.specs.laws.Causes.{had_one}
 use Rattle.pt_shape.specs.laws.Ascending.{places_ascend_lem}
@@ -24,7 +24,7 @@ use Rattle.pt_phases.specs.Starts.{CopiesStart}
 use Rattle.pt_phases.specs.declared.order.Order.{Order}
 use Rattle.pt_phases.proofs.Labels.{reads_is}
 
-module _ {b : ℕ} (d : Sectors) (o : Option Layout) (p : Layout) (t : Table) (chosen : Order) (guarded : List Run)
+module _ {b : ℕ} (d : Sectors) (o : Option Layout) (p : Layout) (t : Table) (chosen : Order) (guarded : List TracedRun)
     (given : Option (List ℕ)) (ts sorted : List (Target b))
     (size : IsSectorSize b) (start : CopiesStart d o p t chosen guarded given ts) (order : InSectorOrder ts sorted) where
   -- the target of a wanted label

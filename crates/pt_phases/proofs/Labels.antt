@@ -18,7 +18,7 @@ use Rattle.pt_members.specs.declared.layout.Body.TheVariants.{Gpt}
 use Rattle.pt_members.specs.declared.layout.Labelled.{Labelled}
 use Rattle.pt_members.specs.declared.layout.Layout.{Layout}
 use Rattle.pt_members.specs.declared.layout.Slice.{Slice}
-use Rattle.pt_recover.specs.declared.trace.Run.{Run}
+use Rattle.pt_recover.specs.declared.trace.TracedRun.{TracedRun}
 use Rattle.pt_members.specs.laws.Grouped.{contains_head, contains_tail}
 use Rattle.pt_layout.specs.Guarded.{IsGuarded, place}
 use Rattle.pt_layout.specs.laws.Guarded.{guarded_reads, reads_guarded}
@@ -100,7 +100,7 @@ place_read b d p t s size plain sound count is fits at reads = by_kind (reads_gp
         (side_within b d Backup s size second)
     by_kind (inr (inr (inr (y, y_is, y_at)))) = place y y_is y_at
 
-module _ {b : ℕ} (d : Sectors) (o : Option Layout) (p : Layout) (t : Table) (chosen : Order) (guarded : List Run)
+module _ {b : ℕ} (d : Sectors) (o : Option Layout) (p : Layout) (t : Table) (chosen : Order) (guarded : List TracedRun)
     (given : Option (List ℕ)) (ts : List (Target b))
     (size : IsSectorSize b) (start : CopiesStart d o p t chosen guarded given ts) where
   read_guarded : (order : Order) → chosen ≡ order → (s : ℕ) → IsPlace (places_of b p.sectors p.body) s → Reads b d s → IsGuarded b d s

@@ -15,7 +15,7 @@ use Rattle.pt_mbr.specs.Extended.{extended_of}
 use Rattle.pt_recover.specs.Mbr.{IsMbrDisk}
 use Rattle.pt_members.specs.declared.layout.Body.{Body}
 use Rattle.pt_members.specs.declared.layout.Layout.{Layout}
-use Rattle.pt_recover.specs.declared.trace.Run.{Run}
+use Rattle.pt_recover.specs.declared.trace.TracedRun.{TracedRun}
 use Rattle.pt_cases.specs.Cases.{IsWithinMbr, IsNeeded, MbrMet, within_mbr_phases}
 use Rattle.pt_cases.specs.Copies.{one_write}
 use Rattle.pt_apply.specs.laws.Puts.{puts_right}
@@ -47,7 +47,7 @@ phases_put quiet loud phases s v (inl one) puts =
     puts_right quiet (one_write loud.0 loud.1) s v (subst (λ (ps : List Writes). Puts (writes_in ps) s v) one.1 puts)
 phases_put quiet loud phases s v (inr two) puts = subst (λ (ps : List Writes). Puts (writes_in ps) s v) two.1 puts
 
-module _ {b : ℕ} (d : Sectors) (o : Option Layout) (p : Layout) (guarded : List Run) (heads places : List (Target b))
+module _ {b : ℕ} (d : Sectors) (o : Option Layout) (p : Layout) (guarded : List TracedRun) (heads places : List (Target b))
     (is : MbrStart d o p guarded heads places) where
   abbrev both : List (Target b)
   both = heads ++ places

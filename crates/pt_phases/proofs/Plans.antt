@@ -6,7 +6,7 @@ use Rattle.pt_gpt.specs.Array.{array_len}
 use Rattle.pt_gpt.specs.declared.table.Side.TheVariants.{Primary}
 use Rattle.pt_gpt.specs.declared.table.Table.{Table}
 use Rattle.pt_members.specs.declared.layout.Layout.{Layout}
-use Rattle.pt_recover.specs.declared.trace.Run.{Run}
+use Rattle.pt_recover.specs.declared.trace.TracedRun.{TracedRun}
 use Rattle.pt_layout.specs.Guarded.{IsGuarded}
 use Rattle.pt_members.specs.Owned.{OwnedOf}
 use Rattle.pt_apply.specs.Plans.{writes_in}
@@ -48,7 +48,7 @@ given_is d None old is same = absurd cc
 nothing_more : (ws : Writes) (s : ℕ) (v : List ℕ) → Puts (ws ++ []) s v → Puts ws s v
 nothing_more ws s v puts = ⊎_elim (λ here. here) (λ none. absurd none) (puts_split ws [] s v puts)
 
-module _ {b : ℕ} (d : Sectors) (o : Option Layout) (p : Layout) (t : Table) (chosen : Order) (guarded : List Run)
+module _ {b : ℕ} (d : Sectors) (o : Option Layout) (p : Layout) (t : Table) (chosen : Order) (guarded : List TracedRun)
     (given : Option (List ℕ)) (ts sorted : List (Target b))
     (size : IsSectorSize b) (start : CopiesStart d o p t chosen guarded given ts) (order : InSectorOrder ts sorted) (labels : Writes)
     (news : AreNewWrites guarded sorted labels) where
@@ -278,13 +278,13 @@ module _ {b : ℕ} (d : Sectors) (o : Option Layout) (p : Layout) (t : Table) (c
     passed_plans are = plan_by chosen refl are
 
 -- two targets of one sector are a cause
-pub shared_stops : {b : ℕ} (d : Sectors) (o : Option Layout) (p : Layout) (t : Table) (chosen : Order) (guarded : List Run)
+pub shared_stops : {b : ℕ} (d : Sectors) (o : Option Layout) (p : Layout) (t : Table) (chosen : Order) (guarded : List TracedRun)
     (given : Option (List ℕ)) (ts : List (Target b))
     → IsSectorSize b → CopiesStart d o p t chosen guarded given ts → HasTwoOfOne ts → StopsBy b d o p (HasNoCopies b d o p) NotOneSwitch
 shared_stops d o p t chosen guarded given ts size start two =
     inr (ts, inr (writes_both d o p t chosen guarded given ts size start, start.places), two)
 
-module _ {b : ℕ} (n : ℕ) (o : Option Layout) (t : Table) (chosen : Order) (guarded : List Run) (given : Option (List ℕ))
+module _ {b : ℕ} (n : ℕ) (o : Option Layout) (t : Table) (chosen : Order) (guarded : List TracedRun) (given : Option (List ℕ))
     (ts sorted first second : List (Target b)) (labels : Writes) (phases : List Writes)
     (size : IsSectorSize b) (order : InSectorOrder ts sorted) (first_is : first ≡ sorted) (second_is : second ≡ sorted)
     (news : AreNewWrites guarded first labels) (are : Arranged b n t given labels chosen phases) where

@@ -12,7 +12,7 @@ use Rattle.pt_apply.specs.Plans.{writes_of, phases_in, PhasesInRange, PhaseInRan
 use Rattle.pt_apply.specs.declared.plan.Write.{Write}
 use Rattle.pt_recover.specs.Spans.{IsIn}
 use Rattle.pt_members.specs.declared.layout.Layout.{Layout}
-use Rattle.pt_recover.specs.declared.trace.Run.{Run}
+use Rattle.pt_recover.specs.declared.trace.TracedRun.{TracedRun}
 use Rattle.pt_cases.specs.Copies.{one_write}
 use Rattle.pt_apply.specs.laws.Puts.{puts_left, puts_right}
 use Rattle.pt_cases.specs.laws.Frames.{puts_at, rises_in_tail, put_there}
@@ -124,7 +124,7 @@ fewer (t ∷ ts) (w ∷ ws) x climb rises among (suc k, lt, at) never =
     fewer ts ws x climb.1 rises.1 (rest_among t ts w ws climb rises among) (k, omega (arith, lt), at) (λ v puts. never v (inr puts)) in
     omega (arith, few)
 
-module _ {b : ℕ} (o : Option Layout) (guarded : List Run) (ts : List (Target b)) (phases : List Writes)
+module _ {b : ℕ} (o : Option Layout) (guarded : List TracedRun) (ts : List (Target b)) (phases : List Writes)
     (turn : IsTurn o guarded ts phases) where
   split : (d : Sectors) × IsSplit d guarded turn.sorted turn.quiet turn.loud
   split = (let disk = some_disk turn.sorted turn.free.order.ascending in (disk.0, turn.split disk.0 disk.1))

@@ -10,7 +10,7 @@ use Rattle.pt_apply.specs.Plans.{writes_of, phases_of, InRange, writes_in}
 use Rattle.pt_apply.specs.declared.plan.Plan.{Plan}
 use Rattle.pt_apply.specs.declared.plan.Write.{Write}
 use Rattle.pt_members.specs.declared.layout.Layout.{Layout}
-use Rattle.pt_recover.specs.declared.trace.Run.{Run}
+use Rattle.pt_recover.specs.declared.trace.TracedRun.{TracedRun}
 use Rattle.pt_cases.specs.Cases.{IsPlan, within_mbr, one_label, within_mbr_phases}
 use Rattle.pt_cases.specs.Copies.{one_write}
 use Rattle.pt_targets.specs.Causes.{HasNoTurn}
@@ -27,7 +27,7 @@ use Rattle.pt_phases.proofs.LabelTurn.{label_planned}
 use Rattle.pt_phases.proofs.MbrTurn.{mbr_planned, mbr_stops}
 use Rattle.pt_phases.proofs.TurnShapes.{turn_among, turn_few, lone_among, lone_few, phases_range}
 
-module _ {b : ℕ} (o : Option Layout) (guarded : List Run) (ts sorted now : List (Target b)) (free : AreFree o ts sorted)
+module _ {b : ℕ} (o : Option Layout) (guarded : List TracedRun) (ts sorted now : List (Target b)) (free : AreFree o ts sorted)
     (same : now ≡ sorted) (s : Split b) (is : SplitIs guarded now s) where
   -- the phases of a split are a turn
   pub split_turns : (quiet : Vec (Write b) Global) (loud : Write b) (phases : List Writes) → s ≡ One quiet loud
@@ -44,7 +44,7 @@ module _ {b : ℕ} (o : Option Layout) (guarded : List Run) (ts sorted now : Lis
       subst (λ (l : List (Target b)). SplitIs guarded l NotOne) same (subst (SplitIs guarded now) none is) in
       inr (sorted, free, there)
 
-module _ {b : ℕ} (o : Option Layout) (guarded : List Run) (heads places now ts : List (Target b)) (joined : ts ≡ heads ++ now)
+module _ {b : ℕ} (o : Option Layout) (guarded : List TracedRun) (heads places now ts : List (Target b)) (joined : ts ≡ heads ++ now)
     (same : now ≡ places) where
   parts : ts ≡ heads ++ places
   parts = joined ∙ ap (λ (l : List (Target b)). heads ++ l) same

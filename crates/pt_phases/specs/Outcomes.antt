@@ -4,7 +4,7 @@ use Rattle.pt_sector.specs.Sectors.{Sectors}
 use Rattle.pt_sector.specs.Writes.{Writes}
 use Rattle.pt_members.specs.Owned.{OwnedOf}
 use Rattle.pt_members.specs.declared.layout.Layout.{Layout}
-use Rattle.pt_recover.specs.declared.trace.Run.{Run}
+use Rattle.pt_recover.specs.declared.trace.TracedRun.{TracedRun}
 use Rattle.pt_cases.specs.Cases.{within_mbr_phases}
 use Rattle.pt_targets.specs.Causes.{NoneOwned}
 use Rattle.pt_targets.specs.Targets.{TellDisk, HasTwoOfOne, InSectorOrder, IsChange, IsSplit, NotOneLoud, IsOneChange, NotOneChange}
@@ -31,7 +31,7 @@ NotFree o ts Memory = Unit {0}
 NotFree o ts _ = ⊥
 
 -- the phases of a turn with one guarded sector
-pub record IsTurn {b : _} (o : Option Layout) (guarded : List Run) (ts : List (Target b)) (phases : List Writes) : Type 0 where
+pub record IsTurn {b : _} (o : Option Layout) (guarded : List TracedRun) (ts : List (Target b)) (phases : List Writes) : Type 0 where
   pub sorted : List (Target b)
   pub free : AreFree o ts sorted
   pub quiet : Writes
@@ -40,7 +40,7 @@ pub record IsTurn {b : _} (o : Option Layout) (guarded : List Run) (ts : List (T
   pub is : within_mbr_phases quiet loud phases
 
 -- why there is none
-abbrev pub NoTurn : {b : _} → Option Layout → List Run → List (Target b) → PlanError → Type 0
+abbrev pub NoTurn : {b : _} → Option Layout → List TracedRun → List (Target b) → PlanError → Type 0
 NoTurn o guarded ts NotOneSwitch = HasTwoOfOne ts ⊎ ((sorted : List (Target _)) × AreFree o ts sorted × NotOneLoud guarded sorted)
 NoTurn o guarded ts ReusedInOneBatch = OneOwned o ts
 NoTurn o guarded ts Memory = Unit {0}

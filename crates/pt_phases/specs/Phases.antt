@@ -4,7 +4,7 @@ use Rattle.pt_sector.specs.Writes.{Writes, Puts}
 use Rattle.pt_gpt.specs.declared.table.Table.{Table}
 use Rattle.pt_recover.specs.Spans.{IsIn}
 use Rattle.pt_members.specs.declared.layout.Layout.{Layout}
-use Rattle.pt_recover.specs.declared.trace.Run.{Run}
+use Rattle.pt_recover.specs.declared.trace.TracedRun.{TracedRun}
 use Rattle.pt_members.specs.Owned.{OwnedOf}
 use Rattle.pt_apply.specs.Plans.{writes_in}
 use Rattle.pt_cases.specs.Cases.{backup_first_phases, primary_first_phases, from_mbr_phases}
@@ -51,7 +51,7 @@ abbrev pub Alters : {b : ℕ} → (ℕ → Type 0) → List (Target b) → Type 
 Alters P ts = (t : Target _) × Contains ts t × (t.kind ≡ Changes) × P t.at.0
 
 -- why phases with these targets are no plan
-abbrev pub RefusedBy : {b : ℕ} → Option Layout → List Run → Order → List (Target b) → List Writes → PlanError → Type 0
+abbrev pub RefusedBy : {b : ℕ} → Option Layout → List TracedRun → Order → List (Target b) → List Writes → PlanError → Type 0
 RefusedBy {b = b} old guarded order ts phases ReusedInOneBatch = Touches (OwnedOf b old) (writes_in phases) ⊎ Alters (OwnedOf b old) ts
 RefusedBy {b = b} old guarded order ts phases NotOneSwitch =
     (¬ Touches (OwnedOf b old) (writes_in phases)) × (¬ Alters (OwnedOf b old) ts)
@@ -62,7 +62,7 @@ RefusedBy old guarded order ts phases (Device fault) = ⊥
 RefusedBy old guarded order ts phases (Unsound finding) = ⊥
 
 -- there is nothing against them
-pub record Passes {b : ℕ} (old : Option Layout) (guarded : List Run) (order : Order) (ts : List (Target b))
+pub record Passes {b : ℕ} (old : Option Layout) (guarded : List TracedRun) (order : Order) (ts : List (Target b))
     (phases : List Writes) : Type 0 where
   pub free : ¬ Touches (OwnedOf b old) (writes_in phases)
   pub settled : (t : Target b) → Contains ts t → ¬ (t.kind ≡ Changes)

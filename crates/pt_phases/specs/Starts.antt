@@ -9,7 +9,7 @@ use Rattle.pt_recover.specs.Mbr.{IsMbrDisk}
 use Rattle.pt_recover.specs.Spans.{IsIn}
 use Rattle.pt_members.specs.declared.layout.Body.TheVariants.{Gpt}
 use Rattle.pt_members.specs.declared.layout.Layout.{Layout}
-use Rattle.pt_recover.specs.declared.trace.Run.{Run}
+use Rattle.pt_recover.specs.declared.trace.TracedRun.{TracedRun}
 use Rattle.pt_layout.specs.Guarded.{IsGuarded}
 use Rattle.pt_cases.specs.Cases.{ChangesLabels}
 use Rattle.pt_shape.specs.Shape.{FitsTable}
@@ -31,7 +31,7 @@ HeadAsRead d (Some bytes) = bytes ≡ sector d 0
 HeadAsRead d None = IsProtective (length d) (sector d 0)
 
 -- the table t of p is written in both copies, with the labels of p that are new
-pub record CopiesStart {b : _} (d : Sectors) (o : Option Layout) (p : Layout) (t : Table) (chosen : Order) (guarded : List Run)
+pub record CopiesStart {b : _} (d : Sectors) (o : Option Layout) (p : Layout) (t : Table) (chosen : Order) (guarded : List TracedRun)
     (given : Option (List ℕ)) (label_targets : List (Target b)) : Type 0 where
   pub start : Start b d o p
   pub body : p.body ≡ Gpt t

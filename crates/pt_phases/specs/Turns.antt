@@ -8,7 +8,7 @@ use Rattle.pt_mbr.specs.Extended.{extended_of}
 use Rattle.pt_recover.specs.Spans.{IsIn}
 use Rattle.pt_members.specs.declared.layout.Body.TheVariants.{Mbr, Gpt}
 use Rattle.pt_members.specs.declared.layout.Layout.{Layout}
-use Rattle.pt_recover.specs.declared.trace.Run.{Run}
+use Rattle.pt_recover.specs.declared.trace.TracedRun.{TracedRun}
 use Rattle.pt_layout.specs.Findings.{IsBodyBroken}
 use Rattle.pt_layout.specs.Guarded.{IsGuarded}
 use Rattle.pt_layout.specs.Healthy.{IsBodyWhole}
@@ -21,7 +21,7 @@ use Rattle.pt_targets.specs.Targets.{AreLabelTargets, AreMbrTargets}
 use Rattle.pt_targets.specs.declared.target.Target.{Target}
 
 -- p is an MBR in place of another one: what its sectors must hold, and what is guarded
-pub record MbrStart {b : _} (d : Sectors) (o : Option Layout) (p : Layout) (guarded : List Run)
+pub record MbrStart {b : _} (d : Sectors) (o : Option Layout) (p : Layout) (guarded : List TracedRun)
     (head_targets label_targets : List (Target b)) : Type 0 where
   pub start : Start b d o p
   pub was : HadMbr o

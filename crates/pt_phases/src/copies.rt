@@ -3,7 +3,7 @@
 ghost use Rattle.std.specs.Prelude.{◌≡◌, ◌+◌, ◌*◌, ◌<◌, ◌≤◌, length, All, IfOk, IfErr, None};
 ghost use Rattle.pt_sector.specs.Sectors.{Sectors, IsSectorSize};
 ghost use Rattle.pt_apply.specs.Plans.{writes_of, phases_of, InRange, PhaseInRange, writes_in};
-ghost use Rattle.pt_gpt.specs.Array.{array_len};
+ghost use Rattle.pt_gpt.specs.Array.{array_len, HasRoom};
 ghost use Rattle.pt_members.specs.declared.layout.Layout.{Layout};
 ghost use Rattle.pt_cases.specs.Cases.{IsPlan};
 ghost use Rattle.pt_targets.specs.Causes.{HasNoCopies};
@@ -44,7 +44,7 @@ fn arranged<const B: usize>(
     labels: Vec<Write<B>>,
 ) -> Result<Plan<B>, AllocError>
     requires size { IsSectorSize B }
-    requires room { 2 * array_len B + 4 ≤ setting.now.sectors }
+    requires room { HasRoom B setting.now.sectors }
     requires few { length table.now.entries ≤ 128 }
     requires head { order ≡ FromMbr → ¬ (setting.now.head ≡ None) }
     requires labels_in_range { PhaseInRange setting.now.sectors labels.items }
@@ -85,7 +85,7 @@ pub fn both_copies<const B: usize>(
     places: Vec<Target<B>>,
 ) -> Result<Plan<B>, PlanError>
     requires size { IsSectorSize B }
-    requires room { 2 * array_len B + 4 ≤ setting.now.sectors }
+    requires room { HasRoom B setting.now.sectors }
     requires few { length table.now.entries ≤ 128 }
     requires head { order ≡ FromMbr → ¬ (setting.now.head ≡ None) }
     requires in_range { All (λ t. t.at.0 < setting.now.sectors) places.items }

@@ -5,7 +5,7 @@ use Rattle.pt_mbr.specs.Record.{IsExtendedKind}
 use Rattle.pt_mbr.specs.declared.record.Record.{Record}
 use Rattle.pt_records.specs.Types.{told_extended}
 use Rattle.pt_records.specs.New.{extended_record}
-use Rattle.pt_records.proofs.Extended.{plain_here, found_here}
+use Rattle.pt_records.proofs.Extended.{none_here, plain_here, found_here, ended}
 
 pub plain_told : (rs : List (Option Record)) (k : ℕ) (z : Option Record) (r : Record) (told : Bool) → k < length rs → get_or rs k z ≡ Some r
     → (IsTrue told ↔ IsExtendedKind r.kind) → told ≡ false → extended_record (drop k rs) ≡ extended_record (drop (k + 1) rs)
@@ -14,3 +14,6 @@ plain_told rs k z r told within at tells is = plain_here rs k z r within at (sym
 pub found_told : (rs : List (Option Record)) (k : ℕ) (z : Option Record) (r : Record) (told : Bool) → k < length rs → get_or rs k z ≡ Some r
     → (IsTrue told ↔ IsExtendedKind r.kind) → told ≡ true → extended_record (drop k rs) ≡ Some r
 found_told rs k z r told within at tells is = found_here rs k z r within at (sym (told_extended told r.kind tells) ∙ is)
+
+-- a step of the search, and its end
+pub ruleset searched = (none_here, plain_told, found_told, ended)

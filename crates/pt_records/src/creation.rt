@@ -23,7 +23,7 @@ use std::alloc::{AllocError, Global};
 const ONE_MORE: u64 = 5;
 
 // The extended record, the first where there are more.
-#[tactic(auto, using(crate::proofs::Extended::none_here, crate::proofs::Told::plain_told, crate::proofs::Told::found_told, crate::proofs::Extended::ended))]
+#[tactic(auto, using(crate::proofs::Told::searched))]
 fn extended_in(records: &[Option<Record>; 4]) -> Option<Record>
     ensures { result ≡ extended_record records.now }
 {

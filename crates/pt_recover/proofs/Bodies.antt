@@ -17,7 +17,7 @@ use Rattle.pt_recover.specs.Spans.{Adds}
 use Rattle.pt_recover.specs.declared.error.NoTable.{NoTable}
 use Rattle.pt_recover.specs.declared.error.NoTable.TheVariants.{NoCopy}
 use Rattle.pt_members.specs.declared.layout.Body.TheVariants.{Mbr, Gpt}
-use Rattle.pt_recover.specs.declared.trace.Run.{Run}
+use Rattle.pt_recover.specs.declared.trace.TracedRun.{TracedRun}
 use Rattle.pt_recover.proofs.Traces.{adds_same, adds_both}
 
 of_mbr : (b : ℕ) (d : Sectors) (m : List (Option Record)) (s : ℕ) → IsMbr d m → RestReads b d s → ExtendedReads d (extended_of m) s
@@ -29,22 +29,22 @@ of_gpt : (b : ℕ) (d : Sectors) (s : ℕ) → ¬ IsMbrDisk d → RestReads b d 
 of_gpt b d s none (of_chain n is reads) = absurd (none is.0)
 of_gpt b d s none (of_table other room reads) = reads
 
-pub rest_mbr : (b : ℕ) (d : Sectors) (m : List (Option Record)) (old new : List Run) → IsMbr d m
+pub rest_mbr : (b : ℕ) (d : Sectors) (m : List (Option Record)) (old new : List TracedRun) → IsMbr d m
     → Adds old new (ExtendedReads d (extended_of m)) → Adds old new (RestReads b d)
 rest_mbr b d m old new is adds =
     adds_same old new (ExtendedReads d (extended_of m)) (RestReads b d) adds (λ s. (of_mbr b d m s is, λ reads. of_chain m is reads))
 
-pub rest_mbr_or : (P : Type 0) (b : ℕ) (d : Sectors) (m : List (Option Record)) (old new : List Run) → IsMbr d m
+pub rest_mbr_or : (P : Type 0) (b : ℕ) (d : Sectors) (m : List (Option Record)) (old new : List TracedRun) → IsMbr d m
     → P ⊎ Adds old new (ExtendedReads d (extended_of m)) → P ⊎ Adds old new (RestReads b d)
 rest_mbr_or P b d m old new is (inl out) = inl out
 rest_mbr_or P b d m old new is (inr adds) = inr (rest_mbr b d m old new is adds)
 
-pub rest_gpt : (b : ℕ) (d : Sectors) (old new : List Run) → ¬ IsMbrDisk d → HasRoom b (length d) → Adds old new (TableReads b d)
+pub rest_gpt : (b : ℕ) (d : Sectors) (old new : List TracedRun) → ¬ IsMbrDisk d → HasRoom b (length d) → Adds old new (TableReads b d)
     → Adds old new (RestReads b d)
 rest_gpt b d old new none room adds =
     adds_same old new (TableReads b d) (RestReads b d) adds (λ s. (of_gpt b d s none, λ reads. of_table none room reads))
 
-pub rest_gpt_or : (P : Type 0) (b : ℕ) (d : Sectors) (old new : List Run) → ¬ IsMbrDisk d → HasRoom b (length d)
+pub rest_gpt_or : (P : Type 0) (b : ℕ) (d : Sectors) (old new : List TracedRun) → ¬ IsMbrDisk d → HasRoom b (length d)
     → P ⊎ Adds old new (TableReads b d) → P ⊎ Adds old new (RestReads b d)
 rest_gpt_or P b d old new none room (inl out) = inl out
 rest_gpt_or P b d old new none room (inr adds) = inr (rest_gpt b d old new none room adds)
@@ -73,12 +73,12 @@ whole_back b d s some (inl at) = head some at
 whole_back b d s some (inr (of_chain m is reads)) = chain m is reads
 whole_back b d s some (inr (of_table none room reads)) = table none room reads
 
-pub body_read : (b : ℕ) (d : Sectors) (old mid new : List Run) → 0 < length d → Adds old mid (λ s. s ≡ 0)
+pub body_read : (b : ℕ) (d : Sectors) (old mid new : List TracedRun) → 0 < length d → Adds old mid (λ s. s ≡ 0)
     → Adds mid new (RestReads b d) → Adds old new (BodyReads b d)
 body_read b d old mid new some first second =
     adds_both old mid new (λ s. s ≡ 0) (RestReads b d) (BodyReads b d) first second (λ s. (whole_there b d s, whole_back b d s some))
 
-pub body_read_or : (P : Type 0) (b : ℕ) (d : Sectors) (old mid new : List Run) → 0 < length d → Adds old mid (λ s. s ≡ 0)
+pub body_read_or : (P : Type 0) (b : ℕ) (d : Sectors) (old mid new : List TracedRun) → 0 < length d → Adds old mid (λ s. s ≡ 0)
     → P ⊎ Adds mid new (RestReads b d) → P ⊎ Adds old new (BodyReads b d)
 body_read_or P b d old mid new some first (inl out) = inl out
 body_read_or P b d old mid new some first (inr second) = inr (body_read b d old mid new some first second)

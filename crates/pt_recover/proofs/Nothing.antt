@@ -20,7 +20,7 @@ use Rattle.pt_mbr.specs.declared.extended.Extended.TheVariants as found
 use Rattle.pt_recover.specs.declared.error.NoTable.{NoTable}
 use Rattle.pt_recover.specs.declared.error.NoTable.TheVariants.{Chain as BadChain, TwoExtended}
 use Rattle.pt_members.specs.declared.layout.Body.TheVariants.{Mbr, Gpt}
-use Rattle.pt_recover.specs.declared.trace.Run.{Run}
+use Rattle.pt_recover.specs.declared.trace.TracedRun.{TracedRun}
 use Rattle.pt_recover.proofs.Traces.{adds_none}
 
 -- an MBR disk denotes nothing where its records have no chain
@@ -65,30 +65,30 @@ no_extent b d m r is lone none =
       here = (refl, λ inside. absurd (omega (arith, inside.0.0, inside.0.1, none)));
     }) (λ f. f)
 
-pub none_read : (d : Sectors) (m : List (Option Record)) (r : Record) (old new : List Run) → extended_of m ≡ r ∷ []
+pub none_read : (d : Sectors) (m : List (Option Record)) (r : Record) (old new : List TracedRun) → extended_of m ≡ r ∷ []
     → (extent_of r).last < (extent_of r).first → new ≡ old → Adds old new (ExtendedReads d (extended_of m))
 none_read d m r old new lone none same =
     adds_none old new (ExtendedReads d (extended_of m)) same (λ s reads.
     let read : ChainReads d (extent_of r) s = subst (λ (rs : List Record). ExtendedReads d rs s) lone reads in
     absurd (omega (arith, read.inside.0.0, read.inside.0.1, none)))
 
-pub lone_read : (d : Sectors) (m : List (Option Record)) (r : Record) (x : Span) (old new : List Run) → extended_of m ≡ r ∷ []
+pub lone_read : (d : Sectors) (m : List (Option Record)) (r : Record) (x : Span) (old new : List TracedRun) → extended_of m ≡ r ∷ []
     → x ≡ extent_of r → Adds old new (ChainReads d x) → Adds old new (ExtendedReads d (extended_of m))
 lone_read d m r x old new lone same adds =
     subst (λ (rs : List Record). Adds old new (ExtendedReads d rs)) (sym lone)
     (subst (λ (y : Span). Adds old new (ChainReads d y)) same adds)
 
-pub lone_read_or : (P : Type 0) (d : Sectors) (m : List (Option Record)) (r : Record) (x : Span) (old new : List Run)
+pub lone_read_or : (P : Type 0) (d : Sectors) (m : List (Option Record)) (r : Record) (x : Span) (old new : List TracedRun)
     → extended_of m ≡ r ∷ [] → x ≡ extent_of r → P ⊎ Adds old new (ChainReads d x) → P ⊎ Adds old new (ExtendedReads d (extended_of m))
 lone_read_or P d m r x old new lone same (inl out) = inl out
 lone_read_or P d m r x old new lone same (inr adds) = inr (lone_read d m r x old new lone same adds)
 
-pub nothing_read : (d : Sectors) (m : List (Option Record)) (old new : List Run) → extended_of m ≡ [] → new ≡ old
+pub nothing_read : (d : Sectors) (m : List (Option Record)) (old new : List TracedRun) → extended_of m ≡ [] → new ≡ old
     → Adds old new (ExtendedReads d (extended_of m))
 nothing_read d m old new nothing same =
     adds_none old new (ExtendedReads d (extended_of m)) same (λ s reads. subst (λ (rs : List Record). ExtendedReads d rs s) nothing reads)
 
-pub two_read : (d : Sectors) (m : List (Option Record)) (r : Record) (old new : List Run)
+pub two_read : (d : Sectors) (m : List (Option Record)) (r : Record) (old new : List TracedRun)
     → ExtendedIs (extended_of m) (found.More r) → new ≡ old → Adds old new (ExtendedReads d (extended_of m))
 two_read d m r old new two same =
     adds_none old new (ExtendedReads d (extended_of m)) same (λ s reads. subst (λ (rs : List Record). ExtendedReads d rs s) two.2 reads)

@@ -13,10 +13,10 @@ use Rattle.pt_gpt.specs.declared.table.Side.TheVariants.{Primary, Backup}
 use Rattle.pt_gpt.specs.declared.table.Table.{Table}
 use Rattle.pt_recover.specs.Gpt.{TableReads}
 use Rattle.pt_recover.specs.Spans.{Adds}
-use Rattle.pt_recover.specs.declared.trace.Run.{Run}
+use Rattle.pt_recover.specs.declared.trace.TracedRun.{TracedRun}
 use Rattle.pt_recover.proofs.Traces.{adds_same, adds_both}
 
-pub head_read : (b : ℕ) (d : Sectors) (side : Side) (e : CopyError) (at n : ℕ) (old new : List Run) → at ≡ header_place side n
+pub head_read : (b : ℕ) (d : Sectors) (side : Side) (e : CopyError) (at n : ℕ) (old new : List TracedRun) → at ≡ header_place side n
     → n ≡ length d → Adds old new (λ s. s ≡ at) → TellsHeadFault b d side e
     → IsOutsideCopy e ⊎ Adds old new (SideReads b d side)
 head_read b d side e at n old new here count adds (inl out) = inl out
@@ -26,7 +26,7 @@ head_read b d side e at n old new here count adds (inr fault) =
     let are = side_reads_fault_lem b d side e fault s in
     (λ r. are.0 r ∙ sym place, λ is. are.1 (is ∙ place))))
 
-pub array_read : (b : ℕ) (d : Sectors) (side : Side) (h : Header) (at n : ℕ) (old mid new : List Run) → at ≡ header_place side n
+pub array_read : (b : ℕ) (d : Sectors) (side : Side) (h : Header) (at n : ℕ) (old mid new : List TracedRun) → at ≡ header_place side n
     → n ≡ length d → Adds old mid (λ s. s ≡ at) → Adds mid new (InArray b h) → IsHead b d side h
     → Adds old new (SideReads b d side)
 array_read b d side h at n old mid new here count first second head =
@@ -37,7 +37,7 @@ array_read b d side h at n old mid new here count first second head =
       λ r. elim r [ inl is ↦ are.1 (inl (is ∙ place)) | inr within ↦ are.1 (inr within) ],
     ))
 
-pub primary_read : (b : ℕ) (d : Sectors) (t : Table) (old new : List Run) → Copy b d Primary t
+pub primary_read : (b : ℕ) (d : Sectors) (t : Table) (old new : List TracedRun) → Copy b d Primary t
     → Adds old new (SideReads b d Primary) → Adds old new (TableReads b d)
 primary_read b d t old new copy adds =
     adds_same old new (SideReads b d Primary) (TableReads b d) adds
@@ -55,7 +55,7 @@ pub inside_adds : {P Q : Type 0} → P ⊎ Q → ¬ P → Q
 inside_adds (inl p) none = absurd (none p)
 inside_adds (inr q) none = q
 
-pub both_read : (b : ℕ) (d : Sectors) (old mid new : List Run) → ¬ HasCopy b d Primary → Adds old mid (SideReads b d Primary)
+pub both_read : (b : ℕ) (d : Sectors) (old mid new : List TracedRun) → ¬ HasCopy b d Primary → Adds old mid (SideReads b d Primary)
     → Adds mid new (SideReads b d Backup) → Adds old new (TableReads b d)
 both_read b d old mid new none first second =
     adds_both old mid new (SideReads b d Primary) (SideReads b d Backup) (TableReads b d) first second (λ s.

@@ -13,7 +13,7 @@ use Rattle.pt_recover.specs.declared.error.NoTable.{NoTable}
 use Rattle.pt_members.specs.declared.layout.Body.{Body}
 use Rattle.pt_members.specs.declared.layout.Labelled.{Labelled}
 use Rattle.pt_members.specs.declared.layout.Slice.{Slice}
-use Rattle.pt_recover.specs.declared.trace.Run.{Run}
+use Rattle.pt_recover.specs.declared.trace.TracedRun.{TracedRun}
 use Rattle.pt_recover.proofs.Traces.{adds_same, adds_both}
 
 on_disk : (n : ℕ) (s : Slice) → has_place n s ≡ true → place_of s < n
@@ -35,7 +35,7 @@ reads_back : (b : ℕ) (d : Sectors) (y : Body) (s : ℕ) → BodyIs b d y → B
 reads_back b d y s is (inl reads) = body reads
 reads_back b d y s is (inr at) = label y is at
 
-pub all_read : (b n : ℕ) (d : Sectors) (y : Body) (ps : List Slice) (old mid new : List Run) → BodyIs b d y → ps ≡ places_of b n y
+pub all_read : (b n : ℕ) (d : Sectors) (y : Body) (ps : List Slice) (old mid new : List TracedRun) → BodyIs b d y → ps ≡ places_of b n y
     → n ≡ length d → Adds old mid (BodyReads b d) → Adds mid new (IsPlace ps) → Adds old new (Reads b d)
 all_read b n d y ps old mid new is are count first second =
     let places : ps ≡ places_of b (length d) y = are ∙ ap (λ (k : ℕ). places_of b k y) count in
@@ -46,7 +46,7 @@ none_there : (b : ℕ) (d : Sectors) (s : ℕ) → Denotes b d None → Reads b 
 none_there b d s none (body reads) = reads
 none_there b d s none (label y is at) = absurd (none y is)
 
-pub none_read : (b : ℕ) (d : Sectors) (e : NoTable) (old new : List Run) → TellsNothing b d e
+pub none_read : (b : ℕ) (d : Sectors) (e : NoTable) (old new : List TracedRun) → TellsNothing b d e
     → IsOutsideDisk e ⊎ Adds old new (BodyReads b d) → IsOutsideDisk e ⊎ Adds old new (Reads b d)
 none_read b d e old new told (inl out) = inl out
 none_read b d e old new (inl out) (inr adds) = inl out
@@ -58,10 +58,10 @@ pub layout_is : (b n : ℕ) (d : Sectors) (y : Body) (ps : List Slice) (ls : Lis
 layout_is b n d y ps ls is are count labels =
     (count, is, subst (λ (l : List Slice). LabelsAre d l ls) (are ∙ ap (λ (k : ℕ). places_of b k y) count) labels)
 
-pub trace_is : (b : ℕ) (d : Sectors) (old new : List Run) → ((s : ℕ) → ¬ IsIn old s) → Adds old new (Reads b d) → IsTraceOf b d new
+pub trace_is : (b : ℕ) (d : Sectors) (old new : List TracedRun) → ((s : ℕ) → ¬ IsIn old s) → Adds old new (Reads b d) → IsTraceOf b d new
 trace_is b d old new none adds s = (λ i. elim ((adds s).0 i) [ inl was ↦ absurd (none s was) | inr read ↦ read ], λ r. (adds s).1 (inr r))
 
-pub trace_or : (P : Type 0) (b : ℕ) (d : Sectors) (old new : List Run) → ((s : ℕ) → ¬ IsIn old s) → P ⊎ Adds old new (Reads b d)
+pub trace_or : (P : Type 0) (b : ℕ) (d : Sectors) (old new : List TracedRun) → ((s : ℕ) → ¬ IsIn old s) → P ⊎ Adds old new (Reads b d)
     → P ⊎ IsTraceOf b d new
 trace_or P b d old new none (inl out) = inl out
 trace_or P b d old new none (inr adds) = inr (trace_is b d old new none adds)

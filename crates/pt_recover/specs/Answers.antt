@@ -18,7 +18,7 @@ use Rattle.pt_recover.specs.Denotes.{Denotes, Reads}
 use Rattle.pt_recover.specs.Spans.{IsIn}
 use Rattle.pt_recover.specs.declared.error.NoTable.{NoTable}
 use Rattle.pt_recover.specs.declared.error.NoTable.TheVariants.{NoCopy, Chain, TwoExtended, TooSmall, Device, Memory}
-use Rattle.pt_recover.specs.declared.trace.Run.{Run}
+use Rattle.pt_recover.specs.declared.trace.TracedRun.{TracedRun}
 
 -- an MBR disk with a lone extended record, whose chain has this first fault
 pub record LacksChain (d : Sectors) (e : _) : Type 0 where
@@ -80,7 +80,7 @@ fault_in (Device at) = Some (Read at)
 fault_in _ = None
 
 -- the sectors of the trace are those that recovery reads, and no others
-abbrev pub IsTraceOf : ℕ → Sectors → List Run → Type 0
+abbrev pub IsTraceOf : ℕ → Sectors → List TracedRun → Type 0
 IsTraceOf b d runs = (s : ℕ) → IsIn runs s ↔ Reads b d s
 
 -- the records of sector 0, none where it isn't that of an MBR disk

@@ -1,46 +1,46 @@
 -- The sectors of a trace.
 use Rattle.std.specs.Prelude.{ℕ, ◌≡◌, ◌<◌, ◌≤◌, ◌+◌, ◌⊎◌, ◌↔◌, List, [], ◌∷◌, ◌++◌, take, drop, min, max, nat_lt, if◌then◌else◌}
-use Rattle.pt_recover.specs.declared.trace.Run.{Run}
+use Rattle.pt_recover.specs.declared.trace.TracedRun.{TracedRun}
 use Rattle.pt_recover.specs.declared.trace.Order.{Order}
 use Rattle.pt_recover.specs.declared.trace.Order.TheVariants.{Below, Above, Touching}
 
-abbrev pub InRun : Run → ℕ → Type 0
+abbrev pub InRun : TracedRun → ℕ → Type 0
 InRun r s = (r.first ≤ s) × (s ≤ r.last)
 
 -- the sector is in one of these runs
-unfoldable pub IsIn : List Run → ℕ → Type 0
+unfoldable pub IsIn : List TracedRun → ℕ → Type 0
 IsIn [] s = ⊥
 IsIn (r ∷ rs) s = InRun r s ⊎ IsIn rs s
 
-abbrev pub Follows : Run → List Run → Type 0
+abbrev pub Follows : TracedRun → List TracedRun → Type 0
 Follows r [] = Unit {0}
 Follows r (q ∷ qs) = r.last + 1 < q.first
 
 -- the runs ascend, and no two of them touch
-unfoldable pub Apart : List Run → Type 0
+unfoldable pub Apart : List TracedRun → Type 0
 Apart [] = Unit {0}
 Apart (r ∷ rs) = (r.first ≤ r.last) × Follows r rs × Apart rs
 
 -- from the lower first to the higher last
-abbrev pub hull : Run → Run → Run
+abbrev pub hull : TracedRun → TracedRun → TracedRun
 hull x r = record { first = min x.first r.first; last = max x.last r.last }
 
 -- runs in order with one more among them, which takes in those that it touches
-unfoldable pub joined : Run → List Run → List Run
+unfoldable pub joined : TracedRun → List TracedRun → List TracedRun
 joined x [] = x ∷ []
 joined x (r ∷ rs) =
     if nat_lt (r.last + 1) x.first then r ∷ joined x rs else (if nat_lt (x.last + 1) r.first then x ∷ r ∷ rs else joined (hull x r) rs)
 
 -- what stands before a place, and what joining from there on gives
-abbrev pub StandsBefore : List Run → List Run → ℕ → Run → Type 0
+abbrev pub StandsBefore : List TracedRun → List TracedRun → ℕ → TracedRun → Type 0
 StandsBefore whole xs at x = take at xs ++ joined x (drop at xs) ≡ whole
 
 -- where a run stands to another: all below with a gap, all above with one, or touching it
-abbrev pub StandsAs : Run → Run → Order → Type 0
+abbrev pub StandsAs : TracedRun → TracedRun → Order → Type 0
 StandsAs r x Below = r.last + 1 < x.first
 StandsAs r x Above = (x.first ≤ r.last + 1) × (x.last + 1 < r.first)
 StandsAs r x Touching = (x.first ≤ r.last + 1) × (r.first ≤ x.last + 1)
 
 -- new has the sectors of old, and those of S
-abbrev pub Adds : List Run → List Run → (ℕ → Type 0) → Type 0
+abbrev pub Adds : List TracedRun → List TracedRun → (ℕ → Type 0) → Type 0
 Adds old new S = (s : ℕ) → IsIn new s ↔ (IsIn old s ⊎ S s)

@@ -2,7 +2,7 @@
 
 ghost use Rattle.std.specs.Prelude.{◌≡◌, ◌≤◌, ◌↔◌, ℕ, List, length, IsTrue, IfOk, OnOk};
 ghost use Rattle.pt_recover.specs.Spans.{IsIn, Apart, hull, joined, StandsAs, StandsBefore, Adds};
-ghost use Rattle.pt_recover.specs.declared.trace.Run.{Run};
+ghost use Rattle.pt_recover.specs.declared.trace.TracedRun.{TracedRun};
 
 use pt_sector::Lba;
 use std::alloc::{AllocError, Global};
@@ -10,7 +10,7 @@ use std::marker::Model;
 
 /// Consecutive sectors.
 #[derive(Clone, Copy, Debug, PartialEq, Eq)]
-pub(crate) struct Run {
+pub(crate) struct TracedRun {
     first: u64,
     last: u64,
 }
@@ -23,8 +23,8 @@ enum Order {
     Touching,
 }
 
-impl Run {
-    fn order(&self, other: &Run) -> Order
+impl TracedRun {
+    fn order(&self, other: &TracedRun) -> Order
         ensures { StandsAs self.now other.now result }
     {
         if self.last < other.first && other.first - self.last > 1 {
@@ -36,10 +36,10 @@ impl Run {
         Order::Touching
     }
 
-    fn hull(&self, other: &Run) -> Run
+    fn hull(&self, other: &TracedRun) -> TracedRun
         ensures { result ≡ hull self.now other.now }
     {
-        Run {
+        TracedRun {
             first: self.first.min(other.first),
             last: self.last.max(other.last),
         }
@@ -49,7 +49,7 @@ impl Run {
 // From which place on a run is to be compared with others, which ascend: from none on where the last one ends below it,
 // as it does where sectors are read in their order.
 #[tactic(auto, using(crate::proofs::Joined::stands_first, crate::proofs::Joined::stands_last))]
-fn place_of(runs: &[Run], new: &Run) -> usize
+fn place_of(runs: &[TracedRun], new: &TracedRun) -> usize
     requires { Apart runs.now }
     ensures within { result ≤ length runs.now }
     ensures stands { StandsBefore (joined new.now runs.now) runs.now result new.now }
@@ -66,7 +66,7 @@ fn place_of(runs: &[Run], new: &Run) -> usize
 
 // Puts a run among others, which ascend, and joins it with those that it touches. They are emptied where memory is
 // wanted.
-fn join(runs: &mut Vec<Run>, new: Run) -> Result<(), AllocError>
+fn join(runs: &mut Vec<TracedRun>, new: TracedRun) -> Result<(), AllocError>
     requires some { new.first ≤ new.last }
     requires apart { Apart runs.old.items }
     ensures ok { OnOk result (runs.new.items ≡ joined new runs.old.items) }
@@ -97,11 +97,11 @@ fn join(runs: &mut Vec<Run>, new: Run) -> Result<(), AllocError>
 /// Sectors that were read: runs in order that don't touch.
 #[derive(Drop)]
 pub struct Trace {
-    runs: Vec<Run>,
+    runs: Vec<TracedRun>,
 }
 
 impl Model for Trace {
-    ghost Value = { List Run };
+    ghost Value = { List TracedRun };
 
     ghost view = { λ t. t.runs.items };
 
@@ -144,7 +144,7 @@ impl Trace {
         requires { first ≤ last }
         ensures { OnOk result (Adds self.old self.new (λ s. (first ≤ s) × (s ≤ last))) }
     {
-        join(&mut self.runs, Run { first, last })?;
+        join(&mut self.runs, TracedRun { first, last })?;
         Ok(())
     }
 

@@ -17,7 +17,7 @@ use Rattle.pt_targets.specs.Selected.{Differs, IsUnreadNew, AllBelow, Selects, N
 use Rattle.pt_targets.specs.Selected.{selected_two}
 use Rattle.pt_targets.specs.Splits.{change_one, change_not_one, new_are, selected_in_range}
 use Rattle.pt_targets.specs.Targets.{targeted, TellDisk, IsOneChange, NotOneChange, AreNewWrites}
-use Rattle.pt_recover.specs.declared.trace.Run.{Run}
+use Rattle.pt_recover.specs.declared.trace.TracedRun.{TracedRun}
 use Rattle.pt_targets.specs.declared.target.Target.{Target}
 
 -- what a test that failed says
@@ -89,13 +89,13 @@ module _ {b : ℕ} (ts : List (Target b)) (up : IsAscending (targeted ts)) where
   change_none (Some w) is = tt
 
 -- what one function says of the writes, another may say
-pub new_ok : {b : ℕ} {E : Type 0} (guarded : List Run) (ts : List (Target b)) → IsAscending (targeted ts)
+pub new_ok : {b : ℕ} {E : Type 0} (guarded : List TracedRun) (ts : List (Target b)) → IsAscending (targeted ts)
     → (r : Result (Vec (Write b) Global) E)
     → IfOk r (λ ws. Selects (IsUnreadNew guarded) ts (writes_of ws.items)) → IfOk r (λ ws. AreNewWrites guarded ts (writes_of ws.items))
 new_ok guarded ts up (Ok ws) is = new_are guarded ts up (writes_of ws.items) is
 new_ok guarded ts up (Err e) is = tt
 
-pub new_below : {b : ℕ} {E : Type 0} (guarded : List Run) (ts : List (Target b)) → (r : Result (Vec (Write b) Global) E)
+pub new_below : {b : ℕ} {E : Type 0} (guarded : List TracedRun) (ts : List (Target b)) → (r : Result (Vec (Write b) Global) E)
     → IfOk r (λ ws. Selects (IsUnreadNew guarded) ts (writes_of ws.items))
     → IfOk r (λ ws. (n : ℕ) → AllBelow n ts → PhaseInRange n ws.items)
 new_below guarded ts (Ok ws) is = λ n below. selected_in_range (IsUnreadNew guarded) ts ws.items is n below

@@ -8,7 +8,7 @@ use Rattle.pt_sector.specs.Ascending.{IsAscending, sector_at}
 use Rattle.pt_members.specs.Owned.{OwnedOf}
 use Rattle.pt_recover.specs.Spans.{IsIn}
 use Rattle.pt_members.specs.declared.layout.Layout.{Layout}
-use Rattle.pt_recover.specs.declared.trace.Run.{Run}
+use Rattle.pt_recover.specs.declared.trace.TracedRun.{TracedRun}
 use Rattle.pt_members.specs.laws.Grouped.{contains_head, contains_tail}
 use Rattle.pt_cases.specs.laws.Select.{Rises, rises_ascends}
 use Rattle.pt_targets.specs.Targets.{targeted}
@@ -23,11 +23,11 @@ abbrev pub Differs : {b : ℕ} → Target b → Type 0
 Differs t = t.bytes ≢ t.under
 
 -- and is one of these
-abbrev pub IsLoud : {b : ℕ} → List Run → Target b → Type 0
+abbrev pub IsLoud : {b : ℕ} → List TracedRun → Target b → Type 0
 IsLoud guarded t = Differs t × IsIn guarded t.at.0
 
 -- or isn't
-abbrev pub IsQuiet : {b : ℕ} → List Run → Target b → Type 0
+abbrev pub IsQuiet : {b : ℕ} → List TracedRun → Target b → Type 0
 IsQuiet guarded t = Differs t × ¬ IsIn guarded t.at.0
 
 -- a target of this kind
@@ -35,10 +35,10 @@ abbrev pub IsOfKind : {b : ℕ} → TargetKind → Target b → Type 0
 IsOfKind kind t = t.kind ≡ kind
 
 -- a new label that isn't read there already
-abbrev pub IsUnreadNew : {b : ℕ} → List Run → Target b → Type 0
+abbrev pub IsUnreadNew : {b : ℕ} → List TracedRun → Target b → Type 0
 IsUnreadNew guarded t = (t.kind ≡ New) × ¬ ((t.bytes ≡ t.under) × IsIn guarded t.at.0)
 
-abbrev pub IsChosen : {b : ℕ} → Choice → List Run → Target b → Type 0
+abbrev pub IsChosen : {b : ℕ} → Choice → List TracedRun → Target b → Type 0
 IsChosen UnreadNew guarded t = IsUnreadNew guarded t
 IsChosen Quiet guarded t = IsQuiet guarded t
 

@@ -12,7 +12,7 @@ use Rattle.pt_sector.specs.Ascending.{IsAscending}
 use Rattle.pt_apply.specs.Plans.{writes_of, PhaseInRange}
 use Rattle.pt_apply.specs.declared.plan.Write.{Write}
 use Rattle.pt_recover.specs.Spans.{InRun, IsIn}
-use Rattle.pt_recover.specs.declared.trace.Run.{Run}
+use Rattle.pt_recover.specs.declared.trace.TracedRun.{TracedRun}
 use Rattle.pt_cases.specs.Copies.{one_write}
 use Rattle.pt_apply.specs.laws.Puts.{puts_split, puts_left, puts_right}
 use Rattle.pt_cases.specs.Targets.{ComesToHold}
@@ -24,7 +24,7 @@ use Rattle.pt_targets.specs.declared.split.Split.TheVariants.{NotOne, One}
 use Rattle.pt_targets.specs.declared.target.Target.{Target}
 
 -- on each disk of which they tell, these are the writes that are left; or not one of them is of a guarded sector
-abbrev pub SplitIs : {b : ℕ} → List Run → List (Target b) → Split b → Type 0
+abbrev pub SplitIs : {b : ℕ} → List TracedRun → List (Target b) → Split b → Type 0
 SplitIs guarded ts NotOne = NotOneLoud guarded ts
 SplitIs guarded ts (One quiet loud) =
     (d : Sectors) → TellDisk d ts → IsSplit d guarded ts (writes_of quiet.items) (loud.lba.0, loud.bytes)
@@ -36,14 +36,14 @@ same_or_not xs ys = by_test (bytes_eq xs ys) (bytes_eq-Decides xs ys) where
   by_test true says = inl (says.0 refl)
   by_test false says = inr (λ is. (let no : false ≡ true = says.1 is in absurd cc))
 
-in_run_or_not : (r : Run) (s : ℕ) → InRun r s ⊎ ¬ InRun r s
+in_run_or_not : (r : TracedRun) (s : ℕ) → InRun r s ⊎ ¬ InRun r s
 in_run_or_not r s = ⊎_elim
     (λ below. inr (λ is. omega (arith, below, is.0)))
     (λ from. ⊎_elim (λ above. inr (λ is. omega (arith, above, is.1))) (λ to. inl (from, to)) (cases_lt r.last s))
     (cases_lt s r.first)
 
 -- a sector is in some runs, or not
-pub in_or_not : (rs : List Run) (s : ℕ) → IsIn rs s ⊎ ¬ IsIn rs s
+pub in_or_not : (rs : List TracedRun) (s : ℕ) → IsIn rs s ⊎ ¬ IsIn rs s
 unfolding IsIn
 in_or_not [] s = inr (λ no. no)
 in_or_not (r ∷ rs) s = ⊎_elim
@@ -51,7 +51,7 @@ in_or_not (r ∷ rs) s = ⊎_elim
     (λ not. ⊎_elim (λ there. inl (inr there)) (λ never. inr (λ is. ⊎_elim not never is)) (in_or_not rs s))
     (in_run_or_not r s)
 
-module _ {b : ℕ} (guarded : List Run) (ts : List (Target b)) (up : IsAscending (targeted ts)) where
+module _ {b : ℕ} (guarded : List TracedRun) (ts : List (Target b)) (up : IsAscending (targeted ts)) where
   -- quiet writes and a loud one are a split
   pub split_one : (quiet : Writes) (loud : ℕ × List ℕ) → Selects (IsLoud guarded) ts (loud ∷ []) → Selects (IsQuiet guarded) ts quiet
       → (d : Sectors) → TellDisk d ts → IsSplit d guarded ts quiet loud
@@ -112,7 +112,7 @@ module _ {b : ℕ} (ts : List (Target b)) (up : IsAscending (targeted ts)) where
     stays = λ t has same. selected_not Differs ts (loud ∷ []) up l t has (λ is. is same);
   })
 
-pub loud_not_one : {b : ℕ} (guarded : List Run) (ts : List (Target b)) → NotAlone (IsLoud guarded) ts → NotOneLoud guarded ts
+pub loud_not_one : {b : ℕ} (guarded : List TracedRun) (ts : List (Target b)) → NotAlone (IsLoud guarded) ts → NotOneLoud guarded ts
 loud_not_one guarded ts (inl none) = inl (λ t change is. none t change.0 (change.1, is))
 loud_not_one guarded ts (inr two) =
     inr (two.one, two.other, (two.has_one, two.one_is.0), (two.has_other, two.other_is.0), two.one_is.1, two.other_is.1, two.less)

@@ -13,7 +13,7 @@ use Rattle.pt_mbr.specs.Extended.{extended_of, extent_of}
 use Rattle.pt_recover.specs.Spans.{IsIn}
 use Rattle.pt_members.specs.declared.layout.Layout.{Layout}
 use Rattle.pt_members.specs.declared.layout.Slice.{Slice}
-use Rattle.pt_recover.specs.declared.trace.Run.{Run}
+use Rattle.pt_recover.specs.declared.trace.TracedRun.{TracedRun}
 use Rattle.pt_cases.specs.Copies.{one_write}
 use Rattle.pt_shape.specs.Links.{link_to}
 use Rattle.pt_cases.specs.Records.{IsHeadTarget, IsEbrTarget}
@@ -107,7 +107,8 @@ abbrev pub IsChange : {b : _} → List (Target b) → Target b → Type 0
 IsChange ts t = Contains ts t × (t.bytes ≢ t.under)
 
 -- the writes that are left of some targets: those that aren't met yet. All but one are of sectors that aren't among these
-pub record IsSplit {b : _} (d : Sectors) (guarded : List Run) (ts : List (Target b)) (quiet : Writes) (loud : ℕ × List ℕ) : Type 0 where
+pub record IsSplit {b : _} (d : Sectors) (guarded : List TracedRun) (ts : List (Target b)) (quiet : Writes)
+    (loud : ℕ × List ℕ) : Type 0 where
   pub ascending : IsAscending quiet
   pub few : length quiet ≤ length ts
   pub unread : (s : ℕ) (v : List ℕ) → Puts quiet s v → ¬ IsIn guarded s
@@ -118,7 +119,7 @@ pub record IsSplit {b : _} (d : Sectors) (guarded : List Run) (ts : List (Target
   pub stays : (t : Target b) → Contains ts t → t.bytes ≡ t.under → (x : List ℕ) → ¬ Puts (quiet ++ one_write loud.0 loud.1) t.at.0 x
 
 -- none, or two, of the sectors that change are among these
-abbrev pub NotOneLoud : {b : _} → List Run → List (Target b) → Type 0
+abbrev pub NotOneLoud : {b : _} → List TracedRun → List (Target b) → Type 0
 NotOneLoud guarded ts =
     ((t : Target _) → IsChange ts t → ¬ IsIn guarded t.at.0)
     ⊎ ((t u : Target _) × IsChange ts t × IsChange ts u × IsIn guarded t.at.0 × IsIn guarded u.at.0 × (t.at.0 < u.at.0))
@@ -139,7 +140,7 @@ NotOneChange ts =
     ⊎ ((t u : Target _) × IsChange ts t × IsChange ts u × (t.at.0 < u.at.0))
 
 -- the new labels that aren't read there already, in the order of their sectors
-pub record AreNewWrites {b : _} (guarded : List Run) (ts : List (Target b)) (ws : Writes) : Type 0 where
+pub record AreNewWrites {b : _} (guarded : List TracedRun) (ts : List (Target b)) (ws : Writes) : Type 0 where
   pub ascending : IsAscending ws
   pub few : length ws ≤ length ts
   pub each : (s : ℕ) (v : List ℕ) → Puts ws s v

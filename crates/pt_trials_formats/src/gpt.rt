@@ -1,6 +1,6 @@
 ghost use Rattle.std.specs.Prelude.{◌≡◌, ◌<◌, ◌≤◌, ◌+◌, ◌*◌, length, IfOk};
 ghost use Rattle.pt_sector.specs.Sectors.{IsSectorSize};
-ghost use Rattle.pt_gpt.specs.Array.{array_len};
+ghost use Rattle.pt_gpt.specs.Array.{HasRoom};
 ghost use Rattle.pt_gpt.specs.Entry.{IsTyped};
 
 use pt_gpt::laws::{entry_reads_back, header_reads_back};
@@ -42,7 +42,7 @@ fn header_of<const B: usize>(
     count: u32,
 ) -> Header
     requires size { IsSectorSize B }
-    requires room { 2 * array_len B + 4 ≤ sectors }
+    requires room { HasRoom B sectors }
 {
     let other = if side == Side::Primary {
         Side::Backup

@@ -1,7 +1,7 @@
 ghost use Rattle.std.specs.Prelude.{◌≡◌, ◌+◌, ◌*◌, ◌≤◌, length, IfOk};
 ghost use Rattle.pt_sector.specs.Sectors.{IsSectorSize};
 ghost use Rattle.pt_apply.specs.Plans.{PhaseInRange};
-ghost use Rattle.pt_gpt.specs.Array.{array_len};
+ghost use Rattle.pt_gpt.specs.Array.{HasRoom};
 
 use pt_apply::{Plan, Write};
 use pt_copies::{backup_first, fits_table, from_mbr, primary_first, protected_head, protecting};
@@ -78,7 +78,7 @@ fn without_primary<const B: usize>(
     sectors: u64,
 ) -> Result<[(usize, u64); 5], AllocError>
     requires size { IsSectorSize B }
-    requires room { 2 * array_len B + 4 ≤ sectors }
+    requires room { HasRoom B sectors }
 {
     let table = table::<B>(alloc, sectors)?;
     let last = protecting(sectors, &[0; B]);
@@ -93,7 +93,7 @@ fn with_primary<const B: usize>(
     labels: Vec<Write<B>>,
 ) -> Result<[(usize, u64); 5], AllocError>
     requires size { IsSectorSize B }
-    requires room { 2 * array_len B + 4 ≤ sectors }
+    requires room { HasRoom B sectors }
     requires range { PhaseInRange sectors labels.items }
 {
     let table = table::<B>(alloc, sectors)?;
@@ -108,7 +108,7 @@ fn with_two_labels<const B: usize>(
     sectors: u64,
 ) -> Result<[(usize, u64); 5], AllocError>
     requires size { IsSectorSize B }
-    requires room { 2 * array_len B + 4 ≤ sectors }
+    requires room { HasRoom B sectors }
     requires many { 256 ≤ sectors }
 {
     let two = labels::<B>(alloc, sectors)?;
@@ -118,7 +118,7 @@ fn with_two_labels<const B: usize>(
 /// The plan with no labels from an MBR disk.
 fn with_mbr<const B: usize>(alloc: Global, sectors: u64) -> Result<[(usize, u64); 5], AllocError>
     requires size { IsSectorSize B }
-    requires room { 2 * array_len B + 4 ≤ sectors }
+    requires room { HasRoom B sectors }
 {
     let table = table::<B>(alloc, sectors)?;
     let head = protected_head(sectors, &[0; B]);
@@ -133,7 +133,7 @@ fn outlines<const B: usize>(
     sectors: u64,
 ) -> Result<[[(usize, u64); 5]; 4], AllocError>
     requires size { IsSectorSize B }
-    requires room { 2 * array_len B + 4 ≤ sectors }
+    requires room { HasRoom B sectors }
     requires many { 256 ≤ sectors }
 {
     Ok([

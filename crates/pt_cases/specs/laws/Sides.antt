@@ -5,7 +5,7 @@ use Rattle.std.proofs.lemmas.Bool.{cases_order}
 use Rattle.pt_sector.specs.Sectors.{Sectors, sector, IsSectorSize}
 use Rattle.pt_sector.specs.Writes.{Writes, Puts, written}
 use Rattle.pt_sector.specs.laws.Written.{written-append, length-written}
-use Rattle.pt_gpt.specs.Array.{array_len, array_sector, counted, AllFit}
+use Rattle.pt_gpt.specs.Array.{array_len, array_sector, counted, AllFit, HasRoom}
 use Rattle.pt_gpt.specs.Copy.{header_place, array_place, CopyWith, IsPlaced}
 use Rattle.pt_gpt.specs.Header.{HeaderBytes}
 use Rattle.pt_gpt.specs.laws.Written.{written_is_copy_lem}
@@ -91,14 +91,14 @@ array_there b es at (suc k) j d lt room =
     (λ less. array_there b es at k j d less (omega (arith, room)))
 
 -- the backup's writes are of the last sectors
-pub puts_backup : (b n : ℕ) (t : Table) (header : List ℕ) (s : ℕ) (v : List ℕ) → 2 * array_len b + 4 ≤ n
+pub puts_backup : (b n : ℕ) (t : Table) (header : List ℕ) (s : ℕ) (v : List ℕ) → HasRoom b n
     → Puts (backup_phase b n t header) s v → (n - (array_len b + 1) ≤ s) × (s < n)
 puts_backup b n t header s v room puts = ⊎_elim
     (λ array. let is = puts_array b t.entries (n - (array_len b + 1)) (array_len b) s v array in (is.low, omega (arith, is.high, room)))
     (λ last. let is = one_is (n - 1) s header v last in (omega (arith, is, room), omega (arith, is, room)))
     (puts_split (array_phase b n t Backup) (one_write (n - 1) header) s v puts)
 
-module _ (b n : ℕ) (t : Table) (header : List ℕ) (e : Sectors) (count : length e ≡ n) (room : 2 * array_len b + 4 ≤ n) where
+module _ (b n : ℕ) (t : Table) (header : List ℕ) (e : Sectors) (count : length e ≡ n) (room : HasRoom b n) where
   abbrev backed : Sectors
   backed = written (backup_phase b n t header) e
 

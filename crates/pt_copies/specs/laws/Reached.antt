@@ -3,7 +3,7 @@ use Rattle.std.proofs.Common.{◌≡◌, ◌⊎◌, inl, inr, ⊎_elim, ℕ, ◌
 use Rattle.std.proofs.Common.{Some, None}
 use Rattle.pt_sector.specs.Writes.{Writes, Puts}
 use Rattle.pt_mbr.specs.Protective.{IsProtective}
-use Rattle.pt_gpt.specs.Array.{array_len}
+use Rattle.pt_gpt.specs.Array.{array_len, HasRoom}
 use Rattle.pt_gpt.specs.declared.table.Side.TheVariants.{Primary}
 use Rattle.pt_gpt.specs.declared.table.Table.{Table}
 use Rattle.pt_apply.specs.Plans.{writes_in}
@@ -23,7 +23,7 @@ pub array_reached : (b n : ℕ) (t : Table) (s : ℕ) (v : List ℕ) → Puts (a
 array_reached b n t s v puts =
     let is = puts_array b t.entries 2 (array_len b) s v puts in (omega (arith, is.low), inl (omega (arith, is.high)))
 
-pub backup_reached : (b n : ℕ) (t : Table) (header : List ℕ) (s : ℕ) (v : List ℕ) → 2 * array_len b + 4 ≤ n
+pub backup_reached : (b n : ℕ) (t : Table) (header : List ℕ) (s : ℕ) (v : List ℕ) → HasRoom b n
     → Puts (backup_phase b n t header) s v → IsOfCopy b n s
 backup_reached b n t header s v room puts =
     let is = puts_backup b n t header s v room puts in
@@ -31,7 +31,7 @@ backup_reached b n t header s v room puts =
     (omega (arith, low, room), inr (omega (arith, low), is.1))
 
 -- what is written before the switch: where a primary copy stands, where none stands, and on an MBR disk
-pub labels_and_backup_reached : (b n : ℕ) (t : Table) (backup : List ℕ) (labels : Writes) (s : ℕ) (v : List ℕ) → 2 * array_len b + 4 ≤ n
+pub labels_and_backup_reached : (b n : ℕ) (t : Table) (backup : List ℕ) (labels : Writes) (s : ℕ) (v : List ℕ) → HasRoom b n
     → Puts (labels_and_backup b n t backup labels) s v → Reaches b n labels s v
 labels_and_backup_reached b n t backup labels s v room puts = ⊎_elim
     (λ label. inr label)
@@ -53,7 +53,7 @@ closing_reached b n t labels s v puts = ⊎_elim
     (puts_split (closing b) (primary_and_labels b n t labels) s v puts)
 
 pub copies_and_labels_reached : (b n : ℕ) (t : Table) (primary backup : List ℕ) (labels : Writes) (s : ℕ) (v : List ℕ)
-    → 2 * array_len b + 4 ≤ n → Puts (copies_and_labels b n t primary backup labels) s v → Reaches b n labels s v
+    → HasRoom b n → Puts (copies_and_labels b n t primary backup labels) s v → Reaches b n labels s v
 copies_and_labels_reached b n t primary backup labels s v room puts = ⊎_elim
     (λ header. inl (header_reached b n s primary v header))
     (λ rest. ⊎_elim
@@ -64,7 +64,7 @@ copies_and_labels_reached b n t primary backup labels s v room puts = ⊎_elim
 
 -- what all phases write, the last one aside
 pub backup_first_reached : (b n : ℕ) (t : Table) (primary backup : List ℕ) (labels : Writes) (last : List Writes) (s : ℕ) (v : List ℕ)
-    → 2 * array_len b + 4 ≤ n → Puts (writes_in (backup_first_phases b n t primary backup labels last)) s v
+    → HasRoom b n → Puts (writes_in (backup_first_phases b n t primary backup labels last)) s v
     → Puts (writes_in last) s v ⊎ Reaches b n labels s v
 backup_first_reached b n t primary backup labels last s v room puts =
     let h : Writes = one_write 1 primary in
@@ -81,7 +81,7 @@ backup_first_reached b n t primary backup labels last s v room puts =
     (puts_split (labels_and_backup b n t backup labels) (writes_in (closing b ∷ P ∷ h ∷ last)) s v puts)
 
 pub primary_first_reached : (b n : ℕ) (t : Table) (primary backup : List ℕ) (labels : Writes) (last : List Writes) (s : ℕ) (v : List ℕ)
-    → 2 * array_len b + 4 ≤ n → Puts (writes_in (primary_first_phases b n t primary backup labels last)) s v
+    → HasRoom b n → Puts (writes_in (primary_first_phases b n t primary backup labels last)) s v
     → Puts (writes_in last) s v ⊎ Reaches b n labels s v
 primary_first_reached b n t primary backup labels last s v room puts =
     let h : Writes = one_write 1 primary in
@@ -112,7 +112,7 @@ protects_reached n old last s v (inr (not_yet, (new, from, one))) puts =
     ((last_reached (Some new) s v (subst (λ (ps : List Writes). Puts (writes_in ps) s v) one puts)).0, not_yet)
 
 pub from_mbr_reached : (b n : ℕ) (t : Table) (primary backup : List ℕ) (labels : Writes) (head : List ℕ) (s : ℕ) (v : List ℕ)
-    → 2 * array_len b + 4 ≤ n → Puts (writes_in (from_mbr_phases b n t primary backup labels head)) s v
+    → HasRoom b n → Puts (writes_in (from_mbr_phases b n t primary backup labels head)) s v
     → ((s ≡ 0) × (v ≡ head)) ⊎ Reaches b n labels s v
 from_mbr_reached b n t primary backup labels head s v room puts = ⊎_elim
     (λ front. inr (copies_and_labels_reached b n t primary backup labels s v room front))
@@ -120,7 +120,7 @@ from_mbr_reached b n t primary backup labels head s v room puts = ⊎_elim
     (puts_split (copies_and_labels b n t primary backup labels) (writes_in (one_write 0 head ∷ [])) s v puts)
 
 -- all of it is on the disk, if the labels are
-pub reaches_below : (b n : ℕ) (labels : Writes) (s : ℕ) (v : List ℕ) → 2 * array_len b + 4 ≤ n
+pub reaches_below : (b n : ℕ) (labels : Writes) (s : ℕ) (v : List ℕ) → HasRoom b n
     → ((k : ℕ) (x : List ℕ) → Puts labels k x → k < n) → Reaches b n labels s v → s < n
 reaches_below b n labels s v room below (inl (some, inl low)) = omega (arith, low, room)
 reaches_below b n labels s v room below (inl (some, inr high)) = high.1

@@ -14,7 +14,7 @@ use Rattle.pt_mbr.specs.Extended.{extended_of, extent_of}
 use Rattle.pt_recover.specs.Spans.{IsIn}
 use Rattle.pt_members.specs.declared.layout.Layout.{Layout}
 use Rattle.pt_members.specs.declared.layout.Slice.{Slice}
-use Rattle.pt_recover.specs.declared.trace.Run.{Run}
+use Rattle.pt_recover.specs.declared.trace.TracedRun.{TracedRun}
 use Rattle.pt_shape.specs.laws.Along.{along_map}
 use Rattle.pt_cases.specs.Records.{IsHeadTarget, EbrsEnd, ChainEnds}
 use Rattle.pt_cases.specs.Targets.{IsEncoded, IsLabelTarget, kept, changed, new, ComesToHold, Met, LabelsMet, stood, set, there, Set}
@@ -80,7 +80,7 @@ module _ {b : ℕ} (d : Sectors) (old : List Ebr) (ws : Writes) (ts among : List
     chain_ends (extended_of records) chain are.ebrs,
   )
 
-module _ {b : ℕ} (d : Sectors) (o : Option Layout) (p : Layout) (ts sorted : List (Target b)) (guarded : List Run) (ws : Writes)
+module _ {b : ℕ} (d : Sectors) (o : Option Layout) (p : Layout) (ts sorted : List (Target b)) (guarded : List TracedRun) (ws : Writes)
     (are : AreLabelTargets d o p ts) (order : InSectorOrder ts sorted) (settled : (t : Target b) → Contains ts t → ¬ (t.kind ≡ Changes))
     (reads : (s : ℕ) → IsPlace (places_of b p.sectors p.body) s → (Reads b d s ↔ IsIn guarded s))
     (news : AreNewWrites guarded sorted ws) where

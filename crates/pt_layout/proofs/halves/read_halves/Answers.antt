@@ -10,7 +10,7 @@ use Rattle.pt_gpt.specs.declared.table.Side.TheVariants.{Primary, Backup}
 use Rattle.pt_gpt.specs.Array.{HasRoom}
 use Rattle.pt_recover.specs.Gpt.{TableReads}
 use Rattle.pt_recover.specs.Spans.{Adds}
-use Rattle.pt_recover.specs.declared.trace.Run.{Run}
+use Rattle.pt_recover.specs.declared.trace.TracedRun.{TracedRun}
 use Rattle.pt_recover.proofs.Sides.{primary_read, both_read}
 use Rattle.pt_layout.specs.declared.halves.Half.{Half}
 use Rattle.pt_layout.specs.Halves.{HalfOrFault, HalvesAre, paired_as}
@@ -18,7 +18,7 @@ use Rattle.pt_layout.proofs.Failing.{BothReads}
 use Rattle.pt_layout.proofs.halves.read_halves.Goals as goal
 
 -- the sectors of the backup side count where there is no primary copy
-table_reads : (b : ℕ) (d : Sectors) (p : Result Half CopyError) (old mid new : List Run) → HasRoom b (length d)
+table_reads : (b : ℕ) (d : Sectors) (p : Result Half CopyError) (old mid new : List TracedRun) → HasRoom b (length d)
     → HalfOrFault b d Primary p → Adds old mid (SideReads b d Primary) → (is_err p ≡ true → Adds mid new (SideReads b d Backup))
     → (is_err p ≡ false → new ≡ mid) → Adds old new (TableReads b d)
 table_reads b d (Ok h) old mid new room half first second same =

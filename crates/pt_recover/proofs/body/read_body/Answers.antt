@@ -9,19 +9,19 @@ use Rattle.pt_recover.specs.Steps.{RestReads}
 use Rattle.pt_recover.specs.Denotes.{BodyIs, BodyReads}
 use Rattle.pt_recover.specs.Spans.{Adds}
 use Rattle.pt_recover.specs.declared.error.NoTable.{NoTable}
-use Rattle.pt_recover.specs.declared.trace.Run.{Run}
+use Rattle.pt_recover.specs.declared.trace.TracedRun.{TracedRun}
 use Rattle.pt_recover.proofs.Bodies.{some_sector, body_read, body_read_or}
 use Rattle.pt_recover.proofs.Failed.{body_failed}
 use Rattle.pt_recover.proofs.body.read_body.Goals as goal
 
 -- what the rest of a disk gives after sector 0, with another disk's value for what was seen
-traced_rest : {A E : Type 0} (b : ℕ) (d : Sectors) (t : Told) (old mid new : List Run) (r : Result A E) → 0 < length d → t.seen ≡ d
+traced_rest : {A E : Type 0} (b : ℕ) (d : Sectors) (t : Told) (old mid new : List TracedRun) (r : Result A E) → 0 < length d → t.seen ≡ d
     → Adds old mid (λ s. s ≡ 0)
     → OnOk r (Adds mid new (RestReads b t.seen)) → OnOk r (Adds old new (BodyReads b d))
 traced_rest b d t old mid new r some same first =
     on_ok_weaker r (λ adds. body_read b d old mid new some first (subst (λ (e : Sectors). Adds mid new (RestReads b e)) same adds))
 
-traced_err_rest : {A : Type 0} (b : ℕ) (d : Sectors) (t : Told) (old mid new : List Run) (r : Result A NoTable) → 0 < length d
+traced_err_rest : {A : Type 0} (b : ℕ) (d : Sectors) (t : Told) (old mid new : List TracedRun) (r : Result A NoTable) → 0 < length d
     → t.seen ≡ d → Adds old mid (λ s. s ≡ 0)
     → IfErr r (λ e. IsOutsideDisk e ⊎ Adds mid new (RestReads b t.seen)) → IfErr r (λ e. IsOutsideDisk e ⊎ Adds old new (BodyReads b d))
 traced_err_rest b d t old mid new r some same first =

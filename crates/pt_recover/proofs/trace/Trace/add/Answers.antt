@@ -1,7 +1,7 @@
 use Rattle.std.proofs.Common.{subst, sym, List, ap, ◌∙◌, inl, inr}
 use Rattle.std.specs.Prelude.{◌⊎◌, ◌↔◌}
 use Rattle.pt_recover.specs.Spans.{InRun, IsIn, joined}
-use Rattle.pt_recover.specs.declared.trace.Run.{Run}
+use Rattle.pt_recover.specs.declared.trace.TracedRun.{TracedRun}
 use Rattle.pt_recover.proofs.Joined.{in_joined}
 use Rattle.pt_recover.proofs.trace.Trace.add.Goals as goal
 
@@ -10,6 +10,7 @@ either h = (λ p. elim (h.0 p) [ inl q ↦ inr q | inr r ↦ inl r ], λ x. elim
 
 pub returns : goal.returns
 returns c =
-    let one : Run = record { first = c.args.first; last = c.args.last } in
+    let one : TracedRun = record { first = c.args.first; last = c.args.last } in
     let same = c.in_ok-join.ensures.ok ∙ ap (joined one) c.self.view_is in
-    λ s. subst (λ (l : List Run). IsIn l s ↔ (IsIn c.args.self.now s ⊎ InRun one s)) (sym same) (either (in_joined one c.args.self.now s))
+    λ s. subst (λ (l : List TracedRun). IsIn l s ↔ (IsIn c.args.self.now s ⊎ InRun one s)) (sym same)
+    (either (in_joined one c.args.self.now s))
