@@ -9,7 +9,7 @@ use pt_layout::Path;
 use pt_sector::{Failure, Lba};
 
 /// How a call ends. The first seven are the exit statuses of the command.
-#[derive(Clone, Copy, Debug, PartialEq, Eq)]
+#[derive(Clone, Copy)]
 pub enum Status {
     /// Done, or yes.
     Done,
@@ -51,7 +51,7 @@ impl Status {
 }
 
 /// What the number of a reply is of.
-#[derive(Clone, Copy, Debug, PartialEq, Eq)]
+#[derive(Clone, Copy)]
 pub enum About {
     Nothing,
     /// An argument: 1 the sector's size, 2 the view, 3 the path, 4 the random bytes, 5 no words or words that are not
@@ -93,7 +93,7 @@ impl About {
 
 /// What a caller gets beside the status.
 #[repr(C)]
-#[derive(Clone, Copy, Debug, PartialEq, Eq)]
+#[derive(Clone, Copy)]
 pub struct Reply {
     /// The sector that is wanted, or the one that was located.
     pub sector: u64,
@@ -112,7 +112,7 @@ pub struct Reply {
 }
 
 /// A status with its reply.
-#[derive(Clone, Copy, Debug, PartialEq, Eq)]
+#[derive(Clone, Copy)]
 pub struct Answer {
     pub status: Status,
     pub reply: Reply,

@@ -12,7 +12,7 @@ use std::io::Read;
 use std::test::Fail;
 
 /// What a comparison on files says.
-#[derive(Clone, Copy, Debug, PartialEq, Eq)]
+#[derive(Clone, Copy)]
 pub enum Said {
     /// All answers are the same.
     Same,

@@ -11,7 +11,7 @@ use crate::spot::{Spot, first_of};
 use pt_members::{Layout, Member, exists};
 
 /// What may be wrong with a member.
-#[derive(Clone, Copy, Debug, PartialEq, Eq)]
+#[derive(Clone, Copy)]
 pub enum Fault {
     /// It doesn't exist, or isn't in what holds it.
     Outside,

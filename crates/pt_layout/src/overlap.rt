@@ -7,7 +7,7 @@ use pt_path::Path;
 use std::alloc::AllocError;
 
 /// Two members that share a sector.
-#[derive(Clone, Copy, Debug, PartialEq, Eq)]
+#[derive(Clone, Copy)]
 pub struct Overlap {
     pub before: Path,
     pub it: Path,

@@ -6,7 +6,7 @@ ghost use Rattle.pt_layout.specs.Spots.{SpotIsBefore, FirstSpotIs};
 use pt_path::Path;
 
 /// A member by its path, and a sector.
-#[derive(Clone, Copy, Debug, PartialEq, Eq)]
+#[derive(Clone, Copy)]
 pub struct Spot {
     pub path: Path,
     pub lba: u64,

@@ -5,7 +5,7 @@ use Rattle.std.specs.Borrow.{Bor}
 use Rattle.std.specs.declared.alloc.Global.{Global}
 use Rattle.clap.specs.Walk.{texts}
 use Rattle.clap.specs.Words.{App, IsAmong, Kinds, Row, Rule, Text, all_of, app_of, fault_of, first_of, rule_of}
-use Rattle.clap.specs.Words.{subcommand_of, with_subcommand}
+use Rattle.clap.specs.Words.{subcommand_of, with_rule, with_subcommand}
 use Rattle.clap.specs.declared.builder.arg.Arg.{Arg}
 use Rattle.clap.specs.declared.builder.command.Command.{Command}
 use Rattle.clap.specs.declared.builder.command.Command.TheViews.{out-Command}
@@ -29,6 +29,11 @@ pub record IsArg (r : Rule) (a : Arg) : Type 0 where
 pub record IsCommand (a : App) (c : Command) : Type 0 where
   pub app : app_of c ≡ a
   pub local : (out-Command c).has_globals ≡ false
+
+-- where a page was made, it has one more argument, behind its others
+abbrev pub TakesArg : {E : Type 0} → Result Command E → Arg → Result Command E → Type 0
+TakesArg page arg made =
+    IfOk made (λ c. (a : App) (r : Rule) → IfOk page (IsCommand a) → IsArg r arg → IsCommand (with_rule a r) c)
 
 -- where a page was made, it comes behind the command's others
 abbrev pub AddsPage : {E : Type 0} → Command → Result Command E → Result Command E → Type 0

@@ -6,7 +6,8 @@ ghost use Rattle.clap.specs.Walk.{texts as slice_texts};
 ghost use Rattle.clap.specs.Words.{found_of, kind_of, new_app, rows_of, subcommand_rows_of};
 ghost use Rattle.pt_line.specs.CommandLine as spec;
 ghost use Rattle.pt_line.specs.declared.line.LineError.TheVariants.{Memory};
-ghost use Rattle.pt_line.specs.Lines.{AddsPage, GivesIf, IfJob, IsArg, IsCommand, IsSizeNamed, IsSizeOrLess, Means, MeansJob, Tells};
+ghost use Rattle.pt_line.specs.Lines.{AddsPage, GivesIf, IfJob, IsArg, IsCommand, IsSizeNamed, IsSizeOrLess, Means, MeansJob, TakesArg};
+ghost use Rattle.pt_line.specs.Lines.{Tells};
 ghost use Rattle.pt_line.specs.Lines.{text_in, texts_in};
 
 use crate::help::{
@@ -166,6 +167,16 @@ fn top<'a>(alloc: Global) -> Command<'a>
         .subcommand_required(true)
 }
 
+/// A page with one more argument, where it was made.
+fn with_arg<'a>(
+    page: Result<Command<'a>, AllocError>,
+    arg: Arg<'a>,
+) -> Result<Command<'a>, AllocError>
+    ensures { TakesArg page.entry arg.entry result }
+{
+    page?.arg(arg)
+}
+
 fn on_image<'a>(
     alloc: Global,
     sizes: &'a [&'a str],
@@ -175,9 +186,8 @@ fn on_image<'a>(
 ) -> Result<Command<'a>, AllocError>
     ensures { IfOk result (IsCommand (spec.page name.entry.now (spec.image_rules sizes.entry))) }
 {
-    page(alloc, name, about, after)
-        .arg(image(alloc))?
-        .arg(sector_size(alloc, sizes))
+    let page = with_arg(Ok(page(alloc, name, about, after)), image(alloc));
+    with_arg(page, sector_size(alloc, sizes))
 }
 
 fn on_place<'a>(
@@ -189,11 +199,13 @@ fn on_place<'a>(
 ) -> Result<Command<'a>, AllocError>
     ensures { IfOk result (IsCommand (spec.page name.entry.now (spec.place_rules sizes.entry))) }
 {
-    page(alloc, name, about, after)
-        .arg(image(alloc))?
-        .arg(needed(alloc, "PATH", "A partition, as 3, 5 or 2.a"))?
-        .arg(needed(alloc, "K", "A sector of the partition, from 0 on"))?
-        .arg(sector_size(alloc, sizes))
+    let page = with_arg(Ok(page(alloc, name, about, after)), image(alloc));
+    let page = with_arg(page, needed(alloc, "PATH", "A partition, as 3, 5 or 2.a"));
+    let page = with_arg(
+        page,
+        needed(alloc, "K", "A sector of the partition, from 0 on"),
+    );
+    with_arg(page, sector_size(alloc, sizes))
 }
 
 fn on_words<'a>(
@@ -205,11 +217,10 @@ fn on_words<'a>(
 ) -> Result<Command<'a>, AllocError>
     ensures { IfOk result (IsCommand (spec.page name.entry.now (spec.word_rules sizes.entry))) }
 {
-    page(alloc, name, about, after)
-        .arg(image(alloc))?
-        .arg(fresh(alloc))?
-        .arg(sector_size(alloc, sizes))?
-        .arg(words(alloc))
+    let page = with_arg(Ok(page(alloc, name, about, after)), image(alloc));
+    let page = with_arg(page, fresh(alloc));
+    let page = with_arg(page, sector_size(alloc, sizes));
+    with_arg(page, words(alloc))
 }
 
 fn on_plan<'a>(
@@ -221,10 +232,9 @@ fn on_plan<'a>(
 ) -> Result<Command<'a>, AllocError>
     ensures { IfOk result (IsCommand (spec.page name.entry.now (spec.plan_rules sizes.entry))) }
 {
-    page(alloc, name, about, after)
-        .arg(image(alloc))?
-        .arg(plan_file(alloc))?
-        .arg(sector_size(alloc, sizes))
+    let page = with_arg(Ok(page(alloc, name, about, after)), image(alloc));
+    let page = with_arg(page, plan_file(alloc));
+    with_arg(page, sector_size(alloc, sizes))
 }
 
 /// The command with one more page, where that was made.

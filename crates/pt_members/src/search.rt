@@ -13,7 +13,7 @@ use pt_path::Path;
 use pt_sector::Lba;
 
 /// What a search looks for.
-#[derive(Clone, Copy, Debug, PartialEq, Eq)]
+#[derive(Clone, Copy)]
 pub enum Wanted {
     /// A leaf that has this sector.
     LeafWith(Lba),
