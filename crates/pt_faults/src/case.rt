@@ -11,7 +11,7 @@ use std::alloc::Global;
 use std::test::Fail;
 
 /// What words do.
-#[derive(Clone, Copy, Debug, PartialEq, Eq)]
+#[derive(Clone, Copy)]
 pub enum Kind {
     /// An entry of a GPT gets a name.
     Name,
@@ -24,7 +24,7 @@ pub enum Kind {
 }
 
 /// How large the disk is.
-#[derive(Clone, Copy, Debug, PartialEq, Eq)]
+#[derive(Clone, Copy)]
 pub enum Size {
     /// 4,096 sectors or more.
     Large,

@@ -12,7 +12,7 @@ use std::alloc::{AllocError, Global};
 use std::test::Fail;
 
 /// A call that fails, counted from 1, whether a write that fails reads as written, and which of three stops follows.
-#[derive(Clone, Copy, Debug, PartialEq, Eq)]
+#[derive(Clone, Copy, Debug)]
 pub struct Stop {
     pub call: u64,
     pub kept: bool,
@@ -20,7 +20,7 @@ pub struct Stop {
 }
 
 /// What is chosen for the sectors with pending writes.
-#[derive(Clone, Copy, Debug, PartialEq, Eq)]
+#[derive(Clone, Copy, Debug)]
 pub enum Way {
     /// What is durable.
     Oldest,

@@ -12,7 +12,7 @@ use std::io;
 use std::io::Write;
 
 /// How a run of the command ends, as its exit status says.
-#[derive(Clone, Copy, Debug, PartialEq, Eq)]
+#[derive(Clone, Copy)]
 pub enum Status {
     /// Done, or yes.
     Done,
@@ -46,7 +46,7 @@ impl Status {
 }
 
 /// Why the command ends without an answer: a line on standard error, and a status.
-#[derive(Debug, Drop)]
+#[derive(Drop)]
 pub enum Failure {
     /// `clap`'s text.
     Usage(String),
