@@ -12,31 +12,19 @@ import contextlib
 import copy
 import functools
 import hashlib
-import importlib.machinery
-import importlib.util
 import os
 import queue
-import shutil
 import subprocess
 import sys
 import tempfile
 import threading
 
+import kit
+
 ROOT = os.path.dirname(os.path.dirname(os.path.abspath(__file__)))
 # Measured: a check takes as long before its first proof as so many lines of code take to prove, and each job so much memory, in bytes.
 LINES_OF_A_START = 80
 MEMORY_OF_A_JOB = 1_500_000_000
-
-
-def kit():
-    """The module of the kit's rt, which knows how a crate is proved, and in which order crates are."""
-    file = os.path.realpath(shutil.which("rt"))
-    loader = importlib.machinery.SourceFileLoader("rt", file)
-    made = importlib.util.module_from_spec(importlib.util.spec_from_loader("rt", loader))
-    sys.modules["rt"] = made
-    sys.dont_write_bytecode = True
-    loader.exec_module(made)
-    return made
 
 
 def place_of(crate):
@@ -167,19 +155,15 @@ def prove_all(rt, tops):
 
 def build(names, is_over_ci):
     """Whether each of them is proved and built."""
-    rt = kit()
+    rt = kit.load(ROOT)
     by = rt.Crate.compile_by
     # Rattle's own compiler makes the second build that `rt ci` runs beside LLVM's.
     rt.Crate.compile_by = lambda crate, backend, *more: by(crate, backend, *more) if backend == "llvm" else 0
     # The search for contracts that no call can meet is the gate's: `rt run` and `rt lib` don't make it either.
     told = rt.rtlib.help_of
     rt.rtlib.help_of = lambda word: told(word).replace("--empty-contracts", "")
-    rt.rtlib.Crate = rt.Crate
-    rt.rtlib.guarded()
-    rt.Crate.cuts_libraries = True
     # The kit sums a crate's sources once for each path that leads to it, a minute in all. One sum says as much.
     rt.Crate.stamp = functools.cache(rt.Crate.stamp)
-    rt.Crate.allowed = rt.handles_of(ROOT)
     known = {}
     crates = [rt.Crate(f"{ROOT}/crates/{it}", ROOT, known) for it in names]
     left = [it for it in crates if not is_built(rt, it)]

@@ -74,9 +74,9 @@ impl<const B: usize> FileDisk<B> {
         requires size { 0 < B }
         ensures unfailed { IfOk result (λ disk. disk.failed.items ≡ []) }
     {
-        let file = open_plain(rt, path, access)?;
-        let bytes = match file.metadata() {
-            Ok(found) => found.len(),
+        let mut file = open_plain(rt, path, access)?;
+        let bytes = match file.seek(SeekFrom::End(0)) {
+            Ok(bytes) => bytes,
             Err(_) => return Err(NoFile),
         };
         if bytes >= 1 << 63 {

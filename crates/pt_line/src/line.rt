@@ -168,6 +168,8 @@ fn top<'a>(alloc: Global) -> Command<'a>
 }
 
 /// A page with one more argument, where it was made.
+// A page is large, and a call that isn't inlined copies it.
+#[inline(always)]
 fn with_arg<'a>(
     page: Result<Command<'a>, AllocError>,
     arg: Arg<'a>,
@@ -238,6 +240,7 @@ fn on_plan<'a>(
 }
 
 /// The command with one more page, where that was made.
+#[inline(always)]
 fn with_page<'a>(
     ptab: Command<'a>,
     page: Result<Command<'a>, AllocError>,

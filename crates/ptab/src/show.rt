@@ -2,7 +2,7 @@
 
 ghost use Rattle.std.specs.Prelude.{◌<◌, ◌^◌};
 
-use arrayvec::ArrayString;
+use arrayvec::{ArrayString, ArrayVec};
 use pt_gpt::{Entry, Table};
 use pt_guid::{Guid, code_of_type};
 use pt_layout::{
@@ -77,7 +77,10 @@ fn print_entry<O: Write>(out: &mut O, entry: &Entry) -> io::Result<()> {
     print_guid(out, &entry.unique)?;
     if entry.name[0] != 0 {
         out.write_all(b" ")?;
-        print_name(out, &entry.name)?;
+        match plain_name(&entry.name) {
+            Some(text) => out.write_all(text.as_slice())?,
+            None => print_name(out, &entry.name)?,
+        }
     }
     out.write_all(b"\n")
 }
@@ -87,6 +90,18 @@ fn print_kind<O: Write>(out: &mut O, kind: &Guid) -> io::Result<()> {
         Some(code) => write!(out, "{code:04X}"),
         None => print_guid(out, kind),
     }
+}
+
+/// A name up to its first zero unit, where each unit is a printed character of ASCII.
+fn plain_name(name: &[u16; 36]) -> Option<ArrayVec<u8, 36>> {
+    let mut text = ArrayVec::new();
+    for unit in name.iter().copied().take_while(|&unit| unit != 0) {
+        match u8::try_from(unit) {
+            Ok(byte @ b' '..=b'~') if text.try_push(byte).is_ok() => {}
+            _ => return None,
+        }
+    }
+    Some(text)
 }
 
 /// A name up to its first zero unit, with `?` for what has no printed form.
