@@ -9,8 +9,8 @@ during it: how long it took at its fastest, and on the average.
 
 usage: bench/gate.py build.sh|test.sh
 
-`rt ci` keeps on a machine what it has proved. So test.sh begins from nothing only on a machine that has kept nothing of this tree: the
-line `rt: ok` among what it prints says what was done.
+A kit's `rt ci` may keep on a machine what it has proved, and says so in its line `rt: ok`. Then test.sh begins from nothing only on a machine
+that has kept nothing of this tree.
 """
 import collections
 import os
@@ -27,8 +27,9 @@ TICK = os.sysconf("SC_CLK_TCK")
 SECONDS = 1
 # The column of /proc/stat that has what others took.
 STOLEN = 7
-# The steps of the loop that is timed, some milliseconds, and how often it is timed before the run.
+# The steps of the loop that is timed, some milliseconds, how often in a row, and how many such rows there are before the run.
 STEPS = 200_000
+TIMES = 5
 TIMES_BEFORE = 100
 # The processes of the prover, and those with which it goes on where it may use more than one.
 PROVER = ("rattle", "antt-kernel")
@@ -79,11 +80,15 @@ def processors():
 
 
 def loop():
-    """What a loop of the interpreter takes of a processor now, in milliseconds."""
-    began = time.thread_time()
-    for _ in range(STEPS):
-        pass
-    return 1000 * (time.thread_time() - began)
+    """What a loop of the interpreter takes of a processor now, in milliseconds: the least of some in a row, since the first after a sleep
+    takes twice as long and more."""
+    times = []
+    for _ in range(TIMES):
+        began = time.thread_time()
+        for _ in range(STEPS):
+            pass
+        times.append(1000 * (time.thread_time() - began))
+    return min(times)
 
 
 def mean(times):

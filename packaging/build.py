@@ -2,7 +2,7 @@
 """Proves crates and all that they stand on, from nothing, and builds them: side by side, those first that the others wait for. Prints
 where each of them stands.
 
-usage: packaging/build.py [--over-ci] CRATE...     CRATE is a program or a static library, as ptab or pt_c
+usage: packaging/build.py [--over-ci] CRATE...     CRATE is a program or a static library, as ptab or pt_c; another library is proved
   --over-ci   takes what `rt ci` has just proved and built; only a static library, which `rt ci` doesn't build, is proved once more
 
 What was proved and built before is taken where neither a source nor the kit has changed since. `rt run` and `rt lib` do the same, one
@@ -192,8 +192,8 @@ def main(words):
     try:
         if not build(names, "--over-ci" in words):
             sys.exit("build.py: not proved, as the lines above say")
-        places = [f"{ROOT}/crates/{it}/out/{it}" for it in names]
-        places = [it if os.path.isfile(it) else f"{os.path.dirname(it)}/lib{os.path.basename(it)}.a" for it in places]
+        places = [f"{ROOT}/crates/{it}/out/{file}" for it in names for file in (it, f"lib{it}.a")]
+        places = [it for it in places if os.path.isfile(it)]
     except (AttributeError, KeyError, TypeError, ValueError) as why:
         print(f"build.py: {why}: one crate after the other, by rt itself", file=sys.stderr)
         places = [build_in_turn(it) for it in names]

@@ -78,6 +78,13 @@ def failures_of(said):
     return own, waiting
 
 
+def edit_of(edits, failure):
+    """The edit of the function that the prover names so, a closure in it among them. None where more than one may be meant."""
+    found = [edit for edit, (module, name) in edits.items()
+             if re.fullmatch(rf"{re.escape(module)}::(\S+::)?{name}(::\S+)?", failure)]
+    return found[0] if len(found) == 1 else None
+
+
 def check(rt, crate, edits, kept):
     """Checks the crate with all these edits, over what kept holds. What it said, or nothing where it didn't reach the prover."""
     with tempfile.TemporaryDirectory(prefix="more-edits-") as room:
@@ -105,15 +112,8 @@ def try_together(rt, crate, edits, kept):
         half = len(edits) // 2
         answers = [try_together(rt, crate, dict(it), kept) for it in ([*edits.items()][:half], [*edits.items()][half:])]
         return [sum(it, []) for it in zip(*answers)]
-    own, waiting = failures_of(said)
-    refused, wait = [], []
-    for edit, (module, name) in edits.items():
-        is_it = re.compile(rf"{re.escape(module)}::(\S+::)?{name}(::\S+)?").fullmatch
-        if any(is_it(it) for it in own):
-            refused.append(edit)
-        elif any(is_it(it) for it in waiting):
-            wait.append(edit)
-    return refused, wait
+    own, waiting = ([edit_of(edits, it) for it in names] for names in failures_of(said))
+    return [it for it in edits if it in own], [it for it in edits if it in waiting and it not in own]
 
 
 def first_of_each(left):

@@ -240,7 +240,6 @@ fn on_plan<'a>(
 }
 
 /// The command with one more page, where that was made.
-#[inline(always)]
 fn with_page<'a>(
     ptab: Command<'a>,
     page: Result<Command<'a>, AllocError>,

@@ -92,7 +92,7 @@ fn print_kind<O: Write>(out: &mut O, kind: &Guid) -> io::Result<()> {
     }
 }
 
-/// A name up to its first zero unit, where each unit is a printed character of ASCII.
+/// A name up to its first zero unit, where each unit is a printed character of ASCII. Most names are, and decoding UTF-16 takes far longer.
 fn plain_name(name: &[u16; 36]) -> Option<ArrayVec<u8, 36>> {
     let mut text = ArrayVec::new();
     for unit in name.iter().copied().take_while(|&unit| unit != 0) {
