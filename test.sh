@@ -1,6 +1,6 @@
 #!/usr/bin/env bash
-# The whole gate: every proof from nothing, the edits that the prover must refuse, the tests and the programs; then the proved command
-# on real images, beside sgdisk and sfdisk, on damaged tables, on bad input, on hostile images, under power cuts, and with memory
+# The whole gate: every proof from nothing, wrong bodies that the prover must refuse, the tests and the programs; then more wrong bodies,
+# over what was proved, and the proved command on real images, beside sgdisk and sfdisk, on damaged tables, on bad input, on hostile images, under power cuts, and with memory
 # refused and calls on the image failing. It ends with the line of `rt ci`.
 set -euo pipefail
 cd "$(dirname "$0")"
@@ -21,6 +21,7 @@ faults="$PWD/crates/pt_faults/out/pt_faults"
 archive="$PWD/crates/pt_c/out/libpt_c.a"
 # side by side, the longest first
 python3 tests/side_by_side.py <<LIST
+wrong_bodies.py --gate
 ../packaging/build.py --over-ci pt_c
 then c_library.py "$ptab" "$archive"
 then package.py "$ptab" "$archive"

@@ -30,11 +30,14 @@ ERRORS = (("pt_gpt/src/error.rt", "CopyError", "| {} |"), ("pt_mbr/src/chain.rt"
 OTHERWISE = ("can't be read", "out of memory", "the plan is refused")
 # how the documents count the wrong bodies: the document, the words, and the folder of the edits
 COUNTS = (("README.md", r"(\d+) wrong bodies that the prover must refuse", "must-fail"),
+          ("README.md", r"(\d+) more wrong bodies", "must-fail-gate"),
           ("README.md", r"(\d+) in the crates' `must-fail/`", "must-fail"),
+          ("README.md", r"(\d+) in `must-fail-gate/`", "must-fail-gate"),
           ("README.md", r"tries (\d+) other wrong edits", "must-fail-more"),
           ("README.md", r"(\d+) more in `must-fail-more/`", "must-fail-more"),
-          ("docs/wrong_bodies.md", r"The gate tries (\d+) edits", "must-fail"),
-          ("docs/wrong_bodies.md", r"`must-fail-more/` holds (\d+) others", "must-fail-more"))
+          ("docs/wrong_bodies.md", r"`must-fail/` holds (\d+)", "must-fail"),
+          ("docs/wrong_bodies.md", r"`must-fail-gate/` holds (\d+)", "must-fail-gate"),
+          ("docs/wrong_bodies.md", r"`must-fail-more/` holds (\d+)", "must-fail-more"))
 
 
 def read(name):
@@ -217,7 +220,7 @@ def errors():
 def wrong_bodies():
     """How many wrong bodies there are; the documents count as many."""
     count = {}
-    for folder in ("must-fail", "must-fail-more"):
+    for folder in ("must-fail", "must-fail-gate", "must-fail-more"):
         found = [os.path.join(f"{TOP}/crates", crate, folder) for crate in os.listdir(f"{TOP}/crates")]
         count[folder] = sum(name.endswith(".edit") for it in found if os.path.isdir(it) for name in os.listdir(it))
     for document, pattern, folder in COUNTS:
