@@ -10,39 +10,20 @@
 
 ghost use Rattle.std.specs.Prelude.{◌≡◌, pos};
 ghost use Rattle.pt_guid.specs.Mixed.{text_of};
-ghost use Rattle.pt_c.specs.Codes.{IsTypeCode};
-ghost use Rattle.pt_c.specs.Given.{buffers};
+ghost use Rattle.pt_replay.specs.Codes.{IsTypeCode};
+ghost use Rattle.pt_replay.specs.Given.{buffers};
 ghost use Rattle.pt_sector.specs.Sectors.{Sectors};
-ghost use Rattle.pt_c.specs.Known.{IsPartOf};
-ghost use Rattle.pt_c.specs.Listed.{listing};
-ghost use Rattle.pt_c.specs.Claims.{Says, Members, Verified, Located, PlannedFor, Mended, CheckedFor};
+ghost use Rattle.pt_replay.specs.Known.{IsPartOf};
+ghost use Rattle.pt_replay.specs.Listed.{listing};
+ghost use Rattle.pt_replay.specs.Claims.{Says, Members, Verified, Located, PlannedFor, Mended, CheckedFor};
 
-mod answers;
-mod asking;
-mod checking;
-mod giving;
-mod health;
-mod listing;
-mod places;
-mod planning;
-mod recovered;
-mod refusals;
-mod replay;
-mod rows;
-mod taking;
-mod view;
-
-use answers::{Answer, Reply};
-use checking::checked;
-use health::verified;
-use listing::members;
-use places::located;
-use planning::{mended, planned};
 use pt_guid::{Guid, code_of_type};
+use pt_replay::{
+    Answer, GuidBytes, GuidText, MemberRow, Reply, TableRow, View, WriteRow, checked, located,
+    members, mended, planned, verified,
+};
 use pt_sector::Moments;
-use rows::{GuidBytes, GuidText, MemberRow, TableRow, WriteRow};
 use std::alloc::Global;
-use view::View;
 
 /// The number of this interface: a header's PTAB_VERSION must be equal.
 const VERSION: i32 = 1;

@@ -1,7 +1,7 @@
 use Rattle.std.proofs.Common.{ℕ}
 use Rattle.pt_sector.specs.Sectors.{Sectors}
-use Rattle.pt_c.specs.Claims.{CheckedFor}
-use Rattle.pt_c.proofs.Saying.{says_it}
+use Rattle.pt_replay.specs.Claims.{CheckedFor}
+use Rattle.pt_replay.proofs.Saying.{says_it}
 use Rattle.pt_c.proofs.ptab_check.Goals as goal
 
 pub returns-in-512 : goal.returns-in-512

@@ -1,8 +1,8 @@
 use Rattle.std.proofs.Common.{ℕ}
 use Rattle.pt_sector.specs.Sectors.{Sectors}
-use Rattle.pt_c.specs.Given.{buffers}
-use Rattle.pt_c.specs.Claims.{PlannedFor}
-use Rattle.pt_c.proofs.Saying.{says_it}
+use Rattle.pt_replay.specs.Given.{buffers}
+use Rattle.pt_replay.specs.Claims.{PlannedFor}
+use Rattle.pt_replay.proofs.Saying.{says_it}
 use Rattle.pt_c.proofs.ptab_plan.Goals as goal
 
 pub returns-in-512 : goal.returns-in-512

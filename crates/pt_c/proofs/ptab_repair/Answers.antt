@@ -1,8 +1,8 @@
 use Rattle.std.proofs.Common.{ℕ}
 use Rattle.pt_sector.specs.Sectors.{Sectors}
-use Rattle.pt_c.specs.Given.{buffers}
-use Rattle.pt_c.specs.Claims.{Mended}
-use Rattle.pt_c.proofs.Saying.{says_it}
+use Rattle.pt_replay.specs.Given.{buffers}
+use Rattle.pt_replay.specs.Claims.{Mended}
+use Rattle.pt_replay.proofs.Saying.{says_it}
 use Rattle.pt_c.proofs.ptab_repair.Goals as goal
 
 pub returns-in-512 : goal.returns-in-512

@@ -1,0 +1,74 @@
+-- The walk over the known sectors.
+use Rattle.std.proofs.Common.{◌≡◌, ◌++◌, refl, subst, ◌<◌, ◌≤◌, ◌+◌, ℕ, suc, sym, List, [], ◌∷◌, length, get_or, drop, drop-cons}
+use Rattle.std.proofs.Common.{Option, Some, None, ap, ◌∙◌, arith, false}
+use Rattle.std.specs.Prelude.{if◌then◌else◌, Bool, nat_eq}
+use Rattle.std.proofs.lemmas.Bool.{eq-eqb}
+use Rattle.std.proofs.lemmas.List.{drop_all, append_cancel_left}
+use Rattle.std.proofs.lemmas.List.FromFn.{get_or-map-range_with_len}
+use Rattle.pt_sector.specs.Sectors.{Sectors, sector}
+use Rattle.pt_sector.specs.declared.disk.Fault.{Fault}
+use Rattle.pt_sector.specs.Calls.{with_fault}
+use Rattle.pt_sector.specs.declared.address.Lba.{Lba}
+use Rattle.pt_sector.specs.declared.disk.Fault.TheVariants.{Read}
+use Rattle.pt_replay.specs.Known.{known_of, known_or, whole, IsOfNew, AreOfNew, AreOf, IsAsked, Asks}
+use Rattle.pt_replay.specs.declared.view.View.{View}
+
+other_false : (a b : ℕ) → ¬ (a ≡ b) → nat_eq a b ≡ false
+other_false a b ne = grind arith
+
+known_cut : (ns : List ℕ) (ks : Sectors) (k s z : ℕ) (w : List ℕ) → k < length ns → k < length ks
+    → known_of (drop k ns) (drop k ks) s ≡ (if nat_eq (get_or ns k z) s then Some (get_or ks k w) else known_of (drop (k + 1) ns)
+    (drop (k + 1) ks) s)
+unfolding known_of
+known_cut ns ks k s z w in_ns in_ks =
+    let e : suc k ≡ k + 1 = omega arith in
+    ap (λ (l : List ℕ). known_of l (drop k ks) s) (drop-cons ns k z in_ns)
+    ∙ ap (λ (l : Sectors). known_of (get_or ns k z ∷ drop (suc k) ns) l s) (drop-cons ks k w in_ks)
+    ∙ ap (λ (m : ℕ). if nat_eq (get_or ns k z) s then Some (get_or ks k w) else known_of (drop m ns) (drop m ks) s) e
+
+pub known_here : (ns : List ℕ) (ks : Sectors) (k s z : ℕ) (w : List ℕ) → k < length ns → k < length ks → get_or ns k z ≡ s
+    → known_of (drop k ns) (drop k ks) s ≡ Some (get_or ks k w)
+known_here ns ks k s z w in_ns in_ks same =
+    known_cut ns ks k s z w in_ns in_ks ∙ ap (λ (c : Bool). if c then Some (get_or ks k w) else known_of (drop (k + 1) ns)
+    (drop (k + 1) ks) s) (eq-eqb (get_or ns k z) s same)
+
+pub known_next : (ns : List ℕ) (ks : Sectors) (k s z : ℕ) (w : List ℕ) → k < length ns → k < length ks → ¬ (get_or ns k z ≡ s)
+    → known_of (drop k ns) (drop k ks) s ≡ known_of (drop (k + 1) ns) (drop (k + 1) ks) s
+known_next ns ks k s z w in_ns in_ks other =
+    known_cut ns ks k s z w in_ns in_ks ∙ ap (λ (c : Bool). if c then Some (get_or ks k w) else known_of (drop (k + 1) ns)
+    (drop (k + 1) ks) s) (other_false (get_or ns k z) s other)
+
+pub known_end : (ns : List ℕ) (ks : Sectors) (k s : ℕ) → length ns ≤ k → known_of (drop k ns) (drop k ks) s ≡ None
+unfolding known_of
+known_end ns ks k s past = ap (λ (l : List ℕ). known_of l (drop k ks) s) (drop_all k ns past)
+
+pub known_is_there : (count : ℕ) (ns : List ℕ) (ks : Sectors) (elsewhere : Sectors) (s : ℕ) (v : List ℕ) → s < count
+    → known_of ns ks s ≡ Some v → v ≡ sector (whole count ns ks elsewhere) s
+known_is_there count ns ks elsewhere s v lt is =
+    sym (get_or-map-range_with_len (λ (t : ℕ). known_or (known_of ns ks t) (sector elsewhere t)) 0 count s s [] lt (omega arith)
+    ∙ ap (λ (o : Option (List ℕ)). known_or o (sector elsewhere s)) is)
+
+-- the one fault that came is of a read of a sector that isn't in the view
+pub asked_of : (b : ℕ) (v : View) (count : ℕ) (ns ns' : List ℕ) (ks ks' : Sectors) (fs fs' : List Fault) (o : Option Fault)
+    → AreOf b v count ns ks → Asks count ns ns' ks ks' fs fs' → fs' ≡ with_fault fs o → (f : Fault) → o ≡ Some f → IsAsked b v f
+unfolding AreOfNew
+asked_of b v count ns ns' ks ks' fs fs' o are asks one f is =
+    let more : asks.more ≡ f ∷ [] = append_cancel_left fs asks.more (f ∷ []) (sym asks.come
+    ∙ (one ∙ ap (λ (x : Option Fault). with_fault fs x) is)) in
+    let new : IsOfNew count ns ks f = (subst (AreOfNew count ns ks) more asks.unknown).0 in
+    subst (λ (l : Sectors). IsOfNew v.sectors v.numbers.now l f) are.sectors_are
+    (subst (λ (l : List ℕ). IsOfNew v.sectors l ks f) are.numbers_are (subst (λ (n : ℕ). IsOfNew n ns ks f) are.count_is new))
+
+-- a read of a sector that isn't known
+pub asks_one : (count : ℕ) (ns : List ℕ) (ks : Sectors) (fs later : List Fault) (at : Lba) → at.0 < count → None ≡ known_of ns ks at.0
+    → later ≡ fs ++ Read at ∷ [] → Asks count ns ns ks ks fs later
+unfolding AreOfNew
+asks_one count ns ks fs later at within unknown is =
+    record {
+      numbers = refl;
+      sectors = refl;
+      more = Read at ∷ [];
+      come = is;
+      unknown =
+          (record { within = within; unknown = sym unknown }, tt);
+    }

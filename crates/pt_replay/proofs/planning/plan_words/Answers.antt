@@ -1,0 +1,16 @@
+use Rattle.pt_plan.specs.Batches.{Words}
+use Rattle.pt_replay.specs.Known.{disk_of}
+use Rattle.pt_replay.proofs.Walk.{asked_of}
+use Rattle.pt_replay.proofs.Saying.{says_refused}
+use Rattle.pt_replay.proofs.planning.plan_words.Goals as goal
+
+pub returns-in-Ok-clause-ok : goal.returns-in-Ok-clause-ok
+returns-in-Ok-clause-ok g c = rw c.in-Some.ensures.view.count_is at (rw c.in-Some.ensures.seen at (c.in-Ok.ensures.ready tt))
+
+pub returns-in-Err-clause-err : goal.returns-in-Err-clause-err
+returns-in-Err-clause-err g c =
+    let batch : Words = record { edits = c.args.edits.now; guids = c.args.guids.now } in
+    rw c.refused.ensures (says_refused g.row.B c.args.view.now (disk_of g.row.B c.args.view.now c.args.elsewhere.items) batch c.in-Err.error
+    (rw c.in-Some.ensures.view.count_is at (rw c.in-Some.ensures.seen at (c.in-Err.ensures.refused tt)))
+    (asked_of g.row.B c.args.view.now _ _ _ _ _ _ _ _ c.in-Some.ensures.view c.checked_plan_for.ensures.same.through.1
+    c.in-Err.ensures.blames))

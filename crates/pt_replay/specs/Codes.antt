@@ -1,0 +1,35 @@
+-- The numbers that C sees.
+use Rattle.std.specs.Prelude.{◌≡◌, ◌≢◌, ◌⊎◌, ℕ, ℤ, pos, negsuc, List, Some}
+use Rattle.pt_guid.specs.Codes.{type_of}
+use Rattle.pt_replay.specs.declared.answers.Status.{Status}
+use Rattle.pt_replay.specs.declared.answers.Status.TheVariants.{Done, No, Usage, Refused, NoTable, Device, Memory, Want, Room}
+use Rattle.pt_replay.specs.declared.answers.About.{About}
+use Rattle.pt_replay.specs.declared.answers.About.TheVariants as about
+
+-- the statuses of the command, and two more
+abbrev pub status_code : Status → ℤ
+status_code Done = pos 0
+status_code No = pos 1
+status_code Usage = pos 2
+status_code Refused = pos 3
+status_code NoTable = pos 4
+status_code Device = pos 5
+status_code Memory = pos 6
+status_code Want = negsuc 0
+status_code Room = negsuc 1
+
+-- the code of the type of these stored bytes, or -1 where no code stands for it
+abbrev pub IsTypeCode : List ℕ → ℤ → Type 0
+IsTypeCode stored code =
+    ((c : ℕ) × (code ≡ pos c) × (type_of c ≡ Some stored)) ⊎ ((code ≡ negsuc 0) × ((c : ℕ) → type_of c ≢ Some stored))
+
+abbrev pub about_code : About → ℕ
+about_code about.Nothing = 0
+about_code about.Argument = 1
+about_code about.Word = 2
+about_code about.Table = 3
+about_code about.Finding = 4
+about_code about.Edit = 5
+about_code about.Plan = 6
+about_code about.Check = 7
+about_code about.Repair = 8

@@ -1,0 +1,177 @@
+-- What replies say.
+use Rattle.std.specs.Prelude.{ℕ, ◌+◌, ◌%◌, Option, Some, None}
+use Rattle.pt_sector.specs.declared.address.Lba.{Lba}
+use Rattle.pt_sector.specs.declared.disk.Fault.TheVariants as fault
+use Rattle.pt_sector.specs.declared.reading.Failure.{Failure}
+use Rattle.pt_sector.specs.declared.reading.Failure.TheVariants as failure
+use Rattle.pt_gpt.specs.Errors.{error_number}
+use Rattle.pt_gpt.specs.declared.table.Side.{Side}
+use Rattle.pt_gpt.specs.declared.table.Side.TheVariants.{Primary, Backup}
+use Rattle.pt_mbr.specs.declared.chain.ChainError.{ChainError}
+use Rattle.pt_mbr.specs.declared.chain.ChainError.TheVariants as chain
+use Rattle.pt_recover.specs.declared.error.NoTable.{NoTable}
+use Rattle.pt_recover.specs.declared.error.NoTable.TheVariants as table
+use Rattle.pt_layout.specs.Findings.{finding_number}
+use Rattle.pt_path.specs.declared.path.Path.{Path}
+use Rattle.pt_layout.specs.declared.finding.Finding.{Finding}
+use Rattle.pt_layout.specs.declared.finding.Finding.TheVariants as finding
+use Rattle.pt_check.specs.declared.error.CheckError.{CheckError}
+use Rattle.pt_check.specs.declared.error.CheckError.TheVariants as check
+use Rattle.pt_check.specs.declared.answer.Why.{Why}
+use Rattle.pt_check.specs.declared.answer.Why.TheVariants as why
+use Rattle.pt_words.specs.Numbers.{refusal_number}
+use Rattle.pt_targets.specs.Errors.{plan_error_number}
+use Rattle.pt_plan.specs.declared.error.CommitError.{CommitError}
+use Rattle.pt_plan.specs.declared.error.CommitError.TheVariants as commit
+use Rattle.pt_plan.specs.declared.repair_error.RepairError.{RepairError}
+use Rattle.pt_plan.specs.declared.repair_error.RepairError.TheVariants as repair
+use Rattle.pt_replay.specs.Codes.{about_code}
+use Rattle.pt_replay.specs.declared.answers.Status.{Status}
+use Rattle.pt_replay.specs.declared.answers.Status.TheVariants as status
+use Rattle.pt_replay.specs.declared.answers.About.{About}
+use Rattle.pt_replay.specs.declared.answers.About.TheVariants as about
+use Rattle.pt_replay.specs.declared.answers.Reply.{Reply}
+use Rattle.pt_replay.specs.declared.answers.Answer.{Answer}
+
+-- a letter from a on, of a label's entry; 0 for none
+abbrev pub letter_code : Option ℕ → ℕ
+letter_code None = 0
+letter_code (Some k) = (97 + k) % 256
+
+abbrev pub nothing : Reply
+nothing = record { sector = 0; count = 0; phases = 0; a = 0; b = 0; about = 0; number = 0; a_letter = 0; b_letter = 0 }
+
+-- the answer that wants a sector
+abbrev pub wanting : Lba → Answer
+wanting at = record { status = status.Want; reply = record nothing { sector = at.0 } }
+
+abbrev pub failure_answer : Failure → Answer
+failure_answer (failure.Device at) = wanting at
+failure_answer failure.Memory = record { status = status.Memory; reply = nothing }
+
+-- a status with a number of what it is about, and two arguments
+abbrev pub told : Status → About → ℕ → ℕ → ℕ → Answer
+told s what number a b =
+    record {
+      status = s;
+      reply = record {
+        sector = 0;
+        count = 0;
+        phases = 0;
+        a = a;
+        b = b;
+        about = about_code what;
+        number = number;
+        a_letter = 0;
+        b_letter = 0;
+      };
+    }
+
+-- a finding with a path
+abbrev pub found_at : ℕ → Path → ℕ → Answer
+found_at number p b =
+    record {
+      status = status.No;
+      reply = record {
+        sector = 0;
+        count = 0;
+        phases = 0;
+        a = p.number;
+        b = b;
+        about = 4;
+        number = number;
+        a_letter = letter_code p.letter;
+        b_letter = 0;
+      };
+    }
+
+abbrev pub side_number : Side → ℕ
+side_number Primary = 1
+side_number Backup = 2
+
+-- a finding, with its arguments as the command prints them
+abbrev pub finding_answer : Finding → Answer
+finding_answer (finding.NoTable e) = told status.No about.Finding 1 0 0
+finding_answer (finding.PrimaryCopy e) = told status.No about.Finding 2 (error_number e) 0
+finding_answer (finding.BackupCopy e) = told status.No about.Finding 3 (error_number e) 0
+finding_answer finding.CopiesDiffer = told status.No about.Finding 4 0 0
+finding_answer (finding.Alternate side) = told status.No about.Finding 5 (side_number side) 0
+finding_answer finding.Protective = told status.No about.Finding 6 0 0
+finding_answer (finding.OutsideUsable p) = found_at 7 p 0
+finding_answer (finding.Overlap p q) =
+    record {
+      status = status.No;
+      reply = record {
+        sector = 0;
+        count = 0;
+        phases = 0;
+        a = p.number;
+        b = q.number;
+        about = 4;
+        number = 8;
+        a_letter = letter_code p.letter;
+        b_letter = letter_code q.letter;
+      };
+    }
+finding_answer (finding.OnTable p at) = found_at 9 p at.0
+finding_answer (finding.SameGuid lower higher) = told status.No about.Finding 10 lower higher
+finding_answer (finding.ForeignLabel p) = found_at 11 p 0
+
+-- a chain's first fault
+abbrev pub chain_answer : ChainError → Answer
+chain_answer (chain.NoSignature at) = told status.NoTable about.Table 2 1 at.0
+chain_answer (chain.BadRecord at) = told status.NoTable about.Table 2 2 at.0
+chain_answer (chain.NotUpward at) = told status.NoTable about.Table 2 3 at.0
+chain_answer (chain.OutsideExtended at) = told status.NoTable about.Table 2 4 at.0
+chain_answer chain.TooLong = told status.NoTable about.Table 2 5 0
+chain_answer (chain.Device at) = record { status = status.Device; reply = nothing }
+
+-- why a disk denotes nothing
+abbrev pub table_answer : NoTable → Answer
+table_answer (table.NoCopy e f) = told status.NoTable about.Table 1 (error_number e) (error_number f)
+table_answer (table.Chain e) = chain_answer e
+table_answer table.TwoExtended = told status.NoTable about.Table 3 0 0
+table_answer table.TooSmall = told status.NoTable about.Table 4 0 0
+table_answer (table.Device at) = wanting at
+table_answer table.Memory = record { status = status.Memory; reply = nothing }
+
+-- why a plan may not be applied
+abbrev pub why_reply : Why → Reply
+why_reply why.TooManyWrites = (told status.No about.Check 1 0 0).reply
+why_reply (why.OutOfRange w) = (told status.No about.Check 2 w 0).reply
+why_reply (why.BootCode w) = (told status.No about.Check 3 w 0).reply
+why_reply (why.ReadSector p at) = (told status.No about.Check 4 p at.0).reply
+why_reply (why.Neither p) = (told status.No about.Check 5 p 0).reply
+why_reply (why.NotATable at) = (told status.No about.Check 6 at.0 0).reply
+why_reply (why.Owned at) = (told status.No about.Check 7 at.0 0).reply
+why_reply (why.Final f) = (told status.No about.Check 8 (finding_number f) 0).reply
+
+-- why the words are refused
+abbrev pub commit_answer : CommitError → Answer
+commit_answer (commit.NoTable e) = table_answer e
+commit_answer (commit.Edit r) = told status.Refused about.Edit (refusal_number r) 0 0
+commit_answer (commit.Plan e) = told status.Refused about.Plan (plan_error_number e) 0 0
+commit_answer (commit.Check w) = record { status = status.Refused; reply = why_reply w }
+commit_answer (commit.Device (fault.Read at)) = wanting at
+commit_answer (commit.Device f) = record { status = status.Device; reply = nothing }
+commit_answer commit.Memory = record { status = status.Memory; reply = nothing }
+
+-- why a disk isn't repaired
+abbrev pub repair_answer : RepairError → Answer
+repair_answer (repair.NoTable e) = table_answer e
+repair_answer (repair.Unsound f) = told status.Refused about.Repair 2 (finding_number f) 0
+repair_answer (repair.Device (fault.Read at)) = wanting at
+repair_answer (repair.Device f) = record { status = status.Device; reply = nothing }
+repair_answer repair.Memory = record { status = status.Memory; reply = nothing }
+repair_answer (repair.Plan e) = told status.Refused about.Repair 5 (plan_error_number e) 0
+repair_answer (repair.Check w) = record { status = status.Refused; reply = why_reply w }
+
+-- a yes, with the phase of the switch
+abbrev pub accepting : ℕ → Answer
+accepting switch = record { status = status.Done; reply = record nothing { a = switch } }
+
+-- why a plan isn't checked
+abbrev pub check_answer : CheckError → Answer
+check_answer (check.Device (fault.Read at)) = wanting at
+check_answer (check.Device f) = record { status = status.Device; reply = nothing }
+check_answer check.Memory = record { status = status.Memory; reply = nothing }

@@ -1,0 +1,33 @@
+//! Answers about a disk of which the caller knows some sectors (docs/c.md): what it denotes, whether it is healthy, where
+//! a partition's sectors are, and checked plans of edits and repairs.
+//!
+//! The caller reads and writes the disk. A call gets the sectors that were read so far, and ends with an answer or with the
+//! number of one more sector that it wants. It keeps no state: the next call begins anew.
+//!
+//! Each call also takes `elsewhere`, which only proofs read: what stands in the sectors that are not given. The clauses say
+//! that the answer holds of the disk with just these sectors, whichever they are.
+#![tactic(auto)]
+
+mod answers;
+mod asking;
+mod checking;
+mod giving;
+mod health;
+mod listing;
+mod places;
+mod planning;
+mod recovered;
+mod refusals;
+mod replay;
+mod rows;
+mod taking;
+mod view;
+
+pub use answers::{Answer, Reply, Status};
+pub use checking::checked;
+pub use health::verified;
+pub use listing::members;
+pub use places::located;
+pub use planning::{mended, planned};
+pub use rows::{GuidBytes, GuidText, MemberRow, TableRow, WriteRow};
+pub use view::View;
