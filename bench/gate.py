@@ -1,7 +1,7 @@
 #!/usr/bin/env python3
 """Runs build.sh or test.sh in an empty clone of what is committed here, and prints how long it took, what it took of the processors, and
 what other machines took of them meanwhile; then the chain of crates that the rest waited for, what each crate took, and of wrong bodies
-what each took, in the order of their names. (The first of a crate takes its whole proof; behind the last of several comes one check of the
+what each check of them took, in their order. (The first one of `rt ci` takes its crate's whole proof; behind its last comes a check of the
 crate as it stands.) Run it with nothing else running. An interrupt ends it, and shows what was seen until then.
 
 A virtual processor may be slow without saying so, where other machines use the same host. So a short loop is timed before the run and
@@ -31,6 +31,8 @@ STOLEN = 7
 STEPS = 200_000
 TIMES = 5
 TIMES_BEFORE = 100
+# The folders in which the kit tries a wrong body, and tests/wrong_bodies.py several.
+OF_WRONG_BODIES = ("rt-edit", "wrong-bodies")
 # The processes of the prover, and those with which it goes on where it may use more than one.
 PROVER = ("rattle", "antt-kernel")
 
@@ -40,8 +42,7 @@ class Check:
 
     def __init__(self, words, folder, began):
         self.crate = words[words.index("--crate-name") + 1]
-        # the kit tries a wrong body in a folder of that name
-        self.kind = "tests" if "--test" in words else "wrong bodies" if "rt-edit" in folder else "proof"
+        self.kind = "tests" if "--test" in words else "wrong bodies" if any(it in folder for it in OF_WRONG_BODIES) else "proof"
         self.folder = folder
         self.began = began
         self.ended = began
