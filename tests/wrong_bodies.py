@@ -212,9 +212,10 @@ def main(words):
     if below and folder == "must-fail-more":
         subprocess.run([sys.executable, f"{ROOT}/packaging/build.py", *below], stdout=subprocess.DEVNULL, check=True)
     lanes = max(1, min(rt.processors(), rt.free() // MEMORY))
-    largest_first = sorted((crates[it] for it in names), key=lambda it: -it.count(rb"\n"))
+    # a check reads what stands below its crate, and that takes most of it
+    longest_first = sorted((crates[it] for it in names), key=lambda it: -sum(lib.count(rb"\n") for lib in [it, *it.below()]))
     with ThreadPoolExecutor(lanes) as pool:
-        failures = [text for found in pool.map(lambda it: try_crate(rt, it, folder), largest_first) for text in found]
+        failures = [text for found in pool.map(lambda it: try_crate(rt, it, folder), longest_first) for text in found]
     print(*failures, sep="\n", end="\n" if failures else "")
     print(f"wrong bodies: {len(failures)} failed")
     sys.exit(1 if failures else 0)

@@ -3,7 +3,7 @@
 //! Each stands here without its contract: what is tried is proved to be safe, and looks at what comes of it, so it needs
 //! to know nothing of what it calls.
 
-use pt_edit::Edit;
+use pt_edit::{Edit, edit};
 use pt_layout::{Layout, Verdict, recover, verify};
 use pt_plan::{Batch, CommitError, RepairError, Reply, commit, repair, session};
 use pt_samples::guids;
@@ -90,6 +90,11 @@ pub fn is_healthy(alloc: Global, disk: &mut MemDisk<512>, layout: &Layout) -> Re
         Verdict::Yes(found) => Ok(found.same(layout)),
         Verdict::No(_) => Ok(false),
     }
+}
+
+/// What words without fresh GUIDs make of a layout; none where they aren't for it.
+pub fn edited(alloc: Global, old: &Layout, edits: &[Edit]) -> Option<Layout> {
+    edit::<512>(alloc, Some(old), old.sectors, edits, &[]).ok()
 }
 
 /// A commit.

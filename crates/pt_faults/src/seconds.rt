@@ -2,9 +2,9 @@
 
 use crate::case::{Case, Left};
 use crate::device::{
-    Stop, Way, committed, denoted, fail, is_healthy, repaired, seen, stopped, stops_at,
+    Stop, Way, committed, denoted, edited, fail, is_healthy, repaired, seen, stopped, stops_at,
 };
-use pt_edit::{Edit, Refusal, edit};
+use pt_edit::{Edit, Refusal};
 use pt_layout::Layout;
 use pt_plan::{CommitError, RepairError};
 use pt_samples::{holds, image_of};
@@ -52,7 +52,7 @@ fn second(alloc: Global, disk: &mut CrashDisk<512>, edits: Option<&[Edit]>) -> S
 fn wanted(alloc: Global, old: &Layout, edits: Option<&[Edit]>) -> Result<Option<Layout>, Fail> {
     match edits {
         None => Ok(Some(old.copy(alloc)?)),
-        Some(edits) => Ok(edit::<512>(alloc, Some(old), old.sectors, edits, &[]).ok()),
+        Some(edits) => Ok(edited(alloc, old, edits)),
     }
 }
 
@@ -125,16 +125,18 @@ const NONE: Stop = Stop {
     way: Way::Oldest,
 };
 
+/// Whether a repair is done, and changes no byte.
+fn is_idle(alloc: Global, disk: &mut CrashDisk<512>) -> Result<bool, Fail> {
+    let image = image_of(alloc, disk)?;
+    Ok(repaired(alloc, disk).is_ok() && holds(disk, &image)?)
+}
+
 /// Whether a disk is mended by a repair, and one more changes no byte.
 fn is_mended(alloc: Global, case: &Case, mut disk: CrashDisk<512>) -> Result<bool, Fail> {
-    if repaired(alloc, &mut disk) != Ok(()) {
+    if repaired(alloc, &mut disk).is_err() || !is_idle(alloc, &mut disk)? {
         return Ok(false);
     }
     let layout = seen(alloc, &mut disk)?;
-    let image = image_of(alloc, &mut disk)?;
-    if repaired(alloc, &mut disk) != Ok(()) || !holds(&mut disk, &image)? {
-        return Ok(false);
-    }
     let mut left = stopped(disk, NONE);
     Ok(case.which(&layout) != Left::Neither && is_healthy(alloc, &mut left, &layout)?)
 }

@@ -11,6 +11,3 @@ mod words;
 
 pub use crc::{Crc, crc32};
 pub use words::xor16;
-
-#[cfg(test)]
-mod tests;

@@ -1,4 +1,4 @@
-//! Tests of disks, GUIDs, boot records, labels and copies of a GPT. They stand in a crate of their own, so that
+//! Tests of disks, GUIDs, sums, boot records, labels and copies of a GPT. They stand in a crate of their own, so that
 //! what they test isn't proved twice.
 #![tactic(auto)]
 
@@ -12,3 +12,5 @@ mod guid;
 mod mbr;
 #[cfg(test)]
 mod sector;
+#[cfg(test)]
+mod sum;

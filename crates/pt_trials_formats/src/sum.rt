@@ -1,7 +1,6 @@
 //! Sums that others publish, and the sum bit by bit.
 
-use crate::tables::TABLES;
-use crate::{Crc, crc32, xor16};
+use pt_sum::{Crc, crc32, xor16};
 
 // The sum of the bytes, a bit at a time.
 fn sum_by_bits(bytes: &[u8]) -> u32 {
@@ -21,11 +20,11 @@ fn sum_by_bits(bytes: &[u8]) -> u32 {
 
 #[test]
 fn published_sums(rt: HostRuntime) {
-    assert_eq!(rt; crc32(b""), 0x0000_0000);
-    assert_eq!(rt; crc32(b"123456789"), 0xCBF4_3926);
-    assert_eq!(rt; crc32(&[0; 4]), 0x2144_DF1C);
-    assert_eq!(rt; crc32(b"a"), 0xE8B7_BE43);
-    assert_eq!(rt; crc32(&[0xFF; 4]), 0xFFFF_FFFF);
+    assert!(rt; crc32(b"") == 0x0000_0000);
+    assert!(rt; crc32(b"123456789") == 0xCBF4_3926);
+    assert!(rt; crc32(&[0; 4]) == 0x2144_DF1C);
+    assert!(rt; crc32(b"a") == 0xE8B7_BE43);
+    assert!(rt; crc32(&[0xFF; 4]) == 0xFFFF_FFFF);
 }
 
 #[test]
@@ -34,7 +33,7 @@ fn parts_sum_as_the_whole(rt: HostRuntime) {
     sum.update(b"1234");
     sum.update(b"");
     sum.update(b"56789");
-    assert_eq!(rt; sum.value(), 0xCBF4_3926);
+    assert!(rt; sum.value() == 0xCBF4_3926);
 }
 
 #[test]
@@ -46,25 +45,30 @@ fn every_length_and_every_cut(rt: HostRuntime) {
     for length in 0..41usize {
         let taken = &bytes[..length];
         let expected = sum_by_bits(taken);
-        assert_eq!(rt; crc32(taken), expected, "at {length}");
+        assert!(rt; crc32(taken) == expected);
         for cut in 0..length + 1 {
             let mut sum = Crc::new();
             sum.update(&taken[..cut]);
             sum.update(&taken[cut..]);
-            assert_eq!(rt; sum.value(), expected, "at {length}, cut at {cut}");
+            assert!(rt; sum.value() == expected);
         }
     }
 }
 
+/// What a register of zeros is after a byte: the byte's entry in the published table.
+fn entry_of(byte: u8) -> u32 {
+    crc32(&[byte ^ 0xFF]) ^ 0xFF00_0000
+}
+
 #[test]
-fn first_table(rt: HostRuntime) {
-    assert_eq!(rt; TABLES[0][1], 0x7707_3096);
-    assert_eq!(rt; TABLES[0][128], 0xEDB8_8320);
-    assert_eq!(rt; TABLES[0][255], 0x2D02_EF8D);
+fn published_table(rt: HostRuntime) {
+    assert!(rt; entry_of(1) == 0x7707_3096);
+    assert!(rt; entry_of(128) == 0xEDB8_8320);
+    assert!(rt; entry_of(255) == 0x2D02_EF8D);
 }
 
 #[test]
 fn words_without_carry(rt: HostRuntime) {
-    assert_eq!(rt; xor16(&[0x01, 0x02, 0x03, 0x04]), 0x0602);
-    assert_eq!(rt; xor16(&[]), 0);
+    assert!(rt; xor16(&[0x01, 0x02, 0x03, 0x04]) == 0x0602);
+    assert!(rt; xor16(&[]) == 0);
 }
