@@ -106,7 +106,7 @@ def slack_of(crates):
 
 def jobs_for(slack):
     """How many processes prove a crate. Each one more takes more of the processors' time in all, so only what others wait for has more."""
-    return 4 if slack < 0.01 else 2 if slack < 0.15 else 1
+    return 4 if slack < 0.01 else 2 if slack < 0.07 else 1
 
 
 def side_by_side(rt, crates, prove_one):
@@ -117,7 +117,7 @@ def side_by_side(rt, crates, prove_one):
 
     def work(crate, jobs):
         # a thread's own priority, which the processes that it starts have too
-        os.setpriority(os.PRIO_PROCESS, threading.get_native_id(), min(19, round(20 * slack[crate.name])))
+        os.setpriority(os.PRIO_PROCESS, threading.get_native_id(), min(19, round(40 * slack[crate.name])))
         try:
             done.put((crate, prove_one(crate, jobs)))
         except BaseException as why:
