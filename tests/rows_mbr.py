@@ -16,6 +16,7 @@ def primaries(command):
         it.on(image).shows("mbr 4096", "1 1 1000 83 80", "2 1001 1095 EF 00", "4 1096 4095 07 00").healthy()
         it.located("4", 2999, 4095).nowhere("4", 3000).nowhere("3", 0).nowhere("1.a", 0).nowhere("5", 0)
         it.on(sectors.mbr(1, [])).shows("mbr 1").healthy()
+        it.on(sectors.mbr(1, [record(0x83, 100, 10)])).shows("mbr 1", "1 100 109 83 00").unhealthy("7 outside 1")
         it.on(sectors.mbr(4096, [record(0x83, 5, 0), record(0, 5, 10)])).shows("mbr 4096").healthy()
         junk = bytes([0, 1, 2, 3, 0, 4, 5, 6]) + bytes([7]) * 8
         it.on(sectors.mbr(4096, [junk, record(0x0C, 9, 1)])).shows("mbr 4096", "2 9 9 0C 00").healthy()

@@ -19,6 +19,7 @@ import shutil
 import subprocess
 import sys
 import tempfile
+import time
 from concurrent.futures import ThreadPoolExecutor
 
 ROOT = os.path.dirname(os.path.dirname(os.path.abspath(__file__)))
@@ -182,6 +183,7 @@ def try_crate(rt, crate, folder):
     """What to say of a crate's edits that weren't refused."""
     # older kits only say whether an edit was refused
     refusals = {getattr(rt, it, True) for it in ("REFUSED", "AT_LIMIT")}
+    began = time.monotonic()
     edits = {it: functions_of(rt, crate, it) for it in sorted(glob.glob(f"{crate.folder}/{folder}/*.edit"))}
     alone, left = [it for it in edits if not edits[it]], {it: functions for it, functions in edits.items() if functions}
     with tempfile.TemporaryDirectory(prefix="wrong-bodies-kept-") as kept:
@@ -195,7 +197,8 @@ def try_crate(rt, crate, folder):
                 left = {it: functions for it, functions in left.items() if it not in wait}
         answers = [rt.must_fail(crate, it, FLAGS, kept) for it in alone]
     failures = [text for kind, text in answers if kind not in refusals]
-    print(f"{crate.name}: {len(edits) - len(failures)} of {len(edits)} refused, {len(answers)} of them alone", flush=True)
+    took = time.monotonic() - began
+    print(f"{crate.name}: {len(edits) - len(failures)} of {len(edits)} refused, {len(answers)} of them alone, {took:.0f} s", flush=True)
     return failures
 
 

@@ -33,6 +33,10 @@ pub record IsNewAt (b : ℕ) (d : Sectors) (o : Option Layout) (slices : List Sl
   pub place : place_of slice ≡ s
   pub none : (m : Label) → ¬ Had b d o s m
 
+-- as many writes as a plan of both copies has at most: two arrays, two headers, a zeroed one, sector 0, and so many labels
+abbrev pub copies_bound : ℕ → ℕ → ℕ
+copies_bound b labels = 2 * array_len b + 4 + labels
+
 -- the writes of new labels, each of another sector, and how many writes there are in all
 pub record HasFewWrites (b : ℕ) (d : Sectors) (p : Layout) (phases : List Writes) : Type 0 where
   pub old : Option Layout
@@ -40,7 +44,7 @@ pub record HasFewWrites (b : ℕ) (d : Sectors) (p : Layout) (phases : List Writ
   pub labels : Writes
   pub ascending : IsAscending labels
   pub new : (s : ℕ) (v : List ℕ) → Puts labels s v → IsNewAt b d old (places_of b p.sectors p.body) p.labels s
-  pub count : length (writes_in phases) ≤ 2 * array_len b + 4 + length labels
+  pub count : length (writes_in phases) ≤ copies_bound b (length labels)
 
 module _ (b : ℕ) (d : Sectors) (o : Option Layout) (all : Writes) where
   here_new : (w : Slice) (l : Label) (ws : List Slice) (rest labels : List Labelled) (s : ℕ) (v : List ℕ)
@@ -98,7 +102,7 @@ last_one n old last (inl (already, none)) = subst (λ (ps : List Writes). length
 last_one n old last (inr (not_yet, (new, from, one))) = subst (λ (ps : List Writes). length (writes_in ps) ≤ 1) (sym one) (omega arith)
 
 with_labels : (b : ℕ) (d : Sectors) (o : Option Layout) (p : Layout) (t : Table) (phases : List Writes) → Denotes b d o
-    → (copies : Copies b d o p t) → length (writes_in phases) ≤ 2 * array_len b + 4 + length copies.labels → HasFewWrites b d p phases
+    → (copies : Copies b d o p t) → length (writes_in phases) ≤ copies_bound b (length copies.labels) → HasFewWrites b d p phases
 with_labels b d o p t phases from copies count = record {
   old = o;
   from = from;
@@ -127,7 +131,7 @@ module _ (b : ℕ) (d : Sectors) (o : Option Layout) (p : Layout) (t : Table) (p
   P = array_phase b n t Primary
 
   abbrev Few : List Writes → Writes → Type 0
-  Few planned labels = length (writes_in planned) ≤ 2 * array_len b + 4 + length labels
+  Few planned labels = length (writes_in planned) ≤ copies_bound b (length labels)
 
   sides : (backup : List ℕ) → length P + length (backup_phase b n t backup) ≡ 2 * array_len b + 1
   sides backup = let first = array_length b n t backup in let second = backup_length b n t backup in omega (arith, first, second)
@@ -165,13 +169,13 @@ pub plan_few : (b : ℕ) (d : Sectors) (p : Layout) (phases : List Writes) (t : 
 plan_few b d p phases t body (idle healthy none) =
     no_writes b d (Some p) p phases healthy.denotes (subst (λ (ps : List Writes). length (writes_in ps) ≤ 1) (sym none) (omega arith))
 plan_few b d p phases t body (backup_first o u is) = with_labels b d o p u phases is.common.from is.copies
-    (subst (λ (ps : List Writes). length (writes_in ps) ≤ 2 * array_len b + 4 + length is.copies.labels) (sym is.is)
+    (subst (λ (ps : List Writes). length (writes_in ps) ≤ copies_bound b (length is.copies.labels)) (sym is.is)
     (backup_first_count b d o p u phases is))
 plan_few b d p phases t body (primary_first o u is) = with_labels b d o p u phases is.common.from is.copies
-    (subst (λ (ps : List Writes). length (writes_in ps) ≤ 2 * array_len b + 4 + length is.copies.labels) (sym is.is)
+    (subst (λ (ps : List Writes). length (writes_in ps) ≤ copies_bound b (length is.copies.labels)) (sym is.is)
     (primary_first_count b d o p u phases is))
 plan_few b d p phases t body (from_mbr o u is) = with_labels b d o p u phases is.common.from is.copies
-    (subst (λ (ps : List Writes). length (writes_in ps) ≤ 2 * array_len b + 4 + length is.copies.labels) (sym is.is)
+    (subst (λ (ps : List Writes). length (writes_in ps) ≤ copies_bound b (length is.copies.labels)) (sym is.is)
     (from_mbr_count b d o p u phases is))
 plan_few b d p phases t body (one_label o u is) =
     no_writes b d o p phases is.common.from (subst (λ (ps : List Writes). length (writes_in ps) ≤ 1) (sym is.is) (omega arith))

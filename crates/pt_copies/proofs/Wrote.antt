@@ -13,6 +13,7 @@ use Rattle.pt_gpt.specs.declared.table.Side.TheVariants.{Primary, Backup}
 use Rattle.pt_gpt.specs.declared.table.Table.{Table}
 use Rattle.pt_cases.specs.Cases.{backup_first_phases, primary_first_phases, from_mbr_phases, labels_and_backup, primary_and_labels}
 use Rattle.pt_cases.specs.Cases.{copies_and_labels}
+use Rattle.pt_cases.specs.Few.{copies_bound}
 use Rattle.pt_cases.specs.Copies.{array_phase, one_write, closing, backup_phase}
 use Rattle.pt_cases.specs.laws.Sides.{array_count}
 use Rattle.pt_copies.specs.Written.{last_of, WroteCopies}
@@ -99,7 +100,7 @@ module _ (b n : ℕ) (t : Table) (labels : List (Write b)) (ps : List (Vec (Writ
         phases_some ps (subst NoneEmpty (sym is.is)
         (omega (arith, front), (omega arith, (omega (arith, array, some), (omega arith, last_some last)))))
 
-    pub backup_first_count : length (writes_in (phases_in ps)) ≤ 2 * array_len b + 4 + length labels
+    pub backup_first_count : length (writes_in (phases_in ps)) ≤ copies_bound b (length labels)
     backup_first_count =
         let all =
         four_lengths (labels_and_backup b n t is.backup (writes_of labels)) (closing b) (array_phase b n t Primary)
@@ -108,7 +109,7 @@ module _ (b n : ℕ) (t : Table) (labels : List (Write b)) (ps : List (Vec (Writ
         let array = array_length b n t Primary in
         let end = last_length last in
         let few = length_writes labels in
-        subst (λ (x : List Writes). length (writes_in x) ≤ 2 * array_len b + 4 + length labels) (sym is.is)
+        subst (λ (x : List Writes). length (writes_in x) ≤ copies_bound b (length labels)) (sym is.is)
         (omega (arith, all, front, array, end, few))
 
   module _ (last : Option (List ℕ))
@@ -128,7 +129,7 @@ module _ (b n : ℕ) (t : Table) (labels : List (Write b)) (ps : List (Vec (Writ
         phases_some ps (subst NoneEmpty (sym is.is)
         (omega arith, (omega (arith, middle, some), (omega arith, (omega (arith, copy), last_some last)))))
 
-    pub primary_first_count : length (writes_in (phases_in ps)) ≤ 2 * array_len b + 4 + length labels
+    pub primary_first_count : length (writes_in (phases_in ps)) ≤ copies_bound b (length labels)
     primary_first_count =
         let all =
         four_lengths (closing b) (primary_and_labels b n t (writes_of labels)) (one_write 1 is.primary) (backup_phase b n t is.backup)
@@ -137,7 +138,7 @@ module _ (b n : ℕ) (t : Table) (labels : List (Write b)) (ps : List (Vec (Writ
         let copy = backup_length b n t is.backup in
         let end = last_length last in
         let few = length_writes labels in
-        subst (λ (x : List Writes). length (writes_in x) ≤ 2 * array_len b + 4 + length labels) (sym is.is)
+        subst (λ (x : List Writes). length (writes_in x) ≤ copies_bound b (length labels)) (sym is.is)
         (omega (arith, all, middle, copy, end, few))
 
   module _ (head : List ℕ) (is : WroteCopies b n t (λ p k. from_mbr_phases b n t p k (writes_of labels) head) (phases_in ps)) where
@@ -153,9 +154,9 @@ module _ (b n : ℕ) (t : Table) (labels : List (Write b)) (ps : List (Vec (Writ
         let all = all_length b n t is.primary is.backup (writes_of labels) in
         phases_some ps (subst NoneEmpty (sym is.is) (omega (arith, all), (omega arith, tt)))
 
-    pub from_mbr_count : length (writes_in (phases_in ps)) ≤ 2 * array_len b + 4 + length labels
+    pub from_mbr_count : length (writes_in (phases_in ps)) ≤ copies_bound b (length labels)
     from_mbr_count =
         let first = count_more (copies_and_labels b n t is.primary is.backup (writes_of labels)) (one_write 0 head ∷ []) in
         let all = all_length b n t is.primary is.backup (writes_of labels) in
         let few = length_writes labels in
-        subst (λ (x : List Writes). length (writes_in x) ≤ 2 * array_len b + 4 + length labels) (sym is.is) (omega (arith, first, all, few))
+        subst (λ (x : List Writes). length (writes_in x) ≤ copies_bound b (length labels)) (sym is.is) (omega (arith, first, all, few))

@@ -1,10 +1,11 @@
 //! Plans that write both copies of a table, and labels with them.
 
-ghost use Rattle.std.specs.Prelude.{◌≡◌, ◌+◌, ◌*◌, ◌<◌, ◌≤◌, ◌++◌, length, All, IfOk, OnOk};
+ghost use Rattle.std.specs.Prelude.{◌≡◌, ◌<◌, ◌≤◌, ◌++◌, length, All, IfOk, OnOk};
 ghost use Rattle.pt_sector.specs.Sectors.{IsSectorSize};
 ghost use Rattle.pt_apply.specs.Plans.{writes_of, phases_of, phases_in, InRange, PhaseInRange, writes_in};
-ghost use Rattle.pt_gpt.specs.Array.{array_len, HasRoom};
+ghost use Rattle.pt_gpt.specs.Array.{HasRoom};
 ghost use Rattle.pt_cases.specs.Cases.{backup_first_phases, primary_first_phases, from_mbr_phases, primary_and_labels};
+ghost use Rattle.pt_cases.specs.Few.{copies_bound};
 ghost use Rattle.pt_copies.specs.Added.{ArePrimary};
 ghost use Rattle.pt_copies.specs.Written.{last_of, WroteCopies};
 
@@ -86,7 +87,7 @@ pub fn backup_first<const B: usize>(
         (λ p k. backup_first_phases B sectors table.now p k (writes_of labels.entry.items) (last_of last.now)) (phases_of plan)) }
     ensures in_range { IfOk result (InRange sectors) }
     ensures some { IfOk result (λ plan. All (λ p. 0 < length p.items) plan.phases.items) }
-    ensures count { IfOk result (λ plan. length (writes_in (phases_of plan)) ≤ 2 * array_len B + 4 + length labels.entry.items) }
+    ensures count { IfOk result (λ plan. length (writes_in (phases_of plan)) ≤ copies_bound B (length labels.entry.items)) }
 {
     let mut front = labels;
     push_backup(&mut front, sectors, table)?;
@@ -116,7 +117,7 @@ pub fn primary_first<const B: usize>(
         (λ p k. primary_first_phases B sectors table.now p k (writes_of labels.entry.items) (last_of last.now)) (phases_of plan)) }
     ensures in_range { IfOk result (InRange sectors) }
     ensures some { IfOk result (λ plan. All (λ p. 0 < length p.items) plan.phases.items) }
-    ensures count { IfOk result (λ plan. length (writes_in (phases_of plan)) ≤ 2 * array_len B + 4 + length labels.entry.items) }
+    ensures count { IfOk result (λ plan. length (writes_in (phases_of plan)) ≤ copies_bound B (length labels.entry.items)) }
 {
     let array = array_and_labels(alloc, sectors, table, labels.as_slice())?;
     let mut backup = Vec::new(alloc);
@@ -144,7 +145,7 @@ pub fn from_mbr<const B: usize>(
         (λ p k. from_mbr_phases B sectors table.now p k (writes_of labels.entry.items) head.now) (phases_of plan)) }
     ensures in_range { IfOk result (InRange sectors) }
     ensures some { IfOk result (λ plan. All (λ p. 0 < length p.items) plan.phases.items) }
-    ensures count { IfOk result (λ plan. length (writes_in (phases_of plan)) ≤ 2 * array_len B + 4 + length labels.entry.items) }
+    ensures count { IfOk result (λ plan. length (writes_in (phases_of plan)) ≤ copies_bound B (length labels.entry.items)) }
 {
     let mut writes = single(alloc, 1, &header_sector(sectors, table, Side::Primary))?;
     push_array(&mut writes, table.entries.as_slice(), PRIMARY_ARRAY)?;

@@ -125,12 +125,34 @@ fn finished<const B: usize>(
 }
 
 /// Where the phases lead.
+#[derive(Clone, Copy)]
 enum Led {
     To(u64),
     No(Why),
 }
 
-/// The first phase after which the disk denotes the new layout, 0 where that is the old one; or what is wrong with one.
+/// The first write of a phase of several that is of a sector which decides what the disk denotes.
+fn read_on<const B: usize>(alloc: Global, disk: &mut MemDisk<B>, phase: &[Write<B>]) -> Option<Lba>
+    requires { IsSectorSize B }
+{
+    read_in(phase, &look(alloc, disk).trace)
+}
+
+/// Whether the disk denotes each of these, the old layout and the new one.
+fn denotes<const B: usize>(
+    alloc: Global,
+    disk: &mut MemDisk<B>,
+    old: &Option<Layout>,
+    new: &Option<Layout>,
+) -> (bool, bool)
+    requires { IsSectorSize B }
+{
+    let now = look(alloc, disk).layout;
+    (are_same(&now, old), are_same(&now, new))
+}
+
+/// The first phase after which the disk, a copy that is written, denotes the new layout, 0 where that is the old one; or
+/// what is wrong with one.
 fn where_led<const B: usize>(
     alloc: Global,
     disk: &mut MemDisk<B>,
@@ -140,21 +162,19 @@ fn where_led<const B: usize>(
 ) -> Result<Led, Fail>
     requires { IsSectorSize B }
 {
-    let mut now = copied(alloc, disk)?;
     let mut switch = 0;
     let mut number: u64 = 0;
     for phase in &plan.phases {
         number = number.saturating_add(1);
-        let before = look(alloc, &mut now);
-        if let Some(lba) = read_in(phase, &before.trace) {
+        if let Some(lba) = read_on(alloc, disk, phase) {
             return Ok(Led::No(Why::ReadSector(number, lba)));
         }
-        write_phase(&mut now, phase)?;
-        let after = look(alloc, &mut now);
-        if are_same(&after.layout, old) && switch == 0 {
+        write_phase(disk, phase)?;
+        let (is_old, is_new) = denotes(alloc, disk, old, new);
+        if is_old && switch == 0 {
             continue;
         }
-        if !are_same(&after.layout, new) {
+        if !is_new {
             return Ok(Led::No(Why::Neither(number)));
         }
         if switch == 0 {
@@ -222,6 +242,51 @@ fn at_once<const B: usize>(plan: &Plan<B>, sectors: u64, head: &Sector<B>) -> Op
     }
 }
 
+/// What there is against the finished disk, else the answer.
+fn judged<const B: usize>(alloc: Global, end: &mut MemDisk<B>, switch: u64) -> Result<Answer, Fail>
+    requires { IsSectorSize B }
+{
+    match verify(alloc, end)? {
+        Verdict::Yes(_) => Ok(Answer::Yes { switch }),
+        Verdict::No(finding) => Ok(Answer::No(Why::Final(finding))),
+    }
+}
+
+/// What there is against the phases, by the layouts before and after them, else the switch.
+fn against<const B: usize>(
+    alloc: Global,
+    disk: &mut MemDisk<B>,
+    plan: &Plan<B>,
+    old: &Option<Layout>,
+    new: &Option<Layout>,
+) -> Result<Led, Fail>
+    requires { IsSectorSize B }
+{
+    let mut now = copied(alloc, disk)?;
+    let led = where_led(alloc, &mut now, plan, old, new)?;
+    Ok(match (led, misplaced(plan, old, new)) {
+        (Led::To(_), Some(why)) => Led::No(why),
+        (led, _) => led,
+    })
+}
+
+/// The answer to a plan whose writes are few enough, within the disk, and leave its boot code.
+fn by_phases<const B: usize>(
+    alloc: Global,
+    disk: &mut MemDisk<B>,
+    plan: &Plan<B>,
+) -> Result<Answer, Fail>
+    requires { IsSectorSize B }
+{
+    let old = look(alloc, disk).layout;
+    let mut end = finished(alloc, disk, plan)?;
+    let new = look(alloc, &mut end).layout;
+    match against(alloc, disk, plan, &old, &new)? {
+        Led::To(switch) => judged(alloc, &mut end, switch),
+        Led::No(why) => Ok(Answer::No(why)),
+    }
+}
+
 /// The answer to a plan on a disk of at most `MOST` sectors.
 pub fn plain_check<const B: usize>(
     alloc: Global,
@@ -231,21 +296,8 @@ pub fn plain_check<const B: usize>(
     requires { IsSectorSize B }
 {
     let head: Sector<B> = sector(disk, 0)?;
-    if let Some(why) = at_once(plan, disk.sectors(), &head) {
-        return Ok(Answer::No(why));
-    }
-    let old = look(alloc, disk).layout;
-    let mut end = finished(alloc, disk, plan)?;
-    let new = look(alloc, &mut end).layout;
-    let switch = match where_led(alloc, disk, plan, &old, &new)? {
-        Led::To(switch) => switch,
-        Led::No(why) => return Ok(Answer::No(why)),
-    };
-    if let Some(why) = misplaced(plan, &old, &new) {
-        return Ok(Answer::No(why));
-    }
-    match verify(alloc, &mut end)? {
-        Verdict::Yes(_) => Ok(Answer::Yes { switch }),
-        Verdict::No(finding) => Ok(Answer::No(Why::Final(finding))),
+    match at_once(plan, disk.sectors(), &head) {
+        Some(why) => Ok(Answer::No(why)),
+        None => by_phases(alloc, disk, plan),
     }
 }

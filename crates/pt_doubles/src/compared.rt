@@ -50,6 +50,41 @@ fn surveyed<const B: usize>(
     Ok(told.primary == read_copy(alloc, disk, Side::Primary).is_ok())
 }
 
+/// Whether the trace of `recover` is the plain one.
+fn is_traced<const B: usize>(alloc: Global, disk: &mut MemDisk<B>) -> Result<bool, Fail>
+    requires { IsSectorSize B }
+{
+    let (_, trace) = recover_traced(alloc, disk);
+    let read = plain_trace(alloc, disk)?;
+    for s in 0..disk.sectors() {
+        if trace.contains(Lba(s)) != read.contains(&s) {
+            return Ok(false);
+        }
+    }
+    Ok(true)
+}
+
+/// Whether the survey is right.
+fn is_surveyed<const B: usize>(alloc: Global, disk: &mut MemDisk<B>) -> Result<bool, Fail>
+    requires { IsSectorSize B }
+{
+    match survey_disk(alloc, disk) {
+        Ok(told) => surveyed(alloc, disk, &told),
+        Err(_) => Ok(false),
+    }
+}
+
+/// What `verify` finds; nothing where it answers neither.
+fn verified<const B: usize>(alloc: Global, disk: &mut MemDisk<B>) -> Option<Option<Finding>>
+    requires { IsSectorSize B }
+{
+    match verify(alloc, disk) {
+        Ok(Verdict::Yes(_)) => Some(None),
+        Ok(Verdict::No(finding)) => Some(Some(finding)),
+        Err(_) => None,
+    }
+}
+
 /// What `verify` finds, where the plain one finds the same, both traces are one and the survey is right.
 pub fn compared<const B: usize>(
     alloc: Global,
@@ -57,24 +92,12 @@ pub fn compared<const B: usize>(
 ) -> Result<Option<Option<Finding>>, Fail>
     requires { IsSectorSize B }
 {
-    let (_, trace) = recover_traced(alloc, disk);
-    let read = plain_trace(alloc, disk)?;
-    for s in 0..disk.sectors() {
-        if trace.contains(Lba(s)) != read.contains(&s) {
-            return Ok(None);
-        }
+    if !is_traced(alloc, disk)? || !is_surveyed(alloc, disk)? {
+        return Ok(None);
     }
-    match survey_disk(alloc, disk) {
-        Ok(told) if surveyed(alloc, disk, &told)? => {}
-        _ => return Ok(None),
-    }
-    let found = match verify(alloc, disk) {
-        Ok(Verdict::Yes(_)) => None,
-        Ok(Verdict::No(finding)) => Some(finding),
-        Err(_) => return Ok(None),
-    };
+    let found = verified(alloc, disk);
     let plain = plain_verify(alloc, disk)?;
-    Ok(if plain == found { Some(found) } else { None })
+    Ok(if found == Some(plain) { found } else { None })
 }
 
 /// Compares on so many drawn images, and answers which findings were seen; nothing where two answers differ.

@@ -110,19 +110,28 @@ fn edits_of(alloc: Global, kind: Kind, size: Size) -> Result<Vec<Edit>, Fail> {
     }
 }
 
+fn disk_of(alloc: Global, kind: Kind, size: Size) -> Result<MemDisk<512>, Fail> {
+    match size {
+        Size::Large => large_disk(alloc, kind),
+        Size::Small => small_disk(alloc, kind),
+    }
+}
+
+/// What a disk denotes after a commit.
+fn committed_on(alloc: Global, disk: &mut MemDisk<512>, edits: &[Edit]) -> Result<Layout, Fail> {
+    commit(alloc, disk, edits, &guids())?;
+    Ok(recover(alloc, disk)?)
+}
+
 impl Case {
     /// The words of this kind on a disk of this size.
     pub fn new(alloc: Global, kind: Kind, size: Size) -> Result<Case, Fail> {
-        let mut disk = match size {
-            Size::Large => large_disk(alloc, kind)?,
-            Size::Small => small_disk(alloc, kind)?,
-        };
+        let mut disk = disk_of(alloc, kind, size)?;
         let image = image_of(alloc, &mut disk)?;
         let old = recover(alloc, &mut disk)?;
         let edits = edits_of(alloc, kind, size)?;
         let plan = plan_for(alloc, &mut disk, &edits, &guids())?;
-        commit(alloc, &mut disk, &edits, &guids())?;
-        let new = recover(alloc, &mut disk)?;
+        let new = committed_on(alloc, &mut disk, &edits)?;
         Ok(Case {
             image,
             edits,

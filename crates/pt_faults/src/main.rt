@@ -47,13 +47,19 @@ fn print_tried(rt: &HostRuntime, what: &str, tried: u64) -> Result<(), Fail> {
     Ok(writeln!(rt.stdout(), "{what}: {tried} stops")?)
 }
 
+/// Each call of a plan of so many, and of its commit.
+fn try_kind(rt: &HostRuntime, name: &str, kind: Kind, calls: usize) -> Result<(), Fail> {
+    let alloc = rt.alloc();
+    let case = Case::new(alloc, kind, Size::Large)?;
+    print_tried(rt, name, try_plan(alloc, &case, calls)?)?;
+    let _tried = try_commit(alloc, &case)?;
+    Ok(())
+}
+
 /// Each call of the four plans, and of their commits.
 fn try_all(rt: &HostRuntime) -> Result<(), Fail> {
-    let alloc = rt.alloc();
     for (name, kind, calls) in KINDS {
-        let case = Case::new(alloc, kind, Size::Large)?;
-        print_tried(rt, name, try_plan(alloc, &case, calls)?)?;
-        let _tried = try_commit(alloc, &case)?;
+        try_kind(rt, name, kind, calls)?;
     }
     Ok(())
 }
@@ -77,36 +83,88 @@ fn try_second(
     print_tried(rt, if is_repair { "repair" } else { "rename" }, tried)
 }
 
+/// Sessions of three names.
+fn try_sessions(rt: &HostRuntime, from: u64, apart: u64) -> Result<(), Fail> {
+    let case = Case::new(rt.alloc(), Kind::Name, Size::Small)?;
+    let tried = try_session(rt.alloc(), &case, from, apart)?;
+    print_tried(rt, "session", tried)
+}
+
+/// What the words ask for.
+#[derive(Clone, Copy)]
+enum Job {
+    All,
+    Session {
+        from: u64,
+        apart: u64,
+    },
+    Second {
+        kind: Kind,
+        is_repair: bool,
+        calls: (u64, u64),
+    },
+}
+
 fn number(word: &str) -> Option<u64> {
     word.parse::<u64>().ok()
 }
 
-fn on_words(rt: &HostRuntime, words: &[String]) -> Result<u8, Fail> {
-    if words.is_empty() {
-        try_all(rt)?;
-        return Ok(0);
+fn session_of(words: &[String]) -> Option<Job> {
+    if words.len() != 3 || words[0].as_str() != "session" {
+        return None;
     }
-    if words.len() == 3 && words[0].as_str() == "session" {
-        let (Some(from), Some(apart)) = (number(words[1].as_str()), number(words[2].as_str()))
-        else {
-            return Ok(2);
-        };
-        let case = Case::new(rt.alloc(), Kind::Name, Size::Small)?;
-        print_tried(rt, "session", try_session(rt.alloc(), &case, from, apart)?)?;
-        return Ok(0);
-    }
+    let from = number(words[1].as_str())?;
+    let apart = number(words[2].as_str())?;
+    Some(Job::Session { from, apart })
+}
+
+fn second_of(words: &[String]) -> Option<Job> {
     if words.len() != 4 {
-        return Ok(2);
+        return None;
     }
-    let is_repair = words[0].as_str() == "repair";
-    let from = number(words[2].as_str());
-    let to = number(words[3].as_str());
-    match (kind_of(words[1].as_str()), from, to) {
-        (Some(kind), Some(from), Some(to)) if is_repair || words[0].as_str() == "rename" => {
-            try_second(rt, kind, is_repair, (from, to))?;
+    let is_repair = match words[0].as_str() {
+        "repair" => true,
+        "rename" => false,
+        _ => return None,
+    };
+    let kind = kind_of(words[1].as_str())?;
+    let calls = (number(words[2].as_str())?, number(words[3].as_str())?);
+    Some(Job::Second {
+        kind,
+        is_repair,
+        calls,
+    })
+}
+
+fn job_of(words: &[String]) -> Option<Job> {
+    if words.is_empty() {
+        return Some(Job::All);
+    }
+    match session_of(words) {
+        Some(session) => Some(session),
+        None => second_of(words),
+    }
+}
+
+fn try_job(rt: &HostRuntime, job: Job) -> Result<(), Fail> {
+    match job {
+        Job::All => try_all(rt),
+        Job::Session { from, apart } => try_sessions(rt, from, apart),
+        Job::Second {
+            kind,
+            is_repair,
+            calls,
+        } => try_second(rt, kind, is_repair, calls),
+    }
+}
+
+fn on_words(rt: &HostRuntime, words: &[String]) -> Result<u8, Fail> {
+    match job_of(words) {
+        Some(job) => {
+            try_job(rt, job)?;
             Ok(0)
         }
-        _ => Ok(2),
+        None => Ok(2),
     }
 }
 

@@ -36,9 +36,9 @@ TakesArg page arg made =
     IfOk made (λ c. (a : App) (r : Rule) → IfOk page (IsCommand a) → IsArg r arg → IsCommand (with_rule a r) c)
 
 -- where a page was made, it comes behind the command's others
-abbrev pub AddsPage : {E : Type 0} → Command → Result Command E → Result Command E → Type 0
+abbrev pub AddsPage : {E : Type 0} → Result Command E → Result Command E → Result Command E → Type 0
 AddsPage ptab page made =
-    IfOk made (λ c. (a s : App) → IsCommand a ptab → IfOk page (IsCommand s) → IsCommand (with_subcommand a s.top) c)
+    IfOk made (λ c. (a s : App) → IfOk ptab (IsCommand a) → IfOk page (IsCommand s) → IsCommand (with_subcommand a s.top) c)
 
 -- ---- the job
 

@@ -239,27 +239,28 @@ fn on_plan<'a>(
     with_arg(page, sector_size(alloc, sizes))
 }
 
-/// The command with one more page, where that was made.
+/// The command with one more page, where both were made.
+// So `command` has no early end, in which it would own a command.
 fn with_page<'a>(
-    ptab: Command<'a>,
+    ptab: Result<Command<'a>, AllocError>,
     page: Result<Command<'a>, AllocError>,
 ) -> Result<Command<'a>, AllocError>
     ensures { AddsPage ptab.entry page.entry result }
 {
-    ptab.subcommand(page?)
+    ptab?.subcommand(page?)
 }
 
 fn command<'a>(alloc: Global, sizes: &'a [&'a str]) -> Result<Command<'a>, AllocError>
     ensures { IfOk result (IsCommand (spec.ptab sizes.entry)) }
 {
-    let ptab = top(alloc);
-    let ptab = with_page(ptab, on_image(alloc, sizes, "show", SHOW_ABOUT, SHOW))?;
-    let ptab = with_page(ptab, on_image(alloc, sizes, "verify", VERIFY_ABOUT, VERIFY))?;
-    let ptab = with_page(ptab, on_place(alloc, sizes, "locate", LOCATE_ABOUT, LOCATE))?;
-    let ptab = with_page(ptab, on_words(alloc, sizes, "edit", EDIT_ABOUT, EDIT))?;
-    let ptab = with_page(ptab, on_words(alloc, sizes, "plan", PLAN_ABOUT, PLAN))?;
-    let ptab = with_page(ptab, on_plan(alloc, sizes, "check", CHECK_ABOUT, CHECK))?;
-    let ptab = with_page(ptab, on_plan(alloc, sizes, "apply", APPLY_ABOUT, APPLY))?;
+    let ptab = Ok(top(alloc));
+    let ptab = with_page(ptab, on_image(alloc, sizes, "show", SHOW_ABOUT, SHOW));
+    let ptab = with_page(ptab, on_image(alloc, sizes, "verify", VERIFY_ABOUT, VERIFY));
+    let ptab = with_page(ptab, on_place(alloc, sizes, "locate", LOCATE_ABOUT, LOCATE));
+    let ptab = with_page(ptab, on_words(alloc, sizes, "edit", EDIT_ABOUT, EDIT));
+    let ptab = with_page(ptab, on_words(alloc, sizes, "plan", PLAN_ABOUT, PLAN));
+    let ptab = with_page(ptab, on_plan(alloc, sizes, "check", CHECK_ABOUT, CHECK));
+    let ptab = with_page(ptab, on_plan(alloc, sizes, "apply", APPLY_ABOUT, APPLY));
     with_page(ptab, on_image(alloc, sizes, "repair", REPAIR_ABOUT, REPAIR))
 }
 

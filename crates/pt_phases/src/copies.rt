@@ -1,11 +1,12 @@
 //! The plan of both copies.
 
-ghost use Rattle.std.specs.Prelude.{◌≡◌, ◌+◌, ◌*◌, ◌<◌, ◌≤◌, length, All, IfOk, IfErr, None};
+ghost use Rattle.std.specs.Prelude.{◌≡◌, ◌<◌, ◌≤◌, length, All, IfOk, IfErr, None};
 ghost use Rattle.pt_sector.specs.Sectors.{Sectors, IsSectorSize};
 ghost use Rattle.pt_apply.specs.Plans.{writes_of, phases_of, InRange, PhaseInRange, writes_in};
-ghost use Rattle.pt_gpt.specs.Array.{array_len, HasRoom};
+ghost use Rattle.pt_gpt.specs.Array.{HasRoom};
 ghost use Rattle.pt_members.specs.declared.layout.Layout.{Layout};
 ghost use Rattle.pt_cases.specs.Cases.{IsPlan};
+ghost use Rattle.pt_cases.specs.Few.{copies_bound};
 ghost use Rattle.pt_targets.specs.Causes.{HasNoCopies};
 ghost use Rattle.pt_targets.specs.Errors.{fault_in};
 ghost use Rattle.pt_targets.specs.Starts.{StopsBy};
@@ -53,7 +54,7 @@ fn arranged<const B: usize>(
     ensures in_range { IfOk result (InRange setting.now.sectors) }
     ensures some { IfOk result (λ plan. All (λ p. 0 < length p.items) plan.phases.items) }
     ensures short { IfOk result (λ plan. length plan.phases.items ≤ 5) }
-    ensures count { IfOk result (λ plan. length (writes_in (phases_of plan)) ≤ 2 * array_len B + 4 + length labels.entry.items) }
+    ensures count { IfOk result (λ plan. length (writes_in (phases_of plan)) ≤ copies_bound B (length labels.entry.items)) }
 {
     let sectors = setting.sectors;
     let last = last_sector(sectors, &setting.head);
@@ -99,7 +100,7 @@ pub fn both_copies<const B: usize>(
     ensures some { IfOk result (λ plan. All (λ p. 0 < length p.items) plan.phases.items) }
     ensures faultless { IfErr result (λ e. fault_in e ≡ None) }
     ensures short { IfOk result (λ plan. length plan.phases.items ≤ 5) }
-    ensures count { IfOk result (λ plan. length (writes_in (phases_of plan)) ≤ 2 * array_len B + 4 + length places.entry.items) }
+    ensures count { IfOk result (λ plan. length (writes_in (phases_of plan)) ≤ copies_bound B (length places.entry.items)) }
 {
     let targets = match in_order(places) {
         None => return Err(PlanError::NotOneSwitch),

@@ -3,7 +3,7 @@
 use pt_bsd::empty_label;
 use pt_mbr::{Ebr, Record};
 use pt_records::{MbrParts, delete, new, set_kind};
-use pt_recover::{Body, Ebrs, Labelled, Labels, Layout};
+use pt_recover::{Ebrs, Labelled, Labels, Layout};
 use pt_sector::Lba;
 use pt_words::{Asked, Code, End, Refusal};
 use std::alloc::Global;
@@ -76,27 +76,10 @@ fn is(made: Result<Layout, Refusal>, wanted: MbrParts) -> bool {
 }
 
 #[test]
-fn another_type_alone(rt: HostRuntime) -> Result<(), Fail> {
-    let mut wanted = three(rt.alloc())?;
-    wanted.records = [
-        wanted.records[0],
-        wanted.records[1],
-        None,
-        Some(record(0x07, 12288, 4096)),
-    ];
-    let made = set_kind::<512>(three(rt.alloc())?, 4, &Code::Two(0x07));
-    assert!(rt; is(made, wanted));
-    Ok(())
-}
-
-#[test]
 fn refused_types(rt: HostRuntime) -> Result<(), Fail> {
     for (number, code, refusal) in [
         (1, Code::Two(0x00), Refusal::UnknownCode),
         (1, Code::Two(0xEE), Refusal::UnknownCode),
-        (4, Code::Four(0x8300), Refusal::UnknownCode),
-        (1, Code::Two(0x05), Refusal::ContainerType),
-        (5, Code::Two(0x83), Refusal::ContainerType),
     ] {
         assert!(rt; not_typed(rt.alloc(), number, code)? == Some(refusal));
     }
@@ -106,9 +89,7 @@ fn refused_types(rt: HostRuntime) -> Result<(), Fail> {
 #[test]
 fn types_of_no_partition(rt: HostRuntime) -> Result<(), Fail> {
     let code = Code::Two(0x83);
-    for number in [0, 3, 6] {
-        assert!(rt; not_typed(rt.alloc(), number, code)? == Some(Refusal::NoSuchPartition));
-    }
+    assert!(rt; not_typed(rt.alloc(), 0, code)? == Some(Refusal::NoSuchPartition));
     Ok(())
 }
 
@@ -126,12 +107,6 @@ fn an_extended_partition_goes_with_its_chain(rt: HostRuntime) -> Result<(), Fail
     Ok(())
 }
 
-#[test]
-fn an_unused_number_has_no_partition(rt: HostRuntime) -> Result<(), Fail> {
-    assert!(rt; delete(three(rt.alloc())?, 3).err() == Some(Refusal::NoSuchPartition));
-    Ok(())
-}
-
 /// A new record.
 fn fresh(kind: u8, start: u32, size: u32) -> Record {
     Record {
@@ -141,28 +116,6 @@ fn fresh(kind: u8, start: u32, size: u32) -> Record {
         end_chs: [0xFE, 0xFF, 0xFF],
         start,
         size,
-    }
-}
-
-/// The parts of what a word made.
-fn parts_of(made: Result<Layout, Refusal>) -> Option<MbrParts> {
-    let layout = match made {
-        Ok(layout) => layout,
-        Err(_) => return None,
-    };
-    let Layout {
-        sectors,
-        body,
-        labels,
-    } = layout;
-    match body {
-        Body::Mbr { records, chain } => Some(MbrParts {
-            sectors,
-            records,
-            chain,
-            labels,
-        }),
-        Body::Gpt(_) => None,
     }
 }
 
@@ -177,76 +130,18 @@ fn asked((number, start, end, code): (u64, u64, End, Option<Code>)) -> Asked {
     }
 }
 
-/// Whether two `n` after each other make `wanted` of a disk without partitions.
-fn make(
-    alloc: Global,
-    first: (u64, u64, End, Option<Code>),
-    then: (u64, u64, End, Option<Code>),
-    wanted: MbrParts,
-) -> Result<bool, Fail> {
-    let old = parts(alloc, [None; 4], &[], &[])?;
-    let made = new::<512>(alloc, old, &asked(first));
-    match parts_of(made) {
-        Some(old) => {
-            let made = new::<512>(alloc, old, &asked(then));
-            Ok(is(made, wanted))
-        }
-        None => Ok(false),
-    }
-}
-
 #[test]
-fn the_lowest_number_and_the_largest_block(rt: HostRuntime) -> Result<(), Fail> {
-    let records = [
-        Some(fresh(0x83, 2048, 2048)),
-        Some(fresh(0x83, 4096, 12288)),
-        None,
-        None,
-    ];
-    let wanted = parts(rt.alloc(), records, &[], &[])?;
-    let first = (0, 2048, End::At(4095), None);
-    assert!(rt; make(rt.alloc(), first, (0, 0, End::Block, None), wanted)?);
-    Ok(())
-}
-
-#[test]
-fn a_logical_partition_in_a_new_extended_one(rt: HostRuntime) -> Result<(), Fail> {
-    let records = [None, Some(fresh(0x05, 4096, 8192)), None, None];
-    let chain = [
-        Ebr {
-            at: Lba(4096),
-            logical: None,
-            next: Some(Lba(6143)),
-        },
-        Ebr {
-            at: Lba(6143),
-            logical: Some(fresh(0x83, 1, 1000)),
-            next: None,
-        },
-    ];
-    let wanted = parts(rt.alloc(), records, &chain, &[])?;
-    let first = (2, 4096, End::At(12287), Some(Code::Two(0x05)));
-    assert!(rt; make(rt.alloc(), first, (5, 0, End::Length(1000), None), wanted)?);
-    Ok(())
-}
-
-#[test]
-fn a_new_slice_has_the_empty_label(rt: HostRuntime) -> Result<(), Fail> {
-    let records = [
-        Some(fresh(0xA5, 2048, 4096)),
-        None,
-        None,
-        Some(fresh(0x0F, 8192, 1)),
-    ];
+fn an_extended_partition_of_one_sector(rt: HostRuntime) -> Result<(), Fail> {
+    let records = [None, None, None, Some(fresh(0x0F, 8192, 1))];
     let chain = [Ebr {
         at: Lba(8192),
         logical: None,
         next: None,
     }];
-    let wanted = parts(rt.alloc(), records, &chain, &[labelled(1, 4096)])?;
-    let first = (4, 8192, End::Length(1), Some(Code::Two(0x0F)));
-    let then = (1, 2048, End::At(6143), Some(Code::Two(0xA5)));
-    assert!(rt; make(rt.alloc(), first, then, wanted)?);
+    let wanted = parts(rt.alloc(), records, &chain, &[])?;
+    let old = parts(rt.alloc(), [None; 4], &[], &[])?;
+    let asked = asked((4, 8192, End::Length(1), Some(Code::Two(0x0F))));
+    assert!(rt; is(new::<512>(rt.alloc(), old, &asked), wanted));
     Ok(())
 }
 
@@ -268,13 +163,8 @@ fn not_new(
 #[test]
 fn refused_partitions(rt: HostRuntime) -> Result<(), Fail> {
     for (full, number, code, refusal) in [
-        (false, 6, Code::Two(0x83), Refusal::NoSuchPartition),
         (true, 5, Code::Two(0x83), Refusal::NoSuchPartition),
         (false, 1, Code::Four(0x8300), Refusal::NumberTaken),
-        (true, 0, Code::Four(0x8300), Refusal::NoSpace),
-        (false, 0, Code::Four(0x8300), Refusal::UnknownCode),
-        (false, 3, Code::Two(0x0F), Refusal::ContainerType),
-        (false, 3, Code::Two(0x83), Refusal::Overlap),
     ] {
         let refused = not_new(rt.alloc(), full, number, End::Block, code)?;
         assert!(rt; refused == Some(refusal));

@@ -127,49 +127,10 @@ fn with_two(mut label: Label, first: u32, second: u32) -> Label {
     label
 }
 
-// The same without the second.
-fn with_one(mut label: Label, first: u32) -> Label {
-    label.entries[0] = Some(partition(first, 2000));
-    label
-}
-
-#[test]
-fn relative_label(rt: HostRuntime) {
-    let one = with_one(empty_label(4096), 16);
-    assert!(rt; stored::<512>(&one, 0, 2048, 4096).0 == [0xCF, 0x25]);
-    let two = with_two(empty_label(4096), 16, 2016);
-    let sector: [u8; 512] = encode_label(&two, &encode_label(&one, &[0; 512]));
-    assert!(rt; [sector[136], sector[137]] == [0xC0, 0x21]);
-    assert!(rt; decode_label(&sector, 2048, 4096) == Ok(two));
-}
-
-#[test]
-fn places_in_a_relative_label(rt: HostRuntime) {
-    let label = with_two(empty_label(4096), 16, 2016);
-    assert!(rt; label.form() == Form::Relative);
-    assert!(rt; label.entry_first(2048, &partition(2016, 1000)) == 4064);
-    assert!(rt; label.entry_first(4294967296, &partition(4294967295, 1)) == 8589934591);
-}
-
-// The two bytes of a label's checksum over another label.
-fn checksum_over(label: &Label, other: &Label) -> [u8; 2] {
-    let sector: [u8; 512] = encode_label(label, &encode_label(other, &[0; 512]));
-    [sector[136], sector[137]]
-}
-
-#[test]
-fn absolute_label(rt: HostRuntime) {
-    let label = absolute();
-    assert!(rt; stored::<512>(&label, 0, 2048, 4096) == ([0x08, 0x2A], Ok(label)));
-    assert!(rt; checksum_over(&with_one(label, 2064), &label) == [0xCF, 0x25]);
-}
-
 #[test]
 fn partitions_of_an_absolute_label(rt: HostRuntime) {
     let label = with_two(absolute(), 2064, 4064);
     assert!(rt; stored::<4096>(&label, 0, 2048, 4096) == ([0xC0, 0x29], Ok(label)));
-    assert!(rt; label.form() == Form::Absolute);
-    assert!(rt; label.entry_first(2048, &partition(4064, 1000)) == 4064);
 }
 
 #[test]
@@ -182,13 +143,7 @@ fn absolute_label_elsewhere(rt: HostRuntime) {
 
 #[test]
 fn offsets(rt: HostRuntime) {
-    assert!(rt; Form::Relative.offset_of(2048, 4064) == Some(2016));
-    assert!(rt; Form::Absolute.offset_of(2048, 4064) == Some(4064));
-    assert!(rt; Form::Relative.offset_of(4294967200, 4294967300) == Some(100));
-    assert!(rt; Form::Absolute.offset_of(4294967200, 4294967300) == None);
     assert!(rt; Form::Relative.offset_of(2048, 2047) == None);
-    assert!(rt; Form::Relative.sector_at(2048, 2016) == 4064);
-    assert!(rt; Form::Absolute.sector_at(2048, 4064) == 4064);
 }
 
 #[test]

@@ -28,15 +28,6 @@ fn published_sums(rt: HostRuntime) {
 }
 
 #[test]
-fn parts_sum_as_the_whole(rt: HostRuntime) {
-    let mut sum = Crc::new();
-    sum.update(b"1234");
-    sum.update(b"");
-    sum.update(b"56789");
-    assert!(rt; sum.value() == 0xCBF4_3926);
-}
-
-#[test]
 fn every_length_and_every_cut(rt: HostRuntime) {
     let mut bytes = [0u8; 40];
     for i in 0..40usize {

@@ -1,9 +1,9 @@
-ghost use Rattle.std.specs.Prelude.{◌≡◌, ◌≤◌, ◌+◌, ◌<◌, All, IfOk};
+ghost use Rattle.std.specs.Prelude.{◌≡◌, ◌≤◌, ◌+◌, ◌<◌, IfOk};
 ghost use Rattle.pt_sector.specs.Sectors.{IsSectorSize};
-ghost use Rattle.pt_apply.specs.Plans.{PhaseInRange, PhasesInRange, InRange};
+ghost use Rattle.pt_apply.specs.Plans.{PhaseInRange, InRange};
 
 use pt_apply::{Plan, Write, apply};
-use pt_sector::{CrashDisk, Disk, Fault, Lba, MemDisk};
+use pt_sector::{CrashDisk, Disk, Fault, Lba};
 use std::alloc::{AllocError, Global};
 
 /// Writes of so many sectors from a first one, each with this byte throughout.
@@ -49,43 +49,6 @@ fn byte_at<const B: usize, D: Disk<B>>(disk: &mut D, lba: u64) -> Result<u8, Fau
     let mut sector = [0; B];
     disk.read(Lba(lba), &mut sector)?;
     Ok(sector[B - 1])
-}
-
-/// Sectors 0, 1, 33 and 4095.
-fn four_of<const B: usize>(disk: &mut MemDisk<B>) -> [Result<u8, Fault>; 4]
-    requires size { IsSectorSize B }
-    requires range { ⟦<MemDisk<B> as Disk<B>>⟧.count disk.old ≡ 4096 }
-{
-    [
-        byte_at(disk, 0),
-        byte_at(disk, 1),
-        byte_at(disk, 33),
-        byte_at(disk, 4095),
-    ]
-}
-
-/// What the plan's application answers, and what these sectors then hold.
-fn applied<const B: usize>(
-    alloc: Global,
-) -> Result<(Result<(), Fault>, [Result<u8, Fault>; 4]), AllocError>
-    requires { IsSectorSize B }
-{
-    let plan = renaming::<B>(alloc)?;
-    let mut disk: MemDisk<B> = MemDisk::new(alloc, 4096)?;
-    let answer = apply(&mut disk, &plan);
-    Ok((answer, four_of(&mut disk)))
-}
-
-const APPLIED: (Result<(), Fault>, [Result<u8, Fault>; 4]) = (Ok(()), [Ok(0), Ok(4), Ok(3), Ok(1)]);
-
-#[test]
-fn a_plan_of_512_byte_sectors(rt: HostRuntime) {
-    assert!(rt; applied::<512>(rt.alloc()) == Ok(APPLIED));
-}
-
-#[test]
-fn a_plan_of_4096_byte_sectors(rt: HostRuntime) {
-    assert!(rt; applied::<4096>(rt.alloc()) == Ok(APPLIED));
 }
 
 /// The flush that ends phase 2 is the 36th call of the device, and fails; sectors 1 and 2 after a crash.

@@ -1,10 +1,7 @@
-ghost use Rattle.std.specs.Prelude.{◌≡◌, ◌≤◌, ◌<◌, ◌*◌, ◌^◌};
 ghost use Rattle.pt_sector.specs.Sectors.{IsSectorSize};
 
 use pt_apply::{Plan, Write};
 use pt_check::{Answer, CheckError, Why, check};
-use pt_gpt::CopyError;
-use pt_layout::{Finding, NoTable};
 use pt_sector::{CrashDisk, Disk, Fault, Lba, MemDisk, Sector};
 use std::alloc::{AllocError, Global};
 
@@ -69,19 +66,6 @@ fn one_by_one<const B: usize>(alloc: Global, steps: &[Step]) -> Result<Plan<B>, 
     Ok(Plan { phases })
 }
 
-/// All writes in one phase.
-fn at_once<const B: usize>(alloc: Global, steps: &[Step]) -> Result<Plan<B>, AllocError>
-    requires { IsSectorSize B }
-{
-    let mut phase = Vec::new(alloc);
-    for step in steps {
-        phase.push(write_of(*step))?;
-    }
-    let mut phases = Vec::new(alloc);
-    phases.push(phase)?;
-    Ok(Plan { phases })
-}
-
 /// The answer to a plan on an MBR disk without a partition; a fault of a write of sector 0 where it can't be written.
 fn on_mbr<const B: usize>(alloc: Global, plan: &Plan<B>) -> Result<Answer, CheckError>
     requires { IsSectorSize B }
@@ -93,41 +77,24 @@ fn on_mbr<const B: usize>(alloc: Global, plan: &Plan<B>) -> Result<Answer, Check
     }
 }
 
-/// The answer to writes in phases of their own, and in one phase.
+/// The answer to writes in phases of their own.
 fn in_turn<const B: usize>(alloc: Global, steps: &[Step]) -> Result<Answer, CheckError>
     requires { IsSectorSize B }
 {
     on_mbr::<B>(alloc, &one_by_one(alloc, steps)?)
 }
 
-fn together<const B: usize>(alloc: Global, steps: &[Step]) -> Result<Answer, CheckError>
-    requires { IsSectorSize B }
-{
-    on_mbr::<B>(alloc, &at_once(alloc, steps)?)
-}
-
-const ENDS: Answer = Answer::No(Why::Final(Finding::NoTable(NoTable::NoCopy(
-    CopyError::Signature,
-    CopyError::Signature,
-))));
-
 /// Writes in phases of their own, and the answer to them.
-const PLANS: [(&[Step], Answer); 10] = [
-    (&[], Answer::Yes { switch: 0 }),
+const PLANS: [(&[Step], Answer); 6] = [
     (&[EMPTY], Answer::Yes { switch: 0 }),
     (&[EMPTY, EIGHT, EIGHT], Answer::Yes { switch: 2 }),
-    (&[EIGHT, (128, None)], Answer::No(Why::OutOfRange(2))),
     (&[EMPTY, (0, Some((1, 0)))], Answer::No(Why::BootCode(2))),
     (&[FOUR, EIGHT], Answer::No(Why::Neither(1))),
     (&[EIGHT, EMPTY, EIGHT], Answer::No(Why::Neither(2))),
     (&[(0, None), EMPTY], Answer::No(Why::Neither(1))),
-    (&[EIGHT, (100, None)], Answer::No(Why::NotATable(Lba(100)))),
-    (&[(0, None)], ENDS),
 ];
 
-const READ: Answer = Answer::No(Why::ReadSector(1, Lba(0)));
-
-/// Whether these are the answers, and the one to two writes in one phase.
+/// Whether these are the answers.
 fn are_answered<const B: usize>(alloc: Global) -> bool
     requires { IsSectorSize B }
 {
@@ -136,41 +103,12 @@ fn are_answered<const B: usize>(alloc: Global) -> bool
             return false;
         }
     }
-    together::<B>(alloc, &[(1, None), EIGHT]) == Ok(READ)
-}
-
-#[test]
-fn plans_of_512_byte_sectors(rt: HostRuntime) {
-    assert!(rt; are_answered::<512>(rt.alloc()));
+    true
 }
 
 #[test]
 fn plans_of_4096_byte_sectors(rt: HostRuntime) {
     assert!(rt; are_answered::<4096>(rt.alloc()));
-}
-
-/// The answer to a phase of so many writes of sector 2.
-fn to_many(alloc: Global, count: usize) -> Result<Answer, CheckError> {
-    together::<512>(alloc, &Vec::from_elem(alloc, (2, None), count)?)
-}
-
-#[test]
-fn more_than_4096_writes(rt: HostRuntime) {
-    assert!(rt; to_many(rt.alloc(), 4096) == Ok(Answer::No(Why::NotATable(Lba(2)))));
-    assert!(rt; to_many(rt.alloc(), 4097) == Ok(Answer::No(Why::TooManyWrites)));
-}
-
-/// The answer to a plan without writes on a disk without sectors.
-fn without_sectors(alloc: Global) -> Result<Answer, CheckError> {
-    let plan = one_by_one(alloc, &[])?;
-    let mut disk: MemDisk<512> = MemDisk::new(alloc, 0)?;
-    check(alloc, &mut disk, &plan)
-}
-
-#[test]
-fn a_disk_without_sectors(rt: HostRuntime) {
-    let want = Answer::No(Why::Final(Finding::NoTable(NoTable::TooSmall)));
-    assert!(rt; without_sectors(rt.alloc()) == Ok(want));
 }
 
 /// What a plan that changes nothing meets where this call of the disk from now on fails.

@@ -168,59 +168,10 @@ const LOGICAL: [u8; 16] = [
     0x00, 0xFE, 0xFF, 0xFF, 0x83, 0xFE, 0xFF, 0xFF, 0x01, 0x00, 0x00, 0x00, 0xE8, 0x03, 0x00, 0x00,
 ];
 
-const LINK: [u8; 16] = [
-    0x00, 0xFE, 0xFF, 0xFF, 0x05, 0xFE, 0xFF, 0xFF, 0xFF, 0x07, 0x00, 0x00, 0xE9, 0x03, 0x00, 0x00,
-];
-
-const NEW_LINK: [u8; 16] = [
-    0x00, 0xFE, 0xFF, 0xFF, 0x05, 0xFE, 0xFF, 0xFF, 0xFF, 0x0F, 0x00, 0x00, 0xE9, 0x03, 0x00, 0x00,
-];
-
 /// The link to 6143 from an extended partition that begins at 4095.
 const REBASED: [u8; 16] = [
     0x00, 0xFE, 0xFF, 0xFF, 0x05, 0xFE, 0xFF, 0xFF, 0x00, 0x08, 0x00, 0x00, 0xE9, 0x03, 0x00, 0x00,
 ];
-
-fn first_chain<const B: usize>(alloc: Global) -> Result<Option<Vec<Target<B>>>, Fail>
-    requires { IsSectorSize B }
-{
-    let mut disk: MemDisk<B> = blank(alloc)?;
-    put(&mut disk, Lba(6143), &[7; B]);
-    Ok(put_targets(alloc, &mut disk, &without(alloc), &with_one(alloc)?))
-}
-
-/// How many targets a first chain has, and what is shown of one.
-fn of_first<const B: usize>(
-    alloc: Global,
-    k: usize,
-    place: usize,
-) -> Result<(usize, (u64, [u8; 16])), Fail>
-    requires { IsSectorSize B }
-{
-    match first_chain::<B>(alloc)? {
-        Some(targets) => Ok((targets.len(), shown(&targets, k, place))),
-        None => Ok((0, (0, [0; 16]))),
-    }
-}
-
-#[test]
-fn a_first_chain_has_known_bytes(rt: HostRuntime) -> Result<(), Fail> {
-    let alloc = rt.alloc();
-    assert!(rt; of_first::<512>(alloc, 1, 462)? == (3, (4096, LINK)));
-    assert!(rt; of_first::<512>(alloc, 2, 446)? == (3, (6143, LOGICAL)));
-    assert!(rt; of_first::<512>(alloc, 2, 0)? == (3, (6143, [0; 16])));
-    assert!(rt; of_first::<4096>(alloc, 1, 462)? == (3, (4096, LINK)));
-    Ok(())
-}
-
-#[test]
-fn a_first_chain_keeps_the_boot_code(rt: HostRuntime) -> Result<(), Fail> {
-    let (count, (at, record)) = of_first::<512>(rt.alloc(), 0, 462)?;
-    assert!(rt; (count, at, record[4]) == (3, 0, 0x05));
-    let (_, (_, code)) = of_first::<512>(rt.alloc(), 0, 0)?;
-    assert!(rt; code[7] == 0xEB);
-    Ok(())
-}
 
 /// A disk that holds the layout with one logical partition; none where it has no targets.
 fn disk_with_one(alloc: Global) -> Result<Option<MemDisk<512>>, Fail> {
@@ -229,13 +180,10 @@ fn disk_with_one(alloc: Global) -> Result<Option<MemDisk<512>>, Fail> {
     Ok(if done { Some(disk) } else { None })
 }
 
-/// The targets of another layout on that disk, with other bytes in one sector, if the disk has it.
-fn after_one(alloc: Global, other: Lba, new: &Parts) -> Result<Option<Vec<Target<512>>>, Fail> {
+/// The targets of another layout on that disk.
+fn after_one(alloc: Global, new: &Parts) -> Result<Option<Vec<Target<512>>>, Fail> {
     match disk_with_one(alloc)? {
-        Some(mut disk) => {
-            put(&mut disk, other, &[7; 512]);
-            Ok(put_targets(alloc, &mut disk, &with_one(alloc)?, new))
-        }
+        Some(mut disk) => Ok(put_targets(alloc, &mut disk, &with_one(alloc)?, new)),
         None => Ok(None),
     }
 }
@@ -250,39 +198,6 @@ fn four_show(targets: &[Target<512>], rows: &[(usize, usize, (u64, [u8; 16]))]) 
     targets.len() == 4
 }
 
-/// Whether the first two targets change nothing.
-fn first_two_stay(targets: &[Target<512>]) -> bool {
-    for k in 0..2usize {
-        if k >= targets.len() || targets[k].bytes != targets[k].under {
-            return false;
-        }
-    }
-    true
-}
-
-/// What is asked of the targets of one more logical partition.
-fn one_more(alloc: Global) -> Result<(bool, bool), Fail> {
-    let rows = [
-        (2, 446, (6143, LOGICAL)),
-        (2, 462, (6143, NEW_LINK)),
-        (3, 446, (8191, LOGICAL)),
-        (3, 462, (8191, [0; 16])),
-        (3, 0, (8191, [0; 16])),
-    ];
-    match after_one(alloc, Lba(8191), &with_two(alloc)?)? {
-        Some(targets) => Ok((first_two_stay(&targets), four_show(&targets, &rows))),
-        None => Ok((false, false)),
-    }
-}
-
-#[test]
-fn one_more_changes_the_last_link_alone(rt: HostRuntime) -> Result<(), Fail> {
-    let (two_stay, shown) = one_more(rt.alloc())?;
-    assert!(rt; two_stay);
-    assert!(rt; shown);
-    Ok(())
-}
-
 /// The layout with one logical partition, and an extended partition that begins a sector lower.
 fn with_lower(alloc: Global) -> Result<Parts, Fail> {
     let first = empty_at(4095, 4096);
@@ -293,7 +208,7 @@ fn with_lower(alloc: Global) -> Result<Parts, Fail> {
 /// Whether its links count from there.
 fn links_are_rebased(alloc: Global) -> Result<bool, Fail> {
     let rows = [(2, 462, (4096, REBASED)), (3, 446, (6143, LOGICAL))];
-    match after_one(alloc, Lba(16384), &with_lower(alloc)?)? {
+    match after_one(alloc, &with_lower(alloc)?)? {
         Some(targets) => Ok(four_show(&targets, &rows)),
         None => Ok(false),
     }

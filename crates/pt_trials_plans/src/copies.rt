@@ -4,7 +4,7 @@ ghost use Rattle.pt_apply.specs.Plans.{PhaseInRange};
 ghost use Rattle.pt_gpt.specs.Array.{HasRoom};
 
 use pt_apply::{Plan, Write};
-use pt_copies::{backup_first, fits_table, from_mbr, primary_first, protected_head, protecting};
+use pt_copies::{backup_first, fits_table, protected_head, protecting};
 use pt_gpt::{Entries, Entry, Table, array_sectors};
 use pt_guid::Guid;
 use pt_sector::Lba;
@@ -72,20 +72,6 @@ fn outline<const B: usize>(plan: &Plan<B>) -> [(usize, u64); 5]
     outline
 }
 
-/// The plan with no labels where no primary copy stands, over a sector 0 of zeros.
-fn without_primary<const B: usize>(
-    alloc: Global,
-    sectors: u64,
-) -> Result<[(usize, u64); 5], AllocError>
-    requires size { IsSectorSize B }
-    requires room { HasRoom B sectors }
-{
-    let table = table::<B>(alloc, sectors)?;
-    let last = protecting(sectors, &[0; B]);
-    let plan = primary_first(alloc, sectors, &table, Vec::new(alloc), &last)?;
-    Ok(outline(&plan))
-}
-
 /// The plan where a primary copy stands and sector 0 is protective.
 fn with_primary<const B: usize>(
     alloc: Global,
@@ -115,57 +101,10 @@ fn with_two_labels<const B: usize>(
     with_primary(alloc, sectors, two)
 }
 
-/// The plan with no labels from an MBR disk.
-fn with_mbr<const B: usize>(alloc: Global, sectors: u64) -> Result<[(usize, u64); 5], AllocError>
-    requires size { IsSectorSize B }
-    requires room { HasRoom B sectors }
-{
-    let table = table::<B>(alloc, sectors)?;
-    let head = protected_head(sectors, &[0; B]);
-    let plan = from_mbr(alloc, sectors, &table, Vec::new(alloc), &head)?;
-    Ok(outline(&plan))
-}
-
-/// The plans with no labels where no primary copy stands, where one stands, and from an MBR disk; and with two labels
-/// where one stands.
-fn outlines<const B: usize>(
-    alloc: Global,
-    sectors: u64,
-) -> Result<[[(usize, u64); 5]; 4], AllocError>
-    requires size { IsSectorSize B }
-    requires room { HasRoom B sectors }
-    requires many { 256 ≤ sectors }
-{
-    Ok([
-        without_primary::<B>(alloc, sectors)?,
-        with_primary::<B>(alloc, sectors, Vec::new(alloc))?,
-        with_mbr::<B>(alloc, sectors)?,
-        with_two_labels::<B>(alloc, sectors)?,
-    ])
-}
-
 #[test]
 fn phases_of_both_copies(rt: HostRuntime) -> Result<(), Fail> {
-    let small = outlines::<512>(rt.alloc(), 2048)?;
-    assert!(rt;
-        small
-            == [
-                [(1, 1), (32, 2), (1, 1), (33, 2015), (1, 0)],
-                [(33, 2015), (1, 1), (32, 2), (1, 1), (0, 0)],
-                [(66, 1), (1, 0), (0, 0), (0, 0), (0, 0)],
-                [(35, 100), (1, 1), (32, 2), (1, 1), (0, 0)],
-            ]
-    );
-    let large = outlines::<4096>(rt.alloc(), 256)?;
-    assert!(rt;
-        large
-            == [
-                [(1, 1), (4, 2), (1, 1), (5, 251), (1, 0)],
-                [(5, 251), (1, 1), (4, 2), (1, 1), (0, 0)],
-                [(10, 1), (1, 0), (0, 0), (0, 0), (0, 0)],
-                [(7, 100), (1, 1), (4, 2), (1, 1), (0, 0)],
-            ]
-    );
+    let large = with_two_labels::<4096>(rt.alloc(), 256)?;
+    assert!(rt; large == [(7, 100), (1, 1), (4, 2), (1, 1), (0, 0)]);
     Ok(())
 }
 

@@ -1,13 +1,23 @@
-//! Tests of what the planner is made of. They stand in a crate of their own, so that
-//! what they test isn't proved twice.
+//! Tests of what the planner is made of, and of what callers of the library alone can ask for: plans for layouts that they
+//! build, repairs with their findings, sessions, and a commit on a disk of 2^40 sectors. They stand in a crate of their own,
+//! so that what they test isn't proved twice. Commits and repairs are tried on the built command, and call by call by
+//! `pt_faults`.
 #![tactic(auto)]
 
+#[cfg(test)]
+mod built;
 #[cfg(test)]
 mod chains;
 #[cfg(test)]
 mod copies;
 #[cfg(test)]
+mod huge;
+#[cfg(test)]
 mod places;
+#[cfg(test)]
+mod repairs;
+#[cfg(test)]
+mod sessions;
 #[cfg(test)]
 mod tables;
 #[cfg(test)]

@@ -136,25 +136,9 @@ fn counts_on_none(
 }
 
 #[test]
-fn orders_without_labels(rt: HostRuntime) -> Result<(), Fail> {
-    let alloc = rt.alloc();
-    let blank = Some(ZEROS);
-    let no_primary = counts_on_none(alloc, Order::PrimaryFirst, blank, Vec::new(alloc));
-    assert!(rt; no_primary == Ok([1, 32, 1, 33, 1]));
-    let mbr = counts_on_none(alloc, Order::FromMbr, blank, Vec::new(alloc));
-    assert!(rt; mbr == Ok([66, 1, 0, 0, 0]));
-    let with_primary = counts_on_none(alloc, Order::BackupFirst, None, Vec::new(alloc));
-    assert!(rt; with_primary == Ok([33, 1, 32, 1, 0]));
-    Ok(())
-}
-
-#[test]
 fn orders_with_labels(rt: HostRuntime) -> Result<(), Fail> {
     let alloc = rt.alloc();
     let blank = Some(ZEROS);
-    let place = one(alloc, 100, TargetKind::New)?;
-    let labelled = counts_on_none(alloc, Order::PrimaryFirst, blank, place);
-    assert!(rt; labelled == Ok([1, 33, 1, 33, 1]));
     let places = two(alloc, 200, 100)?;
     let with_labels = counts_on_none(alloc, Order::BackupFirst, blank, places);
     assert!(rt; with_labels == Ok([35, 1, 32, 1, 1]));
@@ -164,53 +148,22 @@ fn orders_with_labels(rt: HostRuntime) -> Result<(), Fail> {
 /// The counts on a protective disk that denotes the partition, where sectors 1 and 50 are guarded.
 fn counts_on_one(
     alloc: Global,
-    order: Order,
     places: Vec<Target<512>>,
 ) -> Result<Result<[usize; 5], PlanError>, Fail>
-    requires order { ¬ (order ≡ FromMbr) }
     requires in_range { All (λ t. t.at.0 < 4096) places.items }
 {
     let mut guarded = Trace::new(alloc);
     guarded.add_one(1)?;
     guarded.add_one(50)?;
     let old = Some(one_partition(alloc));
-    Ok(counts(alloc, order, &setting(&old, &guarded, None), places))
-}
-
-/// The same of a label at a sector, for the order that writes the backup copy first.
-fn counts_of_label(
-    alloc: Global,
-    at: u64,
-    kind: TargetKind,
-) -> Result<Result<[usize; 5], PlanError>, Fail>
-    requires { at < 4096 }
-{
-    let place = one(alloc, at, kind)?;
-    counts_on_one(alloc, Order::BackupFirst, place)
-}
-
-#[test]
-fn labels_that_are_refused(rt: HostRuntime) -> Result<(), Fail> {
-    let alloc = rt.alloc();
-    let owned = counts_of_label(alloc, 100, TargetKind::New)?;
-    assert!(rt; owned == Err(PlanError::ReusedInOneBatch));
-    let owned_change = counts_of_label(alloc, 199, TargetKind::Changes)?;
-    assert!(rt; owned_change == Err(PlanError::ReusedInOneBatch));
-    let change = counts_of_label(alloc, 200, TargetKind::Changes)?;
-    assert!(rt; change == Err(PlanError::NotOneSwitch));
-    let early = counts_of_label(alloc, 50, TargetKind::New)?;
-    assert!(rt; early == Err(PlanError::NotOneSwitch));
-    let late = counts_of_label(alloc, 200, TargetKind::New)?;
-    assert!(rt; late == Ok([34, 1, 32, 1, 0]));
-    Ok(())
+    let on_one = setting(&old, &guarded, None);
+    Ok(counts(alloc, Order::BackupFirst, &on_one, places))
 }
 
 #[test]
 fn sectors_that_are_refused(rt: HostRuntime) -> Result<(), Fail> {
     let alloc = rt.alloc();
-    let shared = counts_on_one(alloc, Order::BackupFirst, two(alloc, 100, 100)?)?;
+    let shared = counts_on_one(alloc, two(alloc, 100, 100)?)?;
     assert!(rt; shared == Err(PlanError::NotOneSwitch));
-    let early_header = counts_on_one(alloc, Order::PrimaryFirst, Vec::new(alloc))?;
-    assert!(rt; early_header == Err(PlanError::NotOneSwitch));
     Ok(())
 }

@@ -5,8 +5,7 @@ use pt_mbr::Record;
 use pt_recover::{Body, Ebrs, Labels, Layout, Trace};
 use pt_sector::Lba;
 use pt_targets::{
-    Split, Target, TargetKind, first_change, first_owned_change, first_owned_of_kind, in_order,
-    new_writes, one_change, split_changes,
+    Target, TargetKind, first_change, first_owned_change, first_owned_of_kind, in_order, new_writes,
 };
 use std::alloc::Global;
 use std::test::Fail;
@@ -82,29 +81,6 @@ fn sorted_sectors(alloc: Global, targets: &[Target<512>]) -> Result<Option<Vec<u
     }
 }
 
-/// The quiet sectors and the loud one of some targets, where these are guarded.
-fn parts(
-    alloc: Global,
-    targets: &[Target<512>],
-    sectors: &[u64],
-) -> Result<Option<(Vec<u64>, u64)>, Fail> {
-    let Some(sorted) = in_order(Vec::from_slice(alloc, targets)?) else {
-        return Ok(None);
-    };
-    match split_changes(alloc, &sorted, &guarded(alloc, sectors)?)? {
-        Split::NotOne => Ok(None),
-        Split::One { quiet, loud } => Ok(Some((sectors_of(alloc, &quiet)?, loud.lba.0))),
-    }
-}
-
-/// The sector and the first byte of the one change.
-fn lone(alloc: Global, targets: &[Target<512>]) -> Result<Option<(u64, u8)>, Fail> {
-    match in_order(Vec::from_slice(alloc, targets)?) {
-        None => Ok(None),
-        Some(sorted) => Ok(one_change(&sorted).map(|write| (write.lba.0, write.bytes[0]))),
-    }
-}
-
 /// The sectors of the new writes, where these are guarded.
 fn fresh(alloc: Global, targets: &[Target<512>], sectors: &[u64]) -> Result<Vec<u64>, Fail> {
     match in_order(Vec::from_slice(alloc, targets)?) {
@@ -117,52 +93,9 @@ fn fresh(alloc: Global, targets: &[Target<512>], sectors: &[u64]) -> Result<Vec<
 }
 
 #[test]
-fn targets_come_in_order(rt: HostRuntime) -> Result<(), Fail> {
-    let sectors = sorted_sectors(rt.alloc(), &[changed(64), kept(0), changed(63)])?;
-    let wanted = [0, 63, 64];
-    assert!(rt;
-        match &sectors {
-            Some(found) => found.as_slice() == wanted.as_slice(),
-            None => false
-        }
-    );
-    Ok(())
-}
-
-#[test]
 fn two_of_one_sector_have_no_order(rt: HostRuntime) -> Result<(), Fail> {
     let sectors = sorted_sectors(rt.alloc(), &[changed(64), kept(0), kept(64)])?;
     assert!(rt; sectors.is_none());
-    Ok(())
-}
-
-#[test]
-fn one_change_is_guarded(rt: HostRuntime) -> Result<(), Fail> {
-    let targets = [changed(64), changed(66), kept(1), changed(0), kept(65)];
-    let found = parts(rt.alloc(), &targets, &[0, 1, 65])?;
-    let wanted = [64, 66];
-    assert!(rt;
-        match &found {
-            Some((quiet, loud)) => quiet.as_slice() == wanted.as_slice() && *loud == 0,
-            None => false
-        }
-    );
-    Ok(())
-}
-
-#[test]
-fn two_changes_are_guarded(rt: HostRuntime) -> Result<(), Fail> {
-    let targets = [changed(0), kept(1), changed(64)];
-    assert!(rt; parts(rt.alloc(), &targets, &[0, 1, 64])?.is_none());
-    assert!(rt; parts(rt.alloc(), &targets, &[1])?.is_none());
-    Ok(())
-}
-
-#[test]
-fn a_lone_change(rt: HostRuntime) -> Result<(), Fail> {
-    assert!(rt; lone(rt.alloc(), &[kept(0), changed(1), kept(2)])? == Some((1, 1)));
-    assert!(rt; lone(rt.alloc(), &[kept(0), kept(1)])? == None);
-    assert!(rt; lone(rt.alloc(), &[changed(0), changed(1)])? == None);
     Ok(())
 }
 
@@ -183,7 +116,6 @@ fn new_labels_that_are_not_read(rt: HostRuntime) -> Result<(), Fail> {
 #[test]
 fn labels_that_change(rt: HostRuntime) {
     assert!(rt; first_change(&[kept(0), changed(1), changed(2)]) == Some(Lba(1)));
-    assert!(rt; first_change(&[kept(0), target(1, TargetKind::New, CHANGED)]) == None);
 }
 
 #[test]

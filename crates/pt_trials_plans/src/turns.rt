@@ -53,23 +53,10 @@ fn refused(
     Ok(turned(alloc, heads, places)?.err())
 }
 
-/// The answer for these label places.
-fn labelled(
-    alloc: Global,
-    broken: bool,
-    places: &[Target<512>],
-) -> Result<Result<Plan<512>, PlanError>, Fail> {
+/// The answer for these label places of a disk whose copies are whole.
+fn labelled(alloc: Global, places: &[Target<512>]) -> Result<Result<Plan<512>, PlanError>, Fail> {
     let places = Vec::from_slice(alloc, places)?;
-    Ok(one_label(alloc, &Some(one_partition(alloc)), broken, places))
-}
-
-/// What they are refused with.
-fn refused_label(
-    alloc: Global,
-    broken: bool,
-    places: &[Target<512>],
-) -> Result<Option<PlanError>, Fail> {
-    Ok(labelled(alloc, broken, places)?.err())
+    Ok(one_label(alloc, &Some(one_partition(alloc)), false, places))
 }
 
 /// Whether these are the sectors that a phase writes with all bytes changed.
@@ -105,49 +92,24 @@ fn quiet_sectors_come_first(rt: HostRuntime) -> Result<(), Fail> {
 }
 
 #[test]
-fn one_guarded_sector_is_one_phase(rt: HostRuntime) -> Result<(), Fail> {
-    let plan = turned(rt.alloc(), &[kept(0), changed(63)], &[kept(65)])??;
-    assert!(rt; writes(&plan, &[&[63]]));
-    Ok(())
-}
-
-#[test]
 fn not_one_guarded_sector_is_no_switch(rt: HostRuntime) -> Result<(), Fail> {
     let none = refused(rt.alloc(), &[kept(0), changed(70)], &[kept(65)])?;
     assert!(rt; none == Some(PlanError::NotOneSwitch));
-    let two = refused(rt.alloc(), &[changed(0), changed(70)], &[changed(65)])?;
-    assert!(rt; two == Some(PlanError::NotOneSwitch));
     let shared = refused(rt.alloc(), &[changed(0), changed(70)], &[kept(70)])?;
     assert!(rt; shared == Some(PlanError::NotOneSwitch));
     Ok(())
 }
 
 #[test]
-fn a_partition_keeps_its_sectors(rt: HostRuntime) -> Result<(), Fail> {
-    let heads = [changed(0), kept(63)];
-    let reused = refused(rt.alloc(), &heads, &[changed(199)])?;
-    assert!(rt; reused == Some(PlanError::ReusedInOneBatch));
-    let beside = refused(rt.alloc(), &heads, &[kept(199), changed(200)])?;
-    assert!(rt; beside == None);
-    let label = refused_label(rt.alloc(), false, &[kept(65), changed(100)])?;
-    assert!(rt; label == Some(PlanError::ReusedInOneBatch));
-    Ok(())
-}
-
-#[test]
 fn one_label_is_one_write(rt: HostRuntime) -> Result<(), Fail> {
-    let plan = labelled(rt.alloc(), false, &[kept(65), changed(64), kept(66)])??;
+    let plan = labelled(rt.alloc(), &[kept(65), changed(64), kept(66)])??;
     assert!(rt; writes(&plan, &[&[64]]));
     Ok(())
 }
 
 #[test]
-fn one_label_wants_one_change_and_whole_copies(rt: HostRuntime) -> Result<(), Fail> {
-    let none = refused_label(rt.alloc(), false, &[kept(65), kept(66)])?;
-    assert!(rt; none == Some(PlanError::NotOneSwitch));
-    let two = refused_label(rt.alloc(), true, &[changed(65), changed(66)])?;
-    assert!(rt; two == Some(PlanError::NotOneSwitch));
-    let broken = refused_label(rt.alloc(), true, &[changed(65), kept(66)])?;
-    assert!(rt; broken == Some(PlanError::NeedsRepair));
+fn one_label_wants_one_change(rt: HostRuntime) -> Result<(), Fail> {
+    let none = labelled(rt.alloc(), &[kept(65), kept(66)])?;
+    assert!(rt; none.err() == Some(PlanError::NotOneSwitch));
     Ok(())
 }

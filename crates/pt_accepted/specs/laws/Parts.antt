@@ -17,7 +17,7 @@ use Rattle.pt_members.specs.Tables.{IsTable, IsBodyTable, IsGptTable}
 use Rattle.pt_check.specs.Reasons.{most_writes}
 use Rattle.pt_cases.specs.Cases.{Copies}
 use Rattle.pt_cases.specs.Copies.{header_of, array_phase, one_write, backup_phase, IsProtectedFrom, Protects}
-use Rattle.pt_cases.specs.Few.{array_length, backup_length}
+use Rattle.pt_cases.specs.Few.{array_length, backup_length, copies_bound}
 use Rattle.pt_cases.specs.laws.Frames.{misses, one_is, put_there}
 use Rattle.pt_accepted.specs.Landing.{IsGood, Each}
 use Rattle.pt_shape.specs.laws.Stands.{place_usable}
@@ -105,7 +105,7 @@ module _ (b : ℕ) (d : Sectors) (o : Option Layout) (p : Layout) (t : Table) (s
   last_good last (inr (not_yet, (new, from, one))) = subst (Each (IsGood b d p)) (sym one) (head_good new from)
 
   -- how many there are
-  pub few_enough : (writes : ℕ) → writes ≤ 2 * array_len b + 4 + length copies.labels → writes ≤ most_writes
+  pub few_enough : (writes : ℕ) → writes ≤ copies_bound b (length copies.labels) → writes ≤ most_writes
   few_enough writes count = let small = array_small b size in omega (arith, small, count, copies.writes.few)
 
   pub array_few : length (array_phase b (length d) t Primary) ≡ array_len b

@@ -3,11 +3,11 @@ use Rattle.pt_line.proofs.line.command.Goals as goal
 
 pub returns : goal.returns
 returns c =
-    let show = c.in_ok-ptab.ensures _ _ c.top-ptab.ensures c.on_image.ensures in
-    let verify = c.in_ok-ptab-2.ensures _ _ show c.on_image-2.ensures in
-    let locate = c.in_ok-ptab-3.ensures _ _ verify c.on_place.ensures in
-    let edit = c.in_ok-ptab-4.ensures _ _ locate c.on_words.ensures in
-    let plan = c.in_ok-ptab-5.ensures _ _ edit c.on_words-2.ensures in
-    let check = c.in_ok-ptab-6.ensures _ _ plan c.on_plan.ensures in
-    let apply = c.in_ok-ptab-7.ensures _ _ check c.on_plan-2.ensures in
-    IfOk-weaker c.with_page-8.result _ _ (λ r adds. adds _ _ apply c.on_image-3.ensures) c.with_page-8.ensures
+    let show = IfOk-weaker c.with_page-ptab.result _ _ (λ r adds. adds _ _ c.top.ensures c.on_image.ensures) c.with_page-ptab.ensures in
+    let verify = IfOk-weaker c.with_page-ptab-2.result _ _ (λ r adds. adds _ _ show c.on_image-2.ensures) c.with_page-ptab-2.ensures in
+    let locate = IfOk-weaker c.with_page-ptab-3.result _ _ (λ r adds. adds _ _ verify c.on_place.ensures) c.with_page-ptab-3.ensures in
+    let edit = IfOk-weaker c.with_page-ptab-4.result _ _ (λ r adds. adds _ _ locate c.on_words.ensures) c.with_page-ptab-4.ensures in
+    let plan = IfOk-weaker c.with_page-ptab-5.result _ _ (λ r adds. adds _ _ edit c.on_words-2.ensures) c.with_page-ptab-5.ensures in
+    let check = IfOk-weaker c.with_page-ptab-6.result _ _ (λ r adds. adds _ _ plan c.on_plan.ensures) c.with_page-ptab-6.ensures in
+    let apply = IfOk-weaker c.with_page-ptab-7.result _ _ (λ r adds. adds _ _ check c.on_plan-2.ensures) c.with_page-ptab-7.ensures in
+    IfOk-weaker c.with_page.result _ _ (λ r adds. adds _ _ apply c.on_image-3.ensures) c.with_page.ensures

@@ -1,10 +1,10 @@
 //! Sessions of three names.
 
-use crate::renames::name_is;
-use pt_edit::Refusal;
+use pt_edit::{Refusal, edit};
+use pt_layout::{Layout, Verdict, verify};
 use pt_plan::{CommitError, Reply, session};
-use pt_samples::{batches, crash_disk, gpt_disk, holds, image_of};
-use pt_sector::{Disk, Fault};
+use pt_samples::{batches, crash_disk, gpt_disk, holds, image_of, words};
+use pt_sector::{Disk, Fault, MemDisk};
 use std::alloc::Global;
 use std::test::Fail;
 
@@ -18,6 +18,21 @@ fn replies_are<D: Disk<512>>(
     let batches = batches(alloc, texts)?;
     let replies = session(alloc, disk, &batches)?;
     Ok(replies.as_slice() == wanted)
+}
+
+/// The layout with this name of its first partition.
+fn named(alloc: Global, layout: &Layout, name: &str) -> Result<Layout, Fail> {
+    let word = format!(in alloc; "c:1:{name}")?;
+    let words = words(alloc, &[word.as_str()])?;
+    Ok(edit::<512>(alloc, Some(layout), layout.sectors, &words, &[])?)
+}
+
+/// Whether a disk is healthy and its first partition has this name: giving it anew changes nothing.
+fn name_is(alloc: Global, disk: &mut MemDisk<512>, name: &str) -> Result<bool, Fail> {
+    match verify(alloc, disk)? {
+        Verdict::Yes(layout) => Ok(named(alloc, &layout, name)?.same(&layout)),
+        Verdict::No(_) => Ok(false),
+    }
 }
 
 #[test]

@@ -4,8 +4,8 @@ ghost use Rattle.std.specs.Prelude.{◌*◌, ◌<◌, ◌^◌};
 ghost use Rattle.pt_file.specs.Untold.{untold, in_bound};
 ghost use Rattle.pt_sector.specs.Calls.{untouched_same, untouched_on};
 
-use crate::repairs::usable;
 use pt_apply::Write;
+use pt_layout::{Body, Verdict, verify};
 use pt_plan::{CommitError, commit};
 use pt_samples::{guids, words};
 use pt_sector::{Disk, Fault, Lba, Moments};
@@ -103,6 +103,17 @@ impl Disk<512> for SparseDisk {
 fn emptied(alloc: Global, disk: &mut SparseDisk) -> Result<Result<(), CommitError>, Fail> {
     let words = words(alloc, &["o"])?;
     Ok(commit(alloc, disk, &words, &guids()))
+}
+
+/// The first and last usable sector of a healthy GPT disk.
+fn usable(alloc: Global, disk: &mut SparseDisk) -> Result<Option<(u64, u64)>, Fail> {
+    match verify(alloc, disk)? {
+        Verdict::Yes(layout) => match &layout.body {
+            Body::Gpt(table) => Ok(Some((table.first, table.last))),
+            Body::Mbr { .. } => Ok(None),
+        },
+        Verdict::No(_) => Ok(None),
+    }
 }
 
 #[test]
