@@ -1,14 +1,18 @@
 #!/usr/bin/env bash
-# The whole gate: every proof from nothing, wrong bodies that the prover must refuse, the tests and the programs; then more wrong bodies,
-# over what was proved, and the proved command on real images, beside sgdisk and sfdisk, on damaged tables, on bad input, on hostile images, under power cuts, and with memory
-# refused and calls on the image failing. It ends with the line of `rt ci`.
+# The whole gate: every proof from nothing, wrong bodies that the prover must refuse, the tests and the programs, and more wrong bodies,
+# over what was proved; then the proved command on real images, beside sgdisk and sfdisk, on damaged tables, on bad input, on hostile images,
+# under power cuts, and with memory refused and calls on the image failing. It ends with the line of `rt ci`.
 set -euo pipefail
 cd "$(dirname "$0")"
 began=$(date +%s)
 export PATH="$PATH:/usr/sbin:/sbin"
 tests/install.sh
 said=$(mktemp)
-trap 'rm -f "$said"' EXIT
+bodies=$(mktemp)
+# more wrong bodies, each once what its crate stands on is proved, on processors that `rt ci` leaves idle
+nice python3 tests/wrong_bodies.py --gate --beside "$said" >"$bodies" 2>&1 &
+trying=$!
+trap 'kill "$trying" 2>/dev/null || true; rm -f "$said" "$bodies"' EXIT
 proving=$(date +%s)
 rt ci | tee "$said"
 proved=$(date +%s)
@@ -21,7 +25,6 @@ faults="$PWD/crates/pt_faults/out/pt_faults"
 archive="$PWD/crates/pt_c/out/libpt_c.a"
 # side by side, the longest first
 python3 tests/side_by_side.py <<LIST
-wrong_bodies.py --gate
 ../packaging/build.py --over-ci pt_c
 then c_library.py "$ptab" "$archive"
 then package.py "$ptab" "$archive"
@@ -45,5 +48,9 @@ recipes.py "$ptab"
 from_sgdisk.py "$ptab"
 man_page.py "$ptab"
 LIST
+tried=0
+wait "$trying" || tried=$?
+cat "$bodies"
+[ "$tried" = 0 ]
 echo "test.sh: $(($(date +%s) - began)) seconds on $(nproc) processors, of which rt ci took $((proved - proving))"
 tail -n 1 "$said"

@@ -1,9 +1,10 @@
 #!/usr/bin/env python3
 """Tries wrong bodies of functions, beside those of crates/NAME/must-fail that `rt ci` tries: the prover must refuse each.
 
-usage: tests/wrong_bodies.py [--gate] [NAME..]     crates, or none for all that have such edits
-  --gate   those of crates/NAME/must-fail-gate, over the libraries that `rt ci` has just proved. Without it those of
-           crates/NAME/must-fail-more, and what these crates stand on is proved first where it isn't proved yet
+usage: tests/wrong_bodies.py [--gate [--beside FILE]] [NAME..]     crates, or none for all that have such edits
+  --gate          those of crates/NAME/must-fail-gate, over the libraries that `rt ci` has just proved. Without it those of
+                  crates/NAME/must-fail-more, and what these crates stand on is proved first where it isn't proved yet
+  --beside FILE   while `rt ci` runs, which prints into this file: each crate's, once what stands below it is proved
 
 A function is proved against the contracts of those that it calls. So only the functions that an edit changes are proved, with those that
 they call; the edits of different functions are tried in one check, and each must be refused for its own goals. Where a function only calls
@@ -19,6 +20,7 @@ import shutil
 import subprocess
 import sys
 import tempfile
+import threading
 import time
 from concurrent.futures import ThreadPoolExecutor
 
@@ -29,6 +31,9 @@ import kit  # noqa: E402
 # One process for a check, since several checks run side by side, and the most memory that one takes, in bytes.
 FLAGS = ["--jobs", "1"]
 MEMORY = 4_000_000_000
+# How many run beside `rt ci`, which uses most of the memory, and how often its output is looked at, in seconds.
+LANES_BESIDE = 2
+SECONDS = 2
 # What a function's head has behind its result: clauses in braces, or its body's brace, or the end of a function without a body.
 BEHIND_HEAD = re.compile(r"^\s*(?:requires|ensures|ghost)\b|\{|;\s*$", re.MULTILINE)
 # The closing bracket of each.
@@ -202,23 +207,62 @@ def try_crate(rt, crate, folder):
     return failures
 
 
+def proved_by(said):
+    """What `rt ci` has proved so far, by what it printed into this file. None once it has proved all."""
+    with open(said, encoding="utf-8", errors="replace") as it:
+        text = it.read()
+    ended = re.search(r"^\d+ passed, (\d+) failed$", text, re.MULTILINE)
+    if ended and ended[1] != "0":
+        sys.exit("wrong_bodies.py: rt ci failed")
+    return None if ended else set(re.findall(r"^rt: (\w+) proved$", text, re.MULTILINE))
+
+
+class Left:
+    """The crates that are left to be tried, each once what stands below it is proved."""
+
+    def __init__(self, crates, said):
+        self.crates, self.said, self.lock = crates, said, threading.Lock()
+
+    def take(self):
+        """The next one that is ready, which may have to be waited for. None where none is left."""
+        with self.lock:
+            while self.crates:
+                proved = proved_by(self.said) if self.said else None
+                for crate in self.crates:
+                    if proved is None or all(lib.name in proved for lib in crate.below()):
+                        self.crates.remove(crate)
+                        return crate
+                time.sleep(SECONDS)
+        return None
+
+
+def try_all(rt, left, folder):
+    """What to say of the edits that weren't refused, of the crates that one lane takes."""
+    failures = []
+    while crate := left.take():
+        failures += try_crate(rt, crate, folder)
+    return failures
+
+
 def main(words):
     folder = "must-fail-gate" if "--gate" in words else "must-fail-more"
+    said = words.pop(words.index("--beside") + 1) if "--beside" in words else None
     rt = kit.load(ROOT)
     crates = {it.name: it for it in rt.rtlib.crates_below(ROOT)}
     having = [it for it in crates if os.path.isdir(f"{ROOT}/crates/{it}/{folder}")]
-    names = [it for it in words if it != "--gate"] or having
+    names = [it for it in words if it not in ("--gate", "--beside")] or having
     for name in names:
         if name not in having:
             sys.exit(f"wrong_bodies.py: crates/{name} has no {folder}")
     below = sorted({lib.name for name in names for lib in crates[name].below()})
     if below and folder == "must-fail-more":
         subprocess.run([sys.executable, f"{ROOT}/packaging/build.py", *below], stdout=subprocess.DEVNULL, check=True)
-    lanes = max(1, min(rt.processors(), rt.free() // MEMORY))
+    lanes = max(1, min(LANES_BESIDE if said else rt.processors(), rt.free() // MEMORY))
     # a check reads what stands below its crate, and that takes most of it
-    longest_first = sorted((crates[it] for it in names), key=lambda it: -sum(lib.count(rb"\n") for lib in [it, *it.below()]))
+    left = Left(sorted((crates[it] for it in names), key=lambda it: -sum(lib.count(rb"\n") for lib in [it, *it.below()])), said)
     with ThreadPoolExecutor(lanes) as pool:
-        failures = [text for found in pool.map(lambda it: try_crate(rt, it, folder), longest_first) for text in found]
+        lists = [pool.submit(try_all, rt, left, folder) for _ in range(lanes)]
+    failures = [text for found in lists for text in found.result()]
     print(*failures, sep="\n", end="\n" if failures else "")
     print(f"wrong bodies: {len(failures)} failed")
     sys.exit(1 if failures else 0)
