@@ -1,41 +1,39 @@
 #!/usr/bin/env bash
-# The whole gate: every proof from nothing, wrong bodies that the prover must refuse, the tests and the programs, and more wrong bodies,
-# over what was proved; then the proved command on real images, beside sgdisk and sfdisk, on damaged tables, on bad input, on hostile images,
+# The whole gate: every proof from nothing, wrong bodies that the prover must refuse, the tests and the programs; more wrong bodies, over
+# what was proved; and the proved command on real images, beside sgdisk and sfdisk, on damaged tables, on bad input, on hostile images,
 # under power cuts, and with memory refused and calls on the image failing. It ends with the line of `rt ci`.
 set -euo pipefail
 cd "$(dirname "$0")"
 began=$(date +%s)
 export PATH="$PATH:/usr/sbin:/sbin"
 tests/install.sh
+# what an earlier build left
+rm -rf crates/*/out
 said=$(mktemp)
 bodies=$(mktemp)
-# more wrong bodies, each once what its crate stands on is proved, on processors that `rt ci` leaves idle
-nice -n 19 python3 tests/wrong_bodies.py --gate --beside "$said" >"$bodies" 2>&1 &
-trying=$!
-trap 'kill "$trying" 2>/dev/null || true; rm -f "$said" "$bodies"' EXIT
-proving=$(date +%s)
-rt ci | tee "$said"
-proved=$(date +%s)
-# what `rt ci` proved and built
-ptab=$(python3 packaging/build.py --over-ci ptab)
-# the programs that only tests run
+scripts=$(mktemp)
+# the programs, those that only tests run, and the archive for callers in C, once they are proved
+ptab="$PWD/crates/ptab/out/ptab"
 doubles="$PWD/crates/pt_doubles/out/pt_doubles"
 faults="$PWD/crates/pt_faults/out/pt_faults"
-# the archive for callers in C, over what `rt ci` proved, and what is run on it
 archive="$PWD/crates/pt_c/out/libpt_c.a"
-# side by side, the longest first
-python3 tests/side_by_side.py <<LIST
-../packaging/build.py --over-ci pt_c
+# Beside `rt ci`, on processors that it leaves idle: more wrong bodies, each once what its crate stands on is proved, and the scripts, each
+# once what it runs is. Each has a process group of its own, so that nothing of it goes on where `rt ci` fails.
+set -m
+nice -n 19 python3 tests/wrong_bodies.py --gate --beside "$said" >"$bodies" 2>&1 &
+trying=$!
+nice -n 19 python3 tests/side_by_side.py --beside "$said" >"$scripts" 2>&1 <<LIST &
+../packaging/build.py --over-ci ptab pt_c
 then c_library.py "$ptab" "$archive"
 then package.py "$ptab" "$archive"
 then install.py "$ptab" "$archive"
 runs.py "$faults"
+rows.py "$ptab" "$doubles"
 hostile.py "$ptab" 8000
 no_memory.py "$ptab"
 no_device.py "$ptab"
 power_cut.py "$ptab"
 malicious.py "$ptab" "$doubles"
-rows.py "$ptab" "$doubles"
 rows_4096.py "$ptab" "$doubles"
 repairs.py "$ptab"
 reads.py "$ptab"
@@ -48,9 +46,17 @@ recipes.py "$ptab"
 from_sgdisk.py "$ptab"
 man_page.py "$ptab"
 LIST
-tried=0
-wait "$trying" || tried=$?
+running=$!
+set +m
+trap 'kill -- "-$trying" "-$running" 2>/dev/null || true; rm -f "$said" "$bodies" "$scripts"' EXIT
+proving=$(date +%s)
+rt ci | tee "$said"
+proved=$(date +%s)
+well=0
+wait "$running" || well=$?
+cat "$scripts"
+wait "$trying" || well=$?
 cat "$bodies"
-[ "$tried" = 0 ]
+[ "$well" = 0 ]
 echo "test.sh: $(($(date +%s) - began)) seconds on $(nproc) processors, of which rt ci took $((proved - proving))"
 tail -n 1 "$said"

@@ -33,10 +33,10 @@ def place_of(crate):
 
 
 def sum_of(rt, crate):
-    """A sum of all that a crate is made from: the kit, the list of crates, its sources and those below it."""
-    found = hashlib.sha256()
-    sources = [file for it in [*crate.below(), crate] for file in sorted(rt.rtlib.files_of(it.folder))]
-    for file in [f"{rt.KIT}/KIT-ID", f"{ROOT}/crates.txt", *sources]:
+    """A sum of all that a crate is made from: the kit, its line in the list of crates, its sources, and those of the crates below it."""
+    crates = [*crate.below(), crate]
+    found = hashlib.sha256(repr([it.said for it in crates]).encode())
+    for file in [f"{rt.KIT}/KIT-ID", *(file for it in crates for file in sorted(rt.rtlib.files_of(it.folder)))]:
         with open(file, "rb") as it:
             found.update(repr((os.path.relpath(file, ROOT), it.read())).encode())
     return found.hexdigest()
@@ -168,7 +168,8 @@ def build(names, is_over_ci):
     crates = [rt.Crate(f"{ROOT}/crates/{it}", ROOT, known) for it in names]
     left = [it for it in crates if not is_built(rt, it)]
     if is_over_ci and all(os.path.isdir(lib.rlib) for it in left for lib in it.below()):
-        is_well = all(prove(rt, it, rt.processors()) for it in left if it.is_static or not os.path.isfile(place_of(it)))
+        # in one process, since it may run beside `rt ci`
+        is_well = all(prove(rt, it, 1) for it in left if it.is_static or not os.path.isfile(place_of(it)))
     else:
         is_well = not left or prove_all(rt, left)
     for crate in left if is_well else []:

@@ -6,7 +6,7 @@ import sys
 # the most sectors of an image that the program compares
 MOST = 16384
 # It copies the image for each plan. Without these, each copy of some MB is asked of the system and given back, which takes as long as
-# all else that it does (mallopt(3)).
+# all else that it does (mallopt(3)). So it is with the scripts, which read whole images.
 KEEPS_MEMORY = {"MALLOC_MMAP_THRESHOLD_": "1000000000", "MALLOC_TRIM_THRESHOLD_": "1000000000", "MALLOC_TOP_PAD_": "33554432"}
 
 

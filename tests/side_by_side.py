@@ -1,11 +1,15 @@
 #!/usr/bin/env python3
 """Runs the scripts of this folder side by side, one for each processor, and prints what each said, in their order. Ends with 1 where
-one of them fails, and says which. Those that others wait for, and these others, go before the rest by the system's priorities.
+one of them fails, and says which.
 
-usage: tests/side_by_side.py <LIST     LIST has one script a line, with its words. A line that begins with `then` waits for the last
-                                       line above it that doesn't, and isn't run where that one fails.
+usage: tests/side_by_side.py [--beside FILE] <LIST
+  LIST            one script a line, with its words. A line that begins with `then` waits for the last line above it that doesn't, and
+                  isn't run where that one fails
+  --beside FILE   while `rt ci` runs, which prints into this file: each script, once the crates are proved that its words name, as pt_c or
+                  as the file of a built one
 """
 import os
+import re
 import shlex
 import subprocess
 import sys
@@ -13,15 +17,21 @@ import tempfile
 import time
 from concurrent.futures import ThreadPoolExecutor
 
+from beside import SECONDS, proved_by
+from doubles import KEEPS_MEMORY
+
 HERE = os.path.dirname(os.path.abspath(__file__))
+ROOT = os.path.dirname(HERE)
 
 
-def run(words, is_waited_for):
+def run(words):
     """Its exit status, what it said, and the seconds it took."""
     began = time.monotonic()
     with tempfile.TemporaryFile("w+", errors="replace") as said:
-        command = [*([] if is_waited_for else ["nice"]), sys.executable, f"{HERE}/{words[0]}", *words[1:]]
-        status = subprocess.run(command, stdin=subprocess.DEVNULL, stdout=said, stderr=subprocess.STDOUT, check=False).returncode
+        command = [sys.executable, f"{HERE}/{words[0]}", *words[1:]]
+        # the scripts, and what they run, read whole images again and again
+        how = {"stdin": subprocess.DEVNULL, "stdout": said, "stderr": subprocess.STDOUT, "env": {**os.environ, **KEEPS_MEMORY}}
+        status = subprocess.run(command, check=False, **how).returncode
         said.seek(0)
         return status, said.read(), time.monotonic() - began
 
@@ -40,26 +50,47 @@ def groups_of(lines):
 def answers_of(group):
     """A group's answers, in order: the first script's, and then those of the others, which are run at once and take no lane."""
     later = group[1:]
-    first = run(group[0], is_waited_for=bool(later))
+    first = run(group[0])
     if first[0] != 0 or not later:
         return [first, *((1, "not run\n", 0) for _ in later)]
     with ThreadPoolExecutor(len(later)) as more:
-        return [first, *more.map(lambda words: run(words, is_waited_for=True), later)]
+        return [first, *more.map(run, later)]
 
 
-def main():
+def crates_of(group):
+    """The crates that a group's scripts need."""
+    words = [it for words in group for it in words]
+    built = {found[1] for it in words if (found := re.match(rf"{re.escape(ROOT)}/crates/(\w+)/out/", it))}
+    return built | {it for it in words if os.path.isdir(f"{ROOT}/crates/{it}")}
+
+
+def start_all(pool, groups, said):
+    """Starts each group once its crates are proved, those first that come first, and gives their answers to come, in the order of the list."""
+    started, left = {}, list(range(len(groups)))
+    while left:
+        proved = proved_by(said) if said else None
+        for at in [it for it in left if proved is None or crates_of(groups[it]) <= proved]:
+            started[at] = pool.submit(answers_of, groups[at])
+            left.remove(at)
+        if left:
+            time.sleep(SECONDS)
+    return [started[at] for at in range(len(groups))]
+
+
+def main(words):
+    said = words[words.index("--beside") + 1] if "--beside" in words else None
     groups = groups_of(shlex.split(line) for line in sys.stdin if line.strip())
-    failed = []
-    with ThreadPoolExecutor(len(os.sched_getaffinity(0))) as lanes:
-        for group, answers in zip(groups, lanes.map(answers_of, groups)):
-            for words, (status, said, seconds) in zip(group, answers):
-                name = os.path.basename(words[0])
-                print(f"== {name}, {seconds:.0f} s\n{said}", end="", flush=True)
-                failed += [name] * (status != 0)
     if not groups:
         sys.exit("side_by_side.py: no script")
+    failed = []
+    with ThreadPoolExecutor(len(os.sched_getaffinity(0))) as pool:
+        for group, answers in zip(groups, start_all(pool, groups, said)):
+            for words, (status, text, seconds) in zip(group, answers.result()):
+                name = os.path.basename(words[0])
+                print(f"== {name}, {seconds:.0f} s\n{text}", end="", flush=True)
+                failed += [name] * (status != 0)
     if failed:
         sys.exit(f"side_by_side.py: failed: {' '.join(failed)}")
 
 
-main()
+main(sys.argv[1:])

@@ -27,13 +27,13 @@ from concurrent.futures import ThreadPoolExecutor
 ROOT = os.path.dirname(os.path.dirname(os.path.abspath(__file__)))
 sys.path.insert(0, f"{ROOT}/packaging")
 import kit  # noqa: E402
+from beside import SECONDS, proved_by  # noqa: E402
 
 # One process for a check, since several checks run side by side, and the most memory that one takes, in bytes.
 FLAGS = ["--jobs", "1"]
 MEMORY = 4_000_000_000
-# How many run beside `rt ci`, which uses most of the memory, and how often its output is looked at, in seconds.
+# How many run beside `rt ci`, which uses most of the memory.
 LANES_BESIDE = 2
-SECONDS = 2
 # What a function's head has behind its result: clauses in braces, or its body's brace, or the end of a function without a body.
 BEHIND_HEAD = re.compile(r"^\s*(?:requires|ensures|ghost)\b|\{|;\s*$", re.MULTILINE)
 # The closing bracket of each.
@@ -205,16 +205,6 @@ def try_crate(rt, crate, folder):
     took = time.monotonic() - began
     print(f"{crate.name}: {len(edits) - len(failures)} of {len(edits)} refused, {len(answers)} of them alone, {took:.0f} s", flush=True)
     return failures
-
-
-def proved_by(said):
-    """What `rt ci` has proved so far, by what it printed into this file. None once it has proved all."""
-    with open(said, encoding="utf-8", errors="replace") as it:
-        text = it.read()
-    ended = re.search(r"^\d+ passed, (\d+) failed$", text, re.MULTILINE)
-    if ended and ended[1] != "0":
-        sys.exit("wrong_bodies.py: rt ci failed")
-    return None if ended else set(re.findall(r"^rt: (\w+) proved$", text, re.MULTILINE))
 
 
 class Left:
