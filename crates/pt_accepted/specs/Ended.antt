@@ -17,13 +17,13 @@ use Rattle.pt_accepted.specs.laws.FromMbr.{from_mbr_ended}
 use Rattle.pt_accepted.specs.laws.OneLabel.{one_label_ended}
 use Rattle.pt_accepted.specs.laws.WithinMbr.{within_mbr_ended}
 use Rattle.pt_cases.specs.Cases.{IsPlan, idle, backup_first, primary_first, from_mbr, one_label, within_mbr}
-use Rattle.pt_shape.specs.StandsOn.{StandsOn}
-use Rattle.pt_shape.specs.laws.StandsOn.{along_labels_are, denoted_four}
+use Rattle.pt_cases.specs.StandsOn.{StandsOn}
+use Rattle.pt_cases.specs.laws.StandsOn.{along_labels_are, denoted_four}
 use Rattle.pt_cases.specs.Copies.{one_write}
 use Rattle.pt_cases.specs.laws.Frames.{is_place}
 use Rattle.pt_cases.specs.laws.Met.{labels_set_met}
-use Rattle.pt_shape.specs.laws.Ascending.{places_ascend_lem}
-use Rattle.pt_shape.specs.laws.Along.{along_label}
+use Rattle.pt_cases.specs.laws.Ascending.{places_ascend_lem}
+use Rattle.pt_cases.specs.laws.Along.{along_label}
 use Rattle.pt_cases.specs.Targets.{ComesToHold, IsLabelTarget, kept, Met, LabelsMet}
 
 -- after these phases the place of a slice holds the target of its label

@@ -10,7 +10,7 @@ use Rattle.pt_gpt.specs.declared.table.Table.{Table}
 use Rattle.pt_recover.specs.Mbr.{IsMbrDisk}
 use Rattle.pt_apply.specs.Plans.{writes_in}
 use Rattle.pt_apply.specs.laws.Puts.{puts_left, puts_right}
-use Rattle.pt_shape.specs.Shape.{FitsTable}
+use Rattle.pt_cases.specs.Shape.{FitsTable}
 use Rattle.pt_cases.specs.Cases.{labels_and_backup, backup_first_phases, primary_and_labels, primary_first_phases, copies_and_labels}
 use Rattle.pt_cases.specs.Cases.{from_mbr_phases}
 use Rattle.pt_cases.specs.Copies.{IsOfCopy, array_phase, one_write, closing, backup_phase, Protects}

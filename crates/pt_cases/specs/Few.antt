@@ -21,7 +21,7 @@ use Rattle.pt_cases.specs.Cases.{IsPrimaryFirst, IsFromMbr, backup_first_phases,
 use Rattle.pt_cases.specs.Cases.{labels_and_backup, primary_and_labels, copies_and_labels}
 use Rattle.pt_cases.specs.Copies.{array_phase, backup_phase, one_write, closing, Protects}
 use Rattle.pt_cases.specs.laws.Sides.{array_count}
-use Rattle.pt_shape.specs.Along.{Along}
+use Rattle.pt_cases.specs.Along.{Along}
 use Rattle.pt_cases.specs.Targets.{Had, Set, IsLabelSet, stood, set, there}
 
 -- sector s is the place of a slice of these, which gets this label where o has none

@@ -8,7 +8,7 @@ use Rattle.pt_sector.specs.declared.address.Lba.{Lba}
 use Rattle.pt_mbr.specs.Chain.{IsInside, IsUpward, StandsAt, lba}
 use Rattle.pt_mbr.specs.declared.ebr.Ebr.{Ebr}
 use Rattle.pt_mbr.specs.declared.record.Record.{Record}
-use Rattle.pt_shape.specs.Links.{LinkedOn, IsLoneChain}
+use Rattle.pt_cases.specs.Links.{LinkedOn, IsLoneChain}
 use Rattle.pt_mbr.specs.Extended.{extent_of}
 
 -- what is left from a place on opens with what stands there

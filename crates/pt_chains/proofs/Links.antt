@@ -7,7 +7,7 @@ use Rattle.pt_mbr.specs.Changes.{Leads, LinksTo, FitsLink, reach_of}
 use Rattle.pt_mbr.specs.Record.{record_bytes}
 use Rattle.pt_mbr.specs.declared.ebr.Ebr.{Ebr}
 use Rattle.pt_mbr.specs.declared.record.Record.{Record}
-use Rattle.pt_shape.specs.Links.{link_to}
+use Rattle.pt_cases.specs.Links.{link_to}
 use Rattle.pt_targets.specs.Unmade.{LeadsOn}
 
 low_0 : (x : ℕ) → x % 4294967296 % 256 ≡ x % 256

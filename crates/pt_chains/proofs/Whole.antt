@@ -9,7 +9,7 @@ use Rattle.pt_mbr.specs.Mbr.{MbrBytes, BearsProtective}
 use Rattle.pt_mbr.specs.declared.ebr.Ebr.{Ebr}
 use Rattle.pt_mbr.specs.declared.record.Record.{Record}
 use Rattle.pt_mbr.specs.Extended.{extended_of}
-use Rattle.pt_shape.specs.Links.{IsLoneChain, link_to}
+use Rattle.pt_cases.specs.Links.{IsLoneChain, link_to}
 use Rattle.pt_cases.specs.Records.{IsHeadTarget, IsEbrOver, IsEbrMade, IsEbrTarget, over, made}
 use Rattle.pt_targets.specs.Targets.{HasLoneChain, HasEbrs, AreMbrTargets}
 use Rattle.pt_targets.specs.declared.target.Target.{Target}

@@ -8,7 +8,7 @@ use Rattle.pt_mbr.specs.Mbr.{MbrBytes, BearsProtective}
 use Rattle.pt_mbr.specs.declared.ebr.Ebr.{Ebr}
 use Rattle.pt_mbr.specs.declared.record.Record.{Record}
 use Rattle.pt_mbr.specs.Extended.{extent_of}
-use Rattle.pt_shape.specs.Links.{link_to}
+use Rattle.pt_cases.specs.Links.{link_to}
 use Rattle.pt_cases.specs.Records.{IsHeadTarget, IsEbrTarget}
 use Rattle.pt_targets.specs.Targets.{HasEbrs}
 use Rattle.pt_targets.specs.declared.target.Target.{Target}

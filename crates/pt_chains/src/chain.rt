@@ -7,7 +7,7 @@ ghost use Rattle.pt_sector.specs.Sectors.{IsSectorSize};
 ghost use Rattle.pt_mbr.specs.Chain.{StandsAt};
 ghost use Rattle.pt_mbr.specs.declared.ebr.Ebr.{Ebr};
 ghost use Rattle.pt_mbr.specs.Extended.{extended_of};
-ghost use Rattle.pt_shape.specs.Links.{IsLoneChain};
+ghost use Rattle.pt_cases.specs.Links.{IsLoneChain};
 ghost use Rattle.pt_targets.specs.Targets.{AreMbrTargets};
 ghost use Rattle.pt_targets.specs.declared.target.Target.{Target};
 ghost use Rattle.pt_chains.specs.Steps.{IsHeadOf, IsEbrOf, AreChainTargets};

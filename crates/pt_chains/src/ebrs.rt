@@ -7,7 +7,7 @@ ghost use Rattle.pt_mbr.specs.Changes.{LinksTo, reach_of};
 ghost use Rattle.pt_mbr.specs.Ebr.{EbrBytes};
 ghost use Rattle.pt_mbr.specs.Record.{record_bytes};
 ghost use Rattle.pt_mbr.specs.declared.ebr.Ebr.{Ebr};
-ghost use Rattle.pt_shape.specs.Links.{link_to};
+ghost use Rattle.pt_cases.specs.Links.{link_to};
 ghost use Rattle.pt_cases.specs.Records.{IsEbrOver, IsEbrMade};
 ghost use Rattle.pt_targets.specs.Unmade.{LeadsOn, FitsEbr};
 ghost use Rattle.pt_chains.specs.Steps.{AreEbr};

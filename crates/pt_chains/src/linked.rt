@@ -3,7 +3,7 @@
 ghost use Rattle.std.specs.Prelude.{◌≡◌, ◌↔◌, ◌≤◌, [], length, Some, IsTrue};
 ghost use Rattle.pt_mbr.specs.Chain.{IsInside, IsUpward, lba};
 ghost use Rattle.pt_mbr.specs.Extended.{extended_of, extent_of};
-ghost use Rattle.pt_shape.specs.Links.{IsLoneChain, LinkedOn};
+ghost use Rattle.pt_cases.specs.Links.{IsLoneChain, LinkedOn};
 
 use pt_mbr::{Ebr, Extended, Record, extended_of};
 use pt_recover::Ebrs;

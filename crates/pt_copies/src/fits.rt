@@ -3,7 +3,7 @@
 ghost use Rattle.std.specs.Prelude.{◌≡◌, ◌<◌, ◌≤◌, IsTrue, ◌↔◌};
 ghost use Rattle.pt_sector.specs.Sectors.{IsSectorSize};
 ghost use Rattle.pt_gpt.specs.Array.{AllTyped};
-ghost use Rattle.pt_shape.specs.Shape.{FitsTable};
+ghost use Rattle.pt_cases.specs.Shape.{FitsTable};
 
 use pt_gpt::{Entry, Table, array_sectors};
 

@@ -11,7 +11,7 @@ ghost use Rattle.pt_members.specs.declared.layout.Body.TheVariants.{Mbr, Gpt};
 ghost use Rattle.pt_members.specs.declared.layout.Layout.{Layout};
 ghost use Rattle.pt_layout.specs.Sound.{Sound};
 ghost use Rattle.pt_layout.specs.declared.finding.Finding.{Finding};
-ghost use Rattle.pt_shape.specs.Keeps.{Keeps};
+ghost use Rattle.pt_cases.specs.Keeps.{Keeps};
 ghost use Rattle.pt_cases.specs.Cases.{ChangesLabels, IsPlan};
 ghost use Rattle.pt_cases.specs.Causes.{MayBePlanned, HadMbr};
 ghost use Rattle.pt_targets.specs.Causes.{WritesBoth, SharesSector, IsReused};

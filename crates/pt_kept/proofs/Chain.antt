@@ -15,8 +15,8 @@ use Rattle.pt_members.specs.laws.SliceLists.{record_slice, primary_slice, primar
 use Rattle.pt_members.specs.declared.layout.Slice.{Slice}
 use Rattle.pt_kept.proofs.Lists.{slices_by, filter_in, filter_out}
 use Rattle.pt_kept.proofs.Entries.{is_not, is_not_true, is_not_false}
-use Rattle.pt_shape.specs.Ascending.{NumbersAscend}
-use Rattle.pt_shape.specs.laws.Ascending.{logicals_ascend}
+use Rattle.pt_cases.specs.Ascending.{NumbersAscend}
+use Rattle.pt_cases.specs.laws.Ascending.{logicals_ascend}
 
 -- all numbers pass a test, or none does
 pub ascending_kept : (f : ℕ → Bool) (n : ℕ) (ss : List Slice) → ((m : ℕ) → n ≤ m → f m ≡ true) → NumbersAscend n ss → slices_by f ss ≡ ss

@@ -40,8 +40,8 @@ use Rattle.pt_edit.specs.Placed.{Placeable}
 use Rattle.pt_edit.specs.declared.partition.Partition.{Partition}
 use Rattle.pt_edit.proofs.Numbers.{placed}
 use Rattle.pt_edit.proofs.EntryPlaces.{at_place}
-use Rattle.pt_shape.specs.Shape.{AreLabelsOf, Shaped}
-use Rattle.pt_shape.specs.Keeps.{Keeps}
+use Rattle.pt_cases.specs.Shape.{AreLabelsOf, Shaped}
+use Rattle.pt_cases.specs.Keeps.{Keeps}
 use Rattle.pt_kept.proofs.Lists.{contains_cases, contains_later}
 use Rattle.pt_kept.proofs.Tables.{keeps_gpt}
 use Rattle.pt_kept.proofs.Mbr.{body_fits, old_labels, same_slice}

@@ -12,7 +12,7 @@ use Rattle.pt_mbr.specs.Extended.{is_extended, extended_of, extent_of}
 use Rattle.pt_records.specs.Chains.{ebr_at}
 use Rattle.pt_records.specs.Entered.{IsEmptyIn}
 use Rattle.pt_records.specs.ChainNew.{empty_sector}
-use Rattle.pt_shape.specs.Shape.{FitsRecord, FitsSlot, FitsLogical, Linked, FitsChain, FitsExtended}
+use Rattle.pt_cases.specs.Shape.{FitsRecord, FitsSlot, FitsLogical, Linked, FitsChain, FitsExtended}
 use Rattle.pt_kept.proofs.Lists.{contains_cases, contains_later}
 use Rattle.pt_kept.proofs.Tables.{contains_append}
 

@@ -23,10 +23,10 @@ use Rattle.pt_edit.specs.NewEntry.{EntryMade}
 use Rattle.pt_edit.specs.Edited.{State, initial, InKind, Typed, Deleted, Made, asked_for, MakesOn, MakesOf, Takes, WordsEnd, EditedFrom}
 use Rattle.pt_edit.specs.Edited.{Edited}
 use Rattle.pt_words.specs.declared.asked.Asked.{Asked}
-use Rattle.pt_shape.specs.Shape.{Shaped}
-use Rattle.pt_shape.specs.Keeps.{Keeps}
+use Rattle.pt_cases.specs.Shape.{Shaped}
+use Rattle.pt_cases.specs.Keeps.{Keeps}
 use Rattle.pt_kept.specs.Old.{MayBe}
-use Rattle.pt_shape.specs.laws.Terms.{keeps_refl, keeps_trans}
+use Rattle.pt_cases.specs.laws.Terms.{keeps_refl, keeps_trans}
 use Rattle.pt_kept.proofs.Parts.{keeps_entry_of, keeps_part}
 use Rattle.pt_kept.proofs.Logicals.{keeps_logical_typed, keeps_logical_deleted}
 use Rattle.pt_kept.proofs.NewLogicals.{keeps_logical_new}

@@ -31,8 +31,8 @@ use Rattle.pt_edit.specs.NewEntry.{IsUnusedEntry, TakesNumber, given, lowest, ne
 use Rattle.pt_edit.specs.NewEntry.{with_new_entry, EntryMade}
 use Rattle.pt_edit.specs.Edited.{empty_gpt}
 use Rattle.pt_words.specs.declared.asked.Asked.{Asked}
-use Rattle.pt_shape.specs.Shape.{FitsTable, AreLabelsOf, Shaped}
-use Rattle.pt_shape.specs.Keeps.{Keeps}
+use Rattle.pt_cases.specs.Shape.{FitsTable, AreLabelsOf, Shaped}
+use Rattle.pt_cases.specs.Keeps.{Keeps}
 use Rattle.pt_kept.proofs.Entries.{entry_numbered, entries_many, many_none}
 use Rattle.pt_kept.proofs.Tables.{keeps_table, keeps_small, keeps_entry, keeps_without, keeps_leaf, keeps_slice, table_fits, no_record}
 use Rattle.pt_kept.proofs.Tables.{no_ebr}

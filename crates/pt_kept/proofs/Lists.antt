@@ -8,7 +8,7 @@ use Rattle.pt_members.specs.declared.layout.Slice.{Slice}
 use Rattle.pt_members.specs.declared.layout.Labelled.{Labelled}
 use Rattle.pt_members.specs.Members.{label_of}
 use Rattle.pt_labels.specs.Lists.{labelled, labels_below, labels_above, with_new_label}
-use Rattle.pt_shape.specs.Shape.{FitsLabel, AreLabelsOf}
+use Rattle.pt_cases.specs.Shape.{FitsLabel, AreLabelsOf}
 
 -- the slices whose numbers pass a test, and the labels
 abbrev pub slices_by : (ℕ → Bool) → List Slice → List Slice

@@ -26,8 +26,8 @@ use Rattle.pt_words.specs.declared.word.Code.{Code}
 use Rattle.pt_words.specs.declared.word.Code.TheVariants.{Two, Four}
 use Rattle.pt_records.specs.Types.{record_type, is_container}
 use Rattle.pt_records.specs.Chains.{ebr_at, LogicalTyped, LogicalDeleted}
-use Rattle.pt_shape.specs.Shape.{FitsRecord, FitsLogical, Linked, FitsExtended, FitsMbr, AreLabelsOf, Shaped}
-use Rattle.pt_shape.specs.Keeps.{IsOldLabel, IsNewLabel, IsRetyped, IsMadeLogical, Keeps}
+use Rattle.pt_cases.specs.Shape.{FitsRecord, FitsLogical, Linked, FitsExtended, FitsMbr, AreLabelsOf, Shaped}
+use Rattle.pt_cases.specs.Keeps.{IsOldLabel, IsNewLabel, IsRetyped, IsMadeLogical, Keeps}
 use Rattle.pt_kept.proofs.Lists.{slices_by, contains_filter}
 use Rattle.pt_kept.proofs.Entries.{is_not, is_not_false}
 use Rattle.pt_kept.proofs.Chain.{primaries_below, renumbered, number_by, number_least, next_of, chain_same, chain_lowered, lower}

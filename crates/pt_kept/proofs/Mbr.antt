@@ -19,10 +19,10 @@ use Rattle.pt_members.specs.declared.layout.Body.{Body}
 use Rattle.pt_members.specs.declared.layout.Body.TheVariants.{Mbr}
 use Rattle.pt_members.specs.Counts.{used_before}
 use Rattle.pt_members.specs.Members.{label_of}
-use Rattle.pt_shape.specs.Shape.{FitsLogical, Linked, FitsChain, FitsExtended, FitsMbr, FitsBody, AreLabelsOf, Shaped}
-use Rattle.pt_shape.specs.Keeps.{LabelStays, IsOldLabel, IsNewLabel, IsRetyped, IsMadeRecord, IsMadeLogical, IsMbrBody, Keeps, records_in}
-use Rattle.pt_shape.specs.Keeps.{chain_in}
-use Rattle.pt_shape.specs.laws.Terms.{label_stays_refl_lem}
+use Rattle.pt_cases.specs.Shape.{FitsLogical, Linked, FitsChain, FitsExtended, FitsMbr, FitsBody, AreLabelsOf, Shaped}
+use Rattle.pt_cases.specs.Keeps.{LabelStays, IsOldLabel, IsNewLabel, IsRetyped, IsMadeRecord, IsMadeLogical, IsMbrBody, Keeps, records_in}
+use Rattle.pt_cases.specs.Keeps.{chain_in}
+use Rattle.pt_cases.specs.laws.Terms.{label_stays_refl_lem}
 use Rattle.pt_kept.proofs.Lists.{contains_cases, contains_later}
 use Rattle.pt_kept.proofs.Chain.{number_by, next_of}
 

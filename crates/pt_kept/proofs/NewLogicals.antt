@@ -34,14 +34,14 @@ use Rattle.pt_records.specs.Types.{new_type, is_slice}
 use Rattle.pt_records.specs.Chains.{ebr_at, number_at, with_logical}
 use Rattle.pt_records.specs.Entered.{IsEmptyAt, IsPlaceFor, with_ebr, Entered, reused, added}
 use Rattle.pt_records.specs.ChainNew.{logical_area, len_of, record_for, IsMisfit, labels_with, NewKind, LogicalNew, empty_sector, taken_of}
-use Rattle.pt_shape.specs.Shape.{FitsLogical, FitsChain, FitsExtended, FitsMbr, AreLabelsOf, Shaped}
-use Rattle.pt_shape.specs.Keeps.{IsOldLabel, IsNewLabel, IsMadeLogical, Keeps}
-use Rattle.pt_shape.specs.laws.Terms.{same_but_parts_refl}
+use Rattle.pt_cases.specs.Shape.{FitsLogical, FitsChain, FitsExtended, FitsMbr, AreLabelsOf, Shaped}
+use Rattle.pt_cases.specs.Keeps.{IsOldLabel, IsNewLabel, IsMadeLogical, Keeps}
+use Rattle.pt_cases.specs.laws.Terms.{same_but_parts_refl}
 use Rattle.pt_kept.proofs.Lists.{slices_by, are_entered, label_of_new, label_of_old, contains_cases, contains_filter}
 use Rattle.pt_kept.proofs.Entries.{is_below, is_above, around}
 use Rattle.pt_kept.proofs.Tables.{contains_append, empty_fits, slice_len}
-use Rattle.pt_shape.specs.Ascending.{NumbersAscend}
-use Rattle.pt_shape.specs.laws.Ascending.{slices_ascend_lem}
+use Rattle.pt_cases.specs.Ascending.{NumbersAscend}
+use Rattle.pt_cases.specs.laws.Ascending.{slices_ascend_lem}
 use Rattle.pt_kept.proofs.Chain.{AreBelow, below_append, below_more, primaries_below, logicals_below, renumbered, number_by, number_least}
 use Rattle.pt_kept.proofs.Chain.{chain_same, next_of}
 use Rattle.pt_kept.proofs.Raised.{greatest, raise, slices_raised, raised_low, chain_filled, chain_inserted}

@@ -29,12 +29,12 @@ use Rattle.pt_records.specs.Types.{is_slice}
 use Rattle.pt_records.specs.ChainNew.{len_of}
 use Rattle.pt_records.specs.Numbers.{IsUnusedNumber, TakesRecordNumber, as_asked, lowest_one}
 use Rattle.pt_records.specs.New.{extended_record, disk_area, record_at, new_chain, new_labels, RecordMade}
-use Rattle.pt_shape.specs.Shape.{FitsRecord, FitsExtended, FitsMbr, AreLabelsOf, Shaped}
-use Rattle.pt_shape.specs.Keeps.{IsMadeRecord, IsMadeLogical, Keeps}
+use Rattle.pt_cases.specs.Shape.{FitsRecord, FitsExtended, FitsMbr, AreLabelsOf, Shaped}
+use Rattle.pt_cases.specs.Keeps.{IsMadeRecord, IsMadeLogical, Keeps}
 use Rattle.pt_kept.proofs.Lists.{slices_by, are_entered, contains_cases}
 use Rattle.pt_kept.proofs.Entries.{is_below, is_above, around, records_with, records_same}
 use Rattle.pt_kept.proofs.Tables.{empty_fits, slice_len, entered_label}
-use Rattle.pt_shape.specs.laws.Ascending.{logicals_ascend}
+use Rattle.pt_cases.specs.laws.Ascending.{logicals_ascend}
 use Rattle.pt_kept.proofs.Chain.{ascending_kept, ascending_gone, emptied}
 use Rattle.pt_kept.proofs.Mbr.{mbr_of, WasRecord, WasLogical, keeps_mbr, body_fits, old_labels, same_slice, same_logical}
 use Rattle.pt_kept.proofs.NewLogicals.{new_plain}

@@ -13,9 +13,9 @@ use Rattle.pt_members.specs.declared.layout.Labelled.{Labelled}
 use Rattle.pt_members.specs.Members.{label_of}
 use Rattle.pt_labels.specs.Lists.{labelled, relabelled_as, with_label}
 use Rattle.pt_labels.specs.Parts.{with_part}
-use Rattle.pt_shape.specs.Shape.{FitsLabel, AreLabelsOf}
-use Rattle.pt_shape.specs.Ascending.{NumbersAscend}
-use Rattle.pt_shape.specs.Keeps.{SameButParts}
+use Rattle.pt_cases.specs.Shape.{FitsLabel, AreLabelsOf}
+use Rattle.pt_cases.specs.Ascending.{NumbersAscend}
+use Rattle.pt_cases.specs.Keeps.{SameButParts}
 use Rattle.pt_kept.proofs.Lists.{label_of_head, label_of_tail}
 
 same_label : (k : ℕ) (l : Label) (x : Labelled) → x.number ≢ k → relabelled_as k l x ≡ x

@@ -11,10 +11,10 @@ use Rattle.pt_members.specs.declared.member.Member.{Member}
 use Rattle.pt_members.specs.Members.{label_of}
 use Rattle.pt_labels.specs.Lists.{with_label}
 use Rattle.pt_labels.specs.Parts.{HasPartEntry, PartMade, with_part, with_entry_of}
-use Rattle.pt_shape.specs.Shape.{Shaped}
-use Rattle.pt_shape.specs.Keeps.{LabelStays, Keeps}
-use Rattle.pt_shape.specs.laws.Terms.{label_stays_refl_lem}
-use Rattle.pt_shape.specs.laws.Ascending.{slices_ascend_lem}
+use Rattle.pt_cases.specs.Shape.{Shaped}
+use Rattle.pt_cases.specs.Keeps.{LabelStays, Keeps}
+use Rattle.pt_cases.specs.laws.Terms.{label_stays_refl_lem}
+use Rattle.pt_cases.specs.laws.Ascending.{slices_ascend_lem}
 use Rattle.pt_kept.proofs.Order.{are_with, label_of_with, label_of_changed, part_fits, same_but_part}
 
 -- an entry that stands in a list stands inside it

@@ -22,11 +22,11 @@ use Rattle.pt_words.specs.declared.word.Code.{Code}
 use Rattle.pt_records.specs.Records.{IsPrimary}
 use Rattle.pt_records.specs.Typed.{PrimaryTyped}
 use Rattle.pt_records.specs.Deleted.{PrimaryDeleted, plain, extended}
-use Rattle.pt_shape.specs.Shape.{FitsRecord, FitsSlot, FitsExtended, FitsMbr, AreLabelsOf, Shaped}
-use Rattle.pt_shape.specs.Keeps.{IsRetyped, IsMadeRecord, Keeps}
+use Rattle.pt_cases.specs.Shape.{FitsRecord, FitsSlot, FitsExtended, FitsMbr, AreLabelsOf, Shaped}
+use Rattle.pt_cases.specs.Keeps.{IsRetyped, IsMadeRecord, Keeps}
 use Rattle.pt_kept.proofs.Lists.{slices_by, are_filter, label_of_by, contains_filter}
 use Rattle.pt_kept.proofs.Entries.{is_not, is_not_true, is_below, records_without, records_same}
-use Rattle.pt_shape.specs.laws.Ascending.{logicals_ascend}
+use Rattle.pt_cases.specs.laws.Ascending.{logicals_ascend}
 use Rattle.pt_kept.proofs.Chain.{ascending_kept, ascending_gone, by_below, primaries_below}
 use Rattle.pt_kept.proofs.Mbr.{mbr_of, WasRecord, keeps_mbr, body_fits, old_labels, same_slice, same_records, same_logical}
 use Rattle.pt_kept.proofs.Logicals.{type_plain, container_plain, container_leaf, logical_of}

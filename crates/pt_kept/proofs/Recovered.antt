@@ -8,8 +8,8 @@ use Rattle.pt_recover.specs.Numbers.{Numbers}
 use Rattle.pt_members.specs.declared.layout.Layout.{Layout}
 use Rattle.pt_words.specs.declared.word.Edit.{Edit}
 use Rattle.pt_edit.specs.Edited.{Edited}
-use Rattle.pt_shape.specs.Keeps.{Keeps}
-use Rattle.pt_shape.specs.laws.Denoted.{denoted_is_shaped_lem}
+use Rattle.pt_cases.specs.Keeps.{Keeps}
+use Rattle.pt_cases.specs.laws.Denoted.{denoted_is_shaped_lem}
 use Rattle.pt_kept.specs.Old.{MayBe}
 use Rattle.pt_kept.proofs.Fold.{edit_keeps_lem}
 

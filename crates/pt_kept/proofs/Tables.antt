@@ -24,9 +24,9 @@ use Rattle.pt_members.specs.declared.layout.Body.{Body}
 use Rattle.pt_members.specs.declared.layout.Body.TheVariants.{Gpt}
 use Rattle.pt_members.specs.Members.{label_of}
 use Rattle.pt_labels.specs.Lists.{without_label, with_new_label}
-use Rattle.pt_shape.specs.Shape.{FitsTable, FitsBody, FitsLabel, AreLabelsOf, Shaped}
-use Rattle.pt_shape.specs.Keeps.{LabelStays, IsOldLabel, IsNewLabel, Keeps}
-use Rattle.pt_shape.specs.laws.Terms.{same_but_parts_refl, label_stays_refl_lem}
+use Rattle.pt_cases.specs.Shape.{FitsTable, FitsBody, FitsLabel, AreLabelsOf, Shaped}
+use Rattle.pt_cases.specs.Keeps.{LabelStays, IsOldLabel, IsNewLabel, Keeps}
+use Rattle.pt_cases.specs.laws.Terms.{same_but_parts_refl, label_stays_refl_lem}
 use Rattle.pt_kept.proofs.Lists.{slices_by, contains_later, are_filter, are_entered, label_of_by, label_of_new, label_of_old}
 use Rattle.pt_kept.proofs.Lists.{contains_filter, contains_cases}
 use Rattle.pt_kept.proofs.Entries.{is_not, is_not_false, is_below, is_above, around, slices_without, slices_with, slices_same}

@@ -8,7 +8,7 @@ ghost use Rattle.pt_recover.specs.Numbers.{Numbers};
 ghost use Rattle.pt_members.specs.declared.layout.Layout.{Layout};
 ghost use Rattle.pt_words.specs.declared.word.Edit.{Edit};
 ghost use Rattle.pt_edit.specs.Edited.{Edited};
-ghost use Rattle.pt_shape.specs.Keeps.{Keeps};
+ghost use Rattle.pt_cases.specs.Keeps.{Keeps};
 ghost use Rattle.pt_kept.specs.Old.{MayBe};
 ghost use Rattle.pt_sector.specs.Writes.{Writes};
 ghost use Rattle.pt_cases.specs.Cases.{IsPlan};

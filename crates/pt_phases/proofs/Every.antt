@@ -13,8 +13,8 @@ use Rattle.pt_members.specs.declared.layout.Slice.{Slice}
 use Rattle.pt_recover.specs.declared.trace.TracedRun.{TracedRun}
 use Rattle.pt_members.specs.OnePath.{HasFour}
 use Rattle.pt_cases.specs.laws.Causes.{had_one}
-use Rattle.pt_shape.specs.laws.Ascending.{places_ascend_lem}
-use Rattle.pt_shape.specs.laws.Along.{along_label}
+use Rattle.pt_cases.specs.laws.Ascending.{places_ascend_lem}
+use Rattle.pt_cases.specs.laws.Along.{along_label}
 use Rattle.pt_cases.specs.Targets.{Had, IsEncoded}
 use Rattle.pt_targets.specs.Causes.{LabelComes, IsOtherLabel}
 use Rattle.pt_targets.specs.Targets.{Targeted, IsPlaceTarget, AreNewWrites, InSectorOrder}

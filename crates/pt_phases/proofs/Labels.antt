@@ -23,9 +23,9 @@ use Rattle.pt_members.specs.laws.Grouped.{contains_head, contains_tail}
 use Rattle.pt_layout.specs.Guarded.{IsGuarded, place}
 use Rattle.pt_layout.specs.laws.Guarded.{guarded_reads, reads_guarded}
 use Rattle.pt_layout.specs.Sound.{Sound}
-use Rattle.pt_shape.specs.Shape.{FitsTable}
-use Rattle.pt_shape.specs.laws.Stands.{place_usable}
-use Rattle.pt_shape.specs.Along.{Along}
+use Rattle.pt_cases.specs.Shape.{FitsTable}
+use Rattle.pt_cases.specs.laws.Stands.{place_usable}
+use Rattle.pt_cases.specs.Along.{Along}
 use Rattle.pt_cases.specs.Targets.{Had, IsEncoded, WritesLabels}
 use Rattle.pt_cases.specs.laws.Within.{reads_gpt, side_within}
 use Rattle.pt_targets.specs.Causes.{LabelComes, IsOtherLabel, WritesBoth}

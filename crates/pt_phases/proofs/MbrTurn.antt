@@ -21,7 +21,7 @@ use Rattle.pt_cases.specs.Copies.{one_write}
 use Rattle.pt_apply.specs.laws.Puts.{puts_right}
 use Rattle.pt_layout.specs.laws.Guarded.{reads_guarded}
 use Rattle.pt_cases.specs.laws.Guards.{guarded_is_read}
-use Rattle.pt_shape.specs.Links.{IsLoneChain}
+use Rattle.pt_cases.specs.Links.{IsLoneChain}
 use Rattle.pt_targets.specs.Causes.{NoneOwned, TargetsIn, TargetsOf, NotOneTurn, HasNoTurn}
 use Rattle.pt_targets.specs.Causes as causes
 use Rattle.pt_targets.specs.laws.Counts.{most_mbr_places}

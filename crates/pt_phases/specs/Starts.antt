@@ -12,7 +12,7 @@ use Rattle.pt_members.specs.declared.layout.Layout.{Layout}
 use Rattle.pt_recover.specs.declared.trace.TracedRun.{TracedRun}
 use Rattle.pt_layout.specs.Guarded.{IsGuarded}
 use Rattle.pt_cases.specs.Cases.{ChangesLabels}
-use Rattle.pt_shape.specs.Shape.{FitsTable}
+use Rattle.pt_cases.specs.Shape.{FitsTable}
 use Rattle.pt_targets.specs.Starts.{Start}
 use Rattle.pt_targets.specs.Targets.{AreLabelTargets}
 use Rattle.pt_targets.specs.declared.target.Target.{Target}

@@ -12,9 +12,9 @@ use Rattle.pt_members.specs.declared.layout.Labelled.{Labelled}
 use Rattle.pt_members.specs.declared.layout.Layout.{Layout}
 use Rattle.pt_members.specs.declared.layout.Slice.{Slice}
 use Rattle.pt_cases.specs.Causes.{IsLeft}
-use Rattle.pt_shape.specs.Ascending.{NumbersAscend}
-use Rattle.pt_shape.specs.Along.{Along}
-use Rattle.pt_shape.specs.laws.Along.{along_label, along_without}
+use Rattle.pt_cases.specs.Ascending.{NumbersAscend}
+use Rattle.pt_cases.specs.Along.{Along}
+use Rattle.pt_cases.specs.laws.Along.{along_label, along_without}
 use Rattle.pt_cases.specs.Targets.{Had, IsEncoded, IsLabelTarget, kept, changed, new}
 use Rattle.pt_targets.specs.Targets.{IsPlaceTarget, Targeted, AreLabelTargets}
 use Rattle.pt_targets.specs.declared.target.Target.{Target}

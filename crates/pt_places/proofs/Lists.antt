@@ -8,8 +8,8 @@ use Rattle.pt_members.specs.Slices.{place_of, IsPlace}
 use Rattle.pt_recover.specs.Steps.{labelled}
 use Rattle.pt_members.specs.declared.layout.Labelled.{Labelled}
 use Rattle.pt_members.specs.declared.layout.Slice.{Slice}
-use Rattle.pt_shape.specs.Ascending.{NumbersAscend}
-use Rattle.pt_shape.specs.Along.{Along}
+use Rattle.pt_cases.specs.Ascending.{NumbersAscend}
+use Rattle.pt_cases.specs.Along.{Along}
 use Rattle.pt_targets.specs.declared.target.Target.{Target}
 use Rattle.pt_places.specs.Places.{spot_of, IsTargetOf, AreTargets}
 use Rattle.pt_places.specs.Spots.{slice_of, labels_of}

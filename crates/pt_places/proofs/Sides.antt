@@ -6,7 +6,7 @@ use Rattle.pt_bsd.specs.declared.label.Label.{Label}
 use Rattle.pt_recover.specs.Steps.{labelled}
 use Rattle.pt_members.specs.declared.layout.Labelled.{Labelled}
 use Rattle.pt_members.specs.declared.layout.Slice.{Slice}
-use Rattle.pt_shape.specs.Ascending.{NumbersAscend}
+use Rattle.pt_cases.specs.Ascending.{NumbersAscend}
 use Rattle.pt_places.specs.Spots.{TakesLabel, Fit, slice_of, labels_of}
 use Rattle.pt_places.specs.declared.place.Spot.{Spot}
 

@@ -9,7 +9,7 @@ use Rattle.pt_members.specs.declared.layout.Layout.{Layout}
 use Rattle.pt_members.specs.declared.layout.Slice.{Slice}
 use Rattle.pt_recover.proofs.Whole.{places_within}
 use Rattle.pt_members.specs.OnePath.{HasFour}
-use Rattle.pt_shape.specs.laws.Ascending.{places_ascend_lem}
+use Rattle.pt_cases.specs.laws.Ascending.{places_ascend_lem}
 use Rattle.pt_places.specs.Answers.{PlacesAnswer}
 use Rattle.pt_places.specs.Places.{spot_of, IsAt, IsRead, OldAre, AnswerOf}
 use Rattle.pt_places.specs.Spots.{AreSpots, slice_of, labels_of}

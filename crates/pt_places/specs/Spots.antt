@@ -4,7 +4,7 @@ use Rattle.pt_bsd.specs.declared.label.Label.{Label}
 use Rattle.pt_recover.specs.Steps.{labelled}
 use Rattle.pt_members.specs.declared.layout.Labelled.{Labelled}
 use Rattle.pt_members.specs.declared.layout.Slice.{Slice}
-use Rattle.pt_shape.specs.Along.{Along}
+use Rattle.pt_cases.specs.Along.{Along}
 use Rattle.pt_places.specs.declared.place.Spot.{Spot}
 
 -- the next label is taken if it has this number

@@ -1,7 +1,7 @@
 //! Slices and labels, side by side.
 
 ghost use Rattle.std.specs.Prelude.{◌≡◌, ◌≤◌, length, IfOk, MatchOption};
-ghost use Rattle.pt_shape.specs.Ascending.{NumbersAscend};
+ghost use Rattle.pt_cases.specs.Ascending.{NumbersAscend};
 ghost use Rattle.pt_places.specs.Spots.{TakesLabel, Fit, AreSpots};
 
 use crate::place::Spot;

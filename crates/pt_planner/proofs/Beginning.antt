@@ -11,8 +11,8 @@ use Rattle.pt_members.specs.declared.layout.Layout.{Layout}
 use Rattle.pt_layout.specs.Healthy.{IsHealthy}
 use Rattle.pt_layout.specs.Sound.{Sound}
 use Rattle.pt_cases.specs.Causes.{MayBePlanned, MayHave, HadMbr}
-use Rattle.pt_shape.specs.Shape.{FitsTable}
-use Rattle.pt_shape.specs.Links.{IsLoneChain}
+use Rattle.pt_cases.specs.Shape.{FitsTable}
+use Rattle.pt_cases.specs.Links.{IsLoneChain}
 use Rattle.pt_targets.specs.Starts.{Start}
 use Rattle.pt_planner.specs.Known.{IsKnown}
 use Rattle.pt_planner.specs.declared.known.Known.{Known}

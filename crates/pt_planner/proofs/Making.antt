@@ -24,8 +24,8 @@ use Rattle.pt_layout.specs.declared.health.Head.{Head}
 use Rattle.pt_layout.specs.declared.health.Head.TheVariants as head
 use Rattle.pt_cases.specs.Cases.{ChangesLabels}
 use Rattle.pt_cases.specs.Causes.{MayBePlanned}
-use Rattle.pt_shape.specs.Shape.{FitsTable}
-use Rattle.pt_shape.specs.Links.{IsLoneChain}
+use Rattle.pt_cases.specs.Shape.{FitsTable}
+use Rattle.pt_cases.specs.Links.{IsLoneChain}
 use Rattle.pt_targets.specs.Misfits.{NoneLeft}
 use Rattle.pt_phases.specs.Starts.{OrderIs, HeadAsRead, CopiesStart}
 use Rattle.pt_phases.specs.declared.order.Order.{Order}

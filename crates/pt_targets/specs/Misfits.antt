@@ -7,7 +7,7 @@ use Rattle.pt_members.specs.Slices.{places_of}
 use Rattle.pt_members.specs.declared.layout.Layout.{Layout}
 use Rattle.pt_members.specs.declared.layout.Slice.{Slice}
 use Rattle.pt_cases.specs.Causes.{IsLeft}
-use Rattle.pt_shape.specs.Along.{Along}
+use Rattle.pt_cases.specs.Along.{Along}
 use Rattle.pt_cases.specs.Targets.{IsLabelTarget}
 
 -- each label of p goes with a label place, in their order

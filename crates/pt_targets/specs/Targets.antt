@@ -15,9 +15,9 @@ use Rattle.pt_members.specs.declared.layout.Layout.{Layout}
 use Rattle.pt_members.specs.declared.layout.Slice.{Slice}
 use Rattle.pt_recover.specs.declared.trace.TracedRun.{TracedRun}
 use Rattle.pt_cases.specs.Copies.{one_write}
-use Rattle.pt_shape.specs.Links.{link_to}
+use Rattle.pt_cases.specs.Links.{link_to}
 use Rattle.pt_cases.specs.Records.{IsHeadTarget, IsEbrTarget}
-use Rattle.pt_shape.specs.Along.{Along}
+use Rattle.pt_cases.specs.Along.{Along}
 use Rattle.pt_cases.specs.Targets.{Had, IsEncoded, IsFresh, ComesToHold}
 use Rattle.pt_targets.specs.declared.target.TargetKind.TheVariants.{Stays, New, Changes}
 use Rattle.pt_targets.specs.declared.target.Target.{Target}

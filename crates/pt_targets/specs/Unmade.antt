@@ -9,7 +9,7 @@ use Rattle.pt_mbr.specs.Mbr.{MbrBytes, BearsProtective}
 use Rattle.pt_mbr.specs.declared.ebr.Ebr.{Ebr}
 use Rattle.pt_mbr.specs.declared.record.Record.{Record}
 use Rattle.pt_mbr.specs.Extended.{extended_of, extent_of}
-use Rattle.pt_shape.specs.Links.{link_to}
+use Rattle.pt_cases.specs.Links.{link_to}
 use Rattle.pt_cases.specs.Records.{IsHeadTarget, IsEbrTarget}
 
 -- the sector is an MBR of these records, and no protective one

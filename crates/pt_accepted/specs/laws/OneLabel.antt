@@ -24,8 +24,8 @@ use Rattle.pt_cases.specs.Copies.{one_write}
 use Rattle.pt_cases.specs.laws.Frames.{LabelsRight, misses, one_is, one_end, side_stands, denotes_gpt}
 use Rattle.pt_accepted.specs.Landing.{Lands, IsGood, Each, landed}
 use Rattle.pt_cases.specs.laws.Met.{labels_met_right}
-use Rattle.pt_shape.specs.laws.Denoted.{table_fits}
-use Rattle.pt_shape.specs.laws.Stands.{place_usable}
+use Rattle.pt_cases.specs.laws.Denoted.{table_fits}
+use Rattle.pt_cases.specs.laws.Stands.{place_usable}
 use Rattle.pt_cases.specs.Targets.{LabelsMet, ComesToHold}
 use Rattle.pt_cases.specs.laws.Within.{side_within}
 

@@ -20,7 +20,7 @@ use Rattle.pt_cases.specs.Copies.{header_of, array_phase, one_write, backup_phas
 use Rattle.pt_cases.specs.Few.{array_length, backup_length, copies_bound}
 use Rattle.pt_cases.specs.laws.Frames.{misses, one_is, put_there}
 use Rattle.pt_accepted.specs.Landing.{IsGood, Each}
-use Rattle.pt_shape.specs.laws.Stands.{place_usable}
+use Rattle.pt_cases.specs.laws.Stands.{place_usable}
 use Rattle.pt_cases.specs.laws.Sides.{puts_array, puts_backup, array_there, backup_header, backup_array, side_written}
 use Rattle.pt_cases.specs.laws.Met.{labels_set_met}
 use Rattle.pt_cases.specs.Targets.{ComesToHold, LabelsMet}

@@ -31,8 +31,8 @@ use Rattle.pt_apply.specs.laws.Puts.{puts_split, puts_left, puts_right}
 use Rattle.pt_cases.specs.laws.Frames.{LabelsRight, misses, one_is, one_end, put_there, foreign_back}
 use Rattle.pt_accepted.specs.Landing.{Lands, IsGood, landed}
 use Rattle.pt_cases.specs.laws.Met.{labels_met_right}
-use Rattle.pt_shape.specs.laws.LabelPlaces.{place_below}
-use Rattle.pt_shape.specs.Links.{LinkedOn, IsLoneChain, link_to}
+use Rattle.pt_cases.specs.laws.LabelPlaces.{place_below}
+use Rattle.pt_cases.specs.Links.{LinkedOn, IsLoneChain, link_to}
 use Rattle.pt_cases.specs.Records.{IsEbrTarget, over, made, EbrsEnd, ChainEnds}
 use Rattle.pt_cases.specs.Targets.{ComesToHold}
 

@@ -28,14 +28,14 @@ use Rattle.pt_layout.specs.declared.finding.Finding.{Finding}
 use Rattle.pt_cases.specs.Cases.{IsPlan, idle, backup_first, primary_first, from_mbr, one_label, within_mbr, ChangesLabels}
 use Rattle.pt_cases.specs.Copies.{one_write}
 use Rattle.pt_cases.specs.laws.Met.{labels_set_met}
-use Rattle.pt_shape.specs.laws.Ascending.{places_ascend_lem}
-use Rattle.pt_shape.specs.laws.Along.{along_label, along_without}
-use Rattle.pt_shape.specs.Links.{LinkedOn, IsLoneChain}
+use Rattle.pt_cases.specs.laws.Ascending.{places_ascend_lem}
+use Rattle.pt_cases.specs.laws.Along.{along_label, along_without}
+use Rattle.pt_cases.specs.Links.{LinkedOn, IsLoneChain}
 use Rattle.pt_cases.specs.Targets.{Met, LabelsMet, Had, IsLabelSet, stood, set, there, Set, WritesLabels}
 use Rattle.pt_members.specs.OnePath.{HasFour}
-use Rattle.pt_shape.specs.laws.Denoted.{table_fits}
-use Rattle.pt_shape.specs.StandsOn.{StandsOn}
-use Rattle.pt_shape.specs.laws.StandsOn.{along_labels_are}
+use Rattle.pt_cases.specs.laws.Denoted.{table_fits}
+use Rattle.pt_cases.specs.StandsOn.{StandsOn}
+use Rattle.pt_cases.specs.laws.StandsOn.{along_labels_are}
 use Rattle.pt_cases.specs.Causes.{MayHave, MayBePlanned, IsLeft}
 
 walk_linked : (d : Sectors) (x : Span) (from : Option Lba) (list : List Ebr) → Walk d x from list None → LinkedOn x (length d) from list

@@ -12,8 +12,8 @@ use Rattle.pt_members.specs.declared.layout.Layout.{Layout}
 use Rattle.pt_members.specs.declared.layout.Slice.{Slice}
 use Rattle.pt_layout.specs.Healthy.{IsForeign}
 use Rattle.pt_cases.specs.laws.Frames.{LabelsRight}
-use Rattle.pt_shape.specs.Along.{Along}
-use Rattle.pt_shape.specs.laws.Along.{along_map}
+use Rattle.pt_cases.specs.Along.{Along}
+use Rattle.pt_cases.specs.laws.Along.{along_map}
 use Rattle.pt_cases.specs.Targets.{IsLabelTarget, kept, changed, new, ComesToHold, Met, LabelsMet, stood, set, there, Set, WritesLabels}
 
 -- a target is the label of its slice

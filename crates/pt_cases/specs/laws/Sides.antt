@@ -13,7 +13,7 @@ use Rattle.pt_gpt.specs.declared.entry.Entry.{Entry}
 use Rattle.pt_gpt.specs.declared.table.Side.{Side}
 use Rattle.pt_gpt.specs.declared.table.Side.TheVariants.{Backup}
 use Rattle.pt_gpt.specs.declared.table.Table.{Table}
-use Rattle.pt_shape.specs.Shape.{FitsTable}
+use Rattle.pt_cases.specs.Shape.{FitsTable}
 use Rattle.pt_cases.specs.Copies.{header_of, array_writes, array_phase, one_write, backup_phase}
 use Rattle.pt_apply.specs.laws.Puts.{puts_split, puts_left, puts_right}
 use Rattle.pt_cases.specs.laws.Frames.{misses, there_one, one_is}

@@ -10,8 +10,8 @@ use Rattle.pt_members.specs.declared.layout.Layout.{Layout}
 use Rattle.pt_members.specs.declared.layout.Slice.{Slice}
 use Rattle.pt_apply.specs.laws.Puts.{puts_split, puts_left, puts_right}
 use Rattle.pt_cases.specs.laws.Select.{Rises, rises_one, picked, picks, picked_ends, ends_alike}
-use Rattle.pt_shape.specs.Along.{Along}
-use Rattle.pt_shape.specs.laws.Along.{along_map}
+use Rattle.pt_cases.specs.Along.{Along}
+use Rattle.pt_cases.specs.laws.Along.{along_map}
 use Rattle.pt_cases.specs.Targets.{IsLabelTarget, Met, LabelsMet}
 
 -- the place of a slice is among the targets, with what it must hold; an unlabelled one with what it holds, which isn't picked

@@ -6,8 +6,8 @@ use Rattle.pt_recover.specs.Denotes.{Denotes}
 use Rattle.pt_members.specs.declared.layout.Layout.{Layout}
 use Rattle.pt_layout.specs.Sound.{Sound}
 use Rattle.pt_layout.specs.declared.finding.Finding.{Finding}
-use Rattle.pt_shape.specs.laws.Ascending.{fits_four}
-use Rattle.pt_shape.specs.Keeps.{Keeps}
+use Rattle.pt_cases.specs.laws.Ascending.{fits_four}
+use Rattle.pt_cases.specs.Keeps.{Keeps}
 use Rattle.pt_cases.specs.Cases.{IsPlan}
 use Rattle.pt_targets.specs.Causes.{IsReused}
 use Rattle.pt_targets.specs.Errors.{IsFailure}

@@ -23,8 +23,8 @@ use Rattle.pt_cases.specs.laws.Causes.{set_none_changed}
 use Rattle.pt_cases.specs.Copies.{array_phase, one_write, closing, backup_phase}
 use Rattle.pt_apply.specs.laws.Puts.{puts_left, puts_right}
 use Rattle.pt_cases.specs.laws.Met.{labels_set_met}
-use Rattle.pt_shape.specs.laws.Ascending.{places_ascend_lem}
-use Rattle.pt_shape.specs.laws.Along.{along_label}
+use Rattle.pt_cases.specs.laws.Ascending.{places_ascend_lem}
+use Rattle.pt_cases.specs.laws.Along.{along_label}
 use Rattle.pt_cases.specs.Asked.{Asked, backup_first_puts, primary_first_puts, from_mbr_puts}
 use Rattle.pt_cases.specs.laws.Sides.{array_any}
 use Rattle.pt_cases.specs.Targets.{Had, IsEncoded, IsLabelSet, stood, set, there, Set}

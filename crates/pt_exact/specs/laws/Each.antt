@@ -8,11 +8,11 @@ use Rattle.pt_members.specs.declared.layout.Layout.{Layout}
 use Rattle.pt_members.specs.declared.layout.Slice.{Slice}
 use Rattle.pt_members.specs.OnePath.{HasFour}
 use Rattle.pt_layout.specs.Sound.{Sound}
-use Rattle.pt_shape.specs.Along.{Along}
-use Rattle.pt_shape.specs.Covers.{IsNth, Covers}
-use Rattle.pt_shape.specs.laws.Covers.{covering_differs_lem}
-use Rattle.pt_shape.specs.Differ.{AllDiffer, label_sectors}
-use Rattle.pt_shape.specs.laws.Differ.{labels_differ_lem}
+use Rattle.pt_cases.specs.Along.{Along}
+use Rattle.pt_cases.specs.Covers.{IsNth, Covers}
+use Rattle.pt_cases.specs.laws.Covers.{covering_differs_lem}
+use Rattle.pt_cases.specs.Differ.{AllDiffer, label_sectors}
+use Rattle.pt_cases.specs.laws.Differ.{labels_differ_lem}
 use Rattle.pt_targets.specs.Targets.{AreLabelTargets, HasTwoOfOne, Targeted, sector_of}
 use Rattle.pt_targets.specs.declared.target.Target.{Target}
 

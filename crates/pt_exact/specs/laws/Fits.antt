@@ -7,13 +7,13 @@ use Rattle.pt_members.specs.declared.layout.Body.{Body}
 use Rattle.pt_members.specs.declared.layout.Body.TheVariants.{Mbr, Gpt}
 use Rattle.pt_members.specs.declared.layout.Layout.{Layout}
 use Rattle.pt_layout.specs.Sound.{Sound}
-use Rattle.pt_shape.specs.laws.Along.{labels_fit_lem, label_fits_lem}
-use Rattle.pt_shape.specs.Keeps.{Keeps, IsMbrBody}
-use Rattle.pt_shape.specs.Keeps as keep
-use Rattle.pt_shape.specs.Shape.{FitsBody}
+use Rattle.pt_cases.specs.laws.Along.{labels_fit_lem, label_fits_lem}
+use Rattle.pt_cases.specs.Keeps.{Keeps, IsMbrBody}
+use Rattle.pt_cases.specs.Keeps as keep
+use Rattle.pt_cases.specs.Shape.{FitsBody}
 use Rattle.pt_cases.specs.Causes.{MayBePlanned, MayHave, HadMbr}
-use Rattle.pt_shape.specs.Links.{IsLoneChain}
-use Rattle.pt_shape.specs.laws.Links.{chain_is_linked_lem}
+use Rattle.pt_cases.specs.Links.{IsLoneChain}
+use Rattle.pt_cases.specs.laws.Links.{chain_is_linked_lem}
 use Rattle.pt_targets.specs.Misfits.{LabelsFit, HasUnreadable}
 
 -- an old MBR layout has its records and its chain

@@ -15,14 +15,14 @@ use Rattle.pt_members.specs.declared.layout.Body.TheVariants.{Mbr, Gpt}
 use Rattle.pt_members.specs.declared.layout.Layout.{Layout}
 use Rattle.pt_members.specs.declared.layout.Slice.{Slice}
 use Rattle.pt_layout.specs.Sound.{Sound}
-use Rattle.pt_shape.specs.laws.Ascending.{fits_four}
-use Rattle.pt_shape.specs.Covers.{Covers}
-use Rattle.pt_shape.specs.Differ.{AllDiffer, label_sectors, chain_sectors, own_sectors}
-use Rattle.pt_shape.specs.laws.Differ.{own_differ_lem}
-use Rattle.pt_shape.specs.Keeps.{Keeps}
-use Rattle.pt_shape.specs.Links.{IsLoneChain}
-use Rattle.pt_shape.specs.laws.Links.{chain_is_linked_lem}
-use Rattle.pt_shape.specs.Shape.{Shaped}
+use Rattle.pt_cases.specs.laws.Ascending.{fits_four}
+use Rattle.pt_cases.specs.Covers.{Covers}
+use Rattle.pt_cases.specs.Differ.{AllDiffer, label_sectors, chain_sectors, own_sectors}
+use Rattle.pt_cases.specs.laws.Differ.{own_differ_lem}
+use Rattle.pt_cases.specs.Keeps.{Keeps}
+use Rattle.pt_cases.specs.Links.{IsLoneChain}
+use Rattle.pt_cases.specs.laws.Links.{chain_is_linked_lem}
+use Rattle.pt_cases.specs.Shape.{Shaped}
 use Rattle.pt_targets.specs.Causes.{SharesSector, TargetsIn, TargetsOf, WritesBoth}
 use Rattle.pt_targets.specs.Targets.{AreLabelTargets, AreMbrTargets, HasTwoOfOne, HasEbrs, HasLoneChain}
 use Rattle.pt_targets.specs.declared.target.Target.{Target}

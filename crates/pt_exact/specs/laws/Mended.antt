@@ -27,9 +27,9 @@ use Rattle.pt_members.specs.Owned.{OwnedOf}
 use Rattle.pt_cases.specs.Cases.{IsPlan}
 use Rattle.pt_cases.specs.Causes.{MayHave}
 use Rattle.pt_cases.specs.laws.Causes.{plan_none_left, plan_not_unsound}
-use Rattle.pt_shape.specs.Shape.{FitsTable}
+use Rattle.pt_cases.specs.Shape.{FitsTable}
 use Rattle.pt_cases.specs.laws.Guards.{unguarded_here}
-use Rattle.pt_shape.specs.laws.Stands.{place_usable}
+use Rattle.pt_cases.specs.laws.Stands.{place_usable}
 use Rattle.pt_targets.specs.Causes.{WouldWrite, WouldPrecede, backup, primary, copy, head, ToWrite, TargetsIn, TargetsOf, IsReused}
 use Rattle.pt_targets.specs.Causes.{HasNoTurn, HasNoCopies, IsUnmended, SharesSector}
 use Rattle.pt_targets.specs.Causes as cause

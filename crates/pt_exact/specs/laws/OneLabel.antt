@@ -20,16 +20,16 @@ use Rattle.pt_layout.specs.Guarded.{IsGuarded, place}
 use Rattle.pt_members.specs.Members.{label_of}
 use Rattle.pt_members.specs.OnePath.{HasFour}
 use Rattle.pt_apply.specs.Plans.{writes_in}
-use Rattle.pt_shape.specs.laws.LabelPlaces.{place_in}
+use Rattle.pt_cases.specs.laws.LabelPlaces.{place_in}
 use Rattle.pt_cases.specs.Cases.{IsOneLabel}
 use Rattle.pt_cases.specs.laws.Causes.{had_one}
 use Rattle.pt_cases.specs.Copies.{one_write}
 use Rattle.pt_cases.specs.laws.Frames.{one_is}
 use Rattle.pt_cases.specs.laws.Met.{target_reads}
-use Rattle.pt_shape.specs.Ascending.{NumbersAscend}
-use Rattle.pt_shape.specs.laws.Ascending.{places_ascend_lem}
-use Rattle.pt_shape.specs.Along.{Along}
-use Rattle.pt_shape.specs.laws.Along.{along_at}
+use Rattle.pt_cases.specs.Ascending.{NumbersAscend}
+use Rattle.pt_cases.specs.laws.Ascending.{places_ascend_lem}
+use Rattle.pt_cases.specs.Along.{Along}
+use Rattle.pt_cases.specs.laws.Along.{along_at}
 use Rattle.pt_cases.specs.Targets.{Had, IsLabelTarget, kept, changed, new, Met}
 use Rattle.pt_targets.specs.Causes.{TargetsIn, TargetsOf, IsReused, HasNoTurn, SharesSector}
 use Rattle.pt_targets.specs.Causes as cause

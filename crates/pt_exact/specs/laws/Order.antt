@@ -17,7 +17,7 @@ use Rattle.pt_layout.specs.OneFinding.{HasEight, unsound_one}
 use Rattle.pt_layout.specs.Sound.{Sound}
 use Rattle.pt_layout.specs.declared.finding.Finding.{Finding}
 use Rattle.pt_layout.specs.declared.finding.Finding.TheVariants.{ForeignLabel}
-use Rattle.pt_shape.specs.Shape.{AreLabelsOf, Shaped}
+use Rattle.pt_cases.specs.Shape.{AreLabelsOf, Shaped}
 use Rattle.pt_members.specs.Owned.{OwnedOf}
 use Rattle.pt_targets.specs.Causes.{WritesBoth, TargetsIn, TargetsOf, TurnsAmiss, CopiesAmiss, IsReused, IsUnmended}
 use Rattle.pt_targets.specs.Causes as cause

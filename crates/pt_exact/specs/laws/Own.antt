@@ -10,11 +10,11 @@ use Rattle.pt_members.specs.declared.layout.Layout.{Layout}
 use Rattle.pt_members.specs.declared.layout.Slice.{Slice}
 use Rattle.pt_layout.specs.Healthy.{HasForeign}
 use Rattle.pt_members.specs.OnePath.{HasFour}
-use Rattle.pt_shape.specs.Along.{Along}
-use Rattle.pt_shape.specs.laws.Along.{along_map, along_label, along_without}
-use Rattle.pt_shape.specs.laws.Ascending.{places_ascend_lem}
-use Rattle.pt_shape.specs.StandsOn.{StandsOn}
-use Rattle.pt_shape.specs.laws.StandsOn.{along_labels_are, denoted_four}
+use Rattle.pt_cases.specs.Along.{Along}
+use Rattle.pt_cases.specs.laws.Along.{along_map, along_label, along_without}
+use Rattle.pt_cases.specs.laws.Ascending.{places_ascend_lem}
+use Rattle.pt_cases.specs.StandsOn.{StandsOn}
+use Rattle.pt_cases.specs.laws.StandsOn.{along_labels_are, denoted_four}
 use Rattle.pt_cases.specs.Cases.{ChangesLabels}
 use Rattle.pt_cases.specs.Causes.{MayBePlanned, IsLeft}
 use Rattle.pt_cases.specs.laws.Causes.{there_may, had_one}

@@ -15,8 +15,8 @@ use Rattle.pt_cases.specs.Cases.{IsPlan, idle, backup_first, primary_first, from
 use Rattle.pt_cases.specs.laws.Causes.{plan_none_left, plan_not_unsound, plan_of_whole}
 use Rattle.pt_cases.specs.Copies.{one_write}
 use Rattle.pt_cases.specs.laws.Met.{labels_set_met}
-use Rattle.pt_shape.specs.laws.Ascending.{places_ascend_lem}
-use Rattle.pt_shape.specs.laws.Along.{along_label, along_map}
+use Rattle.pt_cases.specs.laws.Ascending.{places_ascend_lem}
+use Rattle.pt_cases.specs.laws.Along.{along_label, along_map}
 use Rattle.pt_cases.specs.Targets.{Met, LabelsMet}
 use Rattle.pt_targets.specs.declared.error.PlanError.TheVariants.{NeedsRepair, Unsound}
 use Rattle.pt_targets.specs.Misfits.{LabelsFit, HasUnreadable}

@@ -14,10 +14,10 @@ use Rattle.pt_members.specs.declared.layout.Body.TheVariants.{Mbr}
 use Rattle.pt_members.specs.declared.layout.Layout.{Layout}
 use Rattle.pt_members.specs.declared.layout.Slice.{Slice}
 use Rattle.pt_members.specs.OnePath.{HasFour}
-use Rattle.pt_shape.specs.laws.Along.{along_map}
+use Rattle.pt_cases.specs.laws.Along.{along_map}
 use Rattle.pt_cases.specs.Cases.{IsNeeded, MbrMet}
 use Rattle.pt_cases.specs.Causes.{HadMbr}
-use Rattle.pt_shape.specs.Links.{IsLoneChain, link_to}
+use Rattle.pt_cases.specs.Links.{IsLoneChain, link_to}
 use Rattle.pt_cases.specs.Records.{IsHeadTarget, IsEbrTarget, EbrsEnd, ChainEnds}
 use Rattle.pt_cases.specs.Targets.{ComesToHold}
 use Rattle.pt_targets.specs.Causes.{TargetsIn}

@@ -11,9 +11,9 @@ use Rattle.pt_members.specs.declared.layout.Layout.{Layout}
 use Rattle.pt_members.specs.declared.layout.Slice.{Slice}
 use Rattle.pt_members.specs.OnePath.{HasFour}
 use Rattle.pt_cases.specs.laws.Causes.{had_one}
-use Rattle.pt_shape.specs.laws.Ascending.{places_ascend_lem}
-use Rattle.pt_shape.specs.Along.{Along}
-use Rattle.pt_shape.specs.laws.Along.{along_map}
+use Rattle.pt_cases.specs.laws.Ascending.{places_ascend_lem}
+use Rattle.pt_cases.specs.Along.{Along}
+use Rattle.pt_cases.specs.laws.Along.{along_map}
 use Rattle.pt_cases.specs.Targets.{ComesToHold, IsEncoded, IsLabelTarget, kept, changed, new, Met, LabelsMet}
 use Rattle.pt_targets.specs.Targets.{AreLabelTargets, HasTwoOfOne, IsChange, Targeted}
 use Rattle.pt_targets.specs.declared.target.Target.{Target}

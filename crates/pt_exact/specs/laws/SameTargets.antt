@@ -9,7 +9,7 @@ use Rattle.pt_members.specs.declared.layout.Body.TheVariants.{Mbr, Gpt}
 use Rattle.pt_members.specs.declared.layout.Layout.{Layout}
 use Rattle.pt_members.specs.OnePath.{HasFour}
 use Rattle.pt_cases.specs.Causes.{HadMbr, MayBePlanned, MayHave}
-use Rattle.pt_shape.specs.Links.{IsLoneChain}
+use Rattle.pt_cases.specs.Links.{IsLoneChain}
 use Rattle.pt_targets.specs.Causes.{SharesSector, TargetsIn, TargetsOf}
 use Rattle.pt_targets.specs.Misfits.{LabelsFit, HasUnreadable}
 use Rattle.pt_targets.specs.Targets.{HasTwoOfOne, IsChange}

@@ -21,7 +21,7 @@ use Rattle.pt_cases.specs.Causes.{HadMbr}
 use Rattle.pt_cases.specs.Copies.{one_write}
 use Rattle.pt_apply.specs.laws.Puts.{puts_right, puts_split}
 use Rattle.pt_cases.specs.laws.Frames.{one_is}
-use Rattle.pt_shape.specs.Links.{IsLoneChain}
+use Rattle.pt_cases.specs.Links.{IsLoneChain}
 use Rattle.pt_cases.specs.Targets.{ComesToHold}
 use Rattle.pt_targets.specs.Causes.{WritesBoth, TargetsIn, TargetsOf, TurnsAmiss, IsReused}
 use Rattle.pt_targets.specs.Causes as cause

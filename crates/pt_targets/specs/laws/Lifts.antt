@@ -15,7 +15,7 @@ use Rattle.pt_recover.specs.Spans.{IsIn}
 use Rattle.pt_members.specs.declared.layout.Layout.{Layout}
 use Rattle.pt_members.specs.declared.layout.Slice.{Slice}
 use Rattle.pt_recover.specs.declared.trace.TracedRun.{TracedRun}
-use Rattle.pt_shape.specs.laws.Along.{along_map}
+use Rattle.pt_cases.specs.laws.Along.{along_map}
 use Rattle.pt_cases.specs.Records.{IsHeadTarget, EbrsEnd, ChainEnds}
 use Rattle.pt_cases.specs.Targets.{IsEncoded, IsLabelTarget, kept, changed, new, ComesToHold, Met, LabelsMet, stood, set, there, Set}
 use Rattle.pt_cases.specs.Targets.{WritesLabels}

@@ -3,7 +3,7 @@ use Rattle.std.specs.Prelude.{IfSome, IfNone}
 use Rattle.std.proofs.lemmas.Bool.{false≢true}
 use Rattle.pt_sector.specs.Sectors.{Sectors, sector}
 use Rattle.pt_mbr.specs.declared.ebr.Ebr.{Ebr}
-use Rattle.pt_shape.specs.Links.{link_to}
+use Rattle.pt_cases.specs.Links.{link_to}
 use Rattle.pt_cases.specs.Records.{IsEbrOver, IsEbrMade, IsEbrTarget}
 use Rattle.pt_targets.specs.Unmade.{FitsEbr, IsUnmadeEbr}
 use Rattle.pt_chains.specs.Steps.{AreEbr}

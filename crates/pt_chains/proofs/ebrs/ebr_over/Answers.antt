@@ -1,7 +1,7 @@
 use Rattle.std.proofs.Common.{sym, ◌∙◌, arith}
 use Rattle.std.proofs.lemmas.Bool.{false≢true}
 use Rattle.pt_mbr.specs.laws.Terms.{ebr_rebased_lem, fault_has_no_ebr}
-use Rattle.pt_shape.specs.Links.{link_to}
+use Rattle.pt_cases.specs.Links.{link_to}
 use Rattle.pt_chains.proofs.Over.{over_some, over_same}
 use Rattle.pt_chains.proofs.ebrs.ebr_over.Goals as goal
 

@@ -1,8 +1,8 @@
 use Rattle.std.proofs.Common.{◌≡◌, ◌∙◌, ℕ, List, length, map, All, sym, ap, subst, rules}
 use Rattle.pt_sector.specs.Sectors.{Sectors}
 use Rattle.pt_members.specs.declared.layout.Slice.{Slice}
-use Rattle.pt_shape.specs.Ascending.{NumbersAscend}
-use Rattle.pt_shape.specs.laws.Ascending.{places_ascend_lem}
+use Rattle.pt_cases.specs.Ascending.{NumbersAscend}
+use Rattle.pt_cases.specs.laws.Ascending.{places_ascend_lem}
 use Rattle.pt_places.specs.Places.{spot_of, IsAt, IsRead, OldAre}
 use Rattle.pt_places.specs.Spots.{AreSpots}
 use Rattle.pt_places.specs.declared.place.Place.{Place}

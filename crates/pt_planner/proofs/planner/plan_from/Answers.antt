@@ -1,8 +1,8 @@
 use Rattle.std.proofs.Common.{◌∙◌, ℕ, sym, subst, arith}
 use Rattle.std.proofs.lemmas.Result.{err_from_is_err_and}
 use Rattle.pt_mbr.specs.Extended.{extended_of}
-use Rattle.pt_shape.specs.Shape.{FitsTable}
-use Rattle.pt_shape.specs.Links.{IsLoneChain}
+use Rattle.pt_cases.specs.Shape.{FitsTable}
+use Rattle.pt_cases.specs.Links.{IsLoneChain}
 use Rattle.pt_planner.proofs.Beginning.{of_disk, starts}
 use Rattle.pt_planner.proofs.Making.{err_so, isnt, hindered, no_places, none_of_disk}
 use Rattle.pt_planner.proofs.planner.plan_from.Goals as goal

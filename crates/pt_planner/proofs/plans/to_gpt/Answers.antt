@@ -1,5 +1,5 @@
 use Rattle.std.proofs.Common.{◌∙◌, sym, subst}
-use Rattle.pt_shape.specs.Shape.{FitsTable}
+use Rattle.pt_cases.specs.Shape.{FitsTable}
 use Rattle.pt_planner.proofs.Making.{ok_so, err_so, turn_hinders, copies_hinder, label_start, copies_start, isnt}
 use Rattle.pt_planner.proofs.plans.to_gpt.Goals as goal
 

@@ -1,7 +1,7 @@
 use Rattle.std.proofs.Common.{◌<◌, ℕ, sym, subst}
 use Rattle.std.specs.Prelude.{Contains}
 use Rattle.pt_mbr.specs.Extended.{extended_of}
-use Rattle.pt_shape.specs.Links.{IsLoneChain}
+use Rattle.pt_cases.specs.Links.{IsLoneChain}
 use Rattle.pt_targets.specs.Unmade.{HasUnmade}
 use Rattle.pt_targets.specs.Targets.{AreMbrTargets}
 use Rattle.pt_targets.specs.declared.target.Target.{Target}

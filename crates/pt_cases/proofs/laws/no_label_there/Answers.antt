@@ -1,0 +1,5 @@
+use Rattle.pt_cases.specs.laws.StandsOn.{no_label_there_lem}
+use Rattle.pt_cases.proofs.laws.no_label_there.Goals as goal
+
+pub returns : goal.returns
+returns c = no_label_there_lem

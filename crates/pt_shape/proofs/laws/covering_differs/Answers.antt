@@ -1,5 +1,0 @@
-use Rattle.pt_shape.specs.laws.Covers.{covering_differs_lem}
-use Rattle.pt_shape.proofs.laws.covering_differs.Goals as goal
-
-pub returns : goal.returns
-returns c = covering_differs_lem (λ x. x)

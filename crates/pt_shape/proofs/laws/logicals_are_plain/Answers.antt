@@ -1,5 +1,0 @@
-use Rattle.pt_shape.specs.laws.Links.{shaped_logical_lem}
-use Rattle.pt_shape.proofs.laws.logicals_are_plain.Goals as goal
-
-pub returns : goal.returns
-returns c = shaped_logical_lem
