@@ -1,9 +1,10 @@
 //! The command line.
 
-ghost use Rattle.std.specs.Prelude.{◌≡◌, ◌∷◌, [], Result, true, IfOk, IfErr, codes, map, string_bytes};
+ghost use Rattle.std.specs.Prelude.{◌≡◌, ◌∷◌, [], Result, Some, true, IfOk, IfErr, codes, map, string_bytes};
 ghost use Rattle.std.specs.Borrow.{Bor};
 ghost use Rattle.clap.specs.Walk.{texts as slice_texts};
-ghost use Rattle.clap.specs.Words.{found_of, kind_of, new_app, rows_of, subcommand_rows_of};
+ghost use Rattle.clap.specs.Words.{found_of, kind_of, new_app, new_rule, rows_of, subcommand_rows_of};
+ghost use Rattle.clap.specs.declared.builder.action.ArgAction.TheVariants.{Set};
 ghost use Rattle.pt_line.specs.CommandLine as spec;
 ghost use Rattle.pt_line.specs.declared.line.LineError.TheVariants.{Memory};
 ghost use Rattle.pt_line.specs.Lines.{AddsPage, GivesIf, IfJob, IsArg, IsCommand, IsSizeNamed, IsSizeOrLess, Means, MeansJob, TakesArg};
@@ -118,28 +119,33 @@ fn plan_file<'a>(alloc: Global) -> Arg<'a>
     )
 }
 
+/// An option with one value, and the same name as its argument.
+fn option<'a>(alloc: Global, id: &'a str, value: &'a str, help: &'a str) -> Arg<'a>
+    ensures { IsArg (record (new_rule id.entry.now) { long = Some id.entry.now; value_names = 1; action = Some Set }) result }
+{
+    Arg::new(alloc, id)
+        .long(id)
+        .value_name(value)
+        .action(ArgAction::Set)
+        .help(help)
+}
+
 fn sector_size<'a>(alloc: Global, sizes: &'a [&'a str]) -> Arg<'a>
     ensures { IsArg (spec.sector_size sizes.entry) result }
 {
-    Arg::new(alloc, "sector-size")
-        .long("sector-size")
-        .value_name("BYTES")
+    let help = "The size of a sector: 512 (the default) or 4096";
+    option(alloc, "sector-size", "BYTES", help)
         .value_parser(sizes)
         .default_value("512")
         .hide_default_value(true)
         .hide_possible_values(true)
-        .action(ArgAction::Set)
-        .help("The size of a sector: 512 (the default) or 4096")
 }
 
 fn fresh<'a>(alloc: Global) -> Arg<'a>
     ensures { IsArg spec.fresh result }
 {
-    Arg::new(alloc, "fresh")
-        .long("fresh")
-        .value_name("HEX")
-        .action(ArgAction::Set)
-        .help("Fresh GUIDs, 32 hexadecimal digits each")
+    let help = "Fresh GUIDs, 32 hexadecimal digits each";
+    option(alloc, "fresh", "HEX", help)
 }
 
 fn words<'a>(alloc: Global) -> Arg<'a>
@@ -168,7 +174,7 @@ fn top<'a>(alloc: Global) -> Command<'a>
 }
 
 /// A page with one more argument, where it was made.
-// A page is large, and a call that isn't inlined copies it.
+// A page is large, and a call that isn't inlined copies it. `drop` is a call too: without it the fields would be dropped here, one by one.
 #[inline(always)]
 fn with_arg<'a>(
     page: Result<Command<'a>, AllocError>,
@@ -176,7 +182,25 @@ fn with_arg<'a>(
 ) -> Result<Command<'a>, AllocError>
     ensures { TakesArg page.entry arg.entry result }
 {
-    page?.arg(arg)
+    match page {
+        Ok(page) => page.arg(arg),
+        Err(error) => {
+            drop(arg);
+            Err(error)
+        }
+    }
+}
+
+/// A page on an image, with no other argument yet.
+fn image_page<'a>(
+    alloc: Global,
+    name: &'a str,
+    about: &'a str,
+    after: &'a str,
+) -> Result<Command<'a>, AllocError>
+    ensures { IfOk result (IsCommand (spec.page name.entry.now (spec.needed (codes "IMAGE") ∷ []))) }
+{
+    page(alloc, name, about, after).arg(image(alloc))
 }
 
 fn on_image<'a>(
@@ -188,7 +212,7 @@ fn on_image<'a>(
 ) -> Result<Command<'a>, AllocError>
     ensures { IfOk result (IsCommand (spec.page name.entry.now (spec.image_rules sizes.entry))) }
 {
-    let page = with_arg(Ok(page(alloc, name, about, after)), image(alloc));
+    let page = image_page(alloc, name, about, after);
     with_arg(page, sector_size(alloc, sizes))
 }
 
@@ -201,7 +225,7 @@ fn on_place<'a>(
 ) -> Result<Command<'a>, AllocError>
     ensures { IfOk result (IsCommand (spec.page name.entry.now (spec.place_rules sizes.entry))) }
 {
-    let page = with_arg(Ok(page(alloc, name, about, after)), image(alloc));
+    let page = image_page(alloc, name, about, after);
     let page = with_arg(page, needed(alloc, "PATH", "A partition, as 3, 5 or 2.a"));
     let page = with_arg(
         page,
@@ -219,7 +243,7 @@ fn on_words<'a>(
 ) -> Result<Command<'a>, AllocError>
     ensures { IfOk result (IsCommand (spec.page name.entry.now (spec.word_rules sizes.entry))) }
 {
-    let page = with_arg(Ok(page(alloc, name, about, after)), image(alloc));
+    let page = image_page(alloc, name, about, after);
     let page = with_arg(page, fresh(alloc));
     let page = with_arg(page, sector_size(alloc, sizes));
     with_arg(page, words(alloc))
@@ -234,7 +258,7 @@ fn on_plan<'a>(
 ) -> Result<Command<'a>, AllocError>
     ensures { IfOk result (IsCommand (spec.page name.entry.now (spec.plan_rules sizes.entry))) }
 {
-    let page = with_arg(Ok(page(alloc, name, about, after)), image(alloc));
+    let page = image_page(alloc, name, about, after);
     let page = with_arg(page, plan_file(alloc));
     with_arg(page, sector_size(alloc, sizes))
 }
@@ -247,7 +271,19 @@ fn with_page<'a>(
 ) -> Result<Command<'a>, AllocError>
     ensures { AddsPage ptab.entry page.entry result }
 {
-    ptab?.subcommand(page?)
+    match ptab {
+        Ok(ptab) => match page {
+            Ok(page) => ptab.subcommand(page),
+            Err(error) => {
+                drop(ptab);
+                Err(error)
+            }
+        },
+        Err(error) => {
+            drop(page);
+            Err(error)
+        }
+    }
 }
 
 fn command<'a>(alloc: Global, sizes: &'a [&'a str]) -> Result<Command<'a>, AllocError>
