@@ -18,9 +18,10 @@ doubles="$PWD/crates/pt_doubles/out/pt_doubles"
 faults="$PWD/crates/pt_faults/out/pt_faults"
 archive="$PWD/crates/pt_c/out/libpt_c.a"
 # Beside `rt ci`, on processors that it leaves idle: more wrong bodies, each once what its crate stands on is proved, and the scripts, each
-# once what it runs is. Each has a process group of its own, so that nothing of it goes on where `rt ci` fails.
+# once what it runs is. These run on all processors once `rt ci` has ended, and the wrong bodies on two, so those go first. Each has a
+# process group of its own, so that nothing of it goes on where `rt ci` fails.
 set -m
-nice -n 19 python3 tests/wrong_bodies.py --gate --beside "$said" >"$bodies" 2>&1 &
+nice -n 10 python3 tests/wrong_bodies.py --gate --beside "$said" >"$bodies" 2>&1 &
 trying=$!
 nice -n 19 python3 tests/side_by_side.py --beside "$said" >"$scripts" 2>&1 <<LIST &
 ../packaging/build.py --over-ci ptab pt_c
