@@ -119,7 +119,7 @@ fn plan_file<'a>(alloc: Global) -> Arg<'a>
     )
 }
 
-/// An option with one value, and the same name as its argument.
+/// An option that takes one value. Its name on the command line is its id.
 fn option<'a>(alloc: Global, id: &'a str, value: &'a str, help: &'a str) -> Arg<'a>
     ensures { IsArg (record (new_rule id.entry.now) { long = Some id.entry.now; value_names = 1; action = Some Set }) result }
 {
