@@ -23,8 +23,10 @@ import time
 
 ROOT = os.path.dirname(os.path.dirname(os.path.abspath(__file__)))
 TICK = os.sysconf("SC_CLK_TCK")
-# How often it looks: a process of the prover that is shorter may be missed, and so is that much of the end of each.
+# How often it looks: a process of the prover that is shorter may be missed, and so is that much of the end of each. And after how many
+# looks it times the loop, which takes a processor from the run.
 SECONDS = 1
+LOOKS = 10
 # The column of /proc/stat that has what others took.
 STOLEN = 7
 # The steps of the loop that is timed, some milliseconds, how often in a row, and how many such rows there are before the run.
@@ -157,10 +159,13 @@ def main():
         idle, busy = idle_loops(), []
         began, before = time.monotonic(), processors()
         script = subprocess.Popen([f"./{sys.argv[1]}"], cwd=f"{room}/clone")
+        looks = 0
         try:
             while script.poll() is None:
                 look(checks, began)
-                busy.append(loop())
+                if looks % LOOKS == 0:
+                    busy.append(loop())
+                looks += 1
                 time.sleep(SECONDS)
         except KeyboardInterrupt:
             # the script has the interrupt too, where both were started by hand

@@ -5,3 +5,4 @@ pub mod InOrder
 pub mod LabelPlaces
 pub mod Lowest
 pub mod Rows
+pub mod Elsewhere

@@ -1,6 +1,8 @@
 -- Members by place, and the search for one.
-use Rattle.std.specs.Prelude.{◌≡◌, ◌<◌, ◌≤◌, ◌⊎◌, ◌+◌, ℕ, List, length, slice_index_or, Option, Some, None}
+use Rattle.std.specs.Prelude.{◌≡◌, ◌<◌, ◌≤◌, ◌⊎◌, ◌+◌, ℕ, List, length, slice_index_or, Option, Some, None, IfSome}
 use Rattle.pt_members.specs.declared.layout.Layout.{Layout}
+use Rattle.pt_members.specs.declared.layout.Body.{Body}
+use Rattle.pt_members.specs.declared.layout.Body.TheVariants.{Mbr, Gpt}
 use Rattle.pt_members.specs.declared.member.Kind.TheVariants.{Leaf, Slice}
 use Rattle.pt_members.specs.declared.member.Member.{Member}
 use Rattle.pt_members.specs.declared.search.Wanted.{Wanted}
@@ -45,3 +47,12 @@ FoundNear o m wanted (Some x) = IsFirstWanted (IsNear o m) wanted x
 abbrev pub Found : ℕ → Layout → Wanted → Option Member → Type 0
 Found b o wanted None = (x : Member) → InLayout b o x → ¬ IsAsWanted wanted x
 Found b o wanted (Some x) = IsFirstWanted (InLayout b o) wanted x
+
+-- nothing in this place, or in the label of what stands there, is as wanted
+abbrev pub NoneNear : ℕ → Layout → ℕ → Wanted → Type 0
+NoneNear b o k wanted = (m x : Member) → slice_index_or (slots b o.body) k None ≡ Some m → IsNear o m x → ¬ IsAsWanted wanted x
+
+-- the entry in this place of a GPT doesn't have the sector, if it is used
+abbrev pub EntryMisses : Body → ℕ → ℕ → Type 0
+EntryMisses (Mbr records chain) k s = ⊥
+EntryMisses (Gpt t) k s = IfSome (slice_index_or t.entries k None) (λ e. (e.first ≤ s) → ¬ (s ≤ e.last))

@@ -1,11 +1,11 @@
 //! The search for a member.
 
-ghost use Rattle.std.specs.Prelude.{◌≡◌, ◌<◌, ◌≤◌, ◌+◌, ◌^◌, ◌↔◌, IsTrue, IfSome, Some, None, length, slice_index_or};
-ghost use Rattle.pt_members.specs.Members.{parts, parts_in, Exists, Holds};
+ghost use Rattle.std.specs.Prelude.{◌≡◌, ◌<◌, ◌≤◌, ◌+◌, ◌^◌, ◌↔◌, IsTrue, IfSome, IfNone, Some, None, length, slice_index_or};
+ghost use Rattle.pt_members.specs.Members.{parts, parts_in, slots, Exists, Holds};
 ghost use Rattle.pt_path.specs.Paths.{rank};
-ghost use Rattle.pt_members.specs.Search.{IsAsWanted, FoundAt, FoundIn, FoundNear, Found};
+ghost use Rattle.pt_members.specs.Search.{IsAsWanted, FoundAt, FoundIn, FoundNear, Found, NoneNear, EntryMisses};
 
-use crate::layout::Layout;
+use crate::layout::{Body, Layout};
 use crate::member::{Kind, Member};
 use crate::slots::{count_slots, find_label, part_slot, slot};
 use pt_bsd::Label;
@@ -112,13 +112,56 @@ fn find_near(layout: &Layout, m: &Member, wanted: &Wanted) -> Option<Member>
     find_labelled(layout, m, wanted)
 }
 
+// Whether a place is a GPT's, and no used entry in it has this sector.
+#[tactic(auto, using(crate::proofs::ByPlace::gpt_len))]
+fn entry_misses<const B: usize>(body: &Body, k: usize, lba: Lba) -> bool
+    requires { k < length (slots B body.now) }
+    ensures { IsTrue result → EntryMisses body.now k lba.0 }
+{
+    match body {
+        Body::Mbr { .. } => false,
+        Body::Gpt(table) => match &table.entries.as_slice()[k] {
+            Some(e) => lba.0 < e.first || e.last < lba.0,
+            None => true,
+        },
+    }
+}
+
+// Whether the sectors of an entry show that nothing in its place is as wanted. A search for the owner of a sector passes
+// by most entries this way, and makes no member of them.
+#[tactic(auto, using(crate::proofs::Elsewhere::none_near))]
+fn is_elsewhere<const B: usize>(layout: &Layout, k: usize, wanted: &Wanted) -> bool
+    requires { k < length (slots B layout.now.body) }
+    ensures { IsTrue result → NoneNear B layout.now k wanted.now }
+{
+    match wanted {
+        Wanted::LeafWith(lba) => {
+            layout.labels.as_slice().is_empty() && entry_misses::<B>(&layout.body, k, *lba)
+        }
+        _ => false,
+    }
+}
+
+// The member in a place, where it or a partition of its label may be as wanted.
+fn candidate<const B: usize>(layout: &Layout, k: usize, wanted: &Wanted) -> Option<Member>
+    requires { k < length (slots B layout.now.body) }
+    ensures none { IfNone result (NoneNear B layout.now k wanted.now) }
+    ensures some { IfSome result (λ m. slice_index_or (slots B layout.now.body) k None ≡ Some m) }
+    ensures small { IfSome result (λ m. m.first < 2 ^ 66) }
+{
+    if is_elsewhere::<B>(layout, k, wanted) {
+        return None;
+    }
+    slot::<B>(&layout.body, k)
+}
+
 /// A member that is as wanted, the first in path order.
 #[tactic(auto, using(crate::proofs::InOrder::slot_first))]
 pub(crate) fn find<const B: usize>(layout: &Layout, wanted: &Wanted) -> Option<Member>
     ensures { Found B layout.now wanted.now result }
 {
     for k in 0..count_slots::<B>(&layout.body) {
-        if let Some(m) = slot::<B>(&layout.body, k) {
+        if let Some(m) = candidate::<B>(layout, k, wanted) {
             if let Some(found) = find_near(layout, &m, wanted) {
                 return Some(found);
             }
