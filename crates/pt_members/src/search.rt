@@ -129,7 +129,6 @@ fn entry_misses<const B: usize>(body: &Body, k: usize, lba: Lba) -> bool
 
 // Whether the sectors of an entry show that nothing in its place is as wanted. A search for the owner of a sector passes
 // by most entries this way, and makes no member of them.
-#[tactic(auto, using(crate::proofs::Elsewhere::none_near))]
 fn is_elsewhere<const B: usize>(layout: &Layout, k: usize, wanted: &Wanted) -> bool
     requires { k < length (slots B layout.now.body) }
     ensures { IsTrue result → NoneNear B layout.now k wanted.now }
