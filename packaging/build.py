@@ -67,6 +67,16 @@ def is_proved(rt, crate):
     return False
 
 
+def prove_and_compile(rt, crate, flags):
+    """Proves a program or a static library and compiles it, in one run of the prover: `rt ci` reads all that it stands on once for each."""
+    made = f"out/{crate.name}.o" if crate.is_program else place_of(crate)
+    words = [*crate.words(flags, keeps=False), "--toolchain", f"{rt.KIT}/toolchain", "--backend", "llvm"]
+    status = crate.prove(["build", *words, "-o", made])
+    if status == 0 and crate.is_program:
+        status = crate.link(made, f"out/{crate.name}")
+    return status
+
+
 def prove(rt, crate, jobs):
     """Proves one crate over those below it, and builds it. Returns whether that went well; where not, what the prover said is shown."""
     is_library = not crate.is_program and not crate.is_static
@@ -76,11 +86,7 @@ def prove(rt, crate, jobs):
     os.makedirs(f"{crate.folder}/out", exist_ok=True)
     crate, flags = copy.copy(crate), ["--jobs", str(jobs)]
     with tempfile.TemporaryFile("w+", errors="replace") as crate.out:
-        if crate.is_static:
-            words = [*crate.words(flags, keeps=False), "--toolchain", f"{rt.KIT}/toolchain", "--backend", "llvm"]
-            status = crate.prove(["build", *words, "-o", place_of(crate)])
-        else:
-            status = crate.ci(flags, False)
+        status = crate.ci(flags, False) if is_library else prove_and_compile(rt, crate, flags)
         if status:
             crate.out.seek(0)
             print(f"build.py: {crate.name} isn't proved:", crate.out.read(), sep="\n", file=sys.stderr, flush=True)
@@ -104,9 +110,12 @@ def slack_of(crates):
     return {it: 1 - (below[it] + behind[it]) / longest for it in work}
 
 
-def jobs_for(slack):
-    """How many processes prove a crate. Each one more takes more of the processors' time in all, so only what others wait for has more."""
-    return 4 if slack < 0.01 else 2 if slack < 0.07 else 1
+def jobs_for(slack, others):
+    """How many processes prove a crate beside so many others. More than one take a third more of the processors' time in all, so only what
+    all else waits for has more."""
+    if slack > 0.001:
+        return 1
+    return 4 if others < 2 else 3
 
 
 def side_by_side(rt, crates, prove_one):
@@ -117,7 +126,7 @@ def side_by_side(rt, crates, prove_one):
 
     def work(crate, jobs):
         # a thread's own priority, which the processes that it starts have too
-        os.setpriority(os.PRIO_PROCESS, threading.get_native_id(), min(19, round(40 * slack[crate.name])))
+        os.setpriority(os.PRIO_PROCESS, threading.get_native_id(), min(19, round(20 * slack[crate.name])))
         try:
             done.put((crate, prove_one(crate, jobs)))
         except BaseException as why:
@@ -126,8 +135,9 @@ def side_by_side(rt, crates, prove_one):
 
     while running or (left and all(answers.values())):
         ready = [it for it in left if all(answers.values()) and all(dep.name in answers for dep in it.deps)]
+        others = len(running) + len(ready) - 1
         for crate in ready:
-            jobs = min(jobs_for(slack[crate.name]), rt.processors())
+            jobs = min(jobs_for(slack[crate.name], others), rt.processors())
             if not running or (sum(running.values()) + jobs) * MEMORY_OF_A_JOB <= memory:
                 left.remove(crate)
                 running[crate] = jobs
@@ -156,9 +166,6 @@ def prove_all(rt, tops):
 def build(names, is_over_ci):
     """Whether each of them is proved and built."""
     rt = kit.load(ROOT)
-    by = rt.Crate.compile_by
-    # Rattle's own compiler makes the second build that `rt ci` runs beside LLVM's.
-    rt.Crate.compile_by = lambda crate, backend, *more: by(crate, backend, *more) if backend == "llvm" else 0
     # The search for contracts that no call can meet is the gate's: `rt run` and `rt lib` don't make it either.
     told = rt.rtlib.help_of
     rt.rtlib.help_of = lambda word: told(word).replace("--empty-contracts", "")

@@ -27,8 +27,9 @@ pub use pt_layout::{
     Body, Finding, Kind, Layout, Member, NoTable, Owner, Path, Verdict, VerifyError, locate, owner,
     parse_path, recover, verify,
 };
+pub use pt_memory::MemDisk;
 pub use pt_plan::{
     Batch, CommitError, PlanError, RepairError, Reply, apply_checked, commit, plan_for,
     plan_for_repair, repair, session,
 };
-pub use pt_sector::{Disk, Fault, Lba, MemDisk};
+pub use pt_sector::{Disk, Fault, Lba};

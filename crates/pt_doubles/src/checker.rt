@@ -6,9 +6,10 @@ use crate::disks::copied;
 use pt_apply::{Plan, Write};
 use pt_check::{Answer, Why};
 use pt_layout::{Layout, Verdict, is_owned, is_table, verify};
+use pt_memory::MemDisk;
 use pt_recover::{Trace, recover_traced};
 use pt_samples::{put, sector};
-use pt_sector::{Disk, Lba, MemDisk, Sector};
+use pt_sector::{Disk, Lba, Sector};
 use std::alloc::Global;
 use std::test::Fail;
 

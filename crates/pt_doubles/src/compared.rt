@@ -9,7 +9,8 @@ use pt_apply::Plan;
 use pt_check::check;
 use pt_gpt::{Side, array_sectors, read_copy};
 use pt_layout::{Finding, Head, NoTable, Survey, Verdict, recover_traced, survey_disk, verify};
-use pt_sector::{Disk, Lba, MemDisk};
+use pt_memory::MemDisk;
+use pt_sector::{Disk, Lba};
 use std::alloc::Global;
 use std::test::Fail;
 

@@ -2,8 +2,9 @@
 
 ghost use Rattle.pt_sector.specs.Sectors.{IsSectorSize};
 
+use pt_memory::MemDisk;
 use pt_samples::{put, sector};
-use pt_sector::{Disk, MemDisk, Sector};
+use pt_sector::{Disk, Sector};
 use std::alloc::Global;
 use std::test::Fail;
 

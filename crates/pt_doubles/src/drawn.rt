@@ -10,8 +10,9 @@ use pt_gpt::{
 };
 use pt_guid::{Guid, type_of_code};
 use pt_mbr::{Mbr, encode_mbr, protective};
+use pt_memory::MemDisk;
 use pt_samples::record;
-use pt_sector::{Disk, Lba, MemDisk, Sector};
+use pt_sector::{Disk, Lba, Sector};
 use std::alloc::Global;
 use std::test::Fail;
 

@@ -4,9 +4,10 @@ use crate::device::{Stop, denoted, stopped};
 use pt_apply::{Plan, apply};
 use pt_edit::Edit;
 use pt_layout::{Layout, recover};
+use pt_memory::{CrashDisk, MemDisk};
 use pt_plan::{commit, plan_for};
 use pt_samples::{Image, crash_disk, gpt_disk, guids, image_of, made, words};
-use pt_sector::{CrashDisk, Disk, Fault, MemDisk};
+use pt_sector::{Disk, Fault};
 use std::alloc::Global;
 use std::test::Fail;
 

@@ -5,9 +5,9 @@
 
 use pt_edit::{Edit, edit};
 use pt_layout::{Layout, Verdict, recover, verify};
+use pt_memory::{CrashDisk, MemDisk};
 use pt_plan::{Batch, CommitError, RepairError, Reply, commit, repair, session};
 use pt_samples::guids;
-use pt_sector::{CrashDisk, MemDisk};
 use std::alloc::{AllocError, Global};
 use std::test::Fail;
 

@@ -6,9 +6,9 @@ use crate::device::{
 };
 use pt_edit::{Edit, Refusal};
 use pt_layout::Layout;
+use pt_memory::CrashDisk;
 use pt_plan::{CommitError, RepairError};
 use pt_samples::{holds, image_of};
-use pt_sector::CrashDisk;
 use std::alloc::Global;
 use std::test::Fail;
 

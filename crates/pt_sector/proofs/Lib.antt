@@ -1,5 +1,2 @@
 pub mod Walks
-pub mod InMemory
 pub mod InOrder
-pub mod Picked
-pub mod Crashes

@@ -8,12 +8,7 @@ pub mod Past
 pub mod Since
 pub mod Calls
 pub mod Reads
-pub mod Memory
 pub mod Ascending
 pub mod Puts
 pub mod Overlays
-pub mod Pending
-pub mod Stop
-pub mod Crash
-pub mod Schedule
 pub mod laws

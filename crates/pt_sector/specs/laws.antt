@@ -3,4 +3,3 @@ pub mod Since
 pub mod Spans
 pub mod Written
 pub mod Bound
-pub mod Reading

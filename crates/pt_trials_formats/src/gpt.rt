@@ -9,7 +9,8 @@ use pt_gpt::{
     decode_entry, encode_entry, encode_header, header_at, read_copy,
 };
 use pt_guid::Guid;
-use pt_sector::{CrashDisk, Disk, Lba, Sector};
+use pt_memory::CrashDisk;
+use pt_sector::{Disk, Lba, Sector};
 use std::alloc::{AllocError, Global};
 use std::test::Fail;
 

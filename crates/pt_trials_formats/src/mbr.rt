@@ -5,7 +5,8 @@ use pt_mbr::{
     ChainError, Ebr, Mbr, Record, bears_protective, decode_mbr, encode_mbr, link_to, put_record,
     read_chain, walk_chain,
 };
-use pt_sector::{CrashDisk, Disk, Extent, Fault, Lba, Sector};
+use pt_memory::CrashDisk;
+use pt_sector::{Disk, Extent, Fault, Lba, Sector};
 
 /// A record as this project writes it.
 fn record_of(kind: u8, start: u32, size: u32) -> Record {

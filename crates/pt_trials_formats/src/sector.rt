@@ -1,7 +1,8 @@
 ghost use Rattle.std.specs.Prelude.{◌≡◌, ◌<◌, ◌*◌, ◌≤◌, ◌^◌, IfOk};
 ghost use Rattle.pt_sector.specs.Sectors.{IsSectorSize};
 
-use pt_sector::{CrashDisk, Disk, Extent, Fault, Lba, MemDisk, Overlay, ReadCache, Room};
+use pt_memory::{CrashDisk, MemDisk};
+use pt_sector::{Disk, Extent, Fault, Lba, Overlay, ReadCache, Room};
 use std::alloc::{AllocError, Global};
 
 /// What a sector of equal bytes holds; none too where there is no such sector.

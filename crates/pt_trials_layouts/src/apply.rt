@@ -3,7 +3,8 @@ ghost use Rattle.pt_sector.specs.Sectors.{IsSectorSize};
 ghost use Rattle.pt_apply.specs.Plans.{PhaseInRange, InRange};
 
 use pt_apply::{Plan, Write, apply};
-use pt_sector::{CrashDisk, Disk, Fault, Lba};
+use pt_memory::CrashDisk;
+use pt_sector::{Disk, Fault, Lba};
 use std::alloc::{AllocError, Global};
 
 /// Writes of so many sectors from a first one, each with this byte throughout.

@@ -2,7 +2,8 @@ ghost use Rattle.pt_sector.specs.Sectors.{IsSectorSize};
 
 use pt_apply::{Plan, Write};
 use pt_check::{Answer, CheckError, Why, check};
-use pt_sector::{CrashDisk, Disk, Fault, Lba, MemDisk, Sector};
+use pt_memory::{CrashDisk, MemDisk};
+use pt_sector::{Disk, Fault, Lba, Sector};
 use std::alloc::{AllocError, Global};
 
 /// How many sectors the disks have.

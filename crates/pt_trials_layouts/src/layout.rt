@@ -10,7 +10,8 @@ use pt_layout::{
     survey_disk,
 };
 use pt_mbr::{Record, protective};
-use pt_sector::{CrashDisk, Disk, Lba, Sector};
+use pt_memory::CrashDisk;
+use pt_sector::{Disk, Lba, Sector};
 use std::alloc::{AllocError, Global};
 
 /// Writes a sector, where there is one.

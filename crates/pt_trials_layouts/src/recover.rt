@@ -7,8 +7,9 @@ use pt_gpt::{
 };
 use pt_guid::Guid;
 use pt_mbr::{ChainError, Mbr, Record, encode_mbr};
+use pt_memory::{CrashDisk, MemDisk};
 use pt_recover::{Body, Layout, NoTable, recover, recover_traced};
-use pt_sector::{CrashDisk, Disk, Lba, MemDisk, Sector};
+use pt_sector::{Disk, Lba, Sector};
 use std::alloc::{AllocError, Global};
 
 /// Writes a sector, and answers whether it could.

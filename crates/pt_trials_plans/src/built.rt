@@ -5,10 +5,10 @@ ghost use Rattle.pt_sector.specs.Sectors.{IsSectorSize};
 use pt_apply::Plan;
 use pt_gpt::{Entries, Table, array_sectors};
 use pt_layout::{Body, Labels, Layout};
+use pt_memory::MemDisk;
 use pt_plan::PlanError;
 use pt_planner::make_plan;
 use pt_samples::{DISK, entry, put_mbr};
-use pt_sector::MemDisk;
 use std::alloc::{AllocError, Global};
 use std::test::Fail;
 

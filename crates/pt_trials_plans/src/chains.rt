@@ -2,8 +2,9 @@ ghost use Rattle.pt_sector.specs.Sectors.{IsSectorSize};
 
 use pt_chains::{is_linked, mbr_targets};
 use pt_mbr::{Ebr, Record};
+use pt_memory::{CrashDisk, MemDisk};
 use pt_recover::Ebrs;
-use pt_sector::{CrashDisk, Disk, Failure, Lba, MemDisk, Sector};
+use pt_sector::{Disk, Failure, Lba, Sector};
 use pt_targets::Target;
 use std::alloc::Global;
 use std::test::Fail;

@@ -3,9 +3,10 @@
 ghost use Rattle.std.specs.Prelude.{◌≤◌};
 
 use pt_bsd::{Label, LabelEntry, empty_label, encode_label};
+use pt_memory::MemDisk;
 use pt_places::{LabelTargets, label_targets};
 use pt_recover::{Labelled, Labels, Layout, recover};
-use pt_sector::{Disk, Lba, MemDisk, Sector};
+use pt_sector::{Disk, Lba, Sector};
 use pt_targets::{Target, TargetKind};
 use std::alloc::Global;
 use std::test::Fail;

@@ -4,9 +4,10 @@
 ghost use Rattle.pt_sector.specs.Sectors.{IsSectorSize};
 
 use pt_layout::{Finding, Path};
+use pt_memory::MemDisk;
 use pt_plan::{RepairError, plan_for_repair, repair};
 use pt_samples::{change, entry, gpt_disk, holds, image_of, table_disk};
-use pt_sector::{Disk, MemDisk};
+use pt_sector::Disk;
 use std::alloc::Global;
 use std::test::Fail;
 

@@ -6,9 +6,7 @@ mod plan_file;
 mod plans;
 mod repair;
 mod run;
-mod show;
 mod texts;
-mod why;
 mod words;
 
 use run::run;

@@ -5,10 +5,10 @@ ghost use Rattle.pt_sector.specs.Sectors.{IsSectorSize};
 use crate::plan_file::read_plan_file;
 use crate::run::{Answer, printed};
 use crate::texts::Status;
-use crate::why::print_no;
 use pt_check::Answer as Checked;
 use pt_file::{Access, FileDisk};
 use pt_plan::apply_checked;
+use pt_report::print_no;
 use std::fs::{File, Files};
 use std::io::Write;
 

@@ -2,11 +2,10 @@
 
 use pt_check::CheckError;
 use pt_file::NoFile;
-use pt_gpt::Side;
-use pt_layout::{Finding, NoTable, VerifyError};
+use pt_layout::{NoTable, VerifyError};
 use pt_line::LineError;
-use pt_mbr::ChainError;
 use pt_plan::{CommitError, RepairError};
+use pt_report::print_no_table;
 use std::alloc::AllocError;
 use std::io;
 use std::io::Write;
@@ -175,50 +174,5 @@ impl From<RepairError> for Failure {
             RepairError::Memory => Failure::Memory,
             refusal => Failure::Repair(refusal.number()),
         }
-    }
-}
-
-fn print_no_table<E: Write>(err: &mut E, why: NoTable) -> io::Result<()> {
-    match why {
-        NoTable::NoCopy(primary, backup) => {
-            let (primary, backup) = (primary.number(), backup.number());
-            writeln!(err, "no table: copies {primary} {backup}")
-        }
-        NoTable::Chain(error) => print_chain(err, error),
-        NoTable::TwoExtended => writeln!(err, "no table: two extended"),
-        NoTable::TooSmall => writeln!(err, "no table: too small"),
-        NoTable::Device(_) => writeln!(err, "device"),
-        NoTable::Memory => writeln!(err, "memory"),
-    }
-}
-
-fn print_chain<E: Write>(err: &mut E, error: ChainError) -> io::Result<()> {
-    let number = error.number();
-    match error {
-        ChainError::NoSignature(at)
-        | ChainError::BadRecord(at)
-        | ChainError::NotUpward(at)
-        | ChainError::OutsideExtended(at) => writeln!(err, "no table: chain {number} {}", at.0),
-        ChainError::TooLong => writeln!(err, "no table: chain {number}"),
-        ChainError::Device(_) => writeln!(err, "device"),
-    }
-}
-
-/// Prints a finding after its `no `.
-pub fn print_finding<O: Write>(out: &mut O, finding: &Finding) -> io::Result<()> {
-    write!(out, "no {} ", finding.number())?;
-    match finding {
-        Finding::NoTable(_) => writeln!(out, "no table"),
-        Finding::PrimaryCopy(error) => writeln!(out, "primary copy {}", error.number()),
-        Finding::BackupCopy(error) => writeln!(out, "backup copy {}", error.number()),
-        Finding::CopiesDiffer => writeln!(out, "copies differ"),
-        Finding::Alternate(Side::Primary) => writeln!(out, "alternate primary"),
-        Finding::Alternate(Side::Backup) => writeln!(out, "alternate backup"),
-        Finding::Protective => writeln!(out, "protective record"),
-        Finding::OutsideUsable(path) => writeln!(out, "outside {path}"),
-        Finding::Overlap(before, it) => writeln!(out, "overlap {before} {it}"),
-        Finding::OnTable(path, at) => writeln!(out, "on table {path} {}", at.0),
-        Finding::SameGuid(lower, higher) => writeln!(out, "same guid {lower} {higher}"),
-        Finding::ForeignLabel(path) => writeln!(out, "foreign label {path}"),
     }
 }

@@ -1,0 +1,3 @@
+pub mod InMemory
+pub mod Picked
+pub mod Crashes

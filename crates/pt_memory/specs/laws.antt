@@ -1,0 +1,2 @@
+-- Lemmas on the definitions of specs/: no contract is made of them.
+pub mod Reading
