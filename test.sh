@@ -6,6 +6,8 @@ set -euo pipefail
 cd "$(dirname "$0")"
 began=$(date +%s)
 export PATH="$PATH:/usr/sbin:/sbin"
+# the prover's allocator keeps the pages that it has, as packaging/build.py says
+export MIMALLOC_PURGE_DELAY="${MIMALLOC_PURGE_DELAY:--1}"
 tests/install.sh
 # what an earlier build left
 rm -rf crates/*/out

@@ -25,6 +25,8 @@ ROOT = os.path.dirname(os.path.dirname(os.path.abspath(__file__)))
 # Measured: a check takes as long before its first proof as so many lines of code take to prove, and each job so much memory, in bytes.
 LINES_OF_A_START = 80
 MEMORY_OF_A_JOB = 1_500_000_000
+# The prover's allocator (mimalloc) keeps the pages that it has. To give them back and ask for them anew takes 4 to 14 % of a proof's time.
+os.environ.setdefault("MIMALLOC_PURGE_DELAY", "-1")
 
 
 def place_of(crate):
@@ -68,7 +70,8 @@ def is_proved(rt, crate):
 
 
 def prove_and_compile(rt, crate, flags):
-    """Proves a program or a static library and compiles it, in one run of the prover: `rt ci` reads all that it stands on once for each."""
+    """Proves a program or a static library and compiles it, in one run of the prover. (`rt ci` takes one run for the proof of a program and
+    one for each compiler, and each run reads all that the program stands on.)"""
     made = f"out/{crate.name}.o" if crate.is_program else place_of(crate)
     words = [*crate.words(flags, keeps=False), "--toolchain", f"{rt.KIT}/toolchain", "--backend", "llvm"]
     status = crate.prove(["build", *words, "-o", made])
@@ -111,11 +114,9 @@ def slack_of(crates):
 
 
 def jobs_for(slack, others):
-    """How many processes prove a crate beside so many others. More than one take a third more of the processors' time in all, so only what
-    all else waits for has more."""
-    if slack > 0.001:
-        return 1
-    return 4 if others < 2 else 3
+    """How many processes prove a crate beside so many other crates: as many as four processors take. They take a sixth more of the
+    processors' time in all, so where others keep the processors busy only what all else waits for has a second one."""
+    return max(4 - others, 2 if slack < 0.001 else 1)
 
 
 def side_by_side(rt, crates, prove_one):
