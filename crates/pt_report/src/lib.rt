@@ -1,12 +1,11 @@
-//! The lines in which the command tells a layout, why a disk denotes none, a finding, and the checker's no (docs/commands.md).
+//! The answers of the command, and the lines in which it tells them and why a disk denotes no layout (docs/commands.md).
 #![tactic(auto)]
 
 mod finding;
 mod layout;
 mod no_table;
+mod reply;
 mod why;
 
-pub use finding::print_finding;
-pub use layout::print_layout;
 pub use no_table::print_no_table;
-pub use why::print_no;
+pub use reply::Reply;

@@ -2,22 +2,20 @@
 
 ghost use Rattle.pt_sector.specs.Sectors.{IsSectorSize};
 
-use crate::run::{Answer, printed};
-use crate::texts::Status;
+use crate::texts::Failure;
 use crate::words::Wanted;
 use pt_apply::plan_text;
 use pt_file::{Access, FileDisk};
 use pt_plan::{commit, plan_for};
+use pt_report::Reply;
 use std::fs::{File, Files};
-use std::io;
 
 /// Edits an image by words, as one commit.
-pub fn edit<const B: usize, R: Files<File = File> + AllocGlobal, O: io::Write>(
+pub fn edit<const B: usize, R: Files<File = File> + AllocGlobal>(
     rt: &R,
     image: &str,
     wanted: &Wanted,
-    out: &mut O,
-) -> Answer
+) -> Result<Reply, Failure>
     requires { IsSectorSize B }
 {
     let mut disk = FileDisk::<B>::open(rt, image, Access::Write)?;
@@ -27,16 +25,15 @@ pub fn edit<const B: usize, R: Files<File = File> + AllocGlobal, O: io::Write>(
         wanted.edits.as_slice(),
         wanted.guids.as_slice(),
     )?;
-    printed(writeln!(out, "done"), Status::Done)
+    Ok(Reply::Done)
 }
 
-/// Prints the plan of what `edit` would do.
-pub fn plan<const B: usize, R: Files<File = File> + AllocGlobal, O: io::Write>(
+/// The plan of what `edit` would do, as text.
+pub fn plan<const B: usize, R: Files<File = File> + AllocGlobal>(
     rt: &R,
     image: &str,
     wanted: &Wanted,
-    out: &mut O,
-) -> Answer
+) -> Result<Reply, Failure>
     requires { IsSectorSize B }
 {
     let mut disk = FileDisk::<B>::open(rt, image, Access::Read)?;
@@ -46,6 +43,5 @@ pub fn plan<const B: usize, R: Files<File = File> + AllocGlobal, O: io::Write>(
         wanted.edits.as_slice(),
         wanted.guids.as_slice(),
     )?;
-    let text = plan_text(rt.alloc(), &plan)?;
-    printed(write!(out, "{text}"), Status::Done)
+    Ok(Reply::Text(plan_text(rt.alloc(), &plan)?))
 }

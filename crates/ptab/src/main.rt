@@ -7,6 +7,7 @@ mod plans;
 mod repair;
 mod run;
 mod texts;
+mod views;
 mod words;
 
 use run::run;

@@ -2,21 +2,19 @@
 
 ghost use Rattle.pt_sector.specs.Sectors.{IsSectorSize};
 
-use crate::run::{Answer, printed};
-use crate::texts::Status;
+use crate::texts::Failure;
 use pt_file::{Access, FileDisk};
+use pt_report::Reply;
 use std::fs::{File, Files};
-use std::io::Write;
 
 /// Repairs an image: makes it healthy, and keeps its layout.
-pub fn repair<const B: usize, R: Files<File = File> + AllocGlobal, O: Write>(
+pub fn repair<const B: usize, R: Files<File = File> + AllocGlobal>(
     rt: &R,
     image: &str,
-    out: &mut O,
-) -> Answer
+) -> Result<Reply, Failure>
     requires { IsSectorSize B }
 {
     let mut disk = FileDisk::<B>::open(rt, image, Access::Write)?;
     pt_plan::repair::<B, _>(rt.alloc(), &mut disk)?;
-    printed(writeln!(out, "done"), Status::Done)
+    Ok(Reply::Done)
 }

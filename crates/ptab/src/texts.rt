@@ -91,21 +91,26 @@ impl Failure {
     /// Prints its line.
     pub fn print<E: Write>(&self, err: &mut E) -> io::Result<()> {
         match self {
-            Failure::Usage(text) => write!(err, "{text}"),
+            Failure::Usage(text) => err.write_all(text.as_bytes()),
             Failure::BadWord(word) => writeln!(err, "bad word {word}"),
-            Failure::BadFresh => writeln!(err, "bad fresh"),
-            Failure::BadPath => writeln!(err, "bad path"),
-            Failure::BadNumber => writeln!(err, "bad number"),
-            Failure::Edit(number) => writeln!(err, "refused: edit {number}"),
-            Failure::Plan(number) => writeln!(err, "refused: plan {number}"),
-            Failure::Check(number) => writeln!(err, "refused: check {number}"),
-            Failure::Repair(number) => writeln!(err, "refused: repair {number}"),
-            Failure::PlanText(line) => writeln!(err, "refused: plan text {line}"),
+            Failure::BadFresh => err.write_all(b"bad fresh\n"),
+            Failure::BadPath => err.write_all(b"bad path\n"),
+            Failure::BadNumber => err.write_all(b"bad number\n"),
+            Failure::Edit(number) => print_refusal(err, "edit", u64::from(*number)),
+            Failure::Plan(number) => print_refusal(err, "plan", u64::from(*number)),
+            Failure::Check(number) => print_refusal(err, "check", u64::from(*number)),
+            Failure::Repair(number) => print_refusal(err, "repair", u64::from(*number)),
+            Failure::PlanText(line) => print_refusal(err, "plan text", *line),
             Failure::NoTable(why) => print_no_table(err, *why),
-            Failure::Device => writeln!(err, "device"),
-            Failure::Memory => writeln!(err, "memory"),
+            Failure::Device => err.write_all(b"device\n"),
+            Failure::Memory => err.write_all(b"memory\n"),
         }
     }
+}
+
+/// What refused it, and the number by which it says why.
+fn print_refusal<E: Write>(err: &mut E, by: &str, number: u64) -> io::Result<()> {
+    writeln!(err, "refused: {by} {number}")
 }
 
 impl From<LineError> for Failure {
