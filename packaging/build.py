@@ -25,7 +25,7 @@ ROOT = os.path.dirname(os.path.dirname(os.path.abspath(__file__)))
 # Measured: a check takes as long before its first proof as so many lines of code take to prove, and each job so much memory, in bytes.
 LINES_OF_A_START = 80
 MEMORY_OF_A_JOB = 1_500_000_000
-# The prover's allocator (mimalloc) keeps the pages that it has. To give them back and ask for them anew takes 4 to 14 % of a proof's time.
+# The prover's allocator (mimalloc) keeps the pages that it has. To give them back and ask for them anew takes some 4 % of a proof's time.
 os.environ.setdefault("MIMALLOC_PURGE_DELAY", "-1")
 
 
