@@ -69,9 +69,7 @@ fn answer<const B: usize, R: Files<File = File> + AllocGlobal, O: Write>(
     requires { IsSectorSize B }
 {
     let reply = reply_to::<B, R>(rt, job)?;
-    let status = printed::<B, O>(&reply, out);
-    drop(reply);
-    status
+    printed::<B, O>(&reply, out)
 }
 
 fn line_answer<R: Files<File = File> + AllocGlobal, O: Write>(
