@@ -1,13 +1,16 @@
 -- What recovery answers, as a layout or nothing.
-use Rattle.std.proofs.Common.{◌≡◌, ◌⊎◌, ⊎_elim, ℕ, Some, None, Ok, Err, subst}
-use Rattle.std.specs.Prelude.{Result, OnOk, IfOk, IfErr}
+use Rattle.std.proofs.Common.{◌≡◌, ◌⊎◌, ⊎_elim, ℕ, List, Option, Some, None, Ok, Err, subst, sym}
+use Rattle.std.specs.Prelude.{Result, OnOk, IfOk, IfErr, ◌↔◌}
 use Rattle.pt_sector.specs.Sectors.{Sectors}
-use Rattle.pt_recover.specs.Denotes.{Denotes}
+use Rattle.pt_recover.specs.Denotes.{Denotes, Reads}
+use Rattle.pt_recover.specs.Spans.{IsIn}
 use Rattle.pt_recover.specs.Answers.{IsOutsideDisk, TellsNothing, IsTraceOf, failure_in}
 use Rattle.pt_members.specs.declared.layout.Layout.{Layout}
 use Rattle.pt_recover.specs.declared.error.NoTable.{NoTable}
+use Rattle.pt_recover.specs.declared.trace.TracedRun.{TracedRun}
 use Rattle.pt_recover.specs.declared.error.NoTable.TheVariants.{NoCopy, Chain, TwoExtended, TooSmall, Device, Memory}
 use Rattle.pt_check.specs.Recovered.{IsRecoveredOf}
+use Rattle.pt_check.specs.declared.recovered.Recovered.{Recovered}
 
 -- an answer that is neither of the device's nor of memory's isn't outside the disk's content
 inside : (e : NoTable) → failure_in e ≡ None → ¬ IsOutsideDisk e
@@ -35,3 +38,12 @@ recovered_none b d (Err f) e runs is no_failure told traced =
       denotes = ⊎_elim (λ out. absurd (no_outside out)) (λ tells. tells.0) told;
       reads = ⊎_elim (λ out. absurd (no_outside out)) (λ is_trace. is_trace) traced;
     }
+
+-- the parts of what was recovered, of a disk that is the same
+pub recovered_parts : (b : ℕ) (d x : Sectors) (r : Recovered) (layout : Option Layout) (trace : List TracedRun) → d ≡ x
+    → IsRecoveredOf b d r → layout ≡ r.layout → trace ≡ r.trace → IsRecoveredOf b x (record { layout = layout; trace = trace })
+recovered_parts b d x r layout trace same is is_layout is_trace =
+    subst (λ (y : Sectors). IsRecoveredOf b y (record { layout = layout; trace = trace })) same (record {
+      denotes = subst (λ (o : Option Layout). Denotes b d o) (sym is_layout) is.denotes;
+      reads = subst (λ (t : List TracedRun). (s : ℕ) → IsIn t s ↔ Reads b d s) (sym is_trace) is.reads;
+    })

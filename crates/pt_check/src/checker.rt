@@ -143,7 +143,7 @@ fn check_phases<const B: usize, D: Disk<B>>(
     ensures promises { D.tells → IfOk result (λ a. Promises B (D.told disk.old).seen (phases_of plan.now) a) }
 {
     let end = read_finished(alloc, disk, plan, count)?;
-    let Recovered { layout: old, trace } = before;
+    let (old, trace) = before.into_parts();
     let Finished {
         layout: new,
         finding,

@@ -1,4 +1,4 @@
-ghost use Rattle.std.specs.Prelude.{IfOk};
+ghost use Rattle.std.specs.Prelude.{◌≡◌, IfOk};
 ghost use Rattle.pt_sector.specs.Calls.{Blames};
 ghost use Rattle.pt_sector.specs.Reads.{OnlyReads};
 ghost use Rattle.pt_sector.specs.Sectors.{IsSectorSize};
@@ -11,10 +11,29 @@ use pt_sector::Disk;
 use std::alloc::Global;
 
 /// What a disk denotes, a layout or nothing, and the sectors that decide it.
-#[derive(Drop)]
 pub struct Recovered {
     pub layout: Option<Layout>,
     pub trace: Trace,
+}
+
+// By hand: a derived drop stands in each function at each of its exits, and is proved there.
+impl Drop for Recovered {
+    fn drop(self) {
+        let Recovered {
+            layout: _,
+            trace: _,
+        } = self;
+    }
+}
+
+impl Recovered {
+    pub(crate) fn into_parts(self) -> (Option<Layout>, Trace)
+        ensures layout { result.0 ≡ self.layout }
+        ensures trace { result.1 ≡ self.trace }
+    {
+        let Recovered { layout, trace } = self;
+        (layout, trace)
+    }
 }
 
 /// What the disk denotes, with the sectors that decide it.

@@ -31,10 +31,16 @@ pub(crate) enum Trial {
 }
 
 /// What the disk denotes, and what it denotes with the whole plan written.
-#[derive(Drop)]
 pub(crate) struct Layouts {
     pub old: Option<Layout>,
     pub new: Option<Layout>,
+}
+
+// By hand: a derived drop stands in each function at each of its exits, and is proved there.
+impl Drop for Layouts {
+    fn drop(self) {
+        let Layouts { old: _, new: _ } = self;
+    }
 }
 
 /// Against writes of what recovery reads.
@@ -140,7 +146,7 @@ pub(crate) fn try_phases<const B: usize, D: Disk<B>>(
         }
         put_phase(&mut over, phase);
         let after = read_layout(alloc, &mut over)?;
-        let Recovered { layout, trace } = after;
+        let (layout, trace) = after.into_parts();
         switch = match compare(&layout, layouts, switch, number) {
             Step::Goes(switch) => switch,
             Step::Neither => return Ok(Trial::Refused(Why::Neither(number))),

@@ -3,6 +3,7 @@
 ghost use Rattle.std.specs.Prelude.{◌≡◌, ◌≢◌, ◌≤◌, ◌+◌, IfOk, IfErr, OnOk, length};
 ghost use Rattle.pt_sector.specs.Sectors.{IsSectorSize};
 ghost use Rattle.pt_members.specs.OnePath.{HasFour};
+ghost use Rattle.pt_members.specs.declared.layout.Body.TheVariants.{Gpt};
 ghost use Rattle.pt_edit.specs.Partitions.{partitions};
 ghost use Rattle.pt_edit.specs.Placed.{Placeable};
 ghost use Rattle.pt_gpt.specs.Array.{edge};
@@ -100,6 +101,18 @@ fn table_of<const B: usize>(
     Ok(table_for::<B>(alloc, layout.sectors, &partitions, guids)?)
 }
 
+// The layout with a GPT in the place of its table.
+fn with_table(layout: Layout, table: Table) -> Layout
+    ensures { result ≡ record { sectors = layout.sectors; body = Gpt table; labels = layout.labels } }
+{
+    let (sectors, _, labels) = layout.into_parts();
+    Layout {
+        sectors,
+        body: Body::Gpt(table),
+        labels,
+    }
+}
+
 /// The layout of an MBR as that of a GPT of 128 entries: each partition but the extended one keeps its number and its sectors and gets
 /// the type GUID of its type, no attributes and an empty name; the labels stay. Of `guids` the first is the disk's, the others are the
 /// partitions', by ascending number; there may be more. [`guids_for`](crate::guids_for) says how many are taken.
@@ -119,9 +132,5 @@ pub fn to_gpt<const B: usize>(
     ensures err { IfErr result (λ refusal. refusal ≢ Refusal.Memory → NotConverted B guids.now layout refusal) }
 {
     let table = table_of::<B>(alloc, &layout, guids)?;
-    Ok(Layout {
-        sectors: layout.sectors,
-        body: Body::Gpt(table),
-        labels: layout.labels,
-    })
+    Ok(with_table(layout, table))
 }

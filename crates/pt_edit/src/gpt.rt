@@ -35,11 +35,7 @@ impl Gpt {
         ensures ok { IfOk result (λ gpt. layout ≡ whole_of gpt) }
         ensures err { IfErr result (NoTable layout) }
     {
-        let Layout {
-            sectors,
-            body,
-            labels,
-        } = layout;
+        let (sectors, body, labels) = layout.into_parts();
         match body {
             Body::Gpt(table) => Ok(Gpt {
                 sectors,

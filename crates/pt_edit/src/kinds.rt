@@ -18,11 +18,7 @@ pub enum Parts {
 pub(crate) fn parts_of(layout: Layout) -> Parts
     ensures { layout ≡ layout_of result }
 {
-    let Layout {
-        sectors,
-        body,
-        labels,
-    } = layout;
+    let (sectors, body, labels) = layout.into_parts();
     match body {
         Body::Gpt(table) => Parts::OfGpt(Gpt {
             sectors,

@@ -1,13 +1,13 @@
 -- Entries that come in parts.
 use Rattle.std.proofs.Common.{◌≡◌, ℕ, ◌/◌, zero-le, min, add-one, ◌∷◌, ◌+◌, ◌*◌, ◌-◌, ◌<◌, ◌≤◌, List, [], ◌++◌, length, get_or, take, drop}
-use Rattle.std.proofs.Common.{Option, None, refl, sym, ap, ◌∙◌, subst, arith, inl, inr, length-append, append_assoc}
+use Rattle.std.proofs.Common.{bit_xor, Option, None, refl, sym, ap, ◌∙◌, subst, arith, inl, inr, length-append, append_assoc}
 use Rattle.std.specs.Prelude.{slice_range}
 use Rattle.std.proofs.lemmas.Bool.{cases_lt}
 use Rattle.std.proofs.lemmas.List.{get_or_append_left, get_or-append_right, drop-append-le, take-append-le, length-drop, take_all, take_min}
-use Rattle.std.proofs.lemmas.List.{get_or_push, length_push, append-nil}
+use Rattle.std.proofs.lemmas.List.{get_or_push, length_push, append-nil, length-take-le}
 use Rattle.std.proofs.Math.Seq.{drop-append-add, take-append-add}
 use Rattle.std.proofs.Math.Nat.{add-mul, one-mul}
-use Rattle.pt_sum.specs.Crc.{after_bytes}
+use Rattle.pt_sum.specs.Crc.{after_bytes, crc_of}
 use Rattle.pt_sum.specs.laws.Terms.{after_bytes-append}
 use Rattle.pt_gpt.specs.declared.entry.Entry.{Entry}
 use Rattle.pt_sector.specs.Sectors.{Sectors, sector, IsSectorSize}
@@ -116,6 +116,11 @@ streamed_more b m at i d register left items es s before within read long part =
       long = rw add-one (omega (arith, length-append x (sector d (at + i)), ap length read, product, before.long));
     }
 
+-- the CRC, once all sectors were taken
+pub all_summed : (b m at i n : ℕ) (d : Sectors) (register rest : ℕ) (items : List (Option Entry)) → Streamed b m at i d register rest items
+    → i ≡ n → bit_xor register 0xFFFFFFFF ≡ crc_of (take m (bytes_from d at n))
+all_summed b m at i n d register rest items so_far e = rw (so_far.sum, e) refl
+
 pub sector_within : (b m i : ℕ) → IsSectorSize b → i < (m + (b - 1)) / b → i * b ≤ m
 sector_within b m i (inl e) lt = let h = rw e at lt in rw e (omega arith)
 sector_within b m i (inr e) lt = let h = rw e at lt in rw e (omega arith)
@@ -125,6 +130,19 @@ pub pushed_more : (b n m left : ℕ) → IsSectorSize b → n * 128 + left ≡ m
     → (n + min left b / 128) * 128 + (left - min left b) ≡ m * 128
 pushed_more b n m left (inl e) before = rw e (omega arith)
 pushed_more b n m left (inr e) before = rw e (omega arith)
+
+-- the part of a sector that is taken is whole entries, and there is room for them
+part_len : (b left taken : ℕ) (s : List ℕ) → taken ≡ min left b → length s ≡ b → length (take taken s) ≡ min left b
+part_len b left taken s t long = rw t (length-take-le (min left b) s (omega arith))
+
+pub part_whole : (b n m left taken : ℕ) (s : List ℕ) → IsSectorSize b → n * 128 + left ≡ m * 128 → taken ≡ min left b → length s ≡ b
+    → length (take taken s) ≡ length (take taken s) / 128 * 128
+part_whole b n m left taken s (inl e) before t long = rw (part_len b left taken s t long, e) (omega arith)
+part_whole b n m left taken s (inr e) before t long = rw (part_len b left taken s t long, e) (omega arith)
+
+pub part_room : (b n m left taken : ℕ) (s : List ℕ) → n * 128 + left ≡ m * 128 → taken ≡ min left b → length s ≡ b
+    → n + length (take taken s) / 128 ≤ m
+part_room b n m left taken s before t long = rw (part_len b left taken s t long) (omega arith)
 
 pub left_less : (b m i left : ℕ) → left ≡ m - i * b → left - min left b ≡ m - (i + 1) * b
 left_less b m i left before =

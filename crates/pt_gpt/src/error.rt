@@ -41,23 +41,20 @@ pub enum CopyError {
 
 impl fmt::Display for CopyError {
     fn fmt<W: fmt::Write>(&self, f: &mut fmt::Formatter<W>) -> fmt::Result {
-        match self {
-            CopyError::Signature => f.write_str("the signature isn't EFI PART"),
-            CopyError::Revision => f.write_str("the revision isn't 1.0"),
-            CopyError::HeaderSize => {
-                f.write_str("the header's size isn't from 92 to that of a sector")
-            }
-            CopyError::HeaderCrc => f.write_str("the header's CRC is wrong"),
-            CopyError::MyLba => f.write_str("the header names another sector as its own"),
-            CopyError::ArrayPlace => f.write_str("the array isn't beside the header"),
-            CopyError::EntryShape => f.write_str("there aren't 1 to 128 entries of 128 bytes"),
-            CopyError::UsableRange => {
-                f.write_str("the usable sectors aren't in order and clear of both copies")
-            }
-            CopyError::ArrayCrc => f.write_str("the array's CRC is wrong"),
-            CopyError::Device(at) => write!(f, "sector {} can't be read", at.0),
-            CopyError::Memory => f.write_str("out of memory"),
-        }
+        let text = match self {
+            CopyError::Signature => "the signature isn't EFI PART",
+            CopyError::Revision => "the revision isn't 1.0",
+            CopyError::HeaderSize => "the header's size isn't from 92 to that of a sector",
+            CopyError::HeaderCrc => "the header's CRC is wrong",
+            CopyError::MyLba => "the header names another sector as its own",
+            CopyError::ArrayPlace => "the array isn't beside the header",
+            CopyError::EntryShape => "there aren't 1 to 128 entries of 128 bytes",
+            CopyError::UsableRange => "the usable sectors aren't in order and clear of both copies",
+            CopyError::ArrayCrc => "the array's CRC is wrong",
+            CopyError::Device(at) => return write!(f, "sector {} can't be read", at.0),
+            CopyError::Memory => "out of memory",
+        };
+        f.write_str(text)
     }
 }
 

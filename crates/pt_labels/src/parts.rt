@@ -93,11 +93,7 @@ pub(crate) fn put_entry(
     ensures { result ≡ with_entry_of number label.now letter entry layout }
 {
     let label = put_part(*label, letter, entry);
-    let Layout {
-        sectors,
-        body,
-        labels,
-    } = layout;
+    let (sectors, body, labels) = layout.into_parts();
     Layout {
         sectors,
         body,

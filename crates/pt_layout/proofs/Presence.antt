@@ -1,6 +1,6 @@
 -- Members that are present, place by place.
-use Rattle.std.proofs.Common.{◌≡◌, ◌<◌, ◌≤◌, ◌+◌, ℕ, suc, List, [], ◌∷◌, ◌++◌, length, get_or, take, drop, Option, None, refl, sym, ap, ◌∙◌}
-use Rattle.std.proofs.Common.{arith, append-nil, length-append, length-drop, get_or-drop}
+use Rattle.std.proofs.Common.{◌≡◌, ◌<◌, ◌≤◌, ◌+◌, ℕ, suc, List, [], ◌∷◌, ◌++◌, length, get_or, take, drop, Option, Some, None, refl, sym}
+use Rattle.std.proofs.Common.{ap, ◌∙◌, arith, append-nil, length-append, length-drop, get_or-drop}
 use Rattle.std.specs.Prelude.{◌-◌, option_to_list, slice_range}
 use Rattle.std.proofs.Math.Seq.{take-suc}
 use Rattle.std.proofs.lemmas.List.{take_all}
@@ -24,9 +24,6 @@ take_more xs k ms lt is =
     is ∙ sym (present-more (take k xs) (get_or xs k None)) ∙ ap present (sym (take-suc xs k None lt))
     ∙ ap (λ (n : ℕ). present (take n xs)) e
 
-pub take_start : (xs : List (Option Member)) → present (take 0 xs) ≡ []
-take_start xs = refl
-
 pub take_end : (xs : List (Option Member)) (k : ℕ) → length xs ≤ k → present (take k xs) ≡ present xs
 take_end xs k past = ap present (take_all k xs past)
 
@@ -42,6 +39,18 @@ range_more xs i k ms low lt is =
     take_more (drop i xs) (k - i) ms (omega (arith, length-drop i xs))
     (is ∙ ap (λ (o : Option Member). present (take (k - i) (drop i xs)) ++ option_to_list o) (sym at))
     ∙ ap (λ (n : ℕ). present (take n (drop i xs))) e
+
+-- one more place
+pub slot_more : (xs : List (Option Member)) (i k : ℕ) (ms : List Member) (o : Option Member) (new : List Member) → i ≤ k → k < length xs
+    → ms ≡ present (slice_range xs i k) → o ≡ get_or xs k None → new ≡ ms ++ option_to_list o → new ≡ present (slice_range xs i (k + 1))
+slot_more xs i k ms o new low lt is here both =
+    range_more xs i k new low lt
+    (both ∙ ap (λ (a : List Member). a ++ option_to_list o) is
+    ∙ ap (λ (a : Option Member). present (slice_range xs i k) ++ option_to_list a) here)
+
+pub slots_end : (xs : List (Option Member)) (i k n : ℕ) (ms : List Member) → k ≡ n → ms ≡ present (slice_range xs i k)
+    → ms ≡ present (slice_range xs i n)
+slots_end xs i k n ms all is = is ∙ ap (λ (j : ℕ). present (slice_range xs i j)) all
 
 drop-append : {X : Type 0} (xs ys : List X) → drop (length xs) (xs ++ ys) ≡ ys
 drop-append [] ys = refl
@@ -70,5 +79,15 @@ empty (x ∷ xs) is = absurd (omega arith)
 pub no_parts : (l : Option Label) (m : Member) → l ≡ None → present (parts_in l m) ≡ []
 no_parts l m none = ap present (empty (parts_in l m) (parts_none l m none))
 
--- the members of the places before one, from none to all
-pub ruleset taken = (take_start, take_more, take_end, parts_len)
+-- one more part of a label
+pub part_more : (l : Label) (m : Member) (k : ℕ) (ms : List Member) (o : Option Member) (new : List Member) → k < 8 → length l.entries ≡ 8
+    → ms ≡ present (take k (parts_in (Some l) m)) → o ≡ get_or (parts_in (Some l) m) k None → new ≡ ms ++ option_to_list o
+    → new ≡ present (take (k + 1) (parts_in (Some l) m))
+part_more l m k ms o new lt eight is part both =
+    take_more (parts_in (Some l) m) k new (omega (arith, lt, eight, parts_len l m))
+    (both ∙ ap (λ (a : List Member). a ++ option_to_list o) is
+    ∙ ap (λ (a : Option Member). present (take k (parts_in (Some l) m)) ++ option_to_list a) part)
+
+pub part_end : (l : Label) (m : Member) (k : ℕ) (ms : List Member) → 8 ≤ k → length l.entries ≡ 8
+    → ms ≡ present (take k (parts_in (Some l) m)) → ms ≡ present (parts_in (Some l) m)
+part_end l m k ms past eight is = is ∙ take_end (parts_in (Some l) m) k (omega (arith, past, eight, parts_len l m))

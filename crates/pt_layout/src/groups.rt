@@ -67,7 +67,6 @@ fn push_member(members: &mut Vec<Member>, m: Option<Member>) -> Result<(), Alloc
 }
 
 // The members in the places from one up to another.
-#[tactic(auto, using(crate::proofs::Presence::range_start, crate::proofs::Presence::range_more))]
 fn members_from<const B: usize>(
     alloc: Global,
     body: &Body,
@@ -99,7 +98,6 @@ fn logical_members<const B: usize>(alloc: Global, body: &Body) -> Result<Vec<Mem
     members_from::<B>(alloc, body, top_count::<B>(body), slot_count::<B>(body))
 }
 
-#[tactic(auto, using(crate::proofs::Presence::taken))]
 fn label_parts(alloc: Global, label: &Label, slice: &Member) -> Result<Vec<Member>, AllocError>
     requires small { slice.now.first < 2 ^ 66 }
     requires counted { length label.now.entries ≡ 8 }

@@ -182,7 +182,6 @@ fn same_records(records: &[Option<Record>; 4], others: &[Option<Record>; 4]) -> 
 }
 
 /// What a disk denotes.
-#[derive(Drop)]
 pub struct Layout {
     /// The number of the disk's sectors.
     pub sectors: u64,
@@ -190,7 +189,30 @@ pub struct Layout {
     pub labels: Labels,
 }
 
+// By hand: a derived drop stands in each function at each of its exits, and is proved there.
+impl Drop for Layout {
+    fn drop(self) {
+        let Layout {
+            sectors: _,
+            body: _,
+            labels: _,
+        } = self;
+    }
+}
+
 impl Layout {
+    /// Its sectors, its body and its labels. A type with a `Drop` of its own isn't taken apart by a pattern.
+    pub fn into_parts(self) -> (u64, Body, Labels)
+        ensures { self ≡ record { sectors = result.0; body = result.1; labels = result.2 } }
+    {
+        let Layout {
+            sectors,
+            body,
+            labels,
+        } = self;
+        (sectors, body, labels)
+    }
+
     /// An equal layout.
     pub fn copy(&self, alloc: Global) -> Result<Layout, AllocError>
         ensures { IfOk result (λ o. o ≡ self.now) }

@@ -7,3 +7,4 @@ pub mod MbrTurn
 pub mod LabelTurn
 pub mod TurnShapes
 pub mod Turning
+pub mod Refusing

@@ -103,10 +103,21 @@ first_of {b = b} ps i = ⊎_elim
     ∙ sym (take_all i (phases_in ps) (omega (arith, past, length-map ps (writes {b = b})))))
     (cases_lt i (length ps))
 
-pub first_touch : {b : ℕ} (P : ℕ → Type 0) (ps seen : List (Vec (Write b) Global)) (count k many : ℕ) → seen ≡ ps → count ≡ min k many
-    → many ≡ length ps
-    → Touches P (writes_in (phases_in (take count seen))) → Touches P (writes_in (take k (phases_in ps)))
-first_touch {b = b} P ps seen count k many same is of it =
-    let all : phases_in (take count seen) ≡ take k (phases_in ps) =
-    (λ j. phases_in (take (is j) (same j))) ∙ ap (λ (n : ℕ). phases_in (take (min k n) ps)) of ∙ first_of ps k in
-    subst (λ (qs : List Writes). Touches P (writes_in qs)) all it
+module _ {b : ℕ} (P : ℕ → Type 0) (ps seen : List (Vec (Write b) Global)) (count k many : ℕ) (same : seen ≡ ps) (is : count ≡ min k many)
+    (of : many ≡ length ps) where
+  first_seen : phases_in (take count seen) ≡ take k (phases_in ps)
+  first_seen = (λ j. phases_in (take (is j) (same j))) ∙ ap (λ (n : ℕ). phases_in (take (min k n) ps)) of ∙ first_of ps k
+
+  pub first_touch : Touches P (writes_in (phases_in (take count seen))) → Touches P (writes_in (take k (phases_in ps)))
+  first_touch it = subst (λ (qs : List Writes). Touches P (writes_in qs)) first_seen it
+
+  pub first_free : ¬ Touches P (writes_in (phases_in (take count seen))) → ¬ Touches P (writes_in (take k (phases_in ps)))
+  first_free none = subst (λ (qs : List Writes). ¬ Touches P (writes_in qs)) first_seen none
+
+-- the writes of all phases, as they are lent
+module _ {b : ℕ} (P : ℕ → Type 0) (ps seen : List (Vec (Write b) Global)) (same : seen ≡ ps) where
+  pub lent_touch : Touches P (writes_in (phases_in seen)) → Touches P (writes_in (phases_in ps))
+  lent_touch it = subst (λ (l : List (Vec (Write b) Global)). Touches P (writes_in (phases_in l))) same it
+
+  pub lent_free : ¬ Touches P (writes_in (phases_in seen)) → ¬ Touches P (writes_in (phases_in ps))
+  lent_free none = subst (λ (l : List (Vec (Write b) Global)). ¬ Touches P (writes_in (phases_in l))) same none

@@ -1,5 +1,5 @@
 -- A flush, calls that only read, and then a plan that is applied.
-use Rattle.std.proofs.Common.{◌≡◌, ◌∙◌, inl, ℕ, List, sym, ap, subst}
+use Rattle.std.proofs.Common.{◌≡◌, ◌∙◌, inl, ℕ, List, refl, sym, ap, subst}
 use Rattle.pt_sector.specs.Sectors.{Sectors}
 use Rattle.pt_sector.specs.Writes.{Writes, after}
 use Rattle.pt_sector.specs.Device.{Told, MayLeave, Flushed, FailedFlush}
@@ -15,6 +15,10 @@ use Rattle.pt_plan.specs.Applied.{SafelyStopped, Applied}
 
 pub failed_flush : (old new : Told) (P : Sectors → Type 0) → FailedFlush old new → LeavesOnly old new P
 failed_flush old new P failed = leaves_once old new P failed.time (λ c may. inl (failed_flush_leaves old new failed c may))
+
+-- after a flush and calls that only read, nothing is pending
+pub settled : (old mid now : Told) → Flushed old mid → now ≡ mid → Settled now now.seen
+settled old mid now flush same = rw same (record { seen = refl; durable = flush.durable ∙ sym flush.seen; pending = flush.pending })
 
 module _ (old mid now : Told) (seen : MayLeave old old.seen) (flush : Flushed old mid) (same : now ≡ mid) where
   pub so_far : (P : Sectors → Type 0) → LeavesOnly old now P

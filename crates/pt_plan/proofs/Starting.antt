@@ -12,9 +12,13 @@ use Rattle.pt_members.specs.Tables.{TableOf}
 use Rattle.pt_accepted.specs.laws.Accepted.{plan_finishes, plan_not_refused}
 use Rattle.pt_cases.specs.Cases.{IsPlan}
 use Rattle.pt_planner.specs.Known.{ReasonIs}
+use Rattle.pt_targets.specs.Errors.{fault_in}
 use Rattle.pt_targets.specs.Unplanned.{Unplanned}
+use Rattle.pt_targets.specs.declared.error.PlanError.{PlanError}
+use Rattle.pt_targets.specs.declared.error.PlanError.TheVariants as plan
 use Rattle.pt_plan.specs.Batches.{Words, Makes, MakesTable, EditedBy, IsPlanned, IsReady, IsRefusal}
 use Rattle.pt_plan.specs.Commits.{Leads}
+use Rattle.pt_plan.specs.Failed.{commit_fault_in, commit_unplanned, HidesNoFailure}
 use Rattle.pt_plan.specs.Steps.{sectors_in, StartsFrom, MayStart, NotEdited, NotPlanned, IsSafe, NotSafe}
 use Rattle.pt_plan.specs.declared.error.CommitError.{CommitError}
 use Rattle.pt_plan.specs.declared.error.CommitError.TheVariants.{NoTable, Edit, Plan, Check, Device, Memory}
@@ -59,6 +63,31 @@ module _ (b n : ℕ) (batch : Words) (d : Sectors) (sized : length d ≡ n) (o :
 
     pub planned : (phases : List Writes) → IsPlan b d l phases → IsPlanned b n batch d phases
     planned phases is = record { old = o; new = l; leads = leads; planned = is }
+
+-- what is told of the planner's error carries the same fault, hides no failure, and says why there is no plan
+pub unplanned_fault : (e : PlanError) → commit_fault_in (commit_unplanned e) ≡ fault_in e
+unplanned_fault plan.NotOneSwitch = refl
+unplanned_fault plan.ReusedInOneBatch = refl
+unplanned_fault plan.NeedsRepair = refl
+unplanned_fault (plan.Unsound f) = refl
+unplanned_fault (plan.Device fault) = refl
+unplanned_fault plan.Memory = refl
+
+pub unplanned_hides : (e : PlanError) → HidesNoFailure (commit_unplanned e)
+unplanned_hides plan.NotOneSwitch = λ failed. failed
+unplanned_hides plan.ReusedInOneBatch = λ failed. failed
+unplanned_hides plan.NeedsRepair = λ failed. failed
+unplanned_hides (plan.Unsound f) = λ failed. failed
+unplanned_hides (plan.Device fault) = tt
+unplanned_hides plan.Memory = tt
+
+pub unplanned_told : (b : ℕ) (d : Sectors) (l : Layout) (e : PlanError) → Unplanned b d l e → NotPlanned b d l (commit_unplanned e)
+unplanned_told b d l plan.NotOneSwitch is = is
+unplanned_told b d l plan.ReusedInOneBatch is = is
+unplanned_told b d l plan.NeedsRepair is = is
+unplanned_told b d l (plan.Unsound f) is = is
+unplanned_told b d l (plan.Device fault) is = tt
+unplanned_told b d l plan.Memory is = tt
 
 -- a plan is never refused by the checker
 pub not_safe : (b n : ℕ) (batch : Words) (d : Sectors) (phases : List Writes) → IsSectorSize b → IsPlanned b n batch d phases

@@ -116,8 +116,8 @@ fn planned<const B: usize, D: Disk<B>>(
 pub(crate) fn recovered(known: Known) -> Recovered
     ensures { result ≡ record { layout = known.old; trace = known.trace } }
 {
-    let Known { old, trace, .. } = known;
-    Recovered { layout: old, trace }
+    let (layout, trace) = known.into_parts();
+    Recovered { layout, trace }
 }
 
 /// Checks a plan for a disk that was read already.

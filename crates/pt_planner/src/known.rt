@@ -13,7 +13,6 @@ use pt_sector::{Disk, Failure};
 use std::alloc::Global;
 
 /// What one reading of a disk tells the planner.
-#[derive(Drop)]
 pub struct Known {
     /// What sector 0 says of the disk.
     pub head: Head,
@@ -27,6 +26,38 @@ pub struct Known {
     pub guarded: Trace,
     /// The sectors that recovery reads: they decide what the disk denotes.
     pub trace: Trace,
+}
+
+// By hand: a derived drop stands in each function at each of its exits, and is proved there.
+impl Drop for Known {
+    fn drop(self) {
+        let Known {
+            head: _,
+            old: _,
+            finding: _,
+            primary: _,
+            guarded: _,
+            trace: _,
+        } = self;
+    }
+}
+
+impl Known {
+    /// What the disk denotes, and the sectors that decide it.
+    pub fn into_parts(self) -> (Option<Layout>, Trace)
+        ensures old { result.0 ≡ self.old }
+        ensures trace { result.1 ≡ self.trace }
+    {
+        let Known {
+            head: _,
+            old,
+            finding: _,
+            primary: _,
+            guarded: _,
+            trace,
+        } = self;
+        (old, trace)
+    }
 }
 
 /// Reads a disk once: what the planner must know, and why there is no layout, where there is none.

@@ -38,13 +38,31 @@ impl Reply {
         match self {
             Reply::Text(text) => out.write_all(text.as_bytes()),
             Reply::Layout(layout) => print_layout::<B, O>(out, layout),
-            Reply::Verdict(Verdict::Yes(_)) => out.write_all(b"yes\n"),
-            Reply::Verdict(Verdict::No(finding)) => print_finding(out, finding),
-            Reply::Place(Some(at)) => writeln!(out, "{}", at.0),
-            Reply::Place(None) => out.write_all(b"none\n"),
-            Reply::Checked(Answer::Yes { switch }) => writeln!(out, "yes {switch}"),
-            Reply::Checked(Answer::No(why)) => print_no(out, *why),
+            Reply::Verdict(verdict) => print_verdict(out, verdict),
+            Reply::Place(place) => print_place(out, *place),
+            Reply::Checked(answer) => print_answer(out, *answer),
             Reply::Done => out.write_all(b"done\n"),
         }
+    }
+}
+
+fn print_verdict<O: Write>(out: &mut O, verdict: &Verdict) -> io::Result<()> {
+    match verdict {
+        Verdict::Yes(_) => out.write_all(b"yes\n"),
+        Verdict::No(finding) => print_finding(out, finding),
+    }
+}
+
+fn print_place<O: Write>(out: &mut O, place: Option<Lba>) -> io::Result<()> {
+    match place {
+        Some(at) => writeln!(out, "{}", at.0),
+        None => out.write_all(b"none\n"),
+    }
+}
+
+fn print_answer<O: Write>(out: &mut O, answer: Answer) -> io::Result<()> {
+    match answer {
+        Answer::Yes { switch } => writeln!(out, "yes {switch}"),
+        Answer::No(why) => print_no(out, why),
     }
 }

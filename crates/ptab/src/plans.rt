@@ -34,8 +34,14 @@ pub fn apply<const B: usize, R: Files<File = File> + AllocGlobal>(
 {
     let plan = read_plan_file::<B, R>(rt, file)?;
     let mut disk = FileDisk::<B>::open(rt, image, Access::Write)?;
-    match apply_checked(rt.alloc(), &mut disk, &plan)? {
-        Answer::Yes { .. } => Ok(Reply::Done),
-        no => Ok(Reply::Checked(no)),
+    let answer = apply_checked(rt.alloc(), &mut disk, &plan)?;
+    Ok(reply_of(answer))
+}
+
+/// What is replied where the checker gave this answer to a plan that was to be applied.
+fn reply_of(answer: Answer) -> Reply {
+    match answer {
+        Answer::Yes { .. } => Reply::Done,
+        no => Reply::Checked(no),
     }
 }

@@ -1,7 +1,11 @@
 use Rattle.std.proofs.Common.{◌≡◌, ◌+◌, ◌-◌, ◌∙◌, subst, ℕ, List, length, take, drop, get_or, Option, None}
 use Rattle.std.specs.Prelude.{IfSome, IfNone}
+use Rattle.std.proofs.lemmas.Result.{err_from_is_err_and}
+use Rattle.pt_sector.specs.Calls.{with_fault}
+use Rattle.pt_sector.specs.Reads.{read_of}
 use Rattle.pt_sector.specs.Sectors.{Sectors}
 use Rattle.pt_sector.specs.Device.{Told}
+use Rattle.pt_sector.specs.declared.disk.Fault.{Fault}
 use Rattle.pt_mbr.specs.declared.ebr.Ebr.{Ebr}
 use Rattle.pt_targets.specs.declared.target.Target.{Target}
 use Rattle.pt_targets.specs.Unmade.{IsUnmadeEbr}
@@ -50,3 +54,30 @@ loop-k-preserved g c =
           (subst (λ (t : Told). IsEbrOf t.seen c.args.old.now first (get_or chain c.loop-k.k z) rest c.in-Some.target)
           (c.loop-k.invariant.same.same tells) is) c.in_ok-push_target-in-Some.ensures);
     }
+
+pub returns-in-None-clause-same : goal.returns-in-None-clause-same
+returns-in-None-clause-same g c =
+    g.met.D.Disk.reads_on c.args.disk.now c.loop-k.disk c.ebr_at.new.disk c.loop-k.invariant.same c.in_ok-target.ensures.same
+
+pub returns-in-None-clause-blames : goal.returns-in-None-clause-blames
+returns-in-None-clause-blames g c = c.in_ok-target.ensures.blames ∙ c.loop-k.invariant.quiet
+
+pub returns-in_err-target-clause-same : goal.returns-in_err-target-clause-same
+returns-in_err-target-clause-same g c =
+    g.met.D.Disk.reads_on c.args.disk.now c.loop-k.disk c.ebr_at.new.disk c.loop-k.invariant.same c.in_err-target.ensures.same
+
+pub returns-in_err-target-clause-blames : goal.returns-in_err-target-clause-blames
+returns-in_err-target-clause-blames g c =
+    let p = err_from_is_err_and c.from_residual-in_err-target.result c.from_residual-in_err-target.ensures.1 in
+    rw (p.1, p.2) (subst (λ (l : List Fault). g.D.Disk.faults c.ebr_at.new.disk ≡ with_fault l (read_of c.in_err-target.field-0.0))
+    c.loop-k.invariant.quiet c.in_err-target.ensures.blames)
+
+pub returns-in_err-push_target-in-Some-clause-same : goal.returns-in_err-push_target-in-Some-clause-same
+returns-in_err-push_target-in-Some-clause-same g c =
+    g.met.D.Disk.reads_on c.args.disk.now c.loop-k.disk c.ebr_at.new.disk c.loop-k.invariant.same c.in_ok-target.ensures.same
+
+pub returns-in_err-push_target-in-Some-clause-blames : goal.returns-in_err-push_target-in-Some-clause-blames
+returns-in_err-push_target-in-Some-clause-blames g c =
+    let p = err_from_is_err_and c.from_residual-in_err-push_target-in-Some.result
+    c.from_residual-in_err-push_target-in-Some.ensures.1 in
+    rw (p.1, p.2) (c.in_ok-target.ensures.blames ∙ c.loop-k.invariant.quiet)

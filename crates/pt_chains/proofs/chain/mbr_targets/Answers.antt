@@ -1,5 +1,8 @@
 use Rattle.std.proofs.Common.{◌≡◌, ◌<◌, ◌⊎◌, sym, subst, ℕ, List, length, get_or, Option, arith, rules, inl, inr}
 use Rattle.std.specs.Prelude.{IfSome}
+use Rattle.std.proofs.lemmas.Result.{err_from_is_err_and}
+use Rattle.pt_sector.specs.Calls.{blames_after}
+use Rattle.pt_sector.specs.Reads.{fault_of}
 use Rattle.pt_sector.specs.Sectors.{Sectors}
 use Rattle.pt_sector.specs.Device.{Told}
 use Rattle.pt_mbr.specs.Chain.{StandsAt}
@@ -79,3 +82,25 @@ returns-clause-none g c = λ tells.
     (subst (λ (t : Told). HasUnmadeEbr g.row.B t.seen c.as_slice.result.now c.extended_first-first.result.0 c.as_slice-2.result.now)
     (c.in_ok-head.ensures.same.same tells) none)))))
     (c.chain_targets.ensures.none tells)
+
+pub returns-in_err-head-clause-same : goal.returns-in_err-head-clause-same
+returns-in_err-head-clause-same g c = c.in_err-head.ensures.same
+
+pub returns-in_err-head-clause-blames : goal.returns-in_err-head-clause-blames
+returns-in_err-head-clause-blames g c =
+    let p = err_from_is_err_and c.from_residual.result c.from_residual.ensures.1 in
+    rw (p.1, p.2) c.in_err-head.ensures.blames
+
+pub returns-in-None-clause-same : goal.returns-in-None-clause-same
+returns-in-None-clause-same g c = c.in_ok-head.ensures.same
+
+pub returns-in-None-clause-blames : goal.returns-in-None-clause-blames
+returns-in-None-clause-blames g c = c.in_ok-head.ensures.blames
+
+pub returns-clause-same : goal.returns-clause-same
+returns-clause-same g c =
+    g.met.D.Disk.reads_on c.args.disk.now c.head_at.new.disk c.chain_targets.new.disk c.in_ok-head.ensures.same c.chain_targets.ensures.same
+
+pub returns-clause-blames : goal.returns-clause-blames
+returns-clause-blames g c =
+    blames_after fault_of c.chain_targets.result _ _ _ c.in_ok-head.ensures.blames c.chain_targets.ensures.blames

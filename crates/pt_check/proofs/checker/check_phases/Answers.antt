@@ -1,24 +1,33 @@
-use Rattle.std.proofs.Common.{rules, sym, subst}
+use Rattle.std.proofs.Common.{rules, ◌∙◌, List, sym, ap}
+use Rattle.std.proofs.lemmas.Result.{err_from_is_err_and}
+use Rattle.pt_sector.specs.Calls.{with_fault}
 use Rattle.pt_sector.specs.Device.{Told}
 use Rattle.pt_apply.specs.Plans.{phases_of}
-use Rattle.pt_check.specs.Recovered.{IsRecoveredOf}
+use Rattle.pt_recover.specs.Denotes.{Denotes}
+use Rattle.pt_sector.specs.declared.disk.Fault.{Fault}
+use Rattle.pt_check.specs.Failed.{fault_in}
 use Rattle.pt_check.proofs.Exits.{concluding}
+use Rattle.pt_check.proofs.Outside.{recovered_parts}
 use Rattle.pt_check.proofs.checker.check_phases.Goals as goal
 
 pub returns-clause-answers : goal.returns-clause-answers
 returns-clause-answers g c = λ tells.
+    let from : Denotes g.row.B (g.D.Disk.told c.args.disk.now).seen c.into_parts-old.result.0 =
+    rw c.into_parts-old.ensures.layout (c.requires.known tells).denotes in
     rw c.conclude.ensures (concluding g.row.B (g.D.Disk.told c.args.disk.now).seen (phases_of c.args.plan.now)
-    (c.requires.fit tells) c.args.before.layout c.in_ok-end.end.layout
-    (record { from = (c.requires.known tells).denotes; to = c.in_ok-end.ensures.layout tells }) c.in_ok-trial.trial
+    (c.requires.fit tells) c.into_parts-old.result.0 c.in_ok-end.end.layout
+    (record { from = from; to = c.in_ok-end.ensures.layout tells }) c.in_ok-trial.trial
     c.misplaced.result c.in_ok-end.end.finding
     (rw (c.in_ok-end.ensures.same.same tells) at (c.in_ok-trial.ensures.tried tells)) c.misplaced.ensures
     (c.in_ok-end.ensures.wrong tells)).0
 
 pub returns-clause-promises : goal.returns-clause-promises
 returns-clause-promises g c = λ tells.
+    let from : Denotes g.row.B (g.D.Disk.told c.args.disk.now).seen c.into_parts-old.result.0 =
+    rw c.into_parts-old.ensures.layout (c.requires.known tells).denotes in
     rw c.conclude.ensures (concluding g.row.B (g.D.Disk.told c.args.disk.now).seen (phases_of c.args.plan.now)
-    (c.requires.fit tells) c.args.before.layout c.in_ok-end.end.layout
-    (record { from = (c.requires.known tells).denotes; to = c.in_ok-end.ensures.layout tells }) c.in_ok-trial.trial
+    (c.requires.fit tells) c.into_parts-old.result.0 c.in_ok-end.end.layout
+    (record { from = from; to = c.in_ok-end.ensures.layout tells }) c.in_ok-trial.trial
     c.misplaced.result c.in_ok-end.end.finding
     (rw (c.in_ok-end.ensures.same.same tells) at (c.in_ok-trial.ensures.tried tells)) c.misplaced.ensures
     (c.in_ok-end.ensures.wrong tells)).1
@@ -30,8 +39,38 @@ try_phases-requires g c = (
     c.requires.size,
     (
       c.requires.room,
-      λ tells. subst (λ (t : Told). IsRecoveredOf g.row.B t.seen c.args.before) (sym (c.in_ok-end.ensures.same.same tells))
-          (c.requires.known tells),
+      λ tells. recovered_parts g.row.B _ _ c.args.before _ _ (ap (λ (t : Told). t.seen) (sym (c.in_ok-end.ensures.same.same tells)))
+          (c.requires.known tells) c.into_parts-old.ensures.layout c.into_parts-old.ensures.trace,
     ),
   ),
 )
+
+pub read_finished-requires : goal.read_finished-requires
+read_finished-requires g c = (search rules, (c.requires.size, c.requires.room))
+
+pub returns-in_err-end-clause-same : goal.returns-in_err-end-clause-same
+returns-in_err-end-clause-same g c = c.in_err-end.ensures.same
+
+pub returns-in_err-end-clause-blames : goal.returns-in_err-end-clause-blames
+returns-in_err-end-clause-blames g c =
+    let p = err_from_is_err_and c.from_residual.result c.from_residual.ensures.1 in
+    rw (p.1, p.2) c.in_err-end.ensures.blames
+
+pub returns-in_err-trial-clause-same : goal.returns-in_err-trial-clause-same
+returns-in_err-trial-clause-same g c =
+    g.met.D.Disk.reads_on c.args.disk.now c.read_finished.new.disk c.try_phases.new.disk c.in_ok-end.ensures.same
+    c.in_err-trial.ensures.same
+
+pub returns-in_err-trial-clause-blames : goal.returns-in_err-trial-clause-blames
+returns-in_err-trial-clause-blames g c =
+    let p = err_from_is_err_and c.from_residual-in_err-trial.result c.from_residual-in_err-trial.ensures.1 in
+    rw (p.1, p.2) (c.in_err-trial.ensures.blames
+    ∙ ap (λ (fs : List Fault). with_fault fs (fault_in c.in_err-trial.field-0.0)) c.in_ok-end.ensures.blames)
+
+pub returns-clause-same : goal.returns-clause-same
+returns-clause-same g c =
+    g.met.D.Disk.reads_on c.args.disk.now c.read_finished.new.disk c.try_phases.new.disk c.in_ok-end.ensures.same
+    c.in_ok-trial.ensures.same
+
+pub returns-clause-blames : goal.returns-clause-blames
+returns-clause-blames g c = c.in_ok-trial.ensures.blames ∙ c.in_ok-end.ensures.blames

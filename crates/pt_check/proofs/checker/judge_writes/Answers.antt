@@ -1,4 +1,4 @@
-use Rattle.std.proofs.Common.{◌≡◌, ◌∙◌, ◌<◌, ℕ, List, length, sym, subst, arith, Some}
+use Rattle.std.proofs.Common.{rules, ◌≡◌, ◌∙◌, ◌<◌, ◌≤◌, ℕ, List, length, sym, subst, arith, Some}
 use Rattle.pt_sector.specs.Writes.{Writes}
 use Rattle.pt_apply.specs.Plans.{phases_of, writes_in, NoneIs}
 use Rattle.pt_check.specs.First.{IsFirst, FirstWriteIs}
@@ -24,6 +24,18 @@ returns-in-Some-first_in_plan-clause-judged g c = λ tells.
     (past_first phases c.sectors-sectors.result (length d) c.in-Some-first_in_plan.found
     (c.sectors-sectors.ensures ∙ sym (g.met.D.Disk.sized c.args.disk.now tells)) c.in-Some-first_in_plan.ensures)
 
+pub other_boot_code-requires : goal.other_boot_code-requires
+other_boot_code-requires g c = (
+  search rules,
+  (
+    c.requires.size,
+    (
+      subst (λ (n : ℕ). n ≤ 4096) c.in-Some.ensures.few.0 c.in-Some.ensures.few.1,
+      rw c.sectors-sectors.ensures at c.in_default.ensures,
+    ),
+  ),
+)
+
 pub returns-in-Some-2-clause-judged : goal.returns-in-Some-2-clause-judged
 returns-in-Some-2-clause-judged g c = λ tells.
     let d = (g.D.Disk.told c.args.disk.now).seen in
@@ -39,3 +51,11 @@ returns-in-None-2-clause-in_range g c = (
   omega (arith, c.in-Some.ensures.few.0, c.in-Some.ensures.few.1),
   in_range _ c.args.plan.now.phases.items (rw c.sectors-sectors.ensures at c.in_default.ensures),
 )
+
+pub returns-in-None-2-clause-judged : goal.returns-in-None-2-clause-judged
+returns-in-None-2-clause-judged g c = λ tells. record {
+  few = subst (λ (n : ℕ). n ≤ 4096) c.in-Some.ensures.few.0 c.in-Some.ensures.few.1;
+  inside = subst (λ (z : ℕ). NoneIs (Past z) (writes_in (phases_of c.args.plan.now)))
+      (c.sectors-sectors.ensures ∙ sym (g.met.D.Disk.sized c.args.disk.now tells)) c.in_default.ensures;
+  boot = rw c.in-None-2.is at (c.in_ok-other_boot_code.ensures.found tells);
+}

@@ -1,4 +1,4 @@
-use Rattle.std.proofs.Common.{rules, ◌≡◌, ◌∙◌, ℕ, ap, subst, arith, length, Some, None, Ok, Err}
+use Rattle.std.proofs.Common.{rules, ◌≡◌, ◌∙◌, ℕ, ◌<◌, ap, subst, arith, length, Some, None, Ok, Err}
 use Rattle.std.proofs.lemmas.Result.{err_from_is_err_and}
 use Rattle.pt_sector.specs.Writes.{Writes}
 use Rattle.pt_sector.specs.Calls.{with_fault}
@@ -14,6 +14,7 @@ use Rattle.pt_check.specs.Failed.{fault_in}
 use Rattle.pt_check.specs.Trials.{TouchedIs}
 use Rattle.pt_check.specs.declared.recovered.Recovered.{Recovered}
 use Rattle.pt_check.proofs.Firsts.{length-phases, count_on, lent_phase, index_within, seen_on, count_within}
+use Rattle.pt_check.proofs.Outside.{recovered_parts}
 use Rattle.pt_check.proofs.Trying.{course_none, refused_read, refused_neither, course_on}
 use Rattle.pt_check.proofs.trial.try_phases.Goals as goal
 
@@ -67,104 +68,56 @@ put_phase-requires g c = (
 )
 
 pub returns-in-Neither-clause-tried : goal.returns-in-Neither-clause-tried
-returns-in-Neither-clause-tried g c =
-    λ tells. refused_neither (Denotes g.row.B) (Reads g.row.B) (phases_of c.args.plan.now)
-    (g.D.Disk.told c.args.disk.now).seen c.args.layouts.now.old c.args.layouts.now.new
-    c.loop-i.i (index_within c.args.plan.now.phases.items c.loop-i.i
-    (omega (arith, c.loop-i-test.true, c.len-i-end.ensures, c.args.plan.now.phases.ok))) c.loop-i.before
-    (c.loop-i.invariant.trace tells) c.loop-i.switch (c.loop-i.invariant.course tells)
-    (subst (λ (w : Writes). TouchedIs (IsIn c.loop-i.before) w None)
-    (lent_phase c.args.plan.now.phases.items c.loop-i.i c.index-phase.result.now
-    (omega (
-      arith,
-      c.loop-i-test.true,
-      c.len-i-end.ensures,
-      c.args.plan.now.phases.ok,
-    )) c.index-phase.ensures c.deref.result.now c.deref.ensures.value) c.in_default.ensures)
-    c.in_ok-after.after.layout
-    (rw (seen_on (phases_of c.args.plan.now) (g.D.Disk.told c.args.disk.now).seen c.loop-i.i (writes_of c.deref-in-loop-i.result.now) _ _
-    (index_within c.args.plan.now.phases.items c.loop-i.i
-    (omega (arith, c.loop-i-test.true, c.len-i-end.ensures, c.args.plan.now.phases.ok)))
-    (lent_phase c.args.plan.now.phases.items c.loop-i.i c.index-phase.result.now
-    (omega (
-      arith,
-      c.loop-i-test.true,
-      c.len-i-end.ensures,
-      c.args.plan.now.phases.ok,
-    )) c.index-phase.ensures c.deref-in-loop-i.result.now c.deref-in-loop-i.ensures.value)
-    (c.loop-i.invariant.seen tells) c.put_phase.ensures.seen) at (c.in_ok-after.ensures.recovered tells).denotes)
-    (denotes_one_lem g.row.B) c.in-Neither.ensures
+returns-in-Neither-clause-tried g c = λ tells.
+    let phases = phases_of c.args.plan.now in
+    let d = (g.D.Disk.told c.args.disk.now).seen in
+    let lt : c.loop-i.i < length c.args.plan.now.phases.items =
+    omega (arith, c.loop-i-test.true, c.len-i-end.ensures, c.args.plan.now.phases.ok) in
+    let below = index_within c.args.plan.now.phases.items c.loop-i.i lt in
+    let lent = lent_phase c.args.plan.now.phases.items c.loop-i.i c.index-phase.result.now lt c.index-phase.ensures in
+    let after = recovered_parts g.row.B _ _ c.in_ok-after.after c.into_parts-layout.result.0 c.into_parts-layout.result.1
+    (seen_on phases d c.loop-i.i (writes_of c.deref-in-loop-i.result.now) _ _ below
+    (lent c.deref-in-loop-i.result.now c.deref-in-loop-i.ensures.value) (c.loop-i.invariant.seen tells) c.put_phase.ensures.seen)
+    (c.in_ok-after.ensures.recovered tells) c.into_parts-layout.ensures.layout c.into_parts-layout.ensures.trace in
+    refused_neither (Denotes g.row.B) (Reads g.row.B) phases d c.args.layouts.now.old c.args.layouts.now.new
+    c.loop-i.i below c.loop-i.before (c.loop-i.invariant.trace tells) c.loop-i.switch (c.loop-i.invariant.course tells)
+    (subst (λ (w : Writes). TouchedIs (IsIn c.loop-i.before) w None) (lent c.deref.result.now c.deref.ensures.value) c.in_default.ensures)
+    c.into_parts-layout.result.0 after.denotes (denotes_one_lem g.row.B) c.in-Neither.ensures
 
 pub loop-i-preserved : goal.loop-i-preserved
-loop-i-preserved g c = record {
-  same_reference = search rules;
-  same = g.met.D.Disk.reads_on _ _ _ c.loop-i.invariant.same (rw c.put_phase.ensures.disk at c.in_ok-after.ensures.same.through.0.below);
-  quiet = blames_below g.D.Disk fault_in (Ok c.in_ok-after.after) _ _ _ _ c.in_ok-after.ensures.same.through.0
-      c.in_ok-after.ensures.blames ∙ ap g.D.Disk.faults c.put_phase.ensures.disk ∙ c.loop-i.invariant.quiet;
-  room = omega (
-    arith,
-    c.loop-i.invariant.room,
-    c.put_phase.ensures.room,
-    ap room_left c.in_ok-after.ensures.same.through.1,
-    count_on c.args.plan.now.phases.items c.loop-i.i c.index-phase.result.now
-        (omega (arith, c.loop-i-test.true, c.len-i-end.ensures, c.args.plan.now.phases.ok)) c.index-phase.ensures,
-    ap length c.deref-in-loop-i.ensures.value,
-  );
-  seen = λ tells. ap (λ (t : Told). t.seen) (c.in_ok-after.ensures.same.same tells)
-      ∙ (seen_on (phases_of c.args.plan.now) (g.D.Disk.told c.args.disk.now).seen c.loop-i.i (writes_of c.deref-in-loop-i.result.now) _ _
-      (index_within c.args.plan.now.phases.items c.loop-i.i
-      (omega (arith, c.loop-i-test.true, c.len-i-end.ensures, c.args.plan.now.phases.ok)))
-      (lent_phase c.args.plan.now.phases.items c.loop-i.i c.index-phase.result.now
-      (omega (
+loop-i-preserved g c =
+    let phases = phases_of c.args.plan.now in
+    let d = (g.D.Disk.told c.args.disk.now).seen in
+    let lt : c.loop-i.i < length c.args.plan.now.phases.items =
+    omega (arith, c.loop-i-test.true, c.len-i-end.ensures, c.args.plan.now.phases.ok) in
+    let below = index_within c.args.plan.now.phases.items c.loop-i.i lt in
+    let lent = lent_phase c.args.plan.now.phases.items c.loop-i.i c.index-phase.result.now lt c.index-phase.ensures in
+    let seen = λ (tells : g.D.Disk.tells). seen_on phases d c.loop-i.i (writes_of c.deref-in-loop-i.result.now) _ _ below
+    (lent c.deref-in-loop-i.result.now c.deref-in-loop-i.ensures.value) (c.loop-i.invariant.seen tells) c.put_phase.ensures.seen in
+    let after = λ (tells : g.D.Disk.tells). recovered_parts g.row.B _ _ c.in_ok-after.after c.into_parts-layout.result.0
+    c.into_parts-layout.result.1 (seen tells) (c.in_ok-after.ensures.recovered tells)
+    c.into_parts-layout.ensures.layout c.into_parts-layout.ensures.trace in
+    record {
+      same_reference = search rules;
+      same = g.met.D.Disk.reads_on _ _ _ c.loop-i.invariant.same
+          (rw c.put_phase.ensures.disk at c.in_ok-after.ensures.same.through.0.below);
+      quiet = blames_below g.D.Disk fault_in (Ok c.in_ok-after.after) _ _ _ _ c.in_ok-after.ensures.same.through.0
+          c.in_ok-after.ensures.blames ∙ ap g.D.Disk.faults c.put_phase.ensures.disk ∙ c.loop-i.invariant.quiet;
+      room = omega (
         arith,
-        c.loop-i-test.true,
-        c.len-i-end.ensures,
-        c.args.plan.now.phases.ok,
-      )) c.index-phase.ensures c.deref-in-loop-i.result.now c.deref-in-loop-i.ensures.value)
-      (c.loop-i.invariant.seen tells) c.put_phase.ensures.seen);
-  trace = λ tells. record {
-    same = (rw (seen_on (phases_of c.args.plan.now) (g.D.Disk.told c.args.disk.now).seen c.loop-i.i
-        (writes_of c.deref-in-loop-i.result.now) _ _
-        (index_within c.args.plan.now.phases.items c.loop-i.i
-        (omega (arith, c.loop-i-test.true, c.len-i-end.ensures, c.args.plan.now.phases.ok)))
-        (lent_phase c.args.plan.now.phases.items c.loop-i.i c.index-phase.result.now
-        (omega (
-          arith,
-          c.loop-i-test.true,
-          c.len-i-end.ensures,
-          c.args.plan.now.phases.ok,
-        )) c.index-phase.ensures c.deref-in-loop-i.result.now c.deref-in-loop-i.ensures.value)
-        (c.loop-i.invariant.seen tells) c.put_phase.ensures.seen) at (c.in_ok-after.ensures.recovered tells).reads);
-  };
-  course =
-      λ tells. course_on (Denotes g.row.B) (Reads g.row.B) (phases_of c.args.plan.now)
-      (g.D.Disk.told c.args.disk.now).seen c.args.layouts.now.old c.args.layouts.now.new
-      c.loop-i.i (index_within c.args.plan.now.phases.items c.loop-i.i
-      (omega (arith, c.loop-i-test.true, c.len-i-end.ensures, c.args.plan.now.phases.ok))) c.loop-i.before
-      (c.loop-i.invariant.trace tells) c.loop-i.switch (c.loop-i.invariant.course tells)
-      (subst (λ (w : Writes). TouchedIs (IsIn c.loop-i.before) w None)
-      (lent_phase c.args.plan.now.phases.items c.loop-i.i c.index-phase.result.now
-      (omega (
-        arith,
-        c.loop-i-test.true,
-        c.len-i-end.ensures,
-        c.args.plan.now.phases.ok,
-      )) c.index-phase.ensures c.deref.result.now c.deref.ensures.value) c.in_default.ensures)
-      c.in_ok-after.after.layout
-      (rw (seen_on (phases_of c.args.plan.now) (g.D.Disk.told c.args.disk.now).seen c.loop-i.i
-      (writes_of c.deref-in-loop-i.result.now) _ _
-      (index_within c.args.plan.now.phases.items c.loop-i.i
-      (omega (arith, c.loop-i-test.true, c.len-i-end.ensures, c.args.plan.now.phases.ok)))
-      (lent_phase c.args.plan.now.phases.items c.loop-i.i c.index-phase.result.now
-      (omega (
-        arith,
-        c.loop-i-test.true,
-        c.len-i-end.ensures,
-        c.args.plan.now.phases.ok,
-      )) c.index-phase.ensures c.deref-in-loop-i.result.now c.deref-in-loop-i.ensures.value)
-      (c.loop-i.invariant.seen tells) c.put_phase.ensures.seen) at (c.in_ok-after.ensures.recovered tells).denotes)
-      c.in-Goes.switch c.in-Goes.ensures;
-}
+        c.loop-i.invariant.room,
+        c.put_phase.ensures.room,
+        ap room_left c.in_ok-after.ensures.same.through.1,
+        count_on c.args.plan.now.phases.items c.loop-i.i c.index-phase.result.now lt c.index-phase.ensures,
+        ap length c.deref-in-loop-i.ensures.value,
+      );
+      seen = λ tells. ap (λ (t : Told). t.seen) (c.in_ok-after.ensures.same.same tells) ∙ seen tells;
+      trace = λ tells. record { same = (after tells).reads };
+      course = λ tells. course_on (Denotes g.row.B) (Reads g.row.B) phases d c.args.layouts.now.old c.args.layouts.now.new
+          c.loop-i.i below c.loop-i.before (c.loop-i.invariant.trace tells) c.loop-i.switch (c.loop-i.invariant.course tells)
+          (subst (λ (w : Writes). TouchedIs (IsIn c.loop-i.before) w None) (lent c.deref.result.now c.deref.ensures.value)
+          c.in_default.ensures) c.into_parts-layout.result.0 (after tells).denotes c.in-Goes.switch c.in-Goes.ensures;
+    }
 
 pub returns-in_err-after-clause-blames : goal.returns-in_err-after-clause-blames
 returns-in_err-after-clause-blames g c =
@@ -205,3 +158,24 @@ returns-clause-tried g c = λ tells.
     subst (λ (n : ℕ). Course (Denotes g.row.B) (Reads g.row.B) (phases_of c.args.plan.now)
     (g.D.Disk.told c.args.disk.now).seen c.args.layouts.now.old c.args.layouts.now.new n c.loop-i.switch) all
     (c.loop-i.invariant.course tells)
+
+pub returns-in_err-room-clause-same : goal.returns-in_err-room-clause-same
+returns-in_err-room-clause-same g c = g.met.D.Disk.reads_same c.args.disk.now
+
+pub returns-in-Some-clause-same : goal.returns-in-Some-clause-same
+returns-in-Some-clause-same g c = search (rules, c.loop-i.invariant.same)
+
+pub returns-in-Some-clause-blames : goal.returns-in-Some-clause-blames
+returns-in-Some-clause-blames g c = search (rules, c.loop-i.invariant.quiet)
+
+pub returns-in_err-after-clause-same : goal.returns-in_err-after-clause-same
+returns-in_err-after-clause-same g c =
+    let same : OnlyReads g.D.Disk c.args.disk.now c.read_layout.new.disk.disk.now =
+    g.met.D.Disk.reads_on _ _ _ c.loop-i.invariant.same (rw c.put_phase.ensures.disk at c.in_err-after.ensures.same.through.0.below) in
+    search (rules, same)
+
+pub returns-clause-same : goal.returns-clause-same
+returns-clause-same g c = search (rules, c.loop-i.invariant.same)
+
+pub returns-clause-blames : goal.returns-clause-blames
+returns-clause-blames g c = search (rules, c.loop-i.invariant.quiet)

@@ -1,4 +1,4 @@
-use Rattle.std.proofs.Common.{◌∙◌, sym, inr}
+use Rattle.std.proofs.Common.{◌∙◌, sym, inl, inr}
 use Rattle.std.proofs.lemmas.Result.{err_from_is_err_and}
 use Rattle.pt_gpt.specs.Copy.{SideReads, InArray}
 use Rattle.pt_gpt.proofs.Heads.{failed_in, other_crc_of, table_of}
@@ -25,3 +25,13 @@ pub returns-clause-ok : goal.returns-clause-ok
 returns-clause-ok g c tells =
     let sized = g.met.D.Disk.sized c.args.disk.now tells in
     record { room = rw sized c.requires.room; head = c.args.header.now; stands = returns-clause-with g c tells }
+
+pub returns-in_err-crc-clause-blames : goal.returns-in_err-crc-clause-blames
+returns-in_err-crc-clause-blames g c =
+    let p = err_from_is_err_and c.from_residual.result c.from_residual.ensures.1 in
+    rw (p.1, p.2) c.in_err-crc.ensures.blames
+
+pub returns-in_err-crc-clause-err : goal.returns-in_err-crc-clause-err
+returns-in_err-crc-clause-err g c tells =
+    let p = err_from_is_err_and c.from_residual.result c.from_residual.ensures.1 in
+    rw (p.1, p.2) (inl c.in_err-crc.ensures.outside)

@@ -1,4 +1,5 @@
 use Rattle.std.proofs.lemmas.Result.{IfOk-weaker, IfErr-weaker}
+use Rattle.pt_phases.proofs.Refusing.{turn_faultless}
 use Rattle.pt_phases.proofs.Turning.{turn_is_plan, no_turn_stops, turn_range, turn_short}
 use Rattle.pt_phases.proofs.within.within_mbr.Goals as goal
 
@@ -25,3 +26,7 @@ returns-clause-few g c =
     IfOk-weaker c.turn.result _ _
     (turn_short c.args.old.now c.args.guarded.now c.args.heads.items c.args.places.items c.deref.result.now c.in_ok-targets.targets.items
     c.in_ok-targets.ensures c.deref.ensures.value) c.turn.ensures.ok
+
+pub returns-clause-faultless : goal.returns-clause-faultless
+returns-clause-faultless g c =
+    IfErr-weaker c.turn.result _ _ (turn_faultless c.args.old.now c.args.guarded.now c.in_ok-targets.targets.items) c.turn.ensures.err

@@ -1,4 +1,5 @@
-use Rattle.std.proofs.Common.{◌≡◌, ◌∙◌, ℕ, List, length, map, All, sym, ap, subst, rules}
+use Rattle.std.proofs.Common.{◌≡◌, ◌∙◌, ℕ, List, length, map, All, refl, sym, ap, subst, rules}
+use Rattle.std.proofs.lemmas.Result.{err_from_is_err_and}
 use Rattle.pt_sector.specs.Sectors.{Sectors}
 use Rattle.pt_members.specs.declared.layout.Slice.{Slice}
 use Rattle.pt_cases.specs.Ascending.{NumbersAscend}
@@ -59,3 +60,49 @@ returns-clause-answer g c = λ tells.
     (subst (λ (x : List (Place g.row.B)). All (IsRead d) x) (sym places) (here.bytes tells))
     (subst (λ (k : ℕ). OldAre g.row.B k c.args.old.now c.deref-4.result.now) sectors olds)
     c.in_ok-answer.ensures
+
+pub returns-in_err-slices-clause-same : goal.returns-in_err-slices-clause-same
+returns-in_err-slices-clause-same g c = g.met.D.Disk.reads_same c.args.disk.now
+
+pub returns-in_err-slices-clause-blames : goal.returns-in_err-slices-clause-blames
+returns-in_err-slices-clause-blames g c =
+    let p = err_from_is_err_and c.from_residual.result c.from_residual.ensures.1 in
+    rw (p.1, p.2) refl
+
+pub returns-in_err-found-clause-same : goal.returns-in_err-found-clause-same
+returns-in_err-found-clause-same g c = g.met.D.Disk.reads_same c.args.disk.now
+
+pub returns-in_err-found-clause-blames : goal.returns-in_err-found-clause-blames
+returns-in_err-found-clause-blames g c =
+    let p = err_from_is_err_and c.from_residual-in_err-found.result c.from_residual-in_err-found.ensures.1 in
+    rw (p.1, p.2) refl
+
+pub returns-in_err-places-clause-same : goal.returns-in_err-places-clause-same
+returns-in_err-places-clause-same g c = c.in_err-places.ensures.same
+
+pub returns-in_err-places-clause-blames : goal.returns-in_err-places-clause-blames
+returns-in_err-places-clause-blames g c =
+    let p = err_from_is_err_and c.from_residual-in_err-places.result c.from_residual-in_err-places.ensures.1 in
+    rw (p.1, p.2) c.in_err-places.ensures.blames
+
+pub returns-in_err-old_slices-clause-same : goal.returns-in_err-old_slices-clause-same
+returns-in_err-old_slices-clause-same g c = c.in_ok-places.ensures.same
+
+pub returns-in_err-old_slices-clause-blames : goal.returns-in_err-old_slices-clause-blames
+returns-in_err-old_slices-clause-blames g c =
+    let p = err_from_is_err_and c.from_residual-in_err-old_slices.result c.from_residual-in_err-old_slices.ensures.1 in
+    rw (p.1, p.2) c.in_ok-places.ensures.blames
+
+pub returns-in_err-answer-clause-same : goal.returns-in_err-answer-clause-same
+returns-in_err-answer-clause-same g c = c.in_ok-places.ensures.same
+
+pub returns-in_err-answer-clause-blames : goal.returns-in_err-answer-clause-blames
+returns-in_err-answer-clause-blames g c =
+    let p = err_from_is_err_and c.from_residual-in_err-answer.result c.from_residual-in_err-answer.ensures.1 in
+    rw (p.1, p.2) c.in_ok-places.ensures.blames
+
+pub returns-clause-same : goal.returns-clause-same
+returns-clause-same g c = c.in_ok-places.ensures.same
+
+pub returns-clause-blames : goal.returns-clause-blames
+returns-clause-blames g c = c.in_ok-places.ensures.blames

@@ -1,5 +1,9 @@
-use Rattle.std.proofs.Common.{◌∙◌, ℕ, subst, arith}
+use Rattle.std.proofs.Common.{◌≡◌, ◌∙◌, ℕ, List, subst, arith}
+use Rattle.std.proofs.lemmas.Result.{err_from_is_err_and}
+use Rattle.pt_sector.specs.Calls.{with_fault}
 use Rattle.pt_sector.specs.Device.{Told}
+use Rattle.pt_sector.specs.Reads.{read_of}
+use Rattle.pt_sector.specs.declared.disk.Fault.{Fault}
 use Rattle.pt_places.specs.Places.{IsAt, IsRead}
 use Rattle.pt_places.proofs.Pieces.{all_on, spots_on}
 use Rattle.pt_places.proofs.reading.read_places.Goals as goal
@@ -20,3 +24,22 @@ loop-k-preserved g c = record {
       c.in_ok-place.place c.in_ok-push_place.ensures (c.loop-k.invariant.bytes tells)
       (subst (λ (t : Told). IsRead t.seen c.in_ok-place.place) (c.loop-k.invariant.same.same tells) (c.in_ok-place.ensures.bytes tells));
 }
+
+pub returns-in_err-place-clause-same : goal.returns-in_err-place-clause-same
+returns-in_err-place-clause-same g c =
+    g.met.D.Disk.reads_on c.args.disk.now c.loop-k.disk c.read_place.new.disk c.loop-k.invariant.same c.in_err-place.ensures.same
+
+pub returns-in_err-place-clause-blames : goal.returns-in_err-place-clause-blames
+returns-in_err-place-clause-blames g c =
+    let p = err_from_is_err_and c.from_residual.result c.from_residual.ensures.1 in
+    rw (p.1, p.2) (subst (λ (l : List Fault). g.D.Disk.faults c.read_place.new.disk ≡ with_fault l (read_of c.in_err-place.field-0.0))
+    c.loop-k.invariant.quiet c.in_err-place.ensures.blames)
+
+pub returns-in_err-push_place-clause-same : goal.returns-in_err-push_place-clause-same
+returns-in_err-push_place-clause-same g c =
+    g.met.D.Disk.reads_on c.args.disk.now c.loop-k.disk c.read_place.new.disk c.loop-k.invariant.same c.in_ok-place.ensures.same
+
+pub returns-in_err-push_place-clause-blames : goal.returns-in_err-push_place-clause-blames
+returns-in_err-push_place-clause-blames g c =
+    let p = err_from_is_err_and c.from_residual-in_err-push_place.result c.from_residual-in_err-push_place.ensures.1 in
+    rw (p.1, p.2) (c.in_ok-place.ensures.blames ∙ c.loop-k.invariant.quiet)

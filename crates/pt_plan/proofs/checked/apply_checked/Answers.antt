@@ -1,6 +1,9 @@
+use Rattle.std.proofs.Common.{subst, arith}
 use Rattle.std.proofs.lemmas.Result.{err_from_is_err_and}
 use Rattle.pt_apply.specs.Plans.{phases_of}
-use Rattle.pt_plan.proofs.Applying.{failed_flush, so_far, refused, goes_on, done}
+use Rattle.pt_check.specs.Answers.{WritesFit}
+use Rattle.pt_check.specs.declared.answer.Answer.{Answer}
+use Rattle.pt_plan.proofs.Applying.{settled, failed_flush, so_far, refused, goes_on, done}
 use Rattle.pt_plan.proofs.Failing.{unchecked, unapplied}
 use Rattle.pt_plan.proofs.checked.apply_checked.Goals as goal
 
@@ -52,3 +55,17 @@ returns-in_err-apply-in-Yes-clause-failed g c = λ tells.
     (c.in_ok-answer.ensures.same.same tells)
     c.in-Yes.switch c.in_ok-answer.answer c.in-Yes.is (c.in_ok-answer.ensures.answers tells) (c.in_ok-answer.ensures.promises tells)
     _ c.in_err-apply-in-Yes.field-0.0 (c.in_err-apply-in-Yes.ensures.failed tells))
+
+pub apply-requires : goal.apply-requires
+apply-requires g c = (
+  omega arith,
+  (
+    c.requires.size,
+    (
+      rw c.in_ok-answer.ensures.same.same_count
+          (subst (λ (a : Answer). WritesFit (g.D.Disk.count c.flush.new.self) c.args.plan.now a) c.in-Yes.is
+          c.in_ok-answer.ensures.in_range),
+      λ tells. settled _ _ _ (c.in_ok-flush.ensures.done tells) (c.in_ok-answer.ensures.same.same tells),
+    ),
+  ),
+)

@@ -1,6 +1,8 @@
+use Rattle.std.proofs.Common.{arith}
 use Rattle.std.proofs.lemmas.Result.{err_from_is_err_and}
 use Rattle.pt_recover.specs.laws.Terms.{denotes_one_lem}
 use Rattle.pt_plan.specs.Failed.{commit_fault_in}
+use Rattle.pt_plan.proofs.Applying.{settled}
 use Rattle.pt_plan.proofs.Exits.{at_failed_flush, at_refused, at_failed, at_done, met_read}
 use Rattle.pt_plan.proofs.commits.commit.Goals as goal
 
@@ -31,3 +33,15 @@ returns-in_err-apply-clause-commits g c = λ tells.
     (c.in_ok-plan.ensures.same.same tells) (denotes_one_lem g.row.B) _
     (rw c.flush.ensures.count at (c.in_ok-plan.ensures.ready tells)) _ (c.apply.ensures.any_moment tells) c.in_err-apply.field-0.0
     (c.in_err-apply.ensures.failed tells))
+
+pub apply-requires : goal.apply-requires
+apply-requires g c = (
+  omega arith,
+  (
+    c.requires.size,
+    (
+      rw c.in_ok-plan.ensures.same.same_count c.in_ok-plan.ensures.in_range,
+      λ tells. settled _ _ _ (c.in_ok-flush.ensures.done tells) (c.in_ok-plan.ensures.same.same tells),
+    ),
+  ),
+)

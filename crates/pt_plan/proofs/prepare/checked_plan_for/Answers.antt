@@ -5,3 +5,6 @@ returns-clause-ready g c = λ tells. rw c.new-cache.ensures.disk at (c.read_plan
 
 pub returns-clause-refused : goal.returns-clause-refused
 returns-clause-refused g c = λ tells. rw c.new-cache.ensures.disk at (c.read_plan_and_check.ensures.refused tells)
+
+pub returns-clause-in_range : goal.returns-clause-in_range
+returns-clause-in_range g c = rw c.new-cache.ensures.disk at c.read_plan_and_check.ensures.in_range

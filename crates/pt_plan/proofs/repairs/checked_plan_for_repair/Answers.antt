@@ -2,3 +2,9 @@ use Rattle.pt_plan.proofs.repairs.checked_plan_for_repair.Goals as goal
 
 pub returns-clause-ready : goal.returns-clause-ready
 returns-clause-ready g c = λ tells. rw c.new-cache.ensures.disk at (c.read_mend_and_check.ensures.ready tells)
+
+pub returns-clause-refused : goal.returns-clause-refused
+returns-clause-refused g c = λ tells. rw c.new-cache.ensures.disk at (c.read_mend_and_check.ensures.refused tells)
+
+pub returns-clause-in_range : goal.returns-clause-in_range
+returns-clause-in_range g c = rw c.new-cache.ensures.disk at c.read_mend_and_check.ensures.in_range

@@ -1,5 +1,5 @@
 use Rattle.std.proofs.lemmas.Result.{err_from_is_err_and}
-use Rattle.std.proofs.Common.{arith}
+use Rattle.std.proofs.Common.{◌∙◌, arith}
 use Rattle.pt_apply.specs.Plans.{phases_of}
 use Rattle.pt_plan.proofs.Mendable.{ready_to_mend, not_safe_to_mend}
 use Rattle.pt_plan.proofs.repairs.read_mend_and_check.Goals as goal
@@ -27,3 +27,44 @@ returns-in_err-checked-clause-refused g c = λ tells.
     rw (p.1, p.2) (not_safe_to_mend g.row.B (g.D.Disk.told c.args.disk.now).seen c.requires.size (phases_of c.in_ok-plan.plan)
     (rw (c.in_ok-known.ensures.same.same tells) at (c.in_ok-plan.ensures.planned tells)) c.in_err-checked.field-0.0
     (rw (c.in_ok-plan.ensures.same.same tells, c.in_ok-known.ensures.same.same tells) at (c.in_err-checked.ensures.err tells)))
+
+pub returns-in_err-plan-clause-same : goal.returns-in_err-plan-clause-same
+returns-in_err-plan-clause-same g c = g.met.D.Disk.reads_on _ _ _ c.in_ok-known.ensures.same c.in_err-plan.ensures.same
+
+pub returns-in_err-plan-clause-blames : goal.returns-in_err-plan-clause-blames
+returns-in_err-plan-clause-blames g c =
+    let p = err_from_is_err_and c.from_residual-in_err-plan.result c.from_residual-in_err-plan.ensures.1 in
+    rw (p.1, p.2) (rw c.in_ok-known.ensures.blames at c.in_err-plan.ensures.blames)
+
+pub mended-requires : goal.mended-requires
+mended-requires g c = (
+  omega arith,
+  (
+    c.requires.size,
+    (
+      λ tells. rw (c.in_ok-known.ensures.same.same tells) (c.in_ok-known.ensures.known tells),
+      λ tells. rw (c.in_ok-known.ensures.same.same tells) (c.in_ok-known.ensures.reason tells),
+    ),
+  ),
+)
+
+pub returns-in_err-checked-clause-same : goal.returns-in_err-checked-clause-same
+returns-in_err-checked-clause-same g c =
+    g.met.D.Disk.reads_on _ _ _ c.in_ok-known.ensures.same
+    (g.met.D.Disk.reads_on _ _ _ c.in_ok-plan.ensures.same c.in_err-checked.ensures.same)
+
+pub returns-in_err-checked-clause-blames : goal.returns-in_err-checked-clause-blames
+returns-in_err-checked-clause-blames g c =
+    let p = err_from_is_err_and c.from_residual-in_err-checked.result c.from_residual-in_err-checked.ensures.1 in
+    rw (p.1, p.2) (rw (c.in_ok-plan.ensures.blames, c.in_ok-known.ensures.blames) at c.in_err-checked.ensures.blames)
+
+pub returns-clause-same : goal.returns-clause-same
+returns-clause-same g c =
+    g.met.D.Disk.reads_on _ _ _ c.in_ok-known.ensures.same
+    (g.met.D.Disk.reads_on _ _ _ c.in_ok-plan.ensures.same c.in_ok-checked.ensures.same)
+
+pub returns-clause-blames : goal.returns-clause-blames
+returns-clause-blames g c = c.in_ok-checked.ensures.blames ∙ c.in_ok-plan.ensures.blames ∙ c.in_ok-known.ensures.blames
+
+pub returns-clause-in_range : goal.returns-clause-in_range
+returns-clause-in_range g c = rw c.in_ok-known.ensures.same.same_count at c.in_ok-plan.ensures.in_range

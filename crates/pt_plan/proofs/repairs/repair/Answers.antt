@@ -1,6 +1,8 @@
+use Rattle.std.proofs.Common.{arith}
 use Rattle.std.proofs.lemmas.Result.{err_from_is_err_and}
 use Rattle.pt_recover.specs.laws.Terms.{denotes_one_lem}
 use Rattle.pt_plan.specs.Mending.{repair_fault_in}
+use Rattle.pt_plan.proofs.Applying.{settled}
 use Rattle.pt_plan.proofs.Exits.{met_read}
 use Rattle.pt_plan.proofs.Mendable.{none_of_healthy}
 use Rattle.pt_plan.proofs.Mended.{at_failed_flush, at_refused, at_failed, at_done}
@@ -33,3 +35,15 @@ returns-in_err-apply-clause-repairs g c = λ tells.
     rw (p.1, p.2) (at_failed _ _ _ _ _ _ _ _ _ _ _ (g.met.D.Disk.may_be_seen _ tells) (c.in_ok-flush.ensures.done tells)
     (c.in_ok-plan.ensures.same.same tells) (denotes_one_lem g.row.B) (none_of_healthy g.row.B) _
     (c.in_ok-plan.ensures.ready tells) _ (c.apply.ensures.any_moment tells) c.in_err-apply.field-0.0 (c.in_err-apply.ensures.failed tells))
+
+pub apply-requires : goal.apply-requires
+apply-requires g c = (
+  omega arith,
+  (
+    c.requires.size,
+    (
+      rw c.in_ok-plan.ensures.same.same_count c.in_ok-plan.ensures.in_range,
+      λ tells. settled _ _ _ (c.in_ok-flush.ensures.done tells) (c.in_ok-plan.ensures.same.same tells),
+    ),
+  ),
+)

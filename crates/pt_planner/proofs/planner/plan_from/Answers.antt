@@ -1,11 +1,51 @@
-use Rattle.std.proofs.Common.{◌∙◌, ℕ, sym, subst, arith}
+use Rattle.std.proofs.Common.{◌∙◌, ℕ, ap, sym, subst, arith}
+use Rattle.std.specs.Prelude.{IfOk}
 use Rattle.std.proofs.lemmas.Result.{err_from_is_err_and}
+use Rattle.pt_sector.specs.Calls.{blames_after}
+use Rattle.pt_sector.specs.Device.{Told}
 use Rattle.pt_mbr.specs.Extended.{extended_of}
+use Rattle.pt_apply.specs.Plans.{phases_in, phases_of, InRange}
+use Rattle.pt_cases.specs.Cases.{IsPlan, idle}
 use Rattle.pt_cases.specs.Shape.{FitsTable}
 use Rattle.pt_cases.specs.Links.{IsLoneChain}
+use Rattle.pt_targets.specs.Errors.{fault_in}
 use Rattle.pt_planner.proofs.Beginning.{of_disk, starts}
+use Rattle.pt_planner.proofs.Failing.{unsound_blames, unsound_unplanned}
 use Rattle.pt_planner.proofs.Making.{err_so, isnt, hindered, no_places, none_of_disk}
 use Rattle.pt_planner.proofs.planner.plan_from.Goals as goal
+
+pub returns-in_err-be_sound-clause-same : goal.returns-in_err-be_sound-clause-same
+returns-in_err-be_sound-clause-same g c = g.met.D.Disk.reads_same c.args.disk.now
+
+pub returns-in_err-be_sound-clause-blames : goal.returns-in_err-be_sound-clause-blames
+returns-in_err-be_sound-clause-blames g c =
+    let p = err_from_is_err_and c.from_residual.result c.from_residual.ensures.1 in
+    rw (p.1, p.2) (unsound_blames g.row.B c.args.wanted.now _ c.in_err-be_sound.field-0.0 c.in_err-be_sound.ensures.err)
+
+pub returns-in_err-be_sound-clause-err : goal.returns-in_err-be_sound-clause-err
+returns-in_err-be_sound-clause-err g c = λ tells.
+    let p = err_from_is_err_and c.from_residual.result c.from_residual.ensures.1 in
+    rw (p.1, p.2) (unsound_unplanned g.row.B (g.D.Disk.told c.args.disk.now).seen c.args.wanted.now c.in_err-be_sound.field-0.0
+    c.in_err-be_sound.ensures.err)
+
+pub returns-then-is_done-clause-same : goal.returns-then-is_done-clause-same
+returns-then-is_done-clause-same g c = g.met.D.Disk.reads_same c.args.disk.now
+
+pub returns-then-is_done-clause-plan : goal.returns-then-is_done-clause-plan
+returns-then-is_done-clause-plan g c = λ tells.
+    idle ((c.is_done.ensures.done (g.D.Disk.told c.args.disk.now).seen (c.requires.known tells)).0 c.if-is_done.true)
+    (ap phases_in c.new.ensures.items)
+
+pub returns-then-not-may_be-clause-same : goal.returns-then-not-may_be-clause-same
+returns-then-not-may_be-clause-same g c = g.met.D.Disk.reads_same c.args.disk.now
+
+pub returns-in_err-places-clause-same : goal.returns-in_err-places-clause-same
+returns-in_err-places-clause-same g c = c.in_err-places.ensures.same
+
+pub returns-in_err-places-clause-blames : goal.returns-in_err-places-clause-blames
+returns-in_err-places-clause-blames g c =
+    let p = err_from_is_err_and c.from_residual-in_err-places.result c.from_residual-in_err-places.ensures.1 in
+    rw (p.1, p.2) c.in_err-places.ensures.blames
 
 pub returns-then-not-may_be-clause-err : goal.returns-then-not-may_be-clause-err
 returns-then-not-may_be-clause-err g c = λ tells.
@@ -125,3 +165,43 @@ returns-in-Gpt-clause-err g c = λ tells.
     err_so c.to_gpt.result _ _ (hindered g.row.B d c.args.known.now.old c.args.wanted.now known.old c.in_ok-be_sound.ensures.ok
     (isnt c.is_done.result c.if-is_done.false (c.is_done.ensures.done d known)) (c.in_ok-places.ensures.none_left tells))
     (rw (c.in_ok-places.ensures.same.same tells) at (c.to_gpt.ensures.err tells))
+
+pub returns-in-Mbr-clause-same : goal.returns-in-Mbr-clause-same
+returns-in-Mbr-clause-same g c =
+    g.met.D.Disk.reads_on c.args.disk.now c.places_of.new.disk c.to_mbr.new.disk c.in_ok-places.ensures.same c.to_mbr.ensures.same
+
+pub returns-in-Mbr-clause-blames : goal.returns-in-Mbr-clause-blames
+returns-in-Mbr-clause-blames g c =
+    blames_after fault_in c.to_mbr.result _ _ _ c.in_ok-places.ensures.blames c.to_mbr.ensures.blames
+
+pub returns-in-Mbr-clause-in_range : goal.returns-in-Mbr-clause-in_range
+returns-in-Mbr-clause-in_range g c =
+    subst (λ (n : ℕ). IfOk c.to_mbr.result (InRange n)) c.in_ok-places.ensures.same.same_count c.to_mbr.ensures.in_range
+
+pub returns-in-Mbr-clause-some : goal.returns-in-Mbr-clause-some
+returns-in-Mbr-clause-some g c = c.to_mbr.ensures.some
+
+pub returns-in-Mbr-clause-plan : goal.returns-in-Mbr-clause-plan
+returns-in-Mbr-clause-plan g c = λ tells.
+    subst (λ (t : Told). IfOk c.to_mbr.result (λ plan. IsPlan g.row.B t.seen c.args.wanted.now (phases_of plan)))
+    (c.in_ok-places.ensures.same.same tells) (c.to_mbr.ensures.plan tells)
+
+pub returns-in-Gpt-clause-same : goal.returns-in-Gpt-clause-same
+returns-in-Gpt-clause-same g c =
+    g.met.D.Disk.reads_on c.args.disk.now c.places_of.new.disk c.to_gpt.new.disk c.in_ok-places.ensures.same c.to_gpt.ensures.same
+
+pub returns-in-Gpt-clause-blames : goal.returns-in-Gpt-clause-blames
+returns-in-Gpt-clause-blames g c =
+    blames_after fault_in c.to_gpt.result _ _ _ c.in_ok-places.ensures.blames c.to_gpt.ensures.blames
+
+pub returns-in-Gpt-clause-in_range : goal.returns-in-Gpt-clause-in_range
+returns-in-Gpt-clause-in_range g c =
+    subst (λ (n : ℕ). IfOk c.to_gpt.result (InRange n)) c.in_ok-places.ensures.same.same_count c.to_gpt.ensures.in_range
+
+pub returns-in-Gpt-clause-some : goal.returns-in-Gpt-clause-some
+returns-in-Gpt-clause-some g c = c.to_gpt.ensures.some
+
+pub returns-in-Gpt-clause-plan : goal.returns-in-Gpt-clause-plan
+returns-in-Gpt-clause-plan g c = λ tells.
+    subst (λ (t : Told). IfOk c.to_gpt.result (λ plan. IsPlan g.row.B t.seen c.args.wanted.now (phases_of plan)))
+    (c.in_ok-places.ensures.same.same tells) (c.to_gpt.ensures.plan tells)

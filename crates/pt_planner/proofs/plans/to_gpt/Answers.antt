@@ -1,5 +1,10 @@
-use Rattle.std.proofs.Common.{◌∙◌, sym, subst}
+use Rattle.std.proofs.Common.{◌∙◌, ℕ, refl, sym, subst}
+use Rattle.std.specs.Prelude.{IfOk}
+use Rattle.std.proofs.lemmas.Result.{err_from_is_err_and}
+use Rattle.pt_sector.specs.Calls.{blames_none}
+use Rattle.pt_apply.specs.Plans.{InRange}
 use Rattle.pt_cases.specs.Shape.{FitsTable}
+use Rattle.pt_targets.specs.Errors.{fault_in}
 use Rattle.pt_planner.proofs.Making.{ok_so, err_so, turn_hinders, copies_hinder, label_start, copies_start, isnt}
 use Rattle.pt_planner.proofs.plans.to_gpt.Goals as goal
 
@@ -47,3 +52,42 @@ returns-clause-err g c = λ tells.
     (isnt c.changes_labels.result c.if-changes_labels.false c.changes_labels.ensures) c.order_of.ensures (c.in_ok-head.ensures.ok tells)
     (c.requires.places tells))))
     c.both_copies.ensures.err
+
+pub returns-then-changes_labels-clause-same : goal.returns-then-changes_labels-clause-same
+returns-then-changes_labels-clause-same g c = g.met.D.Disk.reads_same c.args.disk.now
+
+pub returns-then-changes_labels-clause-blames : goal.returns-then-changes_labels-clause-blames
+returns-then-changes_labels-clause-blames g c = blames_none fault_in c.one_label.result _ _ c.one_label.ensures.faultless refl
+
+pub returns-then-changes_labels-clause-in_range : goal.returns-then-changes_labels-clause-in_range
+returns-then-changes_labels-clause-in_range g c =
+    ok_so c.one_label.result _ _ (λ plan each. each (g.D.Disk.count c.args.disk.now) c.requires.in_range) c.one_label.ensures.in_range
+
+pub returns-then-changes_labels-clause-some : goal.returns-then-changes_labels-clause-some
+returns-then-changes_labels-clause-some g c = c.one_label.ensures.some
+
+pub returns-in_err-head-clause-same : goal.returns-in_err-head-clause-same
+returns-in_err-head-clause-same g c = c.in_err-head.ensures.same
+
+pub returns-in_err-head-clause-blames : goal.returns-in_err-head-clause-blames
+returns-in_err-head-clause-blames g c =
+    let p = err_from_is_err_and c.from_residual.result c.from_residual.ensures.1 in
+    rw (p.1, p.2) c.in_err-head.ensures.blames
+
+pub returns-in_err-head-clause-err : goal.returns-in_err-head-clause-err
+returns-in_err-head-clause-err g c = λ tells.
+    let p = err_from_is_err_and c.from_residual.result c.from_residual.ensures.1 in rw (p.1, p.2) tt
+
+pub returns-clause-same : goal.returns-clause-same
+returns-clause-same g c = c.in_ok-head.ensures.same
+
+pub returns-clause-blames : goal.returns-clause-blames
+returns-clause-blames g c = blames_none fault_in c.both_copies.result _ _ c.both_copies.ensures.faultless c.in_ok-head.ensures.blames
+
+pub returns-clause-in_range : goal.returns-clause-in_range
+returns-clause-in_range g c =
+    subst (λ (n : ℕ). IfOk c.both_copies.result (InRange n)) (c.sectors.ensures ∙ c.in_ok-head.ensures.same.same_count)
+    c.both_copies.ensures.in_range
+
+pub returns-clause-some : goal.returns-clause-some
+returns-clause-some g c = c.both_copies.ensures.some

@@ -1,0 +1,43 @@
+use Rattle.std.proofs.Common.{rules, sym, subst}
+use Rattle.std.proofs.lemmas.Result.{err_from_is_err_and}
+use Rattle.pt_sector.specs.Calls.{blames_after}
+use Rattle.pt_sector.specs.Device.{Told}
+use Rattle.pt_check.specs.Failed.{fault_in}
+use Rattle.pt_check.specs.Recovered.{IsRecoveredOf}
+use Rattle.pt_check.proofs.checker.read_and_check.Goals as goal
+
+pub returns-in_err-before-clause-same : goal.returns-in_err-before-clause-same
+returns-in_err-before-clause-same g c = c.in_err-before.ensures.same
+
+pub returns-in_err-before-clause-blames : goal.returns-in_err-before-clause-blames
+returns-in_err-before-clause-blames g c =
+    let p = err_from_is_err_and c.from_residual.result c.from_residual.ensures.1 in
+    rw (p.1, p.2) c.in_err-before.ensures.blames
+
+pub check_known-requires : goal.check_known-requires
+check_known-requires g c = (
+  search rules,
+  (
+    c.requires.size,
+    λ tells. subst (λ (t : Told). IsRecoveredOf g.row.B t.seen c.in_ok-before.before) (sym (c.in_ok-before.ensures.same.same tells))
+        (c.in_ok-before.ensures.recovered tells),
+  ),
+)
+
+pub returns-clause-same : goal.returns-clause-same
+returns-clause-same g c =
+    g.met.D.Disk.reads_on c.args.disk.now c.read_layout.new.disk c.check_known.new.disk c.in_ok-before.ensures.same
+    c.check_known.ensures.same
+
+pub returns-clause-blames : goal.returns-clause-blames
+returns-clause-blames g c =
+    blames_after fault_in c.check_known.result _ _ _ c.in_ok-before.ensures.blames c.check_known.ensures.blames
+
+pub returns-clause-in_range : goal.returns-clause-in_range
+returns-clause-in_range g c = rw c.in_ok-before.ensures.same.same_count at c.check_known.ensures.in_range
+
+pub returns-clause-answers : goal.returns-clause-answers
+returns-clause-answers g c = λ tells. rw (c.in_ok-before.ensures.same.same tells) at (c.check_known.ensures.answers tells)
+
+pub returns-clause-promises : goal.returns-clause-promises
+returns-clause-promises g c = λ tells. rw (c.in_ok-before.ensures.same.same tells) at (c.check_known.ensures.promises tells)

@@ -1,0 +1,10 @@
+use Rattle.pt_plan.proofs.repairs.plan_for_repair.Goals as goal
+
+pub returns-clause-planned : goal.returns-clause-planned
+returns-clause-planned g c = λ tells. rw c.new-cache.ensures.disk at (c.read_and_mend.ensures.planned tells)
+
+pub returns-clause-refused : goal.returns-clause-refused
+returns-clause-refused g c = λ tells. rw c.new-cache.ensures.disk at (c.read_and_mend.ensures.refused tells)
+
+pub returns-clause-in_range : goal.returns-clause-in_range
+returns-clause-in_range g c = rw c.new-cache.ensures.disk at c.read_and_mend.ensures.in_range
