@@ -7,9 +7,10 @@ not_true : (c : Bool) → c ≡ false → c ≡ true → ⊥
 not_true c is so = let e : true ≡ false = sym so ∙ is in cc
 
 pub returns-then-not-bears_magic : goal.returns-then-not-bears_magic
-returns-then-not-bears_magic g c =
-    (λ is. absurd (false≢true is),
-    λ foreign. absurd (not_true c.bears_magic.result c.if-not-bears_magic.true (c.bears_magic.ensures.1 foreign.0)))
+returns-then-not-bears_magic g c = (
+  λ is. absurd (false≢true is),
+  λ foreign. absurd (not_true c.bears_magic.result c.if-not-bears_magic.true (c.bears_magic.ensures.1 foreign.0)),
+)
 
 pub returns-in-Ok : goal.returns-in-Ok
 returns-in-Ok g c = (λ is. absurd (false≢true is), λ foreign. absurd (foreign.1 (c.in-Ok.field-0, c.in-Ok.ensures.ok)))
