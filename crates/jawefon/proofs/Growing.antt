@@ -8,7 +8,7 @@ use Rattle.pt_members.specs.declared.member.Kind.{Kind}
 use Rattle.pt_members.specs.declared.member.Kind.TheVariants.{Leaf, Slice, Extended}
 use Rattle.pt_members.specs.Members.{label_of, parts, parts_in, present}
 use Rattle.pt_members.proofs.ByPlace.{parts_len}
-use Rattle.pt_layout.proofs.Presence.{no_parts}
+use Rattle.pt_sound.proofs.Presence.{no_parts}
 use Rattle.pt_members.specs.Rows.{below}
 
 -- all entries of a label

@@ -5,5 +5,5 @@ pub use Rattle.pt_sector.specs.Reads
 pub use Rattle.pt_members.specs.Members
 pub use Rattle.pt_members.specs.Rows
 pub use Rattle.pt_members.specs.Places
-pub use Rattle.pt_layout.specs.Healthy
-pub use Rattle.pt_layout.specs.Findings
+pub use Rattle.pt_sound.specs.Healthy
+pub use Rattle.pt_sound.specs.Findings

@@ -5,9 +5,9 @@ use Rattle.pt_sector.specs.Sectors.{Sectors, sector}
 use Rattle.pt_sector.specs.Writes.{Writes, Puts, written, after}
 use Rattle.pt_recover.specs.Denotes.{Denotes, Reads}
 use Rattle.pt_members.specs.declared.layout.Layout.{Layout}
-use Rattle.pt_layout.specs.Healthy.{IsHealthy}
-use Rattle.pt_layout.specs.laws.Terms.{sound_frees_tables_lem}
-use Rattle.pt_layout.specs.Sound.{Sound}
+use Rattle.pt_sound.specs.Healthy.{IsHealthy}
+use Rattle.pt_sound.specs.laws.Terms.{sound_frees_tables_lem}
+use Rattle.pt_sound.specs.Sound.{Sound}
 use Rattle.pt_members.specs.Tables.{IsTable}
 use Rattle.pt_check.specs.laws.Accepted.{accepted_lem, got_puts}
 use Rattle.pt_members.specs.Owned.{OwnedOf}

@@ -12,7 +12,7 @@ use Rattle.pt_gpt.specs.declared.table.Table.{Table}
 use Rattle.pt_gpt.specs.declared.table.Side.TheVariants.{Primary, Backup}
 use Rattle.pt_gpt.specs.Array.{HasRoom}
 use Rattle.pt_members.specs.declared.layout.Layout.{Layout}
-use Rattle.pt_layout.specs.Sound.{Sound}
+use Rattle.pt_sound.specs.Sound.{Sound}
 use Rattle.pt_cases.specs.Cases.{IsPlan, idle, backup_first, primary_first, from_mbr, one_label, within_mbr, Copies, labels_and_backup}
 use Rattle.pt_cases.specs.Cases.{primary_and_labels, copies_and_labels, within_mbr_phases}
 use Rattle.pt_cases.specs.Copies.{array_writes, array_phase, one_write, closing, backup_phase, Protects}

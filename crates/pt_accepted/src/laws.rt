@@ -8,7 +8,7 @@ ghost use Rattle.pt_members.specs.Slices.{places_of};
 ghost use Rattle.pt_members.specs.declared.layout.Layout.{Layout};
 ghost use Rattle.pt_members.specs.declared.layout.Slice.{Slice};
 ghost use Rattle.pt_bsd.specs.declared.label.Label.{Label};
-ghost use Rattle.pt_layout.specs.Healthy.{IsHealthy};
+ghost use Rattle.pt_sound.specs.Healthy.{IsHealthy};
 ghost use Rattle.pt_check.specs.Answers.{Answers};
 ghost use Rattle.pt_check.specs.declared.answer.Answer.TheVariants.{No};
 ghost use Rattle.pt_check.specs.declared.answer.Why.{Why};

@@ -4,7 +4,7 @@ use Rattle.std.specs.Prelude.{◌↔◌}
 use Rattle.std.proofs.lemmas.Bool.{cases_lt}
 use Rattle.pt_sector.specs.Sectors.{Sectors, Agrees}
 use Rattle.pt_sector.specs.Writes.{Writes, after}
-use Rattle.pt_layout.specs.declared.finding.Finding.{Finding}
+use Rattle.pt_sound.specs.declared.finding.Finding.{Finding}
 use Rattle.pt_apply.specs.Promises.{Safe, Keeps, Switches}
 use Rattle.pt_check.specs.laws.Accepted.{no_read, no_neither, same_or, most_or}
 use Rattle.pt_check.specs.Course.{IsCalm, Course, switch_number}

@@ -5,10 +5,10 @@ use Rattle.pt_sector.specs.Writes.{Writes, after}
 use Rattle.pt_recover.specs.Denotes.{Denotes, Reads}
 use Rattle.pt_recover.specs.laws.Terms.{denotes_one_lem, reads_decide_lem}
 use Rattle.pt_members.specs.declared.layout.Layout.{Layout}
-use Rattle.pt_layout.specs.declared.finding.Finding.{Finding}
-use Rattle.pt_layout.specs.Findings.{IsFinding}
-use Rattle.pt_layout.specs.Healthy.{Healthy}
-use Rattle.pt_layout.specs.laws.Terms.{finding_excludes_lem}
+use Rattle.pt_sound.specs.declared.finding.Finding.{Finding}
+use Rattle.pt_sound.specs.Findings.{IsFinding}
+use Rattle.pt_sound.specs.Healthy.{Healthy}
+use Rattle.pt_sound.specs.laws.Terms.{finding_excludes_lem}
 use Rattle.pt_check.specs.Course.{Course, IsCalm, switch_number}
 use Rattle.pt_apply.specs.Plans.{writes_in, NoneIs}
 use Rattle.pt_check.specs.First.{FirstWriteIs}

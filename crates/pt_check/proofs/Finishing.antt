@@ -6,7 +6,7 @@ use Rattle.pt_recover.specs.Denotes.{Denotes}
 use Rattle.pt_recover.specs.declared.error.NoTable.{NoTable}
 use Rattle.pt_members.specs.declared.layout.Layout.{Layout}
 use Rattle.pt_layout.specs.Surveys.{FoundIs, FindingIs}
-use Rattle.pt_layout.specs.declared.finding.Finding.{Finding}
+use Rattle.pt_sound.specs.declared.finding.Finding.{Finding}
 use Rattle.pt_check.specs.Answers.{WrongIs}
 
 pub denotes_found : (b : ℕ) (d : Sectors) (found : Result Layout NoTable) → FoundIs b d found → Denotes b d (result_ok found)

@@ -1,7 +1,7 @@
 -- What each disk stopped in a plan keeps, by the writes of the plan alone.
 use Rattle.std.proofs.Common.{◌≡◌, ◌∙◌, inl, inr, ⊎_elim, ℕ, zero, suc, List, [], ◌∷◌, length, take, refl, sym, subst, arith, Bool}
 use Rattle.std.proofs.Common.{true, false, Option}
-use Rattle.pt_layout.specs.declared.finding.Finding.{Finding}
+use Rattle.pt_sound.specs.declared.finding.Finding.{Finding}
 use Rattle.std.specs.Str.{bytes_eq}
 use Rattle.std.proofs.lemmas.Slice.Eq.{bytes_eq-Decides}
 use Rattle.std.proofs.lemmas.Bool.{cases_lt}

@@ -6,9 +6,9 @@ use Rattle.pt_apply.specs.Plans.{InRange, phases_of, writes_in}
 use Rattle.pt_apply.specs.Promises.{Safe}
 use Rattle.pt_apply.specs.declared.plan.Plan.{Plan}
 use Rattle.pt_recover.specs.Denotes.{Denotes, Reads}
-use Rattle.pt_layout.specs.declared.finding.Finding.{Finding}
-use Rattle.pt_layout.specs.Findings.{IsFinding}
-use Rattle.pt_layout.specs.Healthy.{Healthy}
+use Rattle.pt_sound.specs.declared.finding.Finding.{Finding}
+use Rattle.pt_sound.specs.Findings.{IsFinding}
+use Rattle.pt_sound.specs.Healthy.{Healthy}
 use Rattle.pt_members.specs.Owned.{OwnedOf}
 use Rattle.pt_members.specs.Tables.{TableOf}
 use Rattle.pt_check.specs.Reasons.{IsAnswer, IsFit, most_writes}

@@ -4,7 +4,7 @@ use Rattle.std.proofs.lemmas.Bool.{cases_order}
 use Rattle.pt_sector.specs.Sectors.{Sectors}
 use Rattle.pt_sector.specs.Writes.{Writes, after}
 use Rattle.pt_sector.specs.declared.address.Lba.{Lba}
-use Rattle.pt_layout.specs.declared.finding.Finding.{Finding}
+use Rattle.pt_sound.specs.declared.finding.Finding.{Finding}
 use Rattle.pt_check.specs.Course.{phase_at, disk_after}
 use Rattle.pt_apply.specs.Plans.{writes_in}
 use Rattle.pt_check.specs.First.{IsFirst}

@@ -3,14 +3,14 @@
 ghost use Rattle.std.specs.Prelude.{ℕ, List, Option, length};
 ghost use Rattle.pt_sector.specs.Sectors.{Sectors};
 ghost use Rattle.pt_sector.specs.Writes.{Writes, after};
-ghost use Rattle.pt_layout.specs.Findings.{IsFinding};
+ghost use Rattle.pt_sound.specs.Findings.{IsFinding};
 ghost use Rattle.pt_check.specs.Answers.{Answers};
 ghost use Rattle.pt_check.specs.One.{SameAnswer};
 ghost use Rattle.pt_check.specs.declared.answer.Answer.{Answer as AnswerValue};
 ghost use Rattle.pt_check.specs.declared.answer.Answer.TheVariants.{Yes};
 ghost use Rattle.pt_recover.specs.Denotes.{Denotes, Reads};
 ghost use Rattle.pt_members.specs.declared.layout.Layout.{Layout};
-ghost use Rattle.pt_layout.specs.Healthy.{Healthy};
+ghost use Rattle.pt_sound.specs.Healthy.{Healthy};
 ghost use Rattle.pt_check.specs.Course.{Course, switch_number};
 ghost use Rattle.pt_apply.specs.Plans.{writes_in, NoneIs};
 ghost use Rattle.pt_check.specs.Misplaced.{InNoTable, InOwned};

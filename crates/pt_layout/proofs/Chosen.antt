@@ -10,7 +10,7 @@ use Rattle.pt_recover.specs.Spans.{IsIn}
 use Rattle.pt_recover.specs.declared.error.NoTable.{NoTable}
 use Rattle.pt_recover.specs.declared.error.NoTable.TheVariants.{NoCopy}
 use Rattle.pt_recover.specs.declared.trace.TracedRun.{TracedRun}
-use Rattle.pt_layout.specs.declared.finding.Finding.TheVariants.{PrimaryCopy, BackupCopy}
+use Rattle.pt_sound.specs.declared.finding.Finding.TheVariants.{PrimaryCopy, BackupCopy}
 use Rattle.pt_layout.specs.declared.halves.Half.{Half}
 use Rattle.pt_layout.specs.declared.halves.Halves.{Halves}
 use Rattle.pt_layout.specs.declared.halves.Halves.TheVariants.{Both, OnlyPrimary, OnlyBackup, Neither}

@@ -21,7 +21,7 @@ use Rattle.pt_recover.specs.declared.error.NoTable.TheVariants as no
 use Rattle.pt_members.specs.declared.layout.Body.{Body}
 use Rattle.pt_members.specs.declared.layout.Slice.{Slice}
 use Rattle.pt_recover.proofs.Failed.{place_at}
-use Rattle.pt_layout.specs.Findings.{VerdictReads}
+use Rattle.pt_sound.specs.Findings.{VerdictReads}
 use Rattle.pt_layout.specs.Verdicts.{FailsAs}
 use Rattle.pt_layout.specs.declared.survey.Survey.{Survey}
 

@@ -8,7 +8,7 @@ use Rattle.pt_members.specs.Slices.{places_of}
 use Rattle.pt_members.specs.declared.layout.Slice.{Slice}
 use Rattle.pt_members.specs.declared.layout.Layout.{Layout}
 use Rattle.pt_members.specs.Members.{number_path}
-use Rattle.pt_layout.specs.Healthy.{IsForeign, HasForeign}
+use Rattle.pt_sound.specs.Healthy.{IsForeign, HasForeign}
 use Rattle.pt_members.specs.Next.{NextSectorIs}
 use Rattle.pt_layout.specs.Foreign.{ForeignAmong, ForeignIs, no_slice}
 

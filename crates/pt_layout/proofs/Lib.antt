@@ -1,8 +1,3 @@
-pub mod Presence
-pub mod First
-pub mod Faulty
-pub mod Pairs
-pub mod Extended
 pub mod Foreignness
 pub mod Verdicts
 pub mod Chosen

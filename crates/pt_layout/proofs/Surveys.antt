@@ -19,11 +19,11 @@ use Rattle.pt_members.specs.declared.layout.Body.{Body}
 use Rattle.pt_members.specs.declared.layout.Body.TheVariants.{Gpt}
 use Rattle.pt_members.specs.declared.layout.Slice.{Slice}
 use Rattle.pt_recover.specs.declared.trace.TracedRun.{TracedRun}
-use Rattle.pt_layout.specs.declared.finding.Finding.{Finding}
+use Rattle.pt_sound.specs.declared.finding.Finding.{Finding}
 use Rattle.pt_layout.specs.declared.health.Head.{Head}
 use Rattle.pt_layout.specs.declared.health.Head.TheVariants as head
-use Rattle.pt_layout.specs.Guarded.{IsGuarded, place}
-use Rattle.pt_layout.specs.laws.Guarded.{guarded_reads, reads_guarded, guarded_places, guarded_nowhere}
+use Rattle.pt_sound.specs.Guarded.{IsGuarded, place}
+use Rattle.pt_sound.specs.laws.Guarded.{guarded_reads, reads_guarded, guarded_places, guarded_nowhere}
 use Rattle.pt_layout.specs.Surveys.{HeadOf, FindingIs, IsSurvey}
 use Rattle.pt_layout.specs.declared.survey.Survey.{Survey}
 use Rattle.pt_layout.specs.Verdicts.{LayoutOf, ArePlaces, IsBodyTrace, IsNothingOf, nothing_of}

@@ -21,13 +21,13 @@ use Rattle.pt_members.specs.declared.layout.Layout.{Layout}
 use Rattle.pt_members.specs.declared.layout.Body.{Body}
 use Rattle.pt_members.specs.declared.layout.Body.TheVariants.{Mbr, Gpt}
 use Rattle.pt_path.specs.declared.path.Path.{Path}
-use Rattle.pt_layout.specs.declared.finding.Finding.{Finding}
-use Rattle.pt_layout.specs.declared.finding.Finding.TheVariants.{NoTable, PrimaryCopy, BackupCopy, CopiesDiffer, Alternate, Protective}
-use Rattle.pt_layout.specs.declared.finding.Finding.TheVariants.{OutsideUsable, Overlap, OnTable, SameGuid, ForeignLabel}
-use Rattle.pt_layout.specs.Sound.{Sound, UnsoundIs}
-use Rattle.pt_layout.specs.Healthy.{IsBodyWhole, IsHealthy, HasCopies}
+use Rattle.pt_sound.specs.declared.finding.Finding.{Finding}
+use Rattle.pt_sound.specs.declared.finding.Finding.TheVariants.{NoTable, PrimaryCopy, BackupCopy, CopiesDiffer, Alternate, Protective}
+use Rattle.pt_sound.specs.declared.finding.Finding.TheVariants.{OutsideUsable, Overlap, OnTable, SameGuid, ForeignLabel}
+use Rattle.pt_sound.specs.Sound.{Sound, UnsoundIs}
+use Rattle.pt_sound.specs.Healthy.{IsBodyWhole, IsHealthy, HasCopies}
 use Rattle.pt_layout.specs.Foreign.{ForeignIs}
-use Rattle.pt_layout.specs.Findings.{IsFinding, IsBodyBroken, IsBroken}
+use Rattle.pt_sound.specs.Findings.{IsFinding, IsBodyBroken, IsBroken}
 use Rattle.pt_layout.specs.Surveys.{HeadOf}
 use Rattle.pt_layout.specs.Halves.{HalfIs}
 use Rattle.pt_layout.specs.declared.health.Head.{Head}

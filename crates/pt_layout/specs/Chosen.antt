@@ -7,8 +7,8 @@ use Rattle.pt_recover.specs.Denotes.{BodyIs}
 use Rattle.pt_recover.specs.declared.error.NoTable.{NoTable}
 use Rattle.pt_recover.specs.declared.error.NoTable.TheVariants.{NoCopy}
 use Rattle.pt_members.specs.declared.layout.Body.TheVariants.{Gpt}
-use Rattle.pt_layout.specs.declared.finding.Finding.{Finding}
-use Rattle.pt_layout.specs.declared.finding.Finding.TheVariants.{PrimaryCopy, BackupCopy}
+use Rattle.pt_sound.specs.declared.finding.Finding.{Finding}
+use Rattle.pt_sound.specs.declared.finding.Finding.TheVariants.{PrimaryCopy, BackupCopy}
 use Rattle.pt_layout.specs.declared.halves.Half.{Half}
 use Rattle.pt_layout.specs.declared.halves.Halves.{Halves}
 use Rattle.pt_layout.specs.declared.halves.Halves.TheVariants.{Both, OnlyPrimary, OnlyBackup, Neither}

@@ -6,8 +6,8 @@ use Rattle.pt_bsd.specs.declared.label.Label.{Label}
 use Rattle.pt_members.specs.declared.layout.Slice.{Slice}
 use Rattle.pt_members.specs.declared.layout.Layout.{Layout}
 use Rattle.pt_path.specs.declared.path.Path.{Path}
-use Rattle.pt_layout.specs.Healthy.{IsForeign, HasForeign}
-use Rattle.pt_layout.specs.Findings.{IsFirstForeign}
+use Rattle.pt_sound.specs.Healthy.{IsForeign, HasForeign}
+use Rattle.pt_sound.specs.Findings.{IsFirstForeign}
 
 -- the bytes bear the magic, and are no label of the slice
 abbrev pub ForeignBytes : Slice → List ℕ → Type 0

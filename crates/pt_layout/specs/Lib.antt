@@ -1,17 +1,5 @@
-pub mod Overlaps
-pub mod Sound
-pub mod Healthy
-pub mod Findings
-pub mod Held
-pub mod Spots
-pub mod Row
-pub mod Twins
-pub mod Steps
 pub mod Halves
 pub mod Foreign
 pub mod Verdicts
 pub mod Chosen
-pub mod OneFinding
-pub mod Guarded
 pub mod Surveys
-pub mod laws

@@ -18,15 +18,15 @@ use Rattle.pt_members.specs.declared.layout.Slice.{Slice}
 use Rattle.pt_members.specs.declared.layout.Body.{Body}
 use Rattle.pt_members.specs.declared.layout.Body.TheVariants.{Gpt}
 use Rattle.pt_recover.specs.declared.trace.TracedRun.{TracedRun}
-use Rattle.pt_layout.specs.declared.finding.Finding.{Finding}
-use Rattle.pt_layout.specs.declared.finding.Finding.TheVariants.{CopiesDiffer, Alternate, Protective}
-use Rattle.pt_layout.specs.declared.finding.Finding.TheVariants as finding
+use Rattle.pt_sound.specs.declared.finding.Finding.{Finding}
+use Rattle.pt_sound.specs.declared.finding.Finding.TheVariants.{CopiesDiffer, Alternate, Protective}
+use Rattle.pt_sound.specs.declared.finding.Finding.TheVariants as finding
 use Rattle.pt_layout.specs.declared.halves.Half.{Half}
 use Rattle.pt_layout.specs.declared.health.Head.{Head}
 use Rattle.pt_layout.specs.declared.health.Head.TheVariants as head
 use Rattle.pt_layout.specs.declared.survey.Survey.{Survey}
-use Rattle.pt_layout.specs.Healthy.{IsBodyWhole}
-use Rattle.pt_layout.specs.Findings.{IsBodyBroken}
+use Rattle.pt_sound.specs.Healthy.{IsBodyWhole}
+use Rattle.pt_sound.specs.Findings.{IsBodyBroken}
 
 -- what sector 0 of n sectors says of the disk
 abbrev pub HeadIs : ℕ → List ℕ → Head → Type 0

@@ -1,20 +1,11 @@
-//! Layouts: health, soundness, and the places of partitions and tables.
+//! One reading of a disk: its layout, and the first thing that is wrong with it.
 #![tactic(auto)]
 
-mod buried;
-mod faults;
-mod finding;
 mod foreign;
-mod groups;
 mod halves;
 mod health;
-pub mod laws;
-mod overlap;
-mod soundness;
-mod spot;
 mod survey;
 
-pub use finding::{Finding, Verdict};
 pub use health::{Head, verify};
 pub use pt_members::{
     Body, Ebrs, Kind, Labelled, Labels, Layout, Member, Owner, Row, Slice, Source, entry_slot,
@@ -24,5 +15,5 @@ pub use pt_members::{
 pub use pt_path::{Path, parse_number, parse_path};
 pub use pt_recover::{NoTable, Trace, recover, recover_traced};
 pub use pt_sector::Failure as VerifyError;
-pub use soundness::unsound;
+pub use pt_sound::{Finding, Verdict, unsound};
 pub use survey::{Survey, survey_disk};

@@ -18,21 +18,20 @@ ghost use Rattle.pt_layout.specs.Halves.{HalfIs, HalvesAre};
 ghost use Rattle.pt_layout.specs.Verdicts.{LayoutOf, PairIs, BrokenIs, ArePlaces, IsBodyTrace, FailsAs, IsNothingOf, nothing_of};
 ghost use Rattle.pt_layout.specs.Chosen.{ChosenIs, TableStands, chosen_of};
 ghost use Rattle.pt_recover.specs.Answers.{IsTraceOf};
-ghost use Rattle.pt_layout.specs.Healthy.{IsBodyWhole};
-ghost use Rattle.pt_layout.specs.Findings.{VerdictReads};
+ghost use Rattle.pt_sound.specs.Healthy.{IsBodyWhole};
+ghost use Rattle.pt_sound.specs.Findings.{VerdictReads};
 ghost use Rattle.pt_layout.specs.Surveys.{HeadOf, FindingIs, IsSurvey};
 
-use crate::finding::Finding;
 use crate::foreign::first_foreign;
 use crate::halves::{Half, Halves, read_halves};
 use crate::health::{Head, read_first};
-use crate::soundness::unsound;
 use pt_gpt::{Side, Table, has_room};
 use pt_mbr::Mbr;
 use pt_members::{Body, Labels, Layout, Slice, label_places};
 use pt_path::Path;
 use pt_recover::{NoTable, Trace, recover_known, traced_labels};
 use pt_sector::{Disk, Failure};
+use pt_sound::{Finding, unsound};
 use std::alloc::{AllocError, Global};
 
 /// What one reading of a disk tells.

@@ -9,7 +9,7 @@ use Rattle.pt_recover.specs.Denotes.{Denotes}
 use Rattle.pt_members.specs.Slices.{places_of, IsPlace}
 use Rattle.pt_members.specs.declared.layout.Body.{Body}
 use Rattle.pt_members.specs.declared.layout.Layout.{Layout}
-use Rattle.pt_layout.specs.Guarded.{IsGuarded, place}
+use Rattle.pt_sound.specs.Guarded.{IsGuarded, place}
 use Rattle.pt_cases.specs.Cases.{IsOneLabel}
 use Rattle.pt_cases.specs.Copies.{one_write}
 use Rattle.pt_targets.specs.Causes.{TargetsIn, TargetsOf, NotOneTurn, HasNoTurn, IsUnmended}

@@ -20,9 +20,9 @@ use Rattle.pt_members.specs.declared.layout.Layout.{Layout}
 use Rattle.pt_members.specs.declared.layout.Slice.{Slice}
 use Rattle.pt_recover.specs.declared.trace.TracedRun.{TracedRun}
 use Rattle.pt_members.specs.laws.Grouped.{contains_head, contains_tail}
-use Rattle.pt_layout.specs.Guarded.{IsGuarded, place}
-use Rattle.pt_layout.specs.laws.Guarded.{guarded_reads, reads_guarded}
-use Rattle.pt_layout.specs.Sound.{Sound}
+use Rattle.pt_sound.specs.Guarded.{IsGuarded, place}
+use Rattle.pt_sound.specs.laws.Guarded.{guarded_reads, reads_guarded}
+use Rattle.pt_sound.specs.Sound.{Sound}
 use Rattle.pt_cases.specs.Shape.{FitsTable}
 use Rattle.pt_cases.specs.laws.Stands.{place_usable}
 use Rattle.pt_cases.specs.Along.{Along}

@@ -19,7 +19,7 @@ use Rattle.pt_recover.specs.declared.trace.TracedRun.{TracedRun}
 use Rattle.pt_cases.specs.Cases.{IsWithinMbr, IsNeeded, MbrMet, within_mbr_phases}
 use Rattle.pt_cases.specs.Copies.{one_write}
 use Rattle.pt_apply.specs.laws.Puts.{puts_right}
-use Rattle.pt_layout.specs.laws.Guarded.{reads_guarded}
+use Rattle.pt_sound.specs.laws.Guarded.{reads_guarded}
 use Rattle.pt_cases.specs.laws.Guards.{guarded_is_read}
 use Rattle.pt_cases.specs.Links.{IsLoneChain}
 use Rattle.pt_targets.specs.Causes.{NoneOwned, TargetsIn, TargetsOf, NotOneTurn, HasNoTurn}

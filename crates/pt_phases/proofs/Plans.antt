@@ -7,7 +7,7 @@ use Rattle.pt_gpt.specs.declared.table.Side.TheVariants.{Primary}
 use Rattle.pt_gpt.specs.declared.table.Table.{Table}
 use Rattle.pt_members.specs.declared.layout.Layout.{Layout}
 use Rattle.pt_recover.specs.declared.trace.TracedRun.{TracedRun}
-use Rattle.pt_layout.specs.Guarded.{IsGuarded}
+use Rattle.pt_sound.specs.Guarded.{IsGuarded}
 use Rattle.pt_members.specs.Owned.{OwnedOf}
 use Rattle.pt_apply.specs.Plans.{writes_in}
 use Rattle.pt_cases.specs.Cases.{IsPlan, backup_first, primary_first, from_mbr, Common, Copies, labels_and_backup, backup_first_phases}

@@ -10,7 +10,7 @@ use Rattle.pt_recover.specs.Spans.{IsIn}
 use Rattle.pt_members.specs.declared.layout.Body.TheVariants.{Gpt}
 use Rattle.pt_members.specs.declared.layout.Layout.{Layout}
 use Rattle.pt_recover.specs.declared.trace.TracedRun.{TracedRun}
-use Rattle.pt_layout.specs.Guarded.{IsGuarded}
+use Rattle.pt_sound.specs.Guarded.{IsGuarded}
 use Rattle.pt_cases.specs.Cases.{ChangesLabels}
 use Rattle.pt_cases.specs.Shape.{FitsTable}
 use Rattle.pt_targets.specs.Starts.{Start}

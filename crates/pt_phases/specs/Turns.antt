@@ -9,10 +9,10 @@ use Rattle.pt_recover.specs.Spans.{IsIn}
 use Rattle.pt_members.specs.declared.layout.Body.TheVariants.{Mbr, Gpt}
 use Rattle.pt_members.specs.declared.layout.Layout.{Layout}
 use Rattle.pt_recover.specs.declared.trace.TracedRun.{TracedRun}
-use Rattle.pt_layout.specs.Findings.{IsBodyBroken}
-use Rattle.pt_layout.specs.Guarded.{IsGuarded}
-use Rattle.pt_layout.specs.Healthy.{IsBodyWhole}
-use Rattle.pt_layout.specs.declared.finding.Finding.{Finding}
+use Rattle.pt_sound.specs.Findings.{IsBodyBroken}
+use Rattle.pt_sound.specs.Guarded.{IsGuarded}
+use Rattle.pt_sound.specs.Healthy.{IsBodyWhole}
+use Rattle.pt_sound.specs.declared.finding.Finding.{Finding}
 use Rattle.pt_cases.specs.Cases.{ChangesLabels}
 use Rattle.pt_cases.specs.Causes.{HadMbr}
 use Rattle.pt_cases.specs.Links.{IsLoneChain}

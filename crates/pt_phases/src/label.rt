@@ -14,7 +14,7 @@ ghost use Rattle.pt_phases.specs.Turns.{LabelStart};
 use crate::turn_order::unowned_in_order;
 use crate::turn_phases::one_phase;
 use pt_apply::{Plan, Write};
-use pt_layout::Layout;
+use pt_recover::Layout;
 use pt_targets::{PlanError, Target, one_change};
 use std::alloc::Global;
 

@@ -7,7 +7,7 @@ ghost use Rattle.pt_phases.specs.Phases.{Passes, RefusedBy, phases_before};
 use crate::order::Order;
 use crate::reserved::{Reserved, touches};
 use pt_apply::Plan;
-use pt_layout::{Layout, Trace};
+use pt_recover::{Layout, Trace};
 use pt_targets::{PlanError, Target, TargetKind, first_change, first_owned_of_kind};
 
 /// How many phases come before the one with which the disk turns.

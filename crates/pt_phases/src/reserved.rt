@@ -6,7 +6,7 @@ ghost use Rattle.pt_phases.specs.Phases.{Touches};
 ghost use Rattle.pt_phases.specs.Reserved.{IsAnyReserved};
 
 use pt_apply::Write;
-use pt_layout::{Layout, Trace};
+use pt_recover::{Layout, Trace};
 use pt_sector::Lba;
 use pt_targets::owned_in;
 

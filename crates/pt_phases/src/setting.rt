@@ -1,6 +1,6 @@
 //! What the writes of both copies meet on a disk.
 
-use pt_layout::{Layout, Trace};
+use pt_recover::{Layout, Trace};
 use pt_sector::Sector;
 
 /// What the writes of both copies meet on a disk.

@@ -3,7 +3,7 @@
 ghost use Rattle.std.specs.Prelude.{◌≡◌, ◌++◌, IfOk, IfErr};
 ghost use Rattle.pt_phases.specs.Outcomes.{AreFree, NotFree};
 
-use pt_layout::Layout;
+use pt_recover::Layout;
 use pt_targets::{PlanError, Target, first_owned_change, in_order};
 use std::alloc::AllocError;
 

@@ -14,7 +14,7 @@ ghost use Rattle.pt_phases.specs.Turns.{MbrStart};
 use crate::turn_order::{joined, unowned_in_order};
 use crate::turn_phases::two_phases;
 use pt_apply::Plan;
-use pt_layout::{Layout, Trace};
+use pt_recover::{Layout, Trace};
 use pt_targets::{PlanError, Split, Target, split_changes};
 use std::alloc::Global;
 

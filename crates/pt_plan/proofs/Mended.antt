@@ -14,7 +14,7 @@ use Rattle.pt_apply.specs.Runs.{Settled, StoppedSomewhere, Reached, CallFailed}
 use Rattle.pt_apply.specs.Promises.{Keeps}
 use Rattle.pt_recover.specs.declared.error.NoTable.{NoTable as Reason}
 use Rattle.pt_members.specs.declared.layout.Layout.{Layout}
-use Rattle.pt_layout.specs.declared.finding.Finding.{Finding}
+use Rattle.pt_sound.specs.declared.finding.Finding.{Finding}
 use Rattle.pt_words.specs.declared.error.Refusal.{Refusal}
 use Rattle.pt_plan.specs.declared.repair_error.RepairError.{RepairError}
 use Rattle.pt_plan.specs.declared.repair_error.RepairError.TheVariants.{NoTable, Unsound, Device, Memory, Plan, Check}

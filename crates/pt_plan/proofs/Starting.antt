@@ -6,7 +6,7 @@ use Rattle.pt_sector.specs.Writes.{Writes}
 use Rattle.pt_recover.specs.Answers.{IsReason, failure_in}
 use Rattle.pt_recover.specs.declared.error.NoTable.{NoTable as Reason}
 use Rattle.pt_recover.specs.declared.error.NoTable.TheVariants as reason
-use Rattle.pt_layout.specs.Healthy.{Healthy}
+use Rattle.pt_sound.specs.Healthy.{Healthy}
 use Rattle.pt_members.specs.Owned.{OwnedOf}
 use Rattle.pt_members.specs.Tables.{TableOf}
 use Rattle.pt_accepted.specs.laws.Accepted.{plan_finishes, plan_not_refused}

@@ -7,7 +7,7 @@ use Rattle.pt_guid.specs.declared.guid.Guid.{Guid}
 use Rattle.pt_recover.specs.Answers.{IsReason}
 use Rattle.pt_recover.specs.Denotes.{Denotes}
 use Rattle.pt_members.specs.declared.layout.Layout.{Layout}
-use Rattle.pt_layout.specs.Healthy.{Healthy}
+use Rattle.pt_sound.specs.Healthy.{Healthy}
 use Rattle.pt_edit.specs.Edited.{Edited}
 use Rattle.pt_words.specs.declared.error.Refusal.{Refusal}
 use Rattle.pt_words.specs.declared.word.Edit.{Edit}

@@ -7,7 +7,7 @@ use Rattle.pt_recover.specs.Answers.{failure_in}
 use Rattle.pt_recover.specs.declared.error.NoTable.{NoTable as Reason}
 use Rattle.pt_recover.specs.Denotes.{Denotes}
 use Rattle.pt_members.specs.declared.layout.Layout.{Layout}
-use Rattle.pt_layout.specs.Healthy.{Healthy}
+use Rattle.pt_sound.specs.Healthy.{Healthy}
 use Rattle.pt_words.specs.declared.error.Refusal.TheVariants as refusal
 use Rattle.pt_members.specs.Owned.{OwnedOf}
 use Rattle.pt_members.specs.Tables.{TableOf}

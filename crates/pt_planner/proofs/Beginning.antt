@@ -8,8 +8,8 @@ use Rattle.pt_mbr.specs.declared.record.Record.{Record}
 use Rattle.pt_mbr.specs.Extended.{extended_of}
 use Rattle.pt_members.specs.declared.layout.Body.TheVariants.{Mbr, Gpt}
 use Rattle.pt_members.specs.declared.layout.Layout.{Layout}
-use Rattle.pt_layout.specs.Healthy.{IsHealthy}
-use Rattle.pt_layout.specs.Sound.{Sound}
+use Rattle.pt_sound.specs.Healthy.{IsHealthy}
+use Rattle.pt_sound.specs.Sound.{Sound}
 use Rattle.pt_cases.specs.Causes.{MayBePlanned, MayHave, HadMbr}
 use Rattle.pt_cases.specs.Shape.{FitsTable}
 use Rattle.pt_cases.specs.Links.{IsLoneChain}

@@ -8,10 +8,10 @@ use Rattle.pt_recover.specs.laws.Terms.{denotes_one_lem}
 use Rattle.pt_recover.specs.Numbers.{Numbers}
 use Rattle.pt_recover.specs.declared.error.NoTable.{NoTable}
 use Rattle.pt_members.specs.declared.layout.Layout.{Layout}
-use Rattle.pt_layout.specs.Healthy.{IsHealthy}
-use Rattle.pt_layout.specs.laws.Terms.{finding_excludes_lem}
+use Rattle.pt_sound.specs.Healthy.{IsHealthy}
+use Rattle.pt_sound.specs.laws.Terms.{finding_excludes_lem}
 use Rattle.pt_layout.specs.Surveys.{FoundIs, FindingIs, IsSurvey}
-use Rattle.pt_layout.specs.declared.finding.Finding.{Finding}
+use Rattle.pt_sound.specs.declared.finding.Finding.{Finding}
 use Rattle.pt_layout.specs.declared.survey.Survey.{Survey}
 use Rattle.pt_planner.specs.Known.{KnownWrong, IsEither, IsKnown, IsKnownOf, FoundAs, ReasonIs}
 use Rattle.pt_planner.specs.declared.known.Known.{Known}

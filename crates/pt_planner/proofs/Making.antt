@@ -14,12 +14,12 @@ use Rattle.pt_mbr.specs.Extended.{extended_of}
 use Rattle.pt_recover.specs.Mbr.{IsMbrDisk}
 use Rattle.pt_members.specs.declared.layout.Body.TheVariants.{Mbr, Gpt}
 use Rattle.pt_members.specs.declared.layout.Layout.{Layout}
-use Rattle.pt_layout.specs.Findings.{IsBodyBroken, IsLayoutFinding}
-use Rattle.pt_layout.specs.Healthy.{IsHealthy, IsBodyWhole}
-use Rattle.pt_layout.specs.Sound.{Sound}
+use Rattle.pt_sound.specs.Findings.{IsBodyBroken, IsLayoutFinding}
+use Rattle.pt_sound.specs.Healthy.{IsHealthy, IsBodyWhole}
+use Rattle.pt_sound.specs.Sound.{Sound}
 use Rattle.pt_layout.specs.Surveys.{HeadOf}
-use Rattle.pt_layout.specs.declared.finding.Finding.{Finding}
-use Rattle.pt_layout.specs.declared.finding.Finding.TheVariants as finding
+use Rattle.pt_sound.specs.declared.finding.Finding.{Finding}
+use Rattle.pt_sound.specs.declared.finding.Finding.TheVariants as finding
 use Rattle.pt_layout.specs.declared.health.Head.{Head}
 use Rattle.pt_layout.specs.declared.health.Head.TheVariants as head
 use Rattle.pt_cases.specs.Cases.{ChangesLabels}

@@ -10,11 +10,11 @@ use Rattle.pt_recover.specs.Mbr.{IsMbrDisk}
 use Rattle.pt_recover.specs.Spans.{IsIn}
 use Rattle.pt_recover.specs.declared.error.NoTable.{NoTable}
 use Rattle.pt_members.specs.declared.layout.Layout.{Layout}
-use Rattle.pt_layout.specs.Findings.{IsFinding}
-use Rattle.pt_layout.specs.Guarded.{IsGuarded}
-use Rattle.pt_layout.specs.Healthy.{IsHealthy}
+use Rattle.pt_sound.specs.Findings.{IsFinding}
+use Rattle.pt_sound.specs.Guarded.{IsGuarded}
+use Rattle.pt_sound.specs.Healthy.{IsHealthy}
 use Rattle.pt_layout.specs.Surveys.{HeadOf}
-use Rattle.pt_layout.specs.declared.finding.Finding.{Finding}
+use Rattle.pt_sound.specs.declared.finding.Finding.{Finding}
 use Rattle.pt_layout.specs.declared.survey.Survey.{Survey}
 use Rattle.pt_planner.specs.declared.known.Known.{Known}
 

@@ -5,7 +5,7 @@ ghost use Rattle.pt_sector.specs.Calls.{Blames};
 ghost use Rattle.pt_sector.specs.Reads.{OnlyReads};
 ghost use Rattle.pt_sector.specs.Sectors.{IsSectorSize};
 ghost use Rattle.pt_apply.specs.Plans.{phases_of, InRange};
-ghost use Rattle.pt_layout.specs.Sound.{Sound};
+ghost use Rattle.pt_sound.specs.Sound.{Sound};
 ghost use Rattle.pt_cases.specs.Cases.{IsPlan};
 ghost use Rattle.pt_targets.specs.Errors.{fault_in};
 ghost use Rattle.pt_planner.specs.Known.{IsKnown};

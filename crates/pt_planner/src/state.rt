@@ -2,7 +2,7 @@
 
 ghost use Rattle.std.specs.Prelude.{◌≡◌, ◌⊎◌, ◌↔◌, IsTrue, Option, Some, length};
 ghost use Rattle.pt_sector.specs.Sectors.{Sectors, IsSectorSize};
-ghost use Rattle.pt_layout.specs.Healthy.{IsHealthy};
+ghost use Rattle.pt_sound.specs.Healthy.{IsHealthy};
 ghost use Rattle.pt_cases.specs.Cases.{ChangesLabels};
 ghost use Rattle.pt_cases.specs.Causes.{MayBePlanned, HadMbr};
 ghost use Rattle.pt_planner.specs.Known.{IsKnown};

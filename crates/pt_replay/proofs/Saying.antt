@@ -13,10 +13,10 @@ use Rattle.pt_recover.specs.Denotes.{Denotes}
 use Rattle.pt_recover.specs.declared.error.NoTable.{NoTable}
 use Rattle.pt_recover.specs.declared.error.NoTable.TheVariants as table
 use Rattle.pt_members.specs.declared.layout.Layout.{Layout}
-use Rattle.pt_layout.specs.Findings.{IsFinding}
+use Rattle.pt_sound.specs.Findings.{IsFinding}
 use Rattle.pt_members.specs.Places.{IsPlaceOf}
-use Rattle.pt_layout.specs.declared.finding.Finding.{Finding}
-use Rattle.pt_layout.specs.declared.finding.Finding.TheVariants as finding
+use Rattle.pt_sound.specs.declared.finding.Finding.{Finding}
+use Rattle.pt_sound.specs.declared.finding.Finding.TheVariants as finding
 use Rattle.pt_path.specs.declared.path.Path.{Path}
 use Rattle.pt_sector.specs.Writes.{Writes}
 use Rattle.pt_check.specs.Failed.{fault_in as check_fault_in}

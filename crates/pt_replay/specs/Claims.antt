@@ -5,10 +5,10 @@ use Rattle.pt_recover.specs.Answers.{IsReason}
 use Rattle.pt_recover.specs.Denotes.{Denotes}
 use Rattle.pt_recover.specs.declared.error.NoTable.{NoTable as Reason}
 use Rattle.pt_members.specs.declared.layout.Layout.{Layout}
-use Rattle.pt_layout.specs.Findings.{IsFinding}
-use Rattle.pt_layout.specs.Healthy.{Healthy}
+use Rattle.pt_sound.specs.Findings.{IsFinding}
+use Rattle.pt_sound.specs.Healthy.{Healthy}
 use Rattle.pt_members.specs.Places.{IsPlaceOf}
-use Rattle.pt_layout.specs.declared.finding.Finding.{Finding as FindingValue}
+use Rattle.pt_sound.specs.declared.finding.Finding.{Finding as FindingValue}
 use Rattle.pt_path.specs.declared.path.Path.{Path}
 use Rattle.pt_sector.specs.Writes.{Writes}
 use Rattle.pt_plan.specs.Batches.{Words, IsReady, IsRefusal, IsReadyToMend, IsMendRefusal}

@@ -11,10 +11,10 @@ use Rattle.pt_mbr.specs.declared.chain.ChainError.{ChainError}
 use Rattle.pt_mbr.specs.declared.chain.ChainError.TheVariants as chain
 use Rattle.pt_recover.specs.declared.error.NoTable.{NoTable}
 use Rattle.pt_recover.specs.declared.error.NoTable.TheVariants as table
-use Rattle.pt_layout.specs.Findings.{finding_number}
+use Rattle.pt_sound.specs.Findings.{finding_number}
 use Rattle.pt_path.specs.declared.path.Path.{Path}
-use Rattle.pt_layout.specs.declared.finding.Finding.{Finding}
-use Rattle.pt_layout.specs.declared.finding.Finding.TheVariants as finding
+use Rattle.pt_sound.specs.declared.finding.Finding.{Finding}
+use Rattle.pt_sound.specs.declared.finding.Finding.TheVariants as finding
 use Rattle.pt_check.specs.declared.error.CheckError.{CheckError}
 use Rattle.pt_check.specs.declared.error.CheckError.TheVariants as check
 use Rattle.pt_check.specs.declared.answer.Why.{Why}

@@ -14,10 +14,10 @@ use Rattle.pt_members.specs.declared.layout.Body.{Body}
 use Rattle.pt_members.specs.declared.layout.Body.TheVariants.{Mbr, Gpt}
 use Rattle.pt_members.specs.declared.layout.Layout.{Layout}
 use Rattle.pt_members.specs.declared.layout.Slice.{Slice}
-use Rattle.pt_layout.specs.Findings.{IsBodyBroken}
-use Rattle.pt_layout.specs.Guarded.{IsGuarded}
+use Rattle.pt_sound.specs.Findings.{IsBodyBroken}
+use Rattle.pt_sound.specs.Guarded.{IsGuarded}
 use Rattle.pt_members.specs.Tables.{IsGptTable}
-use Rattle.pt_layout.specs.declared.finding.Finding.{Finding}
+use Rattle.pt_sound.specs.declared.finding.Finding.{Finding}
 use Rattle.pt_members.specs.Owned.{OwnedOf}
 use Rattle.pt_cases.specs.Cases.{ChangesLabels}
 use Rattle.pt_cases.specs.Causes.{HadMbr}

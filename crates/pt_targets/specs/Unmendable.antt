@@ -2,10 +2,10 @@
 use Rattle.std.specs.Prelude.{ℕ}
 use Rattle.pt_sector.specs.Sectors.{Sectors}
 use Rattle.pt_members.specs.declared.layout.Layout.{Layout}
-use Rattle.pt_layout.specs.Findings.{IsFirstForeign}
-use Rattle.pt_layout.specs.Sound.{Sound, IsUnsound}
-use Rattle.pt_layout.specs.declared.finding.Finding.{Finding}
-use Rattle.pt_layout.specs.declared.finding.Finding.TheVariants.{ForeignLabel}
+use Rattle.pt_sound.specs.Findings.{IsFirstForeign}
+use Rattle.pt_sound.specs.Sound.{Sound, IsUnsound}
+use Rattle.pt_sound.specs.declared.finding.Finding.{Finding}
+use Rattle.pt_sound.specs.declared.finding.Finding.TheVariants.{ForeignLabel}
 use Rattle.pt_targets.specs.declared.error.PlanError.{PlanError}
 use Rattle.pt_targets.specs.declared.error.PlanError.TheVariants.{Unsound, Device, Memory}
 

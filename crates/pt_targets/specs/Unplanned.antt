@@ -6,11 +6,11 @@ use Rattle.pt_mbr.specs.declared.record.Record.{Record}
 use Rattle.pt_recover.specs.Denotes.{Denotes}
 use Rattle.pt_members.specs.declared.layout.Body.TheVariants.{Mbr}
 use Rattle.pt_members.specs.declared.layout.Layout.{Layout}
-use Rattle.pt_layout.specs.Healthy.{IsHealthy}
+use Rattle.pt_sound.specs.Healthy.{IsHealthy}
 use Rattle.pt_members.specs.Members.{number_path}
-use Rattle.pt_layout.specs.Sound.{Sound, IsUnsound}
-use Rattle.pt_layout.specs.declared.finding.Finding.{Finding}
-use Rattle.pt_layout.specs.declared.finding.Finding.TheVariants.{ForeignLabel}
+use Rattle.pt_sound.specs.Sound.{Sound, IsUnsound}
+use Rattle.pt_sound.specs.declared.finding.Finding.{Finding}
+use Rattle.pt_sound.specs.declared.finding.Finding.TheVariants.{ForeignLabel}
 use Rattle.pt_cases.specs.Causes.{MayBePlanned, HadMbr}
 use Rattle.pt_targets.specs.Causes.{IsReused, HasNoTurn, HasNoCopies, IsUnmended}
 use Rattle.pt_targets.specs.Misfits.{LabelsFit, IsFirstLeft, HasUnreadable, NoneLeft}

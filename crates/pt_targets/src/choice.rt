@@ -8,7 +8,7 @@ ghost use Rattle.pt_targets.specs.Selected.{Differs, IsLoud, IsQuiet, IsOfKind, 
 
 use crate::target::{Target, TargetKind};
 use pt_apply::Write;
-use pt_layout::is_owned;
+use pt_members::is_owned;
 use pt_recover::{Layout, Trace};
 use pt_sector::Lba;
 use std::alloc::{AllocError, Global};

@@ -5,8 +5,8 @@ ghost use Rattle.pt_sector.specs.declared.disk.Fault.TheVariants.{Read};
 ghost use Rattle.pt_targets.specs.Errors.{plan_error_number, plan_failure};
 ghost use Rattle.pt_targets.specs.declared.error.PlanError.TheVariants as plan;
 
-use pt_layout::Finding;
 use pt_sector::{FailedRead, Failure, Fault};
+use pt_sound::Finding;
 use std::alloc::AllocError;
 use std::error::Error;
 use std::fmt;

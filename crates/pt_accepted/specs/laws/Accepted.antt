@@ -5,7 +5,7 @@ use Rattle.pt_sector.specs.Writes.{Writes, after}
 use Rattle.pt_recover.specs.Denotes.{Denotes, Reads}
 use Rattle.pt_recover.specs.laws.Terms.{denotes_one_lem}
 use Rattle.pt_members.specs.declared.layout.Layout.{Layout}
-use Rattle.pt_layout.specs.Healthy.{IsHealthy}
+use Rattle.pt_sound.specs.Healthy.{IsHealthy}
 use Rattle.pt_check.specs.laws.Accepted.{accepted_lem}
 use Rattle.pt_check.specs.Answers.{Answers}
 use Rattle.pt_check.specs.laws.Terms.{answer_is_one_lem}

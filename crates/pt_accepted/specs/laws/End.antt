@@ -16,8 +16,8 @@ use Rattle.pt_recover.specs.Mbr.{IsMbrDisk}
 use Rattle.pt_members.specs.Slices.{places_of, IsPlace}
 use Rattle.pt_members.specs.declared.layout.Body.TheVariants.{Gpt}
 use Rattle.pt_members.specs.declared.layout.Layout.{Layout}
-use Rattle.pt_layout.specs.Healthy.{NameEachOther, IsWhole, IsBodyWhole, IsHealthy}
-use Rattle.pt_layout.specs.Sound.{Sound}
+use Rattle.pt_sound.specs.Healthy.{NameEachOther, IsWhole, IsBodyWhole, IsHealthy}
+use Rattle.pt_sound.specs.Sound.{Sound}
 use Rattle.pt_check.specs.laws.Walk.{Stays}
 use Rattle.pt_cases.specs.Copies.{header_of, one_write, Protects}
 use Rattle.pt_cases.specs.laws.Frames.{LabelsRight, misses, there_one, one_is, side_stands, labels_right, denotes_gpt}

@@ -12,9 +12,9 @@ use Rattle.pt_gpt.specs.Array.{HasRoom}
 use Rattle.pt_members.specs.Slices.{places_of, IsPlace}
 use Rattle.pt_recover.specs.laws.Terms.{stop_keeps_lem}
 use Rattle.pt_members.specs.declared.layout.Layout.{Layout}
-use Rattle.pt_layout.specs.Healthy.{IsHealthy}
+use Rattle.pt_sound.specs.Healthy.{IsHealthy}
 use Rattle.pt_check.specs.laws.Walk.{Turns}
-use Rattle.pt_layout.specs.laws.Guarded.{reads_guarded}
+use Rattle.pt_sound.specs.laws.Guarded.{reads_guarded}
 use Rattle.pt_cases.specs.Cases.{IsFromMbr, copies_and_labels, from_mbr_phases}
 use Rattle.pt_cases.specs.Copies.{header_of, array_phase, one_write, backup_phase}
 use Rattle.pt_accepted.specs.laws.End.{HasBoth, head_written}

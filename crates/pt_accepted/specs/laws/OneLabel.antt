@@ -17,7 +17,7 @@ use Rattle.pt_recover.specs.Labels.{LabelsAre}
 use Rattle.pt_recover.specs.laws.Terms.{denotes_one_lem}
 use Rattle.pt_members.specs.declared.layout.Body.TheVariants.{Gpt}
 use Rattle.pt_members.specs.declared.layout.Layout.{Layout}
-use Rattle.pt_layout.specs.Healthy.{NameEachOther, IsWhole, IsBodyWhole, IsHealthy}
+use Rattle.pt_sound.specs.Healthy.{NameEachOther, IsWhole, IsBodyWhole, IsHealthy}
 use Rattle.pt_check.specs.laws.Walk.{Turns}
 use Rattle.pt_cases.specs.Cases.{IsOneLabel, ChangesLabels}
 use Rattle.pt_cases.specs.Copies.{one_write}

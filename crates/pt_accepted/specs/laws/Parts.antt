@@ -12,7 +12,7 @@ use Rattle.pt_gpt.specs.Array.{HasRoom}
 use Rattle.pt_members.specs.Slices.{places_of, IsPlace}
 use Rattle.pt_members.specs.declared.layout.Body.{Body}
 use Rattle.pt_members.specs.declared.layout.Layout.{Layout}
-use Rattle.pt_layout.specs.Sound.{Sound}
+use Rattle.pt_sound.specs.Sound.{Sound}
 use Rattle.pt_members.specs.Tables.{IsTable, IsBodyTable, IsGptTable}
 use Rattle.pt_check.specs.Reasons.{most_writes}
 use Rattle.pt_cases.specs.Cases.{Copies}

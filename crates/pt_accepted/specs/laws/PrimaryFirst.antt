@@ -16,7 +16,7 @@ use Rattle.pt_recover.specs.laws.One.{body_one}
 use Rattle.pt_recover.specs.laws.Terms.{stop_keeps_lem}
 use Rattle.pt_members.specs.declared.layout.Body.{Body}
 use Rattle.pt_members.specs.declared.layout.Layout.{Layout}
-use Rattle.pt_layout.specs.Healthy.{IsHealthy}
+use Rattle.pt_sound.specs.Healthy.{IsHealthy}
 use Rattle.pt_check.specs.laws.Walk.{Turns}
 use Rattle.pt_cases.specs.Cases.{IsPrimaryFirst, primary_and_labels, primary_first_phases}
 use Rattle.pt_accepted.specs.laws.Closed.{isnt_closed, zeros_closed, closed_keeps}
@@ -29,7 +29,7 @@ use Rattle.pt_accepted.specs.Landing.{Lands, IsGood, Each, landed}
 use Rattle.pt_cases.specs.laws.Met.{labels_met_right}
 use Rattle.pt_accepted.specs.laws.Parts.{few_enough, middle, label_middle, backup_high, primary_low, label_good, one_good, array_good}
 use Rattle.pt_accepted.specs.laws.Parts.{backup_good, last_good, backup_there, primary_there, array_filled, labels_met, labels_end}
-use Rattle.pt_layout.specs.Guarded.{place}
+use Rattle.pt_sound.specs.Guarded.{place}
 use Rattle.pt_cases.specs.Targets.{ComesToHold}
 use Rattle.pt_cases.specs.laws.Within.{side_within, zeros_no_head, reads_gpt}
 

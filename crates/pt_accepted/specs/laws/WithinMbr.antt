@@ -21,8 +21,8 @@ use Rattle.pt_recover.specs.laws.Terms.{stop_keeps_lem, denotes_one_lem}
 use Rattle.pt_members.specs.declared.layout.Body.{Body}
 use Rattle.pt_members.specs.declared.layout.Body.TheVariants.{Mbr}
 use Rattle.pt_members.specs.declared.layout.Layout.{Layout}
-use Rattle.pt_layout.specs.Healthy.{IsBodyWhole, IsHealthy}
-use Rattle.pt_layout.specs.Sound.{Sound}
+use Rattle.pt_sound.specs.Healthy.{IsBodyWhole, IsHealthy}
+use Rattle.pt_sound.specs.Sound.{Sound}
 use Rattle.pt_members.specs.Tables.{IsTable, IsBodyTable}
 use Rattle.pt_apply.specs.Plans.{writes_in}
 use Rattle.pt_cases.specs.Cases.{IsWithinMbr, IsNeeded, MbrMet}

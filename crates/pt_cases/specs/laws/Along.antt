@@ -9,7 +9,7 @@ use Rattle.pt_members.specs.declared.layout.Slice.{Slice}
 use Rattle.pt_members.specs.declared.layout.Labelled.{Labelled}
 use Rattle.pt_members.specs.declared.layout.Layout.{Layout}
 use Rattle.pt_members.specs.Members.{label_of}
-use Rattle.pt_layout.specs.Sound.{Sound}
+use Rattle.pt_sound.specs.Sound.{Sound}
 use Rattle.pt_members.specs.laws.Grouped.{contains_head, contains_tail}
 use Rattle.pt_cases.specs.Shape.{FitsLabel, AreLabelsOf, Shaped}
 use Rattle.pt_cases.specs.Ascending.{NumbersAscend}

@@ -20,11 +20,11 @@ use Rattle.pt_members.specs.declared.layout.Body.{Body}
 use Rattle.pt_members.specs.declared.layout.Body.TheVariants.{Mbr, Gpt}
 use Rattle.pt_members.specs.declared.layout.Layout.{Layout}
 use Rattle.pt_members.specs.declared.layout.Slice.{Slice}
-use Rattle.pt_layout.specs.Findings.{IsBodyBroken}
-use Rattle.pt_layout.specs.Healthy.{IsBodyWhole}
-use Rattle.pt_layout.specs.laws.Terms.{unsound_excludes_lem, body_not_whole}
-use Rattle.pt_layout.specs.Sound.{Sound, IsUnsound}
-use Rattle.pt_layout.specs.declared.finding.Finding.{Finding}
+use Rattle.pt_sound.specs.Findings.{IsBodyBroken}
+use Rattle.pt_sound.specs.Healthy.{IsBodyWhole}
+use Rattle.pt_sound.specs.laws.Terms.{unsound_excludes_lem, body_not_whole}
+use Rattle.pt_sound.specs.Sound.{Sound, IsUnsound}
+use Rattle.pt_sound.specs.declared.finding.Finding.{Finding}
 use Rattle.pt_cases.specs.Cases.{IsPlan, idle, backup_first, primary_first, from_mbr, one_label, within_mbr, ChangesLabels}
 use Rattle.pt_cases.specs.Copies.{one_write}
 use Rattle.pt_cases.specs.laws.Met.{labels_set_met}

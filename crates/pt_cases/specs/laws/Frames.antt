@@ -25,7 +25,7 @@ use Rattle.pt_members.specs.declared.layout.Body.TheVariants.{Gpt}
 use Rattle.pt_members.specs.declared.layout.Labelled.{Labelled}
 use Rattle.pt_members.specs.declared.layout.Layout.{Layout}
 use Rattle.pt_members.specs.declared.layout.Slice.{Slice}
-use Rattle.pt_layout.specs.Healthy.{HasForeign}
+use Rattle.pt_sound.specs.Healthy.{HasForeign}
 use Rattle.pt_cases.specs.Copies.{one_write}
 
 -- what stands at each place is its label, or nothing that looks like one

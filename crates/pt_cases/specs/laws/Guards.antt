@@ -9,7 +9,7 @@ use Rattle.pt_members.specs.Slices.{places_of, IsPlace}
 use Rattle.pt_recover.specs.laws.One.{body_one}
 use Rattle.pt_members.specs.declared.layout.Body.{Body}
 use Rattle.pt_members.specs.declared.layout.Layout.{Layout}
-use Rattle.pt_layout.specs.Guarded.{IsGuarded, head, ebr, place}
+use Rattle.pt_sound.specs.Guarded.{IsGuarded, head, ebr, place}
 
 -- what is guarded is read
 pub guarded_is_read : (b : ℕ) (d : Sectors) (s : ℕ) → IsGuarded b d s → Reads b d s

@@ -11,10 +11,10 @@ use Rattle.pt_members.specs.declared.member.Kind.TheVariants as kind
 use Rattle.pt_members.specs.declared.member.Member.{Member}
 use Rattle.pt_path.specs.declared.path.Path.{Path}
 use Rattle.pt_members.specs.Members.{Holds, top_group}
-use Rattle.pt_layout.specs.Sound.{Sound}
+use Rattle.pt_sound.specs.Sound.{Sound}
 use Rattle.pt_members.specs.Tables.{IsEbr}
 use Rattle.pt_members.specs.laws.Grouped.{contains_head, contains_tail, place_member}
-use Rattle.pt_layout.specs.laws.OneHome.{slot_one}
+use Rattle.pt_sound.specs.laws.OneHome.{slot_one}
 use Rattle.pt_cases.specs.laws.Slots.{slot_usable_lem}
 use Rattle.pt_cases.specs.SliceMembers.{IsSliceMember}
 use Rattle.pt_cases.specs.laws.SliceMembers.{slice_member_lem, same_sectors, slice_lies_lem}

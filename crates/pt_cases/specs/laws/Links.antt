@@ -15,7 +15,7 @@ use Rattle.pt_members.specs.declared.layout.Body.{Body}
 use Rattle.pt_members.specs.declared.layout.Body.TheVariants.{Mbr}
 use Rattle.pt_members.specs.Members.{record_member, logical_member, logicals_as, tops, logicals}
 use Rattle.pt_members.specs.Search.{AtPlace}
-use Rattle.pt_layout.specs.Sound.{Sound}
+use Rattle.pt_sound.specs.Sound.{Sound}
 use Rattle.pt_members.specs.laws.Grouped.{contains_head, contains_tail}
 use Rattle.pt_cases.specs.Shape.{FitsRecord, FitsSlot, FitsLogical, Linked, FitsChain, FitsExtended, FitsMbr, FitsBody, Shaped}
 use Rattle.pt_cases.specs.laws.Slots.{logical_inside}

@@ -10,7 +10,7 @@ use Rattle.pt_recover.specs.Labels.{LabelsAre}
 use Rattle.pt_members.specs.declared.layout.Labelled.{Labelled}
 use Rattle.pt_members.specs.declared.layout.Layout.{Layout}
 use Rattle.pt_members.specs.declared.layout.Slice.{Slice}
-use Rattle.pt_layout.specs.Healthy.{IsForeign}
+use Rattle.pt_sound.specs.Healthy.{IsForeign}
 use Rattle.pt_cases.specs.laws.Frames.{LabelsRight}
 use Rattle.pt_cases.specs.Along.{Along}
 use Rattle.pt_cases.specs.laws.Along.{along_map}

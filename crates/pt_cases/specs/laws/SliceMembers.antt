@@ -13,7 +13,7 @@ use Rattle.pt_members.specs.Members.{number_path, slots, Group, top_group, IsMem
 use Rattle.pt_members.specs.Search.{AtPlace}
 use Rattle.pt_members.specs.laws.Grouped.{place_member}
 use Rattle.pt_members.specs.OnePath.{slot_whole}
-use Rattle.pt_layout.specs.Sound.{LiesInside, Sound}
+use Rattle.pt_sound.specs.Sound.{LiesInside, Sound}
 use Rattle.pt_cases.specs.laws.Slots.{slot_usable_lem}
 use Rattle.pt_cases.specs.SliceMembers.{IsSliceMember, LiesUsable}
 

@@ -7,8 +7,8 @@ use Rattle.pt_members.specs.declared.member.Kind.TheVariants.{Extended}
 use Rattle.pt_members.specs.declared.member.Member.{Member}
 use Rattle.pt_members.specs.Members.{Group, group_of, groups_of, group_in, top_group, strays, present, slots, tops, logicals}
 use Rattle.pt_members.specs.Search.{AtPlace}
-use Rattle.pt_layout.specs.Sound.{LiesInside, IsMemberOf, Sound}
-use Rattle.pt_layout.specs.laws.OneHome.{holder}
+use Rattle.pt_sound.specs.Sound.{LiesInside, IsMemberOf, Sound}
+use Rattle.pt_sound.specs.laws.OneHome.{holder}
 use Rattle.pt_members.specs.laws.Grouped.{present_split, place_left, to_present, to_flat, contains_head, contains_tail, top_members}
 use Rattle.pt_members.specs.laws.Grouped.{extended_group, held_by_extended, extended_group_is}
 

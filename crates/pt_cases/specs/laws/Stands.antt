@@ -19,7 +19,7 @@ use Rattle.pt_members.specs.declared.member.Member.{Member}
 use Rattle.pt_members.specs.Members.{record_kind, record_member, records_as, tops, top_group}
 use Rattle.pt_members.specs.laws.Grouped.{kind_extended}
 use Rattle.pt_members.specs.Search.{AtPlace}
-use Rattle.pt_layout.specs.Sound.{Sound}
+use Rattle.pt_sound.specs.Sound.{Sound}
 use Rattle.pt_members.specs.Tables.{IsEbr}
 use Rattle.pt_cases.specs.Shape.{FitsTable, Linked, FitsExtended, FitsBody, Shaped}
 use Rattle.pt_cases.specs.laws.Slots.{top_of}

@@ -9,10 +9,10 @@ use Rattle.pt_sector.specs.Writes.{Writes, Puts, after}
 use Rattle.pt_recover.specs.Denotes.{Denotes, Reads}
 use Rattle.pt_recover.specs.laws.Terms.{denotes_one_lem}
 use Rattle.pt_members.specs.declared.layout.Layout.{Layout}
-use Rattle.pt_layout.specs.Healthy.{Healthy}
-use Rattle.pt_layout.specs.Findings.{IsFinding}
-use Rattle.pt_layout.specs.laws.Terms.{finding_excludes_lem}
-use Rattle.pt_layout.specs.declared.finding.Finding.{Finding}
+use Rattle.pt_sound.specs.Healthy.{Healthy}
+use Rattle.pt_sound.specs.Findings.{IsFinding}
+use Rattle.pt_sound.specs.laws.Terms.{finding_excludes_lem}
+use Rattle.pt_sound.specs.declared.finding.Finding.{Finding}
 use Rattle.pt_members.specs.Owned.{OwnedOf}
 use Rattle.pt_members.specs.Tables.{TableOf}
 use Rattle.pt_check.specs.Answers.{Answers}

@@ -4,7 +4,7 @@ use Rattle.pt_sector.specs.Sectors.{Sectors}
 use Rattle.pt_sector.specs.Writes.{Writes, after}
 use Rattle.pt_recover.specs.Denotes.{Denotes, Reads}
 use Rattle.pt_recover.specs.laws.Terms.{denotes_one_lem}
-use Rattle.pt_layout.specs.Findings.{IsFinding}
+use Rattle.pt_sound.specs.Findings.{IsFinding}
 use Rattle.pt_members.specs.Owned.{OwnedOf}
 use Rattle.pt_members.specs.Tables.{TableOf}
 use Rattle.pt_check.specs.Answers.{Answers}

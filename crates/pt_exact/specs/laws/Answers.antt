@@ -4,8 +4,8 @@ use Rattle.pt_sector.specs.Sectors.{Sectors, IsSectorSize}
 use Rattle.pt_sector.specs.Writes.{Writes}
 use Rattle.pt_recover.specs.Denotes.{Denotes}
 use Rattle.pt_members.specs.declared.layout.Layout.{Layout}
-use Rattle.pt_layout.specs.Sound.{Sound}
-use Rattle.pt_layout.specs.declared.finding.Finding.{Finding}
+use Rattle.pt_sound.specs.Sound.{Sound}
+use Rattle.pt_sound.specs.declared.finding.Finding.{Finding}
 use Rattle.pt_cases.specs.laws.Ascending.{fits_four}
 use Rattle.pt_cases.specs.Keeps.{Keeps}
 use Rattle.pt_cases.specs.Cases.{IsPlan}

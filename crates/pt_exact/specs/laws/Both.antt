@@ -12,9 +12,9 @@ use Rattle.pt_members.specs.Slices.{places_of}
 use Rattle.pt_members.specs.declared.layout.Body.{Body}
 use Rattle.pt_members.specs.declared.layout.Body.TheVariants.{Mbr, Gpt}
 use Rattle.pt_members.specs.declared.layout.Layout.{Layout}
-use Rattle.pt_layout.specs.Guarded.{IsGuarded}
+use Rattle.pt_sound.specs.Guarded.{IsGuarded}
 use Rattle.pt_members.specs.OnePath.{HasFour}
-use Rattle.pt_layout.specs.Sound.{Sound}
+use Rattle.pt_sound.specs.Sound.{Sound}
 use Rattle.pt_members.specs.Owned.{OwnedOf}
 use Rattle.pt_apply.specs.Plans.{writes_in}
 use Rattle.pt_cases.specs.Cases.{Common, Copies, ChangesLabels, IsBackupFirst, IsPrimaryFirst, IsFromMbr, primary_and_labels}

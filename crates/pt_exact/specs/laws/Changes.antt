@@ -7,7 +7,7 @@ use Rattle.pt_recover.specs.Denotes.{Denotes}
 use Rattle.pt_recover.specs.laws.Terms.{denotes_one_lem}
 use Rattle.pt_members.specs.declared.layout.Body.TheVariants.{Mbr, Gpt}
 use Rattle.pt_members.specs.declared.layout.Layout.{Layout}
-use Rattle.pt_layout.specs.Healthy.{IsHealthy}
+use Rattle.pt_sound.specs.Healthy.{IsHealthy}
 use Rattle.pt_cases.specs.Cases.{IsPlan, ChangesLabels}
 use Rattle.pt_targets.specs.Causes.{IsReused}
 use Rattle.pt_targets.specs.declared.error.PlanError.TheVariants.{NotOneSwitch, ReusedInOneBatch}

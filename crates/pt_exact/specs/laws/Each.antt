@@ -7,7 +7,7 @@ use Rattle.pt_members.specs.declared.layout.Labelled.{Labelled}
 use Rattle.pt_members.specs.declared.layout.Layout.{Layout}
 use Rattle.pt_members.specs.declared.layout.Slice.{Slice}
 use Rattle.pt_members.specs.OnePath.{HasFour}
-use Rattle.pt_layout.specs.Sound.{Sound}
+use Rattle.pt_sound.specs.Sound.{Sound}
 use Rattle.pt_cases.specs.Along.{Along}
 use Rattle.pt_cases.specs.Covers.{IsNth, Covers}
 use Rattle.pt_cases.specs.laws.Covers.{covering_differs_lem}

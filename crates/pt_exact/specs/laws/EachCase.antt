@@ -8,7 +8,7 @@ use Rattle.pt_mbr.specs.declared.record.Record.{Record}
 use Rattle.pt_recover.specs.Denotes.{Denotes}
 use Rattle.pt_recover.specs.laws.Terms.{denotes_one_lem}
 use Rattle.pt_members.specs.declared.layout.Layout.{Layout}
-use Rattle.pt_layout.specs.Healthy.{IsHealthy}
+use Rattle.pt_sound.specs.Healthy.{IsHealthy}
 use Rattle.pt_cases.specs.Cases.{IsPlan, idle, backup_first, primary_first, from_mbr, one_label, within_mbr, IsBackupFirst}
 use Rattle.pt_cases.specs.Cases.{IsPrimaryFirst, IsFromMbr, IsOneLabel, IsWithinMbr}
 

@@ -6,7 +6,7 @@ use Rattle.pt_mbr.specs.Extended.{extended_of}
 use Rattle.pt_members.specs.declared.layout.Body.{Body}
 use Rattle.pt_members.specs.declared.layout.Body.TheVariants.{Mbr, Gpt}
 use Rattle.pt_members.specs.declared.layout.Layout.{Layout}
-use Rattle.pt_layout.specs.Sound.{Sound}
+use Rattle.pt_sound.specs.Sound.{Sound}
 use Rattle.pt_cases.specs.laws.Along.{labels_fit_lem, label_fits_lem}
 use Rattle.pt_cases.specs.Keeps.{Keeps, IsMbrBody}
 use Rattle.pt_cases.specs.Keeps as keep

@@ -14,7 +14,7 @@ use Rattle.pt_members.specs.declared.layout.Body.{Body}
 use Rattle.pt_members.specs.declared.layout.Body.TheVariants.{Mbr, Gpt}
 use Rattle.pt_members.specs.declared.layout.Layout.{Layout}
 use Rattle.pt_members.specs.declared.layout.Slice.{Slice}
-use Rattle.pt_layout.specs.Sound.{Sound}
+use Rattle.pt_sound.specs.Sound.{Sound}
 use Rattle.pt_cases.specs.laws.Ascending.{fits_four}
 use Rattle.pt_cases.specs.Covers.{Covers}
 use Rattle.pt_cases.specs.Differ.{AllDiffer, label_sectors, chain_sectors, own_sectors}

@@ -14,7 +14,7 @@ use Rattle.pt_recover.specs.Mbr.{HasChain}
 use Rattle.pt_members.specs.declared.layout.Body.TheVariants.{Mbr}
 use Rattle.pt_members.specs.declared.layout.Layout.{Layout}
 use Rattle.pt_members.specs.laws.Grouped.{contains_head, contains_tail}
-use Rattle.pt_layout.specs.Sound.{Sound}
+use Rattle.pt_sound.specs.Sound.{Sound}
 use Rattle.pt_cases.specs.Keeps.{Keeps}
 use Rattle.pt_cases.specs.Links.{AllLeadOn, IsLoneChain, start_of}
 use Rattle.pt_cases.specs.laws.Links.{shaped_plain_lem, shaped_logical_lem, chain_leads_lem, links_fit_lem}

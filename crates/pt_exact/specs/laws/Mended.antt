@@ -12,17 +12,17 @@ use Rattle.pt_recover.specs.Mbr.{IsMbrDisk}
 use Rattle.pt_members.specs.declared.layout.Body.{Body}
 use Rattle.pt_members.specs.declared.layout.Body.TheVariants.{Mbr, Gpt}
 use Rattle.pt_members.specs.declared.layout.Layout.{Layout}
-use Rattle.pt_layout.specs.Findings.{IsFirstForeign}
-use Rattle.pt_layout.specs.Guarded.{IsGuarded}
-use Rattle.pt_layout.specs.Healthy.{HasForeign, IsHealthy, IsBodyWhole}
-use Rattle.pt_layout.specs.laws.Terms.{sound_frees_tables_lem}
+use Rattle.pt_sound.specs.Findings.{IsFirstForeign}
+use Rattle.pt_sound.specs.Guarded.{IsGuarded}
+use Rattle.pt_sound.specs.Healthy.{HasForeign, IsHealthy, IsBodyWhole}
+use Rattle.pt_sound.specs.laws.Terms.{sound_frees_tables_lem}
 use Rattle.pt_members.specs.Members.{number_path}
 use Rattle.pt_members.specs.OnePath.{HasFour}
-use Rattle.pt_layout.specs.Sound.{Sound, IsUnsound}
+use Rattle.pt_sound.specs.Sound.{Sound, IsUnsound}
 use Rattle.pt_members.specs.Tables.{IsBodyTable, IsGptTable}
-use Rattle.pt_layout.specs.declared.finding.Finding.{Finding}
-use Rattle.pt_layout.specs.declared.finding.Finding.TheVariants.{NoTable, PrimaryCopy, BackupCopy, CopiesDiffer, Alternate, Protective}
-use Rattle.pt_layout.specs.declared.finding.Finding.TheVariants.{OutsideUsable, Overlap, OnTable, SameGuid, ForeignLabel}
+use Rattle.pt_sound.specs.declared.finding.Finding.{Finding}
+use Rattle.pt_sound.specs.declared.finding.Finding.TheVariants.{NoTable, PrimaryCopy, BackupCopy, CopiesDiffer, Alternate, Protective}
+use Rattle.pt_sound.specs.declared.finding.Finding.TheVariants.{OutsideUsable, Overlap, OnTable, SameGuid, ForeignLabel}
 use Rattle.pt_members.specs.Owned.{OwnedOf}
 use Rattle.pt_cases.specs.Cases.{IsPlan}
 use Rattle.pt_cases.specs.Causes.{MayHave}

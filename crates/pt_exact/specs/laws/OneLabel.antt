@@ -16,7 +16,7 @@ use Rattle.pt_members.specs.declared.layout.Body.TheVariants.{Mbr, Gpt}
 use Rattle.pt_members.specs.declared.layout.Labelled.{Labelled}
 use Rattle.pt_members.specs.declared.layout.Layout.{Layout}
 use Rattle.pt_members.specs.declared.layout.Slice.{Slice}
-use Rattle.pt_layout.specs.Guarded.{IsGuarded, place}
+use Rattle.pt_sound.specs.Guarded.{IsGuarded, place}
 use Rattle.pt_members.specs.Members.{label_of}
 use Rattle.pt_members.specs.OnePath.{HasFour}
 use Rattle.pt_apply.specs.Plans.{writes_in}

@@ -9,14 +9,14 @@ use Rattle.pt_members.specs.declared.layout.Body.TheVariants.{Mbr, Gpt}
 use Rattle.pt_members.specs.declared.layout.Labelled.{Labelled}
 use Rattle.pt_members.specs.declared.layout.Layout.{Layout}
 use Rattle.pt_members.specs.declared.layout.Slice.{Slice}
-use Rattle.pt_layout.specs.Findings.{IsBodyBroken}
-use Rattle.pt_layout.specs.Guarded.{IsGuarded, place}
-use Rattle.pt_layout.specs.laws.Terms.{unsound_excludes_lem}
+use Rattle.pt_sound.specs.Findings.{IsBodyBroken}
+use Rattle.pt_sound.specs.Guarded.{IsGuarded, place}
+use Rattle.pt_sound.specs.laws.Terms.{unsound_excludes_lem}
 use Rattle.pt_members.specs.Members.{number_path}
-use Rattle.pt_layout.specs.OneFinding.{HasEight, unsound_one}
-use Rattle.pt_layout.specs.Sound.{Sound}
-use Rattle.pt_layout.specs.declared.finding.Finding.{Finding}
-use Rattle.pt_layout.specs.declared.finding.Finding.TheVariants.{ForeignLabel}
+use Rattle.pt_sound.specs.OneFinding.{HasEight, unsound_one}
+use Rattle.pt_sound.specs.Sound.{Sound}
+use Rattle.pt_sound.specs.declared.finding.Finding.{Finding}
+use Rattle.pt_sound.specs.declared.finding.Finding.TheVariants.{ForeignLabel}
 use Rattle.pt_cases.specs.Shape.{AreLabelsOf, Shaped}
 use Rattle.pt_members.specs.Owned.{OwnedOf}
 use Rattle.pt_targets.specs.Causes.{WritesBoth, TargetsIn, TargetsOf, TurnsAmiss, CopiesAmiss, IsReused, IsUnmended}

@@ -8,7 +8,7 @@ use Rattle.pt_members.specs.Slices.{places_of, place_of}
 use Rattle.pt_recover.specs.Labels.{LabelAt, LabelsAre}
 use Rattle.pt_members.specs.declared.layout.Layout.{Layout}
 use Rattle.pt_members.specs.declared.layout.Slice.{Slice}
-use Rattle.pt_layout.specs.Healthy.{HasForeign}
+use Rattle.pt_sound.specs.Healthy.{HasForeign}
 use Rattle.pt_members.specs.OnePath.{HasFour}
 use Rattle.pt_cases.specs.Along.{Along}
 use Rattle.pt_cases.specs.laws.Along.{along_map, along_label, along_without}

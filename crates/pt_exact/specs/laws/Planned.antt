@@ -8,9 +8,9 @@ use Rattle.pt_members.specs.Slices.{places_of}
 use Rattle.pt_recover.specs.laws.Terms.{denotes_one_lem}
 use Rattle.pt_members.specs.declared.layout.Layout.{Layout}
 use Rattle.pt_members.specs.declared.layout.Slice.{Slice}
-use Rattle.pt_layout.specs.Healthy.{IsHealthy}
+use Rattle.pt_sound.specs.Healthy.{IsHealthy}
 use Rattle.pt_members.specs.OnePath.{HasFour}
-use Rattle.pt_layout.specs.declared.finding.Finding.{Finding}
+use Rattle.pt_sound.specs.declared.finding.Finding.{Finding}
 use Rattle.pt_cases.specs.Cases.{IsPlan, idle, backup_first, primary_first, from_mbr, one_label, within_mbr}
 use Rattle.pt_cases.specs.laws.Causes.{plan_none_left, plan_not_unsound, plan_of_whole}
 use Rattle.pt_cases.specs.Copies.{one_write}

@@ -9,7 +9,7 @@ use Rattle.pt_recover.specs.Denotes.{Denotes, BodyIs}
 use Rattle.pt_recover.specs.laws.Terms.{denotes_one_lem}
 use Rattle.pt_members.specs.declared.layout.Body.TheVariants.{Mbr, Gpt}
 use Rattle.pt_members.specs.declared.layout.Layout.{Layout}
-use Rattle.pt_layout.specs.Healthy.{IsHealthy, IsBodyWhole}
+use Rattle.pt_sound.specs.Healthy.{IsHealthy, IsBodyWhole}
 use Rattle.pt_cases.specs.Cases.{IsPlan, one_label, ChangesLabels, IsFromMbr, IsOneLabel, IsWithinMbr}
 use Rattle.pt_cases.specs.laws.Causes.{plan_may_be, plan_none_left}
 use Rattle.pt_targets.specs.Causes.{WritesBoth, IsReused}

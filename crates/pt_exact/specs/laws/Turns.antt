@@ -11,10 +11,10 @@ use Rattle.pt_recover.specs.Mbr.{IsMbrDisk}
 use Rattle.pt_members.specs.declared.layout.Body.{Body}
 use Rattle.pt_members.specs.declared.layout.Body.TheVariants.{Mbr, Gpt}
 use Rattle.pt_members.specs.declared.layout.Layout.{Layout}
-use Rattle.pt_layout.specs.Guarded.{IsGuarded}
-use Rattle.pt_layout.specs.laws.Guarded.{guarded_reads, reads_guarded}
-use Rattle.pt_layout.specs.Healthy.{IsHealthy}
-use Rattle.pt_layout.specs.Sound.{Sound}
+use Rattle.pt_sound.specs.Guarded.{IsGuarded}
+use Rattle.pt_sound.specs.laws.Guarded.{guarded_reads, reads_guarded}
+use Rattle.pt_sound.specs.Healthy.{IsHealthy}
+use Rattle.pt_sound.specs.Sound.{Sound}
 use Rattle.pt_apply.specs.Plans.{writes_in}
 use Rattle.pt_cases.specs.Cases.{IsNeeded, IsPlan, IsWithinMbr}
 use Rattle.pt_cases.specs.Causes.{HadMbr}

@@ -1,7 +1,0 @@
-use Rattle.std.proofs.Common.{◌≡◌}
-use Rattle.std.specs.Prelude.{slice_range}
-use Rattle.pt_members.specs.Members.{present, slots}
-use Rattle.pt_layout.proofs.groups.members_from.Given as goal
-
-abbrev pub invariant-loop-k : goal.invariant-loop-k
-invariant-loop-k g l = l.members.items ≡ present (slice_range (slots g.row.B l.body) l.from l.k)

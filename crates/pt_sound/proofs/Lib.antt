@@ -1,0 +1,5 @@
+pub mod Presence
+pub mod First
+pub mod Faulty
+pub mod Pairs
+pub mod Extended

@@ -1,0 +1,18 @@
+use Rattle.std.proofs.Common.{List, Some, None, subst}
+use Rattle.pt_sound.specs.declared.faults.Fault.TheVariants.{Buried}
+use Rattle.pt_members.specs.Members.{Group}
+use Rattle.pt_sound.specs.Spots.{LeastIs}
+use Rattle.pt_sound.specs.Row.{FaultAmong}
+use Rattle.pt_sound.proofs.Faulty.{off_all, buried_first}
+use Rattle.pt_sound.proofs.soundness.on_table.Goals as goal
+
+pub returns-in-Some : goal.returns-in-Some
+returns-in-Some g c =
+    buried_first g.row.B c.args.layout.now c.in-Some.spot c.requires.inside
+    (subst (λ (l : List Group). LeastIs (FaultAmong g.row.B c.args.layout.now Buried l)
+    (Some c.in-Some.spot)) c.requires.all c.in-Some.ensures)
+
+pub returns-in-None : goal.returns-in-None
+returns-in-None g c =
+    off_all g.row.B c.args.layout.now c.requires.inside (subst
+    (λ (l : List Group). LeastIs (FaultAmong g.row.B c.args.layout.now Buried l) None) c.requires.all c.in-None.ensures)

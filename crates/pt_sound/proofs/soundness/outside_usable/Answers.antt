@@ -1,0 +1,17 @@
+use Rattle.std.proofs.Common.{List, Some, None, subst}
+use Rattle.pt_sound.specs.declared.faults.Fault.TheVariants.{Outside}
+use Rattle.pt_members.specs.Members.{Group}
+use Rattle.pt_sound.specs.Spots.{LeastIs}
+use Rattle.pt_sound.specs.Row.{FaultAmong}
+use Rattle.pt_sound.proofs.Faulty.{inside_all, outside_first}
+use Rattle.pt_sound.proofs.soundness.outside_usable.Goals as goal
+
+pub returns-in-Some : goal.returns-in-Some
+returns-in-Some g c =
+    outside_first g.row.B c.args.layout.now c.in-Some.spot (subst
+    (λ (l : List Group). LeastIs (FaultAmong g.row.B c.args.layout.now Outside l) (Some c.in-Some.spot)) c.requires.all c.in-Some.ensures)
+
+pub returns-in-None : goal.returns-in-None
+returns-in-None g c =
+    inside_all g.row.B c.args.layout.now (subst (λ (l : List Group). LeastIs
+    (FaultAmong g.row.B c.args.layout.now Outside l) None) c.requires.all c.in-None.ensures)

@@ -1,0 +1,12 @@
+pub mod Overlaps
+pub mod Sound
+pub mod Healthy
+pub mod Findings
+pub mod Held
+pub mod Spots
+pub mod Row
+pub mod Twins
+pub mod Steps
+pub mod OneFinding
+pub mod Guarded
+pub mod laws

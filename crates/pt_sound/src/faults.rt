@@ -1,0 +1,80 @@
+//! The first member with a fault.
+
+ghost use Rattle.std.specs.Prelude.{◌≡◌, ◌<◌, length, slice_index_or};
+ghost use Rattle.pt_sector.specs.Sectors.{IsSectorSize};
+ghost use Rattle.pt_sound.specs.Spots.{LeastIs};
+ghost use Rattle.pt_sound.specs.Row.{HasFault, FaultIn, FaultOfGroup, FaultAmong};
+
+use crate::buried::buried_in;
+use crate::groups::Siblings;
+use crate::spot::{Spot, first_of};
+use pt_members::{Layout, Member, exists};
+
+/// What may be wrong with a member.
+#[derive(Clone, Copy)]
+pub enum Fault {
+    /// It doesn't exist, or isn't in what holds it.
+    Outside,
+    /// It exists, and a table lies in it.
+    Buried,
+}
+
+fn fault_of<const B: usize>(
+    layout: &Layout,
+    fault: Fault,
+    group: &Siblings,
+    m: &Member,
+) -> Option<Spot>
+    requires { IsSectorSize B }
+    ensures { LeastIs (HasFault B layout.now fault group.now m.now) result }
+{
+    match fault {
+        Fault::Outside => {
+            if group.has_inside(m) {
+                None
+            } else {
+                Some(Spot {
+                    path: m.path,
+                    lba: 0,
+                })
+            }
+        }
+        Fault::Buried => {
+            if !exists(m) {
+                return None;
+            }
+            match buried_in::<B>(layout, m) {
+                Some(lba) => Some(Spot { path: m.path, lba }),
+                None => None,
+            }
+        }
+    }
+}
+
+fn fault_in<const B: usize>(layout: &Layout, fault: Fault, group: &Siblings) -> Option<Spot>
+    requires { IsSectorSize B }
+    ensures { LeastIs (FaultIn B layout.now fault group.now) result }
+{
+    let members = group.as_slice();
+    let mut first = None;
+    for i in 0..members.len() {
+        first = first_of(first, fault_of::<B>(layout, fault, group, &members[i]));
+    }
+    first
+}
+
+// The first member with a fault, in path order, and for a table the lowest sector.
+pub(crate) fn first_fault<const B: usize>(
+    layout: &Layout,
+    fault: Fault,
+    groups: &[Siblings],
+) -> Option<Spot>
+    requires { IsSectorSize B }
+    ensures { LeastIs (FaultAmong B layout.now fault groups.now) result }
+{
+    let mut first = None;
+    for j in 0..groups.len() {
+        first = first_of(first, fault_in::<B>(layout, fault, &groups[j]));
+    }
+    first
+}
