@@ -1,7 +1,8 @@
 //! The first finding on a disk, as it is printed.
 
+use crate::why::{print_one, print_two};
 use pt_gpt::Side;
-use pt_layout::Finding;
+use pt_layout::{Finding, Path};
 use std::io;
 use std::io::Write;
 
@@ -34,14 +35,10 @@ fn print_what<O: Write>(out: &mut O, finding: &Finding) -> io::Result<()> {
     match finding {
         Finding::NoTable(_) | Finding::CopiesDiffer | Finding::Alternate(_) | Finding::Protective =>
             Ok(()),
-        Finding::PrimaryCopy(error) | Finding::BackupCopy(error) => write!(
-            out,
-            " {}",
-            error.number()
-        ),
-        Finding::OutsideUsable(path) | Finding::ForeignLabel(path) => write!(out, " {path}"),
-        Finding::Overlap(before, it) => write!(out, " {before} {it}"),
-        Finding::OnTable(path, at) => write!(out, " {path} {}", at.0),
-        Finding::SameGuid(lower, higher) => write!(out, " {lower} {higher}"),
+        Finding::PrimaryCopy(error) | Finding::BackupCopy(error) => print_one(out, &error.number()),
+        Finding::OutsideUsable(path) | Finding::ForeignLabel(path) => print_one(out, path),
+        Finding::Overlap(before, it) => print_two(out, before, it),
+        Finding::OnTable(path, at) => print_two(out, path, &at.0),
+        Finding::SameGuid(lower, higher) => print_two(out, lower, higher),
     }
 }

@@ -2,7 +2,7 @@
 
 ghost use Rattle.std.specs.Prelude.{◌<◌, ◌^◌};
 
-use arrayvec::{ArrayString, ArrayVec};
+use arrayvec::ArrayVec;
 use pt_gpt::{Entry, Table};
 use pt_guid::{Guid, code_of_type};
 use pt_layout::{
@@ -10,9 +10,6 @@ use pt_layout::{
 };
 use std::io;
 use std::io::Write;
-
-/// How many bytes the text of a name takes at most: three for each of its units.
-const NAME_BYTES: usize = 108;
 
 /// How many entries a label has, those that it doesn't count among them.
 const LETTERS: usize = 8;
@@ -33,9 +30,9 @@ pub fn print_layout<const B: usize, O: Write>(out: &mut O, layout: &Layout) -> i
 }
 
 fn print_gpt<O: Write>(out: &mut O, sectors: u64, table: &Table) -> io::Result<()> {
-    write!(out, "gpt {sectors} {} {} ", table.first, table.last)?;
-    print_guid(out, &table.disk)?;
-    writeln!(out)
+    let mut text = [0; 36];
+    let disk = table.disk.to_text(&mut text);
+    writeln!(out, "gpt {sectors} {} {} {disk}", table.first, table.last)
 }
 
 fn print_guid<O: Write>(out: &mut O, guid: &Guid) -> io::Result<()> {
@@ -76,13 +73,18 @@ fn print_entry<O: Write>(out: &mut O, entry: &Entry) -> io::Result<()> {
     write!(out, " {:016x} ", entry.attributes)?;
     print_guid(out, &entry.unique)?;
     if entry.name[0] != 0 {
-        out.write_all(b" ")?;
-        match plain_name(&entry.name) {
-            Some(text) => out.write_all(text.as_slice())?,
-            None => print_name(out, &entry.name)?,
-        }
+        print_named(out, &entry.name)?;
     }
     out.write_all(b"\n")
+}
+
+/// Prints a name behind a space.
+fn print_named<O: Write>(out: &mut O, name: &[u16; 36]) -> io::Result<()> {
+    out.write_all(b" ")?;
+    match plain_name(name) {
+        Some(text) => out.write_all(text.as_slice()),
+        None => print_name(out, name),
+    }
 }
 
 fn print_kind<O: Write>(out: &mut O, kind: &Guid) -> io::Result<()> {
@@ -92,11 +94,21 @@ fn print_kind<O: Write>(out: &mut O, kind: &Guid) -> io::Result<()> {
     }
 }
 
-/// A name up to its first zero unit, where each unit is a printed character of ASCII. Most names are, and decoding UTF-16 takes far longer.
+/// The units of a name up to its first zero.
+fn units(name: &[u16; 36]) -> &[u16] {
+    for k in 0..36 {
+        if name[k] == 0 {
+            return &name[..k];
+        }
+    }
+    name.as_slice()
+}
+
+/// A name, where each unit is a printed character of ASCII. Most names are, and decoding UTF-16 takes far longer.
 fn plain_name(name: &[u16; 36]) -> Option<ArrayVec<u8, 36>> {
     let mut text = ArrayVec::new();
-    for unit in name.iter().copied().take_while(|&unit| unit != 0) {
-        match u8::try_from(unit) {
+    for unit in units(name) {
+        match u8::try_from(*unit) {
             Ok(byte @ b' '..=b'~') if text.try_push(byte).is_ok() => {}
             _ => return None,
         }
@@ -104,19 +116,18 @@ fn plain_name(name: &[u16; 36]) -> Option<ArrayVec<u8, 36>> {
     Some(text)
 }
 
-/// A name up to its first zero unit, with `?` for what has no printed form.
+/// Prints a name, with `?` for what has no printed form.
 fn print_name<O: Write>(out: &mut O, name: &[u16; 36]) -> io::Result<()> {
-    let units = name.iter().copied().take_while(|&unit| unit != 0);
-    let mut text: ArrayString<NAME_BYTES> = ArrayString::new();
-    for found in char::decode_utf16(units) {
-        let shown = match found {
-            Ok(c) => { if c < ' ' || c == '\u{7F}' { '?' } else { c } }
-            Err(_) => '?',
-        };
-        if text.try_push(shown).is_err() {
-            write!(out, "{}{shown}", text.as_str())?;
-            text.clear();
-        }
+    for found in char::decode_utf16(units(name).iter().copied()) {
+        print_shown(out, found.ok())?;
     }
-    out.write_all(text.as_str().as_bytes())
+    Ok(())
+}
+
+fn print_shown<O: Write>(out: &mut O, found: Option<char>) -> io::Result<()> {
+    let shown = match found {
+        Some(c) if c >= ' ' && c != '\u{7F}' => c,
+        _ => '?',
+    };
+    out.write_all(shown.encode_utf8(&mut [0; 4]).as_bytes())
 }

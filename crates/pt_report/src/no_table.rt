@@ -7,27 +7,38 @@ use std::io::Write;
 
 /// Prints why a disk denotes no layout. A device's fault and the want of memory have the line that they have everywhere.
 pub fn print_no_table<E: Write>(err: &mut E, why: NoTable) -> io::Result<()> {
-    match why {
-        NoTable::NoCopy(primary, backup) => {
-            let (primary, backup) = (primary.number(), backup.number());
-            writeln!(err, "no table: copies {primary} {backup}")
-        }
-        NoTable::Chain(error) => print_chain(err, error),
-        NoTable::TwoExtended => writeln!(err, "no table: two extended"),
-        NoTable::TooSmall => writeln!(err, "no table: too small"),
-        NoTable::Device(_) => writeln!(err, "device"),
-        NoTable::Memory => writeln!(err, "memory"),
-    }
+    let line = match why {
+        NoTable::NoCopy(primary, backup) => return print_pair(
+            err,
+            "copies",
+            primary.number(),
+            u64::from(backup.number()),
+        ),
+        NoTable::Chain(error) => return print_chain(err, error),
+        NoTable::TwoExtended => "no table: two extended\n",
+        NoTable::TooSmall => "no table: too small\n",
+        NoTable::Device(_) => "device\n",
+        NoTable::Memory => "memory\n",
+    };
+    err.write_all(line.as_bytes())
 }
 
 fn print_chain<E: Write>(err: &mut E, error: ChainError) -> io::Result<()> {
-    let number = error.number();
     match error {
         ChainError::NoSignature(at)
         | ChainError::BadRecord(at)
         | ChainError::NotUpward(at)
-        | ChainError::OutsideExtended(at) => writeln!(err, "no table: chain {number} {}", at.0),
-        ChainError::TooLong => writeln!(err, "no table: chain {number}"),
-        ChainError::Device(_) => writeln!(err, "device"),
+        | ChainError::OutsideExtended(at) => print_pair(err, "chain", error.number(), at.0),
+        ChainError::TooLong => print_long(err, error.number()),
+        ChainError::Device(_) => err.write_all(b"device\n"),
     }
+}
+
+fn print_long<E: Write>(err: &mut E, number: u8) -> io::Result<()> {
+    writeln!(err, "no table: chain {number}")
+}
+
+/// Prints what denotes nothing, with two numbers that say why.
+fn print_pair<E: Write>(err: &mut E, of: &str, first: u8, second: u64) -> io::Result<()> {
+    writeln!(err, "no table: {of} {first} {second}")
 }

@@ -1,6 +1,7 @@
 //! The checker's no, as it is printed.
 
 use pt_check::Why;
+use std::fmt::Display;
 use std::io;
 use std::io::Write;
 
@@ -15,17 +16,23 @@ pub fn print_no<O: Write>(out: &mut O, why: Why) -> io::Result<()> {
 fn print_named<O: Write>(out: &mut O, why: Why) -> io::Result<()> {
     match why {
         Why::TooManyWrites => Ok(()),
-        Why::OutOfRange(it) | Why::BootCode(it) | Why::Neither(it) => print_number(out, it),
-        Why::ReadSector(phase, lba) => print_numbers(out, phase, lba.0),
-        Why::NotATable(lba) | Why::Owned(lba) => print_number(out, lba.0),
-        Why::Final(finding) => print_number(out, u64::from(finding.number())),
+        Why::OutOfRange(it) | Why::BootCode(it) | Why::Neither(it) => print_one(out, &it),
+        Why::ReadSector(phase, lba) => print_two(out, &phase, &lba.0),
+        Why::NotATable(lba) | Why::Owned(lba) => print_one(out, &lba.0),
+        Why::Final(finding) => print_one(out, &finding.number()),
     }
 }
 
-fn print_number<O: Write>(out: &mut O, number: u64) -> io::Result<()> {
-    write!(out, " {number}")
+/// Prints it behind a space.
+pub fn print_one<O: Write, A: Display>(out: &mut O, it: &A) -> io::Result<()> {
+    write!(out, " {it}")
 }
 
-fn print_numbers<O: Write>(out: &mut O, first: u64, second: u64) -> io::Result<()> {
+/// Prints both, each behind a space.
+pub fn print_two<O: Write, A: Display, B: Display>(
+    out: &mut O,
+    first: &A,
+    second: &B,
+) -> io::Result<()> {
     write!(out, " {first} {second}")
 }
