@@ -355,42 +355,61 @@ fn size_of(matches: &ArgMatches<'_>) -> SectorSize
     }
 }
 
+/// The fresh GUIDs of an edit, and its words.
+fn edit_of(
+    alloc: Global,
+    matches: &ArgMatches<'_>,
+) -> Result<(Option<String>, Vec<String>), AllocError>
+    ensures { IfOk result (λ p. GivesIf (rows_of (found_of matches.now)) (codes "fresh") p.0
+        × (map string_bytes p.1.items ≡ texts_in (rows_of (found_of matches.now)) (codes "WORD"))) }
+{
+    Ok((fresh_of(alloc, matches)?, texts_of(alloc, matches, "WORD")?))
+}
+
+fn place_job(alloc: Global, inner: &ArgMatches<'_>, image: String) -> Result<Job, LineError>
+    requires { string_bytes image ≡ text_in (rows_of (found_of inner.now)) (codes "IMAGE") }
+    ensures { IfJob (codes "locate") (rows_of (found_of inner.now)) result }
+{
+    Ok(Job::Locate {
+        image,
+        path: text_of(alloc, inner, "PATH")?,
+        place: text_of(alloc, inner, "K")?,
+    })
+}
+
 fn job_of(alloc: Global, name: &str, inner: &ArgMatches<'_>) -> Result<Job, LineError>
     ensures { IfJob name.now (rows_of (found_of inner.now)) result }
 {
+    let image = text_of(alloc, inner, "IMAGE")?;
     match name {
-        "show" => Ok(Job::Show {
-            image: text_of(alloc, inner, "IMAGE")?,
-        }),
-        "verify" => Ok(Job::Verify {
-            image: text_of(alloc, inner, "IMAGE")?,
-        }),
-        "locate" => Ok(Job::Locate {
-            image: text_of(alloc, inner, "IMAGE")?,
-            path: text_of(alloc, inner, "PATH")?,
-            place: text_of(alloc, inner, "K")?,
-        }),
-        "edit" => Ok(Job::Edit {
-            image: text_of(alloc, inner, "IMAGE")?,
-            fresh: fresh_of(alloc, inner)?,
-            words: texts_of(alloc, inner, "WORD")?,
-        }),
-        "plan" => Ok(Job::Plan {
-            image: text_of(alloc, inner, "IMAGE")?,
-            fresh: fresh_of(alloc, inner)?,
-            words: texts_of(alloc, inner, "WORD")?,
-        }),
+        "show" => Ok(Job::Show { image }),
+        "verify" => Ok(Job::Verify { image }),
+        "locate" => place_job(alloc, inner, image),
+        "edit" => {
+            let (fresh, words) = edit_of(alloc, inner)?;
+            Ok(Job::Edit {
+                image,
+                fresh,
+                words,
+            })
+        }
+        "plan" => {
+            let (fresh, words) = edit_of(alloc, inner)?;
+            Ok(Job::Plan {
+                image,
+                fresh,
+                words,
+            })
+        }
         "check" => Ok(Job::Check {
-            image: text_of(alloc, inner, "IMAGE")?,
+            image,
             file: text_of(alloc, inner, "PLANFILE")?,
         }),
         "apply" => Ok(Job::Apply {
-            image: text_of(alloc, inner, "IMAGE")?,
+            image,
             file: text_of(alloc, inner, "PLANFILE")?,
         }),
-        "repair" => Ok(Job::Repair {
-            image: text_of(alloc, inner, "IMAGE")?,
-        }),
+        "repair" => Ok(Job::Repair { image }),
         _ => Err(LineError::Usage(String::new(alloc))),
     }
 }
