@@ -29,7 +29,7 @@ pub use pt_layout::{
 };
 pub use pt_memory::MemDisk;
 pub use pt_plan::{
-    Batch, CommitError, PlanError, RepairError, Reply, apply_checked, commit, plan_for,
-    plan_for_repair, repair, session,
+    CommitError, PlanError, RepairError, apply_checked, commit, plan_for, plan_for_repair, repair,
 };
+pub use pt_runs::{Batch, Reply, session};
 pub use pt_sector::{Disk, Fault, Lba};

@@ -6,7 +6,8 @@
 use pt_edit::{Edit, edit};
 use pt_layout::{Layout, Verdict, recover, verify};
 use pt_memory::{CrashDisk, MemDisk};
-use pt_plan::{Batch, CommitError, RepairError, Reply, commit, repair, session};
+use pt_plan::{CommitError, RepairError, commit, repair};
+use pt_runs::{Batch, Reply, session};
 use pt_samples::guids;
 use std::alloc::{AllocError, Global};
 use std::test::Fail;

@@ -4,7 +4,7 @@ use crate::case::Case;
 use crate::device::{Stop, denoted, fail, served, stopped, stops_at};
 use pt_edit::edit;
 use pt_layout::Layout;
-use pt_plan::{Batch, Reply};
+use pt_runs::{Batch, Reply};
 use pt_samples::{batches, crash_disk};
 use std::alloc::Global;
 use std::test::Fail;

@@ -20,7 +20,7 @@ use Rattle.pt_words.specs.declared.error.Refusal.{Refusal}
 use Rattle.pt_targets.specs.declared.error.PlanError.{PlanError}
 use Rattle.pt_plan.specs.declared.error.CommitError.{CommitError}
 use Rattle.pt_plan.specs.declared.error.CommitError.TheVariants.{NoTable, Edit, Plan, Check, Device, Memory}
-use Rattle.pt_plan.specs.Calls.{settled_leaves}
+use Rattle.pt_plan.specs.laws.Settled.{settled_leaves}
 use Rattle.pt_plan.specs.Failed.{commit_fault_in}
 use Rattle.pt_plan.specs.History.{Past, Either, Has}
 use Rattle.pt_plan.specs.Commits.{Leads, Refuses, Bounded, Ready, FailedWriting, EndsBy, Ends, refused, Committed}

@@ -3,6 +3,5 @@ pub mod Exits
 pub mod Mendable
 pub mod Mended
 pub mod Starting
-pub mod Replying
 pub mod Applying
 pub mod Failing

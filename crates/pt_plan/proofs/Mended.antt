@@ -18,7 +18,7 @@ use Rattle.pt_sound.specs.declared.finding.Finding.{Finding}
 use Rattle.pt_words.specs.declared.error.Refusal.{Refusal}
 use Rattle.pt_plan.specs.declared.repair_error.RepairError.{RepairError}
 use Rattle.pt_plan.specs.declared.repair_error.RepairError.TheVariants.{NoTable, Unsound, Device, Memory, Plan, Check}
-use Rattle.pt_plan.specs.Calls.{settled_leaves}
+use Rattle.pt_plan.specs.laws.Settled.{settled_leaves}
 use Rattle.pt_plan.specs.History.{Past, Unchanged, Has}
 use Rattle.pt_plan.specs.Mending.{repair_fault_in}
 use Rattle.pt_plan.specs.Repairs.{Mendable, ReadyToMend, RefusesToMend, FailedMending, MendEndsBy, MendBounded, Mends, Repaired}

@@ -19,14 +19,8 @@ use Rattle.pt_targets.specs.Unmendable.{IsUnmendable}
 use Rattle.pt_targets.specs.Unplanned.{Unplanned}
 use Rattle.pt_plan.specs.declared.error.CommitError.{CommitError}
 use Rattle.pt_plan.specs.declared.repair_error.RepairError.{RepairError}
-use Rattle.pt_plan.specs.declared.sessions.Batch.{Batch}
-use Rattle.pt_plan.specs.declared.sessions.Reply.{Reply}
-use Rattle.pt_plan.specs.Calls.{Call, CarryOn}
-use Rattle.pt_plan.specs.Commits.{past, Committed, Planned, Ready, Refuses}
-use Rattle.pt_plan.specs.History.{Either, Carries}
+use Rattle.pt_plan.specs.Commits.{Committed, Planned, Ready, Refuses}
 use Rattle.pt_plan.specs.Repairs.{Repaired, MendPlanned, ReadyToMend, RefusesToMend}
-use Rattle.pt_plan.specs.Running.{Step, Ran}
-use Rattle.pt_plan.specs.Sessions.{Session}
 
 -- the words of a commit, and the GUIDs that they may take
 pub record Words : Type 0 where
@@ -63,21 +57,6 @@ IsReady b n = Ready (Denotes b) (IsReason b) Makes (EditedBy b n) (IsPlan b) (Un
 abbrev pub IsRefusal : ℕ → ℕ → Words → Sectors → CommitError → Type 0
 IsRefusal b n = Refuses (Denotes b) (IsReason b) Makes (EditedBy b n) (IsPlan b) (Unplanned b) (Healthy b) (TableOf b) (OwnedOf b)
 
--- a commit of the batch that answered so, as a call
-abbrev pub call_of : Words → Result Unit CommitError → Call Words
-call_of batch result = record { inside = Either batch; done = past batch result }
-
--- a call carries every history on, and so do calls in order
-abbrev pub CallCarries : ℕ → ℕ → Call Words → Told → Told → Type 0
-CallCarries b n call = Carries (Denotes b) (EditedBy b n) call.inside call.done
-
-abbrev pub CallsCarry : ℕ → ℕ → List (Call Words) → Told → Told → Type 0
-CallsCarry b n = CarryOn (Denotes b) (EditedBy b n)
-
--- the words of a batch of the code
-abbrev pub batch_of : Batch → Words
-batch_of batch = record { edits = batch.edits.items; guids = batch.guids.items }
-
 -- a repair of a disk of n sectors of b bytes
 abbrev pub Repairs : ℕ → ℕ → Result Unit RepairError → Told → Told → Type 0
 Repairs b n = Repaired (Denotes b) (IsReason b) (EditedBy b n) (IsPlan b) (IsUnmendable b) (Healthy b) (TableOf b) (OwnedOf b)
@@ -93,11 +72,3 @@ IsReadyToMend b = ReadyToMend (Denotes b) (IsPlan b) (IsUnmendable b) (Healthy b
 -- why a disk isn't repaired
 abbrev pub IsMendRefusal : ℕ → Sectors → RepairError → Type 0
 IsMendRefusal b = RefusesToMend (Denotes b) (IsReason b) (IsUnmendable b)
-
--- a session of batches on a disk of n sectors of b bytes
-abbrev pub SessionOf : ℕ → ℕ → List Words → List Reply → Told → Told → Type 0
-SessionOf b n = Session (Commits b n)
-
--- calls in order, on such a disk
-abbrev pub RunOf : ℕ → ℕ → List (Step Words) → Told → Told → Type 0
-RunOf b n = Ran (Commits b n) (Repairs b n)

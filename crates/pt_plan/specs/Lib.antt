@@ -1,13 +1,9 @@
 pub mod Applied
 pub mod Batches
-pub mod Calls
 pub mod Commits
 pub mod Failed
 pub mod History
 pub mod Mending
 pub mod Repairs
-pub mod Replying
-pub mod Running
-pub mod Sessions
 pub mod Steps
 pub mod laws

@@ -1,14 +1,12 @@
-//! Commits of edits to a disk, sessions of them, repairs, and plans from anywhere that are checked and applied.
+//! Commits of edits to a disk, repairs, and plans from anywhere that are checked and applied.
 #![tactic(auto)]
 
 mod checked;
 mod commits;
 mod error;
-pub mod laws;
 mod prepare;
 mod repair_error;
 mod repairs;
-mod sessions;
 
 pub use checked::apply_checked;
 pub use commits::commit;
@@ -17,4 +15,3 @@ pub use prepare::{checked_plan_for, plan_for};
 pub use pt_planner::PlanError;
 pub use repair_error::RepairError;
 pub use repairs::{checked_plan_for_repair, plan_for_repair, repair};
-pub use sessions::{Batch, Reply, session};

@@ -12,7 +12,8 @@ use pt_gpt::{
 use pt_guid::{Guid, fresh};
 use pt_mbr::{Mbr, Record, encode_mbr, protective};
 use pt_memory::{CrashDisk, MemDisk};
-use pt_plan::{Batch, commit};
+use pt_plan::commit;
+use pt_runs::Batch;
 use pt_sector::{Disk, Fault, Lba, Sector};
 use std::alloc::Global;
 use std::test::Fail;

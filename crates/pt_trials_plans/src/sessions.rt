@@ -3,7 +3,8 @@
 use pt_edit::{Refusal, edit};
 use pt_layout::{Layout, Verdict, verify};
 use pt_memory::MemDisk;
-use pt_plan::{CommitError, Reply, session};
+use pt_plan::CommitError;
+use pt_runs::{Reply, session};
 use pt_samples::{batches, crash_disk, gpt_disk, holds, image_of, words};
 use pt_sector::{Disk, Fault};
 use std::alloc::Global;

@@ -1,0 +1,95 @@
+//! Laws of several calls on one disk. Each function does nothing: its contract is the law.
+
+ghost use Rattle.std.specs.Prelude.{◌⊎◌, ℕ, List, [], ◌∷◌, ◌++◌, Option, Result};
+ghost use Rattle.pt_sector.specs.Device.{Told};
+ghost use Rattle.pt_sector.specs.Sectors.{Sectors};
+ghost use Rattle.pt_apply.specs.Runs.{Settled};
+ghost use Rattle.pt_recover.specs.Denotes.{Denotes};
+ghost use Rattle.pt_members.specs.declared.layout.Layout.{Layout as LayoutValue};
+ghost use Rattle.pt_plan.specs.Batches.{Words, EditedBy, Commits, Repairs};
+ghost use Rattle.pt_runs.specs.Batches.{SessionOf, RunOf, call_of, CallCarries, CallsCarry};
+ghost use Rattle.pt_runs.specs.Calls.{Call};
+ghost use Rattle.pt_plan.specs.History.{Past, Unchanged, Has, Holds};
+ghost use Rattle.pt_runs.specs.Running.{Step, calls_of_all, OnlyFlushes, KeepsHistory, Lives, IsPastOf};
+ghost use Rattle.pt_runs.specs.Sessions.{calls_of};
+ghost use Rattle.pt_plan.specs.declared.error.CommitError.{CommitError as CommitErrorValue};
+ghost use Rattle.pt_plan.specs.declared.repair_error.RepairError.{RepairError as RepairErrorValue};
+ghost use Rattle.pt_runs.specs.declared.sessions.Reply.{Reply as ReplyValue};
+
+/// A history may begin on each disk on which nothing is pending, with what its durable sectors denote.
+pub fn history_begins()
+    ensures { (b n : ℕ) (now : Told) (d : Sectors) (o : Option LayoutValue) → Settled now d → Denotes b d o
+        → Holds (Denotes b) (EditedBy b n) o [] now }
+{}
+
+/// A commit is a call that carries every history on.
+pub fn commit_carries()
+    ensures { (b n : ℕ) (batch : Words) (result : Result Unit CommitErrorValue) (old new : Told) → Commits b n batch result old new
+        → CallCarries b n (call_of batch result) old new }
+{}
+
+/// No calls carry every history on.
+#[tactic(auto, using(crate::specs::Calls::none_carry_lem))]
+pub fn no_calls_carry()
+    ensures { (b n : ℕ) (now : Told) → CallsCarry b n [] now now }
+{}
+
+/// Calls that carry every history on do so with one more behind them, which begins on the disk that they left.
+#[tactic(auto, using(crate::specs::Calls::more_carry_lem))]
+pub fn calls_carry_on()
+    ensures { (b n : ℕ) (calls : List (Call Words)) (call : Call Words) (old mid new : Told) → CallsCarry b n calls old mid
+        → CallCarries b n call mid new → CallsCarry b n (calls ++ call ∷ []) old new }
+{}
+
+/// So do two calls, of which the second begins on the disk that the first left.
+#[tactic(auto, using(crate::specs::Calls::two_carry_lem))]
+pub fn two_calls_carry()
+    ensures { (b n : ℕ) (first second : Call Words) (old mid new : Told) → CallCarries b n first old mid
+        → CallCarries b n second mid new → CallsCarry b n (first ∷ second ∷ []) old new }
+{}
+
+/// A repair is a call that carries every history on, and changes nothing of it.
+pub fn repair_carries()
+    ensures { (b n : ℕ) (result : Result Unit RepairErrorValue) (old new : Told) → Repairs b n result old new
+        → CallCarries b n (record { inside = Unchanged; done = Unchanged }) old new }
+{}
+
+/// A session's batches, as calls, carry every history on.
+pub fn session_carries()
+    ensures { (b n : ℕ) (ws : List Words) (rs : List ReplyValue) (old new : Told) → SessionOf b n ws rs old new
+        → CallsCarry b n (calls_of ws rs) old new }
+{}
+
+/// So do all the calls of a run of commits, repairs and sessions, whatever they answered.
+pub fn run_carries()
+    ensures { (b n : ℕ) (steps : List (Step Words)) (old new : Told) → RunOf b n steps old new
+        → CallsCarry b n (calls_of_all steps) old new }
+{}
+
+/// A run of commits, repairs and sessions, whatever they answered, on a disk on which nothing is pending and that denotes
+/// `o`: each disk that a crash at a moment since may have left denotes `o`, or what the run makes of it where the crash was
+/// inside one of its calls; each disk that a crash may leave at the end denotes what all calls, as they answered, make of it.
+pub fn run_keeps_history()
+    ensures { (b n : ℕ) (steps : List (Step Words)) (old new : Told) (d : Sectors) (o : Option LayoutValue)
+        → RunOf b n steps old new → Settled old d → Denotes b d o → KeepsHistory (Denotes b) (EditedBy b n) o (calls_of_all steps) old new }
+{}
+
+/// A disk that a crash left goes on, as a device on which nothing is pending, with each history that it has.
+pub fn crash_begins_again()
+    ensures { (b n : ℕ) (now : Told) (d : Sectors) (o : Option LayoutValue) (calls : List (Past Words)) → Settled now d
+        → Has (Denotes b) (EditedBy b n) o calls d → Holds (Denotes b) (EditedBy b n) o calls now }
+{}
+
+/// Runs with a crash in or after each: what the last crash leaves denotes what the calls of all runs make of what the first
+/// one began with. Of each run none of its calls, all of them as they answered, or those up to one that was cut short.
+pub fn lives_keep_history()
+    ensures { (b n : ℕ) (runs : List (List (Step Words))) (d e : Sectors) (o : Option LayoutValue) → Denotes b d o
+        → Lives (Commits b n) (Repairs b n) runs d e
+        → (past : List (Past Words)) × IsPastOf runs past × Has (Denotes b) (EditedBy b n) o past e }
+{}
+
+/// After a commit or a repair that is done, the next repair calls one flush, and writes nothing.
+pub fn second_repair_is_idle()
+    ensures { (b n : ℕ) (words : Words) (result : Result Unit RepairErrorValue) (old mid new : Told)
+        → Commits b n words (Ok tt) old mid ⊎ Repairs b n (Ok tt) old mid → Repairs b n result mid new → OnlyFlushes mid new }
+{}
