@@ -15,7 +15,7 @@ use Rattle.pt_recover.specs.Answers.{TellsNothing, IsOutsideDisk}
 use Rattle.pt_recover.specs.Steps.{RestReads, of_chain, of_table, AreCopyFaults}
 use Rattle.pt_recover.specs.Spans.{Adds}
 use Rattle.pt_recover.specs.declared.error.NoTable.{NoTable}
-use Rattle.pt_recover.specs.declared.error.NoTable.TheVariants.{NoCopy}
+use Rattle.pt_recover.specs.declared.error.NoTable.TheVariants.{NoCopy, TooSmall}
 use Rattle.pt_members.specs.declared.layout.Body.TheVariants.{Mbr, Gpt}
 use Rattle.pt_recover.specs.declared.trace.TracedRun.{TracedRun}
 use Rattle.pt_recover.proofs.Traces.{adds_same, adds_both}
@@ -62,6 +62,18 @@ no_copies b d e none room (inl out) = inl out
 no_copies b d (NoCopy e f) none room (inr faults) =
     inr (no_body b d (NoCopy e f) none faults, record { no_mbr = none; room = room; primary = faults.0; backup = faults.1 })
 no_copies b d _ none room (inr faults) = absurd faults
+
+small_body : (b : ℕ) (d : Sectors) → ¬ IsMbrDisk d → ¬ HasRoom b (length d) → Denotes b d None
+small_body b d none small (Mbr records ebrs) is = none is.0.0
+small_body b d none small (Gpt t) is = small is.1
+
+pub too_small : (b : ℕ) (d : Sectors) → ¬ IsMbrDisk d → ¬ HasRoom b (length d) → TellsNothing b d TooSmall
+too_small b d none small = inr (small_body b d none small, (none, small))
+
+pub no_sector : (b : ℕ) (d : Sectors) (n m : ℕ) → n ≡ 0 → n ≡ m → length d ≡ m → TellsNothing b d TooSmall
+no_sector b d n m none e f =
+    let empty : length d ≡ 0 = omega arith in
+    too_small b d (λ is. absurd (omega (arith, is.0))) (λ room. absurd (omega (arith, room)))
 
 whole_there : (b : ℕ) (d : Sectors) (s : ℕ) → BodyReads b d s → (s ≡ 0) ⊎ RestReads b d s
 whole_there b d s (head some at) = inl at

@@ -1,16 +1,16 @@
-use Rattle.std.proofs.Common.{◌≡◌, ℕ, List, Result, length, ap, subst}
+use Rattle.std.proofs.Common.{◌≡◌, ℕ, List, Result, length, ap, subst, inl}
 use Rattle.std.specs.Prelude.{◌⊎◌, ◌<◌, OnOk, IfOk, IfErr}
-use Rattle.std.proofs.lemmas.Result.{on_ok_weaker, IfErr-weaker}
+use Rattle.std.proofs.lemmas.Result.{on_ok_weaker, IfErr-weaker, err_from_is_err_and}
 use Rattle.pt_sector.specs.Calls.{blames_after}
 use Rattle.pt_sector.specs.Sectors.{Sectors}
 use Rattle.pt_sector.specs.Device.{Told}
 use Rattle.pt_recover.specs.Answers.{IsOutsideDisk, TellsNothing, fault_in, FailedInDisk}
 use Rattle.pt_recover.specs.Steps.{RestReads}
-use Rattle.pt_recover.specs.Denotes.{BodyIs, BodyReads}
+use Rattle.pt_recover.specs.Denotes.{BodyIs, BodyReads, head}
 use Rattle.pt_recover.specs.Spans.{Adds}
 use Rattle.pt_recover.specs.declared.error.NoTable.{NoTable}
 use Rattle.pt_recover.specs.declared.trace.TracedRun.{TracedRun}
-use Rattle.pt_recover.proofs.Bodies.{some_sector, body_read, body_read_or}
+use Rattle.pt_recover.proofs.Bodies.{some_sector, body_read, body_read_or, no_sector}
 use Rattle.pt_recover.proofs.Failed.{body_failed}
 use Rattle.pt_recover.proofs.body.read_body.Goals as goal
 
@@ -122,3 +122,49 @@ pub returns-in-None-clause-err : goal.returns-in-None-clause-err
 returns-in-None-clause-err g c = λ tells.
     subst (λ (t : Told). IfErr c.read_gpt.result (λ e. TellsNothing g.row.B t.seen e)) (c.in_ok-mbr.ensures.same.same tells)
     (c.read_gpt.ensures.err tells)
+
+pub returns-in_err-mbr-clause-same : goal.returns-in_err-mbr-clause-same
+returns-in_err-mbr-clause-same g c = c.in_err-mbr.ensures.same
+
+pub returns-in_err-mbr-clause-blames : goal.returns-in_err-mbr-clause-blames
+returns-in_err-mbr-clause-blames g c =
+    let p = err_from_is_err_and c.from_residual-in_err-mbr.result c.from_residual-in_err-mbr.ensures.1 in
+    rw (p.1, p.2) c.in_err-mbr.ensures.blames
+
+pub returns-in_err-mbr-clause-place : goal.returns-in_err-mbr-clause-place
+returns-in_err-mbr-clause-place g c = λ tells.
+    let p = err_from_is_err_and c.from_residual-in_err-mbr.result c.from_residual-in_err-mbr.ensures.1 in
+    rw (p.1, p.2) (head (some_sector c.sectors.result (g.D.Disk.count c.args.disk.now)
+    (length (g.D.Disk.told c.args.disk.now).seen) c.if-sectors-eq0.false c.sectors.ensures
+    (g.met.D.Disk.sized c.args.disk.now tells)) c.in_err-mbr.ensures.place)
+
+pub returns-in_err-mbr-clause-err : goal.returns-in_err-mbr-clause-err
+returns-in_err-mbr-clause-err g c = λ tells.
+    let p = err_from_is_err_and c.from_residual-in_err-mbr.result c.from_residual-in_err-mbr.ensures.1 in
+    rw (p.1, p.2) (inl tt)
+
+pub returns-in_err-mbr-clause-traced_err : goal.returns-in_err-mbr-clause-traced_err
+returns-in_err-mbr-clause-traced_err g c = λ tells.
+    let p = err_from_is_err_and c.from_residual-in_err-mbr.result c.from_residual-in_err-mbr.ensures.1 in
+    rw (p.1, p.2) (inl tt)
+
+pub returns-in_err-add_one-clause-place : goal.returns-in_err-add_one-clause-place
+returns-in_err-add_one-clause-place g c = λ tells.
+    let p = err_from_is_err_and c.from_residual.result c.from_residual.ensures.1 in
+    rw (p.1, p.2) tt
+
+pub returns-in_err-add_one-clause-err : goal.returns-in_err-add_one-clause-err
+returns-in_err-add_one-clause-err g c = λ tells.
+    let p = err_from_is_err_and c.from_residual.result c.from_residual.ensures.1 in
+    rw (p.1, p.2) (inl tt)
+
+pub returns-in_err-add_one-clause-traced_err : goal.returns-in_err-add_one-clause-traced_err
+returns-in_err-add_one-clause-traced_err g c = λ tells.
+    let p = err_from_is_err_and c.from_residual.result c.from_residual.ensures.1 in
+    rw (p.1, p.2) (inl tt)
+
+pub returns-then-sectors-eq0-clause-err : goal.returns-then-sectors-eq0-clause-err
+returns-then-sectors-eq0-clause-err g c = λ tells.
+    no_sector g.row.B (g.D.Disk.told c.args.disk.now).seen c.sectors.result (g.D.Disk.count c.args.disk.now)
+    c.if-sectors-eq0.true c.sectors.ensures
+    (g.met.D.Disk.sized c.args.disk.now tells)

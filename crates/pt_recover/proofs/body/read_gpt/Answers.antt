@@ -1,8 +1,8 @@
 use Rattle.std.proofs.lemmas.Result.{err_from_is_err_and}
-use Rattle.std.proofs.Common.{length, refl}
+use Rattle.std.proofs.Common.{length, refl, subst, ℕ, ◌∙◌, sym}
 use Rattle.pt_gpt.specs.Array.{HasRoom}
 use Rattle.pt_recover.specs.Answers.{IsOutsideDisk}
-use Rattle.pt_recover.proofs.Bodies.{enough, rest_gpt, rest_gpt_or, no_copies}
+use Rattle.pt_recover.proofs.Bodies.{enough, rest_gpt, rest_gpt_or, no_copies, too_small}
 use Rattle.pt_recover.proofs.Failed.{rest_of_table}
 use Rattle.pt_recover.proofs.body.read_gpt.Goals as goal
 
@@ -50,3 +50,27 @@ returns-in_err-table-clause-place g c = λ tells.
     (enough g.row.B c.sectors-sectors.result (g.D.Disk.count c.args.disk.now)
     (length (g.D.Disk.told c.args.disk.now).seen) room c.sectors-sectors.ensures (g.met.D.Disk.sized c.args.disk.now tells))
     (c.in_err-table.ensures.place tells))
+
+pub returns-in_err-table-clause-same : goal.returns-in_err-table-clause-same
+returns-in_err-table-clause-same g c = c.in_err-table.ensures.same
+
+pub returns-in_err-table-clause-blames : goal.returns-in_err-table-clause-blames
+returns-in_err-table-clause-blames g c =
+    let p = err_from_is_err_and c.from_residual.result c.from_residual.ensures.1 in
+    rw (p.1, p.2) c.in_err-table.ensures.blames
+
+pub returns-clause-same : goal.returns-clause-same
+returns-clause-same g c = c.in_ok-table.ensures.same
+
+pub returns-clause-blames : goal.returns-clause-blames
+returns-clause-blames g c = c.in_ok-table.ensures.blames
+
+pub read_either-requires-clause-room : goal.read_either-requires-clause-room
+read_either-requires-clause-room g c = subst (λ (n : ℕ). HasRoom g.row.B n) c.sectors-sectors.ensures (c.if-not-has_room.ensures.0 refl)
+
+pub returns-then-not-has_room-clause-err : goal.returns-then-not-has_room-clause-err
+returns-then-not-has_room-clause-err g c = λ tells.
+    too_small g.row.B (g.D.Disk.told c.args.disk.now).seen (c.requires.no_mbr tells) (λ room.
+    let has : HasRoom g.row.B c.sectors-sectors.result =
+    subst (λ (n : ℕ). HasRoom g.row.B n) (g.met.D.Disk.sized c.args.disk.now tells ∙ sym c.sectors-sectors.ensures) room in
+    let wrong = c.if-not-has_room.ensures.1 has in absurd cc)

@@ -21,3 +21,25 @@ returns-in_err-chain-clause-place g c = λ tells.
     let p = err_from_is_err_and c.from_residual.result c.from_residual.ensures.1 in
     rw (p.1, p.2) (rest_of_chain g.row.B (g.D.Disk.told c.args.disk.now).seen c.args.mbr.now.records c.in_err-chain.field-0.0
     (c.requires.is_mbr tells) (c.in_err-chain.ensures.place tells))
+
+pub returns-in_err-chain-clause-same : goal.returns-in_err-chain-clause-same
+returns-in_err-chain-clause-same g c = c.in_err-chain.ensures.same
+
+pub returns-in_err-chain-clause-blames : goal.returns-in_err-chain-clause-blames
+returns-in_err-chain-clause-blames g c =
+    let p = err_from_is_err_and c.from_residual.result c.from_residual.ensures.1 in
+    rw (p.1, p.2) c.in_err-chain.ensures.blames
+
+pub returns-in_err-chain-clause-err : goal.returns-in_err-chain-clause-err
+returns-in_err-chain-clause-err g c = λ tells.
+    let p = err_from_is_err_and c.from_residual.result c.from_residual.ensures.1 in
+    rw (p.1, p.2) (c.in_err-chain.ensures.err tells)
+
+pub returns-clause-same : goal.returns-clause-same
+returns-clause-same g c = c.in_ok-chain.ensures.same
+
+pub returns-clause-blames : goal.returns-clause-blames
+returns-clause-blames g c = c.in_ok-chain.ensures.blames
+
+pub returns-clause-ok : goal.returns-clause-ok
+returns-clause-ok g c = λ tells. (c.requires.is_mbr tells, c.in_ok-chain.ensures.ok tells)

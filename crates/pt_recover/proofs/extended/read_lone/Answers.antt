@@ -1,16 +1,18 @@
+use Rattle.pt_mbr.specs.declared.record.Record.{Record}
+use Rattle.pt_recover.proofs.Failed.{wider}
 use Rattle.std.specs.Prelude.{◌⊎◌}
-use Rattle.std.proofs.Common.{sym, subst, ℕ}
-use Rattle.std.proofs.lemmas.Result.{IfErr-weaker}
-use Rattle.pt_sector.specs.Sectors.{Sectors}
-use Rattle.pt_mbr.specs.Chain.{lba, span_of, ChainReads}
+use Rattle.std.proofs.Common.{sym, subst, ℕ, List}
+use Rattle.std.proofs.lemmas.Result.{IfErr-weaker, IfOk-weaker, on_ok_weaker}
+use Rattle.pt_sector.specs.Sectors.{Sectors, Span}
+use Rattle.pt_mbr.specs.Chain.{lba, span_of, ChainReads, Chain}
 use Rattle.pt_mbr.specs.declared.chain.ChainError.TheVariants.{OutsideExtended}
 use Rattle.pt_mbr.specs.Extended.{extended_of}
-use Rattle.pt_recover.specs.Mbr.{ExtendedReads}
+use Rattle.pt_recover.specs.Mbr.{ExtendedReads, HasChain}
 use Rattle.pt_recover.specs.Spans.{Adds}
 use Rattle.pt_recover.specs.Steps.{IsChainFault}
-use Rattle.pt_recover.specs.Answers.{TellsNothing, IsOutsideDisk}
+use Rattle.pt_recover.specs.Answers.{TellsNothing, IsOutsideDisk, FailedInDisk}
 use Rattle.pt_recover.specs.declared.error.NoTable.TheVariants as no
-use Rattle.pt_recover.proofs.Nothing.{two_extended, no_extent, bad_chain, lone_read_or}
+use Rattle.pt_recover.proofs.Nothing.{two_extended, no_extent, bad_chain, lone_read_or, lone_is, lone_read}
 use Rattle.pt_recover.proofs.extended.read_lone.Goals as goal
 
 pub returns-in-More-clause-err : goal.returns-in-More-clause-err
@@ -40,3 +42,33 @@ returns-clause-traced_err g c = λ tells.
     (λ e told. lone_read_or (IsOutsideDisk e) d c.args.mbr.now.records c.in-One.record
     (span_of c.in-Some.extent) c.args.trace.now c.read_extended.new.trace c.in-One.ensures c.in-Some.ensures.some told)
     (c.read_extended.ensures.traced_err tells)
+
+pub returns-clause-same : goal.returns-clause-same
+returns-clause-same g c = c.read_extended.ensures.same
+
+pub returns-clause-blames : goal.returns-clause-blames
+returns-clause-blames g c = c.read_extended.ensures.blames
+
+pub returns-clause-ok : goal.returns-clause-ok
+returns-clause-ok g c = λ tells.
+    let d : Sectors = (g.D.Disk.told c.args.disk.now).seen in
+    IfOk-weaker c.read_extended.result (λ list. Chain d (span_of c.in-Some.extent) list)
+    (λ list. HasChain d (extended_of c.args.mbr.now.records) list)
+    (λ list is. lone_is d c.args.mbr.now.records c.in-One.record (span_of c.in-Some.extent) list c.in-One.ensures c.in-Some.ensures.some is)
+    (c.read_extended.ensures.ok tells)
+
+pub returns-clause-traced : goal.returns-clause-traced
+returns-clause-traced g c = λ tells.
+    on_ok_weaker c.read_extended.result (lone_read (g.D.Disk.told c.args.disk.now).seen c.args.mbr.now.records
+    c.in-One.record (span_of c.in-Some.extent)
+    c.args.trace.now c.read_extended.new.trace c.in-One.ensures c.in-Some.ensures.some) (c.read_extended.ensures.traced tells)
+
+pub returns-clause-place : goal.returns-clause-place
+returns-clause-place g c = λ tells.
+    IfErr-weaker c.read_extended.result (FailedInDisk (ChainReads (g.D.Disk.told c.args.disk.now).seen (span_of c.in-Some.extent)))
+    (FailedInDisk (ExtendedReads (g.D.Disk.told c.args.disk.now).seen (extended_of c.args.mbr.now.records)))
+    (λ e failed. wider (ChainReads (g.D.Disk.told c.args.disk.now).seen (span_of c.in-Some.extent))
+    (ExtendedReads (g.D.Disk.told c.args.disk.now).seen (extended_of c.args.mbr.now.records)) e (λ s reads.
+    subst (λ (rs : List Record). ExtendedReads (g.D.Disk.told c.args.disk.now).seen rs s) (sym c.in-One.ensures)
+    (subst (λ (y : Span). ChainReads (g.D.Disk.told c.args.disk.now).seen y s) c.in-Some.ensures.some reads)) failed)
+    (c.read_extended.ensures.place tells)

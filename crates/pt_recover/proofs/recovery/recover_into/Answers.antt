@@ -89,3 +89,39 @@ pub returns-in_err-labels-clause-traced_err : goal.returns-in_err-labels-clause-
 returns-in_err-labels-clause-traced_err g c = λ tells.
     let p = err_from_is_err_and c.from_residual-in_err-labels.result c.from_residual-in_err-labels.ensures.1 in
     rw (p.1, p.2) (inl (told_outside c.in_err-labels.field-0.0))
+
+pub returns-in_err-body-clause-same : goal.returns-in_err-body-clause-same
+returns-in_err-body-clause-same g c = c.in_err-body.ensures.same
+
+pub returns-in_err-body-clause-blames : goal.returns-in_err-body-clause-blames
+returns-in_err-body-clause-blames g c =
+    let p = err_from_is_err_and c.from_residual.result c.from_residual.ensures.1 in
+    rw (p.1, p.2) c.in_err-body.ensures.blames
+
+pub returns-in_err-body-clause-err : goal.returns-in_err-body-clause-err
+returns-in_err-body-clause-err g c = λ tells.
+    let p = err_from_is_err_and c.from_residual.result c.from_residual.ensures.1 in
+    rw (p.1, p.2) (c.in_err-body.ensures.err tells)
+
+pub returns-in_err-places-clause-same : goal.returns-in_err-places-clause-same
+returns-in_err-places-clause-same g c = c.in_ok-body.ensures.same
+
+pub returns-in_err-places-clause-blames : goal.returns-in_err-places-clause-blames
+returns-in_err-places-clause-blames g c =
+    let p = err_from_is_err_and c.from_residual-in_err-places.result c.from_residual-in_err-places.ensures.1 in
+    rw (p.1, p.2) c.in_ok-body.ensures.blames
+
+pub returns-in_err-places-clause-place : goal.returns-in_err-places-clause-place
+returns-in_err-places-clause-place g c = λ tells.
+    let p = err_from_is_err_and c.from_residual-in_err-places.result c.from_residual-in_err-places.ensures.1 in
+    rw (p.1, p.2) tt
+
+pub returns-in_err-places-clause-err : goal.returns-in_err-places-clause-err
+returns-in_err-places-clause-err g c = λ tells.
+    let p = err_from_is_err_and c.from_residual-in_err-places.result c.from_residual-in_err-places.ensures.1 in
+    rw (p.1, p.2) (inl tt)
+
+pub returns-in_err-places-clause-traced_err : goal.returns-in_err-places-clause-traced_err
+returns-in_err-places-clause-traced_err g c = λ tells.
+    let p = err_from_is_err_and c.from_residual-in_err-places.result c.from_residual-in_err-places.ensures.1 in
+    rw (p.1, p.2) (inl tt)

@@ -5,15 +5,15 @@ use Rattle.pt_sector.specs.Calls.{with_fault}
 use Rattle.pt_sector.specs.declared.disk.Fault.{Fault}
 use Rattle.pt_sector.specs.declared.reading.Failure.{Failure}
 use Rattle.pt_sector.specs.declared.reading.Failure.TheVariants as failure
-use Rattle.std.proofs.Common.{◌≡◌, ◌∙◌, Option, Some, None, refl, sym, ap, subst, inr}
+use Rattle.std.proofs.Common.{◌≡◌, ◌∙◌, List, Option, Some, None, refl, sym, ap, subst, inl, inr}
 use Rattle.pt_sector.specs.Sectors.{Sectors}
 use Rattle.pt_sector.specs.Device.{Told}
-use Rattle.pt_gpt.specs.Copy.{Copy, SideReads}
-use Rattle.pt_gpt.specs.declared.table.Side.TheVariants.{Backup}
+use Rattle.pt_gpt.specs.Copy.{Copy, IsCopyFault, SideReads}
+use Rattle.pt_gpt.specs.declared.table.Side.TheVariants.{Primary, Backup}
 use Rattle.pt_recover.specs.Gpt.{TableReads}
 use Rattle.pt_recover.specs.Spans.{Adds}
-use Rattle.pt_recover.specs.Answers.{fault_in, told_failure, FailedInDisk}
-use Rattle.pt_recover.proofs.Sides.{primary_read, none_there, inside_adds, both_read}
+use Rattle.pt_recover.specs.Answers.{IsOutsideDisk, fault_in, told_failure, FailedInDisk}
+use Rattle.pt_recover.proofs.Sides.{primary_read, none_there, inside_fault, inside_adds, both_read}
 use Rattle.pt_recover.proofs.Failed.{primary_failed, backup_failed, inside_of}
 use Rattle.pt_recover.proofs.tables.read_either.Goals as goal
 
@@ -27,6 +27,10 @@ same_fault (copy.Device at) failure.Memory same = absurd cc
 same_fault copy.Memory (failure.Device y) same = absurd cc
 same_fault copy.Memory failure.Memory same = refl
 same_fault _ f same = absurd cc
+
+outside : (f : Failure) → IsOutsideDisk (told_failure f)
+outside (failure.Device y) = tt
+outside failure.Memory = tt
 
 pub returns-in-Ok-clause-traced : goal.returns-in-Ok-clause-traced
 returns-in-Ok-clause-traced g c = λ tells.
@@ -101,3 +105,54 @@ returns-in-Ok-traced_copy-clause-blames g c =
     c.in-Ok-traced_copy.ensures.blames ∙ c.in-Err.ensures.blames
     ∙ ap (λ (o : Option Fault). with_fault (g.D.Disk.faults c.args.disk.now) o)
     (no_fault c.in-Err.e (sym c.failure.ensures ∙ c.in-None.is))
+
+pub returns-in-Some-failure-clause-blames : goal.returns-in-Some-failure-clause-blames
+returns-in-Some-failure-clause-blames g c =
+    c.in-Err-traced_copy.ensures.blames
+    ∙ ap (λ (fs : List Fault). with_fault fs (fault_in_copy c.in-Err-traced_copy.e)) (c.in-Err.ensures.blames
+    ∙ ap (λ (o : Option Fault). with_fault (g.D.Disk.faults c.args.disk.now) o)
+    (no_fault c.in-Err.e (sym c.failure.ensures ∙ c.in-None.is)))
+    ∙ ap (λ (o : Option Fault). with_fault (g.D.Disk.faults c.args.disk.now) o)
+    (same_fault c.in-Err-traced_copy.e c.in-Some-failure.failure (sym c.failure-2.ensures ∙ c.in-Some-failure.is)
+    ∙ ap fault_in (sym c.from-in-Some-failure.ensures))
+
+pub returns-in-None-failure-clause-blames : goal.returns-in-None-failure-clause-blames
+returns-in-None-failure-clause-blames g c =
+    c.in-Err-traced_copy.ensures.blames
+    ∙ ap (λ (o : Option Fault). with_fault (g.D.Disk.faults c.traced_copy.new.disk) o)
+    (no_fault c.in-Err-traced_copy.e (sym c.failure-2.ensures ∙ c.in-None-failure.is))
+    ∙ c.in-Err.ensures.blames
+    ∙ ap (λ (o : Option Fault). with_fault (g.D.Disk.faults c.args.disk.now) o)
+    (no_fault c.in-Err.e (sym c.failure.ensures ∙ c.in-None.is))
+
+pub traced_copy-requires-2-clause-room : goal.traced_copy-requires-2-clause-room
+traced_copy-requires-2-clause-room g c = rw c.in-Err.ensures.same.same_count c.requires.room
+
+pub returns-in-Some-clause-same : goal.returns-in-Some-clause-same
+returns-in-Some-clause-same g c = c.in-Err.ensures.same
+
+pub returns-in-Some-clause-err : goal.returns-in-Some-clause-err
+returns-in-Some-clause-err g c = λ tells. inl (subst IsOutsideDisk (sym c.from.ensures) (outside c.in-Some.failure))
+
+pub returns-in-Some-clause-traced_err : goal.returns-in-Some-clause-traced_err
+returns-in-Some-clause-traced_err g c = λ tells. inl (subst IsOutsideDisk (sym c.from.ensures) (outside c.in-Some.failure))
+
+pub returns-in-Some-failure-clause-err : goal.returns-in-Some-failure-clause-err
+returns-in-Some-failure-clause-err g c = λ tells.
+    inl (subst IsOutsideDisk (sym c.from-in-Some-failure.ensures) (outside c.in-Some-failure.failure))
+
+pub returns-in-Some-failure-clause-traced_err : goal.returns-in-Some-failure-clause-traced_err
+returns-in-Some-failure-clause-traced_err g c = λ tells.
+    inl (subst IsOutsideDisk (sym c.from-in-Some-failure.ensures) (outside c.in-Some-failure.failure))
+
+pub returns-in-Ok-clause-ok : goal.returns-in-Ok-clause-ok
+returns-in-Ok-clause-ok g c = λ tells. inl (c.in-Ok.ensures.ok tells)
+
+pub returns-in-None-failure-clause-err : goal.returns-in-None-failure-clause-err
+returns-in-None-failure-clause-err g c = λ tells. inr (
+  inside_fault g.row.B (g.D.Disk.told c.args.disk.now).seen Primary c.in-Err.e (c.in-Err.ensures.err tells)
+      (inside_of c.in-Err.e (sym c.failure.ensures ∙ c.in-None.is)),
+  subst (λ (t : Told). IsCopyFault g.row.B t.seen Backup c.in-Err-traced_copy.e) (c.in-Err.ensures.same.same tells)
+      (inside_fault g.row.B (g.D.Disk.told c.traced_copy.new.disk).seen Backup c.in-Err-traced_copy.e
+      (c.in-Err-traced_copy.ensures.err tells) (inside_of c.in-Err-traced_copy.e (sym c.failure-2.ensures ∙ c.in-None-failure.is))),
+)

@@ -1,12 +1,12 @@
 use Rattle.std.proofs.lemmas.Result.{err_from_is_err_and}
-use Rattle.std.proofs.Common.{◌∙◌, List, sym, ap, subst, inr}
+use Rattle.std.proofs.Common.{◌≡◌, ◌∙◌, List, sym, ap, subst, inl, inr}
 use Rattle.pt_sector.specs.Calls.{with_fault}
 use Rattle.pt_sector.specs.Device.{Told}
 use Rattle.pt_sector.specs.declared.disk.Fault.{Fault}
 use Rattle.pt_gpt.specs.Answers.{TellsFault}
 use Rattle.pt_gpt.specs.Errors.{FailedInCopy, fault_in}
-use Rattle.pt_gpt.specs.Copy.{IsHead, SideReads}
-use Rattle.pt_gpt.proofs.Heads.{fault_of_head}
+use Rattle.pt_gpt.specs.Copy.{header_place, IsHead, SideReads}
+use Rattle.pt_gpt.proofs.Heads.{fault_of_head, failed_in}
 use Rattle.pt_recover.proofs.Sides.{head_read, array_read}
 use Rattle.pt_recover.proofs.tables.traced_copy.Goals as goal
 
@@ -96,3 +96,49 @@ read_table-requires-clause-room g c = rw c.in_ok-header.ensures.same.same_count 
 
 pub read_table-requires-clause-placed : goal.read_table-requires-clause-placed
 read_table-requires-clause-placed g c = rw c.in_ok-header.ensures.same.same_count c.in_ok-header.ensures.placed
+
+pub returns-in_err-header-clause-place : goal.returns-in_err-header-clause-place
+returns-in_err-header-clause-place g c = λ tells.
+    let p = err_from_is_err_and c.from_residual-in_err-header.result c.from_residual-in_err-header.ensures.1 in
+    rw (p.1, p.2) (failed_in (λ s. s ≡ header_place c.args.side (g.D.Disk.count c.args.disk.now))
+    (SideReads g.row.B (g.D.Disk.told c.args.disk.now).seen c.args.side) c.in_err-header.field-0.0
+    (λ s is. inl (is ∙ ap (header_place c.args.side) (sym (g.met.D.Disk.sized c.args.disk.now tells)))) c.in_err-header.ensures.place)
+
+pub returns-in_err-trace_array-clause-same : goal.returns-in_err-trace_array-clause-same
+returns-in_err-trace_array-clause-same g c = c.in_ok-header.ensures.same
+
+pub trace_array-requires-clause-room : goal.trace_array-requires-clause-room
+trace_array-requires-clause-room g c = rw c.sectors-sectors.ensures c.requires.room
+
+pub trace_array-requires-clause-placed : goal.trace_array-requires-clause-placed
+trace_array-requires-clause-placed g c = rw c.sectors-sectors.ensures c.in_ok-header.ensures.placed
+
+pub returns-in_err-add_one-clause-place : goal.returns-in_err-add_one-clause-place
+returns-in_err-add_one-clause-place g c = λ tells.
+    let p = err_from_is_err_and c.from_residual.result c.from_residual.ensures.1 in
+    rw (p.1, p.2) tt
+
+pub returns-in_err-add_one-clause-err : goal.returns-in_err-add_one-clause-err
+returns-in_err-add_one-clause-err g c = λ tells.
+    let p = err_from_is_err_and c.from_residual.result c.from_residual.ensures.1 in
+    rw (p.1, p.2) (inl tt)
+
+pub returns-in_err-add_one-clause-traced_err : goal.returns-in_err-add_one-clause-traced_err
+returns-in_err-add_one-clause-traced_err g c = λ tells.
+    let p = err_from_is_err_and c.from_residual.result c.from_residual.ensures.1 in
+    rw (p.1, p.2) (inl tt)
+
+pub returns-in_err-trace_array-clause-place : goal.returns-in_err-trace_array-clause-place
+returns-in_err-trace_array-clause-place g c = λ tells.
+    let p = err_from_is_err_and c.from_residual-in_err-trace_array.result c.from_residual-in_err-trace_array.ensures.1 in
+    rw (p.1, p.2) tt
+
+pub returns-in_err-trace_array-clause-err : goal.returns-in_err-trace_array-clause-err
+returns-in_err-trace_array-clause-err g c = λ tells.
+    let p = err_from_is_err_and c.from_residual-in_err-trace_array.result c.from_residual-in_err-trace_array.ensures.1 in
+    rw (p.1, p.2) (inl tt)
+
+pub returns-in_err-trace_array-clause-traced_err : goal.returns-in_err-trace_array-clause-traced_err
+returns-in_err-trace_array-clause-traced_err g c = λ tells.
+    let p = err_from_is_err_and c.from_residual-in_err-trace_array.result c.from_residual-in_err-trace_array.ensures.1 in
+    rw (p.1, p.2) (inl tt)
