@@ -19,11 +19,12 @@ pub enum Fault {
 
 impl fmt::Display for Fault {
     fn fmt<W: fmt::Write>(&self, f: &mut fmt::Formatter<W>) -> fmt::Result {
-        match self {
-            Fault::Read(at) => write!(f, "sector {} can't be read", at.0),
-            Fault::Write(at) => write!(f, "sector {} can't be written", at.0),
-            Fault::Flush => f.write_str("the disk can't be flushed"),
-        }
+        let (at, failed) = match self {
+            Fault::Read(at) => (at, " can't be read"),
+            Fault::Write(at) => (at, " can't be written"),
+            Fault::Flush => return f.write_str("the disk can't be flushed"),
+        };
+        write!(f, "sector {}{failed}", at.0)
     }
 }
 

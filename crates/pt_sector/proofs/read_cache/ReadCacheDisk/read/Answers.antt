@@ -1,4 +1,5 @@
-use Rattle.std.proofs.Common.{◌≡◌, ◌∙◌, length, sym, ap, arith}
+use Rattle.pt_sector.specs.Calls.{no_faults}
+use Rattle.std.proofs.Common.{◌≡◌, ◌∙◌, length, sym, ap, arith, refl}
 use Rattle.pt_sector.specs.Sectors.{Sectors, sector}
 use Rattle.pt_sector.specs.laws.Written.{sector-written}
 use Rattle.pt_sector.specs.Puts.{puts_as_writes}
@@ -14,3 +15,34 @@ returns-then-get-clause-bytes g c = λ tells.
     ∙ sector-written (puts_as_writes c.args.self.now.kept.puts.items) seen c.args.lba.0 (omega (arith, sized, c.requires))
     ∙ c.if-get.ensures (sector seen c.args.lba.0) in
     sym kept
+
+pub returns-then-get-clause-same : goal.returns-then-get-clause-same
+returns-then-get-clause-same g c = record {
+  same_count = refl;
+  same_name = refl;
+  through = g.met.D.Disk.reads_same c.args.self.now.disk.now;
+  same = λ tells. refl;
+  came = no_faults _ _ refl;
+}
+
+pub returns-in-Ok-clause-same : goal.returns-in-Ok-clause-same
+returns-in-Ok-clause-same g c =
+    let below = c.in-Ok.ensures in
+    record {
+      same_count = below.same.same_count;
+      same_name = refl;
+      through = below.same;
+      same = λ tells. below.same.same tells;
+      came = below.same.came;
+    }
+
+pub returns-in-Err-clause-same : goal.returns-in-Err-clause-same
+returns-in-Err-clause-same g c =
+    let below = c.in-Err.ensures in
+    record {
+      same_count = below.same.same_count;
+      same_name = refl;
+      through = below.same;
+      same = λ tells. below.same.same tells;
+      came = below.same.came;
+    }
