@@ -1,0 +1,20 @@
+use Rattle.pt_members.proofs.LabelPlaces.{placed_before, placed_more, placed_end}
+use Rattle.pt_members.specs.declared.layout.Slice.{Slice}
+use Rattle.pt_members.specs.declared.member.Member.{Member}
+use Rattle.pt_members.specs.Members.{slots}
+use Rattle.std.specs.Prelude.{option_to_list}
+use Rattle.std.proofs.Common.{◌∙◌, ◌++◌, List, Option, ap, arith}
+use Rattle.pt_members.proofs.slices.label_places.Goals as goal
+
+pub loop-k-preserved : goal.loop-k-preserved
+loop-k-preserved g c =
+    let os : List (Option Member) = slots g.row.B c.args.body.now in
+    placed_more c.args.sectors c.loop-k.k os c.push_place.new.places.items (omega (arith, c.slot_count-k-end.ensures))
+    (c.in_ok-push_place.ensures ∙ ap (λ (l : List Slice). l ++ option_to_list c.placed_at.result) c.loop-k.invariant
+    ∙ ap (λ (l : List Slice). placed_before c.args.sectors os c.loop-k.k ++ l) c.placed_at.ensures.value)
+
+pub placed_at-requires : goal.placed_at-requires
+placed_at-requires g c = omega (arith, c.slot_count-k-end.ensures)
+
+pub returns : goal.returns
+returns g c = c.loop-k.invariant ∙ placed_end g.row.B c.args.sectors c.loop-k.k c.args.body.now (omega (arith, c.slot_count-k-end.ensures))
