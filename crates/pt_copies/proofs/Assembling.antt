@@ -34,6 +34,20 @@ array_on n es at k before ws w so_far lba bytes =
     (append_assoc before (array_writes n es at k) ((at + k, array_sector n es k) ∷ [])
     ∙ ap (λ (xs : Writes). before ++ xs) (sym (array_more n es at k)))
 
+-- the three phases of the primary copy
+pub are_primary : (b n : ℕ) (t : Table) (array : Writes) (header : List ℕ) (before one two now : List Writes)
+    → IsWrittenHeader b (header_of b n t Primary) header → AllFit t.entries → one ≡ before ++ closing b ∷ []
+    → two ≡ one ++ array ∷ [] → now ≡ two ++ one_write 1 header ∷ [] → ArePrimary b n t array before now
+are_primary b n t array header before one two now is fit one_is two_is now_is = record {
+  header = header;
+  is_header = is;
+  fit = fit;
+  is = now_is
+      ∙ rw (two_is, one_is)
+      (append_assoc (before ++ closing b ∷ []) (array ∷ []) (one_write 1 header ∷ [])
+      ∙ append_assoc before (closing b ∷ []) (array ∷ one_write 1 header ∷ []));
+}
+
 -- the array and then the header
 pub adds_backup : {b : _} (n : ℕ) (t : Table) (before : Writes) (ws : List (Write b)) (w : Write b)
     → writes_of ws ≡ before ++ array_phase b n t Backup → w.lba.0 ≡ n - 1 → IsWrittenHeader b (header_of b n t Backup) w.bytes

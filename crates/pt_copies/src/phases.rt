@@ -1,10 +1,12 @@
 //! Plans that write both copies of a table, and labels with them.
 
-ghost use Rattle.std.specs.Prelude.{◌≡◌, ◌<◌, ◌≤◌, ◌++◌, length, All, IfOk, OnOk};
+ghost use Rattle.std.specs.Prelude.{◌≡◌, ◌<◌, ◌≤◌, ◌∷◌, ◌++◌, [], length, All, IfOk, OnOk};
 ghost use Rattle.pt_sector.specs.Sectors.{IsSectorSize};
 ghost use Rattle.pt_apply.specs.Plans.{writes_of, phases_of, phases_in, InRange, PhaseInRange, writes_in};
 ghost use Rattle.pt_gpt.specs.Array.{HasRoom};
+ghost use Rattle.pt_gpt.specs.declared.table.Side.TheVariants.{Primary};
 ghost use Rattle.pt_cases.specs.Cases.{backup_first_phases, primary_first_phases, from_mbr_phases, primary_and_labels};
+ghost use Rattle.pt_cases.specs.Copies.{array_phase, one_write};
 ghost use Rattle.pt_cases.specs.Few.{copies_bound};
 ghost use Rattle.pt_copies.specs.Added.{ArePrimary};
 ghost use Rattle.pt_copies.specs.Written.{last_of, WroteCopies};
@@ -18,6 +20,21 @@ use std::alloc::{AllocError, Global};
 /// The first sector of the primary array.
 const PRIMARY_ARRAY: u64 = 2;
 
+/// The primary array.
+fn primary_array<const B: usize>(
+    alloc: Global,
+    sectors: u64,
+    table: &Table,
+) -> Result<Vec<Write<B>>, AllocError>
+    requires size { IsSectorSize B }
+    requires room { HasRoom B sectors }
+    ensures { IfOk result (λ ws. writes_of ws.items ≡ array_phase B sectors table.now Primary) }
+{
+    let mut writes = Vec::new(alloc);
+    push_array(&mut writes, table.entries.as_slice(), PRIMARY_ARRAY)?;
+    Ok(writes)
+}
+
 /// The primary array, and labels after it.
 fn array_and_labels<const B: usize>(
     alloc: Global,
@@ -29,10 +46,33 @@ fn array_and_labels<const B: usize>(
     requires room { HasRoom B sectors }
     ensures { IfOk result (λ ws. writes_of ws.items ≡ primary_and_labels B sectors table.now (writes_of labels.now)) }
 {
-    let mut writes = Vec::new(alloc);
-    push_array(&mut writes, table.entries.as_slice(), PRIMARY_ARRAY)?;
+    let mut writes = primary_array(alloc, sectors, table)?;
     writes.extend_from_slice(labels)?;
     Ok(writes)
+}
+
+/// Adds a phase.
+fn push_phase<const B: usize>(
+    phases: &mut Vec<Vec<Write<B>>>,
+    phase: Vec<Write<B>>,
+) -> Result<(), AllocError>
+    ensures { OnOk result (phases_in phases.new.items ≡ phases_in phases.old.items ++ writes_of phase.entry.items ∷ []) }
+{
+    phases.push(phase)?;
+    Ok(())
+}
+
+/// Adds a phase of one write.
+fn push_single<const B: usize>(
+    phases: &mut Vec<Vec<Write<B>>>,
+    alloc: Global,
+    lba: u64,
+    bytes: &Sector<B>,
+) -> Result<(), AllocError>
+    requires { IsSectorSize B }
+    ensures { OnOk result (phases_in phases.new.items ≡ phases_in phases.old.items ++ one_write lba bytes.now ∷ []) }
+{
+    push_phase(phases, single(alloc, lba, bytes)?)
 }
 
 /// Adds the phases of the primary copy: its header zeroed, a phase that has its array, and its header.
@@ -49,9 +89,14 @@ fn push_primary<const B: usize>(
     ensures { OnOk result (ArePrimary B sectors table.now (writes_of array.entry.items) (phases_in phases.old.items)
         (phases_in phases.new.items)) }
 {
-    phases.push(single(alloc, 1, &[0; B])?)?;
-    phases.push(array)?;
-    phases.push(single(alloc, 1, &header_sector(sectors, table, Side::Primary))?)?;
+    push_single(phases, alloc, 1, &[0; B])?;
+    push_phase(phases, array)?;
+    push_single(
+        phases,
+        alloc,
+        1,
+        &header_sector(sectors, table, Side::Primary),
+    )?;
     Ok(())
 }
 
@@ -64,10 +109,10 @@ fn push_last<const B: usize>(
     requires { IsSectorSize B }
     ensures { OnOk result (phases_in phases.new.items ≡ phases_in phases.old.items ++ last_of last.now) }
 {
-    if let Some(bytes) = last {
-        phases.push(single(alloc, 0, bytes)?)?;
+    match last {
+        Some(bytes) => push_single(phases, alloc, 0, bytes),
+        None => Ok(()),
     }
-    Ok(())
 }
 
 /// The plan where a primary copy stands: the labels and the backup copy; sector 1 zeroed; the primary array; the primary
@@ -91,10 +136,9 @@ pub fn backup_first<const B: usize>(
 {
     let mut front = labels;
     push_backup(&mut front, sectors, table)?;
-    let mut array = Vec::new(alloc);
-    push_array(&mut array, table.entries.as_slice(), PRIMARY_ARRAY)?;
+    let array = primary_array(alloc, sectors, table)?;
     let mut phases = Vec::new(alloc);
-    phases.push(front)?;
+    push_phase(&mut phases, front)?;
     push_primary(&mut phases, array, alloc, sectors, table)?;
     push_last(&mut phases, alloc, last)?;
     Ok(Plan { phases })
@@ -124,7 +168,7 @@ pub fn primary_first<const B: usize>(
     push_backup(&mut backup, sectors, table)?;
     let mut phases = Vec::new(alloc);
     push_primary(&mut phases, array, alloc, sectors, table)?;
-    phases.push(backup)?;
+    push_phase(&mut phases, backup)?;
     push_last(&mut phases, alloc, last)?;
     Ok(Plan { phases })
 }
@@ -152,7 +196,7 @@ pub fn from_mbr<const B: usize>(
     writes.extend_from_slice(labels.as_slice())?;
     push_backup(&mut writes, sectors, table)?;
     let mut phases = Vec::new(alloc);
-    phases.push(writes)?;
-    phases.push(single(alloc, 0, head)?)?;
+    push_phase(&mut phases, writes)?;
+    push_single(&mut phases, alloc, 0, head)?;
     Ok(Plan { phases })
 }

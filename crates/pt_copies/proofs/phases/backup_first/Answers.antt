@@ -1,12 +1,9 @@
-use Rattle.std.proofs.Common.{◌∙◌, ◌++◌, ap}
+use Rattle.std.proofs.Common.{ap}
 use Rattle.pt_apply.specs.Plans.{phases_in, writes_of}
 use Rattle.pt_sector.specs.Writes.{Writes}
 use Rattle.pt_cases.specs.Cases.{backup_first_phases}
-use Rattle.pt_cases.specs.Copies.{array_phase}
-use Rattle.pt_gpt.specs.declared.table.Side.TheVariants.{Primary}
 use Rattle.pt_copies.specs.Written.{last_of, WroteCopies}
 use Rattle.pt_copies.proofs.Assembling.{wrote_backup_first}
-use Rattle.pt_copies.proofs.Ranges.{phases_more}
 use Rattle.pt_copies.proofs.Wrote.{backup_first_in_range, backup_first_some, backup_first_count}
 use Rattle.pt_copies.proofs.phases.backup_first.Goals as goal
 
@@ -17,12 +14,11 @@ returns g c =
     (λ p k. backup_first_phases g.row.B c.args.sectors c.args.table.now p k labels (last_of c.args.last.now))
     (phases_in c.push_last.new.phases.items) =
     wrote_backup_first g.row.B c.args.sectors c.args.table.now labels (writes_of c.push_backup.new.writes.items)
-    (writes_of c.push_array.new.writes.items) c.args.last.now _ _ _ _
+    (writes_of c.in_ok-array.array.items) c.args.last.now _ _ _ _
     c.in_ok-push_backup.ensures
-    (rw c.as_slice.ensures at c.in_ok-push_array.ensures
-    ∙ ap (λ (ws : _). writes_of ws ++ array_phase g.row.B c.args.sectors c.args.table.now Primary) c.new-array.ensures.items)
+    c.in_ok-array.ensures
     (ap phases_in c.new-phases.ensures.items)
-    (ap phases_in c.in_ok-push.ensures.items ∙ phases_more c.new-phases.result.items c.push_backup.new.writes)
+    c.in_ok-push_phase.ensures
     c.in_ok-push_primary.ensures
     c.in_ok-push_last.ensures in
     record {

@@ -4,7 +4,6 @@ use Rattle.pt_sector.specs.Writes.{Writes}
 use Rattle.pt_cases.specs.Cases.{primary_first_phases, primary_and_labels}
 use Rattle.pt_copies.specs.Written.{last_of, WroteCopies}
 use Rattle.pt_copies.proofs.Assembling.{wrote_primary_first}
-use Rattle.pt_copies.proofs.Ranges.{phases_more}
 use Rattle.pt_copies.proofs.Wrote.{primary_first_in_range, primary_first_some, primary_first_count}
 use Rattle.pt_copies.proofs.phases.primary_first.Goals as goal
 
@@ -22,7 +21,7 @@ returns g c =
     (λ (ws : _). primary_and_labels g.row.B c.args.sectors c.args.table.now (writes_of ws)) c.as_slice.ensures.value)
     (ap phases_in c.new-phases.ensures.items)
     c.in_ok-push_primary.ensures
-    (ap phases_in c.in_ok-push.ensures.items ∙ phases_more c.push_primary.new.phases.items c.push_backup.new.writes)
+    c.in_ok-push_phase.ensures
     c.in_ok-push_last.ensures in
     record {
       phases = is;
