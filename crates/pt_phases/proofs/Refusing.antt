@@ -43,6 +43,15 @@ lone_unfree o ts (Unsound f) is = absurd is
 lone_unfree o ts (Device fault) is = absurd is
 lone_unfree o ts Memory is = tt
 
+pub turn_unfree : {b : ℕ} (o : Option Layout) (guarded : List TracedRun) (ts : List (Target b)) (e : PlanError) → NotFree o ts e
+    → NoTurn o guarded ts e
+turn_unfree o guarded ts NotOneSwitch is = inl is
+turn_unfree o guarded ts ReusedInOneBatch is = is
+turn_unfree o guarded ts NeedsRepair is = absurd is
+turn_unfree o guarded ts (Unsound f) is = absurd is
+turn_unfree o guarded ts (Device fault) is = absurd is
+turn_unfree o guarded ts Memory is = tt
+
 pub lone_faultless : {b : ℕ} (o : Option Layout) (ts : List (Target b)) (e : PlanError) → NoLoneTurn o ts e → fault_in e ≡ None
 lone_faultless o ts NotOneSwitch is = refl
 lone_faultless o ts ReusedInOneBatch is = refl

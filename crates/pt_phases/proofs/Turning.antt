@@ -1,12 +1,13 @@
 -- From what is known where the functions return to what they promise.
 use Rattle.std.proofs.Common.{◌≡◌, ◌∙◌, inr, ℕ, ◌+◌, ◌<◌, ◌≤◌, List, [], ◌∷◌, ◌++◌, length, sym, ap, subst, arith, Option, Vec, Bool}
-use Rattle.std.proofs.Common.{false, length-append}
+use Rattle.std.proofs.Common.{◌≢◌, ⊎_elim, false, length-append, refl}
+use Rattle.std.proofs.lemmas.List.{length-map}
 use Rattle.std.specs.Prelude.{All}
 use Rattle.std.specs.declared.alloc.Global.{Global}
-use Rattle.std.proofs.lemmas.List.Elements.{All-append, All-contains}
+use Rattle.std.proofs.lemmas.List.Elements.{All-append, All-contains, All-cons, All-nil}
 use Rattle.pt_sector.specs.Sectors.{Sectors}
 use Rattle.pt_sector.specs.Writes.{Writes}
-use Rattle.pt_apply.specs.Plans.{writes_of, phases_of, InRange, writes_in}
+use Rattle.pt_apply.specs.Plans.{writes_of, phases_of, phases_in, InRange, writes_in}
 use Rattle.pt_apply.specs.declared.plan.Plan.{Plan}
 use Rattle.pt_apply.specs.declared.plan.Write.{Write}
 use Rattle.pt_members.specs.declared.layout.Layout.{Layout}
@@ -25,7 +26,36 @@ use Rattle.pt_phases.specs.Outcomes.{AreFree, IsTurn, NoTurn, IsLoneTurn}
 use Rattle.pt_phases.specs.Turns.{MbrStart, LabelStart}
 use Rattle.pt_phases.proofs.LabelTurn.{label_planned}
 use Rattle.pt_phases.proofs.MbrTurn.{mbr_planned, mbr_stops}
+use Rattle.pt_phases.proofs.Shapes.{as_many}
 use Rattle.pt_phases.proofs.TurnShapes.{turn_among, turn_few, lone_among, lone_few, phases_range}
+
+-- none of these is empty
+abbrev NoneEmpty : List Writes → Type 0
+NoneEmpty [] = Unit {0}
+NoneEmpty (p ∷ ps) = (0 < length p) × NoneEmpty ps
+
+some_of : {b : ℕ} (ps : List (Vec (Write b) Global)) → NoneEmpty (phases_in ps)
+    → All (λ (p : Vec (Write b) Global). 0 < length p.items) ps
+some_of {b} [] each = All-nil (λ (p : Vec (Write b) Global). 0 < length p.items)
+some_of {b} (p ∷ ps) each = All-cons (λ (q : Vec (Write b) Global). 0 < length q.items) p ps
+    (subst (λ (k : ℕ). 0 < k) (length-map p.items (λ (w : Write b). (w.lba.0, w.bytes))) each.0) (some_of ps each.1)
+
+positive : (ws : Writes) → ws ≢ [] → 0 < length ws
+positive [] not = absurd (not refl)
+positive (w ∷ ws) not = omega arith
+
+-- no phase of a turn is empty, and there are at most two
+module _ {b : ℕ} (o : Option Layout) (guarded : List TracedRun) (ts : List (Target b)) where
+  pub turn_some : (plan : Plan b) → IsTurn o guarded ts (phases_of plan)
+      → All (λ (p : Vec (Write b) Global). 0 < length p.items) plan.phases.items
+  turn_some plan turn =
+      some_of plan.phases.items
+      (⊎_elim (λ one. subst NoneEmpty (sym one.1) (omega arith, tt))
+      (λ two. subst NoneEmpty (sym two.1) (positive turn.quiet two.0, (omega arith, tt))) turn.is)
+
+  pub turn_two : (plan : Plan b) → IsTurn o guarded ts (phases_of plan) → length plan.phases.items ≤ 2
+  turn_two plan turn =
+      ⊎_elim (λ one. omega (arith, as_many plan, ap length one.1)) (λ two. omega (arith, as_many plan, ap length two.1)) turn.is
 
 module _ {b : ℕ} (o : Option Layout) (guarded : List TracedRun) (ts sorted now : List (Target b)) (free : AreFree o ts sorted)
     (same : now ≡ sorted) (s : Split b) (is : SplitIs guarded now s) where
@@ -91,3 +121,9 @@ module _ {b : ℕ} (o : Option Layout) (ts : List (Target b)) (loud : Write b) (
 
   pub lone_short : length (writes_in (phases_of plan)) ≤ length ts
   lone_short = lone_few o ts (loud.lba.0, loud.bytes) turn (phases_of plan) made
+
+  pub lone_some : All (λ (p : Vec (Write b) Global). 0 < length p.items) plan.phases.items
+  lone_some = some_of plan.phases.items (subst NoneEmpty (sym made) (omega arith, tt))
+
+  pub lone_two : length plan.phases.items ≤ 2
+  lone_two = omega (arith, as_many plan, ap length made)

@@ -1,4 +1,6 @@
+use Rattle.std.proofs.lemmas.Result.{err_from_is_err_and}
 use Rattle.pt_apply.specs.Plans.{phases_of}
+use Rattle.pt_phases.proofs.Refusing.{turn_unfree}
 use Rattle.pt_phases.proofs.Turning.{split_turns, split_stops}
 use Rattle.pt_phases.proofs.within.turn.Goals as goal
 
@@ -15,3 +17,9 @@ returns-clause-ok g c =
     c.in_ok-split_changes.field-0 c.in_ok-split_changes.ensures c.in-One.quiet c.in-One.loud
     (phases_of c.in_ok-two_phases-in-One.field-0) c.in-One.is
     c.in_ok-two_phases-in-One.ensures
+
+pub returns-in_err-sorted-clause-err : goal.returns-in_err-sorted-clause-err
+returns-in_err-sorted-clause-err g c =
+    let p = err_from_is_err_and c.from_residual.result c.from_residual.ensures.1 in
+    rw (p.1, p.2) (turn_unfree c.args.old.now c.args.guarded.now c.args.targets.items c.in_err-sorted.field-0.0
+    c.in_err-sorted.ensures.err)

@@ -1,6 +1,6 @@
 use Rattle.std.proofs.lemmas.Result.{IfOk-weaker, IfErr-weaker}
 use Rattle.pt_phases.proofs.Refusing.{turn_faultless}
-use Rattle.pt_phases.proofs.Turning.{turn_is_plan, no_turn_stops, turn_range, turn_short}
+use Rattle.pt_phases.proofs.Turning.{turn_is_plan, no_turn_stops, turn_range, turn_short, turn_some, turn_two}
 use Rattle.pt_phases.proofs.within.within_mbr.Goals as goal
 
 pub returns-clause-plan : goal.returns-clause-plan
@@ -30,3 +30,11 @@ returns-clause-few g c =
 pub returns-clause-faultless : goal.returns-clause-faultless
 returns-clause-faultless g c =
     IfErr-weaker c.turn.result _ _ (turn_faultless c.args.old.now c.args.guarded.now c.in_ok-targets.targets.items) c.turn.ensures.err
+
+pub returns-clause-some : goal.returns-clause-some
+returns-clause-some g c =
+    IfOk-weaker c.turn.result _ _ (turn_some c.args.old.now c.args.guarded.now c.in_ok-targets.targets.items) c.turn.ensures.ok
+
+pub returns-clause-two : goal.returns-clause-two
+returns-clause-two g c =
+    IfOk-weaker c.turn.result _ _ (turn_two c.args.old.now c.args.guarded.now c.in_ok-targets.targets.items) c.turn.ensures.ok
