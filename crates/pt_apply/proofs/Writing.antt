@@ -161,6 +161,10 @@ module _ {b : _} (phase : List (Write b)) (d : Sectors) (n : ℕ) (old mid new :
       subst (λ (m : ℕ). Within (Stopped d (writes_of phase)) (m + 1) old new) is (flushed d (writes_of phase) n old mid new so_far flush).1
   ends_done (Err e) flush = tt
 
+  pub ends_settled : {T E : Type 0} (r : Result T E) → OnOk r (Flushed mid new) → OnOk r (Settled new (written (writes_of phase) d))
+  ends_settled (Ok x) flush = (flushed d (writes_of phase) n old mid new so_far flush).0
+  ends_settled (Err e) flush = tt
+
   pub ends_failed : {T : Type 0} (r : Result T Fault) → OnErr r (FailedFlush mid new) → IfErr r (λ e. e ≡ fault.Flush)
       → IfErr r (Ended d (writes_of phase) old new)
   ends_failed (Ok x) failed tells = tt

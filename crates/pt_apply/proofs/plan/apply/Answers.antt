@@ -1,10 +1,11 @@
-use Rattle.std.proofs.Common.{rules, ◌≡◌, ℕ, length, ap, subst, arith}
+use Rattle.std.proofs.Common.{rules, ◌≡◌, ℕ, List, length, ap, subst, arith}
 use Rattle.std.proofs.lemmas.Result.{err_from_is_err_and}
 use Rattle.pt_sector.specs.laws.Since.{leaves_none}
 use Rattle.pt_apply.proofs.Applied.{reached_none, settled_on, leaves_phase, reached_on, failed_in, fault_in}
-use Rattle.pt_apply.proofs.Items.{length-phases}
+use Rattle.pt_sector.specs.Writes.{Writes, after}
+use Rattle.pt_apply.proofs.Items.{length-phases, take-all}
 use Rattle.pt_apply.specs.Plans.{phases_of}
-use Rattle.pt_apply.specs.Runs.{Reached}
+use Rattle.pt_apply.specs.Runs.{Reached, Settled}
 use Rattle.pt_apply.proofs.plan.apply.Goals as goal
 
 pub loop-phase-init : goal.loop-phase-init
@@ -66,3 +67,27 @@ returns-in_err-write_phase-clause-fault g c =
     rw (p.1, p.2) (rw c.deref-phase-items.ensures.value at (fault_in c.deref-phase-items.result.now c.loop-phase.phase-index
     c.phase-item.result
     c.deref.result.now _ c.loop-phase-test.true c.phase-item.is c.deref.ensures.value c.in_err-write_phase.ensures.fault))
+
+pub returns-clause-done : goal.returns-clause-done
+returns-clause-done g c = λ tells.
+    let phases = phases_of c.args.plan.now in
+    let all = take-all phases c.loop-phase.phase-index
+    (omega (arith, c.loop-phase-test.false, length-phases c.args.plan.now.phases.items, ap length c.deref-phase-items.ensures.value)) in
+    subst (λ (ps : List Writes). Settled (g.D.Disk.told c.loop-phase.disk) (after ps (g.D.Disk.told c.args.disk.now).seen)) all
+    (rw c.deref-phase-items.ensures.value at (c.loop-phase.invariant.settled tells))
+
+pub returns-clause-any_moment : goal.returns-clause-any_moment
+returns-clause-any_moment g c = λ tells. rw c.deref-phase-items.ensures.value at (c.loop-phase.invariant.leaves tells)
+
+pub returns-in_err-write_phase-clause-blames : goal.returns-in_err-write_phase-clause-blames
+returns-in_err-write_phase-clause-blames g c =
+    let p = err_from_is_err_and c.from_residual.result c.from_residual.ensures.1 in
+    rw (p.1, p.2) (rw c.loop-phase.invariant.quiet at c.in_err-write_phase.ensures.blames)
+
+pub returns-in_err-write_phase-clause-done : goal.returns-in_err-write_phase-clause-done
+returns-in_err-write_phase-clause-done g c =
+    let p = err_from_is_err_and c.from_residual.result c.from_residual.ensures.1 in λ tells. rw p.1 tt
+
+pub returns-in_err-write_phase-clause-passed : goal.returns-in_err-write_phase-clause-passed
+returns-in_err-write_phase-clause-passed g c =
+    let p = err_from_is_err_and c.from_residual.result c.from_residual.ensures.1 in λ tells. rw p.1 tt

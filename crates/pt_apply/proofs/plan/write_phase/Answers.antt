@@ -1,8 +1,8 @@
-use Rattle.std.proofs.Common.{rules}
+use Rattle.std.proofs.Common.{rules, ◌∙◌}
 use Rattle.std.proofs.lemmas.Result.{err_from_is_err_and}
 use Rattle.pt_apply.specs.laws.Items.{drop-writes}
 use Rattle.pt_apply.proofs.Items.{drop-all_writes, puts-write, fault-of-write, some_fault, whole_index}
-use Rattle.pt_apply.proofs.Writing.{writing_on, writing_failed, ends_done, ends_failed}
+use Rattle.pt_apply.proofs.Writing.{started, writing_on, writing_failed, ends_done, ends_settled, ends_failed}
 use Rattle.pt_apply.proofs.plan.write_phase.Goals as goal
 
 pub loop-write-preserved : goal.loop-write-preserved
@@ -53,3 +53,33 @@ returns-clause-failed g c =
 
 pub returns-clause-fault : goal.returns-clause-fault
 returns-clause-fault g c = some_fault c.args.phase.now c.flush.result c.flush.ensures.fault
+
+pub loop-write-init : goal.loop-write-init
+loop-write-init g c = record {
+  count = search rules;
+  name = search rules;
+  quiet = search rules;
+  writing = λ tells. started _ _ _ (c.requires.settled tells);
+}
+
+pub returns-clause-done : goal.returns-clause-done
+returns-clause-done g c =
+    λ tells. ends_settled c.args.phase.now _ _ _ _ _ (whole_index c.loop-write-test.false c.loop-write.auto.write-index-end)
+    (rw (drop-all_writes c.args.phase.now c.loop-write.write-index c.loop-write-test.false) at (c.loop-write.invariant.writing tells))
+    c.flush.result (c.flush.ensures.done tells)
+
+pub returns-clause-blames : goal.returns-clause-blames
+returns-clause-blames g c = rw c.loop-write.invariant.quiet at c.flush.ensures.blames
+
+pub returns-in_err-write-clause-blames : goal.returns-in_err-write-clause-blames
+returns-in_err-write-clause-blames g c =
+    let p = err_from_is_err_and c.from_residual.result c.from_residual.ensures.1 in
+    rw (p.1, p.2) (rw c.loop-write.invariant.quiet at c.in_err-write.ensures.blames)
+
+pub returns-in_err-write-clause-done : goal.returns-in_err-write-clause-done
+returns-in_err-write-clause-done g c =
+    let p = err_from_is_err_and c.from_residual.result c.from_residual.ensures.1 in λ tells. rw p.1 tt
+
+pub returns-in_err-write-clause-passed : goal.returns-in_err-write-clause-passed
+returns-in_err-write-clause-passed g c =
+    let p = err_from_is_err_and c.from_residual.result c.from_residual.ensures.1 in λ tells. rw p.1 tt
