@@ -1,6 +1,7 @@
 -- From the parts of a plan to the planner's answer.
 use Rattle.std.proofs.Common.{◌≡◌, ◌↔◌, inl, inr, ℕ, zero, suc, ◌<◌, List, [], ◌∷◌, length, Bool, true, false, Option, Some, None}
 use Rattle.std.proofs.Common.{Result, Ok, Err, IfOk, IfErr, IsTrue, All, refl, subst, arith}
+use Rattle.std.proofs.Common.{◌∙◌, sym}
 use Rattle.std.specs.Prelude.{Contains, get_or}
 use Rattle.pt_sector.specs.Sectors.{Sectors}
 use Rattle.pt_gpt.specs.Copy.{HasCopy}
@@ -29,6 +30,7 @@ use Rattle.pt_cases.specs.Links.{IsLoneChain}
 use Rattle.pt_targets.specs.Misfits.{NoneLeft}
 use Rattle.pt_phases.specs.Starts.{OrderIs, HeadAsRead, CopiesStart}
 use Rattle.pt_phases.specs.declared.order.Order.{Order}
+use Rattle.pt_phases.specs.declared.order.Order.TheVariants.{BackupFirst, PrimaryFirst, FromMbr}
 use Rattle.pt_targets.specs.Causes.{HasNoTurn, HasNoCopies}
 use Rattle.pt_targets.specs.Starts.{Start, StopsBy}
 use Rattle.pt_targets.specs.Targets.{AreLabelTargets, AreMbrTargets}
@@ -59,6 +61,14 @@ all_of P xs each = λ k d lt. each (get_or xs k d) (k, lt, default_free xs k (ge
 
 pub isnt : {P : Type 0} (holds : Bool) → holds ≡ false → IsTrue holds ↔ P → ¬ P
 isnt holds low same is = absurd (let high : holds ≡ true = same.1 is in cc)
+
+-- the order from an MBR is that of an MBR's sector 0
+pub order_mbr : (h : Head) (primary : Bool) (order : Order) → OrderOf h primary order → order ≡ FromMbr → h ≡ head.Mbr
+order_mbr head.Mbr primary order of is = refl
+order_mbr head.Protected true order of is = absurd (let both : BackupFirst ≡ FromMbr = sym of ∙ is in cc)
+order_mbr head.Protected false order of is = absurd (let both : PrimaryFirst ≡ FromMbr = sym of ∙ is in cc)
+order_mbr head.Unprotected true order of is = absurd (let both : BackupFirst ≡ FromMbr = sym of ∙ is in cc)
+order_mbr head.Unprotected false order of is = absurd (let both : PrimaryFirst ≡ FromMbr = sym of ∙ is in cc)
 
 -- what the parts answer, in the planner's words
 pub turn_hinders : (b : ℕ) (d : Sectors) (o : Option Layout) (p : Layout) (e : PlanError) → StopsBy b d o p (HasNoTurn b d o p) e

@@ -148,60 +148,50 @@ to_gpt-requires g c =
       ),
     )
 
-pub returns-in-Mbr-clause-err : goal.returns-in-Mbr-clause-err
-returns-in-Mbr-clause-err g c = λ tells.
-    let d = (g.D.Disk.told c.args.disk.now).seen in
-    let known = c.requires.known tells in
-    let of =
-    of_disk g.row.B c.sectors.result c.args.known.now.old c.args.wanted.now c.may_be.result c.may_be.ensures c.if-not-may_be.false in
-    err_so c.to_mbr.result _ _ (hindered g.row.B d c.args.known.now.old c.args.wanted.now known.old c.in_ok-be_sound.ensures.ok
-    (isnt c.is_done.result c.if-is_done.false (c.is_done.ensures.done d known)) (c.in_ok-places.ensures.none_left tells))
-    (rw (c.in_ok-places.ensures.same.same tells) at (c.to_mbr.ensures.err tells (of.mbr c.in-Mbr.records c.in-Mbr.chain c.in-Mbr.is).0))
+pub returns-in-Mbr : goal.returns-in-Mbr
+returns-in-Mbr g c = record {
+  same =
+      g.met.D.Disk.reads_on c.args.disk.now c.places_of.new.disk c.to_mbr.new.disk c.in_ok-places.ensures.same c.to_mbr.ensures.same;
+  blames =
+      blames_after fault_in c.to_mbr.result _ _ _ c.in_ok-places.ensures.blames c.to_mbr.ensures.blames;
+  in_range =
+      subst (λ (n : ℕ). IfOk c.to_mbr.result (InRange n)) c.in_ok-places.ensures.same.same_count c.to_mbr.ensures.in_range;
+  some =
+      c.to_mbr.ensures.some;
+  plan =
+      λ tells.
+      subst (λ (t : Told). IfOk c.to_mbr.result (λ plan. IsPlan g.row.B t.seen c.args.wanted.now (phases_of plan)))
+      (c.in_ok-places.ensures.same.same tells) (c.to_mbr.ensures.plan tells);
+  err =
+      λ tells.
+      let d = (g.D.Disk.told c.args.disk.now).seen in
+      let known = c.requires.known tells in
+      let of =
+      of_disk g.row.B c.sectors.result c.args.known.now.old c.args.wanted.now c.may_be.result c.may_be.ensures c.if-not-may_be.false in
+      err_so c.to_mbr.result _ _ (hindered g.row.B d c.args.known.now.old c.args.wanted.now known.old c.in_ok-be_sound.ensures.ok
+      (isnt c.is_done.result c.if-is_done.false (c.is_done.ensures.done d known)) (c.in_ok-places.ensures.none_left tells))
+      (rw (c.in_ok-places.ensures.same.same tells) at (c.to_mbr.ensures.err tells (of.mbr c.in-Mbr.records c.in-Mbr.chain c.in-Mbr.is).0));
+}
 
-pub returns-in-Gpt-clause-err : goal.returns-in-Gpt-clause-err
-returns-in-Gpt-clause-err g c = λ tells.
-    let d = (g.D.Disk.told c.args.disk.now).seen in
-    let known = c.requires.known tells in
-    err_so c.to_gpt.result _ _ (hindered g.row.B d c.args.known.now.old c.args.wanted.now known.old c.in_ok-be_sound.ensures.ok
-    (isnt c.is_done.result c.if-is_done.false (c.is_done.ensures.done d known)) (c.in_ok-places.ensures.none_left tells))
-    (rw (c.in_ok-places.ensures.same.same tells) at (c.to_gpt.ensures.err tells))
-
-pub returns-in-Mbr-clause-same : goal.returns-in-Mbr-clause-same
-returns-in-Mbr-clause-same g c =
-    g.met.D.Disk.reads_on c.args.disk.now c.places_of.new.disk c.to_mbr.new.disk c.in_ok-places.ensures.same c.to_mbr.ensures.same
-
-pub returns-in-Mbr-clause-blames : goal.returns-in-Mbr-clause-blames
-returns-in-Mbr-clause-blames g c =
-    blames_after fault_in c.to_mbr.result _ _ _ c.in_ok-places.ensures.blames c.to_mbr.ensures.blames
-
-pub returns-in-Mbr-clause-in_range : goal.returns-in-Mbr-clause-in_range
-returns-in-Mbr-clause-in_range g c =
-    subst (λ (n : ℕ). IfOk c.to_mbr.result (InRange n)) c.in_ok-places.ensures.same.same_count c.to_mbr.ensures.in_range
-
-pub returns-in-Mbr-clause-some : goal.returns-in-Mbr-clause-some
-returns-in-Mbr-clause-some g c = c.to_mbr.ensures.some
-
-pub returns-in-Mbr-clause-plan : goal.returns-in-Mbr-clause-plan
-returns-in-Mbr-clause-plan g c = λ tells.
-    subst (λ (t : Told). IfOk c.to_mbr.result (λ plan. IsPlan g.row.B t.seen c.args.wanted.now (phases_of plan)))
-    (c.in_ok-places.ensures.same.same tells) (c.to_mbr.ensures.plan tells)
-
-pub returns-in-Gpt-clause-same : goal.returns-in-Gpt-clause-same
-returns-in-Gpt-clause-same g c =
-    g.met.D.Disk.reads_on c.args.disk.now c.places_of.new.disk c.to_gpt.new.disk c.in_ok-places.ensures.same c.to_gpt.ensures.same
-
-pub returns-in-Gpt-clause-blames : goal.returns-in-Gpt-clause-blames
-returns-in-Gpt-clause-blames g c =
-    blames_after fault_in c.to_gpt.result _ _ _ c.in_ok-places.ensures.blames c.to_gpt.ensures.blames
-
-pub returns-in-Gpt-clause-in_range : goal.returns-in-Gpt-clause-in_range
-returns-in-Gpt-clause-in_range g c =
-    subst (λ (n : ℕ). IfOk c.to_gpt.result (InRange n)) c.in_ok-places.ensures.same.same_count c.to_gpt.ensures.in_range
-
-pub returns-in-Gpt-clause-some : goal.returns-in-Gpt-clause-some
-returns-in-Gpt-clause-some g c = c.to_gpt.ensures.some
-
-pub returns-in-Gpt-clause-plan : goal.returns-in-Gpt-clause-plan
-returns-in-Gpt-clause-plan g c = λ tells.
-    subst (λ (t : Told). IfOk c.to_gpt.result (λ plan. IsPlan g.row.B t.seen c.args.wanted.now (phases_of plan)))
-    (c.in_ok-places.ensures.same.same tells) (c.to_gpt.ensures.plan tells)
+pub returns-in-Gpt : goal.returns-in-Gpt
+returns-in-Gpt g c = record {
+  same =
+      g.met.D.Disk.reads_on c.args.disk.now c.places_of.new.disk c.to_gpt.new.disk c.in_ok-places.ensures.same c.to_gpt.ensures.same;
+  blames =
+      blames_after fault_in c.to_gpt.result _ _ _ c.in_ok-places.ensures.blames c.to_gpt.ensures.blames;
+  in_range =
+      subst (λ (n : ℕ). IfOk c.to_gpt.result (InRange n)) c.in_ok-places.ensures.same.same_count c.to_gpt.ensures.in_range;
+  some =
+      c.to_gpt.ensures.some;
+  plan =
+      λ tells.
+      subst (λ (t : Told). IfOk c.to_gpt.result (λ plan. IsPlan g.row.B t.seen c.args.wanted.now (phases_of plan)))
+      (c.in_ok-places.ensures.same.same tells) (c.to_gpt.ensures.plan tells);
+  err =
+      λ tells.
+      let d = (g.D.Disk.told c.args.disk.now).seen in
+      let known = c.requires.known tells in
+      err_so c.to_gpt.result _ _ (hindered g.row.B d c.args.known.now.old c.args.wanted.now known.old c.in_ok-be_sound.ensures.ok
+      (isnt c.is_done.result c.if-is_done.false (c.is_done.ensures.done d known)) (c.in_ok-places.ensures.none_left tells))
+      (rw (c.in_ok-places.ensures.same.same tells) at (c.to_gpt.ensures.err tells));
+}

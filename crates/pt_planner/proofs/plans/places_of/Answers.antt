@@ -1,5 +1,6 @@
-use Rattle.std.proofs.Common.{◌<◌, subst}
+use Rattle.std.proofs.Common.{◌<◌, refl, subst}
 use Rattle.std.proofs.lemmas.Result.{err_from_is_err_and}
+use Rattle.pt_places.specs.Answers.{PlacesAnswer}
 use Rattle.pt_places.specs.Places.{AreWithin}
 use Rattle.pt_targets.specs.declared.target.Target.{Target}
 use Rattle.pt_planner.proofs.Failing.{failure_blames, failure_stops}
@@ -29,3 +30,25 @@ returns-in-Targets-clause-same g c = c.in_ok-answer.ensures.same
 
 pub returns-in-Foreign-clause-same : goal.returns-in-Foreign-clause-same
 returns-in-Foreign-clause-same g c = c.in_ok-answer.ensures.same
+
+pub returns-in-Targets-clause-blames : goal.returns-in-Targets-clause-blames
+returns-in-Targets-clause-blames g c = c.in_ok-answer.ensures.blames
+
+pub returns-in-Targets-clause-ok : goal.returns-in-Targets-clause-ok
+returns-in-Targets-clause-ok g c = λ tells.
+    (subst (PlacesAnswer (g.D.Disk.told c.args.disk.now).seen c.args.old.now c.args.wanted.now) c.in-Targets.is
+    (c.in_ok-answer.ensures.answer tells)).2
+
+pub returns-in-Targets-clause-none_left : goal.returns-in-Targets-clause-none_left
+returns-in-Targets-clause-none_left g c = λ tells.
+    (subst (PlacesAnswer (g.D.Disk.told c.args.disk.now).seen c.args.old.now c.args.wanted.now) c.in-Targets.is
+    (c.in_ok-answer.ensures.answer tells)).1
+
+pub returns-in-Foreign-clause-blames : goal.returns-in-Foreign-clause-blames
+returns-in-Foreign-clause-blames g c = c.in_ok-answer.ensures.blames
+
+pub returns-in-Foreign-clause-err : goal.returns-in-Foreign-clause-err
+returns-in-Foreign-clause-err g c = λ tells.
+    let answer = subst (PlacesAnswer (g.D.Disk.told c.args.disk.now).seen c.args.old.now c.args.wanted.now) c.in-Foreign.is
+    (c.in_ok-answer.ensures.answer tells) in
+    (c.in-Foreign.number, answer.1, refl)

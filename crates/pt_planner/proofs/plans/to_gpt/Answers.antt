@@ -1,11 +1,12 @@
-use Rattle.std.proofs.Common.{◌∙◌, ℕ, refl, sym, subst}
-use Rattle.std.specs.Prelude.{IfOk}
+use Rattle.std.proofs.Common.{rules, ◌∙◌, ◌<◌, ℕ, refl, sym, subst}
+use Rattle.std.specs.Prelude.{All, IfOk}
 use Rattle.std.proofs.lemmas.Result.{err_from_is_err_and}
 use Rattle.pt_sector.specs.Calls.{blames_none}
 use Rattle.pt_apply.specs.Plans.{InRange}
 use Rattle.pt_cases.specs.Shape.{FitsTable}
 use Rattle.pt_targets.specs.Errors.{fault_in}
-use Rattle.pt_planner.proofs.Making.{ok_so, err_so, turn_hinders, copies_hinder, label_start, copies_start, isnt}
+use Rattle.pt_targets.specs.declared.target.Target.{Target}
+use Rattle.pt_planner.proofs.Making.{ok_so, err_so, turn_hinders, copies_hinder, label_start, copies_start, isnt, order_mbr}
 use Rattle.pt_planner.proofs.plans.to_gpt.Goals as goal
 
 pub returns-then-changes_labels-clause-plan : goal.returns-then-changes_labels-clause-plan
@@ -91,3 +92,29 @@ returns-clause-in_range g c =
 
 pub returns-clause-some : goal.returns-clause-some
 returns-clause-some g c = c.both_copies.ensures.some
+
+pub both_copies-requires : goal.both_copies-requires
+both_copies-requires g c =
+    let count = sym (c.sectors.ensures ∙ c.in_ok-head.ensures.same.same_count) in
+    let fits = subst (λ (n : ℕ). FitsTable g.row.B n c.args.table.now) count c.requires.fits in (
+      search rules,
+      (
+        search rules,
+        (
+          search rules,
+          (
+            c.requires.size,
+            (
+              fits.room,
+              (
+                fits.most,
+                (
+                  λ is. c.in_ok-head.ensures.given (order_mbr c.args.known.now.head c.args.known.now.primary _ c.order_of.ensures is),
+                  subst (λ (n : ℕ). All (λ (t : Target g.row.B). t.at.0 < n) c.args.places.items) count c.requires.in_range,
+                ),
+              ),
+            ),
+          ),
+        ),
+      ),
+    )
