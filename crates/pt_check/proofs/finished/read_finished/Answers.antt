@@ -1,9 +1,14 @@
-use Rattle.std.proofs.Common.{rules, ◌≡◌, ◌∙◌, ap, subst, arith, Ok}
+use Rattle.std.proofs.Common.{rules, ◌≡◌, ◌∙◌, ap, subst, arith, Ok, Err}
+use Rattle.std.proofs.lemmas.Result.{err_from_is_err_and}
+use Rattle.pt_sector.specs.Calls.{with_fault}
 use Rattle.pt_sector.specs.Reads.{OnlyReads, blames_below, fault_of}
 use Rattle.pt_sector.specs.Sectors.{Sectors}
 use Rattle.pt_sector.specs.Writes.{after}
 use Rattle.pt_apply.specs.Plans.{phases_of}
 use Rattle.pt_layout.specs.Surveys.{IsSurvey}
+use Rattle.pt_layout.specs.declared.survey.Survey.{Survey}
+use Rattle.pt_check.specs.Failed.{fault_in, told_failure}
+use Rattle.pt_check.proofs.Finishing.{failure_blames}
 use Rattle.pt_check.proofs.finished.read_finished.Goals as goal
 
 pub put_plan-requires : goal.put_plan-requires
@@ -43,3 +48,15 @@ pub returns-clause-wrong : goal.returns-clause-wrong
 returns-clause-wrong g c = λ tells. c.finished_of.ensures.wrong _ _
     (subst (λ (d : Sectors). IsSurvey g.row.B d c.in_ok-told.told)
     (c.put_plan.ensures.seen ∙ ap (after (phases_of c.args.plan.now)) c.new-over.ensures.seen) (c.in_ok-told.ensures.ok tells))
+
+pub returns-in_err-told-clause-blames : goal.returns-in_err-told-clause-blames
+returns-in_err-told-clause-blames g c =
+    let p = err_from_is_err_and c.from_residual-in_err-told.result c.from_residual-in_err-told.ensures.1 in
+    let e = c.in_err-told.field-0.0 in
+    let below : g.D.Disk.faults c.survey_disk.new.disk.disk.now ≡ with_fault (g.D.Disk.faults c.put_plan.new.over.disk.now) (fault_of e) =
+    blames_below g.D.Disk {T = Survey} fault_of (Err e) _ _ _ _ c.in_err-told.ensures.same.through.0 c.in_err-told.ensures.blames in
+    let here : g.D.Disk.faults c.survey_disk.new.disk.disk.now ≡ with_fault (g.D.Disk.faults c.args.disk.now) (fault_of e) =
+    rw (c.put_plan.ensures.disk, c.new-over.ensures.disk) at below in
+    let blames : g.D.Disk.faults c.survey_disk.new.disk.disk.now ≡ with_fault (g.D.Disk.faults c.args.disk.now) (fault_in (told_failure e)) =
+    failure_blames _ _ e here in
+    rw (p.1, p.2) (search (rules, blames))
