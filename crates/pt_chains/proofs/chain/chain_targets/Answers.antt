@@ -1,4 +1,4 @@
-use Rattle.std.proofs.Common.{◌≡◌, ◌+◌, ◌-◌, ◌∙◌, subst, ℕ, List, length, take, drop, get_or, Option, None}
+use Rattle.std.proofs.Common.{◌≡◌, ◌+◌, ◌-◌, ◌∙◌, subst, ℕ, List, length, take, drop, get_or, Option, None, arith}
 use Rattle.std.specs.Prelude.{IfSome, IfNone}
 use Rattle.std.proofs.lemmas.Result.{err_from_is_err_and}
 use Rattle.pt_sector.specs.Calls.{with_fault}
@@ -10,7 +10,7 @@ use Rattle.pt_mbr.specs.declared.ebr.Ebr.{Ebr}
 use Rattle.pt_targets.specs.declared.target.Target.{Target}
 use Rattle.pt_targets.specs.Unmade.{IsUnmadeEbr}
 use Rattle.pt_chains.specs.Steps.{IsEbrOf}
-use Rattle.pt_chains.proofs.Begun.{rest_of, unmade_at, begun_more, placed_more}
+use Rattle.pt_chains.proofs.Begun.{begun_end, rest_of, unmade_at, begun_more, placed_more}
 use Rattle.pt_chains.proofs.chain.chain_targets.Goals as goal
 
 pub returns-in-None-clause-none : goal.returns-in-None-clause-none
@@ -81,3 +81,10 @@ returns-in_err-push_target-in-Some-clause-blames g c =
     let p = err_from_is_err_and c.from_residual-in_err-push_target-in-Some.result
     c.from_residual-in_err-push_target-in-Some.ensures.1 in
     rw (p.1, p.2) (c.in_ok-target.ensures.blames ∙ c.loop-k.invariant.quiet)
+
+pub returns-clause-place : goal.returns-clause-place
+returns-clause-place g c = c.loop-k.invariant.placed
+
+pub returns-clause-some : goal.returns-clause-some
+returns-clause-some g c = λ tells.
+    begun_end _ _ _ _ _ _ c.loop-k.k _ (omega arith) (omega arith) (c.loop-k.invariant.begun tells)
