@@ -42,7 +42,6 @@ fn push_span(taken: &mut Vec<Run>, place: Option<Member>) -> Result<(), AllocErr
 }
 
 /// The sectors that the records of sector 0 take.
-#[tactic(auto, using(crate::proofs::Pushed::one_record))]
 pub fn taken_by_records(
     alloc: Global,
     records: &[Option<Record>; 4],
@@ -57,7 +56,6 @@ pub fn taken_by_records(
 }
 
 /// The sectors that the entries of a GPT take, where they exist.
-#[tactic(auto, using(crate::proofs::Pushed::one_entry))]
 pub fn taken_by_entries(alloc: Global, entries: &[Option<Entry>]) -> Result<Vec<Run>, AllocError>
     ensures { IfOk result (λ v. v.items ≡ taken_by (entries_as 512 1 entries.now)) }
 {
@@ -69,7 +67,6 @@ pub fn taken_by_entries(alloc: Global, entries: &[Option<Entry>]) -> Result<Vec<
 }
 
 /// The sectors that the logical partitions of a chain take, where they exist.
-#[tactic(auto, using(crate::proofs::Pushed::one_logical, crate::proofs::Pushed::all_logicals))]
 pub fn taken_by_logicals(alloc: Global, chain: &[Ebr]) -> Result<Vec<Run>, AllocError>
     ensures { IfOk result (λ v. v.items ≡ taken_by (logicals_as 512 5 chain.now)) }
 {
@@ -81,7 +78,6 @@ pub fn taken_by_logicals(alloc: Global, chain: &[Ebr]) -> Result<Vec<Run>, Alloc
 }
 
 /// The sectors that the partitions of a slice's label take, where they exist.
-#[tactic(auto, using(crate::proofs::Pushed::one_part))]
 pub fn taken_by_parts(alloc: Global, label: &Label, slice: &Member) -> Result<Vec<Run>, AllocError>
     requires small { slice.now.first < 2 ^ 66 }
     requires counted { length label.now.entries ≡ 8 }
