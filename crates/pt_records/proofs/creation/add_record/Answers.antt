@@ -1,7 +1,8 @@
-use Rattle.std.proofs.Common.{refl}
+use Rattle.std.proofs.Common.{◌∙◌, sym, refl}
+use Rattle.std.proofs.lemmas.Bool.{false≢true}
 use Rattle.std.proofs.lemmas.Result.{err_from_is_err_and}
 use Rattle.pt_records.specs.New.{not_chosen, not_placed, too_short}
-use Rattle.pt_records.specs.Created.{no_new_record}
+use Rattle.pt_records.specs.Created.{new_record, no_new_record}
 use Rattle.pt_records.proofs.creation.add_record.Goals as goal
 
 pub returns-in_err-number-clause-err : goal.returns-in_err-number-clause-err
@@ -20,3 +21,14 @@ returns-then-is_short_slice-clause-err g c =
     λ real. no_new_record c.requires
     (too_short c.in_ok-number.number c.in_ok-number.kind c.in_ok-run.run' c.in_ok-number.ensures.ok c.in_ok-run.ensures.ok
     (c.is_short_slice.ensures.0 c.if-is_short_slice.true) refl)
+
+pub returns-clause-ok : goal.returns-clause-ok
+returns-clause-ok g c = new_record c.requires record {
+  number = c.in_ok-number.number;
+  kind = c.in_ok-number.kind;
+  run = c.in_ok-run.run';
+  chosen = c.in_ok-number.ensures.ok;
+  placed = c.in_ok-run.ensures.ok;
+  enough = λ short. false≢true (sym c.if-is_short_slice.false ∙ c.is_short_slice.ensures.1 short);
+  made = rw (c.layout_of.ensures, c.put_record-records.ensures, c.record_in.ensures, c.in_ok-chain.ensures, c.in_ok-labels.ensures) refl;
+}
