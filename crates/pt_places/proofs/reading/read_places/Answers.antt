@@ -1,4 +1,5 @@
 use Rattle.std.proofs.Common.{◌≡◌, ◌∙◌, ℕ, List, subst, arith}
+use Rattle.std.proofs.lemmas.List.{take_all}
 use Rattle.std.proofs.lemmas.Result.{err_from_is_err_and}
 use Rattle.pt_sector.specs.Calls.{with_fault}
 use Rattle.pt_sector.specs.Device.{Told}
@@ -43,3 +44,12 @@ pub returns-in_err-push_place-clause-blames : goal.returns-in_err-push_place-cla
 returns-in_err-push_place-clause-blames g c =
     let p = err_from_is_err_and c.from_residual-in_err-push_place.result c.from_residual-in_err-push_place.ensures.1 in
     rw (p.1, p.2) (c.in_ok-place.ensures.blames ∙ c.loop-k.invariant.quiet)
+
+pub returns-clause-spots : goal.returns-clause-spots
+returns-clause-spots g c = c.loop-k.invariant.spots ∙ take_all c.loop-k.k c.args.spots.now (omega arith)
+
+pub returns-clause-at : goal.returns-clause-at
+returns-clause-at g c = c.loop-k.invariant.at
+
+pub returns-clause-bytes : goal.returns-clause-bytes
+returns-clause-bytes g c = c.loop-k.invariant.bytes

@@ -2,7 +2,7 @@ use Rattle.std.proofs.Common.{◌≡◌, ◌+◌, ◌++◌, List, get_or, map, d
 use Rattle.pt_members.specs.declared.layout.Slice.{Slice}
 use Rattle.pt_places.specs.Spots.{slice_of, labels_of}
 use Rattle.pt_places.specs.declared.place.Spot.{Spot}
-use Rattle.pt_places.proofs.Sides.{fits_on, labels_on, slices_on}
+use Rattle.pt_places.proofs.Sides.{fits_on, labels_end, labels_on, left_over, slices_end, slices_on}
 use Rattle.pt_places.proofs.spots.spots.Goals as goal
 
 pub loop-k-preserved : goal.loop-k-preserved
@@ -22,3 +22,13 @@ loop-k-preserved c =
       fit = λ fit. fits_on c.args.slices.now c.args.labels.now c.loop-k.k c.loop-k.taken now z c.take_label-label.result
           (omega arith) c.requires c.take_label-label.ensures.takes (c.loop-k.invariant.fit fit);
     }
+
+pub returns-then-taken-labels : goal.returns-then-taken-labels
+returns-then-taken-labels c = λ fit.
+    left_over c.args.slices.now c.args.labels.now c.loop-k.k c.loop-k.taken (omega arith) (omega arith) (c.loop-k.invariant.fit fit)
+
+pub returns : goal.returns
+returns c = record {
+  slices = slices_end c.loop-k.spots.items c.args.slices.now c.loop-k.k (omega arith) c.loop-k.invariant.slices;
+  labels = labels_end c.loop-k.spots.items c.args.labels.now c.loop-k.taken (omega arith) c.loop-k.invariant.labels;
+}
