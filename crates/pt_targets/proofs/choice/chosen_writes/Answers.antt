@@ -1,5 +1,8 @@
-use Rattle.std.proofs.Common.{◌∙◌, refl, ap, arith, Vec}
-use Rattle.pt_targets.specs.Selected.{IsChosen}
+use Rattle.std.proofs.Common.{◌∙◌, List, refl, ap, subst, arith, Vec}
+use Rattle.std.proofs.lemmas.List.{take_all}
+use Rattle.pt_apply.specs.Plans.{writes_of}
+use Rattle.pt_targets.specs.Selected.{IsChosen, Selects}
+use Rattle.pt_targets.specs.declared.target.Target.{Target}
 use Rattle.pt_targets.proofs.Steps.{unless, pushed, skipped}
 use Rattle.pt_targets.proofs.choice.chosen_writes.Goals as goal
 use Rattle.pt_targets.proofs.choice.chosen_writes.Goals.{then-is_chosen+in_ok-push, else-is_chosen}
@@ -20,3 +23,8 @@ loop-target-preserved g c = record {
         (ap (λ (v : Vec _ _). v.items) w.writes-is)
   ];
 }
+
+pub returns : goal.returns
+returns g c =
+    subst (λ (ts : List (Target g.row.B)). Selects (IsChosen c.args.choice c.args.guarded.now) ts (writes_of c.loop-target.writes.items))
+    (take_all c.loop-target.target-index c.args.targets.now (omega arith)) c.loop-target.invariant.so_far
