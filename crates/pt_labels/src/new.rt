@@ -22,6 +22,7 @@ const RESERVED: u128 = 16;
 
 // The entry of a letter of a slice's label, where it is counted, isn't c, and has no sectors.
 fn unused_of<const B: usize>(layout: &Layout, number: u64, letter: u8) -> Result<PartEntry, Refusal>
+    ensures within { IfOk result (λ _. letter < 8) }
     ensures ok { IfOk result (λ s. HasUnused B layout.now number letter s.slice s.label s.entry) }
     ensures err { IfErr result (NoUnused B layout.now number letter) }
     ensures small { IfOk result (λ s. s.slice.first < 2 ^ 66) }

@@ -1,6 +1,6 @@
 //! The words `t` and `d` with a letter, of a partition of a slice's label.
 
-ghost use Rattle.std.specs.Prelude.{◌≡◌, ◌<◌, ◌^◌, IfOk, IfErr, slice_index_or, None};
+ghost use Rattle.std.specs.Prelude.{◌≡◌, ◌<◌, ◌^◌, IfOk, IfErr, slice_index_or, None, IfSome};
 ghost use Rattle.pt_labels.specs.Parts.{HasPartEntry, NoEntry, HasPart, NoPart, with_part, with_entry_of, part_type, PartTyped};
 ghost use Rattle.pt_labels.specs.Parts.{PartNotTyped};
 ghost use Rattle.pt_labels.specs.Parts.{PartDeleted, PartNotDeleted};
@@ -21,7 +21,8 @@ pub(crate) struct PartEntry {
 
 // The entry of a letter, where the label counts it.
 fn counted(label: &Label, letter: u8) -> Option<LabelEntry>
-    ensures { result ≡ slice_index_or label.now.entries letter None }
+    ensures value { result ≡ slice_index_or label.now.entries letter None }
+    ensures within { IfSome result (λ _. letter < 8) }
 {
     match label.entries.get(letter as usize) {
         Some(entry) => *entry,
@@ -35,6 +36,7 @@ pub(crate) fn entry_of<const B: usize>(
     number: u64,
     letter: u8,
 ) -> Result<PartEntry, Refusal>
+    ensures within { IfOk result (λ _. letter < 8) }
     ensures ok { IfOk result (λ s. HasPartEntry B layout.now number letter s.slice s.label s.entry) }
     ensures err { IfErr result (NoEntry B layout.now number letter) }
     ensures small { IfOk result (λ s. s.slice.first < 2 ^ 66) }
@@ -62,6 +64,7 @@ pub(crate) fn entry_of<const B: usize>(
 
 // The partition of a letter of a slice's label.
 fn part_of<const B: usize>(layout: &Layout, number: u64, letter: u8) -> Result<PartEntry, Refusal>
+    ensures within { IfOk result (λ _. letter < 8) }
     ensures ok { IfOk result (λ s. HasPart B layout.now number letter s.slice s.label s.entry) }
     ensures err { IfErr result (NoPart B layout.now number letter) }
 {

@@ -1,5 +1,7 @@
-use Rattle.std.proofs.Common.{◌∙◌, sym, refl}
+use Rattle.std.proofs.Common.{◌∙◌, sym, refl, ap}
 use Rattle.std.proofs.lemmas.Result.{err_from_is_err_and}
+use Rattle.pt_bsd.specs.declared.label.LabelEntry.{LabelEntry}
+use Rattle.pt_labels.specs.Parts.{with_entry_of}
 use Rattle.pt_labels.specs.New.{no_unused, no_type, no_place, no_offset}
 use Rattle.pt_labels.proofs.new.new_part.Goals as goal
 
@@ -25,3 +27,24 @@ returns-in-None-entry_at-clause-err g c other =
     let spot = c.in_ok-spot.spot in
     no_offset spot.slice spot.label spot.entry c.in-Some.kind c.in_ok-run.run' c.in_ok-spot.ensures.ok
     (sym c.new_type_of.ensures ∙ c.in-Some.is) c.in_ok-run.ensures.ok c.in-None-entry_at.ensures.none refl
+
+pub returns-clause-ok : goal.returns-clause-ok
+returns-clause-ok g c =
+    let spot = c.in_ok-spot.spot in
+    let entry = c.in-Some-entry_at.ensures.some in record {
+      slice = spot.slice;
+      label = spot.label;
+      old = spot.entry;
+      kind = c.in-Some.kind;
+      run = c.in_ok-run.run';
+      offset = c.in-Some-entry_at.entry.offset;
+      is_unused = c.in_ok-spot.ensures.ok;
+      is_known = sym c.new_type_of.ensures ∙ c.in-Some.is;
+      is_placed = c.in_ok-run.ensures.ok;
+      is_offset = entry.0;
+      made = c.put_entry.ensures
+          ∙ ap (λ (e : LabelEntry). with_entry_of c.args.asked.now.number spot.label c.args.letter e c.args.layout) entry.1;
+    }
+
+pub put_entry-requires : goal.put_entry-requires
+put_entry-requires g c = c.in_ok-spot.ensures.within

@@ -14,4 +14,4 @@ returns-then-letter-eq-RAW-clause-err g c =
 pub returns-in-None-counted-clause-err : goal.returns-in-None-counted-clause-err
 returns-in-None-counted-clause-err g c =
     uncounted c.in-Some.slice c.in-Some-find_label.label c.in-Some.ensures.some (sym c.find_label.ensures ∙ c.in-Some-find_label.is)
-    c.if-letter-eq-RAW.false (sym c.counted.ensures ∙ c.in-None-counted.is) refl
+    c.if-letter-eq-RAW.false (sym c.counted.ensures.value ∙ c.in-None-counted.is) refl

@@ -11,3 +11,18 @@ pub returns-in-None-clause-err : goal.returns-in-None-clause-err
 returns-in-None-clause-err g c =
     let spot = c.in_ok-spot.spot in
     unknown_code spot.slice spot.label spot.entry c.in_ok-spot.ensures.ok (sym c.part_type_of.ensures ∙ c.in-None.is) refl
+
+pub returns-clause-ok : goal.returns-clause-ok
+returns-clause-ok g c =
+    let spot = c.in_ok-spot.spot in record {
+      slice = spot.slice;
+      label = spot.label;
+      old = spot.entry;
+      new = record spot.entry { fstype = c.in-Some.kind };
+      is_part = c.in_ok-spot.ensures.ok;
+      becomes = (c.in-Some.kind, sym c.part_type_of.ensures ∙ c.in-Some.is, refl);
+      made = c.put_entry.ensures;
+    }
+
+pub put_entry-requires : goal.put_entry-requires
+put_entry-requires g c = c.in_ok-spot.ensures.within
