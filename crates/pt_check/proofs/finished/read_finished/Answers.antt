@@ -57,6 +57,7 @@ returns-in_err-told-clause-blames g c =
     blames_below g.D.Disk {T = Survey} fault_of (Err e) _ _ _ _ c.in_err-told.ensures.same.through.0 c.in_err-told.ensures.blames in
     let here : g.D.Disk.faults c.survey_disk.new.disk.disk.now ≡ with_fault (g.D.Disk.faults c.args.disk.now) (fault_of e) =
     rw (c.put_plan.ensures.disk, c.new-over.ensures.disk) at below in
-    let blames : g.D.Disk.faults c.survey_disk.new.disk.disk.now ≡ with_fault (g.D.Disk.faults c.args.disk.now) (fault_in (told_failure e)) =
+    let blames : g.D.Disk.faults c.survey_disk.new.disk.disk.now ≡ with_fault
+    (g.D.Disk.faults c.args.disk.now) (fault_in (told_failure e)) =
     failure_blames _ _ e here in
     rw (p.1, p.2) (search (rules, blames))

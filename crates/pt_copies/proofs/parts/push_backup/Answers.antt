@@ -7,7 +7,8 @@ use Rattle.pt_copies.proofs.parts.push_backup.Goals as goal
 
 pub returns : goal.returns
 returns g c =
-    subst (λ (ws : List (Write g.row.B)). AddsBackup g.row.B c.args.sectors c.args.table.now (writes_of c.args.writes.now.items) (writes_of ws))
+    subst (λ (ws : List (Write g.row.B)). AddsBackup g.row.B c.args.sectors c.args.table.now (writes_of c.args.writes.now.items)
+    (writes_of ws))
     (sym c.in_ok-push.ensures.items) (adds_backup c.args.sectors c.args.table.now (writes_of c.args.writes.now.items)
     c.push_array.new.writes.items _ (rw (c.as_slice.ensures, c.array_at-at.ensures) at c.in_ok-push_array.ensures) refl
     c.header_sector.ensures.bytes)

@@ -44,7 +44,8 @@ returns-in-BackupFirst-clause-count g c = c.backup_first.ensures.count
 pub returns-in-PrimaryFirst-clause-phases : goal.returns-in-PrimaryFirst-clause-phases
 returns-in-PrimaryFirst-clause-phases g c =
     primary_first_arranged c.args.setting.now.sectors c.args.table.now
-    (writes_of c.args.labels.items) c.args.setting.now.head c.last_sector-last.result c.args.order c.primary_first.result c.in-PrimaryFirst.is
+    (writes_of c.args.labels.items) c.args.setting.now.head c.last_sector-last.result c.args.order
+    c.primary_first.result c.in-PrimaryFirst.is
     c.last_sector-last.ensures c.primary_first.ensures.phases
 
 pub returns-in-PrimaryFirst-clause-in_range : goal.returns-in-PrimaryFirst-clause-in_range
