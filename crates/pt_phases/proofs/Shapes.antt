@@ -19,7 +19,7 @@ use Rattle.pt_targets.specs.Targets.{InSectorOrder}
 use Rattle.pt_targets.specs.declared.target.Target.{Target}
 use Rattle.pt_phases.specs.Phases.{Closes, Arranged}
 use Rattle.pt_phases.specs.declared.order.Order.{Order}
-use Rattle.pt_phases.specs.declared.order.Order.TheVariants.{BackupFirst, PrimaryFirst, FromMbr}
+use Rattle.pt_phases.specs.declared.order.Order.TheVariants.{FromMbr}
 
 few_last : (last : Option (List ℕ)) → length (last_of last) ≤ 1
 few_last None = omega arith
@@ -49,22 +49,6 @@ from_mbr_short n t labels new (Ok plan) is = omega (arith, as_many plan, ap leng
 pub closes_some : (n : ℕ) (given : Option (List ℕ)) (old : List ℕ) (last : List Writes) → given ≡ Some old → Protects n old last
     → Closes n given last
 closes_some n given old last is protects = subst (λ (x : Option (List ℕ)). Closes n x last) (sym is) protects
-
-pub backup_first_arranged : {b : ℕ} {E : Type 0} (n : ℕ) (t : Table) (labels : Writes) (given last : Option (List ℕ)) (chosen : Order)
-    (r : Result (Plan b) E) → chosen ≡ BackupFirst → Closes n given (last_of last)
-    → IfOk r (λ plan. WroteCopies b n t (λ p k. backup_first_phases b n t p k labels (last_of last)) (phases_of plan))
-    → IfOk r (λ plan. Arranged b n t given labels chosen (phases_of plan))
-backup_first_arranged n t labels given last chosen (Err e) is closes wrote = tt
-backup_first_arranged {b = b} n t labels given last chosen (Ok plan) is closes wrote =
-    subst (λ (x : Order). Arranged b n t given labels x (phases_of plan)) (sym is) (last_of last, closes, wrote)
-
-pub primary_first_arranged : {b : ℕ} {E : Type 0} (n : ℕ) (t : Table) (labels : Writes) (given last : Option (List ℕ)) (chosen : Order)
-    (r : Result (Plan b) E) → chosen ≡ PrimaryFirst → Closes n given (last_of last)
-    → IfOk r (λ plan. WroteCopies b n t (λ p k. primary_first_phases b n t p k labels (last_of last)) (phases_of plan))
-    → IfOk r (λ plan. Arranged b n t given labels chosen (phases_of plan))
-primary_first_arranged n t labels given last chosen (Err e) is closes wrote = tt
-primary_first_arranged {b = b} n t labels given last chosen (Ok plan) is closes wrote =
-    subst (λ (x : Order). Arranged b n t given labels x (phases_of plan)) (sym is) (last_of last, closes, wrote)
 
 pub from_mbr_arranged : {b : ℕ} {E : Type 0} (n : ℕ) (t : Table) (labels : Writes) (given : Option (List ℕ)) (old new : List ℕ)
     (chosen : Order) (r : Result (Plan b) E)
