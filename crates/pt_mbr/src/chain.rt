@@ -55,31 +55,30 @@ impl ChainError {
 
 impl fmt::Display for ChainError {
     fn fmt<W: fmt::Write>(&self, f: &mut fmt::Formatter<W>) -> fmt::Result {
-        let (before, at, after) = match self {
+        match self {
             ChainError::NoSignature(at) => {
-                ("the extended boot record at sector ", at, " lacks 55 AA")
+                write!(f, "the extended boot record at sector {} lacks 55 AA", at.0)
             }
-            ChainError::BadRecord(at) => (
-                "the extended boot record at sector ",
-                at,
-                " has a record that it may not have",
+            ChainError::BadRecord(at) => write!(
+                f,
+                "the extended boot record at sector {} has a record that it may not have",
+                at.0
             ),
-            ChainError::NotUpward(at) => (
-                "the link at sector ",
-                at,
-                " leads to its own sector or to a lower one",
+            ChainError::NotUpward(at) => write!(
+                f,
+                "the link at sector {} leads to its own sector or to a lower one",
+                at.0
             ),
-            ChainError::OutsideExtended(at) => (
-                "the chain leads to sector ",
-                at,
-                ", outside the extended partition or the disk",
+            ChainError::OutsideExtended(at) => write!(
+                f,
+                "the chain leads to sector {}, outside the extended partition or the disk",
+                at.0
             ),
             ChainError::TooLong => {
-                return f.write_str("the chain has more than 128 extended boot records");
+                f.write_str("the chain has more than 128 extended boot records")
             }
-            ChainError::Device(at) => ("sector ", at, " can't be read"),
-        };
-        write!(f, "{before}{}{after}", at.0)
+            ChainError::Device(at) => write!(f, "sector {} can't be read", at.0),
+        }
     }
 }
 
