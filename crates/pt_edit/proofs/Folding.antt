@@ -25,3 +25,9 @@ state_after guids o alignment taken count n e = rw (e, drop-drop n taken guids) 
 -- the fresh GUIDs that are left, as a slice has them
 pub left : (guids : List Guid) (n : ℕ) → take (length guids - n) (drop n guids) ≡ drop n guids
 left guids n = take_all (length guids - n) (drop n guids) (omega (arith, length-drop n guids))
+
+-- a state with the same layout
+pub state_with : (o p : Layout) (alignment : ℕ) (fresh : List Guid) → o ≡ p
+    → ◌≡◌ {A = State} (record { layout = Some o; alignment = alignment; fresh = fresh })
+    (record { layout = Some p; alignment = alignment; fresh = fresh })
+state_with o p alignment fresh e = rw e refl

@@ -1,6 +1,6 @@
 -- What a place of a new entry is, and what a word takes.
 use Rattle.std.proofs.Common.{◌≡◌, ◌≢◌, ◌≤◌, ◌↔◌, IsTrue, ℕ, Bool, true, false, List, [], ◌∷◌, length, get_or, drop, Option, Some, None}
-use Rattle.std.proofs.Common.{arith, ◌∙◌, sym, refl}
+use Rattle.std.proofs.Common.{arith, ◌∙◌, sym, refl, subst}
 use Rattle.pt_guid.specs.declared.guid.Guid.{Guid}
 use Rattle.pt_gpt.specs.declared.table.Table.{Table}
 use Rattle.pt_members.specs.declared.layout.Layout.{Layout}
@@ -14,7 +14,7 @@ use Rattle.pt_words.specs.declared.word.End.{End}
 use Rattle.pt_words.specs.declared.word.Edit.{Edit}
 use Rattle.pt_words.specs.declared.word.Edit.TheVariants.{Align, New, Delete, SetKind, SetName, SetUnique, SetDisk, SetBit, Extend, ToGpt}
 use Rattle.pt_words.specs.declared.word.Edit.TheVariants.{Empty}
-use Rattle.pt_edit.specs.NewEntry.{EntryMade}
+use Rattle.pt_edit.specs.NewEntry.{EntryMade, IsUnusedEntry, TakesNumber, given, lowest}
 use Rattle.pt_edit.specs.Edited.{InKind, Made, MakesOn, asked_for, taken_by, taken_by_new}
 use Rattle.pt_words.specs.declared.asked.Asked.{Asked}
 
@@ -68,3 +68,8 @@ first_of (x ∷ xs) d some = refl
 -- what a test denies doesn't hold
 pub refuted : (P : Type 0) (test : Bool) → (IsTrue test ↔ P) → test ≡ false → ¬ P
 refuted P test decides denied = λ p. let e : ◌≡◌ {A = Bool} true false = sym (decides.1 p) ∙ denied in cc
+
+-- the number of a new entry is an unused one
+pub takes_unused : (t : Table) (wanted number : ℕ) → TakesNumber t wanted number → IsUnusedEntry t number
+takes_unused t wanted number (given some unused is) = subst (IsUnusedEntry t) (sym is) unused
+takes_unused t wanted number (lowest any unused least) = unused

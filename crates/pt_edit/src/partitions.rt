@@ -77,7 +77,6 @@ fn bounds(body: &Body)
 }
 
 // All of them, but the extended partition.
-#[tactic(auto, using(crate::proofs::Listing::kept_more, crate::proofs::Listing::kept_end))]
 pub(crate) fn partitions_of(alloc: Global, body: &Body) -> Result<Vec<Partition>, AllocError>
     ensures ok { IfOk result (λ v. v.items ≡ partitions body.now) }
     ensures four { HasFour body.now }

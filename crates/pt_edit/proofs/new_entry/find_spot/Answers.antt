@@ -1,7 +1,7 @@
 use Rattle.std.proofs.Common.{refl, subst, arith}
 use Rattle.std.proofs.lemmas.Result.{err_from_is_err_and}
 use Rattle.pt_space.specs.Area.{Area, area_of}
-use Rattle.pt_space.specs.Placed.{NotPlaced}
+use Rattle.pt_space.specs.Placed.{Placed, NotPlaced}
 use Rattle.pt_edit.specs.NewEntry.{no_number, no_type, no_sectors}
 use Rattle.pt_edit.proofs.Places.{last_within, first_within}
 use Rattle.pt_edit.proofs.new_entry.find_spot.Goals as goal
@@ -33,3 +33,12 @@ returns-clause-fits c =
     let h = last_within (area_of c.in_ok-space.space) c.args.asked.now.alignment c.args.asked.now.start c.args.asked.now.end
     c.in_ok-run.run' c.in_ok-run.ensures.ok in
     omega (arith, h, c.in_ok-space.ensures.small)
+
+pub returns-clause-ok : goal.returns-clause-ok
+returns-clause-ok c =
+    let asked = c.args.asked.now in record {
+      takes = c.in_ok-number.ensures.ok;
+      known = c.in-Some.ensures.some;
+      placed = subst (λ (a : Area). Placed a asked.alignment asked.start asked.end c.in_ok-run.run') c.in_ok-space.ensures.area
+          c.in_ok-run.ensures.ok;
+    }

@@ -1,4 +1,5 @@
 use Rattle.std.proofs.lemmas.Result.{err_from_is_err_and}
+use Rattle.pt_edit.proofs.Places.{takes_unused}
 use Rattle.pt_edit.proofs.new_entry.new_entry.Goals as goal
 
 pub returns-in_err-chosen-clause-err : goal.returns-in_err-chosen-clause-err
@@ -19,3 +20,15 @@ returns-clause-ok g c = record {
   alone = c.in_ok-chosen.ensures.alone;
   made = c.in_ok-put_new.ensures;
 }
+
+pub put_new-requires-clause-first : goal.put_new-requires-clause-first
+put_new-requires-clause-first g c = c.in_ok-chosen.ensures.small
+
+pub put_new-requires-clause-last : goal.put_new-requires-clause-last
+put_new-requires-clause-last g c = c.in_ok-chosen.ensures.fits
+
+pub put_new-requires-clause-unused : goal.put_new-requires-clause-unused
+put_new-requires-clause-unused g c = takes_unused _ _ _ c.in_ok-chosen.ensures.place.takes
+
+pub put_new-requires-clause-size : goal.put_new-requires-clause-size
+put_new-requires-clause-size g c = c.in_ok-chosen.ensures.size

@@ -1,8 +1,8 @@
-use Rattle.std.proofs.Common.{◌++◌, List, ap, ◌∙◌}
+use Rattle.std.proofs.Common.{◌++◌, List, ap, ◌∙◌, arith}
 use Rattle.std.specs.Prelude.{option_to_list}
 use Rattle.pt_members.specs.Rows.{rows}
 use Rattle.pt_edit.specs.declared.partition.Partition.{Partition}
-use Rattle.pt_edit.proofs.Listing.{kept_more}
+use Rattle.pt_edit.proofs.Listing.{kept_more, kept_end}
 use Rattle.pt_edit.proofs.partitions.partitions_of.Goals as goal
 
 pub loop-k-preserved : goal.loop-k-preserved
@@ -10,3 +10,7 @@ loop-k-preserved c =
     let here = option_to_list c.partition_at.result in
     kept_more (rows 512 c.args.body.now) c.loop-k.k c.push.new.partitions.items here c.partition_at.ensures
     (c.in_ok-push.ensures ∙ ap (λ (ps : List Partition). ps ++ here) c.loop-k.invariant)
+
+pub returns-clause-ok : goal.returns-clause-ok
+returns-clause-ok c =
+    c.loop-k.invariant ∙ kept_end 512 c.args.body.now c.loop-k.k (omega (arith, c.loop-k-test.false, c.slot_count-k-end.ensures))
