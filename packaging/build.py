@@ -118,7 +118,7 @@ def slack_of(crates):
 
 
 def jobs_for(slack, others):
-    """How many processes prove a crate beside so many other crates: as many as four processors take. They take a sixth more of the
+    """How many processes prove a crate beside so many other crates: as many as four processors take. They take a quarter more of the
     processors' time in all, so where others keep the processors busy only what all else waits for has a second one."""
     return max(4 - others, 2 if slack < 0.001 else 1)
 
@@ -157,7 +157,7 @@ def side_by_side(rt, crates, prove_one):
 
 @contextlib.contextmanager
 def files_in_memory():
-    """The prover's processes hand on what they have checked in files. In memory that takes 2 to 4 % less of a crate's time."""
+    """The prover's processes hand on what they have checked in files. In memory that takes some 4 % less of a crate's time."""
     has_room = "TMPDIR" not in os.environ and os.access(IN_MEMORY, os.W_OK) and shutil.disk_usage(IN_MEMORY).free >= ROOM_IN_MEMORY
     if not has_room:
         yield
