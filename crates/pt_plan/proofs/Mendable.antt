@@ -9,7 +9,7 @@ use Rattle.pt_recover.specs.declared.error.NoTable.{NoTable as Reason}
 use Rattle.pt_recover.specs.declared.error.NoTable.TheVariants as reason
 use Rattle.pt_members.specs.declared.layout.Layout.{Layout}
 use Rattle.pt_sound.specs.Healthy.{Healthy, IsHealthy}
-use Rattle.pt_accepted.specs.laws.Accepted.{plan_finishes, plan_not_refused}
+use Rattle.pt_plan.specs.laws.Accepted.{plan_finishes, plan_not_refused}
 use Rattle.pt_cases.specs.Cases.{IsPlan, idle, backup_first, primary_first, from_mbr, one_label, within_mbr}
 use Rattle.pt_exact.specs.laws.Mended.{repair_is_planned_lem, mendable_by_plan_lem}
 use Rattle.pt_planner.specs.Known.{ReasonIs}

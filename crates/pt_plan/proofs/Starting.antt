@@ -9,7 +9,7 @@ use Rattle.pt_recover.specs.declared.error.NoTable.TheVariants as reason
 use Rattle.pt_sound.specs.Healthy.{Healthy}
 use Rattle.pt_members.specs.Owned.{OwnedOf}
 use Rattle.pt_members.specs.Tables.{TableOf}
-use Rattle.pt_accepted.specs.laws.Accepted.{plan_finishes, plan_not_refused}
+use Rattle.pt_plan.specs.laws.Accepted.{plan_finishes, plan_not_refused}
 use Rattle.pt_cases.specs.Cases.{IsPlan}
 use Rattle.pt_planner.specs.Known.{ReasonIs}
 use Rattle.pt_targets.specs.Errors.{fault_in}

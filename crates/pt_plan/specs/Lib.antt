@@ -1,9 +1,13 @@
+pub mod Accepted
 pub mod Applied
 pub mod Batches
 pub mod Commits
+pub mod Ended
 pub mod Failed
 pub mod History
+pub mod Landing
 pub mod Mending
+pub mod Phases
 pub mod Repairs
 pub mod Steps
 pub mod laws

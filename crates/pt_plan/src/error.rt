@@ -52,10 +52,10 @@ impl fmt::Display for CommitError {
     fn fmt<W: fmt::Write>(&self, f: &mut fmt::Formatter<W>) -> fmt::Result {
         match self {
             CommitError::NoTable(why) => write!(f, "there is no table: {why}"),
-            CommitError::Edit(refusal) => write!(f, "{refusal}"),
-            CommitError::Plan(error) => write!(f, "{error}"),
+            CommitError::Edit(refusal) => fmt::Display::fmt(refusal, f),
+            CommitError::Plan(error) => fmt::Display::fmt(error, f),
             CommitError::Check(why) => write!(f, "the plan is refused: {why}"),
-            CommitError::Device(fault) => write!(f, "{fault}"),
+            CommitError::Device(fault) => fmt::Display::fmt(fault, f),
             CommitError::Memory => f.write_str("out of memory"),
         }
     }

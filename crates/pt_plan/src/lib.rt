@@ -1,9 +1,10 @@
-//! Commits of edits to a disk, repairs, and plans from anywhere that are checked and applied.
+//! Commits of edits to a disk, repairs, and plans from anywhere that are checked and applied. The checker takes every plan of the planner.
 #![tactic(auto)]
 
 mod checked;
 mod commits;
 mod error;
+pub mod laws;
 mod prepare;
 mod repair_error;
 mod repairs;

@@ -53,9 +53,9 @@ impl fmt::Display for RepairError {
         match self {
             RepairError::NoTable(why) => write!(f, "there is no table: {why}"),
             RepairError::Unsound(finding) => write!(f, "a repair leaves it to you: {finding}"),
-            RepairError::Device(fault) => write!(f, "{fault}"),
+            RepairError::Device(fault) => fmt::Display::fmt(fault, f),
             RepairError::Memory => f.write_str("out of memory"),
-            RepairError::Plan(error) => write!(f, "{error}"),
+            RepairError::Plan(error) => fmt::Display::fmt(error, f),
             RepairError::Check(why) => write!(f, "the plan is refused: {why}"),
         }
     }

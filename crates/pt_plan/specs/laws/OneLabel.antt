@@ -22,7 +22,7 @@ use Rattle.pt_check.specs.laws.Walk.{Turns}
 use Rattle.pt_cases.specs.Cases.{IsOneLabel, ChangesLabels}
 use Rattle.pt_cases.specs.Copies.{one_write}
 use Rattle.pt_cases.specs.laws.Frames.{LabelsRight, misses, one_is, one_end, side_stands, denotes_gpt}
-use Rattle.pt_accepted.specs.Landing.{Lands, IsGood, Each, landed}
+use Rattle.pt_plan.specs.Landing.{Lands, IsGood, Each, landed}
 use Rattle.pt_cases.specs.laws.Met.{labels_met_right}
 use Rattle.pt_cases.specs.laws.Denoted.{table_fits}
 use Rattle.pt_cases.specs.laws.Stands.{place_usable}

@@ -13,13 +13,13 @@ use Rattle.pt_check.specs.declared.answer.Answer.TheVariants.{Yes, No}
 use Rattle.pt_check.specs.declared.answer.Why.{Why}
 use Rattle.pt_check.specs.laws.Walk.{stays_is_course}
 use Rattle.pt_cases.specs.Cases.{IsPlan, idle, backup_first, primary_first, from_mbr, one_label, within_mbr}
-use Rattle.pt_accepted.specs.laws.BackupFirst.{backup_first_lands}
-use Rattle.pt_accepted.specs.laws.PrimaryFirst.{primary_first_lands}
-use Rattle.pt_accepted.specs.laws.FromMbr.{from_mbr_lands}
-use Rattle.pt_accepted.specs.laws.OneLabel.{one_label_lands}
-use Rattle.pt_accepted.specs.laws.WithinMbr.{within_mbr_lands}
-use Rattle.pt_accepted.specs.Landing.{Lands}
-use Rattle.pt_accepted.specs.Accepted.{turn_of}
+use Rattle.pt_plan.specs.laws.BackupFirst.{backup_first_lands}
+use Rattle.pt_plan.specs.laws.PrimaryFirst.{primary_first_lands}
+use Rattle.pt_plan.specs.laws.FromMbr.{from_mbr_lands}
+use Rattle.pt_plan.specs.laws.OneLabel.{one_label_lands}
+use Rattle.pt_plan.specs.laws.WithinMbr.{within_mbr_lands}
+use Rattle.pt_plan.specs.Landing.{Lands}
+use Rattle.pt_plan.specs.Accepted.{turn_of}
 
 idle_lands : (b : ℕ) (d : Sectors) (o : Option Layout) (p : Layout) → Denotes b d o → IsHealthy b d p → Lands b d o p [] 0
 idle_lands b d o p from healthy =

@@ -11,11 +11,11 @@ use Rattle.pt_recover.specs.Labels.{LabelAt, LabelsAre}
 use Rattle.pt_members.specs.declared.layout.Layout.{Layout}
 use Rattle.pt_members.specs.declared.layout.Slice.{Slice}
 use Rattle.pt_members.specs.OnePath.{HasFour}
-use Rattle.pt_accepted.specs.laws.BackupFirst.{backup_first_ended}
-use Rattle.pt_accepted.specs.laws.PrimaryFirst.{primary_first_ended}
-use Rattle.pt_accepted.specs.laws.FromMbr.{from_mbr_ended}
-use Rattle.pt_accepted.specs.laws.OneLabel.{one_label_ended}
-use Rattle.pt_accepted.specs.laws.WithinMbr.{within_mbr_ended}
+use Rattle.pt_plan.specs.laws.BackupFirst.{backup_first_ended}
+use Rattle.pt_plan.specs.laws.PrimaryFirst.{primary_first_ended}
+use Rattle.pt_plan.specs.laws.FromMbr.{from_mbr_ended}
+use Rattle.pt_plan.specs.laws.OneLabel.{one_label_ended}
+use Rattle.pt_plan.specs.laws.WithinMbr.{within_mbr_ended}
 use Rattle.pt_cases.specs.Cases.{IsPlan, idle, backup_first, primary_first, from_mbr, one_label, within_mbr}
 use Rattle.pt_cases.specs.StandsOn.{StandsOn}
 use Rattle.pt_cases.specs.laws.StandsOn.{along_labels_are, denoted_four}

@@ -13,10 +13,10 @@ ghost use Rattle.pt_check.specs.Answers.{Answers};
 ghost use Rattle.pt_check.specs.declared.answer.Answer.TheVariants.{No};
 ghost use Rattle.pt_check.specs.declared.answer.Why.{Why};
 ghost use Rattle.pt_cases.specs.Cases.{IsPlan};
-ghost use Rattle.pt_accepted.specs.Ended.{HoldsTarget};
-ghost use Rattle.pt_accepted.specs.Landing.{Lands};
-ghost use Rattle.pt_accepted.specs.Phases.{IsPhase};
-ghost use Rattle.pt_accepted.specs.Accepted.{turn_of};
+ghost use Rattle.pt_plan.specs.Ended.{HoldsTarget};
+ghost use Rattle.pt_plan.specs.Landing.{Lands};
+ghost use Rattle.pt_plan.specs.Phases.{IsPhase};
+ghost use Rattle.pt_plan.specs.Accepted.{turn_of};
 
 /// A plan of a disk for a layout is accepted with its switch, and the disk is healthy after it, with that layout.
 #[tactic(auto, using(crate::specs::laws::Accepted::plan_lands))]

@@ -1,5 +1,5 @@
 -- What the parts of a plan that writes both copies write, and where.
-use Rattle.std.proofs.Common.{◌≡◌, ◌*◌, ◌∙◌, inl, inr, ⊎_elim, ℕ, ◌+◌, ◌-◌, ◌<◌, ◌≤◌, List, [], ◌∷◌, length, take, sym, ap, subst}
+use Rattle.std.proofs.Common.{◌≡◌, ◌∙◌, inl, inr, ⊎_elim, ℕ, ◌+◌, ◌-◌, ◌<◌, ◌≤◌, List, [], ◌∷◌, length, take, sym, ap, subst}
 use Rattle.std.proofs.Common.{arith, Option}
 use Rattle.pt_sector.specs.Sectors.{Sectors, sector, IsSectorSize}
 use Rattle.pt_sector.specs.Writes.{Writes, Puts, written}
@@ -19,7 +19,7 @@ use Rattle.pt_cases.specs.Cases.{Copies}
 use Rattle.pt_cases.specs.Copies.{header_of, array_phase, one_write, backup_phase, IsProtectedFrom, Protects}
 use Rattle.pt_cases.specs.Few.{array_length, backup_length, copies_bound}
 use Rattle.pt_cases.specs.laws.Frames.{misses, one_is, put_there}
-use Rattle.pt_accepted.specs.Landing.{IsGood, Each}
+use Rattle.pt_plan.specs.Landing.{IsGood, Each}
 use Rattle.pt_cases.specs.laws.Stands.{place_usable}
 use Rattle.pt_cases.specs.laws.Sides.{puts_array, puts_backup, array_there, backup_header, backup_array, side_written}
 use Rattle.pt_cases.specs.laws.Met.{labels_set_met}

@@ -29,7 +29,7 @@ use Rattle.pt_cases.specs.Cases.{IsWithinMbr, IsNeeded, MbrMet}
 use Rattle.pt_cases.specs.Copies.{one_write}
 use Rattle.pt_apply.specs.laws.Puts.{puts_split, puts_left, puts_right}
 use Rattle.pt_cases.specs.laws.Frames.{LabelsRight, misses, one_is, one_end, put_there, foreign_back}
-use Rattle.pt_accepted.specs.Landing.{Lands, IsGood, landed}
+use Rattle.pt_plan.specs.Landing.{Lands, IsGood, landed}
 use Rattle.pt_cases.specs.laws.Met.{labels_met_right}
 use Rattle.pt_cases.specs.laws.LabelPlaces.{place_below}
 use Rattle.pt_cases.specs.Links.{LinkedOn, IsLoneChain, link_to}

@@ -17,14 +17,14 @@ use Rattle.pt_check.specs.laws.Walk.{Turns}
 use Rattle.pt_sound.specs.laws.Guarded.{reads_guarded}
 use Rattle.pt_cases.specs.Cases.{IsFromMbr, copies_and_labels, from_mbr_phases}
 use Rattle.pt_cases.specs.Copies.{header_of, array_phase, one_write, backup_phase}
-use Rattle.pt_accepted.specs.laws.End.{HasBoth, head_written}
+use Rattle.pt_plan.specs.laws.End.{HasBoth, head_written}
 use Rattle.pt_apply.specs.laws.Puts.{puts_split}
 use Rattle.pt_cases.specs.Few.{from_mbr_count}
 use Rattle.pt_cases.specs.laws.Frames.{LabelsRight, misses, there_one, one_is}
-use Rattle.pt_accepted.specs.Landing.{Lands, IsGood, Each, landed}
+use Rattle.pt_plan.specs.Landing.{Lands, IsGood, Each, landed}
 use Rattle.pt_cases.specs.laws.Met.{labels_met_right}
-use Rattle.pt_accepted.specs.laws.Parts.{few_enough, middle, label_middle, backup_high, primary_low, label_good, one_good, array_good}
-use Rattle.pt_accepted.specs.laws.Parts.{backup_good, head_good, backup_there, primary_there, array_filled, labels_met, labels_end}
+use Rattle.pt_plan.specs.laws.Parts.{few_enough, middle, label_middle, backup_high, primary_low, label_good, one_good, array_good}
+use Rattle.pt_plan.specs.laws.Parts.{backup_good, head_good, backup_there, primary_there, array_filled, labels_met, labels_end}
 use Rattle.pt_cases.specs.Targets.{ComesToHold}
 
 module _ (b : ℕ) (d : Sectors) (o : Option Layout) (p : Layout) (t : Table) (phases : List Writes) (size : IsSectorSize b)

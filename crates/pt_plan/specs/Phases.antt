@@ -18,7 +18,7 @@ use Rattle.pt_cases.specs.Cases.{primary_and_labels, copies_and_labels, within_m
 use Rattle.pt_cases.specs.Copies.{array_writes, array_phase, one_write, closing, backup_phase, Protects}
 use Rattle.pt_apply.specs.laws.Puts.{puts_split}
 use Rattle.pt_cases.specs.laws.Frames.{puts_at, rises_in_tail, one_is}
-use Rattle.pt_accepted.specs.laws.Parts.{label_middle, primary_low, backup_high, array_few, backup_few}
+use Rattle.pt_plan.specs.laws.Parts.{label_middle, primary_low, backup_high, array_few, backup_few}
 use Rattle.pt_cases.specs.laws.Select.{Rises, rises_ascends}
 use Rattle.pt_cases.specs.laws.Sides.{puts_array}
 

@@ -19,16 +19,16 @@ use Rattle.pt_members.specs.declared.layout.Layout.{Layout}
 use Rattle.pt_sound.specs.Healthy.{IsHealthy}
 use Rattle.pt_check.specs.laws.Walk.{Turns}
 use Rattle.pt_cases.specs.Cases.{IsPrimaryFirst, primary_and_labels, primary_first_phases}
-use Rattle.pt_accepted.specs.laws.Closed.{isnt_closed, zeros_closed, closed_keeps}
+use Rattle.pt_plan.specs.laws.Closed.{isnt_closed, zeros_closed, closed_keeps}
 use Rattle.pt_cases.specs.Copies.{header_of, array_phase, one_write, closing, backup_phase}
-use Rattle.pt_accepted.specs.laws.End.{HasBoth, last_written, last_stays, last_misses}
+use Rattle.pt_plan.specs.laws.End.{HasBoth, last_written, last_stays, last_misses}
 use Rattle.pt_apply.specs.laws.Puts.{puts_split}
 use Rattle.pt_cases.specs.Few.{primary_first_count}
 use Rattle.pt_cases.specs.laws.Frames.{LabelsRight, misses, there_one, one_is, side_stands, labels_right, not_mbr, denotes_gpt}
-use Rattle.pt_accepted.specs.Landing.{Lands, IsGood, Each, landed}
+use Rattle.pt_plan.specs.Landing.{Lands, IsGood, Each, landed}
 use Rattle.pt_cases.specs.laws.Met.{labels_met_right}
-use Rattle.pt_accepted.specs.laws.Parts.{few_enough, middle, label_middle, backup_high, primary_low, label_good, one_good, array_good}
-use Rattle.pt_accepted.specs.laws.Parts.{backup_good, last_good, backup_there, primary_there, array_filled, labels_met, labels_end}
+use Rattle.pt_plan.specs.laws.Parts.{few_enough, middle, label_middle, backup_high, primary_low, label_good, one_good, array_good}
+use Rattle.pt_plan.specs.laws.Parts.{backup_good, last_good, backup_there, primary_there, array_filled, labels_met, labels_end}
 use Rattle.pt_sound.specs.Guarded.{place}
 use Rattle.pt_cases.specs.Targets.{ComesToHold}
 use Rattle.pt_cases.specs.laws.Within.{side_within, zeros_no_head, reads_gpt}

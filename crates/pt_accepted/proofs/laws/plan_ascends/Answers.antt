@@ -1,5 +1,0 @@
-use Rattle.pt_accepted.specs.Phases.{plan_ascends_lem}
-use Rattle.pt_accepted.proofs.laws.plan_ascends.Goals as goal
-
-pub returns : goal.returns
-returns c = plan_ascends_lem

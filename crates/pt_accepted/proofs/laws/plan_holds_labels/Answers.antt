@@ -1,5 +1,0 @@
-use Rattle.pt_accepted.specs.Ended.{plan_labels}
-use Rattle.pt_accepted.proofs.laws.plan_holds_labels.Goals as goal
-
-pub returns : goal.returns
-returns c = plan_labels

@@ -1,5 +1,0 @@
-pub mod Accepted
-pub mod Ended
-pub mod Landing
-pub mod Phases
-pub mod laws

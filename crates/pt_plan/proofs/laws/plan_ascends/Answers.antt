@@ -1,0 +1,5 @@
+use Rattle.pt_plan.specs.Phases.{plan_ascends_lem}
+use Rattle.pt_plan.proofs.laws.plan_ascends.Goals as goal
+
+pub returns : goal.returns
+returns c = plan_ascends_lem
