@@ -26,6 +26,9 @@ ROOT = os.path.dirname(os.path.dirname(os.path.abspath(__file__)))
 # Measured: a check takes as long before its first proof as so many lines of code take to prove, and each job so much memory, in bytes.
 LINES_OF_A_START = 80
 MEMORY_OF_A_JOB = 1_500_000_000
+# How many levels of priority a crate goes down for its slack, from none (0) to all of the longest chain (1). By a simulation with measured
+# times, varied by chance, this and the rule for processes take 3 % less than 20 levels and a process less.
+LEVELS_OF_SLACK = 40
 # The prover's allocator (mimalloc) keeps the pages that it has. To give them back and ask for them anew takes some 4 % of a proof's time.
 os.environ.setdefault("MIMALLOC_PURGE_DELAY", "-1")
 # A folder in memory, where there is one, and the room that it must have.
@@ -118,9 +121,10 @@ def slack_of(crates):
 
 
 def jobs_for(slack, others):
-    """How many processes prove a crate beside so many other crates: as many as four processors take. They take a quarter more of the
-    processors' time in all, so where others keep the processors busy only what all else waits for has a second one."""
-    return max(4 - others, 2 if slack < 0.001 else 1)
+    """How many processes prove a crate beside so many other crates: one more in all than there are of four processors, since each crate
+    begins with one. Two take a quarter more of the processors' time than one, so where others keep the processors busy only what all else
+    waits for has a second one."""
+    return min(4, max(5 - others, 2 if slack < 0.001 else 1))
 
 
 def side_by_side(rt, crates, prove_one):
@@ -131,7 +135,7 @@ def side_by_side(rt, crates, prove_one):
 
     def work(crate, jobs):
         # a thread's own priority, which the processes that it starts have too
-        os.setpriority(os.PRIO_PROCESS, threading.get_native_id(), min(19, round(20 * slack[crate.name])))
+        os.setpriority(os.PRIO_PROCESS, threading.get_native_id(), min(19, round(LEVELS_OF_SLACK * slack[crate.name])))
         try:
             done.put((crate, prove_one(crate, jobs)))
         except BaseException as why:
