@@ -1,17 +1,64 @@
 -- Lines that are added to those that were read.
-use Rattle.std.proofs.Common.{◌≡◌, inl, inr, ◌<◌, ◌≤◌, ◌+◌, ℕ, suc, List, [], ◌∷◌, ◌++◌, length, refl, sym, ap, ◌∙◌, subst, arith}
-use Rattle.std.proofs.Common.{length-append, append_assoc, drop, get_or}
-use Rattle.std.proofs.lemmas.List.{append-nil, map-append}
+use Rattle.std.proofs.Common.{◌≡◌, inl, inr, ◌<◌, ◌≤◌, ◌+◌, ℕ, zero, suc, List, [], ◌∷◌, ◌++◌, length, refl, sym, ap, ◌∙◌, subst, arith}
+use Rattle.std.proofs.Common.{length-append, append_assoc, drop, get_or, true, false, ◌==◌, Vec}
+use Rattle.std.proofs.lemmas.List.{append-nil, length-map, map-append}
 use Rattle.std.proofs.Math.Seq.{get_or-append_seam}
 use Rattle.std.proofs.lemmas.List.Elements.{All-nil, All-cons, All-head, All-tail}
 use Rattle.std.specs.Str.{IsUtf8}
+use Rattle.std.proofs.lemmas.Bool.Decides.{Decides-eqb}
+use Rattle.std.specs.declared.alloc.Global.{Global}
 use Rattle.std.proofs.lemmas.Str.{IsUtf8-drop, IsCharBoundary-after_ascii}
 use Rattle.pt_sector.specs.Writes.{Writes}
-use Rattle.pt_apply.specs.Lines.{joined, LineItem, Put, Flush, IsLine, AreLines}
+use Rattle.pt_apply.specs.Lines.{joined, LineItem, Put, Flush, IsLine, IsWriteLine, IsFlushLine, AreLines}
+use Rattle.pt_apply.specs.Plans.{writes_of, phases_in}
+use Rattle.pt_apply.specs.declared.plan.Write.{Write}
 use Rattle.pt_apply.specs.PlanTexts.{Begins, PlanText, steps_of, puts, NoneEmpty}
 use Rattle.pt_apply.specs.Faults.{MayFollow, IsBadLine, LacksFlush}
 use Rattle.pt_apply.specs.Reading.{Grows, Lacks}
-use Rattle.pt_apply.proofs.Cuts.{one_cut, lacks_cons, lacks_nil, write_lineless}
+use Rattle.pt_apply.proofs.Cuts.{one_cut, lacks_cons, lacks_nil, write_lineless, write_no_flush}
+
+-- what a line adds: a write to the last phase
+pub grows_write : {b : _} (line : List ℕ) (phases : List Writes) (last new : List (Write b)) (w : Write b)
+    → IsWriteLine b line (w.lba.0, w.bytes) → new ≡ last ++ w ∷ [] → Grows b line phases (writes_of last) phases (writes_of new)
+grows_write line phases last new w is pushed =
+    inl ((w.lba.0, w.bytes), is, refl, ap writes_of pushed ∙ map-append (λ (x : Write _). (x.lba.0, x.bytes)) last (w ∷ []))
+
+nothing : {X : Type 0} (xs : List X) → length xs ≡ 0 → xs ≡ []
+nothing [] e = refl
+nothing (x ∷ xs) e = absurd (omega (arith, e))
+
+above_zero : (n : ℕ) → (n == 0) ≡ false → 0 < n
+above_zero zero e = cc e
+above_zero (suc n) e = omega arith
+
+pub has_writes : {b : _} (last : Vec (Write b) Global) → (last.len == 0) ≡ false → 0 < length (writes_of last.items)
+has_writes last more =
+    let count : length (writes_of last.items) ≡ length last.items = length-map last.items (λ (x : Write _). (x.lba.0, x.bytes)) in
+    let some = above_zero last.len more in
+    omega (arith, count, some, last.ok.0)
+
+pub has_none : {b : _} (last : Vec (Write b) Global) → (last.len == 0) ≡ true → writes_of last.items ≡ []
+has_none last none = ap writes_of (nothing last.items (let zero = (Decides-eqb last.len 0).0 none in omega (arith, zero, last.ok.0)))
+
+-- or the last phase to the phases
+pub grows_flush : {b : _} (line : List ℕ) (phases : List (Vec (Write b) Global)) (last out : Vec (Write b) Global)
+    (new : List (Vec (Write b) Global)) (left none : Vec (Write b) Global)
+    → IsFlushLine line → (last.len == 0) ≡ false → out ≡ last → new ≡ phases ++ out ∷ [] → left ≡ none → none.items ≡ []
+    → Grows b line (phases_in phases) (writes_of last.items) (phases_in new) (writes_of left.items)
+grows_flush line phases last out new left none is more same pushed after empty =
+    inr (
+      is,
+      has_writes last more,
+      ap phases_in pushed ∙ map-append (λ (x : Vec (Write _) Global). writes_of x.items) phases (out ∷ [])
+          ∙ ap (λ (v : Vec (Write _) Global). phases_in phases ++ writes_of v.items ∷ []) same,
+      ap (λ (v : Vec (Write _) Global). writes_of v.items) after ∙ ap writes_of empty,
+    )
+
+-- an `F` with no write before it may not come
+pub no_flush_yet : {b : _} (last : Vec (Write b) Global) (line : List ℕ) → IsFlushLine line → (last.len == 0) ≡ true
+    → ¬ MayFollow b (writes_of last.items) line
+no_flush_yet {b = b} last line is none (inl w) = write_no_flush b line w.0 w.1 is
+no_flush_yet last line is none (inr f) = absurd (omega (arith, f.1, ap length (has_none last none)))
 
 -- the lines so far, and what is left
 pub record IsReading (b : ℕ) (text rest : List ℕ) (n : ℕ) (phases : List Writes) (last : Writes) : Type 0 where
@@ -146,6 +193,15 @@ reading_unflushed b text n phases last h more =
 
 pub reading_done : (b : ℕ) (text : List ℕ) (n : ℕ) (phases : List Writes) → IsReading b text [] n phases [] → PlanText b phases text
 reading_done b text n phases h = record { lines = h.lines; whole = h.whole; begins = h.begins }
+
+-- where nothing is left
+pub reading_ends : (b : ℕ) (text rest : List ℕ) (n : ℕ) (phases : List Writes) (last : Writes) → IsReading b text rest n phases last
+    → (length rest == 0) ≡ true → IsReading b text [] n phases last
+reading_ends b text rest n phases last h none =
+    subst (λ (r : List ℕ). IsReading b text r n phases last) (nothing rest ((Decides-eqb (length rest) 0).0 none)) h
+
+pub shorter : (rest line after : List ℕ) → rest ≡ line ++ 10 ∷ after → length after < length rest
+shorter rest line after e = rw e (let len = length-append line (10 ∷ after) in omega (arith, len))
 
 drop_seam : (xs : List ℕ) (c : ℕ) (ys : List ℕ) → drop (suc (length xs)) (xs ++ c ∷ ys) ≡ ys
 drop_seam [] c ys = refl

@@ -10,7 +10,7 @@ use crate::label::{Label, LabelEntry, RAW};
 ///
 /// A label has its form by where entry c starts: at 0, or at its slice's first sector. Where a slice starts at
 /// sector 0 both are the same, and the form is `Relative`.
-#[derive(Clone, Copy, Debug, PartialEq, Eq)]
+#[derive(Clone, Copy)]
 pub enum Form {
     /// From the slice's first sector.
     Relative,

@@ -1,6 +1,5 @@
 -- The targets of sector 0 and of the chain, and what a call gives of them.
-use Rattle.std.proofs.Common.{◌≡◌, ℕ, ◌⊎◌, List, [], ◌∷◌, Option, Some, None, Result, Ok, Err, sym, ap, subst, ◌∙◌, inl, inr}
-use Rattle.std.specs.Prelude.{IfOk, IfSome, IfNone}
+use Rattle.std.proofs.Common.{◌≡◌, ℕ, ◌⊎◌, List, [], ◌∷◌, Option, sym, ap, subst, ◌∙◌, inl, inr}
 use Rattle.pt_sector.specs.Sectors.{Sectors, sector}
 use Rattle.pt_mbr.specs.Changes.{ArePlain, mbr_of}
 use Rattle.pt_mbr.specs.Chain.{StandsAt}
@@ -15,18 +14,6 @@ use Rattle.pt_targets.specs.Targets.{HasLoneChain, HasEbrs, AreMbrTargets}
 use Rattle.pt_targets.specs.declared.target.Target.{Target}
 use Rattle.pt_chains.specs.Steps.{StartsAt, IsHeadOf, AreChainTargets, AreMbr, AreEbr}
 use Rattle.pt_targets.specs.Unmade.{FitsEbr, IsUnmadeHead, IsUnmadeEbr, HasUnmadeEbr, HasUnmadeIn}
-
--- what a call gives, weakened
-pub some_weaker : {T E : Type 0} (r : Result (Option T) E) (P Q : T → Type 0) → ((x : T) → P x → Q x) → IfOk r (λ o. IfSome o P)
-    → IfOk r (λ o. IfSome o Q)
-some_weaker (Ok (Some x)) P Q weaker p = weaker x p
-some_weaker (Ok None) P Q weaker p = p
-some_weaker (Err e) P Q weaker p = p
-
-pub none_weaker : {T E : Type 0} (r : Result (Option T) E) (P Q : Type 0) → (P → Q) → IfOk r (λ o. IfNone o P) → IfOk r (λ o. IfNone o Q)
-none_weaker (Ok (Some x)) P Q weaker p = p
-none_weaker (Ok None) P Q weaker p = weaker p
-none_weaker (Err e) P Q weaker p = p
 
 -- one that stood there
 pub over_is : (b : ℕ) (d : Sectors) (old : List Ebr) (first : ℕ) (e : Ebr) (link : Option Record) (under v : List ℕ)

@@ -1,5 +1,5 @@
 -- What the parts of a wanted MBR layout's targets are.
-use Rattle.std.specs.Prelude.{◌≡◌, ◌⊎◌, ◌+◌, ℕ, List, [], ◌∷◌, length, Option, Contains}
+use Rattle.std.specs.Prelude.{◌≡◌, ◌⊎◌, ◌+◌, ℕ, List, [], ◌∷◌, ◌++◌, length, Option, Contains}
 use Rattle.pt_sector.specs.Sectors.{Sectors, sector}
 use Rattle.pt_mbr.specs.Chain.{StandsAt}
 use Rattle.pt_mbr.specs.Changes.{mbr_of}
@@ -38,6 +38,12 @@ pub record IsEbrOf {b : _} (d : Sectors) (old : List Ebr) (first : ℕ) (e : Ebr
   pub at : t.at.0 ≡ e.at.0
   pub under : t.under ≡ sector d e.at.0
   pub is : IsEbrTarget b d old first e (link_to first es) t.bytes
+
+-- a target of this kind comes behind those that there were
+pub record Adds {b : _} (before after : List (Target b)) (Is : Target b → Type 0) : Type 0 where
+  pub target : Target b
+  pub pushed : after ≡ before ++ target ∷ []
+  pub is : Is target
 
 -- a target and, behind it, those of a chain
 pub record AreChainTargets {b : _} (d : Sectors) (head : Target b) (old : List Ebr) (first : ℕ) (chain : List Ebr)

@@ -1,8 +1,8 @@
 //! The targets of sector 0 and of a chain.
 
-ghost use Rattle.std.specs.Prelude.{◌≡◌, ◌<◌, ◌^◌, ◌↔◌, ◌⊎◌, ◌++◌, ◌∷◌, [], All, Contains, IfOk, OnOk, IfSome, IfNone, IsTrue};
+ghost use Rattle.std.specs.Prelude.{◌≡◌, ◌<◌, ◌^◌, ◌↔◌, ◌⊎◌, ◌++◌, ◌∷◌, [], All, Contains, IfOk, OnOk, IfSome, IfNone, IsTrue, IsFalse};
 ghost use Rattle.pt_sector.specs.Calls.{Blames};
-ghost use Rattle.pt_sector.specs.Reads.{OnlyReads, fault_of, read_of};
+ghost use Rattle.pt_sector.specs.Reads.{OnlyReads, fault_of};
 ghost use Rattle.pt_sector.specs.Sectors.{IsSectorSize};
 ghost use Rattle.pt_mbr.specs.Chain.{StandsAt};
 ghost use Rattle.pt_mbr.specs.declared.ebr.Ebr.{Ebr};
@@ -10,7 +10,7 @@ ghost use Rattle.pt_mbr.specs.Extended.{extended_of};
 ghost use Rattle.pt_cases.specs.Links.{IsLoneChain};
 ghost use Rattle.pt_targets.specs.Targets.{AreMbrTargets};
 ghost use Rattle.pt_targets.specs.declared.target.Target.{Target};
-ghost use Rattle.pt_chains.specs.Steps.{IsHeadOf, IsEbrOf, AreChainTargets};
+ghost use Rattle.pt_chains.specs.Steps.{Adds, IsHeadOf, IsEbrOf, AreChainTargets};
 ghost use Rattle.pt_targets.specs.Unmade.{HasUnmade, HasUnmadeEbr, IsUnmadeHead, IsUnmadeEbr};
 
 use crate::ebrs::{ebr_made, ebr_over};
@@ -18,7 +18,7 @@ use crate::extended::extended_first;
 use crate::head::head_target;
 use pt_mbr::{Ebr, Record};
 use pt_recover::Ebrs;
-use pt_sector::{Disk, FailedRead, Failure, Lba, read_sector};
+use pt_sector::{Disk, Failure, Lba, read_sector};
 use pt_targets::{Target, TargetKind};
 use std::alloc::{AllocError, Global};
 
@@ -34,68 +34,6 @@ fn stands_at(chain: &[Ebr], at: Lba) -> bool
     false
 }
 
-// The target of sector 0; none where no bytes would do.
-fn head_at<const B: usize, D: Disk<B>>(
-    disk: &mut D,
-    old: &[Option<Record>; 4],
-    new: &[Option<Record>; 4],
-) -> Result<Option<Target<B>>, FailedRead>
-    requires size { IsSectorSize B }
-    requires some { 0 < D.count disk.old }
-    ensures same { OnlyReads D.Disk disk.old disk.new }
-    ensures blames { Blames read_of result (D.faults disk.old) (D.faults disk.new) }
-    ensures place { IfOk result (λ o. IfSome o (λ t. t.at.0 ≡ 0)) }
-    ensures some { D.tells → IfOk result (λ o. IfSome o (λ t. IsHeadOf (D.told disk.old).seen old.now new.now t)) }
-    ensures none { D.tells → IfOk result (λ o. IfNone o (IsUnmadeHead (D.told disk.old).seen old.now new.now)) }
-{
-    let mut under = [0; B];
-    read_sector(disk, Lba(0), &mut under)?;
-    match head_target(&under, old, new) {
-        Some(bytes) => Ok(Some(Target {
-            at: Lba(0),
-            bytes,
-            under,
-            kind: TargetKind::Changes,
-        })),
-        None => Ok(None),
-    }
-}
-
-// The target of an extended boot record, with those behind it; none where no bytes would do.
-fn ebr_at<const B: usize, D: Disk<B>>(
-    disk: &mut D,
-    old: &[Ebr],
-    first: Lba,
-    ebr: &Ebr,
-    rest: &[Ebr],
-) -> Result<Option<Target<B>>, FailedRead>
-    requires size { IsSectorSize B }
-    requires small { first.0 < 2 ^ 63 }
-    requires within { ebr.now.at.0 < D.count disk.old }
-    ensures same { OnlyReads D.Disk disk.old disk.new }
-    ensures blames { Blames read_of result (D.faults disk.old) (D.faults disk.new) }
-    ensures place { IfOk result (λ o. IfSome o (λ t. t.at.0 ≡ ebr.now.at.0)) }
-    ensures some { D.tells → IfOk result (λ o. IfSome o (λ t. IsEbrOf (D.told disk.old).seen old.now first.0 ebr.now rest.now t)) }
-    ensures none { D.tells → IfOk result (λ o. IfNone o (IsUnmadeEbr B (D.told disk.old).seen old.now first.0 ebr.now rest.now)) }
-{
-    let mut under = [0; B];
-    read_sector(disk, ebr.at, &mut under)?;
-    let found = if stands_at(old, ebr.at) {
-        ebr_over(&under, first, ebr, rest)
-    } else {
-        ebr_made(first, ebr, rest)
-    };
-    match found {
-        Some(bytes) => Ok(Some(Target {
-            at: ebr.at,
-            bytes,
-            under,
-            kind: TargetKind::Changes,
-        })),
-        None => Ok(None),
-    }
-}
-
 fn push_target<const B: usize>(
     targets: &mut Vec<Target<B>>,
     target: Target<B>,
@@ -106,36 +44,105 @@ fn push_target<const B: usize>(
     Ok(())
 }
 
-// The target of sector 0, and behind it those of a chain in an extended partition from `first` on; none where no bytes
-// would do for one of these.
-fn chain_targets<const B: usize, D: Disk<B>>(
-    alloc: Global,
+// Adds the target of sector 0; false where no bytes would do.
+fn push_head<const B: usize, D: Disk<B>>(
     disk: &mut D,
-    head: Target<B>,
+    targets: &mut Vec<Target<B>>,
+    old: &[Option<Record>; 4],
+    new: &[Option<Record>; 4],
+) -> Result<bool, Failure>
+    requires size { IsSectorSize B }
+    requires some { 0 < D.count disk.old }
+    ensures same { OnlyReads D.Disk disk.old disk.new }
+    ensures blames { Blames fault_of result (D.faults disk.old) (D.faults disk.new) }
+    ensures added { IfOk result (λ good. IsTrue good → Adds targets.old.items targets.new.items
+        (λ t. (t.at.0 ≡ 0) × (D.tells → IsHeadOf (D.told disk.old).seen old.now new.now t))) }
+    ensures none { D.tells → IfOk result (λ good. IsFalse good → IsUnmadeHead (D.told disk.old).seen old.now new.now) }
+{
+    let mut under = [0; B];
+    read_sector(disk, Lba(0), &mut under)?;
+    match head_target(&under, old, new) {
+        Some(bytes) => {
+            let target = Target {
+                at: Lba(0),
+                bytes,
+                under,
+                kind: TargetKind::Changes,
+            };
+            push_target(targets, target)?;
+            Ok(true)
+        }
+        None => Ok(false),
+    }
+}
+
+// Adds the target of an extended boot record, with those behind it; false where no bytes would do.
+fn push_ebr<const B: usize, D: Disk<B>>(
+    disk: &mut D,
+    targets: &mut Vec<Target<B>>,
+    old: &[Ebr],
+    first: Lba,
+    ebr: &Ebr,
+    rest: &[Ebr],
+) -> Result<bool, Failure>
+    requires size { IsSectorSize B }
+    requires small { first.0 < 2 ^ 63 }
+    requires within { ebr.now.at.0 < D.count disk.old }
+    ensures same { OnlyReads D.Disk disk.old disk.new }
+    ensures blames { Blames fault_of result (D.faults disk.old) (D.faults disk.new) }
+    ensures added { IfOk result (λ good. IsTrue good → Adds targets.old.items targets.new.items
+        (λ t. (t.at.0 ≡ ebr.now.at.0) × (D.tells → IsEbrOf (D.told disk.old).seen old.now first.0 ebr.now rest.now t))) }
+    ensures none { D.tells → IfOk result
+        (λ good. IsFalse good → IsUnmadeEbr B (D.told disk.old).seen old.now first.0 ebr.now rest.now) }
+{
+    let mut under = [0; B];
+    read_sector(disk, ebr.at, &mut under)?;
+    let found = if stands_at(old, ebr.at) {
+        ebr_over(&under, first, ebr, rest)
+    } else {
+        ebr_made(first, ebr, rest)
+    };
+    match found {
+        Some(bytes) => {
+            let target = Target {
+                at: ebr.at,
+                bytes,
+                under,
+                kind: TargetKind::Changes,
+            };
+            push_target(targets, target)?;
+            Ok(true)
+        }
+        None => Ok(false),
+    }
+}
+
+// Adds the targets of a chain in an extended partition from `first` on, behind that of sector 0; false where no bytes
+// would do for one of these.
+fn push_chain<const B: usize, D: Disk<B>>(
+    disk: &mut D,
+    targets: &mut Vec<Target<B>>,
     old: &[Ebr],
     first: Lba,
     chain: &[Ebr],
-) -> Result<Option<Vec<Target<B>>>, Failure>
+) -> Result<bool, Failure>
     requires size { IsSectorSize B }
     requires small { first.0 < 2 ^ 63 }
     requires within { All (λ e. e.at.0 < D.count disk.old) chain.now }
     ensures same { OnlyReads D.Disk disk.old disk.new }
     ensures blames { Blames fault_of result (D.faults disk.old) (D.faults disk.new) }
-    ensures place { IfOk result (λ o. IfSome o
-        (λ ts. (t : Target B) → Contains ts.items t → (t.at.0 ≡ head.entry.at.0) ⊎ StandsAt t.at.0 chain.now)) }
-    ensures some { D.tells → IfOk result
-        (λ o. IfSome o (λ ts. AreChainTargets (D.told disk.old).seen head.entry old.now first.0 chain.now ts.items)) }
-    ensures none { D.tells → IfOk result (λ o. IfNone o (HasUnmadeEbr B (D.told disk.old).seen old.now first.0 chain.now)) }
+    ensures place { IfOk result (λ good. IsTrue good → (head : Target B) → targets.old.items ≡ head ∷ []
+        → (t : Target B) → Contains targets.new.items t → (t.at.0 ≡ head.at.0) ⊎ StandsAt t.at.0 chain.now) }
+    ensures some { D.tells → IfOk result (λ good. IsTrue good → (head : Target B) → targets.old.items ≡ head ∷ []
+        → AreChainTargets (D.told disk.old).seen head old.now first.0 chain.now targets.new.items) }
+    ensures none { D.tells → IfOk result (λ good. IsFalse good → HasUnmadeEbr B (D.told disk.old).seen old.now first.0 chain.now) }
 {
-    let mut targets = Vec::new(alloc);
-    push_target(&mut targets, head)?;
     for k in 0..chain.len() {
-        match ebr_at(disk, old, first, &chain[k], &chain[k + 1..])? {
-            Some(target) => push_target(&mut targets, target)?,
-            None => return Ok(None),
+        if !push_ebr(disk, targets, old, first, &chain[k], &chain[k + 1..])? {
+            return Ok(false);
         }
     }
-    Ok(Some(targets))
+    Ok(true)
 }
 
 /// What sector 0 and the extended boot records must hold for these records and this chain, on an MBR disk that has the
@@ -165,17 +172,18 @@ pub fn mbr_targets<const B: usize, D: Disk<B>>(
     ensures none { D.tells → IfOk result
         (λ o. IfNone o (HasUnmade B (D.told disk.old).seen old_records.now old_chain.now records.now chain.now)) }
 {
-    let head = match head_at(disk, old_records, records)? {
-        Some(head) => head,
-        None => return Ok(None),
-    };
-    let first = extended_first(records);
-    chain_targets(
-        alloc,
+    let mut targets = Vec::new(alloc);
+    if !push_head(disk, &mut targets, old_records, records)? {
+        return Ok(None);
+    }
+    if !push_chain(
         disk,
-        head,
+        &mut targets,
         old_chain.as_slice(),
-        first,
+        extended_first(records),
         chain.as_slice(),
-    )
+    )? {
+        return Ok(None);
+    }
+    Ok(Some(targets))
 }

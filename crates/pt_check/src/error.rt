@@ -22,7 +22,7 @@ pub enum CheckError {
 impl fmt::Display for CheckError {
     fn fmt<W: fmt::Write>(&self, f: &mut fmt::Formatter<W>) -> fmt::Result {
         match self {
-            CheckError::Device(fault) => write!(f, "{fault}"),
+            CheckError::Device(fault) => fmt::Display::fmt(fault, f),
             CheckError::Memory => f.write_str("out of memory"),
         }
     }

@@ -1,6 +1,8 @@
 -- The searches for what lies outside, one place at a time.
-use Rattle.std.proofs.Common.{◌≡◌, ◌<◌, ◌≤◌, ◌+◌, ℕ, zero, suc, Bool, true, false, List, [], ◌∷◌, length, get_or, drop, Option, Some, None}
+use Rattle.std.proofs.Common.{◌≡◌, ◌<◌, ◌≤◌, ◌+◌, ◌↔◌, IsTrue, ℕ, zero, suc, Bool, true, false}
+use Rattle.std.proofs.Common.{List, [], ◌∷◌, length, get_or, drop, Option, Some, None}
 use Rattle.std.proofs.Common.{refl, sym, ap, ◌∙◌, subst, arith, inl, inr}
+use Rattle.std.proofs.lemmas.Bool.{cases_lt}
 use Rattle.std.proofs.lemmas.List.{drop_all, drop_more}
 use Rattle.pt_mbr.specs.Chain.{StandsAt}
 use Rattle.pt_mbr.specs.declared.ebr.Ebr.{Ebr}
@@ -48,6 +50,22 @@ parts_none l m none = ap (λ (o : Option Label). length (parts_in o m)) none
 
 pub not_true : (c : Bool) → c ≡ false → c ≡ true → ⊥
 not_true c off on = let e : ◌≡◌ {A = Bool} true false = sym on ∙ off in cc
+
+-- a member that a test denies is none of those that it is for, and it is the only one in its place
+pub denied_here : (P : Member → Type 0) (found : Option Member) (m : Member) (test : Bool) → found ≡ Some m → (IsTrue test ↔ P m)
+    → test ≡ false → (x : Member) → found ≡ Some x → ¬ P x
+denied_here P found m test is decides denied x same held =
+    let e : x ≡ m = cc in not_true test denied (decides.1 (subst P e held))
+
+-- so there is none up to a place where there is none in it, nor in one before it
+pub none_up_to : (P : Member → Type 0) (places : List (Option Member)) (k : ℕ) (found : Option Member) → found ≡ get_or places k None
+    → ((x : Member) → found ≡ Some x → ¬ P x) → ((j : ℕ) (x : Member) → j < k → get_or places j None ≡ Some x → ¬ P x)
+    → (j : ℕ) (x : Member) → j < k + 1 → get_or places j None ≡ Some x → ¬ P x
+none_up_to P places k found is here below j x lt at held =
+    elim (cases_lt j k) as (λ _. ⊥) [
+      | inl less ↦ below j x less at held
+      | inr more ↦ let e : j ≡ k = omega arith in here x (cc) held
+    ]
 
 -- none of the places before the end lies outside, so none does
 pub none_outside : (b n : ℕ) (places : List (Option Member)) (k : ℕ) → length places ≤ k

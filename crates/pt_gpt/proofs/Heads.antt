@@ -1,19 +1,20 @@
 -- What was read at a side's place is its header, or its fault.
-use Rattle.std.proofs.Common.{◌≡◌, ℕ, List, refl, ap, ◌∙◌, subst, inl, inr}
+use Rattle.std.proofs.Common.{◌≡◌, ◌≤◌, ◌<◌, ◌+◌, ◌*◌, ◌^◌, ℕ, List, refl, ap, ◌∙◌, subst, inl, inr, arith}
 use Rattle.std.specs.Prelude.{◌⊎◌, length, Option, None}
-use Rattle.pt_sector.specs.Sectors.{Sectors, sector}
+use Rattle.pt_sector.specs.Sectors.{Sectors, sector, IsSectorSize}
 use Rattle.pt_sum.specs.Crc.{crc_of}
 use Rattle.pt_gpt.specs.Errors.{IsOutsideCopy, NeedsNoMemory, FailedInCopy, fault_in}
 use Rattle.pt_gpt.specs.Header.{HeaderBytes, IsHeaderFault}
 use Rattle.pt_gpt.specs.Copy.{header_place, IsPlaced, IsPlaceFault, IsHead, no_header, misplaced, no_head, other_crc, array_of, HasArrayCrc}
 use Rattle.pt_gpt.specs.Copy.{CopyWith}
-use Rattle.pt_gpt.specs.Array.{AreEntries}
+use Rattle.pt_gpt.specs.Array.{AreEntries, HasRoom, counted}
 use Rattle.pt_gpt.specs.Answers.{TellsHeadFault, TellsFault}
 use Rattle.pt_gpt.specs.declared.header.Header.{Header}
 use Rattle.pt_gpt.specs.declared.entry.Entry.{Entry}
 use Rattle.pt_gpt.specs.declared.error.CopyError.{CopyError}
 use Rattle.pt_gpt.specs.declared.error.CopyError.TheVariants.{ArrayCrc, Device, Memory}
 use Rattle.pt_gpt.specs.declared.table.Side.{Side}
+use Rattle.pt_gpt.specs.declared.table.Side.TheVariants.{Primary, Backup}
 
 -- n is the count of sectors that the reader asked for
 pub place_of : (d : Sectors) (side : Side) (at n : ℕ) → at ≡ header_place side n → n ≡ length d → at ≡ header_place side (length d)
@@ -70,3 +71,17 @@ header_blames_none b _ bytes fault = refl
 pub place_blames_none : (b : ℕ) (side : Side) (n : ℕ) (h : Header) (e : CopyError) → IsPlaceFault b side n h e → fault_in e ≡ None
 place_blames_none b side n h (Device f) fault = absurd fault
 place_blames_none b side n h _ fault = refl
+
+-- the array that a header tells of ends within the disk, and a disk's sectors have numbers of 64 bits
+pub array_within : (b : ℕ) (side : Side) (n : ℕ) (h : Header) → IsSectorSize b → HasRoom b n → IsPlaced b side n h
+    → h.array + counted b h.count ≤ n
+array_within b Primary n h (inl e) room placed = let r = rw e at room in rw e (omega (arith, r, placed.place, placed.shape.1))
+array_within b Primary n h (inr e) room placed = let r = rw e at room in rw e (omega (arith, r, placed.place, placed.shape.1))
+array_within b Backup n h (inl e) room placed =
+    let r = rw e at room in let at = rw e at placed.place in rw e (omega (arith, r, at, placed.shape.1))
+array_within b Backup n h (inr e) room placed =
+    let r = rw e at room in let at = rw e at placed.place in rw e (omega (arith, r, at, placed.shape.1))
+
+pub small_within : (b n a : ℕ) → IsSectorSize b → n * b ≤ 2 ^ 64 → a ≤ n → a < 2 ^ 64
+small_within b n a (inl e) small within = let s = rw e at small in omega (arith, s, within)
+small_within b n a (inr e) small within = let s = rw e at small in omega (arith, s, within)

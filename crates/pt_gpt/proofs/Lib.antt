@@ -4,3 +4,4 @@ pub mod Heads
 pub mod Parts
 pub mod ArraySteps
 pub mod Same
+mod Puts

@@ -1,5 +1,6 @@
 -- Entries that come in parts.
-use Rattle.std.proofs.Common.{◌≡◌, ℕ, ◌/◌, zero-le, min, add-one, ◌∷◌, ◌+◌, ◌*◌, ◌-◌, ◌<◌, ◌≤◌, List, [], ◌++◌, length, get_or, take, drop}
+use Rattle.std.proofs.Common.{◌≡◌, ℕ, ◌/◌, ◌^◌, zero-le, min, add-one}
+use Rattle.std.proofs.Common.{◌∷◌, ◌+◌, ◌*◌, ◌-◌, ◌<◌, ◌≤◌, List, [], ◌++◌, length, get_or, take, drop}
 use Rattle.std.proofs.Common.{bit_xor, Option, None, refl, sym, ap, ◌∙◌, subst, arith, inl, inr, length-append, append_assoc}
 use Rattle.std.specs.Prelude.{slice_range}
 use Rattle.std.proofs.lemmas.Bool.{cases_lt}
@@ -132,7 +133,7 @@ pushed_more b n m left (inl e) before = rw e (omega arith)
 pushed_more b n m left (inr e) before = rw e (omega arith)
 
 -- the part of a sector that is taken is whole entries, and there is room for them
-part_len : (b left taken : ℕ) (s : List ℕ) → taken ≡ min left b → length s ≡ b → length (take taken s) ≡ min left b
+pub part_len : (b left taken : ℕ) (s : List ℕ) → taken ≡ min left b → length s ≡ b → length (take taken s) ≡ min left b
 part_len b left taken s t long = rw t (length-take-le (min left b) s (omega arith))
 
 pub part_whole : (b n m left taken : ℕ) (s : List ℕ) → IsSectorSize b → n * 128 + left ≡ m * 128 → taken ≡ min left b → length s ≡ b
@@ -148,3 +149,35 @@ pub left_less : (b m i left : ℕ) → left ≡ m - i * b → left - min left b 
 left_less b m i left before =
     let product : (i + 1) * b ≡ i * b + b = add-mul i 1 b ∙ ap (λ (n : ℕ). i * b + n) (one-mul b) in
     omega (arith, product, before)
+
+-- the numbers of one sector of the array, and of what is left behind it
+pub sector_before : (at i n m k : ℕ) → i < n → n ≡ m → at + m ≤ k → at + i < k
+sector_before at i n m k lt same within = omega (arith, lt, same, within)
+
+pub sector_fits : (at i n m k : ℕ) → i < n → n ≡ m → at + m < k → at + i < k
+sector_fits at i n m k lt same small = omega (arith, lt, same, small)
+
+pub sector_of : (at i n m : ℕ) → i < n → n ≡ m → (at ≤ at + i) × (at + i < at + m)
+sector_of at i n m lt same = (omega arith, omega (arith, lt, same))
+
+pub last_of : (i n : ℕ) → i ≤ n → n ≤ i → n ≡ i
+last_of i n low high = omega (arith, low, high)
+
+pub all_pushed : (b n m i left : ℕ) → left ≡ m * 128 - i * b → n * 128 + left ≡ m * 128 → m * 128 ≤ i * b → n ≡ m
+all_pushed b n m i left rest pushed enough = omega (arith, rest, pushed, enough)
+
+pub none_pushed : (n m : ℕ) → n ≡ 0 → n * 128 + m ≡ m
+none_pushed n m none = omega (arith, none)
+
+pub few_bytes : (count : ℕ) → count ≤ 128 → count * 128 < 2 ^ 64
+few_bytes count most = omega (arith, most)
+
+pub sector_small : (b : ℕ) → IsSectorSize b → b * 1 < 2 ^ 63
+sector_small b (inl e) = rw e (omega arith)
+sector_small b (inr e) = rw e (omega arith)
+
+pub taken_long : (b left taken : ℕ) (s : List ℕ) → taken ≡ min left b → length s ≡ b → taken ≡ length (take taken s)
+taken_long b left taken s t long = t ∙ sym (part_len b left taken s t long)
+
+pub taken_within : (b left taken : ℕ) → taken ≡ min left b → taken ≤ left
+taken_within b left taken t = omega (arith, t)

@@ -42,7 +42,6 @@ fn entry_or_none(entries: &[Option<Entry>], index: usize) -> Option<Entry>
     }
 }
 
-#[tactic(auto, unfolding(crate::specs::Bytes::put_at))]
 fn put_entry(bytes: &mut [u8], k: usize, entry: &Option<Entry>)
     requires { k * 128 + 128 ≤ length bytes.old }
     ensures put { bytes.new ≡ put_at (k * 128) (entry_bytes entry.now) bytes.old }

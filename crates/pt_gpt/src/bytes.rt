@@ -2,7 +2,7 @@
 
 ghost use Rattle.std.specs.Prelude.{◌≡◌, ◌+◌, ◌≤◌, ◌<◌, ◌^◌, length, slice_range};
 ghost use Rattle.byteorder.specs.Endian.{little_bytes};
-ghost use Rattle.pt_gpt.specs.Bytes.{put_at};
+ghost use Rattle.pt_gpt.specs.Bytes.{number_at, put_at};
 
 use byteorder::{ByteOrder, LittleEndian};
 use pt_guid::Guid;
@@ -16,7 +16,20 @@ pub(crate) fn guid_at(bytes: &[u8], at: usize) -> Guid
     Guid(stored)
 }
 
-#[tactic(auto, unfolding(crate::specs::Bytes::put_at))]
+pub(crate) fn u32_at(bytes: &[u8], at: usize) -> u32
+    requires { at + 4 ≤ length bytes.now }
+    ensures { result ≡ number_at at 4 bytes.now }
+{
+    LittleEndian::read_u32(&bytes[at..at + 4])
+}
+
+pub(crate) fn u64_at(bytes: &[u8], at: usize) -> u64
+    requires { at + 8 ≤ length bytes.now }
+    ensures { result ≡ number_at at 8 bytes.now }
+{
+    LittleEndian::read_u64(&bytes[at..at + 8])
+}
+
 pub(crate) fn put_guid(bytes: &mut [u8], at: usize, guid: &Guid)
     requires { at + 16 ≤ length bytes.old }
     ensures put { bytes.new ≡ put_at at guid.now.0 bytes.old }
@@ -25,7 +38,6 @@ pub(crate) fn put_guid(bytes: &mut [u8], at: usize, guid: &Guid)
     bytes[at..at + 16].copy_from_slice(&guid.0);
 }
 
-#[tactic(auto, unfolding(crate::specs::Bytes::put_at))]
 pub(crate) fn put_u32(bytes: &mut [u8], at: usize, number: u32)
     requires { at + 4 ≤ length bytes.old }
     ensures put { bytes.new ≡ put_at at (little_bytes 4 number) bytes.old }
@@ -34,7 +46,6 @@ pub(crate) fn put_u32(bytes: &mut [u8], at: usize, number: u32)
     LittleEndian::write_u32(&mut bytes[at..at + 4], number);
 }
 
-#[tactic(auto, unfolding(crate::specs::Bytes::put_at))]
 pub(crate) fn put_u64(bytes: &mut [u8], at: usize, number: u64)
     requires { at + 8 ≤ length bytes.old }
     ensures put { bytes.new ≡ put_at at (little_bytes 8 number) bytes.old }

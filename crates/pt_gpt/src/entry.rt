@@ -34,7 +34,6 @@ pub fn decode_entry(bytes: &[u8; 128]) -> Option<Entry>
     EntryView::new(bytes).entry()
 }
 
-#[tactic(auto, unfolding(crate::specs::Bytes::put_at))]
 fn put_units(bytes: &mut [u8], at: usize, units: &[u16; 36])
     requires { at + 72 ≤ length bytes.old }
     ensures put { bytes.new ≡ put_at at (flat_map (little_bytes 2) units.now) bytes.old }

@@ -6,9 +6,8 @@ ghost use Rattle.pt_sector.specs.Sectors.{IsSectorSize};
 ghost use Rattle.pt_gpt.specs.Header.{HeaderFields, HeaderBytes, IsHeaderFault, HasHeaderSignature, HasCrc, header_size};
 ghost use Rattle.pt_gpt.specs.HeaderSector.{unsummed_from, summed_from, HeaderFits};
 
-use crate::bytes::{guid_at, put_guid, put_u32, put_u64};
+use crate::bytes::{guid_at, put_guid, put_u32, put_u64, u32_at, u64_at};
 use crate::error::CopyError;
-use byteorder::{ByteOrder, LittleEndian};
 use pt_guid::Guid;
 use pt_sector::Sector;
 use pt_sum::{Crc, crc32};
@@ -23,7 +22,7 @@ const REVISION: u32 = 0x0001_0000;
 const HEADER_SIZE: u32 = 92;
 
 /// What stands in a header (UEFI 2.10, 5.3.2), but for its size and its own CRC. Places are numbers of sectors.
-#[derive(Clone, Copy, Debug, PartialEq, Eq)]
+#[derive(Clone, Copy, PartialEq, Eq)]
 pub struct Header {
     /// MyLBA: where this header stands.
     pub my: u64,
@@ -70,8 +69,7 @@ fn has_crc(bytes: &[u8]) -> bool
     requires high { header_size bytes.now ≤ length bytes.now }
     ensures { IsTrue result ↔ HasCrc bytes.now }
 {
-    let size = LittleEndian::read_u32(&bytes[12..16]) as usize;
-    LittleEndian::read_u32(&bytes[16..20]) == crc_within(bytes, size)
+    u32_at(bytes, 16) == crc_within(bytes, u32_at(bytes, 12) as usize)
 }
 
 fn header_in(bytes: &[u8]) -> Header
@@ -79,15 +77,15 @@ fn header_in(bytes: &[u8]) -> Header
     ensures { HeaderFields result bytes.now }
 {
     Header {
-        my: LittleEndian::read_u64(&bytes[24..32]),
-        alternate: LittleEndian::read_u64(&bytes[32..40]),
-        first: LittleEndian::read_u64(&bytes[40..48]),
-        last: LittleEndian::read_u64(&bytes[48..56]),
+        my: u64_at(bytes, 24),
+        alternate: u64_at(bytes, 32),
+        first: u64_at(bytes, 40),
+        last: u64_at(bytes, 48),
         disk: guid_at(bytes, 56),
-        array: LittleEndian::read_u64(&bytes[72..80]),
-        count: LittleEndian::read_u32(&bytes[80..84]),
-        entry_size: LittleEndian::read_u32(&bytes[84..88]),
-        array_crc: LittleEndian::read_u32(&bytes[88..92]),
+        array: u64_at(bytes, 72),
+        count: u32_at(bytes, 80),
+        entry_size: u32_at(bytes, 84),
+        array_crc: u32_at(bytes, 88),
     }
 }
 
@@ -100,10 +98,10 @@ fn checked_header(bytes: &[u8], sector_size: usize) -> Result<Header, CopyError>
     if !has_signature(bytes) {
         return Err(CopyError::Signature);
     }
-    if LittleEndian::read_u32(&bytes[8..12]) != REVISION {
+    if u32_at(bytes, 8) != REVISION {
         return Err(CopyError::Revision);
     }
-    let size = LittleEndian::read_u32(&bytes[12..16]);
+    let size = u32_at(bytes, 12);
     if size < HEADER_SIZE || size as usize > sector_size {
         return Err(CopyError::HeaderSize);
     }

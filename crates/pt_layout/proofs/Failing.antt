@@ -1,9 +1,12 @@
 -- Where a device failed in a verdict.
 use Rattle.std.specs.Prelude.{◌≡◌, ◌<◌, ◌⊎◌, ℕ, List, length, get_or, Some, None, Result, Ok, Err, IfErr}
-use Rattle.std.proofs.Common.{sym, subst, inl, inr}
+use Rattle.std.specs.Prelude.{IfOk}
+use Rattle.std.proofs.Common.{◌∙◌, refl, sym, ap, subst, inl, inr, Option}
+use Rattle.pt_sector.specs.Calls.{Blames, with_fault}
 use Rattle.pt_sector.specs.Sectors.{Sectors}
 use Rattle.pt_gpt.specs.Copy.{SideReads}
-use Rattle.pt_sector.specs.Reads.{FailedIn, failed_more}
+use Rattle.pt_sector.specs.Reads.{FailedIn, failed_more, fault_of}
+use Rattle.pt_sector.specs.declared.disk.Fault.{Fault}
 use Rattle.pt_sector.specs.declared.address.Lba.{Lba}
 use Rattle.pt_sector.specs.declared.reading.Failure.{Failure}
 use Rattle.pt_sector.specs.declared.reading.Failure.TheVariants as failure
@@ -15,14 +18,15 @@ use Rattle.pt_recover.specs.Mbr.{IsMbrDisk}
 use Rattle.pt_gpt.specs.Array.{HasRoom}
 use Rattle.pt_members.specs.Slices.{places_of, place_of, IsPlace}
 use Rattle.pt_recover.specs.Denotes.{BodyIs, Reads, body, label, table}
-use Rattle.pt_recover.specs.Answers.{IsOutsideDisk, failure_in as failure_of_disk, FailedInDisk}
+use Rattle.pt_recover.specs.Answers.{IsOutsideDisk, failure_in as failure_of_disk, FailedInDisk, fault_in}
 use Rattle.pt_recover.specs.declared.error.NoTable.{NoTable}
 use Rattle.pt_recover.specs.declared.error.NoTable.TheVariants as no
 use Rattle.pt_members.specs.declared.layout.Body.{Body}
 use Rattle.pt_members.specs.declared.layout.Slice.{Slice}
 use Rattle.pt_recover.proofs.Failed.{place_at}
 use Rattle.pt_sound.specs.Findings.{VerdictReads}
-use Rattle.pt_layout.specs.Verdicts.{FailsAs}
+use Rattle.pt_recover.specs.declared.trace.TracedRun.{TracedRun}
+use Rattle.pt_layout.specs.Verdicts.{FailsAs, IsNothingOf}
 use Rattle.pt_layout.specs.declared.survey.Survey.{Survey}
 
 -- a copy's failure
@@ -85,3 +89,22 @@ both_reads b d s plain room (inr second) = inr (plain, room, second)
 pub halves_failed : (b : ℕ) (d : Sectors) (e : Failure) → ¬ IsMbrDisk d → HasRoom b (length d) → FailedIn (BothReads b d) e
     → FailedIn (VerdictReads b d) e
 halves_failed b d e plain room = failed_more (BothReads b d) (VerdictReads b d) e (λ s reads. both_reads b d s plain room reads)
+
+-- what a survey blames that recovery's reason ends
+none_blamed : (e : NoTable) → failure_of_disk e ≡ None → fault_in e ≡ None
+none_blamed (no.Device at) none = absurd cc
+none_blamed _ none = refl
+
+some_blamed : (e : NoTable) (f : Failure) → failure_of_disk e ≡ Some f → fault_in e ≡ fault_of f
+some_blamed (no.Device at) (failure.Device y) told = (let here : at ≡ y = cc in rw here refl)
+some_blamed (no.Device at) failure.Memory told = absurd cc
+some_blamed no.Memory (failure.Device y) told = absurd cc
+some_blamed no.Memory failure.Memory told = refl
+some_blamed _ f told = absurd cc
+
+pub reason_blames : (e : NoTable) (trace : List TracedRun) (r : Result Survey Failure) (old new : List Fault)
+    → new ≡ with_fault old (fault_in e) → IfErr r (FailsAs e) → IfOk r (IsNothingOf e trace) → Blames fault_of r old new
+reason_blames e trace (Ok x) old new come as_reason is = come ∙ ap (λ (o : Option Fault). with_fault old o) (none_blamed e is.0)
+reason_blames e trace (Err f) old new come (inl told) is = come ∙ ap (λ (o : Option Fault). with_fault old o) (some_blamed e f told)
+reason_blames e trace (Err f) old new come (inr none) is =
+    rw none.1 (come ∙ ap (λ (o : Option Fault). with_fault old o) (none_blamed e none.0))

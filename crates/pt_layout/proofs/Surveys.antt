@@ -119,3 +119,8 @@ pub reason_survey : (b : ℕ) (d : Sectors) (e : NoTable) (trace : List TracedRu
 reason_survey b d e trace (Ok x) mbr told traced is =
     rw is.1 (mbr_nothing b d e trace trace mbr (reason_inside e is.0) told refl traced)
 reason_survey b d e trace (Err f) mbr told traced is = tt
+
+pub nothing_numbers : (e : NoTable) (trace : List TracedRun) (r : Result Survey Failure) → IfOk r (IsNothingOf e trace)
+    → IfOk r (λ x. IfOk x.found Numbers)
+nothing_numbers e trace (Ok x) is = rw is.1 tt
+nothing_numbers e trace (Err f) is = tt

@@ -1,7 +1,7 @@
 -- What the command makes of its words.
 use Rattle.std.proofs.Common.{◌≡◌, ◌∙◌, ◌||◌, ◌⊎◌, inl, inr, ⊎_elim, Bool, true, false, refl, sym, ap, subst, arith, List, [], ◌∷◌, ◌++◌}
 use Rattle.std.proofs.Common.{Option, Some, None, Result, Ok, Err, true≢false, codes}
-use Rattle.std.specs.Prelude.{IsSome, IfSome, unwrap_or}
+use Rattle.std.specs.Prelude.{IsSome, IfSome, IfOk, MatchResult, unwrap_or}
 use Rattle.std.specs.Borrow.{Bor}
 use Rattle.std.specs.List.{list_any}
 use Rattle.std.specs.Str.{bytes_eq}
@@ -10,8 +10,9 @@ use Rattle.clap.specs.Kinds.{HasKind}
 use Rattle.clap.specs.Simple.{Shape, argument_words, built, filled_from, help_rule}
 use Rattle.clap.specs.Takes.{is_given}
 use Rattle.clap.specs.Walk.{Row, Rule, Text, all_of, first_of, has_row, texts}
-use Rattle.clap.specs.Words.{IsAmong, fault_of, kind_of, subcommand_of}
+use Rattle.clap.specs.Words.{FailsBy, IsAmong, fault_of, kind_of, subcommand_of, subcommand_rows_of}
 use Rattle.clap.specs.declared.error.Error.{Error}
+use Rattle.clap.specs.declared.parser.matches.ArgMatches.{ArgMatches}
 use Rattle.clap.specs.declared.error.kind.ErrorKind.{ErrorKind}
 use Rattle.clap.specs.declared.error.kind.ErrorKind.TheVariants.{DisplayHelp, DisplayVersion, OutOfMemory}
 use Rattle.clap.proofs.WalkLemmas.{list_any-map}
@@ -304,7 +305,7 @@ module _ (sizes : Bor (List (Bor Text))) (are : texts sizes.now ≡ codes "512" 
   )
 
   module _ (words : List Text) where
-    pub by_error : (e : Error) (result : Result Line LineError) → HasKind (fault_of (ptab sizes) words) e → Tells (kind_of e) result
+    by_error : (e : Error) (result : Result Line LineError) → HasKind (fault_of (ptab sizes) words) e → Tells (kind_of e) result
         → MeansAt (ptab sizes) words result
     by_error e (Ok line) (inl memory) tells = absurd (⊎_elim
         (λ is. (let bad : DisplayHelp ≡ OutOfMemory = sym is ∙ memory in cc))
@@ -321,7 +322,7 @@ module _ (sizes : Bor (List (Bor Text))) (are : texts sizes.now ≡ codes "512" 
     by_error e (Err (Usage text)) (inl memory) tells = absurd (tells.2 memory)
     by_error e (Err (Usage text)) (inr among) tells = (kind_of e, among, tells.0, tells.1, tells.2)
 
-    pub by_matches : (result : Result Line LineError) → fault_of (ptab sizes) words ≡ []
+    by_matches : (result : Result Line LineError) → fault_of (ptab sizes) words ≡ []
         → MeansJob (subcommand_of (ptab sizes) words) result → MeansAt (ptab sizes) words result
     by_matches result none means =
         go result (taken MayBe IsRead (built (ptab sizes)) (argument_words (ptab sizes) words)
@@ -337,3 +338,12 @@ module _ (sizes : Bor (List (Bor Text))) (are : texts sizes.now ≡ codes "512" 
         go (Err (Usage text)) met m =
             let u = subst HasNoJob met.is m in
             absurd (met.of.known u)
+
+    -- what `clap` gave at the command, and what that comes to
+    pub by_result : (found : Result ArgMatches Error) (result : Result Line LineError) → FailsBy (fault_of (ptab sizes) words) found
+        → IfOk found (λ m. subcommand_rows_of m ≡ subcommand_of (ptab sizes) words)
+        → MatchResult found (λ m. MeansJob (subcommand_rows_of m) result) (λ e. Tells (kind_of e) result)
+        → MeansAt (ptab sizes) words result
+    by_result (Ok m) result fails met means =
+        by_matches result fails (subst (λ (o : Option (Text × List Row)). MeansJob o result) met means)
+    by_result (Err e) result fails met means = by_error e result fails means

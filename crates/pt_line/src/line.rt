@@ -1,6 +1,6 @@
 //! The command line.
 
-ghost use Rattle.std.specs.Prelude.{◌≡◌, ◌∷◌, [], Result, Some, true, IfOk, IfErr, codes, map, string_bytes};
+ghost use Rattle.std.specs.Prelude.{◌≡◌, ◌∷◌, [], Result, Some, true, IfOk, IfErr, MatchResult, codes, map, string_bytes};
 ghost use Rattle.std.specs.Borrow.{Bor};
 ghost use Rattle.clap.specs.Walk.{texts as slice_texts};
 ghost use Rattle.clap.specs.Words.{found_of, kind_of, new_app, new_rule, rows_of, subcommand_rows_of};
@@ -21,21 +21,21 @@ use std::alloc::{AllocError, Global};
 use thiserror::Error;
 
 /// How many bytes the sectors of the image have.
-#[derive(Clone, Copy, Debug, PartialEq, Eq)]
+#[derive(Clone, Copy)]
 pub enum SectorSize {
     Bytes512,
     Bytes4096,
 }
 
 /// A command line that was read.
-#[derive(Debug, Drop)]
+#[derive(Drop)]
 pub struct Line {
     pub job: Job,
     pub size: SectorSize,
 }
 
 /// What a command line asks for, with its texts as they were given.
-#[derive(Debug, Drop)]
+#[derive(Drop)]
 pub enum Job {
     /// A help text, or the version, which is to be printed.
     Help(String),
@@ -439,6 +439,17 @@ fn failed(alloc: Global, error: &clap::Error) -> Result<Line, LineError>
     }
 }
 
+/// The line that `clap`'s matches or its error come to.
+// So `read_line` matches nothing while it owns its words.
+fn answer(alloc: Global, found: Result<ArgMatches<'_>, clap::Error>) -> Result<Line, LineError>
+    ensures { MatchResult found.entry (λ m. MeansJob (subcommand_rows_of m) result) (λ e. Tells (kind_of e) result) }
+{
+    match found {
+        Ok(matches) => line_of(alloc, &matches),
+        Err(error) => failed(alloc, &error),
+    }
+}
+
 fn with_name<'a>(alloc: Global, words: &[&'a str]) -> Result<Vec<&'a str>, AllocError>
     ensures { IfOk result (λ line. slice_texts line.items ≡ codes "ptab" ∷ slice_texts words.now) }
 {
@@ -458,8 +469,5 @@ pub fn read_line(alloc: Global, words: &[&str]) -> Result<Line, LineError>
 {
     let line = with_name(alloc, words)?;
     let command = command(alloc, SIZES.as_slice())?;
-    match command.try_get_matches_from(line.as_slice()) {
-        Ok(matches) => line_of(alloc, &matches),
-        Err(error) => failed(alloc, &error),
-    }
+    answer(alloc, command.try_get_matches_from(line.as_slice()))
 }

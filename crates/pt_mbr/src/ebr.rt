@@ -19,7 +19,7 @@ pub struct Ebr {
 }
 
 /// Why a sector is no extended boot record.
-#[derive(Clone, Copy, Debug, PartialEq, Eq)]
+#[derive(Clone, Copy)]
 pub enum EbrFault {
     /// Bytes 510 and 511 aren't 55 AA.
     NoSignature,
@@ -63,7 +63,6 @@ fn next_in(bytes: &[u8], first: u64) -> Option<Lba>
     }
 }
 
-#[tactic(auto, using(crate::specs::Ebr::boots, crate::specs::Ebr::zeros, crate::specs::Ebr::logical, crate::specs::Ebr::link))]
 fn ebr_in(bytes: &[u8], first: u64, at: Lba) -> Result<Ebr, EbrFault>
     requires long { 512 ≤ length bytes.now }
     requires small { first < 2 ^ 63 }

@@ -6,7 +6,7 @@ ghost use Rattle.pt_mbr.specs.Extended.{extended_of, ExtendedIs};
 use crate::record::{Record, is_extended_kind};
 
 /// What the records of sector 0 have of extended ones.
-#[derive(Clone, Copy, Debug, PartialEq, Eq)]
+#[derive(Clone, Copy)]
 pub enum Extended {
     Nothing,
     /// The only one.

@@ -1,5 +1,6 @@
 -- Lists of members by place.
-use Rattle.std.proofs.Common.{◌≡◌, ◌<◌, ◌≤◌, ◌+◌, ℕ, zero, suc, List, [], ◌∷◌, length, get_or, Option, Some, None, refl, ap, ◌∙◌, arith}
+use Rattle.std.proofs.Common.{◌≡◌, ◌<◌, ◌≤◌, ◌+◌, ℕ, zero, suc, List, [], ◌∷◌, length, get_or}
+use Rattle.std.proofs.Common.{Option, Some, None, refl, sym, ap, subst, ◌∙◌, arith}
 use Rattle.std.specs.Prelude.{option_map, if◌then◌else◌, Bool, is_some, take, ◌-◌}
 use Rattle.std.proofs.Common.{true, false}
 use Rattle.std.proofs.lemmas.List.Sums.{sum_by-cons}
@@ -166,3 +167,20 @@ gpt_tops b t = entries_len b 1 t.entries
 
 pub tops_first : (b : ℕ) (y : Body) → length (tops b y) ≤ length (slots b y)
 tops_first b y = omega (arith, length-append (tops b y) (logicals b y))
+
+-- a place of a body that is a GPT's is one of its entries', and of one that is an MBR's stays that
+pub within_gpt : (b : ℕ) (y : Body) (t : Table) (k : ℕ) → y ≡ Gpt t → k < length (slots b y) → k < length t.entries
+within_gpt b y t k is lt =
+    let long : k < length (slots b (Gpt t)) = subst (λ (z : Body). k < length (slots b z)) is lt in omega (arith, long, gpt_len b t)
+
+pub within_mbr : (b : ℕ) (y : Body) (rs : List (Option Record)) (chain l : List Ebr) (k : ℕ) → y ≡ Mbr rs chain → l ≡ chain
+    → k < length (slots b y) → k < length (slots b (Mbr rs l))
+within_mbr b y rs chain l k is same lt =
+    subst (λ (es : List Ebr). k < length (slots b (Mbr rs es))) (sym same) (subst (λ (z : Body). k < length (slots b z)) is lt)
+
+-- an unused entry is no member
+pub unused_at : (b : ℕ) (y : Body) (t : Table) (k : ℕ) (l : List (Option Entry)) → y ≡ Gpt t → l ≡ t.entries → k < length (slots b y)
+    → get_or l k None ≡ None → get_or (slots b y) k None ≡ None
+unused_at b y t k l is same lt none =
+    subst (λ (z : Body). get_or (slots b z) k None ≡ None) (sym is) (gpt_at b t k (within_gpt b y t k is lt)
+    ∙ ap (option_map (entry_member b (1 + k))) (subst (λ (es : List (Option Entry)). get_or es k None ≡ None) same none))

@@ -1,10 +1,12 @@
 -- Of an entry that doesn't have a sector, on a GPT without labels, no partition has it.
 use Rattle.std.proofs.Common.{◌≡◌, ◌<◌, ◌≤◌, ◌+◌, ℕ, List, [], ◌∷◌, get_or, length, Option, Some, None}
-use Rattle.std.proofs.Common.{refl, sym, subst, ◌∙◌, arith, inl, inr}
+use borrow.Author.Tests.{ltb-true}
+use Rattle.std.proofs.Common.{IsTrue, ltb, refl, sym, ap, subst, ◌∙◌, arith, inl, inr}
 use Rattle.std.specs.Prelude.{option_map, IfSome}
 use Rattle.std.proofs.lemmas.Bool.{cases_lt}
 use Rattle.pt_sector.specs.declared.address.Lba.{Lba}
 use Rattle.pt_gpt.specs.declared.entry.Entry.{Entry}
+use Rattle.pt_gpt.specs.declared.table.Table.{Table}
 use Rattle.pt_members.specs.declared.layout.Layout.{Layout}
 use Rattle.pt_members.specs.declared.layout.Body.{Body}
 use Rattle.pt_members.specs.declared.layout.Body.TheVariants.{Mbr, Gpt}
@@ -58,3 +60,14 @@ none_yet b k o wanted here before j m x lt at near = elim (cases_lt j k) as (λ 
   | inl low ↦ before j m x low at near
   | inr high ↦ here m x (subst (λ (i : ℕ). get_or (slots b o.body) i None ≡ Some m) (omega (arith, lt, high)) at) near
 ]
+
+-- what stands in a place of a GPT and doesn't have a sector
+pub misses_at : (y : Body) (t : Table) (k s : ℕ) (l : List (Option Entry)) (o : Option Entry) → y ≡ Gpt t → l ≡ t.entries
+    → get_or l k None ≡ o → IfSome o (λ e. (e.first ≤ s) → ¬ (s ≤ e.last)) → EntryMisses y k s
+misses_at y t k s l o is same at misses =
+    subst (λ (z : Body). EntryMisses z k s) (sym is)
+    (subst (λ (x : Option Entry). IfSome x (λ e. (e.first ≤ s) → ¬ (s ≤ e.last)))
+    (sym at ∙ ap (λ (es : List (Option Entry)). get_or es k None) same) misses)
+
+pub not_from : (a b : ℕ) → IsTrue (ltb a b) → b ≤ a → ⊥
+not_from a b below above = omega (arith, ltb-true a b below)

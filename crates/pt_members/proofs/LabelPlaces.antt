@@ -1,6 +1,6 @@
 -- The slices with a label place, one place more at a time.
 use Rattle.std.proofs.Common.{◌≡◌, ◌<◌, ◌≤◌, ◌+◌, ℕ, List, [], ◌∷◌, ◌++◌, length, get_or, take, filter, Option, None, sym, ap, ◌∙◌}
-use Rattle.std.proofs.Common.{refl, subst, inl, inr, append-nil}
+use Rattle.std.proofs.Common.{Some, refl, subst, inl, inr, ⊎_elim, append-nil}
 use Rattle.std.specs.Prelude.{◌⊎◌, flat_map}
 use Rattle.std.proofs.lemmas.List.{take_more, take_all}
 use Rattle.std.proofs.lemmas.List.Elements.{filter-append}
@@ -11,7 +11,7 @@ use Rattle.pt_members.specs.declared.member.Kind.{Kind}
 use Rattle.pt_members.specs.declared.member.Kind.TheVariants as kind
 use Rattle.pt_members.specs.declared.member.Member.{Member}
 use Rattle.pt_members.specs.Members.{slots}
-use Rattle.pt_members.specs.Slices.{slice_of, slice_in, slices_of, has_place, placed_in, places_of, IsPlace}
+use Rattle.pt_members.specs.Slices.{slice_of, slice_in, slices_of, has_place, place_of, placed_in, places_of, IsPlace}
 use Rattle.pt_members.specs.Next.{NextSectorIs, least_of}
 use Rattle.pt_members.proofs.Lowest.{next_same, next_or}
 
@@ -67,3 +67,11 @@ lowest_more n k from os a b lt p q =
     subst (λ (l : List Slice). NextSectorIs (IsPlace l) from (least_of a b)) (sym (one_more n k os lt))
     (next_same (λ (s : ℕ). IsPlace ps s ⊎ IsPlace qs s) (IsPlace (ps ++ qs)) from (least_of a b) (place_joined ps qs) (place_split ps qs)
     (next_or (IsPlace ps) (IsPlace qs) from a b p q))
+
+-- the lowest of one label place
+pub next_place : (ps : List Slice) (p : Slice) (from : ℕ) (r : Option ℕ) → p ∷ [] ≡ ps → NextSectorIs (λ s. s ≡ place_of p) from r
+    → NextSectorIs (IsPlace ps) from r
+next_place ps p from r same x = subst (λ (l : List Slice). NextSectorIs (IsPlace l) from r) same (alone r x) where
+  alone : (r : Option ℕ) → NextSectorIs (λ s. s ≡ place_of p) from r → NextSectorIs (IsPlace (p ∷ [])) from r
+  alone None none = λ u low at. ⊎_elim (none u low) (λ no. no) at
+  alone (Some t) next = (inl next.0, next.1, λ u low less at. ⊎_elim (next.2 u low less) (λ no. no) at)

@@ -13,7 +13,7 @@ use pt_gpt::Entry;
 use pt_mbr::{Ebr, Record};
 
 /// What stands in the place of a partition.
-#[derive(Clone, Copy, Debug, PartialEq, Eq)]
+#[derive(Clone, Copy)]
 pub enum Source {
     /// A used record, of sector 0 or of an extended boot record.
     Record(Record),
@@ -24,7 +24,7 @@ pub enum Source {
 }
 
 /// A partition with what stands in its place.
-#[derive(Clone, Copy, Debug, PartialEq, Eq)]
+#[derive(Clone, Copy)]
 pub struct Row {
     pub member: Member,
     pub source: Source,

@@ -155,7 +155,6 @@ fn candidate<const B: usize>(layout: &Layout, k: usize, wanted: &Wanted) -> Opti
 }
 
 /// A member that is as wanted, the first in path order.
-#[tactic(auto, using(crate::proofs::InOrder::slot_first))]
 pub(crate) fn find<const B: usize>(layout: &Layout, wanted: &Wanted) -> Option<Member>
     ensures { Found B layout.now wanted.now result }
 {

@@ -1,7 +1,7 @@
 //! In which order both copies of a table are written.
 
 /// In which order both copies of a table are written.
-#[derive(Clone, Copy, Debug, PartialEq, Eq)]
+#[derive(Clone, Copy)]
 pub enum Order {
     /// The backup copy, then the primary one: the disk has a primary copy.
     BackupFirst,

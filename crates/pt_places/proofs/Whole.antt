@@ -1,5 +1,5 @@
 -- From what each step gave to the answer.
-use Rattle.std.proofs.Common.{◌≡◌, ◌<◌, ◌∙◌, ℕ, List, length, map, All, Option, Some, MatchOption, sym, ap, subst, arith}
+use Rattle.std.proofs.Common.{◌≡◌, ◌<◌, ◌∙◌, ℕ, List, length, map, All, Option, Some, None, MatchOption, sym, ap, subst, arith}
 use Rattle.std.proofs.lemmas.List.{length-map, get_or-map}
 use Rattle.pt_sector.specs.Sectors.{Sectors}
 use Rattle.pt_members.specs.Slices.{places_of, place_of}
@@ -10,9 +10,10 @@ use Rattle.pt_members.specs.declared.layout.Slice.{Slice}
 use Rattle.pt_recover.proofs.Whole.{places_within}
 use Rattle.pt_members.specs.OnePath.{HasFour}
 use Rattle.pt_cases.specs.laws.Ascending.{places_ascend_lem}
+use Rattle.pt_targets.specs.Misfits.{LabelsFit}
 use Rattle.pt_places.specs.Answers.{PlacesAnswer}
 use Rattle.pt_places.specs.Places.{spot_of, IsAt, IsRead, OldAre, AnswerOf}
-use Rattle.pt_places.specs.Spots.{AreSpots, slice_of, labels_of}
+use Rattle.pt_places.specs.Spots.{AreSpots, Fit, slice_of, labels_of}
 use Rattle.pt_places.specs.declared.answer.LabelTargets.{LabelTargets}
 use Rattle.pt_places.specs.declared.place.Place.{Place}
 use Rattle.pt_places.specs.declared.place.Spot.{Spot}
@@ -26,6 +27,15 @@ All-from_map P spots all k d lt =
 
 pub at_some : {A : Type 0} (o : Option A) (v : A) (P : Type 0) (Q : A → Type 0) → o ≡ Some v → MatchOption o P Q → Q v
 at_some o v P Q is match = subst (λ x. MatchOption x P Q) is match
+
+-- a label is left over
+pub misfit : {A : Type 0} (b n : ℕ) (p : Layout) (slices : List Slice) (labels : List Labelled) (o : Option A) (Q : A → Type 0)
+    → o ≡ None → MatchOption o (¬ Fit slices labels) Q → slices ≡ places_of b n p.body → n ≡ p.sectors → labels ≡ p.labels
+    → ¬ LabelsFit b p
+misfit b n p slices labels o Q is match of_slices sectors of_labels fit =
+    let none : ¬ Fit slices labels = subst (λ x. MatchOption x (¬ Fit slices labels) Q) is match in
+    none (subst (λ (l : List Labelled). Fit slices l) (sym of_labels)
+    (subst (λ (s : List Slice). Fit s p.labels) (sym (of_slices ∙ ap (λ (k : ℕ). places_of b k p.body) sectors)) fit))
 
 -- each spot's place is on the disk
 pub spots_within : (b n m : ℕ) (y : Body) (slices : List Slice) (labels : List Labelled) (spots : List Spot)

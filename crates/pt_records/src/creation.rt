@@ -127,7 +127,6 @@ fn is_short_slice<const B: usize>(kind: u8, run: Run) -> bool
 }
 
 // `n` of a record.
-#[tactic(auto, using(crate::proofs::Within::chosen_primary))]
 fn add_record<const B: usize>(
     alloc: Global,
     parts: MbrParts,

@@ -27,7 +27,6 @@ fn space_of(alloc: Global, sectors: u64, records: &[Option<Record>; 4]) -> Resul
 }
 
 // The sectors of a new record's partition. Their numbers have 32 bits.
-#[tactic(auto, using(crate::proofs::Within::placed_within))]
 pub(crate) fn place_record(
     alloc: Global,
     sectors: u64,

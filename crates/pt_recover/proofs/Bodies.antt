@@ -1,5 +1,5 @@
 -- What is read of a body.
-use Rattle.std.proofs.Common.{◌≡◌, ◌≢◌, ◌<◌, ℕ, List, length, Option, None, sym, ◌∙◌, subst, arith, inl, inr}
+use Rattle.std.proofs.Common.{◌≡◌, ◌≢◌, ◌<◌, ℕ, List, length, Option, None, refl, sym, ◌∙◌, subst, arith, inl, inr}
 use Rattle.std.specs.Prelude.{◌⊎◌}
 use Rattle.pt_sector.specs.Sectors.{Sectors}
 use Rattle.pt_mbr.specs.declared.record.Record.{Record}
@@ -18,7 +18,7 @@ use Rattle.pt_recover.specs.declared.error.NoTable.{NoTable}
 use Rattle.pt_recover.specs.declared.error.NoTable.TheVariants.{NoCopy, TooSmall}
 use Rattle.pt_members.specs.declared.layout.Body.TheVariants.{Mbr, Gpt}
 use Rattle.pt_recover.specs.declared.trace.TracedRun.{TracedRun}
-use Rattle.pt_recover.proofs.Traces.{adds_same, adds_both}
+use Rattle.pt_recover.proofs.Traces.{adds_none, adds_same, adds_both}
 
 of_mbr : (b : ℕ) (d : Sectors) (m : List (Option Record)) (s : ℕ) → IsMbr d m → RestReads b d s → ExtendedReads d (extended_of m) s
 of_mbr b d m s is (of_chain n other reads) =
@@ -75,6 +75,16 @@ no_sector b d n m none e f =
     let empty : length d ≡ 0 = omega arith in
     too_small b d (λ is. absurd (omega (arith, is.0))) (λ room. absurd (omega (arith, room)))
 
+-- of a disk with no sectors nothing is read
+none_reads : (b : ℕ) (d : Sectors) (s : ℕ) → length d ≡ 0 → BodyReads b d s → ⊥
+none_reads b d s empty (head some at) = omega (arith, some, empty)
+none_reads b d s empty (chain m is reads) = omega (arith, is.0.0, empty)
+none_reads b d s empty (table none room reads) = omega (arith, room, empty)
+
+pub no_sector_read : (b : ℕ) (d : Sectors) (n m : ℕ) (runs : List TracedRun) → n ≡ 0 → n ≡ m → length d ≡ m
+    → Adds runs runs (BodyReads b d)
+no_sector_read b d n m runs none e f = adds_none runs runs (BodyReads b d) refl (λ s reads. none_reads b d s (omega arith) reads)
+
 whole_there : (b : ℕ) (d : Sectors) (s : ℕ) → BodyReads b d s → (s ≡ 0) ⊎ RestReads b d s
 whole_there b d s (head some at) = inl at
 whole_there b d s (chain m is reads) = inr (of_chain m is reads)
@@ -100,3 +110,11 @@ some_sector n m k some e f = omega arith
 
 pub enough : (b n m k : ℕ) → HasRoom b n → n ≡ m → k ≡ m → HasRoom b k
 enough b n m k room e f = subst (λ (x : ℕ). HasRoom b x) (e ∙ sym f) room
+
+-- of a disk that is no MBR disk, and too small for a GPT, nothing is read beside sector 0
+rest_nowhere : (b : ℕ) (d : Sectors) (s : ℕ) → ¬ IsMbrDisk d → ¬ HasRoom b (length d) → RestReads b d s → ⊥
+rest_nowhere b d s none small (of_chain m is reads) = none is.0
+rest_nowhere b d s none small (of_table other room reads) = small room
+
+pub no_rest : (b : ℕ) (d : Sectors) (runs : List TracedRun) → ¬ IsMbrDisk d → ¬ HasRoom b (length d) → Adds runs runs (RestReads b d)
+no_rest b d runs none small = adds_none runs runs (RestReads b d) refl (λ s reads. rest_nowhere b d s none small reads)

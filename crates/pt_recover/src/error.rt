@@ -35,7 +35,7 @@ impl fmt::Display for NoTable {
                 f,
                 "no MBR, and neither copy of a GPT exists: {primary} (primary); {backup} (backup)"
             ),
-            NoTable::Chain(error) => write!(f, "{error}"),
+            NoTable::Chain(error) => fmt::Display::fmt(error, f),
             NoTable::TwoExtended => f.write_str("two records of type 05 or 0F"),
             NoTable::TooSmall => f.write_str("no MBR, and fewer sectors than a GPT takes"),
             NoTable::Device(at) => write!(f, "sector {} can't be read", at.0),

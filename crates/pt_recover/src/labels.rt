@@ -15,7 +15,6 @@ use pt_members::{Labelled, Labels, Slice};
 use pt_sector::{Disk, Failure, Lba, Sector, read_sector};
 use std::alloc::{AllocError, Global};
 
-#[tactic(auto, using(pt_bsd::specs::laws::Terms::no_label))]
 fn label_of<const B: usize>(sector: &Sector<B>, slice: Slice) -> Option<Label>
     requires { IsSectorSize B }
     ensures { LabelIs slice sector.now result }

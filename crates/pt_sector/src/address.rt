@@ -10,7 +10,7 @@ pub struct Lba(pub u64);
 pub type Sector<const B: usize> = [u8; B];
 
 /// Consecutive sectors, at least one, the last below 2^63.
-#[derive(Clone, Copy, Debug, PartialEq, Eq)]
+#[derive(Clone, Copy)]
 pub struct Extent {
     first: u64,
     last: u64,

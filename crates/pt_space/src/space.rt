@@ -1,7 +1,7 @@
 //! What a place is looked for in.
 
 /// Sectors from a first to a last one; none where the first is past the last.
-#[derive(Clone, Copy, Debug, Default, PartialEq, Eq)]
+#[derive(Clone, Copy, Default, PartialEq, Eq)]
 pub struct Run {
     pub first: u128,
     pub last: u128,

@@ -75,7 +75,7 @@ pub fn crc32(bytes: &[u8]) -> u32
 }
 
 /// The CRC-32 of bytes that come in parts. A contract sees it as its register.
-#[derive(Clone, Copy, Debug)]
+#[derive(Clone, Copy)]
 pub struct Crc {
     register: u32,
 }

@@ -57,7 +57,7 @@ impl fmt::Display for PlanError {
                 f.write_str("only a label changes, and the GPT needs mending")
             }
             PlanError::Unsound(finding) => write!(f, "the new layout isn't sound: {finding}"),
-            PlanError::Device(fault) => write!(f, "{fault}"),
+            PlanError::Device(fault) => fmt::Display::fmt(fault, f),
             PlanError::Memory => f.write_str("out of memory"),
         }
     }

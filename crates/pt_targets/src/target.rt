@@ -3,7 +3,7 @@
 use pt_sector::{Lba, Sector};
 
 /// Why a sector is among the targets.
-#[derive(Clone, Copy, Debug, PartialEq, Eq)]
+#[derive(Clone, Copy)]
 pub enum TargetKind {
     /// It holds what it must.
     Stays,

@@ -3,6 +3,7 @@ use Rattle.std.specs.Prelude.{All, Vec}
 use Rattle.std.specs.declared.alloc.Global.{Global}
 use Rattle.std.specs.String.{string_bytes}
 use Rattle.std.proofs.lemmas.List.{take_all}
+use Rattle.std.proofs.lemmas.Result.{err_from_is_err_and}
 use Rattle.pt_sector.specs.Writes.{Writes}
 use Rattle.pt_apply.specs.declared.plan.Write.{Write}
 use Rattle.pt_apply.specs.Plans.{writes_of, phases_of, phases_in}
@@ -32,14 +33,21 @@ loop-phase-preserved g c =
           c.loop-phase.invariant.held held;
     }
 
-pub returns-clause-ok : goal.returns-clause-ok
-returns-clause-ok g c =
+pub returns-in_err-push_phase : goal.returns-in_err-push_phase
+returns-in_err-push_phase g c =
+    let p = err_from_is_err_and c.from_residual.result c.from_residual.ensures.1 in record { ok = rw p.1 tt; lower = rw p.1 tt }
+
+pub returns : goal.returns
+returns g c =
     let items = c.args.plan.now.phases.items in
     let index = c.loop-phase.phase-index in
     let past =
     subst (λ (t : List (Vec (Write g.row.B) Global)). length t ≤ index) c.deref-phase-items.ensures.value c.loop-phase-test.false in
     let text =
     c.loop-phase.invariant.text ∙ ap (λ (t : List (Vec (Write g.row.B) Global)). text_of (phases_in t)) (take_all index items past) in
-    canonical g.row.B (phases_of c.args.plan.now) (string_bytes c.loop-phase.text) text (none_empty items c.requires.phases)
-    (all_taken (λ (p : Writes). All (HasLine g.row.B) p)
-    (λ (p : Vec (Write g.row.B) Global). writes_of p.items) items index past c.loop-phase.invariant.held)
+    record {
+      ok = canonical g.row.B (phases_of c.args.plan.now) (string_bytes c.loop-phase.text) text (none_empty items c.requires.phases)
+          (all_taken (λ (p : Writes). All (HasLine g.row.B) p)
+          (λ (p : Vec (Write g.row.B) Global). writes_of p.items) items index past c.loop-phase.invariant.held);
+      lower = text;
+    }

@@ -6,6 +6,8 @@ use Rattle.pt_check.specs.Reasons.{FirstWrite}
 use Rattle.pt_check.specs.declared.objection.Found.{Found}
 use Rattle.pt_check.proofs.Exits.{outside, boot}
 use Rattle.pt_check.proofs.Ranges.{in_range}
+use Rattle.std.proofs.lemmas.Result.{err_from_is_err_and}
+use Rattle.std.proofs.Common.{refl}
 use Rattle.pt_check.proofs.checker.judge_writes.Goals as goal
 
 abbrev Past : ℕ → ℕ × List ℕ → Type 0
@@ -59,3 +61,39 @@ returns-in-None-2-clause-judged g c = λ tells. record {
       (c.sectors-sectors.ensures ∙ sym (g.met.D.Disk.sized c.args.disk.now tells)) c.in_default.ensures;
   boot = rw c.in-None-2.is at (c.in_ok-other_boot_code.ensures.found tells);
 }
+
+pub first_in_plan-requires : goal.first_in_plan-requires
+first_in_plan-requires g c =
+    (search rules, (c.requires.size, subst (λ (n : ℕ). n ≤ 4096) c.in-Some.ensures.few.0 c.in-Some.ensures.few.1))
+
+pub returns-in-None-clause-same : goal.returns-in-None-clause-same
+returns-in-None-clause-same g c = g.met.D.Disk.reads_same c.args.disk.now
+
+pub returns-in-None-clause-blames : goal.returns-in-None-clause-blames
+returns-in-None-clause-blames g c = refl
+
+pub returns-in-Some-first_in_plan-clause-same : goal.returns-in-Some-first_in_plan-clause-same
+returns-in-Some-first_in_plan-clause-same g c = g.met.D.Disk.reads_same c.args.disk.now
+
+pub returns-in-Some-first_in_plan-clause-blames : goal.returns-in-Some-first_in_plan-clause-blames
+returns-in-Some-first_in_plan-clause-blames g c = refl
+
+pub returns-in_err-other_boot_code-clause-same : goal.returns-in_err-other_boot_code-clause-same
+returns-in_err-other_boot_code-clause-same g c = c.in_err-other_boot_code.ensures.same
+
+pub returns-in_err-other_boot_code-clause-blames : goal.returns-in_err-other_boot_code-clause-blames
+returns-in_err-other_boot_code-clause-blames g c =
+    let p = err_from_is_err_and c.from_residual.result c.from_residual.ensures.1 in
+    rw (p.1, p.2) c.in_err-other_boot_code.ensures.blames
+
+pub returns-in-None-2-clause-same : goal.returns-in-None-2-clause-same
+returns-in-None-2-clause-same g c = c.in_ok-other_boot_code.ensures.same
+
+pub returns-in-None-2-clause-blames : goal.returns-in-None-2-clause-blames
+returns-in-None-2-clause-blames g c = c.in_ok-other_boot_code.ensures.blames
+
+pub returns-in-Some-2-clause-same : goal.returns-in-Some-2-clause-same
+returns-in-Some-2-clause-same g c = c.in_ok-other_boot_code.ensures.same
+
+pub returns-in-Some-2-clause-blames : goal.returns-in-Some-2-clause-blames
+returns-in-Some-2-clause-blames g c = c.in_ok-other_boot_code.ensures.blames

@@ -1,5 +1,6 @@
-use Rattle.std.proofs.Common.{◌∙◌, ap, refl}
+use Rattle.std.proofs.Common.{◌≡◌, ◌∙◌, ◌++◌, ℕ, ap, refl, subst, arith}
 use Rattle.pt_apply.specs.Plans.{writes_of}
+use Rattle.pt_cases.specs.Copies.{array_writes}
 use Rattle.pt_copies.proofs.Assembling.{array_begins, array_on}
 use Rattle.pt_copies.proofs.parts.push_array.Goals as goal
 
@@ -12,3 +13,10 @@ loop-k-preserved g c = record {
       ∙ array_on g.row.B c.args.entries.now c.args.at c.loop-k.k
       (writes_of c.args.writes.now.items) c.loop-k.writes.items _ c.loop-k.invariant.so_far refl c.encode_array_sector.ensures;
 }
+
+pub returns : goal.returns
+returns g c =
+    let all : c.loop-k.k ≡ c.array_sectors-k-end.result = omega arith in
+    subst (λ (k : ℕ). writes_of c.loop-k.writes.items ≡ writes_of c.args.writes.now.items
+    ++ array_writes g.row.B c.args.entries.now c.args.at k)
+    (all ∙ c.array_sectors-k-end.ensures.value) c.loop-k.invariant.so_far

@@ -1,3 +1,4 @@
+use Rattle.std.proofs.lemmas.Result.{err_from_is_err_and}
 use Rattle.pt_apply.specs.Plans.{phases_in, writes_of}
 use Rattle.pt_cases.specs.Cases.{from_mbr_phases}
 use Rattle.pt_copies.specs.Written.{WroteCopies}
@@ -19,3 +20,8 @@ returns g c =
       count = from_mbr_count g.row.B c.args.sectors c.args.table.now c.args.labels.items c.in_ok-phases.phases.items c.requires.size
           c.requires.room c.requires.labels_in_range c.args.head.now is;
     }
+
+pub returns-in_err-phases : goal.returns-in_err-phases
+returns-in_err-phases g c =
+    let p = err_from_is_err_and c.from_residual.result c.from_residual.ensures.1 in
+    record { phases = rw p.1 tt; in_range = rw p.1 tt; some = rw p.1 tt; count = rw p.1 tt }

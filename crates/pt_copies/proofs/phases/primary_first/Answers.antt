@@ -1,4 +1,5 @@
 use Rattle.std.proofs.Common.{◌∙◌, ap}
+use Rattle.std.proofs.lemmas.Result.{err_from_is_err_and}
 use Rattle.pt_apply.specs.Plans.{phases_in, writes_of}
 use Rattle.pt_sector.specs.Writes.{Writes}
 use Rattle.pt_cases.specs.Cases.{primary_first_phases, primary_and_labels}
@@ -32,3 +33,28 @@ returns g c =
       count = primary_first_count g.row.B c.args.sectors c.args.table.now c.args.labels.items c.push_last.new.phases.items c.requires.size
           c.requires.room c.requires.labels_in_range c.args.last.now is;
     }
+
+pub returns-in_err-array : goal.returns-in_err-array
+returns-in_err-array g c =
+    let p = err_from_is_err_and c.from_residual.result c.from_residual.ensures.1 in
+    record { phases = rw p.1 tt; in_range = rw p.1 tt; some = rw p.1 tt; count = rw p.1 tt }
+
+pub returns-in_err-push_backup : goal.returns-in_err-push_backup
+returns-in_err-push_backup g c =
+    let p = err_from_is_err_and c.from_residual-in_err-push_backup.result c.from_residual-in_err-push_backup.ensures.1 in
+    record { phases = rw p.1 tt; in_range = rw p.1 tt; some = rw p.1 tt; count = rw p.1 tt }
+
+pub returns-in_err-push_primary : goal.returns-in_err-push_primary
+returns-in_err-push_primary g c =
+    let p = err_from_is_err_and c.from_residual-in_err-push_primary.result c.from_residual-in_err-push_primary.ensures.1 in
+    record { phases = rw p.1 tt; in_range = rw p.1 tt; some = rw p.1 tt; count = rw p.1 tt }
+
+pub returns-in_err-push_phase : goal.returns-in_err-push_phase
+returns-in_err-push_phase g c =
+    let p = err_from_is_err_and c.from_residual-in_err-push_phase.result c.from_residual-in_err-push_phase.ensures.1 in
+    record { phases = rw p.1 tt; in_range = rw p.1 tt; some = rw p.1 tt; count = rw p.1 tt }
+
+pub returns-in_err-push_last : goal.returns-in_err-push_last
+returns-in_err-push_last g c =
+    let p = err_from_is_err_and c.from_residual-in_err-push_last.result c.from_residual-in_err-push_last.ensures.1 in
+    record { phases = rw p.1 tt; in_range = rw p.1 tt; some = rw p.1 tt; count = rw p.1 tt }

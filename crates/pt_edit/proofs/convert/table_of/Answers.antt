@@ -1,4 +1,4 @@
-use Rattle.std.proofs.Common.{List, subst, sym, ◌∙◌}
+use Rattle.std.proofs.Common.{◌+◌, ◌≤◌, List, length, subst, sym, ◌∙◌}
 use Rattle.pt_edit.specs.Placed.{Placeable}
 use Rattle.pt_edit.specs.declared.partition.Partition.{Partition}
 use Rattle.pt_edit.proofs.Numbers.{placed}
@@ -8,3 +8,8 @@ pub table_for-requires-clause-placeable : goal.table_for-requires-clause-placeab
 table_for-requires-clause-placeable g c =
     subst (λ (ps : List Partition). Placeable c.args.layout.now.sectors ps) (sym (c.deref-2.ensures.value ∙ c.in_ok-partitions.ensures.ok))
     (placed g.row.B c.args.layout.now c.in_ok-partitions.ensures.four c.in_ok-may_convert.ensures.ok.room)
+
+pub table_for-requires-clause-enough : goal.table_for-requires-clause-enough
+table_for-requires-clause-enough g c =
+    subst (λ (ps : List Partition). 1 + length ps ≤ length c.args.guids.now) (sym (c.deref-2.ensures.value ∙ c.in_ok-partitions.ensures.ok))
+    c.in_ok-may_convert.ensures.ok.enough

@@ -1,6 +1,6 @@
 use Rattle.std.proofs.Common.{Err}
 use Rattle.std.proofs.lemmas.Result.{err_from_is_err_and}
-use Rattle.pt_edit.proofs.Folding.{refused_at}
+use Rattle.pt_edit.proofs.Folding.{refused_at, taken_at}
 use Rattle.pt_edit.proofs.fold.take_words.Goals as goal
 
 pub returns-in_err-state-clause-err : goal.returns-in_err-state-clause-err
@@ -11,3 +11,11 @@ returns-in_err-state-clause-err g c =
     (refused_at g.row.B c.args.sectors c.args.edits.now c.loop-word.word-index c.word-item.result _ refusal c.loop-word-test.true
     c.word-item.is
     (c.in_err-state.ensures.err not_memory)))
+
+pub loop-word-preserved : goal.loop-word-preserved
+loop-word-preserved g c = record {
+  taken = c.in_ok-state.ensures.taken;
+  so_far = λ r rest. c.loop-word.invariant.so_far r
+      (taken_at g.row.B c.args.sectors c.args.edits.now c.loop-word.word-index c.word-item.result _ _ r c.loop-word-test.true c.word-item.is
+      c.in_ok-state.ensures.ok rest);
+}

@@ -29,3 +29,9 @@ returns-clause-size g c = refuted _ c.is_wrong_size.result c.is_wrong_size.ensur
 
 pub returns-clause-alone : goal.returns-clause-alone
 returns-clause-alone g c = refuted _ c.is_elsewhere.result c.is_elsewhere.ensures c.if-is_elsewhere.false
+
+pub returns-clause-next : goal.returns-clause-next
+returns-clause-next g c = c.in-Some.ensures.some
+
+pub returns-clause-place : goal.returns-clause-place
+returns-clause-place g c = c.in_ok-spot.ensures.ok

@@ -1,5 +1,18 @@
 use Rattle.std.proofs.Common.{arith, refl, sym, ◌∙◌}
+use Rattle.pt_members.specs.Members.{slots}
+use Rattle.pt_edit.specs.Outside.{HasNear}
+use Rattle.pt_edit.proofs.Searches.{denied_here, none_up_to}
+use Rattle.pt_edit.proofs.room.has_outsider.Goals.{in-Some+else-is_near_outside, in_default}
 use Rattle.pt_edit.proofs.room.has_outsider.Goals as goal
+
+pub loop-k-preserved : goal.loop-k-preserved
+loop-k-preserved g c =
+    none_up_to (HasNear g.row.B c.args.layout.now) (slots g.row.B c.args.layout.now.body) c.loop-k.k c.slot.result c.slot.ensures.value
+    (λ x is near. elim c.match-slot.branch as (λ _. ⊥) [
+      | in-Some+else-is_near_outside w ↦ denied_here (HasNear g.row.B c.args.layout.now) c.slot.result w.in-Some.m w.is_near_outside.result
+          w.in-Some.is w.is_near_outside.ensures w.if-is_near_outside.false x is near
+      | in_default w ↦ w.in_default.not-Some x is
+    ]) c.loop-k.invariant
 
 pub returns-then-is_near_outside : goal.returns-then-is_near_outside
 returns-then-is_near_outside g c =

@@ -1,4 +1,4 @@
-use Rattle.std.proofs.Common.{◌≢◌, List, drop, subst, arith}
+use Rattle.std.proofs.Common.{◌≢◌, List, drop, refl, subst, arith}
 use Rattle.std.proofs.lemmas.Result.{err_from_is_err_and}
 use Rattle.std.proofs.lemmas.List.{length-drop}
 use Rattle.pt_guid.specs.declared.guid.Guid.{Guid}
@@ -36,3 +36,6 @@ returns-in_err-layout-clause-err g c =
     (subst (λ (fresh : List Guid). c.in_err-layout.field-0.0 ≢ Memory
     → RefusesOn g.row.B c.args.state.alignment fresh c.args.word.now c.in-Some.layout c.in_err-layout.field-0.0)
     (left c.args.guids.now c.args.state.taken) c.in_err-layout.ensures.err)
+
+pub returns-in-None-clause-err : goal.returns-in-None-clause-err
+returns-in-None-clause-err g c = λ _. rw c.in-None.is refl

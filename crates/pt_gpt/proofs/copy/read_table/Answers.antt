@@ -1,7 +1,7 @@
 use Rattle.std.proofs.Common.{◌∙◌, sym, inl, inr}
 use Rattle.std.proofs.lemmas.Result.{err_from_is_err_and}
 use Rattle.pt_gpt.specs.Copy.{SideReads, InArray}
-use Rattle.pt_gpt.proofs.Heads.{failed_in, other_crc_of, table_of}
+use Rattle.pt_gpt.proofs.Heads.{failed_in, other_crc_of, table_of, array_within, small_within}
 use Rattle.pt_gpt.proofs.copy.read_table.Goals as goal
 
 pub returns-in_err-crc-clause-place : goal.returns-in_err-crc-clause-place
@@ -35,3 +35,30 @@ pub returns-in_err-crc-clause-err : goal.returns-in_err-crc-clause-err
 returns-in_err-crc-clause-err g c tells =
     let p = err_from_is_err_and c.from_residual.result c.from_residual.ensures.1 in
     rw (p.1, p.2) (inl c.in_err-crc.ensures.outside)
+
+pub returns-in_err-crc-clause-same : goal.returns-in_err-crc-clause-same
+returns-in_err-crc-clause-same g c = c.in_err-crc.ensures.same
+
+pub returns-then-crc-header-clause-same : goal.returns-then-crc-header-clause-same
+returns-then-crc-header-clause-same g c = c.in_ok-crc.ensures.same
+
+pub returns-then-crc-header-clause-blames : goal.returns-then-crc-header-clause-blames
+returns-then-crc-header-clause-blames g c = c.in_ok-crc.ensures.blames
+
+pub returns-clause-same : goal.returns-clause-same
+returns-clause-same g c = c.in_ok-crc.ensures.same
+
+pub returns-clause-blames : goal.returns-clause-blames
+returns-clause-blames g c = c.in_ok-crc.ensures.blames
+
+pub read_entries-requires-clause-most : goal.read_entries-requires-clause-most
+read_entries-requires-clause-most g c = c.requires.placed.shape.1
+
+pub read_entries-requires-clause-within : goal.read_entries-requires-clause-within
+read_entries-requires-clause-within g c =
+    array_within g.row.B c.args.side _ c.args.header.now c.requires.size c.requires.room c.requires.placed
+
+pub read_entries-requires-clause-fits : goal.read_entries-requires-clause-fits
+read_entries-requires-clause-fits g c =
+    small_within g.row.B (g.D.Disk.count c.args.disk.now) _ c.requires.size (g.met.D.Disk.bounded c.args.disk.now)
+    (read_entries-requires-clause-within g c)

@@ -15,6 +15,7 @@ use Rattle.pt_recover.proofs.Sides.{primary_read, both_read}
 use Rattle.pt_layout.specs.declared.halves.Half.{Half}
 use Rattle.pt_layout.specs.Halves.{HalfOrFault, HalvesAre, paired_as}
 use Rattle.pt_layout.proofs.Failing.{BothReads}
+use Rattle.std.proofs.Common.{sym, subst}
 use Rattle.pt_layout.proofs.halves.read_halves.Goals as goal
 
 -- the sectors of the backup side count where there is no primary copy
@@ -61,3 +62,33 @@ returns-clause-traced g c = λ tells.
     (c.in_ok-primary.ensures.traced tells)
     (λ failed. rw (c.in_ok-primary.ensures.same.same tells) at (c.in_ok-backup.ensures.traced tells (c.is_err.ensures.value ∙ failed)))
     (λ stands. c.in_ok-backup.ensures.untraced (c.is_err.ensures.value ∙ stands))
+
+pub read_backup-requires-clause-room : goal.read_backup-requires-clause-room
+read_backup-requires-clause-room g c =
+    subst (λ (n : ℕ). HasRoom g.row.B n) (sym c.in_ok-primary.ensures.same.same_count) c.requires.room
+
+pub returns-in_err-primary-clause-same : goal.returns-in_err-primary-clause-same
+returns-in_err-primary-clause-same g c = c.in_err-primary.ensures.same
+
+pub returns-in_err-primary-clause-blames : goal.returns-in_err-primary-clause-blames
+returns-in_err-primary-clause-blames g c =
+    let p = err_from_is_err_and c.from_residual.result c.from_residual.ensures.1 in
+    rw (p.1, p.2) c.in_err-primary.ensures.blames
+
+pub returns-in_err-backup-clause-same : goal.returns-in_err-backup-clause-same
+returns-in_err-backup-clause-same g c =
+    g.met.D.Disk.reads_on c.args.disk.now c.half_or_fault.new.disk c.read_backup.new.disk c.in_ok-primary.ensures.same
+    c.in_err-backup.ensures.same
+
+pub returns-in_err-backup-clause-blames : goal.returns-in_err-backup-clause-blames
+returns-in_err-backup-clause-blames g c =
+    let p = err_from_is_err_and c.from_residual-in_err-backup.result c.from_residual-in_err-backup.ensures.1 in
+    rw (p.1, p.2, sym c.in_ok-primary.ensures.blames) c.in_err-backup.ensures.blames
+
+pub returns-clause-same : goal.returns-clause-same
+returns-clause-same g c =
+    g.met.D.Disk.reads_on c.args.disk.now c.half_or_fault.new.disk c.read_backup.new.disk c.in_ok-primary.ensures.same
+    c.in_ok-backup.ensures.same
+
+pub returns-clause-blames : goal.returns-clause-blames
+returns-clause-blames g c = c.in_ok-backup.ensures.blames ∙ c.in_ok-primary.ensures.blames

@@ -9,6 +9,7 @@ use Rattle.pt_layout.specs.Verdicts.{ArePlaces}
 use Rattle.pt_layout.proofs.Failing.{read_failed}
 use Rattle.pt_layout.proofs.Surveys.{table_survey}
 use Rattle.pt_layout.proofs.Traced.{whole_trace}
+use Rattle.pt_layout.proofs.Surveys.{gpt_numbers}
 use Rattle.pt_layout.proofs.survey.survey_table.Goals as goal
 
 pub judge_table-requires-clause-body : goal.judge_table-requires-clause-body
@@ -39,3 +40,20 @@ returns-clause-ok g c = λ tells.
     table_survey g.row.B d c.args.head t j.layout j.finding c.args.chosen.primary j.places
     c.judge_table.new.trace (c.requires.head tells) body (c.in_ok-judged.ensures.ok tells) (c.in_ok-judged.ensures.finding tells)
     (c.requires.chosen tells).1 places traced
+
+pub returns-in_err-judged-clause-same : goal.returns-in_err-judged-clause-same
+returns-in_err-judged-clause-same g c = c.in_err-judged.ensures.same
+
+pub returns-in_err-judged-clause-blames : goal.returns-in_err-judged-clause-blames
+returns-in_err-judged-clause-blames g c =
+    let p = err_from_is_err_and c.from_residual.result c.from_residual.ensures.1 in
+    rw (p.1, p.2) c.in_err-judged.ensures.blames
+
+pub returns-clause-same : goal.returns-clause-same
+returns-clause-same g c = c.in_ok-judged.ensures.same
+
+pub returns-clause-blames : goal.returns-clause-blames
+returns-clause-blames g c = c.in_ok-judged.ensures.blames
+
+pub returns-clause-numbers : goal.returns-clause-numbers
+returns-clause-numbers g c = gpt_numbers c.in_ok-judged.judged.layout c.args.chosen.table c.in_ok-judged.ensures.body

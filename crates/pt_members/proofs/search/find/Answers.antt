@@ -1,6 +1,7 @@
-use Rattle.std.proofs.Common.{rules}
+use Rattle.std.proofs.Common.{arith, rules}
 use Rattle.pt_members.specs.Search.{NoneNear}
 use Rattle.pt_members.proofs.Elsewhere.{none_found, none_yet}
+use Rattle.pt_members.proofs.InOrder.{slot_first}
 use Rattle.pt_members.proofs.search.find.Goals.{in-Some+in_default-find_near, in_default}
 use Rattle.pt_members.proofs.search.find.Goals as goal
 
@@ -12,3 +13,16 @@ loop-k-preserved g c = none_yet g.row.B c.loop-k.k c.args.layout.now c.args.want
         none_found g.row.B c.loop-k.k c.args.layout.now c.args.wanted.now w.in-Some.m (search rules) (search rules)
     | in_default w ↦ search rules
   ]
+
+pub candidate-requires : goal.candidate-requires
+candidate-requires g c = omega (arith, c.loop-k-test.true, c.count_slots-k-end.ensures.value)
+
+pub returns-in-Some-find_near : goal.returns-in-Some-find_near
+returns-in-Some-find_near g c =
+    slot_first g.row.B c.args.layout.now c.args.wanted.now c.loop-k.k c.in-Some.m c.in-Some-find_near.found c.count_slots-k-end.ensures.four
+    c.in-Some-find_near.ensures.close (omega (arith, c.loop-k-test.true, c.count_slots-k-end.ensures.value)) c.in-Some.ensures.some
+    c.in-Some-find_near.ensures.found c.loop-k.invariant
+
+pub returns : goal.returns
+returns g c = λ x at.
+    c.loop-k.invariant at.1.0 at.0 x (omega (arith, at.1.1, c.loop-k-test.false, c.count_slots-k-end.ensures.value)) at.1.2 at.2

@@ -1,3 +1,4 @@
+use Rattle.std.proofs.Common.{rules}
 use Rattle.pt_apply.specs.Plans.{writes_of}
 use Rattle.pt_phases.proofs.Shapes.{backup_first_short, primary_first_short, from_mbr_short, from_mbr_arranged, unwrapped}
 use Rattle.pt_phases.proofs.copies.arranged.Goals as goal
@@ -24,3 +25,21 @@ pub returns-in-FromMbr-clause-short : goal.returns-in-FromMbr-clause-short
 returns-in-FromMbr-clause-short g c =
     from_mbr_short c.args.setting.now.sectors c.args.table.now
     (writes_of c.args.labels.items) c.protected_head.result c.from_mbr.result c.from_mbr.ensures.phases
+
+pub backup_first-requires : goal.backup_first-requires
+backup_first-requires g c = (
+  search rules,
+  (search rules, (search rules, (c.requires.size, (c.requires.room, (c.requires.few, c.requires.labels_in_range))))),
+)
+
+pub primary_first-requires : goal.primary_first-requires
+primary_first-requires g c = (
+  search rules,
+  (search rules, (search rules, (c.requires.size, (c.requires.room, (c.requires.few, c.requires.labels_in_range))))),
+)
+
+pub from_mbr-requires : goal.from_mbr-requires
+from_mbr-requires g c = (
+  search rules,
+  (search rules, (search rules, (c.requires.size, (c.requires.room, (c.requires.few, c.requires.labels_in_range))))),
+)

@@ -1,11 +1,12 @@
-use Rattle.std.proofs.Common.{◌≡◌, ◌∙◌, ℕ, List, subst, arith}
+use Rattle.std.proofs.Common.{◌≡◌, ◌∙◌, ℕ, List, length, map, refl, ap, subst, arith}
 use Rattle.std.proofs.lemmas.List.{take_all}
 use Rattle.std.proofs.lemmas.Result.{err_from_is_err_and}
 use Rattle.pt_sector.specs.Calls.{with_fault}
 use Rattle.pt_sector.specs.Device.{Told}
 use Rattle.pt_sector.specs.Reads.{read_of}
 use Rattle.pt_sector.specs.declared.disk.Fault.{Fault}
-use Rattle.pt_places.specs.Places.{IsAt, IsRead}
+use Rattle.pt_places.specs.Places.{spot_of, IsAt, IsRead}
+use Rattle.pt_places.specs.declared.place.Place.{Place}
 use Rattle.pt_places.proofs.Pieces.{all_on, spots_on}
 use Rattle.pt_places.proofs.reading.read_places.Goals as goal
 
@@ -26,30 +27,47 @@ loop-k-preserved g c = record {
       (subst (λ (t : Told). IsRead t.seen c.in_ok-place.place) (c.loop-k.invariant.same.same tells) (c.in_ok-place.ensures.bytes tells));
 }
 
-pub returns-in_err-place-clause-same : goal.returns-in_err-place-clause-same
-returns-in_err-place-clause-same g c =
-    g.met.D.Disk.reads_on c.args.disk.now c.loop-k.disk c.read_place.new.disk c.loop-k.invariant.same c.in_err-place.ensures.same
+pub loop-k-init : goal.loop-k-init
+loop-k-init g c =
+    let none = ap length c.new-places.ensures.items in
+    record {
+      same = g.met.D.Disk.reads_same c.args.disk.now;
+      quiet = refl;
+      spots = ap (λ (ps : List (Place g.row.B)). map spot_of ps) c.new-places.ensures.items;
+      at = λ k z lt. absurd (omega (arith, none, lt));
+      bytes = λ tells k z lt. absurd (omega (arith, none, lt));
+    }
 
-pub returns-in_err-place-clause-blames : goal.returns-in_err-place-clause-blames
-returns-in_err-place-clause-blames g c =
+pub returns-in_err-place : goal.returns-in_err-place
+returns-in_err-place g c =
     let p = err_from_is_err_and c.from_residual.result c.from_residual.ensures.1 in
-    rw (p.1, p.2) (subst (λ (l : List Fault). g.D.Disk.faults c.read_place.new.disk ≡ with_fault l (read_of c.in_err-place.field-0.0))
-    c.loop-k.invariant.quiet c.in_err-place.ensures.blames)
+    record {
+      same = g.met.D.Disk.reads_on c.args.disk.now c.loop-k.disk c.read_place.new.disk c.loop-k.invariant.same
+          c.in_err-place.ensures.same;
+      blames = rw (p.1, p.2)
+          (subst (λ (l : List Fault). g.D.Disk.faults c.read_place.new.disk ≡ with_fault l (read_of c.in_err-place.field-0.0))
+          c.loop-k.invariant.quiet c.in_err-place.ensures.blames);
+      spots = rw p.1 tt;
+      at = rw p.1 tt;
+      bytes = λ tells. rw p.1 tt;
+    }
 
-pub returns-in_err-push_place-clause-same : goal.returns-in_err-push_place-clause-same
-returns-in_err-push_place-clause-same g c =
-    g.met.D.Disk.reads_on c.args.disk.now c.loop-k.disk c.read_place.new.disk c.loop-k.invariant.same c.in_ok-place.ensures.same
-
-pub returns-in_err-push_place-clause-blames : goal.returns-in_err-push_place-clause-blames
-returns-in_err-push_place-clause-blames g c =
+pub returns-in_err-push_place : goal.returns-in_err-push_place
+returns-in_err-push_place g c =
     let p = err_from_is_err_and c.from_residual-in_err-push_place.result c.from_residual-in_err-push_place.ensures.1 in
-    rw (p.1, p.2) (c.in_ok-place.ensures.blames ∙ c.loop-k.invariant.quiet)
+    record {
+      same = g.met.D.Disk.reads_on c.args.disk.now c.loop-k.disk c.read_place.new.disk c.loop-k.invariant.same c.in_ok-place.ensures.same;
+      blames = rw (p.1, p.2) (c.in_ok-place.ensures.blames ∙ c.loop-k.invariant.quiet);
+      spots = rw p.1 tt;
+      at = rw p.1 tt;
+      bytes = λ tells. rw p.1 tt;
+    }
 
-pub returns-clause-spots : goal.returns-clause-spots
-returns-clause-spots g c = c.loop-k.invariant.spots ∙ take_all c.loop-k.k c.args.spots.now (omega arith)
-
-pub returns-clause-at : goal.returns-clause-at
-returns-clause-at g c = c.loop-k.invariant.at
-
-pub returns-clause-bytes : goal.returns-clause-bytes
-returns-clause-bytes g c = c.loop-k.invariant.bytes
+pub returns : goal.returns
+returns g c = record {
+  same = c.loop-k.invariant.same;
+  blames = c.loop-k.invariant.quiet;
+  spots = c.loop-k.invariant.spots ∙ take_all c.loop-k.k c.args.spots.now (omega arith);
+  at = c.loop-k.invariant.at;
+  bytes = c.loop-k.invariant.bytes;
+}

@@ -1,4 +1,4 @@
-use Rattle.std.proofs.Common.{◌∙◌, ℕ, ap, sym, subst, arith}
+use Rattle.std.proofs.Common.{◌∙◌, ℕ, length, ap, refl, sym, subst, arith}
 use Rattle.std.specs.Prelude.{IfOk}
 use Rattle.std.proofs.lemmas.Result.{err_from_is_err_and}
 use Rattle.pt_sector.specs.Calls.{blames_after}
@@ -14,46 +14,65 @@ use Rattle.pt_planner.proofs.Failing.{unsound_blames, unsound_unplanned}
 use Rattle.pt_planner.proofs.Making.{err_so, isnt, hindered, no_places, none_of_disk}
 use Rattle.pt_planner.proofs.planner.plan_from.Goals as goal
 
-pub returns-in_err-be_sound-clause-same : goal.returns-in_err-be_sound-clause-same
-returns-in_err-be_sound-clause-same g c = g.met.D.Disk.reads_same c.args.disk.now
-
-pub returns-in_err-be_sound-clause-blames : goal.returns-in_err-be_sound-clause-blames
-returns-in_err-be_sound-clause-blames g c =
+pub returns-in_err-be_sound : goal.returns-in_err-be_sound
+returns-in_err-be_sound g c =
     let p = err_from_is_err_and c.from_residual.result c.from_residual.ensures.1 in
-    rw (p.1, p.2) (unsound_blames g.row.B c.args.wanted.now _ c.in_err-be_sound.field-0.0 c.in_err-be_sound.ensures.err)
+    record {
+      same = g.met.D.Disk.reads_same c.args.disk.now;
+      blames = rw (p.1, p.2) (unsound_blames g.row.B c.args.wanted.now _ c.in_err-be_sound.field-0.0 c.in_err-be_sound.ensures.err);
+      in_range = rw p.1 tt;
+      some = rw p.1 tt;
+      plan = λ tells. rw p.1 tt;
+      err = λ tells.
+          rw (p.1, p.2) (unsound_unplanned g.row.B (g.D.Disk.told c.args.disk.now).seen c.args.wanted.now c.in_err-be_sound.field-0.0
+          c.in_err-be_sound.ensures.err);
+    }
 
-pub returns-in_err-be_sound-clause-err : goal.returns-in_err-be_sound-clause-err
-returns-in_err-be_sound-clause-err g c = λ tells.
-    let p = err_from_is_err_and c.from_residual.result c.from_residual.ensures.1 in
-    rw (p.1, p.2) (unsound_unplanned g.row.B (g.D.Disk.told c.args.disk.now).seen c.args.wanted.now c.in_err-be_sound.field-0.0
-    c.in_err-be_sound.ensures.err)
+pub returns-then-is_done : goal.returns-then-is_done
+returns-then-is_done g c =
+    let none = ap length c.new.ensures.items in
+    record {
+      same = g.met.D.Disk.reads_same c.args.disk.now;
+      blames = refl;
+      in_range = λ k z lt. absurd (omega (arith, none, lt));
+      some = λ k z lt. absurd (omega (arith, none, lt));
+      plan = λ tells.
+          idle ((c.is_done.ensures.done (g.D.Disk.told c.args.disk.now).seen (c.requires.known tells)).0 c.if-is_done.true)
+          (ap phases_in c.new.ensures.items);
+      err = λ tells. tt;
+    }
 
-pub returns-then-is_done-clause-same : goal.returns-then-is_done-clause-same
-returns-then-is_done-clause-same g c = g.met.D.Disk.reads_same c.args.disk.now
+pub returns-then-not-may_be : goal.returns-then-not-may_be
+returns-then-not-may_be g c = record {
+  same = g.met.D.Disk.reads_same c.args.disk.now;
+  blames = refl;
+  in_range = tt;
+  some = tt;
+  plan = λ tells. tt;
+  err = λ tells.
+      let d = (g.D.Disk.told c.args.disk.now).seen in
+      let known = c.requires.known tells in
+      none_of_disk g.row.B d c.args.known.now.old c.args.wanted.now known.old c.in_ok-be_sound.ensures.ok
+      (isnt c.is_done.result c.if-is_done.false (c.is_done.ensures.done d known))
+      (isnt c.may_be.result c.if-not-may_be.true (c.may_be.ensures d (g.met.D.Disk.sized c.args.disk.now tells ∙ sym c.sectors.ensures)));
+}
 
-pub returns-then-is_done-clause-plan : goal.returns-then-is_done-clause-plan
-returns-then-is_done-clause-plan g c = λ tells.
-    idle ((c.is_done.ensures.done (g.D.Disk.told c.args.disk.now).seen (c.requires.known tells)).0 c.if-is_done.true)
-    (ap phases_in c.new.ensures.items)
-
-pub returns-then-not-may_be-clause-same : goal.returns-then-not-may_be-clause-same
-returns-then-not-may_be-clause-same g c = g.met.D.Disk.reads_same c.args.disk.now
-
-pub returns-in_err-places-clause-same : goal.returns-in_err-places-clause-same
-returns-in_err-places-clause-same g c = c.in_err-places.ensures.same
-
-pub returns-in_err-places-clause-blames : goal.returns-in_err-places-clause-blames
-returns-in_err-places-clause-blames g c =
+pub returns-in_err-places : goal.returns-in_err-places
+returns-in_err-places g c =
     let p = err_from_is_err_and c.from_residual-in_err-places.result c.from_residual-in_err-places.ensures.1 in
-    rw (p.1, p.2) c.in_err-places.ensures.blames
-
-pub returns-then-not-may_be-clause-err : goal.returns-then-not-may_be-clause-err
-returns-then-not-may_be-clause-err g c = λ tells.
-    let d = (g.D.Disk.told c.args.disk.now).seen in
-    let known = c.requires.known tells in
-    none_of_disk g.row.B d c.args.known.now.old c.args.wanted.now known.old c.in_ok-be_sound.ensures.ok
-    (isnt c.is_done.result c.if-is_done.false (c.is_done.ensures.done d known))
-    (isnt c.may_be.result c.if-not-may_be.true (c.may_be.ensures d (g.met.D.Disk.sized c.args.disk.now tells ∙ sym c.sectors.ensures)))
+    record {
+      same = c.in_err-places.ensures.same;
+      blames = rw (p.1, p.2) c.in_err-places.ensures.blames;
+      in_range = rw p.1 tt;
+      some = rw p.1 tt;
+      plan = λ tells. rw p.1 tt;
+      err = λ tells.
+          let d = (g.D.Disk.told c.args.disk.now).seen in
+          let known = c.requires.known tells in
+          rw (p.1, p.2) (no_places g.row.B d c.args.known.now.old c.args.wanted.now known.old c.in_ok-be_sound.ensures.ok
+          (isnt c.is_done.result c.if-is_done.false (c.is_done.ensures.done d known)) c.in_err-places.field-0.0
+          (c.in_err-places.ensures.err tells));
+    }
 
 pub places_of-requires : goal.places_of-requires
 places_of-requires g c = (
@@ -67,15 +86,6 @@ places_of-requires g c = (
     ),
   ),
 )
-
-pub returns-in_err-places-clause-err : goal.returns-in_err-places-clause-err
-returns-in_err-places-clause-err g c = λ tells.
-    let d = (g.D.Disk.told c.args.disk.now).seen in
-    let known = c.requires.known tells in
-    let p = err_from_is_err_and c.from_residual-in_err-places.result c.from_residual-in_err-places.ensures.1 in
-    rw (p.1, p.2) (no_places g.row.B d c.args.known.now.old c.args.wanted.now known.old c.in_ok-be_sound.ensures.ok
-    (isnt c.is_done.result c.if-is_done.false (c.is_done.ensures.done d known)) c.in_err-places.field-0.0
-    (c.in_err-places.ensures.err tells))
 
 pub to_mbr-requires : goal.to_mbr-requires
 to_mbr-requires g c =

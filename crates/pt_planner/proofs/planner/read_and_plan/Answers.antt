@@ -10,18 +10,18 @@ use Rattle.pt_targets.specs.Unplanned.{Unplanned}
 use Rattle.pt_planner.proofs.Failing.{failure_blames, failure_unplanned}
 use Rattle.pt_planner.proofs.planner.read_and_plan.Goals as goal
 
-pub returns-in_err-known-clause-same : goal.returns-in_err-known-clause-same
-returns-in_err-known-clause-same g c = c.in_err-known.ensures.same
-
-pub returns-in_err-known-clause-blames : goal.returns-in_err-known-clause-blames
-returns-in_err-known-clause-blames g c =
+pub returns-in_err-known : goal.returns-in_err-known
+returns-in_err-known g c =
     let p = err_from_is_err_and c.from_residual.result c.from_residual.ensures.1 in
-    rw (p.1, p.2) (failure_blames _ _ c.in_err-known.field-0.0 c.in_err-known.ensures.blames)
-
-pub returns-in_err-known-clause-err : goal.returns-in_err-known-clause-err
-returns-in_err-known-clause-err g c = λ tells.
-    let p = err_from_is_err_and c.from_residual.result c.from_residual.ensures.1 in
-    rw (p.1, p.2) (failure_unplanned g.row.B (g.D.Disk.told c.args.disk.now).seen c.args.wanted.now c.in_err-known.field-0.0)
+    record {
+      same = c.in_err-known.ensures.same;
+      blames = rw (p.1, p.2) (failure_blames _ _ c.in_err-known.field-0.0 c.in_err-known.ensures.blames);
+      in_range = rw p.1 tt;
+      some = rw p.1 tt;
+      plan = λ tells. rw p.1 tt;
+      err = λ tells.
+          rw (p.1, p.2) (failure_unplanned g.row.B (g.D.Disk.told c.args.disk.now).seen c.args.wanted.now c.in_err-known.field-0.0);
+    }
 
 pub plan_from-requires : goal.plan_from-requires
 plan_from-requires g c = (
@@ -29,27 +29,18 @@ plan_from-requires g c = (
   (c.requires.size, λ tells. rw (c.in_ok-known.ensures.same.same tells) (c.in_ok-known.ensures.known tells)),
 )
 
-pub returns-clause-same : goal.returns-clause-same
-returns-clause-same g c =
-    g.met.D.Disk.reads_on c.args.disk.now c.read_known.new.disk c.plan_from.new.disk c.in_ok-known.ensures.same c.plan_from.ensures.same
-
-pub returns-clause-blames : goal.returns-clause-blames
-returns-clause-blames g c =
-    blames_after fault_in c.plan_from.result _ _ _ c.in_ok-known.ensures.blames c.plan_from.ensures.blames
-
-pub returns-clause-in_range : goal.returns-clause-in_range
-returns-clause-in_range g c =
-    subst (λ (n : ℕ). IfOk c.plan_from.result (InRange n)) c.in_ok-known.ensures.same.same_count c.plan_from.ensures.in_range
-
-pub returns-clause-some : goal.returns-clause-some
-returns-clause-some g c = c.plan_from.ensures.some
-
-pub returns-clause-plan : goal.returns-clause-plan
-returns-clause-plan g c = λ tells.
-    subst (λ (t : Told). IfOk c.plan_from.result (λ plan. IsPlan g.row.B t.seen c.args.wanted.now (phases_of plan)))
-    (c.in_ok-known.ensures.same.same tells) (c.plan_from.ensures.plan tells)
-
-pub returns-clause-err : goal.returns-clause-err
-returns-clause-err g c = λ tells.
-    subst (λ (t : Told). IfErr c.plan_from.result (Unplanned g.row.B t.seen c.args.wanted.now)) (c.in_ok-known.ensures.same.same tells)
-    (c.plan_from.ensures.err tells)
+pub returns : goal.returns
+returns g c = record {
+  same =
+      g.met.D.Disk.reads_on c.args.disk.now c.read_known.new.disk c.plan_from.new.disk c.in_ok-known.ensures.same
+      c.plan_from.ensures.same;
+  blames = blames_after fault_in c.plan_from.result _ _ _ c.in_ok-known.ensures.blames c.plan_from.ensures.blames;
+  in_range = subst (λ (n : ℕ). IfOk c.plan_from.result (InRange n)) c.in_ok-known.ensures.same.same_count c.plan_from.ensures.in_range;
+  some = c.plan_from.ensures.some;
+  plan = λ tells.
+      subst (λ (t : Told). IfOk c.plan_from.result (λ plan. IsPlan g.row.B t.seen c.args.wanted.now (phases_of plan)))
+      (c.in_ok-known.ensures.same.same tells) (c.plan_from.ensures.plan tells);
+  err = λ tells.
+      subst (λ (t : Told). IfErr c.plan_from.result (Unplanned g.row.B t.seen c.args.wanted.now)) (c.in_ok-known.ensures.same.same tells)
+      (c.plan_from.ensures.err tells);
+}

@@ -9,89 +9,67 @@ use Rattle.pt_targets.specs.declared.target.Target.{Target}
 use Rattle.pt_planner.proofs.Making.{ok_so, err_so, turn_hinders, copies_hinder, label_start, copies_start, isnt, order_mbr}
 use Rattle.pt_planner.proofs.plans.to_gpt.Goals as goal
 
-pub returns-then-changes_labels-clause-plan : goal.returns-then-changes_labels-clause-plan
-returns-then-changes_labels-clause-plan g c = λ tells.
-    let d = (g.D.Disk.told c.args.disk.now).seen in
-    ok_so c.one_label.result _ _ (λ plan each. each d c.args.wanted.now
-    (label_start d c.args.known.now c.args.wanted.now c.args.table.now c.is_broken.result c.args.places.items (c.requires.known tells)
-    (c.requires.start tells) c.requires.body (c.changes_labels.ensures.0 c.if-changes_labels.true) c.is_broken.ensures
-    (c.requires.places tells)))
-    c.one_label.ensures.plan
+pub returns-then-changes_labels : goal.returns-then-changes_labels
+returns-then-changes_labels g c =
+    let start = λ (tells : g.D.Disk.tells).
+    (label_start (g.D.Disk.told c.args.disk.now).seen c.args.known.now c.args.wanted.now c.args.table.now c.is_broken.result
+    c.args.places.items (c.requires.known tells) (c.requires.start tells) c.requires.body
+    (c.changes_labels.ensures.0 c.if-changes_labels.true) c.is_broken.ensures (c.requires.places tells)) in
+    record {
+      same = g.met.D.Disk.reads_same c.args.disk.now;
+      blames = blames_none fault_in c.one_label.result _ _ c.one_label.ensures.faultless refl;
+      in_range =
+          ok_so c.one_label.result _ _ (λ plan each. each (g.D.Disk.count c.args.disk.now) c.requires.in_range)
+          c.one_label.ensures.in_range;
+      some = c.one_label.ensures.some;
+      plan = λ tells.
+          ok_so c.one_label.result _ _ (λ plan each. each (g.D.Disk.told c.args.disk.now).seen c.args.wanted.now (start tells))
+          c.one_label.ensures.plan;
+      err = λ tells.
+          err_so c.one_label.result _ _ (λ e each.
+          turn_hinders g.row.B (g.D.Disk.told c.args.disk.now).seen c.args.known.now.old c.args.wanted.now e
+          (each (g.D.Disk.told c.args.disk.now).seen c.args.wanted.now (start tells)))
+          c.one_label.ensures.err;
+    }
 
-pub returns-then-changes_labels-clause-err : goal.returns-then-changes_labels-clause-err
-returns-then-changes_labels-clause-err g c = λ tells.
-    let d = (g.D.Disk.told c.args.disk.now).seen in
-    err_so c.one_label.result _ _ (λ e each. turn_hinders g.row.B d c.args.known.now.old c.args.wanted.now e (each d c.args.wanted.now
-    (label_start d c.args.known.now c.args.wanted.now c.args.table.now c.is_broken.result c.args.places.items (c.requires.known tells)
-    (c.requires.start tells) c.requires.body (c.changes_labels.ensures.0 c.if-changes_labels.true) c.is_broken.ensures
-    (c.requires.places tells))))
-    c.one_label.ensures.err
-
-pub returns-clause-plan : goal.returns-clause-plan
-returns-clause-plan g c = λ tells.
-    let d = (g.D.Disk.told c.args.disk.now).seen in
-    let count = g.met.D.Disk.sized c.args.disk.now tells in
-    ok_so c.both_copies.result _ _
-    (λ plan each. each d c.args.wanted.now (count ∙ sym (c.sectors.ensures ∙ c.in_ok-head.ensures.same.same_count))
-    (copies_start d c.args.known.now c.args.wanted.now c.args.table.now c.order_of.result c.in_ok-head.head c.args.places.items
-    (c.requires.known tells) (c.requires.start tells) c.requires.body
-    (subst (λ n. FitsTable g.row.B n c.args.table.now) (sym count) c.requires.fits)
-    (isnt c.changes_labels.result c.if-changes_labels.false c.changes_labels.ensures) c.order_of.ensures (c.in_ok-head.ensures.ok tells)
-    (c.requires.places tells)))
-    c.both_copies.ensures.plan
-
-pub returns-clause-err : goal.returns-clause-err
-returns-clause-err g c = λ tells.
-    let d = (g.D.Disk.told c.args.disk.now).seen in
-    let count = g.met.D.Disk.sized c.args.disk.now tells in
-    err_so c.both_copies.result _ _
-    (λ e each. copies_hinder g.row.B d c.args.known.now.old c.args.wanted.now e
-    (each d c.args.wanted.now (count ∙ sym (c.sectors.ensures ∙ c.in_ok-head.ensures.same.same_count))
-    (copies_start d c.args.known.now c.args.wanted.now c.args.table.now c.order_of.result c.in_ok-head.head c.args.places.items
-    (c.requires.known tells) (c.requires.start tells) c.requires.body
-    (subst (λ n. FitsTable g.row.B n c.args.table.now) (sym count) c.requires.fits)
-    (isnt c.changes_labels.result c.if-changes_labels.false c.changes_labels.ensures) c.order_of.ensures (c.in_ok-head.ensures.ok tells)
-    (c.requires.places tells))))
-    c.both_copies.ensures.err
-
-pub returns-then-changes_labels-clause-same : goal.returns-then-changes_labels-clause-same
-returns-then-changes_labels-clause-same g c = g.met.D.Disk.reads_same c.args.disk.now
-
-pub returns-then-changes_labels-clause-blames : goal.returns-then-changes_labels-clause-blames
-returns-then-changes_labels-clause-blames g c = blames_none fault_in c.one_label.result _ _ c.one_label.ensures.faultless refl
-
-pub returns-then-changes_labels-clause-in_range : goal.returns-then-changes_labels-clause-in_range
-returns-then-changes_labels-clause-in_range g c =
-    ok_so c.one_label.result _ _ (λ plan each. each (g.D.Disk.count c.args.disk.now) c.requires.in_range) c.one_label.ensures.in_range
-
-pub returns-then-changes_labels-clause-some : goal.returns-then-changes_labels-clause-some
-returns-then-changes_labels-clause-some g c = c.one_label.ensures.some
-
-pub returns-in_err-head-clause-same : goal.returns-in_err-head-clause-same
-returns-in_err-head-clause-same g c = c.in_err-head.ensures.same
-
-pub returns-in_err-head-clause-blames : goal.returns-in_err-head-clause-blames
-returns-in_err-head-clause-blames g c =
+pub returns-in_err-head : goal.returns-in_err-head
+returns-in_err-head g c =
     let p = err_from_is_err_and c.from_residual.result c.from_residual.ensures.1 in
-    rw (p.1, p.2) c.in_err-head.ensures.blames
+    record {
+      same = c.in_err-head.ensures.same;
+      blames = rw (p.1, p.2) c.in_err-head.ensures.blames;
+      in_range = rw p.1 tt;
+      some = rw p.1 tt;
+      plan = λ tells. rw p.1 tt;
+      err = λ tells. rw (p.1, p.2) tt;
+    }
 
-pub returns-in_err-head-clause-err : goal.returns-in_err-head-clause-err
-returns-in_err-head-clause-err g c = λ tells.
-    let p = err_from_is_err_and c.from_residual.result c.from_residual.ensures.1 in rw (p.1, p.2) tt
-
-pub returns-clause-same : goal.returns-clause-same
-returns-clause-same g c = c.in_ok-head.ensures.same
-
-pub returns-clause-blames : goal.returns-clause-blames
-returns-clause-blames g c = blames_none fault_in c.both_copies.result _ _ c.both_copies.ensures.faultless c.in_ok-head.ensures.blames
-
-pub returns-clause-in_range : goal.returns-clause-in_range
-returns-clause-in_range g c =
-    subst (λ (n : ℕ). IfOk c.both_copies.result (InRange n)) (c.sectors.ensures ∙ c.in_ok-head.ensures.same.same_count)
-    c.both_copies.ensures.in_range
-
-pub returns-clause-some : goal.returns-clause-some
-returns-clause-some g c = c.both_copies.ensures.some
+pub returns : goal.returns
+returns g c =
+    let same = c.sectors.ensures ∙ c.in_ok-head.ensures.same.same_count in
+    let start = λ (tells : g.D.Disk.tells).
+    (copies_start (g.D.Disk.told c.args.disk.now).seen c.args.known.now c.args.wanted.now c.args.table.now c.order_of.result
+    c.in_ok-head.head c.args.places.items (c.requires.known tells) (c.requires.start tells) c.requires.body
+    (subst (λ n. FitsTable g.row.B n c.args.table.now) (sym (g.met.D.Disk.sized c.args.disk.now tells)) c.requires.fits)
+    (isnt c.changes_labels.result c.if-changes_labels.false c.changes_labels.ensures) c.order_of.ensures (c.in_ok-head.ensures.ok tells)
+    (c.requires.places tells)) in
+    record {
+      same = c.in_ok-head.ensures.same;
+      blames = blames_none fault_in c.both_copies.result _ _ c.both_copies.ensures.faultless c.in_ok-head.ensures.blames;
+      in_range = subst (λ (n : ℕ). IfOk c.both_copies.result (InRange n)) same c.both_copies.ensures.in_range;
+      some = c.both_copies.ensures.some;
+      plan = λ tells.
+          ok_so c.both_copies.result _ _
+          (λ plan each. each (g.D.Disk.told c.args.disk.now).seen c.args.wanted.now
+          (g.met.D.Disk.sized c.args.disk.now tells ∙ sym same) (start tells))
+          c.both_copies.ensures.plan;
+      err = λ tells.
+          err_so c.both_copies.result _ _
+          (λ e each. copies_hinder g.row.B (g.D.Disk.told c.args.disk.now).seen c.args.known.now.old c.args.wanted.now e
+          (each (g.D.Disk.told c.args.disk.now).seen c.args.wanted.now
+          (g.met.D.Disk.sized c.args.disk.now tells ∙ sym same) (start tells)))
+          c.both_copies.ensures.err;
+    }
 
 pub both_copies-requires : goal.both_copies-requires
 both_copies-requires g c =

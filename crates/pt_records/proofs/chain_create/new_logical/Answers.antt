@@ -1,4 +1,4 @@
-use Rattle.std.proofs.Common.{◌∙◌, ◌≡◌, ◌-◌, sym, refl, subst, List, Bool, true, false}
+use Rattle.std.proofs.Common.{◌∙◌, ◌≡◌, ◌≤◌, ◌<◌, ◌-◌, ℕ, arith, sym, refl, subst, List, Bool, true, false}
 use Rattle.std.proofs.lemmas.Result.{err_from_is_err_and}
 use Rattle.pt_mbr.specs.declared.ebr.Ebr.{Ebr}
 use Rattle.pt_mbr.specs.declared.record.Record.{Record}
@@ -54,3 +54,12 @@ returns-clause-ok g c = record {
       c.in_ok-chain.chain) c.record_of.ensures c.in_ok-chain.ensures.ok;
   moved = c.in_ok-labels.ensures;
 }
+
+positive : (a b : ℕ) → a < b → 1 ≤ b
+positive a b less = omega arith
+
+pub overflow_sub-at : goal.overflow_sub-at
+overflow_sub-at g c = positive c.in-Some.parent.start c.in_ok-placed.placed.first c.in_ok-placed.ensures.within.0
+
+pub overflow_sub-size : goal.overflow_sub-size
+overflow_sub-size g c = c.in_ok-placed.ensures.within.1

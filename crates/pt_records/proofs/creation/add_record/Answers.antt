@@ -1,8 +1,9 @@
-use Rattle.std.proofs.Common.{◌∙◌, sym, refl}
+use Rattle.std.proofs.Common.{◌∙◌, sym, refl, arith}
 use Rattle.std.proofs.lemmas.Bool.{false≢true}
 use Rattle.std.proofs.lemmas.Result.{err_from_is_err_and}
 use Rattle.pt_records.specs.New.{not_chosen, not_placed, too_short}
 use Rattle.pt_records.specs.Created.{new_record, no_new_record}
+use Rattle.pt_records.proofs.Within.{chosen_primary}
 use Rattle.pt_records.proofs.creation.add_record.Goals as goal
 
 pub returns-in_err-number-clause-err : goal.returns-in_err-number-clause-err
@@ -32,3 +33,26 @@ returns-clause-ok g c = new_record c.requires record {
   enough = λ short. false≢true (sym c.if-is_short_slice.false ∙ c.is_short_slice.ensures.1 short);
   made = rw (c.layout_of.ensures, c.put_record-records.ensures, c.record_in.ensures, c.in_ok-chain.ensures, c.in_ok-labels.ensures) refl;
 }
+
+pub is_short_slice-requires : goal.is_short_slice-requires
+is_short_slice-requires g c = c.in_ok-run.ensures.within.1
+
+pub chain_with-requires : goal.chain_with-requires
+chain_with-requires g c = omega (arith, c.in_ok-run.ensures.within.1, c.in_ok-run.ensures.within.2)
+
+pub labels_with-requires-clause-ordered : goal.labels_with-requires-clause-ordered
+labels_with-requires-clause-ordered g c = c.in_ok-run.ensures.within.1
+
+pub labels_with-requires-clause-inside : goal.labels_with-requires-clause-inside
+labels_with-requires-clause-inside g c = (c.in_ok-run.ensures.within.0, c.in_ok-run.ensures.within.2)
+
+pub record_in-requires-clause-ordered : goal.record_in-requires-clause-ordered
+record_in-requires-clause-ordered g c = c.in_ok-run.ensures.within.1
+
+pub record_in-requires-clause-inside : goal.record_in-requires-clause-inside
+record_in-requires-clause-inside g c = (c.in_ok-run.ensures.within.0, c.in_ok-run.ensures.within.2)
+
+pub put_record-records-requires : goal.put_record-records-requires
+put_record-records-requires g c =
+    chosen_primary c.args.parts.records c.args.asked.now.number c.args.asked.now.code c.in_ok-number.number c.in_ok-number.kind
+    c.in_ok-number.ensures.ok

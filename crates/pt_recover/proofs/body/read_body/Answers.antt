@@ -12,6 +12,13 @@ use Rattle.pt_recover.specs.declared.error.NoTable.{NoTable}
 use Rattle.pt_recover.specs.declared.trace.TracedRun.{TracedRun}
 use Rattle.pt_recover.proofs.Bodies.{some_sector, body_read, body_read_or, no_sector}
 use Rattle.pt_recover.proofs.Failed.{body_failed}
+use Rattle.std.specs.Prelude.{Option, Some, None}
+use Rattle.std.proofs.Common.{refl, sym, inr}
+use Rattle.pt_sector.specs.Sectors.{sector}
+use Rattle.pt_mbr.specs.declared.mbr.Mbr.{Mbr}
+use Rattle.pt_recover.specs.Answers.{RecordsAre}
+use Rattle.pt_recover.specs.Mbr.{IsMbr, IsMbrDisk}
+use Rattle.pt_recover.proofs.Bodies.{no_sector_read}
 use Rattle.pt_recover.proofs.body.read_body.Goals as goal
 
 -- what the rest of a disk gives after sector 0, with another disk's value for what was seen
@@ -168,3 +175,39 @@ returns-then-sectors-eq0-clause-err g c = λ tells.
     no_sector g.row.B (g.D.Disk.told c.args.disk.now).seen c.sectors.result (g.D.Disk.count c.args.disk.now)
     c.if-sectors-eq0.true c.sectors.ensures
     (g.met.D.Disk.sized c.args.disk.now tells)
+
+pub returns-then-sectors-eq0-clause-same : goal.returns-then-sectors-eq0-clause-same
+returns-then-sectors-eq0-clause-same g c = g.met.D.Disk.reads_same c.args.disk.now
+
+pub returns-then-sectors-eq0-clause-blames : goal.returns-then-sectors-eq0-clause-blames
+returns-then-sectors-eq0-clause-blames g c = refl
+
+pub returns-then-sectors-eq0-clause-traced_err : goal.returns-then-sectors-eq0-clause-traced_err
+returns-then-sectors-eq0-clause-traced_err g c = λ tells.
+    inr (no_sector_read g.row.B (g.D.Disk.told c.args.disk.now).seen c.sectors.result (g.D.Disk.count c.args.disk.now) c.args.trace.now
+    c.if-sectors-eq0.true c.sectors.ensures (g.met.D.Disk.sized c.args.disk.now tells))
+
+pub returns-in_err-add_one-clause-same : goal.returns-in_err-add_one-clause-same
+returns-in_err-add_one-clause-same g c = g.met.D.Disk.reads_same c.args.disk.now
+
+pub returns-in_err-add_one-clause-blames : goal.returns-in_err-add_one-clause-blames
+returns-in_err-add_one-clause-blames g c =
+    let p = err_from_is_err_and c.from_residual.result c.from_residual.ensures.1 in
+    rw (p.1, p.2) refl
+
+pub read_mbr-requires-clause-is_mbr : goal.read_mbr-requires-clause-is_mbr
+read_mbr-requires-clause-is_mbr g c = λ tells.
+    let d : Sectors = (g.D.Disk.told c.args.disk.now).seen in
+    let is : RecordsAre (sector d 0) (Some c.in-Some.mbr) =
+    subst (λ (o : Option Mbr). RecordsAre (sector d 0) o) c.in-Some.is (c.in_ok-mbr.ensures.ok tells) in
+    let some : 0 < length d =
+    some_sector c.sectors.result (g.D.Disk.count c.args.disk.now) (length d) c.if-sectors-eq0.false c.sectors.ensures
+    (g.met.D.Disk.sized c.args.disk.now tells) in
+    subst (λ (t : Told). IsMbr t.seen c.in-Some.mbr.records) (sym (c.in_ok-mbr.ensures.same.same tells)) ((some, is.0), is.1)
+
+pub read_gpt-requires-clause-no_mbr : goal.read_gpt-requires-clause-no_mbr
+read_gpt-requires-clause-no_mbr g c = λ tells.
+    let d : Sectors = (g.D.Disk.told c.args.disk.now).seen in
+    let is : RecordsAre (sector d 0) None =
+    subst (λ (o : Option Mbr). RecordsAre (sector d 0) o) c.in-None.is (c.in_ok-mbr.ensures.ok tells) in
+    subst (λ (t : Told). ¬ IsMbrDisk t.seen) (sym (c.in_ok-mbr.ensures.same.same tells)) (λ disk. is disk.1)

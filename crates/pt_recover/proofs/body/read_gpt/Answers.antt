@@ -4,6 +4,8 @@ use Rattle.pt_gpt.specs.Array.{HasRoom}
 use Rattle.pt_recover.specs.Answers.{IsOutsideDisk}
 use Rattle.pt_recover.proofs.Bodies.{enough, rest_gpt, rest_gpt_or, no_copies, too_small}
 use Rattle.pt_recover.proofs.Failed.{rest_of_table}
+use Rattle.std.proofs.Common.{inr}
+use Rattle.pt_recover.proofs.Bodies.{no_rest}
 use Rattle.pt_recover.proofs.body.read_gpt.Goals as goal
 
 pub returns-clause-ok : goal.returns-clause-ok
@@ -74,3 +76,16 @@ returns-then-not-has_room-clause-err g c = λ tells.
     let has : HasRoom g.row.B c.sectors-sectors.result =
     subst (λ (n : ℕ). HasRoom g.row.B n) (g.met.D.Disk.sized c.args.disk.now tells ∙ sym c.sectors-sectors.ensures) room in
     let wrong = c.if-not-has_room.ensures.1 has in absurd cc)
+
+pub returns-then-not-has_room-clause-same : goal.returns-then-not-has_room-clause-same
+returns-then-not-has_room-clause-same g c = g.met.D.Disk.reads_same c.args.disk.now
+
+pub returns-then-not-has_room-clause-blames : goal.returns-then-not-has_room-clause-blames
+returns-then-not-has_room-clause-blames g c = refl
+
+pub returns-then-not-has_room-clause-traced_err : goal.returns-then-not-has_room-clause-traced_err
+returns-then-not-has_room-clause-traced_err g c = λ tells.
+    inr (no_rest g.row.B (g.D.Disk.told c.args.disk.now).seen c.args.trace.now (c.requires.no_mbr tells) (λ room.
+    let has : HasRoom g.row.B c.sectors-sectors.result =
+    subst (λ (n : ℕ). HasRoom g.row.B n) (g.met.D.Disk.sized c.args.disk.now tells ∙ sym c.sectors-sectors.ensures) room in
+    let wrong = c.if-not-has_room.ensures.1 has in absurd cc))

@@ -13,6 +13,8 @@ use Rattle.pt_recover.specs.Steps.{IsChainFault}
 use Rattle.pt_recover.specs.Answers.{TellsNothing, IsOutsideDisk, FailedInDisk}
 use Rattle.pt_recover.specs.declared.error.NoTable.TheVariants as no
 use Rattle.pt_recover.proofs.Nothing.{two_extended, no_extent, bad_chain, lone_read_or, lone_is, lone_read}
+use Rattle.pt_recover.proofs.Nothing.{nothing_read, two_read, none_read}
+use Rattle.std.proofs.Common.{inr, refl}
 use Rattle.pt_recover.proofs.extended.read_lone.Goals as goal
 
 pub returns-in-More-clause-err : goal.returns-in-More-clause-err
@@ -72,3 +74,34 @@ returns-clause-place g c = λ tells.
     subst (λ (rs : List Record). ExtendedReads (g.D.Disk.told c.args.disk.now).seen rs s) (sym c.in-One.ensures)
     (subst (λ (y : Span). ChainReads (g.D.Disk.told c.args.disk.now).seen y s) c.in-Some.ensures.some reads)) failed)
     (c.read_extended.ensures.place tells)
+
+pub returns-in-Nothing-clause-same : goal.returns-in-Nothing-clause-same
+returns-in-Nothing-clause-same g c = g.met.D.Disk.reads_same c.args.disk.now
+
+pub returns-in-Nothing-clause-blames : goal.returns-in-Nothing-clause-blames
+returns-in-Nothing-clause-blames g c = refl
+
+pub returns-in-Nothing-clause-traced : goal.returns-in-Nothing-clause-traced
+returns-in-Nothing-clause-traced g c = λ tells.
+    nothing_read (g.D.Disk.told c.args.disk.now).seen c.args.mbr.now.records c.args.trace.now c.args.trace.now c.in-Nothing.ensures refl
+
+pub returns-in-More-clause-same : goal.returns-in-More-clause-same
+returns-in-More-clause-same g c = g.met.D.Disk.reads_same c.args.disk.now
+
+pub returns-in-More-clause-blames : goal.returns-in-More-clause-blames
+returns-in-More-clause-blames g c = refl
+
+pub returns-in-More-clause-traced_err : goal.returns-in-More-clause-traced_err
+returns-in-More-clause-traced_err g c = λ tells.
+    inr (two_read (g.D.Disk.told c.args.disk.now).seen c.args.mbr.now.records _ c.args.trace.now c.args.trace.now c.in-More.ensures refl)
+
+pub returns-in-None-clause-same : goal.returns-in-None-clause-same
+returns-in-None-clause-same g c = g.met.D.Disk.reads_same c.args.disk.now
+
+pub returns-in-None-clause-blames : goal.returns-in-None-clause-blames
+returns-in-None-clause-blames g c = refl
+
+pub returns-in-None-clause-traced_err : goal.returns-in-None-clause-traced_err
+returns-in-None-clause-traced_err g c = λ tells.
+    inr (none_read (g.D.Disk.told c.args.disk.now).seen c.args.mbr.now.records c.in-One.record c.args.trace.now c.args.trace.now
+    c.in-One.ensures c.in-None.ensures.none refl)

@@ -8,6 +8,8 @@ use Rattle.pt_gpt.specs.Errors.{FailedInCopy, fault_in}
 use Rattle.pt_gpt.specs.Copy.{header_place, IsHead, SideReads}
 use Rattle.pt_gpt.proofs.Heads.{fault_of_head, failed_in}
 use Rattle.pt_recover.proofs.Sides.{head_read, array_read}
+use Rattle.std.proofs.Common.{refl}
+use Rattle.std.proofs.Common.{arith}
 use Rattle.pt_recover.proofs.tables.traced_copy.Goals as goal
 
 pub returns-in_err-header-clause-err : goal.returns-in_err-header-clause-err
@@ -142,3 +144,22 @@ pub returns-in_err-trace_array-clause-traced_err : goal.returns-in_err-trace_arr
 returns-in_err-trace_array-clause-traced_err g c = λ tells.
     let p = err_from_is_err_and c.from_residual-in_err-trace_array.result c.from_residual-in_err-trace_array.ensures.1 in
     rw (p.1, p.2) (inl tt)
+
+pub returns-in_err-add_one-clause-same : goal.returns-in_err-add_one-clause-same
+returns-in_err-add_one-clause-same g c = g.met.D.Disk.reads_same c.args.disk.now
+
+pub returns-in_err-add_one-clause-blames : goal.returns-in_err-add_one-clause-blames
+returns-in_err-add_one-clause-blames g c =
+    let p = err_from_is_err_and c.from_residual.result c.from_residual.ensures.1 in
+    rw (p.1, p.2) refl
+
+pub read_head-requires-clause-room : goal.read_head-requires-clause-room
+read_head-requires-clause-room g c = c.requires.room
+
+pub returns-in_err-trace_array-clause-blames : goal.returns-in_err-trace_array-clause-blames
+returns-in_err-trace_array-clause-blames g c =
+    let p = err_from_is_err_and c.from_residual-in_err-trace_array.result c.from_residual-in_err-trace_array.ensures.1 in
+    rw (p.1, p.2) c.in_ok-header.ensures.blames
+
+pub header_at-requires : goal.header_at-requires
+header_at-requires g c = omega (arith, c.requires.room, c.sectors-sectors.ensures)
