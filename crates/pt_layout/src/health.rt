@@ -17,7 +17,7 @@ use pt_sound::{Finding, Verdict};
 use std::alloc::Global;
 
 /// What sector 0 says of a disk.
-#[derive(Clone, Copy)]
+#[derive(Clone, Copy, PartialEq, Eq)]
 pub enum Head {
     /// It is an MBR disk.
     Mbr,
