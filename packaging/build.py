@@ -27,7 +27,7 @@ ROOT = os.path.dirname(os.path.dirname(os.path.abspath(__file__)))
 LINES_OF_A_START = 80
 MEMORY_OF_A_JOB = 1_500_000_000
 # How many levels of priority a crate goes down for its slack, from none (0) to all of the longest chain (1). By a simulation with measured
-# times, varied by chance, this and the rule for processes take 3 % less than 20 levels and a process less.
+# times, varied by chance, this and the rule for processes take 2 to 3 % less than 20 levels and a process less; it isn't measured alone.
 LEVELS_OF_SLACK = 40
 # The prover's allocator (mimalloc) keeps the pages that it has. To give them back and ask for them anew takes some 4 % of a proof's time.
 os.environ.setdefault("MIMALLOC_PURGE_DELAY", "-1")
