@@ -23,11 +23,17 @@ import threading
 import kit
 
 ROOT = os.path.dirname(os.path.dirname(os.path.abspath(__file__)))
-# Measured: a check takes as long before its first proof as so many lines of code take to prove, and each job so much memory, in bytes.
-LINES_OF_A_START = 80
+# What is known of each crate's proof (the file says what). One that isn't listed counts by its lines: by a fit over those that are, so many
+# seconds for its start and for each line of its code.
+MEASURED = f"{ROOT}/packaging/measured.txt"
+SECONDS_OF_A_START = 12
+SECONDS_OF_A_LINE = 0.065
+# What several processes take of the processors together, for each second that one takes.
+COST_OF_SEVERAL = 1.3
+# Measured: what each job takes of memory, in bytes.
 MEMORY_OF_A_JOB = 1_500_000_000
 # How many levels of priority a crate goes down for its slack, from none (0) to all of the longest chain (1). By a simulation with measured
-# times, varied by chance, this and the rule for processes take 2 to 3 % less than 20 levels and a process less; it isn't measured alone.
+# times, varied by chance, 20, 60 and 80 levels come within 2 % of it; it isn't measured alone.
 LEVELS_OF_SLACK = 40
 # The prover's allocator (mimalloc) keeps the pages that it has. To give them back and ask for them anew takes some 4 % of a proof's time.
 os.environ.setdefault("MIMALLOC_PURGE_DELAY", "-1")
@@ -106,10 +112,26 @@ def prove(rt, crate, jobs):
     return status == 0
 
 
+@functools.cache
+def measured():
+    """The seconds that each listed crate's proof takes of a processor, and the processes that are best for it."""
+    with open(MEASURED, encoding="utf-8") as it:
+        rows = [line.split() for line in it if not line.startswith("#")]
+    return {name: (int(seconds), int(processes)) for name, seconds, processes in rows}
+
+
+def seconds_of(crate):
+    """How long a crate's proof takes by its processes, as measured, or else by one and by its lines of code."""
+    if crate.name in measured():
+        seconds, processes = measured()[crate.name]
+        return seconds if processes == 1 else seconds * COST_OF_SEVERAL / processes
+    return SECONDS_OF_A_START + SECONDS_OF_A_LINE * crate.count(rb"\n")
+
+
 def slack_of(crates):
-    """How much shorter the longest chain through each crate is than the longest of all, as a part of it: 0 for those that all wait for. A
-    crate counts by its lines of code, and by what each check takes before its first proof. The list has each behind those below it."""
-    work = {it.name: it.count(rb"\n") + LINES_OF_A_START for it in crates}
+    """How much shorter the longest chain through each crate is than the longest of all, as a part of it: 0 for those that all wait for. The
+    list has each behind those below it."""
+    work = {it.name: seconds_of(it) for it in crates}
     below, behind = {}, {it.name: 0 for it in crates}
     for crate in crates:
         below[crate.name] = work[crate.name] + max((below[it.name] for it in crate.deps), default=0)
@@ -120,11 +142,13 @@ def slack_of(crates):
     return {it: 1 - (below[it] + behind[it]) / longest for it in work}
 
 
-def jobs_for(slack, others):
-    """How many processes prove a crate beside so many other crates: one more in all than there are of four processors, since each crate
-    begins with one. Two take a quarter more of the processors' time than one, so where others keep the processors busy only what all else
-    waits for has a second one."""
-    return min(4, max(5 - others, 2 if slack < 0.001 else 1))
+def jobs_for(crate, others):
+    """How many processes prove a crate beside so many other crates. Several take a fifth to a half more of the processors' time than one.
+    So most crates have one where others are proved, and those that too few others can be proved beside have several. One that isn't listed
+    has as many as leave one more in all than there are of four processors, since each crate begins with one."""
+    if others == 0:
+        return 4
+    return measured()[crate.name][1] if crate.name in measured() else min(4, max(5 - others, 1))
 
 
 def side_by_side(rt, crates, prove_one):
@@ -146,7 +170,7 @@ def side_by_side(rt, crates, prove_one):
         ready = [it for it in left if all(answers.values()) and all(dep.name in answers for dep in it.deps)]
         others = len(running) + len(ready) - 1
         for crate in ready:
-            jobs = min(jobs_for(slack[crate.name], others), rt.processors())
+            jobs = min(jobs_for(crate, others), rt.processors())
             if not running or (sum(running.values()) + jobs) * MEMORY_OF_A_JOB <= memory:
                 left.remove(crate)
                 running[crate] = jobs

@@ -63,3 +63,8 @@ overflow_sub-at g c = positive c.in-Some.parent.start c.in_ok-placed.placed.firs
 
 pub overflow_sub-size : goal.overflow_sub-size
 overflow_sub-size g c = c.in_ok-placed.ensures.within.1
+
+pub returns-in_err-labels-clause-err : goal.returns-in_err-labels-clause-err
+returns-in_err-labels-clause-err g c =
+    let p = err_from_is_err_and c.from_residual-in_err-labels.result c.from_residual-in_err-labels.ensures.1 in
+    rw (p.1, p.2) (λ other. absurd (other refl))

@@ -1,6 +1,6 @@
 use Rattle.pt_sector.specs.declared.own.Own.{Own}
 use Rattle.pt_sector.specs.Overlays.{shown, elapses_overlay}
-use Rattle.std.proofs.Common.{◌≡◌, refl, ap, inl, arith}
+use Rattle.std.proofs.Common.{◌≡◌, slice_set, refl, ap, inl, arith}
 use Rattle.pt_sector.proofs.overlay.OverlayDisk.write.Goals as goal
 
 pub returns-clause-failed : goal.returns-clause-failed
@@ -20,3 +20,17 @@ returns-clause-refused g c =
 pub returns-then-put-clause-refused : goal.returns-then-put-clause-refused
 returns-then-put-clause-refused g c =
     (λ err. absurd cc, λ none. let r = c.if-put.ensures.refused.1 (omega (arith, none.0), none.1) in absurd cc)
+
+pub returns-then-put-clause-done : goal.returns-then-put-clause-done
+returns-then-put-clause-done g c =
+    let seen = (g.D.Disk.told c.args.self.now.disk.now).seen in
+    let is : shown seen c.put.new.self ≡ slice_set (shown seen c.args.self.now.own) c.args.lba.0 c.args.bytes.now =
+    c.if-put.ensures.put refl seen in
+    record {
+      seen = is;
+      takes = inl (is, refl);
+      time = elapses_overlay seen c.args.self.now.own c.put.new.self c.args.self.now.past.items c.and-self.result.items c.and-self.ensures;
+    }
+
+pub returns-then-put-clause-room : goal.returns-then-put-clause-room
+returns-then-put-clause-room g c = omega (arith, c.if-put.ensures.room, c.if-put.ensures.grows)

@@ -1,8 +1,13 @@
 use Rattle.pt_sector.specs.Calls.{no_faults}
-use Rattle.std.proofs.Common.{◌≡◌, ◌∙◌, length, sym, ap, arith, refl}
+use Rattle.std.proofs.Common.{◌≡◌, ◌∙◌, ℕ, Bool, true, false, List, [], length, slice_set, sym, ap, arith, refl}
+use Rattle.std.specs.Prelude.{IsTrue, IsFalse}
+use Rattle.std.proofs.lemmas.List.{set-get_or}
 use Rattle.pt_sector.specs.Sectors.{Sectors, sector}
+use Rattle.pt_sector.specs.Writes.{written}
 use Rattle.pt_sector.specs.laws.Written.{sector-written}
 use Rattle.pt_sector.specs.Puts.{puts_as_writes}
+use Rattle.pt_sector.specs.Overlays.{shown}
+use Rattle.pt_sector.specs.declared.own.Own.{Own}
 use Rattle.pt_sector.proofs.read_cache.ReadCacheDisk.read.Goals as goal
 
 pub returns-then-get-clause-bytes : goal.returns-then-get-clause-bytes
@@ -46,3 +51,20 @@ returns-in-Err-clause-same g c =
       same = λ tells. below.same.same tells;
       came = below.same.came;
     }
+
+-- a disk shows the same once a sector is put that holds what was put, or nothing is put
+shows_on : {b : _} (put : Bool) (old new : Own b) (seen : Sectors) (k : ℕ) (bytes : List ℕ)
+    → (IsTrue put → (d : Sectors)
+    → written (puts_as_writes new.puts.items) d ≡ slice_set (written (puts_as_writes old.puts.items) d) k bytes)
+    → (IsFalse put → new ≡ old) → shown seen old ≡ seen → bytes ≡ sector seen k → shown seen new ≡ seen
+shows_on true old new seen k bytes is_put kept same holds =
+    is_put refl seen ∙ ap (λ (d : Sectors). slice_set d k bytes) same ∙ ap (slice_set seen k) holds ∙ set-get_or seen k []
+shows_on false old new seen k bytes is_put kept same holds = ap (λ (own : Own _). shown seen own) (kept refl) ∙ same
+
+pub invariant_of-self : goal.invariant_of-self
+invariant_of-self g c = record {
+  same = λ tells.
+      rw (c.in-Ok.ensures.same.same tells) (shows_on c.put.result c.args.self.now.kept c.put.new.self
+      (g.D.Disk.told c.args.self.now.disk.now).seen c.args.lba.0 c.read.new.into c.put.ensures.put c.put.ensures.kept
+      (c.args.self.now.same tells) (c.in-Ok.ensures.bytes tells));
+}
