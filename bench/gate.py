@@ -7,12 +7,15 @@ crate as it stands.) Run it with nothing else running. An interrupt ends it, and
 A virtual processor may be slow without saying so, where other machines use the same host. So a short loop is timed before the run and
 during it: how long it took at its fastest, and on the average.
 
-usage: bench/gate.py build.sh|test.sh
+usage: bench/gate.py [--undisturbed] build.sh|test.sh
+  --undisturbed   as root: stops the run while other machines use the same cores, as a loop on each processor tells, and the watch with it
 
 A kit's `rt ci` may keep on a machine what it has proved, and says so in its line `rt: ok`. Then test.sh begins from nothing only on a machine
 that has kept nothing of this tree.
 """
 import collections
+import contextlib
+import multiprocessing
 import os
 import resource
 import signal
@@ -33,6 +36,12 @@ STOLEN = 7
 STEPS = 200_000
 TIMES = 5
 TIMES_BEFORE = 100
+# With --undisturbed: how often the loop is timed on each processor, in seconds, in how many parts, and how many times its fastest it may take
+# on the average of all processors, so that a run that was stopped goes on, and one that goes on isn't stopped.
+SECONDS_OF_A_PROBE = 0.3
+PARTS = 4
+GOES_ON = 1.13
+GOES_ON_STILL = 1.2
 # The folders in which the kit tries a wrong body, and tests/wrong_bodies.py several.
 OF_WRONG_BODIES = ("rt-edit", "wrong-bodies")
 # The processes of the prover, and those with which it goes on where it may use more than one.
@@ -51,15 +60,14 @@ class Check:
         self.took = 0
 
 
-def look(checks, began):
-    """Adds what can be seen now of the prover's processes, those of this session."""
-    session = str(os.getsid(0))
+def look(checks, began, session):
+    """Adds what can be seen now of the prover's processes, those of the run's session."""
     for pid in filter(str.isdigit, os.listdir("/proc")):
         try:
             with open(f"/proc/{pid}/stat", encoding="utf-8", errors="replace") as it:
                 name, _, fields = it.read().partition("(")[2].rpartition(")")
             fields, now = fields.split(), time.monotonic() - began
-            if name not in PROVER or fields[3] != session:
+            if name not in PROVER or fields[3] != str(session):
                 continue
             key = pid, fields[19]
             if key not in checks:
@@ -107,6 +115,79 @@ def idle_loops():
     return times
 
 
+def probe(processor, places):
+    """Times the loop on one processor again and again, before all other processes of it: the least of three short ones in a row."""
+    signal.signal(signal.SIGINT, signal.SIG_IGN)
+    os.sched_setaffinity(0, {processor})
+    os.sched_setscheduler(0, os.SCHED_FIFO, os.sched_param(1))
+    while True:
+        times = []
+        for _ in range(3):
+            began = time.perf_counter()
+            for _ in range(STEPS // PARTS):
+                pass
+            times.append(1000 * PARTS * (time.perf_counter() - began))
+        places[processor] = min(times)
+        time.sleep(SECONDS_OF_A_PROBE)
+
+
+class Watch:
+    """The time of a run, without that in which it is stopped: where others use the processors, until they don't."""
+
+    def __init__(self, session, is_stopped_by_others, fastest):
+        self.took, self.stops, self.is_on, self.at = 0, 0, True, time.monotonic()
+        self.loops, self.fastest, self.session = [], fastest, session
+        processors_here = sorted(os.sched_getaffinity(0)) if is_stopped_by_others else []
+        self.places = multiprocessing.Array("d", max(processors_here, default=0) + 1, lock=False)
+        self.probed = [multiprocessing.Process(target=probe, args=(it, self.places), daemon=True) for it in processors_here]
+        for it in self.probed:
+            it.start()
+
+    def send(self, what):
+        """Sends a signal to each process of the run, until all have it."""
+        wanted = "T" if what == signal.SIGSTOP else "RSD"
+        for _ in range(10):
+            left = [pid for pid, state in processes(self.session) if state not in wanted and state not in "ZX"]
+            for pid in left:
+                with contextlib.suppress(OSError):
+                    os.kill(pid, what)
+            if not left:
+                return
+
+    def look(self):
+        """Goes on or stops, as the processors are now."""
+        now = time.monotonic()
+        self.took += (now - self.at) if self.is_on else 0
+        self.at = now
+        loops = [it for it in self.places if it > 0]
+        if len(loops) < len(self.probed) or not loops:
+            return
+        loop_now = mean(loops)
+        self.fastest = min(self.fastest, loop_now)
+        if self.is_on:
+            self.loops.append(loop_now)
+        is_on = loop_now <= self.fastest * (GOES_ON_STILL if self.is_on else GOES_ON)
+        if is_on != self.is_on:
+            self.send(signal.SIGCONT if is_on else signal.SIGSTOP)
+            self.stops += self.is_on
+            self.is_on, self.at = is_on, time.monotonic()
+
+    def end(self):
+        for it in self.probed:
+            it.kill()
+
+
+def processes(session):
+    """The processes of a session, and the state of each."""
+    found = []
+    for pid in filter(str.isdigit, os.listdir("/proc")):
+        with contextlib.suppress(OSError), open(f"/proc/{pid}/stat", encoding="utf-8", errors="replace") as it:
+            fields = it.read().rpartition(")")[2].split()
+            if fields[3] == str(session):
+                found.append((int(pid), fields[0]))
+    return found
+
+
 def below(root):
     """The libraries of the repository that each crate names."""
     with open(f"{root}/crates.txt", encoding="utf-8") as it:
@@ -150,33 +231,53 @@ def show(checks, deps):
     print(", ".join(f"{kind} {seconds / 60:.0f} min" for kind, seconds in kinds.most_common()))
 
 
+def watched(script, watch, checks, began):
+    """Looks at the run until it ends. Returns what the loop took meanwhile."""
+    busy, looked = [], -LOOKS * SECONDS
+    timed = looked
+    while script.poll() is None:
+        watch.look()
+        now = time.monotonic() - began
+        if watch.is_on and now - looked >= SECONDS:
+            look(checks, began, os.getsid(script.pid))
+            looked = now
+            if not watch.probed and now - timed >= LOOKS * SECONDS:
+                busy.append(loop())
+                timed = now
+        time.sleep(SECONDS_OF_A_PROBE if watch.probed else SECONDS)
+    return busy + watch.loops
+
+
 def main():
-    if len(sys.argv) != 2 or sys.argv[1] not in ("build.sh", "test.sh"):
+    words = sys.argv[1:]
+    is_undisturbed = words[:1] == ["--undisturbed"]
+    if words[is_undisturbed:] not in (["build.sh"], ["test.sh"]):
         sys.exit(__doc__)
-    checks = {}
+    name, checks, busy = words[-1], {}, []
     with tempfile.TemporaryDirectory() as room:
         subprocess.run(["git", "clone", "--quiet", ROOT, f"{room}/clone"], check=True)
-        idle, busy = idle_loops(), []
+        idle = idle_loops()
+        signal.signal(signal.SIGTERM, signal.default_int_handler)
         began, before = time.monotonic(), processors()
-        script = subprocess.Popen([f"./{sys.argv[1]}"], cwd=f"{room}/clone")
-        looks = 0
+        script = subprocess.Popen([f"./{name}"], cwd=f"{room}/clone", start_new_session=True)
+        watch = Watch(script.pid, is_undisturbed, min(idle))
         try:
-            while script.poll() is None:
-                look(checks, began)
-                if looks % LOOKS == 0:
-                    busy.append(loop())
-                looks += 1
-                time.sleep(SECONDS)
+            busy = watched(script, watch, checks, began)
         except KeyboardInterrupt:
-            # the script has the interrupt too, where both were started by hand
-            script.send_signal(signal.SIGINT)
+            # the run is a session of its own, which an interrupt by hand doesn't reach
+            watch.send(signal.SIGCONT)
+            os.killpg(script.pid, signal.SIGINT)
             script.wait()
-        took, after, status = time.monotonic() - began, processors(), script.returncode
+        watch.end()
+        whole_time, after, status = time.monotonic() - began, processors(), script.returncode
         used = resource.getrusage(resource.RUSAGE_CHILDREN)
         deps = below(f"{room}/clone")
+    took = watch.took if is_undisturbed else whole_time
     whole, stolen = after[0] - before[0], after[1] - before[1]
-    print(f"{sys.argv[1]}, status {status}: {took // 60:.0f} min {took % 60:.0f} s; {(used.ru_utime + used.ru_stime) / 60:.0f} minutes of "
+    print(f"{name}, status {status}: {took // 60:.0f} min {took % 60:.0f} s; {(used.ru_utime + used.ru_stime) / 60:.0f} minutes of "
           f"{len(os.sched_getaffinity(0))} processors, of which others took {100 * stolen / max(whole, 1):.1f} %")
+    if is_undisturbed:
+        print(f"stopped {watch.stops} times, {(whole_time - took) / 60:.0f} minutes in all, while others used the processors")
     print(f"a loop takes {min(idle + busy):.1f} ms at its fastest; it took {mean(idle):.1f} before the run, and {mean(busy):.1f} during it")
     show(checks.values(), deps)
     sys.exit(status)
