@@ -10,8 +10,8 @@ during it: how long it took at its fastest, and on the average.
 usage: bench/gate.py [--undisturbed] build.sh|test.sh
   --undisturbed   as root: stops the run while other machines use the same cores, as a loop on each processor tells, and the watch with it
 
-A kit's `rt ci` may keep on a machine what it has proved, and says so in its line `rt: ok`. Then test.sh begins from nothing only on a machine
-that has kept nothing of this tree.
+A kit's `rt ci` may keep on a machine what it has proved, and says so in its line `rt: ok`. Then test.sh begins from nothing only on a
+machine that has kept nothing of this tree.
 """
 import collections
 import contextlib
@@ -36,8 +36,8 @@ STOLEN = 7
 STEPS = 200_000
 TIMES = 5
 TIMES_BEFORE = 100
-# With --undisturbed: how often the loop is timed on each processor, in seconds, in how many parts, and how many times its fastest it may take
-# on the average of all processors, so that a run that was stopped goes on, and one that goes on isn't stopped.
+# With --undisturbed: how often the loop is timed on each processor, in seconds, in how many parts, and how many times its fastest it may
+# take on the average of all processors, so that a run that was stopped goes on, and one that goes on isn't stopped.
 SECONDS_OF_A_PROBE = 0.3
 PARTS = 4
 GOES_ON = 1.13

@@ -65,7 +65,7 @@ def crates_of(group):
 
 
 def start_all(pool, groups, said):
-    """Starts each group once its crates are proved, those first that come first, and gives their answers to come, in the order of the list."""
+    """Starts each group once its crates are proved, those first that come first, and gives their answers to come, in the list's order."""
     started, left = {}, list(range(len(groups)))
     while left:
         proved = proved_by(said) if said else None

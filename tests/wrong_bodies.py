@@ -9,7 +9,8 @@ usage: tests/wrong_bodies.py [--gate [--beside FILE]] [NAME..]     crates, or no
 A function is proved against the contracts of those that it calls. So only the functions that an edit changes are proved, with those that
 they call; the edits of different functions are tried in one check, and each must be refused for its own goals. Where a function only calls
 another that isn't proved, its wrong body comes again in the next check. An edit of anything else than functions' bodies, such as a law's
-clause or a constant, is tried alone with the whole crate, and so is one that no check of several refused. The crates are tried side by side.
+clause or a constant, is tried alone with the whole crate, and so is one that no check of several refused. The crates are tried side by
+side.
 
 It ends with status 1 where an edit isn't refused, or can't be tried. That a crate is proved without the edits is for `rt ci` to say.
 """
