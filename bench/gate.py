@@ -168,9 +168,11 @@ class Watch:
             self.loops.append(loop_now)
         is_on = loop_now <= self.fastest * (GOES_ON_STILL if self.is_on else GOES_ON)
         if is_on != self.is_on:
+            # what the signals take counts too
             self.send(signal.SIGCONT if is_on else signal.SIGSTOP)
+            self.took += 0 if is_on else time.monotonic() - now
             self.stops += self.is_on
-            self.is_on, self.at = is_on, time.monotonic()
+            self.is_on, self.at = is_on, now if is_on else time.monotonic()
 
     def end(self):
         for it in self.probed:
