@@ -118,6 +118,7 @@ def idle_loops():
 def probe(processor, places):
     """Times the loop on one processor again and again, before all other processes of it: the least of three short ones in a row."""
     signal.signal(signal.SIGINT, signal.SIG_IGN)
+    signal.signal(signal.SIGTERM, signal.SIG_DFL)
     os.sched_setaffinity(0, {processor})
     os.sched_setscheduler(0, os.SCHED_FIFO, os.sched_param(1))
     while True:
