@@ -1,13 +1,14 @@
 -- Batches of words as calls, and sessions and runs of them, on a disk of n sectors of b bytes.
-use Rattle.std.specs.Prelude.{ℕ, List, Result}
+use Rattle.std.specs.Prelude.{ℕ, List, Option, Result}
 use Rattle.pt_sector.specs.Device.{Told}
 use Rattle.pt_recover.specs.Denotes.{Denotes}
 use Rattle.pt_plan.specs.Batches.{Words, EditedBy, Commits, Repairs}
 use Rattle.pt_plan.specs.Commits.{past}
-use Rattle.pt_plan.specs.History.{Either, Carries}
+use Rattle.pt_plan.specs.History.{Past, Either, Carries}
 use Rattle.pt_plan.specs.declared.error.CommitError.{CommitError}
 use Rattle.pt_runs.specs.Calls.{Call, CarryOn}
-use Rattle.pt_runs.specs.Running.{Step, Ran}
+use Rattle.pt_members.specs.declared.layout.Layout.{Layout}
+use Rattle.pt_runs.specs.Running.{Step, calls_of_all, Ran, KeepsHistory}
 use Rattle.pt_runs.specs.Sessions.{Session}
 use Rattle.pt_runs.specs.declared.sessions.Batch.{Batch}
 use Rattle.pt_runs.specs.declared.sessions.Reply.{Reply}
@@ -34,3 +35,7 @@ SessionOf b n = Session (Commits b n)
 -- calls in order, on such a disk
 abbrev pub RunOf : ℕ → ℕ → List (Step Words) → Told → Told → Type 0
 RunOf b n = Ran (Commits b n) (Repairs b n)
+
+-- the calls of a run on such a disk, after earlier ones, lost nothing of its history from o at any moment
+abbrev pub RunKeepsHistory : ℕ → ℕ → Option Layout → List (Past Words) → List (Step Words) → Told → Told → Type 0
+RunKeepsHistory b n o earlier steps = KeepsHistory (Commits b n) (Repairs b n) (Denotes b) (EditedBy b n) o earlier (calls_of_all steps)

@@ -33,8 +33,9 @@ module _ {L W R : Type 0} (denotes : Sectors → Option L → Type 0) (edited : 
   abbrev pub HasCutShort : Option L → List (Past W) → List (Call W) → Sectors → Type 0
   HasCutShort o earlier calls c = (past : List (Past W)) × IsCutShort calls past × Has denotes edited o (earlier ++ past) c
 
-  -- these calls in order carry every history on: each disk that a crash inside one of them may leave has one that ends
-  -- with that call, and each that a crash may leave at the last one's return one with all their answers
+  -- these calls in order carry every history on: each disk that a crash in them may leave is one that a crash could leave
+  -- at their start, or has one that ends inside one of them, whichever; and each that a crash may leave at the last one's
+  -- return has one with all their answers. Which calls had answered before a crash is for KeepsHistory to say
   pub record CarryOn (calls : List (Call W)) (old new : Told) : Type 0 where
     pub any_moment : (o : Option L) (earlier : List (Past W)) → Holds denotes edited o earlier old
         → LeavesOnly old new (HasCutShort o earlier calls)

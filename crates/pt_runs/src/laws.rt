@@ -7,10 +7,10 @@ ghost use Rattle.pt_apply.specs.Runs.{Settled};
 ghost use Rattle.pt_recover.specs.Denotes.{Denotes};
 ghost use Rattle.pt_members.specs.declared.layout.Layout.{Layout as LayoutValue};
 ghost use Rattle.pt_plan.specs.Batches.{Words, EditedBy, Commits, Repairs};
-ghost use Rattle.pt_runs.specs.Batches.{SessionOf, RunOf, call_of, CallCarries, CallsCarry};
+ghost use Rattle.pt_runs.specs.Batches.{SessionOf, RunOf, call_of, CallCarries, CallsCarry, RunKeepsHistory};
 ghost use Rattle.pt_runs.specs.Calls.{Call};
 ghost use Rattle.pt_plan.specs.History.{Past, Unchanged, Has, Holds};
-ghost use Rattle.pt_runs.specs.Running.{Step, calls_of_all, OnlyFlushes, KeepsHistory, Lives, IsPastOf};
+ghost use Rattle.pt_runs.specs.Running.{Step, calls_of_all, OnlyFlushes, Lives, LivesKnown};
 ghost use Rattle.pt_runs.specs.Sessions.{calls_of};
 ghost use Rattle.pt_plan.specs.declared.error.CommitError.{CommitError as CommitErrorValue};
 ghost use Rattle.pt_plan.specs.declared.repair_error.RepairError.{RepairError as RepairErrorValue};
@@ -67,11 +67,17 @@ pub fn run_carries()
 {}
 
 /// A run of commits, repairs and sessions, whatever they answered, on a disk on which nothing is pending and that denotes
-/// `o`: each disk that a crash at a moment since may have left denotes `o`, or what the run makes of it where the crash was
-/// inside one of its calls; each disk that a crash may leave at the end denotes what all calls, as they answered, make of it.
+/// `o`: each disk that a crash may leave, between its calls or inside one of them, denotes what the calls begun so far make of
+/// `o`. Each of them that had answered is in as it answered, and the one in progress, if there is one, is done or not.
 pub fn run_keeps_history()
     ensures { (b n : ℕ) (steps : List (Step Words)) (old new : Told) (d : Sectors) (o : Option LayoutValue)
-        → RunOf b n steps old new → Settled old d → Denotes b d o → KeepsHistory (Denotes b) (EditedBy b n) o (calls_of_all steps) old new }
+        → RunOf b n steps old new → Settled old d → Denotes b d o → RunKeepsHistory b n o [] steps old new }
+{}
+
+/// The same of a run that begins where earlier calls left the disk, whatever is pending.
+pub fn run_goes_on()
+    ensures { (b n : ℕ) (steps : List (Step Words)) (old new : Told) (o : Option LayoutValue) (earlier : List (Past Words))
+        → RunOf b n steps old new → Holds (Denotes b) (EditedBy b n) o earlier old → RunKeepsHistory b n o earlier steps old new }
 {}
 
 /// A disk that a crash left goes on, as a device on which nothing is pending, with each history that it has.
@@ -80,12 +86,18 @@ pub fn crash_begins_again()
         → Has (Denotes b) (EditedBy b n) o calls d → Holds (Denotes b) (EditedBy b n) o calls now }
 {}
 
-/// Runs with a crash in or after each: what the last crash leaves denotes what the calls of all runs make of what the first
-/// one began with. Of each run none of its calls, all of them as they answered, or those up to one that was cut short.
-pub fn lives_keep_history()
+/// Runs with a crash in or after each: of the calls that were begun before each crash, something is known.
+pub fn lives_are_known()
     ensures { (b n : ℕ) (runs : List (List (Step Words))) (d e : Sectors) (o : Option LayoutValue) → Denotes b d o
         → Lives (Commits b n) (Repairs b n) runs d e
-        → (past : List (Past Words)) × IsPastOf runs past × Has (Denotes b) (EditedBy b n) o past e }
+        → (known : List (Past Words)) × LivesKnown (Commits b n) (Repairs b n) runs known d e }
+{}
+
+/// Whichever they are, what the last crash leaves denotes what they make, run by run, of what the first run began with. Each
+/// that had answered before its run's crash is in as it answered. The one that a crash was inside of, if any, is done or not.
+pub fn lives_keep_history()
+    ensures { (b n : ℕ) (runs : List (List (Step Words))) (known : List (Past Words)) (d e : Sectors) (o : Option LayoutValue)
+        → Denotes b d o → LivesKnown (Commits b n) (Repairs b n) runs known d e → Has (Denotes b) (EditedBy b n) o known e }
 {}
 
 /// After a commit or a repair that is done, the next repair calls one flush, and writes nothing.

@@ -1,19 +1,19 @@
 -- Sessions and runs carry every history on, where their commits and repairs do. L is a layout, W the words of a batch, R a
 -- refusal of words.
-use Rattle.std.specs.Prelude.{◌≡◌, List, [], ◌∷◌, ◌++◌, Option, Result, Ok, Err}
+use Rattle.std.specs.Prelude.{◌≡◌, ◌⊎◌, List, [], ◌∷◌, ◌++◌, Option, Result, Ok, Err}
 use Rattle.std.proofs.Common.{◌∙◌, inl, inr, ⊎_elim, refl, sym, ap, subst, append_assoc}
 use Rattle.std.proofs.lemmas.List.{append-nil, append_cancel_left}
 use Rattle.pt_sector.specs.Sectors.{Sectors}
-use Rattle.pt_sector.specs.Device.{Told, Moment, LeftBy}
+use Rattle.pt_sector.specs.Device.{Told, Moment, MayLeave, LeftBy}
 use Rattle.pt_sector.specs.Since.{LeavesOnly}
 use Rattle.pt_sector.specs.laws.Since.{leaves_none}
 use Rattle.pt_apply.specs.Runs.{Settled}
-use Rattle.pt_runs.specs.Calls.{Call, answered, HasCutShort, CarryOn, begins_lem, begins_again_lem, none_carry_lem, one_carries_lem}
-use Rattle.pt_runs.specs.Calls.{carry_through_lem}
+use Rattle.pt_runs.specs.Calls.{Call, answered, HasCutShort, CarryOn, begins_lem, begins_again_lem, none_carry_lem}
+use Rattle.pt_runs.specs.Calls.{one_carries_lem, carry_through_lem}
 use Rattle.pt_plan.specs.Commits.{past}
 use Rattle.pt_plan.specs.History.{Past, Unchanged, Either, History, Has, Holds, Carries}
-use Rattle.pt_runs.specs.Running.{Step, a_commit, a_repair, a_session, no_session, calls_in, calls_of_all, IsLeftBy, KeepsHistory, Did}
-use Rattle.pt_runs.specs.Running.{Ran, Lives, IsPartOfRun, not_begun, cut_short, finished, IsPastOf}
+use Rattle.pt_runs.specs.Running.{Step, a_commit, a_repair, a_session, no_session, calls_in, calls_of_all, IsLeftBy, Did, Ran}
+use Rattle.pt_runs.specs.Running.{DidCall, DidCalls, CrashIn, Lives, LivesKnown, KeepsHistory}
 use Rattle.pt_runs.specs.Sessions.{Session, reply_of, call_of_reply, calls_of}
 use Rattle.pt_plan.specs.declared.error.CommitError.{CommitError}
 use Rattle.pt_plan.specs.declared.error.CommitError.TheVariants.{NoTable, Edit, Plan, Check, Device, Memory}
@@ -31,11 +31,89 @@ reply_call w (Err (Check why)) = refl
 reply_call w (Err (Device fault)) = refl
 reply_call w (Err Memory) = refl
 
+left_split : (a b : List Moment) (c : Sectors) → LeftBy (a ++ b) c → LeftBy a c ⊎ LeftBy b c
+left_split [] b c left = inr left
+left_split (m ∷ a) b c (inl here) = inl (inl here)
+left_split (m ∷ a) b c (inr there) = ⊎_elim (λ x. inl (inr x)) (λ y. inr y) (left_split a b c there)
+
+module _ {W : Type 0} (commits : W → Result Unit CommitError → Told → Told → Type 0)
+    (repairs : Result Unit RepairError → Told → Told → Type 0) where
+  calls_on : (xs ys : List (Call W)) (old mid new : Told) → DidCalls commits repairs xs old mid → DidCalls commits repairs ys mid new
+      → DidCalls commits repairs (xs ++ ys) old new
+  calls_on [] ys old mid new same rest = subst (λ (x : Told). DidCalls commits repairs ys x new) same rest
+  calls_on (call ∷ xs) ys old mid new (next, did, first) rest = (next, did, calls_on xs ys next mid new first rest)
+
+  batch_did : (w : W) (r : Reply) (ws : List W) (rs : List Reply) (old new : Told)
+      → ((mid : Told) → Session commits ws rs mid new → DidCalls commits repairs (calls_of ws rs) mid new)
+      → (result : Result Unit CommitError) × (mid : Told) ×
+      (r ≡ reply_of result) × commits w result old mid × Session commits ws rs mid new
+      → DidCalls commits repairs (call_of_reply w r ∷ calls_of ws rs) old new
+  batch_did w r ws rs old new others (result, mid, is, did, rest) =
+      (mid, inl (w, result, ap (λ (x : Reply). call_of_reply w x) is ∙ reply_call w result, did), others mid rest)
+
+  session_did : (ws : List W) (rs : List Reply) (old new : Told) → Session commits ws rs old new
+      → DidCalls commits repairs (calls_of ws rs) old new
+  session_did [] [] old new same = same
+  session_did [] (r ∷ rs) old new none = absurd none
+  session_did (w ∷ ws) [] old new none = absurd none
+  session_did (w ∷ ws) (reply.NotTried ∷ rs) old new rest = (old, inr (refl, inr refl), session_did ws rs old new rest)
+  session_did (w ∷ ws) (reply.Done ∷ rs) old new did =
+      batch_did w reply.Done ws rs old new (λ mid rest. session_did ws rs mid new rest) did
+  session_did (w ∷ ws) (reply.Refused e ∷ rs) old new did =
+      batch_did w (reply.Refused e) ws rs old new (λ mid rest. session_did ws rs mid new rest) did
+  session_did (w ∷ ws) (reply.Fault fault ∷ rs) old new did =
+      batch_did w (reply.Fault fault) ws rs old new (λ mid rest. session_did ws rs mid new rest) did
+
+  step_did : (step : Step W) (old new : Told) → Did commits repairs step old new → DidCalls commits repairs (calls_in step) old new
+  step_did (a_commit w result) old new did = (new, inl (w, result, refl, did), refl)
+  step_did (a_repair result) old new did = (new, inr (refl, inl (result, did)), refl)
+  step_did (a_session ws rs) old new did = session_did ws rs old new did
+  step_did (no_session ws) old new same = same
+
+  run_did : (steps : List (Step W)) (old new : Told) → Ran commits repairs steps old new
+      → DidCalls commits repairs (calls_of_all steps) old new
+  run_did [] old new same = same
+  run_did (step ∷ steps) old new (mid, did, rest) =
+      calls_on (calls_in step) (calls_of_all steps) old mid new (step_did step old mid did) (run_did steps mid new rest)
+
+  -- a crash in calls with one more before them
+  later_crash : (call : Call W) (calls : List (Call W)) (old mid new : Told) (c : Sectors) (known : List (Past W))
+      → DidCall commits repairs call old mid → CrashIn commits repairs calls mid new known c
+      → CrashIn commits repairs (call ∷ calls) old new (call.done ∷ known) c
+  later_crash call calls old mid new c known did (inl crash) = inl (record {
+    before = call ∷ crash.before;
+    after = crash.after;
+    are = ap (λ (l : List (Call W)). call ∷ l) crash.are;
+    now = crash.now;
+    earlier = (mid, did, crash.earlier);
+    later = crash.later;
+    left = crash.left;
+    is = ap (λ (l : List (Past W)). call.done ∷ l) crash.is;
+  })
+  later_crash call calls old mid new c known did (inr crash) = inr (record {
+    before = call ∷ crash.before;
+    call = crash.call;
+    after = crash.after;
+    are = ap (λ (l : List (Call W)). call ∷ l) crash.are;
+    start = crash.start;
+    return = crash.return;
+    earlier = (mid, did, crash.earlier);
+    did = crash.did;
+    later = crash.later;
+    left = crash.left;
+    is = ap (λ (l : List (Past W)). call.done ∷ l) crash.is;
+  })
+
 module _ {L W R : Type 0} (denotes : Sectors → Option L → Type 0) (edited : Option L → W → Result L R → Type 0) where
   history_unchanged : (calls : List (Past W)) (o p : Option L) → History denotes edited calls o p
       → History denotes edited (calls ++ Unchanged ∷ []) o p
   history_unchanged [] o p same = (p, same, refl)
   history_unchanged (call ∷ calls) o p (m, first, rest) = (m, first, history_unchanged calls m p rest)
+
+  history_either : (calls : List (Past W)) (w : W) (o p : Option L) → History denotes edited calls o p
+      → History denotes edited (calls ++ Either w ∷ []) o p
+  history_either [] w o p same = (p, inl same, refl)
+  history_either (call ∷ calls) w o p (m, first, rest) = (m, first, history_either calls w m p rest)
 
   nothing_carries : (now : Told) → Carries denotes edited Unchanged Unchanged now now
   nothing_carries now = record {
@@ -101,61 +179,156 @@ module _ {L W R : Type 0} (denotes : Sectors → Option L → Type 0) (edited : 
           carry_through_lem denotes edited (calls_in step) (calls_of_all steps) old mid new
           (step_carries step old mid did) (run_carries_lem steps mid new rest)
 
-      pub run_keeps_lem : (steps : List (Step W)) (old new : Told) (d : Sectors) (o : Option L) → Ran commits repairs steps old new
-          → Settled old d → denotes d o
-          → KeepsHistory denotes edited o (calls_of_all steps) old new
-      run_keeps_lem steps old new d o ran settled is =
-          let start : Holds denotes edited o [] old = begins_lem denotes edited old d o settled is in
-          let carry : CarryOn denotes edited (calls_of_all steps) old new = run_carries_lem steps old new ran in
-          let run : LeavesOnly old new (HasCutShort denotes edited o [] (calls_of_all steps)) = carry.any_moment o [] start in
-          record {
-            more = run.more;
-            past = run.past;
-            at_moments = λ c left. ⊎_elim (λ before. inl (start c before)) (λ cut. inr cut) (run.inside c left);
-            at_end = λ c may. carry.at_return o [] start c may;
-          }
+      call_carries : (call : Call W) (old new : Told) → DidCall commits repairs call old new
+          → Carries denotes edited call.inside call.done old new
+      call_carries call old new (inl (w, result, is, did)) =
+          subst (λ (x : Call W). Carries denotes edited x.inside x.done old new) (sym is) (each w result old new did)
+      call_carries call old new (inr (is, inl (result, did))) =
+          subst (λ (x : Call W). Carries denotes edited x.inside x.done old new) (sym is) (mended result old new did)
+      call_carries call old new (inr (is, inr same)) =
+          subst (λ (x : Call W). Carries denotes edited x.inside x.done old new) (sym is)
+          (subst (λ (x : Told). Carries denotes edited Unchanged Unchanged old x) (sym same) (nothing_carries old))
 
-      -- what a crash in or after a run leaves
-      crash_leaves : (steps : List (Step W)) (old new : Told) (d c : Sectors) (o : Option L) (earlier : List (Past W)) → Settled old d
-          → Ran commits repairs steps old new → IsLeftBy old new c
-          → Has denotes edited o earlier d
-          → (here : List (Past W)) × IsPartOfRun (calls_of_all steps) here × Has denotes edited o (earlier ++ here) c
-      crash_leaves steps old new d c o earlier settled ran left has =
-          let start : Holds denotes edited o earlier old = begins_again_lem denotes edited old d o earlier settled has in
-          let carry : CarryOn denotes edited (calls_of_all steps) old new = run_carries_lem steps old new ran in
-          let run : LeavesOnly old new (HasCutShort denotes edited o earlier (calls_of_all steps)) = carry.any_moment o earlier start in
+      calls_carry : (calls : List (Call W)) (old new : Told) → DidCalls commits repairs calls old new → CarryOn denotes edited calls old new
+      calls_carry [] old new same = carry_nothing old new same
+      calls_carry (call ∷ calls) old new (mid, did, rest) =
+          carry_through_lem denotes edited (call ∷ []) calls old mid new
+          (one_carries_lem denotes edited call old mid (call_carries call old mid did)) (calls_carry calls mid new rest)
+
+      -- what was so before a call is so within it: the call may have done nothing yet
+      may_be_undone : (call : Call W) (old new : Told) (o : Option L) (calls : List (Past W)) (c : Sectors)
+          → DidCall commits repairs call old new → Has denotes edited o calls c → Has denotes edited o (calls ++ call.inside ∷ []) c
+      may_be_undone call old new o calls c (inl (w, result, is, did)) has =
+          subst (λ (x : Call W). Has denotes edited o (calls ++ x.inside ∷ []) c) (sym is)
+          (has.0, has.1, history_either calls w o has.0 has.2)
+      may_be_undone call old new o calls c (inr (is, did)) has =
+          subst (λ (x : Call W). Has denotes edited o (calls ++ x.inside ∷ []) c) (sym is)
+          (has.0, has.1, history_unchanged calls o has.0 has.2)
+
+      -- since a call's start
+      left_within : (P Q : Sectors → Type 0) (old new : Told) (c : Sectors) → ((x : Sectors) → MayLeave old x → P x) → LeavesOnly old new Q
+          → IsLeftBy old new c → P c ⊎ Q c
+      left_within P Q old new c before leaves (inl (more, time, at)) =
+          ⊎_elim (λ may. inl (before c may)) (λ has. inr has)
+          (leaves.inside c
+          (subst (λ (l : List Moment). LeftBy l c) (append_cancel_left old.past more leaves.more (sym time ∙ leaves.past)) at))
+      left_within P Q old new c before leaves (inr may) =
+          ⊎_elim (λ m. inl (before c m)) (λ has. inr has) (leaves.at_end c may)
+
+      keeps_in : (o : Option L) (earlier : List (Past W)) (calls : List (Call W)) (old new : Told) → Holds denotes edited o earlier old
+          → (c : Sectors) (known : List (Past W)) → CrashIn commits repairs calls old new known c → Has denotes edited o (earlier ++ known) c
+      keeps_in o earlier calls old new start c known (inl crash) =
+          subst (λ (l : List (Past W)). Has denotes edited o (earlier ++ l) c) (sym crash.is)
+          ((calls_carry crash.before old crash.now crash.earlier).at_return o earlier start c crash.left)
+      keeps_in o earlier calls old new start c known (inr crash) =
+          let so_far : Holds denotes edited o (earlier ++ answered crash.before) crash.start =
+          (calls_carry crash.before old crash.start crash.earlier).at_return o earlier start in
+          let carry : Carries denotes edited crash.call.inside crash.call.done crash.start crash.return =
+          call_carries crash.call crash.start crash.return crash.did in
+          let has : Has denotes edited o ((earlier ++ answered crash.before) ++ crash.call.inside ∷ []) c =
+          ⊎_elim (λ before. may_be_undone crash.call crash.start crash.return o (earlier ++ answered crash.before) c crash.did before)
+          (λ within. within)
+          (left_within (Has denotes edited o (earlier ++ answered crash.before))
+          (Has denotes edited o ((earlier ++ answered crash.before) ++ crash.call.inside ∷ [])) crash.start crash.return c so_far
+          (carry.any_moment o (earlier ++ answered crash.before) so_far) crash.left) in
+          subst (λ (l : List (Past W)). Has denotes edited o (earlier ++ l) c) (sym crash.is)
+          (subst (λ (l : List (Past W)). Has denotes edited o l c)
+          (append_assoc earlier (answered crash.before) (crash.call.inside ∷ [])) has)
+
+      each_in : (o : Option L) (earlier : List (Past W)) (calls : List (Call W)) (old new : Told) → Holds denotes edited o earlier old
+          → DidCalls commits repairs calls old new → (c : Sectors) → IsLeftBy old new c
+          → (known : List (Past W)) × CrashIn commits repairs calls old new known c
+      each_in o earlier [] old new start same c (inl (more, time, at)) =
+          absurd (subst (λ (l : List Moment). LeftBy l c)
+          (append_cancel_left old.past more [] (sym time ∙ ap (λ (x : Told). x.past) same ∙ sym (append-nil old.past))) at)
+      each_in o earlier [] old new start same c (inr may) =
+          ([], inl (record { before = []; after = []; are = refl; now = new; earlier = same; later = refl; left = may; is = refl }))
+      each_in o earlier (call ∷ calls) old new start (mid, did, rest) c left =
+          let carry : Carries denotes edited call.inside call.done old mid = call_carries call old mid did in
+          let first : LeavesOnly old mid (Has denotes edited o (earlier ++ call.inside ∷ [])) = carry.any_moment o earlier start in
+          let next : Holds denotes edited o (earlier ++ call.done ∷ []) mid = carry.at_return o earlier start in
+          let others : IsLeftBy mid new c → (known : List (Past W)) × CrashIn commits repairs (call ∷ calls) old new known c =
+          λ later. let found : (known : List (Past W)) × CrashIn commits repairs calls mid new known c =
+          each_in o (earlier ++ call.done ∷ []) calls mid new next rest c later in
+          (call.done ∷ found.0, later_crash commits repairs call calls old mid new c found.0 did found.1) in
+          let then : LeavesOnly mid new _ = (calls_carry calls mid new rest).any_moment o (earlier ++ call.done ∷ []) next in
           ⊎_elim
           (λ at. ⊎_elim
-          (λ before. (
-            [],
-            not_begun refl,
-            subst (λ (calls : List (Past W)). Has denotes edited o calls c) (sym (append-nil earlier)) (start c before),
+          (λ here. (
+            call.inside ∷ [],
+            inr (record {
+              before = [];
+              call = call;
+              after = calls;
+              are = refl;
+              start = old;
+              return = mid;
+              earlier = refl;
+              did = did;
+              later = rest;
+              left = inl (first.more, first.past, here);
+              is = refl;
+            }),
           ))
-          (λ cut. (cut.0, cut_short cut.1, cut.2))
-          (run.inside c (subst (λ (more : List Moment). LeftBy more c)
-          (append_cancel_left old.past at.0 run.more (sym at.1 ∙ run.past)) at.2)))
-          (λ may. (answered (calls_of_all steps), finished refl, carry.at_return o earlier start c may))
+          (λ there. others (inl (then.more, then.past, there)))
+          (left_split first.more then.more c (subst (λ (l : List Moment). LeftBy l c)
+          (append_cancel_left old.past at.0 (first.more ++ then.more)
+          (sym at.1 ∙ then.past ∙ ap (λ (l : List Moment). l ++ then.more) first.past ∙ append_assoc old.past first.more then.more)) at.2)))
+          (λ may. others (inr may))
           left
 
-      lives_after : (runs : List (List (Step W))) (d e : Sectors) (o : Option L) (earlier : List (Past W))
-          → Lives commits repairs runs d e → Has denotes edited o earlier d
-          → (past : List (Past W)) × IsPastOf runs past × Has denotes edited o (earlier ++ past) e
-      lives_after [] d e o earlier same has = (
-        [],
-        refl,
-        subst (λ (calls : List (Past W)). Has denotes edited o calls e) (sym (append-nil earlier))
-            (subst (λ (x : Sectors). Has denotes edited o earlier x) (sym same) has),
-      )
-      lives_after (steps ∷ runs) d e o earlier (old, new, c, settled, ran, left, rest) has =
-          let here : (here : List (Past W)) × IsPartOfRun (calls_of_all steps) here × Has denotes edited o (earlier ++ here) c =
-          crash_leaves steps old new d c o earlier settled ran left has in
-          let after : (past : List (Past W)) × IsPastOf runs past × Has denotes edited o ((earlier ++ here.0) ++ past) e =
-          lives_after runs c e o (earlier ++ here.0) rest here.2 in (
-            here.0 ++ after.0,
-            (here.0, after.0, refl, here.1, after.1),
-            subst (λ (calls : List (Past W)). Has denotes edited o calls e) (append_assoc earlier here.0 after.0) after.2,
-          )
+      -- a run on a disk that earlier calls left
+      pub run_goes_on_lem : (steps : List (Step W)) (old new : Told) (o : Option L) (earlier : List (Past W)) → Ran commits repairs steps old new
+          → Holds denotes edited o earlier old
+          → KeepsHistory commits repairs denotes edited o earlier (calls_of_all steps) old new
+      run_goes_on_lem steps old new o earlier ran start =
+          let did : DidCalls commits repairs (calls_of_all steps) old new = run_did commits repairs steps old new ran in
+          let moments : LeavesOnly old new (HasCutShort denotes edited o earlier (calls_of_all steps)) =
+          (run_carries_lem steps old new ran).any_moment o earlier start in
+          record {
+            did = did;
+            more = moments.more;
+            past = moments.past;
+            each = λ c left. each_in o earlier (calls_of_all steps) old new start did c
+                (⊎_elim (λ at. inl (moments.more, moments.past, at)) (λ may. inr may) left);
+            keeps = keeps_in o earlier (calls_of_all steps) old new start;
+          }
 
-      pub lives_keep_lem : (runs : List (List (Step W))) (d e : Sectors) (o : Option L) → denotes d o → Lives commits repairs runs d e
-          → (past : List (Past W)) × IsPastOf runs past × Has denotes edited o past e
-      lives_keep_lem runs d e o is lives = lives_after runs d e o [] lives (o, is, refl)
+      pub run_keeps_lem : (steps : List (Step W)) (old new : Told) (d : Sectors) (o : Option L) → Ran commits repairs steps old new
+          → Settled old d → denotes d o
+          → KeepsHistory commits repairs denotes edited o [] (calls_of_all steps) old new
+      run_keeps_lem steps old new d o ran settled is = run_goes_on_lem steps old new o [] ran (begins_lem denotes edited old d o settled is)
+
+      lives_after : (runs : List (List (Step W))) (known : List (Past W)) (d e : Sectors) (o : Option L) (earlier : List (Past W))
+          → LivesKnown commits repairs runs known d e → Has denotes edited o earlier d → Has denotes edited o (earlier ++ known) e
+      lives_after [] known d e o earlier (none, same) has =
+          subst (λ (calls : List (Past W)). Has denotes edited o (earlier ++ calls) e) (sym none)
+          (subst (λ (calls : List (Past W)). Has denotes edited o calls e) (sym (append-nil earlier))
+          (subst (λ (x : Sectors). Has denotes edited o earlier x) (sym same) has))
+      lives_after (steps ∷ runs) known d e o earlier (old, new, c, here, rest, are, settled, ran, crash, next) has =
+          let start : Holds denotes edited o earlier old = begins_again_lem denotes edited old d o earlier settled has in
+          let then : Has denotes edited o (earlier ++ here) c = keeps_in o earlier (calls_of_all steps) old new start c here crash in
+          let last : Has denotes edited o ((earlier ++ here) ++ rest) e = lives_after runs rest c e o (earlier ++ here) next then in
+          subst (λ (calls : List (Past W)). Has denotes edited o (earlier ++ calls) e) (sym are)
+          (subst (λ (calls : List (Past W)). Has denotes edited o calls e) (append_assoc earlier here rest) last)
+
+      pub lives_keep_lem : (runs : List (List (Step W))) (known : List (Past W)) (d e : Sectors) (o : Option L) → denotes d o
+          → LivesKnown commits repairs runs known d e → Has denotes edited o known e
+      lives_keep_lem runs known d e o is lives = lives_after runs known d e o [] lives (o, is, refl)
+
+      lives_known_after : (runs : List (List (Step W))) (d e : Sectors) (o : Option L) (earlier : List (Past W))
+          → Lives commits repairs runs d e → Has denotes edited o earlier d
+          → (known : List (Past W)) × LivesKnown commits repairs runs known d e
+      lives_known_after [] d e o earlier same has = ([], (refl, same))
+      lives_known_after (steps ∷ runs) d e o earlier (old, new, c, settled, ran, left, next) has =
+          let start : Holds denotes edited o earlier old = begins_again_lem denotes edited old d o earlier settled has in
+          let here : (known : List (Past W)) × CrashIn commits repairs (calls_of_all steps) old new known c =
+          each_in o earlier (calls_of_all steps) old new start (run_did commits repairs steps old new ran) c left in
+          let then : Has denotes edited o (earlier ++ here.0) c = keeps_in o earlier (calls_of_all steps) old new start c here.0 here.1 in
+          let rest : (known : List (Past W)) × LivesKnown commits repairs runs known c e =
+          lives_known_after runs c e o (earlier ++ here.0) next then in
+          (here.0 ++ rest.0, (old, new, c, here.0, rest.0, refl, settled, ran, here.1, rest.1))
+
+      pub lives_known_lem : (runs : List (List (Step W))) (d e : Sectors) (o : Option L) → denotes d o → Lives commits repairs runs d e
+          → (known : List (Past W)) × LivesKnown commits repairs runs known d e
+      lives_known_lem runs d e o is lives = lives_known_after runs d e o [] lives (o, is, refl)
