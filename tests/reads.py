@@ -1,7 +1,7 @@
 #!/usr/bin/env python3
 """Counts the sectors that a call asks the image for: an edit, a plan, a check and a repair read no sector twice, whether they are done or
 refused, on tables of every kind and both sector sizes. On each of them edits of several kinds are done. A rename in a GPT reads at most 140
-sectors and writes 67.
+sectors and writes 67. No sector is read but those of the tables before the call and after it, so that no bad sector elsewhere fails a call.
 
 usage: tests/reads.py PTAB
 """
@@ -11,6 +11,7 @@ import re
 import subprocess
 import sys
 import tempfile
+import uuid
 from concurrent.futures import ThreadPoolExecutor
 
 from images import FREEBSD, LARGE, SMALL, ebr, entry, guid, label, record
@@ -76,11 +77,50 @@ def sectors_of(calls, size):
     return read, wrote
 
 
+def number(content, at, size):
+    return int.from_bytes(content[at:at + size], "little")
+
+
+def parts_of(content, base):
+    """(type, first sector, sectors) of each used record of a sector"""
+    for at in range(446, 510, 16):
+        if content[at + 4]:
+            yield content[at + 4], base + number(content, at + 8, 4), number(content, at + 12, 4)
+
+
+def places_in(sectors, image):
+    """The sectors of the image's table: sector 0, both copies of a GPT or the chain of an MBR, and the second sector of each slice."""
+    count = len(image) // sectors.size
+
+    def at(lba):
+        return image[lba * sectors.size:(lba + 1) * sectors.size]
+
+    records = list(parts_of(at(0), 0)) if at(0)[510:512] == b"\x55\xaa" else []
+    if records and all(kind != 0xEE for kind, _, _ in records):
+        found, slices = {0}, [(first, length) for kind, first, length in records if kind == 0xA5]
+        for first in (first for kind, first, _ in records if kind in (0x05, 0x0F, 0x85)):
+            ebr_at = first
+            while ebr_at is not None:
+                found.add(ebr_at)
+                slices += [(ebr_at + start, length) for kind, start, length in parts_of(at(ebr_at), 0) if kind == 0xA5]
+                links = [start for kind, start, _ in parts_of(at(ebr_at), 0) if kind in (0x05, 0x0F, 0x85)]
+                ebr_at = first + links[0] if links else None
+        return found | {first + 1 for first, length in slices if length > 1}
+    found = {0, *range(1, sectors.array + 2), *range(count - sectors.array - 1, count)}
+    for start in (2, count - sectors.array - 1):
+        array = image[start * sectors.size:(start + sectors.array) * sectors.size]
+        for entry_at in range(0, len(array), 128):
+            first, last = number(array, entry_at + 32, 8), number(array, entry_at + 40, 8)
+            if array[entry_at:entry_at + 16] == uuid.UUID(FREEBSD).bytes_le and first < last < count:
+                found.add(first + 1)
+    return found
+
+
 class Counted:
     """The command, with its calls on an image counted."""
 
     def __init__(self, ptab, folder):
-        self.ptab, self.folder, self.passed = ptab, folder, 0
+        self.ptab, self.folder, self.passed, self.calls = ptab, folder, 0, []
         self.path = os.path.join(folder, "image")
 
     def run(self, what, sectors, image, command, words):
@@ -97,6 +137,15 @@ class Counted:
             fail(what, command, words, "no read was counted", done.stderr)
         return done, read, wrote
 
+    def settle(self, sectors, image):
+        """Fails if one of the calls since the last time read a sector that is of the table neither of the image nor of what it is now."""
+        with open(self.path, "rb") as file:
+            places = places_in(sectors, image) | places_in(sectors, file.read())
+        for told, read in self.calls:
+            if read - places:
+                fail(*told, "read sectors of no table:", sorted(read - places)[:9])
+        self.calls = []
+
     def file(self, plan):
         path = os.path.join(self.folder, "plan")
         with open(path, "wb") as file:
@@ -112,6 +161,7 @@ class Counted:
         if twice:
             fail(what, command, *words, "sectors read more than once:", twice)
         self.passed += 1
+        self.calls.append(((what, command, *words), set(read)))
         return done.stdout, sum(read.values()), wrote
 
 
@@ -119,7 +169,10 @@ def counted(ptab, sectors):
     with tempfile.TemporaryDirectory() as folder:
         it = Counted(ptab, folder)
         for what, image, done in [*gpts(sectors), *mbrs(sectors)]:
+            # a verdict reads label places twice
+            it.calls.append(((what, "verify"), set(it.run(what, sectors, image, "verify", ())[1])))
             it.once(what, sectors, image, "repair")
+            it.settle(sectors, image)
             for edits in EDITS:
                 is_done = edits in done and (sectors is SMALL or "." not in edits)
                 words, status = ["--fresh", FRESH, *edits.split()], 0 if is_done else REFUSED
@@ -129,6 +182,7 @@ def counted(ptab, sectors):
                 _, read, wrote = it.once(what, sectors, image, "edit", words, status)
                 if sectors is SMALL and what == "a GPT with a label" and edits == "c:1:root" and not (read <= 140 and wrote == 67):
                     fail(what, edits, f"{read} sectors read, {wrote} written")
+                it.settle(sectors, image)
                 if (wrote > 0) != is_done:
                     fail(what, edits, f"{wrote} sectors written")
         return it.passed

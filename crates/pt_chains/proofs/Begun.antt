@@ -4,7 +4,9 @@ use Rattle.std.proofs.Common.{ap, subst, ◌∙◌, arith, inl, inr, length-appe
 use Rattle.std.specs.Prelude.{Contains}
 use Rattle.std.proofs.lemmas.List.{drop_all, take_all, length-drop}
 use Rattle.std.proofs.lemmas.List.Elements.{Contains-append_left, Contains-push, Contains-push_cases}
+use Rattle.pt_sector.specs.Reads.{FailedIn, failed_more}
 use Rattle.pt_sector.specs.Sectors.{Sectors, sector}
+use Rattle.pt_sector.specs.declared.reading.Failure.{Failure}
 use Rattle.pt_mbr.specs.Chain.{StandsAt}
 use Rattle.pt_mbr.specs.declared.ebr.Ebr.{Ebr}
 use Rattle.pt_cases.specs.Links.{link_to}
@@ -20,6 +22,12 @@ pub stands_here : (s : ℕ) (chain : List Ebr) (k : ℕ) (z : Ebr) → k < lengt
 stands_here s [] k z lt at = absurd (omega (arith, lt))
 stands_here s (e ∷ es) zero z lt at = inl at
 stands_here s (e ∷ es) (suc k) z lt at = inr (stands_here s es k z (omega (arith, lt)) at)
+
+-- where the read of one of them failed
+pub ebr_failed : (chain : List Ebr) (k : ℕ) (z : Ebr) (e : Failure) → k < length chain
+    → FailedIn (λ s. s ≡ (get_or chain k z).at.0) e → FailedIn (λ s. StandsAt s chain) e
+ebr_failed chain k z e lt =
+    failed_more (λ s. s ≡ (get_or chain k z).at.0) (λ s. StandsAt s chain) e (λ s at. stands_here s chain k z lt at)
 
 -- none stands there before a place
 pub stands_later : (s : ℕ) (chain : List Ebr) (k : ℕ) (z : Ebr) → k < length chain → ¬ (s ≡ (get_or chain k z).at.0)

@@ -39,6 +39,10 @@ pub record IsEbrOf {b : _} (d : Sectors) (old : List Ebr) (first : ℕ) (e : Ebr
   pub under : t.under ≡ sector d e.at.0
   pub is : IsEbrTarget b d old first e (link_to first es) t.bytes
 
+-- sector 0, or the sector of one of these extended boot records
+abbrev pub IsHeadOrEbr : List Ebr → ℕ → Type 0
+IsHeadOrEbr chain s = (s ≡ 0) ⊎ StandsAt s chain
+
 -- a target of this kind comes behind those that there were
 pub record Adds {b : _} (before after : List (Target b)) (Is : Target b → Type 0) : Type 0 where
   pub target : Target b

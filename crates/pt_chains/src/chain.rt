@@ -1,8 +1,8 @@
 //! The targets of sector 0 and of a chain.
 
-ghost use Rattle.std.specs.Prelude.{◌≡◌, ◌<◌, ◌^◌, ◌↔◌, ◌⊎◌, ◌++◌, ◌∷◌, [], All, Contains, IfOk, OnOk, IfSome, IfNone, IsTrue, IsFalse};
+ghost use Rattle.std.specs.Prelude.{◌≡◌, ◌<◌, ◌^◌, ◌↔◌, ◌⊎◌, ◌++◌, ◌∷◌, [], All, Contains, IfOk, IfErr, OnOk, IfSome, IfNone, IsTrue, IsFalse};
 ghost use Rattle.pt_sector.specs.Calls.{Blames};
-ghost use Rattle.pt_sector.specs.Reads.{OnlyReads, fault_of};
+ghost use Rattle.pt_sector.specs.Reads.{OnlyReads, FailedIn, fault_of};
 ghost use Rattle.pt_sector.specs.Sectors.{IsSectorSize};
 ghost use Rattle.pt_mbr.specs.Chain.{StandsAt};
 ghost use Rattle.pt_mbr.specs.declared.ebr.Ebr.{Ebr};
@@ -10,7 +10,7 @@ ghost use Rattle.pt_mbr.specs.Extended.{extended_of};
 ghost use Rattle.pt_cases.specs.Links.{IsLoneChain};
 ghost use Rattle.pt_targets.specs.Targets.{AreMbrTargets};
 ghost use Rattle.pt_targets.specs.declared.target.Target.{Target};
-ghost use Rattle.pt_chains.specs.Steps.{Adds, IsHeadOf, IsEbrOf, AreChainTargets};
+ghost use Rattle.pt_chains.specs.Steps.{Adds, IsHeadOf, IsEbrOf, AreChainTargets, IsHeadOrEbr};
 ghost use Rattle.pt_targets.specs.Unmade.{HasUnmade, HasUnmadeEbr, IsUnmadeHead, IsUnmadeEbr};
 
 use crate::ebrs::{ebr_made, ebr_over};
@@ -55,6 +55,7 @@ fn push_head<const B: usize, D: Disk<B>>(
     requires some { 0 < D.count disk.old }
     ensures same { OnlyReads D.Disk disk.old disk.new }
     ensures blames { Blames fault_of result (D.faults disk.old) (D.faults disk.new) }
+    ensures failed { IfErr result (FailedIn (λ s. s ≡ 0)) }
     ensures added { IfOk result (λ good. IsTrue good → Adds targets.old.items targets.new.items
         (λ t. (t.at.0 ≡ 0) × (D.tells → IsHeadOf (D.told disk.old).seen old.now new.now t))) }
     ensures none { D.tells → IfOk result (λ good. IsFalse good → IsUnmadeHead (D.told disk.old).seen old.now new.now) }
@@ -90,6 +91,7 @@ fn push_ebr<const B: usize, D: Disk<B>>(
     requires within { ebr.now.at.0 < D.count disk.old }
     ensures same { OnlyReads D.Disk disk.old disk.new }
     ensures blames { Blames fault_of result (D.faults disk.old) (D.faults disk.new) }
+    ensures failed { IfErr result (FailedIn (λ s. s ≡ ebr.now.at.0)) }
     ensures added { IfOk result (λ good. IsTrue good → Adds targets.old.items targets.new.items
         (λ t. (t.at.0 ≡ ebr.now.at.0) × (D.tells → IsEbrOf (D.told disk.old).seen old.now first.0 ebr.now rest.now t))) }
     ensures none { D.tells → IfOk result
@@ -131,6 +133,7 @@ fn push_chain<const B: usize, D: Disk<B>>(
     requires within { All (λ e. e.at.0 < D.count disk.old) chain.now }
     ensures same { OnlyReads D.Disk disk.old disk.new }
     ensures blames { Blames fault_of result (D.faults disk.old) (D.faults disk.new) }
+    ensures failed { IfErr result (FailedIn (λ s. StandsAt s chain.now)) }
     ensures place { IfOk result (λ good. IsTrue good → (head : Target B) → targets.old.items ≡ head ∷ []
         → (t : Target B) → Contains targets.new.items t → (t.at.0 ≡ head.at.0) ⊎ StandsAt t.at.0 chain.now) }
     ensures some { D.tells → IfOk result (λ good. IsTrue good → (head : Target B) → targets.old.items ≡ head ∷ []
@@ -166,6 +169,7 @@ pub fn mbr_targets<const B: usize, D: Disk<B>>(
     requires some { 0 < D.count disk.old }
     ensures same { OnlyReads D.Disk disk.old disk.new }
     ensures blames { Blames fault_of result (D.faults disk.old) (D.faults disk.new) }
+    ensures failed { IfErr result (FailedIn (IsHeadOrEbr chain.now)) }
     ensures in_range { IfOk result (λ o. IfSome o (λ ts. (t : Target B) → Contains ts.items t → t.at.0 < D.count disk.old)) }
     ensures some { D.tells → IfOk result
         (λ o. IfSome o (λ ts. AreMbrTargets (D.told disk.old).seen old_records.now old_chain.now records.now chain.now ts.items)) }

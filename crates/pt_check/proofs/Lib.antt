@@ -7,3 +7,4 @@ pub mod Answering
 pub mod Exits
 pub mod Ranges
 pub mod Finishing
+pub mod Reading

@@ -1,10 +1,11 @@
 //! The boot code: the first 440 bytes of sector 0.
 
-ghost use Rattle.std.specs.Prelude.{◌≡◌, ◌≤◌, ◌<◌, ◌↔◌, IsTrue, take, length, IfOk};
+ghost use Rattle.std.specs.Prelude.{◌≡◌, ◌≤◌, ◌<◌, ◌↔◌, IsTrue, take, length, IfOk, IfErr};
 ghost use Rattle.pt_sector.specs.Calls.{Blames};
 ghost use Rattle.pt_sector.specs.Reads.{OnlyReads, read_of};
 ghost use Rattle.pt_sector.specs.Sectors.{IsSectorSize};
 ghost use Rattle.pt_apply.specs.Plans.{phases_of, writes_in, NoneIs};
+ghost use Rattle.pt_check.specs.CheckReads.{WritesHead};
 ghost use Rattle.pt_check.specs.Reasons.{ChangesBoot, NumberIs};
 
 use crate::objection::{Objection, first_in_plan};
@@ -69,6 +70,7 @@ pub(crate) fn other_boot_code<const B: usize, D: Disk<B>>(
     requires inside { NoneIs (λ w. ¬ (w.0 < D.count disk.old)) (writes_in (phases_of plan.now)) }
     ensures same { OnlyReads D.Disk disk.old disk.new }
     ensures blames { Blames read_of result (D.faults disk.old) (D.faults disk.new) }
+    ensures place { IfErr result (λ e. (e.0.0 ≡ 0) × WritesHead (phases_of plan.now)) }
     ensures found { D.tells → IfOk result (λ n. NumberIs (phases_of plan.now) (ChangesBoot (D.told disk.old).seen) n) }
 {
     if disk.sectors() == 0 {

@@ -1,13 +1,14 @@
 //! Whether a plan may be applied.
 
-ghost use Rattle.std.specs.Prelude.{◌≡◌, ◌≤◌, length, IfOk};
+ghost use Rattle.std.specs.Prelude.{◌≡◌, ◌≤◌, length, IfOk, IfErr};
 ghost use Rattle.pt_sector.specs.Calls.{Blames};
 ghost use Rattle.pt_sector.specs.Reads.{OnlyReads, read_of};
 ghost use Rattle.pt_sector.specs.Sectors.{IsSectorSize};
 ghost use Rattle.pt_apply.specs.Plans.{phases_of, writes_in};
 ghost use Rattle.pt_check.specs.Answers.{Answers, AreInRange, AreJudged, Promises, WritesFit, concluded};
 ghost use Rattle.pt_check.specs.Course.{switch_number};
-ghost use Rattle.pt_check.specs.Failed.{fault_in};
+ghost use Rattle.pt_check.specs.CheckReads.{CheckReads, WritesHead};
+ghost use Rattle.pt_check.specs.Failed.{fault_in, FailedInCheck};
 ghost use Rattle.pt_check.specs.Misplaced.{MisplacedIs};
 ghost use Rattle.pt_check.specs.Reasons.{IsFit};
 ghost use Rattle.pt_check.specs.Recovered.{IsRecoveredOf};
@@ -44,6 +45,7 @@ pub fn check<const B: usize, D: Disk<B>>(
     requires size { IsSectorSize B }
     ensures same { OnlyReads D.Disk disk.old disk.new }
     ensures blames { Blames fault_in result (D.faults disk.old) (D.faults disk.new) }
+    ensures place { D.tells → IfErr result (FailedInCheck (CheckReads B (D.told disk.old).seen (phases_of plan.now))) }
     ensures in_range { IfOk result (λ a. WritesFit (D.count disk.old) plan.now a) }
     ensures answers { D.tells → IfOk result (λ a. Answers B (D.told disk.old).seen (phases_of plan.now) a) }
     ensures promises { D.tells → IfOk result (λ a. Promises B (D.told disk.old).seen (phases_of plan.now) a) }
@@ -62,6 +64,7 @@ fn read_and_check<const B: usize, D: Disk<B>>(
     requires size { IsSectorSize B }
     ensures same { OnlyReads D.Disk disk.old disk.new }
     ensures blames { Blames fault_in result (D.faults disk.old) (D.faults disk.new) }
+    ensures place { D.tells → IfErr result (FailedInCheck (CheckReads B (D.told disk.old).seen (phases_of plan.now))) }
     ensures in_range { IfOk result (λ a. WritesFit (D.count disk.old) plan.now a) }
     ensures answers { D.tells → IfOk result (λ a. Answers B (D.told disk.old).seen (phases_of plan.now) a) }
     ensures promises { D.tells → IfOk result (λ a. Promises B (D.told disk.old).seen (phases_of plan.now) a) }
@@ -82,6 +85,7 @@ pub fn check_known<const B: usize, D: Disk<B>>(
     requires known { D.tells → IsRecoveredOf B (D.told disk.old).seen before }
     ensures same { OnlyReads D.Disk disk.old disk.new }
     ensures blames { Blames fault_in result (D.faults disk.old) (D.faults disk.new) }
+    ensures place { D.tells → IfErr result (FailedInCheck (CheckReads B (D.told disk.old).seen (phases_of plan.now))) }
     ensures in_range { IfOk result (λ a. WritesFit (D.count disk.old) plan.now a) }
     ensures answers { D.tells → IfOk result (λ a. Answers B (D.told disk.old).seen (phases_of plan.now) a) }
     ensures promises { D.tells → IfOk result (λ a. Promises B (D.told disk.old).seen (phases_of plan.now) a) }
@@ -107,6 +111,7 @@ fn judge_writes<const B: usize, D: Disk<B>>(
     requires size { IsSectorSize B }
     ensures same { OnlyReads D.Disk disk.old disk.new }
     ensures blames { Blames read_of result (D.faults disk.old) (D.faults disk.new) }
+    ensures place { IfErr result (λ e. (e.0.0 ≡ 0) × WritesHead (phases_of plan.now)) }
     ensures in_range { IfOk result (AreInRange (D.count disk.old) plan.now) }
     ensures judged { D.tells → IfOk result (AreJudged B (D.told disk.old).seen (phases_of plan.now)) }
 {
@@ -139,6 +144,7 @@ fn check_phases<const B: usize, D: Disk<B>>(
     requires known { D.tells → IsRecoveredOf B (D.told disk.old).seen before }
     ensures same { OnlyReads D.Disk disk.old disk.new }
     ensures blames { Blames fault_in result (D.faults disk.old) (D.faults disk.new) }
+    ensures place { D.tells → IfErr result (FailedInCheck (CheckReads B (D.told disk.old).seen (phases_of plan.now))) }
     ensures answers { D.tells → IfOk result (λ a. Answers B (D.told disk.old).seen (phases_of plan.now) a) }
     ensures promises { D.tells → IfOk result (λ a. Promises B (D.told disk.old).seen (phases_of plan.now) a) }
 {

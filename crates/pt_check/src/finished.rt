@@ -1,6 +1,6 @@
 //! The disk with the whole plan written, seen through an overlay.
 
-ghost use Rattle.std.specs.Prelude.{◌≡◌, ◌≤◌, ℕ, length, IfOk};
+ghost use Rattle.std.specs.Prelude.{◌≡◌, ◌≤◌, ℕ, length, IfOk, IfErr};
 ghost use Rattle.pt_sector.specs.Calls.{Blames};
 ghost use Rattle.pt_sector.specs.Reads.{OnlyReads};
 ghost use Rattle.pt_sector.specs.Sectors.{Sectors, IsSectorSize};
@@ -9,7 +9,8 @@ ghost use Rattle.pt_sector.specs.Overlays.{room_left};
 ghost use Rattle.pt_apply.specs.Plans.{phases_of, finished, writes_in};
 ghost use Rattle.pt_recover.specs.Denotes.{Denotes};
 ghost use Rattle.pt_layout.specs.Surveys.{IsSurvey};
-ghost use Rattle.pt_check.specs.Failed.{fault_in};
+ghost use Rattle.pt_sound.specs.Findings.{VerdictReads};
+ghost use Rattle.pt_check.specs.Failed.{fault_in, FailedInCheck};
 ghost use Rattle.pt_check.specs.Answers.{WrongIs};
 
 use crate::error::CheckError;
@@ -63,6 +64,7 @@ pub(crate) fn read_finished<const B: usize, D: Disk<B>>(
     requires room { count ≡ length (writes_in (phases_of plan.now)) }
     ensures same { OnlyReads D.Disk disk.old disk.new }
     ensures blames { Blames fault_in result (D.faults disk.old) (D.faults disk.new) }
+    ensures place { D.tells → IfErr result (FailedInCheck (VerdictReads B (finished plan.now (D.told disk.old).seen))) }
     ensures layout { D.tells → IfOk result (λ f. Denotes B (finished plan.now (D.told disk.old).seen) f.layout) }
     ensures wrong { D.tells → IfOk result (λ f. WrongIs B (finished plan.now (D.told disk.old).seen) f.finding) }
 {

@@ -1,8 +1,9 @@
-ghost use Rattle.std.specs.Prelude.{◌≡◌, IfOk};
+ghost use Rattle.std.specs.Prelude.{◌≡◌, IfOk, IfErr};
 ghost use Rattle.pt_sector.specs.Calls.{Blames};
 ghost use Rattle.pt_sector.specs.Reads.{OnlyReads};
 ghost use Rattle.pt_sector.specs.Sectors.{IsSectorSize};
-ghost use Rattle.pt_check.specs.Failed.{fault_in};
+ghost use Rattle.pt_recover.specs.Denotes.{Reads};
+ghost use Rattle.pt_check.specs.Failed.{fault_in, FailedInCheck};
 ghost use Rattle.pt_check.specs.Recovered.{IsRecoveredOf};
 
 use crate::error::CheckError;
@@ -44,6 +45,7 @@ pub(crate) fn read_layout<const B: usize, D: Disk<B>>(
     requires size { IsSectorSize B }
     ensures same { OnlyReads D.Disk disk.old disk.new }
     ensures blames { Blames fault_in result (D.faults disk.old) (D.faults disk.new) }
+    ensures place { D.tells → IfErr result (FailedInCheck (Reads B (D.told disk.old).seen)) }
     ensures recovered { D.tells → IfOk result (λ r. IsRecoveredOf B (D.told disk.old).seen r) }
 {
     let (answer, trace) = recover_traced(alloc, disk);

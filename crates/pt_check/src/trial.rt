@@ -1,6 +1,6 @@
 //! The phases of a plan, tried one after the other over the disk.
 
-ghost use Rattle.std.specs.Prelude.{◌≡◌, ◌≤◌, ◌+◌, length, IfOk};
+ghost use Rattle.std.specs.Prelude.{◌≡◌, ◌≤◌, ◌+◌, length, IfOk, IfErr};
 ghost use Rattle.pt_sector.specs.Calls.{Blames};
 ghost use Rattle.pt_sector.specs.Reads.{OnlyReads};
 ghost use Rattle.pt_sector.specs.Sectors.{IsSectorSize};
@@ -9,7 +9,8 @@ ghost use Rattle.pt_sector.specs.Overlays.{room_left};
 ghost use Rattle.pt_apply.specs.Plans.{writes_of, phases_of, writes_in};
 ghost use Rattle.pt_recover.specs.Denotes.{Denotes, Reads};
 ghost use Rattle.pt_recover.specs.Spans.{IsIn};
-ghost use Rattle.pt_check.specs.Failed.{fault_in};
+ghost use Rattle.pt_check.specs.CheckReads.{CheckReads};
+ghost use Rattle.pt_check.specs.Failed.{fault_in, FailedInCheck};
 ghost use Rattle.pt_check.specs.Recovered.{IsRecoveredOf};
 ghost use Rattle.pt_check.specs.Trials.{TouchedIs, StepIs, TrialIs};
 
@@ -131,6 +132,7 @@ pub(crate) fn try_phases<const B: usize, D: Disk<B>>(
     requires old { D.tells → IsRecoveredOf B (D.told disk.old).seen (record { layout = layouts.now.old; trace = trace }) }
     ensures same { OnlyReads D.Disk disk.old disk.new }
     ensures blames { Blames fault_in result (D.faults disk.old) (D.faults disk.new) }
+    ensures place { D.tells → IfErr result (FailedInCheck (CheckReads B (D.told disk.old).seen (phases_of plan.now))) }
     ensures tried { D.tells → IfOk result
         (λ t. TrialIs (Denotes B) (Reads B) (phases_of plan.now) (D.told disk.old).seen layouts.now.old layouts.now.new t) }
 {

@@ -1,6 +1,6 @@
 -- What single steps say, told by bytes.
 use Rattle.std.proofs.Common.{◌≡◌, ◌≢◌, ◌<◌, ◌+◌, ◌∙◌, ℕ, List, [], ◌∷◌, ◌++◌, length, get_or, take, drop, map, replicate, All, Option}
-use Rattle.std.proofs.Common.{Some, None, sym, ap, subst}
+use Rattle.std.proofs.Common.{Some, None, zero, suc, sym, ap, subst, arith, inl, inr}
 use Rattle.std.proofs.lemmas.List.{take_more, drop_more, get_or_default, map_push, take-append-drop}
 use Rattle.std.proofs.lemmas.List.Elements.{All-contains, All-more, All-push}
 use Rattle.pt_bsd.specs.Counted.{IsRaw, FitsSlice}
@@ -8,13 +8,22 @@ use Rattle.pt_bsd.specs.Label.{LabelBytes, entry_of}
 use Rattle.pt_bsd.specs.laws.Terms.{label_one, label_counted, label_fits}
 use Rattle.pt_bsd.specs.declared.label.Label.{Label}
 use Rattle.pt_bsd.specs.declared.label.LabelEntry.{LabelEntry}
+use Rattle.pt_members.specs.Slices.{place_of, IsPlace}
 use Rattle.pt_members.specs.declared.layout.Slice.{Slice}
 use Rattle.pt_targets.specs.declared.target.Target.{Target}
 use Rattle.pt_targets.specs.declared.target.TargetKind.TheVariants.{New, Changes}
 use Rattle.pt_places.specs.declared.place.Spot.{Spot}
 use Rattle.pt_places.specs.Places.{spot_of, OneHad, HadBytes, HadAt, PlacesRead, IsBytes, stood, other, fresh, IsTargetOf, AreTargets}
 use Rattle.pt_places.specs.Places.{LabelledIs, IsLeftAt, IsFirstAt, keeps, changes, sets, KeptIs, WrittenIs, LabelFits}
+use Rattle.pt_places.specs.Spots.{slice_of}
 use Rattle.pt_places.specs.declared.place.Place.{Place}
+
+-- the sector of a spot is a place of these slices
+pub spot_failed : (spots : List Spot) (k : ℕ) (z : Spot) (s : ℕ) → k < length spots → s ≡ place_of (get_or spots k z).slice
+    → IsPlace (map slice_of spots) s
+spot_failed [] k z s lt is = absurd (omega (arith, lt))
+spot_failed (p ∷ ps) zero z s lt is = inl is
+spot_failed (p ∷ ps) (suc k) z s lt is = inr (spot_failed ps k z s (omega (arith, lt)) is)
 
 abbrev pub NotHad : ℕ → List ℕ → Slice → Type 0
 NotHad first bytes s = OneHad s first bytes None

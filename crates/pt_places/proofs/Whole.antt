@@ -1,5 +1,6 @@
 -- From what each step gave to the answer.
 use Rattle.std.proofs.Common.{◌≡◌, ◌<◌, ◌∙◌, ℕ, List, length, map, All, Option, Some, None, MatchOption, sym, ap, subst, arith}
+use Rattle.std.specs.Prelude.{Vec}
 use Rattle.std.proofs.lemmas.List.{length-map, get_or-map}
 use Rattle.pt_sector.specs.Sectors.{Sectors}
 use Rattle.pt_members.specs.Slices.{places_of, place_of}
@@ -44,6 +45,15 @@ spots_within b n m y slices labels spots are of_slices same =
     let all : All (λ (w : Slice). place_of w < m) (map slice_of spots) =
     subst (λ (ws : List Slice). All (λ (w : Slice). place_of w < m) ws) (sym are.slices) (places_within b n m y slices of_slices same) in
     All-from_map (λ (w : Slice). place_of w < m) spots all
+
+-- the slices of the spots are those of the layout's label places
+pub spot_slices : {A : Type 0} (b n m : ℕ) (y : Body) (slices : List Slice) (labels : List Labelled) (o : Option (Vec Spot A))
+    (v : Vec Spot A) (spots : List Spot) → o ≡ Some v
+    → MatchOption o (¬ Fit slices labels) (λ (x : Vec Spot A). AreSpots slices labels x.items) → spots ≡ v.items
+    → slices ≡ places_of b n y → n ≡ m → map slice_of spots ≡ places_of b m y
+spot_slices {A = A} b n m y slices labels o v spots is match same of_slices sectors =
+    let are : AreSpots slices labels v.items = at_some o v (¬ Fit slices labels) (λ (x : Vec Spot A). AreSpots slices labels x.items) is match in
+    ap (map slice_of) same ∙ are.slices ∙ of_slices ∙ ap (λ (k : ℕ). places_of b k y) sectors
 
 -- what was read is the answer
 pub whole : {b : ℕ} (d : Sectors) (o : Option Layout) (p : Layout) (n m : ℕ) (slices : List Slice) (labels : List Labelled)

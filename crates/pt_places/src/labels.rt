@@ -1,11 +1,12 @@
 //! From a disk and a wanted layout to the targets of its label places.
 
-ghost use Rattle.std.specs.Prelude.{◌≡◌, length, IfOk};
+ghost use Rattle.std.specs.Prelude.{◌≡◌, length, IfOk, IfErr};
 ghost use Rattle.pt_sector.specs.Calls.{Blames};
-ghost use Rattle.pt_sector.specs.Reads.{OnlyReads, fault_of};
+ghost use Rattle.pt_sector.specs.Reads.{OnlyReads, FailedIn, fault_of};
 ghost use Rattle.pt_sector.specs.Sectors.{IsSectorSize};
 ghost use Rattle.pt_recover.specs.Denotes.{Denotes};
 ghost use Rattle.pt_members.specs.OnePath.{HasFour};
+ghost use Rattle.pt_members.specs.Slices.{places_of, IsPlace};
 ghost use Rattle.pt_places.specs.Answers.{PlacesAnswer};
 ghost use Rattle.pt_places.specs.Places.{OldAre, AnswerOf, AreWithin};
 
@@ -83,6 +84,7 @@ pub fn label_targets<const B: usize, D: Disk<B>>(
     requires old { D.tells → Denotes B (D.told disk.old).seen old.now }
     ensures same { OnlyReads D.Disk disk.old disk.new }
     ensures blames { Blames fault_of result (D.faults disk.old) (D.faults disk.new) }
+    ensures failed { IfErr result (FailedIn (IsPlace (places_of B (D.count disk.old) wanted.now.body))) }
     ensures answer { D.tells → IfOk result (λ a. PlacesAnswer (D.told disk.old).seen old.now wanted.now a) }
     ensures in_range { IfOk result (AreWithin (D.count disk.old)) }
 {

@@ -1,11 +1,12 @@
 //! What stands at label places.
 
-ghost use Rattle.std.specs.Prelude.{◌≡◌, ◌<◌, ◌++◌, ◌∷◌, [], All, IfOk, OnOk, map};
+ghost use Rattle.std.specs.Prelude.{◌≡◌, ◌<◌, ◌++◌, ◌∷◌, [], All, IfOk, IfErr, OnOk, map};
 ghost use Rattle.pt_sector.specs.Calls.{Blames};
-ghost use Rattle.pt_sector.specs.Reads.{OnlyReads, fault_of, read_of};
+ghost use Rattle.pt_sector.specs.Reads.{OnlyReads, FailedIn, fault_of, read_of};
 ghost use Rattle.pt_sector.specs.Sectors.{IsSectorSize};
-ghost use Rattle.pt_members.specs.Slices.{place_of};
+ghost use Rattle.pt_members.specs.Slices.{place_of, IsPlace};
 ghost use Rattle.pt_places.specs.Places.{spot_of, IsAt, IsRead};
+ghost use Rattle.pt_places.specs.Spots.{slice_of};
 
 use crate::place::{Place, Spot};
 use pt_sector::{Disk, FailedRead, Failure, Lba, read_sector};
@@ -16,6 +17,7 @@ fn read_place<const B: usize, D: Disk<B>>(disk: &mut D, spot: Spot) -> Result<Pl
     requires within { place_of spot.slice < D.count disk.old }
     ensures same { OnlyReads D.Disk disk.old disk.new }
     ensures blames { Blames read_of result (D.faults disk.old) (D.faults disk.new) }
+    ensures failed { IfErr result (λ e. e.0.0 ≡ place_of spot.slice) }
     ensures spot { IfOk result (λ p. p.spot ≡ spot) }
     ensures at { IfOk result (IsAt (D.count disk.old)) }
     ensures bytes { D.tells → IfOk result (IsRead (D.told disk.old).seen) }
@@ -44,6 +46,7 @@ pub(crate) fn read_places<const B: usize, D: Disk<B>>(
     requires within { All (λ s. place_of s.slice < D.count disk.old) spots.now }
     ensures same { OnlyReads D.Disk disk.old disk.new }
     ensures blames { Blames fault_of result (D.faults disk.old) (D.faults disk.new) }
+    ensures failed { IfErr result (FailedIn (IsPlace (map slice_of spots.now))) }
     ensures spots { IfOk result (λ v. map spot_of v.items ≡ spots.now) }
     ensures at { IfOk result (λ v. All (IsAt (D.count disk.old)) v.items) }
     ensures bytes { D.tells → IfOk result (λ v. All (IsRead (D.told disk.old).seen) v.items) }

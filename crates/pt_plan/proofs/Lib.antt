@@ -5,3 +5,4 @@ pub mod Mended
 pub mod Starting
 pub mod Applying
 pub mod Failing
+pub mod Reading

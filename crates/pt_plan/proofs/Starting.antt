@@ -19,6 +19,9 @@ use Rattle.pt_targets.specs.declared.error.PlanError.TheVariants as plan
 use Rattle.pt_plan.specs.Batches.{Words, Makes, MakesTable, EditedBy, IsPlanned, IsReady, IsRefusal}
 use Rattle.pt_plan.specs.Commits.{Leads}
 use Rattle.pt_plan.specs.Failed.{commit_fault_in, commit_unplanned, HidesNoFailure}
+use Rattle.pt_planner.specs.PlanReads.{PlanReads}
+use Rattle.pt_plan.specs.Reading as reading
+use Rattle.pt_plan.specs.Reading.{EditReads, FailedInCommit}
 use Rattle.pt_plan.specs.Steps.{sectors_in, StartsFrom, MayStart, NotEdited, NotPlanned, IsSafe, NotSafe}
 use Rattle.pt_plan.specs.declared.error.CommitError.{CommitError}
 use Rattle.pt_plan.specs.declared.error.CommitError.TheVariants.{NoTable, Edit, Plan, Check, Device, Memory}
@@ -63,6 +66,10 @@ module _ (b n : ℕ) (batch : Words) (d : Sectors) (sized : length d ≡ n) (o :
 
     pub planned : (phases : List Writes) → IsPlan b d l phases → IsPlanned b n batch d phases
     planned phases is = record { old = o; new = l; leads = leads; planned = is }
+
+    -- what its plan reads
+    pub plan_read : (s : ℕ) → PlanReads b n l s → EditReads b n batch d s
+    plan_read s reads = reading.plan o l starts.from leads.to reads
 
 -- what is told of the planner's error carries the same fault, hides no failure, and says why there is no plan
 pub unplanned_fault : (e : PlanError) → commit_fault_in (commit_unplanned e) ≡ fault_in e
@@ -129,3 +136,13 @@ no_start b n batch d o None from is e none = absurd none
 no_start b n batch d None (Some r) from is e (never, told) =
     subst (IsRefusal b n batch d) (sym (told (reason_inside b d r is))) (from, is, never)
 no_start b n batch d (Some l) (Some r) from is e against = absurd is
+
+-- no read failed where the words make no layout
+pub not_edited_nowhere : (b n : ℕ) (o : Option Layout) (batch : Words) (S : ℕ → Type 0) (e : CommitError) → NotEdited b n o batch e
+    → FailedInCommit S e
+not_edited_nowhere b n o batch S (NoTable e) none = absurd none
+not_edited_nowhere b n o batch S (Edit r) is = tt
+not_edited_nowhere b n o batch S (Plan e) none = absurd none
+not_edited_nowhere b n o batch S (Check why) none = absurd none
+not_edited_nowhere b n o batch S (Device fault) none = absurd none
+not_edited_nowhere b n o batch S Memory is = tt

@@ -8,6 +8,7 @@ pub mod History
 pub mod Landing
 pub mod Mending
 pub mod Phases
+pub mod Reading
 pub mod Repairs
 pub mod Steps
 pub mod laws

@@ -5,6 +5,8 @@ ghost use Rattle.pt_sector.specs.Sectors.{IsSectorSize};
 ghost use Rattle.pt_sector.specs.Calls.{Blames};
 ghost use Rattle.pt_sector.specs.Since.{LeavesOnly};
 ghost use Rattle.pt_apply.specs.Plans.{phases_of};
+ghost use Rattle.pt_check.specs.CheckReads.{CheckReads};
+ghost use Rattle.pt_plan.specs.Reading.{FailedInCommit};
 ghost use Rattle.pt_plan.specs.Applied.{Applied, ApplyFailed, SafelyStopped};
 ghost use Rattle.pt_plan.specs.Failed.{commit_fault_in as fault_in};
 
@@ -27,6 +29,7 @@ pub fn apply_checked<const B: usize, D: Disk<B>>(
     ensures count { D.count disk.new ≡ D.count disk.old }
     ensures name { D.name disk.new ≡ D.name disk.old }
     ensures blames { Blames fault_in result (D.faults disk.old) (D.faults disk.new) }
+    ensures place { D.tells → IfErr result (FailedInCommit (CheckReads B (D.told disk.old).seen (phases_of plan.now))) }
     ensures applied { D.tells → IfOk result (Applied B (phases_of plan.now) (D.told disk.old) (D.told disk.new)) }
     ensures failed { D.tells → IfErr result (ApplyFailed B (phases_of plan.now) (D.told disk.old) (D.told disk.new)) }
     ensures any_moment { D.tells → LeavesOnly (D.told disk.old) (D.told disk.new)

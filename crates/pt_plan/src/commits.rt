@@ -4,6 +4,7 @@ ghost use Rattle.std.specs.Prelude.{◌≡◌, IfErr};
 ghost use Rattle.pt_sector.specs.Sectors.{IsSectorSize};
 ghost use Rattle.pt_sector.specs.Calls.{Blames};
 ghost use Rattle.pt_plan.specs.Batches.{Commits};
+ghost use Rattle.pt_plan.specs.Reading.{FailedInCommit, CommitReads};
 ghost use Rattle.pt_plan.specs.Failed.{commit_fault_in as fault_in, HidesNoFailure};
 
 use crate::error::CommitError;
@@ -33,6 +34,8 @@ pub fn commit<const B: usize, D: Disk<B>>(
     ensures count { D.count disk.new ≡ D.count disk.old }
     ensures name { D.name disk.new ≡ D.name disk.old }
     ensures blames { Blames fault_in result (D.faults disk.old) (D.faults disk.new) }
+    ensures place { D.tells → IfErr result
+        (FailedInCommit (CommitReads B (D.count disk.old) (record { edits = edits.now; guids = guids.now }) (D.told disk.old).seen)) }
     ensures hides { IfErr result HidesNoFailure }
     ensures commits { D.tells → Commits B (D.count disk.old) (record { edits = edits.now; guids = guids.now }) result
         (D.told disk.old) (D.told disk.new) }

@@ -7,10 +7,13 @@ ghost use Rattle.pt_sector.specs.Reads.{OnlyReads};
 ghost use Rattle.pt_apply.specs.Plans.{phases_of, InRange};
 ghost use Rattle.pt_recover.specs.Answers.{failure_in};
 ghost use Rattle.pt_cases.specs.Cases.{IsPlan};
+ghost use Rattle.pt_check.specs.CheckReads.{CheckReads};
 ghost use Rattle.pt_check.specs.Recovered.{IsRecoveredOf};
 ghost use Rattle.pt_planner.specs.Known.{IsKnown, ReasonIs};
+ghost use Rattle.pt_planner.specs.PlanReads.{PlanReads};
 ghost use Rattle.pt_plan.specs.Batches.{IsPlanned, IsReady, IsRefusal, MakesTable, EditedBy};
 ghost use Rattle.pt_plan.specs.Failed.{commit_fault_in as fault_in, HidesNoFailure};
+ghost use Rattle.pt_plan.specs.Reading.{FailedInCommit, EditReads, CommitReads};
 ghost use Rattle.pt_plan.specs.Steps.{sectors_in, MayStart, NotEdited, NotPlanned, IsSafe, NotSafe};
 ghost use Rattle.pt_plan.specs.declared.error.CommitError.TheVariants as commit;
 
@@ -102,6 +105,7 @@ fn planned<const B: usize, D: Disk<B>>(
     requires known { D.tells → IsKnown B (D.told disk.old).seen known.now }
     ensures same { OnlyReads D.Disk disk.old disk.new }
     ensures blames { Blames fault_in result (D.faults disk.old) (D.faults disk.new) }
+    ensures place { IfErr result (FailedInCommit (PlanReads B (D.count disk.old) wanted.now)) }
     ensures hides { IfErr result HidesNoFailure }
     ensures in_range { IfOk result (InRange (D.count disk.old)) }
     ensures some { IfOk result (λ plan. All (λ p. 0 < length p.items) plan.phases.items) }
@@ -131,6 +135,7 @@ fn checked<const B: usize, D: Disk<B>>(
     requires known { D.tells → IsRecoveredOf B (D.told disk.old).seen before }
     ensures same { OnlyReads D.Disk disk.old disk.new }
     ensures blames { Blames fault_in result (D.faults disk.old) (D.faults disk.new) }
+    ensures place { D.tells → IfErr result (FailedInCommit (CheckReads B (D.told disk.old).seen (phases_of plan.now))) }
     ensures hides { IfErr result HidesNoFailure }
     ensures ok { D.tells → OnOk result (IsSafe B (D.told disk.old).seen (phases_of plan.now)) }
     ensures err { D.tells → IfErr result (NotSafe B (D.told disk.old).seen (phases_of plan.now)) }
@@ -156,6 +161,8 @@ fn plan_by<const B: usize, D: Disk<B>>(
     requires reason { D.tells → ReasonIs B (D.told disk.old).seen known.now.old reason }
     ensures same { OnlyReads D.Disk disk.old disk.new }
     ensures blames { Blames fault_in result (D.faults disk.old) (D.faults disk.new) }
+    ensures place { D.tells → IfErr result
+        (FailedInCommit (EditReads B (D.count disk.old) (record { edits = edits.now; guids = guids.now }) (D.told disk.old).seen)) }
     ensures hides { IfErr result HidesNoFailure }
     ensures in_range { IfOk result (InRange (D.count disk.old)) }
     ensures phases { IfOk result (λ plan. All (λ p. 0 < length p.items) plan.phases.items) }
@@ -179,6 +186,8 @@ fn read_and_plan<const B: usize, D: Disk<B>>(
     requires size { IsSectorSize B }
     ensures same { OnlyReads D.Disk disk.old disk.new }
     ensures blames { Blames fault_in result (D.faults disk.old) (D.faults disk.new) }
+    ensures place { D.tells → IfErr result
+        (FailedInCommit (EditReads B (D.count disk.old) (record { edits = edits.now; guids = guids.now }) (D.told disk.old).seen)) }
     ensures hides { IfErr result HidesNoFailure }
     ensures in_range { IfOk result (InRange (D.count disk.old)) }
     ensures phases { IfOk result (λ plan. All (λ p. 0 < length p.items) plan.phases.items) }
@@ -201,6 +210,8 @@ fn read_plan_and_check<const B: usize, D: Disk<B>>(
     requires size { IsSectorSize B }
     ensures same { OnlyReads D.Disk disk.old disk.new }
     ensures blames { Blames fault_in result (D.faults disk.old) (D.faults disk.new) }
+    ensures place { D.tells → IfErr result
+        (FailedInCommit (CommitReads B (D.count disk.old) (record { edits = edits.now; guids = guids.now }) (D.told disk.old).seen)) }
     ensures hides { IfErr result HidesNoFailure }
     ensures in_range { IfOk result (InRange (D.count disk.old)) }
     ensures ready { D.tells → IfOk result
@@ -225,6 +236,8 @@ pub fn plan_for<const B: usize, D: Disk<B>>(
     requires size { IsSectorSize B }
     ensures same { OnlyReads D.Disk disk.old disk.new }
     ensures blames { Blames fault_in result (D.faults disk.old) (D.faults disk.new) }
+    ensures place { D.tells → IfErr result
+        (FailedInCommit (EditReads B (D.count disk.old) (record { edits = edits.now; guids = guids.now }) (D.told disk.old).seen)) }
     ensures hides { IfErr result HidesNoFailure }
     ensures in_range { IfOk result (InRange (D.count disk.old)) }
     ensures phases { IfOk result (λ plan. All (λ p. 0 < length p.items) plan.phases.items) }
@@ -248,6 +261,8 @@ pub fn checked_plan_for<const B: usize, D: Disk<B>>(
     requires size { IsSectorSize B }
     ensures same { OnlyReads D.Disk disk.old disk.new }
     ensures blames { Blames fault_in result (D.faults disk.old) (D.faults disk.new) }
+    ensures place { D.tells → IfErr result
+        (FailedInCommit (CommitReads B (D.count disk.old) (record { edits = edits.now; guids = guids.now }) (D.told disk.old).seen)) }
     ensures hides { IfErr result HidesNoFailure }
     ensures in_range { IfOk result (InRange (D.count disk.old)) }
     ensures ready { D.tells → IfOk result

@@ -5,10 +5,12 @@ ghost use Rattle.pt_sector.specs.Sectors.{IsSectorSize};
 ghost use Rattle.pt_sector.specs.Calls.{Blames};
 ghost use Rattle.pt_sector.specs.Reads.{OnlyReads};
 ghost use Rattle.pt_apply.specs.Plans.{phases_of, InRange};
+ghost use Rattle.pt_check.specs.CheckReads.{CheckReads};
 ghost use Rattle.pt_check.specs.Recovered.{IsRecoveredOf};
 ghost use Rattle.pt_planner.specs.Known.{IsKnown, ReasonIs};
 ghost use Rattle.pt_plan.specs.Batches.{IsMendPlan, IsReadyToMend, IsMendRefusal, Repairs};
 ghost use Rattle.pt_plan.specs.Mending.{repair_fault_in as fault_in, MendHidesNoFailure};
+ghost use Rattle.pt_plan.specs.Reading.{FailedInRepair, MendReads, RepairReads};
 ghost use Rattle.pt_plan.specs.Steps.{IsSafe, NotSafeToMend};
 ghost use Rattle.pt_plan.specs.declared.repair_error.RepairError.TheVariants as repair_error;
 ghost use Rattle.pt_recover.specs.Answers.{failure_in};
@@ -51,6 +53,7 @@ fn mended<const B: usize, D: Disk<B>>(
     requires reason { D.tells → ReasonIs B (D.told disk.old).seen known.now.old reason }
     ensures same { OnlyReads D.Disk disk.old disk.new }
     ensures blames { Blames fault_in result (D.faults disk.old) (D.faults disk.new) }
+    ensures place { D.tells → IfErr result (FailedInRepair (MendReads B (D.count disk.old) (D.told disk.old).seen)) }
     ensures hides { IfErr result MendHidesNoFailure }
     ensures in_range { IfOk result (InRange (D.count disk.old)) }
     ensures phases { IfOk result (λ plan. All (λ p. 0 < length p.items) plan.phases.items) }
@@ -76,6 +79,7 @@ pub fn plan_for_repair<const B: usize, D: Disk<B>>(
     requires size { IsSectorSize B }
     ensures same { OnlyReads D.Disk disk.old disk.new }
     ensures blames { Blames fault_in result (D.faults disk.old) (D.faults disk.new) }
+    ensures place { D.tells → IfErr result (FailedInRepair (MendReads B (D.count disk.old) (D.told disk.old).seen)) }
     ensures hides { IfErr result MendHidesNoFailure }
     ensures in_range { IfOk result (InRange (D.count disk.old)) }
     ensures phases { IfOk result (λ plan. All (λ p. 0 < length p.items) plan.phases.items) }
@@ -95,6 +99,7 @@ fn read_and_mend<const B: usize, D: Disk<B>>(
     requires size { IsSectorSize B }
     ensures same { OnlyReads D.Disk disk.old disk.new }
     ensures blames { Blames fault_in result (D.faults disk.old) (D.faults disk.new) }
+    ensures place { D.tells → IfErr result (FailedInRepair (MendReads B (D.count disk.old) (D.told disk.old).seen)) }
     ensures hides { IfErr result MendHidesNoFailure }
     ensures in_range { IfOk result (InRange (D.count disk.old)) }
     ensures phases { IfOk result (λ plan. All (λ p. 0 < length p.items) plan.phases.items) }
@@ -116,6 +121,7 @@ fn checked<const B: usize, D: Disk<B>>(
     requires known { D.tells → IsRecoveredOf B (D.told disk.old).seen before }
     ensures same { OnlyReads D.Disk disk.old disk.new }
     ensures blames { Blames fault_in result (D.faults disk.old) (D.faults disk.new) }
+    ensures place { D.tells → IfErr result (FailedInRepair (CheckReads B (D.told disk.old).seen (phases_of plan.now))) }
     ensures hides { IfErr result MendHidesNoFailure }
     ensures ok { D.tells → OnOk result (IsSafe B (D.told disk.old).seen (phases_of plan.now)) }
     ensures err { D.tells → IfErr result (NotSafeToMend B (D.told disk.old).seen (phases_of plan.now)) }
@@ -135,6 +141,7 @@ pub fn checked_plan_for_repair<const B: usize, D: Disk<B>>(
     requires size { IsSectorSize B }
     ensures same { OnlyReads D.Disk disk.old disk.new }
     ensures blames { Blames fault_in result (D.faults disk.old) (D.faults disk.new) }
+    ensures place { D.tells → IfErr result (FailedInRepair (RepairReads B (D.count disk.old) (D.told disk.old).seen)) }
     ensures hides { IfErr result MendHidesNoFailure }
     ensures in_range { IfOk result (InRange (D.count disk.old)) }
     ensures ready { D.tells → IfOk result (λ plan. IsReadyToMend B (D.told disk.old).seen (phases_of plan)) }
@@ -153,6 +160,7 @@ fn read_mend_and_check<const B: usize, D: Disk<B>>(
     requires size { IsSectorSize B }
     ensures same { OnlyReads D.Disk disk.old disk.new }
     ensures blames { Blames fault_in result (D.faults disk.old) (D.faults disk.new) }
+    ensures place { D.tells → IfErr result (FailedInRepair (RepairReads B (D.count disk.old) (D.told disk.old).seen)) }
     ensures hides { IfErr result MendHidesNoFailure }
     ensures in_range { IfOk result (InRange (D.count disk.old)) }
     ensures ready { D.tells → IfOk result (λ plan. IsReadyToMend B (D.told disk.old).seen (phases_of plan)) }
@@ -177,6 +185,7 @@ pub fn repair<const B: usize, D: Disk<B>>(alloc: Global, disk: &mut D) -> Result
     ensures count { D.count disk.new ≡ D.count disk.old }
     ensures name { D.name disk.new ≡ D.name disk.old }
     ensures blames { Blames fault_in result (D.faults disk.old) (D.faults disk.new) }
+    ensures place { D.tells → IfErr result (FailedInRepair (RepairReads B (D.count disk.old) (D.told disk.old).seen)) }
     ensures hides { IfErr result MendHidesNoFailure }
     ensures repairs { D.tells → Repairs B (D.count disk.old) result (D.told disk.old) (D.told disk.new) }
 {

@@ -1,8 +1,8 @@
 -- What the planner answers where a part of it fails.
-use Rattle.std.proofs.Common.{◌≡◌, inl, ℕ, List, Option, refl}
+use Rattle.std.proofs.Common.{◌≡◌, inl, ℕ, List, Option, None, Result, Ok, Err, IfErr, refl}
 use Rattle.pt_sector.specs.Sectors.{Sectors}
-use Rattle.pt_sector.specs.Calls.{with_fault}
-use Rattle.pt_sector.specs.Reads.{fault_of}
+use Rattle.pt_sector.specs.Calls.{read_in_more, with_fault}
+use Rattle.pt_sector.specs.Reads.{FailedIn, fault_of}
 use Rattle.pt_sector.specs.declared.disk.Fault.{Fault}
 use Rattle.pt_sector.specs.declared.reading.Failure.{Failure}
 use Rattle.pt_sector.specs.declared.reading.Failure.TheVariants as failure
@@ -11,6 +11,7 @@ use Rattle.pt_targets.specs.Errors.{fault_in, plan_failure}
 use Rattle.pt_targets.specs.Unplanned.{Hindered, Unplanned}
 use Rattle.pt_targets.specs.declared.error.PlanError.{PlanError}
 use Rattle.pt_targets.specs.declared.error.PlanError.TheVariants.{NotOneSwitch, ReusedInOneBatch, NeedsRepair, Unsound, Device, Memory}
+use Rattle.pt_planner.specs.PlanReads.{FailedInPlan}
 use Rattle.pt_planner.specs.State.{IsUnsoundBy, PlacesStop}
 
 pub failure_blames : (old new : List Fault) (e : Failure) → new ≡ with_fault old (fault_of e)
@@ -45,3 +46,39 @@ unsound_unplanned b d p NeedsRepair is = absurd is
 unsound_unplanned b d p (Unsound f) is = inl is
 unsound_unplanned b d p (Device fault) is = absurd is
 unsound_unplanned b d p Memory is = tt
+
+-- at one of more sectors
+pub plan_wider : (S T : ℕ → Type 0) (e : PlanError) → ((s : ℕ) → S s → T s) → FailedInPlan S e → FailedInPlan T e
+plan_wider S T NotOneSwitch more is = tt
+plan_wider S T ReusedInOneBatch more is = tt
+plan_wider S T NeedsRepair more is = tt
+plan_wider S T (Unsound f) more is = tt
+plan_wider S T (Device fault) more is = read_in_more S T fault more is
+plan_wider S T Memory more is = tt
+
+-- what the planner tells of a failure
+pub failed_planned : (S T : ℕ → Type 0) (f : Failure) → ((s : ℕ) → S s → T s) → FailedIn S f → FailedInPlan T (plan_failure f)
+failed_planned S T (failure.Device at) more is = more at.0 is
+failed_planned S T failure.Memory more is = tt
+
+-- no read failed where no fault is told
+nowhere : (S : ℕ → Type 0) (e : PlanError) → fault_in e ≡ None → FailedInPlan S e
+nowhere S NotOneSwitch none = tt
+nowhere S ReusedInOneBatch none = tt
+nowhere S NeedsRepair none = tt
+nowhere S (Unsound f) none = tt
+nowhere S (Device f) none = absurd cc
+nowhere S Memory none = tt
+
+pub faultless_nowhere : {A : Type 0} (S : ℕ → Type 0) (r : Result A PlanError) → IfErr r (λ e. fault_in e ≡ None)
+    → IfErr r (FailedInPlan S)
+faultless_nowhere S (Ok x) none = tt
+faultless_nowhere S (Err e) none = nowhere S e none
+
+pub unsound_nowhere : (b : ℕ) (p : Layout) (S : ℕ → Type 0) (e : PlanError) → IsUnsoundBy b p e → FailedInPlan S e
+unsound_nowhere b p S NotOneSwitch is = tt
+unsound_nowhere b p S ReusedInOneBatch is = tt
+unsound_nowhere b p S NeedsRepair is = tt
+unsound_nowhere b p S (Unsound f) is = tt
+unsound_nowhere b p S (Device fault) is = absurd is
+unsound_nowhere b p S Memory is = tt

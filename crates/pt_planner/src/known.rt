@@ -2,10 +2,11 @@
 
 ghost use Rattle.std.specs.Prelude.{◌≡◌, IfOk, IfErr, IfSome, IfNone};
 ghost use Rattle.pt_sector.specs.Calls.{Blames};
-ghost use Rattle.pt_sector.specs.Reads.{OnlyReads, fault_of};
+ghost use Rattle.pt_sector.specs.Reads.{OnlyReads, FailedIn, fault_of};
 ghost use Rattle.pt_sector.specs.Sectors.{IsSectorSize};
 ghost use Rattle.pt_recover.specs.Answers.{IsReason};
 ghost use Rattle.pt_recover.specs.Numbers.{Numbers};
+ghost use Rattle.pt_sound.specs.Findings.{VerdictReads};
 ghost use Rattle.pt_planner.specs.Known.{IsEither, IsKnown, IsKnownOf, ReasonIs};
 
 use pt_layout::{Finding, Head, Layout, NoTable, Survey, Trace, survey_disk};
@@ -68,6 +69,7 @@ pub fn read_known<const B: usize, D: Disk<B>>(
     requires size { IsSectorSize B }
     ensures same { OnlyReads D.Disk disk.old disk.new }
     ensures blames { Blames fault_of result (D.faults disk.old) (D.faults disk.new) }
+    ensures place { D.tells → IfErr result (FailedIn (VerdictReads B (D.told disk.old).seen)) }
     ensures either { IfOk result (λ r. IsEither r.0.old r.1) }
     ensures numbers { IfOk result (λ r. IfSome r.0.old Numbers) }
     ensures known { D.tells → IfOk result (λ r. IsKnown B (D.told disk.old).seen r.0) }

@@ -9,6 +9,7 @@ ghost use Rattle.pt_sound.specs.Sound.{Sound};
 ghost use Rattle.pt_cases.specs.Cases.{IsPlan};
 ghost use Rattle.pt_targets.specs.Errors.{fault_in};
 ghost use Rattle.pt_planner.specs.Known.{IsKnown};
+ghost use Rattle.pt_planner.specs.PlanReads.{FailedInPlan, PlanReads, MakeReads};
 ghost use Rattle.pt_planner.specs.State.{IsUnsoundBy};
 ghost use Rattle.pt_targets.specs.Unplanned.{Unplanned};
 
@@ -47,6 +48,7 @@ pub fn plan_from<const B: usize, D: Disk<B>>(
     requires known { D.tells → IsKnown B (D.told disk.old).seen known.now }
     ensures same { OnlyReads D.Disk disk.old disk.new }
     ensures blames { Blames fault_in result (D.faults disk.old) (D.faults disk.new) }
+    ensures place { IfErr result (FailedInPlan (PlanReads B (D.count disk.old) wanted.now)) }
     ensures in_range { IfOk result (InRange (D.count disk.old)) }
     ensures some { IfOk result (λ plan. All (λ p. 0 < length p.items) plan.phases.items) }
     ensures plan { D.tells → IfOk result (λ plan. IsPlan B (D.told disk.old).seen wanted.now (phases_of plan)) }
@@ -87,6 +89,7 @@ pub fn make_plan<const B: usize, D: Disk<B>>(
     requires size { IsSectorSize B }
     ensures same { OnlyReads D.Disk disk.old disk.new }
     ensures blames { Blames fault_in result (D.faults disk.old) (D.faults disk.new) }
+    ensures place { D.tells → IfErr result (FailedInPlan (MakeReads B (D.told disk.old).seen wanted.now)) }
     ensures in_range { IfOk result (InRange (D.count disk.old)) }
     ensures some { IfOk result (λ plan. All (λ p. 0 < length p.items) plan.phases.items) }
     ensures plan { D.tells → IfOk result (λ plan. IsPlan B (D.told disk.old).seen wanted.now (phases_of plan)) }
@@ -106,6 +109,7 @@ fn read_and_plan<const B: usize, D: Disk<B>>(
     requires size { IsSectorSize B }
     ensures same { OnlyReads D.Disk disk.old disk.new }
     ensures blames { Blames fault_in result (D.faults disk.old) (D.faults disk.new) }
+    ensures place { D.tells → IfErr result (FailedInPlan (MakeReads B (D.told disk.old).seen wanted.now)) }
     ensures in_range { IfOk result (InRange (D.count disk.old)) }
     ensures some { IfOk result (λ plan. All (λ p. 0 < length p.items) plan.phases.items) }
     ensures plan { D.tells → IfOk result (λ plan. IsPlan B (D.told disk.old).seen wanted.now (phases_of plan)) }

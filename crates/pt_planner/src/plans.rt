@@ -20,6 +20,7 @@ ghost use Rattle.pt_targets.specs.Starts.{Start};
 ghost use Rattle.pt_targets.specs.Targets.{AreLabelTargets};
 ghost use Rattle.pt_targets.specs.Misfits.{NoneLeft};
 ghost use Rattle.pt_planner.specs.Known.{IsKnown};
+ghost use Rattle.pt_planner.specs.PlanReads.{FailedInPlan, PlanReads};
 ghost use Rattle.pt_planner.specs.State.{PlacesStop};
 ghost use Rattle.pt_targets.specs.Unplanned.{Hindered};
 
@@ -48,6 +49,7 @@ pub(crate) fn places_of<const B: usize, D: Disk<B>>(
     requires old { D.tells → Denotes B (D.told disk.old).seen old.now }
     ensures same { OnlyReads D.Disk disk.old disk.new }
     ensures blames { Blames fault_in result (D.faults disk.old) (D.faults disk.new) }
+    ensures place { IfErr result (FailedInPlan (PlanReads B (D.count disk.old) wanted.now)) }
     ensures in_range { IfOk result (λ ts. All (λ t. t.at.0 < D.count disk.old) ts.items) }
     ensures ok { D.tells → IfOk result (λ ts. AreLabelTargets (D.told disk.old).seen old.now wanted.now ts.items) }
     ensures none_left { D.tells → IfOk result (λ ts. NoneLeft B (D.told disk.old).seen wanted.now) }
@@ -92,6 +94,7 @@ pub(crate) fn to_mbr<const B: usize, D: Disk<B>>(
     requires places { D.tells → AreLabelTargets (D.told disk.old).seen known.now.old wanted.now places.items }
     ensures same { OnlyReads D.Disk disk.old disk.new }
     ensures blames { Blames fault_in result (D.faults disk.old) (D.faults disk.new) }
+    ensures place { IfErr result (FailedInPlan (PlanReads B (D.count disk.old) wanted.now)) }
     ensures in_range { IfOk result (InRange (D.count disk.old)) }
     ensures some { IfOk result (λ plan. All (λ p. 0 < length p.items) plan.phases.items) }
     ensures plan { D.tells → IfOk result (λ plan. IsPlan B (D.told disk.old).seen wanted.now (phases_of plan)) }
@@ -125,6 +128,7 @@ fn head_of<const B: usize, D: Disk<B>>(
     requires head { D.tells → HeadOf (D.told disk.old).seen head }
     ensures same { OnlyReads D.Disk disk.old disk.new }
     ensures blames { Blames read_of result (D.faults disk.old) (D.faults disk.new) }
+    ensures place { IfErr result (λ e. e.0.0 ≡ 0) }
     ensures given { head ≡ kind.Mbr → IfOk result (λ bytes. ¬ (bytes ≡ None)) }
     ensures ok { D.tells → IfOk result (HeadAsRead (D.told disk.old).seen) }
 {
@@ -154,6 +158,7 @@ pub(crate) fn to_gpt<const B: usize, D: Disk<B>>(
     requires places { D.tells → AreLabelTargets (D.told disk.old).seen known.now.old wanted.now places.items }
     ensures same { OnlyReads D.Disk disk.old disk.new }
     ensures blames { Blames fault_in result (D.faults disk.old) (D.faults disk.new) }
+    ensures place { IfErr result (FailedInPlan (PlanReads B (D.count disk.old) wanted.now)) }
     ensures in_range { IfOk result (InRange (D.count disk.old)) }
     ensures some { IfOk result (λ plan. All (λ p. 0 < length p.items) plan.phases.items) }
     ensures plan { D.tells → IfOk result (λ plan. IsPlan B (D.told disk.old).seen wanted.now (phases_of plan)) }

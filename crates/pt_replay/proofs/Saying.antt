@@ -1,30 +1,33 @@
 -- What answers say.
-use Rattle.std.proofs.Common.{◌≡◌, inl, inr, sym, subst, ap, ◌∙◌, List, [], to_z, of_z, w32, ℤ, ℕ, Some, None, refl}
+use Rattle.std.proofs.Common.{◌≡◌, inl, inr, sym, subst, ap, ◌∙◌, List, to_z, of_z, w32, ℤ, ℕ, Some, None, refl}
 use Rattle.pt_sector.specs.Sectors.{Sectors}
-use Rattle.pt_sector.specs.Reads.{fault_of}
+use Rattle.pt_sector.specs.Calls.{IsReadIn}
+use Rattle.pt_sector.specs.Reads.{FailedIn, fault_of}
 use Rattle.pt_sector.specs.declared.disk.Fault.{Fault}
 use Rattle.pt_sector.specs.declared.disk.Fault.TheVariants as fault
 use Rattle.pt_sector.specs.declared.reading.Failure.{Failure}
 use Rattle.pt_sector.specs.declared.reading.Failure.TheVariants as failure
 use Rattle.pt_mbr.specs.declared.chain.ChainError.{ChainError}
 use Rattle.pt_mbr.specs.declared.chain.ChainError.TheVariants as chain
-use Rattle.pt_recover.specs.Answers.{IsReason, TellsNothing, fault_in, LacksChain}
-use Rattle.pt_recover.specs.Denotes.{Denotes}
+use Rattle.pt_recover.specs.Answers.{IsReason, TellsNothing, FailedInDisk, fault_in, LacksChain}
+use Rattle.pt_recover.specs.Denotes.{Denotes, Reads}
 use Rattle.pt_recover.specs.declared.error.NoTable.{NoTable}
 use Rattle.pt_recover.specs.declared.error.NoTable.TheVariants as table
 use Rattle.pt_members.specs.declared.layout.Layout.{Layout}
-use Rattle.pt_sound.specs.Findings.{IsFinding}
+use Rattle.pt_sound.specs.Findings.{IsFinding, VerdictReads}
 use Rattle.pt_members.specs.Places.{IsPlaceOf}
 use Rattle.pt_sound.specs.declared.finding.Finding.{Finding}
 use Rattle.pt_sound.specs.declared.finding.Finding.TheVariants as finding
 use Rattle.pt_path.specs.declared.path.Path.{Path}
 use Rattle.pt_sector.specs.Writes.{Writes}
-use Rattle.pt_check.specs.Failed.{fault_in as check_fault_in}
+use Rattle.pt_check.specs.CheckReads.{CheckReads}
+use Rattle.pt_check.specs.Failed.{FailedInCheck, fault_in as check_fault_in}
 use Rattle.pt_check.specs.declared.error.CheckError.{CheckError}
 use Rattle.pt_check.specs.declared.error.CheckError.TheVariants as check
 use Rattle.pt_plan.specs.Batches.{Words, IsReady, IsRefusal, IsReadyToMend, IsMendRefusal}
 use Rattle.pt_plan.specs.Failed.{commit_fault_in}
 use Rattle.pt_plan.specs.Mending.{repair_fault_in}
+use Rattle.pt_plan.specs.Reading.{FailedInCommit, FailedInRepair, CommitReads, RepairReads, verdict, edit, mend_verdict, mend}
 use Rattle.pt_plan.specs.declared.error.CommitError.{CommitError}
 use Rattle.pt_plan.specs.declared.error.CommitError.TheVariants as commit
 use Rattle.pt_plan.specs.declared.repair_error.RepairError.{RepairError}
@@ -61,14 +64,14 @@ module _ (b : ℕ) (v : View) (d : Sectors) where
 
   -- an error of recovery
   pub says_nothing : (e : NoTable) → TellsNothing b d e → ((f : Fault) → fault_in e ≡ Some f → IsAsked b v f)
-      → NoLayout b v d (table_answer e).status (table_answer e).reply
-  says_nothing e (inr (none, is)) asked = inside e none is
-  says_nothing table.Memory (inl outside) asked = tt
-  says_nothing (table.NoCopy e f) (inl outside) asked = absurd outside
-  says_nothing (table.Chain e) (inl outside) asked = absurd outside
-  says_nothing table.TwoExtended (inl outside) asked = absurd outside
-  says_nothing table.TooSmall (inl outside) asked = absurd outside
-  says_nothing (table.Device at) (inl outside) asked = asked (fault.Read at) refl
+      → FailedInDisk (Reads b d) e → NoLayout b v d (table_answer e).status (table_answer e).reply
+  says_nothing e (inr (none, is)) asked failed = inside e none is
+  says_nothing table.Memory (inl outside) asked failed = tt
+  says_nothing (table.NoCopy e f) (inl outside) asked failed = absurd outside
+  says_nothing (table.Chain e) (inl outside) asked failed = absurd outside
+  says_nothing table.TwoExtended (inl outside) asked failed = absurd outside
+  says_nothing table.TooSmall (inl outside) asked failed = absurd outside
+  says_nothing (table.Device at) (inl outside) asked failed = (asked (fault.Read at) refl, failed)
 
   -- a finding is a no
   pub says_finding : (f : Finding) → IsFinding b d f → Verified b v d (finding_answer f).status (finding_answer f).reply
@@ -106,26 +109,26 @@ module _ (b : ℕ) (v : View) (d : Sectors) where
   planned_not batch status.NoTable r is = is
   planned_not batch status.Device r is = absurd is
   planned_not batch status.Memory r is = is
-  planned_not batch status.Want r is = is
+  planned_not batch status.Want r is = (is.0, edit (verdict (inl is.1)))
   planned_not batch status.Room r is = absurd is
 
-  asks_plan : (batch : Words) (f : Fault) → IsAsked b v f
+  asks_plan : (batch : Words) (f : Fault) → IsAsked b v f → FailedInCommit (CommitReads b v.sectors batch d) (commit.Device f)
       → NoPlan b v d batch (commit_answer (commit.Device f)).status (commit_answer (commit.Device f)).reply
-  asks_plan batch (fault.Read at) is = is
-  asks_plan batch (fault.Write at) is = absurd is
-  asks_plan batch fault.Flush is = absurd is
+  asks_plan batch (fault.Read at) is failed = (is, failed)
+  asks_plan batch (fault.Write at) is failed = absurd is
+  asks_plan batch fault.Flush is failed = absurd is
 
   -- an error of the planner
   pub says_refused : (batch : Words) (e : CommitError) → IsRefusal b v.sectors batch d e
-      → ((f : Fault) → commit_fault_in e ≡ Some f → IsAsked b v f)
+      → ((f : Fault) → commit_fault_in e ≡ Some f → IsAsked b v f) → FailedInCommit (CommitReads b v.sectors batch d) e
       → NoPlan b v d batch (commit_answer e).status (commit_answer e).reply
-  says_refused batch (commit.NoTable e) (none, is, may) asked =
+  says_refused batch (commit.NoTable e) (none, is, may) asked failed =
       planned_not batch (table_answer e).status (table_answer e).reply (inside b v d e none is)
-  says_refused batch (commit.Edit r) is asked = (commit.Edit r, is, refl)
-  says_refused batch (commit.Plan e) is asked = (commit.Plan e, is, refl)
-  says_refused batch (commit.Check w) is asked = absurd is
-  says_refused batch (commit.Device f) is asked = asks_plan batch f (asked f refl)
-  says_refused batch commit.Memory is asked = tt
+  says_refused batch (commit.Edit r) is asked failed = (commit.Edit r, is, refl)
+  says_refused batch (commit.Plan e) is asked failed = (commit.Plan e, is, refl)
+  says_refused batch (commit.Check w) is asked failed = absurd is
+  says_refused batch (commit.Device f) is asked failed = asks_plan batch f (asked f refl) failed
+  says_refused batch commit.Memory is asked failed = tt
 
   mended_not : (s : Status) (r : Reply) → NoLayout b v d s r → NoMending b v d s r
   mended_not status.Done r is = absurd is
@@ -135,24 +138,25 @@ module _ (b : ℕ) (v : View) (d : Sectors) where
   mended_not status.NoTable r is = is
   mended_not status.Device r is = absurd is
   mended_not status.Memory r is = is
-  mended_not status.Want r is = is
+  mended_not status.Want r is = (is.0, mend (mend_verdict (inl is.1)))
   mended_not status.Room r is = absurd is
 
-  asks_mending : (f : Fault) → IsAsked b v f → NoMending b v d (repair_answer (repair.Device f)).status
+  asks_mending : (f : Fault) → IsAsked b v f → FailedInRepair (RepairReads b v.sectors d) (repair.Device f) → NoMending b v d (repair_answer (repair.Device f)).status
       (repair_answer (repair.Device f)).reply
-  asks_mending (fault.Read at) is = is
-  asks_mending (fault.Write at) is = absurd is
-  asks_mending fault.Flush is = absurd is
+  asks_mending (fault.Read at) is failed = (is, failed)
+  asks_mending (fault.Write at) is failed = absurd is
+  asks_mending fault.Flush is failed = absurd is
 
   -- an error of a repair
   pub says_unmended : (e : RepairError) → IsMendRefusal b d e → ((f : Fault) → repair_fault_in e ≡ Some f → IsAsked b v f)
+      → FailedInRepair (RepairReads b v.sectors d) e
       → NoMending b v d (repair_answer e).status (repair_answer e).reply
-  says_unmended (repair.NoTable e) (none, is) asked = mended_not (table_answer e).status (table_answer e).reply (inside b v d e none is)
-  says_unmended (repair.Unsound f) is asked = (repair.Unsound f, is, refl)
-  says_unmended (repair.Plan e) is asked = absurd is
-  says_unmended (repair.Check w) is asked = absurd is
-  says_unmended (repair.Device f) is asked = asks_mending f (asked f refl)
-  says_unmended repair.Memory is asked = tt
+  says_unmended (repair.NoTable e) (none, is) asked failed = mended_not (table_answer e).status (table_answer e).reply (inside b v d e none is)
+  says_unmended (repair.Unsound f) is asked failed = (repair.Unsound f, is, refl)
+  says_unmended (repair.Plan e) is asked failed = absurd is
+  says_unmended (repair.Check w) is asked failed = absurd is
+  says_unmended (repair.Device f) is asked failed = asks_mending f (asked f refl) failed
+  says_unmended repair.Memory is asked failed = tt
 
   -- a plan that is given, or not
   pub gives_plan : (batch : Words) (phases : List Writes) (old new : Buffers) (s : Status) (r : Reply)
@@ -203,22 +207,22 @@ module _ (b : ℕ) (v : View) (d : Sectors) where
   mends_not old new status.Room r same is = absurd is
 
 module _ (b : ℕ) (v : View) (d : Sectors) (phases : List Writes) where
-  asks_check : (f : Fault) → IsAsked b v f → Checked b v d phases (check_answer (check.Device f)).status
+  asks_check : (f : Fault) → IsAsked b v f → IsReadIn (CheckReads b d phases) f → Checked b v d phases (check_answer (check.Device f)).status
       (check_answer (check.Device f)).reply
-  asks_check (fault.Read at) is = is
-  asks_check (fault.Write at) is = absurd is
-  asks_check fault.Flush is = absurd is
+  asks_check (fault.Read at) is failed = (is, failed)
+  asks_check (fault.Write at) is failed = absurd is
+  asks_check fault.Flush is failed = absurd is
 
   -- a failure of the checker
   pub says_unchecked : (e : CheckError) → ((f : Fault) → check_fault_in e ≡ Some f → IsAsked b v f)
-      → Checked b v d phases (check_answer e).status (check_answer e).reply
-  says_unchecked (check.Device f) asked = asks_check f (asked f refl)
-  says_unchecked check.Memory asked = tt
+      → FailedInCheck (CheckReads b d phases) e → Checked b v d phases (check_answer e).status (check_answer e).reply
+  says_unchecked (check.Device f) asked failed = asks_check f (asked f refl) failed
+  says_unchecked check.Memory asked failed = tt
 
 pub says_failure : (b : ℕ) (v : View) (d : Sectors) (f : Failure) → ((x : Fault) → fault_of f ≡ Some x → IsAsked b v x)
-    → Verified b v d (failure_answer f).status (failure_answer f).reply
-says_failure b v d (failure.Device at) asked = asked (fault.Read at) refl
-says_failure b v d failure.Memory asked = tt
+    → FailedIn (VerdictReads b d) f → Verified b v d (failure_answer f).status (failure_answer f).reply
+says_failure b v d (failure.Device at) asked failed = (asked (fault.Read at) refl, failed)
+says_failure b v d failure.Memory asked failed = tt
 
 pub none_located : (b : ℕ) (v : View) (d : Sectors) (number letter : ℕ) (q : Path) (k : ℕ) (o : Layout) (a : Answer)
     → a ≡ record { status = status.No; reply = nothing } → q ≡ path_in number letter

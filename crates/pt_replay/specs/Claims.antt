@@ -2,16 +2,17 @@
 use Rattle.std.specs.Prelude.{◌≡◌, ◌≤◌, ◌-◌, ◌⊎◌, ℕ, ℤ, List, Some, None, nat_eq, if◌then◌else◌}
 use Rattle.pt_sector.specs.Sectors.{Sectors}
 use Rattle.pt_recover.specs.Answers.{IsReason}
-use Rattle.pt_recover.specs.Denotes.{Denotes}
+use Rattle.pt_recover.specs.Denotes.{Denotes, Reads}
 use Rattle.pt_recover.specs.declared.error.NoTable.{NoTable as Reason}
 use Rattle.pt_members.specs.declared.layout.Layout.{Layout}
-use Rattle.pt_sound.specs.Findings.{IsFinding}
+use Rattle.pt_sound.specs.Findings.{IsFinding, VerdictReads}
 use Rattle.pt_sound.specs.Healthy.{Healthy}
 use Rattle.pt_members.specs.Places.{IsPlaceOf}
 use Rattle.pt_sound.specs.declared.finding.Finding.{Finding as FindingValue}
 use Rattle.pt_path.specs.declared.path.Path.{Path}
 use Rattle.pt_sector.specs.Writes.{Writes}
 use Rattle.pt_plan.specs.Batches.{Words, IsReady, IsRefusal, IsReadyToMend, IsMendRefusal}
+use Rattle.pt_plan.specs.Reading.{CommitReads, RepairReads}
 use Rattle.pt_plan.specs.declared.error.CommitError.{CommitError}
 use Rattle.pt_plan.specs.declared.repair_error.RepairError.{RepairError}
 use Rattle.pt_guid.specs.declared.guid.Guid.{Guid}
@@ -22,6 +23,7 @@ use Rattle.pt_replay.specs.Listed.{Listing, IsListed, HasNoRoom}
 use Rattle.pt_replay.specs.declared.rows.WriteRow.{WriteRow}
 use Rattle.pt_apply.specs.Promises.{Safe}
 use Rattle.pt_check.specs.Answers.{Answers}
+use Rattle.pt_check.specs.CheckReads.{CheckReads}
 use Rattle.pt_members.specs.Owned.{OwnedOf}
 use Rattle.pt_members.specs.Tables.{TableOf}
 use Rattle.pt_check.specs.declared.answer.Answer.TheVariants.{No as AnswerNo}
@@ -47,7 +49,7 @@ NoLayout b v d Refused r = ⊥
 NoLayout b v d NoTable r = SaysNothing b d r
 NoLayout b v d Device r = ⊥
 NoLayout b v d Memory r = Unit {0}
-NoLayout b v d Want r = IsWanted b v r.sector
+NoLayout b v d Want r = IsWanted b v r.sector × Reads b d r.sector
 NoLayout b v d Room r = ⊥
 
 -- the disk is healthy, or the first finding is the one that the reply tells
@@ -59,7 +61,7 @@ Verified b v d Refused r = ⊥
 Verified b v d NoTable r = ⊥
 Verified b v d Device r = ⊥
 Verified b v d Memory r = Unit {0}
-Verified b v d Want r = IsWanted b v r.sector
+Verified b v d Want r = IsWanted b v r.sector × VerdictReads b d r.sector
 Verified b v d Room r = ⊥
 
 -- a number and a letter of C name a partition: numbers begin at 1, and the letter is 0 for none, or from a to h
@@ -80,7 +82,7 @@ Located b v d number letter k Refused r = ⊥
 Located b v d number letter k NoTable r = SaysNothing b d r
 Located b v d number letter k Device r = ⊥
 Located b v d number letter k Memory r = Unit {0}
-Located b v d number letter k Want r = IsWanted b v r.sector
+Located b v d number letter k Want r = IsWanted b v r.sector × Reads b d r.sector
 Located b v d number letter k Room r = ⊥
 
 -- no plan for the words: they are refused for the reason that the reply tells, or the disk denotes nothing, or no answer yet
@@ -92,7 +94,7 @@ NoPlan b v d batch Refused r = (e : CommitError) × IsRefusal b v.sectors batch 
 NoPlan b v d batch NoTable r = SaysNothing b d r
 NoPlan b v d batch Device r = ⊥
 NoPlan b v d batch Memory r = Unit {0}
-NoPlan b v d batch Want r = IsWanted b v r.sector
+NoPlan b v d batch Want r = IsWanted b v r.sector × CommitReads b v.sectors batch d r.sector
 NoPlan b v d batch Room r = ⊥
 
 -- a checked plan for the words stands in the buffers, or it has no room there; or there is none, and they stay as they were
@@ -104,7 +106,7 @@ Planned b v d batch old new Refused r = NoPlan b v d batch Refused r × (new ≡
 Planned b v d batch old new NoTable r = SaysNothing b d r × (new ≡ old)
 Planned b v d batch old new Device r = ⊥
 Planned b v d batch old new Memory r = new ≡ old
-Planned b v d batch old new Want r = IsWanted b v r.sector × (new ≡ old)
+Planned b v d batch old new Want r = NoPlan b v d batch Want r × (new ≡ old)
 Planned b v d batch old new Room r = (phases : List Writes) × IsReady b v.sectors batch d phases × HasNoPlace phases old new r
 
 -- no plan for a repair
@@ -116,7 +118,7 @@ NoMending b v d Refused r = (e : RepairError) × IsMendRefusal b d e × (r ≡ (
 NoMending b v d NoTable r = SaysNothing b d r
 NoMending b v d Device r = ⊥
 NoMending b v d Memory r = Unit {0}
-NoMending b v d Want r = IsWanted b v r.sector
+NoMending b v d Want r = IsWanted b v r.sector × RepairReads b v.sectors d r.sector
 NoMending b v d Room r = ⊥
 
 -- a checked plan for a repair stands in the buffers, or it has no room there; or there is none, and they stay as they were
@@ -128,7 +130,7 @@ Mended b v d old new Refused r = NoMending b v d Refused r × (new ≡ old)
 Mended b v d old new NoTable r = SaysNothing b d r × (new ≡ old)
 Mended b v d old new Device r = ⊥
 Mended b v d old new Memory r = new ≡ old
-Mended b v d old new Want r = IsWanted b v r.sector × (new ≡ old)
+Mended b v d old new Want r = NoMending b v d Want r × (new ≡ old)
 Mended b v d old new Room r = (phases : List Writes) × IsReadyToMend b d phases × HasNoPlace phases old new r
 
 -- the plan with these phases is safe, and the reply has its switch; or it isn't, for the first reason, which the reply tells
@@ -140,7 +142,7 @@ Checked b v d phases Refused r = ⊥
 Checked b v d phases NoTable r = ⊥
 Checked b v d phases Device r = ⊥
 Checked b v d phases Memory r = Unit {0}
-Checked b v d phases Want r = IsWanted b v r.sector
+Checked b v d phases Want r = IsWanted b v r.sector × CheckReads b d phases r.sector
 Checked b v d phases Room r = ⊥
 
 -- nothing was asked: the arguments have no meaning, or memory was refused
@@ -187,7 +189,7 @@ Members b v d old new Refused r = ⊥
 Members b v d old new NoTable r = SaysNothing b d r × (new ≡ old)
 Members b v d old new Device r = ⊥
 Members b v d old new Memory r = new ≡ old
-Members b v d old new Want r = IsWanted b v r.sector × (new ≡ old)
+Members b v d old new Want r = NoLayout b v d Want r × (new ≡ old)
 Members b v d old new Room r = (o : Layout) × Denotes b d (Some o) × HasNoRoom b o old new r
 
 -- a code that C gets is that of a status, and what the status says is so

@@ -1,10 +1,11 @@
 -- Batches of words as calls, and sessions and runs of them, on a disk of n sectors of b bytes.
-use Rattle.std.specs.Prelude.{ℕ, List, Option, Result}
+use Rattle.std.specs.Prelude.{ℕ, List, Option, Result, IfErr}
 use Rattle.pt_sector.specs.Device.{Told}
 use Rattle.pt_recover.specs.Denotes.{Denotes}
 use Rattle.pt_plan.specs.Batches.{Words, EditedBy, Commits, Repairs}
 use Rattle.pt_plan.specs.Commits.{past}
 use Rattle.pt_plan.specs.History.{Past, Either, Carries}
+use Rattle.pt_plan.specs.Reading.{FailedInCommit, CommitReads}
 use Rattle.pt_plan.specs.declared.error.CommitError.{CommitError}
 use Rattle.pt_runs.specs.Calls.{Call, CarryOn}
 use Rattle.pt_members.specs.declared.layout.Layout.{Layout}
@@ -28,9 +29,17 @@ CallsCarry b n = CarryOn (Denotes b) (EditedBy b n)
 abbrev pub batch_of : Batch → Words
 batch_of batch = record { edits = batch.edits.items; guids = batch.guids.items }
 
+-- a commit of the batch that answered so. Where a read failed, its sector is one that the commit reads
+abbrev pub CommitsByReads : ℕ → ℕ → Words → Result Unit CommitError → Told → Told → Type 0
+CommitsByReads b n batch result old new = Commits b n batch result old new × IfErr result (FailedInCommit (CommitReads b n batch old.seen))
+
 -- a session of batches on a disk of n sectors of b bytes
 abbrev pub SessionOf : ℕ → ℕ → List Words → List Reply → Told → Told → Type 0
 SessionOf b n = Session (Commits b n)
+
+-- the same, and where a read failed, its sector is one that the commit reads
+abbrev pub SessionByReads : ℕ → ℕ → List Words → List Reply → Told → Told → Type 0
+SessionByReads b n = Session (CommitsByReads b n)
 
 -- calls in order, on such a disk
 abbrev pub RunOf : ℕ → ℕ → List (Step Words) → Told → Told → Type 0

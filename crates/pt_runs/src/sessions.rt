@@ -3,7 +3,7 @@
 ghost use Rattle.std.specs.Prelude.{◌≡◌, [], ◌∷◌, ◌++◌, map, IfOk, OnErr};
 ghost use Rattle.pt_sector.specs.Sectors.{IsSectorSize};
 ghost use Rattle.pt_plan.specs.Batches.{Commits};
-ghost use Rattle.pt_runs.specs.Batches.{batch_of, SessionOf};
+ghost use Rattle.pt_runs.specs.Batches.{batch_of, CommitsByReads, SessionOf, SessionByReads};
 ghost use Rattle.pt_runs.specs.Replying.{Replied, Tried};
 ghost use Rattle.pt_runs.specs.Sessions.{AreReplies, faults_in};
 
@@ -48,6 +48,8 @@ fn attempt<const B: usize, D: Disk<B>>(
     ensures blames { D.faults disk.new ≡ D.faults disk.old ++ faults_in (result ∷ []) }
     ensures tried { D.tells → Tried (Commits B (D.count disk.old)) (record { edits = edits.now; guids = guids.now }) result
         (D.told disk.old) (D.told disk.new) }
+    ensures place { D.tells → Tried (CommitsByReads B (D.count disk.old)) (record { edits = edits.now; guids = guids.now }) result
+        (D.told disk.old) (D.told disk.new) }
 {
     if *faulted {
         return Reply::NotTried;
@@ -80,6 +82,8 @@ pub fn session<const B: usize, D: Disk<B>>(
     ensures blames { IfOk result (λ rs. D.faults disk.new ≡ D.faults disk.old ++ faults_in rs.items) }
     ensures session { D.tells → IfOk result
         (λ rs. SessionOf B (D.count disk.old) (map batch_of batches.now) rs.items (D.told disk.old) (D.told disk.new)) }
+    ensures place { D.tells → IfOk result
+        (λ rs. SessionByReads B (D.count disk.old) (map batch_of batches.now) rs.items (D.told disk.old) (D.told disk.new)) }
 {
     let mut replies = Vec::with_capacity(alloc, batches.len())?;
     let mut faulted = false;

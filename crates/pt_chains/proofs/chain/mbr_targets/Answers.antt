@@ -1,7 +1,7 @@
 use Rattle.std.proofs.Common.{◌≡◌, ◌<◌, ◌⊎◌, ◌∙◌, sym, ap, subst, ℕ, List, [], ◌∷◌, ◌++◌, length, get_or, arith, rules, inl, inr}
 use Rattle.std.proofs.lemmas.Result.{err_from_is_err_and}
 use Rattle.pt_sector.specs.Calls.{with_fault}
-use Rattle.pt_sector.specs.Reads.{fault_of}
+use Rattle.pt_sector.specs.Reads.{fault_of, failed_more}
 use Rattle.pt_sector.specs.Sectors.{Sectors}
 use Rattle.pt_sector.specs.Device.{Told}
 use Rattle.pt_sector.specs.declared.disk.Fault.{Fault}
@@ -9,7 +9,7 @@ use Rattle.pt_mbr.specs.Chain.{StandsAt}
 use Rattle.pt_mbr.specs.declared.ebr.Ebr.{Ebr}
 use Rattle.pt_mbr.specs.Extended.{extended_of}
 use Rattle.pt_targets.specs.declared.target.Target.{Target}
-use Rattle.pt_chains.specs.Steps.{AreChainTargets}
+use Rattle.pt_chains.specs.Steps.{AreChainTargets, IsHeadOrEbr}
 use Rattle.pt_targets.specs.Unmade.{HasUnmadeEbr}
 use Rattle.pt_chains.proofs.Linking.{all_on_disk, stands_on_disk}
 use Rattle.pt_chains.proofs.Whole.{are_targets, has_unmade}
@@ -46,6 +46,8 @@ returns-in_err-push_head g c =
     record {
       same = c.in_err-push_head.ensures.same;
       blames = rw (p.1, p.2) c.in_err-push_head.ensures.blames;
+      failed = rw (p.1, p.2) (failed_more (λ s. s ≡ 0) (IsHeadOrEbr c.args.chain.now) c.in_err-push_head.field-0.0 (λ s is. inl is)
+          c.in_err-push_head.ensures.failed);
       in_range = rw p.1 tt;
       some = λ tells. rw p.1 tt;
       none = λ tells. rw p.1 tt;
@@ -55,6 +57,7 @@ pub returns-then-not-branch : goal.returns-then-not-branch
 returns-then-not-branch g c = record {
   same = c.in_ok-push_head.ensures.same;
   blames = c.in_ok-push_head.ensures.blames;
+  failed = tt;
   in_range = tt;
   some = λ tells. tt;
   none = λ tells. inl (c.in_ok-push_head.ensures.none tells c.if-not-branch.true);
@@ -69,6 +72,9 @@ returns-in_err-push_chain g c =
       blames = rw (p.1, p.2) (subst
           (λ (l : List Fault). g.D.Disk.faults c.push_chain.new.disk ≡ with_fault l (fault_of c.in_err-push_chain.field-0.0))
           c.in_ok-push_head.ensures.blames c.in_err-push_chain.ensures.blames);
+      failed = rw (p.1, p.2) (failed_more (λ s. StandsAt s c.as_slice-2.result.now) (IsHeadOrEbr c.args.chain.now)
+          c.in_err-push_chain.field-0.0 (λ s at. inr (subst (λ (l : List Ebr). StandsAt s l) c.as_slice-2.ensures at))
+          c.in_err-push_chain.ensures.failed);
       in_range = rw p.1 tt;
       some = λ tells. rw p.1 tt;
       none = λ tells. rw p.1 tt;
@@ -79,6 +85,7 @@ returns-then-not-branch-2 g c = record {
   same = g.met.D.Disk.reads_on c.args.disk.now c.push_head.new.disk c.push_chain.new.disk c.in_ok-push_head.ensures.same
       c.in_ok-push_chain.ensures.same;
   blames = c.in_ok-push_chain.ensures.blames ∙ c.in_ok-push_head.ensures.blames;
+  failed = tt;
   in_range = tt;
   some = λ tells. tt;
   none = λ tells.
@@ -105,6 +112,7 @@ returns g c =
       same = g.met.D.Disk.reads_on c.args.disk.now c.push_head.new.disk c.push_chain.new.disk c.in_ok-push_head.ensures.same
           c.in_ok-push_chain.ensures.same;
       blames = c.in_ok-push_chain.ensures.blames ∙ c.in_ok-push_head.ensures.blames;
+      failed = tt;
       in_range = λ t at. below t.at.0 n added.target.at.0 c.args.chain.now c.as_slice-2.result.now c.as_slice-2.ensures added.is.0
           c.requires.some (all_on_disk n (extended_of c.args.records.now) c.args.chain.now c.requires.linked)
           (c.in_ok-push_chain.ensures.place c.if-not-branch-2.false added.target one t at);

@@ -9,7 +9,7 @@ use Rattle.pt_sector.specs.declared.disk.Fault.{Fault}
 use Rattle.pt_mbr.specs.declared.ebr.Ebr.{Ebr}
 use Rattle.pt_targets.specs.Unmade.{IsUnmadeEbr}
 use Rattle.pt_chains.specs.Steps.{IsEbrOf}
-use Rattle.pt_chains.proofs.Begun.{begun_start, placed_start, begun_end, rest_of, unmade_at, begun_more, placed_more}
+use Rattle.pt_chains.proofs.Begun.{begun_start, placed_start, begun_end, rest_of, unmade_at, begun_more, placed_more, ebr_failed}
 use Rattle.pt_chains.proofs.chain.push_chain.Goals as goal
 
 pub loop-k-init : goal.loop-k-init
@@ -51,6 +51,8 @@ returns-in_err-push_ebr g c =
       blames = rw (p.1, p.2)
           (subst (λ (l : List Fault). g.D.Disk.faults c.push_ebr.new.disk ≡ with_fault l (fault_of c.in_err-push_ebr.field-0.0))
           c.loop-k.invariant.quiet c.in_err-push_ebr.ensures.blames);
+      failed = rw (p.1, p.2) (ebr_failed c.args.chain.now c.loop-k.k (record { at = record { 0 = 0 }; logical = None; next = None })
+          c.in_err-push_ebr.field-0.0 c.loop-k-test.true c.in_err-push_ebr.ensures.failed);
       place = rw p.1 tt;
       some = λ tells. rw p.1 tt;
       none = λ tells. rw p.1 tt;
@@ -60,6 +62,7 @@ pub returns-then-not-branch : goal.returns-then-not-branch
 returns-then-not-branch g c = record {
   same = g.met.D.Disk.reads_on c.args.disk.now c.loop-k.disk c.push_ebr.new.disk c.loop-k.invariant.same c.in_ok-push_ebr.ensures.same;
   blames = c.in_ok-push_ebr.ensures.blames ∙ c.loop-k.invariant.quiet;
+  failed = tt;
   place = λ good. absurd (false≢true good);
   some = λ tells good. absurd (false≢true good);
   none = λ tells bad.
@@ -77,6 +80,7 @@ pub returns : goal.returns
 returns g c = record {
   same = c.loop-k.invariant.same;
   blames = c.loop-k.invariant.quiet;
+  failed = tt;
   place = λ good head is. c.loop-k.invariant.placed head is;
   some = λ tells good head is.
       begun_end _ _ _ _ _ _ c.loop-k.k _ (omega arith) (omega arith) (c.loop-k.invariant.begun tells head is);

@@ -1,8 +1,9 @@
-use Rattle.std.proofs.Common.{◌≡◌, refl, sym, ◌∙◌, subst, ℕ, List, Option}
+use Rattle.std.proofs.Common.{◌≡◌, refl, sym, ◌∙◌, ap, subst, ℕ, List, Option}
 use Rattle.std.specs.Prelude.{IfSome, IfNone}
 use Rattle.std.proofs.lemmas.Bool.{false≢true}
 use Rattle.std.proofs.lemmas.Result.{err_from_is_err_and}
 use Rattle.pt_sector.specs.Sectors.{Sectors, sector}
+use Rattle.pt_sector.specs.declared.address.Lba.{Lba}
 use Rattle.pt_mbr.specs.declared.ebr.Ebr.{Ebr}
 use Rattle.pt_cases.specs.Links.{link_to}
 use Rattle.pt_cases.specs.Records.{IsEbrOver, IsEbrMade, IsEbrTarget}
@@ -18,6 +19,7 @@ returns-in_err-read_sector g c =
     record {
       same = c.in_err-read_sector.ensures.same;
       blames = rw (p.1, p.2) c.in_err-read_sector.ensures.blames;
+      failed = rw (p.1, p.2) (ap (λ (l : Lba). l.0) c.in_err-read_sector.ensures.fault);
       added = rw p.1 tt;
       none = λ tells. rw p.1 tt;
     }
@@ -29,6 +31,7 @@ returns-in_err-push_target-in-Some g c =
     record {
       same = c.in_ok-read_sector.ensures.same;
       blames = rw (p.1, p.2) c.in_ok-read_sector.ensures.blames;
+      failed = rw (p.1, p.2) tt;
       added = rw p.1 tt;
       none = λ tells. rw p.1 tt;
     }
@@ -53,6 +56,7 @@ returns-in_ok-push_target-in-Some g c =
     record {
       same = c.in_ok-read_sector.ensures.same;
       blames = c.in_ok-read_sector.ensures.blames;
+      failed = tt;
       added = λ good. record {
         target = _;
         pushed = c.in_ok-push_target-in-Some.ensures;
@@ -68,6 +72,7 @@ pub returns-in-None : goal.returns-in-None
 returns-in-None g c = record {
   same = c.in_ok-read_sector.ensures.same;
   blames = c.in_ok-read_sector.ensures.blames;
+  failed = tt;
   added = λ good. absurd (false≢true good);
   none = λ tells bad.
       let d : Sectors = (g.D.Disk.told c.args.disk.now).seen in

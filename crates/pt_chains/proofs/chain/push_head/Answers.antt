@@ -1,7 +1,8 @@
-use Rattle.std.proofs.Common.{refl, sym, subst, ℕ, List, Option}
+use Rattle.std.proofs.Common.{refl, sym, ap, subst, ℕ, List, Option}
 use Rattle.std.specs.Prelude.{IfSome, IfNone}
 use Rattle.std.proofs.lemmas.Bool.{false≢true}
 use Rattle.std.proofs.lemmas.Result.{err_from_is_err_and}
+use Rattle.pt_sector.specs.declared.address.Lba.{Lba}
 use Rattle.pt_mbr.specs.Changes.{ArePlain}
 use Rattle.pt_cases.specs.Records.{IsHeadTarget}
 use Rattle.pt_chains.specs.Steps.{AreMbr}
@@ -14,6 +15,7 @@ returns-in_err-read_sector g c =
     record {
       same = c.in_err-read_sector.ensures.same;
       blames = rw (p.1, p.2) c.in_err-read_sector.ensures.blames;
+      failed = rw (p.1, p.2) (ap (λ (l : Lba). l.0) c.in_err-read_sector.ensures.fault);
       added = rw p.1 tt;
       none = λ tells. rw p.1 tt;
     }
@@ -25,6 +27,7 @@ returns-in_err-push_target-in-Some g c =
     record {
       same = c.in_ok-read_sector.ensures.same;
       blames = rw (p.1, p.2) c.in_ok-read_sector.ensures.blames;
+      failed = rw (p.1, p.2) tt;
       added = rw p.1 tt;
       none = λ tells. rw p.1 tt;
     }
@@ -33,6 +36,7 @@ pub returns-in_ok-push_target-in-Some : goal.returns-in_ok-push_target-in-Some
 returns-in_ok-push_target-in-Some g c = record {
   same = c.in_ok-read_sector.ensures.same;
   blames = c.in_ok-read_sector.ensures.blames;
+  failed = tt;
   added = λ good. record {
     target = _;
     pushed = c.in_ok-push_target-in-Some.ensures;
@@ -54,6 +58,7 @@ pub returns-in-None : goal.returns-in-None
 returns-in-None g c = record {
   same = c.in_ok-read_sector.ensures.same;
   blames = c.in_ok-read_sector.ensures.blames;
+  failed = tt;
   added = λ good. absurd (false≢true good);
   none = λ tells bad.
       let under : List ℕ = c.read_sector.new.into in

@@ -8,6 +8,8 @@ use Rattle.pt_apply.specs.Plans.{phases_of, writes_in, NoneIs}
 use Rattle.pt_check.specs.First.{FirstWriteIs}
 use Rattle.pt_check.specs.declared.objection.Found.{Found}
 use Rattle.pt_check.proofs.Firsts.{first_number}
+use Rattle.pt_sector.specs.declared.address.Lba.{Lba}
+use Rattle.pt_check.proofs.Reading.{head_written}
 use Rattle.pt_check.proofs.boot.other_boot_code.Goals as goal
 
 abbrev Changes : List ℕ → ℕ × List ℕ → Type 0
@@ -77,3 +79,16 @@ pub returns-in-None-clause-found : goal.returns-in-None-clause-found
 returns-in-None-clause-found g c = λ tells.
     subst (λ (kept : List ℕ). NoneIs (Changes kept) (writes_in (phases_of c.args.plan.now)))
     (c.boot_code.ensures ∙ ap (take 440) (c.in_ok-read_sector.ensures.bytes tells)) c.in-None.ensures
+
+found_some : {X : Type 0} (o : Option X) → is_some o ≡ true → ¬ (o ≡ None)
+found_some None so none = absurd (let no : false ≡ true = so in cc)
+found_some (Some x) so none = absurd cc
+
+pub returns-in_err-read_sector-clause-place : goal.returns-in_err-read_sector-clause-place
+returns-in_err-read_sector-clause-place g c =
+    let p = err_from_is_err_and c.from_residual.result c.from_residual.ensures.1 in
+    rw (p.1, p.2) (
+      ap (λ (l : Lba). l.0) c.in_err-read_sector.ensures.fault,
+      head_written (phases_of c.args.plan.now) c.first_in_plan.result
+          (found_some c.first_in_plan.result c.if-is_none.ensures) c.first_in_plan.ensures,
+    )

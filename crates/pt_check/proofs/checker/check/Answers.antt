@@ -28,3 +28,6 @@ returns-clause-answers g c = λ tells. rw c.new-cache.ensures.disk at (c.read_an
 
 pub returns-clause-promises : goal.returns-clause-promises
 returns-clause-promises g c = λ tells. rw c.new-cache.ensures.disk at (c.read_and_check.ensures.promises tells)
+
+pub returns-clause-place : goal.returns-clause-place
+returns-clause-place g c = λ tells. rw c.new-cache.ensures.disk at (c.read_and_check.ensures.place tells)

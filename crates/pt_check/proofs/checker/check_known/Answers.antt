@@ -11,6 +11,8 @@ use Rattle.pt_check.specs.Recovered.{IsRecoveredOf}
 use Rattle.pt_check.specs.declared.answer.Answer.{Answer}
 use Rattle.pt_check.specs.declared.answer.Answer.TheVariants.{No, Yes}
 use Rattle.pt_check.specs.declared.error.CheckError.{CheckError}
+use Rattle.std.proofs.lemmas.Result.{err_from_is_err_and}
+use Rattle.pt_check.specs.CheckReads.{boot}
 use Rattle.pt_check.proofs.checker.check_known.Goals as goal
 
 fits : {b : _} (n : ℕ) (plan : Plan b) (r : Result Answer CheckError) → InRange n plan → IfOk r (λ a. WritesFit n plan a)
@@ -70,3 +72,11 @@ returns-in-Fit-clause-answers g c = λ tells. rw (c.in_ok-why.ensures.same.same 
 
 pub returns-in-Fit-clause-promises : goal.returns-in-Fit-clause-promises
 returns-in-Fit-clause-promises g c = λ tells. rw (c.in_ok-why.ensures.same.same tells) at (c.check_phases.ensures.promises tells)
+
+pub returns-in_err-why-clause-place : goal.returns-in_err-why-clause-place
+returns-in_err-why-clause-place g c = λ tells.
+    let p = err_from_is_err_and c.from_residual.result c.from_residual.ensures.1 in
+    rw (p.1, p.2) (boot c.in_err-why.ensures.place.0 c.in_err-why.ensures.place.1)
+
+pub returns-in-Fit-clause-place : goal.returns-in-Fit-clause-place
+returns-in-Fit-clause-place g c = λ tells. rw (c.in_ok-why.ensures.same.same tells) at (c.check_phases.ensures.place tells)

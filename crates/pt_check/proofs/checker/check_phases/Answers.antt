@@ -8,6 +8,7 @@ use Rattle.pt_sector.specs.declared.disk.Fault.{Fault}
 use Rattle.pt_check.specs.Failed.{fault_in}
 use Rattle.pt_check.proofs.Exits.{concluding}
 use Rattle.pt_check.proofs.Outside.{recovered_parts}
+use Rattle.pt_check.proofs.Reading.{finish_failed}
 use Rattle.pt_check.proofs.checker.check_phases.Goals as goal
 
 pub returns-clause-answers : goal.returns-clause-answers
@@ -74,3 +75,14 @@ returns-clause-same g c =
 
 pub returns-clause-blames : goal.returns-clause-blames
 returns-clause-blames g c = c.in_ok-trial.ensures.blames ∙ c.in_ok-end.ensures.blames
+
+pub returns-in_err-end-clause-place : goal.returns-in_err-end-clause-place
+returns-in_err-end-clause-place g c = λ tells.
+    let p = err_from_is_err_and c.from_residual.result c.from_residual.ensures.1 in
+    rw (p.1, p.2) (finish_failed g.row.B (g.D.Disk.told c.args.disk.now).seen (phases_of c.args.plan.now) c.in_err-end.field-0.0
+    (c.in_err-end.ensures.place tells))
+
+pub returns-in_err-trial-clause-place : goal.returns-in_err-trial-clause-place
+returns-in_err-trial-clause-place g c = λ tells.
+    let p = err_from_is_err_and c.from_residual-in_err-trial.result c.from_residual-in_err-trial.ensures.1 in
+    rw (p.1, p.2) (rw (c.in_ok-end.ensures.same.same tells) at (c.in_err-trial.ensures.place tells))

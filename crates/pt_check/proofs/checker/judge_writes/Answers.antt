@@ -97,3 +97,8 @@ returns-in-Some-2-clause-same g c = c.in_ok-other_boot_code.ensures.same
 
 pub returns-in-Some-2-clause-blames : goal.returns-in-Some-2-clause-blames
 returns-in-Some-2-clause-blames g c = c.in_ok-other_boot_code.ensures.blames
+
+pub returns-in_err-other_boot_code-clause-place : goal.returns-in_err-other_boot_code-clause-place
+returns-in_err-other_boot_code-clause-place g c =
+    let p = err_from_is_err_and c.from_residual.result c.from_residual.ensures.1 in
+    rw (p.1, p.2) c.in_err-other_boot_code.ensures.place

@@ -1,9 +1,11 @@
-use Rattle.std.proofs.Common.{rules, sym, subst}
+use Rattle.std.proofs.Common.{rules, refl, sym, subst, arith}
 use Rattle.std.proofs.lemmas.Result.{err_from_is_err_and}
 use Rattle.pt_sector.specs.Calls.{blames_after}
 use Rattle.pt_sector.specs.Device.{Told}
 use Rattle.pt_check.specs.Failed.{fault_in}
 use Rattle.pt_check.specs.Recovered.{IsRecoveredOf}
+use Rattle.pt_apply.specs.Plans.{phases_of}
+use Rattle.pt_check.proofs.Reading.{phase_failed}
 use Rattle.pt_check.proofs.checker.read_and_check.Goals as goal
 
 pub returns-in_err-before-clause-same : goal.returns-in_err-before-clause-same
@@ -41,3 +43,13 @@ returns-clause-answers g c = λ tells. rw (c.in_ok-before.ensures.same.same tell
 
 pub returns-clause-promises : goal.returns-clause-promises
 returns-clause-promises g c = λ tells. rw (c.in_ok-before.ensures.same.same tells) at (c.check_known.ensures.promises tells)
+
+pub returns-in_err-before-clause-place : goal.returns-in_err-before-clause-place
+returns-in_err-before-clause-place g c = λ tells.
+    let p = err_from_is_err_and c.from_residual.result c.from_residual.ensures.1 in
+    let d = (g.D.Disk.told c.args.disk.now).seen in
+    rw (p.1, p.2) (phase_failed g.row.B d d (phases_of c.args.plan.now) 0 c.in_err-before.field-0.0 (omega arith) refl
+    (c.in_err-before.ensures.place tells))
+
+pub returns-clause-place : goal.returns-clause-place
+returns-clause-place g c = λ tells. rw (c.in_ok-before.ensures.same.same tells) at (c.check_known.ensures.place tells)

@@ -1,7 +1,7 @@
 use Rattle.std.proofs.Common.{rules, ◌≡◌, ◌∙◌, ap, subst, arith, Ok, Err}
 use Rattle.std.proofs.lemmas.Result.{err_from_is_err_and}
 use Rattle.pt_sector.specs.Calls.{with_fault}
-use Rattle.pt_sector.specs.Reads.{OnlyReads, blames_below, fault_of}
+use Rattle.pt_sector.specs.Reads.{OnlyReads, FailedIn, blames_below, fault_of}
 use Rattle.pt_sector.specs.Sectors.{Sectors}
 use Rattle.pt_sector.specs.Writes.{after}
 use Rattle.pt_apply.specs.Plans.{phases_of}
@@ -9,6 +9,8 @@ use Rattle.pt_layout.specs.Surveys.{IsSurvey}
 use Rattle.pt_layout.specs.declared.survey.Survey.{Survey}
 use Rattle.pt_check.specs.Failed.{fault_in, told_failure}
 use Rattle.pt_check.proofs.Finishing.{failure_blames}
+use Rattle.pt_sound.specs.Findings.{VerdictReads}
+use Rattle.pt_check.proofs.Reading.{failed_told}
 use Rattle.pt_check.proofs.finished.read_finished.Goals as goal
 
 pub put_plan-requires : goal.put_plan-requires
@@ -61,3 +63,12 @@ returns-in_err-told-clause-blames g c =
     (g.D.Disk.faults c.args.disk.now) (fault_in (told_failure e)) =
     failure_blames _ _ e here in
     rw (p.1, p.2) (search (rules, blames))
+
+pub returns-in_err-told-clause-place : goal.returns-in_err-told-clause-place
+returns-in_err-told-clause-place g c = λ tells.
+    let p = err_from_is_err_and c.from_residual-in_err-told.result c.from_residual-in_err-told.ensures.1 in
+    let d : Sectors = (g.D.Disk.told c.args.disk.now).seen in
+    let e = c.in_err-told.field-0.0 in
+    rw (p.1, p.2) (failed_told (VerdictReads g.row.B (after (phases_of c.args.plan.now) d)) e
+    (subst (λ (x : Sectors). FailedIn (VerdictReads g.row.B x) e)
+    (c.put_plan.ensures.seen ∙ ap (after (phases_of c.args.plan.now)) c.new-over.ensures.seen) (c.in_err-told.ensures.place tells)))

@@ -1,4 +1,4 @@
-use Rattle.std.proofs.Common.{rules, ◌≡◌, ◌∙◌, ℕ, ◌<◌, ap, subst, arith, length, Some, None, Ok, Err}
+use Rattle.std.proofs.Common.{rules, ◌≡◌, ◌∙◌, ℕ, ◌+◌, ◌<◌, ap, subst, arith, length, Some, None, Ok, Err}
 use Rattle.std.proofs.lemmas.Result.{err_from_is_err_and}
 use Rattle.pt_sector.specs.Writes.{Writes}
 use Rattle.pt_sector.specs.Calls.{with_fault}
@@ -16,6 +16,7 @@ use Rattle.pt_check.specs.declared.recovered.Recovered.{Recovered}
 use Rattle.pt_check.proofs.Firsts.{length-phases, count_on, lent_phase, index_within, seen_on, count_within}
 use Rattle.pt_check.proofs.Outside.{recovered_parts}
 use Rattle.pt_check.proofs.Trying.{course_none, refused_read, refused_neither, course_on}
+use Rattle.pt_check.proofs.Reading.{phase_failed}
 use Rattle.pt_check.proofs.trial.try_phases.Goals as goal
 
 pub loop-i-init : goal.loop-i-init
@@ -179,3 +180,17 @@ returns-clause-same g c = search (rules, c.loop-i.invariant.same)
 
 pub returns-clause-blames : goal.returns-clause-blames
 returns-clause-blames g c = search (rules, c.loop-i.invariant.quiet)
+
+pub returns-in_err-after-clause-place : goal.returns-in_err-after-clause-place
+returns-in_err-after-clause-place g c = λ tells.
+    let p = err_from_is_err_and c.from_residual-in_err-after.result c.from_residual-in_err-after.ensures.1 in
+    let phases = phases_of c.args.plan.now in
+    let d = (g.D.Disk.told c.args.disk.now).seen in
+    let lt : c.loop-i.i < length c.args.plan.now.phases.items =
+    omega (arith, c.loop-i-test.true, c.len-i-end.ensures, c.args.plan.now.phases.ok) in
+    let below = index_within c.args.plan.now.phases.items c.loop-i.i lt in
+    let lent = lent_phase c.args.plan.now.phases.items c.loop-i.i c.index-phase.result.now lt c.index-phase.ensures in
+    let seen = seen_on phases d c.loop-i.i (writes_of c.deref-in-loop-i.result.now) _ _ below
+    (lent c.deref-in-loop-i.result.now c.deref-in-loop-i.ensures.value) (c.loop-i.invariant.seen tells) c.put_phase.ensures.seen in
+    rw (p.1, p.2) (phase_failed g.row.B d _ phases (c.loop-i.i + 1) c.in_err-after.field-0.0 (omega (arith, below)) seen
+    (c.in_err-after.ensures.place tells))

@@ -1,15 +1,17 @@
 use Rattle.std.proofs.Common.{◌≡◌, ◌∙◌, ℕ, List, length, map, All, refl, sym, ap, subst, rules}
 use Rattle.std.proofs.lemmas.Result.{err_from_is_err_and}
+use Rattle.pt_sector.specs.Reads.{failed_more}
 use Rattle.pt_sector.specs.Sectors.{Sectors}
+use Rattle.pt_members.specs.Slices.{places_of, IsPlace}
 use Rattle.pt_members.specs.declared.layout.Slice.{Slice}
 use Rattle.pt_cases.specs.Ascending.{NumbersAscend}
 use Rattle.pt_cases.specs.laws.Ascending.{places_ascend_lem}
 use Rattle.pt_places.specs.Places.{spot_of, IsAt, IsRead, OldAre}
-use Rattle.pt_places.specs.Spots.{AreSpots}
+use Rattle.pt_places.specs.Spots.{AreSpots, slice_of}
 use Rattle.pt_places.specs.declared.place.Place.{Place}
 use Rattle.pt_places.specs.declared.place.Spot.{Spot}
 use Rattle.pt_places.proofs.Lifts.{within}
-use Rattle.pt_places.proofs.Whole.{at_some, misfit, spots_within, whole}
+use Rattle.pt_places.proofs.Whole.{at_some, misfit, spots_within, spot_slices, whole}
 use Rattle.pt_places.proofs.labels.label_targets.Goals as goal
 
 pub spots-requires : goal.spots-requires
@@ -40,6 +42,7 @@ returns-in_err-slices g c =
     record {
       same = g.met.D.Disk.reads_same c.args.disk.now;
       blames = rw (p.1, p.2) refl;
+      failed = rw (p.1, p.2) tt;
       answer = λ tells. rw p.1 tt;
       in_range = rw p.1 tt;
     }
@@ -50,6 +53,7 @@ returns-in_err-found g c =
     record {
       same = g.met.D.Disk.reads_same c.args.disk.now;
       blames = rw (p.1, p.2) refl;
+      failed = rw (p.1, p.2) tt;
       answer = λ tells. rw p.1 tt;
       in_range = rw p.1 tt;
     }
@@ -58,6 +62,7 @@ pub returns-in_default : goal.returns-in_default
 returns-in_default g c = record {
   same = g.met.D.Disk.reads_same c.args.disk.now;
   blames = refl;
+  failed = tt;
   answer = λ tells. misfit g.row.B c.sectors-sectors.result c.args.wanted.now c.deref.result.now c.as_slice.result.now
       c.in_ok-found.found _ c.in_default.is c.in_ok-found.ensures (c.deref.ensures.value ∙ c.in_ok-slices.ensures)
       (c.sectors-sectors.ensures ∙ sym c.requires.sectors) c.as_slice.ensures;
@@ -70,6 +75,13 @@ returns-in_err-places g c =
     record {
       same = c.in_err-places.ensures.same;
       blames = rw (p.1, p.2) c.in_err-places.ensures.blames;
+      failed = rw (p.1, p.2) (failed_more (IsPlace (map slice_of c.deref-2.result.now))
+          (IsPlace (places_of g.row.B (g.D.Disk.count c.args.disk.now) c.args.wanted.now.body)) c.in_err-places.field-0.0
+          (λ s at. subst (λ (l : List Slice). IsPlace l s)
+          (spot_slices g.row.B c.sectors-sectors.result (g.D.Disk.count c.args.disk.now) c.args.wanted.now.body c.deref.result.now
+          c.as_slice.result.now c.in_ok-found.found c.in-Some.spots c.deref-2.result.now c.in-Some.is c.in_ok-found.ensures
+          c.deref-2.ensures.value (c.deref.ensures.value ∙ c.in_ok-slices.ensures) c.sectors-sectors.ensures) at)
+          c.in_err-places.ensures.failed);
       answer = λ tells. rw p.1 tt;
       in_range = rw p.1 tt;
     }
@@ -80,6 +92,7 @@ returns-in_err-old_slices g c =
     record {
       same = c.in_ok-places.ensures.same;
       blames = rw (p.1, p.2) c.in_ok-places.ensures.blames;
+      failed = rw (p.1, p.2) tt;
       answer = λ tells. rw p.1 tt;
       in_range = rw p.1 tt;
     }
@@ -90,6 +103,7 @@ returns-in_err-answer g c =
     record {
       same = c.in_ok-places.ensures.same;
       blames = rw (p.1, p.2) c.in_ok-places.ensures.blames;
+      failed = rw (p.1, p.2) tt;
       answer = λ tells. rw p.1 tt;
       in_range = rw p.1 tt;
     }
@@ -103,6 +117,7 @@ returns g c =
     record {
       same = here.same;
       blames = here.blames;
+      failed = tt;
       answer = λ tells.
           let d : Sectors = (g.D.Disk.told c.args.disk.now).seen in
           let sectors : c.sectors-sectors.result ≡ length d =

@@ -7,7 +7,7 @@ use Rattle.pt_sector.specs.Reads.{read_of}
 use Rattle.pt_sector.specs.declared.disk.Fault.{Fault}
 use Rattle.pt_places.specs.Places.{spot_of, IsAt, IsRead}
 use Rattle.pt_places.specs.declared.place.Place.{Place}
-use Rattle.pt_places.proofs.Pieces.{all_on, spots_on}
+use Rattle.pt_places.proofs.Pieces.{all_on, spots_on, spot_failed}
 use Rattle.pt_places.proofs.reading.read_places.Goals as goal
 
 pub loop-k-preserved : goal.loop-k-preserved
@@ -47,6 +47,8 @@ returns-in_err-place g c =
       blames = rw (p.1, p.2)
           (subst (λ (l : List Fault). g.D.Disk.faults c.read_place.new.disk ≡ with_fault l (read_of c.in_err-place.field-0.0))
           c.loop-k.invariant.quiet c.in_err-place.ensures.blames);
+      failed = rw (p.1, p.2) (spot_failed c.args.spots.now c.loop-k.k _ c.in_err-place.field-0.0.0.0 c.loop-k-test.true
+          c.in_err-place.ensures.failed);
       spots = rw p.1 tt;
       at = rw p.1 tt;
       bytes = λ tells. rw p.1 tt;
@@ -58,6 +60,7 @@ returns-in_err-push_place g c =
     record {
       same = g.met.D.Disk.reads_on c.args.disk.now c.loop-k.disk c.read_place.new.disk c.loop-k.invariant.same c.in_ok-place.ensures.same;
       blames = rw (p.1, p.2) (c.in_ok-place.ensures.blames ∙ c.loop-k.invariant.quiet);
+      failed = rw (p.1, p.2) tt;
       spots = rw p.1 tt;
       at = rw p.1 tt;
       bytes = λ tells. rw p.1 tt;
@@ -67,6 +70,7 @@ pub returns : goal.returns
 returns g c = record {
   same = c.loop-k.invariant.same;
   blames = c.loop-k.invariant.quiet;
+  failed = tt;
   spots = c.loop-k.invariant.spots ∙ take_all c.loop-k.k c.args.spots.now (omega arith);
   at = c.loop-k.invariant.at;
   bytes = c.loop-k.invariant.bytes;

@@ -1,5 +1,7 @@
 use Rattle.std.proofs.lemmas.Result.{err_from_is_err_and}
 use Rattle.pt_plan.proofs.Starting.{unplanned_fault, unplanned_hides, unplanned_told}
+use Rattle.pt_planner.specs.PlanReads.{PlanReads}
+use Rattle.pt_plan.proofs.Reading.{commit_plan_failed}
 use Rattle.pt_plan.proofs.prepare.planned.Goals as goal
 
 pub returns-in_err-plan-clause-blames : goal.returns-in_err-plan-clause-blames
@@ -16,3 +18,9 @@ pub returns-in_err-plan-clause-err : goal.returns-in_err-plan-clause-err
 returns-in_err-plan-clause-err g c = λ tells.
     let p = err_from_is_err_and c.from_residual.result c.from_residual.ensures.1 in
     rw (p.1, p.2) (unplanned_told _ _ _ c.in_err-plan.field-0.0 (c.in_err-plan.ensures.err tells))
+
+pub returns-in_err-plan-clause-place : goal.returns-in_err-plan-clause-place
+returns-in_err-plan-clause-place g c =
+    let p = err_from_is_err_and c.from_residual.result c.from_residual.ensures.1 in
+    rw (p.1, p.2) (commit_plan_failed (PlanReads g.row.B (g.D.Disk.count c.args.disk.now) c.args.wanted.now) c.in_err-plan.field-0.0
+    c.in_err-plan.ensures.place)

@@ -8,3 +8,6 @@ returns-clause-refused g c = λ tells. rw c.new-cache.ensures.disk at (c.read_me
 
 pub returns-clause-in_range : goal.returns-clause-in_range
 returns-clause-in_range g c = rw c.new-cache.ensures.disk at c.read_mend_and_check.ensures.in_range
+
+pub returns-clause-place : goal.returns-clause-place
+returns-clause-place g c = λ tells. rw c.new-cache.ensures.disk at (c.read_mend_and_check.ensures.place tells)

@@ -2,6 +2,10 @@ use Rattle.std.proofs.lemmas.Result.{err_from_is_err_and}
 use Rattle.std.proofs.Common.{◌∙◌, arith}
 use Rattle.pt_apply.specs.Plans.{phases_of}
 use Rattle.pt_plan.proofs.Mendable.{ready_to_mend, not_safe_to_mend}
+use Rattle.pt_sound.specs.Findings.{VerdictReads}
+use Rattle.pt_check.specs.CheckReads.{CheckReads}
+use Rattle.pt_plan.specs.Reading.{MendReads, RepairReads, mend_verdict, mend, mend_check}
+use Rattle.pt_plan.proofs.Reading.{repair_failed, repair_wider}
 use Rattle.pt_plan.proofs.repairs.read_mend_and_check.Goals as goal
 
 pub checked-requires : goal.checked-requires
@@ -68,3 +72,24 @@ returns-clause-blames g c = c.in_ok-checked.ensures.blames ∙ c.in_ok-plan.ensu
 
 pub returns-clause-in_range : goal.returns-clause-in_range
 returns-clause-in_range g c = rw c.in_ok-known.ensures.same.same_count at c.in_ok-plan.ensures.in_range
+
+pub returns-in_err-known-clause-place : goal.returns-in_err-known-clause-place
+returns-in_err-known-clause-place g c = λ tells.
+    let p = err_from_is_err_and c.from_residual.result c.from_residual.ensures.1 in
+    rw (p.1, p.2) (repair_failed (VerdictReads g.row.B (g.D.Disk.told c.args.disk.now).seen) (RepairReads g.row.B (g.D.Disk.count c.args.disk.now) (g.D.Disk.told c.args.disk.now).seen) c.in_err-known.field-0.0 (λ s reads. mend (mend_verdict reads))
+    (c.in_err-known.ensures.place tells))
+
+pub returns-in_err-plan-clause-place : goal.returns-in_err-plan-clause-place
+returns-in_err-plan-clause-place g c = λ tells.
+    let p = err_from_is_err_and c.from_residual-in_err-plan.result c.from_residual-in_err-plan.ensures.1 in
+    rw (p.1, p.2) (repair_wider (MendReads g.row.B (g.D.Disk.count c.args.disk.now) (g.D.Disk.told c.args.disk.now).seen) (RepairReads g.row.B (g.D.Disk.count c.args.disk.now) (g.D.Disk.told c.args.disk.now).seen) c.in_err-plan.field-0.0
+    (λ s reads. mend reads) (rw (c.in_ok-known.ensures.same.same_count, c.in_ok-known.ensures.same.same tells) at (c.in_err-plan.ensures.place tells)))
+
+pub returns-in_err-checked-clause-place : goal.returns-in_err-checked-clause-place
+returns-in_err-checked-clause-place g c = λ tells.
+    let p = err_from_is_err_and c.from_residual-in_err-checked.result c.from_residual-in_err-checked.ensures.1 in
+    rw (p.1, p.2) (repair_wider (CheckReads g.row.B (g.D.Disk.told c.args.disk.now).seen (phases_of c.in_ok-plan.plan)) (RepairReads g.row.B (g.D.Disk.count c.args.disk.now) (g.D.Disk.told c.args.disk.now).seen)
+    c.in_err-checked.field-0.0
+    (λ s reads. mend_check (phases_of c.in_ok-plan.plan)
+    (rw (c.in_ok-known.ensures.same.same tells) at (c.in_ok-plan.ensures.planned tells)) reads)
+    (rw (c.in_ok-plan.ensures.same.same tells, c.in_ok-known.ensures.same.same tells) at (c.in_err-checked.ensures.place tells)))

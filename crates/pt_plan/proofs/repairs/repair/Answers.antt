@@ -6,6 +6,9 @@ use Rattle.pt_plan.proofs.Applying.{settled}
 use Rattle.pt_plan.proofs.Exits.{met_read}
 use Rattle.pt_plan.proofs.Mendable.{none_of_healthy}
 use Rattle.pt_plan.proofs.Mended.{at_failed_flush, at_refused, at_failed, at_done}
+use Rattle.pt_apply.specs.Plans.{phases_of}
+use Rattle.pt_plan.specs.Reading.{RepairReads}
+use Rattle.pt_plan.proofs.Reading.{mend_by_flush, mend_by_call}
 use Rattle.pt_plan.proofs.repairs.repair.Goals as goal
 
 pub returns-in_err-flush-clause-repairs : goal.returns-in_err-flush-clause-repairs
@@ -47,3 +50,19 @@ apply-requires g c = (
     ),
   ),
 )
+
+pub returns-in_err-flush-clause-place : goal.returns-in_err-flush-clause-place
+returns-in_err-flush-clause-place g c = λ tells.
+    let p = err_from_is_err_and c.from_residual.result c.from_residual.ensures.1 in
+    rw (p.1, p.2) (mend_by_flush (RepairReads g.row.B (g.D.Disk.count c.args.disk.now) (g.D.Disk.told c.args.disk.now).seen) c.in_err-flush.field-0.0 c.in_err-flush.ensures.fault)
+
+pub returns-in_err-plan-clause-place : goal.returns-in_err-plan-clause-place
+returns-in_err-plan-clause-place g c = λ tells.
+    let p = err_from_is_err_and c.from_residual-in_err-plan.result c.from_residual-in_err-plan.ensures.1 in
+    rw (p.1, p.2) (rw (c.flush.ensures.count, (c.in_ok-flush.ensures.done tells).seen) at (c.in_err-plan.ensures.place tells))
+
+pub returns-in_err-apply-clause-place : goal.returns-in_err-apply-clause-place
+returns-in_err-apply-clause-place g c = λ tells.
+    let p = err_from_is_err_and c.from_residual-in_err-apply.result c.from_residual-in_err-apply.ensures.1 in
+    rw (p.1, p.2) (mend_by_call (RepairReads g.row.B (g.D.Disk.count c.args.disk.now) (g.D.Disk.told c.args.disk.now).seen)
+    (phases_of c.in_ok-plan.plan) c.in_err-apply.field-0.0 c.in_err-apply.ensures.fault)

@@ -31,3 +31,6 @@ returns-clause-plan g c = λ tells. rw c.new-cache.ensures.disk at (c.read_and_p
 
 pub returns-clause-err : goal.returns-clause-err
 returns-clause-err g c = λ tells. rw c.new-cache.ensures.disk at (c.read_and_plan.ensures.err tells)
+
+pub returns-clause-place : goal.returns-clause-place
+returns-clause-place g c = λ tells. rw c.new-cache.ensures.disk at (c.read_and_plan.ensures.place tells)

@@ -1,5 +1,5 @@
 use Rattle.std.proofs.Common.{◌∙◌, ℕ, length, ap, refl, sym, subst, arith}
-use Rattle.std.specs.Prelude.{IfOk}
+use Rattle.std.specs.Prelude.{IfOk, IfErr}
 use Rattle.std.proofs.lemmas.Result.{err_from_is_err_and}
 use Rattle.pt_sector.specs.Calls.{blames_after}
 use Rattle.pt_sector.specs.Device.{Told}
@@ -9,8 +9,9 @@ use Rattle.pt_cases.specs.Cases.{IsPlan, idle}
 use Rattle.pt_cases.specs.Shape.{FitsTable}
 use Rattle.pt_cases.specs.Links.{IsLoneChain}
 use Rattle.pt_targets.specs.Errors.{fault_in}
+use Rattle.pt_planner.specs.PlanReads.{FailedInPlan, PlanReads}
 use Rattle.pt_planner.proofs.Beginning.{of_disk, starts}
-use Rattle.pt_planner.proofs.Failing.{unsound_blames, unsound_unplanned}
+use Rattle.pt_planner.proofs.Failing.{unsound_blames, unsound_nowhere, unsound_unplanned}
 use Rattle.pt_planner.proofs.Making.{err_so, isnt, hindered, no_places, none_of_disk}
 use Rattle.pt_planner.proofs.planner.plan_from.Goals as goal
 
@@ -20,6 +21,7 @@ returns-in_err-be_sound g c =
     record {
       same = g.met.D.Disk.reads_same c.args.disk.now;
       blames = rw (p.1, p.2) (unsound_blames g.row.B c.args.wanted.now _ c.in_err-be_sound.field-0.0 c.in_err-be_sound.ensures.err);
+      place = rw (p.1, p.2) (unsound_nowhere g.row.B c.args.wanted.now _ c.in_err-be_sound.field-0.0 c.in_err-be_sound.ensures.err);
       in_range = rw p.1 tt;
       some = rw p.1 tt;
       plan = λ tells. rw p.1 tt;
@@ -34,6 +36,7 @@ returns-then-is_done g c =
     record {
       same = g.met.D.Disk.reads_same c.args.disk.now;
       blames = refl;
+      place = tt;
       in_range = λ k z lt. absurd (omega (arith, none, lt));
       some = λ k z lt. absurd (omega (arith, none, lt));
       plan = λ tells.
@@ -46,6 +49,7 @@ pub returns-then-not-may_be : goal.returns-then-not-may_be
 returns-then-not-may_be g c = record {
   same = g.met.D.Disk.reads_same c.args.disk.now;
   blames = refl;
+  place = tt;
   in_range = tt;
   some = tt;
   plan = λ tells. tt;
@@ -63,6 +67,7 @@ returns-in_err-places g c =
     record {
       same = c.in_err-places.ensures.same;
       blames = rw (p.1, p.2) c.in_err-places.ensures.blames;
+      place = rw (p.1, p.2) c.in_err-places.ensures.place;
       in_range = rw p.1 tt;
       some = rw p.1 tt;
       plan = λ tells. rw p.1 tt;
@@ -164,6 +169,9 @@ returns-in-Mbr g c = record {
       g.met.D.Disk.reads_on c.args.disk.now c.places_of.new.disk c.to_mbr.new.disk c.in_ok-places.ensures.same c.to_mbr.ensures.same;
   blames =
       blames_after fault_in c.to_mbr.result _ _ _ c.in_ok-places.ensures.blames c.to_mbr.ensures.blames;
+  place =
+      subst (λ (n : ℕ). IfErr c.to_mbr.result (FailedInPlan (PlanReads g.row.B n c.args.wanted.now)))
+      c.in_ok-places.ensures.same.same_count c.to_mbr.ensures.place;
   in_range =
       subst (λ (n : ℕ). IfOk c.to_mbr.result (InRange n)) c.in_ok-places.ensures.same.same_count c.to_mbr.ensures.in_range;
   some =
@@ -189,6 +197,9 @@ returns-in-Gpt g c = record {
       g.met.D.Disk.reads_on c.args.disk.now c.places_of.new.disk c.to_gpt.new.disk c.in_ok-places.ensures.same c.to_gpt.ensures.same;
   blames =
       blames_after fault_in c.to_gpt.result _ _ _ c.in_ok-places.ensures.blames c.to_gpt.ensures.blames;
+  place =
+      subst (λ (n : ℕ). IfErr c.to_gpt.result (FailedInPlan (PlanReads g.row.B n c.args.wanted.now)))
+      c.in_ok-places.ensures.same.same_count c.to_gpt.ensures.place;
   in_range =
       subst (λ (n : ℕ). IfOk c.to_gpt.result (InRange n)) c.in_ok-places.ensures.same.same_count c.to_gpt.ensures.in_range;
   some =

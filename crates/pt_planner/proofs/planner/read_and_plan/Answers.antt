@@ -1,4 +1,4 @@
-use Rattle.std.proofs.Common.{ℕ, subst, arith}
+use Rattle.std.proofs.Common.{◌∙◌, ℕ, length, sym, subst, arith, inl, inr}
 use Rattle.std.specs.Prelude.{IfOk, IfErr}
 use Rattle.std.proofs.lemmas.Result.{err_from_is_err_and}
 use Rattle.pt_sector.specs.Calls.{blames_after}
@@ -7,7 +7,10 @@ use Rattle.pt_apply.specs.Plans.{phases_of, InRange}
 use Rattle.pt_cases.specs.Cases.{IsPlan}
 use Rattle.pt_targets.specs.Errors.{fault_in}
 use Rattle.pt_targets.specs.Unplanned.{Unplanned}
-use Rattle.pt_planner.proofs.Failing.{failure_blames, failure_unplanned}
+use Rattle.pt_sound.specs.Findings.{VerdictReads}
+use Rattle.pt_planner.specs.PlanReads.{FailedInPlan, PlanReads, MakeReads}
+use Rattle.pt_planner.proofs.Failing.{failed_planned, plan_wider, failure_blames, failure_unplanned}
+use Rattle.pt_planner.proofs.Making.{err_so}
 use Rattle.pt_planner.proofs.planner.read_and_plan.Goals as goal
 
 pub returns-in_err-known : goal.returns-in_err-known
@@ -16,6 +19,9 @@ returns-in_err-known g c =
     record {
       same = c.in_err-known.ensures.same;
       blames = rw (p.1, p.2) (failure_blames _ _ c.in_err-known.field-0.0 c.in_err-known.ensures.blames);
+      place = λ tells.
+          rw (p.1, p.2) (failed_planned (VerdictReads g.row.B (g.D.Disk.told c.args.disk.now).seen) _ c.in_err-known.field-0.0
+          (λ s reads. inl reads) (c.in_err-known.ensures.place tells));
       in_range = rw p.1 tt;
       some = rw p.1 tt;
       plan = λ tells. rw p.1 tt;
@@ -35,6 +41,13 @@ returns g c = record {
       g.met.D.Disk.reads_on c.args.disk.now c.read_known.new.disk c.plan_from.new.disk c.in_ok-known.ensures.same
       c.plan_from.ensures.same;
   blames = blames_after fault_in c.plan_from.result _ _ _ c.in_ok-known.ensures.blames c.plan_from.ensures.blames;
+  place = λ tells.
+      let n = g.D.Disk.count c.args.disk.now in
+      let d = (g.D.Disk.told c.args.disk.now).seen in
+      err_so c.plan_from.result (FailedInPlan (PlanReads g.row.B (length d) c.args.wanted.now)) _
+      (λ e. plan_wider (PlanReads g.row.B (length d) c.args.wanted.now) (MakeReads g.row.B d c.args.wanted.now) e (λ s reads. inr reads))
+      (subst (λ (m : ℕ). IfErr c.plan_from.result (FailedInPlan (PlanReads g.row.B m c.args.wanted.now)))
+      (c.in_ok-known.ensures.same.same_count ∙ sym (g.met.D.Disk.sized c.args.disk.now tells)) c.plan_from.ensures.place);
   in_range = subst (λ (n : ℕ). IfOk c.plan_from.result (InRange n)) c.in_ok-known.ensures.same.same_count c.plan_from.ensures.in_range;
   some = c.plan_from.ensures.some;
   plan = λ tells.

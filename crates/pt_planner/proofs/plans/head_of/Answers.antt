@@ -1,7 +1,8 @@
-use Rattle.std.proofs.Common.{◌≡◌, ◌∙◌, true, refl, sym, subst}
+use Rattle.std.proofs.Common.{◌≡◌, ◌∙◌, true, refl, sym, ap, subst}
 use Rattle.std.proofs.lemmas.Bool.{false≢true}
 use Rattle.std.proofs.lemmas.Result.{err_from_is_err_and}
 use denote.Enum.Bare.{sameb}
+use Rattle.pt_sector.specs.declared.address.Lba.{Lba}
 use Rattle.pt_layout.specs.Surveys.{HeadOf}
 use Rattle.pt_layout.specs.contracts.health.Head.{the_type}
 use Rattle.pt_layout.specs.declared.health.Head.{Head}
@@ -19,6 +20,7 @@ returns-then-eq g c =
     record {
       same = g.met.D.Disk.reads_same c.args.disk.now;
       blames = refl;
+      place = tt;
       given = λ mbr none. absurd (let both : head.Mbr ≡ head.Protected = sym mbr ∙ is in cc);
       ok = λ tells. (subst (λ (h : Head). HeadOf (g.D.Disk.told c.args.disk.now).seen h) is (c.requires.head tells)).1;
     }
@@ -29,6 +31,7 @@ returns-in_err-read_sector g c =
     record {
       same = c.in_err-read_sector.ensures.same;
       blames = rw (p.1, p.2) c.in_err-read_sector.ensures.blames;
+      place = rw (p.1, p.2) (ap (λ (l : Lba). l.0) c.in_err-read_sector.ensures.fault);
       given = λ mbr. rw p.1 tt;
       ok = λ tells. rw p.1 tt;
     }
@@ -37,6 +40,7 @@ pub returns : goal.returns
 returns g c = record {
   same = c.in_ok-read_sector.ensures.same;
   blames = c.in_ok-read_sector.ensures.blames;
+  place = tt;
   given = λ mbr none. absurd (cc none);
   ok = λ tells. c.in_ok-read_sector.ensures.bytes tells;
 }

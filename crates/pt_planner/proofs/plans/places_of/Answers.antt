@@ -1,9 +1,11 @@
 use Rattle.std.proofs.Common.{◌<◌, inl, inr, refl, subst}
 use Rattle.std.proofs.lemmas.Result.{err_from_is_err_and}
+use Rattle.pt_members.specs.Slices.{places_of, IsPlace}
+use Rattle.pt_planner.specs.PlanReads.{label}
 use Rattle.pt_places.specs.Answers.{PlacesAnswer}
 use Rattle.pt_places.specs.Places.{AreWithin}
 use Rattle.pt_targets.specs.declared.target.Target.{Target}
-use Rattle.pt_planner.proofs.Failing.{failure_blames, failure_stops}
+use Rattle.pt_planner.proofs.Failing.{failed_planned, failure_blames, failure_stops}
 use Rattle.pt_planner.proofs.Making.{all_of}
 use Rattle.pt_planner.proofs.plans.places_of.Goals as goal
 
@@ -13,6 +15,8 @@ returns-in_err-answer g c =
     record {
       same = c.in_err-answer.ensures.same;
       blames = rw (p.1, p.2) (failure_blames _ _ c.in_err-answer.field-0.0 c.in_err-answer.ensures.blames);
+      place = rw (p.1, p.2) (failed_planned (IsPlace (places_of g.row.B (g.D.Disk.count c.args.disk.now) c.args.wanted.now.body)) _
+          c.in_err-answer.field-0.0 (λ s at. label at) c.in_err-answer.ensures.failed);
       in_range = rw p.1 tt;
       ok = λ tells. rw p.1 tt;
       none_left = λ tells. rw p.1 tt;
@@ -29,6 +33,7 @@ returns-in-Targets g c =
     record {
       same = c.in_ok-answer.ensures.same;
       blames = c.in_ok-answer.ensures.blames;
+      place = tt;
       in_range =
           all_of (λ (t : Target _). t.at.0 < g.D.Disk.count c.args.disk.now) c.in-Targets.targets.items
           (subst (AreWithin (g.D.Disk.count c.args.disk.now)) c.in-Targets.is c.in_ok-answer.ensures.in_range);
@@ -41,6 +46,7 @@ pub returns-in-Foreign : goal.returns-in-Foreign
 returns-in-Foreign g c = record {
   same = c.in_ok-answer.ensures.same;
   blames = c.in_ok-answer.ensures.blames;
+  place = tt;
   in_range = tt;
   ok = λ tells. tt;
   none_left = λ tells. tt;
@@ -54,6 +60,7 @@ pub returns-in-Misplaced : goal.returns-in-Misplaced
 returns-in-Misplaced g c = record {
   same = c.in_ok-answer.ensures.same;
   blames = c.in_ok-answer.ensures.blames;
+  place = tt;
   in_range = tt;
   ok = λ tells. tt;
   none_left = λ tells. tt;

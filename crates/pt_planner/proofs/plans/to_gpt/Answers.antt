@@ -6,6 +6,8 @@ use Rattle.pt_apply.specs.Plans.{InRange}
 use Rattle.pt_cases.specs.Shape.{FitsTable}
 use Rattle.pt_targets.specs.Errors.{fault_in}
 use Rattle.pt_targets.specs.declared.target.Target.{Target}
+use Rattle.pt_planner.specs.PlanReads.{head}
+use Rattle.pt_planner.proofs.Failing.{faultless_nowhere}
 use Rattle.pt_planner.proofs.Making.{ok_so, err_so, turn_hinders, copies_hinder, label_start, copies_start, isnt, order_mbr}
 use Rattle.pt_planner.proofs.plans.to_gpt.Goals as goal
 
@@ -18,6 +20,7 @@ returns-then-changes_labels g c =
     record {
       same = g.met.D.Disk.reads_same c.args.disk.now;
       blames = blames_none fault_in c.one_label.result _ _ c.one_label.ensures.faultless refl;
+      place = faultless_nowhere _ c.one_label.result c.one_label.ensures.faultless;
       in_range =
           ok_so c.one_label.result _ _ (λ plan each. each (g.D.Disk.count c.args.disk.now) c.requires.in_range)
           c.one_label.ensures.in_range;
@@ -38,6 +41,7 @@ returns-in_err-head g c =
     record {
       same = c.in_err-head.ensures.same;
       blames = rw (p.1, p.2) c.in_err-head.ensures.blames;
+      place = rw (p.1, p.2) (head c.in_err-head.ensures.place);
       in_range = rw p.1 tt;
       some = rw p.1 tt;
       plan = λ tells. rw p.1 tt;
@@ -56,6 +60,7 @@ returns g c =
     record {
       same = c.in_ok-head.ensures.same;
       blames = blames_none fault_in c.both_copies.result _ _ c.both_copies.ensures.faultless c.in_ok-head.ensures.blames;
+      place = faultless_nowhere _ c.both_copies.result c.both_copies.ensures.faultless;
       in_range = subst (λ (n : ℕ). IfOk c.both_copies.result (InRange n)) same c.both_copies.ensures.in_range;
       some = c.both_copies.ensures.some;
       plan = λ tells.

@@ -1,4 +1,4 @@
-use Rattle.std.proofs.Common.{◌≡◌, ◌∙◌, ◌<◌, ℕ, List, length, Option, Some, None, ap, refl, sym, subst, arith}
+use Rattle.std.proofs.Common.{◌≡◌, ◌∙◌, ◌<◌, ℕ, List, length, Option, Some, None, ap, refl, sym, subst, arith, inl, inr}
 use Rattle.std.specs.Prelude.{Contains}
 use Rattle.std.proofs.lemmas.Result.{err_from_is_err_and}
 use Rattle.pt_sector.specs.Sectors.{Sectors}
@@ -18,7 +18,9 @@ use Rattle.pt_targets.specs.Unmade.{HasUnmade}
 use Rattle.pt_targets.specs.Targets.{AreMbrTargets}
 use Rattle.pt_targets.specs.declared.target.Target.{Target}
 use Rattle.pt_targets.specs.Unplanned.{unmade}
-use Rattle.pt_planner.proofs.Failing.{failure_blames, failure_hindered}
+use Rattle.pt_chains.specs.Steps.{IsHeadOrEbr}
+use Rattle.pt_planner.specs.PlanReads.{PlanReads, head, ebr}
+use Rattle.pt_planner.proofs.Failing.{failed_planned, faultless_nowhere, failure_blames, failure_hindered}
 use Rattle.pt_planner.proofs.Making.{ok_so, err_so, all_of, turn_hinders, mbr_start}
 use Rattle.pt_planner.proofs.plans.to_mbr.Goals as goal
 
@@ -34,10 +36,16 @@ some_sectors b d o l records chain is body denotes =
     let there : Denotes b d (Some l) = subst (λ (x : Option Layout). Denotes b d x) is denotes in
     (subst (λ (y : Body). BodyIs b d y) body there.1).0.0.0
 
+head_or_ebr : (b n : ℕ) (p : Layout) (records : List (Option Record)) (chain : List Ebr) (s : ℕ) → p.body ≡ Mbr records chain
+    → IsHeadOrEbr chain s → PlanReads b n p s
+head_or_ebr b n p records chain s body (inl here) = head here
+head_or_ebr b n p records chain s body (inr at) = ebr records chain body at
+
 pub returns-in-None : goal.returns-in-None
 returns-in-None g c = record {
   same = g.met.D.Disk.reads_same c.args.disk.now;
   blames = refl;
+  place = tt;
   in_range = tt;
   some = tt;
   plan = λ tells. tt;
@@ -48,6 +56,7 @@ pub returns-in-Gpt : goal.returns-in-Gpt
 returns-in-Gpt g c = record {
   same = g.met.D.Disk.reads_same c.args.disk.now;
   blames = refl;
+  place = tt;
   in_range = tt;
   some = tt;
   plan = λ tells. tt;
@@ -58,6 +67,7 @@ pub returns-then-sectors-eq0 : goal.returns-then-sectors-eq0
 returns-then-sectors-eq0 g c = record {
   same = g.met.D.Disk.reads_same c.args.disk.now;
   blames = refl;
+  place = tt;
   in_range = tt;
   some = tt;
   plan = λ tells. tt;
@@ -74,6 +84,9 @@ returns-in_err-heads g c =
     record {
       same = c.in_err-heads.ensures.same;
       blames = rw (p.1, p.2) (failure_blames _ _ c.in_err-heads.field-0.0 c.in_err-heads.ensures.blames);
+      place = rw (p.1, p.2) (failed_planned (IsHeadOrEbr c.args.chain.now) _ c.in_err-heads.field-0.0
+          (λ s at. head_or_ebr g.row.B (g.D.Disk.count c.args.disk.now) c.args.wanted.now c.args.records.now c.args.chain.now s c.requires.body
+          at) c.in_err-heads.ensures.failed);
       in_range = rw p.1 tt;
       some = rw p.1 tt;
       plan = λ tells. rw p.1 tt;
@@ -86,6 +99,7 @@ pub returns-in-None-2 : goal.returns-in-None-2
 returns-in-None-2 g c = record {
   same = c.in_ok-heads.ensures.same;
   blames = c.in_ok-heads.ensures.blames;
+  place = tt;
   in_range = tt;
   some = tt;
   plan = λ tells. tt;
@@ -119,6 +133,7 @@ returns g c =
     record {
       same = c.in_ok-heads.ensures.same;
       blames = blames_none fault_in result _ _ c.within_mbr.ensures.faultless c.in_ok-heads.ensures.blames;
+      place = faultless_nowhere _ result c.within_mbr.ensures.faultless;
       in_range =
           let heads : (t : Target g.row.B) → Contains c.in-Some-2.heads.items t → t.at.0 < n =
           rw c.in-Some-2.is at c.in_ok-heads.ensures.in_range in

@@ -25,4 +25,5 @@ returns-in-Ok-No g c = rw c.reason.ensures (
 pub returns-in-Err : goal.returns-in-Err
 returns-in-Err g c = rw c.unchecked.ensures (says_unchecked g.row.B c.args.view.now
     (disk_of g.row.B c.args.view.now c.args.elsewhere.items) (phases_of c.args.plan.now) c.in-Err.error
-    (asked_of g.row.B c.args.view.now _ _ _ _ _ _ _ _ c.in-Some.ensures.view c.check.ensures.same.through.1 c.in-Err.ensures.blames))
+    (asked_of g.row.B c.args.view.now _ _ _ _ _ _ _ _ c.in-Some.ensures.view c.check.ensures.same.through.1 c.in-Err.ensures.blames)
+    (rw c.in-Some.ensures.seen at (c.in-Err.ensures.place tt)))

@@ -11,4 +11,5 @@ returns-in-Err-clause-err g c =
     rw c.unmended.ensures (says_unmended g.row.B c.args.view.now (disk_of g.row.B c.args.view.now c.args.elsewhere.items) c.in-Err.error
     (rw c.in-Some.ensures.seen at (c.in-Err.ensures.refused tt))
     (asked_of g.row.B c.args.view.now _ _ _ _ _ _ _ _ c.in-Some.ensures.view c.checked_plan_for_repair.ensures.same.through.1
-    c.in-Err.ensures.blames))
+    c.in-Err.ensures.blames)
+    (rw c.in-Some.ensures.view.count_is at (rw c.in-Some.ensures.seen at (c.in-Err.ensures.place tt))))

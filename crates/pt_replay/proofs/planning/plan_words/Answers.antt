@@ -13,4 +13,5 @@ returns-in-Err-clause-err g c =
     rw c.refused.ensures (says_refused g.row.B c.args.view.now (disk_of g.row.B c.args.view.now c.args.elsewhere.items) batch c.in-Err.error
     (rw c.in-Some.ensures.view.count_is at (rw c.in-Some.ensures.seen at (c.in-Err.ensures.refused tt)))
     (asked_of g.row.B c.args.view.now _ _ _ _ _ _ _ _ c.in-Some.ensures.view c.checked_plan_for.ensures.same.through.1
-    c.in-Err.ensures.blames))
+    c.in-Err.ensures.blames)
+    (rw c.in-Some.ensures.view.count_is at (rw c.in-Some.ensures.seen at (c.in-Err.ensures.place tt))))

@@ -1,7 +1,7 @@
 use Rattle.std.proofs.Common.{◌≡◌, ℕ, ◌+◌, [], ◌∷◌, ◌++◌, map, take, subst, rules, arith}
 use Rattle.std.proofs.lemmas.List.{take_all}
 use Rattle.pt_plan.specs.Batches.{Words, Commits}
-use Rattle.pt_runs.specs.Batches.{batch_of}
+use Rattle.pt_runs.specs.Batches.{batch_of, CommitsByReads}
 use Rattle.pt_runs.specs.Replying.{Tried}
 use Rattle.pt_runs.proofs.Replying.{mapped_next, words_are, replies_on, are_replies, blames_on, session_on}
 use Rattle.pt_runs.proofs.sessions.session.Goals as goal
@@ -39,6 +39,19 @@ loop-batch-preserved g c =
           (record { edits = c.as_slice.result.now; guids = c.as_slice-in-loop-batch.result.now }) c.attempt-reply.result
           (g.D.Disk.told c.loop-batch.disk) (g.D.Disk.told c.attempt-reply.new.disk))
           c.loop-batch.invariant.count (c.attempt-reply.ensures.tried tells))));
+      place = λ tells. rw (next, c.push_reserved.ensures.items)
+          (session_on (CommitsByReads g.row.B (g.D.Disk.count c.args.disk.now))
+          (map batch_of (take c.loop-batch.batch-index c.args.batches.now)) c.loop-batch.replies.items
+          (batch_of c.batch-item.result) c.attempt-reply.result c.loop-batch.faulted c.attempt-reply.new.faulted
+          (g.D.Disk.told c.args.disk.now) (g.D.Disk.told c.loop-batch.disk) (g.D.Disk.told c.attempt-reply.new.disk)
+          (c.loop-batch.invariant.place tells) c.attempt-reply.ensures.replied
+          (subst (λ (words : Words). Tried (CommitsByReads g.row.B (g.D.Disk.count c.args.disk.now)) words c.attempt-reply.result
+          (g.D.Disk.told c.loop-batch.disk) (g.D.Disk.told c.attempt-reply.new.disk))
+          (words_are _ _ _ _ c.as_slice.ensures.value c.as_slice-in-loop-batch.ensures.value)
+          (subst (λ (n : ℕ). Tried (CommitsByReads g.row.B n)
+          (record { edits = c.as_slice.result.now; guids = c.as_slice-in-loop-batch.result.now }) c.attempt-reply.result
+          (g.D.Disk.told c.loop-batch.disk) (g.D.Disk.told c.attempt-reply.new.disk))
+          c.loop-batch.invariant.count (c.attempt-reply.ensures.place tells))));
     }
 
 pub returns-clause-replies : goal.returns-clause-replies

@@ -1,5 +1,5 @@
 use Rattle.std.proofs.Common.{◌≡◌, ◌++◌, ◌≤◌, length, map, take, false, vec_len, vec_capacity}
-use Rattle.pt_runs.specs.Batches.{batch_of, SessionOf}
+use Rattle.pt_runs.specs.Batches.{batch_of, SessionOf, SessionByReads}
 use Rattle.pt_runs.specs.Replying.{Replies}
 use Rattle.pt_runs.specs.Sessions.{faults_in}
 use Rattle.pt_runs.proofs.sessions.session.Given as goal
@@ -14,4 +14,6 @@ invariant-loop-batch g l = record {
   blames : g.D.Disk.faults l.disk ≡ g.D.Disk.faults l.initial.disk ++ faults_in l.replies.items;
   session : g.D.Disk.tells → SessionOf g.row.B (g.D.Disk.count l.initial.disk) (map batch_of (take l.batch-index l.batches)) l.replies.items
       (g.D.Disk.told l.initial.disk) (g.D.Disk.told l.disk);
+  place : g.D.Disk.tells → SessionByReads g.row.B (g.D.Disk.count l.initial.disk) (map batch_of (take l.batch-index l.batches))
+      l.replies.items (g.D.Disk.told l.initial.disk) (g.D.Disk.told l.disk);
 }
