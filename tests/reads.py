@@ -16,7 +16,7 @@ from concurrent.futures import ThreadPoolExecutor
 
 from images import FREEBSD, LARGE, SMALL, ebr, entry, guid, label, record
 
-CALL = re.compile(r"(lseek|read|write)\(\d+<[^>]*/image>.* = (\d+)$", re.MULTILINE)
+CALL = re.compile(r"(pread64|pwrite64)\(\d+<[^>]*/image>.*, (\d+)\) += (\d+)$", re.MULTILINE)
 FRESH = bytes(range(16)).hex()
 REFUSED = 3
 # the edits that are done on tables of each kind; the others are refused there, and with sectors of 4096 bytes those of a label's partition
@@ -62,15 +62,11 @@ def mbrs(sectors):
 
 
 def sectors_of(calls, size):
-    """How often each sector was read, and how many were written, by the calls of one file, whose place each of them moves."""
-    read, wrote, at = collections.Counter(), 0, 0
-    for name, result in CALL.findall(calls):
-        if name == "lseek":
-            at = int(result)
-            continue
-        touched = range(at // size, -(-(at + int(result)) // size))
-        at += int(result)
-        if name == "read":
+    """How often each sector was read, and how many were written, by the calls of one file."""
+    read, wrote = collections.Counter(), 0
+    for name, at, count in CALL.findall(calls):
+        touched = range(int(at) // size, -(-(int(at) + int(count)) // size))
+        if name == "pread64":
             read.update(touched)
         else:
             wrote += len(touched)
@@ -129,7 +125,7 @@ class Counted:
             file.write(image)
         log = os.path.join(self.folder, "calls")
         size = ["--sector-size", str(sectors.size)]
-        done = subprocess.run(["strace", "-y", "-e", "trace=lseek,read,write", "-o", log, self.ptab, command, *size, self.path, *words],
+        done = subprocess.run(["strace", "-y", "-e", "trace=pread64,pwrite64", "-o", log, self.ptab, command, *size, self.path, *words],
                               stdin=subprocess.DEVNULL, capture_output=True, check=False)
         with open(log, encoding="utf-8", errors="replace") as file:
             read, wrote = sectors_of(file.read(), sectors.size)

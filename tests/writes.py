@@ -14,7 +14,7 @@ def recorded(ptab, path, command, words, sectors):
                            "--sector-size", str(sectors.size), *words], capture_output=True, text=True)
     if (done.stdout, done.returncode) != ("done\n", 0):
         sys.exit(f"{command} {words}: status {done.returncode}: {done.stdout}{done.stderr}")
-    phases, writes, fd, at = [], [], None, 0
+    phases, writes, fd = [], [], None
     with open(log, encoding="ascii") as it:
         for line in it:
             found = CALL.search(line.strip())
@@ -25,12 +25,9 @@ def recorded(ptab, path, command, words, sectors):
                 fd = answer if "O_RDWR" in arguments else fd
             elif arguments.split(",")[0] != fd:
                 continue
-            elif call == "lseek":
-                at = int(answer)
-            elif call == "write":
+            elif call == "pwrite64":
                 content = bytes.fromhex(re.search(r'"([^"]*)"', arguments).group(1).replace("\\x", ""))
-                writes.append((at // sectors.size, content))
-                at += len(content)
+                writes.append((int(arguments.rsplit(",", 1)[1]) // sectors.size, content))
             elif call == "fsync":
                 phases.append(writes)
                 writes = []

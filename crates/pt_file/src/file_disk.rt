@@ -1,26 +1,36 @@
 //! A disk in a file.
 
-ghost use Rattle.std.specs.Prelude.{◌≡◌, ◌≤◌, ◌<◌, ◌*◌, ◌+◌, ◌^◌, ◌∷◌, [], ◌++◌, length, IfOk};
-ghost use Rattle.pt_file.specs.Untold.{untold, in_bound};
+ghost use Rattle.std.specs.Prelude.{◌≡◌, ◌≤◌, ◌<◌, ◌*◌, ◌/◌, ◌+◌, ◌^◌, ◌∷◌, [], ◌++◌, length, take, drop, IfOk, IfSome, IsTrue};
+ghost use Rattle.pt_file.specs.Untold.{in_bound};
+ghost use Rattle.pt_file.specs.Blocks.{length-sectors_of};
+ghost use Rattle.pt_file.specs.Stores.{in_sectors};
 ghost use Rattle.pt_sector.specs.Calls.{untouched_same, untouched_on};
 
+use crate::store::Store;
 use pt_sector::{Disk, Fault, Lba, Moments};
 use std::error::Error;
 use std::fmt;
 use std::fs::{File, Files, OpenFile, OpenOptions};
-use std::io::{Read, Seek, SeekFrom, Write};
+use std::io::ErrorKind;
 
-/// A plain file as a disk with sectors of `B` bytes; a tail shorter than a sector is never touched.
+/// A store of bytes as a disk: sector k is the bytes from k * `B` up to (k + 1) * `B`. A tail shorter than a sector is
+/// never touched.
 ///
-/// It tells nothing of its content: that a file keeps the model of a device (docs/model.md) is a premise. A flush syncs the
-/// file, data and length. Nothing is cached: each call seeks and reads, or writes.
+/// It tells what its store tells. A flush syncs the store. Nothing is cached: each call reads or writes.
 #[derive(Drop)]
-pub struct FileDisk<const B: usize> {
-    file: File,
+pub struct StoreDisk<const B: usize, S: Store<B> + Drop> {
+    store: S,
     sectors: u64,
     failed: Moments<Fault>,
+    ghost positive: { 0 < B },
     ghost fits: { sectors * B < 2 ^ 63 },
+    ghost whole: { S.tells → sectors * B ≤ length (S.told store).seen },
 }
+
+/// A plain file as a disk with sectors of `B` bytes.
+///
+/// It tells nothing of its content: that a file keeps the clauses of a [`Store`] (docs/model.md) is a premise.
+pub type FileDisk<const B: usize> = StoreDisk<B, File>;
 
 /// What a file is opened for: reading alone, or reading and writing.
 #[derive(Clone, Copy, Debug, PartialEq, Eq)]
@@ -63,7 +73,26 @@ pub fn open_plain<R: Files<File = File>>(
     }
 }
 
-impl<const B: usize> FileDisk<B> {
+impl<const B: usize, S: Store<B> + Drop> StoreDisk<B, S> {
+    /// A disk with as many whole sectors as the store has bytes for; none where it can't say, or has 2^63 bytes or more.
+    pub fn new(store: S) -> Option<StoreDisk<B, S>>
+        requires size { 0 < B }
+        ensures unfailed { IfSome result (λ disk. disk.failed.items ≡ []) }
+        ensures store { IfSome result (λ disk. disk.store ≡ store) }
+        ensures sectors { S.tells → IfSome result (λ disk. disk.sectors ≡ length (S.told store).seen / B) }
+    {
+        match store.len() {
+            Ok(bytes) if bytes < 1 << 63 => Some(StoreDisk {
+                store,
+                sectors: bytes / B as u64,
+                failed: Moments::new(),
+            }),
+            _ => None,
+        }
+    }
+}
+
+impl<const B: usize> StoreDisk<B, File> {
     /// Opens a plain file as a disk with as many whole sectors as the file has now. `NoFile` for what isn't a plain file,
     /// can't be opened so, or has 2^63 bytes or more.
     pub fn open<R: Files<File = File>>(
@@ -74,26 +103,17 @@ impl<const B: usize> FileDisk<B> {
         requires size { 0 < B }
         ensures unfailed { IfOk result (λ disk. disk.failed.items ≡ []) }
     {
-        let mut file = open_plain(rt, path, access)?;
-        let bytes = match file.seek(SeekFrom::End(0)) {
-            Ok(bytes) => bytes,
-            Err(_) => return Err(NoFile),
-        };
-        if bytes >= 1 << 63 {
-            return Err(NoFile);
+        match StoreDisk::new(open_plain(rt, path, access)?) {
+            Some(disk) => Ok(disk),
+            None => Err(NoFile),
         }
-        Ok(FileDisk {
-            file,
-            sectors: bytes / B as u64,
-            failed: Moments::new(),
-        })
     }
 }
 
-impl<const B: usize> Disk<B> for FileDisk<B> {
-    ghost tells = { ⊥ };
+impl<const B: usize, S: Store<B> + Drop> Disk<B> for StoreDisk<B, S> {
+    ghost tells = { S.tells };
 
-    ghost told = { λ d. untold };
+    ghost told = { λ d. in_sectors B d.sectors (S.told d.store) };
 
     ghost count = { λ d. d.sectors };
 
@@ -109,16 +129,16 @@ impl<const B: usize> Disk<B> for FileDisk<B> {
 
     ghost bounded = { λ d. in_bound (d.sectors * B) d.fits };
 
-    ghost sized = { λ d tells. absurd tells };
+    ghost sized = { λ d tells. length-sectors_of B d.sectors (S.told d.store).seen };
 
-    ghost may_be_seen = { λ d tells. absurd tells };
+    ghost may_be_seen = { λ d tells. S.may_be_seen d.store tells d.sectors (d.whole tells) };
 
     fn sectors(&self) -> u64 {
         self.sectors
     }
 
     fn read(&mut self, lba: Lba, into: &mut [u8; B]) -> Result<(), Fault> {
-        if read_at(&mut self.file, lba.0 * B as u64, into) {
+        if read_whole(&self.store, lba.0 * B as u64, into) {
             return Ok(());
         }
         self.failed = self.failed.and(&Fault::Read(lba));
@@ -126,26 +146,42 @@ impl<const B: usize> Disk<B> for FileDisk<B> {
     }
 
     fn write(&mut self, lba: Lba, bytes: &[u8; B]) -> Result<(), Fault> {
-        if write_at(&mut self.file, lba.0 * B as u64, bytes) {
-            return Ok(());
+        match self.store.write_at(lba.0 * B as u64, bytes) {
+            Ok(()) => Ok(()),
+            Err(_) => {
+                self.failed = self.failed.and(&Fault::Write(lba));
+                Err(Fault::Write(lba))
+            }
         }
-        self.failed = self.failed.and(&Fault::Write(lba));
-        Err(Fault::Write(lba))
     }
 
     fn flush(&mut self) -> Result<(), Fault> {
-        if self.file.sync_all().is_ok() {
-            return Ok(());
+        match self.store.sync() {
+            Ok(()) => Ok(()),
+            Err(_) => {
+                self.failed = self.failed.and(&Fault::Flush);
+                Err(Fault::Flush)
+            }
         }
-        self.failed = self.failed.and(&Fault::Flush);
-        Err(Fault::Flush)
     }
 }
 
-fn read_at(file: &mut File, at: u64, into: &mut [u8]) -> bool {
-    file.seek(SeekFrom::Start(at)).is_ok() && file.read_exact(into).is_ok()
-}
-
-fn write_at(file: &mut File, at: u64, bytes: &[u8]) -> bool {
-    file.seek(SeekFrom::Start(at)).is_ok() && file.write_all(bytes).is_ok()
+/// Reads on until there is no more room; false where a read fails or gives nothing. A read that a signal interrupts is tried again.
+fn read_whole<const B: usize, S: Store<B>>(store: &S, at: u64, into: &mut [u8]) -> bool
+    requires fits { at + length into.old < 2 ^ 64 }
+    ensures { S.tells → IsTrue result → into.new ≡ take (length into.new) (drop at (S.told store.now).seen) }
+{
+    let mut done = 0;
+    for _ in 0..u64::MAX {
+        if done == into.len() {
+            return true;
+        }
+        match store.read_at(at + done as u64, &mut into[done..]) {
+            Ok(0) => return false,
+            Ok(n) => done += n,
+            Err(e) if e.kind() == ErrorKind::Interrupted => {}
+            Err(_) => return false,
+        }
+    }
+    false
 }

@@ -5,6 +5,8 @@ use Rattle.pt_sector.specs.declared.disk.Fault.TheVariants.{Read}
 use Rattle.pt_sector.specs.declared.reading.Failure.{Failure}
 use Rattle.pt_sector.specs.declared.reading.Failure.TheVariants as failure
 use Rattle.pt_recover.specs.Answers.{IsOutsideDisk}
+use Rattle.pt_recover.specs.declared.error.NoTable.{NoTable}
+use Rattle.pt_recover.specs.declared.error.NoTable.TheVariants as nothing
 use Rattle.pt_words.specs.declared.error.Refusal.{Refusal}
 use Rattle.pt_words.specs.declared.error.Refusal.TheVariants as refusal
 use Rattle.pt_check.specs.declared.error.CheckError.{CheckError}
@@ -35,7 +37,12 @@ HidesNoFailure (commit.Edit r) = r ≢ refusal.Memory
 HidesNoFailure (commit.Plan e) = ¬ IsFailure e
 HidesNoFailure _ = Unit {0}
 
--- what a commit tells of a failure, of an edit's refusal, and of the planner's and the checker's errors
+-- what a commit tells where there is no table, of a failure, of an edit's refusal, and of the planner's and the checker's errors
+abbrev pub commit_untabled : NoTable → CommitError
+commit_untabled (nothing.Device at) = commit.Device (Read at)
+commit_untabled nothing.Memory = commit.Memory
+commit_untabled e = commit.NoTable e
+
 abbrev pub commit_failure : Failure → CommitError
 commit_failure (failure.Device at) = commit.Device (Read at)
 commit_failure failure.Memory = commit.Memory

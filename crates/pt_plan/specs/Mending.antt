@@ -5,6 +5,8 @@ use Rattle.pt_sector.specs.declared.disk.Fault.TheVariants.{Read}
 use Rattle.pt_sector.specs.declared.reading.Failure.{Failure}
 use Rattle.pt_sector.specs.declared.reading.Failure.TheVariants as failure
 use Rattle.pt_recover.specs.Answers.{IsOutsideDisk}
+use Rattle.pt_recover.specs.declared.error.NoTable.{NoTable}
+use Rattle.pt_recover.specs.declared.error.NoTable.TheVariants as nothing
 use Rattle.pt_check.specs.declared.error.CheckError.{CheckError}
 use Rattle.pt_check.specs.declared.error.CheckError.TheVariants as check
 use Rattle.pt_targets.specs.Errors.{IsFailure}
@@ -32,7 +34,12 @@ MendHidesNoFailure (repair.NoTable e) = ¬ IsOutsideDisk e
 MendHidesNoFailure (repair.Plan e) = ¬ IsFailure e
 MendHidesNoFailure _ = Unit {0}
 
--- what a repair tells of a failure, and of the planner's and the checker's errors
+-- what a repair tells where there is no table, of a failure, and of the planner's and the checker's errors
+abbrev pub repair_untabled : NoTable → RepairError
+repair_untabled (nothing.Device at) = repair.Device (Read at)
+repair_untabled nothing.Memory = repair.Memory
+repair_untabled e = repair.NoTable e
+
 abbrev pub repair_failure : Failure → RepairError
 repair_failure (failure.Device at) = repair.Device (Read at)
 repair_failure failure.Memory = repair.Memory

@@ -1,7 +1,7 @@
 //! Why a commit did nothing.
 
 ghost use Rattle.std.specs.Prelude.{◌≡◌};
-ghost use Rattle.pt_plan.specs.Failed.{commit_error_number, commit_failure, commit_unedited, commit_unplanned, commit_unchecked};
+ghost use Rattle.pt_plan.specs.Failed.{commit_error_number, commit_untabled, commit_failure, commit_unedited, commit_unplanned, commit_unchecked};
 ghost use Rattle.pt_plan.specs.declared.error.CommitError.TheVariants as commit;
 
 use pt_check::{CheckError, Why};
@@ -64,6 +64,8 @@ impl fmt::Display for CommitError {
 impl Error for CommitError {}
 
 impl From<NoTable> for CommitError {
+    ghost from_gives = { λ why e. e ≡ commit_untabled why };
+
     fn from(why: NoTable) -> CommitError {
         match why {
             NoTable::Device(at) => CommitError::Device(Fault::Read(at)),

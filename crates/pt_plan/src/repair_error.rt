@@ -1,7 +1,7 @@
 //! Why a repair did nothing.
 
 ghost use Rattle.std.specs.Prelude.{◌≡◌};
-ghost use Rattle.pt_plan.specs.Mending.{repair_error_number, repair_failure, repair_unplanned, repair_unchecked};
+ghost use Rattle.pt_plan.specs.Mending.{repair_error_number, repair_untabled, repair_failure, repair_unplanned, repair_unchecked};
 ghost use Rattle.pt_plan.specs.declared.repair_error.RepairError.TheVariants as repair;
 
 use pt_check::{CheckError, Why};
@@ -64,6 +64,8 @@ impl fmt::Display for RepairError {
 impl Error for RepairError {}
 
 impl From<NoTable> for RepairError {
+    ghost from_gives = { λ why e. e ≡ repair_untabled why };
+
     fn from(why: NoTable) -> RepairError {
         match why {
             NoTable::Device(at) => RepairError::Device(Fault::Read(at)),

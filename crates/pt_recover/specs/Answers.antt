@@ -7,6 +7,8 @@ use Rattle.pt_sector.specs.declared.reading.Failure.{Failure}
 use Rattle.pt_sector.specs.declared.reading.Failure.TheVariants as failure
 use Rattle.pt_mbr.specs.Mbr.{AreRecords}
 use Rattle.pt_mbr.specs.Chain.{ChainFault, IsDevice}
+use Rattle.pt_mbr.specs.declared.chain.ChainError.{ChainError}
+use Rattle.pt_mbr.specs.declared.chain.ChainError.TheVariants as chain
 use Rattle.pt_mbr.specs.declared.record.Record.{Record}
 use Rattle.pt_mbr.specs.declared.mbr.Mbr.{Mbr}
 use Rattle.pt_gpt.specs.Copy.{IsCopyFault}
@@ -73,6 +75,11 @@ failure_in _ = None
 abbrev pub told_failure : Failure → NoTable
 told_failure (failure.Device at) = Device at
 told_failure failure.Memory = Memory
+
+-- what recovery tells of what is wrong with a chain: a sector of it that can't be read is the device's fault
+abbrev pub told_chain : ChainError → NoTable
+told_chain (chain.Device at) = Device at
+told_chain e = Chain e
 
 -- the fault that an answer carries
 abbrev pub fault_in : NoTable → Option Fault

@@ -1,7 +1,7 @@
 //! Why there is no layout.
 
 ghost use Rattle.std.specs.Prelude.{◌≡◌};
-ghost use Rattle.pt_recover.specs.Answers.{failure_in, told_failure};
+ghost use Rattle.pt_recover.specs.Answers.{failure_in, told_chain, told_failure};
 ghost use Rattle.pt_recover.specs.declared.error.NoTable.TheVariants.{Device, Memory};
 
 use pt_gpt::CopyError;
@@ -55,6 +55,8 @@ impl From<FailedRead> for NoTable {
 }
 
 impl From<ChainError> for NoTable {
+    ghost from_gives = { λ error e. e ≡ told_chain error };
+
     fn from(error: ChainError) -> NoTable {
         match error {
             ChainError::Device(at) => NoTable::Device(at),

@@ -2,6 +2,7 @@
 
 ghost use Rattle.std.specs.Prelude.{◌≡◌};
 ghost use Rattle.pt_sound.specs.Findings.{finding_number};
+ghost use Rattle.pt_sound.specs.declared.finding.Finding.TheVariants as finding;
 
 use pt_gpt::{CopyError, Side};
 use pt_members::Layout;
@@ -97,6 +98,8 @@ impl fmt::Display for Finding {
 impl Error for Finding {}
 
 impl From<NoTable> for Finding {
+    ghost from_gives = { λ why f. f ≡ finding.NoTable why };
+
     fn from(why: NoTable) -> Finding {
         Finding::NoTable(why)
     }

@@ -67,6 +67,8 @@ impl fmt::Display for EditError {
 impl Error for EditError {}
 
 impl From<GuidError> for EditError {
+    ghost from_gives = { λ _ e. e ≡ error.NotAGuid };
+
     fn from(_error: GuidError) -> EditError {
         EditError::NotAGuid
     }
