@@ -1,7 +1,9 @@
 #!/usr/bin/env python3
-"""Counts the sectors that a call asks the image for: an edit, a plan, a check and a repair read no sector twice, whether they are done or
-refused, on tables of every kind and both sector sizes. On each of them edits of several kinds are done. A rename in a GPT reads at most 140
-sectors and writes 67. No sector is read but those of the tables before the call and after it, so that no bad sector elsewhere fails a call.
+"""Compares the sectors that each command asks the image for with those that docs/model.md says it reads: `show` and `locate` what recovery
+reads, `verify` what decides the verdict, `check` and `apply` what a check of that plan reads, each exactly; `plan`, `edit` and `repair` no
+others than what decides the verdict, what a plan reads and what its check reads. So no bad sector elsewhere fails a call. An edit, a plan,
+a check and a repair read no sector twice. All this on tables of every kind and both sector sizes, with edits of several kinds that are
+done and that are refused. A rename in a GPT reads at most 140 sectors and writes 67.
 
 usage: tests/reads.py PTAB
 """
@@ -11,10 +13,11 @@ import re
 import subprocess
 import sys
 import tempfile
-import uuid
 from concurrent.futures import ThreadPoolExecutor
 
 from images import FREEBSD, LARGE, SMALL, ebr, entry, guid, label, record
+from plans import phases_of
+from recovery import Disk, check_reads, plan_reads
 
 CALL = re.compile(r"(pread64|pwrite64)\(\d+<[^>]*/image>.*, (\d+)\) += (\d+)$", re.MULTILINE)
 FRESH = bytes(range(16)).hex()
@@ -73,50 +76,11 @@ def sectors_of(calls, size):
     return read, wrote
 
 
-def number(content, at, size):
-    return int.from_bytes(content[at:at + size], "little")
-
-
-def parts_of(content, base):
-    """(type, first sector, sectors) of each used record of a sector"""
-    for at in range(446, 510, 16):
-        if content[at + 4]:
-            yield content[at + 4], base + number(content, at + 8, 4), number(content, at + 12, 4)
-
-
-def places_in(sectors, image):
-    """The sectors of the image's table: sector 0, both copies of a GPT or the chain of an MBR, and the second sector of each slice."""
-    count = len(image) // sectors.size
-
-    def at(lba):
-        return image[lba * sectors.size:(lba + 1) * sectors.size]
-
-    records = list(parts_of(at(0), 0)) if at(0)[510:512] == b"\x55\xaa" else []
-    if records and all(kind != 0xEE for kind, _, _ in records):
-        found, slices = {0}, [(first, length) for kind, first, length in records if kind == 0xA5]
-        for first in (first for kind, first, _ in records if kind in (0x05, 0x0F, 0x85)):
-            ebr_at = first
-            while ebr_at is not None:
-                found.add(ebr_at)
-                slices += [(ebr_at + start, length) for kind, start, length in parts_of(at(ebr_at), 0) if kind == 0xA5]
-                links = [start for kind, start, _ in parts_of(at(ebr_at), 0) if kind in (0x05, 0x0F, 0x85)]
-                ebr_at = first + links[0] if links else None
-        return found | {first + 1 for first, length in slices if length > 1}
-    found = {0, *range(1, sectors.array + 2), *range(count - sectors.array - 1, count)}
-    for start in (2, count - sectors.array - 1):
-        array = image[start * sectors.size:(start + sectors.array) * sectors.size]
-        for entry_at in range(0, len(array), 128):
-            first, last = number(array, entry_at + 32, 8), number(array, entry_at + 40, 8)
-            if array[entry_at:entry_at + 16] == uuid.UUID(FREEBSD).bytes_le and first < last < count:
-                found.add(first + 1)
-    return found
-
-
 class Counted:
     """The command, with its calls on an image counted."""
 
     def __init__(self, ptab, folder):
-        self.ptab, self.folder, self.passed, self.calls = ptab, folder, 0, []
+        self.ptab, self.folder, self.passed = ptab, folder, 0
         self.path = os.path.join(folder, "image")
 
     def run(self, what, sectors, image, command, words):
@@ -133,23 +97,22 @@ class Counted:
             fail(what, command, words, "no read was counted", done.stderr)
         return done, read, wrote
 
-    def settle(self, sectors, image):
-        """Fails if one of the calls since the last time read a sector that is of the table neither of the image nor of what it is now."""
-        with open(self.path, "rb") as file:
-            places = places_in(sectors, image) | places_in(sectors, file.read())
-        for told, read in self.calls:
-            if read - places:
-                fail(*told, "read sectors of no table:", sorted(read - places)[:9])
-        self.calls = []
+    def reads(self, what, sectors, image, command, words, least, most):
+        """Runs a call that reads at least these sectors and no others than those: the definition's. What it said."""
+        done, read, _ = self.run(what, sectors, image, command, words)
+        self.compare((what, command, *words), set(read), least, most)
+        return done.stdout
 
-    def file(self, plan):
-        path = os.path.join(self.folder, "plan")
-        with open(path, "wb") as file:
-            file.write(plan)
-        return path
+    def compare(self, told, read, least, most):
+        """Fails where a call read a sector that the definition doesn't have, or didn't read one that its answer rests on."""
+        if read - most:
+            fail(*told, "read sectors that decide nothing:", sorted(read - most)[:9])
+        if least - read:
+            fail(*told, "didn't read:", sorted(least - read)[:9])
+        self.passed += 1
 
     def once(self, what, sectors, image, command, words=(), status=0):
-        """(what it said, how many sectors it read, how many it wrote) of a call that ends with this status"""
+        """(what it said, the sectors that it read, how many it wrote) of a call that ends with this status and reads no sector twice"""
         done, read, wrote = self.run(what, sectors, image, command, words)
         if done.returncode != status:
             fail(what, command, *words, f"ended with {done.returncode}", done.stderr)
@@ -157,30 +120,65 @@ class Counted:
         if twice:
             fail(what, command, *words, "sectors read more than once:", twice)
         self.passed += 1
-        self.calls.append(((what, command, *words), set(read)))
-        return done.stdout, sum(read.values()), wrote
+        return done.stdout, set(read), wrote
+
+    def file(self, plan):
+        path = os.path.join(self.folder, "plan")
+        with open(path, "wb") as file:
+            file.write(plan)
+        return path
+
+
+def look(it, what, sectors, image):
+    """The calls that look at a disk."""
+    disk = Disk(sectors, image)
+    it.reads(what, sectors, image, "show", (), disk.reads, disk.reads)
+    it.reads(what, sectors, image, "locate", ("1", "0"), disk.reads, disk.reads)
+    # a verdict reads label places twice
+    it.reads(what, sectors, image, "verify", (), disk.verdict_reads(), disk.verdict_reads())
+
+
+def mend(it, what, sectors, image):
+    """A repair, whose plan is what it wrote."""
+    disk = Disk(sectors, image)
+    _, read, _ = it.once(what, sectors, image, "repair")
+    with open(it.path, "rb") as file:
+        mended = Disk(sectors, file.read())
+    # whatever its phases are, recovery after each of them reads of the table before or after
+    most = disk.verdict_reads() | mended.verdict_reads() | plan_reads(mended)
+    it.compare((what, "repair"), read, disk.verdict_reads(), most)
+
+
+def change(it, what, sectors, image, edits, is_done):
+    """A plan of edits, its check, and the edits themselves and the plan applied."""
+    disk = Disk(sectors, image)
+    known = disk.verdict_reads()
+    words, status = ["--fresh", FRESH, *edits.split()], 0 if is_done else REFUSED
+    plan, read, _ = it.once(what, sectors, image, "plan", words, status)
+    phases = phases_of(plan.decode(), sectors.size)
+    checked = check_reads(disk, phases) if is_done else set()
+    most = known | (plan_reads(disk.after(phases)) if is_done else {0}) | checked
+    it.compare((what, "plan", edits), read, known, most)
+    if is_done:
+        for command in ("check", "apply"):
+            _, read, _ = it.once(what, sectors, image, command, [it.file(plan)])
+            it.compare((what, command, edits), read, checked, checked)
+    _, read, wrote = it.once(what, sectors, image, "edit", words, status)
+    it.compare((what, "edit", edits), read, known | checked, most)
+    if sectors is SMALL and what == "a GPT with a label" and edits == "c:1:root" and not (len(read) <= 140 and wrote == 67):
+        fail(what, edits, f"{len(read)} sectors read, {wrote} written")
+    if (wrote > 0) != is_done:
+        fail(what, edits, f"{wrote} sectors written")
 
 
 def counted(ptab, sectors):
     with tempfile.TemporaryDirectory() as folder:
         it = Counted(ptab, folder)
         for what, image, done in [*gpts(sectors), *mbrs(sectors)]:
-            # a verdict reads label places twice
-            it.calls.append(((what, "verify"), set(it.run(what, sectors, image, "verify", ())[1])))
-            it.once(what, sectors, image, "repair")
-            it.settle(sectors, image)
+            look(it, what, sectors, image)
+            mend(it, what, sectors, image)
             for edits in EDITS:
-                is_done = edits in done and (sectors is SMALL or "." not in edits)
-                words, status = ["--fresh", FRESH, *edits.split()], 0 if is_done else REFUSED
-                plan, _, _ = it.once(what, sectors, image, "plan", words, status)
-                if is_done:
-                    it.once(what, sectors, image, "check", [it.file(plan)])
-                _, read, wrote = it.once(what, sectors, image, "edit", words, status)
-                if sectors is SMALL and what == "a GPT with a label" and edits == "c:1:root" and not (read <= 140 and wrote == 67):
-                    fail(what, edits, f"{read} sectors read, {wrote} written")
-                it.settle(sectors, image)
-                if (wrote > 0) != is_done:
-                    fail(what, edits, f"{wrote} sectors written")
+                change(it, what, sectors, image, edits, edits in done and (sectors is SMALL or "." not in edits))
         return it.passed
 
 

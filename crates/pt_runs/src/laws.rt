@@ -1,6 +1,6 @@
 //! Laws of several calls on one disk. Each function does nothing: its contract is the law.
 
-ghost use Rattle.std.specs.Prelude.{◌⊎◌, ℕ, List, [], ◌∷◌, ◌++◌, Option, Result};
+ghost use Rattle.std.specs.Prelude.{◌≡◌, ◌⊎◌, ℕ, List, [], ◌∷◌, ◌++◌, Option, Some, Result, Ok};
 ghost use Rattle.pt_sector.specs.Device.{Told};
 ghost use Rattle.pt_sector.specs.Sectors.{Sectors};
 ghost use Rattle.pt_apply.specs.Runs.{Settled};
@@ -8,9 +8,9 @@ ghost use Rattle.pt_recover.specs.Denotes.{Denotes};
 ghost use Rattle.pt_members.specs.declared.layout.Layout.{Layout as LayoutValue};
 ghost use Rattle.pt_plan.specs.Batches.{Words, EditedBy, Commits, Repairs};
 ghost use Rattle.pt_runs.specs.Batches.{SessionOf, RunOf, call_of, CallCarries, CallsCarry, RunKeepsHistory};
-ghost use Rattle.pt_runs.specs.Calls.{Call};
-ghost use Rattle.pt_plan.specs.History.{Past, Unchanged, Has, Holds};
-ghost use Rattle.pt_runs.specs.Running.{Step, calls_of_all, OnlyFlushes, Lives, LivesKnown};
+ghost use Rattle.pt_runs.specs.Calls.{Call, answered};
+ghost use Rattle.pt_plan.specs.History.{Past, Done, Unchanged, Either, Has, Holds};
+ghost use Rattle.pt_runs.specs.Running.{Step, IsLeftBy, calls_of_all, OnlyFlushes, Lives, LivesKnown};
 ghost use Rattle.pt_runs.specs.Sessions.{calls_of};
 ghost use Rattle.pt_plan.specs.declared.error.CommitError.{CommitError as CommitErrorValue};
 ghost use Rattle.pt_plan.specs.declared.repair_error.RepairError.{RepairError as RepairErrorValue};
@@ -78,6 +78,23 @@ pub fn run_keeps_history()
 pub fn run_goes_on()
     ensures { (b n : ℕ) (steps : List (Step Words)) (old new : Told) (o : Option LayoutValue) (earlier : List (Past Words))
         → RunOf b n steps old new → Holds (Denotes b) (EditedBy b n) o earlier old → RunKeepsHistory b n o earlier steps old new }
+{}
+
+/// So a crash inside a commit that follows a run leaves what the run's calls made, each as it answered, with that commit done
+/// or not.
+pub fn acknowledged_stays()
+    ensures { (b n : ℕ) (steps : List (Step Words)) (batch : Words) (result : Result Unit CommitErrorValue) (old mid new : Told)
+        (d : Sectors) (o : Option LayoutValue) (c : Sectors) → RunOf b n steps old mid → Commits b n batch result mid new
+        → Settled old d → Denotes b d o → IsLeftBy mid new c
+        → Has (Denotes b) (EditedBy b n) o (answered (calls_of_all steps) ++ Either batch ∷ []) c }
+{}
+
+/// A disk that still denotes the first layout has no history by a commit that was acknowledged and changes it, nor by that
+/// commit and a call that changes nothing behind it.
+pub fn lost_commit_has_no_history()
+    ensures { (b n : ℕ) (w : Words) (c : Sectors) (o : Option LayoutValue) → Denotes b c o
+        → ((l : LayoutValue) → EditedBy b n o w (Ok l) → o ≡ Some l → ⊥)
+        → Has (Denotes b) (EditedBy b n) o (Done w ∷ []) c ⊎ Has (Denotes b) (EditedBy b n) o (Done w ∷ Unchanged ∷ []) c → ⊥ }
 {}
 
 /// A disk that a crash left goes on, as a device on which nothing is pending, with each history that it has.
