@@ -1,5 +1,5 @@
 """The whole reply of the C library, field by field, for each status and each call; tests/c_library.py runs it. What is expected is worked
-out by hand: words, findings, refusals and reasons by docs/commands.md, plans by docs/model.md (kinds and phases), arguments by docs/c.md."""
+out by hand: words, findings, refusals and reasons by docs/commands.md, plans by docs/model.md (kinds, phases), arguments by docs/c.md."""
 import ctypes
 
 import images

@@ -13,4 +13,7 @@ returns-in-Ok g c = record {
 }
 
 pub returns-in-Err : goal.returns-in-Err
-returns-in-Err g c = record { says = mends_not g.row.B c.args.view.now (disk_of g.row.B c.args.view.now c.args.elsewhere.items) _ _ _ _ refl c.in-Err.ensures.err }
+returns-in-Err g c = record {
+  says = mends_not g.row.B c.args.view.now (disk_of g.row.B c.args.view.now c.args.elsewhere.items) _ _ _ _ refl
+      c.in-Err.ensures.err;
+}
