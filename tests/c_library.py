@@ -283,7 +283,9 @@ def odd_arguments(it):
     image = bytes(images.one_partition())
 
     def disk(size=512, sectors=None):
-        return lib.Disk(it, lambda k: image[k * 512:(k + 1) * 512], len(image) // 512 if sectors is None else sectors, size)
+        found = lib.Disk(it, lambda k: image[k * 512:(k + 1) * 512], len(image) // 512 if sectors is None else sectors, size)
+        found.read_ends()
+        return found
 
     def call(it, change, plan=lambda lib, view, reply: lib.ptab_verify(view, reply)):
         reply = lib.Reply()
