@@ -82,8 +82,8 @@ and flushed, and `done` says that all is durable: a stop before that leaves the
 old layout or the new one. Where `ptab check` says no, so does this, and nothing
 is written. Nor where another program has the image's lock: `refused: locked`.
 
-Exit status: 0 done, 1 no, 2 usage, 3 not a plan, 5 a file can't be opened, read
-or written, 6 no memory. After 1, 2, 3 and 6 nothing was written.";
+Exit status: 0 done, 1 no, 2 usage, 3 not a plan, or locked, 5 a file can't be
+opened, read or written, 6 no memory. After 1, 2, 3 and 6 nothing was written.";
 
 pub const REPAIR: &str = "\
 Writes both copies of a GPT and the protective record anew, and keeps all
