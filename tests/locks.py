@@ -76,7 +76,8 @@ def refused(ptab, folder):
                 same(f"{words} of a locked image", answer(ptab, *words), LOCKED)
                 same("nothing was written", (content(path) == image, os.stat(path).st_mtime_ns), (True, LONG_AGO))
             # what is found before the image is opened
-            for words, told in ((["edit", path, "x"], ("", "bad word x\n", 2)), (["edit", path, "--fresh", "0", "c:1:x"], ("", "bad fresh\n", 2)),
+            for words, told in ((["edit", path, "x"], ("", "bad word x\n", 2)),
+                                (["edit", path, "--fresh", "0", "c:1:x"], ("", "bad fresh\n", 2)),
                                 (["apply", path, path], ("", "refused: plan text 0\n", 3)),
                                 (["apply", path, f"{folder}/missing"], ("", "device\n", 5)),
                                 (["edit", f"{folder}/missing", "c:1:x"], ("", "device\n", 5))):
