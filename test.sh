@@ -28,6 +28,7 @@ trying=$!
 nice -n 19 python3 tests/side_by_side.py --beside "$said" >"$scripts" 2>&1 <<LIST &
 ../packaging/build.py --over-ci ptab pt_c
 then c_library.py "$ptab" "$archive"
+then bindings.py "$ptab" "$archive"
 then package.py "$ptab" "$archive"
 then install.py "$ptab" "$archive"
 runs.py "$faults"
@@ -35,6 +36,7 @@ rows.py "$ptab" "$doubles"
 hostile.py "$ptab" 8000
 no_memory.py "$ptab"
 no_device.py "$ptab"
+locks.py "$ptab"
 power_cut.py "$ptab"
 malicious.py "$ptab" "$doubles"
 rows_4096.py "$ptab" "$doubles"

@@ -52,7 +52,9 @@ _ptab() {
   fi
   case $command:$current in
     help:*) [ ${#places[@]} = 0 ] && _ptab_of "$current" show verify locate edit plan check apply repair; return ;;
-    edit:-* | plan:-*) _ptab_of "$current" --fresh --sector-size --help -h; return ;;
+    edit:-*) _ptab_of "$current" --fresh --sector-size --no-lock --help -h; return ;;
+    plan:-*) _ptab_of "$current" --fresh --sector-size --help -h; return ;;
+    apply:-* | repair:-*) _ptab_of "$current" --sector-size --no-lock --help -h; return ;;
     *:-*) _ptab_of "$current" --sector-size --help -h; return ;;
   esac
   shopt -q extglob && extglob=1

@@ -177,13 +177,40 @@ def usage(ptab, image):
                   ["apply", image], ["apply", image, image, "c:1:x"], ["plan", image, "--fresh"], ["edit", image, "--fresh"],
                   ["edit", image, "--fresh", "", "--fresh", "", "c:1:x"], ["show", "--fresh", "", image],
                   ["repair"], ["repair", image, image], ["repair", image, "c:1:x"], ["repair", "--fresh", "", image],
-                  ["repair", "--force", image]):
+                  ["repair", "--force", image], ["edit", "--no-lock", "--no-lock", image, "c:1:x"],
+                  ["edit", "--no-lock=1", image, "c:1:x"], ["show", "--no-lock", image], ["plan", "--no-lock", image, "c:1:x"], ["check", "--no-lock", image, image],
+                  ["--no-lock", "repair", image]):
         expect(ptab, words, image, "", None, 2)
     for words in commands:
         for size in ("1024", "0512", "0", "", "8192", "512 "):
             expect(ptab, [words[0], "--sector-size", size, *words[1:]], image, "", None, 2)
             expect(ptab, [*words, f"--sector-size={size}"], image, "", None, 2)
         expect(ptab, [*words, "--sector-size", "512", "--sector-size", "512"], image, "", None, 2)
+
+
+def not_text(ptab, folder):
+    """An argument that isn't UTF-8, in each place, also of a file that is there: a fault of usage, told before all others. Nothing is
+    opened."""
+    global checked
+    bad = os.fsencode(folder) + b"/\xff.img"
+    with open(bad, "wb") as it:
+        it.write(one_partition())
+    image, log = file_of(folder, "text.img", one_partition()), f"{folder}/log"
+    plan = file_of(folder, "no_plan", b"")
+    lines = [[b"show", bad], [b"verify", bad], [b"locate", bad, b"1", b"0"], [b"edit", bad, b"c:1:x"], [b"plan", bad, b"c:1:x"],
+             [b"check", bad, plan], [b"check", image, bad], [b"apply", bad, plan], [b"apply", image, bad], [b"repair", bad],
+             [b"edit", image, b"c:1:\xe9t\xe9"], [b"edit", image, b"d:1", b"\xed\xa0\x80"], [b"edit", image, b"x", b"\xc0\x80"],
+             [b"edit", image, b"--fresh", b"\x80", b"c:1:x"], [b"locate", image, b"\xf5", b"x"],
+             [b"show", image, b"--sector-size", b"\xfe"], [b"show", image, b"--\xff"], [b"\xff"], [b"--help", b"\xff"], [b"repair", image, b"--no-lock", b"\xff"]]
+    for words in lines:
+        done = subprocess.run(["strace", "-qq", "-e", "trace=file,flock", "-o", log, ptab, *words], capture_output=True)
+        found = done.stdout, done.stderr, done.returncode
+        if found != (b"", b"error: an argument isn't UTF-8\n\nFor more information, try '--help'.\n", 2):
+            sys.exit(f"ptab {words}: {found}")
+        opened = [line for line in content(log).splitlines() if b".img" in line and not line.startswith(b"execve(")]
+        if opened or content(image) != one_partition() or content(bad) != one_partition():
+            sys.exit(f"ptab {words} opened or changed an image: {opened}")
+        checked += 1
 
 
 def read_only(ptab, folder):
@@ -221,6 +248,7 @@ def main():
         refusals(ptab, image)
         plans(ptab, folder)
         usage(ptab, image)
+        not_text(ptab, folder)
     print(f"bad input: {checked} passed, 0 failed")
 
 

@@ -159,9 +159,10 @@ def commands(ptab, page, docs):
         text = help_of(ptab, name)
         usage = re.search(rf"Usage: ptab {name} \[OPTIONS\] (.*)", text).group(1).replace("<", "").replace(">", "")
         same(f"the arguments of {name}", re.sub(r" \[--[^]]*\]", "", line), f"ptab {name} {usage}")
-        taken = re.findall(r"^ +(--[\w-]+) <(\w+)>", text, re.MULTILINE)
-        same(f"the options of {name}", re.findall(r"\[(--[\w-]+) (\w+)\]", line), taken)
-        options |= {f"{option} {value}" for option, value in taken}
+        listed = text.split("Options:\n")[1].split("\n\n")[0]
+        taken = [f"{option} {value}".strip() for option, value in re.findall(r"^ +(--[\w-]+)(?: <(\w+)>)?", listed, re.MULTILINE)]
+        same(f"the options of {name}", re.findall(r"\[(--[^]]*)\]", line), taken)
+        options |= set(taken)
         told = re.search(rf"`ptab ({name} [^`]*)`", docs).group(1)
         same(f"docs/commands.md on {name}", arguments(told), arguments(line.replace(" [--sector-size BYTES]", "").removeprefix("ptab ")))
         statuses = re.search(r"Exit status: ([\d, ]+)\.", described[name]).group(1).replace(", ", "")
@@ -224,7 +225,8 @@ def diagnostics(ptab, page, docs, text):
     for tag, meaning in described.items():
         holds("the page", text, tag)
         same(f"{tag} says what it means and what to do", len(meaning.split()) >= 8, True)
-    for name, marks in (("verify", r"no \d+ [a-z]+ [a-z]+"), ("check", r"no \d(?: [A-Z]+)*$"), ("repair", r"refused: repair \d")):
+    for name, marks in (("verify", r"no \d+ [a-z]+ [a-z]+"), ("check", r"no \d(?: [A-Z]+)*$"), ("apply", r"refused: locked"),
+                        ("repair", r"refused: (?:repair \d|locked)")):
         shorter = flat(help_of(ptab, name))
         for tag in described:
             if not re.match(marks, tag):

@@ -19,7 +19,7 @@ struct faults {
     volatile uint32_t how;         /* ways below */
     volatile uint32_t error;       /* of `fails` and `done_and_fails`, errno's value */
     volatile uint32_t count;       /* the calls that came */
-    volatile char calls[MOST];     /* a letter for each: stat, open, lseek, read, write, fsync, close */
+    volatile char calls[MOST];     /* a letter for each: stat, open, lock, seek, read, write, fsync, close; a seek's is `k` */
 };
 
 enum { FAILS, DONE_AND_FAILS, MOVES_ONE_BYTE, MOVES_NOTHING };
@@ -119,8 +119,14 @@ int fstat(int fd, struct stat *into) {
     return syscall(SYS_fstat, fd, into);
 }
 
-off_t lseek(int fd, off_t at, int from) {
+int flock(int fd, int how) {
     if (is_opened(fd) && fails('l'))
+        return failed();
+    return syscall(SYS_flock, fd, how);
+}
+
+off_t lseek(int fd, off_t at, int from) {
+    if (is_opened(fd) && fails('k'))
         return failing(SYS_lseek, fd, at, from, 0);
     return syscall(SYS_lseek, fd, at, from);
 }

@@ -1,9 +1,10 @@
 #!/usr/bin/env python3
 """Has each call of the built command on an image fail in turn, and each on a plan's file. The answer is always `device`, status 5, and
-no call follows but the closing. After a call that only reads no byte has changed; after a write, a sync or a seek between them the image
+no call follows but the closing. After a call that only reads no byte has changed; after a write, or a sync between them, the image
 has the plan's writes up to there and no other, and shows the old layout or the new one, as the phase says; a repair, or the same edit
-again, then ends in a healthy image. Calls that a signal interrupts and reads and writes of one byte change nothing. An output or an
-error stream that takes nothing gives status 5, and what was done stands.
+again, then ends in a healthy image. Calls that a signal interrupts and reads and writes of one byte change nothing. An output that
+takes nothing gives `device`, status 5, one that nobody reads status 5 in silence, an error stream that takes nothing status 5; what was
+done stands.
 
 usage: tests/no_device.py PTAB [all]
 Without `all` every so many calls fail on damaged disks and those of other kinds, and the rarer ways of failing come at fewer calls.
@@ -27,9 +28,10 @@ DEVICE = ("", "device\n", 5)
 # file a read of nothing is its end.
 FAULTS = {"s": ((FAILS, errno.EIO),), "o": ((FAILS, errno.EIO),), "l": ((FAILS, errno.EIO),), "r": ((FAILS, errno.EIO),), "c": (),
           "f": ((FAILS, errno.EIO), (DONE_AND_FAILS, errno.EIO)), "w": ((FAILS, errno.EIO), (DONE_AND_FAILS, errno.EIO))}
-MORE = {"o": ((FAILS, errno.EACCES),), "r": ((NOTHING, 0),), "w": ((FAILS, errno.ENOSPC), (NOTHING, 0)), "s": (), "l": (), "f": (), "c": ()}
+MORE = {"o": ((FAILS, errno.EACCES),), "l": ((FAILS, errno.ENOLCK),), "r": ((NOTHING, 0),), "w": ((FAILS, errno.ENOSPC), (NOTHING, 0)),
+        "s": (), "f": (), "c": ()}
 HARMLESS = {"o": ((FAILS, errno.EINTR),), "r": ((FAILS, errno.EINTR), (ONE_BYTE, 0)), "w": ((FAILS, errno.EINTR), (ONE_BYTE, 0)),
-            "f": ((FAILS, errno.EINTR),), "c": ((FAILS, errno.EIO),), "s": (), "l": ()}
+            "f": ((FAILS, errno.EINTR),), "l": ((FAILS, errno.EINTR),), "c": ((FAILS, errno.EIO),), "s": ()}
 
 
 class Run:
@@ -142,12 +144,12 @@ def ways_of(letter, is_image, whole):
 def fail_each(run, on, step, whole):
     """(the calls on that file, how many runs were compared): each call fails, in each way."""
     found, log, left = run.failing(on, 0, 0, 0, 0)
-    counts = (log.count("w"), log.count("f"))
-    flushes = len(run.phases) + 1 if run.line[0] in ("edit", "apply", "repair") else 0
-    if found != run.wanted or left != run.after or not log or on == run.it.path and counts != (len(run.writes), flushes):
-        fail(f"{run.told} with the library", (found, counts), (run.wanted, len(run.writes), flushes))
+    counts, is_writing = (log.count("w"), log.count("f"), log.count("l")), run.line[0] in ("edit", "apply", "repair")
+    wanted = (len(run.writes), len(run.phases) + 1, 1) if is_writing else (0, 0, 0)
+    if found != run.wanted or left != run.after or not log or on == run.it.path and counts != wanted:
+        fail(f"{run.told} with the library: writes, syncs and locks", (found, counts), (run.wanted, wanted))
     runs = 0
-    for first in sorted({*range(1, len(log) + 1, step), *(k for k, letter in enumerate(log, 1) if letter in "sofc")}):
+    for first in sorted({*range(1, len(log) + 1, step), *(k for k, letter in enumerate(log, 1) if letter in "solfc")}):
         letter, more = log[first - 1], whole or first % 6 == 0 or first == len(log)
         for later, how, error in ways_of(letter, on == run.it.path, more):
             one_fault(run, on, log, first, ALL if later else first, how, error)
@@ -159,11 +161,13 @@ def fail_each(run, on, step, whole):
 
 
 def full_streams(ptab, disk):
-    """How many runs were compared: each command with an output, and refusals with an error stream, that take nothing: status 5, and
-    what was done stands."""
+    """How many runs were compared: each command with an output that takes nothing, or that nobody reads, and refusals with an error
+    stream that takes nothing: status 5, and what was done stands."""
     name, _, image, words = disk
     image, runs = bytes(image), 0
     with room() as folder, open("/dev/full", "wb") as full:
+        unread, closed = os.pipe()
+        os.close(unread)
         it = Failing(ptab, "", folder)
         it.put(image)
         it.write_plan(it.run(("plan", it.path, *words))[0])
@@ -172,14 +176,16 @@ def full_streams(ptab, disk):
             it.put(image)
             it.run(line)
             after = it.image()
-            it.put(image)
-            done = subprocess.run([ptab, *line], stdout=full, stderr=subprocess.PIPE, text=True)
-            if done.returncode != 5 or done.stderr not in ("", "device\n") or it.image() != after:
-                fail(f"{name}: {command} with a full output", (done.stderr, done.returncode), 5)
+            for what, stream, errors in (("a full output", full, "device\n"), ("a closed pipe", closed, "")):
+                it.put(image)
+                done = subprocess.run([ptab, *line], stdout=stream, stderr=subprocess.PIPE, text=True)
+                if (done.stderr, done.returncode) != (errors, 5) or it.image() != after:
+                    fail(f"{name}: {command} with {what}", (done.stderr, done.returncode), (errors, 5))
             refused = subprocess.run([ptab, command, f"{folder}/missing", *line[2:]], stdout=subprocess.PIPE, stderr=full, text=True)
             if (refused.stdout, refused.returncode) != ("", 5):
                 fail(f"{name}: {command} with full errors", (refused.stdout, refused.returncode), ("", 5))
-            runs += 2
+            runs += 3
+        os.close(closed)
     return runs
 
 

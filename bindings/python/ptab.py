@@ -1,6 +1,7 @@
 """The library by ctypes: partitions, health, places and plans of a disk, whose sectors come from a `read(number)`.
 
-`Disk` asks until no sector is wanted. `Image`, below, is the use of it on a file: lock, sync, read, write by phases."""
+`Disk` asks until no sector is wanted. `Image`, below, is the use of it on a file: lock, sync, read, write by phases. Each call reads
+what it needs anew, so it answers for the disk as it is now."""
 import ctypes as c
 import fcntl
 import os
@@ -66,13 +67,22 @@ class Ptab:
 
 
 class Disk:
-    """A disk of so many sectors. Both ends are read at once, and then what a call asks for."""
+    """A disk of so many sectors. A call reads both ends, and then each sector that it wants; it takes nothing from earlier calls.
 
-    def __init__(self, ptab, read, sectors, sector_size=512):
-        self.lib, self.read, self.sectors, self.size = ptab.lib, read, sectors, sector_size
-        head, tail = (34, 33) if sector_size == 512 else (6, 5)
-        self.known = {k: read(k) for k in sorted({*range(min(head, sectors)), *range(max(0, sectors - tail), sectors)})}
+    What is read must be durable: `sync`, where it is given, is called before a call reads."""
+
+    def __init__(self, ptab, read, sectors, sector_size=512, sync=None):
+        self.lib, self.read, self.sectors, self.size, self.sync = ptab.lib, read, sectors, sector_size, sync
+        self.known = {}
         self.calls = 0
+
+    def read_ends(self):
+        """Reads both ends, and forgets what earlier calls read: with this each call begins."""
+        if self.sync:
+            self.sync()
+        head, tail = (34, 33) if self.size == 512 else (6, 5)
+        ends = {*range(min(head, self.sectors)), *range(max(0, self.sectors - tail), self.sectors)}
+        self.known = {k: self.read(k) for k in sorted(ends)}
         self._pack()
 
     def _pack(self):
@@ -83,6 +93,7 @@ class Disk:
 
     def _ask(self, call):
         """Calls until no sector is wanted."""
+        self.read_ends()
         reply = Reply()
         while True:
             self.calls += 1
@@ -147,15 +158,25 @@ class Disk:
 
 
 class Image:
-    """A file as a disk: `with Image(ptab, path, writes=True) as image: image.carry_out(image.disk.plan(["c:1:data"]))`."""
+    """A file as a disk: `with Image(ptab, path, writes=True) as image: image.carry_out(image.disk.plan(["c:1:data"]))`.
+
+    With `writes` the file is locked until it is closed, as `ptab edit` locks it; where the lock is held elsewhere, BlockingIOError
+    comes. Any number of plans may be made and carried out, each before the next one is made. A plan that fails leaves the old table
+    or the new one, and the next plan is made from what is there then."""
 
     def __init__(self, ptab, path, sector_size=512, writes=False):
         self.size = sector_size
         self.file = open(path, "r+b" if writes else "rb", buffering=0)
-        if writes:
-            fcntl.flock(self.file, fcntl.LOCK_EX | fcntl.LOCK_NB)
-            os.fsync(self.file.fileno())
-        self.disk = Disk(ptab, self.read, os.fstat(self.file.fileno()).st_size // sector_size, sector_size)
+        # whether the file may hold what isn't durable
+        self.unsynced = writes
+        try:
+            if writes:
+                fcntl.flock(self.file, fcntl.LOCK_EX | fcntl.LOCK_NB)
+            sectors = os.fstat(self.file.fileno()).st_size // sector_size
+        except BaseException:
+            self.file.close()
+            raise
+        self.disk = Disk(ptab, self.read, sectors, sector_size, self.sync)
 
     def __enter__(self):
         return self
@@ -169,13 +190,27 @@ class Image:
             raise OSError("a short read")
         return data
 
+    def write(self, number, data):
+        """Writes a whole sector: what a call leaves of it, the next one writes."""
+        self.unsynced, at = True, number * self.size
+        while data:
+            done = os.pwrite(self.file.fileno(), data, at)
+            if done == 0:
+                raise OSError("a short write")
+            at, data = at + done, data[done:]
+
+    def sync(self):
+        """Makes durable what was written."""
+        if self.unsynced:
+            os.fsync(self.file.fileno())
+            self.unsynced = False
+
     def carry_out(self, phases):
         """Writes a plan phase by phase, with a sync after each; a failed write or sync ends it."""
         for phase in phases:
             for sector, data in phase:
-                if os.pwrite(self.file.fileno(), data, sector * self.size) != self.size:
-                    raise OSError("a short write")
-            os.fsync(self.file.fileno())
+                self.write(sector, data)
+            self.sync()
 
 
 def main():
@@ -186,7 +221,7 @@ def main():
     with Image(ptab, path, int(more[0]) if more else 512, len(more) > 1) as image:
         if len(more) > 1:
             image.carry_out(image.disk.plan(more[1:], os.urandom(16 * 256)))
-        table, rows = image.disk.members() if len(more) < 2 else Disk(ptab, image.read, image.disk.sectors, image.size).members()
+        table, rows = image.disk.members()
         for row in rows:
             path = f"{row.number}.{chr(row.letter)}" if row.letter else str(row.number)
             kind = ptab.guid(row.type_guid) if table.kind == 2 and not row.letter else f"{row.type_byte:02X}"

@@ -5,7 +5,7 @@ use std::os::unix::fs::FileExt;
 fn run(words: &[String]) -> Result<(), String> {
     let size: usize = words[1].parse().map_err(|_| "a size of sectors")?;
     let file = OpenOptions::new().read(true).write(words.len() > 2).open(&words[0]).map_err(|e| e.to_string())?;
-    // Here a program that shares its disks takes its lock.
+    // Here a program that shares its disks takes its lock, as `File::try_lock` does since Rust 1.89.
     if words.len() > 2 {
         file.sync_all().map_err(|e| e.to_string())?;
     }
@@ -22,7 +22,6 @@ fn run(words: &[String]) -> Result<(), String> {
             }
             file.sync_all().map_err(|e| e.to_string())?;
         }
-        disk = ptab::Disk::new(read, sectors, size).map_err(|e| format!("{e:?}"))?;
     }
     for row in disk.members().map_err(|e| format!("{e:?}"))?.1 {
         println!("{} {} {}", row.number, row.first, row.last);

@@ -1,7 +1,9 @@
 //! Partition tables by the library of include/ptab.h: partitions, health, places and checked plans.
 //!
-//! A [`Disk`] holds the sectors that were read; it reads what a call asks for by a closure of the caller. The caller locks the
-//! disk and syncs it before it reads, and carries a plan out by phases, with a sync after each. Build with `-l ptab`.
+//! A [`Disk`] reads what a call asks for by a closure of the caller. Each call reads anew, so it answers for the disk as it is now. The
+//! caller locks the disk, syncs it before a call reads, and carries a plan out by phases, with a sync after each, before it makes the
+//! next one. After a failed write or sync the disk has the old table or the new one, and the next call finds which. Build with
+//! `-l ptab`.
 
 use std::ffi::c_void;
 
@@ -134,7 +136,7 @@ pub fn guid_text(guid: &[u8; 16]) -> String {
     text.iter().map(|&byte| char::from(byte)).collect()
 }
 
-/// A disk, as far as it was read.
+/// A disk, with what the last call read of it.
 pub struct Disk<R> {
     read: R,
     sectors: u64,
@@ -144,19 +146,27 @@ pub struct Disk<R> {
 }
 
 impl<R: FnMut(u64, &mut [u8]) -> bool> Disk<R> {
-    /// A disk of so many sectors of 512 or 4096 bytes, each of which `read` reads, or says that it can't. Both ends are read.
+    /// A disk of so many sectors of 512 or 4096 bytes, each of which `read` reads, or says that it can't. A call reads both ends, and
+    /// then each sector that it wants.
     pub fn new(read: R, sectors: u64, size: usize) -> Result<Self, Failed> {
         // A library of another interface is refused as an argument.
         if unsafe { ptab_version() } != VERSION {
             return Err(Failed { status: 2, reply: Reply::default() });
         }
-        let (head, tail) = if size == 512 { (34, 33) } else { (6, 5) };
-        let head = head.min(sectors);
-        let mut disk = Disk { read, sectors, size, numbers: Vec::new(), bytes: Vec::new() };
-        for number in (0..head).chain(sectors.saturating_sub(tail).max(head)..sectors) {
-            disk.add(number)?;
+        Ok(Disk { read, sectors, size, numbers: Vec::new(), bytes: Vec::new() })
+    }
+
+    /// Reads both ends anew, and forgets all else.
+    fn read_ends(&mut self) -> Result<(), Failed> {
+        self.numbers.clear();
+        self.bytes.clear();
+        let (head, tail) = if self.size == 512 { (34, 33) } else { (6, 5) };
+        let head = head.min(self.sectors);
+        let tail = self.sectors.saturating_sub(tail).max(head);
+        for number in (0..head).chain(tail..self.sectors) {
+            self.add(number)?;
         }
-        Ok(disk)
+        Ok(())
     }
 
     fn add(&mut self, number: u64) -> Result<(), Failed> {
@@ -172,6 +182,7 @@ impl<R: FnMut(u64, &mut [u8]) -> bool> Disk<R> {
 
     /// Calls until no sector is wanted.
     fn ask(&mut self, mut call: impl FnMut(&View, &mut Reply) -> i32) -> Result<(i32, Reply), Failed> {
+        self.read_ends()?;
         let mut reply = Reply::default();
         loop {
             let view = View {

@@ -21,7 +21,7 @@ pub use listing::members;
 pub use pt_apply::{Plan, PlanTextError, Write, plan_text, read_plan};
 pub use pt_check::{Answer, CheckError, Why, check};
 pub use pt_edit::{Edit, EditError, Refusal, edit, parse_edit};
-pub use pt_file::{Access, FileDisk, NoFile};
+pub use pt_file::{Access, FileDisk, OpenError};
 pub use pt_guid::{Guid, GuidError, fresh, parse as parse_guid};
 pub use pt_layout::{
     Body, Finding, Kind, Layout, Member, NoTable, Owner, Path, Verdict, VerifyError, locate, owner,

@@ -1,16 +1,17 @@
 //! A disk in a file.
 
-ghost use Rattle.std.specs.Prelude.{◌≡◌, ◌≤◌, ◌<◌, ◌*◌, ◌/◌, ◌+◌, ◌^◌, ◌∷◌, [], ◌++◌, length, take, drop, IfOk, IfSome, IsTrue};
+ghost use Rattle.std.specs.Prelude.{◌≡◌, ◌≤◌, ◌<◌, ◌*◌, ◌/◌, ◌+◌, ◌^◌, ◌∷◌, [], ◌++◌, length, take, drop, IfErr, IfOk, IfSome, IsTrue};
+ghost use Rattle.pt_file.specs.declared.open.Access.TheVariants.{Write};
+ghost use Rattle.pt_file.specs.declared.open.OpenError.TheVariants.{Locked};
 ghost use Rattle.pt_file.specs.Untold.{in_bound};
 ghost use Rattle.pt_file.specs.Blocks.{length-sectors_of};
 ghost use Rattle.pt_file.specs.Stores.{in_sectors};
 ghost use Rattle.pt_sector.specs.Calls.{untouched_same, untouched_on};
 
+use crate::open::{Access, OpenError, open_plain};
 use crate::store::Store;
 use pt_sector::{Disk, Fault, Lba, Moments};
-use std::error::Error;
-use std::fmt;
-use std::fs::{File, Files, OpenFile, OpenOptions};
+use std::fs::{File, Files};
 use std::io::ErrorKind;
 
 /// A store of bytes as a disk: sector k is the bytes from k * `B` up to (k + 1) * `B`. A tail shorter than a sector is
@@ -32,47 +33,6 @@ pub struct StoreDisk<const B: usize, S: Store<B> + Drop> {
 /// It tells nothing of its content: that a file keeps the clauses of a [`Store`] (docs/model.md) is a premise.
 pub type FileDisk<const B: usize> = StoreDisk<B, File>;
 
-/// What a file is opened for: reading alone, or reading and writing.
-#[derive(Clone, Copy, Debug, PartialEq, Eq)]
-pub enum Access {
-    Read,
-    Write,
-}
-
-/// A file that can't be opened, or isn't a plain one.
-#[derive(Clone, Copy, Debug, PartialEq, Eq)]
-pub struct NoFile;
-
-impl fmt::Display for NoFile {
-    fn fmt<W: fmt::Write>(&self, f: &mut fmt::Formatter<W>) -> fmt::Result {
-        f.write_str("the file can't be opened, or isn't a plain one")
-    }
-}
-
-impl Error for NoFile {}
-
-/// Opens a plain file.
-pub fn open_plain<R: Files<File = File>>(
-    rt: &R,
-    path: &str,
-    access: Access,
-) -> Result<File, NoFile> {
-    match rt.metadata(path) {
-        Ok(found) => {
-            if !found.is_file() {
-                return Err(NoFile);
-            }
-        }
-        Err(_) => return Err(NoFile),
-    }
-    let mut how = OpenOptions::new();
-    how.read(true).write(access == Access::Write);
-    match rt.open_file(&how, path) {
-        Ok(file) => Ok(file),
-        Err(_) => Err(NoFile),
-    }
-}
-
 impl<const B: usize, S: Store<B> + Drop> StoreDisk<B, S> {
     /// A disk with as many whole sectors as the store has bytes for; none where it can't say, or has 2^63 bytes or more.
     pub fn new(store: S) -> Option<StoreDisk<B, S>>
@@ -93,19 +53,23 @@ impl<const B: usize, S: Store<B> + Drop> StoreDisk<B, S> {
 }
 
 impl<const B: usize> StoreDisk<B, File> {
-    /// Opens a plain file as a disk with as many whole sectors as the file has now. `NoFile` for what isn't a plain file,
-    /// can't be opened so, or has 2^63 bytes or more.
+    /// Opens a plain file as a disk with as many whole sectors as the file has now. A lock that it takes lasts as long as
+    /// the disk.
+    ///
+    /// `NoFile` for what isn't a plain file, can't be opened so, or has 2^63 bytes or more; `Locked` where the lock is held
+    /// elsewhere, for `Access::Write` alone.
     pub fn open<R: Files<File = File>>(
         rt: &R,
         path: &str,
         access: Access,
-    ) -> Result<FileDisk<B>, NoFile>
+    ) -> Result<FileDisk<B>, OpenError>
         requires size { 0 < B }
         ensures unfailed { IfOk result (λ disk. disk.failed.items ≡ []) }
+        ensures locked { IfErr result (λ e. e ≡ Locked → access ≡ Write) }
     {
         match StoreDisk::new(open_plain(rt, path, access)?) {
             Some(disk) => Ok(disk),
-            None => Err(NoFile),
+            None => Err(OpenError::NoFile),
         }
     }
 }

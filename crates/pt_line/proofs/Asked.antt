@@ -7,7 +7,7 @@ use Rattle.std.specs.List.{list_any}
 use Rattle.std.specs.Str.{bytes_eq}
 use Rattle.std.proofs.lemmas.Slice.Eq.{bytes_eq-Decides}
 use Rattle.clap.specs.Kinds.{HasKind}
-use Rattle.clap.specs.Simple.{Shape, argument_words, built, filled_from, help_rule}
+use Rattle.clap.specs.Simple.{Shape, argument_words, built, filled, filled_from, help_rule}
 use Rattle.clap.specs.Takes.{is_given}
 use Rattle.clap.specs.Walk.{Row, Rule, Text, all_of, first_of, has_row, texts}
 use Rattle.clap.specs.Words.{FailsBy, IsAmong, fault_of, kind_of, subcommand_of, subcommand_rows_of}
@@ -16,14 +16,14 @@ use Rattle.clap.specs.declared.parser.matches.ArgMatches.{ArgMatches}
 use Rattle.clap.specs.declared.error.kind.ErrorKind.{ErrorKind}
 use Rattle.clap.specs.declared.error.kind.ErrorKind.TheVariants.{DisplayHelp, DisplayVersion, OutOfMemory}
 use Rattle.clap.proofs.WalkLemmas.{list_any-map}
-use Rattle.pt_line.specs.CommandLine.{image_rules, place_rules, plan_rules, ptab, word_rules}
+use Rattle.pt_line.specs.CommandLine.{image_rules, no_lock, place_rules, plan_rules, ptab, word_rules, writing}
 use Rattle.pt_line.specs.Lines.{IsJob, IsJobOrEmpty, IsLineOf, IsLineOrEmpty, IsSize, IsSizeOrLess, IsUnknown, HasNoJob, MeansAt, MeansJob}
 use Rattle.pt_line.specs.Lines.{Tells}
 use Rattle.pt_line.specs.declared.line.Job.{Job}
 use Rattle.pt_line.specs.declared.line.Job.TheVariants as job
 use Rattle.pt_line.specs.declared.line.Line.{Line}
 use Rattle.pt_line.specs.declared.line.LineError.{LineError}
-use Rattle.pt_line.specs.declared.line.LineError.TheVariants.{Usage, Memory}
+use Rattle.pt_line.specs.declared.line.LineError.TheVariants.{NotText, Usage, Memory}
 use Rattle.pt_line.specs.declared.line.SectorSize.{SectorSize}
 use Rattle.pt_line.specs.declared.line.SectorSize.TheVariants.{Bytes512, Bytes4096}
 use Rattle.pt_line.proofs.Rows.{Each, IsFull, IsSound}
@@ -82,10 +82,10 @@ module _ (sizes : Bor (List (Bor Text))) (rows : List Row) where
   verify_job fair (job.Verify image) h = (h.0, text_given rows fair.full (codes "IMAGE") _ (fair.given.0 refl) h.1)
   verify_job fair _ h = absurd (true≢false (ap (bytes_eq (codes "verify")) h.0))
 
-  repair_job : IsFair MayBe (built_rules (image_rules sizes)) rows → (j : Job) → IsJobOrEmpty (codes "repair") rows j
+  repair_job : IsFair MayBe (built_rules (writing (image_rules sizes))) rows → (j : Job) → IsJobOrEmpty (codes "repair") rows j
       → IsJob (codes "repair") rows j
   repair_job fair (job.Help t) h = absurd h
-  repair_job fair (job.Repair image) h = (h.0, text_given rows fair.full (codes "IMAGE") _ (fair.given.0 refl) h.1)
+  repair_job fair (job.Repair image locked_by) h = (h.0, text_given rows fair.full (codes "IMAGE") _ (fair.given.0 refl) h.1, h.2)
   repair_job fair _ h = absurd (true≢false (ap (bytes_eq (codes "repair")) h.0))
 
   locate_job : IsFair MayBe (built_rules (place_rules sizes)) rows → (j : Job) → IsJobOrEmpty (codes "locate") rows j
@@ -99,14 +99,15 @@ module _ (sizes : Bor (List (Bor Text))) (rows : List Row) where
   )
   locate_job fair _ h = absurd (true≢false (ap (bytes_eq (codes "locate")) h.0))
 
-  edit_job : IsFair MayBe (built_rules (word_rules sizes)) rows → (j : Job) → IsJobOrEmpty (codes "edit") rows j
+  edit_job : IsFair MayBe (built_rules (writing (word_rules sizes))) rows → (j : Job) → IsJobOrEmpty (codes "edit") rows j
       → IsJob (codes "edit") rows j
   edit_job fair (job.Help t) h = absurd h
-  edit_job fair (job.Edit image fresh list) h = (
+  edit_job fair (job.Edit image fresh list locked_by) h = (
     h.0,
     text_given rows fair.full (codes "IMAGE") _ (fair.given.0 refl) h.1,
     h.2,
     texts_given rows fair.full (codes "WORD") _ (fair.given.1.1.1.0 refl) h.3,
+    h.4,
   )
   edit_job fair _ h = absurd (true≢false (ap (bytes_eq (codes "edit")) h.0))
 
@@ -131,13 +132,14 @@ module _ (sizes : Bor (List (Bor Text))) (rows : List Row) where
   )
   check_job fair _ h = absurd (true≢false (ap (bytes_eq (codes "check")) h.0))
 
-  apply_job : IsFair MayBe (built_rules (plan_rules sizes)) rows → (j : Job) → IsJobOrEmpty (codes "apply") rows j
+  apply_job : IsFair MayBe (built_rules (writing (plan_rules sizes))) rows → (j : Job) → IsJobOrEmpty (codes "apply") rows j
       → IsJob (codes "apply") rows j
   apply_job fair (job.Help t) h = absurd h
-  apply_job fair (job.Apply image file) h = (
+  apply_job fair (job.Apply image file locked_by) h = (
     h.0,
     text_given rows fair.full (codes "IMAGE") _ (fair.given.0 refl) h.1,
     text_given rows fair.full (codes "PLANFILE") _ (fair.given.1.0 refl) h.2,
+    h.3,
   )
   apply_job fair _ h = absurd (true≢false (ap (bytes_eq (codes "apply")) h.0))
 
@@ -189,6 +191,19 @@ module _ (sizes : Bor (List (Bor Text))) (are : texts sizes.now ≡ codes "512" 
     (((omega arith, λ v e is. absurd (true≢false (sym is))), tt), (((omega arith, one_of_two), ((λ is. inl refl), tt)), ((tt, tt), tt))),
   )
 
+  -- the flag's value isn't a size
+  flag_sound : IsSound MayBe (filled no_lock)
+  flag_sound = ((omega arith, λ v e is. absurd (true≢false (sym is))), ((λ is. absurd (true≢false (sym is))), tt))
+
+  image_writing_sound : Each (IsSound MayBe) (built_rules (writing (image_rules sizes)))
+  image_writing_sound = (image_sound.0, (image_sound.1.0, (flag_sound, image_sound.1.1)))
+
+  word_writing_sound : Each (IsSound MayBe) (built_rules (writing (word_rules sizes)))
+  word_writing_sound = (word_sound.0, (word_sound.1.0, (word_sound.1.1.0, (word_sound.1.1.1.0, (flag_sound, word_sound.1.1.1.1)))))
+
+  plan_writing_sound : Each (IsSound MayBe) (built_rules (writing (plan_rules sizes)))
+  plan_writing_sound = (plan_sound.0, (plan_sound.1.0, (plan_sound.1.1.0, (flag_sound, plan_sound.1.1.1))))
+
   each_good : Each (IsKnown MayBe IsRead) (built (ptab sizes)).subs
   each_good = (
     inr (
@@ -239,7 +254,7 @@ module _ (sizes : Bor (List (Bor Text))) (are : texts sizes.now ≡ codes "512" 
               );
               known = λ u. u.3 refl;
             },
-            word_sound,
+            word_writing_sound,
             refl,
           ),
           (
@@ -278,7 +293,7 @@ module _ (sizes : Bor (List (Bor Text))) (are : texts sizes.now ≡ codes "512" 
                     );
                     known = λ u. u.6 refl;
                   },
-                  plan_sound,
+                  plan_writing_sound,
                   refl,
                 ),
                 (
@@ -291,7 +306,7 @@ module _ (sizes : Bor (List (Bor Text))) (are : texts sizes.now ≡ codes "512" 
                       );
                       known = λ u. u.7 refl;
                     },
-                    image_sound,
+                    image_writing_sound,
                     refl,
                   ),
                   (inl refl, tt),
@@ -318,6 +333,7 @@ module _ (sizes : Bor (List (Bor Text))) (are : texts sizes.now ≡ codes "512" 
           (λ is. inr (subst (λ (k : ErrorKind). IsAmong k (fault_of (ptab sizes) words)) is among))
           tells.0,
     )
+    by_error e (Err NotText) kind tells = absurd tells
     by_error e (Err Memory) kind tells = tt
     by_error e (Err (Usage text)) (inl memory) tells = absurd (tells.2 memory)
     by_error e (Err (Usage text)) (inr among) tells = (kind_of e, among, tells.0, tells.1, tells.2)
@@ -334,6 +350,7 @@ module _ (sizes : Bor (List (Bor Text))) (are : texts sizes.now ≡ codes "512" 
         go (Ok line) met m =
             let h = subst (λ (o : Option (Text × List Row)). IsLineOrEmpty o line) met.is m in
             inr (none, subst (λ (o : Option (Text × List Row)). IsLineOf o line) (sym met.is) (met.of.reads met.rows met.fair line h.0 h.1))
+        go (Err NotText) met m = absurd (subst (λ (o : Option (Text × List Row)). MeansJob o (Err NotText)) met.is m)
         go (Err Memory) met m = tt
         go (Err (Usage text)) met m =
             let u = subst HasNoJob met.is m in

@@ -14,7 +14,7 @@ use Rattle.clap.specs.Walk.{with_values, without}
 use Rattle.clap.specs.Takes.{value_passes}
 use Rattle.clap.specs.Faults.{action_fault, react_fault, repeat_fault, settle_fault, use_fault, values_fault}
 use Rattle.clap.specs.declared.builder.action.ArgAction.{ArgAction}
-use Rattle.clap.specs.declared.builder.action.ArgAction.TheVariants.{Set, Append, Help, Version}
+use Rattle.clap.specs.declared.builder.action.ArgAction.TheVariants.{Set, Append, SetTrue, Help, Version}
 use Rattle.clap.specs.declared.error.kind.ErrorKind.TheVariants as kind
 use Rattle.clap.specs.declared.builder.value_parser.Reading.{Reading}
 use Rattle.clap.specs.declared.parser.matches.ValueSource.{ValueSource}
@@ -143,10 +143,11 @@ module _ (P : Text → Text → Type 0) where
   abbrev pub MayHave : Rule → Type 0
   MayHave a = (v : Text) → value_passes a v ≡ true → P a.id v
 
-  -- an argument whose uses give it values that may be, or ask for help or for the version
+  -- an argument whose uses give it values that may be, or ask for help or for the version; a flag has a value of its own
   abbrev pub Acts : ArgAction → Rule → Type 0
   Acts Set a = (1 ≤ (unwrap_or_range a.range).start_inclusive) × MayHave a
   Acts Append a = (1 ≤ (unwrap_or_range a.range).start_inclusive) × MayHave a
+  Acts SetTrue a = (0 < length a.missing) × MayHave a
   Acts Help a = Unit {0}
   Acts Version a = Unit {0}
   Acts _ a = ⊥
@@ -191,6 +192,12 @@ module _ (P : Text → Text → Type 0) where
           absurd cc
       go (v ∷ vs) Append acts range fault =
           values_full a.id (reading_by a) CommandLine (v ∷ vs) rows all (omega arith) (values_ok a (v ∷ vs) acts.1 fault)
+      go [] SetTrue acts range fault =
+          values_full a.id (reading_by a) CommandLine a.missing (without a.id rows) (without_full a.id rows all) acts.0
+          (values_ok a a.missing acts.1 (neither (repeat_fault again a.id rows) (values_fault a a.missing) fault).1)
+      go (v ∷ vs) SetTrue acts range fault =
+          values_full a.id (reading_by a) CommandLine (v ∷ vs) (without a.id rows) (without_full a.id rows all) (omega arith)
+          (values_ok a (v ∷ vs) acts.1 (neither (repeat_fault again a.id rows) (values_fault a (v ∷ vs)) fault).1)
       go vs Help acts range fault = all
       go vs Version acts range fault = all
       go vs _ acts range fault = absurd acts

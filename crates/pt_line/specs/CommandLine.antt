@@ -1,10 +1,10 @@
 -- The command `ptab` as its parser has it: its subcommands and their arguments.
-use Rattle.std.specs.Prelude.{List, [], ◌∷◌, Some, true, false, codes}
+use Rattle.std.specs.Prelude.{List, [], ◌∷◌, ◌++◌, Some, true, false, codes}
 use Rattle.std.specs.Borrow.{Bor}
 use Rattle.clap.specs.Lexer.{usize_max}
 use Rattle.clap.specs.Words.{App, Rule, Shape, Text, new_rule}
 use Rattle.clap.specs.Simple.{new_shape}
-use Rattle.clap.specs.declared.builder.action.ArgAction.TheVariants.{Set, Append}
+use Rattle.clap.specs.declared.builder.action.ArgAction.TheVariants.{Set, Append, SetTrue}
 use Rattle.clap.specs.declared.builder.value_parser.ValueParser.TheVariants.{Names}
 
 -- an argument that is required, and has one value
@@ -29,6 +29,10 @@ fresh = record (new_rule (codes "fresh")) {
   action = Some Set;
 }
 
+-- `--no-lock`, a flag
+abbrev pub no_lock : Rule
+no_lock = record (new_rule (codes "no-lock")) { long = Some (codes "no-lock"); action = Some SetTrue }
+
 -- one word or more
 abbrev pub edit_words : Rule
 edit_words = record (new_rule (codes "WORD")) {
@@ -50,6 +54,10 @@ word_rules sizes = needed (codes "IMAGE") ∷ fresh ∷ sector_size sizes ∷ ed
 abbrev pub plan_rules : Bor (List (Bor Text)) → List Rule
 plan_rules sizes = needed (codes "IMAGE") ∷ needed (codes "PLANFILE") ∷ sector_size sizes ∷ []
 
+-- the same of a command that writes the image
+abbrev pub writing : List Rule → List Rule
+writing rules = rules ++ no_lock ∷ []
+
 abbrev pub subcommand : Text → List Rule → Shape
 subcommand name rules = record (new_shape name) { rules = rules }
 
@@ -68,10 +76,10 @@ ptab sizes = record {
   subs = subcommand (codes "show") (image_rules sizes)
       ∷ subcommand (codes "verify") (image_rules sizes)
       ∷ subcommand (codes "locate") (place_rules sizes)
-      ∷ subcommand (codes "edit") (word_rules sizes)
+      ∷ subcommand (codes "edit") (writing (word_rules sizes))
       ∷ subcommand (codes "plan") (word_rules sizes)
       ∷ subcommand (codes "check") (plan_rules sizes)
-      ∷ subcommand (codes "apply") (plan_rules sizes)
-      ∷ subcommand (codes "repair") (image_rules sizes)
+      ∷ subcommand (codes "apply") (writing (plan_rules sizes))
+      ∷ subcommand (codes "repair") (writing (image_rules sizes))
       ∷ [];
 }

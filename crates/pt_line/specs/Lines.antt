@@ -16,7 +16,9 @@ use Rattle.pt_line.specs.declared.line.Job.{Job}
 use Rattle.pt_line.specs.declared.line.Job.TheVariants as job
 use Rattle.pt_line.specs.declared.line.Line.{Line}
 use Rattle.pt_line.specs.declared.line.LineError.{LineError}
-use Rattle.pt_line.specs.declared.line.LineError.TheVariants.{Usage, Memory}
+use Rattle.pt_line.specs.declared.line.LineError.TheVariants.{NotText, Usage, Memory}
+use Rattle.pt_line.specs.declared.line.LockedBy.{LockedBy}
+use Rattle.pt_line.specs.declared.line.LockedBy.TheVariants.{Ptab, Caller}
 use Rattle.pt_line.specs.declared.line.SectorSize.{SectorSize}
 use Rattle.pt_line.specs.declared.line.SectorSize.TheVariants.{Bytes512, Bytes4096}
 
@@ -35,12 +37,21 @@ abbrev pub TakesArg : {E : Type 0} → Result Command E → Arg → Result Comma
 TakesArg page arg made =
     IfOk made (λ c. (a : App) (r : Rule) → IfOk page (IsCommand a) → IsArg r arg → IsCommand (with_rule a r) c)
 
+-- the same of an argument with this rule
+abbrev pub AddsRule : {E : Type 0} → Result Command E → Rule → Result Command E → Type 0
+AddsRule page r made = IfOk made (λ c. (a : App) → IfOk page (IsCommand a) → IsCommand (with_rule a r) c)
+
 -- where a page was made, it comes behind the command's others
 abbrev pub AddsPage : {E : Type 0} → Result Command E → Result Command E → Result Command E → Type 0
 AddsPage ptab page made =
     IfOk made (λ c. (a s : App) → IfOk ptab (IsCommand a) → IfOk page (IsCommand s) → IsCommand (with_subcommand a s.top) c)
 
 -- ---- the job
+
+-- the lock is the caller's where the flag `--no-lock` was given, which then has the value `true`
+abbrev pub IsLockedBy : List Row → LockedBy → Type 0
+IsLockedBy rows Caller = first_of (codes "no-lock") rows ≡ Some (codes "true")
+IsLockedBy rows Ptab = first_of (codes "no-lock") rows ≢ Some (codes "true")
 
 -- the job of the subcommand with this name: `one` says what text an argument gives, and `all` what texts
 abbrev pub IsJobBy : (Text → Text → Type 0) → (Text → List Text → Type 0) → Text → List Row → Job → Type 0
@@ -49,15 +60,17 @@ IsJobBy one all name rows (job.Show image) = (name ≡ codes "show") × one (cod
 IsJobBy one all name rows (job.Verify image) = (name ≡ codes "verify") × one (codes "IMAGE") (string_bytes image)
 IsJobBy one all name rows (job.Locate image path place) = (name ≡ codes "locate") × one (codes "IMAGE") (string_bytes image)
     × one (codes "PATH") (string_bytes path) × one (codes "K") (string_bytes place)
-IsJobBy one all name rows (job.Edit image fresh list) = (name ≡ codes "edit") × one (codes "IMAGE") (string_bytes image)
+IsJobBy one all name rows (job.Edit image fresh list locked_by) = (name ≡ codes "edit") × one (codes "IMAGE") (string_bytes image)
     × (option_map string_bytes fresh ≡ first_of (codes "fresh") rows) × all (codes "WORD") (map string_bytes list.items)
+    × IsLockedBy rows locked_by
 IsJobBy one all name rows (job.Plan image fresh list) = (name ≡ codes "plan") × one (codes "IMAGE") (string_bytes image)
     × (option_map string_bytes fresh ≡ first_of (codes "fresh") rows) × all (codes "WORD") (map string_bytes list.items)
 IsJobBy one all name rows (job.Check image file) =
     (name ≡ codes "check") × one (codes "IMAGE") (string_bytes image) × one (codes "PLANFILE") (string_bytes file)
-IsJobBy one all name rows (job.Apply image file) =
-    (name ≡ codes "apply") × one (codes "IMAGE") (string_bytes image) × one (codes "PLANFILE") (string_bytes file)
-IsJobBy one all name rows (job.Repair image) = (name ≡ codes "repair") × one (codes "IMAGE") (string_bytes image)
+IsJobBy one all name rows (job.Apply image file locked_by) = (name ≡ codes "apply") × one (codes "IMAGE") (string_bytes image)
+    × one (codes "PLANFILE") (string_bytes file) × IsLockedBy rows locked_by
+IsJobBy one all name rows (job.Repair image locked_by) =
+    (name ≡ codes "repair") × one (codes "IMAGE") (string_bytes image) × IsLockedBy rows locked_by
 
 -- its texts are the values of its arguments, which have them
 abbrev pub IsJob : Text → List Row → Job → Type 0
@@ -102,6 +115,7 @@ IsUnknown name = (name ≢ codes "show") × (name ≢ codes "verify") × (name �
 -- what the name and the values come to
 abbrev pub IfJob : Text → List Row → Result Job LineError → Type 0
 IfJob name rows (Ok job) = IsJobOrEmpty name rows job
+IfJob name rows (Err NotText) = ⊥
 IfJob name rows (Err Memory) = Unit {0}
 IfJob name rows (Err (Usage text)) = IsUnknown name
 
@@ -115,6 +129,7 @@ IsLineOrEmpty (Some p) line = IsJobOrEmpty p.0 p.1 line.job × IsSizeOrLess p.1 
 
 abbrev pub MeansJob : Option (Text × List Row) → Result Line LineError → Type 0
 MeansJob met (Ok line) = IsLineOrEmpty met line
+MeansJob met (Err NotText) = ⊥
 MeansJob met (Err Memory) = Unit {0}
 MeansJob met (Err (Usage text)) = HasNoJob met
 
@@ -126,6 +141,7 @@ IsHelp _ = ⊥
 
 abbrev pub Tells : ErrorKind → Result Line LineError → Type 0
 Tells k (Ok line) = ((k ≡ DisplayHelp) ⊎ (k ≡ DisplayVersion)) × IsHelp line.job
+Tells k (Err NotText) = ⊥
 Tells k (Err Memory) = Unit {0}
 Tells k (Err (Usage text)) = (k ≢ DisplayHelp) × (k ≢ DisplayVersion) × (k ≢ OutOfMemory)
 
@@ -136,10 +152,11 @@ abbrev pub IsUsage : Kinds → Type 0
 IsUsage kinds = (k : ErrorKind) × IsAmong k kinds × (k ≢ DisplayHelp) × (k ≢ DisplayVersion) × (k ≢ OutOfMemory)
 
 -- at a command, these being all the words. A call for help, or for the version, gives its text; words without fault give the job of their
--- subcommand, by the values of its arguments; `Usage` comes only for words with a fault. Memory may always be wanted
+-- subcommand, by the values of its arguments; `Usage` comes only for words with a fault. Memory may always be wanted. Words are texts
 abbrev pub MeansAt : App → List Text → Result Line LineError → Type 0
 MeansAt app words (Ok line) = (IsHelp line.job × (IsAmong DisplayHelp (fault_of app words) ⊎ IsAmong DisplayVersion (fault_of app words)))
     ⊎ ((fault_of app words ≡ []) × IsLineOf (subcommand_of app words) line)
+MeansAt app words (Err NotText) = ⊥
 MeansAt app words (Err Memory) = Unit {0}
 MeansAt app words (Err (Usage text)) = IsUsage (fault_of app words)
 

@@ -49,9 +49,9 @@ GPT, g MBR to GPT. PATH is 3 or 2.a; CODE EF00 8300 8200 0700 A500 A503, or two
 digits on an MBR. `o`, `n` and `g` take fresh GUIDs:
   --fresh $(head -c 1024 /dev/urandom | od -An -v -tx1 | tr -d ' \\n')
 
-Exit status: 0 done, 2 usage or a bad word, 3 refused, 4 no table, 5 the image
-can't be opened, read or written, 6 no memory. After 2, 3, 4 and 6 nothing was
-written; after 5 the image has the old table or the new one.";
+Exit status: 0 done, 2 usage or a bad word, 3 refused (`locked`: another program
+has the lock), 4 no table, 5 the image can't be opened, read or written: it has
+the old table or the new one, 6 no memory. After 2, 3, 4, 6 nothing was written.";
 
 pub const PLAN: &str = "\
 WORD and HEX are those of `edit`. Each write is a line `W SECTOR BYTES`, with
@@ -80,10 +80,10 @@ pub const APPLY: &str = "\
 The image is flushed and the plan is checked. After a yes each phase is written
 and flushed, and `done` says that all is durable: a stop before that leaves the
 old layout or the new one. Where `ptab check` says no, so does this, and nothing
-is written.
+is written. Nor where another program has the image's lock: `refused: locked`.
 
-Exit status: 0 done, 1 no, 2 usage, 3 not a plan, 5 a file can't be opened, read
-or written, 6 no memory. After 1, 2, 3 and 6 nothing was written.";
+Exit status: 0 done, 1 no, 2 usage, 3 not a plan, or locked, 5 a file can't be
+opened, read or written, 6 no memory. After 1, 2, 3 and 6 nothing was written.";
 
 pub const REPAIR: &str = "\
 Writes both copies of a GPT and the protective record anew, and keeps all
@@ -91,6 +91,7 @@ partitions: it mends findings 2 to 6 of `verify`. A stop at any moment leaves
 the same partitions. On a healthy image nothing is written.
   refused: repair 2   a finding from 7 to 11: `verify` tells it once the copies
                       agree, and `edit` mends it
+  refused: locked     another program has the image's lock
 
 Exit status: 0 done, 2 usage, 3 refused, 4 no table, 5 the image can't be
 opened, read or written, 6 no memory. After 2, 3, 4 and 6 nothing was written.";

@@ -1,7 +1,9 @@
 //! The command line of `ptab`: its words, read by `clap`.
 #![tactic(auto)]
 
+mod args;
 mod help;
 mod line;
 
-pub use line::{Job, Line, LineError, SectorSize, read_line};
+pub use args::take_words;
+pub use line::{Job, Line, LineError, LockedBy, SectorSize, read_line};

@@ -1,14 +1,14 @@
 //! The command line.
 
-ghost use Rattle.std.specs.Prelude.{◌≡◌, ◌∷◌, [], Result, Some, true, IfOk, IfErr, MatchResult, codes, map, string_bytes};
+ghost use Rattle.std.specs.Prelude.{◌≡◌, ◌↔◌, ◌∷◌, [], Result, Some, true, IfOk, IfErr, MatchResult, codes, map, string_bytes};
 ghost use Rattle.std.specs.Borrow.{Bor};
 ghost use Rattle.clap.specs.Walk.{texts as slice_texts};
 ghost use Rattle.clap.specs.Words.{found_of, kind_of, new_app, new_rule, rows_of, subcommand_rows_of};
-ghost use Rattle.clap.specs.declared.builder.action.ArgAction.TheVariants.{Set};
+ghost use Rattle.clap.specs.declared.builder.action.ArgAction.TheVariants.{Set, SetTrue};
 ghost use Rattle.pt_line.specs.CommandLine as spec;
 ghost use Rattle.pt_line.specs.declared.line.LineError.TheVariants.{Memory};
-ghost use Rattle.pt_line.specs.Lines.{AddsPage, GivesIf, IfJob, IsArg, IsCommand, IsSizeNamed, IsSizeOrLess, Means, MeansJob, TakesArg};
-ghost use Rattle.pt_line.specs.Lines.{Tells};
+ghost use Rattle.pt_line.specs.Lines.{AddsPage, AddsRule, GivesIf, IfJob, IsArg, IsCommand, IsLockedBy, IsSizeNamed, IsSizeOrLess, Means};
+ghost use Rattle.pt_line.specs.Lines.{MeansJob, TakesArg, Tells};
 ghost use Rattle.pt_line.specs.Lines.{text_in, texts_in};
 
 use crate::help::{
@@ -25,6 +25,15 @@ use thiserror::Error;
 pub enum SectorSize {
     Bytes512,
     Bytes4096,
+}
+
+/// Whose lock keeps other programs from writing the image meanwhile.
+#[derive(Clone, Copy)]
+pub enum LockedBy {
+    /// The command's own.
+    Ptab,
+    /// The caller's, who says so by `--no-lock`.
+    Caller,
 }
 
 /// A command line that was read.
@@ -54,6 +63,7 @@ pub enum Job {
         image: String,
         fresh: Option<String>,
         words: Vec<String>,
+        locked_by: LockedBy,
     },
     Plan {
         image: String,
@@ -67,15 +77,20 @@ pub enum Job {
     Apply {
         image: String,
         file: String,
+        locked_by: LockedBy,
     },
     Repair {
         image: String,
+        locked_by: LockedBy,
     },
 }
 
 /// Why a command line is no job.
 #[derive(Debug, Drop, Error)]
 pub enum LineError {
+    /// A word isn't UTF-8.
+    #[error("an argument isn't UTF-8")]
+    NotText,
     /// The words are not those of a command; the text is `clap`'s.
     #[error("{0}")]
     Usage(String),
@@ -148,6 +163,15 @@ fn fresh<'a>(alloc: Global) -> Arg<'a>
     option(alloc, "fresh", "HEX", help)
 }
 
+fn no_lock<'a>(alloc: Global) -> Arg<'a>
+    ensures { IsArg spec.no_lock result }
+{
+    Arg::new(alloc, "no-lock")
+        .long("no-lock")
+        .action(ArgAction::SetTrue)
+        .help("Take no lock: the caller holds the image's")
+}
+
 fn words<'a>(alloc: Global) -> Arg<'a>
     ensures { IsArg spec.edit_words result }
 {
@@ -189,6 +213,16 @@ fn with_arg<'a>(
             Err(error)
         }
     }
+}
+
+/// A page of a command that writes, where it was made.
+fn writing<'a>(
+    alloc: Global,
+    page: Result<Command<'a>, AllocError>,
+) -> Result<Command<'a>, AllocError>
+    ensures { AddsRule page.entry spec.no_lock result }
+{
+    with_arg(page, no_lock(alloc))
 }
 
 /// A page on an image, with no other argument yet.
@@ -293,11 +327,14 @@ fn command<'a>(alloc: Global, sizes: &'a [&'a str]) -> Result<Command<'a>, Alloc
     let ptab = with_page(ptab, on_image(alloc, sizes, "show", SHOW_ABOUT, SHOW));
     let ptab = with_page(ptab, on_image(alloc, sizes, "verify", VERIFY_ABOUT, VERIFY));
     let ptab = with_page(ptab, on_place(alloc, sizes, "locate", LOCATE_ABOUT, LOCATE));
-    let ptab = with_page(ptab, on_words(alloc, sizes, "edit", EDIT_ABOUT, EDIT));
+    let edit = on_words(alloc, sizes, "edit", EDIT_ABOUT, EDIT);
+    let ptab = with_page(ptab, writing(alloc, edit));
     let ptab = with_page(ptab, on_words(alloc, sizes, "plan", PLAN_ABOUT, PLAN));
     let ptab = with_page(ptab, on_plan(alloc, sizes, "check", CHECK_ABOUT, CHECK));
-    let ptab = with_page(ptab, on_plan(alloc, sizes, "apply", APPLY_ABOUT, APPLY));
-    with_page(ptab, on_image(alloc, sizes, "repair", REPAIR_ABOUT, REPAIR))
+    let apply = on_plan(alloc, sizes, "apply", APPLY_ABOUT, APPLY);
+    let ptab = with_page(ptab, writing(alloc, apply));
+    let repair = on_image(alloc, sizes, "repair", REPAIR_ABOUT, REPAIR);
+    with_page(ptab, writing(alloc, repair))
 }
 
 fn text_of(alloc: Global, matches: &ArgMatches<'_>, id: &str) -> Result<String, AllocError>
@@ -355,6 +392,19 @@ fn size_of(matches: &ArgMatches<'_>) -> SectorSize
     }
 }
 
+fn locked_by(matches: &ArgMatches<'_>) -> LockedBy
+    ensures { IsLockedBy (rows_of (found_of matches.now)) result }
+{
+    let Some(flag) = matches.get_str("no-lock") else {
+        return LockedBy::Ptab;
+    };
+    if flag == "true" {
+        LockedBy::Caller
+    } else {
+        LockedBy::Ptab
+    }
+}
+
 /// The fresh GUIDs of an edit, and its words.
 fn edit_of(
     alloc: Global,
@@ -391,6 +441,7 @@ fn job_of(alloc: Global, name: &str, inner: &ArgMatches<'_>) -> Result<Job, Line
                 image,
                 fresh,
                 words,
+                locked_by: locked_by(inner),
             })
         }
         "plan" => {
@@ -408,8 +459,12 @@ fn job_of(alloc: Global, name: &str, inner: &ArgMatches<'_>) -> Result<Job, Line
         "apply" => Ok(Job::Apply {
             image,
             file: text_of(alloc, inner, "PLANFILE")?,
+            locked_by: locked_by(inner),
         }),
-        "repair" => Ok(Job::Repair { image }),
+        "repair" => Ok(Job::Repair {
+            image,
+            locked_by: locked_by(inner),
+        }),
         _ => Err(LineError::Usage(String::new(alloc))),
     }
 }
@@ -463,7 +518,7 @@ fn with_name<'a>(alloc: Global, words: &[&'a str]) -> Result<Vec<&'a str>, Alloc
 ///
 /// A job is that of the subcommand which the words name, and its texts are the values of its arguments. A call for help,
 /// or for the version, gives `Help`. `Usage` has `clap`'s text for words that are no command, and comes for no others; `Memory` is want of
-/// memory.
+/// memory. `NotText` never comes, since these words are texts: [`take_words`](crate::take_words) answers it.
 pub fn read_line(alloc: Global, words: &[&str]) -> Result<Line, LineError>
     ensures means { Means (slice_texts words.now) result }
 {

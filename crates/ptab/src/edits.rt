@@ -2,10 +2,12 @@
 
 ghost use Rattle.pt_sector.specs.Sectors.{IsSectorSize};
 
+use crate::images::open_to_write;
 use crate::texts::Failure;
 use crate::words::Wanted;
 use pt_apply::plan_text;
 use pt_file::{Access, FileDisk};
+use pt_line::LockedBy;
 use pt_plan::{commit, plan_for};
 use pt_report::Reply;
 use std::fs::{File, Files};
@@ -14,11 +16,12 @@ use std::fs::{File, Files};
 pub fn edit<const B: usize, R: Files<File = File> + AllocGlobal>(
     rt: &R,
     image: &str,
+    locked_by: LockedBy,
     wanted: &Wanted,
 ) -> Result<Reply, Failure>
     requires { IsSectorSize B }
 {
-    let mut disk = FileDisk::<B>::open(rt, image, Access::Write)?;
+    let mut disk = open_to_write::<B, R>(rt, image, locked_by)?;
     commit::<B, _>(
         rt.alloc(),
         &mut disk,

@@ -2,6 +2,7 @@
 #![tactic(auto)]
 
 mod edits;
+mod images;
 mod plan_file;
 mod plans;
 mod repair;
@@ -10,38 +11,35 @@ mod texts;
 mod views;
 mod words;
 
+use pt_line::take_words;
 use run::run;
 use std::io::BufWriter;
 use std::process::ExitCode;
-use std::{env, io};
 use texts::{Failure, Status};
 
-/// Runs the words after the program's name on its two output streams.
-fn on_streams(rt: &HostRuntime, words: &[String]) -> io::Result<u8> {
+/// Runs the words after the program's name, with its answers on standard output.
+fn on_output(rt: &HostRuntime, words: &[String]) -> Result<Status, Failure> {
     let mut texts = Vec::new(rt.alloc());
     for word in words {
-        texts.push(word.as_str())?;
+        if texts.push(word.as_str()).is_err() {
+            return Err(Failure::Memory);
+        }
     }
-    let mut out = BufWriter::new(rt.alloc(), rt.stdout())?;
-    Ok(run(rt, texts.as_slice(), &mut out, &mut rt.stderr()))
+    match BufWriter::new(rt.alloc(), rt.stdout()) {
+        Ok(mut out) => run(rt, texts.as_slice(), &mut out),
+        Err(_) => Err(Failure::Memory),
+    }
 }
 
-fn status_of(rt: &HostRuntime) -> io::Result<u8> {
-    let words: Vec<String> = env::args(rt)?.skip(1).collect(rt.alloc())?;
-    on_streams(rt, words.as_slice())
-}
-
-/// Says that memory was refused before the command line could be taken.
-fn no_memory(rt: &HostRuntime) -> ExitCode {
-    match Failure::Memory.print(&mut rt.stderr()) {
-        Ok(()) => ExitCode::from(Status::Memory.code()),
-        Err(_) => ExitCode::from(Status::Device.code()),
-    }
+fn status_of(rt: &HostRuntime) -> Result<Status, Failure> {
+    let words = take_words(rt)?;
+    on_output(rt, words.as_slice())
 }
 
 fn main(rt: HostRuntime) -> ExitCode {
-    match status_of(&rt) {
-        Ok(code) => ExitCode::from(code),
-        Err(_) => no_memory(&rt),
-    }
+    let status = match status_of(&rt) {
+        Ok(status) => status,
+        Err(failure) => failure.tell(&mut rt.stderr()),
+    };
+    ExitCode::from(status.code())
 }

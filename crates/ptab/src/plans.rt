@@ -2,10 +2,12 @@
 
 ghost use Rattle.pt_sector.specs.Sectors.{IsSectorSize};
 
+use crate::images::open_to_write;
 use crate::plan_file::read_plan_file;
 use crate::texts::Failure;
 use pt_check::Answer;
 use pt_file::{Access, FileDisk};
+use pt_line::LockedBy;
 use pt_plan::apply_checked;
 use pt_report::Reply;
 use std::fs::{File, Files};
@@ -28,12 +30,13 @@ pub fn check<const B: usize, R: Files<File = File> + AllocGlobal>(
 pub fn apply<const B: usize, R: Files<File = File> + AllocGlobal>(
     rt: &R,
     image: &str,
+    locked_by: LockedBy,
     file: &str,
 ) -> Result<Reply, Failure>
     requires { IsSectorSize B }
 {
     let plan = read_plan_file::<B, R>(rt, file)?;
-    let mut disk = FileDisk::<B>::open(rt, image, Access::Write)?;
+    let mut disk = open_to_write::<B, R>(rt, image, locked_by)?;
     let answer = apply_checked(rt.alloc(), &mut disk, &plan)?;
     Ok(reply_of(answer))
 }

@@ -2,8 +2,9 @@
 
 ghost use Rattle.pt_sector.specs.Sectors.{IsSectorSize};
 
+use crate::images::open_to_write;
 use crate::texts::Failure;
-use pt_file::{Access, FileDisk};
+use pt_line::LockedBy;
 use pt_report::Reply;
 use std::fs::{File, Files};
 
@@ -11,10 +12,11 @@ use std::fs::{File, Files};
 pub fn repair<const B: usize, R: Files<File = File> + AllocGlobal>(
     rt: &R,
     image: &str,
+    locked_by: LockedBy,
 ) -> Result<Reply, Failure>
     requires { IsSectorSize B }
 {
-    let mut disk = FileDisk::<B>::open(rt, image, Access::Write)?;
+    let mut disk = open_to_write::<B, R>(rt, image, locked_by)?;
     pt_plan::repair::<B, _>(rt.alloc(), &mut disk)?;
     Ok(Reply::Done)
 }

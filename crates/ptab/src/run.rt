@@ -31,9 +31,10 @@ fn reply_to<const B: usize, R: Files<File = File> + AllocGlobal>(
             image,
             fresh,
             words,
+            locked_by,
         } => {
             let wanted = Wanted::read(rt.alloc(), fresh.as_ref(), words.as_slice())?;
-            edit::<B, R>(rt, image.as_str(), &wanted)
+            edit::<B, R>(rt, image.as_str(), locked_by, &wanted)
         }
         Job::Plan {
             image,
@@ -44,8 +45,12 @@ fn reply_to<const B: usize, R: Files<File = File> + AllocGlobal>(
             plan::<B, R>(rt, image.as_str(), &wanted)
         }
         Job::Check { image, file } => check::<B, R>(rt, image.as_str(), file.as_str()),
-        Job::Apply { image, file } => apply::<B, R>(rt, image.as_str(), file.as_str()),
-        Job::Repair { image } => repair::<B, R>(rt, image.as_str()),
+        Job::Apply {
+            image,
+            file,
+            locked_by,
+        } => apply::<B, R>(rt, image.as_str(), locked_by, file.as_str()),
+        Job::Repair { image, locked_by } => repair::<B, R>(rt, image.as_str(), locked_by),
     }
 }
 
@@ -57,7 +62,7 @@ fn printed<const B: usize, O: Write>(reply: &Reply, out: &mut O) -> Result<Statu
         } else {
             Status::Done
         }),
-        Err(_) => Err(Failure::Device),
+        Err(error) => Err(Failure::of_output(&error)),
     }
 }
 
@@ -84,23 +89,16 @@ fn line_answer<R: Files<File = File> + AllocGlobal, O: Write>(
     }
 }
 
-/// Runs the command on the words after its name: answers on `out`, refusals and faults on `err`, and the exit status.
-/// Where a stream fails the status is that of a device's fault, and what was done stands.
-pub fn run<R: Files<File = File> + AllocGlobal, O: Write, E: Write>(
+/// Runs the command on the words after its name, with its answers on `out`, and gives its status.
+/// Where `out` fails, also at its end, that is why the command ends, and what was done stands.
+pub fn run<R: Files<File = File> + AllocGlobal, O: Write>(
     rt: &R,
     words: &[&str],
     out: &mut O,
-    err: &mut E,
-) -> u8 {
-    let status = match line_answer(rt, words, out) {
-        Ok(status) => status,
-        Err(failure) => match failure.print(err) {
-            Ok(()) => failure.status(),
-            Err(_) => Status::Device,
-        },
-    };
+) -> Result<Status, Failure> {
+    let status = line_answer(rt, words, out)?;
     match out.flush() {
-        Ok(()) => status.code(),
-        Err(_) => Status::Device.code(),
+        Ok(()) => Ok(status),
+        Err(error) => Err(Failure::of_output(&error)),
     }
 }

@@ -1,14 +1,14 @@
 //! What the command answers: its texts and its exit statuses (docs/commands.md).
 
 use pt_check::CheckError;
-use pt_file::NoFile;
+use pt_file::OpenError;
 use pt_layout::{NoTable, VerifyError};
 use pt_line::LineError;
 use pt_plan::{CommitError, RepairError};
 use pt_report::print_no_table;
 use std::alloc::AllocError;
 use std::io;
-use std::io::Write;
+use std::io::{ErrorKind, Write};
 
 /// How a run of the command ends, as its exit status says.
 #[derive(Clone, Copy)]
@@ -30,7 +30,6 @@ pub enum Status {
 }
 
 impl Status {
-    /// The exit status.
     pub fn code(self) -> u8 {
         match self {
             Status::Done => 0,
@@ -47,6 +46,8 @@ impl Status {
 /// Why the command ends without an answer: a line on standard error, and a status.
 #[derive(Drop)]
 pub enum Failure {
+    /// An argument isn't UTF-8.
+    NotText,
     /// `clap`'s text.
     Usage(String),
     BadWord(String),
@@ -63,16 +64,32 @@ pub enum Failure {
     Repair(u8),
     /// A text is no plan's: its first bad line, counted from 1; 0 where it is too long or no UTF-8.
     PlanText(u64),
+    /// The image's lock is held elsewhere.
+    Locked,
     NoTable(NoTable),
     Device,
+    /// Nobody reads the output any more: there is no line, since that is nobody's fault.
+    ClosedPipe,
     Memory,
 }
 
+/// What is printed where an argument isn't UTF-8, in the form of `clap`'s texts.
+const NOT_TEXT: &[u8] = b"error: an argument isn't UTF-8\n\nFor more information, try '--help'.\n";
+
 impl Failure {
+    /// That of an output stream that failed.
+    pub fn of_output(error: &io::Error) -> Failure {
+        match error.kind() {
+            ErrorKind::BrokenPipe => Failure::ClosedPipe,
+            _ => Failure::Device,
+        }
+    }
+
     /// The status that goes with it.
     pub fn status(&self) -> Status {
         match self {
-            Failure::Usage(_)
+            Failure::NotText
+            | Failure::Usage(_)
             | Failure::BadWord(_)
             | Failure::BadFresh
             | Failure::BadPath
@@ -81,16 +98,26 @@ impl Failure {
             | Failure::Plan(_)
             | Failure::Check(_)
             | Failure::Repair(_)
-            | Failure::PlanText(_) => Status::Refused,
-            Failure::NoTable(NoTable::Device(_)) | Failure::Device => Status::Device,
+            | Failure::PlanText(_)
+            | Failure::Locked => Status::Refused,
+            Failure::NoTable(NoTable::Device(_)) | Failure::Device | Failure::ClosedPipe =>
+                Status::Device,
             Failure::NoTable(NoTable::Memory) | Failure::Memory => Status::Memory,
             Failure::NoTable(_) => Status::NoTable,
         }
     }
 
-    /// Prints its line.
-    pub fn print<E: Write>(&self, err: &mut E) -> io::Result<()> {
+    /// Prints its line, and gives the status with which the command ends: where the line can't be printed, a device's fault.
+    pub fn tell<E: Write>(&self, err: &mut E) -> Status {
+        match self.print(err) {
+            Ok(()) => self.status(),
+            Err(_) => Status::Device,
+        }
+    }
+
+    fn print<E: Write>(&self, err: &mut E) -> io::Result<()> {
         match self {
+            Failure::NotText => err.write_all(NOT_TEXT),
             Failure::Usage(text) => err.write_all(text.as_bytes()),
             Failure::BadWord(word) => writeln!(err, "bad word {word}"),
             Failure::BadFresh => err.write_all(b"bad fresh\n"),
@@ -101,8 +128,10 @@ impl Failure {
             Failure::Check(number) => print_refusal(err, "check", u64::from(*number)),
             Failure::Repair(number) => print_refusal(err, "repair", u64::from(*number)),
             Failure::PlanText(line) => print_refusal(err, "plan text", *line),
+            Failure::Locked => err.write_all(b"refused: locked\n"),
             Failure::NoTable(why) => print_no_table(err, *why),
             Failure::Device => err.write_all(b"device\n"),
+            Failure::ClosedPipe => Ok(()),
             Failure::Memory => err.write_all(b"memory\n"),
         }
     }
@@ -116,6 +145,7 @@ fn print_refusal<E: Write>(err: &mut E, by: &str, number: u64) -> io::Result<()>
 impl From<LineError> for Failure {
     fn from(error: LineError) -> Failure {
         match error {
+            LineError::NotText => Failure::NotText,
             LineError::Usage(text) => Failure::Usage(text),
             LineError::Memory => Failure::Memory,
         }
@@ -137,9 +167,12 @@ impl From<VerifyError> for Failure {
     }
 }
 
-impl From<NoFile> for Failure {
-    fn from(_no_file: NoFile) -> Failure {
-        Failure::Device
+impl From<OpenError> for Failure {
+    fn from(error: OpenError) -> Failure {
+        match error {
+            OpenError::NoFile => Failure::Device,
+            OpenError::Locked => Failure::Locked,
+        }
     }
 }
 
