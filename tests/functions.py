@@ -141,6 +141,11 @@ def trait_text(trait, folders):
     raise SystemExit(f"wrong_bodies.py: no trait {trait}")
 
 
+def ghosts_of(text):
+    """What a file's items `ghost use` import: modules, and the names from each."""
+    return re.findall(r"^ghost use ([\w.]+)\.\{(.*)\};$", text, re.MULTILINE)
+
+
 def inherited(function, folders):
     """The clauses that a method of an impl has from its trait, said of the impl, and what they import."""
     text = trait_text(plain(function.impl.trait), folders)
@@ -150,12 +155,12 @@ def inherited(function, folders):
         clauses = re.sub(rf"(?<![\w.]){was}\b(?! \{{)", now, clauses) if was.isidentifier() and was != "self" else clauses
     for ghost in re.findall(r"^\s*ghost (\w+):", text, re.MULTILINE):
         clauses = re.sub(rf"(?<![\w.]){ghost}\b(?! \{{)", f"{function.impl.bracket}.{ghost}", clauses)
-    return clauses, re.findall(r"^ghost use ([\w.]+)\.\{(.*)\};$", text, re.MULTILINE)
+    return clauses, ghosts_of(text)
 
 
 def with_imports(text, imports):
     """The text with what isn't imported yet: lines of `use`, and modules with names of specs."""
-    had = {(module, name) for module, names in re.findall(r"^ghost use ([\w.]+)\.\{(.*)\};$", text, re.MULTILINE) for name in parts_of(names)}
+    had = {(module, name) for module, names in ghosts_of(text) for name in parts_of(names)}
     lines = [f"{it}\n" for it in imports if isinstance(it, str) and it not in text]
     for module, names in (it for it in imports if not isinstance(it, str)):
         new = [it for it in parts_of(names) if (module, it) not in had]

@@ -5,8 +5,8 @@ function's contract. docs/wrong_bodies.md says what a wrong body is here, and ho
 usage: tests/wrong_bodies.py [-v] [--keep DIR] [--gate [--beside FILE]] [NAME[/BODY]..]     crates, or none for all
   -v              says at which clauses each body is refused, and all goals that it leaves open
   --keep DIR      keeps the prover's work on each crate there, for the next run
-  --gate          those of crates/NAME/wrong_bodies.txt alone, over the libraries that `rt ci` has just proved. Without it those of
-                  crates/NAME/must-fail-more too, and what these crates stand on is proved first where it isn't proved yet
+  --gate          those of crates/NAME/wrong_bodies.txt alone, over the libraries that `rt ci` has just proved. Without it those that the
+                  edits in must-fail/ and must-fail-more/ make too, and what these crates stand on is proved first where it isn't proved yet
   --beside FILE   while `rt ci` runs, which prints into this file: each crate's, once what stands below it is proved
 
 A wrong body is put into a copy of the crate as a second function beside the right one, with the same signature and contract and no proof by
@@ -40,7 +40,7 @@ TABLE = "wrong_bodies.txt"
 
 
 class Body:
-    """A body to be tried: a wrong one, by the clauses that refuse it (none named: any does), or, with is_right, one that must be proved."""
+    """A body to be tried: a wrong one, and the clauses that refuse it (none named: any); or, with is_right, one that must be proved."""
 
     def __init__(self, name, file, of, text, clauses=(), uses=(), is_right=False):
         self.name, self.file, self.of, self.text = name, file, of, text
@@ -65,8 +65,8 @@ def bodies_of_table(path):
 
 
 def body_of_edit(rt, crate, path):
-    """The wrong body that an edit makes of one function. None where it makes something else, or a proof by hand stands for the function: then
-    a refusal would show only that this proof doesn't fit any more."""
+    """The wrong body that an edit makes of one function. None where it makes something else, and where a proof by hand stands for the
+    function: then a refusal would show only that this proof doesn't fit any more."""
     texts, why = rt.read_edit(path, crate.folder)
     if why or len(texts) != 1 or not [*texts][0].startswith("src/"):
         return None
@@ -164,37 +164,43 @@ def try_bodies(rt, crate, bodies, kept, failures):
             return [(it, *judge(it, said)) for it in tried]
         found = unread(said, texts, tried)
         if not found:
-            failures.append(f"{crate.name}: no verdict: {said[-2000:]}")
+            failures.append(f"no verdict: {said[-2000:]}")
             return []
-        failures.append(f"{crate.name}/{found[0].name}: {found[1]}")
+        failures.append(f"{found[0].name}: {found[1]}")
         bodies = [it for it in bodies if it is not found[0] and not (found[0].is_right and it.of == found[0].of)]
     return []
 
 
-def try_crate(rt, crate, asked):
-    """What to say of a crate's wrong bodies that weren't refused at a clause."""
-    began, failures, bodies = time.monotonic(), [], []
-    if os.path.isfile(f"{crate.folder}/{TABLE}"):
-        bodies += bodies_of_table(f"{crate.folder}/{TABLE}")
-    edits = [] if asked.gate else sorted(glob.glob(f"{crate.folder}/must-fail-more/*.edit"))
-    for edit in edits:
+def bodies_of(rt, crate, is_gate):
+    """The wrong bodies of a crate, and the edits that show nothing."""
+    table = f"{crate.folder}/{TABLE}"
+    bodies, idle = bodies_of_table(table) if os.path.isfile(table) else [], []
+    for edit in [] if is_gate else sorted(glob.glob(f"{crate.folder}/must-fail*/*.edit")):
         body = body_of_edit(rt, crate, edit)
         if body:
             bodies.append(body)
         else:
-            failures.append(f"{crate.name}/{os.path.basename(edit)}: shows nothing: it isn't of one function without a proof by hand")
-    wanted = asked.bodies_of(crate.name)
-    bodies = [it for it in bodies if not wanted or it.name in wanted]
+            idle.append(f"{os.path.basename(edit)}: shows nothing: it isn't of one function without a proof by hand")
+    return bodies, idle
+
+
+def try_crate(rt, crate, asked):
+    """What to say of a crate's wrong bodies that weren't refused at a clause."""
+    began, wanted = time.monotonic(), asked.bodies_of(crate.name)
+    bodies, failures = bodies_of(rt, crate, asked.gate)
+    if wanted:
+        bodies, failures = [it for it in bodies if it.name in wanted], [f"{it}: no such body" for it in wanted - {it.name for it in bodies}]
+    count = len(bodies) + len(failures)
     with tempfile.TemporaryDirectory(prefix="wrong-bodies-kept-") as kept:
         if asked.keep:
             kept = f"{os.path.abspath(asked.keep)}/{crate.name}"
             os.makedirs(kept, exist_ok=True)
         answers = try_bodies(rt, crate, bodies, kept, failures)
-    failures += [f"{crate.name}/{body.name}: {text}" for body, is_well, text in answers if not is_well]
+    failures += [f"{body.name}: {text}" for body, is_well, text in answers if not is_well]
     refused = [f"  {body.name}: {text}\n" for body, is_well, text in answers if is_well and not body.is_right]
-    print(f"{crate.name}: {len(refused)} of {len(bodies) + len(edits) * (not wanted) - sum(it.name.startswith('edit_') for it in bodies)} "
-          f"refused, {time.monotonic() - began:.0f} s\n{''.join(refused) if asked.tells else ''}", end="", flush=True)
-    return failures
+    print(f"{crate.name}: {len(refused)} of {count} refused, {time.monotonic() - began:.0f} s\n{''.join(refused) if asked.tells else ''}",
+          end="", flush=True)
+    return [f"{crate.name}/{it}" for it in failures]
 
 
 class Asked:
@@ -211,8 +217,8 @@ class Asked:
         return [*dict.fromkeys(it.partition("/")[0] for it in self.names)]
 
     def bodies_of(self, crate):
-        """The bodies that are asked for, none where all are."""
-        return [it.partition("/")[2] for it in self.names if it.startswith(f"{crate}/")]
+        """The names of the bodies that are asked for, none where all are."""
+        return {it.partition("/")[2] for it in self.names if it.startswith(f"{crate}/")}
 
 
 class Left:
@@ -246,7 +252,7 @@ def main(words):
     asked = Asked(words)
     rt = kit.load(ROOT)
     crates = {it.name: it for it in rt.rtlib.crates_below(ROOT)}
-    places = (TABLE,) if asked.gate else (TABLE, "must-fail-more")
+    places = (TABLE,) if asked.gate else (TABLE, "must-fail", "must-fail-more")
     having = [it for it in crates if any(os.path.exists(f"{ROOT}/crates/{it}/{place}") for place in places)]
     names = asked.crates() or having
     for name in names:
