@@ -38,18 +38,20 @@ enum {
   PTAB_NO_TABLE = 4, /* the disk has no table that can be read */
   PTAB_DEVICE = 5,   /* not returned; for the caller's own use where a read or write fails */
   PTAB_MEMORY = 6,   /* malloc gave nothing */
-  PTAB_WANT = -1,    /* read sector `reply.sector`, add it to the view and call again */
+  PTAB_WANT = -1,    /* read sector `reply.sector`, one that decides the answer, add it to the view and call again */
   PTAB_ROOM = -2     /* a buffer is too small: it takes `reply.count` rows or writes */
 };
 
 /* What `reply.number` counts. */
 enum {
   PTAB_ABOUT_NOTHING = 0,
-  PTAB_ABOUT_ARGUMENT = 1, /* 1 sector_size; 2 the view's lengths, or more than 2^64 bytes; 3 number or letter; 4 the
-                              length of `drawn`; 5 no words, not UTF-8, or no zero byte at the end; 6 the writes of a
-                              plan: their bytes don't fit their number, or write `a`, from 1, is of no phase that
-                              could come there */
-  PTAB_ABOUT_WORD = 2,     /* word `a`, from 1, is no word: 1 letter, 2 fields, 3 number, 4 GUID, 5 code */
+  PTAB_ABOUT_ARGUMENT = 1, /* 1 sector_size; 2 the view's lengths, or a disk of 2^64 bytes or more; 3 number or letter;
+                              4 the length of `drawn`; 5 no words, not UTF-8, or no zero byte at the end; 6 the writes
+                              of a plan: their bytes don't fit their number (then `a` is 0), or write `a`, from 1, is
+                              the first that is of another phase than the one before it or the next. Of several the
+                              first is told: the size, then 3, 4 or 6, then the words, then the view (docs/c.md) */
+  PTAB_ABOUT_WORD = 2,     /* word `a`, from 1, is the first that can't be read: 1 letter, 2 fields, 3 number, 4 GUID,
+                              5 code */
   PTAB_ABOUT_TABLE = 3,    /* 1 copies: their faults `a` and `b`; 2 chain: its fault `a` at sector `b`; 3 two extended;
                               4 too small */
   PTAB_ABOUT_FINDING = 4,  /* 1 to 11, as `ptab verify` prints them, with arguments `a` and `b` */
@@ -70,6 +72,7 @@ typedef struct ptab_view {
   size_t bytes_len; /* numbers_len * sector_size */
 } ptab_view;
 
+/* What goes with a status; a field that doesn't is 0. */
 typedef struct ptab_reply {
   uint64_t sector; /* the one wanted, or the one located */
   uint64_t count;  /* of rows or writes */

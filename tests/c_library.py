@@ -1,8 +1,8 @@
 #!/usr/bin/env python3
 """The C library beside the command: the header compiled as C and as C++, with all warnings; on images changed at random, of every kind and
 both sector sizes, one answer, one status and one image after an edit or a repair, each plan taken by the command's `check`'s twin, and no
-sector asked for twice; each request for memory refused in turn; wrong arguments of every kind answered by name; valgrind silent where it
-is installed; the C example cut in each phase of its writes; the Rust crate where there is a rustc.
+sector asked for twice; each request for memory refused in turn; the whole reply of each status (c_replies.py); valgrind silent where it is
+installed; the C example cut in each phase of its writes; the Rust crate where there is a rustc.
 
 usage: tests/c_library.py PTAB ARCHIVE [COUNT]     ARCHIVE is crates/pt_c/out/libpt_c.a
 """
@@ -18,6 +18,7 @@ import sys
 HERE = os.path.dirname(os.path.abspath(__file__))
 ROOT = os.path.dirname(HERE)
 sys.path[:0] = [HERE, os.path.join(ROOT, "bindings", "python")]
+import c_replies
 import images
 import ptab as lib
 from images import LARGE, SMALL, room
@@ -260,6 +261,8 @@ def without_memory(library):
                         return found[0], found[1].number, found[1].a, found[1].b
                     return [bytes(row) for row in found[1]] if isinstance(found, tuple) else found
                 except lib.Failed as failed:
+                    if failed.status == lib.MEMORY and c_replies.whole(failed.reply) != c_replies.reply():
+                        fail("memory was refused, and the reply tells", c_replies.whole(failed.reply))
                     return failed.status
 
             phases = [[(0, bytes(size))]]
@@ -276,52 +279,6 @@ def without_memory(library):
                             fail(f"request {first} of {count} refused: {found}, {it.lib.test_blocks()} blocks stay")
                         runs += 1
     return runs
-
-
-def odd_arguments(it):
-    """Arguments that mean nothing are answered by their number, and buffers that are too small by what they need."""
-    image = bytes(images.one_partition())
-
-    def disk(size=512, sectors=None):
-        return lib.Disk(it, lambda k: image[k * 512:(k + 1) * 512], len(image) // 512 if sectors is None else sectors, size)
-
-    def call(it, change, plan=lambda lib, view, reply: lib.ptab_verify(view, reply)):
-        reply = lib.Reply()
-        change(it)
-        status = plan(it.lib, ctypes.byref(it.view), ctypes.byref(reply))
-        return status, reply.about, reply.number
-
-    runs = [(call(disk(), lambda d: setattr(d.view, "sector_size", size)), (2, 1, 1)) for size in (0, 1, 511, 513, 1024, 2 ** 32 - 1)]
-    runs += [(call(disk(), lambda d: setattr(d.view, "bytes_len", d.view.bytes_len - 1)), (2, 1, 2)),
-             (call(disk(), lambda d: setattr(d.view, "numbers_len", d.view.numbers_len - 1)), (2, 1, 2)),
-             (call(disk(), lambda d: setattr(d.view, "sectors", 2 ** 64 - 1)), (2, 1, 2)),
-             (call(disk(), lambda d: setattr(d.view, "sectors", 0)), (1, 4, 1))]
-    for number, letter in ((0, 0), (1, ord("i")), (1, 1), (1, 255)):
-        runs.append((call(disk(), lambda d: None, lambda l, v, r: l.ptab_locate(v, number, letter, 0, r)), (2, 1, 3)))
-    writes, data = (lib.Write * 264)(), ctypes.create_string_buffer(264 * 512)
-
-    def plan(words, drawn, rows=264, room=264 * 512):
-        return call(disk(), lambda d: None,
-                    lambda l, v, r: l.ptab_plan(v, words, len(words), drawn, len(drawn), writes, rows, data, room, r))
-
-    runs += [(plan(b"e", b""), (2, 1, 5)), (plan(b"", b""), (2, 1, 5)), (plan(b"c:1:\xff\0", b""), (2, 1, 5)),
-             (plan(b"e\0", b"123"), (2, 1, 4)), (plan(b"e\0x\0", b""), (2, 2, 1)), (plan(b"c:1:a\0", b"", 3), (lib.ROOM, 0, 0)),
-             (plan(b"c:1:a\0", b"", room=511), (lib.ROOM, 0, 0))]
-    for phases in ((0,), (2,), (1, 3), (1, 2, 1), (2 ** 64 - 1,)):
-        rows = (lib.Write * len(phases))(*[(0, phase) for phase in phases])
-        content = bytes(512 * len(phases))
-        runs.append((call(disk(), lambda d: None, lambda l, v, r: l.ptab_check(v, rows, len(rows), content, len(content), r)), (2, 1, 6)))
-    runs.append((call(disk(), lambda d: None, lambda l, v, r: l.ptab_check(v, writes, 1, data, 511, r)), (2, 1, 6)))
-    for number, (found, wanted) in enumerate(runs):
-        if found != wanted:
-            fail(f"odd argument {number}: {found}, wanted {wanted}")
-    rows = (lib.Member * 1)()
-    rows[0].number = 77
-    reply, one = lib.Reply(), disk()
-    status = it.lib.ptab_members(ctypes.byref(one.view), ctypes.byref(lib.Table()), rows, 0, ctypes.byref(reply))
-    if (status, reply.count, rows[0].number) != (lib.ROOM, 1, 77):
-        fail("a row too many")
-    return len(runs) + 1
 
 
 # the C example
@@ -466,7 +423,7 @@ def main():
         shared, refusing, example = built(archive, folder)
         it = lib.Ptab(shared)
         runs = beside(it, ptab, folder, count)
-        runs += odd_arguments(it)
+        runs += c_replies.checked(it)
         runs += without_memory(refusing)
         runs += example_beside(ptab, example, folder)
         runs += cut(ptab, example, folder)

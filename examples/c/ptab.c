@@ -117,14 +117,14 @@ static void path_text(char *text, size_t size, uint64_t number, uint8_t letter) 
     snprintf(text, size, "%llu", (wide)number);
 }
 
-/* Says on standard error why there is no answer, as `ptab` does. */
-static void complain(int status, const ptab_reply *r, char **words) {
+/* Says on standard error why there is no answer, as `ptab` does; `words` are the `count` words that were asked for. */
+static void complain(int status, const ptab_reply *r, char **words, int count) {
   static const char *const kinds[] = {"", "", "", "", "", "edit", "plan", "check", "repair"};
   if (status == PTAB_DEVICE)
     fputs("device\n", stderr);
   else if (status == PTAB_MEMORY)
     fputs("memory\n", stderr);
-  else if (r->about == PTAB_ABOUT_WORD && words)
+  else if (r->about == PTAB_ABOUT_WORD && r->a >= 1 && r->a <= (uint64_t)count)
     fprintf(stderr, "bad word %s\n", words[r->a - 1]);
   else if (r->about == PTAB_ABOUT_TABLE && r->number == 1)
     fprintf(stderr, "no table: copies %llu %llu\n", (wide)r->a, (wide)r->b);
@@ -301,7 +301,7 @@ int main(int argc, char **argv) {
     else if (!strcmp(job, "locate")) status = locate(&d, argv + 4, &reply);
     else status = change(&d, argv + 4, writes && argc > 4 ? argc - 4 : 0, &reply);
   }
-  if (status != PTAB_DONE && status != PTAB_NO) complain(status, &reply, argc > 4 ? argv + 4 : NULL);
+  if (status != PTAB_DONE && status != PTAB_NO) complain(status, &reply, argv + 4, argc - 4);
   close_disk(&d);
   return status < 0 ? PTAB_USAGE : status;
 }

@@ -15,7 +15,8 @@ ghost use Rattle.pt_replay.specs.Given.{buffers};
 ghost use Rattle.pt_sector.specs.Sectors.{Sectors};
 ghost use Rattle.pt_replay.specs.Known.{IsPartOf};
 ghost use Rattle.pt_replay.specs.Listed.{listing};
-ghost use Rattle.pt_replay.specs.Claims.{Says, Members, Verified, Located, PlannedFor, Mended, CheckedFor};
+ghost use Rattle.pt_replay.specs.Judged.{OfSize, NoBuffers};
+ghost use Rattle.pt_replay.specs.Claims.{Says, MembersFor, VerifiedFor, LocatedFor, PlannedFor, MendedFor, CheckedFor};
 
 use pt_guid::{Guid, code_of_type};
 use pt_replay::{
@@ -38,8 +39,8 @@ pub extern "C" fn ptab_members(
     reply: &mut Reply,
 ) -> i32
     ghost disk: { Sectors }
-    ensures { IsPartOf view.now disk → Says (Members view.now.sector_size view.now disk
-        (listing table.old rows.old) (listing table.new rows.new)) result reply.new }
+    ensures says { IsPartOf view.now disk → Says (OfSize view.now (listing table.new rows.new ≡ listing table.old rows.old)
+        (MembersFor view.now.sector_size view.now disk (listing table.old rows.old) (listing table.new rows.new))) result reply.new }
 {
     match view.sector_size {
         512 => members::<512>(alloc, view, table, rows, Moments::any()).give(reply),
@@ -52,7 +53,8 @@ pub extern "C" fn ptab_members(
 #[unsafe(no_mangle)]
 pub extern "C" fn ptab_verify(alloc: Global, view: &View<'_>, reply: &mut Reply) -> i32
     ghost disk: { Sectors }
-    ensures { IsPartOf view.now disk → Says (Verified view.now.sector_size view.now disk) result reply.new }
+    ensures says { IsPartOf view.now disk → Says (OfSize view.now NoBuffers (VerifiedFor view.now.sector_size view.now disk))
+        result reply.new }
 {
     match view.sector_size {
         512 => verified::<512>(alloc, view, Moments::any()).give(reply),
@@ -72,7 +74,8 @@ pub extern "C" fn ptab_locate(
     reply: &mut Reply,
 ) -> i32
     ghost disk: { Sectors }
-    ensures { IsPartOf view.now disk → Says (Located view.now.sector_size view.now disk number letter k) result reply.new }
+    ensures says { IsPartOf view.now disk → Says (OfSize view.now NoBuffers
+        (LocatedFor view.now.sector_size view.now disk number letter k)) result reply.new }
 {
     match view.sector_size {
         512 => located::<512>(alloc, view, number, letter, k, Moments::any()).give(reply),
@@ -96,8 +99,9 @@ pub extern "C" fn ptab_plan(
     reply: &mut Reply,
 ) -> i32
     ghost disk: { Sectors }
-    ensures { IsPartOf view.now disk → Says (PlannedFor view.now.sector_size view.now disk words.now drawn.now
-        (buffers writes.old bytes.old) (buffers writes.new bytes.new)) result reply.new }
+    ensures says { IsPartOf view.now disk → Says (OfSize view.now (buffers writes.new bytes.new ≡ buffers writes.old bytes.old)
+        (PlannedFor view.now.sector_size view.now disk words.now drawn.now
+        (buffers writes.old bytes.old) (buffers writes.new bytes.new))) result reply.new }
 {
     match view.sector_size {
         512 => planned::<512>(alloc, view, words, drawn, writes, bytes, Moments::any()).give(reply),
@@ -118,8 +122,9 @@ pub extern "C" fn ptab_repair(
     reply: &mut Reply,
 ) -> i32
     ghost disk: { Sectors }
-    ensures { IsPartOf view.now disk → Says (Mended view.now.sector_size view.now disk
-        (buffers writes.old bytes.old) (buffers writes.new bytes.new)) result reply.new }
+    ensures says { IsPartOf view.now disk → Says (OfSize view.now (buffers writes.new bytes.new ≡ buffers writes.old bytes.old)
+        (MendedFor view.now.sector_size view.now disk
+        (buffers writes.old bytes.old) (buffers writes.new bytes.new))) result reply.new }
 {
     match view.sector_size {
         512 => mended::<512>(alloc, view, writes, bytes, Moments::any()).give(reply),
@@ -138,7 +143,8 @@ pub extern "C" fn ptab_check(
     reply: &mut Reply,
 ) -> i32
     ghost disk: { Sectors }
-    ensures { IsPartOf view.now disk → Says (CheckedFor view.now.sector_size view.now disk writes.now bytes.now) result reply.new }
+    ensures says { IsPartOf view.now disk → Says (OfSize view.now NoBuffers
+        (CheckedFor view.now.sector_size view.now disk writes.now bytes.now)) result reply.new }
 {
     match view.sector_size {
         512 => checked::<512>(alloc, view, writes, bytes, Moments::any()).give(reply),

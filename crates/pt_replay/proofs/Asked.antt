@@ -1,6 +1,6 @@
 -- Words that are cut out of a text.
 use Rattle.std.proofs.Common.{◌≡◌, ◌≢◌, ◌<◌, ◌≤◌, ◌+◌, ℕ, suc, List, [], ◌∷◌, ◌++◌, length, drop, get_or, sym, ap, ◌∙◌, subst, arith}
-use Rattle.std.proofs.Common.{append_assoc, length-append, map, take, refl, Option, Bor}
+use Rattle.std.proofs.Common.{append_assoc, length-append, map, take, refl, Option, Bor, inl, inr}
 use Rattle.std.proofs.lemmas.List.{append-nil, map-append, take_more}
 use Rattle.std.proofs.Math.Seq.{get_or-append_seam}
 use Rattle.std.specs.Prelude.{MatchOption}
@@ -11,29 +11,61 @@ use Rattle.pt_words.specs.Words.{fields, IsWord}
 use Rattle.pt_words.specs.declared.error.EditError.{EditError}
 use Rattle.pt_words.specs.Words.{IsWordFault}
 use Rattle.pt_words.specs.laws.WordLaws.{fault_is_no_word_lem}
+use Rattle.pt_replay.specs.Codes.{the_words}
 use Rattle.pt_replay.specs.Words.{AreWords, AreEdits, HasNoZero}
-use Rattle.pt_replay.specs.Claims.{AreNoEdits}
+use Rattle.pt_replay.specs.Judged.{NoWords}
+use Rattle.pt_replay.specs.Replies.{bad_argument, bad_word}
+use Rattle.pt_replay.specs.declared.answers.Reply.{Reply}
 
 -- a cut at the first zero byte
 abbrev pub Cut : List ℕ → Option (Bor (List ℕ) × Bor (List ℕ)) → Type 0
 Cut text r = MatchOption r ((i : ℕ) → i < length text → get_or text i 0 ≢ 0) (λ x. (text ≡ x.0.now ++ 0 ∷ x.1.now)
     × ((i : ℕ) → i < length x.0.now → get_or x.0.now i 0 ≢ 0))
 
--- the words so far, whatever words the rest is
-abbrev pub SoFar : List ℕ → List ℕ → List Edit → Type 0
-SoFar bytes rest es = (more : List Edit) → AreWords rest more → AreWords bytes (es ++ more)
+-- what stands before the rest are these words
+pub record IsReadTo (bytes rest : List ℕ) (es : List Edit) : Type 0 where
+  pub front : List ℕ
+  pub split : bytes ≡ front ++ rest
+  pub read : AreWords front es
 
-pub one_more : (bytes rest word after : List ℕ) (es later : List Edit) (e : Edit) → SoFar bytes rest es → rest ≡ word ++ 0 ∷ after
+pub none_read : (bytes rest : List ℕ) (es : List Edit) → rest ≡ bytes → es ≡ [] → IsReadTo bytes rest es
+unfolding AreWords
+none_read bytes rest es same none =
+    subst (λ (x : List Edit). IsReadTo bytes rest x) (sym none) (record { front = []; split = sym same; read = refl })
+
+-- one word more
+words_more : (front word : List ℕ) (es : List Edit) (e : Edit) → AreWords front es → HasNoZero word → IsWord (fields word) e
+    → AreWords (front ++ (word ++ 0 ∷ [])) (es ++ e ∷ [])
+unfolding AreWords
+words_more front word [] e none clean is = (word, [], ap (λ (t : List ℕ). t ++ (word ++ 0 ∷ [])) none, clean, is, refl)
+words_more front word (x ∷ xs) e (w, rest, cut, ended, first, more) clean is = (
+  w,
+  rest ++ (word ++ 0 ∷ []),
+  ap (λ (t : List ℕ). t ++ (word ++ 0 ∷ [])) cut ∙ append_assoc w (0 ∷ rest) (word ++ 0 ∷ []),
+  ended,
+  first,
+  words_more rest word xs e more clean is,
+)
+
+pub one_more : (bytes rest word after : List ℕ) (es later : List Edit) (e : Edit) → IsReadTo bytes rest es → rest ≡ word ++ 0 ∷ after
     → HasNoZero word → IsWord (fields word) e
-    → later ≡ es ++ e ∷ [] → SoFar bytes after later
-unfolding AreWords
-one_more bytes rest word after es later e so_far cut clean is grown more are =
-    subst (λ (x : List Edit). AreWords bytes (x ++ more)) (sym grown)
-    (subst (AreWords bytes) (sym (append_assoc es (e ∷ []) more)) (so_far (e ∷ more) (word, after, cut, clean, is, are)))
+    → later ≡ es ++ e ∷ [] → IsReadTo bytes after later
+one_more bytes rest word after es later e so_far cut clean is grown =
+    subst (λ (x : List Edit). IsReadTo bytes after x) (sym grown) (record {
+      front = so_far.front ++ (word ++ 0 ∷ []);
+      split = so_far.split ∙ (ap (λ (t : List ℕ). so_far.front ++ t) (cut ∙ sym (append_assoc word (0 ∷ []) after))
+          ∙ sym (append_assoc so_far.front (word ++ 0 ∷ []) after));
+      read = words_more so_far.front word es e so_far.read clean is;
+    })
 
-pub all_read : (bytes rest : List ℕ) (es : List Edit) → SoFar bytes rest es → rest ≡ [] → AreWords bytes es
-unfolding AreWords
-all_read bytes rest es so_far none = subst (AreWords bytes) (append-nil es) (so_far [] none)
+pub all_read : (bytes rest : List ℕ) (es : List Edit) → IsReadTo bytes rest es → rest ≡ [] → AreWords bytes es
+all_read bytes rest es so_far none =
+    subst (λ (t : List ℕ). AreWords t es)
+    (sym (so_far.split ∙ (ap (λ (t : List ℕ). so_far.front ++ t) none ∙ append-nil so_far.front))) so_far.read
+
+-- the bytes are no words
+abbrev pub AreNoEdits : List ℕ → Type 0
+AreNoEdits bytes = (edits : List Edit) → ¬ AreEdits bytes edits
 
 -- whatever words the bytes are, the rest are words
 abbrev pub Onward : List ℕ → List ℕ → Type 0
@@ -77,11 +109,30 @@ no_word_in rest word after (e ∷ es) f cut clean fault are =
     let same = (one_cut word are.0 after are.1 clean are.3 (sym cut ∙ are.2)).0 in
     fault_is_no_word_lem (fields word) e f (subst (λ (t : List ℕ). IsWord (fields t) e) (sym same) are.4) fault
 
--- where one of them is no word, the bytes are no edits
-pub no_word : (bytes rest word after : List ℕ) (f : EditError) → Onward bytes rest → rest ≡ word ++ 0 ∷ after → HasNoZero word
-    → IsWordFault (fields word) f → AreNoEdits bytes
-no_word bytes rest word after f on cut clean fault edits are =
-    let now = on edits are.words_are in no_word_in rest word after now.0 f cut clean fault now.1
+-- where one of them is no word, the bytes are no edits, and it is told by its number
+pub no_word : (bytes rest word after : List ℕ) (es : List Edit) (f : EditError) (r : Reply) → IsUtf8 bytes → IsReadTo bytes rest es
+    → Onward bytes rest → rest ≡ word ++ 0 ∷ after → HasNoZero word → IsWordFault (fields word) f → r ≡ bad_word (length es + 1) f
+    → NoWords bytes r
+no_word bytes rest word after es f r utf8 so_far on cut clean fault told = (
+  λ all. let now = on all.0 all.1.words_are in no_word_in rest word after now.0 f cut clean fault now.1,
+  inr (
+    length es + 1,
+    f,
+    record {
+      text = utf8;
+      front = so_far.front;
+      word = word;
+      rest = after;
+      before = es;
+      split = so_far.split ∙ ap (λ (t : List ℕ). so_far.front ++ t) cut;
+      read = so_far.read;
+      ended = clean;
+      fault = fault;
+      place = refl;
+    },
+    told,
+  ),
+)
 
 no_end_in : (rest : List ℕ) (more : List Edit) → HasNoZero rest → AreWords rest more → more ≡ []
 unfolding AreWords
@@ -96,14 +147,48 @@ empty_in rest [] none are = are
 empty_in rest (e ∷ es) none are =
     absurd (let len = ap (λ (t : List Edit). length t) none in omega (arith, len))
 
--- where a text behind the last zero byte isn't empty
-pub no_end : (bytes rest : List ℕ) → Onward bytes rest → HasNoZero rest → rest ≢ [] → AreNoEdits bytes
-no_end bytes rest on clean some edits are =
+no_more : (bytes rest : List ℕ) → Onward bytes rest → HasNoZero rest → rest ≢ [] → AreNoEdits bytes
+no_more bytes rest on clean some edits are =
     let now = on edits are.words_are in some (empty_in rest now.0 (no_end_in rest now.0 clean now.1) now.1)
 
+-- where a text behind the last zero byte isn't empty
+pub no_end : (bytes rest : List ℕ) (es : List Edit) (r : Reply) → IsReadTo bytes rest es → Onward bytes rest → HasNoZero rest
+    → rest ≢ [] → r ≡ bad_argument the_words → NoWords bytes r
+no_end bytes rest es r so_far on clean some told = (
+  λ all. no_more bytes rest on clean some all.0 all.1,
+  inl (
+    inr (inr (record {
+      front = so_far.front;
+      rest = rest;
+      before = es;
+      split = so_far.split;
+      read = so_far.read;
+      unended = clean;
+      some = some;
+    })),
+    told,
+  ),
+)
+
 -- where there is no zero byte
-pub no_first : (bytes : List ℕ) → HasNoZero bytes → AreNoEdits bytes
-no_first bytes clean edits are = are.some (no_end_in bytes edits clean are.words_are)
+no_first_in : (bytes : List ℕ) (r : Reply) → HasNoZero bytes → r ≡ bad_argument the_words → NoWords bytes r
+unfolding AreWords
+no_first_in [] r clean told = (λ all. all.1.some (no_end_in [] all.0 clean all.1.words_are), inl (inr (inl refl), told))
+no_first_in (x ∷ bytes) r clean told =
+    no_end (x ∷ bytes) (x ∷ bytes) [] r (record { front = []; split = refl; read = refl }) (onward_first (x ∷ bytes) (x ∷ bytes) refl)
+    clean (λ none. let len = ap (λ (t : List ℕ). length t) none in omega (arith, len)) told
+
+pub no_first : (bytes rest : List ℕ) (es : List Edit) (r : Reply) → IsReadTo bytes rest es → length es ≡ 0 → HasNoZero rest
+    → r ≡ bad_argument the_words → NoWords bytes r
+unfolding AreWords
+no_first bytes rest [] r so_far none clean told =
+    let same : bytes ≡ rest = so_far.split ∙ ap (λ (t : List ℕ). t ++ rest) so_far.read in
+    no_first_in bytes r (subst HasNoZero (sym same) clean) told
+no_first bytes rest (e ∷ es) r so_far none clean told = absurd (omega (arith, none))
+
+-- where the bytes are no text
+pub no_text : (bytes : List ℕ) (r : Reply) → ¬ IsUtf8 bytes → r ≡ bad_argument the_words → NoWords bytes r
+no_text bytes r not told = (λ all. not all.1.text, inl (inl not, told))
 
 drop_seam : (xs : List ℕ) (c : ℕ) (ys : List ℕ) → drop (suc (length xs)) (xs ++ c ∷ ys) ≡ ys
 drop_seam [] c ys = refl

@@ -1,7 +1,7 @@
 -- The rows of a layout, one place after the other.
-use Rattle.std.proofs.Common.{◌≡◌, ◌≤◌, ◌<◌, ◌+◌, ◌-◌, ◌++◌, ◌∙◌, append_assoc, ℕ, List, [], ◌∷◌, length, get_or, map, None, Some}
+use Rattle.std.proofs.Common.{◌≡◌, ◌≤◌, ◌<◌, ◌+◌, ◌-◌, ◌++◌, ◌∙◌, append_assoc, ℕ, List, [], ◌∷◌, length, get_or, map, None}
 use Rattle.std.proofs.Common.{Option, ap, sym, arith}
-use Rattle.std.specs.Prelude.{flat_map, slice_index_or}
+use Rattle.std.specs.Prelude.{flat_map}
 use Rattle.std.specs.List.{range_with_len}
 use Rattle.std.proofs.lemmas.Grind.{flat_map-append}
 use Rattle.std.proofs.lemmas.List.{append-nil, get_or_append_left, get_or-append_right, get_or-map, length-map, get_or_past}
@@ -10,7 +10,9 @@ use Rattle.std.proofs.lemmas.List.Folds.{flat_map-map}
 use Rattle.pt_mbr.specs.declared.ebr.Ebr.{Ebr}
 use Rattle.pt_mbr.specs.declared.record.Record.{Record}
 use Rattle.pt_sector.specs.Sectors.{Sectors}
-use Rattle.pt_replay.specs.Claims.{NoLayout, Members}
+use Rattle.pt_replay.specs.Claims.{NoLayout, Members, MembersFor}
+use Rattle.pt_replay.specs.Judged.{OfView, NoBuffers}
+use Rattle.pt_replay.proofs.Saying.{viewed}
 use Rattle.pt_replay.specs.Listed.{Listing, records_in}
 use Rattle.pt_replay.specs.declared.answers.Status.{Status}
 use Rattle.pt_replay.specs.declared.answers.Status.TheVariants as status
@@ -61,14 +63,18 @@ record_past records chain k four low past =
     (let len = length-map chain (λ (e : Ebr). e.logical) in omega (arith, len, past))
 
 -- where there is no layout nothing is listed
-pub members_not : (b : ℕ) (v : View) (d : Sectors) (old new : Listing) (s : Status) (r : Reply) → new ≡ old → NoLayout b v d s r
+none_listed : (b : ℕ) (v : View) (d : Sectors) (old new : Listing) → new ≡ old → (s : Status) (r : Reply) → NoLayout b v d s r
     → Members b v d old new s r
-members_not b v d old new status.Done r same is = absurd is
-members_not b v d old new status.No r same is = is
-members_not b v d old new status.Usage r same is = (is, same)
-members_not b v d old new status.Refused r same is = is
-members_not b v d old new status.NoTable r same is = (is, same)
-members_not b v d old new status.Device r same is = is
-members_not b v d old new status.Memory r same is = same
-members_not b v d old new status.Want r same is = (is, same)
-members_not b v d old new status.Room r same is = absurd is
+none_listed b v d old new same status.Done r is = absurd is
+none_listed b v d old new same status.No r is = is
+none_listed b v d old new same status.Usage r is = is
+none_listed b v d old new same status.Refused r is = is
+none_listed b v d old new same status.NoTable r is = (is, same)
+none_listed b v d old new same status.Device r is = is
+none_listed b v d old new same status.Memory r is = (is, same)
+none_listed b v d old new same status.Want r is = (is, same)
+none_listed b v d old new same status.Room r is = absurd is
+
+pub members_not : (b : ℕ) (v : View) (d : Sectors) (old new : Listing) (s : Status) (r : Reply) → new ≡ old
+    → OfView b v NoBuffers (NoLayout b v d) s r → MembersFor b v d old new s r
+members_not b v d old new s r same is = viewed NoBuffers (new ≡ old) (λ none. same) (none_listed b v d old new same) s r is

@@ -123,6 +123,7 @@ module _ {b : ℕ} where
       record {
         front = λ full. subst (λ (items : List (Vec (Write b) Global)). AreFull (phases_in items)) (sym phases_same) full;
         last = phase ∙ sym number_same;
+        next = inl phase;
         some = let n = length-append old.last.items (write_of row sector ∷ []) in let on = ap (λ (t : List (Write b)). length t) last_on in
             omega (arith, n, on);
         numbered = number_same ∙ (numbered ∙ ap (λ (items : List (Vec (Write b) Global)). 1 + length (phases_in items)) (sym phases_same));
@@ -153,6 +154,7 @@ module _ {b : ℕ} where
         front = λ front. subst AreFull (sym qs) (full_more ps p front (let len = length-map {B = ℕ × List ℕ} old.last.items
             (λ (x : Write b). (x.lba.0, x.bytes)) in omega (arith, len, some)));
         last = sym number_is;
+        next = inr (phase, some);
         some = let on = ap (λ (t : List (Write b)). length t) last_is in omega (arith, on);
         numbered = number_is ∙ (at ∙ ap (λ (x : List Writes). 1 + length x) (sym qs));
         rows = ap (λ (x : List Writes). rows_from 1 x) e ∙ (rows_next (ps ++ p ∷ []) w

@@ -15,10 +15,8 @@ use Rattle.pt_plan.specs.Batches.{Words, IsReady, IsRefusal, IsReadyToMend, IsMe
 use Rattle.pt_plan.specs.Reading.{CommitReads, RepairReads}
 use Rattle.pt_plan.specs.declared.error.CommitError.{CommitError}
 use Rattle.pt_plan.specs.declared.repair_error.RepairError.{RepairError}
-use Rattle.pt_guid.specs.declared.guid.Guid.{Guid}
-use Rattle.pt_words.specs.declared.word.Edit.{Edit}
-use Rattle.pt_replay.specs.Words.{AreEdits, AreDrawn, IsAskedFor}
-use Rattle.pt_replay.specs.Given.{Buffers, Stands, HasNoPlace, AreTaken}
+use Rattle.pt_replay.specs.Words.{AreSomeEdits, AreGroups, ToldOfWords, IsAskedFor}
+use Rattle.pt_replay.specs.Given.{Buffers, Stands, HasNoPlace, AreTaken, ArePlan, ToldOfRows}
 use Rattle.pt_replay.specs.Listed.{Listing, IsListed, HasNoRoom}
 use Rattle.pt_replay.specs.declared.rows.WriteRow.{WriteRow}
 use Rattle.pt_apply.specs.Promises.{Safe}
@@ -28,9 +26,11 @@ use Rattle.pt_members.specs.Owned.{OwnedOf}
 use Rattle.pt_members.specs.Tables.{TableOf}
 use Rattle.pt_check.specs.declared.answer.Answer.TheVariants.{No as AnswerNo}
 use Rattle.pt_check.specs.declared.answer.Why.{Why}
-use Rattle.pt_replay.specs.Codes.{status_code}
-use Rattle.pt_replay.specs.Known.{IsView, IsWanted}
-use Rattle.pt_replay.specs.Replies.{finding_answer, table_answer, commit_answer, repair_answer, why_reply}
+use Rattle.pt_replay.specs.Codes.{status_code, the_path, the_random_bytes}
+use Rattle.pt_replay.specs.Known.{IsWanted}
+use Rattle.pt_replay.specs.Judged.{Judged, Tells, OfView, OrMemory, NoBuffers}
+use Rattle.pt_replay.specs.Replies.{nothing, answer, at_sector, switching, finding_answer, table_answer, commit_answer, repair_answer}
+use Rattle.pt_replay.specs.Replies.{why_reply}
 use Rattle.pt_replay.specs.declared.answers.Status.{Status}
 use Rattle.pt_replay.specs.declared.answers.Status.TheVariants.{Done, No, Usage, Refused, NoTable, Device, Memory, Want, Room}
 use Rattle.pt_replay.specs.declared.answers.Reply.{Reply}
@@ -38,31 +38,39 @@ use Rattle.pt_replay.specs.declared.view.View.{View}
 
 -- the disk denotes nothing, for the reason that the reply tells
 abbrev pub SaysNothing : ℕ → Sectors → Reply → Type 0
-SaysNothing b d r = (e : Reason) × Denotes b d None × IsReason b d e × (r ≡ (table_answer e).reply)
+SaysNothing b d r = (e : Reason) × Denotes b d None × IsReason b d e × (table_answer e ≡ answer NoTable r)
+
+-- a sector of the disk is wanted that isn't in the view and is one of those that are read, and the reply has nothing else
+abbrev pub Wants : ℕ → View → (ℕ → Type 0) → Reply → Type 0
+Wants b v reads r = IsWanted b v r.sector × reads r.sector × (r ≡ at_sector r.sector)
 
 -- no layout: the disk denotes nothing, or no answer yet
 abbrev pub NoLayout : ℕ → View → Sectors → Status → Reply → Type 0
 NoLayout b v d Done r = ⊥
 NoLayout b v d No r = ⊥
-NoLayout b v d Usage r = ¬ IsView b v
+NoLayout b v d Usage r = ⊥
 NoLayout b v d Refused r = ⊥
 NoLayout b v d NoTable r = SaysNothing b d r
 NoLayout b v d Device r = ⊥
-NoLayout b v d Memory r = Unit {0}
-NoLayout b v d Want r = IsWanted b v r.sector × Reads b d r.sector
+NoLayout b v d Memory r = r ≡ nothing
+NoLayout b v d Want r = Wants b v (Reads b d) r
 NoLayout b v d Room r = ⊥
 
 -- the disk is healthy, or the first finding is the one that the reply tells
 abbrev pub Verified : ℕ → View → Sectors → Status → Reply → Type 0
-Verified b v d Done r = Healthy b d
+Verified b v d Done r = Healthy b d × (r ≡ nothing)
 Verified b v d No r = (f : FindingValue) × IsFinding b d f × (r ≡ (finding_answer f).reply)
-Verified b v d Usage r = ¬ IsView b v
+Verified b v d Usage r = ⊥
 Verified b v d Refused r = ⊥
 Verified b v d NoTable r = ⊥
 Verified b v d Device r = ⊥
-Verified b v d Memory r = Unit {0}
-Verified b v d Want r = IsWanted b v r.sector × VerdictReads b d r.sector
+Verified b v d Memory r = r ≡ nothing
+Verified b v d Want r = Wants b v (VerdictReads b d) r
 Verified b v d Room r = ⊥
+
+-- the same, once the view is judged
+abbrev pub VerifiedFor : ℕ → View → Sectors → Status → Reply → Type 0
+VerifiedFor b v d = OfView b v NoBuffers (Verified b v d)
 
 -- a number and a letter of C name a partition: numbers begin at 1, and the letter is 0 for none, or from a to h
 pub record IsNamed (number letter : ℕ) : Type 0 where
@@ -75,122 +83,123 @@ path_in number letter = record { number = number; letter = if nat_eq letter 0 th
 
 -- the sector is that of the partition, or the partition has none there
 abbrev pub Located : ℕ → View → Sectors → ℕ → ℕ → ℕ → Status → Reply → Type 0
-Located b v d number letter k Done r = (o : Layout) × Denotes b d (Some o) × IsPlaceOf b o (path_in number letter) k r.sector
-Located b v d number letter k No r = (o : Layout) × Denotes b d (Some o) × ((s : ℕ) → ¬ IsPlaceOf b o (path_in number letter) k s)
-Located b v d number letter k Usage r = (¬ IsView b v) ⊎ (¬ IsNamed number letter)
+Located b v d number letter k Done r =
+    (o : Layout) × Denotes b d (Some o) × IsPlaceOf b o (path_in number letter) k r.sector × (r ≡ at_sector r.sector)
+Located b v d number letter k No r =
+    (o : Layout) × Denotes b d (Some o) × ((s : ℕ) → ¬ IsPlaceOf b o (path_in number letter) k s) × (r ≡ nothing)
+Located b v d number letter k Usage r = ⊥
 Located b v d number letter k Refused r = ⊥
 Located b v d number letter k NoTable r = SaysNothing b d r
 Located b v d number letter k Device r = ⊥
-Located b v d number letter k Memory r = Unit {0}
-Located b v d number letter k Want r = IsWanted b v r.sector × Reads b d r.sector
+Located b v d number letter k Memory r = r ≡ nothing
+Located b v d number letter k Want r = Wants b v (Reads b d) r
 Located b v d number letter k Room r = ⊥
+
+-- the same, once the number and letter are judged, and then the view
+abbrev pub LocatedFor : ℕ → View → Sectors → ℕ → ℕ → ℕ → Status → Reply → Type 0
+LocatedFor b v d number letter k =
+    Judged (IsNamed number letter) (Tells the_path NoBuffers) (OfView b v NoBuffers (Located b v d number letter k))
+
+-- the words are refused for the reason that the answer tells, with this status
+abbrev pub IsRefused : ℕ → View → Sectors → Words → Status → Reply → Type 0
+IsRefused b v d batch s r = (e : CommitError) × IsRefusal b v.sectors batch d e × (commit_answer e ≡ answer s r)
 
 -- no plan for the words: they are refused for the reason that the reply tells, or the disk denotes nothing, or no answer yet
 abbrev pub NoPlan : ℕ → View → Sectors → Words → Status → Reply → Type 0
 NoPlan b v d batch Done r = ⊥
 NoPlan b v d batch No r = ⊥
-NoPlan b v d batch Usage r = ¬ IsView b v
-NoPlan b v d batch Refused r = (e : CommitError) × IsRefusal b v.sectors batch d e × (r ≡ (commit_answer e).reply)
-NoPlan b v d batch NoTable r = SaysNothing b d r
+NoPlan b v d batch Usage r = ⊥
+NoPlan b v d batch Refused r = IsRefused b v d batch Refused r
+NoPlan b v d batch NoTable r = IsRefused b v d batch NoTable r
 NoPlan b v d batch Device r = ⊥
-NoPlan b v d batch Memory r = Unit {0}
-NoPlan b v d batch Want r = IsWanted b v r.sector × CommitReads b v.sectors batch d r.sector
+NoPlan b v d batch Memory r = r ≡ nothing
+NoPlan b v d batch Want r = Wants b v (CommitReads b v.sectors batch d) r
 NoPlan b v d batch Room r = ⊥
 
 -- a checked plan for the words stands in the buffers, or it has no room there; or there is none, and they stay as they were
 abbrev pub Planned : ℕ → View → Sectors → Words → Buffers → Buffers → Status → Reply → Type 0
 Planned b v d batch old new Done r = (phases : List Writes) × IsReady b v.sectors batch d phases × Stands phases old new r
 Planned b v d batch old new No r = ⊥
-Planned b v d batch old new Usage r = (¬ IsView b v) × (new ≡ old)
+Planned b v d batch old new Usage r = ⊥
 Planned b v d batch old new Refused r = NoPlan b v d batch Refused r × (new ≡ old)
-Planned b v d batch old new NoTable r = SaysNothing b d r × (new ≡ old)
+Planned b v d batch old new NoTable r = NoPlan b v d batch NoTable r × (new ≡ old)
 Planned b v d batch old new Device r = ⊥
-Planned b v d batch old new Memory r = new ≡ old
+Planned b v d batch old new Memory r = (r ≡ nothing) × (new ≡ old)
 Planned b v d batch old new Want r = NoPlan b v d batch Want r × (new ≡ old)
 Planned b v d batch old new Room r = (phases : List Writes) × IsReady b v.sectors batch d phases × HasNoPlace phases old new r
+
+-- the disk isn't repaired for the reason that the answer tells, with this status
+abbrev pub IsUnmended : ℕ → Sectors → Status → Reply → Type 0
+IsUnmended b d s r = (e : RepairError) × IsMendRefusal b d e × (repair_answer e ≡ answer s r)
 
 -- no plan for a repair
 abbrev pub NoMending : ℕ → View → Sectors → Status → Reply → Type 0
 NoMending b v d Done r = ⊥
 NoMending b v d No r = ⊥
-NoMending b v d Usage r = ¬ IsView b v
-NoMending b v d Refused r = (e : RepairError) × IsMendRefusal b d e × (r ≡ (repair_answer e).reply)
-NoMending b v d NoTable r = SaysNothing b d r
+NoMending b v d Usage r = ⊥
+NoMending b v d Refused r = IsUnmended b d Refused r
+NoMending b v d NoTable r = IsUnmended b d NoTable r
 NoMending b v d Device r = ⊥
-NoMending b v d Memory r = Unit {0}
-NoMending b v d Want r = IsWanted b v r.sector × RepairReads b v.sectors d r.sector
+NoMending b v d Memory r = r ≡ nothing
+NoMending b v d Want r = Wants b v (RepairReads b v.sectors d) r
 NoMending b v d Room r = ⊥
 
 -- a checked plan for a repair stands in the buffers, or it has no room there; or there is none, and they stay as they were
 abbrev pub Mended : ℕ → View → Sectors → Buffers → Buffers → Status → Reply → Type 0
 Mended b v d old new Done r = (phases : List Writes) × IsReadyToMend b d phases × Stands phases old new r
 Mended b v d old new No r = ⊥
-Mended b v d old new Usage r = (¬ IsView b v) × (new ≡ old)
+Mended b v d old new Usage r = ⊥
 Mended b v d old new Refused r = NoMending b v d Refused r × (new ≡ old)
-Mended b v d old new NoTable r = SaysNothing b d r × (new ≡ old)
+Mended b v d old new NoTable r = NoMending b v d NoTable r × (new ≡ old)
 Mended b v d old new Device r = ⊥
-Mended b v d old new Memory r = new ≡ old
+Mended b v d old new Memory r = (r ≡ nothing) × (new ≡ old)
 Mended b v d old new Want r = NoMending b v d Want r × (new ≡ old)
 Mended b v d old new Room r = (phases : List Writes) × IsReadyToMend b d phases × HasNoPlace phases old new r
 
+-- the same, once the view is judged
+abbrev pub MendedFor : ℕ → View → Sectors → Buffers → Buffers → Status → Reply → Type 0
+MendedFor b v d old new = OfView b v (new ≡ old) (Mended b v d old new)
+
 -- the plan with these phases is safe, and the reply has its switch; or it isn't, for the first reason, which the reply tells
 abbrev pub Checked : ℕ → View → Sectors → List Writes → Status → Reply → Type 0
-Checked b v d phases Done r = Safe (Denotes b) (Healthy b) (TableOf b) (OwnedOf b) phases d r.a
+Checked b v d phases Done r = Safe (Denotes b) (Healthy b) (TableOf b) (OwnedOf b) phases d r.a × (r ≡ switching r.a)
 Checked b v d phases No r = (why : Why) × Answers b d phases (AnswerNo why) × (r ≡ why_reply why)
-Checked b v d phases Usage r = ¬ IsView b v
+Checked b v d phases Usage r = ⊥
 Checked b v d phases Refused r = ⊥
 Checked b v d phases NoTable r = ⊥
 Checked b v d phases Device r = ⊥
-Checked b v d phases Memory r = Unit {0}
-Checked b v d phases Want r = IsWanted b v r.sector × CheckReads b d phases r.sector
+Checked b v d phases Memory r = r ≡ nothing
+Checked b v d phases Want r = Wants b v (CheckReads b d phases) r
 Checked b v d phases Room r = ⊥
 
--- nothing was asked: the arguments have no meaning, or memory was refused
-abbrev pub IsUnasked : Type 0 → Status → Type 0
-IsUnasked misuse Done = ⊥
-IsUnasked misuse No = ⊥
-IsUnasked misuse Usage = misuse
-IsUnasked misuse Refused = ⊥
-IsUnasked misuse NoTable = ⊥
-IsUnasked misuse Device = ⊥
-IsUnasked misuse Memory = Unit {0}
-IsUnasked misuse Want = ⊥
-IsUnasked misuse Room = ⊥
-
--- the bytes of C are no words
-abbrev pub AreNoEdits : List ℕ → Type 0
-AreNoEdits words = (edits : List Edit) → ¬ AreEdits words edits
-
--- the random bytes are no groups
-abbrev pub AreNoGroups : List ℕ → Type 0
-AreNoGroups drawn = (guids : List Guid) → ¬ AreDrawn drawn guids
-
--- the rows of C are no plan
-abbrev pub AreNoPlan : ℕ → List WriteRow → List ℕ → Type 0
-AreNoPlan b rows bytes = (phases : List Writes) → ¬ AreTaken b phases rows bytes
-
--- the same of what C asks for: the words and random bytes are a batch's
+-- the same of what C asks for: the random bytes are judged, then the words, then the view
 abbrev pub PlannedFor : ℕ → View → Sectors → List ℕ → List ℕ → Buffers → Buffers → Status → Reply → Type 0
-PlannedFor b v d words drawn old new s r =
-    (IsUnasked ((¬ IsView b v) ⊎ (AreNoEdits words ⊎ AreNoGroups drawn)) s × (new ≡ old))
-    ⊎ ((batch : Words) × IsAskedFor words drawn batch × Planned b v d batch old new s r)
+PlannedFor b v d words drawn old new =
+    OrMemory (new ≡ old) (Judged (AreGroups drawn) (Tells the_random_bytes (new ≡ old))
+    (Judged (AreSomeEdits words) (λ r. ToldOfWords words r × (new ≡ old)) (OfView b v (new ≡ old)
+    (λ s r. (batch : Words) × IsAskedFor words drawn batch × Planned b v d batch old new s r))))
 
--- the same of the plan that C gives by rows
+-- the same of the plan that C gives by rows: these are judged, then the view
 abbrev pub CheckedFor : ℕ → View → Sectors → List WriteRow → List ℕ → Status → Reply → Type 0
-CheckedFor b v d rows bytes s r =
-    IsUnasked ((¬ IsView b v) ⊎ AreNoPlan b rows bytes) s ⊎ ((plan : List Writes) × AreTaken b plan rows bytes × Checked b v d plan s r)
+CheckedFor b v d rows bytes =
+    OrMemory NoBuffers (Judged (ArePlan b rows bytes) (ToldOfRows b rows bytes) (OfView b v NoBuffers
+    (λ s r. (plan : List Writes) × AreTaken b plan rows bytes × Checked b v d plan s r)))
 
 -- what the disk denotes is listed, or has no room; else the buffers stay as they were
 abbrev pub Members : ℕ → View → Sectors → Listing → Listing → Status → Reply → Type 0
 Members b v d old new Done r = (o : Layout) × Denotes b d (Some o) × IsListed b o old new r
 Members b v d old new No r = ⊥
-Members b v d old new Usage r = (¬ IsView b v) × (new ≡ old)
+Members b v d old new Usage r = ⊥
 Members b v d old new Refused r = ⊥
 Members b v d old new NoTable r = SaysNothing b d r × (new ≡ old)
 Members b v d old new Device r = ⊥
-Members b v d old new Memory r = new ≡ old
+Members b v d old new Memory r = (r ≡ nothing) × (new ≡ old)
 Members b v d old new Want r = NoLayout b v d Want r × (new ≡ old)
 Members b v d old new Room r = (o : Layout) × Denotes b d (Some o) × HasNoRoom b o old new r
+
+-- the same, once the view is judged
+abbrev pub MembersFor : ℕ → View → Sectors → Listing → Listing → Status → Reply → Type 0
+MembersFor b v d old new = OfView b v (new ≡ old) (Members b v d old new)
 
 -- a code that C gets is that of a status, and what the status says is so
 abbrev pub Says : (Status → Reply → Type 0) → ℤ → Reply → Type 0

@@ -23,6 +23,25 @@ abbrev pub IsTypeCode : List ℕ → ℤ → Type 0
 IsTypeCode stored code =
     ((c : ℕ) × (code ≡ pos c) × (type_of c ≡ Some stored)) ⊎ ((code ≡ negsuc 0) × ((c : ℕ) → type_of c ≢ Some stored))
 
+-- the numbers of arguments: the sector size, the view, the number and letter of a partition, the random bytes, the words, the rows
+abbrev pub the_size : ℕ
+the_size = 1
+
+abbrev pub the_view : ℕ
+the_view = 2
+
+abbrev pub the_path : ℕ
+the_path = 3
+
+abbrev pub the_random_bytes : ℕ
+the_random_bytes = 4
+
+abbrev pub the_words : ℕ
+the_words = 5
+
+abbrev pub the_rows : ℕ
+the_rows = 6
+
 abbrev pub about_code : About → ℕ
 about_code about.Nothing = 0
 about_code about.Argument = 1

@@ -1,11 +1,14 @@
 -- The writes of plans, in rows and bytes.
-use Rattle.std.specs.Prelude.{◌≡◌, ◌≢◌, ◌<◌, ◌≤◌, ◌*◌, ◌⊎◌, ◌/◌, ℕ, ◌+◌, List, [], ◌∷◌, ◌++◌, map, flat_map, length, take, drop}
+use Rattle.std.specs.Prelude.{◌≡◌, ◌≢◌, ◌<◌, ◌≤◌, ◌*◌, ◌⊎◌, ◌/◌, ℕ, ◌+◌, ◌-◌, List, [], ◌∷◌, ◌++◌, map, flat_map, length, take, drop}
+use Rattle.std.specs.Prelude.{slice_index_or}
 use Rattle.std.specs.Simd.{first_chunks}
 use Rattle.pt_sector.specs.Sectors.{Sectors}
 use Rattle.pt_sector.specs.Writes.{Writes}
 use Rattle.pt_replay.specs.declared.answers.Status.{Status}
 use Rattle.pt_replay.specs.declared.answers.Status.TheVariants.{Done, No, Usage, Refused, NoTable, Device, Memory, Want, Room}
 use Rattle.pt_replay.specs.declared.answers.Reply.{Reply}
+use Rattle.pt_replay.specs.Codes.{the_rows}
+use Rattle.pt_replay.specs.Replies.{nothing, counting, bad_argument, bad_row}
 use Rattle.pt_replay.specs.declared.rows.WriteRow.{WriteRow}
 use Rattle.pt_replay.specs.declared.taking.Partial.{Partial}
 use Rattle.pt_apply.specs.Plans.{writes_of, phases_in}
@@ -48,6 +51,32 @@ pub record AreTaken (b : ℕ) (phases : List Writes) (rows : List WriteRow) (byt
   pub rows_are : rows ≡ rows_from 1 phases
   pub sectors_are : first_chunks b (length bytes / b) bytes ≡ sectors_of phases
 
+-- the rows and bytes that C gave are a plan's
+abbrev pub ArePlan : ℕ → List WriteRow → List ℕ → Type 0
+ArePlan b rows bytes = (phases : List Writes) × AreTaken b phases rows bytes
+
+-- the phase of row k, from 1 on; 0 stands before the first
+abbrev pub phase_at : List WriteRow → ℕ → ℕ
+phase_at rows k = slice_index_or (0 ∷ map (λ (row : WriteRow). row.phase) rows) k 0
+
+-- row k, from 1 on, is in order: its phase is that of the row before it, or the next one; phases begin with 1
+pub record IsInOrder (rows : List WriteRow) (k : ℕ) : Type 0 where
+  pub begun : 1 ≤ phase_at rows k
+  pub follows : (phase_at rows k ≡ phase_at rows (k - 1)) ⊎ (phase_at rows k ≡ phase_at rows (k - 1) + 1)
+
+-- row k, from 1 on, is the first that isn't in order
+pub record IsBadRow (rows : List WriteRow) (k : ℕ) : Type 0 where
+  pub from : 1 ≤ k
+  pub to : k ≤ length rows
+  pub before : (i : ℕ) → 1 ≤ i → i < k → IsInOrder rows i
+  pub bad : ¬ IsInOrder rows k
+
+-- what is told of rows that are no plan: that the bytes aren't a sector for each row, or the first row that isn't in order
+abbrev pub ToldOfRows : ℕ → List WriteRow → List ℕ → Reply → Type 0
+ToldOfRows b rows bytes r =
+    ((length bytes ≢ length rows * b) × (r ≡ bad_argument the_rows))
+    ⊎ ((k : ℕ) × (length bytes ≡ length rows * b) × IsBadRow rows k × (r ≡ bad_row k))
+
 -- the phases that were read so far, the last of which grows
 abbrev pub phases_read : {b : _} → Partial b → List Writes
 phases_read p = phases_in p.phases.items ++ writes_of p.last.items ∷ []
@@ -72,6 +101,7 @@ pub record Took {b : _} (row : WriteRow) (sector : List ℕ) (old new : Partial 
   pub numbered : IsNumbered new
   pub front : AreFull (phases_in old.phases.items) → AreFull (phases_in new.phases.items)
   pub last : row.phase ≡ new.number
+  pub next : (row.phase ≡ old.number) ⊎ ((row.phase ≡ old.number + 1) × (1 ≤ length old.last.items))
   pub some : 1 ≤ length new.last.items
   pub rows : rows_from 1 (phases_read new) ≡ rows_from 1 (phases_read old) ++ row ∷ []
   pub sectors : sectors_of (phases_read new) ≡ sectors_of (phases_read old) ++ sector ∷ []
@@ -92,8 +122,7 @@ buffers writes bytes = record { writes = writes; bytes = bytes }
 
 -- the phases stand at the head of the buffers, the rest of which is as it was, and the reply counts them
 pub record Stands (phases : List Writes) (old new : Buffers) (r : Reply) : Type 0 where
-  pub count_is : r.count ≡ length (rows_from 1 phases)
-  pub phases_are : r.phases ≡ length phases
+  pub reply_is : r ≡ counting (length (rows_from 1 phases)) (length phases)
   pub rows_are : take (length (rows_from 1 phases)) new.writes ≡ rows_from 1 phases
   pub bytes_are : take (length (bytes_of phases)) new.bytes ≡ bytes_of phases
   pub writes_rest : drop (length (rows_from 1 phases)) new.writes ≡ drop (length (rows_from 1 phases)) old.writes
@@ -101,8 +130,7 @@ pub record Stands (phases : List Writes) (old new : Buffers) (r : Reply) : Type 
 
 -- the buffers are too small for the phases, which the reply counts, and stay as they were
 pub record HasNoPlace (phases : List Writes) (old new : Buffers) (r : Reply) : Type 0 where
-  pub count_is : r.count ≡ length (rows_from 1 phases)
-  pub phases_are : r.phases ≡ length phases
+  pub reply_is : r ≡ counting (length (rows_from 1 phases)) (length phases)
   pub small : (length old.writes < length (rows_from 1 phases)) ⊎ (length old.bytes < length (bytes_of phases))
   pub stay : new ≡ old
 
@@ -114,6 +142,6 @@ Gives phases old new Usage r = ⊥
 Gives phases old new Refused r = ⊥
 Gives phases old new NoTable r = ⊥
 Gives phases old new Device r = ⊥
-Gives phases old new Memory r = new ≡ old
+Gives phases old new Memory r = (r ≡ nothing) × (new ≡ old)
 Gives phases old new Want r = ⊥
 Gives phases old new Room r = HasNoPlace phases old new r

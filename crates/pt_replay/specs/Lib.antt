@@ -4,4 +4,5 @@ pub mod Replies
 pub mod Given
 pub mod Words
 pub mod Listed
+pub mod Judged
 pub mod Claims

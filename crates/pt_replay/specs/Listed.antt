@@ -14,7 +14,7 @@ use Rattle.pt_members.specs.Members.{slots, parts_in, label_of}
 use Rattle.pt_members.specs.declared.member.Kind.{Kind}
 use Rattle.pt_members.specs.declared.member.Kind.TheVariants.{Leaf, Slice, Extended}
 use Rattle.pt_members.specs.declared.member.Member.{Member}
-use Rattle.pt_replay.specs.Replies.{letter_code}
+use Rattle.pt_replay.specs.Replies.{letter_code, counting}
 use Rattle.pt_replay.specs.declared.answers.Reply.{Reply}
 use Rattle.pt_replay.specs.declared.rows.TableRow.{TableRow}
 use Rattle.pt_replay.specs.declared.rows.MemberRow.{MemberRow}
@@ -111,13 +111,13 @@ listing table rows = record { table = table; rows = rows }
 -- the table and the rows of a layout stand in the buffers, the rest of which is as it was, and the reply counts the rows
 pub record IsListed (b : ℕ) (o : Layout) (old new : Listing) (r : Reply) : Type 0 where
   pub table_is : new.table ≡ row_of_table o o.body
-  pub count_is : r.count ≡ length (rows_of b o)
+  pub reply_is : r ≡ counting (length (rows_of b o)) 0
   pub rows_are : take (length (rows_of b o)) new.rows ≡ rows_of b o
   pub rest_is : drop (length (rows_of b o)) new.rows ≡ drop (length (rows_of b o)) old.rows
 
 -- they have no room for the rows, which the reply counts, and hold none of them
 pub record HasNoRoom (b : ℕ) (o : Layout) (old new : Listing) (r : Reply) : Type 0 where
   pub table_is : new.table ≡ row_of_table o o.body
-  pub count_is : r.count ≡ length (rows_of b o)
+  pub reply_is : r ≡ counting (length (rows_of b o)) 0
   pub small : length old.rows < length (rows_of b o)
   pub rows_stay : new.rows ≡ old.rows

@@ -19,13 +19,14 @@ use Rattle.pt_check.specs.declared.error.CheckError.{CheckError}
 use Rattle.pt_check.specs.declared.error.CheckError.TheVariants as check
 use Rattle.pt_check.specs.declared.answer.Why.{Why}
 use Rattle.pt_check.specs.declared.answer.Why.TheVariants as why
-use Rattle.pt_words.specs.Numbers.{refusal_number}
+use Rattle.pt_words.specs.Numbers.{refusal_number, error_number as word_error_number}
+use Rattle.pt_words.specs.declared.error.EditError.{EditError}
 use Rattle.pt_targets.specs.Errors.{plan_error_number}
 use Rattle.pt_plan.specs.declared.error.CommitError.{CommitError}
 use Rattle.pt_plan.specs.declared.error.CommitError.TheVariants as commit
 use Rattle.pt_plan.specs.declared.repair_error.RepairError.{RepairError}
 use Rattle.pt_plan.specs.declared.repair_error.RepairError.TheVariants as repair
-use Rattle.pt_replay.specs.Codes.{about_code}
+use Rattle.pt_replay.specs.Codes.{about_code, the_rows}
 use Rattle.pt_replay.specs.declared.answers.Status.{Status}
 use Rattle.pt_replay.specs.declared.answers.Status.TheVariants as status
 use Rattle.pt_replay.specs.declared.answers.About.{About}
@@ -41,9 +42,25 @@ letter_code (Some k) = (97 + k) % 256
 abbrev pub nothing : Reply
 nothing = record { sector = 0; count = 0; phases = 0; a = 0; b = 0; about = 0; number = 0; a_letter = 0; b_letter = 0 }
 
+-- a status with its reply
+abbrev pub answer : Status → Reply → Answer
+answer s r = record { status = s; reply = r }
+
+-- a sector, and nothing else: the one that is wanted, or the one that was located
+abbrev pub at_sector : ℕ → Reply
+at_sector s = record nothing { sector = s }
+
+-- how many rows or writes, and how many phases, and nothing else
+abbrev pub counting : ℕ → ℕ → Reply
+counting count phases = record nothing { count = count; phases = phases }
+
+-- the phase of a checked plan's switch, and nothing else
+abbrev pub switching : ℕ → Reply
+switching phase = record nothing { a = phase }
+
 -- the answer that wants a sector
 abbrev pub wanting : Lba → Answer
-wanting at = record { status = status.Want; reply = record nothing { sector = at.0 } }
+wanting at = answer status.Want (at_sector at.0)
 
 abbrev pub failure_answer : Failure → Answer
 failure_answer (failure.Device at) = wanting at
@@ -66,6 +83,18 @@ told s what number a b =
         b_letter = 0;
       };
     }
+
+-- the argument of this number has no meaning
+abbrev pub bad_argument : ℕ → Reply
+bad_argument number = (told status.Usage about.Argument number 0 0).reply
+
+-- row `at` of a plan, from 1, can't come there
+abbrev pub bad_row : ℕ → Reply
+bad_row at = (told status.Usage about.Argument the_rows at 0).reply
+
+-- word `at`, from 1, can't be read for the reason e
+abbrev pub bad_word : ℕ → EditError → Reply
+bad_word at e = (told status.Usage about.Word (word_error_number e) at 0).reply
 
 -- a finding with a path
 abbrev pub found_at : ℕ → Path → ℕ → Answer
@@ -168,7 +197,7 @@ repair_answer (repair.Check w) = record { status = status.Refused; reply = why_r
 
 -- a yes, with the phase of the switch
 abbrev pub accepting : ℕ → Answer
-accepting switch = record { status = status.Done; reply = record nothing { a = switch } }
+accepting switch = answer status.Done (switching switch)
 
 -- why a plan isn't checked
 abbrev pub check_answer : CheckError → Answer

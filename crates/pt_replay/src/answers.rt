@@ -2,7 +2,7 @@
 
 ghost use Rattle.std.specs.Prelude.{◌≡◌, pos, negsuc};
 ghost use Rattle.pt_replay.specs.Codes.{status_code, about_code};
-ghost use Rattle.pt_replay.specs.Replies.{nothing, told, wanting, failure_answer, letter_code};
+ghost use Rattle.pt_replay.specs.Replies.{nothing, told, answer, wanting, bad_argument, failure_answer, letter_code};
 ghost use Rattle.pt_replay.specs.declared.answers.Status.TheVariants as status;
 
 use pt_layout::Path;
@@ -180,7 +180,7 @@ impl Answer {
 
     /// An argument that has no meaning.
     pub fn bad_argument(number: u8) -> Answer
-        ensures { result.status ≡ status.Usage }
+        ensures told { result ≡ answer status.Usage (bad_argument number) }
     {
         Answer::told(Status::Usage, About::Argument, number)
     }

@@ -1,8 +1,9 @@
 //! What C asks for: words, and random bytes for new GUIDs.
 
-ghost use Rattle.std.specs.Prelude.{◌≢◌, IfOk, IfErr};
+ghost use Rattle.std.specs.Prelude.{◌≡◌, ◌≢◌, IfOk, IfErr};
 ghost use Rattle.pt_words.specs.declared.error.EditError.TheVariants as EditError;
-ghost use Rattle.pt_replay.specs.Claims.{IsUnasked, AreNoEdits, AreNoGroups};
+ghost use Rattle.pt_replay.specs.Judged.{IsUnasked, NoWords, NoGroups};
+ghost use Rattle.pt_replay.specs.Replies.{bad_word};
 ghost use Rattle.pt_replay.specs.Words.{AreEdits, AreDrawn};
 
 use crate::answers::{About, Answer, Status};
@@ -12,7 +13,7 @@ use std::alloc::Global;
 
 // Why the word of this number, from 1 on, isn't one.
 fn no_word(error: EditError, number: u64) -> Answer
-    ensures { IsUnasked (error ≢ EditError.Memory) result.status }
+    ensures told { IsUnasked (λ r. (error ≢ EditError.Memory) × (r ≡ bad_word number error)) result.status result.reply }
 {
     match error {
         EditError::Memory => Answer::of(Status::Memory),
@@ -23,7 +24,7 @@ fn no_word(error: EditError, number: u64) -> Answer
 /// The edit words of a text, each ended by a zero byte.
 pub fn edits_of(alloc: Global, words: &[u8]) -> Result<Vec<Edit>, Answer>
     ensures ok { IfOk result (λ edits. AreEdits words.now edits.items) }
-    ensures err { IfErr result (λ a. IsUnasked (AreNoEdits words.now) a.status) }
+    ensures err { IfErr result (λ a. IsUnasked (NoWords words.now) a.status a.reply) }
 {
     let text = match std::str::from_utf8(words) {
         Ok(text) => text,
@@ -31,12 +32,10 @@ pub fn edits_of(alloc: Global, words: &[u8]) -> Result<Vec<Edit>, Answer>
     };
     let mut edits = Vec::new(alloc);
     let mut rest = text;
-    let mut number = 0u64;
     while let Some((word, after)) = rest.split_once('\0') {
-        number = number.saturating_add(1);
         let edit = match parse_edit(alloc, word) {
             Ok(edit) => edit,
-            Err(error) => return Err(no_word(error, number)),
+            Err(error) => return Err(no_word(error, edits.len() as u64 + 1)),
         };
         match edits.push(edit) {
             Ok(()) => {}
@@ -44,7 +43,7 @@ pub fn edits_of(alloc: Global, words: &[u8]) -> Result<Vec<Edit>, Answer>
         }
         rest = after;
     }
-    if number == 0 {
+    if edits.is_empty() {
         return Err(Answer::bad_argument(5));
     }
     if !rest.is_empty() {
@@ -56,7 +55,7 @@ pub fn edits_of(alloc: Global, words: &[u8]) -> Result<Vec<Edit>, Answer>
 /// The fresh GUIDs of random bytes, sixteen for each.
 pub fn guids_of(alloc: Global, drawn: &[u8]) -> Result<Vec<Guid>, Answer>
     ensures ok { IfOk result (λ guids. AreDrawn drawn.now guids.items) }
-    ensures err { IfErr result (λ a. IsUnasked (AreNoGroups drawn.now) a.status) }
+    ensures err { IfErr result (λ a. IsUnasked (NoGroups drawn.now) a.status a.reply) }
 {
     let (groups, rest) = drawn.as_chunks::<16>();
     if !rest.is_empty() {

@@ -5,6 +5,7 @@ ghost use Rattle.pt_sector.specs.Sectors.{IsSectorSize};
 ghost use Rattle.pt_apply.specs.Plans.{phases_of};
 ghost use Rattle.pt_replay.specs.Known.{disk_of};
 ghost use Rattle.pt_replay.specs.Claims.{Checked, CheckedFor};
+ghost use Rattle.pt_replay.specs.Judged.{OfView, NoBuffers};
 ghost use Rattle.pt_replay.specs.Replies.{check_answer, accepting};
 
 use crate::answers::{Answer, Status};
@@ -31,7 +32,7 @@ fn unchecked(error: CheckError) -> Answer
 
 // A yes, with the phase of the switch.
 fn accepted(switch: u64) -> Answer
-    ensures { result ≡ accepting switch }
+    ensures told { result ≡ accepting switch }
 {
     Answer::of(Status::Done).with(switch, 0)
 }
@@ -44,7 +45,8 @@ fn plan_checked<const B: usize>(
     elsewhere: Moments<[u8; B]>,
 ) -> Answer
     requires size { IsSectorSize B }
-    ensures { Checked B view.now (disk_of B view.now elsewhere.entry.items) (phases_of plan.now) result.status result.reply }
+    ensures says { OfView B view.now NoBuffers (Checked B view.now (disk_of B view.now elsewhere.entry.items) (phases_of plan.now))
+        result.status result.reply }
 {
     let Some(mut disk) = ReplayDisk::<B>::new(view, elsewhere) else {
         return Answer::bad_argument(2);
@@ -65,7 +67,7 @@ pub fn checked<const B: usize>(
     elsewhere: Moments<[u8; B]>,
 ) -> Answer
     requires size { IsSectorSize B }
-    ensures { CheckedFor B view.now (disk_of B view.now elsewhere.entry.items) writes.now bytes.now result.status result.reply }
+    ensures says { CheckedFor B view.now (disk_of B view.now elsewhere.entry.items) writes.now bytes.now result.status result.reply }
 {
     match take_plan::<B>(alloc, writes, bytes) {
         Ok(plan) => plan_checked(alloc, view, &plan, elsewhere),

@@ -4,7 +4,7 @@ ghost use Rattle.std.specs.Prelude.{◌≡◌, ◌≤◌, ◌++◌, length, take
 ghost use Rattle.pt_sector.specs.Sectors.{IsSectorSize};
 ghost use Rattle.pt_apply.specs.Plans.{writes_of, phases_of};
 ghost use Rattle.pt_replay.specs.Given.{rows_in, bytes_in, AreRows, buffers, Gives};
-ghost use Rattle.pt_replay.specs.Replies.{nothing};
+ghost use Rattle.pt_replay.specs.Replies.{answer, counting};
 
 use crate::answers::{Answer, Status};
 use crate::rows::WriteRow;
@@ -64,7 +64,7 @@ pub fn put<T: Copy>(into: &mut [T], items: &[T])
 
 /// A status with counts of rows or writes, and of phases.
 pub fn counted(status: Status, count: usize, phases: usize) -> Answer
-    ensures { result ≡ record { status = status; reply = record nothing { count = count; phases = phases } } }
+    ensures told { result ≡ answer status (counting count phases) }
 {
     let mut answer = Answer::of(status);
     answer.reply.count = count as u64;
@@ -80,7 +80,7 @@ pub fn give_plan<const B: usize>(
     bytes: &mut [u8],
 ) -> Answer
     requires size { IsSectorSize B }
-    ensures { Gives (phases_of plan.now) (buffers writes.old bytes.old) (buffers writes.new bytes.new) result.status result.reply }
+    ensures says { Gives (phases_of plan.now) (buffers writes.old bytes.old) (buffers writes.new bytes.new) result.status result.reply }
 {
     let listed = match list(alloc, plan) {
         Ok(listed) => listed,

@@ -4,7 +4,7 @@ ghost use Rattle.std.specs.Prelude.{◌≡◌};
 ghost use Rattle.pt_sector.specs.Sectors.{IsSectorSize};
 ghost use Rattle.pt_replay.specs.Known.{disk_of};
 ghost use Rattle.pt_replay.specs.Replies.{finding_answer, side_number};
-ghost use Rattle.pt_replay.specs.Claims.{Verified};
+ghost use Rattle.pt_replay.specs.Claims.{VerifiedFor};
 
 use crate::answers::{About, Answer, Status};
 use crate::replay::ReplayDisk;
@@ -48,7 +48,7 @@ pub fn verified<const B: usize>(
     elsewhere: Moments<[u8; B]>,
 ) -> Answer
     requires size { IsSectorSize B }
-    ensures { Verified B view.now (disk_of B view.now elsewhere.entry.items) result.status result.reply }
+    ensures says { VerifiedFor B view.now (disk_of B view.now elsewhere.entry.items) result.status result.reply }
 {
     let Some(mut disk) = ReplayDisk::<B>::new(view, elsewhere) else {
         return Answer::bad_argument(2);

@@ -6,7 +6,7 @@ ghost use Rattle.pt_members.specs.Members.{slots, parts_in};
 ghost use Rattle.pt_replay.specs.Known.{disk_of};
 ghost use Rattle.pt_replay.specs.Listed.{row_of_table, kind_code, narrowed, records_in, row_of_member, row_of_record, row_of_entry};
 ghost use Rattle.pt_replay.specs.Listed.{listing, row_of_part, row_in_place, part_rows, rows_below, rows_at, rows_of};
-ghost use Rattle.pt_replay.specs.Claims.{Members};
+ghost use Rattle.pt_replay.specs.Claims.{MembersFor};
 
 use crate::answers::{Answer, Status, letter_of};
 use crate::giving::{counted, put};
@@ -225,7 +225,7 @@ pub fn members<const B: usize>(
     elsewhere: Moments<[u8; B]>,
 ) -> Answer
     requires size { IsSectorSize B }
-    ensures { Members B view.now (disk_of B view.now elsewhere.entry.items)
+    ensures says { MembersFor B view.now (disk_of B view.now elsewhere.entry.items)
         (listing table.old rows.old) (listing table.new rows.new) result.status result.reply }
 {
     let layout = match recovered::<B>(alloc, view, elsewhere) {

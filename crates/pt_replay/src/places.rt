@@ -3,7 +3,7 @@
 ghost use Rattle.std.specs.Prelude.{◌≡◌, IfSome, IfNone};
 ghost use Rattle.pt_sector.specs.Sectors.{IsSectorSize};
 ghost use Rattle.pt_replay.specs.Known.{disk_of};
-ghost use Rattle.pt_replay.specs.Claims.{IsNamed, Located, path_in};
+ghost use Rattle.pt_replay.specs.Claims.{IsNamed, LocatedFor, path_in};
 
 use crate::answers::{Answer, Status};
 use crate::recovered::recovered;
@@ -15,6 +15,7 @@ use std::alloc::Global;
 /// The path of a number and a letter, 0 for none.
 fn path_of(number: u64, letter: u8) -> Option<Path>
     ensures ok { IfSome result (λ path. path ≡ path_in number letter) }
+    ensures named { IfSome result (λ path. IsNamed number letter) }
     ensures none { IfNone result (¬ IsNamed number letter) }
 {
     let letter = match letter {
@@ -39,7 +40,7 @@ pub fn located<const B: usize>(
     elsewhere: Moments<[u8; B]>,
 ) -> Answer
     requires size { IsSectorSize B }
-    ensures { Located B view.now (disk_of B view.now elsewhere.entry.items) number letter k result.status result.reply }
+    ensures says { LocatedFor B view.now (disk_of B view.now elsewhere.entry.items) number letter k result.status result.reply }
 {
     let Some(path) = path_of(number, letter) else {
         return Answer::bad_argument(3);

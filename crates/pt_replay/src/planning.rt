@@ -4,10 +4,11 @@ ghost use Rattle.std.specs.Prelude.{◌≡◌, IfOk, IfErr};
 ghost use Rattle.pt_sector.specs.Sectors.{IsSectorSize};
 ghost use Rattle.pt_apply.specs.Plans.{phases_of};
 ghost use Rattle.pt_plan.specs.Batches.{IsReady, IsReadyToMend};
-ghost use Rattle.pt_replay.specs.Known.{disk_of};
+ghost use Rattle.pt_replay.specs.Known.{disk_of, IsView};
+ghost use Rattle.pt_replay.specs.Judged.{OfView, NoBuffers};
 ghost use Rattle.pt_replay.specs.Words.{batch_of};
 ghost use Rattle.pt_replay.specs.Given.{buffers};
-ghost use Rattle.pt_replay.specs.Claims.{NoPlan, Planned, PlannedFor, NoMending, Mended};
+ghost use Rattle.pt_replay.specs.Claims.{NoPlan, Planned, PlannedFor, NoMending, MendedFor};
 
 use crate::answers::Answer;
 use crate::asking::{edits_of, guids_of};
@@ -34,8 +35,9 @@ fn plan_words<const B: usize>(
     requires size { IsSectorSize B }
     ensures ok { IfOk result (λ plan. IsReady B view.now.sectors (batch_of edits.now guids.now)
         (disk_of B view.now elsewhere.entry.items) (phases_of plan)) }
-    ensures err { IfErr result (λ a. NoPlan B view.now (disk_of B view.now elsewhere.entry.items)
-        (batch_of edits.now guids.now) a.status a.reply) }
+    ensures view { IfOk result (λ plan. IsView B view.now) }
+    ensures err { IfErr result (λ a. OfView B view.now NoBuffers (NoPlan B view.now (disk_of B view.now elsewhere.entry.items)
+        (batch_of edits.now guids.now)) a.status a.reply) }
 {
     let Some(mut disk) = ReplayDisk::<B>::new(view, elsewhere) else {
         return Err(Answer::bad_argument(2));
@@ -57,8 +59,9 @@ fn plan_given<const B: usize>(
     elsewhere: Moments<[u8; B]>,
 ) -> Answer
     requires size { IsSectorSize B }
-    ensures { Planned B view.now (disk_of B view.now elsewhere.entry.items) (batch_of edits.now guids.now)
-        (buffers writes.old bytes.old) (buffers writes.new bytes.new) result.status result.reply }
+    ensures says { OfView B view.now (buffers writes.new bytes.new ≡ buffers writes.old bytes.old)
+        (Planned B view.now (disk_of B view.now elsewhere.entry.items) (batch_of edits.now guids.now)
+        (buffers writes.old bytes.old) (buffers writes.new bytes.new)) result.status result.reply }
 {
     match plan_words::<B>(alloc, view, edits, guids, elsewhere) {
         Ok(plan) => give_plan(alloc, &plan, writes, bytes),
@@ -77,7 +80,7 @@ pub fn planned<const B: usize>(
     elsewhere: Moments<[u8; B]>,
 ) -> Answer
     requires size { IsSectorSize B }
-    ensures { PlannedFor B view.now (disk_of B view.now elsewhere.entry.items) words.now drawn.now
+    ensures says { PlannedFor B view.now (disk_of B view.now elsewhere.entry.items) words.now drawn.now
         (buffers writes.old bytes.old) (buffers writes.new bytes.new) result.status result.reply }
 {
     let guids = match guids_of(alloc, drawn) {
@@ -107,7 +110,9 @@ fn plan_repair<const B: usize>(
 ) -> Result<Plan<B>, Answer>
     requires size { IsSectorSize B }
     ensures ok { IfOk result (λ plan. IsReadyToMend B (disk_of B view.now elsewhere.entry.items) (phases_of plan)) }
-    ensures err { IfErr result (λ a. NoMending B view.now (disk_of B view.now elsewhere.entry.items) a.status a.reply) }
+    ensures view { IfOk result (λ plan. IsView B view.now) }
+    ensures err { IfErr result (λ a. OfView B view.now NoBuffers (NoMending B view.now (disk_of B view.now elsewhere.entry.items))
+        a.status a.reply) }
 {
     let Some(mut disk) = ReplayDisk::<B>::new(view, elsewhere) else {
         return Err(Answer::bad_argument(2));
@@ -127,7 +132,7 @@ pub fn mended<const B: usize>(
     elsewhere: Moments<[u8; B]>,
 ) -> Answer
     requires size { IsSectorSize B }
-    ensures { Mended B view.now (disk_of B view.now elsewhere.entry.items)
+    ensures says { MendedFor B view.now (disk_of B view.now elsewhere.entry.items)
         (buffers writes.old bytes.old) (buffers writes.new bytes.new) result.status result.reply }
 {
     match plan_repair::<B>(alloc, view, elsewhere) {

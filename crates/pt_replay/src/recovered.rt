@@ -3,7 +3,8 @@
 ghost use Rattle.std.specs.Prelude.{◌≡◌, Some, IfOk, IfErr};
 ghost use Rattle.pt_sector.specs.Sectors.{IsSectorSize};
 ghost use Rattle.pt_recover.specs.Denotes.{Denotes};
-ghost use Rattle.pt_replay.specs.Known.{disk_of};
+ghost use Rattle.pt_replay.specs.Known.{disk_of, IsView};
+ghost use Rattle.pt_replay.specs.Judged.{OfView, NoBuffers};
 ghost use Rattle.pt_replay.specs.Replies.{table_answer, chain_answer};
 ghost use Rattle.pt_replay.specs.Claims.{NoLayout};
 
@@ -54,7 +55,9 @@ pub fn recovered<const B: usize>(
 ) -> Result<Layout, Answer>
     requires size { IsSectorSize B }
     ensures ok { IfOk result (λ o. Denotes B (disk_of B view.now elsewhere.entry.items) (Some o)) }
-    ensures err { IfErr result (λ a. NoLayout B view.now (disk_of B view.now elsewhere.entry.items) a.status a.reply) }
+    ensures view { IfOk result (λ o. IsView B view.now) }
+    ensures err { IfErr result (λ a. OfView B view.now NoBuffers (NoLayout B view.now (disk_of B view.now elsewhere.entry.items))
+        a.status a.reply) }
 {
     let Some(mut disk) = ReplayDisk::<B>::new(view, elsewhere) else {
         return Err(Answer::bad_argument(2));

@@ -32,6 +32,7 @@ impl<'a, const B: usize> ReplayDisk<'a, B> {
         requires { IsSectorSize B }
         ensures seen { IfSome result (λ d. (⟦<ReplayDisk<'a, B> as Disk<B>>⟧.told d).seen ≡ disk_of B view.now elsewhere.entry.items) }
         ensures view { IfSome result (λ d. AreOf B view.now d.sectors d.numbers.now d.known.now) }
+        ensures is_view { IfSome result (λ d. IsView B view.now) }
         ensures none { IfNone result (¬ IsView B view.now) }
         ensures fresh { IfSome result (λ d. d.failed.items ≡ []) }
     {

@@ -4,7 +4,8 @@ ghost use Rattle.std.specs.Prelude.{◌≡◌, IfOk, IfErr, IsTrue, IsFalse};
 ghost use Rattle.pt_sector.specs.Sectors.{IsSectorSize};
 ghost use Rattle.pt_apply.specs.Plans.{phases_of, phases_in};
 ghost use Rattle.pt_replay.specs.Given.{rows_from, sectors_of, phases_read, AreFull, IsNumbered, IsGrowing, IsMisplaced, Took, AreTaken};
-ghost use Rattle.pt_replay.specs.Claims.{IsUnasked, AreNoPlan};
+ghost use Rattle.pt_replay.specs.Judged.{IsUnasked, NoRows};
+ghost use Rattle.pt_replay.specs.Replies.{answer, bad_row};
 ghost use Rattle.pt_replay.specs.declared.answers.Status.TheVariants as status;
 
 use crate::answers::{About, Answer, Status};
@@ -71,11 +72,11 @@ fn finish<const B: usize>(partial: Partial<B>) -> Result<Plan<B>, AllocError>
     Ok(Plan { phases })
 }
 
-// The write of this number, from 0 on, has no place in a plan.
-fn misplaced(k: usize) -> Answer
-    ensures { result.status ≡ status.Usage }
+// The row of this number, from 1 on, has no place in a plan.
+fn misplaced(row: u64) -> Answer
+    ensures told { result ≡ answer status.Usage (bad_row row) }
 {
-    Answer::told(Status::Usage, About::Argument, 6).with((k as u64).saturating_add(1), 0)
+    Answer::told(Status::Usage, About::Argument, 6).with(row, 0)
 }
 
 /// The plan whose writes C lists by phases, which are numbered from 1 on.
@@ -86,7 +87,7 @@ pub fn take_plan<const B: usize>(
 ) -> Result<Plan<B>, Answer>
     requires size { IsSectorSize B }
     ensures ok { IfOk result (λ plan. AreTaken B (phases_of plan) writes.now bytes.now) }
-    ensures err { IfErr result (λ a. IsUnasked (AreNoPlan B writes.now bytes.now) a.status) }
+    ensures err { IfErr result (λ a. IsUnasked (NoRows B writes.now bytes.now) a.status a.reply) }
 {
     let (sectors, rest) = bytes.as_chunks::<B>();
     if !rest.is_empty() || sectors.len() != writes.len() {
@@ -100,7 +101,7 @@ pub fn take_plan<const B: usize>(
     for k in 0..writes.len() {
         match take_write(alloc, &mut partial, &writes[k], &sectors[k]) {
             Ok(true) => {}
-            Ok(false) => return Err(misplaced(k)),
+            Ok(false) => return Err(misplaced(k as u64 + 1)),
             Err(_) => return Err(Answer::of(Status::Memory)),
         }
     }

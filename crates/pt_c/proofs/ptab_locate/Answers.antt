@@ -1,19 +1,34 @@
-use Rattle.std.proofs.Common.{ℕ}
-use Rattle.pt_sector.specs.Sectors.{Sectors}
-use Rattle.pt_replay.specs.Claims.{Located}
-use Rattle.pt_replay.proofs.Saying.{says_it}
+use Rattle.std.proofs.Common.{ℕ, refl, inl, inr, arith}
+use Rattle.pt_sector.specs.Sectors.{Sectors, IsSectorSize}
+use Rattle.pt_replay.specs.Judged.{NoBuffers}
+use Rattle.pt_replay.specs.Claims.{LocatedFor}
+use Rattle.pt_replay.proofs.Saying.{says_it, says_no_size}
 use Rattle.pt_c.proofs.ptab_locate.Goals as goal
 
 pub returns-in-512 : goal.returns-in-512
 returns-in-512 g c =
     let v = c.args.view.now in
-    says_it (λ (b : ℕ) (d : Sectors). Located b v d c.args.number c.args.letter c.args.k)
-    v g.disk 512 _ _ _ _ _ c.in-512.is c.any.ensures
-    c.give.ensures.code c.give.ensures.reply c.located.ensures
+    record {
+      says = says_it (λ (b : ℕ) (d : Sectors). LocatedFor b v d c.args.number c.args.letter c.args.k) NoBuffers
+          v g.disk 512 _ _ _ _ _ c.in-512.is (inl refl) c.any.ensures
+          c.give.ensures.code c.give.ensures.reply c.located.ensures.says;
+    }
 
 pub returns-in-4096 : goal.returns-in-4096
 returns-in-4096 g c =
     let v = c.args.view.now in
-    says_it (λ (b : ℕ) (d : Sectors). Located b v d c.args.number c.args.letter c.args.k)
-    v g.disk 4096 _ _ _ _ _ c.in-4096.is c.any-in-4096.ensures
-    c.give-in-4096.ensures.code c.give-in-4096.ensures.reply c.located-in-4096.ensures
+    record {
+      says = says_it (λ (b : ℕ) (d : Sectors). LocatedFor b v d c.args.number c.args.letter c.args.k) NoBuffers
+          v g.disk 4096 _ _ _ _ _ c.in-4096.is (inr refl) c.any-in-4096.ensures
+          c.give-in-4096.ensures.code c.give-in-4096.ensures.reply c.located-in-4096.ensures.says;
+    }
+
+pub returns-in_default : goal.returns-in_default
+returns-in_default g c =
+    let v = c.args.view.now in
+    let other : ¬ IsSectorSize v.sector_size = grind arith in
+    record {
+      says = λ part. says_no_size (LocatedFor v.sector_size v g.disk c.args.number c.args.letter c.args.k) NoBuffers
+          v _ c.bad_argument.result _ other
+          c.bad_argument.ensures.told tt c.give-in_default.ensures.code c.give-in_default.ensures.reply;
+    }

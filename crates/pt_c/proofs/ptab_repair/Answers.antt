@@ -1,22 +1,39 @@
-use Rattle.std.proofs.Common.{ℕ}
-use Rattle.pt_sector.specs.Sectors.{Sectors}
+use Rattle.std.proofs.Common.{◌≡◌, ℕ, refl, inl, inr, arith}
+use Rattle.pt_sector.specs.Sectors.{Sectors, IsSectorSize}
 use Rattle.pt_replay.specs.Given.{buffers}
-use Rattle.pt_replay.specs.Claims.{Mended}
-use Rattle.pt_replay.proofs.Saying.{says_it}
+use Rattle.pt_replay.specs.Claims.{MendedFor}
+use Rattle.pt_replay.proofs.Saying.{says_it, says_no_size}
 use Rattle.pt_c.proofs.ptab_repair.Goals as goal
 
 pub returns-in-512 : goal.returns-in-512
 returns-in-512 g c =
     let v = c.args.view.now in
-    says_it (λ (b : ℕ) (d : Sectors). Mended b v d
-    (buffers c.args.writes.now c.args.bytes.now) (buffers c.mended.new.writes c.mended.new.bytes))
-    v g.disk 512 _ _ _ _ _ c.in-512.is c.any.ensures
-    c.give.ensures.code c.give.ensures.reply c.mended.ensures
+    let old = buffers c.args.writes.now c.args.bytes.now in
+    let new = buffers c.mended.new.writes c.mended.new.bytes in
+    record {
+      says = says_it (λ (b : ℕ) (d : Sectors). MendedFor b v d old new) (new ≡ old)
+          v g.disk 512 _ _ _ _ _ c.in-512.is (inl refl) c.any.ensures
+          c.give.ensures.code c.give.ensures.reply c.mended.ensures.says;
+    }
 
 pub returns-in-4096 : goal.returns-in-4096
 returns-in-4096 g c =
     let v = c.args.view.now in
-    says_it (λ (b : ℕ) (d : Sectors). Mended b v d
-    (buffers c.args.writes.now c.args.bytes.now) (buffers c.mended-in-4096.new.writes c.mended-in-4096.new.bytes))
-    v g.disk 4096 _ _ _ _ _ c.in-4096.is c.any-in-4096.ensures
-    c.give-in-4096.ensures.code c.give-in-4096.ensures.reply c.mended-in-4096.ensures
+    let old = buffers c.args.writes.now c.args.bytes.now in
+    let new = buffers c.mended-in-4096.new.writes c.mended-in-4096.new.bytes in
+    record {
+      says = says_it (λ (b : ℕ) (d : Sectors). MendedFor b v d old new) (new ≡ old)
+          v g.disk 4096 _ _ _ _ _ c.in-4096.is (inr refl) c.any-in-4096.ensures
+          c.give-in-4096.ensures.code c.give-in-4096.ensures.reply c.mended-in-4096.ensures.says;
+    }
+
+pub returns-in_default : goal.returns-in_default
+returns-in_default g c =
+    let v = c.args.view.now in
+    let old = buffers c.args.writes.now c.args.bytes.now in
+    let other : ¬ IsSectorSize v.sector_size = grind arith in
+    record {
+      says = λ part. says_no_size (MendedFor v.sector_size v g.disk old old) (old ≡ old)
+          v _ c.bad_argument.result _ other
+          c.bad_argument.ensures.told refl c.give-in_default.ensures.code c.give-in_default.ensures.reply;
+    }

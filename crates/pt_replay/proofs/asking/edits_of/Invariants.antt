@@ -1,13 +1,11 @@
-use Rattle.std.proofs.Common.{◌≡◌, ◌≢◌, ◌≤◌, length}
+use Rattle.std.proofs.Common.{length}
 use denote.Shadow.{shadow}
 use denote.Text.{Utf8}
-use Rattle.pt_replay.proofs.Asked.{SoFar, Onward}
+use Rattle.pt_replay.proofs.Asked.{IsReadTo, Onward}
 use Rattle.pt_replay.proofs.asking.edits_of.Given as goal
 
 abbrev pub invariant-loop-word : goal.invariant-loop-word
-invariant-loop-word l =
-    SoFar l.words l.rest l.edits.items × Onward l.words l.rest × (l.number ≡ 0 → l.rest ≡ l.words)
-    × (1 ≤ l.number → 1 ≤ length l.edits.items) × shadow (Utf8 l.rest)
+invariant-loop-word l = IsReadTo l.words l.rest l.edits.items × Onward l.words l.rest × shadow (Utf8 l.rest)
 
 abbrev pub decreases-loop-word : goal.decreases-loop-word
 decreases-loop-word l = length l.rest

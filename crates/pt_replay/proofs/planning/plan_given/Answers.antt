@@ -1,17 +1,24 @@
-use Rattle.std.proofs.Common.{refl}
+use Rattle.std.proofs.Common.{inr, refl}
 use Rattle.pt_apply.specs.Plans.{phases_of}
+use Rattle.pt_replay.specs.Given.{buffers}
 use Rattle.pt_replay.specs.Known.{disk_of}
 use Rattle.pt_replay.specs.Words.{batch_of}
 use Rattle.pt_replay.proofs.Saying.{gives_plan, gives_not}
 use Rattle.pt_replay.proofs.planning.plan_given.Goals as goal
 
 pub returns-in-Ok : goal.returns-in-Ok
-returns-in-Ok g c =
-    let d = disk_of g.row.B c.args.view.now c.args.elsewhere.items in
-    gives_plan g.row.B c.args.view.now d (batch_of c.args.edits.now c.args.guids.now) (phases_of c.in-Ok.plan) _ _ _ _
-    c.in-Ok.ensures.ok c.give_plan.ensures
+returns-in-Ok g c = record {
+  says = let d = disk_of g.row.B c.args.view.now c.args.elsewhere.items in
+      inr (
+        c.in-Ok.ensures.view,
+        gives_plan g.row.B c.args.view.now d (batch_of c.args.edits.now c.args.guids.now) (phases_of c.in-Ok.plan)
+            (buffers c.args.writes.now c.args.bytes.now) (buffers c.give_plan.new.writes c.give_plan.new.bytes) c.give_plan.result.status
+            c.give_plan.result.reply c.in-Ok.ensures.ok c.give_plan.ensures.says,
+      );
+}
 
 pub returns-in-Err : goal.returns-in-Err
-returns-in-Err g c =
-    let d = disk_of g.row.B c.args.view.now c.args.elsewhere.items in
-    gives_not g.row.B c.args.view.now d (batch_of c.args.edits.now c.args.guids.now) _ _ _ _ refl c.in-Err.ensures.err
+returns-in-Err g c = record {
+  says = let d = disk_of g.row.B c.args.view.now c.args.elsewhere.items in
+      gives_not g.row.B c.args.view.now d (batch_of c.args.edits.now c.args.guids.now) _ _ _ _ refl c.in-Err.ensures.err;
+}

@@ -1,3 +1,4 @@
+use Rattle.std.proofs.Common.{inr}
 use Rattle.pt_replay.specs.Known.{disk_of}
 use Rattle.pt_replay.proofs.Walk.{asked_of}
 use Rattle.pt_replay.proofs.Saying.{says_unmended}
@@ -7,9 +8,11 @@ pub returns-in-Ok-clause-ok : goal.returns-in-Ok-clause-ok
 returns-in-Ok-clause-ok g c = rw c.in-Some.ensures.seen at (c.in-Ok.ensures.ready tt)
 
 pub returns-in-Err-clause-err : goal.returns-in-Err-clause-err
-returns-in-Err-clause-err g c =
-    rw c.unmended.ensures (says_unmended g.row.B c.args.view.now (disk_of g.row.B c.args.view.now c.args.elsewhere.items) c.in-Err.error
-    (rw c.in-Some.ensures.seen at (c.in-Err.ensures.refused tt))
-    (asked_of g.row.B c.args.view.now _ _ _ _ _ _ _ _ c.in-Some.ensures.view c.checked_plan_for_repair.ensures.same.through.1
-    c.in-Err.ensures.blames)
-    (rw c.in-Some.ensures.view.count_is at (rw c.in-Some.ensures.seen at (c.in-Err.ensures.place tt))))
+returns-in-Err-clause-err g c = rw c.unmended.ensures (inr (
+  c.in-Some.ensures.is_view,
+  says_unmended g.row.B c.args.view.now (disk_of g.row.B c.args.view.now c.args.elsewhere.items) c.in-Err.error
+      (rw c.in-Some.ensures.seen at (c.in-Err.ensures.refused tt))
+      (asked_of g.row.B c.args.view.now _ _ _ _ _ _ _ _ c.in-Some.ensures.view c.checked_plan_for_repair.ensures.same.through.1
+      c.in-Err.ensures.blames)
+      (rw c.in-Some.ensures.view.count_is at (rw c.in-Some.ensures.seen at (c.in-Err.ensures.place tt))),
+))

@@ -1,3 +1,4 @@
+use Rattle.std.proofs.Common.{inr}
 use Rattle.pt_plan.specs.Batches.{Words}
 use Rattle.pt_replay.specs.Known.{disk_of}
 use Rattle.pt_replay.proofs.Walk.{asked_of}
@@ -10,8 +11,11 @@ returns-in-Ok-clause-ok g c = rw c.in-Some.ensures.view.count_is at (rw c.in-Som
 pub returns-in-Err-clause-err : goal.returns-in-Err-clause-err
 returns-in-Err-clause-err g c =
     let batch : Words = record { edits = c.args.edits.now; guids = c.args.guids.now } in
-    rw c.refused.ensures (says_refused g.row.B c.args.view.now (disk_of g.row.B c.args.view.now c.args.elsewhere.items) batch c.in-Err.error
-    (rw c.in-Some.ensures.view.count_is at (rw c.in-Some.ensures.seen at (c.in-Err.ensures.refused tt)))
-    (asked_of g.row.B c.args.view.now _ _ _ _ _ _ _ _ c.in-Some.ensures.view c.checked_plan_for.ensures.same.through.1
-    c.in-Err.ensures.blames)
-    (rw c.in-Some.ensures.view.count_is at (rw c.in-Some.ensures.seen at (c.in-Err.ensures.place tt))))
+    rw c.refused.ensures (inr (
+      c.in-Some.ensures.is_view,
+      says_refused g.row.B c.args.view.now (disk_of g.row.B c.args.view.now c.args.elsewhere.items) batch c.in-Err.error
+          (rw c.in-Some.ensures.view.count_is at (rw c.in-Some.ensures.seen at (c.in-Err.ensures.refused tt)))
+          (asked_of g.row.B c.args.view.now _ _ _ _ _ _ _ _ c.in-Some.ensures.view c.checked_plan_for.ensures.same.through.1
+          c.in-Err.ensures.blames)
+          (rw c.in-Some.ensures.view.count_is at (rw c.in-Some.ensures.seen at (c.in-Err.ensures.place tt))),
+    ))
