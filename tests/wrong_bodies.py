@@ -149,7 +149,7 @@ def judge(body, said):
         return verdict[1] == "proved", f"the right body isn't proved: {' '.join(goals) or verdict[1]}"
     if verdict[1] == "proved":
         return False, "NOT REFUSED: it is proved"
-    if not clauses or body.clauses and body.clauses[0] not in clauses:
+    if not clauses or body.clauses and body.clauses[0] not in [*clauses, *filter(clause_of, goals)]:
         return False, f"NOT REFUSED at {body.clauses[0] if body.clauses else 'a clause'}: {' '.join(goals) or verdict[1]}"
     return True, f"{', '.join(clauses)} ({' '.join(goals)})"
 
