@@ -2,8 +2,8 @@
 """Holds the documents against what they tell of. Each example session of README and of docs/commands.md is run, a document's sessions in
 their order in one folder, and each command there answers what the document shows; docs/commands.md has one for each command, and says of
 each answer that isn't a success what to do. README's piece of a program stands in the example that it names, and examples/README.md lists
-each example. Each sentence that an error of the library prints stands in docs/commands.md. What docs/promises.md names is there. README
-and docs/wrong_bodies.md count the wrong bodies as they are.
+each example. Each sentence that an error of the library prints stands in docs/commands.md. What docs/promises.md names is there, and so
+are the wrong bodies that docs/wrong_bodies.md names.
 
 usage: tests/docs.py PTAB [DOCUMENT...]
 """
@@ -28,16 +28,6 @@ ERRORS = (("pt_gpt/src/error.rt", "CopyError", "| {} |"), ("pt_mbr/src/chain.rt"
           ("pt_apply/src/error.rt", "PlanTextError", None))
 # said of the device, of memory and of what is wrapped, of which the document speaks in other words
 OTHERWISE = ("can't be read", "out of memory", "the plan is refused")
-# how the documents count the wrong bodies: the document, the words, and the folder of the edits
-COUNTS = (("README.md", r"(\d+) wrong bodies that the prover must refuse", "must-fail"),
-          ("README.md", r"(\d+) more wrong bodies", "must-fail-gate"),
-          ("README.md", r"(\d+) in the crates' `must-fail/`", "must-fail"),
-          ("README.md", r"(\d+) in `must-fail-gate/`", "must-fail-gate"),
-          ("README.md", r"tries (\d+) other wrong edits", "must-fail-more"),
-          ("README.md", r"(\d+) more in `must-fail-more/`", "must-fail-more"),
-          ("docs/wrong_bodies.md", r"`must-fail/` holds (\d+)", "must-fail"),
-          ("docs/wrong_bodies.md", r"`must-fail-gate/` holds (\d+)", "must-fail-gate"),
-          ("docs/wrong_bodies.md", r"`must-fail-more/` holds (\d+)", "must-fail-more"))
 
 
 def read(name):
@@ -218,16 +208,14 @@ def errors():
 
 
 def wrong_bodies():
-    """How many wrong bodies there are; the documents count as many."""
-    count = {}
-    for folder in ("must-fail", "must-fail-gate", "must-fail-more"):
-        found = [os.path.join(f"{TOP}/crates", crate, folder) for crate in os.listdir(f"{TOP}/crates")]
-        count[folder] = sum(name.endswith(".edit") for it in found if os.path.isdir(it) for name in os.listdir(it))
-    for document, pattern, folder in COUNTS:
-        told = re.findall(pattern, read(document))
-        if told != [str(count[folder])]:
-            sys.exit(f"{document} counts {told} edits in {folder}, and there are {count[folder]}")
-    return sum(count.values())
+    """How many wrong bodies docs/wrong_bodies.md names; each stands in a crate's table."""
+    tables = [f"crates/{it}/wrong_bodies.txt" for it in os.listdir(f"{TOP}/crates")]
+    known = {it for table in tables if os.path.isfile(f"{TOP}/{table}") for it in re.findall(r"^name: (\w+)$", read(table), re.MULTILINE)}
+    rows = read("docs/wrong_bodies.md").partition("## The main promises")[2].partition("\n## ")[0]
+    named = re.findall(r"`(\w+)`", rows)
+    if unknown := [it for it in named if it not in known]:
+        sys.exit(f"docs/wrong_bodies.md names wrong bodies that no table has: {' '.join(unknown)}")
+    return len(named)
 
 
 def main():
@@ -238,7 +226,7 @@ def main():
     each_command(read("docs/commands.md"))
     print(f"docs/commands.md: {advice(read('docs/commands.md'))} answers say what to do; examples/README.md lists {examples()} examples")
     print(f"docs/promises.md: {promises()} names are there")
-    print(f"wrong bodies: {wrong_bodies()} are counted as they are")
+    print(f"docs/wrong_bodies.md: {wrong_bodies()} wrong bodies are there")
     print(f"errors: {errors()} sentences stand in docs/commands.md, 0 are missing")
 
 

@@ -1,18 +1,17 @@
 #!/usr/bin/env python3
-"""Tries wrong bodies of functions, beside those of crates/NAME/must-fail that `rt ci` tries: the prover must refuse each.
+"""Tries wrong bodies of functions, beside those of crates/NAME/must-fail that `rt ci` tries: the prover must refuse each at a clause of the
+function's contract. docs/wrong_bodies.md says what a wrong body is here, and how to add one.
 
-usage: tests/wrong_bodies.py [--gate [--beside FILE]] [NAME..]     crates, or none for all that have such edits
-  --gate          those of crates/NAME/must-fail-gate, over the libraries that `rt ci` has just proved. Without it those of
-                  crates/NAME/must-fail-more, and what these crates stand on is proved first where it isn't proved yet
+usage: tests/wrong_bodies.py [-v] [--keep DIR] [--gate [--beside FILE]] [NAME[/BODY]..]     crates, or none for all
+  -v              says at which clauses each body is refused, and all goals that it leaves open
+  --keep DIR      keeps the prover's work on each crate there, for the next run
+  --gate          those of crates/NAME/wrong_bodies.txt alone, over the libraries that `rt ci` has just proved. Without it those that the
+                  edits in must-fail/ and must-fail-more/ make too, and what these crates stand on is proved first where it isn't proved yet
   --beside FILE   while `rt ci` runs, which prints into this file: each crate's, once what stands below it is proved
 
-A function is proved against the contracts of those that it calls. So only the functions that an edit changes are proved, with those that
-they call; the edits of different functions are tried in one check, and each must be refused for its own goals. Where a function only calls
-another that isn't proved, its wrong body comes again in the next check. An edit of anything else than functions' bodies, such as a law's
-clause or a constant, is tried alone with the whole crate, and so is one that no check of several refused. The crates are tried side by
-side.
-
-It ends with status 1 where an edit isn't refused, or can't be tried. That a crate is proved without the edits is for `rt ci` to say.
+A wrong body is put into a copy of the crate as a second function beside the right one, with the same signature and contract and no proof by
+hand. For each function that has wrong bodies one more is put there, which only calls the right one: it must be proved. All of a crate are
+tried in one check. It ends with status 1 where a body isn't refused at a clause.
 """
 import glob
 import os
@@ -27,185 +26,199 @@ from concurrent.futures import ThreadPoolExecutor
 
 ROOT = os.path.dirname(os.path.dirname(os.path.abspath(__file__)))
 sys.path.insert(0, f"{ROOT}/packaging")
+sys.path.insert(0, f"{ROOT}/tests")
 import kit  # noqa: E402
 from beside import SECONDS, proved_by  # noqa: E402
+from functions import functions_in, named, second  # noqa: E402
 
 # One process for a check, since several checks run side by side, and the most memory that one takes, in bytes.
 FLAGS = ["--jobs", "1"]
 MEMORY = 4_000_000_000
 # How many run beside `rt ci`, which uses most of the memory.
 LANES_BESIDE = 2
-# What a function's head has behind its result: clauses in braces, or its body's brace, or the end of a function without a body.
-BEHIND_HEAD = re.compile(r"^\s*(?:requires|ensures|ghost)\b|\{|;\s*$", re.MULTILINE)
-# The closing bracket of each.
-CLOSING = {"(": ")", "<": ">", "{": "}", "[": "]"}
+TABLE = "wrong_bodies.txt"
 
 
-def end_of(text, at):
-    """The place of the bracket that closes the one at this place."""
-    opening, depth = text[at], 0
-    for place in range(at, len(text)):
-        # the arrow before a result closes nothing
-        if text[place] == CLOSING[opening] and text[place - 1] not in "-=":
-            depth -= 1
-        elif text[place] == opening:
-            depth += 1
-        if depth == 0:
-            return place
-    return len(text)
+class Body:
+    """A body to be tried: a wrong one, and the clauses that refuse it (none named: any); or, with is_right, one that must be proved."""
+
+    def __init__(self, name, file, of, text, clauses=(), uses=(), is_right=False):
+        self.name, self.file, self.of, self.text = name, file, of, text
+        self.clauses, self.uses, self.is_right = clauses, uses, is_right
 
 
-def body_of(text, at):
-    """The places of the braces around the body of the function whose name ends here. None where it has none."""
-    if text[at] == "<":
-        at = end_of(text, at) + 1
-    at = end_of(text, at) + 1
-    while found := BEHIND_HEAD.search(text, at):
-        if found[0].strip() in ("requires", "ensures", "ghost"):
-            at = end_of(text, text.index("{", found.end())) + 1
-        elif found[0] == "{":
-            return found.start(), end_of(text, found.start())
-        else:
-            return None
+def bodies_of_table(path):
+    """The wrong bodies of a table. A block for each, which ends at an empty line."""
+    with open(path, encoding="utf-8") as it:
+        blocks = re.split(r"\n\s*\n", re.sub(r"^#.*\n", "", it.read(), flags=re.MULTILINE))
+    found = []
+    for block in filter(str.strip, blocks):
+        head, _, text = block.strip("\n").partition("\nbody:\n")
+        fields = [line.partition(": ")[::2] for line in head.split("\n")]
+        one = dict(fields)
+        if set(one) - {"name", "of", "refused", "use"} or not {"name", "of", "refused"} <= set(one) or not text:
+            sys.exit(f"wrong_bodies.py: {path}: not a wrong body:\n{block}")
+        file, _, of = one["of"].partition(" ")
+        uses = [value for key, value in fields if key == "use"]
+        found.append(Body(one["name"], file, of, text, [it.strip() for it in one["refused"].split(",")], uses))
+    return found
+
+
+def body_of_edit(rt, crate, path):
+    """The wrong body that an edit makes of one function. None where it makes something else, and where a proof by hand stands for the
+    function: then a refusal would show only that this proof doesn't fit any more."""
+    texts, why = rt.read_edit(path, crate.folder)
+    if why or len(texts) != 1 or not [*texts][0].startswith("src/"):
+        return None
+    (file, new), = texts.items()
+    with open(f"{crate.folder}/{file}", encoding="utf-8") as it:
+        old = it.read()
+    for was, now in zip(functions_in(old), functions_in(new)):
+        inside = was.body and now.body and old[:was.body[0]] == new[:now.body[0]] and old[was.body[1]:] == new[now.body[1]:]
+        proof = "/".join(filter(None, [crate.folder, "proofs", re.sub(r"src/|lib\.rt|main\.rt|\.rt", "", file), was.owner(), was.name]))
+        if inside and not os.path.isdir(proof):
+            name = os.path.basename(path)[:-len(".edit")].replace("-", "_")
+            return Body(f"edit_{name}", file, named(was), new[now.body[0] + 1:now.body[1]])
     return None
 
 
-def owner_of(text, place):
-    """The type, and behind it the trait, of the impl in which a place is, as the prover names them. Nothing outside of one."""
-    for found in re.finditer(r"^impl\b", text, re.MULTILINE):
-        brace = text.index("{", found.start())
-        if brace < place < end_of(text, brace):
-            head = text[found.end():brace]
-            while "<" in head:
-                first = head.index("<")
-                head = head[:first] + head[end_of(head, first) + 1:]
-            names = [it.split()[0].rpartition("::")[2] for it in head.partition(" where ")[0].split(" for ")]
-            return "".join(names[::-1])
-    return ""
+def with_controls(bodies):
+    """These, and behind them a right body for each of their functions."""
+    found = {(it.file, it.of): re.sub(r"\W+", "_", it.of).strip("_") for it in bodies}
+    return [*bodies, *(Body(f"right_{name}", file, of, "", is_right=True) for (file, of), name in found.items())]
 
 
-def places_of(old, new):
-    """Where two texts of as many lines differ: in each line the first place, and the one behind the last, in the old text."""
-    places, at = [], 0
-    for was, now in zip(old.splitlines(keepends=True), new.splitlines(keepends=True)):
-        if was != now:
-            first = len(os.path.commonprefix([was, now]))
-            behind = len(os.path.commonprefix([was[first:][::-1], now[first:][::-1]]))
-            places.append((at + first, at + len(was) - behind))
-        at += len(was)
-    return places
+def texts_with(crate, bodies):
+    """The texts of the crate's files that have these bodies' functions besides."""
+    texts, folders = {}, [it.folder for it in [crate, *crate.below()]]
+    for body in bodies:
+        if body.file not in texts:
+            with open(f"{crate.folder}/{body.file}", encoding="utf-8") as it:
+                texts[body.file] = it.read()
+        texts[body.file] = second(texts[body.file], body, folders)
+    return texts
 
 
-def functions_of(rt, crate, edit):
-    """The functions whose bodies alone an edit changes, by their module, the type, and the name. None where it changes anything else."""
-    texts, why = rt.read_edit(edit, crate.folder)
-    if why:
-        return None
-    functions = set()
-    for file, new in texts.items():
-        with open(f"{crate.folder}/{file}", encoding="utf-8") as it:
-            old = it.read()
-        module = "::".join(it for it in file[len("src/"):-len(".rt")].split("/") if it not in ("lib", "main"))
-        bodies = [(it, body_of(old, it.end())) for it in re.finditer(r"\bfn (\w+)(?=[<(])", old)]
-        for first, behind in places_of(old, new):
-            found = [it for it, body in bodies if body and body[0] < first and behind <= body[1]]
-            if not found or not file.startswith("src/"):
-                return None
-            functions.add((module, owner_of(old, found[-1].start()), found[-1][1]))
-    return frozenset(functions)
-
-
-def path_of(function):
-    """A function as `rattle check --only` names it: its path below the crate."""
-    return "::".join(filter(None, function))
-
-
-def edits_of(edits, failure):
-    """The edits of the function that the prover names so, or of one within it. None where edits of more than one function may be meant."""
-    found = {}
-    for edit, functions in edits.items():
-        for module, owner, name in functions:
-            if re.search(rf"^\w+{f'::{re.escape(module)}' if module else ''}(::\S+)?::{name}(::\S+)?$", failure):
-                found[edit] = len(owner) if f"::{owner}::" in failure else 0
-    nearest = [it for it in found if found[it] == max(found.values())]
-    return nearest if len(nearest) == 1 else []
-
-
-def failures_of(said):
-    """The functions that a check didn't prove for their own goals, and those that only call one of these."""
-    own, waiting = [], []
-    for name, why in re.findall(r"^fn (\S+): (?:not proved|no proof)(.*)$", said, re.MULTILINE):
-        calls = re.search(r"which (?:is|are) not proved", why) and "did not prove" not in why
-        (waiting if calls else own).append(name)
-    return own, waiting
-
-
-def check(rt, crate, edits, kept, paths):
-    """Checks these functions with all these edits, over what kept holds. Its status, and what it said."""
+def check(rt, crate, texts, names, kept):
+    """Checks the functions of these names in a copy of the crate with these texts, over what kept holds. What the prover said."""
     with tempfile.TemporaryDirectory(prefix="wrong-bodies-") as room:
         for part in rt.rtlib.PARTS:
             if os.path.isdir(f"{crate.folder}/{part}"):
                 shutil.copytree(f"{crate.folder}/{part}", f"{room}/{part}")
-        for edit in edits:
-            for path, text in (rt.read_edit(edit, room)[0] or {}).items():
-                with open(f"{room}/{path}", "w", encoding="utf-8") as it:
-                    it.write(text)
-        only = [it for path in sorted(paths) for it in ("--only", path)]
+        for path, text in texts.items():
+            with open(f"{room}/{path}", "w", encoding="utf-8") as it:
+                it.write(text)
+        only = [it for name in names for it in ("--only", name)]
         words = [rt.rtlib.RATTLE, "check", *crate.words([*FLAGS, *only], keeps=False), "--incremental", kept]
         ran = subprocess.run([*rt.rtlib.guarded(), *words], cwd=room, stdin=subprocess.DEVNULL, stdout=subprocess.PIPE,
                              stderr=subprocess.STDOUT, errors="replace", check=False)
-    return ran.returncode, ran.stdout
+    return ran.stdout
 
 
-def try_together(rt, crate, edits, kept):
-    """Which of these edits, each of other functions, were refused, and which wait for another's. Where one of them keeps the others from
-    the prover, each half is tried by itself."""
-    functions = {it for found in edits.values() for it in found}
-    status, said = check(rt, crate, edits, kept, {path_of(it) for it in functions})
-    if status == 2:
-        # a name that the prover gives otherwise: the whole module
-        status, said = check(rt, crate, edits, kept, {it[0] or path_of(it) for it in functions})
-    if status == 1 and re.search(r"^only=\d+ proved=\d+$", said, re.MULTILINE):
-        own, waiting = ([edit for it in names for edit in edits_of(edits, it)] for names in failures_of(said))
-        return [it for it in edits if it in own], [it for it in edits if it in waiting and it not in own]
-    if len(edits) < 2 or status == 0:
-        return [], []
-    half = len(edits) // 2
-    answers = [try_together(rt, crate, dict(it), kept) for it in ([*edits.items()][:half], [*edits.items()][half:])]
-    return [sum(it, []) for it in zip(*answers)]
+def unread(said, texts, bodies):
+    """The body that the prover couldn't read, and what it said of it. None where it read all."""
+    for file, line, why in re.findall(r"^(?:\./)?(src/\S+?):(\d+):\d+: (error.*)$", said, re.MULTILINE):
+        above = re.findall(r"\bfn (\w+)(?=[<(])", "\n".join(texts.get(file, "").split("\n")[:int(line)]))
+        for body in bodies:
+            if above and body.name == above[-1]:
+                return body, why
+    return None
 
 
-def first_of_each(left):
-    """Of the edits, the first of each function."""
-    found, taken = {}, set()
-    for edit, functions in left.items():
-        if not taken & functions:
-            found[edit] = functions
-            taken |= functions
-    return found
+def goals_of(said, name):
+    """The goals that a function leaves open, as the prover names them."""
+    block = re.search(rf"^help: write \./proofs/(?:\S+/)?{name}/Answers\.antt with .*\n((?:    .*\n|\n)*)", said, re.MULTILINE)
+    return re.findall(r"^    pub (\S+) : goal\.", block[1], re.MULTILINE) if block else []
 
 
-def try_crate(rt, crate, folder):
-    """What to say of a crate's edits that weren't refused."""
-    # older kits only say whether an edit was refused
-    refusals = {getattr(rt, it, True) for it in ("REFUSED", "AT_LIMIT")}
-    began = time.monotonic()
-    edits = {it: functions_of(rt, crate, it) for it in sorted(glob.glob(f"{crate.folder}/{folder}/*.edit"))}
-    alone, left = [it for it in edits if not edits[it]], {it: functions for it, functions in edits.items() if functions}
+def clause_of(goal):
+    """The clause of a contract at whose goal a function is stuck: `ensures` where it has only one, `invariant` for a ghost field of what it
+    changes. Nothing where it is another goal, as a callee's `requires` or a sum that may wrap."""
+    found = re.match(r"(invariant)_of-|returns(?:-(?:.*-)?clause-(\w+?)(?:-\d+)?|-.*)?$", goal)
+    return found and (found[1] or found[2] or "ensures")
+
+
+def judge(body, said):
+    """Whether a body came to what it has to, and what to say of it."""
+    verdict = re.search(rf"^fn \S*\b{body.name}: (.*)$", said, re.MULTILINE)
+    if not verdict:
+        return False, "not tried"
+    goals = goals_of(said, body.name)
+    clauses = [*dict.fromkeys(filter(None, map(clause_of, goals)))]
+    if body.is_right:
+        return verdict[1] == "proved", f"the right body isn't proved: {' '.join(goals) or verdict[1]}"
+    if verdict[1] == "proved":
+        return False, "NOT REFUSED: it is proved"
+    if not clauses or body.clauses and body.clauses[0] not in [*clauses, *filter(clause_of, goals)]:
+        return False, f"NOT REFUSED at {body.clauses[0] if body.clauses else 'a clause'}: {' '.join(goals) or verdict[1]}"
+    return True, f"{', '.join(clauses)} ({' '.join(goals)})"
+
+
+def try_bodies(rt, crate, bodies, kept, failures):
+    """What each of these bodies came to: those that the prover can't read are told as failures, and left out."""
+    while bodies:
+        tried = with_controls(bodies)
+        texts = texts_with(crate, tried)
+        said = check(rt, crate, texts, [it.name for it in tried], kept)
+        if re.search(r"^only=\d+ proved=\d+$", said, re.MULTILINE):
+            return [(it, *judge(it, said)) for it in tried]
+        found = unread(said, texts, tried)
+        if not found:
+            failures.append(f"no verdict: {said[-2000:]}")
+            return []
+        failures.append(f"{found[0].name}: {found[1]}")
+        bodies = [it for it in bodies if it is not found[0] and not (found[0].is_right and it.of == found[0].of)]
+    return []
+
+
+def bodies_of(rt, crate, is_gate):
+    """The wrong bodies of a crate, and the edits that show nothing."""
+    table = f"{crate.folder}/{TABLE}"
+    bodies, idle = bodies_of_table(table) if os.path.isfile(table) else [], []
+    for edit in [] if is_gate else sorted(glob.glob(f"{crate.folder}/must-fail*/*.edit")):
+        body = body_of_edit(rt, crate, edit)
+        if body:
+            bodies.append(body)
+        else:
+            idle.append(f"{os.path.basename(edit)}: shows nothing: it isn't of one function without a proof by hand")
+    return bodies, idle
+
+
+def try_crate(rt, crate, asked):
+    """What to say of a crate's wrong bodies that weren't refused at a clause."""
+    began, wanted = time.monotonic(), asked.bodies_of(crate.name)
+    bodies, failures = bodies_of(rt, crate, asked.gate)
+    if wanted:
+        bodies, failures = [it for it in bodies if it.name in wanted], [f"{it}: no such body" for it in wanted - {it.name for it in bodies}]
+    count = len(bodies) + len(failures)
     with tempfile.TemporaryDirectory(prefix="wrong-bodies-kept-") as kept:
-        while left:
-            tried = first_of_each(left)
-            refused, wait = try_together(rt, crate, tried, kept)
-            alone += [it for it in tried if it not in wait and it not in refused]
-            left = {it: functions for it, functions in left.items() if it in wait or it not in tried}
-            if not refused and wait:
-                alone += wait
-                left = {it: functions for it, functions in left.items() if it not in wait}
-        answers = [rt.must_fail(crate, it, FLAGS, kept) for it in alone]
-    failures = [text for kind, text in answers if kind not in refusals]
-    took = time.monotonic() - began
-    print(f"{crate.name}: {len(edits) - len(failures)} of {len(edits)} refused, {len(answers)} of them alone, {took:.0f} s", flush=True)
-    return failures
+        if asked.keep:
+            kept = f"{os.path.abspath(asked.keep)}/{crate.name}"
+            os.makedirs(kept, exist_ok=True)
+        answers = try_bodies(rt, crate, bodies, kept, failures)
+    failures += [f"{body.name}: {text}" for body, is_well, text in answers if not is_well]
+    refused = [f"  {body.name}: {text}\n" for body, is_well, text in answers if is_well and not body.is_right]
+    print(f"{crate.name}: {len(refused)} of {count} refused, {time.monotonic() - began:.0f} s\n{''.join(refused) if asked.tells else ''}",
+          end="", flush=True)
+    return [f"{crate.name}/{it}" for it in failures]
+
+
+class Asked:
+    """What the words of the call ask for."""
+
+    def __init__(self, words):
+        self.tells = "-v" in words
+        self.gate = "--gate" in words
+        self.said = words.pop(words.index("--beside") + 1) if "--beside" in words else None
+        self.keep = words.pop(words.index("--keep") + 1) if "--keep" in words else None
+        self.names = [it for it in words if it not in ("-v", "--gate", "--beside", "--keep")]
+
+    def crates(self):
+        return [*dict.fromkeys(it.partition("/")[0] for it in self.names)]
+
+    def bodies_of(self, crate):
+        """The names of the bodies that are asked for, none where all are."""
+        return {it.partition("/")[2] for it in self.names if it.startswith(f"{crate}/")}
 
 
 class Left:
@@ -227,36 +240,37 @@ class Left:
         return None
 
 
-def try_all(rt, left, folder):
-    """What to say of the edits that weren't refused, of the crates that one lane takes."""
+def try_all(rt, left, asked):
+    """What to say of the bodies that weren't refused, of the crates that one lane takes."""
     failures = []
     while crate := left.take():
-        failures += try_crate(rt, crate, folder)
+        failures += try_crate(rt, crate, asked)
     return failures
 
 
 def main(words):
-    folder = "must-fail-gate" if "--gate" in words else "must-fail-more"
-    said = words.pop(words.index("--beside") + 1) if "--beside" in words else None
+    asked = Asked(words)
     rt = kit.load(ROOT)
     crates = {it.name: it for it in rt.rtlib.crates_below(ROOT)}
-    having = [it for it in crates if os.path.isdir(f"{ROOT}/crates/{it}/{folder}")]
-    names = [it for it in words if it not in ("--gate", "--beside")] or having
+    places = (TABLE,) if asked.gate else (TABLE, "must-fail", "must-fail-more")
+    having = [it for it in crates if any(os.path.exists(f"{ROOT}/crates/{it}/{place}") for place in places)]
+    names = asked.crates() or having
     for name in names:
         if name not in having:
-            sys.exit(f"wrong_bodies.py: crates/{name} has no {folder}")
+            sys.exit(f"wrong_bodies.py: crates/{name} has no {' and no '.join(places)}")
     below = sorted({lib.name for name in names for lib in crates[name].below()})
-    if below and folder == "must-fail-more":
+    if below and not asked.gate:
         subprocess.run([sys.executable, f"{ROOT}/packaging/build.py", *below], stdout=subprocess.DEVNULL, check=True)
-    lanes = max(1, min(LANES_BESIDE if said else rt.processors(), rt.free() // MEMORY))
+    lanes = max(1, min(LANES_BESIDE if asked.said else rt.processors(), rt.free() // MEMORY))
     # a check reads what stands below its crate, and that takes most of it
-    left = Left(sorted((crates[it] for it in names), key=lambda it: -sum(lib.count(rb"\n") for lib in [it, *it.below()])), said)
+    left = Left(sorted((crates[it] for it in names), key=lambda it: -sum(lib.count(rb"\n") for lib in [it, *it.below()])), asked.said)
     with ThreadPoolExecutor(lanes) as pool:
-        lists = [pool.submit(try_all, rt, left, folder) for _ in range(lanes)]
+        lists = [pool.submit(try_all, rt, left, asked) for _ in range(lanes)]
     failures = [text for found in lists for text in found.result()]
     print(*failures, sep="\n", end="\n" if failures else "")
     print(f"wrong bodies: {len(failures)} failed")
     sys.exit(1 if failures else 0)
 
 
-main(sys.argv[1:])
+if __name__ == "__main__":
+    main(sys.argv[1:])
