@@ -7,6 +7,7 @@ pub mod Failed
 pub mod History
 pub mod Landing
 pub mod Layouts
+pub mod Like
 pub mod Mending
 pub mod Phases
 pub mod Reading
