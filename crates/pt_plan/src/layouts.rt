@@ -68,8 +68,8 @@ pub fn checked_plan_for_layout<const B: usize, D: Disk<B>>(
 /// call may leave denotes what it denoted before, be it nothing, or the wanted layout; after `Ok` it is the latter,
 /// nothing is pending, and the disk is healthy; after every error but `Device`, and after `Device` for a read, the first
 /// flush was done and nothing else. Outside the tables of both layouts, in the sectors that partitions of either own and
-/// in the boot code (bytes 0 to 439 of sector 0) nothing changes. `NoTable`, `Edit` and `Check` are never told, and a
-/// layout for another number of sectors is `Plan`, with [`PlanError::NotOneSwitch`].
+/// in the boot code (bytes 0 to 439 of sector 0) nothing changes. `NoTable`, `Edit` and `Check` are never told. There is no
+/// plan ([`PlanError::NotOneSwitch`]) for a sound layout with another number of sectors than the disk's.
 pub fn commit_layout<const B: usize, D: Disk<B>>(
     alloc: Global,
     disk: &mut D,

@@ -6,8 +6,8 @@ ghost use Rattle.pt_sector.specs.Calls.{Blames};
 ghost use Rattle.pt_sector.specs.Reads.{OnlyReads};
 ghost use Rattle.pt_apply.specs.Plans.{phases_of, InRange};
 ghost use Rattle.pt_recover.specs.Denotes.{Denotes, Reads};
-ghost use Rattle.pt_plan.specs.Like.{fault_in_disk, fault_in_other, LikeHidesNoFailure, FailedInLike, FailedInOther, LikePlanReads, LikeReads};
-ghost use Rattle.pt_plan.specs.Like.{IsOfOther, LeftAlone, IsLikePlan, IsReadyLike, NotLike, BecomesLike};
+ghost use Rattle.pt_plan.specs.Like.{fault_in_disk, fault_in_other, LikeHidesNoFailure, FailedInLike, FailedInOther};
+ghost use Rattle.pt_plan.specs.Like.{LikePlanReads, LikeReads, IsOfOther, LeftAlone, IsLikePlan, IsReadyLike, NotLike, BecomesLike};
 ghost use Rattle.pt_plan.specs.declared.like_error.LikeError.TheVariants.{OtherSize};
 
 use crate::layouts::{checked_plan_for_layout, commit_layout};
