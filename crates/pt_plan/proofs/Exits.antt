@@ -23,6 +23,7 @@ use Rattle.pt_plan.specs.declared.error.CommitError.TheVariants.{NoTable, Edit, 
 use Rattle.pt_plan.specs.laws.Settled.{settled_leaves}
 use Rattle.pt_plan.specs.Failed.{commit_fault_in}
 use Rattle.pt_plan.specs.History.{Past, Either, Has}
+use Rattle.pt_plan.specs.Written.{MetRead}
 use Rattle.pt_plan.specs.Commits.{Leads, Refuses, Bounded, Ready, FailedWriting, EndsBy, Ends, refused, Committed}
 use Rattle.pt_plan.proofs.Histories.{has_either, has_unchanged, has_done, has_new, has_old, failed_flush_leaves, still, so_far}
 use Rattle.pt_plan.proofs.Histories.{stopped_means, stopped_keeps}
@@ -33,11 +34,6 @@ reads_nothing [] zero at is = absurd cc
 reads_nothing [] (suc call) at is = absurd cc
 reads_nothing (w ∷ ws) zero at is = absurd cc
 reads_nothing (w ∷ ws) (suc call) at is = reads_nothing ws call at is
-
--- the fault that an error carries is a read's
-abbrev pub MetRead : Option Fault → Type 0
-MetRead (Some fault) = IsReadIn (λ s. Unit {0}) fault
-MetRead None = Unit {0}
 
 came_one : (old new : List Fault) (f : Fault) → new ≡ old ++ f ∷ [] → ReadFaults old new → IsReadIn (λ s. Unit {0}) f
 unfolding ReadFaults

@@ -6,3 +6,6 @@ pub mod Starting
 pub mod Applying
 pub mod Failing
 pub mod Reading
+pub mod Telling
+pub mod Wanting
+pub mod Outcomes

@@ -1,5 +1,5 @@
 -- The steps before a repair's first write.
-use Rattle.std.proofs.Common.{◌≡◌, ℕ, List, [], Option, Some, None, refl, sym, subst}
+use Rattle.std.proofs.Common.{◌≡◌, ℕ, List, [], Option, Some, None, Result, Ok, Err, IfErr, refl, sym, subst}
 use Rattle.pt_sector.specs.Sectors.{Sectors, IsSectorSize}
 use Rattle.pt_sector.specs.Writes.{Writes}
 use Rattle.pt_recover.specs.Answers.{failure_in}
@@ -14,14 +14,15 @@ use Rattle.pt_cases.specs.Cases.{IsPlan, idle, backup_first, primary_first, from
 use Rattle.pt_exact.specs.laws.Mended.{repair_is_planned_lem, mendable_by_plan_lem}
 use Rattle.pt_planner.specs.Known.{ReasonIs}
 use Rattle.pt_targets.specs.Unmendable.{IsUnmendableBy}
-use Rattle.pt_targets.specs.Unplanned.{Unplanned}
+use Rattle.pt_targets.specs.Errors.{IsFailure}
 use Rattle.pt_targets.specs.declared.error.PlanError.{PlanError}
 use Rattle.pt_targets.specs.declared.error.PlanError.TheVariants as plan
 use Rattle.pt_plan.specs.Batches.{IsMendPlan, IsReadyToMend, IsMendRefusal}
-use Rattle.pt_plan.specs.Mending.{repair_unplanned}
-use Rattle.pt_plan.specs.Steps.{IsSafe, NotSafeToMend}
-use Rattle.pt_plan.specs.declared.repair_error.RepairError.{RepairError}
-use Rattle.pt_plan.specs.declared.repair_error.RepairError.TheVariants.{NoTable, Unsound, Device, Memory, Plan, Check}
+use Rattle.pt_plan.specs.Failed.{HidesNoFailure}
+use Rattle.pt_plan.specs.Mending.{repair_told}
+use Rattle.pt_plan.specs.Steps.{IsSafe, NotPlanned, NotSafe}
+use Rattle.pt_plan.specs.declared.error.CommitError.{CommitError}
+use Rattle.pt_plan.specs.declared.error.CommitError.TheVariants.{NoTable, Edit, Plan, Check, Device, Memory}
 
 -- of a disk that is healthy no plan for its layout has phases
 pub none_of_healthy : (b : ℕ) (d : Sectors) (o : Layout) (phases : List Writes) → Denotes b d (Some o) → IsPlan b d o phases
@@ -50,16 +51,26 @@ module _ (b : ℕ) (d : Sectors) (size : IsSectorSize b) where
       planned = planned;
     }
 
-    refuses : (e : PlanError) → IsUnmendableBy b d o e → IsMendRefusal b d (repair_unplanned e)
-    refuses plan.NotOneSwitch none = absurd none
-    refuses plan.ReusedInOneBatch none = absurd none
-    refuses plan.NeedsRepair none = absurd none
-    refuses (plan.Unsound f) unmendable = (o, here, unmendable)
-    refuses (plan.Device fault) is = tt
-    refuses plan.Memory is = tt
+    refuses : (e : PlanError) → IsUnmendableBy b d o e → ¬ IsFailure e → IsMendRefusal b d (repair_told (Plan e))
+    refuses plan.NotOneSwitch none inside = absurd none
+    refuses plan.ReusedInOneBatch none inside = absurd none
+    refuses plan.NeedsRepair none inside = absurd none
+    refuses (plan.Unsound f) unmendable inside = (o, here, unmendable)
+    refuses (plan.Device fault) is inside = absurd (inside tt)
+    refuses plan.Memory is inside = absurd (inside tt)
 
-    pub mend_refused : (e : PlanError) → Unplanned b d o e → IsMendRefusal b d (repair_unplanned e)
-    mend_refused e unplanned = refuses e (repair_is_planned_lem b d o e size here unplanned)
+    mend_refused : (e : CommitError) → HidesNoFailure e → NotPlanned b d o e → IsMendRefusal b d (repair_told e)
+    mend_refused (NoTable r) inside none = absurd none
+    mend_refused (Edit r) inside none = absurd none
+    mend_refused (Plan e) inside unplanned = refuses e (repair_is_planned_lem b d o e size here unplanned) inside
+    mend_refused (Check why) inside none = absurd none
+    mend_refused (Device fault) inside failed = tt
+    mend_refused Memory inside failed = tt
+
+    pub mend_refused_of : {T : Type 0} (result : Result T CommitError) → IfErr result HidesNoFailure → IfErr result (NotPlanned b d o)
+        → IfErr result (λ e. IsMendRefusal b d (repair_told e))
+    mend_refused_of (Ok x) inside not = not
+    mend_refused_of (Err e) inside not = mend_refused e inside not
 
   -- a plan, once the checker accepts it, which it does
   module _ (phases : List Writes) (is : IsMendPlan b d phases) where
@@ -73,9 +84,9 @@ module _ (b : ℕ) (d : Sectors) (size : IsSectorSize b) where
       safe = safe.safe;
     }
 
-    pub not_safe_to_mend : (e : RepairError) → NotSafeToMend b d phases e → IsMendRefusal b d e
+    pub not_safe_to_mend : (e : CommitError) → NotSafe b d phases e → IsMendRefusal b d (repair_told e)
     not_safe_to_mend (NoTable r) none = absurd none
-    not_safe_to_mend (Unsound f) none = absurd none
+    not_safe_to_mend (Edit r) none = absurd none
     not_safe_to_mend (Plan e) none = absurd none
     not_safe_to_mend (Check why) against = absurd (plan_not_refused b d is.layout phases why size is.planned against)
     not_safe_to_mend (Device fault) failed = tt
@@ -83,10 +94,11 @@ module _ (b : ℕ) (d : Sectors) (size : IsSectorSize b) where
 
 -- a disk that denotes nothing
 pub nothing_to_mend : (b : ℕ) (d : Sectors) (old : Option Layout) (r : Option Reason) → old ≡ None → Denotes b d old
-    → ReasonIs b d old r → (e : RepairError)
-    → ((x : Reason) → r ≡ Some x → failure_in x ≡ None → e ≡ NoTable x) → IsMendRefusal b d e
+    → ReasonIs b d old r → (e : CommitError)
+    → ((x : Reason) → r ≡ Some x → failure_in x ≡ None → e ≡ NoTable x) → IsMendRefusal b d (repair_told e)
 nothing_to_mend b d (Some o) r none from is e told = absurd cc
 nothing_to_mend b d None None none from is e told = absurd is
 nothing_to_mend b d None (Some (reason.Device at)) none from is e told = absurd is
 nothing_to_mend b d None (Some reason.Memory) none from is e told = absurd is
-nothing_to_mend b d None (Some x) none from is e told = subst (IsMendRefusal b d) (sym (told x refl refl)) (from, is)
+nothing_to_mend b d None (Some x) none from is e told =
+    subst (λ (c : CommitError). IsMendRefusal b d (repair_told c)) (sym (told x refl refl)) (from, is)

@@ -22,7 +22,8 @@ use Rattle.pt_plan.specs.laws.Settled.{settled_leaves}
 use Rattle.pt_plan.specs.History.{Past, Unchanged, Has}
 use Rattle.pt_plan.specs.Mending.{repair_fault_in}
 use Rattle.pt_plan.specs.Repairs.{Mendable, ReadyToMend, RefusesToMend, FailedMending, MendEndsBy, MendBounded, Mends, Repaired}
-use Rattle.pt_plan.proofs.Exits.{MetRead, reads_nothing}
+use Rattle.pt_plan.specs.Written.{MetRead}
+use Rattle.pt_plan.proofs.Exits.{reads_nothing}
 use Rattle.pt_plan.proofs.Histories.{has_unchanged, has_same, failed_flush_leaves, still, so_far, stopped_means, stopped_keeps}
 
 no_more : (moments : List Moment) → length moments ≡ 0 → moments ≡ []

@@ -6,9 +6,13 @@ pub mod Ended
 pub mod Failed
 pub mod History
 pub mod Landing
+pub mod Layouts
+pub mod Like
 pub mod Mending
 pub mod Phases
 pub mod Reading
 pub mod Repairs
 pub mod Steps
+pub mod Wanted
+pub mod Written
 pub mod laws

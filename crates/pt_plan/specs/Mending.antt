@@ -12,6 +12,8 @@ use Rattle.pt_check.specs.declared.error.CheckError.TheVariants as check
 use Rattle.pt_targets.specs.Errors.{IsFailure}
 use Rattle.pt_targets.specs.declared.error.PlanError.{PlanError}
 use Rattle.pt_targets.specs.declared.error.PlanError.TheVariants as plan
+use Rattle.pt_plan.specs.declared.error.CommitError.{CommitError}
+use Rattle.pt_plan.specs.declared.error.CommitError.TheVariants as commit
 use Rattle.pt_plan.specs.declared.repair_error.RepairError.{RepairError}
 use Rattle.pt_plan.specs.declared.repair_error.RepairError.TheVariants as repair
 
@@ -53,3 +55,13 @@ repair_unplanned e = repair.Plan e
 abbrev pub repair_unchecked : CheckError → RepairError
 repair_unchecked (check.Device fault) = repair.Device fault
 repair_unchecked check.Memory = repair.Memory
+
+-- what a repair tells of an error in the steps that a commit has too. It has no words, so that none are refused
+abbrev pub repair_told : CommitError → RepairError
+repair_told (commit.NoTable e) = repair.NoTable e
+repair_told (commit.Edit r) = repair.Memory
+repair_told (commit.Plan (plan.Unsound f)) = repair.Unsound f
+repair_told (commit.Plan e) = repair.Plan e
+repair_told (commit.Check why) = repair.Check why
+repair_told (commit.Device fault) = repair.Device fault
+repair_told commit.Memory = repair.Memory

@@ -1,4 +1,4 @@
--- Which sectors a commit and a repair read.
+-- Which sectors commits and a repair read.
 use Rattle.std.specs.Prelude.{ℕ, List, Option, Some, Ok}
 use Rattle.pt_sector.specs.Sectors.{Sectors}
 use Rattle.pt_sector.specs.Writes.{Writes}
@@ -7,7 +7,8 @@ use Rattle.pt_recover.specs.Denotes.{Denotes}
 use Rattle.pt_members.specs.declared.layout.Layout.{Layout}
 use Rattle.pt_sound.specs.Findings.{VerdictReads}
 use Rattle.pt_check.specs.CheckReads.{CheckReads}
-use Rattle.pt_planner.specs.PlanReads.{PlanReads}
+use Rattle.pt_cases.specs.Cases.{IsPlan}
+use Rattle.pt_planner.specs.PlanReads.{PlanReads, MakeReads}
 use Rattle.pt_plan.specs.Batches.{Words, EditedBy, IsPlanned, IsMendPlan}
 use Rattle.pt_plan.specs.declared.error.CommitError.{CommitError}
 use Rattle.pt_plan.specs.declared.error.CommitError.TheVariants as commit
@@ -34,6 +35,11 @@ pub data EditReads (b n : ℕ) (batch : Words) (d : Sectors) (s : ℕ) : Type 0 
 pub data CommitReads (b n : ℕ) (batch : Words) (d : Sectors) (s : ℕ) : Type 0 where
   edit : EditReads b n batch d s → CommitReads b n batch d s
   check : (phases : List Writes) → IsPlanned b n batch d phases → CheckReads b d phases s → CommitReads b n batch d s
+
+-- the sectors that a commit of a layout reads: those of a plan for it, and those of a check of that plan
+pub data LayoutReads (b : ℕ) (wanted : Layout) (d : Sectors) (s : ℕ) : Type 0 where
+  layout_plan : MakeReads b d wanted s → LayoutReads b wanted d s
+  layout_check : (phases : List Writes) → IsPlan b d wanted phases → CheckReads b d phases s → LayoutReads b wanted d s
 
 -- the sectors that a plan for a repair reads: those that decide a verdict of the disk, and those of a plan for its own layout
 pub data MendReads (b n : ℕ) (d : Sectors) (s : ℕ) : Type 0 where

@@ -17,8 +17,6 @@ use Rattle.pt_targets.specs.Unplanned.{Unplanned}
 use Rattle.pt_plan.specs.Batches.{Words, Makes, EditedBy}
 use Rattle.pt_plan.specs.declared.error.CommitError.{CommitError}
 use Rattle.pt_plan.specs.declared.error.CommitError.TheVariants.{NoTable, Edit, Plan, Check, Device, Memory}
-use Rattle.pt_plan.specs.declared.repair_error.RepairError.{RepairError}
-use Rattle.pt_plan.specs.declared.repair_error.RepairError.TheVariants as repair
 
 -- a failure of the device or of memory
 abbrev pub IsCommitFailure : CommitError → Type 0
@@ -63,10 +61,3 @@ pub record IsSafe (b : ℕ) (d : Sectors) (phases : List Writes) : Type 0 where
 abbrev pub NotSafe : ℕ → Sectors → List Writes → CommitError → Type 0
 NotSafe b d phases (Check why) = Answers b d phases (No why)
 NotSafe b d phases e = IsCommitFailure e
-
--- the same of a repair
-abbrev pub NotSafeToMend : ℕ → Sectors → List Writes → RepairError → Type 0
-NotSafeToMend b d phases (repair.Check why) = Answers b d phases (No why)
-NotSafeToMend b d phases (repair.Device fault) = Unit {0}
-NotSafeToMend b d phases repair.Memory = Unit {0}
-NotSafeToMend b d phases e = ⊥

@@ -1,19 +1,69 @@
 //! Edits of a disk, from its layout to its sectors.
 
-ghost use Rattle.std.specs.Prelude.{◌≡◌, IfErr};
+ghost use Rattle.std.specs.Prelude.{◌≡◌, ◌<◌, All, length, IfOk, IfErr};
 ghost use Rattle.pt_sector.specs.Sectors.{IsSectorSize};
 ghost use Rattle.pt_sector.specs.Calls.{Blames};
-ghost use Rattle.pt_plan.specs.Batches.{Commits};
-ghost use Rattle.pt_plan.specs.Reading.{FailedInCommit, CommitReads};
+ghost use Rattle.pt_sector.specs.Reads.{OnlyReads};
+ghost use Rattle.pt_apply.specs.Plans.{phases_of, InRange};
+ghost use Rattle.pt_plan.specs.Batches.{Commits, IsPlanned, IsReady, IsRefusal};
+ghost use Rattle.pt_plan.specs.Reading.{FailedInCommit, EditReads, CommitReads};
 ghost use Rattle.pt_plan.specs.Failed.{commit_fault_in as fault_in, HidesNoFailure};
 
 use crate::error::CommitError;
-use crate::prepare::checked_plan_for;
-use pt_apply::apply;
+use crate::prepare::{checked_plan_wanted, plan_wanted};
+use crate::wanted::Wanted;
+use crate::writing::carry_out;
+use pt_apply::Plan;
 use pt_edit::Edit;
 use pt_guid::Guid;
 use pt_sector::Disk;
 use std::alloc::Global;
+
+/// The plan that leads from what the disk denotes to what the words make of it. Nothing is flushed or written. It is
+/// refused as `commit` refuses, and `Check` is never told; the checker is not asked, and accepts each such plan.
+pub fn plan_for<const B: usize, D: Disk<B>>(
+    alloc: Global,
+    disk: &mut D,
+    edits: &[Edit],
+    guids: &[Guid],
+) -> Result<Plan<B>, CommitError>
+    requires size { IsSectorSize B }
+    ensures same { OnlyReads D.Disk disk.old disk.new }
+    ensures blames { Blames fault_in result (D.faults disk.old) (D.faults disk.new) }
+    ensures place { D.tells → IfErr result
+        (FailedInCommit (EditReads B (D.count disk.old) (record { edits = edits.now; guids = guids.now }) (D.told disk.old).seen)) }
+    ensures hides { IfErr result HidesNoFailure }
+    ensures in_range { IfOk result (InRange (D.count disk.old)) }
+    ensures phases { IfOk result (λ plan. All (λ p. 0 < length p.items) plan.phases.items) }
+    ensures planned { D.tells → IfOk result
+        (λ plan. IsPlanned B (D.count disk.old) (record { edits = edits.now; guids = guids.now }) (D.told disk.old).seen (phases_of plan)) }
+    ensures refused { D.tells → IfErr result
+        (IsRefusal B (D.count disk.old) (record { edits = edits.now; guids = guids.now }) (D.told disk.old).seen) }
+{
+    plan_wanted(alloc, disk, &Wanted::Edited(edits, guids))
+}
+
+/// The same plan, once the checker has accepted it. Nothing is flushed or written.
+pub fn checked_plan_for<const B: usize, D: Disk<B>>(
+    alloc: Global,
+    disk: &mut D,
+    edits: &[Edit],
+    guids: &[Guid],
+) -> Result<Plan<B>, CommitError>
+    requires size { IsSectorSize B }
+    ensures same { OnlyReads D.Disk disk.old disk.new }
+    ensures blames { Blames fault_in result (D.faults disk.old) (D.faults disk.new) }
+    ensures place { D.tells → IfErr result
+        (FailedInCommit (CommitReads B (D.count disk.old) (record { edits = edits.now; guids = guids.now }) (D.told disk.old).seen)) }
+    ensures hides { IfErr result HidesNoFailure }
+    ensures in_range { IfOk result (InRange (D.count disk.old)) }
+    ensures ready { D.tells → IfOk result
+        (λ plan. IsReady B (D.count disk.old) (record { edits = edits.now; guids = guids.now }) (D.told disk.old).seen (phases_of plan)) }
+    ensures refused { D.tells → IfErr result
+        (IsRefusal B (D.count disk.old) (record { edits = edits.now; guids = guids.now }) (D.told disk.old).seen) }
+{
+    checked_plan_wanted(alloc, disk, &Wanted::Edited(edits, guids))
+}
 
 /// Changes the disk's layout as the words say, each new GUID being the next of `guids`.
 ///
@@ -40,8 +90,5 @@ pub fn commit<const B: usize, D: Disk<B>>(
     ensures commits { D.tells → Commits B (D.count disk.old) (record { edits = edits.now; guids = guids.now }) result
         (D.told disk.old) (D.told disk.new) }
 {
-    disk.flush()?;
-    let plan = checked_plan_for(alloc, disk, edits, guids)?;
-    apply(disk, &plan)?;
-    Ok(())
+    carry_out(alloc, disk, &Wanted::Edited(edits, guids))
 }

@@ -1,23 +1,27 @@
-//! The steps of a commit before its first write.
+//! The steps of a commit and of a repair before their first write.
 
-ghost use Rattle.std.specs.Prelude.{◌≡◌, ◌↔◌, ◌<◌, All, length, Ok, None, OnOk, IfOk, IfErr, IsTrue};
+ghost use Rattle.std.specs.Prelude.{◌≡◌, ◌↔◌, ◌<◌, All, length, Ok, Some, None, OnOk, IfOk, IfErr, IsTrue};
 ghost use Rattle.pt_sector.specs.Sectors.{IsSectorSize};
 ghost use Rattle.pt_sector.specs.Calls.{Blames};
 ghost use Rattle.pt_sector.specs.Reads.{OnlyReads};
 ghost use Rattle.pt_apply.specs.Plans.{phases_of, InRange};
 ghost use Rattle.pt_recover.specs.Answers.{failure_in};
+ghost use Rattle.pt_recover.specs.declared.error.NoTable.{NoTable as Reason};
 ghost use Rattle.pt_cases.specs.Cases.{IsPlan};
 ghost use Rattle.pt_check.specs.CheckReads.{CheckReads};
 ghost use Rattle.pt_check.specs.Recovered.{IsRecoveredOf};
 ghost use Rattle.pt_planner.specs.Known.{IsKnown, ReasonIs};
 ghost use Rattle.pt_planner.specs.PlanReads.{PlanReads};
-ghost use Rattle.pt_plan.specs.Batches.{IsPlanned, IsReady, IsRefusal, MakesTable, EditedBy};
+ghost use Rattle.pt_plan.specs.Batches.{IsPlanned, IsReady, IsRefusal, IsMendPlan, IsMendRefusal, MakesTable, EditedBy};
 ghost use Rattle.pt_plan.specs.Failed.{commit_fault_in as fault_in, HidesNoFailure};
-ghost use Rattle.pt_plan.specs.Reading.{FailedInCommit, EditReads, CommitReads};
+ghost use Rattle.pt_plan.specs.Mending.{repair_told};
+ghost use Rattle.pt_plan.specs.Reading.{FailedInCommit, EditReads, CommitReads, MendReads};
 ghost use Rattle.pt_plan.specs.Steps.{sectors_in, MayStart, NotEdited, NotPlanned, IsSafe, NotSafe};
+ghost use Rattle.pt_plan.specs.Wanted.{IsPlanOf, IsReadyOf, IsRefusedBy, PlanOfReads, WriteOfReads};
 ghost use Rattle.pt_plan.specs.declared.error.CommitError.TheVariants as commit;
 
 use crate::error::CommitError;
+use crate::wanted::Wanted;
 use pt_apply::Plan;
 use pt_check::{Answer, Recovered, check_known};
 use pt_edit::{Edit, edit};
@@ -51,6 +55,18 @@ fn no_table(reason: NoTable) -> CommitError
     match reason.failure() {
         Some(_) => CommitError::Memory,
         None => CommitError::NoTable(reason),
+    }
+}
+
+/// What is told of a disk that has no layout of its own. Where there were no reason, want of memory would be told.
+fn no_layout(reason: Option<NoTable>) -> CommitError
+    ensures hides { HidesNoFailure result }
+    ensures blames { fault_in result ≡ None }
+    ensures told { (r : Reason) → reason ≡ Some r → failure_in r ≡ None → result ≡ commit.NoTable r }
+{
+    match reason {
+        Some(reason) => no_table(reason),
+        None => CommitError::Memory,
     }
 }
 
@@ -117,7 +133,7 @@ fn planned<const B: usize, D: Disk<B>>(
 }
 
 /// What the checker needs to know of a disk.
-pub(crate) fn recovered(known: Known) -> Recovered
+fn recovered(known: Known) -> Recovered
     ensures { result ≡ record { layout = known.old; trace = known.trace } }
 {
     let (layout, trace) = known.into_parts();
@@ -176,101 +192,148 @@ fn plan_by<const B: usize, D: Disk<B>>(
     planned(alloc, disk, known, &wanted)
 }
 
-/// The plan of [`plan_for`], by a disk that may be asked for a sector more than once.
-fn read_and_plan<const B: usize, D: Disk<B>>(
+/// The plan that makes the disk healthy with the layout that it denotes, by what is known of the disk.
+fn plan_own<const B: usize, D: Disk<B>>(
     alloc: Global,
     disk: &mut D,
-    edits: &[Edit],
-    guids: &[Guid],
+    known: &Known,
+    reason: Option<NoTable>,
 ) -> Result<Plan<B>, CommitError>
     requires size { IsSectorSize B }
+    requires known { D.tells → IsKnown B (D.told disk.old).seen known.now }
+    requires reason { D.tells → ReasonIs B (D.told disk.old).seen known.now.old reason }
+    ensures same { OnlyReads D.Disk disk.old disk.new }
+    ensures blames { Blames fault_in result (D.faults disk.old) (D.faults disk.new) }
+    ensures place { D.tells → IfErr result (FailedInCommit (MendReads B (D.count disk.old) (D.told disk.old).seen)) }
+    ensures hides { IfErr result HidesNoFailure }
+    ensures in_range { IfOk result (InRange (D.count disk.old)) }
+    ensures phases { IfOk result (λ plan. All (λ p. 0 < length p.items) plan.phases.items) }
+    ensures planned { D.tells → IfOk result (λ plan. IsMendPlan B (D.told disk.old).seen (phases_of plan)) }
+    ensures refused { D.tells → IfErr result (λ e. IsMendRefusal B (D.told disk.old).seen (repair_told e)) }
+{
+    match &known.old {
+        Some(own) => planned(alloc, disk, known, own),
+        None => Err(no_layout(reason)),
+    }
+}
+
+/// The plan for what is wanted, by what is known of the disk.
+fn plan_known<const B: usize, D: Disk<B>>(
+    alloc: Global,
+    disk: &mut D,
+    known: &Known,
+    reason: Option<NoTable>,
+    wanted: &Wanted,
+) -> Result<Plan<B>, CommitError>
+    requires size { IsSectorSize B }
+    requires known { D.tells → IsKnown B (D.told disk.old).seen known.now }
+    requires reason { D.tells → ReasonIs B (D.told disk.old).seen known.now.old reason }
     ensures same { OnlyReads D.Disk disk.old disk.new }
     ensures blames { Blames fault_in result (D.faults disk.old) (D.faults disk.new) }
     ensures place { D.tells → IfErr result
-        (FailedInCommit (EditReads B (D.count disk.old) (record { edits = edits.now; guids = guids.now }) (D.told disk.old).seen)) }
+        (FailedInCommit (PlanOfReads B (D.count disk.old) wanted.now (D.told disk.old).seen)) }
     ensures hides { IfErr result HidesNoFailure }
     ensures in_range { IfOk result (InRange (D.count disk.old)) }
     ensures phases { IfOk result (λ plan. All (λ p. 0 < length p.items) plan.phases.items) }
     ensures planned { D.tells → IfOk result
-        (λ plan. IsPlanned B (D.count disk.old) (record { edits = edits.now; guids = guids.now }) (D.told disk.old).seen (phases_of plan)) }
-    ensures refused { D.tells → IfErr result
-        (IsRefusal B (D.count disk.old) (record { edits = edits.now; guids = guids.now }) (D.told disk.old).seen) }
+        (λ plan. IsPlanOf B (D.count disk.old) wanted.now (D.told disk.old).seen (phases_of plan)) }
+    ensures refused { D.tells → IfErr result (IsRefusedBy B (D.count disk.old) wanted.now (D.told disk.old).seen) }
 {
-    let read = read_known(alloc, disk)?;
-    plan_by(alloc, disk, &read.0, read.1, edits, guids)
+    match wanted {
+        Wanted::Edited(edits, guids) => plan_by(alloc, disk, known, reason, edits, guids),
+        Wanted::Layout(layout) => planned(alloc, disk, known, layout),
+        Wanted::Own => plan_own(alloc, disk, known, reason),
+    }
 }
 
-/// The plan of [`checked_plan_for`], by a disk that may be asked for a sector more than once.
-fn read_plan_and_check<const B: usize, D: Disk<B>>(
+/// The plan of [`plan_wanted`], by a disk that may be asked for a sector more than once.
+fn read_and_plan<const B: usize, D: Disk<B>>(
     alloc: Global,
     disk: &mut D,
-    edits: &[Edit],
-    guids: &[Guid],
+    wanted: &Wanted,
 ) -> Result<Plan<B>, CommitError>
     requires size { IsSectorSize B }
     ensures same { OnlyReads D.Disk disk.old disk.new }
     ensures blames { Blames fault_in result (D.faults disk.old) (D.faults disk.new) }
     ensures place { D.tells → IfErr result
-        (FailedInCommit (CommitReads B (D.count disk.old) (record { edits = edits.now; guids = guids.now }) (D.told disk.old).seen)) }
+        (FailedInCommit (PlanOfReads B (D.count disk.old) wanted.now (D.told disk.old).seen)) }
     ensures hides { IfErr result HidesNoFailure }
     ensures in_range { IfOk result (InRange (D.count disk.old)) }
+    ensures phases { IfOk result (λ plan. All (λ p. 0 < length p.items) plan.phases.items) }
+    ensures planned { D.tells → IfOk result
+        (λ plan. IsPlanOf B (D.count disk.old) wanted.now (D.told disk.old).seen (phases_of plan)) }
+    ensures refused { D.tells → IfErr result (IsRefusedBy B (D.count disk.old) wanted.now (D.told disk.old).seen) }
+{
+    let read = read_known(alloc, disk)?;
+    plan_known(alloc, disk, &read.0, read.1, wanted)
+}
+
+/// The plan of [`checked_plan_wanted`], by a disk that may be asked for a sector more than once.
+fn read_plan_and_check<const B: usize, D: Disk<B>>(
+    alloc: Global,
+    disk: &mut D,
+    wanted: &Wanted,
+) -> Result<Plan<B>, CommitError>
+    requires size { IsSectorSize B }
+    ensures same { OnlyReads D.Disk disk.old disk.new }
+    ensures blames { Blames fault_in result (D.faults disk.old) (D.faults disk.new) }
+    ensures place { D.tells → IfErr result
+        (FailedInCommit (WriteOfReads B (D.count disk.old) wanted.now (D.told disk.old).seen)) }
+    ensures hides { IfErr result HidesNoFailure }
+    ensures in_range { IfOk result (InRange (D.count disk.old)) }
+    ensures phases { IfOk result (λ plan. All (λ p. 0 < length p.items) plan.phases.items) }
     ensures ready { D.tells → IfOk result
-        (λ plan. IsReady B (D.count disk.old) (record { edits = edits.now; guids = guids.now }) (D.told disk.old).seen (phases_of plan)) }
-    ensures refused { D.tells → IfErr result
-        (IsRefusal B (D.count disk.old) (record { edits = edits.now; guids = guids.now }) (D.told disk.old).seen) }
+        (λ plan. IsReadyOf B (D.count disk.old) wanted.now (D.told disk.old).seen (phases_of plan)) }
+    ensures refused { D.tells → IfErr result (IsRefusedBy B (D.count disk.old) wanted.now (D.told disk.old).seen) }
 {
     let (known, reason) = read_known(alloc, disk)?;
-    let plan = plan_by(alloc, disk, &known, reason, edits, guids)?;
+    let plan = plan_known(alloc, disk, &known, reason, wanted)?;
     checked(alloc, disk, &plan, recovered(known))?;
     Ok(plan)
 }
 
-/// The plan that leads from what the disk denotes to what the words make of it. Nothing is flushed or written. It is
-/// refused as `commit` refuses, and `Check` is never told; the checker is not asked, and accepts each such plan.
-pub fn plan_for<const B: usize, D: Disk<B>>(
+/// The plan for what is wanted. Nothing is flushed or written, and the checker is not asked.
+pub(crate) fn plan_wanted<const B: usize, D: Disk<B>>(
     alloc: Global,
     disk: &mut D,
-    edits: &[Edit],
-    guids: &[Guid],
+    wanted: &Wanted,
 ) -> Result<Plan<B>, CommitError>
     requires size { IsSectorSize B }
     ensures same { OnlyReads D.Disk disk.old disk.new }
     ensures blames { Blames fault_in result (D.faults disk.old) (D.faults disk.new) }
     ensures place { D.tells → IfErr result
-        (FailedInCommit (EditReads B (D.count disk.old) (record { edits = edits.now; guids = guids.now }) (D.told disk.old).seen)) }
+        (FailedInCommit (PlanOfReads B (D.count disk.old) wanted.now (D.told disk.old).seen)) }
     ensures hides { IfErr result HidesNoFailure }
     ensures in_range { IfOk result (InRange (D.count disk.old)) }
     ensures phases { IfOk result (λ plan. All (λ p. 0 < length p.items) plan.phases.items) }
     ensures planned { D.tells → IfOk result
-        (λ plan. IsPlanned B (D.count disk.old) (record { edits = edits.now; guids = guids.now }) (D.told disk.old).seen (phases_of plan)) }
-    ensures refused { D.tells → IfErr result
-        (IsRefusal B (D.count disk.old) (record { edits = edits.now; guids = guids.now }) (D.told disk.old).seen) }
+        (λ plan. IsPlanOf B (D.count disk.old) wanted.now (D.told disk.old).seen (phases_of plan)) }
+    ensures refused { D.tells → IfErr result (IsRefusedBy B (D.count disk.old) wanted.now (D.told disk.old).seen) }
 {
     let room = Room::for_cache(alloc)?;
     let mut cache = ReadCache::new(disk, room);
-    read_and_plan(alloc, &mut cache, edits, guids)
+    read_and_plan(alloc, &mut cache, wanted)
 }
 
 /// The same plan, once the checker has accepted it. Nothing is flushed or written.
-pub fn checked_plan_for<const B: usize, D: Disk<B>>(
+pub(crate) fn checked_plan_wanted<const B: usize, D: Disk<B>>(
     alloc: Global,
     disk: &mut D,
-    edits: &[Edit],
-    guids: &[Guid],
+    wanted: &Wanted,
 ) -> Result<Plan<B>, CommitError>
     requires size { IsSectorSize B }
     ensures same { OnlyReads D.Disk disk.old disk.new }
     ensures blames { Blames fault_in result (D.faults disk.old) (D.faults disk.new) }
     ensures place { D.tells → IfErr result
-        (FailedInCommit (CommitReads B (D.count disk.old) (record { edits = edits.now; guids = guids.now }) (D.told disk.old).seen)) }
+        (FailedInCommit (WriteOfReads B (D.count disk.old) wanted.now (D.told disk.old).seen)) }
     ensures hides { IfErr result HidesNoFailure }
     ensures in_range { IfOk result (InRange (D.count disk.old)) }
+    ensures phases { IfOk result (λ plan. All (λ p. 0 < length p.items) plan.phases.items) }
     ensures ready { D.tells → IfOk result
-        (λ plan. IsReady B (D.count disk.old) (record { edits = edits.now; guids = guids.now }) (D.told disk.old).seen (phases_of plan)) }
-    ensures refused { D.tells → IfErr result
-        (IsRefusal B (D.count disk.old) (record { edits = edits.now; guids = guids.now }) (D.told disk.old).seen) }
+        (λ plan. IsReadyOf B (D.count disk.old) wanted.now (D.told disk.old).seen (phases_of plan)) }
+    ensures refused { D.tells → IfErr result (IsRefusedBy B (D.count disk.old) wanted.now (D.told disk.old).seen) }
 {
     let room = Room::for_cache(alloc)?;
     let mut cache = ReadCache::new(disk, room);
-    read_plan_and_check(alloc, &mut cache, edits, guids)
+    read_plan_and_check(alloc, &mut cache, wanted)
 }

@@ -1,7 +1,7 @@
 //! Tests of what the planner is made of, and of what callers of the library alone can ask for: plans for layouts that they
-//! build, repairs with their findings, sessions, and commits on a disk of 2^40 sectors and on bytes in memory. They stand in
-//! a crate of their own, so that what they test isn't proved twice. Commits and repairs are tried on the built command, and
-//! call by call by `pt_faults`.
+//! build, commits of a layout and of another disk's, repairs with their findings, sessions, and commits on a disk of 2^40
+//! sectors and on bytes in memory. They stand in a crate of their own, so that what they test isn't proved twice. Commits and
+//! repairs are tried on the built command, and call by call by `pt_faults`.
 #![tactic(auto)]
 
 #[cfg(test)]
@@ -12,6 +12,8 @@ mod chains;
 mod copies;
 #[cfg(test)]
 mod huge;
+#[cfg(test)]
+mod layouts;
 #[cfg(test)]
 mod places;
 #[cfg(test)]

@@ -1,11 +1,11 @@
 use Rattle.std.proofs.lemmas.Result.{err_from_is_err_and}
 use Rattle.std.proofs.Common.{◌∙◌, arith}
 use Rattle.pt_apply.specs.Plans.{phases_of}
-use Rattle.pt_plan.proofs.Starting.{not_safe, ready}
 use Rattle.pt_sound.specs.Findings.{VerdictReads}
 use Rattle.pt_check.specs.CheckReads.{CheckReads}
-use Rattle.pt_plan.specs.Reading.{EditReads, CommitReads, verdict, edit, check}
+use Rattle.pt_plan.specs.Wanted.{PlanOfReads, WriteOfReads}
 use Rattle.pt_plan.proofs.Reading.{commit_failed, commit_wider}
+use Rattle.pt_plan.proofs.Wanting.{ready_of, not_safe_of, failed_of, verdict_of, planned_of, checked_of}
 use Rattle.pt_plan.proofs.prepare.read_plan_and_check.Goals as goal
 
 pub returns-in_err-plan-clause-refused : goal.returns-in_err-plan-clause-refused
@@ -27,14 +27,15 @@ checked-requires g c = (
 
 pub returns-clause-ready : goal.returns-clause-ready
 returns-clause-ready g c = λ tells.
-    ready g.row.B (g.D.Disk.count c.args.disk.now) _ (g.D.Disk.told c.args.disk.now).seen (phases_of c.in_ok-plan.plan) c.requires.size
+    ready_of g.row.B (g.D.Disk.count c.args.disk.now) c.args.wanted.now (g.D.Disk.told c.args.disk.now).seen
+    (phases_of c.in_ok-plan.plan) c.requires.size
     (rw (c.in_ok-known.ensures.same.same_count, c.in_ok-known.ensures.same.same tells) at (c.in_ok-plan.ensures.planned tells))
     (rw (c.in_ok-plan.ensures.same.same tells, c.in_ok-known.ensures.same.same tells) at (c.in_ok-checked.ensures.ok tells))
 
 pub returns-in_err-checked-clause-refused : goal.returns-in_err-checked-clause-refused
 returns-in_err-checked-clause-refused g c = λ tells.
     let p = err_from_is_err_and c.from_residual-in_err-checked.result c.from_residual-in_err-checked.ensures.1 in
-    rw (p.1, p.2) (not_safe g.row.B (g.D.Disk.count c.args.disk.now) _ (g.D.Disk.told c.args.disk.now).seen
+    rw (p.1, p.2) (not_safe_of g.row.B (g.D.Disk.count c.args.disk.now) c.args.wanted.now (g.D.Disk.told c.args.disk.now).seen
     (phases_of c.in_ok-plan.plan) c.requires.size
     (rw (c.in_ok-known.ensures.same.same_count, c.in_ok-known.ensures.same.same tells) at (c.in_ok-plan.ensures.planned tells))
     c.in_err-checked.field-0.0
@@ -48,8 +49,8 @@ returns-in_err-plan-clause-blames g c =
     let p = err_from_is_err_and c.from_residual-in_err-plan.result c.from_residual-in_err-plan.ensures.1 in
     rw (p.1, p.2) (rw c.in_ok-known.ensures.blames at c.in_err-plan.ensures.blames)
 
-pub plan_by-requires : goal.plan_by-requires
-plan_by-requires g c = (
+pub plan_known-requires : goal.plan_known-requires
+plan_known-requires g c = (
   omega arith,
   (
     c.requires.size,
@@ -84,20 +85,34 @@ returns-clause-in_range g c = rw c.in_ok-known.ensures.same.same_count at c.in_o
 pub returns-in_err-known-clause-place : goal.returns-in_err-known-clause-place
 returns-in_err-known-clause-place g c = λ tells.
     let p = err_from_is_err_and c.from_residual.result c.from_residual.ensures.1 in
-    rw (p.1, p.2) (commit_failed (VerdictReads g.row.B (g.D.Disk.told c.args.disk.now).seen) (CommitReads g.row.B (g.D.Disk.count c.args.disk.now) (record { edits = c.args.edits.now; guids = c.args.guids.now }) (g.D.Disk.told c.args.disk.now).seen) c.in_err-known.field-0.0 (λ s reads. edit (verdict reads))
+    let d = (g.D.Disk.told c.args.disk.now).seen in
+    let n = g.D.Disk.count c.args.disk.now in
+    rw (p.1, p.2) (commit_failed (VerdictReads g.row.B d) (WriteOfReads g.row.B n c.args.wanted.now d) c.in_err-known.field-0.0
+    (λ s reads. planned_of g.row.B n c.args.wanted.now d s (verdict_of g.row.B n c.args.wanted.now d s reads))
     (c.in_err-known.ensures.place tells))
+
+pub returns-in_err-known-clause-refused : goal.returns-in_err-known-clause-refused
+returns-in_err-known-clause-refused g c = λ tells.
+    let p = err_from_is_err_and c.from_residual.result c.from_residual.ensures.1 in
+    rw (p.1, p.2) (failed_of g.row.B (g.D.Disk.count c.args.disk.now) c.args.wanted.now (g.D.Disk.told c.args.disk.now).seen
+    c.in_err-known.field-0.0)
 
 pub returns-in_err-plan-clause-place : goal.returns-in_err-plan-clause-place
 returns-in_err-plan-clause-place g c = λ tells.
     let p = err_from_is_err_and c.from_residual-in_err-plan.result c.from_residual-in_err-plan.ensures.1 in
-    rw (p.1, p.2) (commit_wider (EditReads g.row.B (g.D.Disk.count c.args.disk.now) (record { edits = c.args.edits.now; guids = c.args.guids.now }) (g.D.Disk.told c.args.disk.now).seen) (CommitReads g.row.B (g.D.Disk.count c.args.disk.now) (record { edits = c.args.edits.now; guids = c.args.guids.now }) (g.D.Disk.told c.args.disk.now).seen) c.in_err-plan.field-0.0
-    (λ s reads. edit reads) (rw (c.in_ok-known.ensures.same.same_count, c.in_ok-known.ensures.same.same tells) at (c.in_err-plan.ensures.place tells)))
+    let d = (g.D.Disk.told c.args.disk.now).seen in
+    let n = g.D.Disk.count c.args.disk.now in
+    rw (p.1, p.2) (commit_wider (PlanOfReads g.row.B n c.args.wanted.now d) (WriteOfReads g.row.B n c.args.wanted.now d)
+    c.in_err-plan.field-0.0 (planned_of g.row.B n c.args.wanted.now d)
+    (rw (c.in_ok-known.ensures.same.same_count, c.in_ok-known.ensures.same.same tells) at (c.in_err-plan.ensures.place tells)))
 
 pub returns-in_err-checked-clause-place : goal.returns-in_err-checked-clause-place
 returns-in_err-checked-clause-place g c = λ tells.
     let p = err_from_is_err_and c.from_residual-in_err-checked.result c.from_residual-in_err-checked.ensures.1 in
-    rw (p.1, p.2) (commit_wider (CheckReads g.row.B (g.D.Disk.told c.args.disk.now).seen (phases_of c.in_ok-plan.plan)) (CommitReads g.row.B (g.D.Disk.count c.args.disk.now) (record { edits = c.args.edits.now; guids = c.args.guids.now }) (g.D.Disk.told c.args.disk.now).seen)
+    let d = (g.D.Disk.told c.args.disk.now).seen in
+    let n = g.D.Disk.count c.args.disk.now in
+    rw (p.1, p.2) (commit_wider (CheckReads g.row.B d (phases_of c.in_ok-plan.plan)) (WriteOfReads g.row.B n c.args.wanted.now d)
     c.in_err-checked.field-0.0
-    (λ s reads. check (phases_of c.in_ok-plan.plan)
-    (rw (c.in_ok-known.ensures.same.same_count, c.in_ok-known.ensures.same.same tells) at (c.in_ok-plan.ensures.planned tells)) reads)
+    (checked_of g.row.B n c.args.wanted.now d (phases_of c.in_ok-plan.plan)
+    (rw (c.in_ok-known.ensures.same.same_count, c.in_ok-known.ensures.same.same tells) at (c.in_ok-plan.ensures.planned tells)))
     (rw (c.in_ok-plan.ensures.same.same tells, c.in_ok-known.ensures.same.same tells) at (c.in_err-checked.ensures.place tells)))

@@ -1,4 +1,4 @@
-use Rattle.pt_plan.proofs.prepare.checked_plan_for.Goals as goal
+use Rattle.pt_plan.proofs.prepare.checked_plan_wanted.Goals as goal
 
 pub returns-clause-ready : goal.returns-clause-ready
 returns-clause-ready g c = λ tells. rw c.new-cache.ensures.disk at (c.read_plan_and_check.ensures.ready tells)

@@ -1,4 +1,4 @@
-use Rattle.pt_plan.proofs.prepare.plan_for.Goals as goal
+use Rattle.pt_plan.proofs.prepare.plan_wanted.Goals as goal
 
 pub returns-clause-planned : goal.returns-clause-planned
 returns-clause-planned g c = λ tells. rw c.new-cache.ensures.disk at (c.read_and_plan.ensures.planned tells)

@@ -1,0 +1,14 @@
+use Rattle.std.proofs.lemmas.Result.{err_from_is_err_and}
+use Rattle.pt_plan.specs.Like.{LikeReads}
+use Rattle.pt_plan.specs.Reading.{LayoutReads}
+use Rattle.pt_plan.proofs.Reading.{commit_wider}
+use Rattle.pt_plan.proofs.like.commit_like.Goals as goal
+
+pub returns-in_err-commit_layout-clause-place : goal.returns-in_err-commit_layout-clause-place
+returns-in_err-commit_layout-clause-place g c = λ tells other_tells.
+    let p = err_from_is_err_and c.from_residual-in_err-commit_layout.result c.from_residual-in_err-commit_layout.ensures.1 in
+    let d = (g.D.Disk.told c.args.disk.now).seen in
+    rw (p.1, p.2) (commit_wider (LayoutReads g.row.B c.in_ok-wanted.wanted d)
+    (LikeReads g.row.B (g.E.Disk.told c.args.other.now).seen d) c.in_err-commit_layout.field-0.0
+    (λ s reads. (c.in_ok-wanted.wanted, c.in_ok-wanted.ensures.ok other_tells, reads))
+    (c.in_err-commit_layout.ensures.place tells))
