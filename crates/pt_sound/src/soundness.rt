@@ -3,6 +3,7 @@
 ghost use Rattle.std.specs.Prelude.{◌≡◌, ◌+◌, ◌<◌, ◌↔◌, ℕ, IfOk, IsTrue, All, length, slice_index_or};
 ghost use Rattle.pt_sector.specs.Sectors.{IsSectorSize};
 ghost use Rattle.pt_members.specs.Members.{groups_of};
+ghost use Rattle.pt_members.specs.Slices.{places_of};
 ghost use Rattle.pt_sound.specs.Overlaps.{IsOrdered, FirstOverlapIs};
 ghost use Rattle.pt_sound.specs.Row.{AllOrdered, SharedIs};
 ghost use Rattle.pt_sound.specs.Twins.{HasSameUnique, SameAt, TwinIs, TwinsAre};
@@ -15,7 +16,7 @@ use crate::groups::{Siblings, groups};
 use crate::overlap::{Overlap, first_overlap};
 use crate::spot::Spot;
 use pt_gpt::Entry;
-use pt_members::{Body, Layout};
+use pt_members::{Body, Layout, Slice, label_places};
 use pt_path::Path;
 use pt_sector::Lba;
 use std::alloc::{AllocError, Global};
@@ -91,12 +92,17 @@ fn same_guid(body: &Body) -> Option<(u64, u64)>
     }
 }
 
-fn outside_usable<const B: usize>(layout: &Layout, groups: &[Siblings]) -> Option<Path>
+fn outside_usable<const B: usize>(
+    layout: &Layout,
+    places: &[Slice],
+    groups: &[Siblings],
+) -> Option<Path>
     requires size { IsSectorSize B }
+    requires places { places.now ≡ places_of B layout.now.sectors layout.now.body }
     requires all { groups.now ≡ groups_of B layout.now }
     ensures { OutsideIs B layout.now result }
 {
-    match first_fault::<B>(layout, Fault::Outside, groups) {
+    match first_fault::<B>(layout, places, Fault::Outside, groups) {
         Some(spot) => Some(spot.path),
         None => None,
     }
@@ -118,13 +124,14 @@ fn overlapping<const B: usize>(
     }
 }
 
-fn on_table<const B: usize>(layout: &Layout, groups: &[Siblings]) -> Option<Spot>
+fn on_table<const B: usize>(layout: &Layout, places: &[Slice], groups: &[Siblings]) -> Option<Spot>
     requires size { IsSectorSize B }
+    requires places { places.now ≡ places_of B layout.now.sectors layout.now.body }
     requires all { groups.now ≡ groups_of B layout.now }
     requires inside { AllInside B layout.now }
     ensures { OnTableIs B layout.now result }
 {
-    match first_fault::<B>(layout, Fault::Buried, groups) {
+    match first_fault::<B>(layout, places, Fault::Buried, groups) {
         Some(spot) => Some(spot),
         None => None,
     }
@@ -139,14 +146,15 @@ pub fn unsound<const B: usize>(
     ensures found { IfOk result (λ f. UnsoundIs B layout.now f) }
 {
     let groups = groups::<B>(alloc, layout)?;
-    if let Some(path) = outside_usable::<B>(layout, &groups) {
+    let places = label_places::<B>(alloc, layout.sectors, &layout.body)?;
+    if let Some(path) = outside_usable::<B>(layout, &places, &groups) {
         return Ok(Some(Finding::OutsideUsable(path)));
     }
     let overlap = overlapping::<B>(alloc, layout, &groups)?;
     if let Some(overlap) = overlap {
         return Ok(Some(Finding::Overlap(overlap.before, overlap.it)));
     }
-    if let Some(spot) = on_table::<B>(layout, &groups) {
+    if let Some(spot) = on_table::<B>(layout, &places, &groups) {
         return Ok(Some(Finding::OnTable(spot.path, Lba(spot.lba))));
     }
     match same_guid(&layout.body) {
