@@ -8,3 +8,4 @@ pub mod Exits
 pub mod Ranges
 pub mod Finishing
 pub mod Reading
+pub mod Clear
