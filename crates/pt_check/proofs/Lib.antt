@@ -9,3 +9,4 @@ pub mod Ranges
 pub mod Finishing
 pub mod Reading
 pub mod Clear
+pub mod Quiet
