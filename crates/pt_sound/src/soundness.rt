@@ -1,12 +1,13 @@
 //! Whether a layout is sound.
 
-ghost use Rattle.std.specs.Prelude.{◌≡◌, ◌+◌, ◌<◌, ◌↔◌, ℕ, IfOk, IsTrue, All, length, slice_index_or};
+ghost use Rattle.std.specs.Prelude.{◌≡◌, ◌+◌, ◌<◌, ◌↔◌, ℕ, IfOk, IsTrue, IsFalse, All, length, slice_index_or};
 ghost use Rattle.pt_sector.specs.Sectors.{IsSectorSize};
 ghost use Rattle.pt_members.specs.Members.{groups_of};
 ghost use Rattle.pt_members.specs.Slices.{places_of};
 ghost use Rattle.pt_sound.specs.Overlaps.{IsOrdered, FirstOverlapIs};
 ghost use Rattle.pt_sound.specs.Row.{AllOrdered, SharedIs};
 ghost use Rattle.pt_sound.specs.Twins.{HasSameUnique, SameAt, TwinIs, TwinsAre};
+ghost use Rattle.pt_sound.specs.Marks.{entry_mark};
 ghost use Rattle.pt_sound.specs.Sound.{AllInside, UnsoundIs};
 ghost use Rattle.pt_sound.specs.Steps.{OutsideIs, OverlapIs, OnTableIs, SameGuidIs};
 
@@ -68,13 +69,42 @@ fn twin_of(entries: &[Option<Entry>], k: usize) -> Option<usize>
     None
 }
 
+// A number below 2,048 for an entry: entries of one unique GUID have one number, and few others have where GUIDs were drawn
+// by chance.
+fn mark_of(entry: &Option<Entry>) -> usize
+    ensures value { result ≡ entry_mark entry.now }
+    ensures small { result < 2048 }
+{
+    match entry {
+        Some(e) => {
+            let g = &e.unique.0;
+            (g[0] as usize + 8 * g[15] as usize + 64 * g[4] as usize + 512 * g[9] as usize) % 2048
+        }
+        None => 0,
+    }
+}
+
+// The first entry before one that has its unique GUID. It is searched for only where the number was met before.
+fn twin_where(entries: &[Option<Entry>], k: usize, is_met: bool) -> Option<usize>
+    requires within { k < length entries.now }
+    requires unmet { IsFalse is_met → (i : ℕ) → i < k → ¬ SameAt entries.now i k }
+    ensures { TwinIs entries.now k result }
+{
+    if is_met { twin_of(entries, k) } else { None }
+}
+
+// The first two entries of one unique GUID, by places.
+#[tactic(auto, using(crate::proofs::Marks::unmet))]
 fn first_twins(entries: &[Option<Entry>]) -> Option<(usize, usize)>
     ensures { TwinsAre entries.now result }
 {
+    let mut met = [false; 2048];
     for k in 0..entries.len() {
-        if let Some(i) = twin_of(entries, k) {
+        let mark = mark_of(&entries[k]);
+        if let Some(i) = twin_where(entries, k, met[mark]) {
             return Some((i, k));
         }
+        met[mark] = true;
     }
     None
 }
