@@ -8,3 +8,5 @@ pub mod Exits
 pub mod Ranges
 pub mod Finishing
 pub mod Reading
+pub mod Clear
+pub mod Quiet

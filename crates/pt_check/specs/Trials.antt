@@ -25,6 +25,12 @@ StepIs found old new switch number (step.Goes (Some s)) =
     (¬ (found ≡ old)) × (found ≡ new) × ((switch ≡ Some s) ⊎ ((switch ≡ None) × (s ≡ number)))
 StepIs found old new switch number step.Neither = ((found ≡ old) × IsSome switch) ⊎ ((¬ (found ≡ old)) × (¬ (found ≡ new)))
 
+-- what the phases came to where the last one, of this number, gave the new layout
+abbrev pub LastIs : {L : Type 0} → Option L → Option L → Option ℕ → ℕ → Trial → Type 0
+LastIs old new switch number (Passed t) = StepIs new old new switch number (step.Goes t)
+LastIs old new switch number (Refused (Neither p)) = (p ≡ number) × StepIs new old new switch number step.Neither
+LastIs old new switch number (Refused _) = ⊥
+
 module _ {L : Type 0} (denotes : Sectors → Option L → Type 0) (reads : Sectors → ℕ → Type 0) (phases : List Writes) (d : Sectors) where
   -- a phase of several writes is of a sector that is read, and those before it were passed
   pub record RefusedRead (old new : Option L) (phase lba : ℕ) : Type 0 where

@@ -18,7 +18,7 @@ use crate::boot::other_boot_code;
 use crate::error::CheckError;
 use crate::finished::{Finished, read_finished};
 use crate::objection::first_in_plan;
-use crate::places::{NoTable, OutOfRange, OwnedByOne};
+use crate::places::{NoTable, OutOfRange, OwnedByOne, is_clear};
 use crate::recovered::{Recovered, read_layout};
 use crate::trial::{Layouts, Trial, try_phases};
 use crate::writes::count_writes;
@@ -180,6 +180,7 @@ fn conclude(trial: Trial, misplaced: Option<Why>, finding: Option<Finding>) -> A
 }
 
 /// The first write of a sector in the tables of neither layout, else the first of one that is owned in either.
+#[tactic(auto, using(crate::proofs::Clear::none_in_either))]
 fn misplaced<const B: usize>(plan: &Plan<B>, layouts: &Layouts) -> Option<Why>
     requires size { IsSectorSize B }
     requires few { length (writes_in (phases_of plan.now)) ≤ 4096 }
@@ -187,6 +188,9 @@ fn misplaced<const B: usize>(plan: &Plan<B>, layouts: &Layouts) -> Option<Why>
 {
     if let Some(found) = first_in_plan(&NoTable { layouts }, plan) {
         return Some(Why::NotATable(found.lba));
+    }
+    if is_clear(&layouts.old, plan) && is_clear(&layouts.new, plan) {
+        return None;
     }
     match first_in_plan(&OwnedByOne { layouts }, plan) {
         Some(found) => Some(Why::Owned(found.lba)),

@@ -1,14 +1,17 @@
 //! Where a plan may write.
 
-ghost use Rattle.std.specs.Prelude.{◌≡◌, ◌<◌, ◌⊎◌, ◌↔◌, IsTrue};
+ghost use Rattle.std.specs.Prelude.{◌≡◌, ◌<◌, ◌≤◌, ◌⊎◌, ◌↔◌, IsTrue, length};
 ghost use Rattle.pt_sector.specs.Sectors.{IsSectorSize};
 ghost use Rattle.pt_members.specs.Owned.{OwnedOf};
 ghost use Rattle.pt_members.specs.Tables.{TableOf};
+ghost use Rattle.pt_members.specs.Reaches.{IsWithin};
+ghost use Rattle.pt_apply.specs.Plans.{NoneIs, phases_of, writes_in};
 
-use crate::objection::Objection;
+use crate::objection::{Objection, first_in_plan};
 use crate::trial::Layouts;
-use pt_apply::Write;
+use pt_apply::{Plan, Write};
 use pt_layout::{Layout, is_owned, is_table};
+use pt_members::{Reach, reach_of};
 use pt_sector::Lba;
 
 /// Against sectors past the disk's last.
@@ -76,5 +79,39 @@ impl<const B: usize> Objection<B> for OwnedByOne<'_> {
             return true;
         }
         owns::<B>(&self.layouts.new, write.lba)
+    }
+}
+
+/// Against sectors in the reach of a layout's partitions.
+#[derive(Clone, Copy)]
+struct InReach {
+    reach: Reach,
+}
+
+impl<const B: usize> Objection<B> for InReach {
+    ghost against = { λ o w. IsWithin o.reach w.0 };
+
+    fn objects(&self, write: &Write<B>) -> bool {
+        self.reach.contains(write.lba)
+    }
+}
+
+/// Whether the reach of the layout's partitions shows that no write is of a sector that one of them owns. Where it doesn't,
+/// there may be none all the same.
+#[tactic(auto, using(crate::proofs::Clear::none_owned))]
+pub(crate) fn is_clear<const B: usize>(layout: &Option<Layout>, plan: &Plan<B>) -> bool
+    requires size { IsSectorSize B }
+    requires few { length (writes_in (phases_of plan.now)) ≤ 4096 }
+    ensures { IsTrue result → NoneIs (λ w. OwnedOf B layout.now w.0) (writes_in (phases_of plan.now)) }
+{
+    match layout {
+        Some(layout) => {
+            let reach = reach_of::<B>(layout);
+            match first_in_plan(&InReach { reach }, plan) {
+                Some(_) => false,
+                None => true,
+            }
+        }
+        None => true,
     }
 }

@@ -1,18 +1,18 @@
 //! The phases of a plan, tried one after the other over the disk.
 
-ghost use Rattle.std.specs.Prelude.{◌≡◌, ◌≤◌, ◌+◌, length, IfOk, IfErr};
+ghost use Rattle.std.specs.Prelude.{◌≡◌, ◌≤◌, ◌+◌, length, IfOk, IfErr, IsTrue};
 ghost use Rattle.pt_sector.specs.Calls.{Blames};
 ghost use Rattle.pt_sector.specs.Reads.{OnlyReads};
 ghost use Rattle.pt_sector.specs.Sectors.{IsSectorSize};
 ghost use Rattle.pt_sector.specs.Writes.{written};
 ghost use Rattle.pt_sector.specs.Overlays.{room_left};
-ghost use Rattle.pt_apply.specs.Plans.{writes_of, phases_of, writes_in};
+ghost use Rattle.pt_apply.specs.Plans.{writes_of, phases_of, writes_in, finished, NoneIs};
 ghost use Rattle.pt_recover.specs.Denotes.{Denotes, Reads};
 ghost use Rattle.pt_recover.specs.Spans.{IsIn};
 ghost use Rattle.pt_check.specs.CheckReads.{CheckReads};
 ghost use Rattle.pt_check.specs.Failed.{fault_in, FailedInCheck};
 ghost use Rattle.pt_check.specs.Recovered.{IsRecoveredOf};
-ghost use Rattle.pt_check.specs.Trials.{TouchedIs, StepIs, TrialIs};
+ghost use Rattle.pt_check.specs.Trials.{TouchedIs, StepIs, LastIs, TrialIs};
 
 use crate::answer::Why;
 use crate::error::CheckError;
@@ -72,6 +72,17 @@ fn touched<const B: usize>(phase: &[Write<B>], trace: &Trace) -> Option<Lba>
     }
 }
 
+/// Whether no write of a phase is of a sector of the trace. The disk after it then denotes what it did, by the same sectors.
+fn is_unread<const B: usize>(phase: &[Write<B>], trace: &Trace) -> bool
+    requires { IsSectorSize B }
+    ensures { IsTrue result → NoneIs (λ w. IsIn trace.now w.0) (writes_of phase.now) }
+{
+    match first_in_phase(&IsRead { trace }, phase) {
+        Some(_) => false,
+        None => true,
+    }
+}
+
 /// What a phase gave: the switch so far, or neither layout.
 #[derive(Clone, Copy)]
 enum Step {
@@ -98,6 +109,16 @@ fn compare(found: &Option<Layout>, layouts: &Layouts, switch: Option<u64>, numbe
     }
 }
 
+/// What the phases came to where the last one, of this number, gives the new layout.
+fn last_step(layouts: &Layouts, switch: Option<u64>, number: u64) -> Trial
+    ensures { LastIs layouts.now.old layouts.now.new switch number result }
+{
+    match compare(&layouts.new, layouts, switch, number) {
+        Step::Goes(switch) => Trial::Passed(switch),
+        Step::Neither => Trial::Refused(Why::Neither(number)),
+    }
+}
+
 /// Puts a phase into an overlay that has room for it.
 pub(crate) fn put_phase<'a, const B: usize, D: Disk<B>>(
     over: &mut Overlay<'a, D, B>,
@@ -118,7 +139,8 @@ pub(crate) fn put_phase<'a, const B: usize, D: Disk<B>>(
 }
 
 /// Tries the phases in an overlay: each may write what recovery reads only as its one write, and gives the old or the
-/// new layout.
+/// new layout. The disk is recovered only after a phase that writes a sector that recovery reads: after any other it denotes
+/// what it did, and after the last one what the finished disk does.
 pub(crate) fn try_phases<const B: usize, D: Disk<B>>(
     alloc: Global,
     disk: &mut D,
@@ -130,6 +152,7 @@ pub(crate) fn try_phases<const B: usize, D: Disk<B>>(
     requires size { IsSectorSize B }
     requires room { count ≡ length (writes_in (phases_of plan.now)) }
     requires old { D.tells → IsRecoveredOf B (D.told disk.old).seen (record { layout = layouts.now.old; trace = trace }) }
+    requires new { D.tells → Denotes B (finished plan.now (D.told disk.old).seen) layouts.now.new }
     ensures same { OnlyReads D.Disk disk.old disk.new }
     ensures blames { Blames fault_in result (D.faults disk.old) (D.faults disk.new) }
     ensures place { D.tells → IfErr result (FailedInCheck (CheckReads B (D.told disk.old).seen (phases_of plan.now))) }
@@ -146,7 +169,13 @@ pub(crate) fn try_phases<const B: usize, D: Disk<B>>(
         if let Some(lba) = touched(phase, &before) {
             return Ok(Trial::Refused(Why::ReadSector(number, lba)));
         }
+        if i + 1 == plan.phases.len() {
+            return Ok(last_step(layouts, switch, number));
+        }
         put_phase(&mut over, phase);
+        if is_unread(phase, &before) {
+            continue;
+        }
         let after = read_layout(alloc, &mut over)?;
         let (layout, trace) = after.into_parts();
         switch = match compare(&layout, layouts, switch, number) {

@@ -3,7 +3,8 @@
 ghost use Rattle.std.specs.Prelude.{◌≡◌, ◌+◌, ◌-◌, ◌*◌, ◌<◌, ◌≤◌, ◌^◌, ◌++◌, length, IfOk, OnOk};
 ghost use Rattle.pt_sector.specs.Sectors.{IsSectorSize};
 ghost use Rattle.pt_apply.specs.Plans.{writes_of};
-ghost use Rattle.pt_gpt.specs.Array.{array_len, AllFit, HasRoom};
+ghost use Rattle.pt_sum.specs.Crc.{crc_of};
+ghost use Rattle.pt_gpt.specs.Array.{array_len, array_bytes, AllFit, HasRoom};
 ghost use Rattle.pt_cases.specs.Copies.{other_side as opposite, header_of, IsWrittenHeader, array_writes, one_write};
 ghost use Rattle.pt_copies.specs.Added.{AddsBackup};
 
@@ -24,11 +25,26 @@ fn other_side(side: Side) -> Side
     }
 }
 
-/// The sector of a side's header for the table.
-pub(crate) fn header_sector<const B: usize>(sectors: u64, table: &Table, side: Side) -> Sector<B>
+/// The sum of the table's array, which both headers have.
+pub(crate) fn sum_of(table: &Table) -> u32
+    ensures sum { result ≡ crc_of (array_bytes table.now.entries) }
+    ensures fit { AllFit table.now.entries }
+{
+    array_crc(table.entries.as_slice())
+}
+
+/// The sector of a side's header for the table, by the sum of its array.
+pub(crate) fn header_sector<const B: usize>(
+    sectors: u64,
+    table: &Table,
+    sum: u32,
+    side: Side,
+) -> Sector<B>
     requires size { IsSectorSize B }
     requires room { HasRoom B sectors }
     requires few { length table.now.entries ≤ 128 }
+    requires sum { sum ≡ crc_of (array_bytes table.now.entries) }
+    requires fit { AllFit table.now.entries }
     ensures bytes { IsWrittenHeader B (header_of B sectors table.now side) result }
     ensures fit { AllFit table.now.entries }
 {
@@ -41,7 +57,7 @@ pub(crate) fn header_sector<const B: usize>(sectors: u64, table: &Table, side: S
         array: array_at::<B>(side, sectors),
         count: table.entries.len() as u32,
         entry_size: ENTRY_SIZE as u32,
-        array_crc: array_crc(table.entries.as_slice()),
+        array_crc: sum,
     })
 }
 
@@ -86,17 +102,20 @@ pub(crate) fn push_backup<const B: usize>(
     writes: &mut Vec<Write<B>>,
     sectors: u64,
     table: &Table,
+    sum: u32,
 ) -> Result<(), AllocError>
     requires size { IsSectorSize B }
     requires room { HasRoom B sectors }
     requires few { length table.now.entries ≤ 128 }
+    requires sum { sum ≡ crc_of (array_bytes table.now.entries) }
+    requires fit { AllFit table.now.entries }
     ensures { OnOk result (AddsBackup B sectors table.now (writes_of writes.old.items) (writes_of writes.new.items)) }
 {
     let at = array_at::<B>(Side::Backup, sectors);
     push_array(writes, table.entries.as_slice(), at)?;
     writes.push(Write {
         lba: Lba(sectors - 1),
-        bytes: header_sector(sectors, table, Side::Backup),
+        bytes: header_sector(sectors, table, sum, Side::Backup),
     })?;
     Ok(())
 }

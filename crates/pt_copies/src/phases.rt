@@ -3,7 +3,8 @@
 ghost use Rattle.std.specs.Prelude.{◌≡◌, ◌<◌, ◌≤◌, ◌∷◌, ◌++◌, [], length, All, IfOk, OnOk};
 ghost use Rattle.pt_sector.specs.Sectors.{IsSectorSize};
 ghost use Rattle.pt_apply.specs.Plans.{writes_of, phases_of, phases_in, InRange, PhaseInRange, writes_in};
-ghost use Rattle.pt_gpt.specs.Array.{HasRoom};
+ghost use Rattle.pt_sum.specs.Crc.{crc_of};
+ghost use Rattle.pt_gpt.specs.Array.{array_bytes, AllFit, HasRoom};
 ghost use Rattle.pt_gpt.specs.declared.table.Side.TheVariants.{Primary};
 ghost use Rattle.pt_cases.specs.Cases.{backup_first_phases, primary_first_phases, from_mbr_phases, primary_and_labels};
 ghost use Rattle.pt_cases.specs.Copies.{array_phase, one_write};
@@ -11,7 +12,7 @@ ghost use Rattle.pt_cases.specs.Few.{copies_bound};
 ghost use Rattle.pt_copies.specs.Added.{ArePrimary};
 ghost use Rattle.pt_copies.specs.Written.{last_of, WroteCopies};
 
-use crate::parts::{header_sector, push_array, push_backup, single};
+use crate::parts::{header_sector, push_array, push_backup, single, sum_of};
 use pt_apply::{Plan, Write};
 use pt_gpt::{Side, Table};
 use pt_sector::Sector;
@@ -82,10 +83,13 @@ fn push_primary<const B: usize>(
     alloc: Global,
     sectors: u64,
     table: &Table,
+    sum: u32,
 ) -> Result<(), AllocError>
     requires size { IsSectorSize B }
     requires room { HasRoom B sectors }
     requires few { length table.now.entries ≤ 128 }
+    requires sum { sum ≡ crc_of (array_bytes table.now.entries) }
+    requires fit { AllFit table.now.entries }
     ensures { OnOk result (ArePrimary B sectors table.now (writes_of array.entry.items) (phases_in phases.old.items)
         (phases_in phases.new.items)) }
 {
@@ -95,7 +99,7 @@ fn push_primary<const B: usize>(
         phases,
         alloc,
         1,
-        &header_sector(sectors, table, Side::Primary),
+        &header_sector(sectors, table, sum, Side::Primary),
     )?;
     Ok(())
 }
@@ -134,12 +138,13 @@ pub fn backup_first<const B: usize>(
     ensures some { IfOk result (λ plan. All (λ p. 0 < length p.items) plan.phases.items) }
     ensures count { IfOk result (λ plan. length (writes_in (phases_of plan)) ≤ copies_bound B (length labels.entry.items)) }
 {
+    let sum = sum_of(table);
     let mut front = labels;
-    push_backup(&mut front, sectors, table)?;
+    push_backup(&mut front, sectors, table, sum)?;
     let array = primary_array(alloc, sectors, table)?;
     let mut phases = Vec::new(alloc);
     push_phase(&mut phases, front)?;
-    push_primary(&mut phases, array, alloc, sectors, table)?;
+    push_primary(&mut phases, array, alloc, sectors, table, sum)?;
     push_last(&mut phases, alloc, last)?;
     Ok(Plan { phases })
 }
@@ -163,11 +168,12 @@ pub fn primary_first<const B: usize>(
     ensures some { IfOk result (λ plan. All (λ p. 0 < length p.items) plan.phases.items) }
     ensures count { IfOk result (λ plan. length (writes_in (phases_of plan)) ≤ copies_bound B (length labels.entry.items)) }
 {
+    let sum = sum_of(table);
     let array = array_and_labels(alloc, sectors, table, labels.as_slice())?;
     let mut backup = Vec::new(alloc);
-    push_backup(&mut backup, sectors, table)?;
+    push_backup(&mut backup, sectors, table, sum)?;
     let mut phases = Vec::new(alloc);
-    push_primary(&mut phases, array, alloc, sectors, table)?;
+    push_primary(&mut phases, array, alloc, sectors, table, sum)?;
     push_phase(&mut phases, backup)?;
     push_last(&mut phases, alloc, last)?;
     Ok(Plan { phases })
@@ -187,10 +193,11 @@ fn phases_from_mbr<const B: usize>(
     ensures { IfOk result (λ ps. WroteCopies B sectors table.now
         (λ p k. from_mbr_phases B sectors table.now p k (writes_of labels.now) head.now) (phases_in ps.items)) }
 {
-    let mut writes = single(alloc, 1, &header_sector(sectors, table, Side::Primary))?;
+    let sum = sum_of(table);
+    let mut writes = single(alloc, 1, &header_sector(sectors, table, sum, Side::Primary))?;
     push_array(&mut writes, table.entries.as_slice(), PRIMARY_ARRAY)?;
     writes.extend_from_slice(labels)?;
-    push_backup(&mut writes, sectors, table)?;
+    push_backup(&mut writes, sectors, table, sum)?;
     let mut phases = Vec::new(alloc);
     push_phase(&mut phases, writes)?;
     push_single(&mut phases, alloc, 0, head)?;

@@ -1,9 +1,9 @@
 -- The slices with a label place, one place more at a time.
 use Rattle.std.proofs.Common.{◌≡◌, ◌<◌, ◌≤◌, ◌+◌, ℕ, List, [], ◌∷◌, ◌++◌, length, get_or, take, filter, Option, None, sym, ap, ◌∙◌}
-use Rattle.std.proofs.Common.{Some, refl, subst, inl, inr, ⊎_elim, append-nil}
-use Rattle.std.specs.Prelude.{◌⊎◌, flat_map}
+use Rattle.std.proofs.Common.{Some, refl, subst, inl, inr, ⊎_elim, append-nil, arith, true, ◌^◌}
+use Rattle.std.specs.Prelude.{◌⊎◌, flat_map, All}
 use Rattle.std.proofs.lemmas.List.{take_more, take_all}
-use Rattle.std.proofs.lemmas.List.Elements.{filter-append}
+use Rattle.std.proofs.lemmas.List.Elements.{filter-append, filter_passes}
 use Rattle.std.proofs.lemmas.Grind.{flat_map-append}
 use Rattle.pt_members.specs.declared.layout.Slice.{Slice}
 use Rattle.pt_members.specs.declared.layout.Body.{Body}
@@ -75,3 +75,42 @@ next_place ps p from r same x = subst (λ (l : List Slice). NextSectorIs (IsPlac
   alone : (r : Option ℕ) → NextSectorIs (λ s. s ≡ place_of p) from r → NextSectorIs (IsPlace (p ∷ [])) from r
   alone None none = λ u low at. ⊎_elim (none u low) (λ no. no) at
   alone (Some t) next = (inl next.0, next.1, λ u low less at. ⊎_elim (next.2 u low less) (λ no. no) at)
+
+abbrev pub no_place : Slice
+no_place = record { number = 0; first = 0; len = 0 }
+
+-- one more of some places
+place_more : (ps : List Slice) (k s : ℕ) (z : Slice) → k < length ps → IsPlace (take (k + 1) ps) s
+    → IsPlace (take k ps) s ⊎ (s ≡ place_of (get_or ps k z))
+place_more ps k s z lt is =
+    elim (place_split (take k ps) (get_or ps k z ∷ []) s (subst (λ (l : List Slice). IsPlace l s) (take_more ps k z lt) is))
+    as (λ _. IsPlace (take k ps) s ⊎ (s ≡ place_of (get_or ps k z))) [
+      | inl x ↦ inl x
+      | inr x ↦ ⊎_elim (λ here. inr here) (λ no. absurd no) x
+    ]
+
+place_back : (ps : List Slice) (k s : ℕ) (z : Slice) → k < length ps → IsPlace (take k ps) s ⊎ (s ≡ place_of (get_or ps k z))
+    → IsPlace (take (k + 1) ps) s
+place_back ps k s z lt is =
+    subst (λ (l : List Slice). IsPlace l s) (sym (take_more ps k z lt)) (place_joined (take k ps) (get_or ps k z ∷ []) s
+    (⊎_elim (λ x. inl x) (λ x. inr (inl x)) is))
+
+pub lowest_place : (ps : List Slice) (k from : ℕ) (z : Slice) (a b : Option ℕ) → k < length ps
+    → NextSectorIs (IsPlace (take k ps)) from a → NextSectorIs (λ s. s ≡ place_of (get_or ps k z)) from b
+    → NextSectorIs (IsPlace (take (k + 1) ps)) from (least_of a b)
+lowest_place ps k from z a b lt p q =
+    next_same (λ (s : ℕ). IsPlace (take k ps) s ⊎ (s ≡ place_of (get_or ps k z))) (IsPlace (take (k + 1) ps)) from (least_of a b)
+    (λ u. place_back ps k u z lt) (λ u. place_more ps k u z lt) (next_or _ _ from a b p q)
+
+-- a label place is one of the disk's sectors
+place_small : (n : ℕ) (p : Slice) → n < 2 ^ 64 → has_place n p ≡ true → p.first + 1 < 2 ^ 64
+place_small n p small has = grind arith
+
+all_on : (P Q : Slice → Type 0) → ((p : Slice) → P p → Q p) → (ps : List Slice) → All P ps → All Q ps
+all_on P Q on ps all = λ k d lt. on _ (all k d lt)
+
+pub places_small : (b n : ℕ) (y : Body) → n < 2 ^ 64 → All (λ p. p.first + 1 < 2 ^ 64) (places_of b n y)
+unfolding places_of
+places_small b n y small =
+    all_on (λ p. has_place n p ≡ true) (λ p. p.first + 1 < 2 ^ 64) (λ p has. place_small n p small has) (filter (has_place n) (slices_of b y))
+    (filter_passes (has_place n) (slices_of b y))

@@ -6,3 +6,4 @@ pub mod LabelPlaces
 pub mod Lowest
 pub mod Rows
 pub mod Elsewhere
+pub mod Reaching

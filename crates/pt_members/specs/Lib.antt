@@ -4,6 +4,7 @@ pub mod Members
 pub mod Search
 pub mod Tables
 pub mod Owned
+pub mod Reaches
 pub mod Places
 pub mod Counts
 pub mod Next

@@ -18,7 +18,7 @@ mod tables;
 
 pub use layout::{Body, Ebrs, Labelled, Labels, Layout, Slice};
 pub use member::{Kind, Member};
-pub use owned::is_owned;
+pub use owned::{Reach, is_owned, reach_of};
 pub use ownership::Owner;
 pub use places::{locate, owner};
 pub use row::{Row, Source, part_row, row_at};

@@ -1,6 +1,6 @@
 //! The sectors that hold tables.
 
-ghost use Rattle.std.specs.Prelude.{◌≡◌, ◌<◌, ◌≤◌, ◌+◌, ◌↔◌, ◌⊎◌, IsTrue, length, slice_index_or, None};
+ghost use Rattle.std.specs.Prelude.{◌≡◌, ◌<◌, ◌≤◌, ◌+◌, ◌^◌, ◌↔◌, ◌⊎◌, All, IsTrue, length, slice_index_or, None};
 ghost use Rattle.pt_sector.specs.Sectors.{IsSectorSize};
 ghost use Rattle.pt_mbr.specs.Chain.{StandsAt};
 ghost use Rattle.pt_gpt.specs.Array.{array_len};
@@ -9,7 +9,7 @@ ghost use Rattle.pt_members.specs.Members.{slots};
 ghost use Rattle.pt_members.specs.Tables.{IsTable, IsEbr, IsBodyTable, IsGptTable};
 ghost use Rattle.pt_members.specs.Next.{NextSectorIs, least_of};
 
-use crate::layout::{Body, Layout};
+use crate::layout::{Body, Layout, Slice};
 use crate::slices::placed_at;
 use crate::slots::slot_count;
 use pt_gpt::first_usable;
@@ -88,14 +88,41 @@ fn next_label<const B: usize>(sectors: u64, body: &Body, from: u64) -> Option<u6
     next
 }
 
-// The lowest table sector from one on.
-pub fn next_table<const B: usize>(layout: &Layout, from: u64) -> Option<u64>
-    requires { IsSectorSize B }
+// The lowest label place of some slices from one on.
+fn next_place(places: &[Slice], from: u64) -> Option<u64>
+    requires { All (λ p. p.first + 1 < 2 ^ 64) places.now }
+    ensures { NextSectorIs (IsPlace places.now) from result }
+{
+    let mut next = None;
+    for k in 0..places.len() {
+        next = least(next, not_below(places[k].first + 1, from));
+    }
+    next
+}
+
+// The lowest table sector from one on, of a layout whose slices with a label place are these.
+#[tactic(auto, using(crate::proofs::LabelPlaces::places_small))]
+pub fn next_table<const B: usize>(layout: &Layout, places: &[Slice], from: u64) -> Option<u64>
+    requires size { IsSectorSize B }
+    requires all { places.now ≡ places_of B layout.now.sectors layout.now.body }
     ensures { NextSectorIs (IsTable B layout.now) from result }
 {
     let body = next_of_body::<B>(layout.sectors, &layout.body, from);
-    let label = next_label::<B>(layout.sectors, &layout.body, from);
+    let label = next_place(places, from);
     least(body, label)
+}
+
+fn is_body_table<const B: usize>(sectors: u64, body: &Body, lba: u64) -> bool
+    requires { IsSectorSize B }
+    ensures { IsTrue result ↔ IsBodyTable B sectors body.now lba }
+{
+    next_of_body::<B>(sectors, body, lba) == Some(lba)
+}
+
+fn is_label_place<const B: usize>(sectors: u64, body: &Body, lba: u64) -> bool
+    ensures { IsTrue result ↔ IsPlace (places_of B sectors body.now) lba }
+{
+    next_label::<B>(sectors, body, lba) == Some(lba)
 }
 
 /// Whether a sector is one of the layout's tables.
@@ -106,7 +133,10 @@ pub fn is_table<const B: usize>(layout: &Layout, lba: Lba) -> bool
     requires { IsSectorSize B }
     ensures { IsTrue result ↔ IsTable B layout.now lba.0 }
 {
-    next_table::<B>(layout, lba.0) == Some(lba.0)
+    if is_body_table::<B>(layout.sectors, &layout.body, lba.0) {
+        return true;
+    }
+    is_label_place::<B>(layout.sectors, &layout.body, lba.0)
 }
 
 // Whether a sector is an extended boot record.

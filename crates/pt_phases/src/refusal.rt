@@ -5,7 +5,7 @@ ghost use Rattle.pt_apply.specs.Plans.{phases_of};
 ghost use Rattle.pt_phases.specs.Phases.{Passes, RefusedBy, phases_before};
 
 use crate::order::Order;
-use crate::reserved::{Reserved, touches};
+use crate::reserved::{Reserved, touches, touches_owned};
 use pt_apply::Plan;
 use pt_recover::{Layout, Trace};
 use pt_targets::{PlanError, Target, TargetKind, first_change, first_owned_of_kind};
@@ -33,7 +33,7 @@ pub(crate) fn accept<const B: usize>(
     ensures ok { OnOk result (Passes old.now guarded.now order targets.now (phases_of plan.now)) }
     ensures err { IfErr result (RefusedBy old.now guarded.now order targets.now (phases_of plan.now)) }
 {
-    if touches(&Reserved::Owned(old), &plan.phases) {
+    if touches_owned(old, &plan.phases) {
         return Err(PlanError::ReusedInOneBatch);
     }
     if let Some(_) = first_owned_of_kind(old, targets, TargetKind::Changes) {

@@ -3,20 +3,24 @@
 ghost use Rattle.std.specs.Prelude.{◌≡◌, ◌↔◌, IsTrue, take};
 ghost use Rattle.pt_apply.specs.Plans.{writes_of, phases_in, writes_in};
 ghost use Rattle.pt_phases.specs.Phases.{Touches};
+ghost use Rattle.pt_members.specs.Owned.{OwnedOf};
 ghost use Rattle.pt_phases.specs.Reserved.{IsAnyReserved};
 
 use pt_apply::Write;
+use pt_members::{Reach, reach_of};
 use pt_recover::{Layout, Trace};
 use pt_sector::Lba;
 use pt_targets::owned_in;
 
-/// Sectors that a plan may not write, or not yet.
+/// Sectors that a plan may not write, or not yet, and those among which they are.
 #[derive(Clone, Copy)]
 pub(crate) enum Reserved<'a> {
     /// Those that a partition of the layout owns.
     Owned(&'a Option<Layout>),
     /// Those of a trace.
     Guarded(&'a Trace),
+    /// Those in the reach of a layout's partitions, among which are all that these own.
+    Reached(Reach),
 }
 
 fn is_reserved<const B: usize>(reserved: &Reserved, at: Lba) -> bool
@@ -25,6 +29,7 @@ fn is_reserved<const B: usize>(reserved: &Reserved, at: Lba) -> bool
     match reserved {
         Reserved::Owned(layout) => owned_in::<B>(layout, at),
         Reserved::Guarded(trace) => trace.contains(at),
+        Reserved::Reached(reach) => reach.contains(at),
     }
 }
 
@@ -49,4 +54,24 @@ pub(crate) fn touches<const B: usize>(reserved: &Reserved, phases: &[Vec<Write<B
         }
     }
     false
+}
+
+/// Whether a write of one of these phases is of a sector that a partition of the layout owns. An owner is searched for only
+/// where a write is in the reach of the partitions.
+pub(crate) fn touches_owned<const B: usize>(
+    layout: &Option<Layout>,
+    phases: &[Vec<Write<B>>],
+) -> bool
+    ensures { IsTrue result ↔ Touches (OwnedOf B layout.now) (writes_in (phases_in phases.now)) }
+{
+    match layout {
+        Some(it) => {
+            if touches(&Reserved::Reached(reach_of::<B>(it)), phases) {
+                touches(&Reserved::Owned(layout), phases)
+            } else {
+                false
+            }
+        }
+        None => false,
+    }
 }

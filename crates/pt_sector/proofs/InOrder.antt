@@ -5,8 +5,8 @@ use Rattle.std.specs.List.{insert}
 use Rattle.std.specs.List.Sorted.{IsSearchInRange, IsBinarySearchResult, IsNonDecreasingBy}
 use Rattle.std.specs.Ordering.{nat_cmp, ordering_index}
 use Rattle.std.proofs.lemmas.Cmp.{ranked}
-use Rattle.std.proofs.lemmas.List.{map-append, map-set, take-map, drop-map, length-map, get_or-drop, take-append-drop, set_comm}
-use Rattle.std.proofs.lemmas.List.{length-drop}
+use Rattle.std.proofs.lemmas.List.{map-append, take-map, drop-map, length-map, get_or-drop, take-append-drop, set_comm}
+use Rattle.std.proofs.lemmas.List.{length-drop, get_or-set_same, get_or-set_other, get_or_append_left}
 use Rattle.std.proofs.lemmas.List.Sorted.{IsNonDecreasingBy-from_default}
 use Rattle.std.proofs.lemmas.List.Edits.{length-insert, get_or-insert_below, get_or-insert_at, get_or-insert_above}
 use Rattle.std.proofs.lemmas.Bool.Decides.{nat_tests}
@@ -17,7 +17,7 @@ use Rattle.pt_sector.specs.Writes.{Writes, written}
 use Rattle.pt_sector.specs.Written.{value_after}
 use Rattle.pt_sector.specs.laws.Written.{written-append}
 use Rattle.pt_sector.specs.Ascending.{sector_at, IsAscending, IsWriteAt, IsGapFor}
-use Rattle.pt_sector.specs.Puts.{puts_as_writes}
+use Rattle.pt_sector.specs.Puts.{puts_as_writes, as_write, no_put, slot_at, SlotsFit, SlotsApart}
 use Rattle.pt_sector.specs.declared.put.Put.{Put}
 
 -- no write is of sector k
@@ -131,72 +131,186 @@ rises_between ws k at v rises gap i j lt in_range =
 
 -- puts as writes
 
-abbrev pub as_write : {b : _} → Put b → ℕ × List ℕ
-as_write p = (p.lba.0, p.bytes)
+pub sector-of-put : (ps : List Put) (ss : List (List ℕ)) (i : ℕ) → sector_at (puts_as_writes ps ss) i ≡ (get_or ps i no_put).lba.0
+sector-of-put [] ss zero = refl
+sector-of-put [] ss (suc i) = refl
+sector-of-put (p ∷ ps) ss zero = refl
+sector-of-put (p ∷ ps) ss (suc i) = sector-of-put ps ss i
 
-abbrev pub no_put : {b : _} → Put b
-no_put = record { lba = record { 0 = 0 }; bytes = [] }
+pub bytes-of-put : (ps : List Put) (ss : List (List ℕ)) (i : ℕ) → i < length ps
+    → (get_or (puts_as_writes ps ss) i (0, [])).1 ≡ get_or ss (slot_at ps i) []
+bytes-of-put [] ss i lt = absurd (omega (arith, lt))
+bytes-of-put (p ∷ ps) ss zero lt = refl
+bytes-of-put (p ∷ ps) ss (suc i) lt = bytes-of-put ps ss i (omega (arith, lt))
 
-pub puts-set : {b : _} (ps : List (Put b)) (i : ℕ) (p : Put b)
-    → puts_as_writes (slice_set ps i p) ≡ slice_set (puts_as_writes ps) i (as_write p)
-puts-set ps i p = map-set (λ (q : Put _). as_write q) ps i p
+pub length-puts : (ps : List Put) (ss : List (List ℕ)) → length (puts_as_writes ps ss) ≡ length ps
+length-puts ps ss = length-map ps (as_write ss)
 
-pub puts-insert : {b : _} (ps : List (Put b)) (i : ℕ) (p : Put b)
-    → puts_as_writes (insert ps i p) ≡ insert (puts_as_writes ps) i (as_write p)
-puts-insert ps i p =
-    map-append (λ (q : Put _). as_write q) (take i ps) (p ∷ drop i ps)
-    ∙ ap (λ (x : Writes). x ++ as_write p ∷ map (λ (q : Put _). as_write q) (drop i ps)) (sym (take-map (λ (q : Put _). as_write q) i ps))
-    ∙ ap (λ (x : Writes). take i (puts_as_writes ps) ++ as_write p ∷ x) (sym (drop-map (λ (q : Put _). as_write q) i ps))
+-- the order of the sectors doesn't depend on their bytes
 
-pub sector-of-put : {b : _} (ps : List (Put b)) (i : ℕ) → sector_at (puts_as_writes ps) i ≡ (get_or ps i no_put).lba.0
-sector-of-put ps i = ap (λ (w : ℕ × List ℕ). w.0) (N.get_or-map (λ (q : Put _). as_write q) ps i no_put)
+pub rises_with : (ps : List Put) (ss ts : List (List ℕ)) → IsAscending (puts_as_writes ps ss) → IsAscending (puts_as_writes ps ts)
+rises_with ps ss ts rises i j lt in_range =
+    omega (
+      arith,
+      rises i j lt (omega (arith, in_range, length-puts ps ss, length-puts ps ts)),
+      sector-of-put ps ss i,
+      sector-of-put ps ss j,
+      sector-of-put ps ts i,
+      sector-of-put ps ts j,
+    )
 
-pub bytes-of-put : {b : _} (ps : List (Put b)) (i : ℕ) → (get_or (puts_as_writes ps) i (0, [])).1 ≡ (get_or ps i no_put).bytes
-bytes-of-put ps i = ap (λ (w : ℕ × List ℕ). w.1) (N.get_or-map (λ (q : Put _). as_write q) ps i no_put)
+pub at_with : (ps : List Put) (ss ts : List (List ℕ)) (k i : ℕ) → IsWriteAt (puts_as_writes ps ss) k i → IsWriteAt (puts_as_writes ps ts) k i
+at_with ps ss ts k i is = record {
+  in_range = omega (arith, is.in_range, length-puts ps ss, length-puts ps ts);
+  has_sector = omega (arith, is.has_sector, sector-of-put ps ss i, sector-of-put ps ts i);
+}
 
-pub length-puts : {b : _} (ps : List (Put b)) → length (puts_as_writes ps) ≡ length ps
-length-puts ps = length-map ps (λ (q : Put _). as_write q)
+pub gap_with : (ps : List Put) (ss ts : List (List ℕ)) (k i : ℕ) → IsGapFor (puts_as_writes ps ss) k i → IsGapFor (puts_as_writes ps ts) k i
+gap_with ps ss ts k i gap = record {
+  in_range = omega (arith, gap.in_range, length-puts ps ss, length-puts ps ts);
+  lower_before = λ j lt. omega (arith, gap.lower_before j lt, sector-of-put ps ss j, sector-of-put ps ts j);
+  higher_after = λ j le lt. omega (
+    arith,
+    gap.higher_after j le (omega (arith, lt, length-puts ps ss, length-puts ps ts)),
+    sector-of-put ps ss j,
+    sector-of-put ps ts j,
+  );
+}
 
-module _ {b : _} (ps : List (Put b)) (p : Put b) (i : ℕ) where
-  pub put_over : IsAscending (puts_as_writes ps) → IsWriteAt (puts_as_writes ps) p.lba.0 i → (d : Sectors)
-      → written (puts_as_writes (slice_set ps i p)) d ≡ slice_set (written (puts_as_writes ps) d) p.lba.0 p.bytes
-  put_over rises is_at d =
-      ap (λ (ws : Writes). written ws d) (puts-set ps i p) ∙ written_over (puts_as_writes ps) p.lba.0 i p.bytes d rises is_at
+-- other bytes in a slot
 
-  pub put_between : IsGapFor (puts_as_writes ps) p.lba.0 i → (d : Sectors)
-      → written (puts_as_writes (insert ps i p)) d ≡ slice_set (written (puts_as_writes ps) d) p.lba.0 p.bytes
-  put_between gap d = ap (λ (ws : Writes). written ws d) (puts-insert ps i p) ∙ written_between (puts_as_writes ps) p.lba.0 i p.bytes d gap
+store_apart : (ps : List Put) (ss : List (List ℕ)) (s : ℕ) (v : List ℕ) → ((j : ℕ) → j < length ps → slot_at ps j ≢ s)
+    → puts_as_writes ps (slice_set ss s v) ≡ puts_as_writes ps ss
+store_apart [] ss s v other = refl
+store_apart (p ∷ ps) ss s v other =
+    ap (λ (x : List ℕ). (p.lba.0, x) ∷ puts_as_writes ps (slice_set ss s v)) (get_or-set_other ss s p.slot v [] (other 0 (omega arith)))
+    ∙ ap (λ (ws : Writes). (p.lba.0, get_or ss p.slot []) ∷ ws) (store_apart ps ss s v (λ j lt. other (suc j) (omega (arith, lt))))
 
-  pub order_over : IsAscending (puts_as_writes ps) → IsWriteAt (puts_as_writes ps) p.lba.0 i → IsAscending (puts_as_writes
-      (slice_set ps i p))
-  order_over rises is_at = subst IsAscending (sym (puts-set ps i p)) (rises_over (puts_as_writes ps) p.lba.0 i p.bytes rises is_at)
+store_over : (ps : List Put) (ss : List (List ℕ)) (i : ℕ) (v : List ℕ) → i < length ps → SlotsApart ps → slot_at ps i < length ss
+    → puts_as_writes ps (slice_set ss (slot_at ps i) v) ≡ slice_set (puts_as_writes ps ss) i ((get_or ps i no_put).lba.0, v)
+store_over [] ss i v lt apart fits = absurd (omega (arith, lt))
+store_over (p ∷ ps) ss zero v lt apart fits =
+    ap (λ (x : List ℕ). (p.lba.0, x) ∷ puts_as_writes ps (slice_set ss p.slot v)) (get_or-set_same ss p.slot v [] fits)
+    ∙ ap (λ (ws : Writes). (p.lba.0, v) ∷ ws)
+    (store_apart ps ss p.slot v (λ j low same. apart 0 (suc j) (omega arith) (omega (arith, low)) (sym same)))
+store_over (p ∷ ps) ss (suc i) v lt apart fits =
+    ap (λ (x : List ℕ). (p.lba.0, x) ∷ puts_as_writes ps (slice_set ss (slot_at ps i) v))
+    (get_or-set_other ss (slot_at ps i) p.slot v [] (λ same. apart 0 (suc i) (omega arith) lt same))
+    ∙ ap (λ (ws : Writes). (p.lba.0, get_or ss p.slot []) ∷ ws)
+    (store_over ps ss i v (omega (arith, lt)) (λ j k low most. apart (suc j) (suc k) (omega (arith, low)) (omega (arith, most))) fits)
 
-  pub order_between : IsAscending (puts_as_writes ps) → IsGapFor (puts_as_writes ps) p.lba.0 i
-      → IsAscending (puts_as_writes (insert ps i p))
-  order_between rises gap = subst IsAscending (sym (puts-insert ps i p)) (rises_between (puts_as_writes ps) p.lba.0 i p.bytes rises gap)
+-- bytes in a new slot
+
+store_more : (ps : List Put) (ss : List (List ℕ)) (v : List ℕ) → SlotsFit ps (length ss)
+    → puts_as_writes ps (ss ++ v ∷ []) ≡ puts_as_writes ps ss
+store_more [] ss v fit = refl
+store_more (p ∷ ps) ss v fit =
+    ap (λ (x : List ℕ). (p.lba.0, x) ∷ puts_as_writes ps (ss ++ v ∷ [])) (get_or_append_left ss (v ∷ []) [] p.slot (fit 0 (omega arith)))
+    ∙ ap (λ (ws : Writes). (p.lba.0, get_or ss p.slot []) ∷ ws) (store_more ps ss v (λ j lt. fit (suc j) (omega (arith, lt))))
+
+last_of : (ss : List (List ℕ)) (v : List ℕ) → get_or (ss ++ v ∷ []) (length ss) [] ≡ v
+last_of [] v = refl
+last_of (s ∷ ss) v = last_of ss v
+
+puts-insert : (ps : List Put) (ss : List (List ℕ)) (i : ℕ) (p : Put)
+    → puts_as_writes (insert ps i p) ss ≡ insert (puts_as_writes ps ss) i (as_write ss p)
+puts-insert ps ss i p =
+    map-append (as_write ss) (take i ps) (p ∷ drop i ps)
+    ∙ ap (λ (x : Writes). x ++ as_write ss p ∷ map (as_write ss) (drop i ps)) (sym (take-map (as_write ss) i ps))
+    ∙ ap (λ (x : Writes). take i (puts_as_writes ps ss) ++ as_write ss p ∷ x) (sym (drop-map (as_write ss) i ps))
+
+insert_more : (ps : List Put) (ss : List (List ℕ)) (v : List ℕ) (i : ℕ) (p : Put) → SlotsFit ps (length ss) → p.slot ≡ length ss
+    → puts_as_writes (insert ps i p) (ss ++ v ∷ []) ≡ insert (puts_as_writes ps ss) i (p.lba.0, v)
+insert_more ps ss v i p fit last =
+    puts-insert ps (ss ++ v ∷ []) i p
+    ∙ ap (λ (ws : Writes). insert ws i (as_write (ss ++ v ∷ []) p)) (store_more ps ss v fit)
+    ∙ ap (λ (x : List ℕ). insert (puts_as_writes ps ss) i (p.lba.0, x))
+    (ap (λ (n : ℕ). get_or (ss ++ v ∷ []) n []) last ∙ last_of ss v)
+
+module _ (ps : List Put) (at : ℕ) (p : Put) (n : ℕ) (within : at ≤ length ps) (fit : SlotsFit ps n) (last : p.slot ≡ n) where
+  below : (i : ℕ) → i < at → slot_at (insert ps at p) i ≡ slot_at ps i
+  below i low = ap (λ (q : Put). q.slot) (get_or-insert_below ps at p no_put i low within)
+
+  here : (i : ℕ) → i ≡ at → slot_at (insert ps at p) i ≡ n
+  here i is = subst (λ (j : ℕ). slot_at (insert ps at p) j ≡ n) (sym is) (ap (λ (q : Put). q.slot) (get_or-insert_at ps at p no_put within) ∙ last)
+
+  above : (i : ℕ) → at < i → slot_at (insert ps at p) i ≡ slot_at ps (i - 1)
+  above i high =
+      subst (λ (j : ℕ). slot_at (insert ps at p) j ≡ slot_at ps (i - 1)) {x = i - 1 + 1} (omega arith)
+      (ap (λ (q : Put). q.slot) (get_or-insert_above ps at p no_put (i - 1) (omega arith) within))
+
+  pub fit_insert : SlotsFit (insert ps at p) (n + 1)
+  fit_insert i lt =
+      let long = length-insert ps at p within in
+      grind (arith, below i, here i, above i, fit i, fit (i - 1))
+
+  pub apart_insert : SlotsApart ps → SlotsApart (insert ps at p)
+  apart_insert apart i j lt in_range same =
+      let long = length-insert ps at p within in
+      grind (
+        arith,
+        same,
+        below i,
+        here i,
+        above i,
+        below j,
+        here j,
+        above j,
+        apart i j,
+        apart i (j - 1),
+        apart (i - 1) (j - 1),
+        fit i,
+        fit (i - 1),
+        fit (j - 1),
+        fit j,
+      )
+
+module _ (ps : List Put) (ss : List (List ℕ)) (k i : ℕ) (v : List ℕ) where
+  over : IsWriteAt (puts_as_writes ps ss) k i → SlotsApart ps → SlotsFit ps (length ss)
+      → puts_as_writes ps (slice_set ss (slot_at ps i) v) ≡ slice_set (puts_as_writes ps ss) i (k, v)
+  over is apart fit =
+      let lt : i < length ps = omega (arith, is.in_range, length-puts ps ss) in
+      store_over ps ss i v lt apart (fit i lt)
+      ∙ ap (λ (s : ℕ). slice_set (puts_as_writes ps ss) i (s, v)) (sym (sector-of-put ps ss i) ∙ is.has_sector)
+
+  pub put_over : IsAscending (puts_as_writes ps ss) → IsWriteAt (puts_as_writes ps ss) k i → SlotsApart ps → SlotsFit ps (length ss)
+      → (d : Sectors) → written (puts_as_writes ps (slice_set ss (slot_at ps i) v)) d ≡ slice_set (written (puts_as_writes ps ss) d) k v
+  put_over rises is apart fit d =
+      ap (λ (ws : Writes). written ws d) (over is apart fit) ∙ written_over (puts_as_writes ps ss) k i v d rises is
+
+module _ (ps : List Put) (ss : List (List ℕ)) (p : Put) (i : ℕ) (v : List ℕ) (fit : SlotsFit ps (length ss)) (last : p.slot ≡ length ss)
+    (gap : IsGapFor (puts_as_writes ps ss) p.lba.0 i) where
+  pub put_between : (d : Sectors)
+      → written (puts_as_writes (insert ps i p) (ss ++ v ∷ [])) d ≡ slice_set (written (puts_as_writes ps ss) d) p.lba.0 v
+  put_between d =
+      ap (λ (ws : Writes). written ws d) (insert_more ps ss v i p fit last) ∙ written_between (puts_as_writes ps ss) p.lba.0 i v d gap
+
+  pub order_between : IsAscending (puts_as_writes ps ss) → IsAscending (puts_as_writes (insert ps i p) (ss ++ v ∷ []))
+  order_between rises =
+      subst IsAscending (sym (insert_more ps ss v i p fit last)) (rises_between (puts_as_writes ps ss) p.lba.0 i v rises gap)
 
 -- a binary search ends at the sector, or at the gap for it
-module _ {b : _} (ps : List (Put b)) (rises : IsAscending (puts_as_writes ps)) (k : ℕ) where
-  answers_rise : IsNonDecreasingBy (λ (p : Put b). ordering_index (nat_cmp p.lba.0 k)) ps
-  answers_rise = IsNonDecreasingBy-from_default (λ (p : Put b). ordering_index (nat_cmp p.lba.0 k)) ps no_put (λ i j le in_range.
+module _ (ps : List Put) (ss : List (List ℕ)) (rises : IsAscending (puts_as_writes ps ss)) (k : ℕ) where
+  answers_rise : IsNonDecreasingBy (λ (p : Put). ordering_index (nat_cmp p.lba.0 k)) ps
+  answers_rise = IsNonDecreasingBy-from_default (λ (p : Put). ordering_index (nat_cmp p.lba.0 k)) ps no_put (λ i j le in_range.
       let ordered : (get_or ps i no_put).lba.0 ≤ (get_or ps j no_put).lba.0 =
       grind (
         arith,
         rises i j,
-        sector-of-put ps i,
-        sector-of-put ps j,
-        length-puts ps,
+        sector-of-put ps ss i,
+        sector-of-put ps ss j,
+        length-puts ps ss,
         λ (same : i ≡ j). ap
             (λ (n : ℕ). (get_or ps n no_put).lba.0) same,
       ) in
       grind (arith, nat_tests))
 
-  pub searched : (r : Result ℕ ℕ) → IsSearchInRange r (length ps) → IsBinarySearchResult (λ (p : Put b). nat_cmp p.lba.0 k) ps r
-      → record { found : IfOk r (IsWriteAt (puts_as_writes ps) k); absent : IfErr r (IsGapFor (puts_as_writes ps) k) }
+  pub searched : (r : Result ℕ ℕ) → IsSearchInRange r (length ps) → IsBinarySearchResult (λ (p : Put). nat_cmp p.lba.0 k) ps r
+      → record { found : IfOk r (IsWriteAt (puts_as_writes ps ss) k); absent : IfErr r (IsGapFor (puts_as_writes ps ss) k) }
   searched (Ok at) in_range equal = record {
     found = record {
-      in_range = omega (arith, in_range, length-puts ps);
-      has_sector = sector-of-put ps at
+      in_range = omega (arith, in_range, length-puts ps ss);
+      has_sector = sector-of-put ps ss at
           ∙ ranked _ k _ (sym (equal no_put));
     };
     absent = tt;
@@ -204,12 +318,12 @@ module _ {b : _} (ps : List (Put b)) (rises : IsAscending (puts_as_writes ps)) (
   searched (Err at) in_range parted = record {
     found = tt;
     absent = record {
-      in_range = omega (arith, in_range, length-puts ps);
+      in_range = omega (arith, in_range, length-puts ps ss);
       lower_before =
           λ j lt. (let low : (get_or ps j no_put).lba.0 < k = ranked _ k _
-          (sym ((parted answers_rise).0 j no_put (omega arith) lt)) in omega (arith, low, sector-of-put ps j));
+          (sym ((parted answers_rise).0 j no_put (omega arith) lt)) in omega (arith, low, sector-of-put ps ss j));
       higher_after =
           λ j le lt. (let high : k < (get_or ps j no_put).lba.0 = ranked _ k _
-          (sym ((parted answers_rise).1 j no_put le (omega (arith, lt, length-puts ps)))) in omega (arith, high, sector-of-put ps j));
+          (sym ((parted answers_rise).1 j no_put le (omega (arith, lt, length-puts ps ss)))) in omega (arith, high, sector-of-put ps ss j));
     };
   }

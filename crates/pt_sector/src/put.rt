@@ -1,8 +1,8 @@
 use crate::address::Lba;
 
-/// A sector's new bytes.
+/// A sector, and the place of its bytes among those that are kept.
 #[derive(Clone, Copy)]
-pub(crate) struct Put<const B: usize> {
+pub(crate) struct Put {
     pub(crate) lba: Lba,
-    pub(crate) bytes: [u8; B],
+    pub(crate) slot: usize,
 }

@@ -3,3 +3,4 @@ pub mod First
 pub mod Faulty
 pub mod Pairs
 pub mod Extended
+pub mod Marks

@@ -6,6 +6,7 @@ pub mod Held
 pub mod Spots
 pub mod Row
 pub mod Twins
+pub mod Marks
 pub mod Steps
 pub mod OneFinding
 pub mod Guarded

@@ -4,17 +4,24 @@ ghost use Rattle.std.specs.Prelude.{◌≡◌, ◌≤◌, ◌<◌, ◌^◌, ◌�
 ghost use Rattle.pt_sector.specs.Sectors.{IsSectorSize};
 ghost use Rattle.pt_members.specs.Members.{Exists};
 ghost use Rattle.pt_members.specs.Next.{NextSectorIs};
+ghost use Rattle.pt_members.specs.Slices.{places_of};
 ghost use Rattle.pt_sound.specs.Sound.{IsOwnPlace};
 ghost use Rattle.pt_sound.specs.Row.{TableWithin, BuriedIn};
 
-use pt_members::{Kind, Layout, Member, is_ebr, next_table};
+use pt_members::{Kind, Layout, Member, Slice, is_ebr, next_table};
 
 // The lowest table sector from one up to another.
-fn table_within<const B: usize>(layout: &Layout, first: u64, last: u64) -> Option<u64>
-    requires { IsSectorSize B }
+fn table_within<const B: usize>(
+    layout: &Layout,
+    places: &[Slice],
+    first: u64,
+    last: u64,
+) -> Option<u64>
+    requires size { IsSectorSize B }
+    requires places { places.now ≡ places_of B layout.now.sectors layout.now.body }
     ensures { NextSectorIs (TableWithin B layout.now first last) 0 result }
 {
-    let table = next_table::<B>(layout, first)?;
+    let table = next_table::<B>(layout, places, first)?;
     if table <= last { Some(table) } else { None }
 }
 
@@ -25,8 +32,13 @@ fn is_own_place(layout: &Layout, m: &Member, lba: u64) -> bool
 }
 
 // The lowest sector of a table in a leaf or slice that isn't the slice's own second one.
-pub(crate) fn buried_in<const B: usize>(layout: &Layout, m: &Member) -> Option<u64>
+pub(crate) fn buried_in<const B: usize>(
+    layout: &Layout,
+    places: &[Slice],
+    m: &Member,
+) -> Option<u64>
     requires size { IsSectorSize B }
+    requires places { places.now ≡ places_of B layout.now.sectors layout.now.body }
     requires exists { Exists m.now }
     ensures { NextSectorIs (BuriedIn B layout.now m.now) 0 result }
 {
@@ -35,9 +47,9 @@ pub(crate) fn buried_in<const B: usize>(layout: &Layout, m: &Member) -> Option<u
     }
     let first = m.first as u64;
     let last = m.last as u64;
-    let table = table_within::<B>(layout, first, last)?;
+    let table = table_within::<B>(layout, places, first, last)?;
     if is_own_place(layout, m, table) {
-        table_within::<B>(layout, first + 2, last)
+        table_within::<B>(layout, places, first + 2, last)
     } else {
         Some(table)
     }

@@ -2,13 +2,14 @@
 
 ghost use Rattle.std.specs.Prelude.{◌≡◌, ◌<◌, length, slice_index_or};
 ghost use Rattle.pt_sector.specs.Sectors.{IsSectorSize};
+ghost use Rattle.pt_members.specs.Slices.{places_of};
 ghost use Rattle.pt_sound.specs.Spots.{LeastIs};
 ghost use Rattle.pt_sound.specs.Row.{HasFault, FaultIn, FaultOfGroup, FaultAmong};
 
 use crate::buried::buried_in;
 use crate::groups::Siblings;
 use crate::spot::{Spot, first_of};
-use pt_members::{Layout, Member, exists};
+use pt_members::{Layout, Member, Slice, exists};
 
 /// What may be wrong with a member.
 #[derive(Clone, Copy)]
@@ -21,11 +22,13 @@ pub enum Fault {
 
 fn fault_of<const B: usize>(
     layout: &Layout,
+    places: &[Slice],
     fault: Fault,
     group: &Siblings,
     m: &Member,
 ) -> Option<Spot>
-    requires { IsSectorSize B }
+    requires size { IsSectorSize B }
+    requires places { places.now ≡ places_of B layout.now.sectors layout.now.body }
     ensures { LeastIs (HasFault B layout.now fault group.now m.now) result }
 {
     match fault {
@@ -43,7 +46,7 @@ fn fault_of<const B: usize>(
             if !exists(m) {
                 return None;
             }
-            match buried_in::<B>(layout, m) {
+            match buried_in::<B>(layout, places, m) {
                 Some(lba) => Some(Spot { path: m.path, lba }),
                 None => None,
             }
@@ -51,30 +54,41 @@ fn fault_of<const B: usize>(
     }
 }
 
-fn fault_in<const B: usize>(layout: &Layout, fault: Fault, group: &Siblings) -> Option<Spot>
-    requires { IsSectorSize B }
+fn fault_in<const B: usize>(
+    layout: &Layout,
+    places: &[Slice],
+    fault: Fault,
+    group: &Siblings,
+) -> Option<Spot>
+    requires size { IsSectorSize B }
+    requires places { places.now ≡ places_of B layout.now.sectors layout.now.body }
     ensures { LeastIs (FaultIn B layout.now fault group.now) result }
 {
     let members = group.as_slice();
     let mut first = None;
     for i in 0..members.len() {
-        first = first_of(first, fault_of::<B>(layout, fault, group, &members[i]));
+        first = first_of(
+            first,
+            fault_of::<B>(layout, places, fault, group, &members[i]),
+        );
     }
     first
 }
 
-// The first member with a fault, in path order, and for a table the lowest sector.
+// The first member with a fault, in path order, and for a table the lowest sector. The places are those of the layout's labels.
 pub(crate) fn first_fault<const B: usize>(
     layout: &Layout,
+    places: &[Slice],
     fault: Fault,
     groups: &[Siblings],
 ) -> Option<Spot>
-    requires { IsSectorSize B }
+    requires size { IsSectorSize B }
+    requires places { places.now ≡ places_of B layout.now.sectors layout.now.body }
     ensures { LeastIs (FaultAmong B layout.now fault groups.now) result }
 {
     let mut first = None;
     for j in 0..groups.len() {
-        first = first_of(first, fault_in::<B>(layout, fault, &groups[j]));
+        first = first_of(first, fault_in::<B>(layout, places, fault, &groups[j]));
     }
     first
 }

@@ -1,11 +1,13 @@
 //! Whether a layout is sound.
 
-ghost use Rattle.std.specs.Prelude.{◌≡◌, ◌+◌, ◌<◌, ◌↔◌, ℕ, IfOk, IsTrue, All, length, slice_index_or};
+ghost use Rattle.std.specs.Prelude.{◌≡◌, ◌+◌, ◌<◌, ◌↔◌, ℕ, IfOk, IsTrue, IsFalse, All, length, slice_index_or};
 ghost use Rattle.pt_sector.specs.Sectors.{IsSectorSize};
 ghost use Rattle.pt_members.specs.Members.{groups_of};
+ghost use Rattle.pt_members.specs.Slices.{places_of};
 ghost use Rattle.pt_sound.specs.Overlaps.{IsOrdered, FirstOverlapIs};
 ghost use Rattle.pt_sound.specs.Row.{AllOrdered, SharedIs};
 ghost use Rattle.pt_sound.specs.Twins.{HasSameUnique, SameAt, TwinIs, TwinsAre};
+ghost use Rattle.pt_sound.specs.Marks.{entry_mark};
 ghost use Rattle.pt_sound.specs.Sound.{AllInside, UnsoundIs};
 ghost use Rattle.pt_sound.specs.Steps.{OutsideIs, OverlapIs, OnTableIs, SameGuidIs};
 
@@ -15,7 +17,7 @@ use crate::groups::{Siblings, groups};
 use crate::overlap::{Overlap, first_overlap};
 use crate::spot::Spot;
 use pt_gpt::Entry;
-use pt_members::{Body, Layout};
+use pt_members::{Body, Layout, Slice, label_places};
 use pt_path::Path;
 use pt_sector::Lba;
 use std::alloc::{AllocError, Global};
@@ -67,13 +69,42 @@ fn twin_of(entries: &[Option<Entry>], k: usize) -> Option<usize>
     None
 }
 
+// A number below 2,048 for an entry: entries of one unique GUID have one number, and few others have where GUIDs were drawn
+// by chance.
+fn mark_of(entry: &Option<Entry>) -> usize
+    ensures value { result ≡ entry_mark entry.now }
+    ensures small { result < 2048 }
+{
+    match entry {
+        Some(e) => {
+            let g = &e.unique.0;
+            (g[0] as usize + 8 * g[15] as usize + 64 * g[4] as usize + 512 * g[9] as usize) % 2048
+        }
+        None => 0,
+    }
+}
+
+// The first entry before one that has its unique GUID. It is searched for only where the number was met before.
+fn twin_where(entries: &[Option<Entry>], k: usize, is_met: bool) -> Option<usize>
+    requires within { k < length entries.now }
+    requires unmet { IsFalse is_met → (i : ℕ) → i < k → ¬ SameAt entries.now i k }
+    ensures { TwinIs entries.now k result }
+{
+    if is_met { twin_of(entries, k) } else { None }
+}
+
+// The first two entries of one unique GUID, by places.
+#[tactic(auto, using(crate::proofs::Marks::unmet))]
 fn first_twins(entries: &[Option<Entry>]) -> Option<(usize, usize)>
     ensures { TwinsAre entries.now result }
 {
+    let mut met = [false; 2048];
     for k in 0..entries.len() {
-        if let Some(i) = twin_of(entries, k) {
+        let mark = mark_of(&entries[k]);
+        if let Some(i) = twin_where(entries, k, met[mark]) {
             return Some((i, k));
         }
+        met[mark] = true;
     }
     None
 }
@@ -91,12 +122,17 @@ fn same_guid(body: &Body) -> Option<(u64, u64)>
     }
 }
 
-fn outside_usable<const B: usize>(layout: &Layout, groups: &[Siblings]) -> Option<Path>
+fn outside_usable<const B: usize>(
+    layout: &Layout,
+    places: &[Slice],
+    groups: &[Siblings],
+) -> Option<Path>
     requires size { IsSectorSize B }
+    requires places { places.now ≡ places_of B layout.now.sectors layout.now.body }
     requires all { groups.now ≡ groups_of B layout.now }
     ensures { OutsideIs B layout.now result }
 {
-    match first_fault::<B>(layout, Fault::Outside, groups) {
+    match first_fault::<B>(layout, places, Fault::Outside, groups) {
         Some(spot) => Some(spot.path),
         None => None,
     }
@@ -118,13 +154,14 @@ fn overlapping<const B: usize>(
     }
 }
 
-fn on_table<const B: usize>(layout: &Layout, groups: &[Siblings]) -> Option<Spot>
+fn on_table<const B: usize>(layout: &Layout, places: &[Slice], groups: &[Siblings]) -> Option<Spot>
     requires size { IsSectorSize B }
+    requires places { places.now ≡ places_of B layout.now.sectors layout.now.body }
     requires all { groups.now ≡ groups_of B layout.now }
     requires inside { AllInside B layout.now }
     ensures { OnTableIs B layout.now result }
 {
-    match first_fault::<B>(layout, Fault::Buried, groups) {
+    match first_fault::<B>(layout, places, Fault::Buried, groups) {
         Some(spot) => Some(spot),
         None => None,
     }
@@ -139,14 +176,15 @@ pub fn unsound<const B: usize>(
     ensures found { IfOk result (λ f. UnsoundIs B layout.now f) }
 {
     let groups = groups::<B>(alloc, layout)?;
-    if let Some(path) = outside_usable::<B>(layout, &groups) {
+    let places = label_places::<B>(alloc, layout.sectors, &layout.body)?;
+    if let Some(path) = outside_usable::<B>(layout, &places, &groups) {
         return Ok(Some(Finding::OutsideUsable(path)));
     }
     let overlap = overlapping::<B>(alloc, layout, &groups)?;
     if let Some(overlap) = overlap {
         return Ok(Some(Finding::Overlap(overlap.before, overlap.it)));
     }
-    if let Some(spot) = on_table::<B>(layout, &groups) {
+    if let Some(spot) = on_table::<B>(layout, &places, &groups) {
         return Ok(Some(Finding::OnTable(spot.path, Lba(spot.lba))));
     }
     match same_guid(&layout.body) {

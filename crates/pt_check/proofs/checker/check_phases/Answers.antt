@@ -1,8 +1,8 @@
-use Rattle.std.proofs.Common.{rules, ◌∙◌, List, sym, ap}
+use Rattle.std.proofs.Common.{rules, ◌∙◌, List, sym, ap, subst}
 use Rattle.std.proofs.lemmas.Result.{err_from_is_err_and}
 use Rattle.pt_sector.specs.Calls.{with_fault}
 use Rattle.pt_sector.specs.Device.{Told}
-use Rattle.pt_apply.specs.Plans.{phases_of}
+use Rattle.pt_apply.specs.Plans.{phases_of, finished}
 use Rattle.pt_recover.specs.Denotes.{Denotes}
 use Rattle.pt_sector.specs.declared.disk.Fault.{Fault}
 use Rattle.pt_check.specs.Failed.{fault_in}
@@ -40,8 +40,12 @@ try_phases-requires g c = (
     c.requires.size,
     (
       c.requires.room,
-      λ tells. recovered_parts g.row.B _ _ c.args.before _ _ (ap (λ (t : Told). t.seen) (sym (c.in_ok-end.ensures.same.same tells)))
-          (c.requires.known tells) c.into_parts-old.ensures.layout c.into_parts-old.ensures.trace,
+      (
+        (λ tells. recovered_parts g.row.B _ _ c.args.before _ _ (ap (λ (t : Told). t.seen) (sym (c.in_ok-end.ensures.same.same tells)))
+            (c.requires.known tells) c.into_parts-old.ensures.layout c.into_parts-old.ensures.trace),
+        (λ tells. subst (λ (t : Told). Denotes g.row.B (finished c.args.plan.now t.seen) c.in_ok-end.end.layout)
+            (sym (c.in_ok-end.ensures.same.same tells)) (c.in_ok-end.ensures.layout tells)),
+      ),
     ),
   ),
 )

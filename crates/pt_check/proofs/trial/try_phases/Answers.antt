@@ -1,21 +1,22 @@
-use Rattle.std.proofs.Common.{rules, ◌≡◌, ◌∙◌, ℕ, ◌+◌, ◌<◌, ap, subst, arith, length, Some, None, Ok, Err}
+use Rattle.std.proofs.Common.{rules, ◌≡◌, ◌∙◌, ℕ, ◌+◌, ◌<◌, List, refl, sym, ap, subst, arith, length, Some, None, Ok, Err}
 use Rattle.std.proofs.lemmas.Result.{err_from_is_err_and}
 use Rattle.pt_sector.specs.Writes.{Writes}
 use Rattle.pt_sector.specs.Calls.{with_fault}
 use Rattle.pt_sector.specs.Reads.{OnlyReads, blames_below}
 use Rattle.pt_sector.specs.Overlays.{room_left}
 use Rattle.pt_sector.specs.Device.{Told}
-use Rattle.pt_apply.specs.Plans.{phases_of, writes_of}
+use Rattle.pt_apply.specs.Plans.{phases_of, writes_of, NoneIs}
 use Rattle.pt_recover.specs.Denotes.{Denotes, Reads}
 use Rattle.pt_recover.specs.laws.Terms.{denotes_one_lem}
 use Rattle.pt_recover.specs.Spans.{IsIn}
-use Rattle.pt_check.specs.Course.{Course}
+use Rattle.pt_check.specs.Course.{Course, phase_at}
 use Rattle.pt_check.specs.Failed.{fault_in}
 use Rattle.pt_check.specs.Trials.{TouchedIs}
 use Rattle.pt_check.specs.declared.recovered.Recovered.{Recovered}
 use Rattle.pt_check.proofs.Firsts.{length-phases, count_on, lent_phase, index_within, seen_on, count_within}
 use Rattle.pt_check.proofs.Outside.{recovered_parts}
 use Rattle.pt_check.proofs.Trying.{course_none, refused_read, refused_neither, course_on}
+use Rattle.pt_check.proofs.Quiet.{last_trial, reading_quiet, passed_quiet}
 use Rattle.pt_check.proofs.Reading.{phase_failed}
 use Rattle.pt_check.proofs.trial.try_phases.Goals as goal
 
@@ -194,3 +195,47 @@ returns-in_err-after-clause-place g c = λ tells.
     (lent c.deref-in-loop-i.result.now c.deref-in-loop-i.ensures.value) (c.loop-i.invariant.seen tells) c.put_phase.ensures.seen in
     rw (p.1, p.2) (phase_failed g.row.B d _ phases (c.loop-i.i + 1) c.in_err-after.field-0.0 (omega (arith, below)) seen
     (c.in_err-after.ensures.place tells))
+
+pub returns-then-i-len-clause-tried : goal.returns-then-i-len-clause-tried
+returns-then-i-len-clause-tried g c = λ tells.
+    let phases = phases_of c.args.plan.now in
+    let lt : c.loop-i.i < length c.args.plan.now.phases.items =
+    omega (arith, c.loop-i-test.true, c.len-i-end.ensures, c.args.plan.now.phases.ok) in
+    let below = index_within c.args.plan.now.phases.items c.loop-i.i lt in
+    let lent = lent_phase c.args.plan.now.phases.items c.loop-i.i c.index-phase.result.now lt c.index-phase.ensures in
+    let all : c.loop-i.i + 1 ≡ length phases =
+    omega (arith, c.if-i-len.true, c.len.ensures, c.args.plan.now.phases.ok, length-phases c.args.plan.now.phases.items) in
+    last_trial (Denotes g.row.B) (Reads g.row.B) phases (g.D.Disk.told c.args.disk.now).seen c.args.layouts.now.old c.args.layouts.now.new
+    (denotes_one_lem g.row.B) c.loop-i.i below c.loop-i.before (c.loop-i.invariant.trace tells) c.loop-i.switch
+    (c.loop-i.invariant.course tells)
+    (subst (λ (w : Writes). TouchedIs (IsIn c.loop-i.before) w None) (lent c.deref.result.now c.deref.ensures.value) c.in_default.ensures)
+    all (c.requires.new tells) c.last_step.result c.last_step.ensures
+
+pub loop-i-preserved-then-is_unread : goal.loop-i-preserved-then-is_unread
+loop-i-preserved-then-is_unread g c =
+    let phases = phases_of c.args.plan.now in
+    let d = (g.D.Disk.told c.args.disk.now).seen in
+    let lt : c.loop-i.i < length c.args.plan.now.phases.items =
+    omega (arith, c.loop-i-test.true, c.len-i-end.ensures, c.args.plan.now.phases.ok) in
+    let below = index_within c.args.plan.now.phases.items c.loop-i.i lt in
+    let lent = lent_phase c.args.plan.now.phases.items c.loop-i.i c.index-phase.result.now lt c.index-phase.ensures in
+    let none : NoneIs (λ (w : ℕ × List ℕ). IsIn c.loop-i.before w.0) (phase_at phases c.loop-i.i) =
+    subst (λ (ws : Writes). NoneIs (λ (w : ℕ × List ℕ). IsIn c.loop-i.before w.0) ws)
+    (lent c.deref-in-loop-i-2.result.now c.deref-in-loop-i-2.ensures.value) (c.if-is_unread.ensures refl) in
+    record {
+      same_reference = search rules;
+      same = subst (λ (x : _). OnlyReads g.D.Disk c.args.disk.now x) (sym c.put_phase.ensures.disk) c.loop-i.invariant.same;
+      quiet = ap g.D.Disk.faults c.put_phase.ensures.disk ∙ c.loop-i.invariant.quiet;
+      room = omega (
+        arith,
+        c.loop-i.invariant.room,
+        c.put_phase.ensures.room,
+        count_on c.args.plan.now.phases.items c.loop-i.i c.index-phase.result.now lt c.index-phase.ensures,
+        ap length c.deref-in-loop-i.ensures.value,
+      );
+      seen = λ tells. seen_on phases d c.loop-i.i (writes_of c.deref-in-loop-i.result.now) _ _ below
+          (lent c.deref-in-loop-i.result.now c.deref-in-loop-i.ensures.value) (c.loop-i.invariant.seen tells) c.put_phase.ensures.seen;
+      trace = λ tells. reading_quiet g.row.B phases d c.loop-i.i below c.loop-i.before (c.loop-i.invariant.trace tells) none;
+      course = λ tells. passed_quiet g.row.B phases d c.loop-i.i below c.loop-i.before (c.loop-i.invariant.trace tells) none
+          c.args.layouts.now.old c.args.layouts.now.new c.loop-i.switch (c.loop-i.invariant.course tells);
+    }

@@ -1,8 +1,5 @@
 use Rattle.pt_copies.proofs.parts.header_sector.Goals as goal
 
-pub returns-clause-fit : goal.returns-clause-fit
-returns-clause-fit g c = rw c.as_slice.ensures at c.array_crc.ensures.fits
-
 pub returns-clause-bytes : goal.returns-clause-bytes
 returns-clause-bytes g c = record {
   header =
@@ -12,8 +9,7 @@ returns-clause-bytes g c = record {
         c.other_side.ensures,
         c.array_at.ensures,
         c.len.ensures,
-        c.array_crc.ensures.crc,
-        c.as_slice.ensures,
+        c.requires.sum,
       ) at c.encode_header.ensures.header;
   size = c.encode_header.ensures.size;
   reserved = c.encode_header.ensures.reserved;

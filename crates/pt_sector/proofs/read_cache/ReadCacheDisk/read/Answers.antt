@@ -5,8 +5,7 @@ use Rattle.std.proofs.lemmas.List.{set-get_or}
 use Rattle.pt_sector.specs.Sectors.{Sectors, sector}
 use Rattle.pt_sector.specs.Writes.{written}
 use Rattle.pt_sector.specs.laws.Written.{sector-written}
-use Rattle.pt_sector.specs.Puts.{puts_as_writes}
-use Rattle.pt_sector.specs.Overlays.{shown}
+use Rattle.pt_sector.specs.Overlays.{own_writes, shown}
 use Rattle.pt_sector.specs.declared.own.Own.{Own}
 use Rattle.pt_sector.proofs.read_cache.ReadCacheDisk.read.Goals as goal
 
@@ -17,7 +16,7 @@ returns-then-get-clause-bytes g c = λ tells.
     let sized : length seen ≡ g.D.Disk.count below = g.met.D.Disk.sized below tells in
     let kept : sector seen c.args.lba.0 ≡ c.get.new.into =
     ap (λ (s : Sectors). sector s c.args.lba.0) (sym (c.args.self.now.same tells))
-    ∙ sector-written (puts_as_writes c.args.self.now.kept.puts.items) seen c.args.lba.0 (omega (arith, sized, c.requires))
+    ∙ sector-written (own_writes c.args.self.now.kept) seen c.args.lba.0 (omega (arith, sized, c.requires))
     ∙ c.if-get.ensures (sector seen c.args.lba.0) in
     sym kept
 
@@ -54,8 +53,7 @@ returns-in-Err-clause-same g c =
 
 -- a disk shows the same once a sector is put that holds what was put, or nothing is put
 shows_on : {b : _} (put : Bool) (old new : Own b) (seen : Sectors) (k : ℕ) (bytes : List ℕ)
-    → (IsTrue put → (d : Sectors)
-    → written (puts_as_writes new.puts.items) d ≡ slice_set (written (puts_as_writes old.puts.items) d) k bytes)
+    → (IsTrue put → (d : Sectors) → written (own_writes new) d ≡ slice_set (written (own_writes old) d) k bytes)
     → (IsFalse put → new ≡ old) → shown seen old ≡ seen → bytes ≡ sector seen k → shown seen new ≡ seen
 shows_on true old new seen k bytes is_put kept same holds =
     is_put refl seen ∙ ap (λ (d : Sectors). slice_set d k bytes) same ∙ ap (slice_set seen k) holds ∙ set-get_or seen k []

@@ -1,0 +1,98 @@
+-- A phase that writes nothing that is read, and the last phase.
+use Rattle.std.proofs.Common.{◌≡◌, inr, ⊎_elim, ℕ, ◌+◌, ◌<◌, ◌≤◌, List, length, take, refl, sym, subst, arith, Option, Some, None}
+use Rattle.std.proofs.lemmas.Bool.{cases_lt}
+use Rattle.std.proofs.lemmas.List.{take_all}
+use Rattle.pt_sector.specs.Sectors.{Sectors}
+use Rattle.pt_sector.specs.Writes.{Writes, Stopped, written, after}
+use Rattle.pt_sector.specs.laws.Written.{stopped_written}
+use Rattle.pt_apply.specs.Plans.{NoneIs}
+use Rattle.pt_recover.specs.Denotes.{Denotes, Reads, SameMeaning}
+use Rattle.pt_recover.specs.LeavesReads.{LeavesReads}
+use Rattle.pt_recover.specs.laws.Terms.{stop_keeps_lem}
+use Rattle.pt_recover.specs.Spans.{IsIn}
+use Rattle.pt_recover.specs.declared.trace.TracedRun.{TracedRun}
+use Rattle.pt_check.specs.Course.{phase_at, disk_after, IsCalm, LayoutsAre, Course}
+use Rattle.pt_check.specs.Trials.{TouchedIs, LastIs, TrialIs, RefusedNeither}
+use Rattle.pt_check.specs.declared.trial.Trial.{Trial}
+use Rattle.pt_check.specs.declared.trial.Trial.TheVariants.{Refused, Passed}
+use Rattle.pt_check.specs.declared.answer.Why.TheVariants.{TooManyWrites, OutOfRange, BootCode, ReadSector, Neither, NotATable, Owned, Final}
+use Rattle.pt_check.proofs.Firsts.{seen_on}
+use Rattle.pt_check.proofs.Keeping.{none_puts}
+use Rattle.pt_check.proofs.Trying.{Reading, course_on, refused_neither}
+
+module _ {L : Type 0} (denotes : Sectors → Option L → Type 0) (reads : Sectors → ℕ → Type 0) (phases : List Writes) (d : Sectors)
+    (old new : Option L) where
+  course_quiet : (i : ℕ) (switch : Option ℕ) → Course denotes reads phases d old new i switch → IsCalm denotes reads phases d i
+      → ((o : Option L) → denotes (disk_after phases d i) o → denotes (disk_after phases d (i + 1)) o)
+      → Course denotes reads phases d old new (i + 1) switch
+  course_quiet i switch course calm on = record {
+    calm = λ j lt. ⊎_elim (λ less. course.calm j less)
+        (λ last. subst (IsCalm denotes reads phases d) (let same : i ≡ j = omega (arith, lt, last) in same) calm) (cases_lt j i);
+    layouts = layouts_on switch course.layouts;
+  }
+    where
+      at : (j : ℕ) (o : Option L) → j < i + 1 + 1 → i + 1 ≤ j → denotes (disk_after phases d i) o → denotes (disk_after phases d j) o
+      at j o lt ge is = subst (λ (x : ℕ). denotes (disk_after phases d x) o) (let same : i + 1 ≡ j = omega (arith, lt, ge) in same) (on o is)
+
+      layouts_on : (s : Option ℕ) → LayoutsAre denotes reads phases d old new i s → LayoutsAre denotes reads phases d old new (i + 1) s
+      layouts_on None olds = λ j le. ⊎_elim
+          (λ less. olds j (omega (arith, less)))
+          (λ last. at j old (omega (arith, le)) last (olds i (omega arith)))
+          (cases_lt j (i + 1))
+      layouts_on (Some s) (pos, most, differ, olds, news) = (
+        pos,
+        omega (arith, most),
+        differ,
+        olds,
+        (λ j ge le. ⊎_elim
+            (λ less. news j ge (omega (arith, less)))
+            (λ last. at j new (omega (arith, le)) last (news i most (omega arith)))
+            (cases_lt j (i + 1))),
+      )
+
+  -- the disk after the last phase is the finished one
+  pub finished_last : (i : ℕ) → i + 1 ≡ length phases → denotes (after phases d) new → denotes (disk_after phases d (i + 1)) new
+  finished_last i all is =
+      let whole : take (i + 1) phases ≡ phases = take_all (i + 1) phases (omega (arith, all)) in
+      subst (λ (ps : List Writes). denotes (after ps d) new) (sym whole) is
+
+  pub last_trial : (one : (x : Sectors) (o p : Option L) → denotes x o → denotes x p → o ≡ p) (i : ℕ) → i < length phases
+      → (runs : List TracedRun) → Reading reads (disk_after phases d i) runs → (switch : Option ℕ)
+      → Course denotes reads phases d old new i switch → TouchedIs (IsIn runs) (phase_at phases i) None
+      → i + 1 ≡ length phases → denotes (after phases d) new → (t : Trial) → LastIs old new switch (i + 1) t
+      → TrialIs denotes reads phases d old new t
+  last_trial one i below runs reading switch course touched all is (Passed t) step =
+      subst (λ (n : ℕ). Course denotes reads phases d old new n t) all
+      (course_on denotes reads phases d old new i below runs reading switch course touched new (finished_last i all is) t step)
+  last_trial one i below runs reading switch course touched all is (Refused (Neither p)) (same, step) =
+      subst (λ (n : ℕ). RefusedNeither denotes reads phases d old new n) (sym same)
+      (refused_neither denotes reads phases d old new i below runs reading switch course touched new (finished_last i all is) one step)
+  last_trial one i below runs reading switch course touched all is (Refused TooManyWrites) step = absurd step
+  last_trial one i below runs reading switch course touched all is (Refused (OutOfRange n)) step = absurd step
+  last_trial one i below runs reading switch course touched all is (Refused (BootCode n)) step = absurd step
+  last_trial one i below runs reading switch course touched all is (Refused (ReadSector p lba)) step = absurd step
+  last_trial one i below runs reading switch course touched all is (Refused (NotATable lba)) step = absurd step
+  last_trial one i below runs reading switch course touched all is (Refused (Owned lba)) step = absurd step
+  last_trial one i below runs reading switch course touched all is (Refused (Final f)) step = absurd step
+
+module _ (b : ℕ) (phases : List Writes) (d : Sectors) (i : ℕ) (below : i < length phases) (runs : List TracedRun)
+    (reading : Reading (Reads b) (disk_after phases d i) runs) (none : NoneIs (λ (w : ℕ × List ℕ). IsIn runs w.0) (phase_at phases i)) where
+  leaves : LeavesReads b (disk_after phases d i) (phase_at phases i)
+  leaves s v puts read = none_puts (λ (w : ℕ × List ℕ). IsIn runs w.0) (phase_at phases i) none s v puts ((reading.same s).1 read)
+
+  same_meaning : SameMeaning b (disk_after phases d (i + 1)) (disk_after phases d i)
+  same_meaning = stop_keeps_lem b (disk_after phases d i) (disk_after phases d (i + 1)) (phase_at phases i) leaves
+      (subst (λ (x : Sectors). Stopped (disk_after phases d i) (phase_at phases i) x)
+      (seen_on phases d i (phase_at phases i) (disk_after phases d i) (written (phase_at phases i) (disk_after phases d i)) below refl refl
+      refl)
+      (stopped_written (phase_at phases i) (disk_after phases d i)))
+
+  pub reading_quiet : Reading (Reads b) (disk_after phases d (i + 1)) runs
+  reading_quiet = record {
+    same = λ s. (λ is. (same_meaning.reads s).1 ((reading.same s).0 is), λ is. (reading.same s).1 ((same_meaning.reads s).0 is));
+  }
+
+  pub passed_quiet : (old new : Option _) (switch : Option ℕ) → Course (Denotes b) (Reads b) phases d old new i switch
+      → Course (Denotes b) (Reads b) phases d old new (i + 1) switch
+  passed_quiet old new switch course =
+      course_quiet (Denotes b) (Reads b) phases d old new i switch course (inr leaves) (λ o is. (same_meaning.denotes o).1 is)
