@@ -15,7 +15,8 @@ use Rattle.pt_check.specs.Course.{phase_at, disk_after, IsCalm, LayoutsAre, Cour
 use Rattle.pt_check.specs.Trials.{TouchedIs, LastIs, TrialIs, RefusedNeither}
 use Rattle.pt_check.specs.declared.trial.Trial.{Trial}
 use Rattle.pt_check.specs.declared.trial.Trial.TheVariants.{Refused, Passed}
-use Rattle.pt_check.specs.declared.answer.Why.TheVariants.{TooManyWrites, OutOfRange, BootCode, ReadSector, Neither, NotATable, Owned, Final}
+use Rattle.pt_check.specs.declared.answer.Why.TheVariants.{TooManyWrites, OutOfRange, BootCode, ReadSector, Neither}
+use Rattle.pt_check.specs.declared.answer.Why.TheVariants.{NotATable, Owned, Final}
 use Rattle.pt_check.proofs.Firsts.{seen_on}
 use Rattle.pt_check.proofs.Keeping.{none_puts}
 use Rattle.pt_check.proofs.Trying.{Reading, course_on, refused_neither}
@@ -32,7 +33,8 @@ module _ {L : Type 0} (denotes : Sectors → Option L → Type 0) (reads : Secto
   }
     where
       at : (j : ℕ) (o : Option L) → j < i + 1 + 1 → i + 1 ≤ j → denotes (disk_after phases d i) o → denotes (disk_after phases d j) o
-      at j o lt ge is = subst (λ (x : ℕ). denotes (disk_after phases d x) o) (let same : i + 1 ≡ j = omega (arith, lt, ge) in same) (on o is)
+      at j o lt ge is = subst (λ (x : ℕ). denotes (disk_after phases d x) o) (let same : i + 1 ≡ j = omega (arith, lt, ge) in same)
+          (on o is)
 
       layouts_on : (s : Option ℕ) → LayoutsAre denotes reads phases d old new i s → LayoutsAre denotes reads phases d old new (i + 1) s
       layouts_on None olds = λ j le. ⊎_elim

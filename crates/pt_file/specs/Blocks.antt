@@ -1,7 +1,8 @@
 -- Bytes as sectors.
 use Rattle.std.specs.Prelude.{◌≡◌, ℕ, zero, suc, ◌+◌, ◌*◌, ◌<◌, ◌≤◌, List, [], ◌∷◌, ◌++◌, length, take, drop, slice_set}
 use Rattle.std.proofs.Common.{refl, sym, ap, ◌∙◌, arith, length-take, length-drop, length-append}
-use Rattle.std.proofs.lemmas.List.{take-append-le, drop-append-le, take-take, drop-take, drop-drop, take_at, drop_at, take_all, length-take-le}
+use Rattle.std.proofs.lemmas.List.{take-append-le, drop-append-le, take-take, drop-take, drop-drop}
+use Rattle.std.proofs.lemmas.List.{take_at, drop_at, take_all, length-take-le}
 use Rattle.std.proofs.lemmas.Nat.{mul-le}
 use Rattle.pt_sector.specs.Sectors.{Sectors, sector}
 
@@ -93,5 +94,6 @@ pub filled_more : (m n at : ℕ) (into part rest bytes : List ℕ) → m ≤ len
 filled_more m n at into part rest bytes le fits first then =
     let long : length (take m into) ≡ m = length-take-le m into le in
     rw long at (take_past n (take m into) (part ++ rest))
-    ∙ ap (λ (l : List ℕ). take m into ++ l) (take-append-le n part rest fits ∙ then ∙ ap (λ (l : List ℕ). take n l) (sym (drop-drop m at bytes)))
+    ∙ ap (λ (l : List ℕ). take m into ++ l) (take-append-le n part rest fits ∙ then ∙ ap (λ (l : List ℕ). take n l)
+    (sym (drop-drop m at bytes)))
     ∙ ap (λ (l : List ℕ). l ++ take n (drop m (drop at bytes))) first ∙ read_on m n (drop at bytes)

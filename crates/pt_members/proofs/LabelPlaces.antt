@@ -112,5 +112,6 @@ all_on P Q on ps all = λ k d lt. on _ (all k d lt)
 pub places_small : (b n : ℕ) (y : Body) → n < 2 ^ 64 → All (λ p. p.first + 1 < 2 ^ 64) (places_of b n y)
 unfolding places_of
 places_small b n y small =
-    all_on (λ p. has_place n p ≡ true) (λ p. p.first + 1 < 2 ^ 64) (λ p has. place_small n p small has) (filter (has_place n) (slices_of b y))
+    all_on (λ p. has_place n p ≡ true) (λ p. p.first + 1 < 2 ^ 64) (λ p has. place_small n p small has)
+    (filter (has_place n) (slices_of b y))
     (filter_passes (has_place n) (slices_of b y))

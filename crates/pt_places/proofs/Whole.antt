@@ -52,7 +52,8 @@ pub spot_slices : {A : Type 0} (b n m : ℕ) (y : Body) (slices : List Slice) (l
     → MatchOption o (¬ Fit slices labels) (λ (x : Vec Spot A). AreSpots slices labels x.items) → spots ≡ v.items
     → slices ≡ places_of b n y → n ≡ m → map slice_of spots ≡ places_of b m y
 spot_slices {A = A} b n m y slices labels o v spots is match same of_slices sectors =
-    let are : AreSpots slices labels v.items = at_some o v (¬ Fit slices labels) (λ (x : Vec Spot A). AreSpots slices labels x.items) is match in
+    let are : AreSpots slices labels v.items = at_some o v (¬ Fit slices labels) (λ (x : Vec Spot A). AreSpots slices labels
+    x.items) is match in
     ap (map slice_of) same ∙ are.slices ∙ of_slices ∙ ap (λ (k : ℕ). places_of b k y) sectors
 
 -- what was read is the answer

@@ -34,10 +34,12 @@ module _ (is_ready : Sectors → List Writes → Type 0) (is_refusal : Sectors �
     still_flushed : Flushed old now
     still_flushed = subst (λ (x : Told). Flushed old x) (sym same) flush
 
-    pub came_unplanned : (e : CommitError) → MetRead (commit_fault_in e) → is_refusal mid.seen e → Written is_ready is_refusal (Err e) old now
+    pub came_unplanned : (e : CommitError) → MetRead (commit_fault_in e) → is_refusal mid.seen e → Written is_ready is_refusal
+        (Err e) old now
     came_unplanned e read why = unplanned e refl read still_flushed (subst (λ (x : Told). is_refusal x.seen e) (sym same) why)
 
-    module _ (new : Told) (phases : List Writes) (is : is_ready mid.seen phases) (run : LeavesOnly now new (StoppedSomewhere phases now.seen))
+    module _ (new : Told) (phases : List Writes) (is : is_ready mid.seen phases) (run : LeavesOnly now new (StoppedSomewhere phases
+        now.seen))
       where
         abbrev begun : Begun is_ready is_refusal old new
         begun = record {
@@ -48,7 +50,8 @@ module _ (is_ready : Sectors → List Writes → Type 0) (is_refusal : Sectors �
           any_moment = run;
         }
 
-        pub came_unapplied : (fault : Fault) → CallFailed phases now.seen now new fault → Written is_ready is_refusal (Err (Device fault)) old new
+        pub came_unapplied : (fault : Fault) → CallFailed phases now.seen now new fault → Written is_ready is_refusal
+            (Err (Device fault)) old new
         came_unapplied fault failed = unapplied fault refl begun failed
 
         pub came_applied : Settled new (after phases now.seen) → Reached phases now.seen (length phases) 0 now new

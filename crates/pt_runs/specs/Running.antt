@@ -58,7 +58,8 @@ module _ {W : Type 0} (commits : W → Result Unit CommitError → Told → Told
   -- one call, and the disk before and after it: a commit, a repair, or a session's batch that wasn't tried, which did nothing
   abbrev pub DidCall : Call W → Told → Told → Type 0
   DidCall call old new =
-      ((w : W) × (result : Result Unit CommitError) × (call ≡ record { inside = Either w; done = past w result }) × commits w result old new)
+      ((w : W) × (result : Result Unit CommitError) × (call ≡ record { inside = Either w; done = past w result })
+      × commits w result old new)
       ⊎ ((call ≡ record { inside = Unchanged; done = Unchanged })
       × (((result : Result Unit RepairError) × repairs result old new) ⊎ (new ≡ old)))
 

@@ -159,7 +159,8 @@ rises_with ps ss ts rises i j lt in_range =
       sector-of-put ps ts j,
     )
 
-pub at_with : (ps : List Put) (ss ts : List (List ℕ)) (k i : ℕ) → IsWriteAt (puts_as_writes ps ss) k i → IsWriteAt (puts_as_writes ps ts) k i
+pub at_with : (ps : List Put) (ss ts : List (List ℕ)) (k i : ℕ) → IsWriteAt (puts_as_writes ps ss) k i
+    → IsWriteAt (puts_as_writes ps ts) k i
 at_with ps ss ts k i is = record {
   in_range = omega (arith, is.in_range, length-puts ps ss, length-puts ps ts);
   has_sector = omega (arith, is.has_sector, sector-of-put ps ss i, sector-of-put ps ts i);
@@ -232,7 +233,8 @@ module _ (ps : List Put) (at : ℕ) (p : Put) (n : ℕ) (within : at ≤ length 
   below i low = ap (λ (q : Put). q.slot) (get_or-insert_below ps at p no_put i low within)
 
   here : (i : ℕ) → i ≡ at → slot_at (insert ps at p) i ≡ n
-  here i is = subst (λ (j : ℕ). slot_at (insert ps at p) j ≡ n) (sym is) (ap (λ (q : Put). q.slot) (get_or-insert_at ps at p no_put within) ∙ last)
+  here i is = subst (λ (j : ℕ). slot_at (insert ps at p) j ≡ n) (sym is) (ap (λ (q : Put). q.slot) (get_or-insert_at ps at p no_put
+      within) ∙ last)
 
   above : (i : ℕ) → at < i → slot_at (insert ps at p) i ≡ slot_at ps (i - 1)
   above i high =

@@ -216,7 +216,8 @@ module _ {L W R : Type 0} (denotes : Sectors → Option L → Type 0) (edited : 
           ⊎_elim (λ m. inl (before c m)) (λ has. inr has) (leaves.at_end c may)
 
       keeps_in : (o : Option L) (earlier : List (Past W)) (calls : List (Call W)) (old new : Told) → Holds denotes edited o earlier old
-          → (c : Sectors) (known : List (Past W)) → CrashIn commits repairs calls old new known c → Has denotes edited o (earlier ++ known) c
+          → (c : Sectors) (known : List (Past W)) → CrashIn commits repairs calls old new known c
+          → Has denotes edited o (earlier ++ known) c
       keeps_in o earlier calls old new start c known (inl crash) =
           subst (λ (l : List (Past W)). Has denotes edited o (earlier ++ l) c) (sym crash.is)
           ((calls_carry crash.before old crash.now crash.earlier).at_return o earlier start c crash.left)
@@ -278,7 +279,8 @@ module _ {L W R : Type 0} (denotes : Sectors → Option L → Type 0) (edited : 
           left
 
       -- a run on a disk that earlier calls left
-      pub run_goes_on_lem : (steps : List (Step W)) (old new : Told) (o : Option L) (earlier : List (Past W)) → Ran commits repairs steps old new
+      pub run_goes_on_lem : (steps : List (Step W)) (old new : Told) (o : Option L) (earlier : List (Past W))
+          → Ran commits repairs steps old new
           → Holds denotes edited o earlier old
           → KeepsHistory commits repairs denotes edited o earlier (calls_of_all steps) old new
       run_goes_on_lem steps old new o earlier ran start =

@@ -13,7 +13,8 @@ loop-preserved g c = elim c.match-read_at.branch [
       record {
         in_range = grind (arith, common_steps, within);
         filled = λ tells.
-            rw w.done-is (filled_more c.loop.done w.in-Ok.n c.args.at c.loop.into c.read_at.new.into _ (g.S.Store.told c.args.store.now).seen
+            rw w.done-is (filled_more c.loop.done w.in-Ok.n c.args.at c.loop.into c.read_at.new.into _
+            (g.S.Store.told c.args.store.now).seen
             c.loop.invariant.in_range fits (c.loop.invariant.filled tells) (w.in-Ok.ensures.bytes tells));
       }
   | in-Err w ↦ record {

@@ -75,12 +75,14 @@ apply-requires g c = (
 pub returns-in_err-flush-clause-place : goal.returns-in_err-flush-clause-place
 returns-in_err-flush-clause-place g c = λ tells.
     let p = err_from_is_err_and c.from_residual.result c.from_residual.ensures.1 in
-    rw (p.1, p.2) (by_flush (CheckReads g.row.B (g.D.Disk.told c.args.disk.now).seen (phases_of c.args.plan.now)) c.in_err-flush.field-0.0 c.in_err-flush.ensures.fault)
+    rw (p.1, p.2) (by_flush (CheckReads g.row.B (g.D.Disk.told c.args.disk.now).seen (phases_of c.args.plan.now))
+    c.in_err-flush.field-0.0 c.in_err-flush.ensures.fault)
 
 pub returns-in_err-answer-clause-place : goal.returns-in_err-answer-clause-place
 returns-in_err-answer-clause-place g c = λ tells.
     let p = err_from_is_err_and c.from_residual-in_err-answer.result c.from_residual-in_err-answer.ensures.1 in
-    rw (p.1, p.2) (commit_check_failed (CheckReads g.row.B (g.D.Disk.told c.args.disk.now).seen (phases_of c.args.plan.now)) c.in_err-answer.field-0.0
+    rw (p.1, p.2) (commit_check_failed (CheckReads g.row.B (g.D.Disk.told c.args.disk.now).seen (phases_of c.args.plan.now))
+    c.in_err-answer.field-0.0
     (rw (c.in_ok-flush.ensures.done tells).seen at (c.in_err-answer.ensures.place tells)))
 
 pub returns-in_err-apply-in-Yes-clause-place : goal.returns-in_err-apply-in-Yes-clause-place

@@ -23,5 +23,6 @@ returns-in-No-clause-err g c = λ tells.
 pub returns-in_err-answer-clause-place : goal.returns-in_err-answer-clause-place
 returns-in_err-answer-clause-place g c = λ tells.
     let p = err_from_is_err_and c.from_residual.result c.from_residual.ensures.1 in
-    rw (p.1, p.2) (commit_check_failed (CheckReads g.row.B (g.D.Disk.told c.args.disk.now).seen (phases_of c.args.plan.now)) c.in_err-answer.field-0.0
+    rw (p.1, p.2) (commit_check_failed (CheckReads g.row.B (g.D.Disk.told c.args.disk.now).seen (phases_of c.args.plan.now))
+    c.in_err-answer.field-0.0
     (c.in_err-answer.ensures.place tells))

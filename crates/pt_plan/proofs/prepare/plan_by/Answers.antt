@@ -47,18 +47,24 @@ returns-clause-refused g c = λ tells.
 pub returns-in_err-may_start-clause-place : goal.returns-in_err-may_start-clause-place
 returns-in_err-may_start-clause-place g c = λ tells.
     let p = err_from_is_err_and c.from_residual.result c.from_residual.ensures.1 in
-    rw (p.1, p.2) (commit_nowhere (EditReads g.row.B (g.D.Disk.count c.args.disk.now) (record { edits = c.args.edits.now; guids = c.args.guids.now }) (g.D.Disk.told c.args.disk.now).seen) c.in_err-may_start.field-0.0 c.in_err-may_start.ensures.blames)
+    rw (p.1, p.2) (commit_nowhere (EditReads g.row.B (g.D.Disk.count c.args.disk.now)
+    (record { edits = c.args.edits.now; guids = c.args.guids.now }) (g.D.Disk.told c.args.disk.now).seen)
+    c.in_err-may_start.field-0.0 c.in_err-may_start.ensures.blames)
 
 pub returns-in_err-wanted-clause-place : goal.returns-in_err-wanted-clause-place
 returns-in_err-wanted-clause-place g c = λ tells.
     let p = err_from_is_err_and c.from_residual-in_err-wanted.result c.from_residual-in_err-wanted.ensures.1 in
-    rw (p.1, p.2) (not_edited_nowhere g.row.B _ c.args.known.now.old (record { edits = c.args.edits.now; guids = c.args.guids.now }) (EditReads g.row.B (g.D.Disk.count c.args.disk.now) (record { edits = c.args.edits.now; guids = c.args.guids.now }) (g.D.Disk.told c.args.disk.now).seen) c.in_err-wanted.field-0.0
+    rw (p.1, p.2) (not_edited_nowhere g.row.B _ c.args.known.now.old (record { edits = c.args.edits.now; guids = c.args.guids.now })
+    (EditReads g.row.B (g.D.Disk.count c.args.disk.now) (record { edits = c.args.edits.now; guids = c.args.guids.now })
+    (g.D.Disk.told c.args.disk.now).seen) c.in_err-wanted.field-0.0
     c.in_err-wanted.ensures.err)
 
 pub returns-clause-place : goal.returns-clause-place
 returns-clause-place g c = λ tells.
     IfErr-weaker c.planned.result _ _
-    (λ e. commit_wider (PlanReads g.row.B (g.D.Disk.count c.args.disk.now) c.in_ok-wanted.wanted) (EditReads g.row.B (g.D.Disk.count c.args.disk.now) (record { edits = c.args.edits.now; guids = c.args.guids.now }) (g.D.Disk.told c.args.disk.now).seen) e
+    (λ e. commit_wider (PlanReads g.row.B (g.D.Disk.count c.args.disk.now) c.in_ok-wanted.wanted)
+    (EditReads g.row.B (g.D.Disk.count c.args.disk.now) (record { edits = c.args.edits.now; guids = c.args.guids.now })
+    (g.D.Disk.told c.args.disk.now).seen) e
     (plan_read g.row.B (g.D.Disk.count c.args.disk.now) _ (g.D.Disk.told c.args.disk.now).seen
     (g.met.D.Disk.sized c.args.disk.now tells) c.args.known.now.old
     (starts g.row.B _ (g.D.Disk.told c.args.disk.now).seen c.args.known.now.old c.args.reason (c.requires.known tells).old

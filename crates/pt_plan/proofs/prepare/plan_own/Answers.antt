@@ -15,7 +15,8 @@ returns-in-Some-clause-place g c = λ tells.
     (λ e. commit_wider (PlanReads g.row.B (g.D.Disk.count c.args.disk.now) c.in-Some.own)
     (MendReads g.row.B (g.D.Disk.count c.args.disk.now) (g.D.Disk.told c.args.disk.now).seen) e
     (λ s reads. mend_plan c.in-Some.own
-    (subst (λ (o : Option Layout). Denotes g.row.B (g.D.Disk.told c.args.disk.now).seen o) c.in-Some.is (c.requires.known tells).old) reads))
+    (subst (λ (o : Option Layout). Denotes g.row.B (g.D.Disk.told c.args.disk.now).seen o) c.in-Some.is
+    (c.requires.known tells).old) reads))
     c.planned.ensures.place
 
 pub returns-in-Some-clause-planned : goal.returns-in-Some-clause-planned

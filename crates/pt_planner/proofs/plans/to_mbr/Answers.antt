@@ -85,7 +85,8 @@ returns-in_err-heads g c =
       same = c.in_err-heads.ensures.same;
       blames = rw (p.1, p.2) (failure_blames _ _ c.in_err-heads.field-0.0 c.in_err-heads.ensures.blames);
       place = rw (p.1, p.2) (failed_planned (IsHeadOrEbr c.args.chain.now) _ c.in_err-heads.field-0.0
-          (λ s at. head_or_ebr g.row.B (g.D.Disk.count c.args.disk.now) c.args.wanted.now c.args.records.now c.args.chain.now s c.requires.body
+          (λ s at. head_or_ebr g.row.B (g.D.Disk.count c.args.disk.now) c.args.wanted.now c.args.records.now c.args.chain.now s
+          c.requires.body
           at) c.in_err-heads.ensures.failed);
       in_range = rw p.1 tt;
       some = rw p.1 tt;
