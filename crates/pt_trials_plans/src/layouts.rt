@@ -13,16 +13,11 @@ use pt_samples::{holds, image_of, made, put_mbr, record};
 use std::alloc::Global;
 use std::test::Fail;
 
-/// A GPT disk of so many sectors with two partitions, of which the second has a name.
+/// A GPT disk of so many sectors with one partition, which has a name.
 fn other_disk<const B: usize>(alloc: Global, sectors: u64) -> Result<MemDisk<B>, Fail>
     requires { IsSectorSize B }
 {
-    made(
-        alloc,
-        sectors,
-        false,
-        &["o", "n:1:0:+512", "n:2:0:0:8200", "c:2:swap"],
-    )
+    made(alloc, sectors, false, &["o", "n:1:0:0:8200", "c:1:swap"])
 }
 
 /// An MBR disk of 4096 sectors with one partition.
