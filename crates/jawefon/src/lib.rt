@@ -2,7 +2,8 @@
 //!
 //! This crate is the whole surface under one name. `B` is the size of a sector, 512 or 4096 bytes.
 //!
-//! - **A disk** is anything that implements [`Disk`]. [`FileDisk::open`] makes one of a plain file, [`MemDisk::new`] one in memory.
+//! - **A disk** is anything that implements [`Disk`]. [`FileDisk::open`] makes one of a plain file, under its lock where the access is
+//!   [`Access::Write`]; [`MemDisk::new`] makes one in memory.
 //! - **Look**: [`recover`] gives the [`Layout`], [`members`] lists its partitions, [`locate`] and [`owner`] lead from a partition to
 //!   a sector and back, [`verify`] says whether the disk is healthy or what is wrong.
 //! - **Change**: [`parse_edit`] reads a word such as `n:1:0:+204800:EF00`, and [`commit`] does a list of words, all of them or none.
