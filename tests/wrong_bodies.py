@@ -125,10 +125,11 @@ def unread(said, texts, bodies):
     return None
 
 
-def goals_of(said, name):
-    """The goals that a function leaves open, as the prover names them."""
+def goals_of(said, verdict, name):
+    """The goals that a function leaves open, as the prover names them: in its verdict, and in the lines of a proof to be written."""
     block = re.search(rf"^help: write \./proofs/(?:\S+/)?{name}/Answers\.antt with .*\n((?:    .*\n|\n)*)", said, re.MULTILINE)
-    return re.findall(r"^    pub (\S+) : goal\.", block[1], re.MULTILINE) if block else []
+    told = re.findall(r"`([^`]+)`", verdict.partition("did not prove")[2])
+    return [*dict.fromkeys([*told, *(re.findall(r"^    pub (\S+) : goal\.", block[1], re.MULTILINE) if block else [])])]
 
 
 def clause_of(goal):
@@ -143,7 +144,7 @@ def judge(body, said):
     verdict = re.search(rf"^fn \S*\b{body.name}: (.*)$", said, re.MULTILINE)
     if not verdict:
         return False, "not tried"
-    goals = goals_of(said, body.name)
+    goals = goals_of(said, verdict[1], body.name)
     clauses = [*dict.fromkeys(filter(None, map(clause_of, goals)))]
     if body.is_right:
         return verdict[1] == "proved", f"the right body isn't proved: {' '.join(goals) or verdict[1]}"
