@@ -156,10 +156,11 @@ def side_by_side(rt, crates, prove_one):
     the priority that the system gives their processes, and the others take what is left. Returns whether all went well."""
     slack, memory, done = slack_of(crates), 0.85 * rt.free(), queue.Queue()
     left, running, answers, failures = sorted(crates, key=lambda it: slack[it.name]), {}, {}, []
+    own = os.getpriority(os.PRIO_PROCESS, 0)
 
     def work(crate, jobs):
-        # a thread's own priority, which the processes that it starts have too
-        os.setpriority(os.PRIO_PROCESS, threading.get_native_id(), min(19, round(LEVELS_OF_SLACK * slack[crate.name])))
+        # a thread's own priority, which the processes that it starts have too, and never above the one that this script was given
+        os.setpriority(os.PRIO_PROCESS, threading.get_native_id(), min(19, own + round(LEVELS_OF_SLACK * slack[crate.name])))
         try:
             done.put((crate, prove_one(crate, jobs)))
         except BaseException as why:
