@@ -16,7 +16,7 @@ use Rattle.clap.specs.declared.parser.matches.ArgMatches.{ArgMatches}
 use Rattle.clap.specs.declared.error.kind.ErrorKind.{ErrorKind}
 use Rattle.clap.specs.declared.error.kind.ErrorKind.TheVariants.{DisplayHelp, DisplayVersion, OutOfMemory}
 use Rattle.clap.proofs.WalkLemmas.{list_any-map}
-use Rattle.pt_line.specs.CommandLine.{image_rules, no_lock, place_rules, plan_rules, ptab, word_rules, writing}
+use Rattle.pt_line.specs.CommandLine.{image_rules, no_lock, other_rules, place_rules, plan_only, plan_rules, ptab, word_rules, writing}
 use Rattle.pt_line.specs.Lines.{IsJob, IsJobOrEmpty, IsLineOf, IsLineOrEmpty, IsSize, IsSizeOrLess, IsUnknown, HasNoJob, MeansAt, MeansJob}
 use Rattle.pt_line.specs.Lines.{Tells}
 use Rattle.pt_line.specs.declared.line.Job.{Job}
@@ -143,6 +143,18 @@ module _ (sizes : Bor (List (Bor Text))) (rows : List Row) where
   )
   apply_job fair _ h = absurd (true≢false (ap (bytes_eq (codes "apply")) h.0))
 
+  adopt_job : IsFair MayBe (built_rules (writing (other_rules sizes))) rows → (j : Job) → IsJobOrEmpty (codes "adopt") rows j
+      → IsJob (codes "adopt") rows j
+  adopt_job fair (job.Help t) h = absurd h
+  adopt_job fair (job.Adopt image other adoption locked_by) h = (
+    h.0,
+    text_given rows fair.full (codes "IMAGE") _ (fair.given.0 refl) h.1,
+    text_given rows fair.full (codes "OTHER") _ (fair.given.1.0 refl) h.2,
+    h.3,
+    h.4,
+  )
+  adopt_job fair _ h = absurd (true≢false (ap (bytes_eq (codes "adopt")) h.0))
+
 -- what is known of each subcommand
 record IsRead (s : Shape) : Type 0 where
   reads : (rows : List Row) → IsFair MayBe s.rules rows → (line : Line) → IsJobOrEmpty s.name rows line.job → IsSizeOrLess rows line.size
@@ -191,9 +203,21 @@ module _ (sizes : Bor (List (Bor Text))) (are : texts sizes.now ≡ codes "512" 
     (((omega arith, λ v e is. absurd (true≢false (sym is))), tt), (((omega arith, one_of_two), ((λ is. inl refl), tt)), ((tt, tt), tt))),
   )
 
-  -- the flag's value isn't a size
+  -- a flag's value isn't a size
   flag_sound : IsSound MayBe (filled no_lock)
   flag_sound = ((omega arith, λ v e is. absurd (true≢false (sym is))), ((λ is. absurd (true≢false (sym is))), tt))
+
+  plan_flag_sound : IsSound MayBe (filled plan_only)
+  plan_flag_sound = ((omega arith, λ v e is. absurd (true≢false (sym is))), ((λ is. absurd (true≢false (sym is))), tt))
+
+  other_writing_sound : Each (IsSound MayBe) (built_rules (writing (other_rules sizes)))
+  other_writing_sound = (
+    ((omega arith, λ v e is. absurd (true≢false (sym is))), tt),
+    (
+      ((omega arith, λ v e is. absurd (true≢false (sym is))), tt),
+      (plan_flag_sound, (((omega arith, one_of_two), ((λ is. inl refl), tt)), (flag_sound, ((tt, tt), tt)))),
+    ),
+  )
 
   image_writing_sound : Each (IsSound MayBe) (built_rules (writing (image_rules sizes)))
   image_writing_sound = (image_sound.0, (image_sound.1.0, (flag_sound, image_sound.1.1)))
@@ -309,7 +333,21 @@ module _ (sizes : Bor (List (Bor Text))) (are : texts sizes.now ≡ codes "512" 
                     image_writing_sound,
                     refl,
                   ),
-                  (inl refl, tt),
+                  (
+                    inr (
+                      record {
+                        reads = λ rows fair line j z. (
+                          adopt_job sizes rows fair line.job j,
+                          sized rows fair.full
+                              (fair.present.1.1.1.0 (omega arith)) line.size z,
+                        );
+                        known = λ u. u.8 refl;
+                      },
+                      other_writing_sound,
+                      refl,
+                    ),
+                    (inl refl, tt),
+                  ),
                 ),
               ),
             ),

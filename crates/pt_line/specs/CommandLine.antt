@@ -33,6 +33,10 @@ fresh = record (new_rule (codes "fresh")) {
 abbrev pub no_lock : Rule
 no_lock = record (new_rule (codes "no-lock")) { long = Some (codes "no-lock"); action = Some SetTrue }
 
+-- `--plan`, a flag
+abbrev pub plan_only : Rule
+plan_only = record (new_rule (codes "plan")) { long = Some (codes "plan"); action = Some SetTrue }
+
 -- one word or more
 abbrev pub edit_words : Rule
 edit_words = record (new_rule (codes "WORD")) {
@@ -53,6 +57,10 @@ word_rules sizes = needed (codes "IMAGE") ∷ fresh ∷ sector_size sizes ∷ ed
 
 abbrev pub plan_rules : Bor (List (Bor Text)) → List Rule
 plan_rules sizes = needed (codes "IMAGE") ∷ needed (codes "PLANFILE") ∷ sector_size sizes ∷ []
+
+-- on another image besides, with its plan alone or not
+abbrev pub other_rules : Bor (List (Bor Text)) → List Rule
+other_rules sizes = needed (codes "IMAGE") ∷ needed (codes "OTHER") ∷ plan_only ∷ sector_size sizes ∷ []
 
 -- the same of a command that writes the image
 abbrev pub writing : List Rule → List Rule
@@ -81,5 +89,6 @@ ptab sizes = record {
       ∷ subcommand (codes "check") (plan_rules sizes)
       ∷ subcommand (codes "apply") (writing (plan_rules sizes))
       ∷ subcommand (codes "repair") (writing (image_rules sizes))
+      ∷ subcommand (codes "adopt") (writing (other_rules sizes))
       ∷ [];
 }

@@ -12,6 +12,8 @@ use Rattle.clap.specs.declared.builder.command.Command.TheViews.{out-Command}
 use Rattle.clap.specs.declared.error.kind.ErrorKind.{ErrorKind}
 use Rattle.clap.specs.declared.error.kind.ErrorKind.TheVariants.{DisplayHelp, DisplayVersion, OutOfMemory}
 use Rattle.pt_line.specs.CommandLine.{ptab}
+use Rattle.pt_line.specs.declared.line.Adoption.{Adoption}
+use Rattle.pt_line.specs.declared.line.Adoption.TheVariants.{Planned, Written}
 use Rattle.pt_line.specs.declared.line.Job.{Job}
 use Rattle.pt_line.specs.declared.line.Job.TheVariants as job
 use Rattle.pt_line.specs.declared.line.Line.{Line}
@@ -48,10 +50,19 @@ AddsPage ptab page made =
 
 -- ---- the job
 
--- the lock is the caller's where the flag `--no-lock` was given, which then has the value `true`
+-- a flag was given, which then has the value `true`
+abbrev pub IsGiven : List Row → Text → Type 0
+IsGiven rows id = first_of id rows ≡ Some (codes "true")
+
+-- the lock is the caller's where the flag `--no-lock` was given
 abbrev pub IsLockedBy : List Row → LockedBy → Type 0
-IsLockedBy rows Caller = first_of (codes "no-lock") rows ≡ Some (codes "true")
-IsLockedBy rows Ptab = first_of (codes "no-lock") rows ≢ Some (codes "true")
+IsLockedBy rows Caller = IsGiven rows (codes "no-lock")
+IsLockedBy rows Ptab = ¬ IsGiven rows (codes "no-lock")
+
+-- the plan alone is wanted where the flag `--plan` was given
+abbrev pub IsAdoption : List Row → Adoption → Type 0
+IsAdoption rows Planned = IsGiven rows (codes "plan")
+IsAdoption rows Written = ¬ IsGiven rows (codes "plan")
 
 -- the job of the subcommand with this name: `one` says what text an argument gives, and `all` what texts
 abbrev pub IsJobBy : (Text → Text → Type 0) → (Text → List Text → Type 0) → Text → List Row → Job → Type 0
@@ -71,6 +82,8 @@ IsJobBy one all name rows (job.Apply image file locked_by) = (name ≡ codes "ap
     × one (codes "PLANFILE") (string_bytes file) × IsLockedBy rows locked_by
 IsJobBy one all name rows (job.Repair image locked_by) =
     (name ≡ codes "repair") × one (codes "IMAGE") (string_bytes image) × IsLockedBy rows locked_by
+IsJobBy one all name rows (job.Adopt image other adoption locked_by) = (name ≡ codes "adopt") × one (codes "IMAGE") (string_bytes image)
+    × one (codes "OTHER") (string_bytes other) × IsAdoption rows adoption × IsLockedBy rows locked_by
 
 -- its texts are the values of its arguments, which have them
 abbrev pub IsJob : Text → List Row → Job → Type 0
@@ -111,6 +124,7 @@ IsLineOf (Some p) line = IsJob p.0 p.1 line.job × IsSize p.1 line.size
 abbrev pub IsUnknown : Text → Type 0
 IsUnknown name = (name ≢ codes "show") × (name ≢ codes "verify") × (name ≢ codes "locate") × (name ≢ codes "edit")
     × (name ≢ codes "plan") × (name ≢ codes "check") × (name ≢ codes "apply") × (name ≢ codes "repair")
+    × (name ≢ codes "adopt")
 
 -- what the name and the values come to
 abbrev pub IfJob : Text → List Row → Result Job LineError → Type 0

@@ -96,6 +96,21 @@ the same partitions. On a healthy image nothing is written.
 Exit status: 0 done, 2 usage, 3 refused, 4 no table, 5 the image can't be
 opened, read or written, 6 no memory. After 2, 3, 4 and 6 nothing was written.";
 
+pub const ADOPT: &str = "\
+The table that OTHER denotes becomes the image's, by a checked plan: a stop at
+any moment leaves the image's old table or OTHER's. Both have as many sectors.
+So the edit of any tool can be made safe: it works on a copy, and the image
+takes the copy's table (`ptab-run` does all of this). What no table has isn't
+taken: boot code, an MBR's disk signature, hybrid records, data.
+  refused: plan N      no plan leads there: the number is `edit`'s
+  refused: other size  OTHER has another number of sectors
+  refused: locked      another program has the image's lock
+  other: ..            a fault of OTHER: `no table` and its reason, or `device`
+
+Exit status: 0 done, or planned, 2 usage, 3 refused, 4 OTHER has no table, 5 an
+image can't be opened, read or written, 6 no memory. After 2, 3, 4 and 6 nothing
+was written.";
+
 pub const SHOW_ABOUT: &str = "Prints the image's partitions, a line each";
 
 pub const VERIFY_ABOUT: &str = "Prints `yes` where the image is healthy, else what is wrong";
@@ -108,6 +123,8 @@ pub const PLAN_ABOUT: &str = "Prints the plan of what `edit` would write, and wr
 
 pub const CHECK_ABOUT: &str =
     "Answers whether a plan may be applied to the image, and writes nothing";
+
+pub const ADOPT_ABOUT: &str = "Gives the image the table of another one, as one change";
 
 pub const APPLY_ABOUT: &str = "Applies a plan to the image, where `check` says yes";
 

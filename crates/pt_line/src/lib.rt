@@ -6,4 +6,4 @@ mod help;
 mod line;
 
 pub use args::take_words;
-pub use line::{Job, Line, LineError, LockedBy, SectorSize, read_line};
+pub use line::{Adoption, Job, Line, LineError, LockedBy, SectorSize, read_line};

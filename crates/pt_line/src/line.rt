@@ -1,19 +1,21 @@
 //! The command line.
 
-ghost use Rattle.std.specs.Prelude.{◌≡◌, ◌↔◌, ◌∷◌, [], Result, Some, true, IfOk, IfErr, MatchResult, codes, map, string_bytes};
+ghost use Rattle.std.specs.Prelude.{◌≡◌, ◌↔◌, ◌∷◌, [], Result, Some, true, IfOk, IfErr, IsTrue, MatchResult, codes, map, string_bytes};
 ghost use Rattle.std.specs.Borrow.{Bor};
 ghost use Rattle.clap.specs.Walk.{texts as slice_texts};
 ghost use Rattle.clap.specs.Words.{found_of, kind_of, new_app, new_rule, rows_of, subcommand_rows_of};
 ghost use Rattle.clap.specs.declared.builder.action.ArgAction.TheVariants.{Set, SetTrue};
 ghost use Rattle.pt_line.specs.CommandLine as spec;
 ghost use Rattle.pt_line.specs.declared.line.LineError.TheVariants.{Memory};
-ghost use Rattle.pt_line.specs.Lines.{AddsPage, AddsRule, GivesIf, IfJob, IsArg, IsCommand, IsLockedBy, IsSizeNamed, IsSizeOrLess, Means};
+ghost use Rattle.pt_line.specs.Lines.{AddsPage, AddsRule, GivesIf, IfJob, IsAdoption, IsArg, IsCommand, IsGiven, IsLockedBy};
+ghost use Rattle.pt_line.specs.Lines.{IsSizeNamed, IsSizeOrLess, Means};
 ghost use Rattle.pt_line.specs.Lines.{MeansJob, TakesArg, Tells};
 ghost use Rattle.pt_line.specs.Lines.{text_in, texts_in};
 
 use crate::help::{
-    ABOUT, APPLY, APPLY_ABOUT, CHECK, CHECK_ABOUT, EDIT, EDIT_ABOUT, LOCATE, LOCATE_ABOUT, PLAN,
-    PLAN_ABOUT, REPAIR, REPAIR_ABOUT, SHOW, SHOW_ABOUT, STATUSES, VERIFY, VERIFY_ABOUT, VERSION,
+    ABOUT, ADOPT, ADOPT_ABOUT, APPLY, APPLY_ABOUT, CHECK, CHECK_ABOUT, EDIT, EDIT_ABOUT, LOCATE,
+    LOCATE_ABOUT, PLAN, PLAN_ABOUT, REPAIR, REPAIR_ABOUT, SHOW, SHOW_ABOUT, STATUSES, VERIFY,
+    VERIFY_ABOUT, VERSION,
 };
 use clap::error::ErrorKind;
 use clap::{Arg, ArgAction, ArgMatches, Command};
@@ -34,6 +36,15 @@ pub enum LockedBy {
     Ptab,
     /// The caller's, who says so by `--no-lock`.
     Caller,
+}
+
+/// What an adoption comes to.
+#[derive(Clone, Copy)]
+pub enum Adoption {
+    /// The image's new table.
+    Written,
+    /// Its plan alone, by `--plan`.
+    Planned,
 }
 
 /// A command line that was read.
@@ -81,6 +92,12 @@ pub enum Job {
     },
     Repair {
         image: String,
+        locked_by: LockedBy,
+    },
+    Adopt {
+        image: String,
+        other: String,
+        adoption: Adoption,
         locked_by: LockedBy,
     },
 }
@@ -170,6 +187,25 @@ fn no_lock<'a>(alloc: Global) -> Arg<'a>
         .long("no-lock")
         .action(ArgAction::SetTrue)
         .help("Take no lock: the caller holds the image's")
+}
+
+fn other<'a>(alloc: Global) -> Arg<'a>
+    ensures { IsArg (spec.needed (codes "OTHER")) result }
+{
+    needed(
+        alloc,
+        "OTHER",
+        "The image whose table is taken, a plain file that is only read",
+    )
+}
+
+fn plan_only<'a>(alloc: Global) -> Arg<'a>
+    ensures { IsArg spec.plan_only result }
+{
+    Arg::new(alloc, "plan")
+        .long("plan")
+        .action(ArgAction::SetTrue)
+        .help("Print the plan, and write nothing")
 }
 
 fn words<'a>(alloc: Global) -> Arg<'a>
@@ -297,6 +333,21 @@ fn on_plan<'a>(
     with_arg(page, sector_size(alloc, sizes))
 }
 
+fn on_other<'a>(
+    alloc: Global,
+    sizes: &'a [&'a str],
+    name: &'a str,
+    about: &'a str,
+    after: &'a str,
+) -> Result<Command<'a>, AllocError>
+    ensures { IfOk result (IsCommand (spec.page name.entry.now (spec.other_rules sizes.entry))) }
+{
+    let page = image_page(alloc, name, about, after);
+    let page = with_arg(page, other(alloc));
+    let page = with_arg(page, plan_only(alloc));
+    with_arg(page, sector_size(alloc, sizes))
+}
+
 /// The command with one more page, where both were made.
 // So `command` has no early end, in which it would own a command.
 fn with_page<'a>(
@@ -334,7 +385,9 @@ fn command<'a>(alloc: Global, sizes: &'a [&'a str]) -> Result<Command<'a>, Alloc
     let apply = on_plan(alloc, sizes, "apply", APPLY_ABOUT, APPLY);
     let ptab = with_page(ptab, writing(alloc, apply));
     let repair = on_image(alloc, sizes, "repair", REPAIR_ABOUT, REPAIR);
-    with_page(ptab, writing(alloc, repair))
+    let ptab = with_page(ptab, writing(alloc, repair));
+    let adopt = on_other(alloc, sizes, "adopt", ADOPT_ABOUT, ADOPT);
+    with_page(ptab, writing(alloc, adopt))
 }
 
 fn text_of(alloc: Global, matches: &ArgMatches<'_>, id: &str) -> Result<String, AllocError>
@@ -392,16 +445,32 @@ fn size_of(matches: &ArgMatches<'_>) -> SectorSize
     }
 }
 
+fn is_given(matches: &ArgMatches<'_>, id: &str) -> bool
+    ensures { IsTrue result ↔ IsGiven (rows_of (found_of matches.now)) id.now }
+{
+    let Some(flag) = matches.get_str(id) else {
+        return false;
+    };
+    flag == "true"
+}
+
 fn locked_by(matches: &ArgMatches<'_>) -> LockedBy
     ensures { IsLockedBy (rows_of (found_of matches.now)) result }
 {
-    let Some(flag) = matches.get_str("no-lock") else {
-        return LockedBy::Ptab;
-    };
-    if flag == "true" {
+    if is_given(matches, "no-lock") {
         LockedBy::Caller
     } else {
         LockedBy::Ptab
+    }
+}
+
+fn adoption_of(matches: &ArgMatches<'_>) -> Adoption
+    ensures { IsAdoption (rows_of (found_of matches.now)) result }
+{
+    if is_given(matches, "plan") {
+        Adoption::Planned
+    } else {
+        Adoption::Written
     }
 }
 
@@ -424,6 +493,18 @@ fn place_job(alloc: Global, inner: &ArgMatches<'_>, image: String) -> Result<Job
         image,
         path: text_of(alloc, inner, "PATH")?,
         place: text_of(alloc, inner, "K")?,
+    })
+}
+
+fn adopt_job(alloc: Global, inner: &ArgMatches<'_>, image: String) -> Result<Job, LineError>
+    requires { string_bytes image ≡ text_in (rows_of (found_of inner.now)) (codes "IMAGE") }
+    ensures { IfJob (codes "adopt") (rows_of (found_of inner.now)) result }
+{
+    Ok(Job::Adopt {
+        image,
+        other: text_of(alloc, inner, "OTHER")?,
+        adoption: adoption_of(inner),
+        locked_by: locked_by(inner),
     })
 }
 
@@ -465,6 +546,7 @@ fn job_of(alloc: Global, name: &str, inner: &ArgMatches<'_>) -> Result<Job, Line
             image,
             locked_by: locked_by(inner),
         }),
+        "adopt" => adopt_job(alloc, inner, image),
         _ => Err(LineError::Usage(String::new(alloc))),
     }
 }

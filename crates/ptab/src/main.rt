@@ -1,6 +1,7 @@
 //! The command `ptab`: shows, verifies, edits and repairs the partition table of a disk image, and plans and checks edits.
 #![tactic(auto)]
 
+mod adopt;
 mod edits;
 mod images;
 mod plan_file;

@@ -2,6 +2,7 @@
 
 ghost use Rattle.pt_sector.specs.Sectors.{IsSectorSize};
 
+use crate::adopt::adopt;
 use crate::edits::{edit, plan};
 use crate::plans::{apply, check};
 use crate::repair::repair;
@@ -51,6 +52,12 @@ fn reply_to<const B: usize, R: Files<File = File> + AllocGlobal>(
             locked_by,
         } => apply::<B, R>(rt, image.as_str(), locked_by, file.as_str()),
         Job::Repair { image, locked_by } => repair::<B, R>(rt, image.as_str(), locked_by),
+        Job::Adopt {
+            image,
+            other,
+            adoption,
+            locked_by,
+        } => adopt::<B, R>(rt, image.as_str(), other.as_str(), adoption, locked_by),
     }
 }
 

@@ -4,7 +4,7 @@ use pt_check::CheckError;
 use pt_file::OpenError;
 use pt_layout::{NoTable, VerifyError};
 use pt_line::LineError;
-use pt_plan::{CommitError, RepairError};
+use pt_plan::{CommitError, LikeError, RepairError};
 use pt_report::print_no_table;
 use std::alloc::AllocError;
 use std::io;
@@ -66,6 +66,12 @@ pub enum Failure {
     PlanText(u64),
     /// The image's lock is held elsewhere.
     Locked,
+    /// The image whose table is to be taken has another number of sectors.
+    OtherSize,
+    /// That image can't be opened.
+    OtherDevice,
+    /// Why that image has no table to take.
+    Other(NoTable),
     NoTable(NoTable),
     Device,
     /// Nobody reads the output any more: there is no line, since that is nobody's fault.
@@ -99,11 +105,11 @@ impl Failure {
             | Failure::Check(_)
             | Failure::Repair(_)
             | Failure::PlanText(_)
-            | Failure::Locked => Status::Refused,
-            Failure::NoTable(NoTable::Device(_)) | Failure::Device | Failure::ClosedPipe =>
-                Status::Device,
-            Failure::NoTable(NoTable::Memory) | Failure::Memory => Status::Memory,
-            Failure::NoTable(_) => Status::NoTable,
+            | Failure::Locked
+            | Failure::OtherSize => Status::Refused,
+            Failure::NoTable(why) | Failure::Other(why) => status_of(*why),
+            Failure::Device | Failure::ClosedPipe | Failure::OtherDevice => Status::Device,
+            Failure::Memory => Status::Memory,
         }
     }
 
@@ -129,12 +135,30 @@ impl Failure {
             Failure::Repair(number) => print_refusal(err, "repair", u64::from(*number)),
             Failure::PlanText(line) => print_refusal(err, "plan text", *line),
             Failure::Locked => err.write_all(b"refused: locked\n"),
+            Failure::OtherSize => err.write_all(b"refused: other size\n"),
+            Failure::OtherDevice => err.write_all(b"other: device\n"),
+            Failure::Other(why) => print_other(err, *why),
             Failure::NoTable(why) => print_no_table(err, *why),
             Failure::Device => err.write_all(b"device\n"),
             Failure::ClosedPipe => Ok(()),
             Failure::Memory => err.write_all(b"memory\n"),
         }
     }
+}
+
+/// The status that goes with an image without a table.
+fn status_of(why: NoTable) -> Status {
+    match why {
+        NoTable::Device(_) => Status::Device,
+        NoTable::Memory => Status::Memory,
+        _ => Status::NoTable,
+    }
+}
+
+/// Why the image whose table is to be taken has none.
+fn print_other<E: Write>(err: &mut E, why: NoTable) -> io::Result<()> {
+    err.write_all(b"other: ")?;
+    print_no_table(err, why)
 }
 
 /// What refused it, and the number by which it says why.
@@ -200,6 +224,16 @@ impl From<CommitError> for Failure {
             CommitError::Check(why) => Failure::Check(why.number()),
             CommitError::Device(_) => Failure::Device,
             CommitError::Memory => Failure::Memory,
+        }
+    }
+}
+
+impl From<LikeError> for Failure {
+    fn from(error: LikeError) -> Failure {
+        match error {
+            LikeError::OtherSize => Failure::OtherSize,
+            LikeError::Other(why) => Failure::Other(why),
+            LikeError::Disk(error) => Failure::from(error),
         }
     }
 }

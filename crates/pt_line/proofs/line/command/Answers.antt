@@ -13,4 +13,6 @@ returns c =
     let applies = IfOk-weaker c.writing-2.result _ _ (λ r adds. adds _ c.on_plan-apply.ensures) c.writing-2.ensures in
     let apply = IfOk-weaker c.with_page-ptab-7.result _ _ (λ r adds. adds _ _ check applies) c.with_page-ptab-7.ensures in
     let repairs = IfOk-weaker c.writing-3.result _ _ (λ r adds. adds _ c.on_image-repair.ensures) c.writing-3.ensures in
-    IfOk-weaker c.with_page.result _ _ (λ r adds. adds _ _ apply repairs) c.with_page.ensures
+    let repair = IfOk-weaker c.with_page-ptab-8.result _ _ (λ r adds. adds _ _ apply repairs) c.with_page-ptab-8.ensures in
+    let adopts = IfOk-weaker c.writing-4.result _ _ (λ r adds. adds _ c.on_other-adopt.ensures) c.writing-4.ensures in
+    IfOk-weaker c.with_page.result _ _ (λ r adds. adds _ _ repair adopts) c.with_page.ensures

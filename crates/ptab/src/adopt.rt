@@ -1,0 +1,68 @@
+//! The command's `adopt`.
+
+ghost use Rattle.pt_sector.specs.Sectors.{IsSectorSize};
+
+use crate::images::open_to_write;
+use crate::texts::Failure;
+use pt_apply::plan_text;
+use pt_file::{Access, FileDisk};
+use pt_line::{Adoption, LockedBy};
+use pt_plan::{commit_like, plan_like};
+use pt_report::Reply;
+use std::fs::{File, Files};
+
+/// Gives an image the table that another one has, or prints the plan for that. The other image is opened first, for reading alone.
+pub fn adopt<const B: usize, R: Files<File = File> + AllocGlobal>(
+    rt: &R,
+    image: &str,
+    other: &str,
+    adoption: Adoption,
+    locked_by: LockedBy,
+) -> Result<Reply, Failure>
+    requires { IsSectorSize B }
+{
+    let other = open_other::<B, R>(rt, other)?;
+    match adoption {
+        Adoption::Written => take::<B, R>(rt, image, other, locked_by),
+        Adoption::Planned => plan_taking::<B, R>(rt, image, other),
+    }
+}
+
+fn open_other<const B: usize, R: Files<File = File>>(
+    rt: &R,
+    other: &str,
+) -> Result<FileDisk<B>, Failure>
+    requires { IsSectorSize B }
+{
+    match FileDisk::<B>::open(rt, other, Access::Read) {
+        Ok(disk) => Ok(disk),
+        Err(_) => Err(Failure::OtherDevice),
+    }
+}
+
+/// The image takes the other one's table.
+fn take<const B: usize, R: Files<File = File> + AllocGlobal>(
+    rt: &R,
+    image: &str,
+    mut other: FileDisk<B>,
+    locked_by: LockedBy,
+) -> Result<Reply, Failure>
+    requires { IsSectorSize B }
+{
+    let mut disk = open_to_write::<B, R>(rt, image, locked_by)?;
+    commit_like::<B, _, _>(rt.alloc(), &mut disk, &mut other)?;
+    Ok(Reply::Done)
+}
+
+/// The plan for that, as text.
+fn plan_taking<const B: usize, R: Files<File = File> + AllocGlobal>(
+    rt: &R,
+    image: &str,
+    mut other: FileDisk<B>,
+) -> Result<Reply, Failure>
+    requires { IsSectorSize B }
+{
+    let mut disk = FileDisk::<B>::open(rt, image, Access::Read)?;
+    let plan = plan_like::<B, _, _>(rt.alloc(), &mut disk, &mut other)?;
+    Ok(Reply::Text(plan_text(rt.alloc(), &plan)?))
+}
