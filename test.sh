@@ -36,6 +36,7 @@ rows.py "$ptab" "$doubles"
 hostile.py "$ptab" 8000
 no_memory.py "$ptab"
 no_device.py "$ptab"
+adopt.py "$ptab"
 locks.py "$ptab"
 power_cut.py "$ptab"
 malicious.py "$ptab" "$doubles"

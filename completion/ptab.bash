@@ -46,21 +46,22 @@ _ptab() {
   if [ -z "$command" ]; then
     case $current in
       -*) _ptab_of "$current" --help -h --version -V ;;
-      *) _ptab_of "$current" show verify locate edit plan check apply repair help ;;
+      *) _ptab_of "$current" show verify locate edit plan check apply repair adopt help ;;
     esac
     return
   fi
   case $command:$current in
-    help:*) [ ${#places[@]} = 0 ] && _ptab_of "$current" show verify locate edit plan check apply repair; return ;;
+    help:*) [ ${#places[@]} = 0 ] && _ptab_of "$current" show verify locate edit plan check apply repair adopt; return ;;
     edit:-*) _ptab_of "$current" --fresh --sector-size --no-lock --help -h; return ;;
     plan:-*) _ptab_of "$current" --fresh --sector-size --help -h; return ;;
+    adopt:-*) _ptab_of "$current" --plan --sector-size --no-lock --help -h; return ;;
     apply:-* | repair:-*) _ptab_of "$current" --sector-size --no-lock --help -h; return ;;
     *:-*) _ptab_of "$current" --sector-size --help -h; return ;;
   esac
   shopt -q extglob && extglob=1
   shopt -s extglob
   case $command:${#places[@]} in
-    show:0 | verify:0 | locate:0 | edit:0 | plan:0 | check:0 | apply:0 | repair:0) _ptab_images "$current" ;;
+    show:0 | verify:0 | locate:0 | edit:0 | plan:0 | check:0 | apply:0 | repair:0 | adopt:0 | adopt:1) _ptab_images "$current" ;;
     check:1 | apply:1)
       mapfile -t COMPREPLY < <(compgen -f -- "$current")
       compopt -o filenames 2>/dev/null

@@ -14,7 +14,7 @@ import sys
 import tempfile
 
 TOP = os.path.join(os.path.dirname(os.path.abspath(__file__)), "..")
-COMMANDS = ("show", "verify", "locate", "edit", "plan", "check", "apply", "repair")
+COMMANDS = ("show", "verify", "locate", "edit", "plan", "check", "apply", "repair", "adopt")
 NOT_DIAGNOSTICS = ("Word", "Table", "Status", "E")
 # what docs/commands.md writes shorter: the text there, and those printed that it stands for
 SHORT = {"no table: ..": [], "a number": [], "no 5 alternate primary": ["no 5 alternate primary", "no 5 alternate backup"],

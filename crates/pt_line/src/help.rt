@@ -98,18 +98,16 @@ opened, read or written, 6 no memory. After 2, 3, 4 and 6 nothing was written.";
 
 pub const ADOPT: &str = "\
 The table that OTHER denotes becomes the image's, by a checked plan: a stop at
-any moment leaves the image's old table or OTHER's. Both have as many sectors.
-So the edit of any tool can be made safe: it works on a copy, and the image
-takes the copy's table (`ptab-run` does all of this). What no table has isn't
-taken: boot code, an MBR's disk signature, hybrid records, data.
-  refused: plan N      no plan leads there: the number is `edit`'s
-  refused: other size  OTHER has another number of sectors
-  refused: locked      another program has the image's lock
-  other: ..            a fault of OTHER: `no table` and its reason, or `device`
+any moment leaves the old table or OTHER's. Both have as many sectors. So any
+tool's edit is safe: it works on a copy, whose table the image takes. Not taken:
+boot code, an MBR's disk signature, hybrid records, data.
+  refused: plan N, locked   as by `edit`
+  refused: other size       OTHER has another number of sectors
+  other: ..                 a fault of OTHER, as `no table: ..` or `device`
 
-Exit status: 0 done, or planned, 2 usage, 3 refused, 4 OTHER has no table, 5 an
-image can't be opened, read or written, 6 no memory. After 2, 3, 4 and 6 nothing
-was written.";
+Exit status: 0 done, 2 usage, 3 refused, 4 OTHER has no table, 5 an image can't
+be opened, read or written: it has the old table or OTHER's, 6 no memory. After
+2, 3, 4 and 6 nothing was written.";
 
 pub const SHOW_ABOUT: &str = "Prints the image's partitions, a line each";
 
