@@ -6,7 +6,8 @@ among them leaves has the old table or the new one, and a repair of it keeps tha
 
 Then what ptab-run does beside: its options, its refusals and faults, backups. Then each call of docs/other_tools.md.
 
-usage: tests/other_tools.py PTAB
+usage: tests/other_tools.py PTAB [all]
+Without `all` every other job that writes the copies of a GPT isn't stopped.
 """
 import ast
 import os
@@ -90,7 +91,7 @@ def changed(before, after, size):
 class Tried:
     """A job, done on an image by ptab-run and on a plain copy of it."""
 
-    def __init__(self, ptab, job, folder):
+    def __init__(self, ptab, bases, job, folder):
         self.ptab, self.job, self.folder = ptab, job, folder
         self.what = f"{job.image}: {' '.join(job.tool)} {job.lines.split()}"
         self.sectors = LARGE if job.size == 4096 else SMALL
@@ -99,8 +100,8 @@ class Tried:
         for path in self.paths.values():
             os.mkdir(os.path.dirname(path))
         self.path = self.paths["ours"]
-        other_tools_jobs.make(job.image, self.path)
-        shutil.copy(self.path, self.paths["bare"])
+        for path in (self.path, self.paths["bare"]):
+            shutil.copy(f"{bases}/{job.image}", path)
         self.before = content(self.path)
         self.old = self.show(self.path)
         self.known = {it.lower() for it in re.findall(GUID, str((self.old, views(self.path, self.kind(self.old), job.size), job)))}
@@ -168,39 +169,52 @@ class Tried:
         self.same("boot code", self.after[:440], self.before[:440])
 
     def cut(self, new):
-        """How many stopped images were looked at."""
+        """How many stopped images were looked at. Every third one is repaired as well."""
         rng, path, count = random.Random(1), self.paths["stop"], 0
-        phases = [phase for phase in self.phases if phase]
         before, turned = self.before, self.old == new
-        for number, phase in enumerate(phases, 1):
+        self.put(path, before)
+        for number, phase in enumerate((phase for phase in self.phases if phase), 1):
             whole = bytes(written(before, phase, self.sectors))
-            turns = not turned and self.shown_of(path, whole) == new
+            turns = not turned and self.stopped(path, before, phase) == new
+            allowed = (self.old, new) if turns else (new,) if turned else (self.old,)
             for writes in choices(rng, phase):
-                found = self.shown_of(path, bytes(written(before, writes, self.sectors)))
-                allowed = (self.old, new) if turns else (new,) if turned else (self.old,)
-                told = f"{self.what}: stopped in phase {number} by {[lba for lba, _ in writes]}"
+                found = self.stopped(path, before, writes, count % 3 == 0)
                 if found not in allowed:
-                    fail(told, found, allowed)
-                repaired = self.show(path, "repair")
-                if found[2] == 0 and (repaired, self.show(path), self.show(path, "verify")[0]) != (("done\n", "", 0), found, "yes\n"):
-                    fail(f"{told}: repaired", (repaired, self.show(path)), found)
+                    fail(f"{self.what}: stopped in phase {number} by {[lba for lba, _ in writes]}", found, allowed)
                 count += 1
             before, turned = whole, turned or turns
+            self.put(path, before)
         self.same("all writes", before == self.after, True)
         return count
 
-    def shown_of(self, path, image):
+    def stopped(self, path, before, writes, repairs=False):
+        """What show tells of an image with these writes. A repair keeps that, and leaves it healthy."""
+        size = self.job.size
+        with open(path, "r+b", buffering=0) as it:
+            for lba, bytes_of in writes:
+                os.pwrite(it.fileno(), bytes_of, lba * size)
+            found = self.show(path)
+            if repairs and found[2] == 0:
+                told = self.show(path, "repair"), self.show(path), self.show(path, "verify")
+                self.same(f"{[lba for lba, _ in writes]}, repaired", told, (("done\n", "", 0), found, ("yes\n", "", 0)))
+                os.pwrite(it.fileno(), before, 0)
+            for lba, _ in writes:
+                os.pwrite(it.fileno(), before[lba * size:][:size], lba * size)
+        return found
+
+    @staticmethod
+    def put(path, image):
         with open(path, "wb") as it:
             it.write(image)
-        return self.show(path)
 
 
-def tried(ptab, job):
+def tried(ptab, bases, job, always):
     """How many stopped images were looked at, none where the job is refused."""
     with room() as folder:
-        it = Tried(ptab, job, folder)
+        it = Tried(ptab, bases, job, folder)
         if job.wanted is None:
-            count = it.cut(it.is_done())
+            new = it.is_done()
+            count = it.cut(new) if always or all(len(phase) < 4 for phase in it.phases) else 0
         else:
             it.is_refused()
             count = None
@@ -211,14 +225,19 @@ def tried(ptab, job):
 def main():
     ptab = os.path.abspath(sys.argv[1])
     ast.parse(content(RUN), feature_version=(3, 8))
-    with ProcessPoolExecutor() as pool:
-        counts = [pool.submit(tried, ptab, job) for job in other_tools_jobs.jobs()]
+    jobs = list(other_tools_jobs.jobs())
+    # more than there are processors, since sgdisk sleeps for a second where it has written
+    with room() as bases, ProcessPoolExecutor(2 * len(os.sched_getaffinity(0))) as pool:
+        names = {job.image for job in jobs}
+        for made in [pool.submit(other_tools_jobs.make, name, f"{bases}/{name}") for name in names]:
+            made.result()
+        counts = [pool.submit(tried, ptab, bases, job, sys.argv[2:] == ["all"] or number % 2 == 0) for number, job in enumerate(jobs)]
         more = [pool.submit(other_tools_runs.all_of, ptab, RUN), pool.submit(other_tools_page.all_of, ptab, RUN)]
         counts = [it.result() for it in counts]
         runs, pairs = (it.result() for it in more)
     cuts = [it for it in counts if it is not None]
-    print(f"other tools: {len(cuts)} jobs are done, {len(counts) - len(cuts)} are refused or change nothing, 0 failed; of the former "
-          f"{sum(cuts)} stopped images have the old table or the new one")
+    print(f"other tools: {len(cuts)} jobs are done, {len(counts) - len(cuts)} are refused or change nothing, 0 failed; {sum(cuts)} images of "
+          f"{sum(it > 0 for it in cuts)} jobs that were stopped have the old table or the new one")
     print(f"ptab-run: {runs} passed, 0 failed; docs/other_tools.md: {pairs} passed, 0 failed")
 
 

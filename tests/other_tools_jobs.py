@@ -128,6 +128,7 @@ SFDISK = (
     ("blank", "@", None, "label: gpt", "unit: sectors", "size=1024,type=U,name=esp", "type=L"),
     ("blank", "@", None, "label: gpt", "first-lba: 34", *(f"start={2048 + 128 * k},size=64,type={LVM},name=volume{k}" for k in range(40))),
     ("gpt", "@", NO_TABLE, "label: gpt", "table-length: 64", "2048,1024"), ("gpt", "--wipe always @", None, "label: dos", "2048,2048,83,*"),
+    ("gpt", "--wipe always @", LOSSY, "label: dos", "2048,,83"), ("gpt", "@", LOSSY, "label: dos", "2048,,83"),
     ("gpt, boot loader", "@", None, "label: dos", "2048,2048,83"), ("mbr", "@", None, "label: gpt", "2048,2048", "4096,2048"),
     ("blank", "@", None, "label: dos", "2048,2048,83,*", "4096,,7"),
     ("blank", "@", None, "label: dos", "2048,12288,5", "4096,1024", "8192,1024"), ("mbr", "-A @ 2"), ("mbr", "-A @ 1 2"),

@@ -119,6 +119,26 @@ def faults(it):
     it.same("a run that is ended", (child.wait(30), os.listdir(f"{it.folder}/left"), it.image() == before), (143, [], True))
 
 
+def killed(it):
+    """While ptab writes, the lock is held, also where the script is gone."""
+    with open(f"{it.folder}/ptab", "w", encoding="utf-8") as script:
+        script.write(f"""#!/bin/sh
+case "$*" in *--no-lock*)
+  kill -9 $PPID; sleep 0.2
+  flock -n {it.folder}/disk.img echo free >{it.folder}/found || echo locked >{it.folder}/found
+esac
+exec {it.ptab} "$@"
+""")
+    os.chmod(f"{it.folder}/ptab", 0o755)
+    it.make("gpt")
+    done = subprocess.run([it.run_file, it.path, "sgdisk", "-d", "1", "@"], capture_output=True, text=True,
+                          env={**it.where, "PTAB": f"{it.folder}/ptab"})
+    while len(it.show()[0].splitlines()) != 2 or it.ptab_says("verify", it.path)[2] != 0:
+        time.sleep(0.05)
+    with open(f"{it.folder}/found", encoding="utf-8") as found:
+        it.same("a script that is killed", (done.returncode, found.read()), (-9, "locked\n"))
+
+
 def other_data(it):
     """What the tool writes beside tables, and what stays as it was beside them."""
     lossy = "FOLDER/disk.img isn't touched; --lossy goes on without that"
@@ -262,7 +282,7 @@ def found_beside(it):
 def all_of(ptab, run):
     """How many answers were compared."""
     count = 0
-    for part in (options, faults, other_data, stale_label, plans, backups, backups_of_mbr, found_beside):
+    for part in (options, faults, killed, other_data, stale_label, plans, backups, backups_of_mbr, found_beside):
         with room() as folder:
             it = Runs(ptab, run, folder)
             part(it)
