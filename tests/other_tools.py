@@ -236,8 +236,8 @@ def main():
         counts = [it.result() for it in counts]
         runs, pairs = (it.result() for it in more)
     cuts = [it for it in counts if it is not None]
-    print(f"other tools: {len(cuts)} jobs are done, {len(counts) - len(cuts)} are refused or change nothing, 0 failed; {sum(cuts)} images of "
-          f"{sum(it > 0 for it in cuts)} jobs that were stopped have the old table or the new one")
+    print(f"other tools: {len(cuts)} jobs are done, {len(counts) - len(cuts)} are refused or change nothing, 0 failed; {sum(cuts)} images "
+          f"of {sum(it > 0 for it in cuts)} jobs that were stopped have the old table or the new one")
     print(f"ptab-run: {runs} passed, 0 failed; docs/other_tools.md: {pairs} passed, 0 failed")
 
 
