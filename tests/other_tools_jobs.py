@@ -89,6 +89,9 @@ def change(path, kind, more):
         fdisk(path, 512, "b", "y", "d", "d", "n", "a", "2064", "+1000", "w")
     elif more == "grown":
         os.truncate(path, 2 * SECTORS * 512)
+    elif more == "grown, data at the end":
+        os.truncate(path, 2 * SECTORS * 512)
+        put(path, (2 * SECTORS - 20) * 512, hashlib.sha256(b"end").digest() * 160)
     elif more == "primary lost":
         put(path, 512, bytes(512))
     elif more == "backup lost":
@@ -154,6 +157,7 @@ PARTED = (
     ("gpt", "set 1 bios_grub on"), ("gpt", "set 2 lvm on"), ("gpt", "set 2 raid on name 2 raid"), ("gpt", "set 1 legacy_boot on"),
     ("gpt", "set 2 hidden on set 2 msftdata on"), ("gpt", "name 2 root"), ("gpt", "unit s resizepart 2 12287"), ("gpt", "rm 1"),
     ("gpt", "unit s mkpart home ext4 10240 12287"), ("gpt", "disk_set pmbr_boot on", LOSSY), ("gpt, grown", "-f print"),
+    ("gpt, grown, data at the end", "name 1 x", LOSSY),
     ("blank", "unit s mklabel gpt mkpart esp fat32 2048 4095 set 1 esp on"),
     ("blank", "unit s mklabel msdos mkpart primary ext4 2048 4095"), ("gpt", "mklabel msdos"), ("mbr", "mklabel gpt"),
     ("mbr", "set 2 boot on"), ("mbr", "set 2 lba on"), ("mbr", "unit s resizepart 2 9000"), ("mbr, boot loader", "set 2 boot on"),

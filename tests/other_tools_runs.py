@@ -163,6 +163,14 @@ def other_data(it):
                f"not taken over: the backup copy, which has another table\n{lossy}")
 
 
+def mended(it):
+    """A backup copy that the tool leaves where the disk ended is written at its end."""
+    shown = it.make("gpt, grown").show()[0]
+    done = it.do(it.path, "parted", "-s", "@", "name", "1", "esp")
+    it.same("parted on a grown disk", (done[1].splitlines()[-1], done[2]), ("done", 0))
+    it.same("its table", (it.show()[0], it.ptab_says("verify", it.path)[0]), (shown.replace(" boot\n", " esp\n"), "yes\n"))
+
+
 def stale_label(it):
     """A label that lies where a new slice gets its own, which the copy doesn't have."""
     image = SMALL.mbr(16384, [record(0x83, 100, 100)])
@@ -282,7 +290,7 @@ def found_beside(it):
 def all_of(ptab, run):
     """How many answers were compared."""
     count = 0
-    for part in (options, faults, killed, other_data, stale_label, plans, backups, backups_of_mbr, found_beside):
+    for part in (options, faults, killed, other_data, mended, stale_label, plans, backups, backups_of_mbr, found_beside):
         with room() as folder:
             it = Runs(ptab, run, folder)
             part(it)
