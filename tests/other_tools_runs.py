@@ -123,7 +123,7 @@ def killed(it):
     """While ptab writes, the lock is held, also where the script is gone."""
     with open(f"{it.folder}/ptab", "w", encoding="utf-8") as script:
         script.write(f"""#!/bin/sh
-case "$*" in *--no-lock*)
+case "$*" in *"--no-lock {it.path} "*)
   kill -9 $PPID; sleep 0.2
   flock -n {it.folder}/disk.img echo free >{it.folder}/found || echo locked >{it.folder}/found
 esac
