@@ -214,6 +214,21 @@ def plans(it):
                            "not taken over: data in sectors 3000\nFOLDER/disk.img isn't touched; --lossy goes on without that")
 
 
+def full_output(it):
+    """A plan that nobody takes."""
+    before = it.make("gpt").image()
+    command = [it.run_file, "--plan", it.path, "sfdisk", "-q", "--delete", "@"]
+    with open("/dev/full", "wb") as full:
+        done = subprocess.run(command, stdout=full, stderr=subprocess.PIPE, env=it.where)
+    it.same("a full output", (done.returncode, done.stderr, it.image() == before),
+            (125, b"ptab-run: standard output: No space left on device\n", True))
+    inner, outer = os.pipe()
+    os.close(inner)
+    done = subprocess.run(command, stdout=outer, stderr=subprocess.PIPE, env=it.where)
+    os.close(outer)
+    it.same("a closed pipe", (done.returncode, done.stderr), (125, b"ptab-run: standard output: Broken pipe\n"))
+
+
 def backups(it):
     copy = f"{it.folder}/copy"
     it.make("gpt")
@@ -290,7 +305,7 @@ def found_beside(it):
 def all_of(ptab, run):
     """How many answers were compared."""
     count = 0
-    for part in (options, faults, killed, other_data, mended, stale_label, plans, backups, backups_of_mbr, found_beside):
+    for part in (options, faults, killed, other_data, mended, stale_label, plans, full_output, backups, backups_of_mbr, found_beside):
         with room() as folder:
             it = Runs(ptab, run, folder)
             part(it)
