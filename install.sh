@@ -1,6 +1,6 @@
 #!/usr/bin/env bash
-# Installs the program, its man page and its completion under PREFIX, and the library for callers in C (header, archive, shared object and
-# a pkg-config file), and says so in one line a file. It needs no root for a PREFIX of one's own.
+# Installs the program and ptab-run, their man pages and the program's completion under PREFIX, and the library for callers in C (header,
+# archive, shared object and a pkg-config file), and says so in one line a file. It needs no root for a PREFIX of one's own.
 #
 # usage: ./install.sh PREFIX
 #   PTAB=FILE     installs this program, and no library without LIBRARY; else the built one, which packaging/build.py proves and builds
@@ -42,7 +42,9 @@ put() { # MODE FILE PLACE
   echo "installed ${DESTDIR:-}$prefix/$3"
 }
 put 755 "$ptab" bin/ptab
+put 755 "$here/tools/ptab-run" bin/ptab-run
 put 644 "$here/man/ptab.8" share/man/man8/ptab.8
+put 644 "$here/man/ptab-run.8" share/man/man8/ptab-run.8
 put 644 "$here/completion/ptab.bash" share/bash-completion/completions/ptab
 if [ -n "$library" ]; then
   made=$(mktemp -d)

@@ -1,6 +1,6 @@
 #!/usr/bin/env bash
-# Makes a Debian package of what was proved: the program, its man page, its completion, and notes on where it comes from. The same
-# program, commit and kit give the same package, byte by byte. It needs no root.
+# Makes a Debian package of what was proved: the program, with ptab-run, their man pages, a completion, and notes on where it comes from.
+# The same program, commit and kit give the same package, byte by byte. It needs no root.
 #
 # usage: packaging/debian.sh OUT     OUT is the .deb, or a folder for it
 #   PTAB=FILE            the program; else the built one, which ./build.sh proves and builds where that wasn't done yet
@@ -29,7 +29,7 @@ kit=$(printf '%s' "$kit" | tr -s '\n\t ' ' ')
 git() { command git -C "$here" "$@"; }
 commit=$(git rev-parse HEAD)
 # what the package takes from the repository, and what the program was made of
-if [ -n "$(git status --porcelain -- crates man completion install.sh packaging)" ]; then commit=$commit-changed; fi
+if [ -n "$(git status --porcelain -- crates man completion tools install.sh packaging)" ]; then commit=$commit-changed; fi
 epoch=${SOURCE_DATE_EPOCH:-$(git log -1 --format=%ct)}
 export SOURCE_DATE_EPOCH=$epoch
 version=0~git$(git log -1 --format=%cd --date=format-local:%Y%m%d%H%M%S).${commit:0:12}
@@ -46,7 +46,7 @@ trap 'rm -rf "$folder"' EXIT
 tree=$folder/tree
 doc=$tree/usr/share/doc/ptab
 PTAB=$ptab DESTDIR=$tree "$here/install.sh" /usr >"$folder/installed"
-gzip -9n "$tree/usr/share/man/man8/ptab.8"
+gzip -9n "$tree/usr/share/man/man8/ptab.8" "$tree/usr/share/man/man8/ptab-run.8"
 install -d -m 755 "$tree/DEBIAN" "$doc"
 
 cat >"$doc/BUILD" <<END
@@ -90,13 +90,15 @@ Section: admin
 Priority: optional
 Architecture: $architecture
 Depends: libc6 (>= ${libc#GLIBC_})
-Suggests: fdisk, gdisk
+Recommends: python3 (>= 3.8)
+Suggests: fdisk, gdisk, parted
 Installed-Size: $bytes
 Maintainer: ${MAINTAINER:-$author}
 Description: show, verify, edit and repair partition tables of disk images
  Works on GPT, MBR with extended partitions, and BSD labels in slices. A power
  cut at any moment of an edit leaves the old table or the new one: the library
- that does this is proved to, under the conditions in ptab(8).
+ that does this is proved to, under the conditions in ptab(8). With ptab-run,
+ for which Python is needed, the edits of other partition tools are as safe.
  .
  Commit: $commit
  Kit: $kit

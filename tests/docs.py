@@ -1,9 +1,9 @@
 #!/usr/bin/env python3
-"""Holds the documents against what they tell of. Each example session of README and of docs/commands.md is run, a document's sessions in
-their order in one folder, and each command there answers what the document shows; docs/commands.md has one for each command, and says of
-each answer that isn't a success what to do. README's piece of a program stands in the example that it names, and examples/README.md lists
-each example. Each sentence that an error of the library prints stands in docs/commands.md. What docs/promises.md names is there, and so
-are the wrong bodies that docs/wrong_bodies.md names.
+"""Holds the documents against what they tell of. Each example session of README, of docs/commands.md and of docs/other_tools.md is run, a
+document's sessions in their order in one folder, and each command there answers what the document shows; docs/commands.md has one for each
+command, and says of each answer that isn't a success what to do. README's piece of a program stands in the example that it names, and
+examples/README.md lists each example. Each sentence that an error of the library prints stands in docs/commands.md. What docs/promises.md
+names is there, and so are the wrong bodies that docs/wrong_bodies.md names.
 
 usage: tests/docs.py PTAB [DOCUMENT...]
 """
@@ -14,7 +14,7 @@ import sys
 import tempfile
 
 TOP = os.path.join(os.path.dirname(os.path.abspath(__file__)), "..")
-DOCUMENTS = ("README.md", "docs/commands.md")
+DOCUMENTS = ("README.md", "docs/commands.md", "docs/other_tools.md")
 # the rows of docs/commands.md that need no advice
 SUCCESSES = ("a number", "0")
 COMMANDS = ("show", "verify", "locate", "edit", "plan", "check", "apply", "repair")
@@ -58,6 +58,7 @@ def run(ptab, name, text):
     with tempfile.TemporaryDirectory() as folder:
         os.mkdir(f"{folder}/bin")
         os.symlink(ptab, f"{folder}/bin/ptab")
+        os.symlink(os.path.abspath(f"{TOP}/tools/ptab-run"), f"{folder}/bin/ptab-run")
         where = {**os.environ, "PATH": f"{folder}/bin:{os.environ['PATH']}:/usr/sbin:/sbin", "LC_ALL": "C.UTF-8"}
         os.mkdir(f"{folder}/images")
         for command, wanted in session:

@@ -27,6 +27,7 @@ class Failing:
         self.ptab = ptab
         self.path = f"{folder}/image"
         self.plan = f"{folder}/plan"
+        self.other = f"{folder}/other"
         self.held = None
         self.env = {"LD_PRELOAD": loaded, "FAULTS": f"{folder}/faults"}
         self.streams = [os.open(f"{folder}/{name}", os.O_RDWR | os.O_CREAT | os.O_TRUNC, 0o600) for name in ("out", "err")]
@@ -57,6 +58,14 @@ class Failing:
     def write_plan(self, text):
         with open(self.plan, "w", encoding="ascii") as it:
             it.write(text)
+
+    def write_other(self, line, words):
+        """The other image: what this line makes of the one in place."""
+        with open(self.other, "wb") as it:
+            it.write(self.image())
+        found = self.run((*line, self.other, *words))
+        if found != ("done\n", "", 0):
+            fail(f"{line} {words}", found, "done")
 
     def run(self, words, numbers=None, env=None):
         """(output, errors, status) of the words; with numbers, the library is loaded and has them. A signal's status is negative."""

@@ -15,7 +15,8 @@ import sys
 import tempfile
 
 TOP = os.path.abspath(os.path.join(os.path.dirname(os.path.abspath(__file__)), ".."))
-PLACES = {"bin/ptab": (None, 0o755), "share/man/man8/ptab.8": ("man/ptab.8", 0o644),
+PLACES = {"bin/ptab": (None, 0o755), "bin/ptab-run": ("tools/ptab-run", 0o755), "share/man/man8/ptab.8": ("man/ptab.8", 0o644),
+          "share/man/man8/ptab-run.8": ("man/ptab-run.8", 0o644),
           "share/bash-completion/completions/ptab": ("completion/ptab.bash", 0o644)}
 LIBRARY = ("include/ptab.h", "lib/libptab.a", "lib/libptab.so.1", "lib/libptab.so", "lib/pkgconfig/ptab.pc")
 COMMANDS = ["show", "verify", "locate", "edit", "plan", "check", "apply", "repair"]
@@ -71,10 +72,14 @@ def runs(folder, prefix):
         it.truncate(1 << 20)
     done = subprocess.run([f"{prefix}/bin/ptab", "edit", path, "--fresh", "0" * 32, "o"], capture_output=True, text=True)
     same("the installed program", (done.returncode, done.stdout, done.stderr), (0, "done\n", ""))
+    done = subprocess.run([f"{prefix}/bin/ptab-run", path, "true", "@"], capture_output=True, text=True,
+                          env={key: value for key, value in os.environ.items() if key != "PTAB"})
+    same("ptab-run beside it", (done.returncode, done.stdout, done.stderr), (0, "", "ptab-run: true changed nothing\n"))
     if shutil.which("man"):
         where = {key: value for key, value in os.environ.items() if key != "MANPATH"}
-        done = subprocess.run(["man", "-M", f"{prefix}/share/man", "-w", "8", "ptab"], capture_output=True, text=True, env=where)
-        same("man -w", done.stdout.strip(), f"{prefix}/share/man/man8/ptab.8")
+        for name in ("ptab", "ptab-run"):
+            done = subprocess.run(["man", "-M", f"{prefix}/share/man", "-w", "8", name], capture_output=True, text=True, env=where)
+            same("man -w", done.stdout.strip(), f"{prefix}/share/man/man8/{name}.8")
 
 
 def which_program(folder, ptab):
@@ -82,7 +87,7 @@ def which_program(folder, ptab):
     of it is kept."""
     top = f"{folder}/top"
     os.makedirs(f"{top}/packaging")
-    for name in ("install.sh", "man", "completion"):
+    for name in ("install.sh", "man", "completion", "tools"):
         (shutil.copytree if os.path.isdir(f"{TOP}/{name}") else shutil.copy)(f"{TOP}/{name}", f"{top}/{name}")
     where = {key: value for key, value in os.environ.items() if key not in ("PTAB", "DESTDIR")} | {"LIBRARY": ""}
     for does, status in ((f"print({ptab!r})", 0), ("sys.exit('not proved')", 1)):

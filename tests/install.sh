@@ -7,6 +7,7 @@ need python3 python3
 need sgdisk gdisk
 need sfdisk fdisk
 need parted parted
+need cgpt cgpt
 need strace strace
 need gcc gcc
 need c++ g++
@@ -14,7 +15,7 @@ need valgrind valgrind
 [ -e /usr/include/stdlib.h ] || missing+=(libc6-dev)
 for word in "$@"; do
   case "$word" in
-    bench) need cgpt cgpt; [ -e /usr/include/zlib.h ] || missing+=(zlib1g-dev) ;;
+    bench) [ -e /usr/include/zlib.h ] || missing+=(zlib1g-dev) ;;
     *) echo "usage: tests/install.sh [bench]" >&2; exit 2 ;;
   esac
 done

@@ -1,10 +1,10 @@
 #!/usr/bin/env python3
-"""Has each call of the built command on an image fail in turn, and each on a plan's file. The answer is always `device`, status 5, and
-no call follows but the closing. After a call that only reads no byte has changed; after a write, or a sync between them, the image
-has the plan's writes up to there and no other, and shows the old layout or the new one, as the phase says; a repair, or the same edit
-again, then ends in a healthy image. Calls that a signal interrupts and reads and writes of one byte change nothing. An output that
-takes nothing gives `device`, status 5, one that nobody reads status 5 in silence, an error stream that takes nothing status 5; what was
-done stands.
+"""Has each call of the built command on an image fail in turn, and each on a plan's file or on the other image of `adopt`. The answer is
+always `device`, of the latter `other: device`, status 5, and no call follows but the closing. After a call that only reads no byte has
+changed; after a write, or a sync between them, the image has the plan's writes up to there and no other, and shows the old layout or the
+new one, as the phase says; a repair, or the same edit again, then ends in a healthy image. Calls that a signal interrupts and reads and
+writes of one byte change nothing. An output that takes nothing gives `device`, status 5, one that nobody reads status 5 in silence, an
+error stream that takes nothing status 5; what was done stands.
 
 usage: tests/no_device.py PTAB [all]
 Without `all` every so many calls fail on damaged disks and those of other kinds, and the rarer ways of failing come at fewer calls.
@@ -24,6 +24,9 @@ from plans import phases_of
 ALL = 2 ** 32 - 1
 FAILS, DONE_AND_FAILS, ONE_BYTE, NOTHING = range(4)
 DEVICE = ("", "device\n", 5)
+OTHER_DEVICE = ("", "other: device\n", 5)
+# what follows the image of a command: the file of the words' plan, or the image that the words make
+PLAN, OTHER = ("plan",), ("other",)
 # What can come of a call, by its letter: how it fails, and errno. The others of `MORE` come at fewer calls, but with `all`. Of a plan's
 # file a read of nothing is its end.
 FAULTS = {"s": ((FAILS, errno.EIO),), "o": ((FAILS, errno.EIO),), "l": ((FAILS, errno.EIO),), "r": ((FAILS, errno.EIO),), "c": (),
@@ -117,8 +120,9 @@ def one_fault(run, on, log, first, last, how, error):
     letter, earlier = log[first - 1], log[:first - 1]
     told = f"{run.told}: call {first} of {len(log)} on {os.path.basename(on)} ({letter}), way {how}, errno {error}, last {last}"
     found, calls, left = run.failing(on, first, last, how, error)
-    if found != DEVICE or calls[:first] != log[:first] or calls[first:].strip("c"):
-        fail(told, (found, calls[first - 1:]), (DEVICE, f"{letter}, and closing"))
+    wanted = OTHER_DEVICE if on == run.it.other else DEVICE
+    if found != wanted or calls[:first] != log[:first] or calls[first:].strip("c"):
+        fail(told, (found, calls[first - 1:]), (wanted, f"{letter}, and closing"))
     written = earlier.count("w") + (letter == "w" and how == DONE_AND_FAILS)
     if left != run.with_writes(written):
         fail(told, "another image", f"the first {written} writes of the plan")
@@ -144,14 +148,14 @@ def ways_of(letter, is_image, whole):
 def fail_each(run, on, step, whole):
     """(the calls on that file, how many runs were compared): each call fails, in each way."""
     found, log, left = run.failing(on, 0, 0, 0, 0)
-    counts, is_writing = (log.count("w"), log.count("f"), log.count("l")), run.line[0] in ("edit", "apply", "repair")
+    counts, is_writing = (log.count("w"), log.count("f"), log.count("l")), run.line[0] in ("edit", "apply", "repair", "adopt")
     wanted = (len(run.writes), len(run.phases) + 1, 1) if is_writing else (0, 0, 0)
     if found != run.wanted or left != run.after or not log or on == run.it.path and counts != wanted:
         fail(f"{run.told} with the library: writes, syncs and locks", (found, counts), (run.wanted, wanted))
     runs = 0
     for first in sorted({*range(1, len(log) + 1, step), *(k for k, letter in enumerate(log, 1) if letter in "solfc")}):
         letter, more = log[first - 1], whole or first % 6 == 0 or first == len(log)
-        for later, how, error in ways_of(letter, on == run.it.path, more):
+        for later, how, error in ways_of(letter, on != run.it.plan, more):
             one_fault(run, on, log, first, ALL if later else first, how, error)
             runs += 1
         for how, error in HARMLESS[letter] if more else ():
@@ -171,8 +175,9 @@ def full_streams(ptab, disk):
         it = Failing(ptab, "", folder)
         it.put(image)
         it.write_plan(it.run(("plan", it.path, *words))[0])
+        it.write_other(("edit",), words)
         for command, (rest, writing) in lines(words).items():
-            line = (command, it.path, *((it.plan,) if rest is None else rest))
+            line = (command, it.path, *files(it).get(rest, rest))
             it.put(image)
             it.run(line)
             after = it.image()
@@ -190,9 +195,13 @@ def full_streams(ptab, disk):
 
 
 def lines(words):
-    """Of each command what follows the image, None for the file of the words' plan, and the words whose plan it writes."""
-    return {"edit": (words, words), "apply": (None, words), "repair": ((), ("a:1",)), "plan": (words, ()), "check": (None, ()),
-            "verify": ((), ()), "show": ((), ()), "locate": (("1", "0"), ())}
+    """Of each command what follows the image, and the words whose plan it writes."""
+    return {"edit": (words, words), "apply": (PLAN, words), "repair": ((), ("a:1",)), "adopt": (OTHER, words), "plan": (words, ()),
+            "check": (PLAN, ()), "verify": ((), ()), "show": ((), ()), "locate": (("1", "0"), ())}
+
+
+def files(it):
+    return {PLAN: (it.plan,), OTHER: (it.other,)}
 
 
 def on_disk(ptab, loaded, disk, command, step, whole):
@@ -203,12 +212,14 @@ def on_disk(ptab, loaded, disk, command, step, whole):
     with room() as folder:
         it = Failing(ptab, loaded, folder)
         it.put(image)
-        if rest is None:
+        if rest == PLAN:
             it.write_plan(it.run(("plan", *size, it.path, *words))[0])
+        if rest == OTHER:
+            it.write_other(("edit", *size), words)
         if command == "repair" and it.run(("show", *size, it.path))[2] != 0:
             writing = ()
-        run = Run(it, name, sectors, image, (command, *size, it.path, *((it.plan,) if rest is None else rest)), writing)
-        return [fail_each(run, on, step, whole) for on in ((it.path, it.plan) if rest is None else (it.path,))]
+        run = Run(it, name, sectors, image, (command, *size, it.path, *files(it).get(rest, rest)), writing)
+        return [fail_each(run, on, step, whole) for on in (it.path, *files(it).get(rest, ()))]
 
 
 def main():

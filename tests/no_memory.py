@@ -1,7 +1,7 @@
 #!/usr/bin/env python3
 """Refuses each request for memory of the built command in turn, from its very first on: that one alone, and that one with all later
-ones. Every run says `memory` with status 6 and leaves each byte of the image, or ends exactly as without the refusal. Every command
-runs, on disks of each kind, healthy and damaged.
+ones. Every run says `memory` with status 6 (`other: memory` where `adopt` reads the other image) and leaves each byte of the image, or ends
+exactly as without the refusal. Every command runs, on disks of each kind, healthy and damaged.
 
 usage: tests/no_memory.py PTAB [all]
 Without `all`, on damaged disks and those of other kinds every so many requests are refused.
@@ -17,17 +17,19 @@ from images import room
 
 ALL = 2 ** 32 - 1
 REFUSED = ("", "memory\n", 6)
+OTHER_REFUSED = ("", "other: memory\n", 6)
 
 
 def commands(it, sectors, words):
-    """The lines of all eight commands on the image in place; PLANFILE is the plan of the words."""
+    """The lines of all commands on the image in place; PLANFILE is the plan of the words, and the other image what they make of it."""
     size = ("--sector-size", str(sectors.size))
     text, errors, status = it.run(("plan", *size, it.path, *words))
     if status != 0:
         fail(f"plan {words}", (errors, status), ("", 0))
     it.write_plan(text)
+    it.write_other(("edit", *size), words)
     for name, rest in (("show", ()), ("verify", ()), ("locate", ("1", "0")), ("plan", words), ("check", (it.plan,)), ("apply", (it.plan,)),
-                       ("edit", words), ("repair", ())):
+                       ("edit", words), ("repair", ()), ("adopt", (it.other,)), ("adopt", (it.other, "--plan"))):
         yield (name, *size, it.path, *rest)
 
 
@@ -48,7 +50,8 @@ def refuse(it, name, image, words, step):
             if it.number(3) == 0:
                 fail(told, "no request refused", "one")
             left = it.image()
-            if (found, left) not in ((wanted, after), (REFUSED, image)):
+            refused = OTHER_REFUSED if words[0] == "adopt" and found == OTHER_REFUSED else REFUSED
+            if (found, left) not in ((wanted, after), (refused, image)):
                 fail(told, (found, "the image as before" if left == image else "the image changed"), REFUSED)
             runs += 1
     return count, runs

@@ -21,7 +21,8 @@ KIT = "kit-of-the-test logic 0123456789abcdef"
 EPOCH = 4_000_000_000
 FOLDERS = ("", "usr/", "usr/bin/", "usr/share/", "usr/share/bash-completion/", "usr/share/bash-completion/completions/", "usr/share/doc/",
            "usr/share/doc/ptab/", "usr/share/man/", "usr/share/man/man8/")
-FILES = {"usr/bin/ptab": "-rwxr-xr-x", "usr/share/bash-completion/completions/ptab": "-rw-r--r--",
+FILES = {"usr/bin/ptab": "-rwxr-xr-x", "usr/bin/ptab-run": "-rwxr-xr-x", "usr/share/man/man8/ptab-run.8.gz": "-rw-r--r--",
+         "usr/share/bash-completion/completions/ptab": "-rw-r--r--",
          "usr/share/doc/ptab/BUILD": "-rw-r--r--", "usr/share/doc/ptab/changelog.gz": "-rw-r--r--",
          "usr/share/doc/ptab/copyright": "-rw-r--r--", "usr/share/man/man8/ptab.8.gz": "-rw-r--r--"}
 DEV = ("include/ptab.h", "lib/libptab.a", "lib/libptab.so", "lib/libptab.so.1", "lib/pkgconfig/ptab.pc",
@@ -91,7 +92,9 @@ def unpacked(ptab, deb, folder, commit, fields, sum_of):
     run("dpkg-deb", "-e", deb, control)
     same("the program", content(f"{tree}/usr/bin/ptab") == content(ptab), True)
     same("the program runs", run(f"{tree}/usr/bin/ptab", "--help"), run(ptab, "--help"))
-    same("the man page", gzip.decompress(content(f"{tree}/usr/share/man/man8/ptab.8.gz")) == content(f"{TOP}/man/ptab.8"), True)
+    for name in ("ptab", "ptab-run"):
+        same("the man page", gzip.decompress(content(f"{tree}/usr/share/man/man8/{name}.8.gz")) == content(f"{TOP}/man/{name}.8"), True)
+    same("ptab-run", content(f"{tree}/usr/bin/ptab-run") == content(f"{TOP}/tools/ptab-run"), True)
     same("the completion", content(f"{tree}/usr/share/bash-completion/completions/ptab") == content(f"{TOP}/completion/ptab.bash"), True)
     built = content(f"{tree}/usr/share/doc/ptab/BUILD").decode()
     same("BUILD", built.splitlines()[:5],

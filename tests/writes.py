@@ -1,29 +1,28 @@
-"""The writes and syncs of the built command on an image, taken down by strace; and images that a stop among them leaves."""
+"""The writes and syncs of a command on an image, taken down by strace; and images that a stop among them leaves."""
 import re
 import subprocess
 import sys
 
-CALL = re.compile(r'(openat|lseek|write|pwrite64|ftruncate|fsync)\((.*)\) += (\d+)$')
+CALL = re.compile(r"^(\d+ +)?(openat|lseek|write|pwrite64|ftruncate|fsync)\((.*)\) += (\d+)$")
+CALLS = ("openat", "lseek", "write", "pwrite64", "ftruncate", "fsync")
 
 
-def recorded(ptab, path, command, words, sectors):
-    """The writes, as (sector, bytes), before each sync of the command on the image."""
+def traced(command, path, sectors, calls=CALLS, **more):
+    """How a command ends, and the writes to an image, as (sector, bytes), before each sync of it, by whichever process of the command
+    opened it last for writing."""
     log = f"{path}.log"
-    calls = "trace=openat,lseek,write,pwrite64,ftruncate,fsync"
-    done = subprocess.run(["strace", "-e", calls, "-xx", "-s", str(2 * sectors.size), "-o", log, ptab, command, path,
-                           "--sector-size", str(sectors.size), *words], capture_output=True, text=True)
-    if (done.stdout, done.returncode) != ("done\n", 0):
-        sys.exit(f"{command} {words}: status {done.returncode}: {done.stdout}{done.stderr}")
-    phases, writes, fd = [], [], None
+    done = subprocess.run(["strace", "-f", "-P", path, "-e", f"trace={','.join(calls)}", "-xx", "-s", str(2 * sectors.size), "-o", log,
+                           *command], stdout=subprocess.PIPE, stderr=subprocess.PIPE, text=True, **more)
+    phases, writes, held = [], [], None
     with open(log, encoding="ascii") as it:
         for line in it:
             found = CALL.search(line.strip())
             if not found:
                 continue
-            call, arguments, answer = found.groups()
+            process, call, arguments, answer = found.groups()
             if call == "openat":
-                fd = answer if "O_RDWR" in arguments else fd
-            elif arguments.split(",")[0] != fd:
+                held = (process, answer) if "O_RDWR" in arguments else held
+            elif (process, arguments.split(",")[0]) != held:
                 continue
             elif call == "pwrite64":
                 content = bytes.fromhex(re.search(r'"([^"]*)"', arguments).group(1).replace("\\x", ""))
@@ -32,9 +31,17 @@ def recorded(ptab, path, command, words, sectors):
                 phases.append(writes)
                 writes = []
             else:
-                sys.exit(f"{command} {words}: {call}")
-    if writes or fd is None:
-        sys.exit(f"{command} {words}: writes after the last sync, or an image that isn't opened for them")
+                sys.exit(f"{command}: {call}")
+    if writes or held is None:
+        sys.exit(f"{command}: writes after the last sync, or an image that isn't opened for them: {done.stderr}")
+    return done, phases
+
+
+def recorded(ptab, path, command, words, sectors):
+    """The writes, as (sector, bytes), before each sync of ptab's command on the image."""
+    done, phases = traced([ptab, command, path, "--sector-size", str(sectors.size), *words], path, sectors)
+    if (done.stdout, done.returncode) != ("done\n", 0):
+        sys.exit(f"{command} {words}: status {done.returncode}: {done.stdout}{done.stderr}")
     return phases
 
 
