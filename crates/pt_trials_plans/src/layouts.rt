@@ -1,5 +1,6 @@
 //! Commits of a layout that a caller has from elsewhere, and of the layout of another disk.
 
+ghost use Rattle.std.specs.Prelude.{◌≤◌};
 ghost use Rattle.pt_sector.specs.Sectors.{IsSectorSize};
 
 use pt_apply::Plan;
@@ -15,7 +16,8 @@ use std::test::Fail;
 
 /// A GPT disk of so many sectors with one partition, which has a name.
 fn other_disk<const B: usize>(alloc: Global, sectors: u64) -> Result<MemDisk<B>, Fail>
-    requires { IsSectorSize B }
+    requires size { IsSectorSize B }
+    requires few { sectors ≤ 16384 }
 {
     made(alloc, sectors, false, &["o", "n:1:0:0:8200", "c:1:swap"])
 }
