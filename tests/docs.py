@@ -25,6 +25,7 @@ ERRORS = (("pt_gpt/src/error.rt", "CopyError", "| {} |"), ("pt_mbr/src/chain.rt"
           ("pt_words/src/error.rt", "EditError", None), ("pt_words/src/error.rt", "Refusal", "| `refused: edit {}`"),
           ("pt_check/src/answer.rt", "Why", "| `no {}"), ("pt_targets/src/error.rt", "PlanError", "| `refused: plan {}`"),
           ("pt_plan/src/error.rt", "CommitError", None), ("pt_plan/src/repair_error.rt", "RepairError", None),
+          ("pt_plan/src/like_error.rt", "LikeError", None),
           ("pt_apply/src/error.rt", "PlanTextError", None))
 # said of the device, of memory and of what is wrapped, of which the document speaks in other words
 OTHERWISE = ("can't be read", "out of memory", "the plan is refused")

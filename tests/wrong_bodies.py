@@ -129,7 +129,7 @@ def goals_of(said, verdict, name):
     """The goals that a function leaves open, as the prover names them: in its verdict, and in the lines of a proof to be written."""
     block = re.search(rf"^help: write \./proofs/(?:\S+/)?{name}/Answers\.antt with .*\n((?:    .*\n|\n)*)", said, re.MULTILINE)
     told = re.findall(r"`([^`]+)`", verdict.partition("did not prove")[2])
-    return [*dict.fromkeys([*told, *(re.findall(r"^    pub (\S+) : goal\.", block[1], re.MULTILINE) if block else [])])]
+    return [*dict.fromkeys([*told, *(re.findall(r"^    pub (\S+) :\s+goal\.", block[1], re.MULTILINE) if block else [])])]
 
 
 def clause_of(goal):
