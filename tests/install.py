@@ -19,7 +19,7 @@ PLACES = {"bin/ptab": (None, 0o755), "bin/ptab-run": ("tools/ptab-run", 0o755), 
           "share/man/man8/ptab-run.8": ("man/ptab-run.8", 0o644),
           "share/bash-completion/completions/ptab": ("completion/ptab.bash", 0o644)}
 LIBRARY = ("include/ptab.h", "lib/libptab.a", "lib/libptab.so.1", "lib/libptab.so", "lib/pkgconfig/ptab.pc")
-COMMANDS = ["show", "verify", "locate", "edit", "plan", "check", "apply", "repair"]
+COMMANDS = ["show", "verify", "locate", "edit", "plan", "check", "apply", "repair", "adopt"]
 WORDS = ["a:", "o", "n:", "d:", "t:", "c:", "u:", "U:", "A:", "e", "g"]
 # the words before the cursor, as bash divides them, and what is completed
 COMPLETIONS = (
@@ -37,6 +37,7 @@ COMPLETIONS = (
     (["ptab", "edit", "a.img", "n", ":"], []), (["ptab", "edit", "a.img", "n", ":", "1", ":", "0", ":", "0", "c"], ["c:"]),
     (["ptab", "check", "a.img", "n"], ["notes"]), (["ptab", "apply", "a.img", "no"], ["notes"]),
     (["ptab", "check", "a.img", "notes", ""], []), (["ptab", "locate", "a.img", "1", ""], []), (["ptab", "nonsense", ""], []),
+    (["ptab", "adopt", "a.img", ""], ["folder", "a.img", "b.raw"]), (["ptab", "adopt", "--p"], ["--plan"]),
 )
 checked = 0
 

@@ -4,9 +4,8 @@
 pub const VERSION: &str = "0.9.0";
 
 pub const ABOUT: &str = "\
-Reads, verifies, edits and repairs partition tables (GPT, MBR with extended
-partitions, BSD labels) in a disk image. A power cut during an edit leaves the
-old table or the new one.";
+Shows, verifies, edits and repairs partition tables in disk images: GPT, MBR and
+BSD labels. A power cut during an edit leaves the old table or the new one.";
 
 pub const STATUSES: &str = "\
 Exit status: 0 done or yes, 1 the answer is no, 2 usage or an unreadable word,
