@@ -97,9 +97,8 @@ opened, read or written, 6 no memory. After 2, 3, 4 and 6 nothing was written.";
 
 pub const ADOPT: &str = "\
 The table that OTHER denotes becomes the image's, by a checked plan: a stop at
-any moment leaves the old table or OTHER's. Both have as many sectors. So any
-tool's edit is safe: it works on a copy, whose table the image takes. Not taken:
-boot code, an MBR's disk signature, hybrid records, data.
+any moment leaves the old table or OTHER's. Both have as many sectors. Boot
+code, an MBR's disk signature, hybrid records and data aren't taken.
   refused: plan N, locked   as by `edit`
   refused: other size       OTHER has another number of sectors
   other: ..                 a fault of OTHER, as `no table: ..` or `device`
