@@ -152,10 +152,11 @@ fn check_phases<const B: usize, D: Disk<B>>(
     let (old, trace) = before.into_parts();
     let Finished {
         layout: new,
+        trace: end,
         finding,
     } = end;
     let layouts = Layouts { old, new };
-    let trial = try_phases(alloc, disk, plan, count, &layouts, trace)?;
+    let trial = try_phases(alloc, disk, plan, count, &layouts, trace, &end)?;
     Ok(conclude(trial, misplaced(plan, &layouts), finding))
 }
 
