@@ -5,6 +5,7 @@
 mod checked;
 mod commits;
 mod error;
+mod finished;
 pub mod laws;
 mod layouts;
 mod like;
@@ -18,6 +19,7 @@ mod writing;
 pub use checked::apply_checked;
 pub use commits::{checked_plan_for, commit, plan_for};
 pub use error::CommitError;
+pub use finished::{After, layout_after};
 pub use layouts::{checked_plan_for_layout, commit_layout, plan_for_layout};
 pub use like::{checked_plan_like, commit_like, plan_like};
 pub use like_error::LikeError;
