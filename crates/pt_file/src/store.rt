@@ -72,7 +72,8 @@ impl<const B: usize> Store<B> for File {
         self.write_all_at(bytes, at)
     }
 
+    /// A disk never changes the length of its file. So beside the bytes it wants durable only what finds them again.
     fn sync(&mut self) -> io::Result<()> {
-        self.sync_all()
+        self.sync_data()
     }
 }
