@@ -1,8 +1,9 @@
 /*
- * A small `ptab` over the library: shows an image, verifies it, locates a sector, edits, repairs. It does all that the library
- * leaves to its caller: it locks the image, syncs, reads, and writes plans phase by phase with a sync after each.
+ * A small `ptab` over the library: shows an image, verifies it, locates a sector, edits, repairs, adopts. It does all
+ * that the library leaves to its caller: it locks the image, syncs, reads, and writes plans phase by phase with a sync
+ * after each.
  *
- *   ptab_c IMAGE SIZE show | verify | repair | locate NUMBER[.LETTER] K | edit WORD...
+ *   ptab_c IMAGE SIZE show | verify | repair | locate NUMBER[.LETTER] K | edit WORD... | adopt OTHER
  *
  * SIZE is 512 or 4096. Statuses are those of `ptab`. Build:
  *   cc -Iinclude examples/c/ptab.c libptab.a -o ptab_c
@@ -117,6 +118,18 @@ static void path_text(char *text, size_t size, uint64_t number, uint8_t letter) 
     snprintf(text, size, "%llu", (wide)number);
 }
 
+/* Says why a disk has no table. */
+static void complain_of_table(const ptab_reply *r) {
+  if (r->number == 1)
+    fprintf(stderr, "no table: copies %llu %llu\n", (wide)r->a, (wide)r->b);
+  else if (r->number == 2 && r->a == 5)
+    fputs("no table: chain 5\n", stderr);
+  else if (r->number == 2)
+    fprintf(stderr, "no table: chain %llu %llu\n", (wide)r->a, (wide)r->b);
+  else
+    fputs(r->number == 3 ? "no table: two extended\n" : "no table: too small\n", stderr);
+}
+
 /* Says on standard error why there is no answer, as `ptab` does; `words` are the `count` words that were asked for. */
 static void complain(int status, const ptab_reply *r, char **words, int count) {
   static const char *const kinds[] = {"", "", "", "", "", "edit", "plan", "check", "repair"};
@@ -126,14 +139,13 @@ static void complain(int status, const ptab_reply *r, char **words, int count) {
     fputs("memory\n", stderr);
   else if (r->about == PTAB_ABOUT_WORD && r->a >= 1 && r->a <= (uint64_t)count)
     fprintf(stderr, "bad word %s\n", words[r->a - 1]);
-  else if (r->about == PTAB_ABOUT_TABLE && r->number == 1)
-    fprintf(stderr, "no table: copies %llu %llu\n", (wide)r->a, (wide)r->b);
-  else if (r->about == PTAB_ABOUT_TABLE && r->number == 2 && r->a == 5)
-    fputs("no table: chain 5\n", stderr);
-  else if (r->about == PTAB_ABOUT_TABLE && r->number == 2)
-    fprintf(stderr, "no table: chain %llu %llu\n", (wide)r->a, (wide)r->b);
   else if (r->about == PTAB_ABOUT_TABLE)
-    fputs(r->number == 3 ? "no table: two extended\n" : "no table: too small\n", stderr);
+    complain_of_table(r);
+  else if (r->about == PTAB_ABOUT_OTHER_TABLE) {
+    fputs("other: ", stderr);
+    complain_of_table(r);
+  } else if (r->about == PTAB_ABOUT_ADOPT)
+    fputs("refused: other size\n", stderr);
   else if (status == PTAB_REFUSED && r->about <= PTAB_ABOUT_REPAIR)
     fprintf(stderr, "refused: %s %u\n", kinds[r->about], (unsigned)r->number);
   else
@@ -281,17 +293,45 @@ static int change(struct disk *d, char **words, int count, ptab_reply *reply) {
   return status == PTAB_DONE ? carry_out(d, writes, bytes, reply->count) : status;
 }
 
+/* Gives the disk the layout of another image, which is only read. */
+static int adopt(struct disk *d, struct disk *other, ptab_reply *reply) {
+  static ptab_write writes[PTAB_MOST_WRITES];
+  static uint8_t bytes[PTAB_MOST_WRITES * 4096];
+  size_t room = PTAB_MOST_WRITES * d->view.sector_size;
+  int status = PTAB_DONE;
+  while (status == PTAB_DONE) {
+    int answer = ptab_adopt_plan(&d->view, &other->view, writes, PTAB_MOST_WRITES, bytes, room, reply);
+    if (answer == PTAB_DONE) return carry_out(d, writes, bytes, reply->count);
+    if (answer != PTAB_WANT && answer != PTAB_WANT_OTHER) return answer;
+    status = read_sector(answer == PTAB_WANT ? d : other, reply->sector);
+    if (status == PTAB_DEVICE && answer == PTAB_WANT_OTHER) fputs("other: ", stderr);
+  }
+  return status;
+}
+
+/* Opens the other image and adopts it. */
+static int adopt_image(struct disk *d, const char *path, ptab_reply *reply) {
+  struct disk other;
+  int status = open_disk(&other, path, d->view.sector_size, 0);
+  if (status == PTAB_DONE)
+    status = adopt(d, &other, reply);
+  else if (status == PTAB_DEVICE)
+    fputs("other: ", stderr);
+  close_disk(&other);
+  return status;
+}
+
 int main(int argc, char **argv) {
   struct disk d;
   ptab_reply reply;
   memset(&reply, 0, sizeof reply);
   const char *job = argc > 3 ? argv[3] : "";
   uint32_t size = argc > 2 ? (uint32_t)strtoul(argv[2], NULL, 10) : 0;
-  int writes = !strcmp(job, "edit") || !strcmp(job, "repair");
+  int writes = !strcmp(job, "edit") || !strcmp(job, "repair") || !strcmp(job, "adopt");
   int known = !strcmp(job, "show") || !strcmp(job, "verify") || (!strcmp(job, "locate") && argc == 6) ||
-              (!strcmp(job, "edit") && argc > 4) || !strcmp(job, "repair");
+              (!strcmp(job, "edit") && argc > 4) || !strcmp(job, "repair") || (!strcmp(job, "adopt") && argc == 5);
   if ((size != 512 && size != 4096) || !known || ptab_version() != PTAB_VERSION) {
-    fputs("usage: ptab_c IMAGE SIZE show | verify | repair | locate NUMBER[.LETTER] K | edit WORD...\n", stderr);
+    fputs("usage: ptab_c IMAGE SIZE show | verify | repair | locate NUMBER[.LETTER] K | edit WORD... | adopt OTHER\n", stderr);
     return PTAB_USAGE;
   }
   int status = open_disk(&d, argv[1], size, writes);
@@ -299,6 +339,7 @@ int main(int argc, char **argv) {
     if (!strcmp(job, "show")) status = show(&d, &reply);
     else if (!strcmp(job, "verify")) status = verify(&d, &reply);
     else if (!strcmp(job, "locate")) status = locate(&d, argv + 4, &reply);
+    else if (!strcmp(job, "adopt")) status = adopt_image(&d, argv[4], &reply);
     else status = change(&d, argv + 4, writes && argc > 4 ? argc - 4 : 0, &reply);
   }
   if (status != PTAB_DONE && status != PTAB_NO) complain(status, &reply, argv + 4, argc - 4);
