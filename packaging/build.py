@@ -39,7 +39,7 @@ def sum_of(crate):
     found = hashlib.sha256(repr((crate.said, [note_of(it) for it in crate.deps])).encode())
     for file in [f"{rt.KIT}/KIT-ID", *rt.rtlib.files_of(crate.folder)]:
         with open(file, "rb") as it:
-            found.update(repr((os.path.relpath(file, crate.folder), it.read())).encode())
+            found.update(repr((file.removeprefix(crate.folder), it.read())).encode())
     return found.hexdigest()
 
 
