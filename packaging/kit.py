@@ -44,3 +44,8 @@ def build(rt, crate, jobs):
             status = crate.link(f"{place}.o", os.path.relpath(place, crate.folder))
         crate.out.seek(0)
         return status == 0, crate.out.read()
+
+
+def checking(rt, crate, flags, kept):
+    """The words of a check of a crate over the libraries below it, and over what earlier checks left in a folder."""
+    return [*rt.rtlib.guarded(), rt.rtlib.RATTLE, "check", *crate.words(flags, keeps=False), "--incremental", kept]
