@@ -57,7 +57,7 @@ if [ -n "$library" ]; then
     echo
     echo 'Name: ptab'
     echo 'Description: partition tables: what they say, and checked plans of edits and repairs'
-    echo 'Version: 1'
+    echo "Version: $("$here/packaging/version.sh")"
     echo 'Cflags: -I${includedir}'
     echo 'Libs: -L${libdir} -lptab'
   } >"$made/ptab.pc"

@@ -110,6 +110,9 @@ def library(folder, ptab, archive):
     same("install.sh with a library", (done.returncode, done.stderr), (0, ""))
     same("its lines", done.stdout.splitlines(), [f"installed {prefix}/{place}" for place in (*PLACES, *LIBRARY)])
     same("its files", files(prefix), sorted((*PLACES, *LIBRARY)))
+    with open(f"{prefix}/lib/pkgconfig/ptab.pc", encoding="utf-8") as it:
+        version = subprocess.run([f"{TOP}/packaging/version.sh"], capture_output=True, text=True).stdout
+        same("the version for pkg-config", f"\nVersion: {version}" in it.read(), True)
     same("the header", filecmp.cmp(f"{prefix}/include/ptab.h", f"{TOP}/include/ptab.h", shallow=False), True)
     with open(f"{folder}/version.c", "w", encoding="utf-8") as it:
         it.write('#include <ptab.h>\n#include <stdio.h>\nint main(void) { printf("%d\\n", ptab_version() == PTAB_VERSION); return 0; }\n')
@@ -119,6 +122,17 @@ def library(folder, ptab, archive):
     subprocess.run(["cc", *flags[0], f"{folder}/version.c", *flags[1], "-o", f"{folder}/version"], check=True)
     done = subprocess.run([f"{folder}/version"], capture_output=True, text=True, env={**os.environ, "LD_LIBRARY_PATH": f"{prefix}/lib"})
     same("the version that a C program sees", done.stdout, "1\n")
+
+
+def versions(ptab):
+    """The one version number, wherever it stands."""
+    done = subprocess.run([f"{TOP}/packaging/version.sh"], capture_output=True, text=True)
+    version = done.stdout.strip()
+    done = subprocess.run([ptab, "--version"], capture_output=True, text=True)
+    same("the version of the command", done.stdout, f"ptab {version}\n")
+    for place, head in (("man/ptab.8", f'"Jawefon {version}"'), ("man/ptab-run.8", f'"Jawefon {version}"'), ("CHANGELOG.md", f"## {version}")):
+        with open(f"{TOP}/{place}", encoding="utf-8") as it:
+            same(f"the version in {place}", head in it.read(), True)
 
 
 def refused(folder, ptab):
@@ -157,6 +171,7 @@ def main():
         which_program(folder, ptab)
         if len(sys.argv) > 2:
             library(folder, ptab, os.path.abspath(sys.argv[2]))
+        versions(ptab)
         refused(folder, ptab)
         completions(folder, f"{folder}/own/share/bash-completion/completions/ptab")
     print(f"installing: {checked} passed, 0 failed")
