@@ -9,7 +9,8 @@
  *   - calls on one disk come one after the other; on different disks they may be in several threads at once;
  *   - `errno` is that of the call that failed where PTAB_DEVICE is answered.
  *
- * Every call returns a status of ptab.h, but never PTAB_WANT, and fills the reply.
+ * Every call returns a status of ptab.h, but never PTAB_WANT or PTAB_WANT_OTHER, and fills the
+ * reply.
  */
 #ifndef PTAB_DISK_H
 #define PTAB_DISK_H
@@ -34,7 +35,8 @@ enum {
 
 /* More of what `reply.number` counts. */
 enum {
-  PTAB_ABOUT_DISK = 64 /* 1 to 12, below: `sector` is that of a read or write, `b` is errno */
+  PTAB_ABOUT_DISK = 64,      /* 1 to 12, below: `sector` is that of a read or write, `b` is errno */
+  PTAB_ABOUT_OTHER_DISK = 65 /* the same of the other disk of ptab_disk_adopt */
 };
 
 enum {
@@ -96,16 +98,21 @@ int32_t ptab_disk_edit(ptab_disk *disk, const char *const *words, size_t words_l
 /* A repair. */
 int32_t ptab_disk_repair(ptab_disk *disk, ptab_reply *reply);
 
+/* Gives the disk the layout that another one denotes, which is only read. Both may be the same. */
+int32_t ptab_disk_adopt(ptab_disk *disk, ptab_disk *other, ptab_reply *reply);
+
 /* Carries out a plan from elsewhere, if ptab_check says yes to it; PTAB_NO and the first reason else. */
 int32_t ptab_disk_apply(ptab_disk *disk, const ptab_write *writes, size_t writes_len, const uint8_t *bytes, size_t bytes_len,
                         ptab_reply *reply);
 
-/* Plans, of which nothing is written: those that an edit and a repair would carry out, and whether one may be. Buffers are
+/* Plans, of which nothing is written: those that the calls above would carry out, and whether one may be. Buffers are
    those of ptab.h; room for PTAB_MOST_WRITES is mostly enough, and PTAB_ROOM tells where it isn't. */
 int32_t ptab_disk_plan(ptab_disk *disk, const char *const *words, size_t words_len, const uint8_t *drawn, size_t drawn_len,
                        ptab_write *writes, size_t writes_len, uint8_t *bytes, size_t bytes_len, ptab_reply *reply);
 int32_t ptab_disk_repair_plan(ptab_disk *disk, ptab_write *writes, size_t writes_len, uint8_t *bytes, size_t bytes_len,
                               ptab_reply *reply);
+int32_t ptab_disk_adopt_plan(ptab_disk *disk, ptab_disk *other, ptab_write *writes, size_t writes_len, uint8_t *bytes,
+                             size_t bytes_len, ptab_reply *reply);
 int32_t ptab_disk_check(ptab_disk *disk, const ptab_write *writes, size_t writes_len, const uint8_t *bytes, size_t bytes_len,
                         ptab_reply *reply);
 

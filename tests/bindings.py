@@ -1,6 +1,7 @@
 #!/usr/bin/env python3
 """Several edits of one disk by the bindings, which are planned from what the disk has then. In Python one `Image` is edited again and
-again, also after each write and each sync has failed in turn; the file then is what the command makes of it, to the byte. While an `Image`
+again, also after each write and each sync has failed in turn, and takes the table of another image; the file then is what the command makes
+of it, to the byte. While an `Image`
 that writes is open, the command says that it is locked, and an `Image` doesn't open where another has the lock. In Rust, where there is a
 rustc, the tests of the crate run.
 
@@ -146,6 +147,34 @@ def after_a_full_file(case, name, first, second):
     case.put()
 
 
+def adopted(case, name, edits):
+    """The image takes the table of another one in the file beside it, is edited, and takes it back."""
+    other = f"{case.path}.other"
+    after = case.by_command(edits[0])
+    with open(other, "wb") as file:
+        file.write(after)
+    must(case.ptab, "adopt", "--sector-size", str(case.sectors.size), case.path, other)
+    wanted = content(case.path)
+    case.put()
+    with case.opened() as image:
+        image.carry_out(image.adopt(other))
+        same(f"{name}: the table of another image", content(case.path) == wanted, True)
+        same(f"{name}: once more", image.adopt(other), [])
+        image.carry_out(image.disk.plan(edits[1], DRAWN))
+        image.carry_out(image.adopt(other))
+        same(f"{name}: taken back", content(case.path) == wanted, True)
+        same(f"{name}: the other image", content(other) == after, True)
+        with open(other, "ab") as file:
+            file.write(bytes(case.sectors.size))
+        try:
+            image.adopt(other)
+            sys.exit(f"bindings: {name}: a longer image was adopted")
+        except lib.Failed as failed:
+            same(f"{name}: a longer image", (failed.status, failed.reply.about, failed.reply.number), (lib.REFUSED, 9, 1))
+        same(f"{name}: nothing was written", content(case.path) == wanted, True)
+    case.put()
+
+
 def locked(case):
     """The lock of an image that writes is the command's."""
     edit = [case.ptab, "edit", case.path, "c:1:other"]
@@ -175,7 +204,7 @@ def in_rust(folder):
     must("rustc", "--edition", "2021", "-D", "warnings", "--test", f"{rust}/tests/edits.rs", "--extern", f"ptab={folder}/libptab.rlib",
          "-L", folder, "-C", f"link-arg={folder}/libptab.a", "-o", f"{folder}/edits")
     said = must(f"{folder}/edits")
-    same("the tests in Rust", "test result: ok. 2 passed; 0 failed; 0 ignored" in said, True)
+    same("the tests in Rust", "test result: ok. 3 passed; 0 failed; 0 ignored" in said, True)
     return "Rust too"
 
 
@@ -187,6 +216,7 @@ def main():
         for name, sectors, image, edits in EDITS:
             case = Case(ptab, it, folder, sectors, image())
             in_one_block(case, name, edits)
+            adopted(case, name, edits)
             for done in (False, True):
                 after_a_failure(case, name, edits[0], edits[1], done)
             if name.startswith("GPT"):

@@ -48,7 +48,7 @@ struct known {
 /* What one call asks of the library, with all that goes with it. */
 struct asked {
   int32_t (*call)(struct asked *it, ptab_reply *reply);
-  struct known known;
+  struct known known, other;
   ptab_table *table;
   ptab_member *rows;
   size_t rows_len;
@@ -329,14 +329,23 @@ static int32_t plan_room(struct asked *it, uint64_t count, uint32_t sector_size,
   return it->writes && it->bytes ? PTAB_DONE : no_memory(reply);
 }
 
+/* The status, where what failed is the other disk. */
+static int32_t of_other(int32_t status, ptab_reply *reply) {
+  if (reply->about == PTAB_ABOUT_DISK) reply->about = PTAB_ABOUT_OTHER_DISK;
+  return status;
+}
+
 /* Asks until there is an answer. */
 static int32_t ask(struct asked *it, ptab_disk *disk, int writes, ptab_reply *reply) {
-  int32_t status = begin(&it->known, disk, writes, reply);
+  int32_t status = it->other.disk ? of_other(begin(&it->other, it->other.disk, 0, reply), reply) : PTAB_DONE;
+  if (status == PTAB_DONE) status = begin(&it->known, disk, writes, reply);
   if (status == PTAB_DONE && it->owns_room) status = plan_room(it, PTAB_MOST_WRITES, disk->sector_size, reply);
   while (status == PTAB_DONE) {
     status = it->call(it, reply);
     if (status == PTAB_WANT)
       status = read_wanted(&it->known, reply->sector, reply);
+    else if (status == PTAB_WANT_OTHER)
+      status = of_other(read_wanted(&it->other, reply->sector, reply), reply);
     else if (status == PTAB_ROOM && it->owns_room)
       status = plan_room(it, reply->count, disk->sector_size, reply);
     else
@@ -349,6 +358,8 @@ static int32_t ask(struct asked *it, ptab_disk *disk, int writes, ptab_reply *re
 static int32_t done_with(struct asked *it, int32_t status, const ptab_reply *reply) {
   free(it->known.numbers);
   free(it->known.bytes);
+  free(it->other.numbers);
+  free(it->other.bytes);
   free(it->words);
   free(it->random);
   if (it->owns_room) {
@@ -375,6 +386,10 @@ static int32_t call_plan(struct asked *it, ptab_reply *reply) {
 
 static int32_t call_repair(struct asked *it, ptab_reply *reply) {
   return ptab_repair(&it->known.view, it->writes, it->writes_len, it->bytes, it->bytes_len, reply);
+}
+
+static int32_t call_adopt(struct asked *it, ptab_reply *reply) {
+  return ptab_adopt_plan(&it->known.view, &it->other.view, it->writes, it->writes_len, it->bytes, it->bytes_len, reply);
 }
 
 static int32_t call_check(struct asked *it, ptab_reply *reply) {
@@ -489,6 +504,11 @@ int32_t ptab_disk_repair(ptab_disk *disk, ptab_reply *reply) {
   return done_with(&it, change(&it, disk, reply), reply);
 }
 
+int32_t ptab_disk_adopt(ptab_disk *disk, ptab_disk *other, ptab_reply *reply) {
+  struct asked it = {.call = call_adopt, .other = {.disk = other}, .owns_room = 1};
+  return done_with(&it, change(&it, disk, reply), reply);
+}
+
 int32_t ptab_disk_plan(ptab_disk *disk, const char *const *words, size_t words_len, const uint8_t *drawn, size_t drawn_len,
                        ptab_write *writes, size_t writes_len, uint8_t *bytes, size_t bytes_len, ptab_reply *reply) {
   struct asked it = {.call = call_plan, .drawn = drawn, .drawn_len = drawn_len, .writes = writes, .writes_len = writes_len,
@@ -500,6 +520,13 @@ int32_t ptab_disk_plan(ptab_disk *disk, const char *const *words, size_t words_l
 int32_t ptab_disk_repair_plan(ptab_disk *disk, ptab_write *writes, size_t writes_len, uint8_t *bytes, size_t bytes_len,
                               ptab_reply *reply) {
   struct asked it = {.call = call_repair, .writes = writes, .writes_len = writes_len, .bytes = bytes, .bytes_len = bytes_len};
+  return done_with(&it, ask(&it, disk, 0, reply), reply);
+}
+
+int32_t ptab_disk_adopt_plan(ptab_disk *disk, ptab_disk *other, ptab_write *writes, size_t writes_len, uint8_t *bytes,
+                             size_t bytes_len, ptab_reply *reply) {
+  struct asked it = {.call = call_adopt, .other = {.disk = other}, .writes = writes, .writes_len = writes_len, .bytes = bytes,
+                     .bytes_len = bytes_len};
   return done_with(&it, ask(&it, disk, 0, reply), reply);
 }
 

@@ -116,6 +116,11 @@ static const char *const repairs[] = {
     "a repair leaves it to you: finding {a}",
 };
 
+static const char *const adoptions[] = {
+    NULL,
+    "the other disk has another number of sectors",
+};
+
 static const char *const arguments[] = {
     NULL,
     "the sector size is neither 512 nor 4096",
@@ -124,6 +129,8 @@ static const char *const arguments[] = {
     "the random bytes aren't whole groups of 16",
     "there are no words, or they aren't UTF-8",
     "the plan's bytes aren't a whole sector for each write, or its phases aren't in order",
+    "the other disk has sectors of another size",
+    "the other view's bytes aren't a whole sector for each of its numbers, or its disk has 2^64 bytes or more",
 };
 
 static const char *const disks[] = {
@@ -157,7 +164,10 @@ static const struct {
     [PTAB_ABOUT_PLAN] = {plans, sizeof plans / sizeof *plans},
     [PTAB_ABOUT_CHECK] = {checks, sizeof checks / sizeof *checks},
     [PTAB_ABOUT_REPAIR] = {repairs, sizeof repairs / sizeof *repairs},
+    [PTAB_ABOUT_ADOPT] = {adoptions, sizeof adoptions / sizeof *adoptions},
+    [PTAB_ABOUT_OTHER_TABLE] = {tables, sizeof tables / sizeof *tables},
     [PTAB_ABOUT_DISK] = {disks, sizeof disks / sizeof *disks},
+    [PTAB_ABOUT_OTHER_DISK] = {disks, sizeof disks / sizeof *disks},
 };
 
 /* A text that grows; what doesn't fit is counted. */
@@ -225,7 +235,7 @@ static void put_sentence(struct text *it, const char *sentence, const ptab_reply
 
 /* The sentence of what a reply is about, or NULL. */
 static const char *sentence_of(const ptab_reply *r) {
-  if (r->about == PTAB_ABOUT_TABLE && r->number == 2) return OF(chains, r->a);
+  if ((r->about == PTAB_ABOUT_TABLE || r->about == PTAB_ABOUT_OTHER_TABLE) && r->number == 2) return OF(chains, r->a);
   if (r->about == PTAB_ABOUT_FINDING && r->number == 5) return OF(alternates, r->a);
   if (r->about >= sizeof about / sizeof *about || r->number >= about[r->about].count) return NULL;
   return about[r->about].sentences[r->number];
@@ -242,6 +252,7 @@ static const char *sentence_alone(int32_t status) {
     case PTAB_DEVICE: return "the disk failed";
     case PTAB_MEMORY: return "out of memory";
     case PTAB_WANT: return "sector {s} is wanted";
+    case PTAB_WANT_OTHER: return "sector {s} of the other disk is wanted";
     case PTAB_ROOM: return "a buffer is too small: it takes {n} rows or writes";
     default: return "no status of this library";
   }
@@ -250,7 +261,7 @@ static const char *sentence_alone(int32_t status) {
 /* Adds what the system says of a device's fault. */
 static void put_error(struct text *it, const ptab_reply *r) {
   char error[128];
-  if (r->about != PTAB_ABOUT_DISK || r->number == PTAB_DISK_KIND || r->b == 0) return;
+  if (r->about < PTAB_ABOUT_DISK || r->number == PTAB_DISK_KIND || r->b == 0) return;
   if (strerror_r((int)r->b, error, sizeof error) != 0) return;
   put_all(it, ": ");
   put_all(it, error);
@@ -261,16 +272,22 @@ static size_t ended(struct text *it) {
   return it->whole;
 }
 
+/* What stands before the sentence: of which word or disk it is told. */
+static const char *before(int32_t status, const ptab_reply *r) {
+  switch (r->about) {
+    case PTAB_ABOUT_TABLE: return "there is no table: ";
+    case PTAB_ABOUT_OTHER_TABLE:
+    case PTAB_ABOUT_OTHER_DISK: return "the other disk: ";
+    case PTAB_ABOUT_WORD: return "word {a}: ";
+    case PTAB_ABOUT_CHECK: return status == PTAB_REFUSED ? "the plan is refused: " : "";
+    default: return "";
+  }
+}
+
 size_t ptab_message(int32_t status, const ptab_reply *reply, char *text, size_t length) {
   struct text it = {text, length, 0, 0};
   const char *sentence = sentence_of(reply);
-  if (sentence && reply->about == PTAB_ABOUT_TABLE) put_all(&it, "there is no table: ");
-  if (sentence && reply->about == PTAB_ABOUT_CHECK && status == PTAB_REFUSED) put_all(&it, "the plan is refused: ");
-  if (sentence && reply->about == PTAB_ABOUT_WORD) {
-    put_all(&it, "word ");
-    put_number(&it, reply->a, 0);
-    put_all(&it, ": ");
-  }
+  if (sentence) put_sentence(&it, before(status, reply), reply);
   put_sentence(&it, sentence ? sentence : sentence_alone(status), reply);
   if (status == PTAB_DEVICE) put_error(&it, reply);
   return ended(&it);

@@ -6,7 +6,7 @@ import ctypes as c
 import fcntl
 import os
 
-DONE, NO, USAGE, REFUSED, NO_TABLE, DEVICE, MEMORY, WANT, ROOM = 0, 1, 2, 3, 4, 5, 6, -1, -2
+DONE, NO, USAGE, REFUSED, NO_TABLE, DEVICE, MEMORY, WANT, ROOM, WANT_OTHER = 0, 1, 2, 3, 4, 5, 6, -1, -2, -3
 VERSION, MOST_MEMBERS, MOST_WRITES = 1, 1056, 264
 
 
@@ -53,6 +53,7 @@ class Ptab:
         self.lib.ptab_locate.argtypes = [p, u64, u8, u64, p]
         self.lib.ptab_plan.argtypes = [p, p, size, p, size, p, size, p, size, p]
         self.lib.ptab_repair.argtypes = [p, p, size, p, size, p]
+        self.lib.ptab_adopt_plan.argtypes = [p, p, p, size, p, size, p]
         self.lib.ptab_check.argtypes = [p, p, size, p, size, p]
         self.lib.ptab_guid_text.argtypes = [p, p]
         self.lib.ptab_guid_text.restype = None
@@ -91,17 +92,24 @@ class Disk:
         n = len(self.known)
         self.view = View(self.size, self.sectors, c.addressof(self.numbers), n, c.addressof(self.bytes), n * self.size)
 
-    def _ask(self, call):
-        """Calls until no sector is wanted."""
+    def _add(self, sector):
+        """Reads one sector more."""
+        self.known[sector] = self.read(sector)
+        self._pack()
+
+    def _ask(self, call, other=None):
+        """Calls until no sector is wanted, of this disk or of the other one."""
         self.read_ends()
         reply = Reply()
         while True:
             self.calls += 1
             status = call(c.byref(self.view), c.byref(reply))
-            if status != WANT:
+            if status == WANT:
+                self._add(reply.sector)
+            elif status == WANT_OTHER:
+                other._add(reply.sector)
+            else:
                 return status, reply
-            self.known[reply.sector] = self.read(reply.sector)
-            self._pack()
 
     def members(self):
         """The table, and its partitions."""
@@ -126,10 +134,10 @@ class Disk:
             raise Failed(status, reply)
         return reply.sector if status == DONE else None
 
-    def _phases(self, call):
+    def _phases(self, call, other=None):
         """The phases of a plan, as lists of (sector, bytes)."""
         writes, data = (Write * MOST_WRITES)(), c.create_string_buffer(MOST_WRITES * self.size)
-        status, reply = self._ask(lambda view, reply: call(view, writes, len(writes), data, len(data), reply))
+        status, reply = self._ask(lambda view, reply: call(view, writes, len(writes), data, len(data), reply), other)
         if status != DONE:
             raise Failed(status, reply)
         phases = [[] for _ in range(reply.phases)]
@@ -145,6 +153,11 @@ class Disk:
     def repair(self):
         """The plan of a repair."""
         return self._phases(self.lib.ptab_repair)
+
+    def adopt(self, other):
+        """The plan that makes the disk healthy with the layout that another `Disk` denotes."""
+        other.read_ends()
+        return self._phases(lambda view, *rest: self.lib.ptab_adopt_plan(view, c.byref(other.view), *rest), other)
 
     def check(self, phases):
         """(DONE or NO, the reply) for a plan from elsewhere."""
@@ -165,7 +178,7 @@ class Image:
     or the new one, and the next plan is made from what is there then."""
 
     def __init__(self, ptab, path, sector_size=512, writes=False):
-        self.size = sector_size
+        self.ptab, self.size = ptab, sector_size
         self.file = open(path, "r+b" if writes else "rb", buffering=0)
         # whether the file may hold what isn't durable
         self.unsynced = writes
@@ -204,6 +217,11 @@ class Image:
         if self.unsynced:
             os.fsync(self.file.fileno())
             self.unsynced = False
+
+    def adopt(self, path):
+        """The plan of the layout of another image, which is only read, and not locked."""
+        with Image(self.ptab, path, self.size) as other:
+            return self.disk.adopt(other.disk)
 
     def carry_out(self, phases):
         """Writes a plan phase by phase, with a sync after each; a failed write or sync ends it."""

@@ -1,8 +1,8 @@
 /*
- * A small `ptab` over the library: shows an image, verifies it, locates a sector, edits, repairs. Reading, locking and
- * writing by phases are the library's part (ptab_disk.h); what stands here reads the words and prints the answers.
+ * A small `ptab` over the library: shows an image, verifies it, locates a sector, edits, repairs, adopts. Reading, locking
+ * and writing by phases are the library's part (ptab_disk.h); what stands here reads the words and prints the answers.
  *
- *   ptab_c IMAGE SIZE show | verify | repair | locate NUMBER[.LETTER] K | edit WORD...
+ *   ptab_c IMAGE SIZE show | verify | repair | locate NUMBER[.LETTER] K | edit WORD... | adopt OTHER
  *
  * SIZE is 512 or 4096; or `device`, and IMAGE is a block device. Statuses are those of `ptab`. Build:
  *   cc -Iinclude examples/c/ptab.c libptab.a -o ptab_c
@@ -39,14 +39,17 @@ static void complain_of_table(const ptab_reply *r) {
 static void complain(int status, const ptab_reply *r, char **words, int count) {
   static const char *const kinds[] = {"", "", "", "", "", "edit", "plan", "check", "repair"};
   char text[256];
+  if (r->about == PTAB_ABOUT_OTHER_DISK || r->about == PTAB_ABOUT_OTHER_TABLE) fputs("other: ", stderr);
   if (status == PTAB_DEVICE)
     fputs("device\n", stderr);
   else if (status == PTAB_MEMORY)
     fputs("memory\n", stderr);
   else if (r->about == PTAB_ABOUT_WORD && r->a >= 1 && r->a <= (uint64_t)count)
     fprintf(stderr, "bad word %s\n", words[r->a - 1]);
-  else if (r->about == PTAB_ABOUT_TABLE)
+  else if (r->about == PTAB_ABOUT_TABLE || r->about == PTAB_ABOUT_OTHER_TABLE)
     complain_of_table(r);
+  else if (r->about == PTAB_ABOUT_ADOPT)
+    fputs("refused: other size\n", stderr);
   else if (status == PTAB_REFUSED && r->about <= PTAB_ABOUT_REPAIR)
     fprintf(stderr, "refused: %s %u\n", kinds[r->about], (unsigned)r->number);
   else if (status == PTAB_REFUSED && r->number == PTAB_DISK_LOCKED)
@@ -143,16 +146,36 @@ static int edit(ptab_disk *disk, char **words, int count, ptab_reply *reply) {
   return ptab_disk_edit(disk, (const char *const *)words, (size_t)count, path ? drawn : NULL, sizeof drawn, reply);
 }
 
+/* Gives the disk the layout of another image. */
+static int adopt(ptab_disk *disk, const char *path, ptab_reply *reply) {
+  uint32_t size;
+  uint64_t sectors;
+  ptab_disk *other;
+  int status = ptab_disk_size(disk, &sectors, &size, reply);
+  if (status != PTAB_DONE) return status;
+  status = ptab_disk_open(path, PTAB_DISK_READ, size, &other, reply);
+  if (status == PTAB_DONE)
+    status = ptab_disk_adopt(disk, other, reply);
+  else
+    reply->about = PTAB_ABOUT_OTHER_DISK;
+  ptab_disk_close(other);
+  return status;
+}
+
 static int is_job(const char *job, int argc) {
   return !strcmp(job, "show") || !strcmp(job, "verify") || !strcmp(job, "repair") || (!strcmp(job, "locate") && argc == 6) ||
-         (!strcmp(job, "edit") && argc > 4);
+         (!strcmp(job, "edit") && argc > 4) || (!strcmp(job, "adopt") && argc == 5);
 }
 
 static int run(ptab_disk *disk, const char *job, char **words, int count, ptab_reply *reply) {
   if (!strcmp(job, "show")) return show(disk, reply);
   if (!strcmp(job, "verify")) return verify(disk, reply);
   if (!strcmp(job, "locate")) return locate(disk, words, reply);
-  int status = !strcmp(job, "edit") ? edit(disk, words, count, reply) : ptab_disk_repair(disk, reply);
+  int status;
+  if (!strcmp(job, "edit"))
+    status = edit(disk, words, count, reply);
+  else
+    status = !strcmp(job, "adopt") ? adopt(disk, words[0], reply) : ptab_disk_repair(disk, reply);
   if (status == PTAB_DONE) puts("done");
   return status;
 }
@@ -163,12 +186,13 @@ int main(int argc, char **argv) {
   const char *job = argc > 3 ? argv[3] : "";
   int is_device = argc > 2 && !strcmp(argv[2], "device");
   uint32_t size = argc > 2 && !is_device ? (uint32_t)strtoul(argv[2], NULL, 10) : 0;
-  uint32_t how = !strcmp(job, "edit") || !strcmp(job, "repair") ? PTAB_DISK_WRITE : PTAB_DISK_READ;
+  int writes = !strcmp(job, "edit") || !strcmp(job, "repair") || !strcmp(job, "adopt");
+  uint32_t how = (writes ? PTAB_DISK_WRITE : PTAB_DISK_READ) | (is_device ? PTAB_DISK_DEVICE : 0);
   if ((size != 512 && size != 4096 && !is_device) || !is_job(job, argc) || ptab_version() != PTAB_VERSION) {
-    fputs("usage: ptab_c IMAGE SIZE show | verify | repair | locate NUMBER[.LETTER] K | edit WORD...\n", stderr);
+    fputs("usage: ptab_c IMAGE SIZE show | verify | repair | locate NUMBER[.LETTER] K | edit WORD... | adopt OTHER\n", stderr);
     return PTAB_USAGE;
   }
-  int status = ptab_disk_open(argv[1], is_device ? how | PTAB_DISK_DEVICE : how, size, &disk, &reply);
+  int status = ptab_disk_open(argv[1], how, size, &disk, &reply);
   if (status == PTAB_DONE) status = run(disk, job, argv + 4, argc - 4, &reply);
   if (status != PTAB_DONE && status != PTAB_NO) complain(status, &reply, argv + 4, argc - 4);
   ptab_disk_close(disk);

@@ -115,6 +115,10 @@ extern "C" {
     fn ptab_repair(
         view: *const View, writes: *mut WriteRow, writes_len: usize, bytes: *mut u8, bytes_len: usize, reply: *mut Reply,
     ) -> i32;
+    fn ptab_adopt_plan(
+        view: *const View, other: *const View, writes: *mut WriteRow, writes_len: usize, bytes: *mut u8, bytes_len: usize,
+        reply: *mut Reply,
+    ) -> i32;
     fn ptab_check(
         view: *const View, writes: *const WriteRow, writes_len: usize, bytes: *const u8, bytes_len: usize, reply: *mut Reply,
     ) -> i32;
@@ -124,6 +128,7 @@ extern "C" {
 
 const VERSION: i32 = 1;
 const WANT: i32 = -1;
+const WANT_OTHER: i32 = -3;
 const DEVICE: i32 = 5;
 const MOST_MEMBERS: usize = 1056;
 const MOST_WRITES: usize = 264;
@@ -134,6 +139,27 @@ pub fn guid_text(guid: &[u8; 16]) -> String {
     // both arrays have the layouts of ptab_guid and ptab_text
     unsafe { ptab_guid_text(guid.as_ptr().cast(), text.as_mut_ptr().cast()) };
     text.iter().map(|&byte| char::from(byte)).collect()
+}
+
+/// Room for the writes of a plan.
+struct Room {
+    writes: Vec<WriteRow>,
+    bytes: Vec<u8>,
+}
+
+impl Room {
+    fn new(size: usize) -> Room {
+        Room { writes: vec![WriteRow::default(); MOST_WRITES], bytes: vec![0; MOST_WRITES * size] }
+    }
+
+    /// The plan that was put there.
+    fn plan(&self, reply: Reply, size: usize) -> Plan {
+        let mut plan: Plan = (0..reply.phases).map(|_| Vec::new()).collect();
+        for (row, bytes) in self.writes.iter().zip(self.bytes.chunks(size)).take(reply.count as usize) {
+            plan[row.phase as usize - 1].push(Write { sector: row.sector, bytes: bytes.to_vec() });
+        }
+        plan
+    }
 }
 
 /// A disk, with what the last call read of it.
@@ -180,21 +206,43 @@ impl<R: FnMut(u64, &mut [u8]) -> bool> Disk<R> {
         Ok(())
     }
 
+    /// What was read of the disk, for as long as nothing more is read.
+    fn view(&self) -> View {
+        View {
+            sector_size: self.size as u32,
+            sectors: self.sectors,
+            numbers: self.numbers.as_ptr(),
+            numbers_len: self.numbers.len(),
+            bytes: self.bytes.as_ptr(),
+            bytes_len: self.bytes.len(),
+        }
+    }
+
     /// Calls until no sector is wanted.
     fn ask(&mut self, mut call: impl FnMut(&View, &mut Reply) -> i32) -> Result<(i32, Reply), Failed> {
         self.read_ends()?;
         let mut reply = Reply::default();
         loop {
-            let view = View {
-                sector_size: self.size as u32,
-                sectors: self.sectors,
-                numbers: self.numbers.as_ptr(),
-                numbers_len: self.numbers.len(),
-                bytes: self.bytes.as_ptr(),
-                bytes_len: self.bytes.len(),
-            };
-            match call(&view, &mut reply) {
+            match call(&self.view(), &mut reply) {
                 WANT => self.add(reply.sector)?,
+                status => return Ok((status, reply)),
+            }
+        }
+    }
+
+    /// The same of two disks.
+    fn ask_both<S: FnMut(u64, &mut [u8]) -> bool>(
+        &mut self,
+        other: &mut Disk<S>,
+        mut call: impl FnMut(&View, &View, &mut Reply) -> i32,
+    ) -> Result<(i32, Reply), Failed> {
+        self.read_ends()?;
+        other.read_ends()?;
+        let mut reply = Reply::default();
+        loop {
+            match call(&self.view(), &other.view(), &mut reply) {
+                WANT => self.add(reply.sector)?,
+                WANT_OTHER => other.add(reply.sector)?,
                 status => return Ok((status, reply)),
             }
         }
@@ -242,15 +290,9 @@ impl<R: FnMut(u64, &mut [u8]) -> bool> Disk<R> {
         &mut self,
         mut call: impl FnMut(&View, &mut [WriteRow], &mut [u8], &mut Reply) -> i32,
     ) -> Result<Plan, Failed> {
-        let size = self.size;
-        let mut writes = vec![WriteRow::default(); MOST_WRITES];
-        let mut bytes = vec![0; MOST_WRITES * size];
-        let reply = Self::done(self.ask(|view, reply| call(view, &mut writes, &mut bytes, reply))?)?;
-        let mut plan: Plan = (0..reply.phases).map(|_| Vec::new()).collect();
-        for (row, bytes) in writes.iter().zip(bytes.chunks(size)).take(reply.count as usize) {
-            plan[row.phase as usize - 1].push(Write { sector: row.sector, bytes: bytes.to_vec() });
-        }
-        Ok(plan)
+        let mut room = Room::new(self.size);
+        let reply = Self::done(self.ask(|view, reply| call(view, &mut room.writes, &mut room.bytes, reply))?)?;
+        Ok(room.plan(reply, self.size))
     }
 
     /// The plan of edit words, with 16 random bytes for each GUID that they need.
@@ -269,6 +311,17 @@ impl<R: FnMut(u64, &mut [u8]) -> bool> Disk<R> {
         self.plan_by(|view, writes, bytes, reply| unsafe {
             ptab_repair(view, writes.as_mut_ptr(), writes.len(), bytes.as_mut_ptr(), bytes.len(), reply)
         })
+    }
+
+    /// The plan that makes the disk healthy with the layout that another disk denotes, which is only read.
+    pub fn adopt<S: FnMut(u64, &mut [u8]) -> bool>(&mut self, other: &mut Disk<S>) -> Result<Plan, Failed> {
+        let mut room = Room::new(self.size);
+        let reply = Self::done(self.ask_both(other, |view, other, reply| unsafe {
+            ptab_adopt_plan(
+                view, other, room.writes.as_mut_ptr(), room.writes.len(), room.bytes.as_mut_ptr(), room.bytes.len(), reply,
+            )
+        })?)?;
+        Ok(room.plan(reply, self.size))
     }
 
     /// Whether a plan from elsewhere may be carried out.

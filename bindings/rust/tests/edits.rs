@@ -73,6 +73,25 @@ fn edits_of_one_disk_add_up() -> Result<(), Failed> {
 }
 
 #[test]
+fn a_disk_takes_the_table_of_another() -> Result<(), Failed> {
+    let (bytes, other) = (Bytes::new(), Bytes::new());
+    for (disk, seed, words) in [(&bytes, 0, ["a:8", "o", "n:1:0:+50", "c:1:old"]), (&other, 64, ["a:8", "o", "n:3:0:+100", "c:3:new"])] {
+        assert!(disk.carry_out(disk.disk().plan(&words, &drawn(seed))?));
+    }
+    let before = other.bytes.borrow().clone();
+    let plan = bytes.disk().adopt(&mut other.disk())?;
+    assert!(bytes.carry_out(plan));
+    assert_eq!(named(bytes.disk().members()?), [pair(3, "new")]);
+    assert_eq!(bytes.disk().verify()?, ptab::Verdict::Yes);
+    assert_eq!(bytes.disk().adopt(&mut other.disk())?, Plan::new());
+    assert_eq!(*other.bytes.borrow(), before);
+    // a disk without a table is told as the other one
+    let failed = bytes.disk().adopt(&mut Bytes::new().disk()).expect_err("no table");
+    assert_eq!((failed.status, failed.reply.about, failed.reply.number), (4, 10, 1));
+    Ok(())
+}
+
+#[test]
 fn an_edit_after_a_failed_write_goes_on_from_what_is_there() -> Result<(), Failed> {
     let start = Bytes::new();
     let plan = start.disk().plan(&["a:8", "o", "n:1:0:+100", "c:1:old"], &drawn(0))?;
