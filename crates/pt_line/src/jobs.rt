@@ -3,7 +3,7 @@
 ghost use Rattle.std.specs.Prelude.{◌≡◌, ◌↔◌, IfOk, IsTrue, codes, map, string_bytes};
 ghost use Rattle.clap.specs.Walk.{texts as slice_texts};
 ghost use Rattle.clap.specs.Words.{found_of, rows_of, subcommand_rows_of};
-ghost use Rattle.pt_line.specs.Lines.{GivesIf, IfJob, IsAdoption, IsGiven, IsLockedBy, IsSizeNamed, IsSizeOrLess, MeansJob};
+ghost use Rattle.pt_line.specs.Lines.{GivesIf, HasNoJob, IfJob, IsAdoption, IsGiven, IsLockedBy, IsSizeNamed, IsSizeOrLess, IsUnknown, MeansJob};
 ghost use Rattle.pt_line.specs.Lines.{text_in, texts_in};
 
 use crate::line::{Adoption, Job, Line, LineError, LockedBy, SectorSize};
@@ -129,6 +129,7 @@ fn adopt_job(alloc: Global, inner: &ArgMatches<'_>, image: String) -> Result<Job
 }
 
 fn job_of(alloc: Global, name: &str, inner: &ArgMatches<'_>) -> Result<Job, LineError>
+    requires { ¬ IsUnknown name.now }
     ensures { IfJob name.now (rows_of (found_of inner.now)) result }
 {
     let image = text_of(alloc, inner, "IMAGE")?;
@@ -167,11 +168,12 @@ fn job_of(alloc: Global, name: &str, inner: &ArgMatches<'_>) -> Result<Job, Line
             locked_by: locked_by(inner),
         }),
         "adopt" => adopt_job(alloc, inner, image),
-        _ => Err(LineError::Usage(String::new(alloc))),
+        _ => unreachable!(),
     }
 }
 
 pub(crate) fn line_of(alloc: Global, matches: &ArgMatches<'_>) -> Result<Line, LineError>
+    requires { ¬ HasNoJob (subcommand_rows_of matches.now) }
     ensures { MeansJob (subcommand_rows_of matches.now) result }
 {
     match matches.subcommand() {
@@ -179,6 +181,6 @@ pub(crate) fn line_of(alloc: Global, matches: &ArgMatches<'_>) -> Result<Line, L
             job: job_of(alloc, name, inner)?,
             size: size_of(inner),
         }),
-        None => Err(LineError::Usage(String::new(alloc))),
+        None => unreachable!(),
     }
 }
