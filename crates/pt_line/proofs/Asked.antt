@@ -19,7 +19,8 @@ use Rattle.clap.specs.declared.parser.matches.ArgMatches.{ArgMatches}
 use Rattle.clap.specs.declared.error.kind.ErrorKind.{ErrorKind}
 use Rattle.clap.specs.declared.error.kind.ErrorKind.TheVariants.{DisplayHelp, DisplayVersion, OutOfMemory}
 use Rattle.clap.proofs.WalkLemmas.{list_any-map}
-use Rattle.pt_line.specs.CommandLine.{image_rules, no_lock, other_rules, place_rules, plan_only, plan_rules, ptab, word_rules, writing}
+use Rattle.pt_line.specs.CommandLine.{image_rules, no_lock, other_rules, place_rules, plan_only, plan_rules, ptab, show_rules, word_rules}
+use Rattle.pt_line.specs.CommandLine.{writing}
 use Rattle.pt_line.specs.Lines.{IsJob, IsJobOrEmpty, IsLineOf, IsLineOrEmpty, IsSize, IsSizeOrLess, IsUnknown, IsUsage, HasNoJob, MeansAt, MeansJob}
 use Rattle.pt_line.specs.Lines.{ReadsAs, Tells}
 use Rattle.pt_line.specs.declared.line.Job.{Job}
@@ -73,10 +74,10 @@ module _ (rows : List Row) (full : Each (IsFull MayBe) rows) where
   texts_given id ts given e = all_texts (all_of id rows) ts e (has_text MayBe rows id full given).1
 
 module _ (sizes : Bor (List (Bor Text))) (rows : List Row) where
-  show_job : IsFair MayBe (built_rules (image_rules sizes)) rows → (j : Job) → IsJobOrEmpty (codes "show") rows j
+  show_job : IsFair MayBe (built_rules (show_rules sizes)) rows → (j : Job) → IsJobOrEmpty (codes "show") rows j
       → IsJob (codes "show") rows j
   show_job fair (job.Help t) h = absurd h
-  show_job fair (job.Show image) h = (h.0, text_given rows fair.full (codes "IMAGE") _ (fair.given.0 refl) h.1)
+  show_job fair (job.Show image after) h = (h.0, text_given rows fair.full (codes "IMAGE") _ (fair.given.0 refl) h.1, h.2)
   show_job fair _ h = absurd (true≢false (ap (bytes_eq (codes "show")) h.0))
 
   verify_job : IsFair MayBe (built_rules (image_rules sizes)) rows → (j : Job) → IsJobOrEmpty (codes "verify") rows j
@@ -182,6 +183,12 @@ module _ (sizes : Bor (List (Bor Text))) (are : texts sizes.now ≡ codes "512" 
   image_sound =
       (((omega arith, λ v e is. absurd (true≢false (sym is))), tt), (((omega arith, one_of_two), ((λ is. inl refl), tt)), ((tt, tt), tt)))
 
+  show_sound : Each (IsSound MayBe) (built_rules (show_rules sizes))
+  show_sound = (
+    ((omega arith, λ v e is. absurd (true≢false (sym is))), tt),
+    (((omega arith, λ v e is. absurd (true≢false (sym is))), tt), (((omega arith, one_of_two), ((λ is. inl refl), tt)), ((tt, tt), tt))),
+  )
+
   place_sound : Each (IsSound MayBe) (built_rules (place_rules sizes))
   place_sound = (
     ((omega arith, λ v e is. absurd (true≢false (sym is))), tt),
@@ -238,11 +245,11 @@ module _ (sizes : Bor (List (Bor Text))) (are : texts sizes.now ≡ codes "512" 
         reads = λ rows fair line j z. (
           show_job sizes rows fair line.job j,
           sized rows fair.full
-              (fair.present.1.0 (omega arith)) line.size z,
+              (fair.present.1.1.0 (omega arith)) line.size z,
         );
         known = λ u. u.0 refl;
       },
-      image_sound,
+      show_sound,
       refl,
     ),
     (

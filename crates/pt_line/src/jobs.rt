@@ -38,10 +38,11 @@ fn texts_of(alloc: Global, matches: &ArgMatches<'_>, id: &str) -> Result<Vec<Str
     }
 }
 
-fn fresh_of(alloc: Global, matches: &ArgMatches<'_>) -> Result<Option<String>, AllocError>
-    ensures { IfOk result (GivesIf (rows_of (found_of matches.now)) (codes "fresh")) }
+/// The value of an option, where it is given.
+fn value_of(alloc: Global, matches: &ArgMatches<'_>, id: &str) -> Result<Option<String>, AllocError>
+    ensures { IfOk result (GivesIf (rows_of (found_of matches.now)) id.now) }
 {
-    match matches.get_str("fresh") {
+    match matches.get_str(id) {
         Some(text) => Ok(Some(String::from_str(alloc, text)?)),
         None => Ok(None),
     }
@@ -102,7 +103,8 @@ fn edit_of(
     ensures { IfOk result (λ p. GivesIf (rows_of (found_of matches.now)) (codes "fresh") p.0
         × (map string_bytes p.1.items ≡ texts_in (rows_of (found_of matches.now)) (codes "WORD"))) }
 {
-    Ok((fresh_of(alloc, matches)?, texts_of(alloc, matches, "WORD")?))
+    let fresh = value_of(alloc, matches, "fresh")?;
+    Ok((fresh, texts_of(alloc, matches, "WORD")?))
 }
 
 fn place_job(alloc: Global, inner: &ArgMatches<'_>, image: String) -> Result<Job, LineError>
@@ -134,7 +136,10 @@ fn job_of(alloc: Global, name: &str, inner: &ArgMatches<'_>) -> Result<Job, Line
 {
     let image = text_of(alloc, inner, "IMAGE")?;
     match name {
-        "show" => Ok(Job::Show { image }),
+        "show" => Ok(Job::Show {
+            image,
+            after: value_of(alloc, inner, "after")?,
+        }),
         "verify" => Ok(Job::Verify { image }),
         "locate" => place_job(alloc, inner, image),
         "edit" => {

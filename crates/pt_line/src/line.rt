@@ -52,6 +52,8 @@ pub enum Job {
     Help(String),
     Show {
         image: String,
+        /// The file of a plan, as it would leave the image.
+        after: Option<String>,
     },
     Verify {
         image: String,
