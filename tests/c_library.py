@@ -17,10 +17,10 @@ import sys
 
 HERE = os.path.dirname(os.path.abspath(__file__))
 ROOT = os.path.dirname(HERE)
-sys.path[:0] = [HERE, os.path.join(ROOT, "bindings", "python")]
+sys.path.insert(0, HERE)
 import c_replies
 import images
-import ptab as lib
+import replay as lib
 from images import LARGE, SMALL, room
 from writes import choices, written
 

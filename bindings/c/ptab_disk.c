@@ -201,8 +201,9 @@ int32_t ptab_disk_take(int fd, uint32_t how, uint32_t sector_size, ptab_disk **d
 }
 
 void ptab_disk_close(ptab_disk *disk) {
+  int answer;
   if (!disk) return;
-  if (is_locked(disk)) flock(disk->fd, LOCK_UN);
+  if (is_locked(disk)) UNINTERRUPTED(answer, flock(disk->fd, LOCK_UN));
   if (disk->owns) close(disk->fd);
   free(disk);
 }
