@@ -23,10 +23,9 @@ HERE = os.path.dirname(os.path.abspath(__file__))
 ROOT = os.path.dirname(HERE)
 sys.path[:0] = [HERE, os.path.join(ROOT, "bindings", "python")]
 import disk_faults
-import faults
 import images
 import ptab as lib
-from doubles import phases_of, text_of
+from doubles import text_of
 from images import LARGE, SMALL, room
 
 DRAWN = bytes(range(256)) * 16
@@ -103,8 +102,10 @@ def built(archive, folder):
 
 
 def small_programs(ptab, folder):
-    """The programs that list an image's partitions and rename one, in C and in Python."""
+    """The programs that list an image's partitions and rename one, in C and in Python. They stand in docs/c.md, as the one in Rust does."""
     image, listed = f"{folder}/disk.img", "1 EFI\n2 root\ndone\n"
+    for name in ("examples/c/rename.c", "examples/python/rename.py", "bindings/rust/examples/rename.rs"):
+        same(f"docs/c.md has {name}", content(f"{ROOT}/{name}") in content(f"{ROOT}/docs/c.md"), True)
     for program in ([f"{folder}/rename_c"], [sys.executable, f"{ROOT}/examples/python/rename.py"]):
         put(image, bytes(64 << 20))
         must(ptab, "edit", image, "--fresh", DRAWN.hex(), "o", "n:1:0:+32768:EF00", "c:1:EFI", "n:2:0:0", "c:2:root")

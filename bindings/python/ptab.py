@@ -194,7 +194,7 @@ class Disk:
     lock. `path` may be a descriptor, which stays open. A device has a sector size of its own; an image has 512 where none is told."""
 
     def __init__(self, path: Union[str, os.PathLike, int], *, write: bool = False, lock: bool = True, device: bool = False,
-                 sector_size: int = 0):
+                 sector_size: int = 0) -> None:
         self._disk: Optional[c.c_void_p] = None
         self._path = path
         self._library = load()
