@@ -51,7 +51,6 @@ if [ -n "$library" ]; then
   made=$(mktemp -d)
   trap 'rm -rf "$made"' EXIT
   "$here/bindings/c/build.sh" "$library" "$made"
-  version=$(sed -n 's/^pub const VERSION: &str = "\(.*\)";$/\1/p' "$here/crates/pt_line/src/help.rt")
   # under a PREFIX of one's own no loader looks for the library, so a program that links it is told where it is
   case $prefix in
     '' | /usr | /usr/local) where= ;;
@@ -64,7 +63,7 @@ if [ -n "$library" ]; then
     echo
     echo 'Name: ptab'
     echo 'Description: partition tables: what they say, and checked plans of edits and repairs'
-    echo "Version: $version"
+    echo "Version: $("$here/packaging/version.sh")"
     echo 'Cflags: -I${includedir}'
     echo 'Libs: -L${libdir}'"$where"' -lptab'
   } >"$made/ptab.pc"

@@ -4,10 +4,7 @@
 # under power cuts, and with memory refused and calls on the image failing. It ends with the line of `rt ci`.
 set -euo pipefail
 cd "$(dirname "$0")"
-began=$(date +%s)
 export PATH="$PATH:/usr/sbin:/sbin"
-# the prover's allocator keeps the pages that it has, as packaging/build.py says
-export MIMALLOC_PURGE_DELAY="${MIMALLOC_PURGE_DELAY:--1}"
 tests/install.sh
 # what an earlier build left
 rm -rf crates/*/out
@@ -58,14 +55,11 @@ LIST
 running=$!
 set +m
 trap 'kill -- "-$trying" "-$running" 2>/dev/null || true; rm -f "$said" "$bodies" "$scripts"' EXIT
-proving=$(date +%s)
 rt ci | tee "$said"
-proved=$(date +%s)
 well=0
 wait "$running" || well=$?
 cat "$scripts"
 wait "$trying" || well=$?
 cat "$bodies"
 [ "$well" = 0 ]
-echo "test.sh: $(($(date +%s) - began)) seconds on $(nproc) processors, of which rt ci took $((proved - proving))"
 tail -n 1 "$said"

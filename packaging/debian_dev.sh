@@ -19,7 +19,7 @@ kit=$(printf '%s' "${KIT:-$(rt version)}" | tr -s '\n\t ' ' ')
 commit=$(git rev-parse HEAD)
 if [ -n "$(git status --porcelain -- crates include bindings install.sh packaging docs/c.md)" ]; then commit=$commit-changed; fi
 epoch=${SOURCE_DATE_EPOCH:-$(git log -1 --format=%ct)}
-version=0~git$(git log -1 --format=%cd --date=format-local:%Y%m%d%H%M%S).${commit:0:12}
+version=$("$here/packaging/version.sh")+git$(git log -1 --format=%cd --date=format-local:%Y%m%d%H%M%S).${commit:0:12}
 case $commit in *-changed) version=$version.changed ;; esac
 architecture=$(dpkg --print-architecture)
 author=$(git log -1 --format='%an <%ae>')

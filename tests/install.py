@@ -124,16 +124,26 @@ def library(folder, ptab, archive):
     for program in ([f"{folder}/rename"], [sys.executable, "-B", f"{TOP}/examples/python/rename.py"]):
         with open(f"{folder}/disk.img", "wb") as it:
             it.truncate(1 << 20)
-        subprocess.run([ptab, "edit", f"{folder}/disk.img", "--fresh", "0" * 64, "o", "a:1", "n:1:40:0", "c:1:root"], check=True, capture_output=True)
+        words = ("--fresh", "0" * 64, "o", "a:1", "n:1:40:0", "c:1:root")
+        subprocess.run([ptab, "edit", f"{folder}/disk.img", *words], check=True, capture_output=True)
         done = subprocess.run(program, capture_output=True, text=True, cwd=folder, env=where)
         same(f"{program}", (done.stdout, done.stderr, done.returncode), ("1 root\ndone\n", "", 0))
         shown = subprocess.run([ptab, "show", f"{folder}/disk.img"], capture_output=True, text=True, check=True).stdout
         same("the name", shown.split()[-1], "archive")
-    version = subprocess.run([ptab, "--version"], capture_output=True, text=True, check=True).stdout.split()[1]
-    same("the version for pkg-config", f"Version: {version}\n" in told, True)
-    for name in ("python/pyproject.toml", "rust/Cargo.toml"):
-        with open(f"{TOP}/bindings/{name}", encoding="utf-8") as it:
-            same(f"the version of bindings/{name}", f'version = "{version}"\n' in it.read(), True)
+    version = subprocess.run([f"{TOP}/packaging/version.sh"], capture_output=True, text=True).stdout
+    same("the version for pkg-config", f"\nVersion: {version}" in told, True)
+
+
+def versions(ptab):
+    """The one version number, wherever it stands."""
+    done = subprocess.run([f"{TOP}/packaging/version.sh"], capture_output=True, text=True)
+    version = done.stdout.strip()
+    done = subprocess.run([ptab, "--version"], capture_output=True, text=True)
+    same("the version of the command", done.stdout, f"ptab {version}\n")
+    for place, head in (("man/ptab.8", f'"Jawefon {version}"'), ("man/ptab-run.8", f'"Jawefon {version}"'), ("CHANGELOG.md", f"## {version}"),
+                        ("bindings/python/pyproject.toml", f'version = "{version}"\n'), ("bindings/rust/Cargo.toml", f'version = "{version}"\n')):
+        with open(f"{TOP}/{place}", encoding="utf-8") as it:
+            same(f"the version in {place}", head in it.read(), True)
 
 
 def refused(folder, ptab):
@@ -172,6 +182,7 @@ def main():
         which_program(folder, ptab)
         if len(sys.argv) > 2:
             library(folder, ptab, os.path.abspath(sys.argv[2]))
+        versions(ptab)
         refused(folder, ptab)
         completions(folder, f"{folder}/own/share/bash-completion/completions/ptab")
     print(f"installing: {checked} passed, 0 failed")

@@ -133,7 +133,7 @@ def at_work(ptab, folder):
     for words, kept in ((["edit", path, "c:1:new"], True), (["apply", path, plan], True), (["repair", path], True),
                         (["edit", "--no-lock", path, "c:1:new"], False)):
         put(path, image)
-        slow = ["strace", "-qq", "-o", f"{folder}/log", "-e", "trace=fsync", "-e", "inject=fsync:delay_enter=400000", ptab, *words]
+        slow = ["strace", "-qq", "-o", f"{folder}/log", "-e", "trace=fdatasync", "-e", "inject=fdatasync:delay_enter=400000", ptab, *words]
         working = subprocess.Popen(slow, stdout=subprocess.PIPE, stderr=subprocess.PIPE, text=True)
         found, until = [], time.monotonic() + (10 if kept else 0.3)
         while not found and working.poll() is None and time.monotonic() < until:

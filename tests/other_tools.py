@@ -23,13 +23,13 @@ import other_tools_page
 import other_tools_runs
 from images import LARGE, SMALL, room
 from tools import ENVIRONMENT
-from writes import choices, traced, written
+from writes import SYNCS, choices, traced, written
 
 TOP = os.path.abspath(os.path.join(os.path.dirname(os.path.abspath(__file__)), ".."))
 RUN = f"{TOP}/tools/ptab-run"
 # what the tool left on its copy is kept
 KEEPING = ("sh", "-c", 'copy=$1 kept=$2; shift 2; "$@" && cp --sparse=always "$copy" "$kept"', "sh", "@")
-CALLS = ("openat", "write", "pwrite64", "ftruncate", "fsync")
+CALLS = ("openat", "write", "pwrite64", "ftruncate", *SYNCS)
 GUID = r"[0-9a-fA-F]{8}(?:-[0-9a-fA-F]{4}){3}-[0-9a-fA-F]{12}|0x[0-9a-f]{8}\b"
 
 

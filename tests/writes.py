@@ -3,8 +3,9 @@ import re
 import subprocess
 import sys
 
-CALL = re.compile(r"^(\d+ +)?(openat|lseek|write|pwrite64|ftruncate|fsync)\((.*)\) += (\d+)$")
-CALLS = ("openat", "lseek", "write", "pwrite64", "ftruncate", "fsync")
+SYNCS = ("fsync", "fdatasync")
+CALLS = ("openat", "lseek", "write", "pwrite64", "ftruncate", *SYNCS)
+CALL = re.compile(rf"^(\d+ +)?({'|'.join(CALLS)})\((.*)\) += (\d+)$")
 
 
 def traced(command, path, sectors, calls=CALLS, **more):
@@ -27,7 +28,7 @@ def traced(command, path, sectors, calls=CALLS, **more):
             elif call == "pwrite64":
                 content = bytes.fromhex(re.search(r'"([^"]*)"', arguments).group(1).replace("\\x", ""))
                 writes.append((int(arguments.rsplit(",", 1)[1]) // sectors.size, content))
-            elif call == "fsync":
+            elif call in SYNCS:
                 phases.append(writes)
                 writes = []
             else:

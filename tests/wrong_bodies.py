@@ -187,7 +187,7 @@ def bodies_of(rt, crate, is_gate):
 
 def try_crate(rt, crate, asked):
     """What to say of a crate's wrong bodies that weren't refused at a clause."""
-    began, wanted = time.monotonic(), asked.bodies_of(crate.name)
+    wanted = asked.bodies_of(crate.name)
     bodies, failures = bodies_of(rt, crate, asked.gate)
     if wanted:
         bodies, failures = [it for it in bodies if it.name in wanted], [f"{it}: no such body" for it in wanted - {it.name for it in bodies}]
@@ -199,7 +199,7 @@ def try_crate(rt, crate, asked):
         answers = try_bodies(rt, crate, bodies, kept, failures)
     failures += [f"{body.name}: {text}" for body, is_well, text in answers if not is_well]
     refused = [f"  {body.name}: {text}\n" for body, is_well, text in answers if is_well and not body.is_right]
-    print(f"{crate.name}: {len(refused)} of {count} refused, {time.monotonic() - began:.0f} s\n{''.join(refused) if asked.tells else ''}",
+    print(f"{crate.name}: {len(refused)} of {count} refused\n{''.join(refused) if asked.tells else ''}",
           end="", flush=True)
     return [f"{crate.name}/{it}" for it in failures]
 

@@ -280,7 +280,7 @@ static int32_t count_sectors(const ptab_disk *disk, uint64_t *sectors, ptab_repl
 
 static int is_synced(ptab_disk *disk) {
   int answer;
-  UNINTERRUPTED(answer, fsync(disk->fd));
+  UNINTERRUPTED(answer, fdatasync(disk->fd));
   if (answer != 0) disk->failed = 1;
   return answer == 0;
 }

@@ -28,9 +28,9 @@ pub struct StoreDisk<const B: usize, S: Store<B> + Drop> {
     ghost whole: { S.tells → sectors * B ≤ length (S.told store).seen },
 }
 
-/// A plain file as a disk with sectors of `B` bytes.
+/// A plain file or a block device as a disk with sectors of `B` bytes.
 ///
-/// It tells nothing of its content: that a file keeps the clauses of a [`Store`] (docs/model.md) is a premise.
+/// It tells nothing of its content: that it keeps the clauses of a [`Store`] (docs/model.md) is a premise.
 pub type FileDisk<const B: usize> = StoreDisk<B, File>;
 
 impl<const B: usize, S: Store<B> + Drop> StoreDisk<B, S> {

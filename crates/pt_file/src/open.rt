@@ -64,7 +64,7 @@ pub fn open_plain<R: Files<File = File>>(
 }
 
 /// The file, once its lock is taken. There is no waiting for it.
-fn locked(file: File) -> Result<File, OpenError> {
+pub(crate) fn locked(file: File) -> Result<File, OpenError> {
     match file.try_lock() {
         Ok(()) => Ok(file),
         Err(TryLockError::WouldBlock) => Err(OpenError::Locked),

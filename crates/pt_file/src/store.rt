@@ -8,7 +8,8 @@ ghost use Rattle.pt_file.specs.Stores.{ToldBytes, IsBlock, Put, FailedPut, Synce
 
 use std::fs::File;
 use std::io;
-use std::os::unix::fs::FileExt;
+use std::io::{Seek, SeekFrom};
+use std::os::unix::fs::{FileExt, FileTypeExt};
 
 /// Bytes that are read at any offset, and written in blocks of `B`, as those of a file.
 ///
@@ -49,7 +50,7 @@ pub trait Store<const B: usize> {
         → MayLeave (in_sectors B n (told s)) (sectors_of B n (told s).seen) };
 }
 
-/// A plain file tells nothing of its content: that it keeps these clauses is a premise (docs/model.md).
+/// A plain file or a block device tells nothing of its content: that it keeps these clauses is a premise (docs/model.md).
 impl<const B: usize> Store<B> for File {
     ghost tells = { ⊥ };
 
@@ -59,8 +60,14 @@ impl<const B: usize> Store<B> for File {
 
     ghost may_be_seen = { λ s tells n le. absurd tells };
 
+    /// A block device says its length only by where its end is.
     fn len(&self) -> io::Result<u64> {
-        Ok(self.metadata()?.len())
+        let found = self.metadata()?;
+        if found.file_type().is_block_device() {
+            let mut device = self;
+            return device.seek(SeekFrom::End(0));
+        }
+        Ok(found.len())
     }
 
     fn read_at(&self, at: u64, into: &mut [u8]) -> io::Result<usize> {
@@ -72,7 +79,8 @@ impl<const B: usize> Store<B> for File {
         self.write_all_at(bytes, at)
     }
 
+    /// A disk never changes the length of its file. So beside the bytes it wants durable only what finds them again.
     fn sync(&mut self) -> io::Result<()> {
-        self.sync_all()
+        self.sync_data()
     }
 }

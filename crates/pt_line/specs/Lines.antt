@@ -1,11 +1,11 @@
 -- What a command line asks for, by `clap`'s meaning of its words at the command.
-use Rattle.std.specs.Prelude.{◌≡◌, ◌≢◌, ◌⊎◌, false, List, [], ◌∷◌, map, Option, Some, None, Result, IfOk, Ok, Err, String, string_bytes}
+use Rattle.std.specs.Prelude.{◌≡◌, ◌≢◌, ◌⊎◌, false, true, List, [], ◌∷◌, map, Option, Some, None, Result, IfOk, Ok, Err, String, string_bytes}
 use Rattle.std.specs.Prelude.{codes, unwrap_or, option_map}
 use Rattle.std.specs.Borrow.{Bor}
 use Rattle.std.specs.declared.alloc.Global.{Global}
 use Rattle.clap.specs.Walk.{texts}
 use Rattle.clap.specs.Words.{App, IsAmong, Kinds, Row, Rule, Text, all_of, app_of, fault_of, first_of, rule_of}
-use Rattle.clap.specs.Words.{subcommand_of, with_rule, with_subcommand}
+use Rattle.clap.specs.Words.{is_simple, is_simple_and_free, subcommand_of, with_rule, with_subcommand}
 use Rattle.clap.specs.declared.builder.arg.Arg.{Arg}
 use Rattle.clap.specs.declared.builder.command.Command.{Command}
 use Rattle.clap.specs.declared.builder.command.Command.TheViews.{out-Command}
@@ -47,6 +47,17 @@ AddsRule page r made = IfOk made (λ c. (a : App) → IfOk page (IsCommand a) �
 abbrev pub AddsPage : {E : Type 0} → Result Command E → Result Command E → Result Command E → Type 0
 AddsPage ptab page made =
     IfOk made (λ c. (a s : App) → IfOk ptab (IsCommand a) → IfOk page (IsCommand s) → IsCommand (with_subcommand a s.top) c)
+
+-- this is the first of the words
+abbrev pub Begins : Text → List Text → Type 0
+Begins word words = (rest : List Text) × (words ≡ word ∷ rest)
+
+-- a command takes these words as this one does
+pub record ReadsAs (a : App) (words : List Text) (c : Command) : Type 0 where
+  pub free : is_simple_and_free (app_of c) ≡ true
+  pub simple : is_simple (app_of c) ≡ true
+  pub faults : fault_of (app_of c) words ≡ fault_of a words
+  pub entered : subcommand_of (app_of c) words ≡ subcommand_of a words
 
 -- ---- the job
 

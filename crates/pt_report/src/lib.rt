@@ -3,7 +3,9 @@
 
 mod finding;
 mod layout;
+mod name;
 mod no_table;
+mod path;
 mod reply;
 mod why;
 

@@ -1,7 +1,7 @@
-use Rattle.std.proofs.Common.{◌≡◌, ◌∙◌, ap, ap₂, codes, refl, rules, subst, [], ◌∷◌}
+use Rattle.std.proofs.Common.{◌≡◌, ◌∙◌, ap, codes, refl, rules, subst, [], ◌∷◌}
 use Rattle.std.proofs.lemmas.Result.{err_from_is_err_and, IfOk-weaker}
 use Rattle.clap.specs.Walk.{texts}
-use Rattle.clap.specs.Words.{FailsBy, Kinds, fault_of, is_simple, is_simple_and_free, subcommand_of}
+use Rattle.clap.specs.Words.{FailsBy, Kinds, app_of, fault_of, subcommand_of}
 use Rattle.pt_line.proofs.Asked.{by_result, some_sizes}
 use Rattle.pt_line.proofs.line.read_line.Goals as goal
 
@@ -15,11 +15,12 @@ returns c =
     let are : texts c.as_slice.result.now ≡ codes "512" ∷ codes "4096" ∷ [] = search rules in
     let words_are : texts c.as_slice-2.result.now ≡ codes "ptab" ∷ texts c.args.words.now =
     ap texts c.as_slice-2.ensures.value ∙ c.in_ok-line.ensures in
-    let app_is = c.in_ok-command.ensures.app in
+    let command = c.in_ok-command.command in
+    let reads = c.in_ok-command.ensures in
     let found = c.try_get_matches_from.result in
-    let fails = subst (λ (kinds : Kinds). FailsBy kinds found) (ap₂ fault_of app_is words_are)
-    (c.try_get_matches_from.ensures.kinds (ap is_simple_and_free app_is)) in
-    let met = IfOk-weaker found _ _ (λ m matches. (matches (ap is_simple app_is)).1 ∙ ap₂ subcommand_of app_is words_are)
+    let fails = subst (λ (kinds : Kinds). FailsBy kinds found) (ap (fault_of (app_of command)) words_are ∙ reads.faults)
+    (c.try_get_matches_from.ensures.kinds reads.free) in
+    let met = IfOk-weaker found _ _ (λ m matches. (matches reads.simple).1 ∙ ap (subcommand_of (app_of command)) words_are ∙ reads.entered)
     c.try_get_matches_from.ensures.matches in
     record {
       means = (

@@ -1,0 +1,5 @@
+pub mod Codes
+pub mod Hex
+pub mod Listed
+pub mod Names
+pub mod Utf16
