@@ -25,9 +25,11 @@ trying=$!
 nice -n 19 python3 tests/side_by_side.py --beside "$said" >"$scripts" 2>&1 <<LIST &
 ../packaging/build.py --over-ci ptab pt_c
 then c_library.py "$ptab" "$archive"
+then disk_library.py "$ptab" "$archive"
 then bindings.py "$ptab" "$archive"
 then package.py "$ptab" "$archive"
 then install.py "$ptab" "$archive"
+messages.py
 runs.py "$faults"
 rows.py "$ptab" "$doubles"
 hostile.py "$ptab" 8000

@@ -2,7 +2,7 @@
 """The C library beside the command: the header compiled as C and as C++, with all warnings; on images changed at random, of every kind and
 both sector sizes, one answer, one status and one image after an edit or a repair, each plan taken by the command's `check`'s twin, and no
 sector asked for twice; each request for memory refused in turn; the whole reply of each status (c_replies.py); valgrind silent where it is
-installed; the C example cut in each phase of its writes; the Rust crate where there is a rustc.
+installed; the C example cut in each phase of its writes.
 
 usage: tests/c_library.py PTAB ARCHIVE [COUNT]     ARCHIVE is crates/pt_c/out/libpt_c.a
 """
@@ -17,10 +17,10 @@ import sys
 
 HERE = os.path.dirname(os.path.abspath(__file__))
 ROOT = os.path.dirname(HERE)
-sys.path[:0] = [HERE, os.path.join(ROOT, "bindings", "python")]
+sys.path.insert(0, HERE)
 import c_replies
 import images
-import ptab as lib
+import replay as lib
 from images import LARGE, SMALL, room
 from writes import choices, written
 
@@ -321,14 +321,14 @@ def without_memory(library):
 def recorded(example, image, words, sectors, environment):
     """The writes, as (sector, bytes), before each sync after the first one."""
     log = f"{image}.log"
-    done = subprocess.run(["strace", "-e", "trace=openat,pwrite64,fsync", "-xx", "-s", str(2 * sectors.size), "-o", log, example, image,
+    done = subprocess.run(["strace", "-e", "trace=openat,pwrite64,fdatasync", "-xx", "-s", str(2 * sectors.size), "-o", log, example, image,
                            str(sectors.size), *words], capture_output=True, text=True, env=environment)
     if (done.stdout, done.returncode) != ("done\n", 0):
         fail(words, done)
     phases, writes, fd = [], [], None
     with open(log, encoding="ascii") as file:
         for line in file:
-            found = re.search(r"(openat|pwrite64|fsync)\((.*)\) += (\d+)$", line.strip())
+            found = re.search(r"(openat|pwrite64|fdatasync)\((.*)\) += (\d+)$", line.strip())
             if not found:
                 continue
             call, arguments, answer = found.groups()
@@ -437,24 +437,6 @@ def example_beside(ptab, example, folder):
     return checked
 
 
-def in_rust(folder):
-    """The Rust crate and its example, where there is a rustc."""
-    if not shutil.which("rustc"):
-        return 0
-    rust = f"{ROOT}/bindings/rust"
-    must("rustc", "--edition", "2021", "-O", "-D", "warnings", "--crate-type", "rlib", "--crate-name", "ptab", f"{rust}/src/lib.rs", "-o",
-         f"{folder}/libptab.rlib")
-    must("rustc", "--edition", "2021", "-D", "warnings", f"{rust}/examples/show.rs", "--extern", f"ptab={folder}/libptab.rlib", "-L",
-         folder, "-C", f"link-arg={folder}/libptab.a", "-o", f"{folder}/show")
-    path = f"{folder}/rust"
-    for sectors, image, words in disks():
-        with open(path, "wb") as file:
-            file.write(image)
-        must(f"{folder}/show", path, str(sectors.size))
-        must(f"{folder}/show", path, str(sectors.size), *words)
-    return 1
-
-
 def main():
     ptab, archive = os.path.abspath(sys.argv[1]), os.path.abspath(sys.argv[2])
     count = int(sys.argv[3]) if len(sys.argv) > 3 else 1000
@@ -466,7 +448,6 @@ def main():
         runs += without_memory(refusing)
         runs += example_beside(ptab, example, folder)
         runs += cut(ptab, example, folder)
-        runs += in_rust(folder)
         print(f"C library: {runs} passed, 0 failed")
 
 

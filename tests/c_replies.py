@@ -3,7 +3,7 @@ out by hand: words, findings, refusals and reasons by docs/commands.md, plans by
 import ctypes
 
 import images
-import ptab as lib
+import replay as lib
 from images import LARGE, SMALL
 
 FIELDS = [name for name, _ in lib.Reply._fields_]

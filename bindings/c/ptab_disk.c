@@ -201,8 +201,9 @@ int32_t ptab_disk_take(int fd, uint32_t how, uint32_t sector_size, ptab_disk **d
 }
 
 void ptab_disk_close(ptab_disk *disk) {
+  int answer;
   if (!disk) return;
-  if (is_locked(disk)) flock(disk->fd, LOCK_UN);
+  if (is_locked(disk)) UNINTERRUPTED(answer, flock(disk->fd, LOCK_UN));
   if (disk->owns) close(disk->fd);
   free(disk);
 }
@@ -279,7 +280,7 @@ static int32_t count_sectors(const ptab_disk *disk, uint64_t *sectors, ptab_repl
 
 static int is_synced(ptab_disk *disk) {
   int answer;
-  UNINTERRUPTED(answer, fsync(disk->fd));
+  UNINTERRUPTED(answer, fdatasync(disk->fd));
   if (answer != 0) disk->failed = 1;
   return answer == 0;
 }
