@@ -21,7 +21,7 @@ chmod u+w "$folder/libptab.a"
 ar rDs "$folder/libptab.a" "$folder/ptab_memory.o" 2>"$folder/said"
 {
   echo 'PTAB_1 {'
-  echo '  global: ptab_members; ptab_verify; ptab_locate; ptab_plan; ptab_repair; ptab_adopt_plan; ptab_check;'
+  echo '  global: ptab_wanted; ptab_members; ptab_verify; ptab_locate; ptab_plan; ptab_repair; ptab_adopt_plan; ptab_check;'
   echo '  ptab_guid_text; ptab_type_code; ptab_version;'
   echo '  local: *;'
   echo '};'

@@ -7,7 +7,7 @@ import fcntl
 import os
 
 DONE, NO, USAGE, REFUSED, NO_TABLE, DEVICE, MEMORY, WANT, ROOM, WANT_OTHER = 0, 1, 2, 3, 4, 5, 6, -1, -2, -3
-VERSION, MOST_MEMBERS, MOST_WRITES = 1, 1056, 264
+VERSION, MOST_MEMBERS, MOST_WRITES, MOST_WANTED = 1, 1056, 264, 132
 
 
 class View(c.Structure):
@@ -48,6 +48,7 @@ class Ptab:
     def __init__(self, library="libptab.so.1"):
         self.lib = c.CDLL(library)
         size, p, u8, u64 = c.c_size_t, c.c_void_p, c.c_uint8, c.c_uint64
+        self.lib.ptab_wanted.argtypes = [p, p, size, p]
         self.lib.ptab_members.argtypes = [p, p, p, size, p]
         self.lib.ptab_verify.argtypes = [p, p]
         self.lib.ptab_locate.argtypes = [p, u64, u8, u64, p]
@@ -75,6 +76,7 @@ class Disk:
     def __init__(self, ptab, read, sectors, sector_size=512, sync=None):
         self.lib, self.read, self.sectors, self.size, self.sync = ptab.lib, read, sectors, sector_size, sync
         self.known = {}
+        self.settled = False
         self.calls = 0
 
     def read_ends(self):
@@ -84,6 +86,7 @@ class Disk:
         head, tail = (34, 33) if self.size == 512 else (6, 5)
         ends = {*range(min(head, self.sectors)), *range(max(0, self.sectors - tail), self.sectors)}
         self.known = {k: self.read(k) for k in sorted(ends)}
+        self.settled = False
         self._pack()
 
     def _pack(self):
@@ -92,10 +95,22 @@ class Disk:
         n = len(self.known)
         self.view = View(self.size, self.sectors, c.addressof(self.numbers), n, c.addressof(self.bytes), n * self.size)
 
-    def _add(self, sector):
-        """Reads one sector more."""
-        self.known[sector] = self.read(sector)
+    def _add(self, *sectors):
+        """Reads more sectors."""
+        self.known |= {sector: self.read(sector) for sector in sectors}
         self._pack()
+
+    def _add_wanted(self, sector):
+        """Reads a sector that is wanted, and with it all that the table and its labels want, unless it wants nothing more."""
+        self._add(sector)
+        reply, more = Reply(), (c.c_uint64 * MOST_WANTED)()
+        while not self.settled:
+            self.calls += 1
+            status = self.lib.ptab_wanted(c.byref(self.view), more, len(more), c.byref(reply))
+            if status == WANT:
+                self._add(*more[:reply.count])
+            # labels are the last that a table wants
+            self.settled = status != WANT or reply.count > 1
 
     def _ask(self, call, other=None):
         """Calls until no sector is wanted, of this disk or of the other one."""
@@ -105,9 +120,9 @@ class Disk:
             self.calls += 1
             status = call(c.byref(self.view), c.byref(reply))
             if status == WANT:
-                self._add(reply.sector)
+                self._add_wanted(reply.sector)
             elif status == WANT_OTHER:
-                other._add(reply.sector)
+                other._add_wanted(reply.sector)
             else:
                 return status, reply
 

@@ -29,6 +29,7 @@ struct disk {
   uint64_t *numbers;
   uint8_t *bytes;
   size_t room;
+  int settled; /* whether the table and its labels want nothing more */
 };
 
 /* Reads `count` bytes at a place, or fails. */
@@ -76,6 +77,22 @@ static int read_sector(struct disk *d, uint64_t number) {
   return PTAB_DONE;
 }
 
+/* Reads a sector that is wanted, and with it all that the table and its labels want, unless it wants nothing more. */
+static int read_wanted(struct disk *d, uint64_t number) {
+  uint64_t more[PTAB_MOST_WANTED];
+  ptab_reply reply;
+  int status = read_sector(d, number);
+  while (status == PTAB_DONE && !d->settled) {
+    int answer = ptab_wanted(&d->view, more, PTAB_MOST_WANTED, &reply);
+    if (answer == PTAB_MEMORY) return answer;
+    for (uint64_t k = 0; answer == PTAB_WANT && k < reply.count && status == PTAB_DONE; k++)
+      status = read_sector(d, more[k]);
+    /* labels are the last that a table wants */
+    d->settled = answer != PTAB_WANT || reply.count > 1;
+  }
+  return status;
+}
+
 /* Opens an image, alone if it is to be written, makes durable what it holds, and reads both ends. */
 static int open_disk(struct disk *d, const char *path, uint32_t size, int writes) {
   struct stat st;
@@ -109,7 +126,7 @@ static void close_disk(struct disk *d) {
 /* Repeats a call until no sector is wanted. */
 #define ASK(d, status, reply, call)               \
   while (((status) = (call)) == PTAB_WANT)        \
-    if (((status) = read_sector((d), (reply).sector)) != PTAB_DONE) break
+    if (((status) = read_wanted((d), (reply).sector)) != PTAB_DONE) break
 
 static void path_text(char *text, size_t size, uint64_t number, uint8_t letter) {
   if (letter)
@@ -303,7 +320,7 @@ static int adopt(struct disk *d, struct disk *other, ptab_reply *reply) {
     int answer = ptab_adopt_plan(&d->view, &other->view, writes, PTAB_MOST_WRITES, bytes, room, reply);
     if (answer == PTAB_DONE) return carry_out(d, writes, bytes, reply->count);
     if (answer != PTAB_WANT && answer != PTAB_WANT_OTHER) return answer;
-    status = read_sector(answer == PTAB_WANT ? d : other, reply->sector);
+    status = read_wanted(answer == PTAB_WANT ? d : other, reply->sector);
     if (status == PTAB_DEVICE && answer == PTAB_WANT_OTHER) fputs("other: ", stderr);
   }
   return status;

@@ -105,6 +105,7 @@ pub struct Write {
 pub type Plan = Vec<Vec<Write>>;
 
 extern "C" {
+    fn ptab_wanted(view: *const View, sectors: *mut u64, len: usize, reply: *mut Reply) -> i32;
     fn ptab_members(view: *const View, table: *mut Table, rows: *mut Member, len: usize, reply: *mut Reply) -> i32;
     fn ptab_verify(view: *const View, reply: *mut Reply) -> i32;
     fn ptab_locate(view: *const View, number: u64, letter: u8, k: u64, reply: *mut Reply) -> i32;
@@ -131,6 +132,7 @@ const WANT: i32 = -1;
 const WANT_OTHER: i32 = -3;
 const DEVICE: i32 = 5;
 const MOST_MEMBERS: usize = 1056;
+const MOST_WANTED: usize = 132;
 const MOST_WRITES: usize = 264;
 
 /// The text of a GUID, in lower case.
@@ -169,6 +171,8 @@ pub struct Disk<R> {
     size: usize,
     numbers: Vec<u64>,
     bytes: Vec<u8>,
+    /// Whether the table and its labels want nothing more.
+    settled: bool,
 }
 
 impl<R: FnMut(u64, &mut [u8]) -> bool> Disk<R> {
@@ -179,13 +183,14 @@ impl<R: FnMut(u64, &mut [u8]) -> bool> Disk<R> {
         if unsafe { ptab_version() } != VERSION {
             return Err(Failed { status: 2, reply: Reply::default() });
         }
-        Ok(Disk { read, sectors, size, numbers: Vec::new(), bytes: Vec::new() })
+        Ok(Disk { read, sectors, size, numbers: Vec::new(), bytes: Vec::new(), settled: false })
     }
 
     /// Reads both ends anew, and forgets all else.
     fn read_ends(&mut self) -> Result<(), Failed> {
         self.numbers.clear();
         self.bytes.clear();
+        self.settled = false;
         let (head, tail) = if self.size == 512 { (34, 33) } else { (6, 5) };
         let head = head.min(self.sectors);
         let tail = self.sectors.saturating_sub(tail).max(head);
@@ -203,6 +208,25 @@ impl<R: FnMut(u64, &mut [u8]) -> bool> Disk<R> {
             return Err(Failed { status: DEVICE, reply: Reply { sector: number, ..Reply::default() } });
         }
         self.numbers.push(number);
+        Ok(())
+    }
+
+    /// Reads a sector that is wanted, and with it all that the table and its labels want, unless it wants nothing more.
+    fn add_wanted(&mut self, number: u64) -> Result<(), Failed> {
+        self.add(number)?;
+        let mut more = [0; MOST_WANTED];
+        let mut reply = Reply::default();
+        while !self.settled {
+            // the view holds for this call alone
+            let status = unsafe { ptab_wanted(&self.view(), more.as_mut_ptr(), more.len(), &mut reply) };
+            if status == WANT {
+                for &number in &more[..reply.count as usize] {
+                    self.add(number)?;
+                }
+            }
+            // labels are the last that a table wants
+            self.settled = status != WANT || reply.count > 1;
+        }
         Ok(())
     }
 
@@ -224,7 +248,7 @@ impl<R: FnMut(u64, &mut [u8]) -> bool> Disk<R> {
         let mut reply = Reply::default();
         loop {
             match call(&self.view(), &mut reply) {
-                WANT => self.add(reply.sector)?,
+                WANT => self.add_wanted(reply.sector)?,
                 status => return Ok((status, reply)),
             }
         }
@@ -241,8 +265,8 @@ impl<R: FnMut(u64, &mut [u8]) -> bool> Disk<R> {
         let mut reply = Reply::default();
         loop {
             match call(&self.view(), &other.view(), &mut reply) {
-                WANT => self.add(reply.sector)?,
-                WANT_OTHER => other.add(reply.sector)?,
+                WANT => self.add_wanted(reply.sector)?,
+                WANT_OTHER => other.add_wanted(reply.sector)?,
                 status => return Ok((status, reply)),
             }
         }
