@@ -4,7 +4,8 @@
  *
  * The library does no I/O. A call gets the sectors that its caller has read so far, and ends with an answer or with
  * PTAB_WANT and the number of one more sector; the caller reads that one, adds it and calls again. With both ends of
- * the disk read beforehand (PTAB_HEAD and PTAB_TAIL, below) a GPT without slices takes one call.
+ * the disk read beforehand (PTAB_HEAD and PTAB_TAIL, below) a GPT without slices takes one call; where more is wanted,
+ * ptab_wanted lists all of it that is known.
  *
  * Rules for every call, which nothing checks:
  *   - no pointer is NULL, also where its length is 0;
@@ -39,7 +40,7 @@ enum {
   PTAB_DEVICE = 5,   /* not returned; for the caller's own use where a read or write fails */
   PTAB_MEMORY = 6,   /* malloc gave nothing */
   PTAB_WANT = -1,    /* read sector `reply.sector`, one that decides the answer, add it to the view and call again */
-  PTAB_ROOM = -2,    /* a buffer is too small: it takes `reply.count` rows or writes */
+  PTAB_ROOM = -2,    /* a buffer is too small: it takes `reply.count` rows, writes or sectors */
   PTAB_WANT_OTHER = -3 /* of ptab_adopt_plan: the same as PTAB_WANT, of the other disk and its view */
 };
 
@@ -80,7 +81,7 @@ typedef struct ptab_view {
 /* What goes with a status; a field that doesn't is 0. */
 typedef struct ptab_reply {
   uint64_t sector; /* the one wanted, or the one located */
-  uint64_t count;  /* of rows or writes */
+  uint64_t count;  /* of rows, writes or sectors */
   uint64_t phases; /* of a plan */
   uint64_t a, b;   /* arguments of `number`; of a checked plan `a` is the phase that switches, 0 where none does */
   uint32_t about, number;
@@ -129,12 +130,22 @@ typedef struct ptab_write {
 
 /* The most partitions that a disk has: 4 records and 128 logicals, each with 7 entries of a label. */
 #define PTAB_MOST_MEMBERS 1056
+/* The most sectors that ptab_wanted lists: a label for each slice. */
+#define PTAB_MOST_WANTED 132
 /* Room for the writes of the largest plans: both copies of a GPT with 128 labels, or sector 0, 128 extended boot records
    and 132 labels. PTAB_ROOM tells where it takes more. */
 #define PTAB_MOST_WRITES 264
 /* How many sectors to read at the head and at the tail of a disk before the first call. */
 #define PTAB_HEAD(sector_size) ((sector_size) == 512 ? 34 : 6)
 #define PTAB_TAIL(sector_size) ((sector_size) == 512 ? 33 : 5)
+
+/*
+ * All sectors that are known to be wanted for the table and its labels, to be read in one go: PTAB_WANT and reply.count
+ * of them in `sectors`, the first one in reply.sector too, none of them in the view and none twice. PTAB_DONE: the table
+ * wants nothing, and only a plan or a check may want more. An extended boot record leads to the next one, so these come
+ * one at a time; the labels of all slices come at once, and then nothing more.
+ */
+int32_t ptab_wanted(const ptab_view *view, uint64_t *sectors, size_t sectors_len, ptab_reply *reply);
 
 /* The partitions: records or entries by number, then logical ones; a slice before the entries of its label. With PTAB_ROOM
    the table is given, and no row. */

@@ -71,6 +71,13 @@ class Calls:
         status = call(ctypes.byref(given.view), *words, ctypes.byref(found))
         return status, whole(found)
 
+    def wanted(self, given, room=lib.MOST_WANTED):
+        sectors = Buffer(ctypes.c_uint64, room)
+        status, found = self.ends(self.lib.ptab_wanted, given, sectors.items, room)
+        self.listed = sectors.items[:found[1]] if status == lib.WANT else []
+        sectors.stays(len(self.listed))
+        return status, found
+
     def members(self, given, room=lib.MOST_MEMBERS):
         rows = Buffer(lib.Member, room)
         status, found = self.ends(self.lib.ptab_members, given, ctypes.byref(lib.Table()), rows.items, room)
@@ -117,7 +124,7 @@ class Calls:
         return self.check(given, rows, bytes(self.data.items)[:self.count * given.size])
 
     def all(self):
-        return self.members, self.verify, self.locate, self.plan, self.repair, self.check, self.adopt
+        return self.members, self.verify, self.locate, self.plan, self.repair, self.check, self.adopt, self.wanted
 
 
 def sliced(entries, **fields):
@@ -309,8 +316,9 @@ def wanted(calls):
     label = sliced({0: (30, 16, 7)})
     for call in calls.all():
         want = lib.WANT_OTHER if call == calls.adopt else lib.WANT
-        yield call(Given(label, without={11})), (want, reply(sector=11))
-        yield call(Given(label, without={0})), (want, reply(sector=0))
+        count = {"count": 1} if call == calls.wanted else {}
+        yield call(Given(label, without={11})), (want, reply(sector=11, **count))
+        yield call(Given(label, without={0})), (want, reply(sector=0, **count))
     # of two disks: what recovery reads of the other one, and of the disk what a plan reads
     other = SMALL.gpt(4096, {2: images.entry(100, 300)})
     for k in (*range(34), *range(4063, 4096)):
@@ -322,6 +330,39 @@ def wanted(calls):
     yield calls.adopt(ends, Given(sliced_other)), (lib.WANT, reply(sector=101))
     both = (Given(gpt, without={1}), Given(other, without={1}))
     yield calls.adopt(*both), (lib.WANT_OTHER, reply(sector=1))
+
+
+def listed(calls):
+    """All that is known to be wanted, and in which order: the labels of the slices that aren't in the view."""
+    ends = (*range(34), *range(4063, 4096))
+    three = {1: (100, 199), 2: (300, 399), 5: (50, 80)}
+    gpt = SMALL.gpt(4096, {n: images.entry(first, last, images.FREEBSD, images.guid(n)) for n, (first, last) in three.items()})
+    for known, sectors in (((), [101, 301, 51]), ((301,), [101, 51]), ((51, 101), [301]), ((101, 301, 51), [])):
+        found = calls.wanted(Given(gpt, only=(*ends, *known)))
+        yield found, (lib.WANT, reply(sector=sectors[0], count=len(sectors))) if sectors else (lib.DONE, reply())
+        yield (calls.listed, ()), (sectors, ())
+    # without its primary copy; of two slices in one place the label is listed once; a slice of one sector has none
+    lost = changed(gpt, 1, bytes(512))
+    yield calls.wanted(Given(lost, only=ends)), (lib.WANT, reply(sector=101, count=3))
+    same = SMALL.gpt(4096, {n: images.entry(100, 100 + 50 * n, images.FREEBSD, images.guid(n)) for n in range(3)})
+    yield calls.wanted(Given(same, only=ends)), (lib.WANT, reply(sector=101, count=1))
+    # records, and logical partitions once the chain is known: its extended boot records come one at a time
+    mbr = images.chained({4096: images.ebr(images.record(0xA5, 1, 20), images.record(0x05, 100, 50)),
+                          4196: images.ebr(images.record(0xA5, 1, 20))})
+    view = [0]
+    for sectors in ([4096], [4196], [4098, 4198], []):
+        found = calls.wanted(Given(mbr, only=view))
+        yield found, (lib.WANT, reply(sector=sectors[0], count=len(sectors))) if sectors else (lib.DONE, reply())
+        yield (calls.listed, ()), (sectors, ())
+        view += calls.listed
+    # what isn't known to be a table wants one sector, and what denotes nothing wants none
+    for only, sector in (((), 0), ((0,), 1), ((0, 1), 2), (range(33), 33)):
+        yield calls.wanted(Given(gpt, only=only)), (lib.WANT, reply(sector=sector, count=1))
+    for image in (bytes(4096 * 512), bytes(512), images.chained({4096: images.ebr(mark=b"\0\0")})):
+        yield calls.wanted(Given(image)), (lib.DONE, reply())
+    for space in (0, 2):
+        yield calls.wanted(Given(gpt, only=ends), space), (lib.ROOM, reply(count=3))
+    yield calls.wanted(Given(gpt, only=ends), 3), (lib.WANT, reply(sector=101, count=3))
 
 
 def room(calls):
@@ -338,7 +379,7 @@ def room(calls):
 def checked(it):
     """Compares them all, and says how many there were; `it` is the library."""
     calls, count = Calls(it), 0
-    for part in (arguments, unreadable, done, no, refused, wanted, room):
+    for part in (arguments, unreadable, done, no, refused, wanted, listed, room):
         for number, (found, expected) in enumerate(part(calls)):
             if found != expected:
                 raise SystemExit(f"C library: {part.__name__} {number}: {told(*found)}, wanted {told(*expected)}")

@@ -24,7 +24,7 @@ chmod u+w "$folder/libptab.a"
 ar rDs "$folder/libptab.a" "$folder/ptab_memory.o" "$folder/ptab_disk.o" "$folder/ptab_disk_text.o" 2>"$folder/said"
 {
   echo 'PTAB_1 {'
-  echo '  global: ptab_members; ptab_verify; ptab_locate; ptab_plan; ptab_repair; ptab_adopt_plan; ptab_check;'
+  echo '  global: ptab_wanted; ptab_members; ptab_verify; ptab_locate; ptab_plan; ptab_repair; ptab_adopt_plan; ptab_check;'
   echo '  ptab_guid_text; ptab_type_code; ptab_version;'
   echo '  ptab_disk_open; ptab_disk_take; ptab_disk_close; ptab_disk_size; ptab_disk_members; ptab_disk_verify; ptab_disk_locate;'
   echo '  ptab_disk_edit; ptab_disk_repair; ptab_disk_adopt; ptab_disk_apply;'

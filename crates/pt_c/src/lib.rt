@@ -18,11 +18,12 @@ ghost use Rattle.pt_replay.specs.Listed.{listing};
 ghost use Rattle.pt_replay.specs.Judged.{OfSize, NoBuffers};
 ghost use Rattle.pt_replay.specs.Claims.{Says, MembersFor, VerifiedFor, LocatedFor, PlannedFor, MendedFor, CheckedFor};
 ghost use Rattle.pt_replay.specs.Adopted.{AdoptedFor};
+ghost use Rattle.pt_replay.specs.Wanted.{WantedFor};
 
 use pt_guid::{Guid, code_of_type};
 use pt_replay::{
     Answer, GuidBytes, GuidText, MemberRow, Reply, TableRow, View, WriteRow, adopted, beyond,
-    checked, located, members, mended, planned, verified,
+    checked, located, members, mended, planned, verified, wanted,
 };
 use pt_sector::Moments;
 use std::alloc::Global;
@@ -46,6 +47,26 @@ pub extern "C" fn ptab_members(
     match view.sector_size {
         512 => members::<512>(alloc, view, table, rows, Moments::any()).give(reply),
         4096 => members::<4096>(alloc, view, table, rows, Moments::any()).give(reply),
+        _ => Answer::bad_argument(1).give(reply),
+    }
+}
+
+/// All sectors that are known to be wanted for the table and its labels, to be read in one go, in the caller's buffer; 0 where
+/// the table wants nothing.
+#[unsafe(no_mangle)]
+pub extern "C" fn ptab_wanted(
+    alloc: Global,
+    view: &View<'_>,
+    sectors: &mut [u64],
+    reply: &mut Reply,
+) -> i32
+    ghost disk: { Sectors }
+    ensures says { IsPartOf view.now disk → Says (OfSize view.now (sectors.new ≡ sectors.old)
+        (WantedFor view.now.sector_size view.now disk sectors.old sectors.new)) result reply.new }
+{
+    match view.sector_size {
+        512 => wanted::<512>(alloc, view, sectors, Moments::any()).give(reply),
+        4096 => wanted::<4096>(alloc, view, sectors, Moments::any()).give(reply),
         _ => Answer::bad_argument(1).give(reply),
     }
 }

@@ -6,3 +6,4 @@ pub mod NoPlan
 pub mod Asked
 pub mod ListRows
 pub mod SayingLike
+pub mod Unknown

@@ -7,3 +7,4 @@ pub mod Listed
 pub mod Judged
 pub mod Claims
 pub mod Adopted
+pub mod Wanted

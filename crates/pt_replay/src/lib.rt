@@ -11,6 +11,7 @@
 mod adopting;
 mod answers;
 mod asking;
+mod body;
 mod checking;
 mod giving;
 mod health;
@@ -23,6 +24,7 @@ mod replay;
 mod rows;
 mod taking;
 mod view;
+mod wanting;
 
 pub use adopting::{adopted, beyond};
 pub use answers::{Answer, Reply, Status};
@@ -33,3 +35,4 @@ pub use places::located;
 pub use planning::{mended, planned};
 pub use rows::{GuidBytes, GuidText, MemberRow, TableRow, WriteRow};
 pub use view::View;
+pub use wanting::wanted;
