@@ -115,6 +115,11 @@ abbrev pub IsTextOf : ℕ → List Writes → Reply → Type 0
 IsTextOf b phases (reply.Text text) = PlanText b phases (string_bytes text) × (string_bytes text ≡ text_of phases)
 IsTextOf b phases _ = ⊥
 
+-- that, or there was no memory for it
+abbrev pub IsTextOrMemory : ℕ → List Writes → Result Reply Failure → Type 0
+IsTextOrMemory b phases (Ok reply) = IsTextOf b phases reply
+IsTextOrMemory b phases (Err told) = told ≡ failure.Memory
+
 -- `plan`, and `adopt --plan`: the text of a plan of which this holds, or a refusal, which this explains
 abbrev pub Plans : {E : Type 0} → ℕ → (List Writes → Type 0) → (E → Type 0) → (E → Failure) → Result Reply Failure → Type 0
 Plans b Holds Explains told (Ok reply) = (phases : List Writes) × Holds phases × IsTextOf b phases reply

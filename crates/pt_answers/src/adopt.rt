@@ -1,7 +1,7 @@
 //! `adopt`.
 
 ghost use Rattle.std.specs.Prelude.{◌≡◌, ◌↔◌, Err, IfErr};
-ghost use Rattle.pt_sector.specs.Calls.{Blames};
+ghost use Rattle.pt_sector.specs.Calls.{Blames, with_fault};
 ghost use Rattle.pt_sector.specs.Reads.{OnlyReads};
 ghost use Rattle.pt_sector.specs.Sectors.{IsSectorSize};
 ghost use Rattle.pt_plan.specs.Like.{fault_in_disk, fault_in_other, BecomesLike, IsLikePlan, LikeHidesNoFailure, NotLike};
@@ -9,7 +9,7 @@ ghost use Rattle.pt_answers.specs.Answers.{Answers, Plans, adopt_reply};
 ghost use Rattle.pt_answers.specs.Failures.{like_failure};
 
 use crate::failure::Failure;
-use pt_apply::plan_text;
+use crate::plan_texts::text_of_plan;
 use pt_plan::{commit_like, plan_like};
 use pt_report::Reply;
 use pt_sector::Disk;
@@ -42,9 +42,14 @@ pub fn plan_adopting<const B: usize, D: Disk<B>, E: Disk<B>>(
     requires size { IsSectorSize B }
     ensures same { OnlyReads D.Disk disk.old disk.new }
     ensures same_other { OnlyReads E.Disk other.old other.new }
-    ensures plans { D.tells → E.tells → Plans B (IsLikePlan B (E.told other.old).seen (D.told disk.old).seen)
-        (NotLike B (E.told other.old).seen (D.told disk.old).seen) like_failure result }
+    ensures plans { Plans B
+        (λ phases. (D.faults disk.new ≡ D.faults disk.old) × (E.faults other.new ≡ E.faults other.old)
+        × (D.tells → E.tells → IsLikePlan B (E.told other.old).seen (D.told disk.old).seen phases))
+        (λ error. (D.faults disk.new ≡ with_fault (D.faults disk.old) (fault_in_disk error))
+        × (E.faults other.new ≡ with_fault (E.faults other.old) (fault_in_other error))
+        × (D.tells → E.tells → NotLike B (E.told other.old).seen (D.told disk.old).seen error))
+        like_failure result }
 {
     let plan = plan_like::<B, D, E>(alloc, disk, other)?;
-    Ok(Reply::Text(plan_text(alloc, &plan)?))
+    text_of_plan(alloc, &plan)
 }

@@ -1,7 +1,7 @@
 //! `edit` and `plan`.
 
 ghost use Rattle.std.specs.Prelude.{◌≡◌, IfErr};
-ghost use Rattle.pt_sector.specs.Calls.{Blames};
+ghost use Rattle.pt_sector.specs.Calls.{Blames, with_fault};
 ghost use Rattle.pt_sector.specs.Reads.{OnlyReads};
 ghost use Rattle.pt_sector.specs.Sectors.{IsSectorSize};
 ghost use Rattle.pt_plan.specs.Batches.{Commits, IsPlanned, IsRefusal};
@@ -10,7 +10,7 @@ ghost use Rattle.pt_answers.specs.Answers.{Answers, Plans, edit_reply};
 ghost use Rattle.pt_answers.specs.Failures.{commit_failure};
 
 use crate::failure::Failure;
-use pt_apply::plan_text;
+use crate::plan_texts::text_of_plan;
 use pt_edit::Edit;
 use pt_guid::Guid;
 use pt_plan::{commit, plan_for};
@@ -45,11 +45,13 @@ pub fn plan_on<const B: usize, D: Disk<B>>(
 ) -> Result<Reply, Failure>
     requires size { IsSectorSize B }
     ensures same { OnlyReads D.Disk disk.old disk.new }
-    ensures plans { D.tells → Plans B
-        (IsPlanned B (D.count disk.old) (record { edits = edits.now; guids = guids.now }) (D.told disk.old).seen)
-        (IsRefusal B (D.count disk.old) (record { edits = edits.now; guids = guids.now }) (D.told disk.old).seen)
+    ensures plans { Plans B
+        (λ phases. (D.faults disk.new ≡ D.faults disk.old)
+        × (D.tells → IsPlanned B (D.count disk.old) (record { edits = edits.now; guids = guids.now }) (D.told disk.old).seen phases))
+        (λ error. (D.faults disk.new ≡ with_fault (D.faults disk.old) (fault_in error))
+        × (D.tells → IsRefusal B (D.count disk.old) (record { edits = edits.now; guids = guids.now }) (D.told disk.old).seen error))
         commit_failure result }
 {
     let plan = plan_for::<B, D>(alloc, disk, edits, guids)?;
-    Ok(Reply::Text(plan_text(alloc, &plan)?))
+    text_of_plan(alloc, &plan)
 }

@@ -5,6 +5,7 @@ mod adopt;
 mod edits;
 mod failure;
 mod from_errors;
+mod plan_texts;
 mod plans;
 mod repair;
 mod status;
