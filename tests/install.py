@@ -140,8 +140,9 @@ def versions(ptab):
     version = done.stdout.strip()
     done = subprocess.run([ptab, "--version"], capture_output=True, text=True)
     same("the version of the command", done.stdout, f"ptab {version}\n")
-    for place, head in (("man/ptab.8", f'"Jawefon {version}"'), ("man/ptab-run.8", f'"Jawefon {version}"'), ("CHANGELOG.md", f"## {version}"),
-                        ("bindings/python/pyproject.toml", f'version = "{version}"\n'), ("bindings/rust/Cargo.toml", f'version = "{version}"\n')):
+    for place, head in (("man/ptab.8", f'"Jawefon {version}"'), ("man/ptab-run.8", f'"Jawefon {version}"'),
+                        ("CHANGELOG.md", f"## {version}"), ("bindings/python/pyproject.toml", f'version = "{version}"\n'),
+                        ("bindings/rust/Cargo.toml", f'version = "{version}"\n')):
         with open(f"{TOP}/{place}", encoding="utf-8") as it:
             same(f"the version in {place}", head in it.read(), True)
 
