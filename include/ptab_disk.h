@@ -69,8 +69,8 @@ enum {
    status but PTAB_DONE `*disk` is NULL. */
 int32_t ptab_disk_open(const char *path, uint32_t how, uint32_t sector_size, ptab_disk **disk, ptab_reply *reply);
 
-/* The same of a descriptor, which stays the caller's: it was opened for reading, or for both, a device with O_EXCL. It is
-   locked and unlocked as a path is, unless PTAB_DISK_UNLOCKED says that the caller does. */
+/* The same of a descriptor, which stays the caller's: it was opened for reading, or for both and not for appending, a device
+   with O_EXCL. It is locked and unlocked as a path is, unless PTAB_DISK_UNLOCKED says that the caller does. */
 int32_t ptab_disk_take(int fd, uint32_t how, uint32_t sector_size, ptab_disk **disk, ptab_reply *reply);
 
 /* Ends the lock, and closes what ptab_disk_open opened. NULL is no disk, and nothing is done. */

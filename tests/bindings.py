@@ -20,6 +20,7 @@ import images
 import ptab as lib
 from images import FREEBSD, SMALL, entry, label, record, room
 
+NO_COPY = "no MBR, and neither copy of a GPT exists: the signature isn't EFI PART (primary); the signature isn't EFI PART (backup)"
 checked = 0
 
 
@@ -63,10 +64,8 @@ def exceptions(folder):
                  (lambda: disk.apply([[(5, b"short")]]), lib.BadArgument, ValueError,
                   "the plan's bytes aren't a whole sector for each write, or its phases aren't in order"),
                  (lambda: lib.Disk(path, write=True), lib.Locked, BlockingIOError, "the lock is held elsewhere"),
-                 (none.table, lib.NoTable, lib.Error, "there is no table: no MBR, and neither copy of a GPT exists: the signature isn't EFI PART "
-                  "(primary); the signature isn't EFI PART (backup)"),
-                 (lambda: disk.adopt(none), lib.NoTable, lib.Error, "the other disk: no MBR, and neither copy of a GPT exists: the signature "
-                  "isn't EFI PART (primary); the signature isn't EFI PART (backup)"),
+                 (none.table, lib.NoTable, lib.Error, f"there is no table: {NO_COPY}"),
+                 (lambda: disk.adopt(none), lib.NoTable, lib.Error, f"the other disk: {NO_COPY}"),
                  (lambda: lib.Disk(f"{folder}/no"), lib.DeviceFault, OSError, "the disk can't be opened: No such file or directory"))
         for call, kind, system, told in cases:
             error = error_of(call)

@@ -1,13 +1,14 @@
 #!/usr/bin/env python3
-"""The library's calls on open disks (include/ptab_disk.h), by the program examples/c/ptab.c and by Python's module. The headers are compiled
-as C and as C++, and the small program of docs/c.md runs. On images changed at random, of every kind and both sector sizes, each call
-answers what the command answers, and leaves the image that the command leaves. Then: several edits in one opening; the lock, held elsewhere
-and held here; files of other kinds; each call on the image failing in turn, and each request for memory; a file that can't grow; plans,
-checked and applied. As root, where there are loop devices, the same on those of 512 and of 4096 bytes.
+"""The library's calls on open disks (include/ptab_disk.h), by the program examples/c/ptab.c and by Python's module. The headers are
+compiled as C and as C++, and the small programs of docs/c.md run. On images changed at random, of every kind and both sector sizes, each
+call answers what the command answers, and leaves the image that the command leaves. Then: several edits in one opening; the lock, held
+elsewhere and held here; files of other kinds; each call on the image failing in turn, and each request for memory; a file that can't grow;
+plans, checked and applied. As root, where there are loop devices, also on those of 512 and of 4096 bytes.
 
 usage: tests/disk_library.py PTAB ARCHIVE [COUNT]     ARCHIVE is crates/pt_c/out/libpt_c.a
 """
 import contextlib
+import ctypes
 import errno
 import fcntl
 import os
@@ -31,7 +32,8 @@ from images import LARGE, SMALL, room
 DRAWN = bytes(range(256)) * 16
 WARNINGS = ("-Wall", "-Wextra", "-pedantic", "-Werror", "-O2")
 WORDS = (["a:2048"], ["c:1:name"], ["d:1"], ["n:0:0:0"], ["o"], ["o", "n:0:0:+8", "c:1:root"], ["g"], ["t:1:8300"], ["e"], ["x"], ["d:2.a"],
-         ["n:0:0:+5:8200", "d:1"], ["n:5:0:0"], ["t:2.a:07"], ["a:1", "n:0:0:0"], ["g", "c:1:é𝄞"], ["U:e896e426-a4e9-4c9e-8d92-b56974f85fcf"])
+         ["n:0:0:+5:8200", "d:1"], ["n:5:0:0"], ["t:2.a:07"], ["a:1", "n:0:0:0"], ["g", "c:1:é𝄞"],
+         ["U:e896e426-a4e9-4c9e-8d92-b56974f85fcf"])
 checked = 0
 
 
@@ -88,7 +90,9 @@ def built(archive, folder):
     include = f"-I{ROOT}/include"
     compilers = [it for it in ("cc", "clang") if shutil.which(it)], [it for it in ("c++", "clang++") if shutil.which(it)]
     for name, standards, found in (("h.c", ("-std=c11", "-std=c17"), compilers[0]), ("h.cpp", ("-std=c++11", "-std=c++20"), compilers[1])):
-        put(f"{folder}/{name}", b'#include "ptab_disk.h"\nint main() { ptab_disk_close(0); return ptab_version() == PTAB_VERSION ? 0 : 1; }\n')
+        put(f"{folder}/{name}", b'''#include "ptab_disk.h"
+int main(void) { ptab_disk_close(0); return ptab_version() == PTAB_VERSION ? 0 : 1; }
+''')
         for compiler in found:
             for standard in standards:
                 must(compiler, standard, *WARNINGS, include, f"{folder}/{name}", f"{folder}/libptab.a", "-o", f"{folder}/h")
@@ -189,7 +193,8 @@ def by_plan(command, sectors, image, words):
 EDITS = (
     ("GPT", SMALL, images.one_partition, (["c:1:data"], ["a:1", "n:2:0:+8"], ["d:1", "c:2:root"])),
     ("GPT of 4096 bytes", LARGE, lambda: LARGE.gpt(64, {1: images.entry(6, 40)}), (["c:1:data"], ["a:1", "n:2:0:+8"], ["d:1"])),
-    ("GPT with a slice", SMALL, lambda: SMALL.gpt(300, {1: images.entry(40, 139, images.FREEBSD)}), (["c:1:x"], ["a:1", "n:0:160:180"], ["d:1"])),
+    ("GPT with a slice", SMALL, lambda: SMALL.gpt(300, {1: images.entry(40, 139, images.FREEBSD)}),
+     (["c:1:x"], ["a:1", "n:0:160:180"], ["d:1"])),
     ("MBR", SMALL, lambda: SMALL.mbr(200, [images.record(0x83, 120, 30, 0x80)]), (["t:1:07"], ["a:1", "n:2:10:+20"], ["d:1"])),
 )
 
@@ -215,7 +220,8 @@ def in_one_opening(ptab, folder):
             with lib.Disk(path if how == "a path" else fd, write=True, sector_size=sectors.size) as disk:
                 for words in edits:
                     disk.edit(*words, drawn=DRAWN)
-                same(f"{name}: healthy", (bool(disk.verify()), disk.repair(), disk.size()), (True, 0, (sectors.count(image()), sectors.size)))
+                same(f"{name}: healthy", (bool(disk.verify()), disk.repair()), (True, 0))
+                same(f"{name}: its size", disk.size(), (sectors.count(image()), sectors.size))
             os.close(fd)
             same(f"{name}: edits by {how}", content(path) == wanted, True)
         with lib.Disk(path, sector_size=sectors.size) as disk, lib.Disk(path, write=True, sector_size=sectors.size) as writing:
@@ -269,8 +275,9 @@ def refusals(folder):
     for path, how, number, told in cases:
         error = error_of(lambda: lib.Disk(path, **how))
         same(f"{path} {how}", (type(error), error.status, error.errno, str(error)), (lib.DeviceFault, lib.DEVICE, number, told))
-    with open(image, "rb") as reading, open(image, "ab") as writing:
-        for fd, how in ((reading.fileno(), {"write": True}), (writing.fileno(), {}), (9999, {})):
+        same("errno", ctypes.get_errno(), number)
+    with open(image, "rb") as reading, open(image, "ab") as writing, open(image, "a+b") as appending:
+        for fd, how in ((reading.fileno(), {"write": True}), (writing.fileno(), {}), (appending.fileno(), {"write": True}), (9999, {})):
             same("a descriptor that doesn't do", error_of(lambda: lib.Disk(fd, **how)).errno, errno.EBADF)
     for how, about, number in (({"sector_size": 513}, 1, 1), ({"sector_size": 1}, 1, 1)):
         error = error_of(lambda: lib.Disk(image, **how))
@@ -285,6 +292,22 @@ def refusals(folder):
         same("no sector", disk.locate(1, 1 << 40), None)
         same("no partition", str(error_of(lambda: disk.plan("d:7"))), "no such partition")
     same("it is as it was", content(image) == images.one_partition(), True)
+
+
+def small_buffers(folder):
+    """Buffers that are too small: what they take is told, and a table of rows."""
+    path, library, reply = f"{folder}/small", lib.load(), lib._Reply()
+    put(path, images.one_partition())
+    with lib.Disk(path) as disk:
+        table, writes, data = lib._Table(), (lib._Write * 67)(), ctypes.create_string_buffer(67 * 512)
+        status = library.ptab_disk_members(disk._disk, ctypes.byref(table), writes, 0, ctypes.byref(reply))
+        same("no room for rows", (status, reply.count, table.sectors), (lib.ROOM, 1, 4096))
+        words = lib._words(["c:1:x"], None)
+        for rows, room_of, wanted in ((66, 67 * 512, lib.ROOM), (67, 67 * 512 - 1, lib.ROOM), (67, 67 * 512, lib.DONE)):
+            status = library.ptab_disk_plan(disk._disk, *words, writes, rows, data, room_of, ctypes.byref(reply))
+            same(f"room for {rows} writes in {room_of} bytes", (status, reply.count, reply.phases), (wanted, 67, 4))
+        status = library.ptab_disk_open(path.encode(), 8, 0, ctypes.byref(ctypes.c_void_p(1)), ctypes.byref(reply))
+        same("another way to open", (status, reply.about, reply.number), (lib.USAGE, 64, 12))
 
 
 def drawn_guids(folder):
@@ -381,11 +404,31 @@ def on_device(ptab, example, device, path, sectors, edits, name):
         # the file changes below the device, whose pages are stale then
         put_at(path, 0, bytes(3 * sectors.size))
         same(f"{name}: pages are read anew", str(disk.verify()) == "yes", False)
+        if name.startswith("GPT"):
+            same(f"{name}: a repair", (disk.repair() > 0, str(disk.verify()), content(path) == wanted), (True, "yes", True))
+    without_rights(name, device)
     size = ["--sector-size", str(sectors.size)]
     for line in (["show"], ["verify"], ["locate", "1", "0"]):
         mine = subprocess.run([example, device, "device", *line], capture_output=True, text=True)
         theirs = subprocess.run([ptab, line[0], path, *size, *line[1:]], capture_output=True, text=True)
         same(f"{name}: {line}", (mine.stdout, mine.stderr, mine.returncode), (theirs.stdout, theirs.stderr, theirs.returncode))
+
+
+def without_rights(name, device):
+    """Who may not drop a device's pages reads it, and doesn't write it."""
+    fd, child = os.open(device, os.O_RDWR), os.fork()
+    if child == 0:
+        ends = 1
+        try:
+            os.setuid(65534)
+            with lib.Disk(fd, device=True) as disk:
+                disk.verify()
+            with lib.Disk(fd, device=True, write=True) as disk:
+                ends = 0 if str(error_of(disk.repair)) == f"the disk can't be flushed: {os.strerror(errno.EACCES)}" else 2
+        finally:
+            os._exit(ends)
+    os.close(fd)
+    same(f"{name}: without rights", os.waitstatus_to_exitcode(os.waitpid(child, 0)[1]), 0)
 
 
 def put_at(path, at, data):
@@ -409,6 +452,7 @@ def main():
         in_one_opening(ptab, folder)
         locks(ptab, folder)
         refusals(folder)
+        small_buffers(folder)
         drawn_guids(folder)
         full_files(ptab, folder)
         checked += disk_faults.calls(ptab, example, folder)

@@ -1,8 +1,8 @@
 #!/usr/bin/env python3
 """Holds the sentences of bindings/c/ptab_disk_text.c against those that the library's errors print: each number of each error has the
-sentence of its `Display`, with the arguments in their places, and no number besides has one. Each stands in docs/commands.md, in the row with
-its number. The sentences that only the calls on open disks have stand in docs/c.md. A text is cut where there is no room, and the length
-that it gives is that of the whole text; so it is with a name, of which no character is cut in two.
+sentence of its `Display`, with the arguments in their places, and no number besides has one. Each stands in docs/commands.md, in the row
+with its number. The sentences that only the calls on open disks have stand in docs/c.md. A text is cut where there is no room, and the
+length that it gives is that of the whole text; so it is with a name, of which no character is cut in two.
 
 usage: tests/messages.py
 """
@@ -34,7 +34,8 @@ ERRORS = (
      "there is no table: "),
 )
 # what a finding or a reason wraps is told by its number, or not at all
-WRAPPED = {("Why", "Final"): ": finding 7", ("RepairError", "Unsound"): ": finding 7", ("PlanError", "Unsound"): "", ("Finding", "NoTable"): ""}
+WRAPPED = {("Why", "Final"): ": finding 7", ("RepairError", "Unsound"): ": finding 7", ("PlanError", "Unsound"): "",
+           ("Finding", "NoTable"): ""}
 A, B = 7, 9
 checked = 0
 
@@ -138,7 +139,7 @@ def errors(texts, docs):
                 same(f"{name} {variant} in docs/commands.md", docs["is_told"](text, lines), True)
         for number in range(20):
             if number not in found and (about, number) != (TABLE, 2):
-                same(f"{name} has no number {number}", texts.message(1, about=about, number=number, a=1), "the partition has no such sector")
+                same(f"{name} has no number {number}", texts.message(3, about=about, number=number, a=1), "it is refused")
 
 
 def chains_and_copies(texts):
@@ -151,7 +152,8 @@ def chains_and_copies(texts):
             same(f"chain {number}", texts.message(4, about=about, number=2, a=number, b=77), before + text)
     for number, text in copies().items():
         same(f"copy {number}", texts.message(1, about=FINDING, number=3, a=number), f"the backup copy of the GPT doesn't exist: {text}")
-    same("partitions", texts.message(1, about=FINDING, number=8, a=2, a_letter=ord("a"), b=3, b_letter=ord("h")), "2.a and 3.h share a sector")
+    two = {"a": 2, "a_letter": ord("a"), "b": 3, "b_letter": ord("h")}
+    same("partitions", texts.message(1, about=FINDING, number=8, **two), "2.a and 3.h share a sector")
     same("a refused plan", texts.message(3, about=CHECK, number=1), "the plan is refused: more than 4096 writes")
 
 
@@ -175,7 +177,8 @@ def of_disks(texts, docs):
 
 def names(texts):
     """Names, as `ptab show` prints them."""
-    for units, wanted in (([], ""), ([0, 65], ""), (list(b"root"), "root"), ([0xE9, 0xD834, 0xDD1E], "é𝄞"), ([0xD834, 65, 0xDD1E], "?A?"),
+    for units, wanted in (([], ""), ([0, 65], ""), (list(b"root"), "root"), ([0xE9, 0xD834, 0xDD1E], "é𝄞"),
+                          ([0xD834, 65, 0xDD1E], "?A?"),
                           ([9, 0x7F, 0x80, 0x800, 0xFFFF], "??\x80\u0800\uffff"), ([65] * 35 + [0xD834], "A" * 35 + "?"),
                           ([0x20AC] * 36, "€" * 36), ([0xD834, 0xDD1E] * 18, "𝄞" * 18)):
         same(f"the name {units}", texts.name(units), wanted)

@@ -148,16 +148,21 @@ static int32_t lock(const ptab_disk *disk, ptab_reply *reply) {
   return said(reply, PTAB_DEVICE, PTAB_DISK_LOCKING, 0);
 }
 
+/* Whether a descriptor with these flags can be read, and written at any place where the disk is to be written. */
+static int has_access(int flags, uint32_t how) {
+  if (how & PTAB_DISK_WRITE) return (flags & O_ACCMODE) == O_RDWR && !(flags & O_APPEND);
+  return (flags & O_ACCMODE) != O_WRONLY;
+}
+
 /* A disk of an open descriptor. */
 static int32_t take(int fd, int owns, uint32_t how, uint32_t sector_size, ptab_disk **disk, ptab_reply *reply) {
   struct stat st;
-  int mode = fcntl(fd, F_GETFL);
-  if (mode < 0 || fstat(fd, &st) != 0) return said(reply, PTAB_DEVICE, PTAB_DISK_OPENING, 0);
+  int flags = fcntl(fd, F_GETFL);
+  if (flags < 0 || fstat(fd, &st) != 0) return said(reply, PTAB_DEVICE, PTAB_DISK_OPENING, 0);
   int32_t status = judge_kind(&st, how, reply);
   if (status != PTAB_DONE) return status;
-  mode &= O_ACCMODE;
   errno = EBADF;
-  if (mode != O_RDWR && (mode != O_RDONLY || (how & PTAB_DISK_WRITE))) return said(reply, PTAB_DEVICE, PTAB_DISK_OPENING, 0);
+  if (!has_access(flags, how)) return said(reply, PTAB_DEVICE, PTAB_DISK_OPENING, 0);
   ptab_disk *it = malloc(sizeof *it);
   if (!it) return no_memory(reply);
   *it = (ptab_disk){.fd = fd, .how = how, .owns = owns};

@@ -15,8 +15,8 @@ import uuid
 from pathlib import Path
 from typing import Iterable, NamedTuple, Optional, Sequence, Union
 
-__all__ = ["BadArgument", "DeviceFault", "Disk", "Error", "Locked", "NoMemory", "NoTable", "Partition", "Plan", "Refused", "Table", "Verdict",
-           "Write", "load"]
+__all__ = ["BadArgument", "DeviceFault", "Disk", "Error", "Locked", "NoMemory", "NoTable", "Partition", "Plan", "Refused", "Table",
+           "Verdict", "Write", "load"]
 
 DONE, NO, USAGE, REFUSED, NO_TABLE, DEVICE, MEMORY, ROOM = 0, 1, 2, 3, 4, 5, 6, -2
 VERSION, MOST_MEMBERS, MOST_WRITES, GPT = 1, 1056, 264, 2

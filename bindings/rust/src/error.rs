@@ -54,6 +54,10 @@ impl Error {
         Error { kind, reason, written: 0, errno: None }
     }
 
+    pub(crate) fn system(why: &io::Error) -> Error {
+        Error { errno: why.raw_os_error(), ..Error::told(ErrorKind::Device, &why.to_string()) }
+    }
+
     pub fn kind(&self) -> ErrorKind {
         self.kind
     }

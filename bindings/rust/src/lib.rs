@@ -21,7 +21,7 @@ pub use error::{Error, ErrorKind, Reason, Verdict};
 pub use table::{Guid, Partition, Table, TableKind};
 
 use std::ffi::{c_char, CString};
-use std::os::fd::{AsRawFd, BorrowedFd};
+use std::os::fd::{AsFd, AsRawFd, OwnedFd};
 use std::os::unix::ffi::OsStrExt;
 use std::path::Path;
 use std::ptr::{null, null_mut, NonNull};
@@ -82,10 +82,13 @@ impl Options {
         self.disk(|disk, reply| unsafe { sys::ptab_disk_open(path.as_ptr(), self.how, self.sector_size, disk, reply) })
     }
 
-    /// Takes a descriptor, which the caller closes after the disk was dropped.
-    pub fn take(&self, descriptor: BorrowedFd<'_>) -> Result<Disk, Error> {
+    /// Takes an open file: a duplicate of its descriptor, which has the same lock.
+    pub fn take<F: AsFd>(&self, file: F) -> Result<Disk, Error> {
+        let descriptor = file.as_fd().try_clone_to_owned().map_err(|why| Error::system(&why))?;
         let fd = descriptor.as_raw_fd();
-        self.disk(|disk, reply| unsafe { sys::ptab_disk_take(fd, self.how, self.sector_size, disk, reply) })
+        let mut disk = self.disk(|disk, reply| unsafe { sys::ptab_disk_take(fd, self.how, self.sector_size, disk, reply) })?;
+        disk._descriptor = Some(descriptor);
+        Ok(disk)
     }
 
     fn disk(&self, call: impl FnOnce(*mut *mut RawDisk, *mut RawReply) -> i32) -> Result<Disk, Error> {
@@ -95,7 +98,7 @@ impl Options {
         let (mut disk, mut reply) = (null_mut(), RawReply::default());
         let status = call(&mut disk, &mut reply);
         match NonNull::new(disk) {
-            Some(raw) if status == sys::DONE => Ok(Disk { raw }),
+            Some(raw) if status == sys::DONE => Ok(Disk { raw, _descriptor: None }),
             _ => Err(Error::new(status, &reply)),
         }
     }
@@ -105,6 +108,7 @@ impl Options {
 #[derive(Debug)]
 pub struct Disk {
     raw: NonNull<RawDisk>,
+    _descriptor: Option<OwnedFd>,
 }
 
 // A disk is a descriptor; its calls come one after the other, since each takes `&mut`.

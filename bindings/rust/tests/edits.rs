@@ -1,7 +1,6 @@
 //! Calls on images: several edits in one opening, the lock, refusals, plans, another disk's layout.
 use ptab::{Disk, Error, ErrorKind, Options, TableKind, Verdict};
 use std::fs;
-use std::os::fd::AsFd;
 use std::path::PathBuf;
 
 /// An image that goes with the test.
@@ -69,7 +68,7 @@ fn the_lock_is_held() {
     assert_eq!(Options::new().write(true).lock(false).open(&image.0).expect("a disk").edit(&["c:1:x"]).expect("an edit"), 67);
     drop(held);
     let file = fs::OpenOptions::new().read(true).write(true).open(&image.0).expect("a file");
-    assert_eq!(Options::new().write(true).take(file.as_fd()).expect("a disk").edit(&["c:1:y"]).expect("an edit"), 67);
+    assert_eq!(Options::new().write(true).take(&file).expect("a disk").edit(&["c:1:y"]).expect("an edit"), 67);
     assert_eq!(named(&mut image.disk()), [pair("1", "y")]);
 }
 
