@@ -43,6 +43,7 @@ struct known {
   uint64_t *numbers;
   uint8_t *bytes;
   size_t room;
+  int is_settled; /* whether the table and its labels want no more */
 };
 
 /* What one call asks of the library, with all that goes with it. */
@@ -264,9 +265,24 @@ static int32_t read_ends(struct known *it, ptab_reply *reply) {
   return PTAB_DONE;
 }
 
-static int32_t read_wanted(struct known *it, uint64_t sector, ptab_reply *reply) {
+static int32_t read_one(struct known *it, uint64_t sector, ptab_reply *reply) {
   if (!has_room(it, 1)) return no_memory(reply);
   return read_sectors(it, sector, 1) == 1 ? PTAB_DONE : said_of(reply, PTAB_DISK_READING, sector);
+}
+
+/* Reads a sector that is wanted, and with it all that the table and its labels want, as far as they are known. */
+static int32_t read_wanted(struct known *it, uint64_t sector, ptab_reply *reply) {
+  uint64_t more[PTAB_MOST_WANTED];
+  ptab_reply wanted;
+  int32_t status = read_one(it, sector, reply);
+  while (status == PTAB_DONE && !it->is_settled) {
+    int32_t answer = ptab_wanted(&it->view, more, PTAB_MOST_WANTED, &wanted);
+    if (answer == PTAB_MEMORY) return no_memory(reply);
+    for (uint64_t k = 0; answer == PTAB_WANT && k < wanted.count && status == PTAB_DONE; k++)
+      status = read_one(it, more[k], reply);
+    it->is_settled = answer != PTAB_WANT || wanted.count > 1; /* labels are the last that a table wants */
+  }
+  return status;
 }
 
 static int32_t count_sectors(const ptab_disk *disk, uint64_t *sectors, ptab_reply *reply) {
