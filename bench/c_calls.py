@@ -14,8 +14,8 @@ import tempfile
 import time
 
 ROOT = os.path.join(os.path.dirname(os.path.abspath(__file__)), "..")
-sys.path[:0] = [os.path.join(ROOT, "tests"), os.path.join(ROOT, "bindings", "python")]
-import ptab as lib
+sys.path.insert(0, os.path.join(ROOT, "tests"))
+import replay as lib
 from images import FREEBSD, LARGE, SMALL, ebr, entry, guid, label, record
 
 DRAWN = random.Random(1).randbytes(16 * 256)

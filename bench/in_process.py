@@ -1,5 +1,5 @@
 #!/usr/bin/env python3
-"""Microseconds to read the partitions of an image in process: the C library (by replay, its 67 sectors read each time), libfdisk and
+"""Microseconds to read the partitions of an image in process: the C library (which reads 67 sectors each time), libfdisk and
 libparted where they are installed. All three are called by ctypes; the lowest of many runs counts.
 
 usage: bench/in_process.py libptab.so.1 IMAGE...     images with sectors of 512 bytes
@@ -24,10 +24,10 @@ def lowest(call, runs=200):
     return best * 1e6
 
 
-def ptab(it, path):
+def ptab(path):
     def call():
-        with lib.Image(it, path) as image:
-            image.disk.members()
+        with lib.Disk(path) as disk:
+            disk.table()
     return call
 
 
@@ -76,9 +76,9 @@ def parted(path):
 
 
 def main():
-    it = lib.Ptab(os.path.abspath(sys.argv[1]))
+    lib.load(os.path.abspath(sys.argv[1]))
     for path in sys.argv[2:]:
-        calls = {"ptab": ptab(it, path), "libfdisk": fdisk(path), "libparted": parted(path)}
+        calls = {"ptab": ptab(path), "libfdisk": fdisk(path), "libparted": parted(path)}
         print(path, *(f"{name} {lowest(call):.0f}" for name, call in calls.items() if call))
 
 

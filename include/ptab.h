@@ -1,6 +1,6 @@
 /*
  * ptab.h: what a disk's partition table says, whether it is healthy, where a partition's sectors are, and checked plans
- * of edits and repairs. docs/c.md tells how to use it.
+ * of edits and repairs, and of the layout of another disk. docs/c.md tells how to use it.
  *
  * The library does no I/O. A call gets the sectors that its caller has read so far, and ends with an answer or with
  * PTAB_WANT and the number of one more sector; the caller reads that one, adds it and calls again. With both ends of
@@ -29,17 +29,18 @@ extern "C" {
 /* The number of this interface; ptab_version() gives that of the library. */
 #define PTAB_VERSION 1
 
-/* What a call returns: the exit statuses of the command `ptab`, and two more. */
+/* What a call returns: the exit statuses of the command `ptab`, and three more. */
 enum {
   PTAB_DONE = 0,     /* done, or yes */
   PTAB_NO = 1,       /* the answer is no */
   PTAB_USAGE = 2,    /* an argument or a word that can't be read */
-  PTAB_REFUSED = 3,  /* an edit, a repair or its plan was refused */
-  PTAB_NO_TABLE = 4, /* the disk has no table that can be read */
+  PTAB_REFUSED = 3,  /* an edit, a repair or its plan was refused, or the other disk's layout */
+  PTAB_NO_TABLE = 4, /* the disk, or the other one, has no table that can be read */
   PTAB_DEVICE = 5,   /* not returned; for the caller's own use where a read or write fails */
   PTAB_MEMORY = 6,   /* malloc gave nothing */
   PTAB_WANT = -1,    /* read sector `reply.sector`, one that decides the answer, add it to the view and call again */
-  PTAB_ROOM = -2     /* a buffer is too small: it takes `reply.count` rows or writes */
+  PTAB_ROOM = -2,    /* a buffer is too small: it takes `reply.count` rows or writes */
+  PTAB_WANT_OTHER = -3 /* of ptab_adopt_plan: the same as PTAB_WANT, of the other disk and its view */
 };
 
 /* What `reply.number` counts. */
@@ -48,8 +49,10 @@ enum {
   PTAB_ABOUT_ARGUMENT = 1, /* 1 sector_size; 2 the view's lengths, or a disk of 2^64 bytes or more; 3 number or letter;
                               4 the length of `drawn`; 5 no words, not UTF-8, or no zero byte at the end; 6 the writes
                               of a plan: their bytes don't fit their number (then `a` is 0), or write `a`, from 1, is
-                              the first that is of another phase than the one before it or the next. Of several the
-                              first is told: the size, then 3, 4 or 6, then the words, then the view (docs/c.md) */
+                              the first that is of another phase than the one before it or the next; 7 the
+                              sector_size of the other view isn't the view's; 8 the other view, as 2. Of several the
+                              first is told: the size, then 3, 4, 6 or 7, then the words, then the view, then the
+                              other one (docs/c.md) */
   PTAB_ABOUT_WORD = 2,     /* word `a`, from 1, is the first that can't be read: 1 letter, 2 fields, 3 number, 4 GUID,
                               5 code */
   PTAB_ABOUT_TABLE = 3,    /* 1 copies: their faults `a` and `b`; 2 chain: its fault `a` at sector `b`; 3 two extended;
@@ -58,7 +61,9 @@ enum {
   PTAB_ABOUT_EDIT = 5,     /* 1 to 15, as in `refused: edit N` */
   PTAB_ABOUT_PLAN = 6,     /* 1 to 4, as in `refused: plan N` */
   PTAB_ABOUT_CHECK = 7,    /* 1 to 8, as `ptab check` prints them, with arguments `a` and `b` */
-  PTAB_ABOUT_REPAIR = 8    /* 2, as in `refused: repair 2`, with the number `a` of the finding */
+  PTAB_ABOUT_REPAIR = 8,   /* 2, as in `refused: repair 2`, with the number `a` of the finding */
+  PTAB_ABOUT_ADOPT = 9,    /* 1: the other disk has another number of sectors */
+  PTAB_ABOUT_OTHER_TABLE = 10 /* why the other disk has no table: numbers and arguments as of PTAB_ABOUT_TABLE */
 };
 
 /* What is known of a disk: `numbers_len` sectors, in any order, their bytes one after the other. Of a number that
@@ -157,6 +162,15 @@ int32_t ptab_plan(const ptab_view *view, const uint8_t *words, size_t words_len,
 /* The plan that makes the disk healthy and keeps its partitions, to be carried out in the same way. */
 int32_t ptab_repair(const ptab_view *view, ptab_write *writes, size_t writes_len, uint8_t *bytes, size_t bytes_len,
                     ptab_reply *reply);
+
+/*
+ * The plan that makes the disk healthy with the layout that another disk denotes, to be carried out in the same way. It
+ * may want a sector of either disk: PTAB_WANT of the disk, PTAB_WANT_OTHER of the other one, whose table is read first.
+ * The other disk is only read. Both have the same sector size and the same number of sectors. A layout is taken, and
+ * nothing else: no boot code, no disk signature of an MBR, no sector of a partition.
+ */
+int32_t ptab_adopt_plan(const ptab_view *view, const ptab_view *other, ptab_write *writes, size_t writes_len,
+                        uint8_t *bytes, size_t bytes_len, ptab_reply *reply);
 
 /* Whether a plan from elsewhere may be carried out on the disk as it was read: PTAB_DONE, or PTAB_NO and the first
    reason. Its writes stand by phases, in order; `bytes_len` is writes_len * sector_size. */

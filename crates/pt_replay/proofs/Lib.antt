@@ -5,3 +5,4 @@ pub mod PlanRows
 pub mod NoPlan
 pub mod Asked
 pub mod ListRows
+pub mod SayingLike

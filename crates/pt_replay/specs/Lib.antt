@@ -6,3 +6,4 @@ pub mod Words
 pub mod Listed
 pub mod Judged
 pub mod Claims
+pub mod Adopted
