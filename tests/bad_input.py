@@ -11,6 +11,7 @@ import sys
 from images import one_partition, room
 
 MOST = 8 * 1024 * 1024
+IN_USE_ALONE = "error: the argument '--in-use' needs '--device'\n\nFor more information, try '--help'.\n"
 checked = 0
 
 
@@ -85,6 +86,26 @@ WORDS = ("", "x", "z:1:x", "cc:1:x", "N:1:0:0",
          "u:1:00000000000040008000000000000000",
          "u:1:{00000000-0000-4000-8000-000000000000}", "u:1:00000000-0000-4000-8000-00000000000", "U", "U:", "U:x",
          "A:1:1", "A:0:1:1", "A:1:64:1", "A:1:01:1", "A:1:1:2", "A:1:1:", "A:1.a:1:1", "A:1:1:1:1", "e:", "e:1", "g:", "o:", "o:1")
+
+
+def no_devices(ptab, folder):
+    """With `--device` what is no block device; and `--in-use` without it."""
+    image, plan = file_of(folder, "plain.img", one_partition()), file_of(folder, "no_plan", b"")
+    for command, *words in (["show"], ["show", "--after", plan], ["verify"], ["locate", "1", "0"], ["edit", "c:1:x"], ["plan", "c:1:x"],
+                            ["check", plan], ["apply", plan], ["repair"], ["adopt", image], ["adopt", "--plan", image]):
+        for size in ([], ["--sector-size", "512"], ["--sector-size=4096"]):
+            for path in (image, folder, "/dev/null"):
+                expect(ptab, [command, "--device", *size, path, *words], image, "", "device: not a block device\n", 5)
+            expect(ptab, [command, *size, "--device", f"{folder}/missing", *words], image, "", "device\n", 5)
+        alone = None if command in ("show", "verify", "locate", "plan", "check") else IN_USE_ALONE
+        expect(ptab, [command, "--in-use", image, *words], image, "", alone, 2)
+        expect(ptab, [command, "--device", "--device", image, *words], image, "", None, 2)
+    expect(ptab, ["edit", "--in-use", "--fresh", "0", image, "x"], image, "", IN_USE_ALONE, 2)
+    expect(ptab, ["edit", "--device", "--in-use", image, "x"], image, "", "bad word x\n", 2)
+    expect(ptab, ["edit", "--device", "--in-use", image, "c:1:x"], image, "", "device: not a block device\n", 5)
+    for path, told in ((image, "device: not a block device"), ("/dev/null", "device: not a block device"), (f"{folder}/missing", "device")):
+        for option in ([], ["--plan"], ["--device"]):
+            expect(ptab, ["adopt", *option, "--other-device", image, path], image, "", f"other: {told}\n", 5)
 
 
 def bad_words(ptab, image):
@@ -244,6 +265,7 @@ def main():
     with room() as folder:
         read_only(ptab, folder)
         not_images(ptab, folder)
+        no_devices(ptab, folder)
         image = gpt(folder)
         bad_words(ptab, image)
         refusals(ptab, image)

@@ -10,7 +10,7 @@ use Rattle.std.proofs.lemmas.Slice.Eq.{bytes_eq-Decides}
 use Rattle.clap.specs.Kinds.{HasKind}
 use Rattle.clap.specs.Simple.{Shape, argument_words, built, filled, filled_from, help_rule}
 use Rattle.clap.specs.Takes.{is_given}
-use Rattle.clap.specs.Walk.{Row, Rule, Text, all_of, first_of, has_row, texts}
+use Rattle.clap.specs.Walk.{Row, Rule, Text, all_of, first_of, texts}
 use Rattle.clap.specs.Words.{FailsBy, HasMatchesOf, IsAmong, Kinds, app_of, fault_of, is_simple_and_free, kind_of, subcommand_of}
 use Rattle.clap.specs.Words.{subcommand_rows_of}
 use Rattle.clap.specs.declared.builder.command.Command.{Command}
@@ -19,19 +19,19 @@ use Rattle.clap.specs.declared.parser.matches.ArgMatches.{ArgMatches}
 use Rattle.clap.specs.declared.error.kind.ErrorKind.{ErrorKind}
 use Rattle.clap.specs.declared.error.kind.ErrorKind.TheVariants.{DisplayHelp, DisplayVersion, OutOfMemory}
 use Rattle.clap.proofs.WalkLemmas.{list_any-map}
-use Rattle.pt_line.specs.CommandLine.{image_rules, no_lock, other_rules, place_rules, plan_only, plan_rules, ptab, show_rules, word_rules}
-use Rattle.pt_line.specs.CommandLine.{writing}
+use Rattle.pt_line.specs.CommandLine.{device, image_rules, in_use, no_lock, other_device, other_rules, place_rules, plan_only, plan_rules}
+use Rattle.pt_line.specs.CommandLine.{ptab, sector_size, show_rules, word_rules, writing}
 use Rattle.pt_line.specs.Lines.{IsJob, IsJobOrEmpty, IsLineOf, IsLineOrEmpty, IsSize, IsSizeOrLess, IsUnknown, IsUsage, HasNoJob, MeansAt, MeansJob}
 use Rattle.pt_line.specs.Lines.{ReadsAs, Tells}
 use Rattle.pt_line.specs.declared.line.Job.{Job}
 use Rattle.pt_line.specs.declared.line.Job.TheVariants as job
 use Rattle.pt_line.specs.declared.line.Line.{Line}
 use Rattle.pt_line.specs.declared.line.LineError.{LineError}
-use Rattle.pt_line.specs.declared.line.LineError.TheVariants.{NotText, Usage, Memory}
+use Rattle.pt_line.specs.declared.line.LineError.TheVariants.{NotText, Usage, InUseAlone, Memory}
 use Rattle.pt_line.specs.declared.line.SectorSize.{SectorSize}
 use Rattle.pt_line.specs.declared.line.SectorSize.TheVariants.{Bytes512, Bytes4096}
 use Rattle.pt_line.proofs.Rows.{Each, IsFull, IsSound}
-use Rattle.pt_line.proofs.Taken.{HasEntered, IsFair, IsKnown, has_text, has_value, taken}
+use Rattle.pt_line.proofs.Taken.{HasEntered, IsFair, IsKnown, has_text, taken, value_may}
 
 -- the texts of the sizes, wherever they lie
 abbrev pub some_sizes : Bor (List (Bor Text))
@@ -55,12 +55,10 @@ all_texts : (o : Option (List Text)) (ts : List Text) → ts ≡ unwrap_or o [] 
 all_texts None ts e some = absurd (true≢false (sym some))
 all_texts (Some vs) ts e some = ap (λ (x : List Text). Some x) (sym e)
 
-sized : (rows : List Row) → Each (IsFull MayBe) rows → has_row (codes "sector-size") rows ≡ true → (z : SectorSize)
-    → IsSizeOrLess rows z → IsSize rows z
-sized rows full present Bytes4096 is = is
-sized rows full present Bytes512 less =
-    let one = has_value MayBe rows (codes "sector-size") full present in
-    go (first_of (codes "sector-size") rows) one.0 one.1 less
+sized : (rows : List Row) → Each (IsFull MayBe) rows → (z : Option SectorSize) → IsSizeOrLess rows z → IsSize rows z
+sized rows full None is = is
+sized rows full (Some Bytes4096) is = is
+sized rows full (Some Bytes512) less = go (first_of (codes "sector-size") rows) (value_may MayBe rows (codes "sector-size") full) less.0 less.1
   where
     go : (o : Option Text) → IfSome o (MayBe (codes "sector-size")) → IsSome o → (o ≡ Some (codes "4096") → ⊥) → o ≡ Some (codes "512")
     go None may some never = absurd (true≢false (sym some))
@@ -110,7 +108,7 @@ module _ (sizes : Bor (List (Bor Text))) (rows : List Row) where
     h.0,
     text_given rows fair.full (codes "IMAGE") _ (fair.given.0 refl) h.1,
     h.2,
-    texts_given rows fair.full (codes "WORD") _ (fair.given.1.1.1.0 refl) h.3,
+    texts_given rows fair.full (codes "WORD") _ (fair.given.1.1.1.1.0 refl) h.3,
     h.4,
   )
   edit_job fair _ h = absurd (true≢false (ap (bytes_eq (codes "edit")) h.0))
@@ -122,7 +120,7 @@ module _ (sizes : Bor (List (Bor Text))) (rows : List Row) where
     h.0,
     text_given rows fair.full (codes "IMAGE") _ (fair.given.0 refl) h.1,
     h.2,
-    texts_given rows fair.full (codes "WORD") _ (fair.given.1.1.1.0 refl) h.3,
+    texts_given rows fair.full (codes "WORD") _ (fair.given.1.1.1.1.0 refl) h.3,
   )
   plan_job fair _ h = absurd (true≢false (ap (bytes_eq (codes "plan")) h.0))
 
@@ -150,12 +148,13 @@ module _ (sizes : Bor (List (Bor Text))) (rows : List Row) where
   adopt_job : IsFair MayBe (built_rules (writing (other_rules sizes))) rows → (j : Job) → IsJobOrEmpty (codes "adopt") rows j
       → IsJob (codes "adopt") rows j
   adopt_job fair (job.Help t) h = absurd h
-  adopt_job fair (job.Adopt image other adoption locked_by) h = (
+  adopt_job fair (job.Adopt image other medium adoption locked_by) h = (
     h.0,
     text_given rows fair.full (codes "IMAGE") _ (fair.given.0 refl) h.1,
     text_given rows fair.full (codes "OTHER") _ (fair.given.1.0 refl) h.2,
     h.3,
     h.4,
+    h.5,
   )
   adopt_job fair _ h = absurd (true≢false (ap (bytes_eq (codes "adopt")) h.0))
 
@@ -164,6 +163,22 @@ record IsRead (s : Shape) : Type 0 where
   reads : (rows : List Row) → IsFair MayBe s.rules rows → (line : Line) → IsJobOrEmpty s.name rows line.job → IsSizeOrLess rows line.size
       → IsJob s.name rows line.job × IsSize rows line.size
   known : IsUnknown s.name → ⊥
+
+-- a flag's value isn't a size
+device_sound : IsSound MayBe (filled device)
+device_sound = ((omega arith, λ v e is. absurd (true≢false (sym is))), ((λ is. absurd (true≢false (sym is))), tt))
+
+in_use_sound : IsSound MayBe (filled in_use)
+in_use_sound = ((omega arith, λ v e is. absurd (true≢false (sym is))), ((λ is. absurd (true≢false (sym is))), tt))
+
+other_device_sound : IsSound MayBe (filled other_device)
+other_device_sound = ((omega arith, λ v e is. absurd (true≢false (sym is))), ((λ is. absurd (true≢false (sym is))), tt))
+
+no_lock_sound : IsSound MayBe (filled no_lock)
+no_lock_sound = ((omega arith, λ v e is. absurd (true≢false (sym is))), ((λ is. absurd (true≢false (sym is))), tt))
+
+plan_only_sound : IsSound MayBe (filled plan_only)
+plan_only_sound = ((omega arith, λ v e is. absurd (true≢false (sym is))), ((λ is. absurd (true≢false (sym is))), tt))
 
 module _ (sizes : Bor (List (Bor Text))) (are : texts sizes.now ≡ codes "512" ∷ codes "4096" ∷ []) where
   one_of_two : (v : Text) → list_any (λ (n : Bor Text). bytes_eq n.now v) sizes.now ≡ true → MayBe (codes "sector-size") v
@@ -179,64 +194,35 @@ module _ (sizes : Bor (List (Bor Text))) (are : texts sizes.now ≡ codes "512" 
       go false x true y h = inr (sym ((bytes_eq-Decides (codes "4096") v).0 y))
       go false x false y h = absurd (true≢false (sym h))
 
+  sizes_sound : IsSound MayBe (filled (sector_size sizes))
+  sizes_sound = ((omega arith, one_of_two), tt)
+
   image_sound : Each (IsSound MayBe) (built_rules (image_rules sizes))
-  image_sound =
-      (((omega arith, λ v e is. absurd (true≢false (sym is))), tt), (((omega arith, one_of_two), ((λ is. inl refl), tt)), ((tt, tt), tt)))
+  image_sound = (((omega arith, λ v e is. absurd (true≢false (sym is))), tt), (device_sound, (sizes_sound, ((tt, tt), tt))))
 
   show_sound : Each (IsSound MayBe) (built_rules (show_rules sizes))
-  show_sound = (
-    ((omega arith, λ v e is. absurd (true≢false (sym is))), tt),
-    (((omega arith, λ v e is. absurd (true≢false (sym is))), tt), (((omega arith, one_of_two), ((λ is. inl refl), tt)), ((tt, tt), tt))),
-  )
+  show_sound = (((omega arith, λ v e is. absurd (true≢false (sym is))), tt), (((omega arith, λ v e is. absurd (true≢false (sym is))), tt), (device_sound, (sizes_sound, ((tt, tt), tt)))))
 
   place_sound : Each (IsSound MayBe) (built_rules (place_rules sizes))
-  place_sound = (
-    ((omega arith, λ v e is. absurd (true≢false (sym is))), tt),
-    (
-      ((omega arith, λ v e is. absurd (true≢false (sym is))), tt),
-      (((omega arith, λ v e is. absurd (true≢false (sym is))), tt), (((omega arith, one_of_two), ((λ is. inl refl), tt)), ((tt, tt), tt))),
-    ),
-  )
+  place_sound = (((omega arith, λ v e is. absurd (true≢false (sym is))), tt), (((omega arith, λ v e is. absurd (true≢false (sym is))), tt), (((omega arith, λ v e is. absurd (true≢false (sym is))), tt), (device_sound, (sizes_sound, ((tt, tt), tt))))))
 
   word_sound : Each (IsSound MayBe) (built_rules (word_rules sizes))
-  word_sound = (
-    ((omega arith, λ v e is. absurd (true≢false (sym is))), tt),
-    (
-      ((omega arith, λ v e is. absurd (true≢false (sym is))), tt),
-      (((omega arith, one_of_two), ((λ is. inl refl), tt)), (((omega arith, λ v e is. absurd (true≢false (sym is))), tt), ((tt, tt), tt))),
-    ),
-  )
+  word_sound = (((omega arith, λ v e is. absurd (true≢false (sym is))), tt), (((omega arith, λ v e is. absurd (true≢false (sym is))), tt), (device_sound, (sizes_sound, (((omega arith, λ v e is. absurd (true≢false (sym is))), tt), ((tt, tt), tt))))))
 
   plan_sound : Each (IsSound MayBe) (built_rules (plan_rules sizes))
-  plan_sound = (
-    ((omega arith, λ v e is. absurd (true≢false (sym is))), tt),
-    (((omega arith, λ v e is. absurd (true≢false (sym is))), tt), (((omega arith, one_of_two), ((λ is. inl refl), tt)), ((tt, tt), tt))),
-  )
-
-  -- a flag's value isn't a size
-  flag_sound : IsSound MayBe (filled no_lock)
-  flag_sound = ((omega arith, λ v e is. absurd (true≢false (sym is))), ((λ is. absurd (true≢false (sym is))), tt))
-
-  plan_flag_sound : IsSound MayBe (filled plan_only)
-  plan_flag_sound = ((omega arith, λ v e is. absurd (true≢false (sym is))), ((λ is. absurd (true≢false (sym is))), tt))
-
-  other_writing_sound : Each (IsSound MayBe) (built_rules (writing (other_rules sizes)))
-  other_writing_sound = (
-    ((omega arith, λ v e is. absurd (true≢false (sym is))), tt),
-    (
-      ((omega arith, λ v e is. absurd (true≢false (sym is))), tt),
-      (plan_flag_sound, (((omega arith, one_of_two), ((λ is. inl refl), tt)), (flag_sound, ((tt, tt), tt)))),
-    ),
-  )
+  plan_sound = (((omega arith, λ v e is. absurd (true≢false (sym is))), tt), (((omega arith, λ v e is. absurd (true≢false (sym is))), tt), (device_sound, (sizes_sound, ((tt, tt), tt)))))
 
   image_writing_sound : Each (IsSound MayBe) (built_rules (writing (image_rules sizes)))
-  image_writing_sound = (image_sound.0, (image_sound.1.0, (flag_sound, image_sound.1.1)))
+  image_writing_sound = (((omega arith, λ v e is. absurd (true≢false (sym is))), tt), (device_sound, (sizes_sound, (in_use_sound, (no_lock_sound, ((tt, tt), tt))))))
 
   word_writing_sound : Each (IsSound MayBe) (built_rules (writing (word_rules sizes)))
-  word_writing_sound = (word_sound.0, (word_sound.1.0, (word_sound.1.1.0, (word_sound.1.1.1.0, (flag_sound, word_sound.1.1.1.1)))))
+  word_writing_sound = (((omega arith, λ v e is. absurd (true≢false (sym is))), tt), (((omega arith, λ v e is. absurd (true≢false (sym is))), tt), (device_sound, (sizes_sound, (((omega arith, λ v e is. absurd (true≢false (sym is))), tt), (in_use_sound, (no_lock_sound, ((tt, tt), tt))))))))
 
   plan_writing_sound : Each (IsSound MayBe) (built_rules (writing (plan_rules sizes)))
-  plan_writing_sound = (plan_sound.0, (plan_sound.1.0, (plan_sound.1.1.0, (flag_sound, plan_sound.1.1.1))))
+  plan_writing_sound = (((omega arith, λ v e is. absurd (true≢false (sym is))), tt), (((omega arith, λ v e is. absurd (true≢false (sym is))), tt), (device_sound, (sizes_sound, (in_use_sound, (no_lock_sound, ((tt, tt), tt)))))))
+
+  other_writing_sound : Each (IsSound MayBe) (built_rules (writing (other_rules sizes)))
+  other_writing_sound = (((omega arith, λ v e is. absurd (true≢false (sym is))), tt), (((omega arith, λ v e is. absurd (true≢false (sym is))), tt), (plan_only_sound, (other_device_sound, (device_sound, (sizes_sound, (in_use_sound, (no_lock_sound, ((tt, tt), tt)))))))))
 
   each_good : Each (IsKnown MayBe IsRead) (built (ptab sizes)).subs
   each_good = (
@@ -244,8 +230,7 @@ module _ (sizes : Bor (List (Bor Text))) (are : texts sizes.now ≡ codes "512" 
       record {
         reads = λ rows fair line j z. (
           show_job sizes rows fair line.job j,
-          sized rows fair.full
-              (fair.present.1.1.0 (omega arith)) line.size z,
+          sized rows fair.full line.size z,
         );
         known = λ u. u.0 refl;
       },
@@ -257,8 +242,7 @@ module _ (sizes : Bor (List (Bor Text))) (are : texts sizes.now ≡ codes "512" 
         record {
           reads = λ rows fair line j z. (
             verify_job sizes rows fair line.job j,
-            sized rows fair.full
-                (fair.present.1.0 (omega arith)) line.size z,
+            sized rows fair.full line.size z,
           );
           known = λ u. u.1 refl;
         },
@@ -270,8 +254,7 @@ module _ (sizes : Bor (List (Bor Text))) (are : texts sizes.now ≡ codes "512" 
           record {
             reads = λ rows fair line j z. (
               locate_job sizes rows fair line.job j,
-              sized rows fair.full
-                  (fair.present.1.1.1.0 (omega arith)) line.size z,
+              sized rows fair.full line.size z,
             );
             known = λ u. u.2 refl;
           },
@@ -283,8 +266,7 @@ module _ (sizes : Bor (List (Bor Text))) (are : texts sizes.now ≡ codes "512" 
             record {
               reads = λ rows fair line j z. (
                 edit_job sizes rows fair line.job j,
-                sized rows fair.full
-                    (fair.present.1.1.0 (omega arith)) line.size z,
+                sized rows fair.full line.size z,
               );
               known = λ u. u.3 refl;
             },
@@ -296,8 +278,7 @@ module _ (sizes : Bor (List (Bor Text))) (are : texts sizes.now ≡ codes "512" 
               record {
                 reads = λ rows fair line j z. (
                   plan_job sizes rows fair line.job j,
-                  sized rows fair.full
-                      (fair.present.1.1.0 (omega arith)) line.size z,
+                  sized rows fair.full line.size z,
                 );
                 known = λ u. u.4 refl;
               },
@@ -309,8 +290,7 @@ module _ (sizes : Bor (List (Bor Text))) (are : texts sizes.now ≡ codes "512" 
                 record {
                   reads = λ rows fair line j z. (
                     check_job sizes rows fair line.job j,
-                    sized rows fair.full
-                        (fair.present.1.1.0 (omega arith)) line.size z,
+                    sized rows fair.full line.size z,
                   );
                   known = λ u. u.5 refl;
                 },
@@ -322,8 +302,7 @@ module _ (sizes : Bor (List (Bor Text))) (are : texts sizes.now ≡ codes "512" 
                   record {
                     reads = λ rows fair line j z. (
                       apply_job sizes rows fair line.job j,
-                      sized rows fair.full
-                          (fair.present.1.1.0 (omega arith)) line.size z,
+                      sized rows fair.full line.size z,
                     );
                     known = λ u. u.6 refl;
                   },
@@ -335,8 +314,7 @@ module _ (sizes : Bor (List (Bor Text))) (are : texts sizes.now ≡ codes "512" 
                     record {
                       reads = λ rows fair line j z. (
                         repair_job sizes rows fair line.job j,
-                        sized rows fair.full
-                            (fair.present.1.0 (omega arith)) line.size z,
+                        sized rows fair.full line.size z,
                       );
                       known = λ u. u.7 refl;
                     },
@@ -348,8 +326,7 @@ module _ (sizes : Bor (List (Bor Text))) (are : texts sizes.now ≡ codes "512" 
                       record {
                         reads = λ rows fair line j z. (
                           adopt_job sizes rows fair line.job j,
-                          sized rows fair.full
-                              (fair.present.1.1.1.0 (omega arith)) line.size z,
+                          sized rows fair.full line.size z,
                         );
                         known = λ u. u.8 refl;
                       },
@@ -382,6 +359,7 @@ module _ (sizes : Bor (List (Bor Text))) (are : texts sizes.now ≡ codes "512" 
           tells.0,
     )
     by_error e (Err NotText) kind tells = absurd tells
+    by_error e (Err InUseAlone) kind tells = absurd tells
     by_error e (Err Memory) kind tells = tt
     by_error e (Err (Usage told)) (inl memory) tells = absurd (tells.1.2 memory)
     by_error e (Err (Usage told)) (inr among) tells =
@@ -400,7 +378,9 @@ module _ (sizes : Bor (List (Bor Text))) (are : texts sizes.now ≡ codes "512" 
             → MeansAt (ptab sizes) words r
         go (Ok line) met m =
             let h = subst (λ (o : Option (Text × List Row)). IsLineOrEmpty o line) met.is m in
-            inr (none, subst (λ (o : Option (Text × List Row)). IsLineOf o line) (sym met.is) (met.of.reads met.rows met.fair line h.0 h.1))
+            let read = met.of.reads met.rows met.fair line h.0 h.1 in
+            inr (none, subst (λ (o : Option (Text × List Row)). IsLineOf o line) (sym met.is) (read.0, read.1, h.2))
+        go (Err InUseAlone) met m = (none, m)
         go (Err NotText) met m = absurd (subst (λ (o : Option (Text × List Row)). MeansJob o (Err NotText)) met.is m)
         go (Err Memory) met m = tt
         go (Err (Usage told)) met m = absurd (subst (λ (o : Option (Text × List Row)). MeansJob o (Err (Usage told))) met.is m)

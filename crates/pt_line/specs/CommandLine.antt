@@ -13,13 +13,12 @@ use Rattle.pt_line.specs.declared.pages.Subcommand.TheVariants.{Show, Verify, Lo
 abbrev pub needed : Text → Rule
 needed id = record (new_rule id) { required = true; action = Some Set }
 
--- `--sector-size BYTES`, which has one of these texts as its value, and 512 where it isn't given
+-- `--sector-size BYTES`, which has one of these texts as its value
 abbrev pub sector_size : Bor (List (Bor Text)) → Rule
 sector_size sizes = record (new_rule (codes "sector-size")) {
   long = Some (codes "sector-size");
   value_names = 1;
   parser = Some (Names sizes);
-  defaults = codes "512" ∷ [];
   action = Some Set;
 }
 
@@ -47,6 +46,16 @@ no_lock = record (new_rule (codes "no-lock")) { long = Some (codes "no-lock"); a
 abbrev pub plan_only : Rule
 plan_only = record (new_rule (codes "plan")) { long = Some (codes "plan"); action = Some SetTrue }
 
+-- `--device`, `--in-use` and `--other-device`, flags
+abbrev pub device : Rule
+device = record (new_rule (codes "device")) { long = Some (codes "device"); action = Some SetTrue }
+
+abbrev pub in_use : Rule
+in_use = record (new_rule (codes "in-use")) { long = Some (codes "in-use"); action = Some SetTrue }
+
+abbrev pub other_device : Rule
+other_device = record (new_rule (codes "other-device")) { long = Some (codes "other-device"); action = Some SetTrue }
+
 -- one word or more
 abbrev pub edit_words : Rule
 edit_words = record (new_rule (codes "WORD")) {
@@ -55,29 +64,33 @@ edit_words = record (new_rule (codes "WORD")) {
   action = Some Append;
 }
 
+-- what is said of the image
+abbrev pub on_disk : Bor (List (Bor Text)) → List Rule
+on_disk sizes = device ∷ sector_size sizes ∷ []
+
 -- the arguments of a command on an image alone, on an image after a plan or not, on a place in it, on words, and on a plan's file
 abbrev pub image_rules : Bor (List (Bor Text)) → List Rule
-image_rules sizes = needed (codes "IMAGE") ∷ sector_size sizes ∷ []
+image_rules sizes = needed (codes "IMAGE") ∷ on_disk sizes
 
 abbrev pub show_rules : Bor (List (Bor Text)) → List Rule
-show_rules sizes = needed (codes "IMAGE") ∷ after ∷ sector_size sizes ∷ []
+show_rules sizes = needed (codes "IMAGE") ∷ after ∷ on_disk sizes
 
 abbrev pub place_rules : Bor (List (Bor Text)) → List Rule
-place_rules sizes = needed (codes "IMAGE") ∷ needed (codes "PATH") ∷ needed (codes "K") ∷ sector_size sizes ∷ []
+place_rules sizes = needed (codes "IMAGE") ∷ needed (codes "PATH") ∷ needed (codes "K") ∷ on_disk sizes
 
 abbrev pub word_rules : Bor (List (Bor Text)) → List Rule
-word_rules sizes = needed (codes "IMAGE") ∷ fresh ∷ sector_size sizes ∷ edit_words ∷ []
+word_rules sizes = needed (codes "IMAGE") ∷ fresh ∷ (on_disk sizes ++ edit_words ∷ [])
 
 abbrev pub plan_rules : Bor (List (Bor Text)) → List Rule
-plan_rules sizes = needed (codes "IMAGE") ∷ needed (codes "PLANFILE") ∷ sector_size sizes ∷ []
+plan_rules sizes = needed (codes "IMAGE") ∷ needed (codes "PLANFILE") ∷ on_disk sizes
 
 -- on another image besides, with its plan alone or not
 abbrev pub other_rules : Bor (List (Bor Text)) → List Rule
-other_rules sizes = needed (codes "IMAGE") ∷ needed (codes "OTHER") ∷ plan_only ∷ sector_size sizes ∷ []
+other_rules sizes = needed (codes "IMAGE") ∷ needed (codes "OTHER") ∷ plan_only ∷ other_device ∷ on_disk sizes
 
 -- the same of a command that writes the image
 abbrev pub writing : List Rule → List Rule
-writing rules = rules ++ no_lock ∷ []
+writing rules = rules ++ in_use ∷ no_lock ∷ []
 
 abbrev pub subcommand : Text → List Rule → Shape
 subcommand name rules = record (new_shape name) { rules = rules }

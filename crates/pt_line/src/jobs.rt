@@ -1,12 +1,13 @@
 //! What `clap`'s matches come to: the job of a subcommand, by the values of its arguments.
 
-ghost use Rattle.std.specs.Prelude.{◌≡◌, ◌↔◌, IfOk, IsTrue, codes, map, string_bytes};
+ghost use Rattle.std.specs.Prelude.{◌≡◌, ◌↔◌, Some, IfOk, IsTrue, codes, map, string_bytes};
 ghost use Rattle.clap.specs.Walk.{texts as slice_texts};
 ghost use Rattle.clap.specs.Words.{found_of, rows_of, subcommand_rows_of};
-ghost use Rattle.pt_line.specs.Lines.{GivesIf, HasNoJob, IfJob, IsAdoption, IsGiven, IsLockedBy, IsSizeNamed, IsSizeOrLess, IsUnknown, MeansJob};
+ghost use Rattle.pt_line.specs.Lines.{GivesIf, HasNoJob, IfJob, IsAdoption, IsGiven, IsInUse, IsLockedBy, IsMedium, IsSizeNamed};
+ghost use Rattle.pt_line.specs.Lines.{IsSizeOrLess, IsUnknown, MeansJob};
 ghost use Rattle.pt_line.specs.Lines.{text_in, texts_in};
 
-use crate::line::{Adoption, Job, Line, LineError, LockedBy, SectorSize};
+use crate::line::{Adoption, InUse, Job, Line, LineError, LockedBy, Medium, SectorSize};
 use clap::ArgMatches;
 use std::alloc::{AllocError, Global};
 
@@ -57,12 +58,12 @@ fn size_named(text: &str) -> SectorSize
     }
 }
 
-fn size_of(matches: &ArgMatches<'_>) -> SectorSize
+fn size_of(matches: &ArgMatches<'_>) -> Option<SectorSize>
     ensures { IsSizeOrLess (rows_of (found_of matches.now)) result }
 {
     match matches.get_str("sector-size") {
-        Some(text) => size_named(text),
-        None => SectorSize::Bytes512,
+        Some(text) => Some(size_named(text)),
+        None => None,
     }
 }
 
@@ -82,6 +83,26 @@ fn locked_by(matches: &ArgMatches<'_>) -> LockedBy
         LockedBy::Caller
     } else {
         LockedBy::Ptab
+    }
+}
+
+fn medium_of(matches: &ArgMatches<'_>, flag: &str) -> Medium
+    ensures { IsMedium (rows_of (found_of matches.now)) flag.now result }
+{
+    if is_given(matches, flag) {
+        Medium::Device
+    } else {
+        Medium::File
+    }
+}
+
+fn in_use_of(matches: &ArgMatches<'_>) -> InUse
+    ensures { IsInUse (rows_of (found_of matches.now)) result }
+{
+    if is_given(matches, "in-use") {
+        InUse::Allowed
+    } else {
+        InUse::Refused
     }
 }
 
@@ -125,6 +146,7 @@ fn adopt_job(alloc: Global, inner: &ArgMatches<'_>, image: String) -> Result<Job
     Ok(Job::Adopt {
         image,
         other: text_of(alloc, inner, "OTHER")?,
+        other_medium: medium_of(inner, "other-device"),
         adoption: adoption_of(inner),
         locked_by: locked_by(inner),
     })
@@ -177,15 +199,30 @@ fn job_of(alloc: Global, name: &str, inner: &ArgMatches<'_>) -> Result<Job, Line
     }
 }
 
+/// The line of the subcommand with this name.
+fn line_in(alloc: Global, name: &str, inner: &ArgMatches<'_>) -> Result<Line, LineError>
+    requires { ¬ IsUnknown name.now }
+    ensures { MeansJob (Some (name.now, rows_of (found_of inner.now))) result }
+{
+    let medium = medium_of(inner, "device");
+    let in_use = in_use_of(inner);
+    if let (InUse::Allowed, Medium::File) = (in_use, medium) {
+        return Err(LineError::InUseAlone);
+    }
+    Ok(Line {
+        job: job_of(alloc, name, inner)?,
+        size: size_of(inner),
+        medium,
+        in_use,
+    })
+}
+
 pub(crate) fn line_of(alloc: Global, matches: &ArgMatches<'_>) -> Result<Line, LineError>
     requires { ¬ HasNoJob (subcommand_rows_of matches.now) }
     ensures { MeansJob (subcommand_rows_of matches.now) result }
 {
     match matches.subcommand() {
-        Some((name, inner)) => Ok(Line {
-            job: job_of(alloc, name, inner)?,
-            size: size_of(inner),
-        }),
+        Some((name, inner)) => line_in(alloc, name, inner),
         None => unreachable!(),
     }
 }

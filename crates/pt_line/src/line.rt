@@ -38,11 +38,32 @@ pub enum Adoption {
     Planned,
 }
 
+/// What is opened.
+#[derive(Clone, Copy)]
+pub enum Medium {
+    /// A plain file.
+    File,
+    /// A block device, by `--device`, or of `adopt`'s other image by `--other-device`.
+    Device,
+}
+
+/// Whether a device that is in use may be written.
+#[derive(Clone, Copy)]
+pub enum InUse {
+    Refused,
+    /// It may, by `--in-use`.
+    Allowed,
+}
+
 /// A command line that was read.
 #[derive(Drop)]
 pub struct Line {
     pub job: Job,
-    pub size: SectorSize,
+    /// The size of a sector, where the line says it.
+    pub size: Option<SectorSize>,
+    /// What the image is.
+    pub medium: Medium,
+    pub in_use: InUse,
 }
 
 /// What a command line asks for, with its texts as they were given.
@@ -90,6 +111,7 @@ pub enum Job {
     Adopt {
         image: String,
         other: String,
+        other_medium: Medium,
         adoption: Adoption,
         locked_by: LockedBy,
     },
@@ -104,6 +126,9 @@ pub enum LineError {
     /// The words are not those of a command, as `clap` says.
     #[error("{0}")]
     Usage(clap::Error),
+    /// `--in-use` is said of no device.
+    #[error("the argument '--in-use' needs '--device'")]
+    InUseAlone,
     #[error("memory")]
     Memory,
 }
@@ -123,7 +148,9 @@ fn failed(alloc: Global, error: clap::Error) -> Result<Line, LineError>
         ErrorKind::OutOfMemory => Err(LineError::Memory),
         ErrorKind::DisplayHelp | ErrorKind::DisplayVersion => Ok(Line {
             job: Job::Help(format!(in alloc; "{error}")?),
-            size: SectorSize::Bytes512,
+            size: None,
+            medium: Medium::File,
+            in_use: InUse::Refused,
         }),
         _ => Err(LineError::Usage(error)),
     }

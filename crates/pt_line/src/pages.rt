@@ -5,7 +5,7 @@ ghost use Rattle.clap.specs.Walk.{texts as slice_texts};
 ghost use Rattle.clap.specs.Words.{new_app, new_rule};
 ghost use Rattle.clap.specs.declared.builder.action.ArgAction.TheVariants.{Set, SetTrue};
 ghost use Rattle.pt_line.specs.CommandLine as spec;
-ghost use Rattle.pt_line.specs.Lines.{AddsPage, AddsRule, Begins, IsArg, IsCommand, ReadsAs, TakesArg};
+ghost use Rattle.pt_line.specs.Lines.{AddsPage, AddsRules, Begins, IsArg, IsCommand, ReadsAs, TakesArg};
 
 use crate::help::{
     ABOUT, ADOPT, ADOPT_ABOUT, APPLY, APPLY_ABOUT, CHECK, CHECK_ABOUT, EDIT, EDIT_ABOUT, LOCATE,
@@ -89,11 +89,9 @@ fn option<'a>(alloc: Global, id: &'a str, value: &'a str, help: &'a str) -> Arg<
 fn sector_size<'a>(alloc: Global, sizes: &'a [&'a str]) -> Arg<'a>
     ensures { IsArg (spec.sector_size sizes.entry) result }
 {
-    let help = "The size of a sector: 512 (the default) or 4096";
+    let help = "512 (the default) or 4096; a device has its own";
     option(alloc, "sector-size", "BYTES", help)
         .value_parser(sizes)
-        .default_value("512")
-        .hide_default_value(true)
         .hide_possible_values(true)
 }
 
@@ -111,13 +109,42 @@ fn after<'a>(alloc: Global) -> Arg<'a>
     option(alloc, "after", "PLANFILE", help)
 }
 
+/// A flag. Its name on the command line is its id.
+fn flag<'a>(alloc: Global, id: &'a str, help: &'a str) -> Arg<'a>
+    ensures { IsArg (record (new_rule id.entry.now) { long = Some id.entry.now; action = Some SetTrue }) result }
+{
+    Arg::new(alloc, id)
+        .long(id)
+        .action(ArgAction::SetTrue)
+        .help(help)
+}
+
+fn device<'a>(alloc: Global) -> Arg<'a>
+    ensures { IsArg spec.device result }
+{
+    flag(alloc, "device", "IMAGE is a block device")
+}
+
+fn in_use<'a>(alloc: Global) -> Arg<'a>
+    ensures { IsArg spec.in_use result }
+{
+    flag(alloc, "in-use", "Write a device also where it is in use")
+}
+
+fn other_device<'a>(alloc: Global) -> Arg<'a>
+    ensures { IsArg spec.other_device result }
+{
+    flag(alloc, "other-device", "OTHER is a block device")
+}
+
 fn no_lock<'a>(alloc: Global) -> Arg<'a>
     ensures { IsArg spec.no_lock result }
 {
-    Arg::new(alloc, "no-lock")
-        .long("no-lock")
-        .action(ArgAction::SetTrue)
-        .help("Take no lock: the caller holds the image's")
+    flag(
+        alloc,
+        "no-lock",
+        "Take no lock: the caller holds the image's",
+    )
 }
 
 fn other<'a>(alloc: Global) -> Arg<'a>
@@ -133,10 +160,7 @@ fn other<'a>(alloc: Global) -> Arg<'a>
 fn plan_only<'a>(alloc: Global) -> Arg<'a>
     ensures { IsArg spec.plan_only result }
 {
-    Arg::new(alloc, "plan")
-        .long("plan")
-        .action(ArgAction::SetTrue)
-        .help("Print the plan, and write nothing")
+    flag(alloc, "plan", "Print the plan, and write nothing")
 }
 
 fn words<'a>(alloc: Global) -> Arg<'a>
@@ -187,9 +211,22 @@ fn writing<'a>(
     alloc: Global,
     page: Result<Command<'a>, AllocError>,
 ) -> Result<Command<'a>, AllocError>
-    ensures { AddsRule page.entry spec.no_lock result }
+    ensures { AddsRules page.entry spec.in_use spec.no_lock result }
 {
+    let page = with_arg(page, in_use(alloc));
     with_arg(page, no_lock(alloc))
+}
+
+/// A page with what is said of the image, where it was made.
+fn on_disk<'a>(
+    alloc: Global,
+    sizes: &'a [&'a str],
+    page: Result<Command<'a>, AllocError>,
+) -> Result<Command<'a>, AllocError>
+    ensures { AddsRules page.entry spec.device (spec.sector_size sizes.entry) result }
+{
+    let page = with_arg(page, device(alloc));
+    with_arg(page, sector_size(alloc, sizes))
 }
 
 /// A page on an image, with no other argument yet.
@@ -213,8 +250,7 @@ fn on_image<'a>(
 ) -> Result<Command<'a>, AllocError>
     ensures { IfOk result (IsCommand (spec.page name.entry.now (spec.image_rules sizes.entry))) }
 {
-    let page = image_page(alloc, name, about, after);
-    with_arg(page, sector_size(alloc, sizes))
+    on_disk(alloc, sizes, image_page(alloc, name, about, after))
 }
 
 fn on_show<'a>(
@@ -228,7 +264,7 @@ fn on_show<'a>(
 {
     let page = image_page(alloc, name, about, after_help);
     let page = with_arg(page, after(alloc));
-    with_arg(page, sector_size(alloc, sizes))
+    on_disk(alloc, sizes, page)
 }
 
 fn on_place<'a>(
@@ -246,7 +282,7 @@ fn on_place<'a>(
         page,
         needed(alloc, "K", "A sector of the partition, from 0 on"),
     );
-    with_arg(page, sector_size(alloc, sizes))
+    on_disk(alloc, sizes, page)
 }
 
 fn on_words<'a>(
@@ -260,7 +296,7 @@ fn on_words<'a>(
 {
     let page = image_page(alloc, name, about, after);
     let page = with_arg(page, fresh(alloc));
-    let page = with_arg(page, sector_size(alloc, sizes));
+    let page = on_disk(alloc, sizes, page);
     with_arg(page, words(alloc))
 }
 
@@ -275,7 +311,7 @@ fn on_plan<'a>(
 {
     let page = image_page(alloc, name, about, after);
     let page = with_arg(page, plan_file(alloc));
-    with_arg(page, sector_size(alloc, sizes))
+    on_disk(alloc, sizes, page)
 }
 
 fn on_other<'a>(
@@ -290,7 +326,8 @@ fn on_other<'a>(
     let page = image_page(alloc, name, about, after);
     let page = with_arg(page, other(alloc));
     let page = with_arg(page, plan_only(alloc));
-    with_arg(page, sector_size(alloc, sizes))
+    let page = with_arg(page, other_device(alloc));
+    on_disk(alloc, sizes, page)
 }
 
 /// The command with one more page, where both were made.

@@ -1,4 +1,4 @@
-use Rattle.std.proofs.Common.{◌∙◌, codes}
+use Rattle.std.proofs.Common.{codes, sym}
 use Rattle.clap.specs.Words.{found_of, rows_of}
 use Rattle.pt_line.proofs.Values.{sized_by, value_is}
 use Rattle.pt_line.proofs.jobs.size_of.Goals as goal
@@ -10,6 +10,4 @@ returns-in-Some c =
     (codes "sector-size") c.get_str.result c.get_str.ensures)) c.size_named.result c.size_named.ensures
 
 pub returns-in-None : goal.returns-in-None
-returns-in-None c =
-    let v = rw c.in-None.is at (value_is (found_of c.args.matches.now) (codes "sector-size") c.get_str.result c.get_str.ensures) in
-    λ e. let bad = v ∙ e in absurd cc
+returns-in-None c = sym (rw c.in-None.is at (value_is (found_of c.args.matches.now) (codes "sector-size") c.get_str.result c.get_str.ensures))

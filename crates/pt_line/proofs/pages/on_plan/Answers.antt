@@ -5,4 +5,4 @@ pub returns : goal.returns
 returns c =
     let one = c.image_page-page.ensures in
     let two = IfOk-weaker c.with_arg-page.result _ _ (λ r takes. takes _ _ one c.plan_file.ensures) c.with_arg-page.ensures in
-    IfOk-weaker c.with_arg.result _ _ (λ r takes. takes _ _ two c.sector_size.ensures) c.with_arg.ensures
+    IfOk-weaker c.on_disk.result _ _ (λ r adds. adds _ two) c.on_disk.ensures
