@@ -20,7 +20,7 @@ archive="$PWD/crates/pt_c/out/libpt_c.a"
 # once what it runs is. These run on all processors once `rt ci` has ended, and the wrong bodies on two, so those go first. Each has a
 # process group of its own, so that nothing of it goes on where `rt ci` fails.
 set -m
-nice -n 10 python3 tests/wrong_bodies.py --gate --beside "$said" >"$bodies" 2>&1 &
+nice -n 10 python3 tests/wrong_bodies.py --beside "$said" >"$bodies" 2>&1 &
 trying=$!
 nice -n 19 python3 tests/side_by_side.py --beside "$said" >"$scripts" 2>&1 <<LIST &
 ../packaging/build.py --over-ci ptab pt_c

@@ -27,7 +27,8 @@ COMPLETIONS = (
     (["ptab", ""], [*COMMANDS, "help"]), (["ptab", "re"], ["repair"]), (["ptab", "--h"], ["--help"]), (["ptab", "help", "ch"], ["check"]),
     (["ptab", "help", "check", ""], []), (["ptab", "show", ""], ["folder", "a.img", "b.raw"]), (["ptab", "show", "a"], ["a.img"]),
     (["ptab", "show", "n"], ["notes"]), (["ptab", "show", "folder/"], ["folder/c.img"]), (["ptab", "show", "a.img", ""], []),
-    (["ptab", "edit", "--"], ["--fresh", "--sector-size", "--no-lock", "--help"]), (["ptab", "show", "--"], ["--sector-size", "--help"]),
+    (["ptab", "edit", "--"], ["--fresh", "--sector-size", "--no-lock", "--help"]), (["ptab", "show", "--"], ["--after", "--sector-size", "--help"]),
+    (["ptab", "show", "--after", "n"], ["notes"]), (["ptab", "show", "--after", "notes", ""], ["folder", "a.img", "b.raw"]),
     (["ptab", "plan", "--"], ["--fresh", "--sector-size", "--help"]), (["ptab", "check", "--n"], []),
     (["ptab", "apply", "--n"], ["--no-lock"]), (["ptab", "repair", "--no-lock", ""], ["folder", "a.img", "b.raw"]),
     (["ptab", "edit", "--sector-size", ""], ["512", "4096"]), (["ptab", "edit", "--sector-size", "=", "4"], ["4096"]),
@@ -140,9 +141,9 @@ def versions(ptab):
     version = done.stdout.strip()
     done = subprocess.run([ptab, "--version"], capture_output=True, text=True)
     same("the version of the command", done.stdout, f"ptab {version}\n")
-    for place, head in (("man/ptab.8", f'"Jawefon {version}"'), ("man/ptab-run.8", f'"Jawefon {version}"'),
-                        ("CHANGELOG.md", f"## {version}"), ("bindings/python/pyproject.toml", f'version = "{version}"\n'),
-                        ("bindings/rust/Cargo.toml", f'version = "{version}"\n')):
+    page, line = f'"Jawefon {version}"', f'version = "{version}"\n'
+    for place, head in (("man/ptab.8", page), ("man/ptab-run.8", page), ("CHANGELOG.md", f"## {version}"),
+                        ("bindings/python/pyproject.toml", line), ("bindings/rust/Cargo.toml", line)):
         with open(f"{TOP}/{place}", encoding="utf-8") as it:
             same(f"the version in {place}", head in it.read(), True)
 

@@ -1,12 +1,12 @@
 -- Words that begin with a subcommand's name are read alike by the whole command and by the command with that subcommand alone.
-use Rattle.std.proofs.Common.{◌≡◌, ◌∙◌, ◌<◌, arith, ap, ap₂, sym, refl, length, List, [], ◌∷◌, ◌++◌, Option, Some, None, codes, true, false}
+use Rattle.std.proofs.Common.{◌≡◌, ◌∙◌, ◌<◌, arith, ap, ap₂, sym, refl, length, List, [], ◌∷◌, ◌++◌, Option, Some, None, codes, true}
 use Rattle.std.specs.Prelude.{IfSome, fold, is_some, slice_index_or}
 use Rattle.std.specs.Borrow.{Bor}
 use Rattle.std.proofs.lemmas.List.{append_assoc, append-nil}
 use Rattle.clap.specs.Faults.{built_fault, check_fault, defaults_fault, entered_fault, settle_fault, turn_fault, walk_fault}
 use Rattle.clap.specs.Kinds.{Kinds, or_else}
 use Rattle.clap.specs.Simple.{App, Shape, built, entered, names_of}
-use Rattle.clap.specs.Walk.{Held, Names, Row, Rule, Text, Walk, finished, nothing_held, settled, texts, walk, walk_from, walked}
+use Rattle.clap.specs.Walk.{Names, Rule, Text, Walk, finished, nothing_held, settled, texts, walk, walk_from, walked}
 use Rattle.clap.specs.Words.{fault_of, is_simple, is_simple_and_free, subcommand_of}
 use Rattle.clap.specs.declared.builder.command.Command.{Command}
 use Rattle.pt_line.specs.CommandLine.{alone, name_of, ptab}

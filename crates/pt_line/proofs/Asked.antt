@@ -1,6 +1,7 @@
 -- What the command makes of its words.
 use Rattle.std.proofs.Common.{◌≡◌, ◌∙◌, ◌||◌, ◌⊎◌, inl, inr, ⊎_elim, Bool, true, false, refl, sym, ap, subst, arith, List, [], ◌∷◌, ◌++◌}
 use Rattle.std.proofs.Common.{Option, Some, None, Result, Ok, Err, true≢false, codes}
+use Rattle.std.proofs.lemmas.Result.{IfOk-weaker}
 use Rattle.std.specs.Prelude.{IsSome, IfSome, IfOk, MatchResult, unwrap_or}
 use Rattle.std.specs.Borrow.{Bor}
 use Rattle.std.specs.List.{list_any}
@@ -10,15 +11,18 @@ use Rattle.clap.specs.Kinds.{HasKind}
 use Rattle.clap.specs.Simple.{Shape, argument_words, built, filled, filled_from, help_rule}
 use Rattle.clap.specs.Takes.{is_given}
 use Rattle.clap.specs.Walk.{Row, Rule, Text, all_of, first_of, has_row, texts}
-use Rattle.clap.specs.Words.{FailsBy, IsAmong, fault_of, kind_of, subcommand_of, subcommand_rows_of}
+use Rattle.clap.specs.Words.{FailsBy, HasMatchesOf, IsAmong, Kinds, app_of, fault_of, is_simple_and_free, kind_of, subcommand_of}
+use Rattle.clap.specs.Words.{subcommand_rows_of}
+use Rattle.clap.specs.declared.builder.command.Command.{Command}
 use Rattle.clap.specs.declared.error.Error.{Error}
 use Rattle.clap.specs.declared.parser.matches.ArgMatches.{ArgMatches}
 use Rattle.clap.specs.declared.error.kind.ErrorKind.{ErrorKind}
 use Rattle.clap.specs.declared.error.kind.ErrorKind.TheVariants.{DisplayHelp, DisplayVersion, OutOfMemory}
 use Rattle.clap.proofs.WalkLemmas.{list_any-map}
-use Rattle.pt_line.specs.CommandLine.{image_rules, no_lock, other_rules, place_rules, plan_only, plan_rules, ptab, word_rules, writing}
-use Rattle.pt_line.specs.Lines.{IsJob, IsJobOrEmpty, IsLineOf, IsLineOrEmpty, IsSize, IsSizeOrLess, IsUnknown, HasNoJob, MeansAt, MeansJob}
-use Rattle.pt_line.specs.Lines.{Tells}
+use Rattle.pt_line.specs.CommandLine.{image_rules, no_lock, other_rules, place_rules, plan_only, plan_rules, ptab, show_rules, word_rules}
+use Rattle.pt_line.specs.CommandLine.{writing}
+use Rattle.pt_line.specs.Lines.{IsJob, IsJobOrEmpty, IsLineOf, IsLineOrEmpty, IsSize, IsSizeOrLess, IsUnknown, IsUsage, HasNoJob, MeansAt, MeansJob}
+use Rattle.pt_line.specs.Lines.{ReadsAs, Tells}
 use Rattle.pt_line.specs.declared.line.Job.{Job}
 use Rattle.pt_line.specs.declared.line.Job.TheVariants as job
 use Rattle.pt_line.specs.declared.line.Line.{Line}
@@ -70,10 +74,10 @@ module _ (rows : List Row) (full : Each (IsFull MayBe) rows) where
   texts_given id ts given e = all_texts (all_of id rows) ts e (has_text MayBe rows id full given).1
 
 module _ (sizes : Bor (List (Bor Text))) (rows : List Row) where
-  show_job : IsFair MayBe (built_rules (image_rules sizes)) rows → (j : Job) → IsJobOrEmpty (codes "show") rows j
+  show_job : IsFair MayBe (built_rules (show_rules sizes)) rows → (j : Job) → IsJobOrEmpty (codes "show") rows j
       → IsJob (codes "show") rows j
   show_job fair (job.Help t) h = absurd h
-  show_job fair (job.Show image) h = (h.0, text_given rows fair.full (codes "IMAGE") _ (fair.given.0 refl) h.1)
+  show_job fair (job.Show image after) h = (h.0, text_given rows fair.full (codes "IMAGE") _ (fair.given.0 refl) h.1, h.2)
   show_job fair _ h = absurd (true≢false (ap (bytes_eq (codes "show")) h.0))
 
   verify_job : IsFair MayBe (built_rules (image_rules sizes)) rows → (j : Job) → IsJobOrEmpty (codes "verify") rows j
@@ -179,6 +183,12 @@ module _ (sizes : Bor (List (Bor Text))) (are : texts sizes.now ≡ codes "512" 
   image_sound =
       (((omega arith, λ v e is. absurd (true≢false (sym is))), tt), (((omega arith, one_of_two), ((λ is. inl refl), tt)), ((tt, tt), tt)))
 
+  show_sound : Each (IsSound MayBe) (built_rules (show_rules sizes))
+  show_sound = (
+    ((omega arith, λ v e is. absurd (true≢false (sym is))), tt),
+    (((omega arith, λ v e is. absurd (true≢false (sym is))), tt), (((omega arith, one_of_two), ((λ is. inl refl), tt)), ((tt, tt), tt))),
+  )
+
   place_sound : Each (IsSound MayBe) (built_rules (place_rules sizes))
   place_sound = (
     ((omega arith, λ v e is. absurd (true≢false (sym is))), tt),
@@ -235,11 +245,11 @@ module _ (sizes : Bor (List (Bor Text))) (are : texts sizes.now ≡ codes "512" 
         reads = λ rows fair line j z. (
           show_job sizes rows fair line.job j,
           sized rows fair.full
-              (fair.present.1.0 (omega arith)) line.size z,
+              (fair.present.1.1.0 (omega arith)) line.size z,
         );
         known = λ u. u.0 refl;
       },
-      image_sound,
+      show_sound,
       refl,
     ),
     (
@@ -373,14 +383,17 @@ module _ (sizes : Bor (List (Bor Text))) (are : texts sizes.now ≡ codes "512" 
     )
     by_error e (Err NotText) kind tells = absurd tells
     by_error e (Err Memory) kind tells = tt
-    by_error e (Err (Usage text)) (inl memory) tells = absurd (tells.2 memory)
-    by_error e (Err (Usage text)) (inr among) tells = (kind_of e, among, tells.0, tells.1, tells.2)
+    by_error e (Err (Usage told)) (inl memory) tells = absurd (tells.1.2 memory)
+    by_error e (Err (Usage told)) (inr among) tells =
+        subst (λ (k : ErrorKind). IsUsage (fault_of (ptab sizes) words) k) (sym tells.0) (among, tells.1)
+
+    met : fault_of (ptab sizes) words ≡ [] → HasEntered MayBe IsRead (subcommand_of (ptab sizes) words)
+    met none =
+        taken MayBe IsRead (built (ptab sizes)) (argument_words (ptab sizes) words) ((tt, tt), ((tt, tt), tt)) each_good refl refl none
 
     by_matches : (result : Result Line LineError) → fault_of (ptab sizes) words ≡ []
         → MeansJob (subcommand_of (ptab sizes) words) result → MeansAt (ptab sizes) words result
-    by_matches result none means =
-        go result (taken MayBe IsRead (built (ptab sizes)) (argument_words (ptab sizes) words)
-        ((tt, tt), ((tt, tt), tt)) each_good refl refl none) means
+    by_matches result none means = go result (met none) means
       where
         go : (r : Result Line LineError) → HasEntered MayBe IsRead (subcommand_of (ptab sizes) words)
             → MeansJob (subcommand_of (ptab sizes) words) r
@@ -390,9 +403,15 @@ module _ (sizes : Bor (List (Bor Text))) (are : texts sizes.now ≡ codes "512" 
             inr (none, subst (λ (o : Option (Text × List Row)). IsLineOf o line) (sym met.is) (met.of.reads met.rows met.fair line h.0 h.1))
         go (Err NotText) met m = absurd (subst (λ (o : Option (Text × List Row)). MeansJob o (Err NotText)) met.is m)
         go (Err Memory) met m = tt
-        go (Err (Usage text)) met m =
-            let u = subst HasNoJob met.is m in
-            absurd (met.of.known u)
+        go (Err (Usage told)) met m = absurd (subst (λ (o : Option (Text × List Row)). MeansJob o (Err (Usage told))) met.is m)
+
+    -- words without fault name a subcommand
+    pub has_job : (found : Result ArgMatches Error) → FailsBy (fault_of (ptab sizes) words) found
+        → IfOk found (λ m. subcommand_rows_of m ≡ subcommand_of (ptab sizes) words) → IfOk found (λ m. ¬ HasNoJob (subcommand_rows_of m))
+    has_job (Err e) fails is = tt
+    has_job (Ok m) fails is = λ none.
+        let entered = met fails in
+        entered.of.known (subst HasNoJob (is ∙ entered.is) none)
 
     -- what `clap` gave at the command, and what that comes to
     pub by_result : (found : Result ArgMatches Error) (result : Result Line LineError) → FailsBy (fault_of (ptab sizes) words) found
@@ -402,3 +421,14 @@ module _ (sizes : Bor (List (Bor Text))) (are : texts sizes.now ≡ codes "512" 
     by_result (Ok m) result fails met means =
         by_matches result fails (subst (λ (o : Option (Text × List Row)). MeansJob o result) met means)
     by_result (Err e) result fails met means = by_error e result fails means
+
+-- what `clap` finds, where it reads other words of the same texts by a command that takes them alike
+pub found_by : (sizes : Bor (List (Bor Text))) (words : List Text) (command : Command) → ReadsAs (ptab sizes) words command
+    → (given : List Text) → given ≡ words → (found : Result ArgMatches Error)
+    → (is_simple_and_free (app_of command) ≡ true → FailsBy (fault_of (app_of command) given) found)
+    → IfOk found (HasMatchesOf (app_of command) given)
+    → FailsBy (fault_of (ptab sizes) words) found × IfOk found (λ m. subcommand_rows_of m ≡ subcommand_of (ptab sizes) words)
+found_by sizes words command reads given same found fails matches = (
+  subst (λ (kinds : Kinds). FailsBy kinds found) (ap (fault_of (app_of command)) same ∙ reads.faults) (fails reads.free),
+  IfOk-weaker found _ _ (λ m is. (is reads.simple).1 ∙ ap (subcommand_of (app_of command)) same ∙ reads.entered) matches,
+)

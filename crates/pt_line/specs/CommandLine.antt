@@ -31,6 +31,14 @@ fresh = record (new_rule (codes "fresh")) {
   action = Some Set;
 }
 
+-- `--after PLANFILE`
+abbrev pub after : Rule
+after = record (new_rule (codes "after")) {
+  long = Some (codes "after");
+  value_names = 1;
+  action = Some Set;
+}
+
 -- `--no-lock`, a flag
 abbrev pub no_lock : Rule
 no_lock = record (new_rule (codes "no-lock")) { long = Some (codes "no-lock"); action = Some SetTrue }
@@ -47,9 +55,12 @@ edit_words = record (new_rule (codes "WORD")) {
   action = Some Append;
 }
 
--- the arguments of a command on an image alone, on a place in it, on words, and on a plan's file
+-- the arguments of a command on an image alone, on an image after a plan or not, on a place in it, on words, and on a plan's file
 abbrev pub image_rules : Bor (List (Bor Text)) → List Rule
 image_rules sizes = needed (codes "IMAGE") ∷ sector_size sizes ∷ []
+
+abbrev pub show_rules : Bor (List (Bor Text)) → List Rule
+show_rules sizes = needed (codes "IMAGE") ∷ after ∷ sector_size sizes ∷ []
 
 abbrev pub place_rules : Bor (List (Bor Text)) → List Rule
 place_rules sizes = needed (codes "IMAGE") ∷ needed (codes "PATH") ∷ needed (codes "K") ∷ sector_size sizes ∷ []
@@ -83,7 +94,7 @@ name_of Repair = codes "repair"
 name_of Adopt = codes "adopt"
 
 abbrev pub rules_of : Bor (List (Bor Text)) → Subcommand → List Rule
-rules_of sizes Show = image_rules sizes
+rules_of sizes Show = show_rules sizes
 rules_of sizes Verify = image_rules sizes
 rules_of sizes Locate = place_rules sizes
 rules_of sizes Edit = writing (word_rules sizes)
@@ -112,7 +123,7 @@ alone sizes s = record { top = record top.top { is_leaf = false }; subs = (page_
 abbrev pub ptab : Bor (List (Bor Text)) → App
 ptab sizes = record {
   top = record top.top { is_leaf = false };
-  subs = subcommand (codes "show") (image_rules sizes)
+  subs = subcommand (codes "show") (show_rules sizes)
       ∷ subcommand (codes "verify") (image_rules sizes)
       ∷ subcommand (codes "locate") (place_rules sizes)
       ∷ subcommand (codes "edit") (writing (word_rules sizes))

@@ -4,7 +4,7 @@ use Rattle.std.specs.Prelude.{codes, unwrap_or, option_map}
 use Rattle.std.specs.Borrow.{Bor}
 use Rattle.std.specs.declared.alloc.Global.{Global}
 use Rattle.clap.specs.Walk.{texts}
-use Rattle.clap.specs.Words.{App, IsAmong, Kinds, Row, Rule, Text, all_of, app_of, fault_of, first_of, rule_of}
+use Rattle.clap.specs.Words.{App, IsAmong, Kinds, Row, Rule, Text, all_of, app_of, fault_of, first_of, kind_of, rule_of}
 use Rattle.clap.specs.Words.{is_simple, is_simple_and_free, subcommand_of, with_rule, with_subcommand}
 use Rattle.clap.specs.declared.builder.arg.Arg.{Arg}
 use Rattle.clap.specs.declared.builder.command.Command.{Command}
@@ -78,7 +78,8 @@ IsAdoption rows Written = ¬ IsGiven rows (codes "plan")
 -- the job of the subcommand with this name: `one` says what text an argument gives, and `all` what texts
 abbrev pub IsJobBy : (Text → Text → Type 0) → (Text → List Text → Type 0) → Text → List Row → Job → Type 0
 IsJobBy one all name rows (job.Help text) = ⊥
-IsJobBy one all name rows (job.Show image) = (name ≡ codes "show") × one (codes "IMAGE") (string_bytes image)
+IsJobBy one all name rows (job.Show image after) = (name ≡ codes "show") × one (codes "IMAGE") (string_bytes image)
+    × (option_map string_bytes after ≡ first_of (codes "after") rows)
 IsJobBy one all name rows (job.Verify image) = (name ≡ codes "verify") × one (codes "IMAGE") (string_bytes image)
 IsJobBy one all name rows (job.Locate image path place) = (name ≡ codes "locate") × one (codes "IMAGE") (string_bytes image)
     × one (codes "PATH") (string_bytes path) × one (codes "K") (string_bytes place)
@@ -142,7 +143,7 @@ abbrev pub IfJob : Text → List Row → Result Job LineError → Type 0
 IfJob name rows (Ok job) = IsJobOrEmpty name rows job
 IfJob name rows (Err NotText) = ⊥
 IfJob name rows (Err Memory) = Unit {0}
-IfJob name rows (Err (Usage text)) = IsUnknown name
+IfJob name rows (Err (Usage e)) = ⊥
 
 abbrev pub HasNoJob : Option (Text × List Row) → Type 0
 HasNoJob None = Unit {0}
@@ -156,7 +157,7 @@ abbrev pub MeansJob : Option (Text × List Row) → Result Line LineError → Ty
 MeansJob met (Ok line) = IsLineOrEmpty met line
 MeansJob met (Err NotText) = ⊥
 MeansJob met (Err Memory) = Unit {0}
-MeansJob met (Err (Usage text)) = HasNoJob met
+MeansJob met (Err (Usage e)) = ⊥
 
 -- ---- what is told of `clap`'s error
 
@@ -164,26 +165,31 @@ abbrev pub IsHelp : Job → Type 0
 IsHelp (job.Help text) = Unit {0}
 IsHelp _ = ⊥
 
+-- no call for help or for the version, nor want of memory
+abbrev pub IsMistake : ErrorKind → Type 0
+IsMistake k = (k ≢ DisplayHelp) × (k ≢ DisplayVersion) × (k ≢ OutOfMemory)
+
+-- want of memory is told where `clap` says so, or where a help text couldn't be copied
 abbrev pub Tells : ErrorKind → Result Line LineError → Type 0
 Tells k (Ok line) = ((k ≡ DisplayHelp) ⊎ (k ≡ DisplayVersion)) × IsHelp line.job
 Tells k (Err NotText) = ⊥
-Tells k (Err Memory) = Unit {0}
-Tells k (Err (Usage text)) = (k ≢ DisplayHelp) × (k ≢ DisplayVersion) × (k ≢ OutOfMemory)
+Tells k (Err Memory) = (k ≡ OutOfMemory) ⊎ (k ≡ DisplayHelp) ⊎ (k ≡ DisplayVersion)
+Tells k (Err (Usage e)) = (kind_of e ≡ k) × IsMistake k
 
 -- ---- the answer
 
--- the words are refused, by a kind of error that is no call for help or for the version
-abbrev pub IsUsage : Kinds → Type 0
-IsUsage kinds = (k : ErrorKind) × IsAmong k kinds × (k ≢ DisplayHelp) × (k ≢ DisplayVersion) × (k ≢ OutOfMemory)
+-- the words are refused, by an error of this kind, which is no call for help or for the version
+abbrev pub IsUsage : Kinds → ErrorKind → Type 0
+IsUsage kinds k = IsAmong k kinds × IsMistake k
 
 -- at a command, these being all the words. A call for help, or for the version, gives its text; words without fault give the job of their
--- subcommand, by the values of its arguments; `Usage` comes only for words with a fault. Memory may always be wanted. Words are texts
+-- subcommand, by the values of its arguments; `Usage` comes only for words with a fault, and has an error of its kind. Memory may always be wanted. Words are texts
 abbrev pub MeansAt : App → List Text → Result Line LineError → Type 0
 MeansAt app words (Ok line) = (IsHelp line.job × (IsAmong DisplayHelp (fault_of app words) ⊎ IsAmong DisplayVersion (fault_of app words)))
     ⊎ ((fault_of app words ≡ []) × IsLineOf (subcommand_of app words) line)
 MeansAt app words (Err NotText) = ⊥
 MeansAt app words (Err Memory) = Unit {0}
-MeansAt app words (Err (Usage text)) = IsUsage (fault_of app words)
+MeansAt app words (Err (Usage e)) = IsUsage (fault_of app words) (kind_of e)
 
 -- the command is that with the two sizes, and its words are the program's name and these. Where the texts of the sizes lie
 -- in memory is left open, and means nothing to the command

@@ -18,10 +18,11 @@ The first line is `gpt SECTORS FIRST LAST DISKGUID` (the usable sectors) or
   GPT    NUM FIRST LAST TYPE ATTRIBUTES UNIQUE [NAME]
   MBR    NUM FIRST LAST TYPE BOOT
   label  NUM.LETTER FIRST LAST FSTYPE
-Every sector is the disk's own number.
+Every sector is the disk's own number. With --after they are those that the plan
+leaves; or `no ..`, as `ptab check` says it.
 
-Exit status: 0 shown, 2 usage, 4 no table (standard error says why), 5 the image
-can't be read, 6 no memory.";
+Exit status: 0 shown, 1 no, 2 usage, 3 not a plan, 4 no table (standard error
+says why), 5 the image or the plan can't be read, 6 no memory.";
 
 pub const VERIFY: &str = "\
 Findings, the first that holds; E is a copy's fault, P and Q are partitions:

@@ -3,7 +3,7 @@
 ghost use Rattle.std.specs.Prelude.{◌≡◌, ◌↔◌, IfOk, IsTrue, codes, map, string_bytes};
 ghost use Rattle.clap.specs.Walk.{texts as slice_texts};
 ghost use Rattle.clap.specs.Words.{found_of, rows_of, subcommand_rows_of};
-ghost use Rattle.pt_line.specs.Lines.{GivesIf, IfJob, IsAdoption, IsGiven, IsLockedBy, IsSizeNamed, IsSizeOrLess, MeansJob};
+ghost use Rattle.pt_line.specs.Lines.{GivesIf, HasNoJob, IfJob, IsAdoption, IsGiven, IsLockedBy, IsSizeNamed, IsSizeOrLess, IsUnknown, MeansJob};
 ghost use Rattle.pt_line.specs.Lines.{text_in, texts_in};
 
 use crate::line::{Adoption, Job, Line, LineError, LockedBy, SectorSize};
@@ -38,10 +38,11 @@ fn texts_of(alloc: Global, matches: &ArgMatches<'_>, id: &str) -> Result<Vec<Str
     }
 }
 
-fn fresh_of(alloc: Global, matches: &ArgMatches<'_>) -> Result<Option<String>, AllocError>
-    ensures { IfOk result (GivesIf (rows_of (found_of matches.now)) (codes "fresh")) }
+/// The value of an option, where it is given.
+fn value_of(alloc: Global, matches: &ArgMatches<'_>, id: &str) -> Result<Option<String>, AllocError>
+    ensures { IfOk result (GivesIf (rows_of (found_of matches.now)) id.now) }
 {
-    match matches.get_str("fresh") {
+    match matches.get_str(id) {
         Some(text) => Ok(Some(String::from_str(alloc, text)?)),
         None => Ok(None),
     }
@@ -102,7 +103,8 @@ fn edit_of(
     ensures { IfOk result (λ p. GivesIf (rows_of (found_of matches.now)) (codes "fresh") p.0
         × (map string_bytes p.1.items ≡ texts_in (rows_of (found_of matches.now)) (codes "WORD"))) }
 {
-    Ok((fresh_of(alloc, matches)?, texts_of(alloc, matches, "WORD")?))
+    let fresh = value_of(alloc, matches, "fresh")?;
+    Ok((fresh, texts_of(alloc, matches, "WORD")?))
 }
 
 fn place_job(alloc: Global, inner: &ArgMatches<'_>, image: String) -> Result<Job, LineError>
@@ -129,11 +131,15 @@ fn adopt_job(alloc: Global, inner: &ArgMatches<'_>, image: String) -> Result<Job
 }
 
 fn job_of(alloc: Global, name: &str, inner: &ArgMatches<'_>) -> Result<Job, LineError>
+    requires { ¬ IsUnknown name.now }
     ensures { IfJob name.now (rows_of (found_of inner.now)) result }
 {
     let image = text_of(alloc, inner, "IMAGE")?;
     match name {
-        "show" => Ok(Job::Show { image }),
+        "show" => Ok(Job::Show {
+            image,
+            after: value_of(alloc, inner, "after")?,
+        }),
         "verify" => Ok(Job::Verify { image }),
         "locate" => place_job(alloc, inner, image),
         "edit" => {
@@ -167,11 +173,12 @@ fn job_of(alloc: Global, name: &str, inner: &ArgMatches<'_>) -> Result<Job, Line
             locked_by: locked_by(inner),
         }),
         "adopt" => adopt_job(alloc, inner, image),
-        _ => Err(LineError::Usage(String::new(alloc))),
+        _ => unreachable!(),
     }
 }
 
 pub(crate) fn line_of(alloc: Global, matches: &ArgMatches<'_>) -> Result<Line, LineError>
+    requires { ¬ HasNoJob (subcommand_rows_of matches.now) }
     ensures { MeansJob (subcommand_rows_of matches.now) result }
 {
     match matches.subcommand() {
@@ -179,6 +186,6 @@ pub(crate) fn line_of(alloc: Global, matches: &ArgMatches<'_>) -> Result<Line, L
             job: job_of(alloc, name, inner)?,
             size: size_of(inner),
         }),
-        None => Err(LineError::Usage(String::new(alloc))),
+        None => unreachable!(),
     }
 }

@@ -4,7 +4,7 @@ ghost use Rattle.std.specs.Prelude.{◌≡◌, ◌∷◌, IfOk, MatchResult, cod
 ghost use Rattle.clap.specs.Walk.{texts as slice_texts};
 ghost use Rattle.clap.specs.Words.{kind_of, subcommand_rows_of};
 ghost use Rattle.pt_line.specs.declared.line.LineError.TheVariants.{Memory};
-ghost use Rattle.pt_line.specs.Lines.{Means, MeansJob, Tells};
+ghost use Rattle.pt_line.specs.Lines.{HasNoJob, Means, MeansJob, Tells};
 
 use crate::jobs::line_of;
 use crate::pages::{SIZES, command};
@@ -52,6 +52,8 @@ pub enum Job {
     Help(String),
     Show {
         image: String,
+        /// The file of a plan, as it would leave the image.
+        after: Option<String>,
     },
     Verify {
         image: String,
@@ -99,9 +101,9 @@ pub enum LineError {
     /// A word isn't UTF-8.
     #[error("an argument isn't UTF-8")]
     NotText,
-    /// The words are not those of a command; the text is `clap`'s.
+    /// The words are not those of a command, as `clap` says.
     #[error("{0}")]
-    Usage(String),
+    Usage(clap::Error),
     #[error("memory")]
     Memory,
 }
@@ -114,8 +116,8 @@ impl From<AllocError> for LineError {
     }
 }
 
-fn failed(alloc: Global, error: &clap::Error) -> Result<Line, LineError>
-    ensures { Tells (kind_of error.now) result }
+fn failed(alloc: Global, error: clap::Error) -> Result<Line, LineError>
+    ensures { Tells (kind_of error) result }
 {
     match error.kind() {
         ErrorKind::OutOfMemory => Err(LineError::Memory),
@@ -123,18 +125,19 @@ fn failed(alloc: Global, error: &clap::Error) -> Result<Line, LineError>
             job: Job::Help(format!(in alloc; "{error}")?),
             size: SectorSize::Bytes512,
         }),
-        _ => Err(LineError::Usage(format!(in alloc; "{error}")?)),
+        _ => Err(LineError::Usage(error)),
     }
 }
 
 /// The line that `clap`'s matches or its error come to.
 // So `read_line` matches nothing while it owns its words.
 fn answer(alloc: Global, found: Result<ArgMatches<'_>, clap::Error>) -> Result<Line, LineError>
+    requires { IfOk found (λ m. ¬ HasNoJob (subcommand_rows_of m)) }
     ensures { MatchResult found.entry (λ m. MeansJob (subcommand_rows_of m) result) (λ e. Tells (kind_of e) result) }
 {
     match found {
         Ok(matches) => line_of(alloc, &matches),
-        Err(error) => failed(alloc, &error),
+        Err(error) => failed(alloc, error),
     }
 }
 
@@ -150,7 +153,7 @@ fn with_name<'a>(alloc: Global, words: &[&'a str]) -> Result<Vec<&'a str>, Alloc
 /// Reads the words after the program's name, as `clap` means them at the command.
 ///
 /// A job is that of the subcommand which the words name, and its texts are the values of its arguments. A call for help,
-/// or for the version, gives `Help`. `Usage` has `clap`'s text for words that are no command, and comes for no others; `Memory` is want of
+/// or for the version, gives `Help`. `Usage` has `clap`'s error for words that are no command, and comes for no others; `Memory` is want of
 /// memory. `NotText` never comes, since these words are texts: [`take_words`](crate::take_words) answers it.
 pub fn read_line(alloc: Global, words: &[&str]) -> Result<Line, LineError>
     ensures means { Means (slice_texts words.now) result }

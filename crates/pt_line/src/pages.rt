@@ -104,6 +104,13 @@ fn fresh<'a>(alloc: Global) -> Arg<'a>
     option(alloc, "fresh", "HEX", help)
 }
 
+fn after<'a>(alloc: Global) -> Arg<'a>
+    ensures { IsArg spec.after result }
+{
+    let help = "A plan, as if it were applied";
+    option(alloc, "after", "PLANFILE", help)
+}
+
 fn no_lock<'a>(alloc: Global) -> Arg<'a>
     ensures { IsArg spec.no_lock result }
 {
@@ -210,6 +217,20 @@ fn on_image<'a>(
     with_arg(page, sector_size(alloc, sizes))
 }
 
+fn on_show<'a>(
+    alloc: Global,
+    sizes: &'a [&'a str],
+    name: &'a str,
+    about: &'a str,
+    after_help: &'a str,
+) -> Result<Command<'a>, AllocError>
+    ensures { IfOk result (IsCommand (spec.page name.entry.now (spec.show_rules sizes.entry))) }
+{
+    let page = image_page(alloc, name, about, after_help);
+    let page = with_arg(page, after(alloc));
+    with_arg(page, sector_size(alloc, sizes))
+}
+
 fn on_place<'a>(
     alloc: Global,
     sizes: &'a [&'a str],
@@ -304,7 +325,7 @@ fn page_of<'a>(
     ensures { IfOk result (IsCommand (spec.page_of sizes.entry subcommand)) }
 {
     match subcommand {
-        Subcommand::Show => on_image(alloc, sizes, "show", SHOW_ABOUT, SHOW),
+        Subcommand::Show => on_show(alloc, sizes, "show", SHOW_ABOUT, SHOW),
         Subcommand::Verify => on_image(alloc, sizes, "verify", VERIFY_ABOUT, VERIFY),
         Subcommand::Locate => on_place(alloc, sizes, "locate", LOCATE_ABOUT, LOCATE),
         Subcommand::Edit => writing(alloc, on_words(alloc, sizes, "edit", EDIT_ABOUT, EDIT)),

@@ -186,6 +186,6 @@ unused_at b y t k l is same lt none =
     ∙ ap (option_map (entry_member b (1 + k))) (subst (λ (es : List (Option Entry)). get_or es k None ≡ None) same none))
 
 -- no logical partition comes before the first place
-pub number_first : (y : Body) → number_at y 0 ≡ 5
-number_first (Mbr rs chain) = refl
-number_first (Gpt t) = refl
+pub from_five : (y : Body) → number_at y 0 ≡ 5
+from_five (Mbr rs chain) = refl
+from_five (Gpt t) = refl

@@ -33,7 +33,8 @@ pub listed : (P : ℕ → Type 0) (xs ys : List ℕ) → Gains P [] xs → IsPer
 listed P xs ys gains moved up = (
   up,
   λ s. (
-    (λ at. ⊎_elim (λ none. absurd (omega (arith, none.1))) (λ p. p) ((gains s).0 (Contains-permutation ys xs s (IsPermutation-sym xs ys moved) at))),
+    (λ at. ⊎_elim (λ none. absurd (omega (arith, none.1))) (λ p. p)
+        ((gains s).0 (Contains-permutation ys xs s (IsPermutation-sym xs ys moved) at))),
     (λ p. Contains-permutation xs ys s moved ((gains s).1 (inr p))),
   ),
 )

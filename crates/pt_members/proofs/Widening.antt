@@ -40,7 +40,8 @@ near_slice o m s slice (x, near, leaf) = ⊎_elim
     (λ part. (part.1.0, part.1.1, (x, part.1.2, leaf))) near
 
 near_other : (o : Layout) (m : Member) (s : ℕ) → ¬ (m.kind ≡ Slice) → HasLeafNear o m s → IsLeafWith m s
-near_other o m s other (x, near, leaf) = ⊎_elim (λ same. subst (λ (y : Member). IsLeafWith y s) same leaf) (λ part. absurd (other part.0)) near
+near_other o m s other (x, near, leaf) =
+    ⊎_elim (λ same. subst (λ (y : Member). IsLeafWith y s) same leaf) (λ part. absurd (other part.0)) near
 
 pub widens_slice : (o : Layout) (m : Member) (old new : Reach) → m.kind ≡ Slice → Widens (HasLeaf (parts o m)) old new
     → Widens (HasLeafNear o m) old new

@@ -158,7 +158,7 @@ fn with_place<const B: usize>(reach: Reach, layout: &Layout, k: usize, number: u
     }
 }
 
-#[tactic(auto, using(crate::proofs::ByPlace::number_first))]
+#[tactic(auto, using(crate::proofs::ByPlace::from_five))]
 fn reach_of_places<const B: usize>(layout: &Layout) -> Reach
     ensures { (s : ℕ) → Owns B layout.now s → IsWithin result s }
 {

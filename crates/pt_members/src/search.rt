@@ -163,7 +163,7 @@ fn candidate<const B: usize>(
 }
 
 /// A member that is as wanted, the first in path order.
-#[tactic(auto, using(crate::proofs::ByPlace::number_first))]
+#[tactic(auto, using(crate::proofs::ByPlace::from_five))]
 pub(crate) fn find<const B: usize>(layout: &Layout, wanted: &Wanted) -> Option<Member>
     ensures { Found B layout.now wanted.now result }
 {

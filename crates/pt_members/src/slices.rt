@@ -76,7 +76,7 @@ fn push_place(places: &mut Vec<Slice>, place: Option<Slice>) -> Result<(), Alloc
 }
 
 /// The slices that have a label place on a disk of so many sectors, in order of their numbers.
-#[tactic(auto, using(crate::proofs::LabelPlaces::placed_more, crate::proofs::LabelPlaces::placed_end, crate::proofs::ByPlace::number_first))]
+#[tactic(auto, using(crate::proofs::LabelPlaces::placed_more, crate::proofs::LabelPlaces::placed_end, crate::proofs::ByPlace::from_five))]
 pub fn label_places<const B: usize>(
     alloc: Global,
     sectors: u64,

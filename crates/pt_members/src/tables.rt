@@ -88,7 +88,7 @@ fn place_from<const B: usize>(
     not_below(slice.first + 1, from)
 }
 
-#[tactic(auto, using(crate::proofs::ByPlace::number_first))]
+#[tactic(auto, using(crate::proofs::ByPlace::from_five))]
 fn next_label<const B: usize>(sectors: u64, body: &Body, from: u64) -> Option<u64>
     ensures { NextSectorIs (IsPlace (places_of B sectors body.now)) from result }
 {

@@ -65,6 +65,10 @@ rows_at o (Some r) = r ∷ rows_below r.member.kind o r.member
 abbrev pub rows_of : ℕ → Layout → List Row
 rows_of b o = flat_map (rows_at o) (rows b o.body)
 
+-- the partition of a row
+abbrev pub member_of : Row → Member
+member_of r = r.member
+
 -- the table: its kind and the number of sectors, of a GPT its usable sectors and its GUID
 abbrev pub table_fields : ℕ → Body → List (List ℕ)
 table_fields n (Mbr records chain) = codes "mbr" ∷ decimal n ∷ []

@@ -2,6 +2,7 @@
 #![tactic(auto)]
 
 mod finding;
+pub mod laws;
 mod layout;
 mod name;
 mod no_table;

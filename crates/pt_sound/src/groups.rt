@@ -238,7 +238,7 @@ fn held_at<const B: usize>(
 }
 
 // All groups, in path order of what holds them, the top level first.
-#[tactic(auto, using(crate::proofs::Extended::groups_end, pt_members::proofs::ByPlace::number_first))]
+#[tactic(auto, using(crate::proofs::Extended::groups_end, pt_members::proofs::ByPlace::from_five))]
 pub(crate) fn groups<const B: usize>(
     alloc: Global,
     layout: &Layout,

@@ -7,7 +7,7 @@ use crate::edits::{edit, plan};
 use crate::plans::{apply, check};
 use crate::repair::repair;
 use crate::texts::{Failure, Status};
-use crate::views::{locate_in, show, verify_image};
+use crate::views::{locate_in, show, show_after, verify_image};
 use crate::words::Wanted;
 use pt_line::{Job, Line, SectorSize, read_line};
 use pt_report::Reply;
@@ -23,7 +23,11 @@ fn reply_to<const B: usize, R: Files<File = File> + AllocGlobal>(
 {
     match job {
         Job::Help(text) => Ok(Reply::Text(text)),
-        Job::Show { image } => show::<B, R>(rt, image.as_str()),
+        Job::Show { image, after: None } => show::<B, R>(rt, image.as_str()),
+        Job::Show {
+            image,
+            after: Some(file),
+        } => show_after::<B, R>(rt, image.as_str(), file.as_str()),
         Job::Verify { image } => verify_image::<B, R>(rt, image.as_str()),
         Job::Locate { image, path, place } => {
             locate_in::<B, R>(rt, image.as_str(), path.as_str(), place.as_str())

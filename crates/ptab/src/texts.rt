@@ -48,8 +48,8 @@ impl Status {
 pub enum Failure {
     /// An argument isn't UTF-8.
     NotText,
-    /// `clap`'s text.
-    Usage(String),
+    /// The words are not those of a command, as `clap` says.
+    Usage(clap::Error),
     BadWord(String),
     BadFresh,
     BadPath,
@@ -124,7 +124,7 @@ impl Failure {
     fn print<E: Write>(&self, err: &mut E) -> io::Result<()> {
         match self {
             Failure::NotText => err.write_all(NOT_TEXT),
-            Failure::Usage(text) => err.write_all(text.as_bytes()),
+            Failure::Usage(error) => write!(err, "{error}"),
             Failure::BadWord(word) => writeln!(err, "bad word {word}"),
             Failure::BadFresh => err.write_all(b"bad fresh\n"),
             Failure::BadPath => err.write_all(b"bad path\n"),
@@ -170,7 +170,7 @@ impl From<LineError> for Failure {
     fn from(error: LineError) -> Failure {
         match error {
             LineError::NotText => Failure::NotText,
-            LineError::Usage(text) => Failure::Usage(text),
+            LineError::Usage(error) => Failure::Usage(error),
             LineError::Memory => Failure::Memory,
         }
     }

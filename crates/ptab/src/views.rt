@@ -2,12 +2,16 @@
 
 ghost use Rattle.pt_sector.specs.Sectors.{IsSectorSize};
 
+use crate::plan_file::read_plan_file;
 use crate::texts::Failure;
+use pt_check::Answer;
 use pt_file::{Access, FileDisk};
 use pt_layout::{Path, locate, parse_number, parse_path, recover, verify};
+use pt_plan::{After, layout_after};
 use pt_report::Reply;
 use std::fs::{File, Files};
 
+/// The image's partitions.
 pub fn show<const B: usize, R: Files<File = File> + AllocGlobal>(
     rt: &R,
     image: &str,
@@ -19,6 +23,23 @@ pub fn show<const B: usize, R: Files<File = File> + AllocGlobal>(
     Ok(Reply::Layout(layout))
 }
 
+/// The partitions that the image would have after a plan, or the checker's no. The plan's file is read before the image is opened.
+pub fn show_after<const B: usize, R: Files<File = File> + AllocGlobal>(
+    rt: &R,
+    image: &str,
+    file: &str,
+) -> Result<Reply, Failure>
+    requires { IsSectorSize B }
+{
+    let plan = read_plan_file::<B, R>(rt, file)?;
+    let mut disk = FileDisk::<B>::open(rt, image, Access::Read)?;
+    match layout_after::<B, _>(rt.alloc(), &mut disk, &plan)? {
+        After::Layout(layout) => Ok(Reply::Layout(layout)),
+        After::No(why) => Ok(Reply::Checked(Answer::No(why))),
+    }
+}
+
+/// The first finding on the image.
 pub fn verify_image<const B: usize, R: Files<File = File> + AllocGlobal>(
     rt: &R,
     image: &str,

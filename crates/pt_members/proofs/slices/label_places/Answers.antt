@@ -29,4 +29,5 @@ next_number-number-requires g c = record {
 }
 
 pub returns : goal.returns
-returns g c = c.loop-k.invariant.places ∙ placed_end g.row.B c.args.sectors c.loop-k.k c.args.body.now (omega (arith, c.slot_count-k-end.ensures))
+returns g c =
+    c.loop-k.invariant.places ∙ placed_end g.row.B c.args.sectors c.loop-k.k c.args.body.now (omega (arith, c.slot_count-k-end.ensures))

@@ -1,5 +1,5 @@
 use Rattle.std.proofs.Common.{◌∙◌, sym, arith}
-use Rattle.pt_members.proofs.ByPlace.{number_first}
+use Rattle.pt_members.proofs.ByPlace.{from_five}
 use Rattle.pt_members.specs.Members.{slots}
 use Rattle.pt_sound.proofs.Presence.{from_start, from_more, slots_end}
 use Rattle.pt_sound.proofs.groups.members_from.Goals as goal
@@ -14,7 +14,7 @@ loop-k-preserved g c = record {
 pub loop-k-init : goal.loop-k-init
 loop-k-init g c = record {
   members = c.new-members.ensures.items ∙ sym (from_start (slots g.row.B c.args.body.now) c.args.from);
-  number = sym (number_first c.args.body.now);
+  number = sym (from_five c.args.body.now);
 }
 
 pub returns : goal.returns

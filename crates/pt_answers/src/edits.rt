@@ -1,0 +1,55 @@
+//! `edit` and `plan`.
+
+ghost use Rattle.std.specs.Prelude.{◌≡◌, IfErr};
+ghost use Rattle.pt_sector.specs.Calls.{Blames};
+ghost use Rattle.pt_sector.specs.Reads.{OnlyReads};
+ghost use Rattle.pt_sector.specs.Sectors.{IsSectorSize};
+ghost use Rattle.pt_plan.specs.Batches.{Commits, IsPlanned, IsRefusal};
+ghost use Rattle.pt_plan.specs.Failed.{commit_fault_in as fault_in, HidesNoFailure};
+ghost use Rattle.pt_answers.specs.Answers.{Answers, Plans, edit_reply};
+ghost use Rattle.pt_answers.specs.Failures.{commit_failure};
+
+use crate::failure::Failure;
+use pt_apply::plan_text;
+use pt_edit::Edit;
+use pt_guid::Guid;
+use pt_plan::{commit, plan_for};
+use pt_report::Reply;
+use pt_sector::Disk;
+use std::alloc::Global;
+
+/// Edits a disk by words, as one commit: done only where they are committed.
+pub fn edit_disk<const B: usize, D: Disk<B>>(
+    alloc: Global,
+    disk: &mut D,
+    edits: &[Edit],
+    guids: &[Guid],
+) -> Result<Reply, Failure>
+    requires size { IsSectorSize B }
+    ensures count { D.count disk.new ≡ D.count disk.old }
+    ensures name { D.name disk.new ≡ D.name disk.old }
+    ensures edits { Answers edit_reply (λ r. Blames fault_in r (D.faults disk.old) (D.faults disk.new) × IfErr r HidesNoFailure
+        × (D.tells → Commits B (D.count disk.old) (record { edits = edits.now; guids = guids.now }) r (D.told disk.old) (D.told disk.new)))
+        result }
+{
+    commit::<B, D>(alloc, disk, edits, guids)?;
+    Ok(Reply::Done)
+}
+
+/// The plan of what `edit_disk` would do, as text.
+pub fn plan_on<const B: usize, D: Disk<B>>(
+    alloc: Global,
+    disk: &mut D,
+    edits: &[Edit],
+    guids: &[Guid],
+) -> Result<Reply, Failure>
+    requires size { IsSectorSize B }
+    ensures same { OnlyReads D.Disk disk.old disk.new }
+    ensures plans { D.tells → Plans B
+        (IsPlanned B (D.count disk.old) (record { edits = edits.now; guids = guids.now }) (D.told disk.old).seen)
+        (IsRefusal B (D.count disk.old) (record { edits = edits.now; guids = guids.now }) (D.told disk.old).seen)
+        commit_failure result }
+{
+    let plan = plan_for::<B, D>(alloc, disk, edits, guids)?;
+    Ok(Reply::Text(plan_text(alloc, &plan)?))
+}
