@@ -89,7 +89,8 @@ def main():
     reader.add_argument("--over-ci", action="store_true")
     reader.add_argument("crates", nargs="+")
     asked, known = reader.parse_args(), {}
-    wanted = [rt.Crate(f"{ROOT}/crates/{it}", ROOT, known) for it in asked.crates]
+    tops = [rt.Crate(f"{ROOT}/crates/{it}", ROOT, known) for it in asked.crates]
+    wanted = [known.get(it.folder, it) for it in tops]  # one may stand below another
     crates = [*dict.fromkeys(it for top in wanted for it in [*top.below(), top])]
     # (until this script ends no other rt works in the crates that are locked)
     if not (all(map(take, crates)) if asked.over_ci else rt.rtlib.lock(crates) and prove_all(crates)):
