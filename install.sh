@@ -1,6 +1,7 @@
 #!/usr/bin/env bash
-# Installs the program and ptab-run, their man pages and the program's completion under PREFIX, and the library for callers in C (header,
-# archive, shared object and a pkg-config file), and says so in one line a file. It needs no root for a PREFIX of one's own.
+# Installs the program and ptab-run, their man pages and the program's completion under PREFIX, and the library for callers in C (headers,
+# archive, shared object and a pkg-config file) with its module for Python, and says so in one line a file. It needs no root for a PREFIX of
+# one's own.
 #
 # usage: ./install.sh PREFIX
 #   PTAB=FILE     installs this program, and no library without LIBRARY; else the built one, which packaging/build.py proves and builds
@@ -50,6 +51,11 @@ if [ -n "$library" ]; then
   made=$(mktemp -d)
   trap 'rm -rf "$made"' EXIT
   "$here/bindings/c/build.sh" "$library" "$made"
+  # under a PREFIX of one's own no loader looks for the library, so a program that links it is told where it is
+  case $prefix in
+    '' | /usr | /usr/local) where= ;;
+    *) where=' -Wl,-rpath,${libdir}' ;;
+  esac
   {
     echo "prefix=$prefix"
     echo 'includedir=${prefix}/include'
@@ -57,14 +63,16 @@ if [ -n "$library" ]; then
     echo
     echo 'Name: ptab'
     echo 'Description: partition tables: what they say, and checked plans of edits and repairs'
-    echo 'Version: 1'
+    echo "Version: $("$here/packaging/version.sh")"
     echo 'Cflags: -I${includedir}'
-    echo 'Libs: -L${libdir} -lptab'
+    echo 'Libs: -L${libdir}'"$where"' -lptab'
   } >"$made/ptab.pc"
   put 644 "$here/include/ptab.h" include/ptab.h
+  put 644 "$here/include/ptab_disk.h" include/ptab_disk.h
   put 644 "$made/libptab.a" lib/libptab.a
   put 644 "$made/libptab.so.1" lib/libptab.so.1
   ln -sf libptab.so.1 "${DESTDIR:-}$prefix/lib/libptab.so"
   echo "installed ${DESTDIR:-}$prefix/lib/libptab.so"
   put 644 "$made/ptab.pc" lib/pkgconfig/ptab.pc
+  put 644 "$here/bindings/python/ptab.py" lib/python3/dist-packages/ptab.py
 fi

@@ -4,10 +4,7 @@
 # under power cuts, and with memory refused and calls on the image failing. It ends with the line of `rt ci`.
 set -euo pipefail
 cd "$(dirname "$0")"
-began=$(date +%s)
 export PATH="$PATH:/usr/sbin:/sbin"
-# the prover's allocator keeps the pages that it has, as packaging/build.py says
-export MIMALLOC_PURGE_DELAY="${MIMALLOC_PURGE_DELAY:--1}"
 tests/install.sh
 # what an earlier build left
 rm -rf crates/*/out
@@ -23,14 +20,16 @@ archive="$PWD/crates/pt_c/out/libpt_c.a"
 # once what it runs is. These run on all processors once `rt ci` has ended, and the wrong bodies on two, so those go first. Each has a
 # process group of its own, so that nothing of it goes on where `rt ci` fails.
 set -m
-nice -n 10 python3 tests/wrong_bodies.py --gate --beside "$said" >"$bodies" 2>&1 &
+nice -n 10 python3 tests/wrong_bodies.py --beside "$said" >"$bodies" 2>&1 &
 trying=$!
 nice -n 19 python3 tests/side_by_side.py --beside "$said" >"$scripts" 2>&1 <<LIST &
 ../packaging/build.py --over-ci ptab pt_c
 then c_library.py "$ptab" "$archive"
+then disk_library.py "$ptab" "$archive"
 then bindings.py "$ptab" "$archive"
 then package.py "$ptab" "$archive"
 then install.py "$ptab" "$archive"
+messages.py
 runs.py "$faults"
 rows.py "$ptab" "$doubles"
 hostile.py "$ptab" 8000
@@ -57,14 +56,11 @@ LIST
 running=$!
 set +m
 trap 'kill -- "-$trying" "-$running" 2>/dev/null || true; rm -f "$said" "$bodies" "$scripts"' EXIT
-proving=$(date +%s)
 rt ci | tee "$said"
-proved=$(date +%s)
 well=0
 wait "$running" || well=$?
 cat "$scripts"
 wait "$trying" || well=$?
 cat "$bodies"
 [ "$well" = 0 ]
-echo "test.sh: $(($(date +%s) - began)) seconds on $(nproc) processors, of which rt ci took $((proved - proving))"
 tail -n 1 "$said"

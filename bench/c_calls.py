@@ -1,21 +1,27 @@
 #!/usr/bin/env python3
 """What the calls of the library for callers in C take at worst: for each image and call how many calls it takes until no sector is wanted,
-how many sectors they are given at last (both ends were read before the first one), the most bytes of memory that one of them holds, and
-the milliseconds of all, by ctypes and with the packing of the view.
+those of ptab_wanted among them, how many sectors they are given at last (both ends were read before the first one), the most bytes of memory
+that one of them holds, and the milliseconds of all, by ctypes and with the packing of the view.
+
+Then what sectors that are wanted cost: the instructions within the library by which the C example shows images with more and more labels,
+where valgrind is installed. It ends with status 1 where a GPT of slices takes more than three calls, where a chain takes more than one for
+each extended boot record and three besides, or where twice the labels cost more than twice the instructions and a tenth.
 
 usage: bench/c_calls.py ARCHIVE     ARCHIVE is crates/pt_c/out/libpt_c.a, by packaging/build.py pt_c
 """
 import ctypes
 import os
 import random
+import re
+import shutil
 import subprocess
 import sys
 import tempfile
 import time
 
 ROOT = os.path.join(os.path.dirname(os.path.abspath(__file__)), "..")
-sys.path[:0] = [os.path.join(ROOT, "tests"), os.path.join(ROOT, "bindings", "python")]
-import ptab as lib
+sys.path.insert(0, os.path.join(ROOT, "tests"))
+import replay as lib
 from images import FREEBSD, LARGE, SMALL, ebr, entry, guid, label, record
 
 DRAWN = random.Random(1).randbytes(16 * 256)
@@ -100,13 +106,13 @@ def measured(it, sectors, image, call):
         disk = lib.Disk(it, lambda k: image[k * size:(k + 1) * size], len(image) // size, size)
         most, ask = [0], disk._ask
 
-        def counted(inner):
+        def counted(inner, other=None):
             def one(*arguments):
                 it.lib.test_refuse(0, 0)
                 status = inner(*arguments)
                 most[0] = max(most[0], it.lib.test_most_bytes())
                 return status
-            return ask(one)
+            return ask(one, other)
         disk._ask = counted
         start = time.perf_counter()
         try:
@@ -120,10 +126,46 @@ def measured(it, sectors, image, call):
     return best, answer
 
 
+def within_library(archive, folder):
+    """A call that counts the instructions within the library by which the C example shows an image; None where there is no valgrind."""
+    if not shutil.which("valgrind"):
+        return None
+    subprocess.run([f"{ROOT}/bindings/c/build.sh", archive, folder], check=True)
+    example = f"{folder}/ptab_c"
+    subprocess.run(["cc", "-std=c11", "-O2", f"-I{ROOT}/include", f"{ROOT}/examples/c/ptab.c", f"{folder}/libptab.a", "-o", example],
+                   check=True)
+    toggles = [f"--toggle-collect={call}" for call in ("ptab_members", "ptab_wanted")]
+
+    def counted(image):
+        with open(f"{folder}/shown", "wb") as file:
+            file.write(image)
+        done = subprocess.run(["valgrind", "--tool=callgrind", f"--callgrind-out-file={folder}/callgrind", *toggles, example,
+                               f"{folder}/shown", "512", "show"], capture_output=True, text=True)
+        return int(re.search(r"Collected : (\d+)", done.stderr).group(1))
+    return counted
+
+
+def by_count(it, archive, folder):
+    """What more and more sectors that are wanted cost. Returns whether the bounds hold."""
+    counted, held = within_library(archive, folder), True
+    print("\n| Image | Calls | Sectors | Instructions of members |\n|---|---|---|---|")
+    for name, make, calls in (("GPT, slices with labels", sliced_gpt, lambda n: 3), ("MBR, logical partitions", lambda n: chain(n, False),
+                                                                                     lambda n: n + 3)):
+        before = None
+        for n in (8, 16, 32, 64, 128):
+            image = make(n)
+            (_, turns, given, _, _), _ = measured(it, SMALL, image, lambda disk: disk.members())
+            cost = counted(image) if counted else None
+            print(f"| {name}: {n} | {turns} | {given} | {cost or 0:,} |")
+            held &= turns <= calls(n) and (make is not sliced_gpt or not cost or not before or cost <= 2.1 * before)
+            before = cost
+    return held
+
+
 def main():
-    worst = [0, 0, 0]
+    worst, archive = [0, 0, 0], os.path.abspath(sys.argv[1])
     with tempfile.TemporaryDirectory() as folder:
-        it = library(os.path.abspath(sys.argv[1]), folder)
+        it = library(archive, folder)
         print("| Image | Call | Outcome | Calls | Sectors | Bytes of memory | ms |\n|---|---|---|---|---|---|---|")
         for name, sectors, image, words in IMAGES:
             many = [[(k, bytes(sectors.size)) for k in range(len(image) // sectors.size)][-4096:]]
@@ -138,7 +180,10 @@ def main():
                     (outcome, turns, given, most, took), _ = measured(it, sectors, image, lambda disk: disk.check(answer))
                     print(f"| {name} | check of that plan | {outcome} | {turns} | {given} | {most:,} | {took:.1f} |")
                     worst = [max(a, b) for a, b in zip(worst, (turns, given, most))]
+        held = by_count(it, archive, folder)
     print(f"\nAt worst {worst[0]} calls, {worst[1]} sectors, {worst[2]:,} bytes.")
+    if not held:
+        sys.exit("c_calls.py: more calls or instructions than the bounds")
 
 
 main()

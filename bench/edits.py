@@ -1,16 +1,15 @@
 #!/usr/bin/env python3
 """Makes GPTs with ptab, sgdisk and sfdisk, each in one call on an empty image of 256 MiB: an empty one, and ones of 10 to 120
-partitions. Prints wall time (best of five) and instructions (callgrind), and what one word more costs.
+partitions. Prints instructions (callgrind), in millions, and what one word more costs, in thousands.
 
 usage: bench/edits.py PTAB
 """
 import os
-import re
-import subprocess
 import sys
 import tempfile
-import time
 import uuid
+
+from measure import instructions
 
 SIZE = 256 << 20
 COUNTS = (0, 10, 20, 40, 80, 120)
@@ -34,37 +33,21 @@ def blank(image):
         it.truncate(SIZE)
 
 
-def wall(words, given, image):
-    best = None
-    for _ in range(5):
-        blank(image)
-        start = time.perf_counter()
-        subprocess.run(words, input=given, capture_output=True, text=True, check=True)
-        took = time.perf_counter() - start
-        best = took if best is None else min(best, took)
-    return best * 1000
-
-
-def instructions(words, given, image, folder):
-    blank(image)
-    done = subprocess.run(["valgrind", "--tool=callgrind", f"--callgrind-out-file={folder}/callgrind.out", *words], input=given,
-                          capture_output=True, text=True)
-    found = re.search(r"Collected : (\d+)", done.stderr)
-    return int(found.group(1)) if found else -1
-
-
 def main():
     ptab = os.path.abspath(sys.argv[1])
-    print(f"{'partitions':>10} {'tool':7} {'wall ms':>8} {'M instr':>8} {'K instr a word':>15}")
+    print(f"{'partitions':>10} {'tool':7} {'M instr':>8} {'K instr a word':>15}")
     empty = {}
     with tempfile.TemporaryDirectory() as folder:
-        image = f"{folder}/image.img"
+        image, script = f"{folder}/image.img", f"{folder}/script"
         for count in COUNTS:
             for tool, words, given in jobs(ptab, image, count):
-                took, many = wall(words, given, image), instructions(words, given, image, folder)
+                blank(image)
+                with open(script, "w", encoding="ascii") as it:
+                    it.write(given)
+                many = instructions(words, folder, script)
                 empty.setdefault(tool, many)
                 each = f"{(many - empty[tool]) / count / 1e3:15.1f}" if count else ""
-                print(f"{count:10} {tool:7} {took:8.1f} {many / 1e6:8.2f} {each}", flush=True)
+                print(f"{count:10} {tool:7} {many / 1e6:8.2f} {each}", flush=True)
 
 
 main()

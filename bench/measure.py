@@ -1,11 +1,12 @@
-"""What one command costs: wall time, instructions, and its system calls on an image."""
+"""What one command costs: instructions, and its system calls on an image."""
 import os
 import re
 import shutil
 import subprocess
-import time
+import sys
 
 CALLS = "read,pread64,readv,preadv,write,pwrite64,writev,pwritev,fsync,fdatasync"
+SYNCS = ("fsync", "fdatasync")
 
 
 def reset(image, kept):
@@ -21,47 +22,36 @@ def run(words, given=None):
         return subprocess.run(words, stdin=it, capture_output=True, text=True, env={"PATH": os.environ["PATH"], "LC_ALL": "C"})
 
 
-def wall(words, image, kept, changes, given=None):
-    best = None
-    for _ in range(5):
-        if changes:
-            reset(image, kept)
-        start = time.perf_counter()
-        run(words, given)
-        took = time.perf_counter() - start
-        best = took if best is None else min(best, took)
-    return best * 1000
-
-
 def instructions(words, folder, given=None):
     out = f"{folder}/callgrind.out"
     done = run(["valgrind", "--tool=callgrind", f"--callgrind-out-file={out}", *words], given)
     found = re.search(r"Collected : (\d+)", done.stderr)
-    return int(found.group(1)) if found else -1
+    if not found:
+        sys.exit(f"callgrind counted nothing: {words}\n{done.stderr}")
+    return int(found.group(1))
 
 
 def calls(words, image, folder, given=None):
+    """The sectors of 512 bytes read from the image, and the writes and syncs of it."""
     log = f"{folder}/strace.log"
     run(["strace", "-f", "-y", "-e", f"trace={CALLS}", "-o", log, *words], given)
-    counts = {"sectors": 0, "write": 0, "sync": 0}
+    counts = {"sectors": 0, "writes": 0, "syncs": 0}
     with open(log, encoding="utf-8", errors="replace") as it:
         for line in it:
             found = re.search(r"(\w+)\(.* = (\d+)", line)
             if f"<{image}>" not in line or not found:
                 continue
-            call, given = found.groups()
+            call, count = found.groups()
             if "read" in call:
-                counts["sectors"] += int(given) // 512
+                counts["sectors"] += int(count) // 512
             else:
-                counts["write" if "write" in call else "sync"] += 1
+                counts["syncs" if call in SYNCS else "writes"] += 1
     return counts
 
 
-def measure(words, image, kept, folder, changes, given=None):
-    """(wall milliseconds, instructions, calls) of one command, each on a fresh image."""
-    reset(image, kept)
-    took = wall(words, image, kept, changes, given)
+def measure(words, image, kept, folder, given=None):
+    """The instructions of one command, and its calls, each on a fresh image, as it left the second one."""
     reset(image, kept)
     many = instructions(words, folder, given)
     reset(image, kept)
-    return took, many, calls(words, image, folder, given)
+    return {"instructions": many, **calls(words, image, folder, given)}

@@ -3,8 +3,8 @@
 
 usage: bench/records.py PTAB
 
-Wall time is the best of five runs, instructions are callgrind's; sectors read, writes and syncs are those of system calls on the
-image. parted takes a call for each change, as it writes after each.
+Instructions are callgrind's, in millions; sectors read, writes and syncs are those of system calls on the image. parted takes a
+call for each change, as it writes after each.
 """
 import os
 import re
@@ -77,7 +77,7 @@ def partitions(path):
 
 def main():
     ptab = os.path.abspath(sys.argv[1])
-    print(f"{'edit':34} {'tool':7} {'wall ms':>8} {'M instr':>8} {'sectors':>8} {'writes':>7} {'syncs':>6}")
+    print(f"{'edit':34} {'tool':7} {'M instr':>8} {'sectors':>8} {'writes':>7} {'syncs':>6}")
     with tempfile.TemporaryDirectory() as folder:
         kept, image, script = (f"{folder}/{name}" for name in ("kept.img", "image.img", "script"))
         for title, content, tools in jobs(ptab, image):
@@ -87,10 +87,10 @@ def main():
             for tool, words, given in tools:
                 with open(script, "w", encoding="ascii") as it:
                     it.write(given)
-                took, many, seen = measure(words, image, kept, folder, True, script if given else None)
+                cost = measure(words, image, kept, folder, script if given else None)
                 ends[tool] = partitions(image)
-                print(f"{title:34} {tool:7} {took:8.1f} {many / 1e6:8.2f} {seen['sectors']:8} {seen['write']:7} "
-                      f"{seen['sync']:6}", flush=True)
+                print(f"{title:34} {tool:7} {cost['instructions'] / 1e6:8.2f} {cost['sectors']:8} {cost['writes']:7} "
+                      f"{cost['syncs']:6}", flush=True)
             if len(set(ends.values())) != 1:
                 sys.exit(f"{title}: {ends}")
 

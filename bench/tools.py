@@ -1,12 +1,10 @@
 #!/usr/bin/env python3
-"""Shows, verifies and edits the same images with ptab and with sgdisk, sfdisk, parted and cgpt, in one run; prints one table.
+"""Shows, verifies, renames and repairs the same images with ptab and with sgdisk, sfdisk, parted and cgpt, in one run; prints one table.
 
 usage: bench/tools.py PTAB
 
-Wall time is the best of five runs. Instructions are callgrind's, in millions. Sectors read, writes and syncs are those of
-system calls on the image, as strace sees them: sectors are bytes read by 512, a write of any length is one. It ends with
-status 1 where ptab's show or verify reads a sector more than recovery and health name, or takes more instructions than
-sfdisk's; where a rename reads more than 67 sectors to write 67; and where a GPT on a disk of 1 TiB costs it more than one of 64 MiB.
+Instructions are callgrind's, in millions. Sectors read, writes and syncs are those of system calls on the image, as strace sees
+them: sectors are bytes read by 512, a write of any length is one. It ends with status 1 where a bound below doesn't hold.
 """
 import os
 import subprocess
@@ -20,19 +18,32 @@ from images import SMALL, ebr, record  # noqa: E402
 
 MIB = 1 << 20
 LOGICALS = 120
-ONE, FULL, CHAIN, LARGE = "1 partition, 64 MiB", "128 partitions, 256 MiB", f"{LOGICALS} logicals, 256 MiB", "1 partition, sparse 1 TiB"
-# The sectors that decide the answer: sector 0, both headers and both arrays; or sector 0 and each extended boot record.
-NAMED = {ONE: 67, FULL: 67, LARGE: 67, CHAIN: 1 + LOGICALS}
-RENAME = 67
+ONE, FULL = "1 partition, 64 MiB", "128 partitions, gaps, 256 MiB"
+TIGHT, CHAIN = "128 partitions, no gaps, 2 MiB", f"{LOGICALS} logicals, gaps, 256 MiB"
+LARGE = "1 partition, sparse 1 TiB"
+
+# At most so many times the instructions of the other tool.
+TIMES = [
+    (ONE, "rename", "cgpt", 1.15), (FULL, "rename", "cgpt", 0.55), (TIGHT, "rename", "sfdisk", 0.4),
+    (ONE, "repair", "cgpt", 2.0), (FULL, "repair", "cgpt", 1.2),
+    *((image, job, "sfdisk", 1) for image in (ONE, FULL, TIGHT, CHAIN, LARGE) for job in ("show", "verify")),
+]
+# At most so many million instructions.
+MILLIONS = [(FULL, "verify", 0.48), (TIGHT, "verify", 0.48)]
+# What a GPT on a disk of 1 TiB may cost, by what it costs on one of 64 MiB.
+LARGE_BY_ONE = 1.05
+# The sectors that decide the answer: sector 0, a header and its array, and for all but show the other side too.
+SECTORS = {"show": 34, "verify": 67, "rename": 67}
+SYNCS = 5
 
 
-def gpt_by_sgdisk(ptab, path, size, count):
-    """A healthy table: on small disks sgdisk's protective record is mended."""
+def gpt_by_sgdisk(ptab, path, size, places):
+    """A healthy table with these partitions: on small disks sgdisk's protective record is mended."""
     with open(path, "wb") as it:
         it.truncate(size)
-    words = ["sgdisk"]
-    for number in range(1, count + 1):
-        words += ["-n", f"{number}:{2048 * number}:+1000K", "-c", f"{number}:part {number}"]
+    words = ["sgdisk", "-a", "1"]
+    for number, (first, last) in enumerate(places, 1):
+        words += ["-n", f"{number}:{first}:{last}", "-c", f"{number}:part {number}"]
     subprocess.run([*words, path], check=True, capture_output=True)
     subprocess.run([ptab, "repair", path], check=True, capture_output=True)
 
@@ -47,75 +58,99 @@ def chain(path, size, count):
         it.write(image)
 
 
+def apart(count):
+    return [(2048 * k, 2048 * k + 1999) for k in range(1, count + 1)]
+
+
 MAKE = {
-    ONE: lambda ptab, path: gpt_by_sgdisk(ptab, path, 64 * MIB, 1),
-    FULL: lambda ptab, path: gpt_by_sgdisk(ptab, path, 256 * MIB, 128),
+    ONE: lambda ptab, path: gpt_by_sgdisk(ptab, path, 64 * MIB, apart(1)),
+    FULL: lambda ptab, path: gpt_by_sgdisk(ptab, path, 256 * MIB, apart(128)),
+    TIGHT: lambda ptab, path: gpt_by_sgdisk(ptab, path, 2 * MIB, [(34 + 31 * k, 64 + 31 * k) for k in range(128)]),
     CHAIN: lambda ptab, path: chain(path, 256 * MIB, LOGICALS),
-    LARGE: lambda ptab, path: gpt_by_sgdisk(ptab, path, 1 << 40, 1),
+    LARGE: lambda ptab, path: gpt_by_sgdisk(ptab, path, 1 << 40, apart(1)),
 }
 
 
 def jobs(ptab, image, title):
-    shows = [
-        ("ptab", [ptab, "show", image]),
-        ("sgdisk", ["sgdisk", "-p", image]),
-        ("sfdisk", ["sfdisk", "-d", image]),
-        ("parted", ["parted", "-s", "-m", image, "unit", "s", "print"]),
-        ("cgpt", ["cgpt", "show", image]),
-    ]
-    verifies = [
-        ("ptab", [ptab, "verify", image]),
-        ("sgdisk", ["sgdisk", "-v", image]),
-        ("sfdisk", ["sfdisk", "-V", image]),
-    ]
-    renames = [
-        ("ptab", [ptab, "edit", image, "c:1:renamed"]),
-        ("sgdisk", ["sgdisk", "-c", "1:renamed", image]),
-        ("sfdisk", ["sfdisk", "-q", "--part-label", image, "1", "renamed"]),
-        ("parted", ["parted", "-s", image, "name", "1", "renamed"]),
-        ("cgpt", ["cgpt", "add", "-i", "1", "-l", "renamed", image]),
-    ]
+    """The calls of each job, by tool."""
+    shows = {
+        "ptab": [ptab, "show", image],
+        "sgdisk": ["sgdisk", "-p", image],
+        "sfdisk": ["sfdisk", "-d", image],
+        "parted": ["parted", "-s", "-m", image, "unit", "s", "print"],
+        "cgpt": ["cgpt", "show", "-q", image],
+    }
+    verifies = {
+        "ptab": [ptab, "verify", image],
+        "sgdisk": ["sgdisk", "-v", image],
+        "sfdisk": ["sfdisk", "-V", image],
+    }
+    renames = {
+        "ptab": [ptab, "edit", image, "c:1:renamed"],
+        "sgdisk": ["sgdisk", "-c", "1:renamed", image],
+        "sfdisk": ["sfdisk", "-q", "--part-label", image, "1", "renamed"],
+        "parted": ["parted", "-s", image, "name", "1", "renamed"],
+        "cgpt": ["cgpt", "add", "-i", "1", "-l", "renamed", image],
+    }
     if title == CHAIN:
-        return {"show": [job for job in shows if job[0] not in ("sgdisk", "cgpt")],
-                "verify": [job for job in verifies if job[0] != "sgdisk"]}
-    return {"show": shows, "verify": verifies, "rename": renames}
+        return {"show": {it: shows[it] for it in ("ptab", "sfdisk", "parted")}, "verify": {it: verifies[it] for it in ("ptab", "sfdisk")}}
+    repairs = {"ptab": [ptab, "repair", image], "cgpt": ["cgpt", "repair", image]}
+    return {"show": shows, "verify": verifies, "rename": renames, "repair": repairs}
+
+
+def damage(path):
+    """Zeros over the primary header."""
+    with open(path, "r+b") as it:
+        it.seek(512)
+        it.write(bytes(512))
+
+
+def table(ptab, folder):
+    """What each job cost each tool, printed as it comes."""
+    print(f"{'image':31} {'job':7} {'tool':7} {'M instr':>8} {'sectors':>8} {'writes':>7} {'syncs':>6}")
+    found = {}
+    kept, image = f"{folder}/kept.img", f"{folder}/image.img"
+    for title, make in MAKE.items():
+        make(ptab, kept)
+        if subprocess.run([ptab, "verify", kept], capture_output=True).returncode != 0:
+            sys.exit(f"{title}: not healthy")
+        for job, tools in jobs(ptab, image, title).items():
+            if job == "repair":
+                damage(kept)
+            for tool, words in tools.items():
+                cost = found[(title, job, tool)] = measure(words, image, kept, folder)
+                print(f"{title:31} {job:7} {tool:7} {cost['instructions'] / 1e6:8.2f} {cost['sectors']:8} {cost['writes']:7} "
+                      f"{cost['syncs']:6}", flush=True)
+        os.remove(kept)
+    return found
 
 
 def faults(found):
-    """What is more than promised, of {(title, job, tool): (instructions, sectors read)}."""
-    for (title, job, tool), (many, sectors) in found.items():
-        if tool == "ptab" and job == "rename" and sectors > RENAME:
-            yield f"{title}: a rename reads {sectors} sectors, more than {RENAME}"
-        if tool != "ptab" or job == "rename":
+    """The bounds that don't hold."""
+    many = {at: cost["instructions"] for at, cost in found.items()}
+    for title, job, tool, times in TIMES:
+        by = many[(title, job, "ptab")] / many[(title, job, tool)]
+        if by > times:
+            yield f"{title}: {job} takes {by:.2f} of {tool}'s instructions, more than {times}"
+    for title, job, most in MILLIONS:
+        if many[(title, job, "ptab")] > most * 1e6:
+            yield f"{title}: {job} takes {many[(title, job, 'ptab')] / 1e6:.3f} million instructions, more than {most}"
+    for (title, job, tool), cost in found.items():
+        if tool != "ptab":
             continue
-        if sectors > NAMED[title]:
-            yield f"{title}: {job} reads {sectors} sectors, more than {NAMED[title]}"
-        if many >= found[(title, job, "sfdisk")][0]:
-            yield f"{title}: {job} takes more instructions than sfdisk"
-        if title == LARGE and (many > 1.05 * found[(ONE, job, tool)][0] or sectors > found[(ONE, job, tool)][1]):
+        most = 1 + LOGICALS if title == CHAIN else SECTORS.get(job)
+        if most and cost["sectors"] > most:
+            yield f"{title}: {job} reads {cost['sectors']} sectors, more than {most}"
+        if cost["syncs"] > SYNCS:
+            yield f"{title}: {job} syncs {cost['syncs']} times, more than {SYNCS}"
+        if title == LARGE and many[(title, job, tool)] > LARGE_BY_ONE * many[(ONE, job, tool)]:
             yield f"{title}: {job} costs more than on 64 MiB"
 
 
 def main():
-    ptab = os.path.abspath(sys.argv[1])
-    print(f"{'image':26} {'job':7} {'tool':7} {'wall ms':>8} {'M instr':>8} {'sectors':>8} {'writes':>7} {'syncs':>6}")
-    found = {}
     with tempfile.TemporaryDirectory() as folder:
-        for title, make in MAKE.items():
-            kept, image = f"{folder}/kept.img", f"{folder}/image.img"
-            make(ptab, kept)
-            for job, tools in jobs(ptab, image, title).items():
-                if job == "verify" and subprocess.run([ptab, "verify", kept], capture_output=True).returncode != 0:
-                    sys.exit(f"{title}: not healthy")
-                for tool, words in tools:
-                    took, many, seen = measure(words, image, kept, folder, job == "rename")
-                    found[(title, job, tool)] = (many, seen["sectors"])
-                    print(f"{title:26} {job:7} {tool:7} {took:8.1f} {many / 1e6:8.2f} {seen['sectors']:8} {seen['write']:7} "
-                          f"{seen['sync']:6}", flush=True)
-            os.remove(kept)
-    wrong = list(faults(found))
-    print("\n".join(wrong) if wrong else "ptab shows and verifies by the sectors that are named, in fewer "
-          "instructions than sfdisk, on disks of any size")
+        wrong = list(faults(table(os.path.abspath(sys.argv[1]), folder)))
+    print("\n".join(wrong) if wrong else "each bound beside the other tools holds")
     sys.exit(1 if wrong else 0)
 
 

@@ -31,11 +31,16 @@ _ptab() {
     :) return ;;
     --sector-size) _ptab_of "$current" 512 4096; return ;;
     --fresh) return ;;
+    --after)
+      mapfile -t COMPREPLY < <(compgen -f -- "$current")
+      compopt -o filenames 2>/dev/null
+      return
+      ;;
   esac
   for ((k = 1; k < COMP_CWORD; k++)); do
     word=${COMP_WORDS[k]}
     case $word in
-      --sector-size | --fresh)
+      --sector-size | --fresh | --after)
         k=$((k + 1))
         if [ "${COMP_WORDS[k]}" = '=' ]; then k=$((k + 1)); fi
         ;;
@@ -52,11 +57,12 @@ _ptab() {
   fi
   case $command:$current in
     help:*) [ ${#places[@]} = 0 ] && _ptab_of "$current" show verify locate edit plan check apply repair adopt; return ;;
-    edit:-*) _ptab_of "$current" --fresh --sector-size --no-lock --help -h; return ;;
-    plan:-*) _ptab_of "$current" --fresh --sector-size --help -h; return ;;
-    adopt:-*) _ptab_of "$current" --plan --sector-size --no-lock --help -h; return ;;
-    apply:-* | repair:-*) _ptab_of "$current" --sector-size --no-lock --help -h; return ;;
-    *:-*) _ptab_of "$current" --sector-size --help -h; return ;;
+    edit:-*) _ptab_of "$current" --fresh --device --sector-size --in-use --no-lock --help -h; return ;;
+    plan:-*) _ptab_of "$current" --fresh --device --sector-size --help -h; return ;;
+    show:-*) _ptab_of "$current" --after --device --sector-size --help -h; return ;;
+    adopt:-*) _ptab_of "$current" --plan --other-device --device --sector-size --in-use --no-lock --help -h; return ;;
+    apply:-* | repair:-*) _ptab_of "$current" --device --sector-size --in-use --no-lock --help -h; return ;;
+    *:-*) _ptab_of "$current" --device --sector-size --help -h; return ;;
   esac
   shopt -q extglob && extglob=1
   shopt -s extglob

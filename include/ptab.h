@@ -1,10 +1,11 @@
 /*
  * ptab.h: what a disk's partition table says, whether it is healthy, where a partition's sectors are, and checked plans
- * of edits and repairs. docs/c.md tells how to use it.
+ * of edits and repairs, and of the layout of another disk. docs/c.md tells how to use it.
  *
  * The library does no I/O. A call gets the sectors that its caller has read so far, and ends with an answer or with
  * PTAB_WANT and the number of one more sector; the caller reads that one, adds it and calls again. With both ends of
- * the disk read beforehand (PTAB_HEAD and PTAB_TAIL, below) a GPT without slices takes one call.
+ * the disk read beforehand (PTAB_HEAD and PTAB_TAIL, below) a GPT without slices takes one call; where more is wanted,
+ * ptab_wanted lists all of it that is known.
  *
  * Rules for every call, which nothing checks:
  *   - no pointer is NULL, also where its length is 0;
@@ -29,17 +30,18 @@ extern "C" {
 /* The number of this interface; ptab_version() gives that of the library. */
 #define PTAB_VERSION 1
 
-/* What a call returns: the exit statuses of the command `ptab`, and two more. */
+/* What a call returns: the exit statuses of the command `ptab`, and three more. */
 enum {
   PTAB_DONE = 0,     /* done, or yes */
   PTAB_NO = 1,       /* the answer is no */
   PTAB_USAGE = 2,    /* an argument or a word that can't be read */
-  PTAB_REFUSED = 3,  /* an edit, a repair or its plan was refused */
-  PTAB_NO_TABLE = 4, /* the disk has no table that can be read */
+  PTAB_REFUSED = 3,  /* an edit, a repair or its plan was refused, or the other disk's layout */
+  PTAB_NO_TABLE = 4, /* the disk, or the other one, has no table that can be read */
   PTAB_DEVICE = 5,   /* not returned; for the caller's own use where a read or write fails */
   PTAB_MEMORY = 6,   /* malloc gave nothing */
   PTAB_WANT = -1,    /* read sector `reply.sector`, one that decides the answer, add it to the view and call again */
-  PTAB_ROOM = -2     /* a buffer is too small: it takes `reply.count` rows or writes */
+  PTAB_ROOM = -2,    /* a buffer is too small: it takes `reply.count` rows, writes or sectors */
+  PTAB_WANT_OTHER = -3 /* of ptab_adopt_plan: the same as PTAB_WANT, of the other disk and its view */
 };
 
 /* What `reply.number` counts. */
@@ -48,8 +50,10 @@ enum {
   PTAB_ABOUT_ARGUMENT = 1, /* 1 sector_size; 2 the view's lengths, or a disk of 2^64 bytes or more; 3 number or letter;
                               4 the length of `drawn`; 5 no words, not UTF-8, or no zero byte at the end; 6 the writes
                               of a plan: their bytes don't fit their number (then `a` is 0), or write `a`, from 1, is
-                              the first that is of another phase than the one before it or the next. Of several the
-                              first is told: the size, then 3, 4 or 6, then the words, then the view (docs/c.md) */
+                              the first that is of another phase than the one before it or the next; 7 the
+                              sector_size of the other view isn't the view's; 8 the other view, as 2. Of several the
+                              first is told: the size, then 3, 4, 6 or 7, then the words, then the view, then the
+                              other one (docs/c.md) */
   PTAB_ABOUT_WORD = 2,     /* word `a`, from 1, is the first that can't be read: 1 letter, 2 fields, 3 number, 4 GUID,
                               5 code */
   PTAB_ABOUT_TABLE = 3,    /* 1 copies: their faults `a` and `b`; 2 chain: its fault `a` at sector `b`; 3 two extended;
@@ -58,7 +62,9 @@ enum {
   PTAB_ABOUT_EDIT = 5,     /* 1 to 15, as in `refused: edit N` */
   PTAB_ABOUT_PLAN = 6,     /* 1 to 4, as in `refused: plan N` */
   PTAB_ABOUT_CHECK = 7,    /* 1 to 8, as `ptab check` prints them, with arguments `a` and `b` */
-  PTAB_ABOUT_REPAIR = 8    /* 2, as in `refused: repair 2`, with the number `a` of the finding */
+  PTAB_ABOUT_REPAIR = 8,   /* 2, as in `refused: repair 2`, with the number `a` of the finding */
+  PTAB_ABOUT_ADOPT = 9,    /* 1: the other disk has another number of sectors */
+  PTAB_ABOUT_OTHER_TABLE = 10 /* why the other disk has no table: numbers and arguments as of PTAB_ABOUT_TABLE */
 };
 
 /* What is known of a disk: `numbers_len` sectors, in any order, their bytes one after the other. Of a number that
@@ -75,7 +81,7 @@ typedef struct ptab_view {
 /* What goes with a status; a field that doesn't is 0. */
 typedef struct ptab_reply {
   uint64_t sector; /* the one wanted, or the one located */
-  uint64_t count;  /* of rows or writes */
+  uint64_t count;  /* of rows, writes or sectors */
   uint64_t phases; /* of a plan */
   uint64_t a, b;   /* arguments of `number`; of a checked plan `a` is the phase that switches, 0 where none does */
   uint32_t about, number;
@@ -124,12 +130,22 @@ typedef struct ptab_write {
 
 /* The most partitions that a disk has: 4 records and 128 logicals, each with 7 entries of a label. */
 #define PTAB_MOST_MEMBERS 1056
+/* The most sectors that ptab_wanted lists: a label for each slice. */
+#define PTAB_MOST_WANTED 132
 /* Room for the writes of the largest plans: both copies of a GPT with 128 labels, or sector 0, 128 extended boot records
    and 132 labels. PTAB_ROOM tells where it takes more. */
 #define PTAB_MOST_WRITES 264
 /* How many sectors to read at the head and at the tail of a disk before the first call. */
 #define PTAB_HEAD(sector_size) ((sector_size) == 512 ? 34 : 6)
 #define PTAB_TAIL(sector_size) ((sector_size) == 512 ? 33 : 5)
+
+/*
+ * All sectors that are known to be wanted for the table and its labels, to be read in one go: PTAB_WANT and reply.count
+ * of them in `sectors`, the first one in reply.sector too, none of them in the view and none twice. PTAB_DONE: the table
+ * wants nothing, and only a plan or a check may want more. An extended boot record leads to the next one, so these come
+ * one at a time; the labels of all slices come at once, and then nothing more.
+ */
+int32_t ptab_wanted(const ptab_view *view, uint64_t *sectors, size_t sectors_len, ptab_reply *reply);
 
 /* The partitions: records or entries by number, then logical ones; a slice before the entries of its label. With PTAB_ROOM
    the table is given, and no row. */
@@ -157,6 +173,15 @@ int32_t ptab_plan(const ptab_view *view, const uint8_t *words, size_t words_len,
 /* The plan that makes the disk healthy and keeps its partitions, to be carried out in the same way. */
 int32_t ptab_repair(const ptab_view *view, ptab_write *writes, size_t writes_len, uint8_t *bytes, size_t bytes_len,
                     ptab_reply *reply);
+
+/*
+ * The plan that makes the disk healthy with the layout that another disk denotes, to be carried out in the same way. It
+ * may want a sector of either disk: PTAB_WANT of the disk, PTAB_WANT_OTHER of the other one, whose table is read first.
+ * The other disk is only read. Both have the same sector size and the same number of sectors. A layout is taken, and
+ * nothing else: no boot code, no disk signature of an MBR, no sector of a partition.
+ */
+int32_t ptab_adopt_plan(const ptab_view *view, const ptab_view *other, ptab_write *writes, size_t writes_len,
+                        uint8_t *bytes, size_t bytes_len, ptab_reply *reply);
 
 /* Whether a plan from elsewhere may be carried out on the disk as it was read: PTAB_DONE, or PTAB_NO and the first
    reason. Its writes stand by phases, in order; `bytes_len` is writes_len * sector_size. */

@@ -32,7 +32,7 @@ commit=$(git rev-parse HEAD)
 if [ -n "$(git status --porcelain -- crates man completion tools install.sh packaging)" ]; then commit=$commit-changed; fi
 epoch=${SOURCE_DATE_EPOCH:-$(git log -1 --format=%ct)}
 export SOURCE_DATE_EPOCH=$epoch
-version=0~git$(git log -1 --format=%cd --date=format-local:%Y%m%d%H%M%S).${commit:0:12}
+version=$("$here/packaging/version.sh")+git$(git log -1 --format=%cd --date=format-local:%Y%m%d%H%M%S).${commit:0:12}
 case $commit in *-changed) version=$version.changed ;; esac
 architecture=$(dpkg --print-architecture)
 author=$(git log -1 --format='%an <%ae>')

@@ -1,6 +1,6 @@
 #!/usr/bin/env bash
-# Makes a Debian package of the library for callers in C: header, archive, shared object, pkg-config file, and docs/c.md. The same
-# archive, commit and kit give the same package, byte by byte. It needs no root.
+# Makes a Debian package of the library for callers in C: headers, archive, shared object, pkg-config file, the module for Python, and
+# docs/c.md. The same archive, commit and kit give the same package, byte by byte. It needs no root.
 #
 # usage: LIBRARY=FILE packaging/debian_dev.sh OUT     OUT is the .deb, or a folder for it; FILE is crates/pt_c/out/libpt_c.a
 #   KIT=LINE             the kit that proved it; else what `rt version` prints
@@ -19,7 +19,7 @@ kit=$(printf '%s' "${KIT:-$(rt version)}" | tr -s '\n\t ' ' ')
 commit=$(git rev-parse HEAD)
 if [ -n "$(git status --porcelain -- crates include bindings install.sh packaging docs/c.md)" ]; then commit=$commit-changed; fi
 epoch=${SOURCE_DATE_EPOCH:-$(git log -1 --format=%ct)}
-version=0~git$(git log -1 --format=%cd --date=format-local:%Y%m%d%H%M%S).${commit:0:12}
+version=$("$here/packaging/version.sh")+git$(git log -1 --format=%cd --date=format-local:%Y%m%d%H%M%S).${commit:0:12}
 case $commit in *-changed) version=$version.changed ;; esac
 architecture=$(dpkg --print-architecture)
 author=$(git log -1 --format='%an <%ae>')
@@ -40,13 +40,14 @@ Section: libdevel
 Priority: optional
 Architecture: $architecture
 Depends: libc6-dev
-Suggests: ptab
+Suggests: ptab, python3
 Installed-Size: $bytes
 Maintainer: ${MAINTAINER:-$author}
 Description: partition tables in one's own program: checked plans of edits
- Header, archive, shared object and pkg-config file of the library that the
- command ptab stands on. It does no I/O: a call gets the sectors that were
- read, and ends with an answer or the number of one more sector.
+ Headers, archive, shared object, pkg-config file and Python module of the
+ library that the command ptab stands on. Its calls work on an image or a
+ block device, each in one call; or without any I/O, on sectors that the
+ caller has read.
  .
  Commit: $commit
  Kit: $kit

@@ -11,6 +11,7 @@ import sys
 from images import one_partition, room
 
 MOST = 8 * 1024 * 1024
+IN_USE_ALONE = "error: the argument '--in-use' needs '--device'\n\nFor more information, try '--help'.\n"
 checked = 0
 
 
@@ -87,6 +88,26 @@ WORDS = ("", "x", "z:1:x", "cc:1:x", "N:1:0:0",
          "A:1:1", "A:0:1:1", "A:1:64:1", "A:1:01:1", "A:1:1:2", "A:1:1:", "A:1.a:1:1", "A:1:1:1:1", "e:", "e:1", "g:", "o:", "o:1")
 
 
+def no_devices(ptab, folder):
+    """With `--device` what is no block device; and `--in-use` without it."""
+    image, plan = file_of(folder, "plain.img", one_partition()), file_of(folder, "no_plan", b"")
+    for command, *words in (["show"], ["show", "--after", plan], ["verify"], ["locate", "1", "0"], ["edit", "c:1:x"], ["plan", "c:1:x"],
+                            ["check", plan], ["apply", plan], ["repair"], ["adopt", image], ["adopt", "--plan", image]):
+        for size in ([], ["--sector-size", "512"], ["--sector-size=4096"]):
+            for path in (image, folder, "/dev/null"):
+                expect(ptab, [command, "--device", *size, path, *words], image, "", "device: not a block device\n", 5)
+            expect(ptab, [command, *size, "--device", f"{folder}/missing", *words], image, "", "device\n", 5)
+        alone = None if command in ("show", "verify", "locate", "plan", "check") else IN_USE_ALONE
+        expect(ptab, [command, "--in-use", image, *words], image, "", alone, 2)
+        expect(ptab, [command, "--device", "--device", image, *words], image, "", None, 2)
+    expect(ptab, ["edit", "--in-use", "--fresh", "0", image, "x"], image, "", IN_USE_ALONE, 2)
+    expect(ptab, ["edit", "--device", "--in-use", image, "x"], image, "", "bad word x\n", 2)
+    expect(ptab, ["edit", "--device", "--in-use", image, "c:1:x"], image, "", "device: not a block device\n", 5)
+    for path, told in ((image, "device: not a block device"), ("/dev/null", "device: not a block device"), (f"{folder}/missing", "device")):
+        for option in ([], ["--plan"], ["--device"]):
+            expect(ptab, ["adopt", *option, "--other-device", image, path], image, "", f"other: {told}\n", 5)
+
+
 def bad_words(ptab, image):
     for word in WORDS:
         for command in ("edit", "plan"):
@@ -137,24 +158,24 @@ def plans(ptab, folder):
     """Plan files that can't be read or hold no plan, before an image that is missing; and plans that the checker refuses."""
     missing = f"{folder}/missing"
     image = file_of(folder, "healthy", one_partition())
-    for command in ("check", "apply"):
+    for command, *option in (("check",), ("apply",), ("show", "--after")):
         for path in (missing, folder, "/dev/null", f"{folder}/a/b", ""):
-            expect(ptab, [command, missing, path], missing, "", "device\n", 5)
-            expect(ptab, [command, image, path], image, "", "device\n", 5)
+            expect(ptab, [command, missing, *option, path], missing, "", "device\n", 5)
+            expect(ptab, [command, image, *option, path], image, "", "device\n", 5)
         for text, line in bad_texts():
             path = file_of(folder, "plan", text)
-            expect(ptab, [command, image, path], image, "", f"refused: plan text {line}\n", 3)
-            expect(ptab, [command, missing, path], missing, "", f"refused: plan text {line}\n", 3)
+            expect(ptab, [command, image, *option, path], image, "", f"refused: plan text {line}\n", 3)
+            expect(ptab, [command, missing, *option, path], missing, "", f"refused: plan text {line}\n", 3)
         one = file_of(folder, "plan", write_of(1) + b"F\n")
-        expect(ptab, [command, missing, one], missing, "", "device\n", 5)
-        expect(ptab, [command, "--sector-size", "4096", image, one], image, "", "refused: plan text 1\n", 3)
+        expect(ptab, [command, missing, *option, one], missing, "", "device\n", 5)
+        expect(ptab, [command, "--sector-size", "4096", image, *option, one], image, "", "refused: plan text 1\n", 3)
         for writes, answer in ((write_of(4096), "no 2 1"), (write_of(2 ** 64 - 1), "no 2 1"), (write_of(0), "no 8 6"),
                                (write_of(100, 512, "A"), "no 6 100"),
                                (write_of(100, 512, "a") + write_of(101, 512, "B"), "no 6 100"),
                                (write_of(1) * (MOST // 1030), "no 1")):
-            expect(ptab, [command, image, file_of(folder, "plan", writes + b"F\n")], image, f"{answer}\n", "", 1)
+            expect(ptab, [command, image, *option, file_of(folder, "plan", writes + b"F\n")], image, f"{answer}\n", "", 1)
         large = file_of(folder, "plan", write_of(512, 4096) + b"F\n")
-        expect(ptab, [command, "--sector-size", "4096", image, large], image, "no 2 1\n", "", 1)
+        expect(ptab, [command, "--sector-size", "4096", image, *option, large], image, "no 2 1\n", "", 1)
     none = file_of(folder, "plan", b"")
     expect(ptab, ["check", image, none], image, "yes 0\n", "", 0)
     expect(ptab, ["apply", image, none], image, "done\n", "", 0)
@@ -179,7 +200,8 @@ def usage(ptab, image):
                   ["repair"], ["repair", image, image], ["repair", image, "c:1:x"], ["repair", "--fresh", "", image],
                   ["repair", "--force", image], ["edit", "--no-lock", "--no-lock", image, "c:1:x"],
                   ["edit", "--no-lock=1", image, "c:1:x"], ["show", "--no-lock", image], ["plan", "--no-lock", image, "c:1:x"], ["check", "--no-lock", image, image],
-                  ["--no-lock", "repair", image]):
+                  ["--no-lock", "repair", image], ["show", image, "--after"], ["show", "--after", "", "--after", "", image],
+                  ["verify", "--after", image, image], ["check", "--after", image, image, image]):
         expect(ptab, words, image, "", None, 2)
     for words in commands:
         for size in ("1024", "0512", "0", "", "8192", "512 "):
@@ -198,7 +220,7 @@ def not_text(ptab, folder):
     image, log = file_of(folder, "text.img", one_partition()), f"{folder}/log"
     plan = file_of(folder, "no_plan", b"")
     lines = [[b"show", bad], [b"verify", bad], [b"locate", bad, b"1", b"0"], [b"edit", bad, b"c:1:x"], [b"plan", bad, b"c:1:x"],
-             [b"check", bad, plan], [b"check", image, bad], [b"apply", bad, plan], [b"apply", image, bad], [b"repair", bad],
+             [b"check", bad, plan], [b"check", image, bad], [b"show", image, b"--after", bad], [b"apply", bad, plan], [b"apply", image, bad], [b"repair", bad],
              [b"edit", image, b"c:1:\xe9t\xe9"], [b"edit", image, b"d:1", b"\xed\xa0\x80"], [b"edit", image, b"x", b"\xc0\x80"],
              [b"edit", image, b"--fresh", b"\x80", b"c:1:x"], [b"locate", image, b"\xf5", b"x"],
              [b"show", image, b"--sector-size", b"\xfe"], [b"show", image, b"--\xff"], [b"\xff"], [b"--help", b"\xff"], [b"repair", image, b"--no-lock", b"\xff"]]
@@ -243,6 +265,7 @@ def main():
     with room() as folder:
         read_only(ptab, folder)
         not_images(ptab, folder)
+        no_devices(ptab, folder)
         image = gpt(folder)
         bad_words(ptab, image)
         refusals(ptab, image)

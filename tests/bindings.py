@@ -1,181 +1,130 @@
 #!/usr/bin/env python3
-"""Several edits of one disk by the bindings, which are planned from what the disk has then. In Python one `Image` is edited again and
-again, also after each write and each sync has failed in turn; the file then is what the command makes of it, to the byte. While an `Image`
-that writes is open, the command says that it is locked, and an `Image` doesn't open where another has the lock. In Rust, where there is a
-rustc, the tests of the crate run.
+"""The module for Python and the crate for Rust, where they aren't what tests/disk_library.py has compared with the command: Python's
+exceptions, texts and type hints; in Rust, where there is a cargo, its tests without a warning, with the library in a folder and with the
+one that pkg-config finds, and its examples.
 
 usage: tests/bindings.py PTAB ARCHIVE     ARCHIVE is crates/pt_c/out/libpt_c.a
 """
-import fcntl
+import inspect
 import os
-import resource
 import shutil
 import subprocess
 import sys
+import typing
+import uuid
 
 HERE = os.path.dirname(os.path.abspath(__file__))
 ROOT = os.path.dirname(HERE)
 sys.path[:0] = [HERE, os.path.join(ROOT, "bindings", "python")]
 import images
 import ptab as lib
-from images import FREEBSD, LARGE, SMALL, room
+from images import FREEBSD, SMALL, entry, label, record, room
 
+NO_COPY = "no MBR, and neither copy of a GPT exists: the signature isn't EFI PART (primary); the signature isn't EFI PART (backup)"
 checked = 0
-# The second edit of each goes on from the first, and would undo it if it were planned from what was there before.
-EDITS = (
-    ("GPT", SMALL, images.one_partition, (["c:1:data"], ["a:1", "n:2:0:+8"], ["d:1", "c:2:root"])),
-    ("GPT of 4096 bytes", LARGE, lambda: LARGE.gpt(64, {1: images.entry(6, 40)}), (["c:1:data"], ["a:1", "n:2:0:+8"], ["d:1"])),
-    ("GPT with a slice", SMALL, lambda: SMALL.gpt(300, {1: images.entry(40, 139, FREEBSD)}), (["c:1:x"], ["a:1", "n:0:160:180"], ["d:1"])),
-    ("MBR", SMALL, lambda: SMALL.mbr(200, [images.record(0x83, 120, 30, 0x80)]), (["t:1:07"], ["a:1", "n:2:10:+20"], ["d:1"])),
-)
-DRAWN = bytes(range(256))
 
 
 def same(what, found, wanted):
     global checked
     checked += 1
     if found != wanted:
-        sys.exit(f"bindings: {what}:\n  found  {found!r:.300}\n  wanted {wanted!r:.300}")
+        sys.exit(f"bindings: {what}:\n  found  {found!r:.600}\n  wanted {wanted!r:.600}")
 
 
-def must(*words):
-    done = subprocess.run(words, capture_output=True, text=True)
+def must(*words, **more):
+    done = subprocess.run(words, capture_output=True, text=True, **more)
     if done.returncode != 0:
         sys.exit(f"{words}: status {done.returncode}\n{done.stdout}{done.stderr}")
     return done.stdout
 
 
-def content(path):
-    with open(path, "rb") as it:
-        return it.read()
+def put(path, content):
+    with open(path, "wb") as it:
+        it.write(content)
 
 
-class Failing(lib.Image):
-    """An image of which one write or sync of `carry_out` fails: `left` calls come before it. Where it is `done`, it fails afterwards."""
-    left, done = None, False
-
-    def _turn(self, call):
-        if self.left is None:
-            return call()
-        self.left -= 1
-        if self.left >= 0:
-            return call()
-        self.left = None
-        if self.done:
-            call()
-        raise OSError("as the test wants")
-
-    def write(self, number, data):
-        self._turn(lambda: super(Failing, self).write(number, data))
-
-    def sync(self):
-        self._turn(super().sync)
+def error_of(call):
+    try:
+        found = call()
+    except Exception as error:
+        return error
+    sys.exit(f"bindings: no error, but {found!r}")
 
 
-class Case:
-    """An image in a file, and what the command makes of it in a copy."""
-
-    def __init__(self, ptab, it, folder, sectors, image):
-        self.ptab, self.it, self.sectors, self.image = ptab, it, sectors, bytes(image)
-        self.path, self.copy = f"{folder}/image", f"{folder}/copy"
-        self.put()
-
-    def put(self):
-        with open(self.path, "wb") as file:
-            file.write(self.image)
-
-    def by_command(self, *edits):
-        """The bytes that the command makes of the file by these edits."""
-        shutil.copyfile(self.path, self.copy)
-        for words in edits:
-            must(self.ptab, "edit", self.copy, "--sector-size", str(self.sectors.size), "--fresh", DRAWN.hex(), *words)
-        return content(self.copy)
-
-    def opened(self):
-        return Failing(self.it, self.path, self.sectors.size, writes=True)
-
-
-def in_one_block(case, name, edits):
-    wanted = case.by_command(*edits)
-    with case.opened() as image:
-        for words in edits:
-            image.carry_out(image.disk.plan(words, DRAWN))
-        same(f"{name}: the partitions", [row.number for row in image.disk.members()[1]],
-             [row.number for row in lib.Disk(case.it, image.read, image.disk.sectors, image.size).members()[1]])
-    same(f"{name}: edits in one block", content(case.path) == wanted, True)
-    case.put()
+def exceptions(folder):
+    """Each kind of exception is also the system's that goes with it, and prints as its sentence."""
+    path, blank = f"{folder}/image", f"{folder}/blank"
+    put(path, images.one_partition())
+    put(blank, SMALL.zeros(4096))
+    with lib.Disk(path, write=True) as disk, lib.Disk(blank) as none:
+        cases = ((lambda: disk.edit("x"), lib.BadArgument, ValueError, "word 1: another letter than a word's"),
+                 (lambda: disk.edit("d:2"), lib.Refused, lib.Error, "no such partition"),
+                 (lambda: disk.apply([[(100, bytes(512))]]), lib.Refused, lib.Error,
+                  "sector 100 is written, and is in the tables of neither layout"),
+                 (lambda: disk.apply([[(5, b"short")]]), lib.BadArgument, ValueError,
+                  "the plan's bytes aren't a whole sector for each write, or its phases aren't in order"),
+                 (lambda: lib.Disk(path, write=True), lib.Locked, BlockingIOError, "the lock is held elsewhere"),
+                 (none.table, lib.NoTable, lib.Error, f"there is no table: {NO_COPY}"),
+                 (lambda: disk.adopt(none), lib.NoTable, lib.Error, f"the other disk: {NO_COPY}"),
+                 (lambda: lib.Disk(f"{folder}/no"), lib.DeviceFault, OSError, "the disk can't be opened: No such file or directory"))
+        for call, kind, system, told in cases:
+            error = error_of(call)
+            same(told, (type(error), isinstance(error, (system, lib.Error)), str(error), repr(error)),
+                 (kind, True, told, f"{kind.__name__}({told!r})"))
+        same("a word with a zero byte", str(error_of(lambda: disk.edit("c:1:\0"))), "a word has a zero byte")
+        same("texts", (repr(disk), repr(disk.verify()), str(disk.verify()), str(none.verify())),
+             (f"Disk({path!r})", "Verdict('yes')", "yes", "there is no table"))
+    same("closed", (repr(disk), str(error_of(disk.verify))), (f"Disk({path!r}, closed)", "the disk is closed"))
+    disk.close()
+    del disk
 
 
-def after_a_failure(case, name, first, second, done):
-    """Each write and each sync of the first edit fails in turn, and the second is made from what is there then."""
-    with case.opened() as image:
-        calls = sum(len(phase) + 1 for phase in image.disk.plan(first, DRAWN))
-    for left in range(calls):
-        case.put()
-        with case.opened() as image:
-            phases = image.disk.plan(first, DRAWN)
-            image.left, image.done = left, done
-            try:
-                image.carry_out(phases)
-                sys.exit(f"{name}: call {left} of {calls} didn't fail")
-            except OSError as why:
-                same(f"{name}: call {left} fails", str(why), "as the test wants")
-            wanted = case.by_command(second)
-            image.carry_out(image.disk.plan(second, DRAWN))
-        same(f"{name}: {second} after call {left} of {calls} of {first}", content(case.path) == wanted, True)
-    case.put()
+def rows(folder):
+    """The fields of a table and of its partitions, of each kind."""
+    path = f"{folder}/rows"
+    gpt = SMALL.gpt(300, {1: entry(40, 139, FREEBSD, images.guid(7), 5, "é𝄞"), 2: entry(150, 160, images.guid(9))})
+    SMALL.put(gpt, 41, label(100, {0: (30, 16, 7)}))
+    put(path, gpt)
+    with lib.Disk(path) as disk:
+        table = disk.table()
+        same("a GPT", table[:5], ("gpt", 300, 34, 266, uuid.UUID(images.DISK)))
+        same("its partitions", table.partitions, (
+            (1, "", 40, 139, "A500", "é𝄞", uuid.UUID(images.guid(7)), 5, 0), (1, "a", 56, 85, "07", "", None, 0, 0),
+            (2, "", 150, 160, images.guid(9), "", uuid.UUID(images.FIRST), 0, 0)))
+        same("paths", [it.path for it in table.partitions], ["1", "1.a", "2"])
+        same("places", (disk.locate(1, 5, "a"), disk.locate(2, 3), disk.locate(1, 0)), (61, 153, None))
+    put(path, SMALL.mbr(200, [record(0x83, 120, 30, 0x80)]))
+    with lib.Disk(path) as disk:
+        same("an MBR", disk.table(), ("mbr", 200, 0, 0, None, ((1, "", 120, 149, "83", "", None, 0, 0x80),)))
 
 
-def after_a_full_file(case, name, first, second):
-    """The system refuses to write the last sector, as where there is no room."""
-    soft, hard = resource.getrlimit(resource.RLIMIT_FSIZE)
-    with case.opened() as image:
-        phases = image.disk.plan(first, DRAWN)
-        resource.setrlimit(resource.RLIMIT_FSIZE, (len(case.image) - case.sectors.size, hard))
-        try:
-            image.carry_out(phases)
-            sys.exit(f"{name}: a write past the limit was done")
-        except OSError as why:
-            same(f"{name}: the error", why.errno is not None, True)
-        finally:
-            resource.setrlimit(resource.RLIMIT_FSIZE, (soft, hard))
-        same(f"{name}: some of it was written", content(case.path) == case.image, False)
-        wanted = case.by_command(second)
-        image.carry_out(image.disk.plan(second, DRAWN))
-    same(f"{name}: {second} after a full file", content(case.path) == wanted, True)
-    case.put()
+def hints():
+    """Every public function has type hints that can be read."""
+    for name, it in inspect.getmembers(lib.Disk, inspect.isfunction):
+        if not name.startswith("_") or name == "__init__":
+            told = typing.get_type_hints(it)
+            same(f"hints of {name}", {*told}, {*inspect.signature(it).parameters, "return"} - {"self"})
 
 
-def locked(case):
-    """The lock of an image that writes is the command's."""
-    edit = [case.ptab, "edit", case.path, "c:1:other"]
-    with case.opened():
-        done = subprocess.run(edit, capture_output=True, text=True)
-        same("an edit beside an image that writes", (done.stdout, done.stderr, done.returncode), ("", "refused: locked\n", 3))
-        same("the image", content(case.path) == case.image, True)
-        must(case.ptab, "show", case.path)
-        with lib.Image(case.it, case.path) as reading:
-            same("an image that reads takes no lock", reading.disk.verify()[0], lib.DONE)
-    with open(case.path, "rb") as other:
-        fcntl.flock(other, fcntl.LOCK_SH)
-        try:
-            case.opened()
-            sys.exit("bindings: an image opened for writing while its lock was held")
-        except BlockingIOError:
-            same("the image", content(case.path) == case.image, True)
-    same("when it is free", must(*edit), "done\n")
-
-
-def in_rust(folder):
-    if not shutil.which("rustc"):
-        return "no rustc here"
-    rust = f"{ROOT}/bindings/rust"
-    must("rustc", "--edition", "2021", "-O", "-D", "warnings", "--crate-type", "rlib", "--crate-name", "ptab", f"{rust}/src/lib.rs",
-         "-o", f"{folder}/libptab.rlib")
-    must("rustc", "--edition", "2021", "-D", "warnings", "--test", f"{rust}/tests/edits.rs", "--extern", f"ptab={folder}/libptab.rlib",
-         "-L", folder, "-C", f"link-arg={folder}/libptab.a", "-o", f"{folder}/edits")
-    said = must(f"{folder}/edits")
-    same("the tests in Rust", "test result: ok. 2 passed; 0 failed; 0 ignored" in said, True)
+def in_rust(ptab, archive, folder):
+    """The crate in a copy, so that cargo leaves nothing here."""
+    if not shutil.which("cargo"):
+        return "no cargo here"
+    crate, prefix = f"{folder}/crate", f"{folder}/prefix"
+    shutil.copytree(f"{ROOT}/bindings/rust", crate, ignore=shutil.ignore_patterns("target", "Cargo.lock"))
+    where = {**os.environ, "CARGO_TARGET_DIR": f"{folder}/target", "RUSTFLAGS": "-D warnings", "CARGO_TERM_COLOR": "never"}
+    said = must("cargo", "test", "--offline", "--quiet", cwd=crate, env={**where, "PTAB_LIB_DIR": folder})
+    same("the tests in Rust", "5 passed; 0 failed" in said, True)
+    must(f"{ROOT}/install.sh", prefix, env={**os.environ, "PTAB": ptab, "LIBRARY": archive, "DESTDIR": ""})
+    if not shutil.which("pkg-config"):
+        return "Rust too, without pkg-config"
+    where["PKG_CONFIG_PATH"] = f"{prefix}/lib/pkgconfig"
+    put(f"{folder}/disk.img", SMALL.gpt(4096, {1: entry(2048, 4062, name="root")}))
+    example = ("cargo", "run", "--offline", "--quiet", "--manifest-path", f"{crate}/Cargo.toml", "--example")
+    same("rename.rs", must(*example, "rename", cwd=folder, env=where), "1 root\ndone\n")
+    same("show.rs", must(*example, "show", "--", "disk.img", "512", "t:1:8200", cwd=folder, env=where), "1 2048 4062 8200 archive\n")
+    done = subprocess.run([*example, "show", "--", "disk.img", "512", "d:9"], cwd=folder, env=where, capture_output=True, text=True)
+    same("a refusal", (done.stdout, done.stderr.splitlines()[-1], done.returncode), ("", "no such partition", 1))
     return "Rust too"
 
 
@@ -183,16 +132,11 @@ def main():
     ptab, archive = os.path.abspath(sys.argv[1]), os.path.abspath(sys.argv[2])
     with room() as folder:
         must(f"{ROOT}/bindings/c/build.sh", archive, folder)
-        it = lib.Ptab(f"{folder}/libptab.so.1")
-        for name, sectors, image, edits in EDITS:
-            case = Case(ptab, it, folder, sectors, image())
-            in_one_block(case, name, edits)
-            for done in (False, True):
-                after_a_failure(case, name, edits[0], edits[1], done)
-            if name.startswith("GPT"):
-                after_a_full_file(case, name, edits[0], edits[1])
-        locked(Case(ptab, it, folder, SMALL, images.one_partition()))
-        rust = in_rust(folder)
+        lib.load(f"{folder}/libptab.so.1")
+        exceptions(folder)
+        rows(folder)
+        hints()
+        rust = in_rust(ptab, archive, folder)
     print(f"bindings: {checked} passed, 0 failed ({rust})")
 
 

@@ -2,7 +2,7 @@
 """The C library beside the command: the header compiled as C and as C++, with all warnings; on images changed at random, of every kind and
 both sector sizes, one answer, one status and one image after an edit or a repair, each plan taken by the command's `check`'s twin, and no
 sector asked for twice; each request for memory refused in turn; the whole reply of each status (c_replies.py); valgrind silent where it is
-installed; the C example cut in each phase of its writes; the Rust crate where there is a rustc.
+installed; the C example cut in each phase of its writes.
 
 usage: tests/c_library.py PTAB ARCHIVE [COUNT]     ARCHIVE is crates/pt_c/out/libpt_c.a
 """
@@ -17,10 +17,10 @@ import sys
 
 HERE = os.path.dirname(os.path.abspath(__file__))
 ROOT = os.path.dirname(HERE)
-sys.path[:0] = [HERE, os.path.join(ROOT, "bindings", "python")]
+sys.path.insert(0, HERE)
 import c_replies
 import images
-import ptab as lib
+import replay as lib
 from images import LARGE, SMALL, room
 from writes import choices, written
 
@@ -119,7 +119,8 @@ def verified(disk):
 def refusal(failed, words):
     reply = failed.reply
     return {1: "", 2: f"bad word {words[reply.a - 1]}\n" if 0 < reply.a <= len(words) else "",
-            3: no_table(reply) if reply.about == 3 else "", 5: f"refused: edit {reply.number}\n",
+            3: no_table(reply) if reply.about == 3 else "", 9: "refused: other size\n" if reply.number == 1 else "",
+            10: f"other: {no_table(reply)}" if reply.about == 10 else "", 5: f"refused: edit {reply.number}\n",
             6: f"refused: plan {reply.number}\n", 7: f"refused: check {reply.number}\n",
             8: f"refused: repair {reply.number}\n"}[reply.about]
 
@@ -148,7 +149,7 @@ class Beside:
 
     def __init__(self, it, runner):
         self.it, self.runner = it, runner
-        self.turns = collections.defaultdict(collections.Counter)
+        self.turns, self.adopted = collections.defaultdict(collections.Counter), collections.Counter()
 
     def image(self, sectors, image):
         self.sectors, self.bytes, self.size = sectors, bytes(image), sectors.size
@@ -156,15 +157,19 @@ class Beside:
         with open(self.runner.path, "wb") as file:
             file.write(image)
 
-    def disk(self, image=None):
-        image, asked = self.bytes if image is None else image, set()
+    def disk_of(self, image):
+        """An image as a disk: no sector is asked for twice."""
+        count, asked = len(image) // self.size, set()
 
         def read(k):
-            if not 0 <= k < self.count or k in asked:
-                fail("asked for sector", k, "of", self.count)
+            if not 0 <= k < count or k in asked:
+                fail("asked for sector", k, "of", count)
             asked.add(k)
             return image[k * self.size:(k + 1) * self.size]
-        self.last = lib.Disk(self.it, read, self.count, self.size)
+        return lib.Disk(self.it, read, count, self.size)
+
+    def disk(self):
+        self.last = self.disk_of(self.bytes)
         return self.last
 
     def same(self, what, mine, theirs):
@@ -214,6 +219,7 @@ class Beside:
         mine, phases = changed(lambda: disk.plan(words, drawn), self.bytes, self.size, words)
         theirs = self.run("edit", *(["--fresh", drawn.hex()] if drawn else []), *words)
         self.same("edit", mine, (*theirs, self.after()))
+        self.edited = mine[3]
         self.taken(phases, rng)
         self.image(self.sectors, self.bytes)
         disk = self.disk()
@@ -222,17 +228,44 @@ class Beside:
         self.taken(phases, rng)
 
 
+    def adopts(self, rng, other):
+        """The image takes the table of another one of the same size of sectors."""
+        self.image(self.sectors, self.bytes)
+        path = f"{self.runner.path}.other"
+        with open(path, "wb") as file:
+            file.write(other)
+        disk = self.disk()
+        mine, phases = changed(lambda: disk.adopt(self.disk_of(other)), self.bytes, self.size, [])
+        self.same("adopt", mine, (*self.run("adopt", path), self.after()))
+        self.taken(phases, rng)
+        self.adopted[mine[2] or ("done" if phases else "nothing to do")] += 1
+
+
+def others(rng, runs, before):
+    """An image whose table is taken: the same one after an edit, or the one before it, mostly made as long."""
+    if before is None or rng.randrange(2) == 0:
+        return runs.edited
+    if rng.randrange(8) == 0:
+        return before
+    return (before + bytes(len(runs.bytes)))[:len(runs.bytes)]
+
+
 def beside(it, ptab, folder, count):
     rng = random.Random(1)
-    runs = Beside(it, HOSTILE["Runner"](ptab, f"{folder}/image"))
+    runs, before = Beside(it, HOSTILE["Runner"](ptab, f"{folder}/image")), {}
     for _ in range(count):
         sectors, image = HOSTILE["hostile"](rng)
         runs.image(sectors, image)
         runs.reads(rng)
         runs.writes(rng)
+        runs.adopts(rng, others(rng, runs, before.get(sectors.size)))
+        before[sectors.size] = image
     for what, turns in runs.turns.items():
         print(what, "by calls:", dict(sorted(turns.items())), file=sys.stderr)
-    return 5 * count
+    print("adopted:", dict(runs.adopted.most_common()), file=sys.stderr)
+    if not all(runs.adopted[it] for it in ("done", "refused: other size\n", "other: no table: copies 1 1\n")):
+        fail("no image was adopted, or none was refused:", dict(runs.adopted))
+    return 6 * count
 
 
 def disks():
@@ -266,8 +299,9 @@ def without_memory(library):
                     return failed.status
 
             phases = [[(0, bytes(size))]]
+            other = lib.Disk(it, lambda k: image[k * size:(k + 1) * size], len(image) // size, size)
             for call in (disk.members, disk.verify, lambda: disk.locate(1, "", 0), lambda: disk.plan(words, bytes(range(16)) * 4),
-                         disk.repair, lambda: disk.check(phases)):
+                         disk.repair, lambda: disk.adopt(other), lambda: disk.check(phases)):
                 it.lib.test_refuse(0, 0)
                 wanted = answer(call)
                 count = it.lib.test_requests()
@@ -287,14 +321,14 @@ def without_memory(library):
 def recorded(example, image, words, sectors, environment):
     """The writes, as (sector, bytes), before each sync after the first one."""
     log = f"{image}.log"
-    done = subprocess.run(["strace", "-e", "trace=openat,pwrite64,fsync", "-xx", "-s", str(2 * sectors.size), "-o", log, example, image,
+    done = subprocess.run(["strace", "-e", "trace=openat,pwrite64,fdatasync", "-xx", "-s", str(2 * sectors.size), "-o", log, example, image,
                            str(sectors.size), *words], capture_output=True, text=True, env=environment)
     if (done.stdout, done.returncode) != ("done\n", 0):
         fail(words, done)
     phases, writes, fd = [], [], None
     with open(log, encoding="ascii") as file:
         for line in file:
-            found = re.search(r"(openat|pwrite64|fsync)\((.*)\) += (\d+)$", line.strip())
+            found = re.search(r"(openat|pwrite64|fdatasync)\((.*)\) += (\d+)$", line.strip())
             if not found:
                 continue
             call, arguments, answer = found.groups()
@@ -373,15 +407,20 @@ def example_beside(ptab, example, folder):
     environment = {**os.environ, "PTAB_RANDOM": f"{folder}/drawn"}
     for sectors, image, words in disks():
         path = f"{folder}/example"
-        for line in (["show"], ["verify"], ["locate", "1", "3"], ["edit", *words], ["edit", "x"], ["repair"], ["show"], ["verify"]):
-            if line[0] in ("show", "edit"):
+        for name, content in (("other", image), ("longer", bytes(image) + bytes(sectors.size)), ("blank", bytes(len(image)))):
+            with open(f"{path}.{name}", "wb") as file:
+                file.write(content)
+        must(ptab, "edit", f"{path}.other", "--sector-size", str(sectors.size), "--fresh", drawn.hex(), *words)
+        adopt = [["adopt", f"{path}.{name}"] for name in ("other", "longer", "blank", "missing")]
+        for line in (["show"], ["verify"], ["locate", "1", "3"], ["edit", *words], ["edit", "x"], ["repair"], *adopt, ["show"], ["verify"]):
+            if line[0] in ("show", "edit", "adopt"):
                 with open(path, "wb") as file:
                     file.write(image)
             fresh = ["--fresh", drawn.hex()] if line[0] == "edit" else []
             run = [ptab, line[0], path, "--sector-size", str(sectors.size), *fresh, *line[1:]]
             wanted = subprocess.run(run, capture_output=True)
             after = open(path, "rb").read()
-            if line[0] in ("show", "edit"):
+            if line[0] in ("show", "edit", "adopt"):
                 with open(path, "wb") as file:
                     file.write(image)
             found = subprocess.run([example, path, str(sectors.size), *line], capture_output=True, env=environment)
@@ -398,24 +437,6 @@ def example_beside(ptab, example, folder):
     return checked
 
 
-def in_rust(folder):
-    """The Rust crate and its example, where there is a rustc."""
-    if not shutil.which("rustc"):
-        return 0
-    rust = f"{ROOT}/bindings/rust"
-    must("rustc", "--edition", "2021", "-O", "-D", "warnings", "--crate-type", "rlib", "--crate-name", "ptab", f"{rust}/src/lib.rs", "-o",
-         f"{folder}/libptab.rlib")
-    must("rustc", "--edition", "2021", "-D", "warnings", f"{rust}/examples/show.rs", "--extern", f"ptab={folder}/libptab.rlib", "-L",
-         folder, "-C", f"link-arg={folder}/libptab.a", "-o", f"{folder}/show")
-    path = f"{folder}/rust"
-    for sectors, image, words in disks():
-        with open(path, "wb") as file:
-            file.write(image)
-        must(f"{folder}/show", path, str(sectors.size))
-        must(f"{folder}/show", path, str(sectors.size), *words)
-    return 1
-
-
 def main():
     ptab, archive = os.path.abspath(sys.argv[1]), os.path.abspath(sys.argv[2])
     count = int(sys.argv[3]) if len(sys.argv) > 3 else 1000
@@ -427,7 +448,6 @@ def main():
         runs += without_memory(refusing)
         runs += example_beside(ptab, example, folder)
         runs += cut(ptab, example, folder)
-        runs += in_rust(folder)
         print(f"C library: {runs} passed, 0 failed")
 
 

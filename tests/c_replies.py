@@ -3,13 +3,13 @@ out by hand: words, findings, refusals and reasons by docs/commands.md, plans by
 import ctypes
 
 import images
-import ptab as lib
+import replay as lib
 from images import LARGE, SMALL
 
 FIELDS = [name for name, _ in lib.Reply._fields_]
 DRAWN = bytes(range(16)) * 8
-ARGUMENT, WORD, TABLE, FINDING, EDIT, CHECK, REPAIR = 1, 2, 3, 4, 5, 7, 8
-SIZE, VIEW, PATH, RANDOM, WORDS, ROWS = 1, 2, 3, 4, 5, 6
+ARGUMENT, WORD, TABLE, FINDING, EDIT, PLAN, CHECK, REPAIR, ADOPT, OTHER_TABLE = 1, 2, 3, 4, 5, 6, 7, 8, 9, 10
+SIZE, VIEW, PATH, RANDOM, WORDS, ROWS, OTHER_SIZE, OTHER_VIEW = 1, 2, 3, 4, 5, 6, 7, 8
 # for each number of a fault words with it, by the table of words: another letter; another count of fields; no number or path, or out of its
 # range; no GUID; no code
 FAULTS = {1: (b"x", b"", b"aa:1", b"N:1:0:0"), 2: (b"d", b"e:1", b"n:1:0", b"c:1", b"t:1:83:1"),
@@ -71,6 +71,13 @@ class Calls:
         status = call(ctypes.byref(given.view), *words, ctypes.byref(found))
         return status, whole(found)
 
+    def wanted(self, given, room=lib.MOST_WANTED):
+        sectors = Buffer(ctypes.c_uint64, room)
+        status, found = self.ends(self.lib.ptab_wanted, given, sectors.items, room)
+        self.listed = sectors.items[:found[1]] if status == lib.WANT else []
+        sectors.stays(len(self.listed))
+        return status, found
+
     def members(self, given, room=lib.MOST_MEMBERS):
         rows = Buffer(lib.Member, room)
         status, found = self.ends(self.lib.ptab_members, given, ctypes.byref(lib.Table()), rows.items, room)
@@ -99,6 +106,12 @@ class Calls:
     def repair(self, given, rows=lib.MOST_WRITES, room=None):
         return self.fills(self.lib.ptab_repair, given, rows, room)
 
+    def adopt(self, given, other=None, rows=lib.MOST_WRITES, room=None):
+        """Without another disk it is the disk itself."""
+        def call(view, *rest):
+            return self.lib.ptab_adopt_plan(view, ctypes.byref((other or given).view), *rest)
+        return self.fills(call, given, rows, room)
+
     def check(self, given, rows=(), data=None):
         """Rows are (sector, phase); of `data` None each sector has zeros."""
         writes = (lib.Write * max(1, len(rows)))(*rows)
@@ -111,7 +124,7 @@ class Calls:
         return self.check(given, rows, bytes(self.data.items)[:self.count * given.size])
 
     def all(self):
-        return self.members, self.verify, self.locate, self.plan, self.repair, self.check
+        return self.members, self.verify, self.locate, self.plan, self.repair, self.check, self.adopt, self.wanted
 
 
 def sliced(entries, **fields):
@@ -166,6 +179,17 @@ def arguments(calls):
     yield calls.check(Given(gpt).but(**worse), [(0, 0)]), misused(SIZE)
     yield calls.check(Given(gpt).but(**bad), [(0, 1)], bytes(511)), misused(ROWS)
     yield calls.check(Given(gpt).but(**bad), [(0, 0)]), misused(ROWS, a=1)
+    # of two disks: the size, the other's size, the view, the other view
+    large = LARGE.gpt(64, {1: images.entry(6, 40)})
+    for size in (0, 513, 4096):
+        yield calls.adopt(Given(gpt), Given(gpt).but(sector_size=size)), misused(OTHER_SIZE)
+    yield calls.adopt(Given(gpt), Given(large, 4096)), misused(OTHER_SIZE)
+    yield calls.adopt(Given(large, 4096), Given(gpt)), misused(OTHER_SIZE)
+    yield calls.adopt(Given(gpt).but(sector_size=1024), Given(gpt).but(sector_size=1024)), misused(SIZE)
+    yield calls.adopt(Given(gpt).but(**bad), Given(gpt).but(**worse)), misused(OTHER_SIZE)
+    yield calls.adopt(Given(gpt).but(**bad), Given(gpt).but(**bad)), misused(VIEW)
+    yield calls.adopt(Given(gpt), Given(gpt).but(**bad)), misused(OTHER_VIEW)
+    yield calls.adopt(Given(gpt).but(sectors=5000), Given(gpt).but(**bad)), misused(OTHER_VIEW)
     # what is no text is told before a word of it, and a word before the missing end
     yield calls.plan(Given(gpt), b"x\0\xff\0"), misused(WORDS)
     yield calls.plan(Given(gpt), b"e\0x\0e"), (lib.USAGE, reply(about=WORD, number=1, a=2))
@@ -202,6 +226,10 @@ def done(calls):
              (label, lambda: calls.plan(label, b"d:2\0"), 1, 1, 1), (broken, lambda: calls.repair(broken), 67, 4, 0)]
     chain = Given(images.chained({4096: images.ebr()}))
     plans.append((chain, lambda: calls.plan(chain, b"g\0"), 67, 2, 2))
+    # of another disk: a GPT onto another one, onto nothing, and onto the same
+    other = Given(SMALL.gpt(4096, {2: images.entry(100, 300)}))
+    plans += [(gpt, lambda: calls.adopt(gpt, other), 67, 4, 2), (empty, lambda: calls.adopt(empty, other), 68, 5, 3),
+              (other, lambda: calls.adopt(other), 0, 0, 0)]
     for given, call, count, phases, switch in plans:
         yield call(), (lib.DONE, reply(count=count, phases=phases))
         yield calls.check_last(given), (lib.DONE, reply(a=switch))
@@ -262,6 +290,15 @@ def refused(calls):
         given, told = Given(image), (lib.NO_TABLE, reply(about=TABLE, **fields))
         for call in (calls.members, calls.locate, calls.repair, lambda it: calls.plan(it, b"d:1\0")):
             yield call(given), told
+        other = (lib.NO_TABLE, reply(about=OTHER_TABLE, **fields))
+        for disk in (image, bytes(len(image))):
+            yield calls.adopt(Given(disk), given), other
+    # of another disk: another number of sectors, an MBR onto a GPT, a layout that isn't sound
+    longer = Given(SMALL.gpt(4097, {1: images.entry(2048, 4062)}))
+    for disk, another in ((gpt, longer), (longer, gpt), (gpt, Given(bytes(512 * 4095), only=()))):
+        yield calls.adopt(disk, another), (lib.REFUSED, reply(about=ADOPT, number=1))
+    yield calls.adopt(gpt, Given(SMALL.mbr(4096, [images.record(0x83, 40, 100)]))), (lib.REFUSED, reply(about=PLAN, number=1))
+    yield calls.adopt(gpt, Given(overlap)), (lib.REFUSED, reply(about=PLAN, number=4))
 
 
 def wanted(calls):
@@ -278,8 +315,54 @@ def wanted(calls):
     yield calls.plan(ends), (lib.DONE, reply(count=67, phases=4))
     label = sliced({0: (30, 16, 7)})
     for call in calls.all():
-        yield call(Given(label, without={11})), (lib.WANT, reply(sector=11))
-        yield call(Given(label, without={0})), (lib.WANT, reply(sector=0))
+        want = lib.WANT_OTHER if call == calls.adopt else lib.WANT
+        count = {"count": 1} if call == calls.wanted else {}
+        yield call(Given(label, without={11})), (want, reply(sector=11, **count))
+        yield call(Given(label, without={0})), (want, reply(sector=0, **count))
+    # of two disks: what recovery reads of the other one, and of the disk what a plan reads
+    other = SMALL.gpt(4096, {2: images.entry(100, 300)})
+    for k in (*range(34), *range(4063, 4096)):
+        yield calls.adopt(Given(gpt, without={k}), Given(other)), (lib.WANT, reply(sector=k))
+        lacking = Given(other, without={k})
+        yield calls.adopt(Given(gpt), lacking), (lib.WANT_OTHER, reply(sector=k)) if k < 34 else (lib.DONE, reply(count=67, phases=4))
+    sliced_other = SMALL.gpt(4096, {2: images.entry(100, 300, images.FREEBSD)})
+    yield calls.adopt(ends, Given(sliced_other, only=(*range(34), *range(4063, 4096)))), (lib.WANT_OTHER, reply(sector=101))
+    yield calls.adopt(ends, Given(sliced_other)), (lib.WANT, reply(sector=101))
+    both = (Given(gpt, without={1}), Given(other, without={1}))
+    yield calls.adopt(*both), (lib.WANT_OTHER, reply(sector=1))
+
+
+def listed(calls):
+    """All that is known to be wanted, and in which order: the labels of the slices that aren't in the view."""
+    ends = (*range(34), *range(4063, 4096))
+    three = {1: (100, 199), 2: (300, 399), 5: (50, 80)}
+    gpt = SMALL.gpt(4096, {n: images.entry(first, last, images.FREEBSD, images.guid(n)) for n, (first, last) in three.items()})
+    for known, sectors in (((), [101, 301, 51]), ((301,), [101, 51]), ((51, 101), [301]), ((101, 301, 51), [])):
+        found = calls.wanted(Given(gpt, only=(*ends, *known)))
+        yield found, (lib.WANT, reply(sector=sectors[0], count=len(sectors))) if sectors else (lib.DONE, reply())
+        yield (calls.listed, ()), (sectors, ())
+    # without its primary copy; of two slices in one place the label is listed once; a slice of one sector has none
+    lost = changed(gpt, 1, bytes(512))
+    yield calls.wanted(Given(lost, only=ends)), (lib.WANT, reply(sector=101, count=3))
+    same = SMALL.gpt(4096, {n: images.entry(100, 100 + 50 * n, images.FREEBSD, images.guid(n)) for n in range(3)})
+    yield calls.wanted(Given(same, only=ends)), (lib.WANT, reply(sector=101, count=1))
+    # records, and logical partitions once the chain is known: its extended boot records come one at a time
+    mbr = images.chained({4096: images.ebr(images.record(0xA5, 1, 20), images.record(0x05, 100, 50)),
+                          4196: images.ebr(images.record(0xA5, 1, 20))})
+    view = [0]
+    for sectors in ([4096], [4196], [4098, 4198], []):
+        found = calls.wanted(Given(mbr, only=view))
+        yield found, (lib.WANT, reply(sector=sectors[0], count=len(sectors))) if sectors else (lib.DONE, reply())
+        yield (calls.listed, ()), (sectors, ())
+        view += calls.listed
+    # what isn't known to be a table wants one sector, and what denotes nothing wants none
+    for only, sector in (((), 0), ((0,), 1), ((0, 1), 2), (range(33), 33)):
+        yield calls.wanted(Given(gpt, only=only)), (lib.WANT, reply(sector=sector, count=1))
+    for image in (bytes(4096 * 512), bytes(512), images.chained({4096: images.ebr(mark=b"\0\0")})):
+        yield calls.wanted(Given(image)), (lib.DONE, reply())
+    for space in (0, 2):
+        yield calls.wanted(Given(gpt, only=ends), space), (lib.ROOM, reply(count=3))
+    yield calls.wanted(Given(gpt, only=ends), 3), (lib.WANT, reply(sector=101, count=3))
 
 
 def room(calls):
@@ -289,12 +372,14 @@ def room(calls):
     for rows, space in ((66, None), (0, None), (67, 67 * 512 - 1), (67, 0), (0, 0)):
         yield calls.plan(gpt, rows=rows, room=space), (lib.ROOM, reply(count=67, phases=4))
         yield calls.repair(broken, rows, space), (lib.ROOM, reply(count=67, phases=4))
+        other = Given(SMALL.gpt(4096, {2: images.entry(100, 300)}))
+        yield calls.adopt(gpt, other, rows, space), (lib.ROOM, reply(count=67, phases=4))
 
 
 def checked(it):
     """Compares them all, and says how many there were; `it` is the library."""
     calls, count = Calls(it), 0
-    for part in (arguments, unreadable, done, no, refused, wanted, room):
+    for part in (arguments, unreadable, done, no, refused, wanted, listed, room):
         for number, (found, expected) in enumerate(part(calls)):
             if found != expected:
                 raise SystemExit(f"C library: {part.__name__} {number}: {told(*found)}, wanted {told(*expected)}")

@@ -3,7 +3,7 @@
 document's sessions in their order in one folder, and each command there answers what the document shows; docs/commands.md has one for each
 command, and says of each answer that isn't a success what to do. README's piece of a program stands in the example that it names, and
 examples/README.md lists each example. Each sentence that an error of the library prints stands in docs/commands.md. What docs/promises.md
-names is there, and so are the wrong bodies that docs/wrong_bodies.md names.
+names is there, and each file of CONTRIBUTING.md's recipes.
 
 usage: tests/docs.py PTAB [DOCUMENT...]
 """
@@ -15,6 +15,9 @@ import tempfile
 
 TOP = os.path.join(os.path.dirname(os.path.abspath(__file__)), "..")
 DOCUMENTS = ("README.md", "docs/commands.md", "docs/other_tools.md")
+# how a document names a file, and those that it names of any crate
+NAMED = re.compile(r"`([\w/.]+\.(?:rt|antt|txt|sh))`|\b((?:docs|tests|man|include|examples|completion|packaging)/[\w/.-]+\w)")
+GENERIC = ("wrong_bodies.txt", "laws.rt")
 # the rows of docs/commands.md that need no advice
 SUCCESSES = ("a number", "0")
 COMMANDS = ("show", "verify", "locate", "edit", "plan", "check", "apply", "repair")
@@ -209,15 +212,23 @@ def errors():
     return count
 
 
-def wrong_bodies():
-    """How many wrong bodies docs/wrong_bodies.md names; each stands in a crate's table."""
-    tables = [f"crates/{it}/wrong_bodies.txt" for it in os.listdir(f"{TOP}/crates")]
-    known = {it for table in tables if os.path.isfile(f"{TOP}/{table}") for it in re.findall(r"^name: (\w+)$", read(table), re.MULTILINE)}
-    rows = read("docs/wrong_bodies.md").partition("## The main promises")[2].partition("\n## ")[0]
-    named = re.findall(r"`(\w+)`", rows)
-    if unknown := [it for it in named if it not in known]:
-        sys.exit(f"docs/wrong_bodies.md names wrong bodies that no table has: {' '.join(unknown)}")
-    return len(named)
+def places(name):
+    """How many files a document names; each is there. A name without a folder of the repository's stands in the crate, or beside the
+    file, that its line names before it."""
+    count = 0
+    for line in read(name).splitlines():
+        crate, beside = "", ""
+        for found in NAMED.finditer(line):
+            path = found[1] or found[2]
+            first = path.partition("/")[0]
+            if os.path.isdir(f"{TOP}/crates/{first}"):
+                crate = f"crates/{first}"
+            there = [it for it in (f"crates/{path}", path, f"{crate}/{path}", f"{beside}/{path}") if os.path.isfile(f"{TOP}/{it}")]
+            if not there and path not in GENERIC:
+                sys.exit(f"{name} names {path}, which isn't there: {line}")
+            beside = os.path.dirname(there[0]) if there else beside
+            count += 1
+    return count
 
 
 def main():
@@ -228,7 +239,7 @@ def main():
     each_command(read("docs/commands.md"))
     print(f"docs/commands.md: {advice(read('docs/commands.md'))} answers say what to do; examples/README.md lists {examples()} examples")
     print(f"docs/promises.md: {promises()} names are there")
-    print(f"docs/wrong_bodies.md: {wrong_bodies()} wrong bodies are there")
+    print(f"CONTRIBUTING.md: {places('CONTRIBUTING.md')} files are there")
     print(f"errors: {errors()} sentences stand in docs/commands.md, 0 are missing")
 
 

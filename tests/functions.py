@@ -90,10 +90,6 @@ class Function:
         self.clauses = text[clauses:head_end].rstrip() if clauses else ""
         self.impl = impl_at(text, found.start())
 
-    def owner(self):
-        """The type, and behind it the trait, of its impl, as the prover names them. Nothing outside of one."""
-        return plain(self.impl.type) + plain(self.impl.trait) if self.impl else ""
-
     def names(self):
         """Its parameters."""
         return [it.removeprefix("mut ").partition(":")[0].split()[-1] for it in self.parameters]
@@ -136,7 +132,7 @@ def trait_text(trait, folders):
         for file in glob.glob(f"{folder}/src/**/*.rt", recursive=True):
             with open(file, encoding="utf-8") as it:
                 text = it.read()
-            if re.search(rf"^pub trait {trait}\b", text, re.MULTILINE):
+            if re.search(rf"^pub(?:\(crate\))? trait {trait}\b", text, re.MULTILINE):
                 return text
     raise SystemExit(f"wrong_bodies.py: no trait {trait}")
 
@@ -170,14 +166,14 @@ def with_imports(text, imports):
 
 
 def second(text, body, folders):
-    """The text with a function of this body besides. A body that is right calls the function."""
+    """The text with a function of this body besides. One without a text calls the function."""
     function = function_of(text, body.of)
     clauses, imports = function.clauses, body.uses
     if function.impl and function.impl.trait and not clauses:
         clauses, more = inherited(function, folders)
         imports = [*imports, *more]
     signature = re.sub(rf"\bfn {function.name}\b", f"fn {body.name}", function.signature, count=1)
-    made = f"\n\n{signature}\n{clauses}\n{{\n{function.call() if body.is_right else body.text}\n}}\n"
+    made = f"\n\n{signature}\n{clauses}\n{{\n{body.text or function.call()}\n}}\n"
     at = function.body[1] + 1
     if function.impl and function.impl.trait:
         made, at = f"\n\n{function.impl.alone} {{{made}}}\n", function.impl.end + 1

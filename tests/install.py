@@ -18,7 +18,8 @@ TOP = os.path.abspath(os.path.join(os.path.dirname(os.path.abspath(__file__)), "
 PLACES = {"bin/ptab": (None, 0o755), "bin/ptab-run": ("tools/ptab-run", 0o755), "share/man/man8/ptab.8": ("man/ptab.8", 0o644),
           "share/man/man8/ptab-run.8": ("man/ptab-run.8", 0o644),
           "share/bash-completion/completions/ptab": ("completion/ptab.bash", 0o644)}
-LIBRARY = ("include/ptab.h", "lib/libptab.a", "lib/libptab.so.1", "lib/libptab.so", "lib/pkgconfig/ptab.pc")
+LIBRARY = ("include/ptab.h", "include/ptab_disk.h", "lib/libptab.a", "lib/libptab.so.1", "lib/libptab.so", "lib/pkgconfig/ptab.pc",
+           "lib/python3/dist-packages/ptab.py")
 COMMANDS = ["show", "verify", "locate", "edit", "plan", "check", "apply", "repair", "adopt"]
 WORDS = ["a:", "o", "n:", "d:", "t:", "c:", "u:", "U:", "A:", "e", "g"]
 # the words before the cursor, as bash divides them, and what is completed
@@ -26,8 +27,11 @@ COMPLETIONS = (
     (["ptab", ""], [*COMMANDS, "help"]), (["ptab", "re"], ["repair"]), (["ptab", "--h"], ["--help"]), (["ptab", "help", "ch"], ["check"]),
     (["ptab", "help", "check", ""], []), (["ptab", "show", ""], ["folder", "a.img", "b.raw"]), (["ptab", "show", "a"], ["a.img"]),
     (["ptab", "show", "n"], ["notes"]), (["ptab", "show", "folder/"], ["folder/c.img"]), (["ptab", "show", "a.img", ""], []),
-    (["ptab", "edit", "--"], ["--fresh", "--sector-size", "--no-lock", "--help"]), (["ptab", "show", "--"], ["--sector-size", "--help"]),
-    (["ptab", "plan", "--"], ["--fresh", "--sector-size", "--help"]), (["ptab", "check", "--n"], []),
+    (["ptab", "edit", "--"], ["--fresh", "--device", "--sector-size", "--in-use", "--no-lock", "--help"]),
+    (["ptab", "show", "--"], ["--after", "--device", "--sector-size", "--help"]), (["ptab", "verify", "--in"], []),
+    (["ptab", "adopt", "--o"], ["--other-device"]), (["ptab", "repair", "--in"], ["--in-use"]),
+    (["ptab", "show", "--after", "n"], ["notes"]), (["ptab", "show", "--after", "notes", ""], ["folder", "a.img", "b.raw"]),
+    (["ptab", "plan", "--"], ["--fresh", "--device", "--sector-size", "--help"]), (["ptab", "check", "--n"], []),
     (["ptab", "apply", "--n"], ["--no-lock"]), (["ptab", "repair", "--no-lock", ""], ["folder", "a.img", "b.raw"]),
     (["ptab", "edit", "--sector-size", ""], ["512", "4096"]), (["ptab", "edit", "--sector-size", "=", "4"], ["4096"]),
     (["ptab", "edit", "--sector-size", "="], ["512", "4096"]),
@@ -103,22 +107,47 @@ def which_program(folder, ptab):
 
 
 def library(folder, ptab, archive):
-    """The files of the library, and what a C program says that is compiled as pkg-config has it."""
+    """The files of the library; what a C program does that is compiled as pkg-config has it, and the module for Python, without a word on
+    where the library is. All have one version."""
     prefix = f"{folder}/with"
     done = subprocess.run([f"{TOP}/install.sh", prefix], capture_output=True, text=True,
                           env={**os.environ, "PTAB": ptab, "LIBRARY": archive, "DESTDIR": ""})
     same("install.sh with a library", (done.returncode, done.stderr), (0, ""))
     same("its lines", done.stdout.splitlines(), [f"installed {prefix}/{place}" for place in (*PLACES, *LIBRARY)])
     same("its files", files(prefix), sorted((*PLACES, *LIBRARY)))
-    same("the header", filecmp.cmp(f"{prefix}/include/ptab.h", f"{TOP}/include/ptab.h", shallow=False), True)
-    with open(f"{folder}/version.c", "w", encoding="utf-8") as it:
-        it.write('#include <ptab.h>\n#include <stdio.h>\nint main(void) { printf("%d\\n", ptab_version() == PTAB_VERSION); return 0; }\n')
+    for place, source in (("include/ptab.h", "include/ptab.h"), ("include/ptab_disk.h", "include/ptab_disk.h"),
+                          ("lib/python3/dist-packages/ptab.py", "bindings/python/ptab.py")):
+        same(f"{place}", filecmp.cmp(f"{prefix}/{place}", f"{TOP}/{source}", shallow=False), True)
     with open(f"{prefix}/lib/pkgconfig/ptab.pc", encoding="utf-8") as it:
         told = it.read().replace("${includedir}", f"{prefix}/include").replace("${libdir}", f"{prefix}/lib")
     flags = [line.partition(": ")[2].split() for line in told.splitlines() if line.startswith(("Cflags: ", "Libs: "))]
-    subprocess.run(["cc", *flags[0], f"{folder}/version.c", *flags[1], "-o", f"{folder}/version"], check=True)
-    done = subprocess.run([f"{folder}/version"], capture_output=True, text=True, env={**os.environ, "LD_LIBRARY_PATH": f"{prefix}/lib"})
-    same("the version that a C program sees", done.stdout, "1\n")
+    subprocess.run(["cc", f"{TOP}/examples/c/rename.c", *flags[0], *flags[1], "-o", f"{folder}/rename"], check=True)
+    where = {key: value for key, value in os.environ.items() if key not in ("LD_LIBRARY_PATH", "PTAB_LIBRARY")}
+    where["PYTHONPATH"] = f"{prefix}/lib/python3/dist-packages"
+    for program in ([f"{folder}/rename"], [sys.executable, "-B", f"{TOP}/examples/python/rename.py"]):
+        with open(f"{folder}/disk.img", "wb") as it:
+            it.truncate(1 << 20)
+        words = ("--fresh", "0" * 64, "o", "a:1", "n:1:40:0", "c:1:root")
+        subprocess.run([ptab, "edit", f"{folder}/disk.img", *words], check=True, capture_output=True)
+        done = subprocess.run(program, capture_output=True, text=True, cwd=folder, env=where)
+        same(f"{program}", (done.stdout, done.stderr, done.returncode), ("1 root\ndone\n", "", 0))
+        shown = subprocess.run([ptab, "show", f"{folder}/disk.img"], capture_output=True, text=True, check=True).stdout
+        same("the name", shown.split()[-1], "archive")
+    version = subprocess.run([f"{TOP}/packaging/version.sh"], capture_output=True, text=True).stdout
+    same("the version for pkg-config", f"\nVersion: {version}" in told, True)
+
+
+def versions(ptab):
+    """The one version number, wherever it stands."""
+    done = subprocess.run([f"{TOP}/packaging/version.sh"], capture_output=True, text=True)
+    version = done.stdout.strip()
+    done = subprocess.run([ptab, "--version"], capture_output=True, text=True)
+    same("the version of the command", done.stdout, f"ptab {version}\n")
+    page, line = f'"Jawefon {version}"', f'version = "{version}"\n'
+    for place, head in (("man/ptab.8", page), ("man/ptab-run.8", page), ("CHANGELOG.md", f"## {version}"),
+                        ("bindings/python/pyproject.toml", line), ("bindings/rust/Cargo.toml", line)):
+        with open(f"{TOP}/{place}", encoding="utf-8") as it:
+            same(f"the version in {place}", head in it.read(), True)
 
 
 def refused(folder, ptab):
@@ -157,6 +186,7 @@ def main():
         which_program(folder, ptab)
         if len(sys.argv) > 2:
             library(folder, ptab, os.path.abspath(sys.argv[2]))
+        versions(ptab)
         refused(folder, ptab)
         completions(folder, f"{folder}/own/share/bash-completion/completions/ptab")
     print(f"installing: {checked} passed, 0 failed")

@@ -19,6 +19,8 @@ NOT_DIAGNOSTICS = ("Word", "Table", "Status", "E")
 # what docs/commands.md writes shorter: the text there, and those printed that it stands for
 SHORT = {"no table: ..": [], "a number": [], "no 5 alternate primary": ["no 5 alternate primary", "no 5 alternate backup"],
          "refused: check N": []}
+# the options of all commands, and of all that write, which docs/commands.md tells once
+COMMON = ("[--sector-size BYTES]", "[--device]", "[--in-use]")
 compared = 0
 
 
@@ -132,9 +134,9 @@ def help_of(ptab, *words):
     return done.stdout
 
 
-def arguments(usage):
-    """A usage's arguments and options; an option may stand before the image or behind it."""
-    return sorted(re.findall(r"\[[^]]*\]|\S+", usage))
+def arguments(usage, *but):
+    """A usage's arguments and options, but for some; an option may stand before the image or behind it."""
+    return sorted(it for it in re.findall(r"\[[^]]*\]|\S+", usage) if it not in but)
 
 
 def digits(text):
@@ -164,7 +166,7 @@ def commands(ptab, page, docs):
         same(f"the options of {name}", re.findall(r"\[(--[^]]*)\]", line), taken)
         options |= set(taken)
         told = re.search(rf"`ptab ({name} [^`]*)`", docs).group(1)
-        same(f"docs/commands.md on {name}", arguments(told), arguments(line.replace(" [--sector-size BYTES]", "").removeprefix("ptab ")))
+        same(f"docs/commands.md on {name}", arguments(told), arguments(line.removeprefix("ptab "), *COMMON))
         statuses = re.search(r"Exit status: ([\d, ]+)\.", described[name]).group(1).replace(", ", "")
         same(f"the statuses of {name}", statuses, digits(text))
     same("the options of OPTIONS", set(tagged(page["OPTIONS"])), options | {"-h, --help", "-V, --version"})

@@ -26,7 +26,7 @@ FAILS, DONE_AND_FAILS, ONE_BYTE, NOTHING = range(4)
 DEVICE = ("", "device\n", 5)
 OTHER_DEVICE = ("", "other: device\n", 5)
 # what follows the image of a command: the file of the words' plan, or the image that the words make
-PLAN, OTHER = ("plan",), ("other",)
+PLAN, OTHER, AFTER = ("plan",), ("other",), ("after",)
 # What can come of a call, by its letter: how it fails, and errno. The others of `MORE` come at fewer calls, but with `all`. Of a plan's
 # file a read of nothing is its end.
 FAULTS = {"s": ((FAILS, errno.EIO),), "o": ((FAILS, errno.EIO),), "l": ((FAILS, errno.EIO),), "r": ((FAILS, errno.EIO),), "c": (),
@@ -177,6 +177,7 @@ def full_streams(ptab, disk):
         it.write_plan(it.run(("plan", it.path, *words))[0])
         it.write_other(("edit",), words)
         for command, (rest, writing) in lines(words).items():
+            command = command.split()[0]
             line = (command, it.path, *files(it).get(rest, rest))
             it.put(image)
             it.run(line)
@@ -197,11 +198,11 @@ def full_streams(ptab, disk):
 def lines(words):
     """Of each command what follows the image, and the words whose plan it writes."""
     return {"edit": (words, words), "apply": (PLAN, words), "repair": ((), ("a:1",)), "adopt": (OTHER, words), "plan": (words, ()),
-            "check": (PLAN, ()), "verify": ((), ()), "show": ((), ()), "locate": (("1", "0"), ())}
+            "check": (PLAN, ()), "verify": ((), ()), "show": ((), ()), "show after": (AFTER, ()), "locate": (("1", "0"), ())}
 
 
 def files(it):
-    return {PLAN: (it.plan,), OTHER: (it.other,)}
+    return {PLAN: (it.plan,), OTHER: (it.other,), AFTER: ("--after", it.plan)}
 
 
 def on_disk(ptab, loaded, disk, command, step, whole):
@@ -212,14 +213,14 @@ def on_disk(ptab, loaded, disk, command, step, whole):
     with room() as folder:
         it = Failing(ptab, loaded, folder)
         it.put(image)
-        if rest == PLAN:
+        if rest in (PLAN, AFTER):
             it.write_plan(it.run(("plan", *size, it.path, *words))[0])
         if rest == OTHER:
             it.write_other(("edit", *size), words)
         if command == "repair" and it.run(("show", *size, it.path))[2] != 0:
             writing = ()
-        run = Run(it, name, sectors, image, (command, *size, it.path, *files(it).get(rest, rest)), writing)
-        return [fail_each(run, on, step, whole) for on in (it.path, *files(it).get(rest, ()))]
+        run = Run(it, name, sectors, image, (command.split()[0], *size, it.path, *files(it).get(rest, rest)), writing)
+        return [fail_each(run, on, step, whole) for on in (it.path, *files(it).get(rest, ())) if on != "--after"]
 
 
 def main():

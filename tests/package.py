@@ -25,8 +25,8 @@ FILES = {"usr/bin/ptab": "-rwxr-xr-x", "usr/bin/ptab-run": "-rwxr-xr-x", "usr/sh
          "usr/share/bash-completion/completions/ptab": "-rw-r--r--",
          "usr/share/doc/ptab/BUILD": "-rw-r--r--", "usr/share/doc/ptab/changelog.gz": "-rw-r--r--",
          "usr/share/doc/ptab/copyright": "-rw-r--r--", "usr/share/man/man8/ptab.8.gz": "-rw-r--r--"}
-DEV = ("include/ptab.h", "lib/libptab.a", "lib/libptab.so", "lib/libptab.so.1", "lib/pkgconfig/ptab.pc",
-       "share/doc/libptab-dev/c.md.gz")
+DEV = ("include/ptab.h", "include/ptab_disk.h", "lib/libptab.a", "lib/libptab.so", "lib/libptab.so.1", "lib/pkgconfig/ptab.pc",
+       "lib/python3/dist-packages/ptab.py", "share/doc/libptab-dev/c.md.gz")
 checked = 0
 
 
@@ -75,7 +75,8 @@ def told(deb, sum_of):
     head = run("git", "-C", TOP, "rev-parse", "HEAD").strip()
     same("its name", (fields["Package"], fields["Section"], fields["Priority"]), ("ptab", "admin", "optional"))
     same("its architecture", fields["Architecture"], run("dpkg", "--print-architecture").strip())
-    same("its version", bool(re.fullmatch(rf"0~git\d{{14}}\.{head[:12]}(\.changed)?", fields["Version"])), True)
+    version = re.escape(run(f"{TOP}/packaging/version.sh").strip())
+    same("its version", bool(re.fullmatch(rf"{version}\+git\d{{14}}\.{head[:12]}(\.changed)?", fields["Version"])), True)
     same("its maintainer", bool(re.fullmatch(r"[^<>]+ <[^<>@ ]+@[^<>@ ]+>", fields["Maintainer"])), True)
     same("what it needs", bool(re.fullmatch(r"libc6 \(>= 2\.\d+\)", fields["Depends"])), True)
     lines = fields["Description"].splitlines()
@@ -127,7 +128,11 @@ def library(archive, folder):
     found = {line.split()[5].removeprefix("./") for line in run("dpkg-deb", "-c", deb).splitlines() if not line.startswith("d")}
     same("what the library's package holds", found, {f"usr/{place}" for place in DEV})
     run("dpkg-deb", "-x", deb, f"{folder}/devtree")
-    same("its header", content(f"{folder}/devtree/usr/include/ptab.h") == content(f"{TOP}/include/ptab.h"), True)
+    for place, source in (("include/ptab.h", "include/ptab.h"), ("include/ptab_disk.h", "include/ptab_disk.h"),
+                          ("lib/python3/dist-packages/ptab.py", "bindings/python/ptab.py")):
+        same(f"its {place}", content(f"{folder}/devtree/usr/{place}") == content(f"{TOP}/{source}"), True)
+    with open(f"{folder}/devtree/usr/lib/pkgconfig/ptab.pc", encoding="utf-8") as it:
+        same("no path that the loader knows", "rpath" in it.read(), False)
     sum_of = hashlib.sha256(content(archive)).hexdigest()
     same("its description's end", run("dpkg-deb", "-f", deb, "Description").splitlines()[-1].strip(),
          f"SHA-256 of the proved archive: {sum_of}")

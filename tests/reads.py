@@ -1,6 +1,6 @@
 #!/usr/bin/env python3
 """Compares the sectors that each command asks the image for with those that docs/model.md says it reads: `show` and `locate` what recovery
-reads, `verify` what decides the verdict, `check` and `apply` what a check of that plan reads, each exactly; `plan`, `edit` and `repair` no
+reads, `verify` what decides the verdict, `check`, `apply` and `show --after` what a check of that plan reads, each exactly; `plan`, `edit` and `repair` no
 others than what decides the verdict, what a plan reads and what its check reads. So no bad sector elsewhere fails a call. An edit, a plan,
 a check and a repair read no sector twice. All this on tables of every kind and both sector sizes, with edits of several kinds that are
 done and that are refused. A rename in a GPT reads at most 140 sectors and writes 67.
@@ -160,8 +160,8 @@ def change(it, what, sectors, image, edits, is_done):
     most = known | (plan_reads(disk.after(phases)) if is_done else {0}) | checked
     it.compare((what, "plan", edits), read, known, most)
     if is_done:
-        for command in ("check", "apply"):
-            _, read, _ = it.once(what, sectors, image, command, [it.file(plan)])
+        for command, *option in (("check",), ("show", "--after"), ("apply",)):
+            _, read, _ = it.once(what, sectors, image, command, [*option, it.file(plan)])
             it.compare((what, command, edits), read, checked, checked)
     _, read, wrote = it.once(what, sectors, image, "edit", words, status)
     it.compare((what, "edit", edits), read, known | checked, most)

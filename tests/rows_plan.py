@@ -64,20 +64,24 @@ class Plans(Command):
     def objected(self, plan, reason):
         """check says no for that reason, and so does apply, which writes nothing."""
         self.checked(plan, f"no {reason}", 1)
+        self.gives(["show", "--after", self.file], f"no {reason}\n", status=1)
         return self.gives(["apply", self.file], f"no {reason}\n", status=1)
 
     def applied(self, plan):
-        """apply does what the plan says, and nothing else."""
+        """apply does what the plan says, and nothing else; what `show` prints then it has printed before."""
         wanted = bytearray(self.image())
         for phase in plan:
             for lba, content in phase:
                 self.sectors.put(wanted, lba, content)
         with open(self.file, "w", encoding="ascii") as it:
             it.write(lines_of(plan))
+        told = self.run("show", "--after", self.file)
         self.gives(["apply", self.file], "done\n")
         if self.image() != bytes(wanted):
             sys.exit("apply left other bytes than the plan's")
-        return self
+        if told[2] != 0:
+            sys.exit(f"what a plan leaves isn't shown: {told}")
+        return self.gives(["show"], *told)
 
 
 def zeros(*places):
@@ -203,8 +207,8 @@ def large(command):
     plans.on(image)
     with open(plans.file, "w", encoding="ascii") as it:
         it.write(lines_of(plan))
-    for word in ("check", "apply"):
-        plans.gives([word, plans.file], "", "refused: plan text 1\n", 3)
+    for words in (["check"], ["apply"], ["show", "--after"]):
+        plans.gives([*words, plans.file], "", "refused: plan text 1\n", 3)
 
 
 def refused_as_edit(command):

@@ -25,15 +25,14 @@ ROOT = os.path.dirname(HERE)
 
 
 def run(words):
-    """Its exit status, what it said, and the seconds it took."""
-    began = time.monotonic()
+    """Its exit status, and what it said."""
     with tempfile.TemporaryFile("w+", errors="replace") as said:
         command = [sys.executable, f"{HERE}/{words[0]}", *words[1:]]
         # the scripts, and what they run, read whole images again and again
         how = {"stdin": subprocess.DEVNULL, "stdout": said, "stderr": subprocess.STDOUT, "env": {**os.environ, **KEEPS_MEMORY}}
         status = subprocess.run(command, check=False, **how).returncode
         said.seek(0)
-        return status, said.read(), time.monotonic() - began
+        return status, said.read()
 
 
 def groups_of(lines):
@@ -52,7 +51,7 @@ def answers_of(group):
     later = group[1:]
     first = run(group[0])
     if first[0] != 0 or not later:
-        return [first, *((1, "not run\n", 0) for _ in later)]
+        return [first, *((1, "not run\n") for _ in later)]
     with ThreadPoolExecutor(len(later)) as more:
         return [first, *more.map(run, later)]
 
@@ -85,9 +84,9 @@ def main(words):
     failed = []
     with ThreadPoolExecutor(len(os.sched_getaffinity(0))) as pool:
         for group, answers in zip(groups, start_all(pool, groups, said)):
-            for words, (status, text, seconds) in zip(group, answers.result()):
+            for words, (status, text) in zip(group, answers.result()):
                 name = os.path.basename(words[0])
-                print(f"== {name}, {seconds:.0f} s\n{text}", end="", flush=True)
+                print(f"== {name}\n{text}", end="", flush=True)
                 failed += [name] * (status != 0)
     if failed:
         sys.exit(f"side_by_side.py: failed: {' '.join(failed)}")

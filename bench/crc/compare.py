@@ -1,39 +1,50 @@
-"""Times a program that sums a file's bytes, and zlib on the same bytes, by turns; prints one table."""
-import statistics
-import subprocess
+"""Counts the instructions of summing some bytes once, by pt_sum, by the same loop in C and by zlib; prints one table.
+
+usage: bench/crc/compare.py PT_SUM LOOP FOLDER     the two programs, and a folder for what is written
+
+A count is that of many rounds less that of one, so that nothing counts but the sums. Each sum must be that of python's zlib. It ends with
+status 1 where pt_sum takes more than MOST times what gcc's loop does.
+"""
+import os
+import random
 import sys
-import time
 import zlib
 
-TURNS = 5
-ROUNDS = 9
+sys.path.insert(0, os.path.join(os.path.dirname(os.path.abspath(__file__)), ".."))
+from measure import instructions, run  # noqa: E402
 
-program, path = sys.argv[1:]
-with open(path, "rb") as file:
-    content = file.read()
-expected = "%08x" % zlib.crc32(content)
-
-ours, theirs = [], []
-for _ in range(TURNS):
-    lines = subprocess.run([program, path], capture_output=True, text=True, check=True).stdout.split("\n")
-    if lines[0] != expected:
-        sys.exit("the sums differ: pt_sum %s, zlib %s" % (lines[0], expected))
-    ours += [int(line.split()[0]) for line in lines[1:] if line]
-    for _ in range(ROUNDS):
-        start = time.perf_counter_ns()
-        zlib.crc32(content)
-        theirs.append(time.perf_counter_ns() - start)
+MOST = 1.05
+ROUNDS = 11
+SIZES = {92: "a header", 16384: "an array of 128 entries", 1 << 20: "1 MiB"}
 
 
-def row(name, times):
-    least, middle = min(times), statistics.median(times)
-    rate = len(content) / 1e6 / (least / 1e9)
-    print("| %-14s | %8.1f | %9.1f | %8.0f | %10.2f |" % (name, least / 1e6, middle / 1e6, rate, least / min(theirs)))
+def of_one_round(words, folder, content):
+    """The instructions that one round of a program takes on these bytes."""
+    path = f"{folder}/bytes"
+    with open(path, "wb") as it:
+        it.write(content)
+    counts = []
+    for rounds in (1, ROUNDS):
+        called = [words[0], path, str(rounds), *words[1:]]
+        found, expected = run(called).stdout.strip(), "%08x" % zlib.crc32(content * rounds)
+        if found != expected:
+            sys.exit(f"{called} prints {found}, and the sum is {expected}")
+        counts.append(instructions(called, folder))
+    return (counts[1] - counts[0]) / (ROUNDS - 1)
 
 
-print("CRC-32 of %d bytes, sum %s, %d rounds each, by turns" % (len(content), expected, len(ours)))
-print()
-print("| %-14s | %8s | %9s | %8s | %10s |" % ("what", "least ms", "median ms", "MB/s", "times zlib"))
-print("|%s|%s|%s|%s|%s|" % ("-" * 16, "-" * 9 + ":", "-" * 10 + ":", "-" * 9 + ":", "-" * 11 + ":"))
-row("zlib " + zlib.ZLIB_RUNTIME_VERSION, theirs)
-row("pt_sum", ours)
+def main():
+    ours, loop, folder = sys.argv[1:]
+    held = True
+    print(f"{'bytes':>8} {'pt_sum':>9} {'gcc -O2':>9} {'zlib':>9} {'pt_sum/gcc':>11}  instructions (zlib {zlib.ZLIB_RUNTIME_VERSION})")
+    for size, what in SIZES.items():
+        content = random.Random(size).randbytes(size)
+        counts = [of_one_round(words, folder, content) for words in ([ours], [loop], [loop, "zlib"])]
+        times = counts[0] / counts[1]
+        held = held and times <= MOST
+        print(f"{size:8} {counts[0]:9.0f} {counts[1]:9.0f} {counts[2]:9.0f} {times:11.3f}  {what}", flush=True)
+    print(f"pt_sum takes {'at most' if held else 'more than'} {MOST} times the instructions of the same loop in C")
+    sys.exit(0 if held else 1)
+
+
+main()

@@ -1,5 +1,6 @@
 #!/usr/bin/env bash
-# Makes of the proved archive what a C program links: OUT/libptab.a (the archive and its memory) and OUT/libptab.so.1 with its link.
+# Makes of the proved archive what a C program links: OUT/libptab.a (the archive, its memory, and the calls of ptab_disk.h) and
+# OUT/libptab.so.1 with its link.
 #
 # usage: bindings/c/build.sh ARCHIVE OUT     ARCHIVE is crates/pt_c/out/libpt_c.a, by packaging/build.py pt_c
 #   MEMORY=FILE.c   the three functions of memory; else bindings/c/memory.c, over malloc
@@ -14,14 +15,21 @@ out=$2
 folder=$(mktemp -d)
 trap 'rm -rf "$folder"' EXIT
 mkdir -p "$out"
-flags="-O2 -std=c11 -Wall -Wextra -pedantic -Werror -fPIC"
+flags="-O2 -std=c11 -Wall -Wextra -pedantic -Werror -fPIC -I$here/../../include"
 ${CC:-cc} $flags -c "${MEMORY:-$here/memory.c}" -o "$folder/ptab_memory.o"
+${CC:-cc} $flags -c "$here/ptab_disk.c" -o "$folder/ptab_disk.o"
+${CC:-cc} $flags -c "$here/ptab_disk_text.c" -o "$folder/ptab_disk_text.o"
 cp "$archive" "$folder/libptab.a"
 chmod u+w "$folder/libptab.a"
-ar rDs "$folder/libptab.a" "$folder/ptab_memory.o" 2>"$folder/said"
+ar rDs "$folder/libptab.a" "$folder/ptab_memory.o" "$folder/ptab_disk.o" "$folder/ptab_disk_text.o" 2>"$folder/said"
 {
   echo 'PTAB_1 {'
-  echo '  global: ptab_members; ptab_verify; ptab_locate; ptab_plan; ptab_repair; ptab_check; ptab_guid_text; ptab_type_code; ptab_version;'
+  echo '  global: ptab_wanted; ptab_members; ptab_verify; ptab_locate; ptab_plan; ptab_repair; ptab_adopt_plan; ptab_check;'
+  echo '  ptab_guid_text; ptab_type_code; ptab_version;'
+  echo '  ptab_disk_open; ptab_disk_take; ptab_disk_close; ptab_disk_size; ptab_disk_members; ptab_disk_verify; ptab_disk_locate;'
+  echo '  ptab_disk_edit; ptab_disk_repair; ptab_disk_adopt; ptab_disk_apply;'
+  echo '  ptab_disk_plan; ptab_disk_repair_plan; ptab_disk_adopt_plan; ptab_disk_check;'
+  echo '  ptab_message; ptab_name_text;'
   echo '  local: *;'
   echo '};'
 } >"$folder/exports"

@@ -1,232 +1,334 @@
-"""The library by ctypes: partitions, health, places and plans of a disk, whose sectors come from a `read(number)`.
+"""Partition tables of images and block devices: what they say, and checked edits and repairs.
 
-`Disk` asks until no sector is wanted. `Image`, below, is the use of it on a file: lock, sync, read, write by phases. Each call reads
-what it needs anew, so it answers for the disk as it is now."""
+    with ptab.Disk("disk.img", write=True) as disk:
+        for partition in disk.table().partitions:
+            print(partition.path, partition.name)
+        disk.edit("c:1:archive")
+
+Each call reads the disk anew, so it answers for the disk as it is now. One that writes stops at any moment with the old table or the new
+one on the disk. The module calls the library's ptab_disk.h by ctypes; docs/c.md says what that does."""
+from __future__ import annotations
+
 import ctypes as c
-import fcntl
 import os
+import uuid
+from pathlib import Path
+from typing import Iterable, NamedTuple, Optional, Sequence, Union
 
-DONE, NO, USAGE, REFUSED, NO_TABLE, DEVICE, MEMORY, WANT, ROOM = 0, 1, 2, 3, 4, 5, 6, -1, -2
-VERSION, MOST_MEMBERS, MOST_WRITES = 1, 1056, 264
+__all__ = ["BadArgument", "DeviceFault", "Disk", "Error", "Locked", "NoMemory", "NoTable", "Partition", "Plan", "Refused", "Table",
+           "Verdict", "Write", "load"]
+
+DONE, NO, USAGE, REFUSED, NO_TABLE, DEVICE, MEMORY, ROOM = 0, 1, 2, 3, 4, 5, 6, -2
+VERSION, MOST_MEMBERS, MOST_WRITES, GPT = 1, 1056, 264, 2
+WRITE, UNLOCKED, IS_DEVICE = 1, 2, 4
+ABOUT_DISK, LOCKED = 64, 7
 
 
-class View(c.Structure):
-    _fields_ = [("sector_size", c.c_uint32), ("sectors", c.c_uint64), ("numbers", c.c_void_p), ("numbers_len", c.c_size_t),
-                ("bytes", c.c_void_p), ("bytes_len", c.c_size_t)]
-
-
-class Reply(c.Structure):
+class _Reply(c.Structure):
     _fields_ = [("sector", c.c_uint64), ("count", c.c_uint64), ("phases", c.c_uint64), ("a", c.c_uint64), ("b", c.c_uint64),
                 ("about", c.c_uint32), ("number", c.c_uint32), ("a_letter", c.c_uint8), ("b_letter", c.c_uint8)]
 
 
-class Table(c.Structure):
+class _Table(c.Structure):
     _fields_ = [("sectors", c.c_uint64), ("first", c.c_uint64), ("last", c.c_uint64), ("kind", c.c_uint32), ("disk", c.c_uint8 * 16)]
 
 
-class Member(c.Structure):
+class _Member(c.Structure):
     _fields_ = [("number", c.c_uint64), ("first", c.c_uint64), ("last", c.c_uint64), ("attributes", c.c_uint64),
                 ("letter", c.c_uint8), ("kind", c.c_uint8), ("type_byte", c.c_uint8), ("boot", c.c_uint8),
                 ("type_guid", c.c_uint8 * 16), ("unique", c.c_uint8 * 16), ("name", c.c_uint16 * 36)]
 
 
-class Write(c.Structure):
+class _Write(c.Structure):
     _fields_ = [("sector", c.c_uint64), ("phase", c.c_uint64)]
 
 
-class Failed(Exception):
-    """A call that gave no answer: its status, and what its reply is about."""
-
-    def __init__(self, status, reply):
-        super().__init__(status, reply.about, reply.number, reply.a, reply.b)
-        self.status, self.reply = status, reply
+class Write(NamedTuple):
+    """A sector that a plan writes."""
+    sector: int
+    data: bytes
 
 
-class Ptab:
-    """The shared object."""
+# Phases of writes: those of a phase in any order, with a sync between a phase and the next.
+Plan = Sequence[Sequence[Write]]
 
-    def __init__(self, library="libptab.so.1"):
-        self.lib = c.CDLL(library)
-        size, p, u8, u64 = c.c_size_t, c.c_void_p, c.c_uint8, c.c_uint64
-        self.lib.ptab_members.argtypes = [p, p, p, size, p]
-        self.lib.ptab_verify.argtypes = [p, p]
-        self.lib.ptab_locate.argtypes = [p, u64, u8, u64, p]
-        self.lib.ptab_plan.argtypes = [p, p, size, p, size, p, size, p, size, p]
-        self.lib.ptab_repair.argtypes = [p, p, size, p, size, p]
-        self.lib.ptab_check.argtypes = [p, p, size, p, size, p]
-        self.lib.ptab_guid_text.argtypes = [p, p]
-        self.lib.ptab_guid_text.restype = None
-        self.lib.ptab_type_code.argtypes = [p]
-        if self.lib.ptab_version() != VERSION:
-            raise OSError(f"{library} has another interface")
 
-    def guid(self, stored):
-        text = (c.c_uint8 * 36)()
-        self.lib.ptab_guid_text(stored, text)
-        return bytes(text).decode()
+class Error(Exception):
+    """Why a call has no answer. It prints as a sentence; `about`, `number`, `a` and `b` are those of the library's reply, and `written` is
+    how many sectors may have been written."""
+
+    def __init__(self, status: int, reply: _Reply, sentence: str):
+        super().__init__(sentence)
+        self.status, self.about, self.number, self.a, self.b = status, reply.about, reply.number, reply.a, reply.b
+        self.sector, self.written = reply.sector, reply.count if status == DEVICE else 0
+
+    def __str__(self) -> str:
+        return self.args[0]
+
+    def __repr__(self) -> str:
+        return f"{type(self).__name__}({self.args[0]!r})"
+
+
+class BadArgument(Error, ValueError):
+    """An argument or a word that has no meaning."""
+
+
+class Refused(Error):
+    """An edit, a repair or a plan that is refused: nothing was written."""
+
+
+class Locked(Refused, BlockingIOError):
+    """The disk's lock is held elsewhere."""
+
+
+class NoTable(Error):
+    """The disk has no table that can be read."""
+
+
+class DeviceFault(Error, OSError):
+    """The disk can't be opened, read or written; `errno` says why. After a write the disk has the old table or the new one."""
+
+    def __init__(self, status: int, reply: _Reply, sentence: str):
+        super().__init__(status, reply, sentence)
+        self.errno = reply.b
+
+
+class NoMemory(Error, MemoryError):
+    """The library's memory was refused."""
+
+
+_ERRORS = {NO: Refused, USAGE: BadArgument, REFUSED: Refused, NO_TABLE: NoTable, DEVICE: DeviceFault, MEMORY: NoMemory}
+
+
+class Verdict:
+    """A yes, or a no with its first reason: true where it is a yes. It prints as a sentence."""
+
+    def __init__(self, status: int, reply: _Reply, sentence: str):
+        self.healthy = status == DONE
+        self.number, self.a, self.b = reply.number, reply.a, reply.b
+        self._sentence = "yes" if self.healthy else sentence
+
+    def __bool__(self) -> bool:
+        return self.healthy
+
+    def __str__(self) -> str:
+        return self._sentence
+
+    def __repr__(self) -> str:
+        return f"Verdict({self._sentence!r})"
+
+
+class Partition(NamedTuple):
+    """A partition. What its kind of table doesn't have is None, 0 or empty."""
+    number: int
+    letter: str  # in a label, "a" to "h"
+    first: int
+    last: int
+    type: str  # as `ptab show` prints it: a code, a GUID, or two digits
+    name: str
+    unique: Optional[uuid.UUID]
+    attributes: int
+    boot: int
+
+    @property
+    def path(self) -> str:
+        """As `3` or `2.a`."""
+        return f"{self.number}.{self.letter}" if self.letter else str(self.number)
+
+
+class Table(NamedTuple):
+    """What stands on a disk."""
+    kind: str  # "gpt" or "mbr"
+    sectors: int
+    first: int  # a GPT's usable sectors
+    last: int
+    guid: Optional[uuid.UUID]
+    partitions: Sequence[Partition]
+
+
+_P, _S, _U8, _U32, _U64 = c.c_void_p, c.c_size_t, c.c_uint8, c.c_uint32, c.c_uint64
+_CALLS = {
+    "ptab_disk_open": [c.c_char_p, _U32, _U32, _P, _P], "ptab_disk_take": [c.c_int, _U32, _U32, _P, _P],
+    "ptab_disk_size": [_P, _P, _P, _P], "ptab_disk_members": [_P, _P, _P, _S, _P], "ptab_disk_verify": [_P, _P],
+    "ptab_disk_locate": [_P, _U64, _U8, _U64, _P], "ptab_disk_edit": [_P, _P, _S, _P, _S, _P], "ptab_disk_repair": [_P, _P],
+    "ptab_disk_adopt": [_P, _P, _P], "ptab_disk_apply": [_P, _P, _S, _P, _S, _P], "ptab_disk_check": [_P, _P, _S, _P, _S, _P],
+    "ptab_disk_plan": [_P, _P, _S, _P, _S, _P, _S, _P, _S, _P], "ptab_disk_repair_plan": [_P, _P, _S, _P, _S, _P],
+    "ptab_disk_adopt_plan": [_P, _P, _P, _S, _P, _S, _P], "ptab_type_code": [_P], "ptab_version": []}
+_library: Optional[c.CDLL] = None
+
+
+def load(path: Optional[str] = None) -> c.CDLL:
+    """The shared object: this file, else that of PTAB_LIBRARY, else the one that was installed with this module, else the system's. It is
+    loaded once; a path replaces it."""
+    global _library
+    if _library is not None and path is None:
+        return _library
+    near = Path(__file__).resolve().parents[2] / "libptab.so.1"
+    library = c.CDLL(path or os.environ.get("PTAB_LIBRARY") or (str(near) if near.exists() else "libptab.so.1"), use_errno=True)
+    for name, arguments in _CALLS.items():
+        function = getattr(library, name)
+        function.argtypes, function.restype = arguments, c.c_int32
+    library.ptab_disk_close.argtypes, library.ptab_disk_close.restype = [_P], None
+    library.ptab_message.argtypes, library.ptab_message.restype = [c.c_int32, _P, _P, _S], _S
+    if library.ptab_version() != VERSION:
+        raise ImportError(f"{library._name} has another interface")
+    _library = library
+    return library
+
+
+def _sentence(library: c.CDLL, status: int, reply: _Reply) -> str:
+    text = c.create_string_buffer(512)
+    library.ptab_message(status, c.byref(reply), text, len(text))
+    return text.value.decode("utf-8", "replace")
+
+
+def _fail(library: c.CDLL, status: int, reply: _Reply) -> Error:
+    kind = _ERRORS.get(status, Error)
+    if status == REFUSED and (reply.about, reply.number) == (ABOUT_DISK, LOCKED):
+        kind = Locked
+    return kind(status, reply, _sentence(library, status, reply))
 
 
 class Disk:
-    """A disk of so many sectors. A call reads both ends, and then each sector that it wants; it takes nothing from earlier calls.
+    """An open image, or block device with `device`. With `write` it is locked until it is closed, but with `lock=False`, for who holds the
+    lock. `path` may be a descriptor, which stays open. A device has a sector size of its own; an image has 512 where none is told."""
 
-    What is read must be durable: `sync`, where it is given, is called before a call reads."""
-
-    def __init__(self, ptab, read, sectors, sector_size=512, sync=None):
-        self.lib, self.read, self.sectors, self.size, self.sync = ptab.lib, read, sectors, sector_size, sync
-        self.known = {}
-        self.calls = 0
-
-    def read_ends(self):
-        """Reads both ends, and forgets what earlier calls read: with this each call begins."""
-        if self.sync:
-            self.sync()
-        head, tail = (34, 33) if self.size == 512 else (6, 5)
-        ends = {*range(min(head, self.sectors)), *range(max(0, self.sectors - tail), self.sectors)}
-        self.known = {k: self.read(k) for k in sorted(ends)}
-        self._pack()
-
-    def _pack(self):
-        self.numbers = (c.c_uint64 * max(1, len(self.known)))(*self.known)
-        self.bytes = c.create_string_buffer(b"".join(self.known.values()) or b"\0")
-        n = len(self.known)
-        self.view = View(self.size, self.sectors, c.addressof(self.numbers), n, c.addressof(self.bytes), n * self.size)
-
-    def _ask(self, call):
-        """Calls until no sector is wanted."""
-        self.read_ends()
-        reply = Reply()
-        while True:
-            self.calls += 1
-            status = call(c.byref(self.view), c.byref(reply))
-            if status != WANT:
-                return status, reply
-            self.known[reply.sector] = self.read(reply.sector)
-            self._pack()
-
-    def members(self):
-        """The table, and its partitions."""
-        table, rows = Table(), (Member * MOST_MEMBERS)()
-        status, reply = self._ask(lambda view, reply: self.lib.ptab_members(view, c.byref(table), rows, len(rows), reply))
+    def __init__(self, path: Union[str, os.PathLike, int], *, write: bool = False, lock: bool = True, device: bool = False,
+                 sector_size: int = 0) -> None:
+        self._disk: Optional[c.c_void_p] = None
+        self._path = path
+        self._library = load()
+        how = (WRITE if write else 0) | (0 if lock else UNLOCKED) | (IS_DEVICE if device else 0)
+        disk, reply = c.c_void_p(), _Reply()
+        if isinstance(path, int):
+            status = self._library.ptab_disk_take(path, how, sector_size, c.byref(disk), c.byref(reply))
+        else:
+            status = self._library.ptab_disk_open(os.fsencode(path), how, sector_size, c.byref(disk), c.byref(reply))
         if status != DONE:
-            raise Failed(status, reply)
-        return table, rows[:reply.count]
+            raise _fail(self._library, status, reply)
+        self._disk = disk
 
-    def verify(self):
-        """(DONE or NO, the reply)"""
-        status, reply = self._ask(self.lib.ptab_verify)
-        if status not in (DONE, NO):
-            raise Failed(status, reply)
-        return status, reply
+    def close(self) -> None:
+        """Ends the lock, and closes the file."""
+        if self._disk is not None:
+            self._library.ptab_disk_close(self._disk)
+            self._disk = None
 
-    def locate(self, number, letter, k):
-        """The disk's sector that is sector k of a partition, or None."""
-        status, reply = self._ask(
-            lambda view, reply: self.lib.ptab_locate(view, number, ord(letter) if letter else 0, k, reply))
-        if status not in (DONE, NO):
-            raise Failed(status, reply)
-        return reply.sector if status == DONE else None
-
-    def _phases(self, call):
-        """The phases of a plan, as lists of (sector, bytes)."""
-        writes, data = (Write * MOST_WRITES)(), c.create_string_buffer(MOST_WRITES * self.size)
-        status, reply = self._ask(lambda view, reply: call(view, writes, len(writes), data, len(data), reply))
-        if status != DONE:
-            raise Failed(status, reply)
-        phases = [[] for _ in range(reply.phases)]
-        for k in range(reply.count):
-            phases[writes[k].phase - 1].append((writes[k].sector, data.raw[k * self.size:(k + 1) * self.size]))
-        return phases
-
-    def plan(self, words, drawn=b""):
-        """The plan of edit words, with 16 random bytes for each GUID that they need."""
-        text = b"".join(word.encode() + b"\0" for word in words)
-        return self._phases(lambda view, *rest: self.lib.ptab_plan(view, text, len(text), drawn, len(drawn), *rest))
-
-    def repair(self):
-        """The plan of a repair."""
-        return self._phases(self.lib.ptab_repair)
-
-    def check(self, phases):
-        """(DONE or NO, the reply) for a plan from elsewhere."""
-        flat = [(sector, number, data) for number, phase in enumerate(phases, 1) for sector, data in phase]
-        writes = (Write * max(1, len(flat)))(*[(sector, number) for sector, number, _ in flat])
-        data = b"".join(data for _, _, data in flat)
-        status, reply = self._ask(lambda view, reply: self.lib.ptab_check(view, writes, len(flat), data or b"\0", len(data), reply))
-        if status not in (DONE, NO):
-            raise Failed(status, reply)
-        return status, reply
-
-
-class Image:
-    """A file as a disk: `with Image(ptab, path, writes=True) as image: image.carry_out(image.disk.plan(["c:1:data"]))`.
-
-    With `writes` the file is locked until it is closed, as `ptab edit` locks it; where the lock is held elsewhere, BlockingIOError
-    comes. Any number of plans may be made and carried out, each before the next one is made. A plan that fails leaves the old table
-    or the new one, and the next plan is made from what is there then."""
-
-    def __init__(self, ptab, path, sector_size=512, writes=False):
-        self.size = sector_size
-        self.file = open(path, "r+b" if writes else "rb", buffering=0)
-        # whether the file may hold what isn't durable
-        self.unsynced = writes
-        try:
-            if writes:
-                fcntl.flock(self.file, fcntl.LOCK_EX | fcntl.LOCK_NB)
-            sectors = os.fstat(self.file.fileno()).st_size // sector_size
-        except BaseException:
-            self.file.close()
-            raise
-        self.disk = Disk(ptab, self.read, sectors, sector_size, self.sync)
-
-    def __enter__(self):
+    def __enter__(self) -> Disk:
         return self
 
-    def __exit__(self, *_):
-        self.file.close()
+    def __exit__(self, *_: object) -> None:
+        self.close()
 
-    def read(self, number):
-        data = os.pread(self.file.fileno(), self.size, number * self.size)
-        if len(data) != self.size:
-            raise OSError("a short read")
-        return data
+    def __del__(self) -> None:
+        self.close()
 
-    def write(self, number, data):
-        """Writes a whole sector: what a call leaves of it, the next one writes."""
-        self.unsynced, at = True, number * self.size
-        while data:
-            done = os.pwrite(self.file.fileno(), data, at)
-            if done == 0:
-                raise OSError("a short write")
-            at, data = at + done, data[done:]
+    def __repr__(self) -> str:
+        return f"Disk({self._path!r}{'' if self._disk is not None else ', closed'})"
 
-    def sync(self):
-        """Makes durable what was written."""
-        if self.unsynced:
-            os.fsync(self.file.fileno())
-            self.unsynced = False
+    def _call(self, name: str, *arguments: object, allowed: Iterable[int] = (DONE,)) -> tuple[int, _Reply]:
+        """The status and the reply of a call; any status but those allowed is an error."""
+        if self._disk is None:
+            raise ValueError("the disk is closed")
+        reply = _Reply()
+        status = getattr(self._library, f"ptab_disk_{name}")(self._disk, *arguments, c.byref(reply))
+        if status not in allowed:
+            raise _fail(self._library, status, reply)
+        return status, reply
 
-    def carry_out(self, phases):
-        """Writes a plan phase by phase, with a sync after each; a failed write or sync ends it."""
-        for phase in phases:
-            for sector, data in phase:
-                self.write(sector, data)
-            self.sync()
+    def size(self) -> tuple[int, int]:
+        """How many sectors the disk has, and how many bytes each of them has."""
+        sectors, size = c.c_uint64(), c.c_uint32()
+        self._call("size", c.byref(sectors), c.byref(size))
+        return sectors.value, size.value
+
+    def table(self) -> Table:
+        """The table, and its partitions."""
+        table, rows = _Table(), (_Member * MOST_MEMBERS)()
+        _, reply = self._call("members", c.byref(table), rows, len(rows))
+        gpt = table.kind == GPT
+        return Table("gpt" if gpt else "mbr", table.sectors, table.first, table.last,
+                     uuid.UUID(bytes_le=bytes(table.disk)) if gpt else None,
+                     tuple(self._partition(row, gpt) for row in rows[:reply.count]))
+
+    def _partition(self, row: _Member, gpt: bool) -> Partition:
+        code = self._library.ptab_type_code(row.type_guid)
+        is_entry = gpt and not row.letter
+        kind = f"{row.type_byte:02X}" if not is_entry else f"{code:04X}" if code >= 0 else str(uuid.UUID(bytes_le=bytes(row.type_guid)))
+        units = bytes(row.name).decode("utf-16-le", "replace")
+        return Partition(row.number, chr(row.letter) if row.letter else "", row.first, row.last, kind, units.partition("\0")[0],
+                         uuid.UUID(bytes_le=bytes(row.unique)) if is_entry else None, row.attributes, row.boot)
+
+    def verify(self) -> Verdict:
+        """Whether the disk is healthy, or the first finding."""
+        return self._verdict(*self._call("verify", allowed=(DONE, NO)))
+
+    def _verdict(self, status: int, reply: _Reply) -> Verdict:
+        return Verdict(status, reply, _sentence(self._library, status, reply))
+
+    def locate(self, number: int, k: int, letter: str = "") -> Optional[int]:
+        """The disk's sector that is sector `k` of a partition, or None."""
+        status, reply = self._call("locate", number, ord(letter) if letter else 0, k, allowed=(DONE, NO))
+        return reply.sector if status == DONE else None
+
+    def edit(self, *words: str, drawn: Optional[bytes] = None) -> int:
+        """Edits by words as `ptab edit` takes them: how many sectors were written. `drawn` has 16 random bytes for each GUID; without it
+        they are drawn."""
+        return self._call("edit", *_words(words, drawn))[1].count
+
+    def repair(self) -> int:
+        """Makes the disk healthy, and keeps its partitions: how many sectors were written."""
+        return self._call("repair")[1].count
+
+    def adopt(self, other: Disk) -> int:
+        """Gives the disk the layout that another one denotes: how many sectors were written."""
+        return self._call("adopt", other._disk)[1].count
+
+    def apply(self, plan: Plan) -> int:
+        """Carries out a plan from elsewhere, if `check` says yes to it: how many sectors were written."""
+        return self._call("apply", *_given(plan))[1].count
+
+    def check(self, plan: Plan) -> Verdict:
+        """Whether a plan from elsewhere may be carried out."""
+        return self._verdict(*self._call("check", *_given(plan), allowed=(DONE, NO)))
+
+    def plan(self, *words: str, drawn: Optional[bytes] = None) -> Plan:
+        """The plan of an edit, of which nothing is written."""
+        return self._plan("plan", *_words(words, drawn))
+
+    def repair_plan(self) -> Plan:
+        """The plan of a repair."""
+        return self._plan("repair_plan")
+
+    def adopt_plan(self, other: Disk) -> Plan:
+        """The plan that gives the disk the layout of another one."""
+        return self._plan("adopt_plan", other._disk)
+
+    def _plan(self, name: str, *arguments: object) -> Plan:
+        size, count = self.size()[1], MOST_WRITES
+        while True:
+            writes, data = (_Write * count)(), c.create_string_buffer(count * size)
+            status, reply = self._call(name, *arguments, writes, count, data, len(data), allowed=(DONE, ROOM))
+            if status == DONE:
+                break
+            count = reply.count
+        phases: list[list[Write]] = [[] for _ in range(reply.phases)]
+        for k in range(reply.count):
+            phases[writes[k].phase - 1].append(Write(writes[k].sector, data.raw[k * size:(k + 1) * size]))
+        return phases
 
 
-def main():
-    """usage: ptab.py LIBRARY IMAGE [SECTOR_SIZE [WORD...]]"""
-    import sys
-    library, path, *more = sys.argv[1:]
-    ptab = Ptab(library)
-    with Image(ptab, path, int(more[0]) if more else 512, len(more) > 1) as image:
-        if len(more) > 1:
-            image.carry_out(image.disk.plan(more[1:], os.urandom(16 * 256)))
-        table, rows = image.disk.members()
-        for row in rows:
-            path = f"{row.number}.{chr(row.letter)}" if row.letter else str(row.number)
-            kind = ptab.guid(row.type_guid) if table.kind == 2 and not row.letter else f"{row.type_byte:02X}"
-            print(path, row.first, row.last, kind, bytes(row.name).decode("utf-16-le", "replace").split("\0")[0])
+def _words(words: Sequence[str], drawn: Optional[bytes]) -> tuple[object, ...]:
+    """Words and random bytes as arguments."""
+    if any("\0" in word for word in words):
+        raise ValueError("a word has a zero byte")
+    texts = (c.c_char_p * max(1, len(words)))(*[word.encode() for word in words])
+    return texts, len(words), drawn, 0 if drawn is None else len(drawn)
 
 
-if __name__ == "__main__":
-    main()
+def _given(plan: Plan) -> tuple[object, ...]:
+    """A plan as arguments."""
+    flat = [(write, number) for number, phase in enumerate(plan, 1) for write in phase]
+    writes = (_Write * max(1, len(flat)))(*[(write[0], number) for write, number in flat])
+    data = b"".join(write[1] for write, _ in flat)
+    return writes, len(flat), data or b"\0", len(data)

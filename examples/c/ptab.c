@@ -1,114 +1,19 @@
 /*
- * A small `ptab` over the library: shows an image, verifies it, locates a sector, edits, repairs. It does all that the library
- * leaves to its caller: it locks the image, syncs, reads, and writes plans phase by phase with a sync after each.
+ * A small `ptab` over the library: shows an image, verifies it, locates a sector, edits, repairs, adopts. Reading, locking
+ * and writing by phases are the library's part (ptab_disk.h); what stands here reads the words and prints the answers.
  *
- *   ptab_c IMAGE SIZE show | verify | repair | locate NUMBER[.LETTER] K | edit WORD...
+ *   ptab_c IMAGE SIZE show | verify | repair | locate NUMBER[.LETTER] K | edit WORD... | adopt OTHER
  *
- * SIZE is 512 or 4096. Statuses are those of `ptab`. Build:
+ * SIZE is 512 or 4096; or `device`, and IMAGE is a block device. Statuses are those of `ptab`. Build:
  *   cc -Iinclude examples/c/ptab.c libptab.a -o ptab_c
  */
-#define _XOPEN_SOURCE 700
-#define _DEFAULT_SOURCE
-#include <fcntl.h>
 #include <stdio.h>
 #include <stdlib.h>
 #include <string.h>
-#include <sys/file.h>
-#include <sys/stat.h>
-#include <unistd.h>
 
-#include "ptab.h"
+#include "ptab_disk.h"
 
 typedef unsigned long long wide;
-
-/* A disk and what was read of it. */
-struct disk {
-  int fd;
-  ptab_view view;
-  uint64_t *numbers;
-  uint8_t *bytes;
-  size_t room;
-};
-
-/* Reads `count` bytes at a place, or fails. */
-static int read_all(int fd, uint8_t *into, size_t count, uint64_t at) {
-  while (count > 0) {
-    ssize_t got = pread(fd, into, count, (off_t)at);
-    if (got <= 0) return PTAB_DEVICE;
-    into += got;
-    at += (uint64_t)got;
-    count -= (size_t)got;
-  }
-  return PTAB_DONE;
-}
-
-static int write_all(int fd, const uint8_t *from, size_t count, uint64_t at) {
-  while (count > 0) {
-    ssize_t put = pwrite(fd, from, count, (off_t)at);
-    if (put <= 0) return PTAB_DEVICE;
-    from += put;
-    at += (uint64_t)put;
-    count -= (size_t)put;
-  }
-  return PTAB_DONE;
-}
-
-/* Reads one more sector into the view. */
-static int read_sector(struct disk *d, uint64_t number) {
-  size_t n = d->view.numbers_len, size = d->view.sector_size;
-  if (n == d->room) {
-    size_t room = 2 * d->room;
-    uint64_t *numbers = realloc(d->numbers, room * sizeof *numbers);
-    if (!numbers) return PTAB_MEMORY;
-    d->numbers = numbers;
-    uint8_t *bytes = realloc(d->bytes, room * size);
-    if (!bytes) return PTAB_MEMORY;
-    d->bytes = bytes;
-    d->room = room;
-  }
-  if (read_all(d->fd, d->bytes + n * size, size, number * size) != PTAB_DONE) return PTAB_DEVICE;
-  d->numbers[n] = number;
-  d->view.numbers = d->numbers;
-  d->view.bytes = d->bytes;
-  d->view.numbers_len = n + 1;
-  d->view.bytes_len = (n + 1) * size;
-  return PTAB_DONE;
-}
-
-/* Opens an image, alone if it is to be written, makes durable what it holds, and reads both ends. */
-static int open_disk(struct disk *d, const char *path, uint32_t size, int writes) {
-  struct stat st;
-  memset(d, 0, sizeof *d);
-  d->fd = open(path, writes ? O_RDWR : O_RDONLY);
-  if (d->fd < 0 || fstat(d->fd, &st) != 0 || !S_ISREG(st.st_mode)) return PTAB_DEVICE;
-  if (writes && (flock(d->fd, LOCK_EX | LOCK_NB) != 0 || fsync(d->fd) != 0)) return PTAB_DEVICE;
-  d->room = PTAB_HEAD(size) + PTAB_TAIL(size);
-  d->numbers = malloc(d->room * sizeof *d->numbers);
-  d->bytes = malloc(d->room * size);
-  if (!d->numbers || !d->bytes) return PTAB_MEMORY;
-  uint64_t all = (uint64_t)st.st_size / size;
-  d->view.sector_size = size;
-  d->view.sectors = all;
-  d->view.numbers = d->numbers;
-  d->view.bytes = d->bytes;
-  uint64_t head = all < PTAB_HEAD(size) ? all : PTAB_HEAD(size);
-  uint64_t tail = all - head < PTAB_TAIL(size) ? head : all - PTAB_TAIL(size);
-  int status = PTAB_DONE;
-  for (uint64_t k = 0; k < head && status == PTAB_DONE; k++) status = read_sector(d, k);
-  for (uint64_t k = tail; k < all && status == PTAB_DONE; k++) status = read_sector(d, k);
-  return status;
-}
-
-static void close_disk(struct disk *d) {
-  if (d->fd >= 0) close(d->fd);
-  free(d->numbers);
-  free(d->bytes);
-}
-
-/* Repeats a call until no sector is wanted. */
-#define ASK(d, status, reply, call)               \
-  while (((status) = (call)) == PTAB_WANT)        \
-    if (((status) = read_sector((d), (reply).sector)) != PTAB_DONE) break
 
 static void path_text(char *text, size_t size, uint64_t number, uint8_t letter) {
   if (letter)
@@ -117,55 +22,46 @@ static void path_text(char *text, size_t size, uint64_t number, uint8_t letter) 
     snprintf(text, size, "%llu", (wide)number);
 }
 
-/* Says on standard error why there is no answer, as `ptab` does; `words` are the `count` words that were asked for. */
+/* Says on standard error why there is no table, as `ptab` does. */
+static void complain_of_table(const ptab_reply *r) {
+  if (r->number == 1)
+    fprintf(stderr, "no table: copies %llu %llu\n", (wide)r->a, (wide)r->b);
+  else if (r->number == 2 && r->a == 5)
+    fputs("no table: chain 5\n", stderr);
+  else if (r->number == 2)
+    fprintf(stderr, "no table: chain %llu %llu\n", (wide)r->a, (wide)r->b);
+  else
+    fputs(r->number == 3 ? "no table: two extended\n" : "no table: too small\n", stderr);
+}
+
+/* Says why there is no answer, as `ptab` does; `words` are the `count` words that were asked for. What `ptab` has no words
+   for, the library has. */
 static void complain(int status, const ptab_reply *r, char **words, int count) {
   static const char *const kinds[] = {"", "", "", "", "", "edit", "plan", "check", "repair"};
+  char text[256];
+  if (r->about == PTAB_ABOUT_OTHER_DISK || r->about == PTAB_ABOUT_OTHER_TABLE) fputs("other: ", stderr);
   if (status == PTAB_DEVICE)
     fputs("device\n", stderr);
   else if (status == PTAB_MEMORY)
     fputs("memory\n", stderr);
   else if (r->about == PTAB_ABOUT_WORD && r->a >= 1 && r->a <= (uint64_t)count)
     fprintf(stderr, "bad word %s\n", words[r->a - 1]);
-  else if (r->about == PTAB_ABOUT_TABLE && r->number == 1)
-    fprintf(stderr, "no table: copies %llu %llu\n", (wide)r->a, (wide)r->b);
-  else if (r->about == PTAB_ABOUT_TABLE && r->number == 2 && r->a == 5)
-    fputs("no table: chain 5\n", stderr);
-  else if (r->about == PTAB_ABOUT_TABLE && r->number == 2)
-    fprintf(stderr, "no table: chain %llu %llu\n", (wide)r->a, (wide)r->b);
-  else if (r->about == PTAB_ABOUT_TABLE)
-    fputs(r->number == 3 ? "no table: two extended\n" : "no table: too small\n", stderr);
+  else if (r->about == PTAB_ABOUT_TABLE || r->about == PTAB_ABOUT_OTHER_TABLE)
+    complain_of_table(r);
+  else if (r->about == PTAB_ABOUT_ADOPT)
+    fputs("refused: other size\n", stderr);
   else if (status == PTAB_REFUSED && r->about <= PTAB_ABOUT_REPAIR)
     fprintf(stderr, "refused: %s %u\n", kinds[r->about], (unsigned)r->number);
-  else
-    fprintf(stderr, "bad argument %u\n", (unsigned)r->number);
-}
-
-static void print_name(const uint16_t *name) {
-  int k = 0;
-  if (name[0]) putchar(' ');
-  while (k < 36 && name[k]) {
-    uint32_t c = name[k++];
-    if (c >= 0xD800 && c < 0xDC00 && k < 36 && name[k] >= 0xDC00 && name[k] < 0xE000) {
-      c = 0x10000 + ((c - 0xD800) << 10) + (uint32_t)(name[k++] - 0xDC00);
-    } else if (c >= 0xD800 && c < 0xE000) {
-      c = '?';
-    }
-    if (c < 0x20 || c == 0x7F) c = '?';
-    if (c < 0x80) {
-      putchar((int)c);
-    } else if (c < 0x800) {
-      printf("%c%c", (int)(0xC0 | c >> 6), (int)(0x80 | (c & 0x3F)));
-    } else if (c < 0x10000) {
-      printf("%c%c%c", (int)(0xE0 | c >> 12), (int)(0x80 | (c >> 6 & 0x3F)), (int)(0x80 | (c & 0x3F)));
-    } else {
-      printf("%c%c%c%c", (int)(0xF0 | c >> 18), (int)(0x80 | (c >> 12 & 0x3F)), (int)(0x80 | (c >> 6 & 0x3F)),
-             (int)(0x80 | (c & 0x3F)));
-    }
+  else if (status == PTAB_REFUSED && r->number == PTAB_DISK_LOCKED)
+    fputs("refused: locked\n", stderr);
+  else {
+    ptab_message(status, r, text, sizeof text);
+    fprintf(stderr, "%s\n", text);
   }
 }
 
 static void print_member(const ptab_table *table, const ptab_member *m) {
-  char path[32];
+  char path[32], name[109];
   ptab_text text;
   path_text(path, sizeof path, m->number, m->letter);
   printf("%s %llu %llu ", path, (wide)m->first, (wide)m->last);
@@ -181,17 +77,15 @@ static void print_member(const ptab_table *table, const ptab_member *m) {
     else
       printf("%.36s", (const char *)text.bytes);
     ptab_guid_text(&m->unique, &text);
-    printf(" %016llx %.36s", (wide)m->attributes, (const char *)text.bytes);
-    print_name(m->name);
-    putchar('\n');
+    ptab_name_text(m, name, sizeof name);
+    printf(" %016llx %.36s%s%s\n", (wide)m->attributes, (const char *)text.bytes, *name ? " " : "", name);
   }
 }
 
-static int show(struct disk *d, ptab_reply *reply) {
+static int show(ptab_disk *disk, ptab_reply *reply) {
   static ptab_member rows[PTAB_MOST_MEMBERS];
   ptab_table table;
-  int status;
-  ASK(d, status, *reply, ptab_members(&d->view, &table, rows, PTAB_MOST_MEMBERS, reply));
+  int status = ptab_disk_members(disk, &table, rows, PTAB_MOST_MEMBERS, reply);
   if (status != PTAB_DONE) return status;
   if (table.kind == PTAB_GPT) {
     ptab_text text;
@@ -205,10 +99,9 @@ static int show(struct disk *d, ptab_reply *reply) {
   return PTAB_DONE;
 }
 
-static int verify(struct disk *d, ptab_reply *reply) {
+static int verify(ptab_disk *disk, ptab_reply *reply) {
   char a[32], b[32];
-  int status;
-  ASK(d, status, *reply, ptab_verify(&d->view, reply));
+  int status = ptab_disk_verify(disk, reply);
   if (status == PTAB_DONE) puts("yes");
   if (status != PTAB_NO) return status;
   path_text(a, sizeof a, reply->a, reply->a_letter);
@@ -230,78 +123,78 @@ static int verify(struct disk *d, ptab_reply *reply) {
   return PTAB_NO;
 }
 
-static int locate(struct disk *d, char **words, ptab_reply *reply) {
+static int locate(ptab_disk *disk, char **words, ptab_reply *reply) {
   char *rest;
   uint64_t number = strtoull(words[0], &rest, 10);
   uint8_t letter = *rest == '.' ? (uint8_t)rest[1] : 0;
-  uint64_t k = strtoull(words[1], NULL, 10);
-  int status;
-  ASK(d, status, *reply, ptab_locate(&d->view, number, letter, k, reply));
+  int status = ptab_disk_locate(disk, number, letter, strtoull(words[1], NULL, 10), reply);
   if (status == PTAB_DONE) printf("%llu\n", (wide)reply->sector);
   if (status == PTAB_NO) puts("none");
   return status;
 }
 
-/* Carries a plan out: the writes of a phase, and an fsync before the next one. After a failure it stops. */
-static int carry_out(struct disk *d, const ptab_write *writes, const uint8_t *bytes, uint64_t count) {
-  size_t size = d->view.sector_size;
-  for (uint64_t k = 0; k < count; k++) {
-    if (write_all(d->fd, bytes + k * size, size, writes[k].sector * size) != PTAB_DONE) return PTAB_DEVICE;
-    int ends = k + 1 == count || writes[k + 1].phase != writes[k].phase;
-    if (ends && fsync(d->fd) != 0) return PTAB_DEVICE;
+/* Edits by words. Random bytes are the system's, or those of the file that PTAB_RANDOM names. */
+static int edit(ptab_disk *disk, char **words, int count, ptab_reply *reply) {
+  uint8_t drawn[256 * 16];
+  const char *path = getenv("PTAB_RANDOM");
+  if (path) {
+    FILE *file = fopen(path, "rb");
+    size_t got = file ? fread(drawn, 1, sizeof drawn, file) : 0;
+    if (file) fclose(file);
+    if (got != sizeof drawn) return PTAB_DEVICE;
   }
-  puts("done");
-  return PTAB_DONE;
+  return ptab_disk_edit(disk, (const char *const *)words, (size_t)count, path ? drawn : NULL, sizeof drawn, reply);
 }
 
-/* Edits by words, or repairs where there are none. */
-static int change(struct disk *d, char **words, int count, ptab_reply *reply) {
-  static ptab_write writes[PTAB_MOST_WRITES];
-  static uint8_t bytes[PTAB_MOST_WRITES * 4096];
-  size_t room = PTAB_MOST_WRITES * d->view.sector_size, len = 0;
-  uint8_t drawn[256 * 16];
+/* Gives the disk the layout of another image. */
+static int adopt(ptab_disk *disk, const char *path, ptab_reply *reply) {
+  uint32_t size;
+  uint64_t sectors;
+  ptab_disk *other;
+  int status = ptab_disk_size(disk, &sectors, &size, reply);
+  if (status != PTAB_DONE) return status;
+  status = ptab_disk_open(path, PTAB_DISK_READ, size, &other, reply);
+  if (status == PTAB_DONE)
+    status = ptab_disk_adopt(disk, other, reply);
+  else
+    reply->about = PTAB_ABOUT_OTHER_DISK;
+  ptab_disk_close(other);
+  return status;
+}
+
+static int is_job(const char *job, int argc) {
+  return !strcmp(job, "show") || !strcmp(job, "verify") || !strcmp(job, "repair") || (!strcmp(job, "locate") && argc == 6) ||
+         (!strcmp(job, "edit") && argc > 4) || (!strcmp(job, "adopt") && argc == 5);
+}
+
+static int run(ptab_disk *disk, const char *job, char **words, int count, ptab_reply *reply) {
+  if (!strcmp(job, "show")) return show(disk, reply);
+  if (!strcmp(job, "verify")) return verify(disk, reply);
+  if (!strcmp(job, "locate")) return locate(disk, words, reply);
   int status;
-  if (count == 0) {
-    ASK(d, status, *reply, ptab_repair(&d->view, writes, PTAB_MOST_WRITES, bytes, room, reply));
-    return status == PTAB_DONE ? carry_out(d, writes, bytes, reply->count) : status;
-  }
-  int random = open(getenv("PTAB_RANDOM") ? getenv("PTAB_RANDOM") : "/dev/urandom", O_RDONLY);
-  if (random < 0 || read(random, drawn, sizeof drawn) != (ssize_t)sizeof drawn) return PTAB_DEVICE;
-  close(random);
-  for (int k = 0; k < count; k++) len += strlen(words[k]) + 1;
-  uint8_t *text = malloc(len), *at = text;
-  if (!text) return PTAB_MEMORY;
-  for (int k = 0; k < count; k++) {
-    memcpy(at, words[k], strlen(words[k]) + 1);
-    at += strlen(words[k]) + 1;
-  }
-  ASK(d, status, *reply,
-      ptab_plan(&d->view, text, len, drawn, sizeof drawn, writes, PTAB_MOST_WRITES, bytes, room, reply));
-  free(text);
-  return status == PTAB_DONE ? carry_out(d, writes, bytes, reply->count) : status;
+  if (!strcmp(job, "edit"))
+    status = edit(disk, words, count, reply);
+  else
+    status = !strcmp(job, "adopt") ? adopt(disk, words[0], reply) : ptab_disk_repair(disk, reply);
+  if (status == PTAB_DONE) puts("done");
+  return status;
 }
 
 int main(int argc, char **argv) {
-  struct disk d;
+  ptab_disk *disk;
   ptab_reply reply;
-  memset(&reply, 0, sizeof reply);
   const char *job = argc > 3 ? argv[3] : "";
-  uint32_t size = argc > 2 ? (uint32_t)strtoul(argv[2], NULL, 10) : 0;
-  int writes = !strcmp(job, "edit") || !strcmp(job, "repair");
-  int known = !strcmp(job, "show") || !strcmp(job, "verify") || (!strcmp(job, "locate") && argc == 6) ||
-              (!strcmp(job, "edit") && argc > 4) || !strcmp(job, "repair");
-  if ((size != 512 && size != 4096) || !known || ptab_version() != PTAB_VERSION) {
-    fputs("usage: ptab_c IMAGE SIZE show | verify | repair | locate NUMBER[.LETTER] K | edit WORD...\n", stderr);
+  int is_device = argc > 2 && !strcmp(argv[2], "device");
+  uint32_t size = argc > 2 && !is_device ? (uint32_t)strtoul(argv[2], NULL, 10) : 0;
+  int writes = !strcmp(job, "edit") || !strcmp(job, "repair") || !strcmp(job, "adopt");
+  uint32_t how = (writes ? PTAB_DISK_WRITE : PTAB_DISK_READ) | (is_device ? PTAB_DISK_DEVICE : 0);
+  if ((size != 512 && size != 4096 && !is_device) || !is_job(job, argc) || ptab_version() != PTAB_VERSION) {
+    fputs("usage: ptab_c IMAGE SIZE show | verify | repair | locate NUMBER[.LETTER] K | edit WORD... | adopt OTHER\n", stderr);
     return PTAB_USAGE;
   }
-  int status = open_disk(&d, argv[1], size, writes);
-  if (status == PTAB_DONE) {
-    if (!strcmp(job, "show")) status = show(&d, &reply);
-    else if (!strcmp(job, "verify")) status = verify(&d, &reply);
-    else if (!strcmp(job, "locate")) status = locate(&d, argv + 4, &reply);
-    else status = change(&d, argv + 4, writes && argc > 4 ? argc - 4 : 0, &reply);
-  }
+  int status = ptab_disk_open(argv[1], how, size, &disk, &reply);
+  if (status == PTAB_DONE) status = run(disk, job, argv + 4, argc - 4, &reply);
   if (status != PTAB_DONE && status != PTAB_NO) complain(status, &reply, argv + 4, argc - 4);
-  close_disk(&d);
+  ptab_disk_close(disk);
   return status < 0 ? PTAB_USAGE : status;
 }

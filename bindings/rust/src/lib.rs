@@ -1,98 +1,31 @@
-//! Partition tables by the library of include/ptab.h: partitions, health, places and checked plans.
+//! Partition tables of images and block devices: what they say, and checked edits and repairs.
 //!
-//! A [`Disk`] reads what a call asks for by a closure of the caller. Each call reads anew, so it answers for the disk as it is now. The
-//! caller locks the disk, syncs it before a call reads, and carries a plan out by phases, with a sync after each, before it makes the
-//! next one. After a failed write or sync the disk has the old table or the new one, and the next call finds which. Build with
-//! `-l ptab`.
+//! ```no_run
+//! let mut disk = ptab::Options::new().write(true).open("disk.img")?;
+//! for partition in disk.table()?.partitions {
+//!     println!("{} {}", partition.path(), partition.name);
+//! }
+//! disk.edit(&["c:1:archive"])?;
+//! # Ok::<(), ptab::Error>(())
+//! ```
+//!
+//! Each call reads the disk anew, so it answers for the disk as it is now. One that writes stops at any moment with the old table or the
+//! new one on the disk. The crate calls the library's ptab_disk.h; docs/c.md says what that does. The library is found by pkg-config, or
+//! in the folder that PTAB_LIB_DIR names.
 
-use std::ffi::c_void;
+mod error;
+mod sys;
+mod table;
 
-/// How a call ends, where it has no answer: its status, and what its reply is about.
-#[derive(Clone, Copy, Debug, PartialEq, Eq)]
-pub struct Failed {
-    pub status: i32,
-    pub reply: Reply,
-}
+pub use error::{Error, ErrorKind, Reason, Verdict};
+pub use table::{Guid, Partition, Table, TableKind};
 
-/// A yes, or a no with its reply.
-#[derive(Clone, Copy, Debug, PartialEq, Eq)]
-pub enum Verdict {
-    Yes,
-    No(Reply),
-}
-
-#[repr(C)]
-#[derive(Clone, Copy, Debug, Default, PartialEq, Eq)]
-pub struct Reply {
-    pub sector: u64,
-    pub count: u64,
-    pub phases: u64,
-    pub a: u64,
-    pub b: u64,
-    pub about: u32,
-    pub number: u32,
-    pub a_letter: u8,
-    pub b_letter: u8,
-}
-
-#[repr(C)]
-struct View {
-    sector_size: u32,
-    sectors: u64,
-    numbers: *const u64,
-    numbers_len: usize,
-    bytes: *const u8,
-    bytes_len: usize,
-}
-
-/// What a disk has but for its partitions; `kind` is 1 for an MBR, 2 for a GPT.
-#[repr(C)]
-#[derive(Clone, Copy, Debug, Default)]
-pub struct Table {
-    pub sectors: u64,
-    pub first: u64,
-    pub last: u64,
-    pub kind: u32,
-    pub disk: [u8; 16],
-}
-
-/// A partition; what its kind of table doesn't have is 0.
-#[repr(C)]
-#[derive(Clone, Copy, Debug)]
-pub struct Member {
-    pub number: u64,
-    pub first: u64,
-    pub last: u64,
-    pub attributes: u64,
-    pub letter: u8,
-    pub kind: u8,
-    pub type_byte: u8,
-    pub boot: u8,
-    pub type_guid: [u8; 16],
-    pub unique: [u8; 16],
-    pub name: [u16; 36],
-}
-
-const NO_MEMBER: Member = Member {
-    number: 0,
-    first: 0,
-    last: 0,
-    attributes: 0,
-    letter: 0,
-    kind: 0,
-    type_byte: 0,
-    boot: 0,
-    type_guid: [0; 16],
-    unique: [0; 16],
-    name: [0; 36],
-};
-
-#[repr(C)]
-#[derive(Clone, Copy, Default)]
-struct WriteRow {
-    sector: u64,
-    phase: u64,
-}
+use std::ffi::{c_char, CString};
+use std::os::fd::{AsFd, AsRawFd, OwnedFd};
+use std::os::unix::ffi::OsStrExt;
+use std::path::Path;
+use std::ptr::{null, null_mut, NonNull};
+use sys::{RawDisk, RawReply, RawWrite, MOST_WRITES};
 
 /// One sector to be written, and its bytes.
 #[derive(Clone, Debug, PartialEq, Eq)]
@@ -101,186 +34,254 @@ pub struct Write {
     pub bytes: Vec<u8>,
 }
 
-/// Phases of writes; a sync ends each.
+/// Phases of writes: those of a phase in any order, with a sync between a phase and the next.
 pub type Plan = Vec<Vec<Write>>;
 
-extern "C" {
-    fn ptab_members(view: *const View, table: *mut Table, rows: *mut Member, len: usize, reply: *mut Reply) -> i32;
-    fn ptab_verify(view: *const View, reply: *mut Reply) -> i32;
-    fn ptab_locate(view: *const View, number: u64, letter: u8, k: u64, reply: *mut Reply) -> i32;
-    fn ptab_plan(
-        view: *const View, words: *const u8, words_len: usize, drawn: *const u8, drawn_len: usize, writes: *mut WriteRow,
-        writes_len: usize, bytes: *mut u8, bytes_len: usize, reply: *mut Reply,
-    ) -> i32;
-    fn ptab_repair(
-        view: *const View, writes: *mut WriteRow, writes_len: usize, bytes: *mut u8, bytes_len: usize, reply: *mut Reply,
-    ) -> i32;
-    fn ptab_check(
-        view: *const View, writes: *const WriteRow, writes_len: usize, bytes: *const u8, bytes_len: usize, reply: *mut Reply,
-    ) -> i32;
-    fn ptab_guid_text(guid: *const c_void, text: *mut c_void);
-    fn ptab_version() -> i32;
+/// How a disk is opened; as it begins, an image, for reading, with sectors of 512 bytes.
+#[derive(Clone, Debug, Default)]
+pub struct Options {
+    how: u32,
+    sector_size: u32,
 }
 
-const VERSION: i32 = 1;
-const WANT: i32 = -1;
-const DEVICE: i32 = 5;
-const MOST_MEMBERS: usize = 1056;
-const MOST_WRITES: usize = 264;
+impl Options {
+    pub fn new() -> Options {
+        Options::default()
+    }
 
-/// The text of a GUID, in lower case.
-pub fn guid_text(guid: &[u8; 16]) -> String {
-    let mut text = [0u8; 36];
-    // both arrays have the layouts of ptab_guid and ptab_text
-    unsafe { ptab_guid_text(guid.as_ptr().cast(), text.as_mut_ptr().cast()) };
-    text.iter().map(|&byte| char::from(byte)).collect()
+    fn set(&mut self, bit: u32, on: bool) -> &mut Options {
+        self.how = if on { self.how | bit } else { self.how & !bit };
+        self
+    }
+
+    /// For writing: the disk is locked until it is dropped.
+    pub fn write(&mut self, write: bool) -> &mut Options {
+        self.set(sys::WRITE, write)
+    }
+
+    /// Whether the disk is locked where it is to be written. No is for a caller who holds the lock.
+    pub fn lock(&mut self, lock: bool) -> &mut Options {
+        self.set(sys::UNLOCKED, !lock)
+    }
+
+    /// A block device, whose sectors have the size that the system says.
+    pub fn device(&mut self, device: bool) -> &mut Options {
+        self.set(sys::IS_DEVICE, device)
+    }
+
+    /// 512 or 4096; a device with another one is refused.
+    pub fn sector_size(&mut self, bytes: u32) -> &mut Options {
+        self.sector_size = bytes;
+        self
+    }
+
+    /// Opens a path.
+    pub fn open<P: AsRef<Path>>(&self, path: P) -> Result<Disk, Error> {
+        let path = CString::new(path.as_ref().as_os_str().as_bytes())
+            .map_err(|_| Error::told(ErrorKind::BadArgument, "the path has a zero byte"))?;
+        self.disk(|disk, reply| unsafe { sys::ptab_disk_open(path.as_ptr(), self.how, self.sector_size, disk, reply) })
+    }
+
+    /// Takes an open file: a duplicate of its descriptor, which has the same lock.
+    pub fn take<F: AsFd>(&self, file: F) -> Result<Disk, Error> {
+        let descriptor = file.as_fd().try_clone_to_owned().map_err(|why| Error::system(&why))?;
+        let fd = descriptor.as_raw_fd();
+        let mut disk = self.disk(|disk, reply| unsafe { sys::ptab_disk_take(fd, self.how, self.sector_size, disk, reply) })?;
+        disk._descriptor = Some(descriptor);
+        Ok(disk)
+    }
+
+    fn disk(&self, call: impl FnOnce(*mut *mut RawDisk, *mut RawReply) -> i32) -> Result<Disk, Error> {
+        if unsafe { sys::ptab_version() } != sys::VERSION {
+            return Err(Error::told(ErrorKind::Version, "the library has another interface"));
+        }
+        let (mut disk, mut reply) = (null_mut(), RawReply::default());
+        let status = call(&mut disk, &mut reply);
+        match NonNull::new(disk) {
+            Some(raw) if status == sys::DONE => Ok(Disk { raw, _descriptor: None }),
+            _ => Err(Error::new(status, &reply)),
+        }
+    }
 }
 
-/// A disk, with what the last call read of it.
-pub struct Disk<R> {
-    read: R,
-    sectors: u64,
-    size: usize,
-    numbers: Vec<u64>,
-    bytes: Vec<u8>,
+/// A disk that is open.
+#[derive(Debug)]
+pub struct Disk {
+    raw: NonNull<RawDisk>,
+    _descriptor: Option<OwnedFd>,
 }
 
-impl<R: FnMut(u64, &mut [u8]) -> bool> Disk<R> {
-    /// A disk of so many sectors of 512 or 4096 bytes, each of which `read` reads, or says that it can't. A call reads both ends, and
-    /// then each sector that it wants.
-    pub fn new(read: R, sectors: u64, size: usize) -> Result<Self, Failed> {
-        // A library of another interface is refused as an argument.
-        if unsafe { ptab_version() } != VERSION {
-            return Err(Failed { status: 2, reply: Reply::default() });
-        }
-        Ok(Disk { read, sectors, size, numbers: Vec::new(), bytes: Vec::new() })
+// A disk is a descriptor; its calls come one after the other, since each takes `&mut`.
+unsafe impl Send for Disk {}
+
+impl Drop for Disk {
+    fn drop(&mut self) {
+        unsafe { sys::ptab_disk_close(self.raw.as_ptr()) }
+    }
+}
+
+/// Words as C strings.
+struct Words {
+    _texts: Vec<CString>,
+    pointers: Vec<*const c_char>,
+}
+
+impl Words {
+    fn new(words: &[&str]) -> Result<Words, Error> {
+        let texts: Result<Vec<CString>, _> = words.iter().map(|&word| CString::new(word)).collect();
+        let texts = texts.map_err(|_| Error::told(ErrorKind::BadArgument, "a word has a zero byte"))?;
+        let pointers = texts.iter().map(|text| text.as_ptr()).collect();
+        Ok(Words { _texts: texts, pointers })
+    }
+}
+
+/// A plan's writes and their bytes, one after the other.
+fn flat(plan: &Plan) -> (Vec<RawWrite>, Vec<u8>) {
+    let rows = plan.iter().zip(1..).flat_map(|(writes, phase)| writes.iter().map(move |write| (write, phase)));
+    let bytes = plan.iter().flatten().flat_map(|write| write.bytes.iter().copied()).collect();
+    (rows.map(|(write, phase)| RawWrite { sector: write.sector, phase }).collect(), bytes)
+}
+
+impl Disk {
+    /// Opens an image for reading.
+    pub fn open<P: AsRef<Path>>(path: P) -> Result<Disk, Error> {
+        Options::new().open(path)
     }
 
-    /// Reads both ends anew, and forgets all else.
-    fn read_ends(&mut self) -> Result<(), Failed> {
-        self.numbers.clear();
-        self.bytes.clear();
-        let (head, tail) = if self.size == 512 { (34, 33) } else { (6, 5) };
-        let head = head.min(self.sectors);
-        let tail = self.sectors.saturating_sub(tail).max(head);
-        for number in (0..head).chain(tail..self.sectors) {
-            self.add(number)?;
-        }
-        Ok(())
-    }
-
-    fn add(&mut self, number: u64) -> Result<(), Failed> {
-        let at = self.bytes.len();
-        self.bytes.resize(at + self.size, 0);
-        if !(self.read)(number, &mut self.bytes[at..]) {
-            self.bytes.truncate(at);
-            return Err(Failed { status: DEVICE, reply: Reply { sector: number, ..Reply::default() } });
-        }
-        self.numbers.push(number);
-        Ok(())
-    }
-
-    /// Calls until no sector is wanted.
-    fn ask(&mut self, mut call: impl FnMut(&View, &mut Reply) -> i32) -> Result<(i32, Reply), Failed> {
-        self.read_ends()?;
-        let mut reply = Reply::default();
-        loop {
-            let view = View {
-                sector_size: self.size as u32,
-                sectors: self.sectors,
-                numbers: self.numbers.as_ptr(),
-                numbers_len: self.numbers.len(),
-                bytes: self.bytes.as_ptr(),
-                bytes_len: self.bytes.len(),
-            };
-            match call(&view, &mut reply) {
-                WANT => self.add(reply.sector)?,
-                status => return Ok((status, reply)),
-            }
+    /// The status and the reply of a call; any status but those allowed is an error.
+    fn call(&mut self, allowed: &[i32], call: impl FnOnce(*mut RawDisk, *mut RawReply) -> i32) -> Result<(i32, RawReply), Error> {
+        let mut reply = RawReply::default();
+        let status = call(self.raw.as_ptr(), &mut reply);
+        if allowed.contains(&status) {
+            Ok((status, reply))
+        } else {
+            Err(Error::new(status, &reply))
         }
     }
 
-    fn done(answer: (i32, Reply)) -> Result<Reply, Failed> {
-        match answer {
-            (0, reply) => Ok(reply),
-            (status, reply) => Err(Failed { status, reply }),
-        }
+    /// How many sectors were written by a call that writes.
+    fn change(&mut self, call: impl FnOnce(*mut RawDisk, *mut RawReply) -> i32) -> Result<u64, Error> {
+        Ok(self.call(&[sys::DONE], call)?.1.count)
     }
 
-    fn verdict(answer: (i32, Reply)) -> Result<Verdict, Failed> {
-        match answer {
-            (0, _) => Ok(Verdict::Yes),
-            (1, reply) => Ok(Verdict::No(reply)),
-            (status, reply) => Err(Failed { status, reply }),
-        }
+    /// How many sectors the disk has, and how many bytes each of them has.
+    pub fn size(&mut self) -> Result<(u64, u32), Error> {
+        let (mut sectors, mut size) = (0, 0);
+        self.call(&[sys::DONE], |disk, reply| unsafe { sys::ptab_disk_size(disk, &mut sectors, &mut size, reply) })?;
+        Ok((sectors, size))
     }
 
     /// The table, and its partitions.
-    pub fn members(&mut self) -> Result<(Table, Vec<Member>), Failed> {
-        let mut table = Table::default();
-        let mut rows = vec![NO_MEMBER; MOST_MEMBERS];
-        let reply = Self::done(self.ask(|view, reply| unsafe { ptab_members(view, &mut table, rows.as_mut_ptr(), rows.len(), reply) })?)?;
-        rows.truncate(reply.count as usize);
-        Ok((table, rows))
+    pub fn table(&mut self) -> Result<Table, Error> {
+        let mut table = sys::RawTable::default();
+        let mut rows = vec![sys::NO_MEMBER; sys::MOST_MEMBERS];
+        let (_, reply) = self.call(&[sys::DONE], |disk, reply| unsafe {
+            sys::ptab_disk_members(disk, &mut table, rows.as_mut_ptr(), rows.len(), reply)
+        })?;
+        Ok(Table::new(&table, &rows[..reply.count as usize]))
     }
 
-    /// Whether the disk is healthy.
-    pub fn verify(&mut self) -> Result<Verdict, Failed> {
-        Self::verdict(self.ask(|view, reply| unsafe { ptab_verify(view, reply) })?)
+    /// Whether the disk is healthy, or the first finding.
+    pub fn verify(&mut self) -> Result<Verdict, Error> {
+        let (status, reply) = self.call(&[sys::DONE, sys::NO], |disk, reply| unsafe { sys::ptab_disk_verify(disk, reply) })?;
+        Ok(Verdict::new(status, &reply))
     }
 
-    /// The disk's sector that is sector `k` of a partition; the letter is 0 for one without.
-    pub fn locate(&mut self, number: u64, letter: u8, k: u64) -> Result<Option<u64>, Failed> {
-        match self.ask(|view, reply| unsafe { ptab_locate(view, number, letter, k, reply) })? {
-            (0, reply) => Ok(Some(reply.sector)),
-            (1, _) => Ok(None),
-            (status, reply) => Err(Failed { status, reply }),
-        }
+    /// The disk's sector that is sector `k` of a partition, `letter` that of a label's entry.
+    pub fn locate(&mut self, number: u64, letter: Option<char>, k: u64) -> Result<Option<u64>, Error> {
+        let letter = letter.map_or(0, |letter| u8::try_from(letter).unwrap_or(u8::MAX));
+        let (status, reply) =
+            self.call(&[sys::DONE, sys::NO], |disk, reply| unsafe { sys::ptab_disk_locate(disk, number, letter, k, reply) })?;
+        Ok(if status == sys::DONE { Some(reply.sector) } else { None })
     }
 
-    fn plan_by(
-        &mut self,
-        mut call: impl FnMut(&View, &mut [WriteRow], &mut [u8], &mut Reply) -> i32,
-    ) -> Result<Plan, Failed> {
-        let size = self.size;
-        let mut writes = vec![WriteRow::default(); MOST_WRITES];
-        let mut bytes = vec![0; MOST_WRITES * size];
-        let reply = Self::done(self.ask(|view, reply| call(view, &mut writes, &mut bytes, reply))?)?;
-        let mut plan: Plan = (0..reply.phases).map(|_| Vec::new()).collect();
-        for (row, bytes) in writes.iter().zip(bytes.chunks(size)).take(reply.count as usize) {
-            plan[row.phase as usize - 1].push(Write { sector: row.sector, bytes: bytes.to_vec() });
-        }
-        Ok(plan)
+    /// Edits by words as `ptab edit` takes them, with GUIDs that are drawn: how many sectors were written.
+    pub fn edit(&mut self, words: &[&str]) -> Result<u64, Error> {
+        let words = Words::new(words)?;
+        let (at, len) = (words.pointers.as_ptr(), words.pointers.len());
+        self.change(|disk, reply| unsafe { sys::ptab_disk_edit(disk, at, len, null(), 0, reply) })
     }
 
-    /// The plan of edit words, with 16 random bytes for each GUID that they need.
-    pub fn plan(&mut self, words: &[&str], drawn: &[u8]) -> Result<Plan, Failed> {
-        let text: Vec<u8> = words.iter().flat_map(|word| word.bytes().chain([0])).collect();
-        self.plan_by(|view, writes, bytes, reply| unsafe {
-            ptab_plan(
-                view, text.as_ptr(), text.len(), drawn.as_ptr(), drawn.len(), writes.as_mut_ptr(), writes.len(), bytes.as_mut_ptr(),
-                bytes.len(), reply,
-            )
-        })
+    /// The same with 16 random bytes for each GUID.
+    pub fn edit_drawn(&mut self, words: &[&str], drawn: &[u8]) -> Result<u64, Error> {
+        let words = Words::new(words)?;
+        let (at, len) = (words.pointers.as_ptr(), words.pointers.len());
+        self.change(|disk, reply| unsafe { sys::ptab_disk_edit(disk, at, len, drawn.as_ptr(), drawn.len(), reply) })
     }
 
-    /// The plan that makes the disk healthy and keeps its partitions.
-    pub fn repair(&mut self) -> Result<Plan, Failed> {
-        self.plan_by(|view, writes, bytes, reply| unsafe {
-            ptab_repair(view, writes.as_mut_ptr(), writes.len(), bytes.as_mut_ptr(), bytes.len(), reply)
+    /// Makes the disk healthy, and keeps its partitions: how many sectors were written.
+    pub fn repair(&mut self) -> Result<u64, Error> {
+        self.change(|disk, reply| unsafe { sys::ptab_disk_repair(disk, reply) })
+    }
+
+    /// Gives the disk the layout that another one denotes: how many sectors were written.
+    pub fn adopt(&mut self, other: &mut Disk) -> Result<u64, Error> {
+        let other = other.raw.as_ptr();
+        self.change(|disk, reply| unsafe { sys::ptab_disk_adopt(disk, other, reply) })
+    }
+
+    /// Carries out a plan from elsewhere, if `check` says yes to it: how many sectors were written.
+    pub fn apply(&mut self, plan: &Plan) -> Result<u64, Error> {
+        let (rows, bytes) = flat(plan);
+        self.change(|disk, reply| unsafe {
+            sys::ptab_disk_apply(disk, rows.as_ptr(), rows.len(), bytes.as_ptr(), bytes.len(), reply)
         })
     }
 
     /// Whether a plan from elsewhere may be carried out.
-    pub fn check(&mut self, plan: &Plan) -> Result<Verdict, Failed> {
-        let mut rows = Vec::new();
-        let mut bytes = Vec::new();
-        for (phase, writes) in (1..).zip(plan) {
-            for write in writes {
-                rows.push(WriteRow { sector: write.sector, phase });
-                bytes.extend_from_slice(&write.bytes);
+    pub fn check(&mut self, plan: &Plan) -> Result<Verdict, Error> {
+        let (rows, bytes) = flat(plan);
+        let (status, reply) = self.call(&[sys::DONE, sys::NO], |disk, reply| unsafe {
+            sys::ptab_disk_check(disk, rows.as_ptr(), rows.len(), bytes.as_ptr(), bytes.len(), reply)
+        })?;
+        Ok(Verdict::new(status, &reply))
+    }
+
+    /// The plan of an edit, with GUIDs that are drawn; nothing is written.
+    pub fn plan(&mut self, words: &[&str]) -> Result<Plan, Error> {
+        let words = Words::new(words)?;
+        let (at, len) = (words.pointers.as_ptr(), words.pointers.len());
+        self.planned(|disk, room, reply| unsafe {
+            let (writes, bytes) = room;
+            sys::ptab_disk_plan(
+                disk, at, len, null(), 0, writes.as_mut_ptr(), writes.len(), bytes.as_mut_ptr(), bytes.len(), reply,
+            )
+        })
+    }
+
+    /// The plan of a repair.
+    pub fn repair_plan(&mut self) -> Result<Plan, Error> {
+        self.planned(|disk, (writes, bytes), reply| unsafe {
+            sys::ptab_disk_repair_plan(disk, writes.as_mut_ptr(), writes.len(), bytes.as_mut_ptr(), bytes.len(), reply)
+        })
+    }
+
+    /// The plan that gives the disk the layout of another one.
+    pub fn adopt_plan(&mut self, other: &mut Disk) -> Result<Plan, Error> {
+        let other = other.raw.as_ptr();
+        self.planned(|disk, (writes, bytes), reply| unsafe {
+            sys::ptab_disk_adopt_plan(disk, other, writes.as_mut_ptr(), writes.len(), bytes.as_mut_ptr(), bytes.len(), reply)
+        })
+    }
+
+    /// A plan, with as much room as it takes.
+    fn planned(
+        &mut self, mut call: impl FnMut(*mut RawDisk, (&mut [RawWrite], &mut [u8]), *mut RawReply) -> i32,
+    ) -> Result<Plan, Error> {
+        let size = self.size()?.1 as usize;
+        let mut count = MOST_WRITES;
+        loop {
+            let mut room = (vec![RawWrite::default(); count], vec![0; count * size]);
+            let (status, reply) =
+                self.call(&[sys::DONE, sys::ROOM], |disk, reply| call(disk, (&mut room.0, &mut room.1), reply))?;
+            count = reply.count as usize;
+            if status == sys::DONE {
+                let mut plan: Plan = vec![Vec::new(); reply.phases as usize];
+                for (row, bytes) in room.0.iter().zip(room.1.chunks(size)).take(count) {
+                    plan[row.phase as usize - 1].push(Write { sector: row.sector, bytes: bytes.to_vec() });
+                }
+                return Ok(plan);
             }
         }
-        Self::verdict(self.ask(|view, reply| unsafe { ptab_check(view, rows.as_ptr(), rows.len(), bytes.as_ptr(), bytes.len(), reply) })?)
     }
 }

@@ -1,102 +1,121 @@
-//! Edits one after the other of one disk in memory, also after a write that failed: each is planned from what the disk has then.
-use ptab::{Disk, Failed, Member, Plan};
-use std::cell::RefCell;
+//! Calls on images: several edits in one opening, the lock, refusals, plans, another disk's layout.
+use ptab::{Disk, Error, ErrorKind, Options, TableKind, Verdict};
+use std::fs;
+use std::path::PathBuf;
 
-const SIZE: usize = 512;
-const SECTORS: u64 = 4096;
+/// An image that goes with the test.
+struct Image(PathBuf);
 
-/// The bytes of a disk, and after how many writes one fails.
-struct Bytes {
-    bytes: RefCell<Vec<u8>>,
-    left: RefCell<Option<usize>>,
-}
-
-impl Bytes {
-    fn new() -> Bytes {
-        Bytes { bytes: RefCell::new(vec![0; SIZE * SECTORS as usize]), left: RefCell::new(None) }
+impl Image {
+    fn new(name: &str) -> Image {
+        let path = std::env::temp_dir().join(format!("ptab-{}-{name}", std::process::id()));
+        fs::write(&path, vec![0; 4096 * 512]).expect("an image");
+        Image(path)
     }
 
-    fn disk(&self) -> Disk<impl FnMut(u64, &mut [u8]) -> bool + '_> {
-        let read = |number: u64, into: &mut [u8]| {
-            let at = SIZE * number as usize;
-            into.copy_from_slice(&self.bytes.borrow()[at..at + SIZE]);
-            true
-        };
-        Disk::new(read, SECTORS, SIZE).expect("a library of this interface")
+    fn disk(&self) -> Disk {
+        Options::new().write(true).open(&self.0).expect("a disk")
     }
 
-    /// Whether all writes of the plan were done.
-    fn carry_out(&self, plan: Plan) -> bool {
-        for write in plan.into_iter().flatten() {
-            let left = self.left.take();
-            if left == Some(0) {
-                return false;
-            }
-            *self.left.borrow_mut() = left.map(|count| count - 1);
-            let at = SIZE * write.sector as usize;
-            self.bytes.borrow_mut()[at..at + SIZE].copy_from_slice(&write.bytes);
-        }
-        true
+    fn made(name: &str) -> Image {
+        let image = Image::new(name);
+        image.disk().edit(&["o", "n:1:0:+1000:EF00", "c:1:data"]).expect("an edit");
+        image
     }
 }
 
-/// Random bytes for two GUIDs, others for each seed.
-fn drawn(seed: u8) -> Vec<u8> {
-    (0..32).map(|byte| byte ^ seed).collect()
+impl Drop for Image {
+    fn drop(&mut self) {
+        let _ = fs::remove_file(&self.0);
+    }
 }
 
-/// The numbers and names of partitions.
-fn named((_, rows): (ptab::Table, Vec<Member>)) -> Vec<(u64, String)> {
-    let name = |row: &Member| {
-        let units: Vec<u16> = row.name.iter().copied().take_while(|unit| *unit != 0).collect();
-        String::from_utf16(&units).expect("a name")
+fn named(disk: &mut Disk) -> Vec<(String, String)> {
+    disk.table().expect("a table").partitions.iter().map(|it| (it.path(), it.name.clone())).collect()
+}
+
+fn pair(path: &str, name: &str) -> (String, String) {
+    (path.to_string(), name.to_string())
+}
+
+#[test]
+fn edits_follow_each_other() {
+    let image = Image::new("edits");
+    let mut disk = image.disk();
+    assert_eq!(disk.verify().expect("a verdict").to_string(), "there is no table");
+    assert!(disk.edit(&["o", "n:1:0:+1000:EF00"]).expect("an edit") > 0);
+    assert_eq!(disk.edit(&["c:1:data"]).expect("an edit"), 67);
+    assert_eq!(disk.edit(&["a:1", "n:2:0:+8", "c:2:more"]).expect("an edit"), 67);
+    assert_eq!(disk.edit(&["c:2:more"]).expect("an edit"), 0);
+    assert_eq!(named(&mut disk), [pair("1", "data"), pair("2", "more")]);
+    let table = disk.table().expect("a table");
+    assert_eq!((table.kind, table.sectors, table.usable), (TableKind::Gpt, 4096, Some((34, 4062))));
+    assert_eq!((table.partitions[0].kind.as_str(), table.partitions[0].first), ("EF00", 2048));
+    assert_eq!(disk.locate(1, None, 3).expect("an answer"), Some(2051));
+    assert_eq!(disk.locate(1, None, 1000).expect("an answer"), None);
+    assert_eq!(disk.size().expect("a size"), (4096, 512));
+    assert!(disk.verify().expect("a verdict").is_yes());
+    assert_eq!(disk.repair().expect("a repair"), 0);
+}
+
+#[test]
+fn the_lock_is_held() {
+    let image = Image::made("lock");
+    let held = image.disk();
+    let refused = Options::new().write(true).open(&image.0).expect_err("a second opening");
+    assert_eq!((refused.kind(), refused.to_string().as_str()), (ErrorKind::Locked, "the lock is held elsewhere"));
+    assert_eq!(named(&mut Disk::open(&image.0).expect("a reader")), [pair("1", "data")]);
+    assert_eq!(Options::new().write(true).lock(false).open(&image.0).expect("a disk").edit(&["c:1:x"]).expect("an edit"), 67);
+    drop(held);
+    let file = fs::OpenOptions::new().read(true).write(true).open(&image.0).expect("a file");
+    assert_eq!(Options::new().write(true).take(&file).expect("a disk").edit(&["c:1:y"]).expect("an edit"), 67);
+    assert_eq!(named(&mut image.disk()), [pair("1", "y")]);
+}
+
+#[test]
+fn refusals_are_sentences() {
+    let image = Image::made("refusals");
+    let mut disk = image.disk();
+    let told = |result: Result<u64, Error>| {
+        let error = result.expect_err("an error");
+        (error.kind(), error.to_string(), error.written())
     };
-    rows.iter().map(|row| (row.number, name(row))).collect()
-}
-
-fn pair(number: u64, name: &str) -> (u64, String) {
-    (number, name.to_string())
-}
-
-#[test]
-fn edits_of_one_disk_add_up() -> Result<(), Failed> {
-    let bytes = Bytes::new();
-    let mut disk = bytes.disk();
-    let edits: [(u8, &[&str]); 3] = [(0, &["a:8", "o", "n:1:0:+100"]), (64, &["a:8", "n:2:0:+100", "c:2:two"]), (128, &["c:1:one"])];
-    for (seed, words) in edits {
-        let plan = disk.plan(words, &drawn(seed))?;
-        assert!(bytes.carry_out(plan));
-    }
-    assert_eq!(named(disk.members()?), [pair(1, "one"), pair(2, "two")]);
-    assert_eq!(disk.verify()?, ptab::Verdict::Yes);
-    Ok(())
+    assert_eq!(told(disk.edit(&["d:9"])), (ErrorKind::Refused, "no such partition".to_string(), 0));
+    assert_eq!(told(disk.edit(&["c:1:x", "x"])), (ErrorKind::BadArgument, "word 2: another letter than a word's".to_string(), 0));
+    assert_eq!(told(disk.edit(&["c:1:\0"])), (ErrorKind::BadArgument, "a word has a zero byte".to_string(), 0));
+    let missing = Disk::open("/nonexistent").expect_err("no file");
+    assert_eq!((missing.kind(), missing.raw_os_error()), (ErrorKind::Device, Some(2)));
+    assert_eq!(std::io::Error::from(missing).kind(), std::io::ErrorKind::NotFound);
+    assert_eq!(Disk::open("/").expect_err("a folder").to_string(), "this is a folder");
+    assert_eq!(Options::new().sector_size(513).open(&image.0).expect_err("a size").kind(), ErrorKind::BadArgument);
+    let none = Image::new("none");
+    assert_eq!(Disk::open(&none.0).expect("a disk").table().expect_err("no table").kind(), ErrorKind::NoTable);
 }
 
 #[test]
-fn an_edit_after_a_failed_write_goes_on_from_what_is_there() -> Result<(), Failed> {
-    let start = Bytes::new();
-    let plan = start.disk().plan(&["a:8", "o", "n:1:0:+100", "c:1:old"], &drawn(0))?;
-    assert!(start.carry_out(plan));
-    let writes: usize = start.disk().plan(&["c:1:new"], &[])?.iter().map(Vec::len).sum();
-    assert_eq!(writes, 67);
-    let second = ["a:8", "n:2:0:+100"];
-    let (mut kept, mut changed) = (0, 0);
-    for failing in 0..writes {
-        let bytes = Bytes { bytes: start.bytes.clone(), left: RefCell::new(Some(failing)) };
-        let mut disk = bytes.disk();
-        let plan = disk.plan(&["c:1:new"], &[])?;
-        assert!(!bytes.carry_out(plan));
-        let plan = disk.plan(&second, &drawn(64))?;
-        assert_eq!(plan, bytes.disk().plan(&second, &drawn(64))?);
-        assert!(bytes.carry_out(plan));
-        match named(disk.members()?) {
-            rows if rows == [pair(1, "old"), pair(2, "")] => kept += 1,
-            rows if rows == [pair(1, "new"), pair(2, "")] => changed += 1,
-            rows => panic!("after {failing} writes: {rows:?}"),
-        }
-        assert_eq!(disk.verify()?, ptab::Verdict::Yes);
-    }
-    // the backup copy and the cleared primary header are 34 writes, the last of which is the moment of change
-    assert_eq!((kept, changed), (34, 33));
-    Ok(())
+fn plans_are_checked_and_applied() {
+    let image = Image::made("plans");
+    let mut disk = image.disk();
+    let plan = disk.plan(&["c:1:planned"]).expect("a plan");
+    assert_eq!(plan.iter().map(Vec::len).collect::<Vec<_>>(), [33, 1, 32, 1]);
+    assert_eq!(disk.check(&plan).expect("a verdict"), Verdict::Yes(2));
+    let part = plan[..2].to_vec();
+    assert!(!disk.check(&part).expect("a verdict").is_yes());
+    let refused = disk.apply(&part).expect_err("a refusal");
+    assert_eq!((refused.kind(), refused.reason().number), (ErrorKind::Refused, 8));
+    assert_eq!(named(&mut disk), [pair("1", "data")]);
+    assert_eq!(disk.apply(&plan).expect("an application"), 67);
+    assert_eq!(named(&mut disk), [pair("1", "planned")]);
+    assert_eq!(disk.repair_plan().expect("a plan"), Vec::<Vec<ptab::Write>>::new());
+}
+
+#[test]
+fn another_layout_is_adopted() {
+    let (image, other) = (Image::made("adopts"), Image::made("adopted"));
+    let (mut disk, mut given) = (image.disk(), other.disk());
+    given.edit(&["c:1:theirs"]).expect("an edit");
+    assert_eq!(disk.adopt_plan(&mut given).expect("a plan").len(), 4);
+    assert_eq!(disk.adopt(&mut given).expect("an adoption"), 67);
+    assert_eq!(disk.table().expect("a table"), given.table().expect("a table"));
+    assert_eq!(disk.adopt(&mut given).expect("an adoption"), 0);
 }

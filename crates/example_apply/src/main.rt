@@ -1,4 +1,5 @@
-//! Checks a plan of writes, which may come from anywhere, and applies it to a disk image where that is safe.
+//! Checks a plan of writes, which may come from anywhere, prints what it would make, and applies it to a disk image where that is
+//! safe.
 //!
 //! usage: example_apply IMAGE PLAN
 #![tactic(auto)]
@@ -6,7 +7,10 @@
 ghost use Rattle.jawefon.specs.Sectors.{IsSectorSize};
 
 use anyhow::{Context, Result, bail};
-use jawefon::{Access, Answer, Disk, FileDisk, apply_checked, check, members, read_plan, recover};
+use jawefon::{
+    Access, After, Answer, Disk, FileDisk, Layout, apply_checked, layout_after, members, read_plan,
+    recover,
+};
 use std::{env, fs};
 
 /// Of any disk, with sectors of 512 or 4096 bytes.
@@ -14,7 +18,11 @@ fn print_partitions<const B: usize, D: Disk<B>>(rt: &HostRuntime, disk: &mut D) 
     requires { IsSectorSize B }
 {
     let layout = recover(rt.alloc(), disk)?;
-    for part in &members::<B>(rt.alloc(), &layout)? {
+    print_layout::<B>(rt, &layout)
+}
+
+fn print_layout<const B: usize>(rt: &HostRuntime, layout: &Layout) -> Result<()> {
+    for part in &members::<B>(rt.alloc(), layout)? {
         println!(rt;
             "  partition {}: sectors {} to {}",
             part.path, part.first, part.last
@@ -29,11 +37,13 @@ fn apply_plan(rt: &HostRuntime, image: &str, file: &str) -> Result<()> {
     let mut disk = FileDisk::<512>::open(rt, image, Access::Write)?;
     println!(rt; "before:")?;
     print_partitions(rt, &mut disk)?;
-    // The check alone writes nothing. After a yes a power cut within the plan leaves the old table or the new one.
-    match check(rt.alloc(), &mut disk, &plan)? {
-        Answer::No(why) => bail!("not safe: {why}"),
-        Answer::Yes { switch: 0 } => println!(rt; "safe: nothing changes")?,
-        Answer::Yes { switch } => println!(rt; "safe: phase {switch} makes the change")?,
+    // Looking writes nothing. After a yes a power cut within the plan leaves the old table or the new one.
+    match layout_after(rt.alloc(), &mut disk, &plan)? {
+        After::No(why) => bail!("not safe: {why}"),
+        After::Layout(layout) => {
+            println!(rt; "safe, and makes:")?;
+            print_layout::<512>(rt, &layout)?;
+        }
     }
     // This asks again, and then writes. Once it says yes, all is on the disk to stay.
     match apply_checked(rt.alloc(), &mut disk, &plan)? {

@@ -1,5 +1,5 @@
 //! The core for callers in C (docs/c.md and include/ptab.h): what a disk denotes, whether it is healthy, where a
-//! partition's sectors are, and checked plans of edits and repairs.
+//! partition's sectors are, and checked plans of edits and repairs, and of the layout of another disk.
 //!
 //! The caller reads and writes the disk; a call gets the sectors that were read so far, and ends with an answer or
 //! with the number of one more sector that it wants.
@@ -13,15 +13,17 @@ ghost use Rattle.pt_guid.specs.Mixed.{text_of};
 ghost use Rattle.pt_replay.specs.Codes.{IsTypeCode};
 ghost use Rattle.pt_replay.specs.Given.{buffers};
 ghost use Rattle.pt_sector.specs.Sectors.{Sectors};
-ghost use Rattle.pt_replay.specs.Known.{IsPartOf};
+ghost use Rattle.pt_replay.specs.Known.{IsPartOf, Disks};
 ghost use Rattle.pt_replay.specs.Listed.{listing};
 ghost use Rattle.pt_replay.specs.Judged.{OfSize, NoBuffers};
 ghost use Rattle.pt_replay.specs.Claims.{Says, MembersFor, VerifiedFor, LocatedFor, PlannedFor, MendedFor, CheckedFor};
+ghost use Rattle.pt_replay.specs.Adopted.{AdoptedFor};
+ghost use Rattle.pt_replay.specs.Wanted.{WantedFor};
 
 use pt_guid::{Guid, code_of_type};
 use pt_replay::{
-    Answer, GuidBytes, GuidText, MemberRow, Reply, TableRow, View, WriteRow, checked, located,
-    members, mended, planned, verified,
+    Answer, GuidBytes, GuidText, MemberRow, Reply, TableRow, View, WriteRow, adopted, beyond,
+    checked, located, members, mended, planned, verified, wanted,
 };
 use pt_sector::Moments;
 use std::alloc::Global;
@@ -45,6 +47,26 @@ pub extern "C" fn ptab_members(
     match view.sector_size {
         512 => members::<512>(alloc, view, table, rows, Moments::any()).give(reply),
         4096 => members::<4096>(alloc, view, table, rows, Moments::any()).give(reply),
+        _ => Answer::bad_argument(1).give(reply),
+    }
+}
+
+/// All sectors that are known to be wanted for the table and its labels, to be read in one go, in the caller's buffer; 0 where
+/// the table wants nothing.
+#[unsafe(no_mangle)]
+pub extern "C" fn ptab_wanted(
+    alloc: Global,
+    view: &View<'_>,
+    sectors: &mut [u64],
+    reply: &mut Reply,
+) -> i32
+    ghost disk: { Sectors }
+    ensures says { IsPartOf view.now disk → Says (OfSize view.now (sectors.new ≡ sectors.old)
+        (WantedFor view.now.sector_size view.now disk sectors.old sectors.new)) result reply.new }
+{
+    match view.sector_size {
+        512 => wanted::<512>(alloc, view, sectors, Moments::any()).give(reply),
+        4096 => wanted::<4096>(alloc, view, sectors, Moments::any()).give(reply),
         _ => Answer::bad_argument(1).give(reply),
     }
 }
@@ -129,6 +151,34 @@ pub extern "C" fn ptab_repair(
     match view.sector_size {
         512 => mended::<512>(alloc, view, writes, bytes, Moments::any()).give(reply),
         4096 => mended::<4096>(alloc, view, writes, bytes, Moments::any()).give(reply),
+        _ => Answer::bad_argument(1).give(reply),
+    }
+}
+
+/// The checked plan that makes the disk healthy with the layout that another one denotes, in the caller's buffers: without
+/// writes where it is so already. It may want a sector of either.
+#[unsafe(no_mangle)]
+pub extern "C" fn ptab_adopt_plan(
+    alloc: Global,
+    view: &View<'_>,
+    other: &View<'_>,
+    writes: &mut [WriteRow],
+    bytes: &mut [u8],
+    reply: &mut Reply,
+) -> i32
+    ghost disks: { Disks }
+    ensures says { IsPartOf view.now disks.disk → IsPartOf other.now disks.other →
+        Says (OfSize view.now (buffers writes.new bytes.new ≡ buffers writes.old bytes.old)
+        (AdoptedFor view.now.sector_size view.now other.now disks.disk disks.other
+        (buffers writes.old bytes.old) (buffers writes.new bytes.new))) result reply.new }
+{
+    match view.sector_size {
+        512 => adopted::<512>(alloc, view, other, writes, bytes, Moments::any(), beyond()).give(
+            reply,
+        ),
+        4096 => adopted::<4096>(alloc, view, other, writes, bytes, Moments::any(), beyond()).give(
+            reply,
+        ),
         _ => Answer::bad_argument(1).give(reply),
     }
 }

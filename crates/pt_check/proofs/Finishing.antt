@@ -10,14 +10,21 @@ use Rattle.pt_sector.specs.declared.reading.Failure.TheVariants as failure
 use Rattle.pt_recover.specs.Denotes.{Denotes}
 use Rattle.pt_recover.specs.declared.error.NoTable.{NoTable}
 use Rattle.pt_members.specs.declared.layout.Layout.{Layout}
-use Rattle.pt_layout.specs.Surveys.{FoundIs, FindingIs}
+use Rattle.pt_layout.specs.Surveys.{FoundIs, FindingIs, IsSurvey}
+use Rattle.pt_layout.specs.declared.survey.Survey.{Survey}
 use Rattle.pt_sound.specs.declared.finding.Finding.{Finding}
 use Rattle.pt_check.specs.Answers.{WrongIs}
 use Rattle.pt_check.specs.Failed.{fault_in, told_failure}
+use Rattle.pt_check.specs.Recovered.{IsRecoveredOf}
 
-pub denotes_found : (b : ℕ) (d : Sectors) (found : Result Layout NoTable) → FoundIs b d found → Denotes b d (result_ok found)
+denotes_found : (b : ℕ) (d : Sectors) (found : Result Layout NoTable) → FoundIs b d found → Denotes b d (result_ok found)
 denotes_found b d (Ok o) is = is
 denotes_found b d (Err e) is = is.0
+
+-- what a survey tells of a disk is what recovery of it does
+pub recovered_found : (b : ℕ) (d : Sectors) (x : Survey) → IsSurvey b d x
+    → IsRecoveredOf b d (record { layout = result_ok x.found; trace = x.trace })
+recovered_found b d x is = record { denotes = denotes_found b d x.found is.found; reads = is.trace }
 
 pub wrong_found : (b : ℕ) (d : Sectors) (found : Result Layout NoTable) (f : Option Finding) → FindingIs b d found f → WrongIs b d f
 wrong_found b d found (Some f) is = is

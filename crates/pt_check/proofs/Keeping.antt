@@ -35,7 +35,7 @@ none_puts P (w ∷ ws) nothing k v (inr there) = none_puts P ws (λ j x at. noth
 -- a value that sector k has, and that every write of it has
 
 module _ (Q : List ℕ → Type 0) (k : ℕ) where
-  on_stop : (x : Sectors) (ws : Writes) (c : Sectors) → Stopped x ws c → Q (sector x k) → ((v : List ℕ) → Puts ws k v → Q v)
+  pub on_stop : (x : Sectors) (ws : Writes) (c : Sectors) → Stopped x ws c → Q (sector x k) → ((v : List ℕ) → Puts ws k v → Q v)
       → Q (sector c k)
   on_stop x ws c stop has puts = ⊎_elim
       (λ lt. ⊎_elim (λ same. subst Q (sym same) has) (λ put. puts (sector c k) put) (stop.each k lt))

@@ -8,5 +8,6 @@ pub mod Exits
 pub mod Ranges
 pub mod Finishing
 pub mod Reading
+pub mod Settled
 pub mod Clear
 pub mod Quiet

@@ -52,31 +52,6 @@ module _ {L : Type 0} (denotes : Sectors → Option L → Type 0) (reads : Secto
             (cases_lt j (i + 1))),
       )
 
-  -- the disk after the last phase is the finished one
-  pub finished_last : (i : ℕ) → i + 1 ≡ length phases → denotes (after phases d) new → denotes (disk_after phases d (i + 1)) new
-  finished_last i all is =
-      let whole : take (i + 1) phases ≡ phases = take_all (i + 1) phases (omega (arith, all)) in
-      subst (λ (ps : List Writes). denotes (after ps d) new) (sym whole) is
-
-  pub last_trial : (one : (x : Sectors) (o p : Option L) → denotes x o → denotes x p → o ≡ p) (i : ℕ) → i < length phases
-      → (runs : List TracedRun) → Reading reads (disk_after phases d i) runs → (switch : Option ℕ)
-      → Course denotes reads phases d old new i switch → TouchedIs (IsIn runs) (phase_at phases i) None
-      → i + 1 ≡ length phases → denotes (after phases d) new → (t : Trial) → LastIs old new switch (i + 1) t
-      → TrialIs denotes reads phases d old new t
-  last_trial one i below runs reading switch course touched all is (Passed t) step =
-      subst (λ (n : ℕ). Course denotes reads phases d old new n t) all
-      (course_on denotes reads phases d old new i below runs reading switch course touched new (finished_last i all is) t step)
-  last_trial one i below runs reading switch course touched all is (Refused (Neither p)) (same, step) =
-      subst (λ (n : ℕ). RefusedNeither denotes reads phases d old new n) (sym same)
-      (refused_neither denotes reads phases d old new i below runs reading switch course touched new (finished_last i all is) one step)
-  last_trial one i below runs reading switch course touched all is (Refused TooManyWrites) step = absurd step
-  last_trial one i below runs reading switch course touched all is (Refused (OutOfRange n)) step = absurd step
-  last_trial one i below runs reading switch course touched all is (Refused (BootCode n)) step = absurd step
-  last_trial one i below runs reading switch course touched all is (Refused (ReadSector p lba)) step = absurd step
-  last_trial one i below runs reading switch course touched all is (Refused (NotATable lba)) step = absurd step
-  last_trial one i below runs reading switch course touched all is (Refused (Owned lba)) step = absurd step
-  last_trial one i below runs reading switch course touched all is (Refused (Final f)) step = absurd step
-
 module _ (b : ℕ) (phases : List Writes) (d : Sectors) (i : ℕ) (below : i < length phases) (runs : List TracedRun)
     (reading : Reading (Reads b) (disk_after phases d i) runs) (none : NoneIs (λ (w : ℕ × List ℕ). IsIn runs w.0) (phase_at phases i)) where
   leaves : LeavesReads b (disk_after phases d i) (phase_at phases i)

@@ -3,7 +3,7 @@ use Rattle.std.specs.Prelude.{◌≡◌, ◌⊎◌, ℕ, ◌+◌, ◌<◌, ◌�
 use Rattle.pt_sector.specs.Sectors.{Sectors}
 use Rattle.pt_sector.specs.Writes.{Writes}
 use Rattle.pt_sector.specs.declared.address.Lba.{Lba}
-use Rattle.pt_check.specs.Course.{Course, IsCalm}
+use Rattle.pt_check.specs.Course.{phase_at, Course, IsCalm}
 use Rattle.pt_apply.specs.Plans.{NoneIs}
 use Rattle.pt_check.specs.First.{IsFirst}
 use Rattle.pt_check.specs.Reasons.{IsNeither, ReadsSector}
@@ -25,11 +25,15 @@ StepIs found old new switch number (step.Goes (Some s)) =
     (¬ (found ≡ old)) × (found ≡ new) × ((switch ≡ Some s) ⊎ ((switch ≡ None) × (s ≡ number)))
 StepIs found old new switch number step.Neither = ((found ≡ old) × IsSome switch) ⊎ ((¬ (found ≡ old)) × (¬ (found ≡ new)))
 
--- what the phases came to where the last one, of this number, gave the new layout
+-- what the phases came to where the one of this number gave the new layout, and no later one changes that
 abbrev pub LastIs : {L : Type 0} → Option L → Option L → Option ℕ → ℕ → Trial → Type 0
 LastIs old new switch number (Passed t) = StepIs new old new switch number (step.Goes t)
 LastIs old new switch number (Refused (Neither p)) = (p ≡ number) × StepIs new old new switch number step.Neither
 LastIs old new switch number (Refused _) = ⊥
+
+-- from phase m on, counted from 0, no write is of a sector in S
+abbrev pub SettlesFrom : (ℕ → Type 0) → List Writes → ℕ → Type 0
+SettlesFrom S phases m = (j : ℕ) → m ≤ j → j < length phases → NoneIs (λ (w : ℕ × List ℕ). S w.0) (phase_at phases j)
 
 module _ {L : Type 0} (denotes : Sectors → Option L → Type 0) (reads : Sectors → ℕ → Type 0) (phases : List Writes) (d : Sectors) where
   -- a phase of several writes is of a sector that is read, and those before it were passed

@@ -9,7 +9,8 @@ ghost use Rattle.pt_check.specs.Answers.{Answers, AreInRange, AreJudged, Promise
 ghost use Rattle.pt_check.specs.Course.{switch_number};
 ghost use Rattle.pt_check.specs.CheckReads.{CheckReads, WritesHead};
 ghost use Rattle.pt_check.specs.Failed.{fault_in, FailedInCheck};
-ghost use Rattle.pt_check.specs.Misplaced.{MisplacedIs};
+ghost use Rattle.pt_check.specs.First.{FirstWriteIs};
+ghost use Rattle.pt_check.specs.Misplaced.{InOwned, MisplacedIs};
 ghost use Rattle.pt_check.specs.Reasons.{IsFit};
 ghost use Rattle.pt_check.specs.Recovered.{IsRecoveredOf};
 
@@ -17,8 +18,8 @@ use crate::answer::{Answer, Why};
 use crate::boot::other_boot_code;
 use crate::error::CheckError;
 use crate::finished::{Finished, read_finished};
-use crate::objection::first_in_plan;
-use crate::places::{NoTable, OutOfRange, OwnedByOne, is_clear};
+use crate::objection::{Found, first_in_plan};
+use crate::places::{NoTable, OutOfRange, OwnedByOne, is_clear, reach_in};
 use crate::recovered::{Recovered, read_layout};
 use crate::trial::{Layouts, Trial, try_phases};
 use crate::writes::count_writes;
@@ -152,10 +153,11 @@ fn check_phases<const B: usize, D: Disk<B>>(
     let (old, trace) = before.into_parts();
     let Finished {
         layout: new,
+        trace: end,
         finding,
     } = end;
     let layouts = Layouts { old, new };
-    let trial = try_phases(alloc, disk, plan, count, &layouts, trace)?;
+    let trial = try_phases(alloc, disk, plan, count, &layouts, trace, &end)?;
     Ok(conclude(trial, misplaced(plan, &layouts), finding))
 }
 
@@ -192,10 +194,25 @@ fn misplaced<const B: usize>(plan: &Plan<B>, layouts: &Layouts) -> Option<Why>
     if is_clear(&layouts.old, plan) && is_clear(&layouts.new, plan) {
         return None;
     }
-    match first_in_plan(&OwnedByOne { layouts }, plan) {
+    match first_owned(plan, layouts) {
         Some(found) => Some(Why::Owned(found.lba)),
         None => None,
     }
+}
+
+/// The first write of a sector that is owned in either layout.
+#[tactic(auto, using(crate::proofs::Clear::first_same))]
+fn first_owned<const B: usize>(plan: &Plan<B>, layouts: &Layouts) -> Option<Found>
+    requires size { IsSectorSize B }
+    requires few { length (writes_in (phases_of plan.now)) ≤ 4096 }
+    ensures { FirstWriteIs (InOwned B layouts.now.old layouts.now.new) (writes_in (phases_of plan.now)) result }
+{
+    let objection = OwnedByOne {
+        layouts,
+        old: reach_in::<B>(&layouts.old),
+        new: reach_in::<B>(&layouts.new),
+    };
+    first_in_plan(&objection, plan)
 }
 
 /// The switch as it is told.

@@ -7,16 +7,17 @@ ghost use Rattle.pt_sector.specs.Sectors.{Sectors, IsSectorSize};
 ghost use Rattle.pt_sector.specs.Writes.{after};
 ghost use Rattle.pt_sector.specs.Overlays.{room_left};
 ghost use Rattle.pt_apply.specs.Plans.{phases_of, finished, writes_in};
-ghost use Rattle.pt_recover.specs.Denotes.{Denotes};
 ghost use Rattle.pt_layout.specs.Surveys.{IsSurvey};
 ghost use Rattle.pt_sound.specs.Findings.{VerdictReads};
 ghost use Rattle.pt_check.specs.Failed.{fault_in, FailedInCheck};
 ghost use Rattle.pt_check.specs.Answers.{WrongIs};
+ghost use Rattle.pt_check.specs.Recovered.{IsRecoveredOf};
 
 use crate::error::CheckError;
 use crate::trial::put_phase;
 use pt_apply::Plan;
 use pt_layout::{Finding, Layout, Survey, survey_disk};
+use pt_recover::Trace;
 use pt_sector::{Disk, Overlay, Room};
 use std::alloc::Global;
 
@@ -35,20 +36,28 @@ fn put_plan<'a, const B: usize, D: Disk<B>>(over: &mut Overlay<'a, D, B>, plan: 
     }
 }
 
-/// What the finished disk denotes, and what is wrong with it, none where it is healthy.
+/// What the finished disk denotes, by which sectors, and what is wrong with it, none where it is healthy.
 #[derive(Drop)]
 pub(crate) struct Finished {
     pub layout: Option<Layout>,
+    pub trace: Trace,
     pub finding: Option<Finding>,
 }
 
 fn finished_of(told: Survey) -> Finished
-    ensures layout { (b : ℕ) (d : Sectors) → IsSurvey b d told → Denotes b d result.layout }
+    ensures recovered { (b : ℕ) (d : Sectors) → IsSurvey b d told
+        → IsRecoveredOf b d (record { layout = result.layout; trace = result.trace }) }
     ensures wrong { (b : ℕ) (d : Sectors) → IsSurvey b d told → WrongIs b d result.finding }
 {
-    let Survey { found, finding, .. } = told;
+    let Survey {
+        found,
+        finding,
+        trace,
+        ..
+    } = told;
     Finished {
         layout: found.ok(),
+        trace,
         finding,
     }
 }
@@ -65,7 +74,8 @@ pub(crate) fn read_finished<const B: usize, D: Disk<B>>(
     ensures same { OnlyReads D.Disk disk.old disk.new }
     ensures blames { Blames fault_in result (D.faults disk.old) (D.faults disk.new) }
     ensures place { D.tells → IfErr result (FailedInCheck (VerdictReads B (finished plan.now (D.told disk.old).seen))) }
-    ensures layout { D.tells → IfOk result (λ f. Denotes B (finished plan.now (D.told disk.old).seen) f.layout) }
+    ensures recovered { D.tells → IfOk result (λ f. IsRecoveredOf B (finished plan.now (D.told disk.old).seen)
+        (record { layout = f.layout; trace = f.trace })) }
     ensures wrong { D.tells → IfOk result (λ f. WrongIs B (finished plan.now (D.told disk.old).seen) f.finding) }
 {
     let room = Room::new(alloc, count)?;

@@ -1,6 +1,6 @@
 //! Where a plan may write.
 
-ghost use Rattle.std.specs.Prelude.{◌≡◌, ◌<◌, ◌≤◌, ◌⊎◌, ◌↔◌, IsTrue, length};
+ghost use Rattle.std.specs.Prelude.{◌≡◌, ◌<◌, ◌≤◌, ◌⊎◌, ◌↔◌, ℕ, IsTrue, length};
 ghost use Rattle.pt_sector.specs.Sectors.{IsSectorSize};
 ghost use Rattle.pt_members.specs.Owned.{OwnedOf};
 ghost use Rattle.pt_members.specs.Tables.{TableOf};
@@ -65,20 +65,36 @@ impl<const B: usize> Objection<B> for NoTable<'_> {
     }
 }
 
-/// Against sectors that a partition of either layout owns.
+/// Against sectors that a partition of either layout owns, among those in a reach of each. An owner is searched for only of a
+/// sector in the reach.
 #[derive(Clone, Copy)]
 pub(crate) struct OwnedByOne<'a> {
     pub layouts: &'a Layouts,
+    /// Among which are all that the old layout's partitions own.
+    pub old: Reach,
+    /// Among which are all that the new one's own.
+    pub new: Reach,
 }
 
 impl<const B: usize> Objection<B> for OwnedByOne<'_> {
-    ghost against = { λ o w. OwnedOf B o.layouts.now.old w.0 ⊎ OwnedOf B o.layouts.now.new w.0 };
+    ghost against = { λ o w. (IsWithin o.old w.0 × OwnedOf B o.layouts.now.old w.0)
+        ⊎ (IsWithin o.new w.0 × OwnedOf B o.layouts.now.new w.0) };
 
     fn objects(&self, write: &Write<B>) -> bool {
-        if owns::<B>(&self.layouts.old, write.lba) {
+        if self.old.contains(write.lba) && owns::<B>(&self.layouts.old, write.lba) {
             return true;
         }
-        owns::<B>(&self.layouts.new, write.lba)
+        self.new.contains(write.lba) && owns::<B>(&self.layouts.new, write.lba)
+    }
+}
+
+/// Sectors among which are all that the layout's partitions own; nothing owns none.
+pub(crate) fn reach_in<const B: usize>(layout: &Option<Layout>) -> Reach
+    ensures { (s : ℕ) → OwnedOf B layout.now s → IsWithin result s }
+{
+    match layout {
+        Some(layout) => reach_of::<B>(layout),
+        None => Reach { low: 1, high: 0 },
     }
 }
 

@@ -12,7 +12,7 @@ ghost use Rattle.pt_recover.specs.Spans.{IsIn};
 ghost use Rattle.pt_check.specs.CheckReads.{CheckReads};
 ghost use Rattle.pt_check.specs.Failed.{fault_in, FailedInCheck};
 ghost use Rattle.pt_check.specs.Recovered.{IsRecoveredOf};
-ghost use Rattle.pt_check.specs.Trials.{TouchedIs, StepIs, LastIs, TrialIs};
+ghost use Rattle.pt_check.specs.Trials.{TouchedIs, StepIs, LastIs, SettlesFrom, TrialIs};
 
 use crate::answer::Why;
 use crate::error::CheckError;
@@ -109,7 +109,21 @@ fn compare(found: &Option<Layout>, layouts: &Layouts, switch: Option<u64>, numbe
     }
 }
 
-/// What the phases came to where the last one, of this number, gives the new layout.
+/// How many phases there are until no later one writes a sector of the trace.
+fn settled<const B: usize>(plan: &Plan<B>, trace: &Trace) -> usize
+    requires { IsSectorSize B }
+    ensures { SettlesFrom (IsIn trace.now) (phases_of plan.now) result }
+{
+    let mut count = 0;
+    for i in 0..plan.phases.len() {
+        if !is_unread(&plan.phases[i], trace) {
+            count = i + 1;
+        }
+    }
+    count
+}
+
+/// What the phases came to where the one of this number gives the new layout, and no later one changes that.
 fn last_step(layouts: &Layouts, switch: Option<u64>, number: u64) -> Trial
     ensures { LastIs layouts.now.old layouts.now.new switch number result }
 {
@@ -139,8 +153,10 @@ pub(crate) fn put_phase<'a, const B: usize, D: Disk<B>>(
 }
 
 /// Tries the phases in an overlay: each may write what recovery reads only as its one write, and gives the old or the
-/// new layout. The disk is recovered only after a phase that writes a sector that recovery reads: after any other it denotes
-/// what it did, and after the last one what the finished disk does.
+/// new layout. `end` has the sectors that recovery of the finished disk reads.
+///
+/// The disk is recovered only after a phase that writes a sector that recovery reads: after any other it denotes what it
+/// did. Once no later phase writes a sector of `end`, it denotes what the finished disk does.
 pub(crate) fn try_phases<const B: usize, D: Disk<B>>(
     alloc: Global,
     disk: &mut D,
@@ -148,11 +164,13 @@ pub(crate) fn try_phases<const B: usize, D: Disk<B>>(
     count: usize,
     layouts: &Layouts,
     trace: Trace,
+    end: &Trace,
 ) -> Result<Trial, CheckError>
     requires size { IsSectorSize B }
     requires room { count ≡ length (writes_in (phases_of plan.now)) }
     requires old { D.tells → IsRecoveredOf B (D.told disk.old).seen (record { layout = layouts.now.old; trace = trace }) }
-    requires new { D.tells → Denotes B (finished plan.now (D.told disk.old).seen) layouts.now.new }
+    requires new { D.tells → IsRecoveredOf B (finished plan.now (D.told disk.old).seen)
+        (record { layout = layouts.now.new; trace = end.now }) }
     ensures same { OnlyReads D.Disk disk.old disk.new }
     ensures blames { Blames fault_in result (D.faults disk.old) (D.faults disk.new) }
     ensures place { D.tells → IfErr result (FailedInCheck (CheckReads B (D.told disk.old).seen (phases_of plan.now))) }
@@ -163,13 +181,14 @@ pub(crate) fn try_phases<const B: usize, D: Disk<B>>(
     let mut over = Overlay::new(disk, room);
     let mut before = trace;
     let mut switch = None;
+    let settles = settled(plan, end);
     for i in 0..plan.phases.len() {
         let phase = &plan.phases[i];
         let number = i as u64 + 1;
         if let Some(lba) = touched(phase, &before) {
             return Ok(Trial::Refused(Why::ReadSector(number, lba)));
         }
-        if i + 1 == plan.phases.len() {
+        if i + 1 >= settles {
             return Ok(last_step(layouts, switch, number));
         }
         put_phase(&mut over, phase);

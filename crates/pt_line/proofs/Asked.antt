@@ -1,6 +1,7 @@
 -- What the command makes of its words.
 use Rattle.std.proofs.Common.{◌≡◌, ◌∙◌, ◌||◌, ◌⊎◌, inl, inr, ⊎_elim, Bool, true, false, refl, sym, ap, subst, arith, List, [], ◌∷◌, ◌++◌}
 use Rattle.std.proofs.Common.{Option, Some, None, Result, Ok, Err, true≢false, codes}
+use Rattle.std.proofs.lemmas.Result.{IfOk-weaker}
 use Rattle.std.specs.Prelude.{IsSome, IfSome, IfOk, MatchResult, unwrap_or}
 use Rattle.std.specs.Borrow.{Bor}
 use Rattle.std.specs.List.{list_any}
@@ -9,25 +10,28 @@ use Rattle.std.proofs.lemmas.Slice.Eq.{bytes_eq-Decides}
 use Rattle.clap.specs.Kinds.{HasKind}
 use Rattle.clap.specs.Simple.{Shape, argument_words, built, filled, filled_from, help_rule}
 use Rattle.clap.specs.Takes.{is_given}
-use Rattle.clap.specs.Walk.{Row, Rule, Text, all_of, first_of, has_row, texts}
-use Rattle.clap.specs.Words.{FailsBy, IsAmong, fault_of, kind_of, subcommand_of, subcommand_rows_of}
+use Rattle.clap.specs.Walk.{Row, Rule, Text, all_of, first_of, texts}
+use Rattle.clap.specs.Words.{FailsBy, HasMatchesOf, IsAmong, Kinds, app_of, fault_of, is_simple_and_free, kind_of, subcommand_of}
+use Rattle.clap.specs.Words.{subcommand_rows_of}
+use Rattle.clap.specs.declared.builder.command.Command.{Command}
 use Rattle.clap.specs.declared.error.Error.{Error}
 use Rattle.clap.specs.declared.parser.matches.ArgMatches.{ArgMatches}
 use Rattle.clap.specs.declared.error.kind.ErrorKind.{ErrorKind}
 use Rattle.clap.specs.declared.error.kind.ErrorKind.TheVariants.{DisplayHelp, DisplayVersion, OutOfMemory}
 use Rattle.clap.proofs.WalkLemmas.{list_any-map}
-use Rattle.pt_line.specs.CommandLine.{image_rules, no_lock, other_rules, place_rules, plan_only, plan_rules, ptab, word_rules, writing}
-use Rattle.pt_line.specs.Lines.{IsJob, IsJobOrEmpty, IsLineOf, IsLineOrEmpty, IsSize, IsSizeOrLess, IsUnknown, HasNoJob, MeansAt, MeansJob}
-use Rattle.pt_line.specs.Lines.{Tells}
+use Rattle.pt_line.specs.CommandLine.{device, image_rules, in_use, no_lock, other_device, other_rules, place_rules, plan_only, plan_rules}
+use Rattle.pt_line.specs.CommandLine.{ptab, sector_size, show_rules, word_rules, writing}
+use Rattle.pt_line.specs.Lines.{IsJob, IsJobOrEmpty, IsLineOf, IsLineOrEmpty, IsSize, IsSizeOrLess, IsUnknown, IsUsage, HasNoJob, MeansAt, MeansJob}
+use Rattle.pt_line.specs.Lines.{ReadsAs, Tells}
 use Rattle.pt_line.specs.declared.line.Job.{Job}
 use Rattle.pt_line.specs.declared.line.Job.TheVariants as job
 use Rattle.pt_line.specs.declared.line.Line.{Line}
 use Rattle.pt_line.specs.declared.line.LineError.{LineError}
-use Rattle.pt_line.specs.declared.line.LineError.TheVariants.{NotText, Usage, Memory}
+use Rattle.pt_line.specs.declared.line.LineError.TheVariants.{NotText, Usage, InUseAlone, Memory}
 use Rattle.pt_line.specs.declared.line.SectorSize.{SectorSize}
 use Rattle.pt_line.specs.declared.line.SectorSize.TheVariants.{Bytes512, Bytes4096}
 use Rattle.pt_line.proofs.Rows.{Each, IsFull, IsSound}
-use Rattle.pt_line.proofs.Taken.{HasEntered, IsFair, IsKnown, has_text, has_value, taken}
+use Rattle.pt_line.proofs.Taken.{HasEntered, IsFair, IsKnown, has_text, taken, value_may}
 
 -- the texts of the sizes, wherever they lie
 abbrev pub some_sizes : Bor (List (Bor Text))
@@ -51,12 +55,10 @@ all_texts : (o : Option (List Text)) (ts : List Text) → ts ≡ unwrap_or o [] 
 all_texts None ts e some = absurd (true≢false (sym some))
 all_texts (Some vs) ts e some = ap (λ (x : List Text). Some x) (sym e)
 
-sized : (rows : List Row) → Each (IsFull MayBe) rows → has_row (codes "sector-size") rows ≡ true → (z : SectorSize)
-    → IsSizeOrLess rows z → IsSize rows z
-sized rows full present Bytes4096 is = is
-sized rows full present Bytes512 less =
-    let one = has_value MayBe rows (codes "sector-size") full present in
-    go (first_of (codes "sector-size") rows) one.0 one.1 less
+sized : (rows : List Row) → Each (IsFull MayBe) rows → (z : Option SectorSize) → IsSizeOrLess rows z → IsSize rows z
+sized rows full None is = is
+sized rows full (Some Bytes4096) is = is
+sized rows full (Some Bytes512) less = go (first_of (codes "sector-size") rows) (value_may MayBe rows (codes "sector-size") full) less.0 less.1
   where
     go : (o : Option Text) → IfSome o (MayBe (codes "sector-size")) → IsSome o → (o ≡ Some (codes "4096") → ⊥) → o ≡ Some (codes "512")
     go None may some never = absurd (true≢false (sym some))
@@ -70,10 +72,10 @@ module _ (rows : List Row) (full : Each (IsFull MayBe) rows) where
   texts_given id ts given e = all_texts (all_of id rows) ts e (has_text MayBe rows id full given).1
 
 module _ (sizes : Bor (List (Bor Text))) (rows : List Row) where
-  show_job : IsFair MayBe (built_rules (image_rules sizes)) rows → (j : Job) → IsJobOrEmpty (codes "show") rows j
+  show_job : IsFair MayBe (built_rules (show_rules sizes)) rows → (j : Job) → IsJobOrEmpty (codes "show") rows j
       → IsJob (codes "show") rows j
   show_job fair (job.Help t) h = absurd h
-  show_job fair (job.Show image) h = (h.0, text_given rows fair.full (codes "IMAGE") _ (fair.given.0 refl) h.1)
+  show_job fair (job.Show image after) h = (h.0, text_given rows fair.full (codes "IMAGE") _ (fair.given.0 refl) h.1, h.2)
   show_job fair _ h = absurd (true≢false (ap (bytes_eq (codes "show")) h.0))
 
   verify_job : IsFair MayBe (built_rules (image_rules sizes)) rows → (j : Job) → IsJobOrEmpty (codes "verify") rows j
@@ -106,7 +108,7 @@ module _ (sizes : Bor (List (Bor Text))) (rows : List Row) where
     h.0,
     text_given rows fair.full (codes "IMAGE") _ (fair.given.0 refl) h.1,
     h.2,
-    texts_given rows fair.full (codes "WORD") _ (fair.given.1.1.1.0 refl) h.3,
+    texts_given rows fair.full (codes "WORD") _ (fair.given.1.1.1.1.0 refl) h.3,
     h.4,
   )
   edit_job fair _ h = absurd (true≢false (ap (bytes_eq (codes "edit")) h.0))
@@ -118,7 +120,7 @@ module _ (sizes : Bor (List (Bor Text))) (rows : List Row) where
     h.0,
     text_given rows fair.full (codes "IMAGE") _ (fair.given.0 refl) h.1,
     h.2,
-    texts_given rows fair.full (codes "WORD") _ (fair.given.1.1.1.0 refl) h.3,
+    texts_given rows fair.full (codes "WORD") _ (fair.given.1.1.1.1.0 refl) h.3,
   )
   plan_job fair _ h = absurd (true≢false (ap (bytes_eq (codes "plan")) h.0))
 
@@ -146,12 +148,13 @@ module _ (sizes : Bor (List (Bor Text))) (rows : List Row) where
   adopt_job : IsFair MayBe (built_rules (writing (other_rules sizes))) rows → (j : Job) → IsJobOrEmpty (codes "adopt") rows j
       → IsJob (codes "adopt") rows j
   adopt_job fair (job.Help t) h = absurd h
-  adopt_job fair (job.Adopt image other adoption locked_by) h = (
+  adopt_job fair (job.Adopt image other medium adoption locked_by) h = (
     h.0,
     text_given rows fair.full (codes "IMAGE") _ (fair.given.0 refl) h.1,
     text_given rows fair.full (codes "OTHER") _ (fair.given.1.0 refl) h.2,
     h.3,
     h.4,
+    h.5,
   )
   adopt_job fair _ h = absurd (true≢false (ap (bytes_eq (codes "adopt")) h.0))
 
@@ -160,6 +163,22 @@ record IsRead (s : Shape) : Type 0 where
   reads : (rows : List Row) → IsFair MayBe s.rules rows → (line : Line) → IsJobOrEmpty s.name rows line.job → IsSizeOrLess rows line.size
       → IsJob s.name rows line.job × IsSize rows line.size
   known : IsUnknown s.name → ⊥
+
+-- a flag's value isn't a size
+device_sound : IsSound MayBe (filled device)
+device_sound = ((omega arith, λ v e is. absurd (true≢false (sym is))), ((λ is. absurd (true≢false (sym is))), tt))
+
+in_use_sound : IsSound MayBe (filled in_use)
+in_use_sound = ((omega arith, λ v e is. absurd (true≢false (sym is))), ((λ is. absurd (true≢false (sym is))), tt))
+
+other_device_sound : IsSound MayBe (filled other_device)
+other_device_sound = ((omega arith, λ v e is. absurd (true≢false (sym is))), ((λ is. absurd (true≢false (sym is))), tt))
+
+no_lock_sound : IsSound MayBe (filled no_lock)
+no_lock_sound = ((omega arith, λ v e is. absurd (true≢false (sym is))), ((λ is. absurd (true≢false (sym is))), tt))
+
+plan_only_sound : IsSound MayBe (filled plan_only)
+plan_only_sound = ((omega arith, λ v e is. absurd (true≢false (sym is))), ((λ is. absurd (true≢false (sym is))), tt))
 
 module _ (sizes : Bor (List (Bor Text))) (are : texts sizes.now ≡ codes "512" ∷ codes "4096" ∷ []) where
   one_of_two : (v : Text) → list_any (λ (n : Bor Text). bytes_eq n.now v) sizes.now ≡ true → MayBe (codes "sector-size") v
@@ -175,58 +194,35 @@ module _ (sizes : Bor (List (Bor Text))) (are : texts sizes.now ≡ codes "512" 
       go false x true y h = inr (sym ((bytes_eq-Decides (codes "4096") v).0 y))
       go false x false y h = absurd (true≢false (sym h))
 
+  sizes_sound : IsSound MayBe (filled (sector_size sizes))
+  sizes_sound = ((omega arith, one_of_two), tt)
+
   image_sound : Each (IsSound MayBe) (built_rules (image_rules sizes))
-  image_sound =
-      (((omega arith, λ v e is. absurd (true≢false (sym is))), tt), (((omega arith, one_of_two), ((λ is. inl refl), tt)), ((tt, tt), tt)))
+  image_sound = (((omega arith, λ v e is. absurd (true≢false (sym is))), tt), (device_sound, (sizes_sound, ((tt, tt), tt))))
+
+  show_sound : Each (IsSound MayBe) (built_rules (show_rules sizes))
+  show_sound = (((omega arith, λ v e is. absurd (true≢false (sym is))), tt), (((omega arith, λ v e is. absurd (true≢false (sym is))), tt), (device_sound, (sizes_sound, ((tt, tt), tt)))))
 
   place_sound : Each (IsSound MayBe) (built_rules (place_rules sizes))
-  place_sound = (
-    ((omega arith, λ v e is. absurd (true≢false (sym is))), tt),
-    (
-      ((omega arith, λ v e is. absurd (true≢false (sym is))), tt),
-      (((omega arith, λ v e is. absurd (true≢false (sym is))), tt), (((omega arith, one_of_two), ((λ is. inl refl), tt)), ((tt, tt), tt))),
-    ),
-  )
+  place_sound = (((omega arith, λ v e is. absurd (true≢false (sym is))), tt), (((omega arith, λ v e is. absurd (true≢false (sym is))), tt), (((omega arith, λ v e is. absurd (true≢false (sym is))), tt), (device_sound, (sizes_sound, ((tt, tt), tt))))))
 
   word_sound : Each (IsSound MayBe) (built_rules (word_rules sizes))
-  word_sound = (
-    ((omega arith, λ v e is. absurd (true≢false (sym is))), tt),
-    (
-      ((omega arith, λ v e is. absurd (true≢false (sym is))), tt),
-      (((omega arith, one_of_two), ((λ is. inl refl), tt)), (((omega arith, λ v e is. absurd (true≢false (sym is))), tt), ((tt, tt), tt))),
-    ),
-  )
+  word_sound = (((omega arith, λ v e is. absurd (true≢false (sym is))), tt), (((omega arith, λ v e is. absurd (true≢false (sym is))), tt), (device_sound, (sizes_sound, (((omega arith, λ v e is. absurd (true≢false (sym is))), tt), ((tt, tt), tt))))))
 
   plan_sound : Each (IsSound MayBe) (built_rules (plan_rules sizes))
-  plan_sound = (
-    ((omega arith, λ v e is. absurd (true≢false (sym is))), tt),
-    (((omega arith, λ v e is. absurd (true≢false (sym is))), tt), (((omega arith, one_of_two), ((λ is. inl refl), tt)), ((tt, tt), tt))),
-  )
-
-  -- a flag's value isn't a size
-  flag_sound : IsSound MayBe (filled no_lock)
-  flag_sound = ((omega arith, λ v e is. absurd (true≢false (sym is))), ((λ is. absurd (true≢false (sym is))), tt))
-
-  plan_flag_sound : IsSound MayBe (filled plan_only)
-  plan_flag_sound = ((omega arith, λ v e is. absurd (true≢false (sym is))), ((λ is. absurd (true≢false (sym is))), tt))
-
-  other_writing_sound : Each (IsSound MayBe) (built_rules (writing (other_rules sizes)))
-  other_writing_sound = (
-    ((omega arith, λ v e is. absurd (true≢false (sym is))), tt),
-    (
-      ((omega arith, λ v e is. absurd (true≢false (sym is))), tt),
-      (plan_flag_sound, (((omega arith, one_of_two), ((λ is. inl refl), tt)), (flag_sound, ((tt, tt), tt)))),
-    ),
-  )
+  plan_sound = (((omega arith, λ v e is. absurd (true≢false (sym is))), tt), (((omega arith, λ v e is. absurd (true≢false (sym is))), tt), (device_sound, (sizes_sound, ((tt, tt), tt)))))
 
   image_writing_sound : Each (IsSound MayBe) (built_rules (writing (image_rules sizes)))
-  image_writing_sound = (image_sound.0, (image_sound.1.0, (flag_sound, image_sound.1.1)))
+  image_writing_sound = (((omega arith, λ v e is. absurd (true≢false (sym is))), tt), (device_sound, (sizes_sound, (in_use_sound, (no_lock_sound, ((tt, tt), tt))))))
 
   word_writing_sound : Each (IsSound MayBe) (built_rules (writing (word_rules sizes)))
-  word_writing_sound = (word_sound.0, (word_sound.1.0, (word_sound.1.1.0, (word_sound.1.1.1.0, (flag_sound, word_sound.1.1.1.1)))))
+  word_writing_sound = (((omega arith, λ v e is. absurd (true≢false (sym is))), tt), (((omega arith, λ v e is. absurd (true≢false (sym is))), tt), (device_sound, (sizes_sound, (((omega arith, λ v e is. absurd (true≢false (sym is))), tt), (in_use_sound, (no_lock_sound, ((tt, tt), tt))))))))
 
   plan_writing_sound : Each (IsSound MayBe) (built_rules (writing (plan_rules sizes)))
-  plan_writing_sound = (plan_sound.0, (plan_sound.1.0, (plan_sound.1.1.0, (flag_sound, plan_sound.1.1.1))))
+  plan_writing_sound = (((omega arith, λ v e is. absurd (true≢false (sym is))), tt), (((omega arith, λ v e is. absurd (true≢false (sym is))), tt), (device_sound, (sizes_sound, (in_use_sound, (no_lock_sound, ((tt, tt), tt)))))))
+
+  other_writing_sound : Each (IsSound MayBe) (built_rules (writing (other_rules sizes)))
+  other_writing_sound = (((omega arith, λ v e is. absurd (true≢false (sym is))), tt), (((omega arith, λ v e is. absurd (true≢false (sym is))), tt), (plan_only_sound, (other_device_sound, (device_sound, (sizes_sound, (in_use_sound, (no_lock_sound, ((tt, tt), tt)))))))))
 
   each_good : Each (IsKnown MayBe IsRead) (built (ptab sizes)).subs
   each_good = (
@@ -234,12 +230,11 @@ module _ (sizes : Bor (List (Bor Text))) (are : texts sizes.now ≡ codes "512" 
       record {
         reads = λ rows fair line j z. (
           show_job sizes rows fair line.job j,
-          sized rows fair.full
-              (fair.present.1.0 (omega arith)) line.size z,
+          sized rows fair.full line.size z,
         );
         known = λ u. u.0 refl;
       },
-      image_sound,
+      show_sound,
       refl,
     ),
     (
@@ -247,8 +242,7 @@ module _ (sizes : Bor (List (Bor Text))) (are : texts sizes.now ≡ codes "512" 
         record {
           reads = λ rows fair line j z. (
             verify_job sizes rows fair line.job j,
-            sized rows fair.full
-                (fair.present.1.0 (omega arith)) line.size z,
+            sized rows fair.full line.size z,
           );
           known = λ u. u.1 refl;
         },
@@ -260,8 +254,7 @@ module _ (sizes : Bor (List (Bor Text))) (are : texts sizes.now ≡ codes "512" 
           record {
             reads = λ rows fair line j z. (
               locate_job sizes rows fair line.job j,
-              sized rows fair.full
-                  (fair.present.1.1.1.0 (omega arith)) line.size z,
+              sized rows fair.full line.size z,
             );
             known = λ u. u.2 refl;
           },
@@ -273,8 +266,7 @@ module _ (sizes : Bor (List (Bor Text))) (are : texts sizes.now ≡ codes "512" 
             record {
               reads = λ rows fair line j z. (
                 edit_job sizes rows fair line.job j,
-                sized rows fair.full
-                    (fair.present.1.1.0 (omega arith)) line.size z,
+                sized rows fair.full line.size z,
               );
               known = λ u. u.3 refl;
             },
@@ -286,8 +278,7 @@ module _ (sizes : Bor (List (Bor Text))) (are : texts sizes.now ≡ codes "512" 
               record {
                 reads = λ rows fair line j z. (
                   plan_job sizes rows fair line.job j,
-                  sized rows fair.full
-                      (fair.present.1.1.0 (omega arith)) line.size z,
+                  sized rows fair.full line.size z,
                 );
                 known = λ u. u.4 refl;
               },
@@ -299,8 +290,7 @@ module _ (sizes : Bor (List (Bor Text))) (are : texts sizes.now ≡ codes "512" 
                 record {
                   reads = λ rows fair line j z. (
                     check_job sizes rows fair line.job j,
-                    sized rows fair.full
-                        (fair.present.1.1.0 (omega arith)) line.size z,
+                    sized rows fair.full line.size z,
                   );
                   known = λ u. u.5 refl;
                 },
@@ -312,8 +302,7 @@ module _ (sizes : Bor (List (Bor Text))) (are : texts sizes.now ≡ codes "512" 
                   record {
                     reads = λ rows fair line j z. (
                       apply_job sizes rows fair line.job j,
-                      sized rows fair.full
-                          (fair.present.1.1.0 (omega arith)) line.size z,
+                      sized rows fair.full line.size z,
                     );
                     known = λ u. u.6 refl;
                   },
@@ -325,8 +314,7 @@ module _ (sizes : Bor (List (Bor Text))) (are : texts sizes.now ≡ codes "512" 
                     record {
                       reads = λ rows fair line j z. (
                         repair_job sizes rows fair line.job j,
-                        sized rows fair.full
-                            (fair.present.1.0 (omega arith)) line.size z,
+                        sized rows fair.full line.size z,
                       );
                       known = λ u. u.7 refl;
                     },
@@ -338,8 +326,7 @@ module _ (sizes : Bor (List (Bor Text))) (are : texts sizes.now ≡ codes "512" 
                       record {
                         reads = λ rows fair line j z. (
                           adopt_job sizes rows fair line.job j,
-                          sized rows fair.full
-                              (fair.present.1.1.1.0 (omega arith)) line.size z,
+                          sized rows fair.full line.size z,
                         );
                         known = λ u. u.8 refl;
                       },
@@ -372,27 +359,39 @@ module _ (sizes : Bor (List (Bor Text))) (are : texts sizes.now ≡ codes "512" 
           tells.0,
     )
     by_error e (Err NotText) kind tells = absurd tells
+    by_error e (Err InUseAlone) kind tells = absurd tells
     by_error e (Err Memory) kind tells = tt
-    by_error e (Err (Usage text)) (inl memory) tells = absurd (tells.2 memory)
-    by_error e (Err (Usage text)) (inr among) tells = (kind_of e, among, tells.0, tells.1, tells.2)
+    by_error e (Err (Usage told)) (inl memory) tells = absurd (tells.1.2 memory)
+    by_error e (Err (Usage told)) (inr among) tells =
+        subst (λ (k : ErrorKind). IsUsage (fault_of (ptab sizes) words) k) (sym tells.0) (among, tells.1)
+
+    met : fault_of (ptab sizes) words ≡ [] → HasEntered MayBe IsRead (subcommand_of (ptab sizes) words)
+    met none =
+        taken MayBe IsRead (built (ptab sizes)) (argument_words (ptab sizes) words) ((tt, tt), ((tt, tt), tt)) each_good refl refl none
 
     by_matches : (result : Result Line LineError) → fault_of (ptab sizes) words ≡ []
         → MeansJob (subcommand_of (ptab sizes) words) result → MeansAt (ptab sizes) words result
-    by_matches result none means =
-        go result (taken MayBe IsRead (built (ptab sizes)) (argument_words (ptab sizes) words)
-        ((tt, tt), ((tt, tt), tt)) each_good refl refl none) means
+    by_matches result none means = go result (met none) means
       where
         go : (r : Result Line LineError) → HasEntered MayBe IsRead (subcommand_of (ptab sizes) words)
             → MeansJob (subcommand_of (ptab sizes) words) r
             → MeansAt (ptab sizes) words r
         go (Ok line) met m =
             let h = subst (λ (o : Option (Text × List Row)). IsLineOrEmpty o line) met.is m in
-            inr (none, subst (λ (o : Option (Text × List Row)). IsLineOf o line) (sym met.is) (met.of.reads met.rows met.fair line h.0 h.1))
+            let read = met.of.reads met.rows met.fair line h.0 h.1 in
+            inr (none, subst (λ (o : Option (Text × List Row)). IsLineOf o line) (sym met.is) (read.0, read.1, h.2))
+        go (Err InUseAlone) met m = (none, m)
         go (Err NotText) met m = absurd (subst (λ (o : Option (Text × List Row)). MeansJob o (Err NotText)) met.is m)
         go (Err Memory) met m = tt
-        go (Err (Usage text)) met m =
-            let u = subst HasNoJob met.is m in
-            absurd (met.of.known u)
+        go (Err (Usage told)) met m = absurd (subst (λ (o : Option (Text × List Row)). MeansJob o (Err (Usage told))) met.is m)
+
+    -- words without fault name a subcommand
+    pub has_job : (found : Result ArgMatches Error) → FailsBy (fault_of (ptab sizes) words) found
+        → IfOk found (λ m. subcommand_rows_of m ≡ subcommand_of (ptab sizes) words) → IfOk found (λ m. ¬ HasNoJob (subcommand_rows_of m))
+    has_job (Err e) fails is = tt
+    has_job (Ok m) fails is = λ none.
+        let entered = met fails in
+        entered.of.known (subst HasNoJob (is ∙ entered.is) none)
 
     -- what `clap` gave at the command, and what that comes to
     pub by_result : (found : Result ArgMatches Error) (result : Result Line LineError) → FailsBy (fault_of (ptab sizes) words) found
@@ -402,3 +401,14 @@ module _ (sizes : Bor (List (Bor Text))) (are : texts sizes.now ≡ codes "512" 
     by_result (Ok m) result fails met means =
         by_matches result fails (subst (λ (o : Option (Text × List Row)). MeansJob o result) met means)
     by_result (Err e) result fails met means = by_error e result fails means
+
+-- what `clap` finds, where it reads other words of the same texts by a command that takes them alike
+pub found_by : (sizes : Bor (List (Bor Text))) (words : List Text) (command : Command) → ReadsAs (ptab sizes) words command
+    → (given : List Text) → given ≡ words → (found : Result ArgMatches Error)
+    → (is_simple_and_free (app_of command) ≡ true → FailsBy (fault_of (app_of command) given) found)
+    → IfOk found (HasMatchesOf (app_of command) given)
+    → FailsBy (fault_of (ptab sizes) words) found × IfOk found (λ m. subcommand_rows_of m ≡ subcommand_of (ptab sizes) words)
+found_by sizes words command reads given same found fails matches = (
+  subst (λ (kinds : Kinds). FailsBy kinds found) (ap (fault_of (app_of command)) same ∙ reads.faults) (fails reads.free),
+  IfOk-weaker found _ _ (λ m is. (is reads.simple).1 ∙ ap (subcommand_of (app_of command)) same ∙ reads.entered) matches,
+)

@@ -1,6 +1,6 @@
 -- What an argument's uses leave in the matches, where none is refused.
-use Rattle.std.proofs.Common.{◌≡◌, ◌<◌, ◌≤◌, ◌||◌, Bool, cond, true, false, refl, sym, subst, arith, List, [], ◌∷◌, ◌++◌, length, lt-ltb}
-use Rattle.std.proofs.Common.{Option, Some, None, true≢false}
+use Rattle.std.proofs.Common.{◌≡◌, ◌<◌, ◌≤◌, Bool, cond, true, false, refl, sym, subst, arith, List, [], ◌∷◌, ◌++◌, length, lt-ltb}
+use Rattle.std.proofs.Common.{Option, Some, None}
 use Rattle.std.specs.Prelude.{IfSome, find, fold}
 use Rattle.std.specs.Option.{option_map_or}
 use Rattle.std.specs.Str.{bytes_eq}
@@ -44,66 +44,6 @@ some_more (x ∷ xs) ys lt = omega arith
 pub neither : (a b : Kinds) → or_else a b ≡ [] → (a ≡ []) × (b ≡ [])
 neither [] b none = (refl, none)
 neither (k ∷ ks) b none = absurd cc
-
--- ---- arguments with defaults
-
-has_values : (id : Text) (how : Reading) (x : ValueSource) (values : List Text) (rows : List Row)
-    → has_row id (with_values id how x values rows) ≡ true
-has_values id how x values [] = rw ((bytes_eq-Decides id id).1 refl) refl
-has_values id how x values (r ∷ rs) = go (bytes_eq r.id id) refl (has_values id how x values rs)
-  where
-    go : (t : Bool) → bytes_eq r.id id ≡ t → has_row id (with_values id how x values rs) ≡ true
-        → has_row id (cond t (more_values x values r ++ rs) (r ∷ with_values id how x values rs)) ≡ true
-    go true e later = rw e refl
-    go false e later = rw e later
-
-keeps_values : (id k : Text) (how : Reading) (x : ValueSource) (values : List Text) (rows : List Row) → has_row id rows ≡ true
-    → has_row id (with_values k how x values rows) ≡ true
-keeps_values id k how x values [] has = absurd (true≢false (sym has))
-keeps_values id k how x values (r ∷ rs) has = go (bytes_eq r.id k) (λ e. keeps_values id k how x values rs e)
-  where
-    later : (t : Bool) → (has_row id rs ≡ true → has_row id (with_values k how x values rs) ≡ true) → (t || has_row id rs) ≡ true
-        → (t || has_row id (with_values k how x values rs)) ≡ true
-    later true on e = refl
-    later false on e = on e
-
-    go : (t : Bool) → (has_row id rs ≡ true → has_row id (with_values k how x values rs) ≡ true)
-        → has_row id (cond t (more_values x values r ++ rs) (r ∷ with_values k how x values rs)) ≡ true
-    go true on = has
-    go false on = later (bytes_eq r.id id) on has
-
-abbrev pub IsPresent : List Row → Rule → Type 0
-IsPresent rows a = 0 < length a.defaults → has_row a.id rows ≡ true
-
-default_keeps : (id : Text) (a : Rule) (rows : List Row) → has_row id rows ≡ true → has_row id (with_default rows a) ≡ true
-default_keeps id a rows has = go (has_row a.id rows) a.defaults
-  where
-    fill : (vs : List Text) → has_row id (default_rows a.id (reading_by a) vs rows) ≡ true
-    fill [] = has
-    fill (v ∷ vs) = keeps_values id a.id (reading_by a) DefaultValue (v ∷ vs) rows has
-
-    go : (t : Bool) (vs : List Text) → has_row id (cond t rows (default_rows a.id (reading_by a) vs rows)) ≡ true
-    go true vs = has
-    go false vs = fill vs
-
-defaults_keep : (id : Text) (rules : List Rule) (rows : List Row) → has_row id rows ≡ true
-    → has_row id (fold with_default rows rules) ≡ true
-defaults_keep id [] rows has = has
-defaults_keep id (a ∷ rest) rows has = defaults_keep id rest (with_default rows a) (default_keeps id a rows has)
-
-default_present : (a : Rule) (rows : List Row) → 0 < length a.defaults → has_row a.id (with_default rows a) ≡ true
-default_present a rows some = go (has_row a.id rows) refl a.defaults some
-  where
-    go : (t : Bool) → has_row a.id rows ≡ t → (vs : List Text) → 0 < length vs
-        → has_row a.id (cond t rows (default_rows a.id (reading_by a) vs rows)) ≡ true
-    go true e vs lt = e
-    go false e [] lt = absurd (omega arith)
-    go false e (v ∷ vs) lt = has_values a.id (reading_by a) DefaultValue (v ∷ vs) rows
-
-pub defaults_present : (rules : List Rule) (rows : List Row) → Each (IsPresent (fold with_default rows rules)) rules
-defaults_present [] rows = tt
-defaults_present (a ∷ rest) rows =
-    ((λ some. defaults_keep a.id rest (with_default rows a) (default_present a rows some)), defaults_present rest (with_default rows a))
 
 -- P id v: the argument of this id may have this value
 module _ (P : Text → Text → Type 0) where

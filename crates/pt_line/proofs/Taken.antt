@@ -10,10 +10,10 @@ use Rattle.clap.specs.Facts.{explicit_source}
 use Rattle.clap.specs.Kinds.{Kinds, check_kinds}
 use Rattle.clap.specs.Simple.{App, Shape, entered, label_of, names_of, rows_at}
 use Rattle.clap.specs.Takes.{is_given}
-use Rattle.clap.specs.Walk.{Names, Row, Rule, Text, all_of, answers_to, finished, first_of, has_row, nothing_held, rows_after, settled}
+use Rattle.clap.specs.Walk.{Names, Row, Rule, Text, all_of, answers_to, finished, first_of, nothing_held, rows_after, settled}
 use Rattle.clap.specs.Walk.{walk, walk_from}
 use Rattle.clap.specs.Faults.{built_fault, check_fault, defaults_fault, entered_fault, level_fault, settle_fault, walk_fault}
-use Rattle.pt_line.proofs.Rows.{Each, IsFull, IsPresent, IsSound, defaults_present, finished_full, neither}
+use Rattle.pt_line.proofs.Rows.{Each, IsFull, IsSound, finished_full, neither}
 use Rattle.pt_line.proofs.Walks.{GoesWell, StopsWell, goes_well}
 
 found_with : {X : Type 0} (Q : X → Type 0) (test : X → Bool) (xs : List X) → Each Q xs → IfSome (find test xs) (λ x. Q x × (test x ≡ true))
@@ -72,7 +72,6 @@ module _ (P : Text → Text → Type 0) where
   pub record IsFair (rules : List Rule) (rows : List Row) : Type 0 where
     pub full : Each (IsFull P) rows
     pub given : Each (IsGiven rows) rules
-    pub present : Each (IsPresent rows) rules
 
   abbrev pub HasSoundRules : Shape → Type 0
   HasSoundRules s = Each (IsSound P) s.rules
@@ -94,7 +93,6 @@ module _ (P : Text → Text → Type 0) where
         (λ negates. record {
           full = finished_full P s.rules s.args_override_self sound end d.0 well.0;
           given = each_given (finished s.rules end) s.rules (none_of _ s.rules (rw negates at f.1));
-          present = defaults_present s.rules (settled s.rules end).rows;
         }),
         (λ required. met_by has s.subcommand_required required f.0),
       )
@@ -147,24 +145,20 @@ module _ (P : Text → Text → Type 0) where
         let here = level a.top (names_of a) words (is_some (entered a stop)) (entered_fault a stop) sound none in
         enters a stop subs helps here.1 (here.3 required) here.0.1
 
--- an argument with an entry has values, and each may be
-first_value : (P : Text → Text → Type 0) (id : Text) (vs : List Text) → 0 < length vs → Each (P id) vs
-    → IfSome (slice_get vs 0) (P id) × IsSome (slice_get vs 0)
-first_value P id [] lt may = absurd (omega arith)
-first_value P id (v ∷ vs) lt may = (may.0, refl)
+-- what an argument's first value may be
+first_may : (P : Text → Text → Type 0) (id : Text) (vs : List Text) → Each (P id) vs → IfSome (slice_get vs 0) (P id)
+first_may P id [] may = tt
+first_may P id (v ∷ vs) may = may.0
 
-pub has_value : (P : Text → Text → Type 0) (rows : List Row) (id : Text) → Each (IsFull P) rows → has_row id rows ≡ true
-    → IfSome (first_of id rows) (P id) × IsSome (first_of id rows)
-has_value P [] id full present = absurd (true≢false (sym present))
-has_value P (r ∷ rs) id full present = by (bytes_eq r.id id) refl (λ e. has_value P rs id full.1 e) present
+pub value_may : (P : Text → Text → Type 0) (rows : List Row) (id : Text) → Each (IsFull P) rows → IfSome (first_of id rows) (P id)
+value_may P [] id full = tt
+value_may P (r ∷ rs) id full = by (bytes_eq r.id id) refl (value_may P rs id full.1)
   where
-    by : (t : Bool) → bytes_eq r.id id ≡ t → (has_row id rs ≡ true → IfSome (first_of id rs) (P id) × IsSome (first_of id rs))
-        → (t || has_row id rs) ≡ true
+    by : (t : Bool) → bytes_eq r.id id ≡ t → IfSome (first_of id rs) (P id)
         → IfSome (option_and_then (λ (x : Row). slice_get x.values 0) (cond t (Some r) (find (λ x. bytes_eq x.id id) rs))) (P id)
-        × IsSome (option_and_then (λ (x : Row). slice_get x.values 0) (cond t (Some r) (find (λ x. bytes_eq x.id id) rs)))
-    by true same later h =
-        first_value P id r.values full.0.0 (subst (λ (x : Text). Each (P x) r.values) ((bytes_eq-Decides r.id id).0 same) full.0.1)
-    by false same later h = later h
+    by true same later =
+        first_may P id r.values (subst (λ (x : Text). Each (P x) r.values) ((bytes_eq-Decides r.id id).0 same) full.0.1)
+    by false same later = later
 
 -- an argument that was given has a value
 pub has_text : (P : Text → Text → Type 0) (rows : List Row) (id : Text) → Each (IsFull P) rows → is_given id rows ≡ true

@@ -1,7 +1,7 @@
 -- What the getters of matches give, by their rows.
 use Rattle.std.proofs.Common.{◌≡◌, ◌∙◌, ◌<◌, ◌+◌, ℕ, zero, suc, arith, refl, ap, sym, codes, length, take, List, [], ◌∷◌, ◌++◌, Option}
 use Rattle.std.proofs.Common.{Some, option_map}
-use Rattle.std.specs.Prelude.{slice_index_or, unwrap_or}
+use Rattle.std.specs.Prelude.{is_some, slice_index_or, unwrap_or}
 use Rattle.std.specs.Borrow.{Bor}
 use Rattle.clap.specs.Walk.{Row, Text, all_of, first_of, rows_of, texts}
 use Rattle.clap.specs.Matches.{first_value, matched_of, raw_values}
@@ -21,8 +21,9 @@ pub values_are : (f : Found) (id : Text) (o : Option (Bor (List (Bor Text))))
 values_are f id o e = e ∙ raw_values-rows f id
 
 pub sized_by : (rows : List Row) (text : Text) → Some text ≡ first_of (codes "sector-size") rows → (z : SectorSize)
-    → IsSizeNamed text z → IsSizeOrLess rows z
-sized_by rows text is Bytes512 other = λ e. other (ap (λ (o : Option Text). unwrap_or o []) (is ∙ e))
+    → IsSizeNamed text z → IsSizeOrLess rows (Some z)
+sized_by rows text is Bytes512 other =
+    (ap is_some (sym is), λ e. other (ap (λ (o : Option Text). unwrap_or o []) (is ∙ e)))
 sized_by rows text is Bytes4096 same = sym is ∙ ap (λ (t : Text). Some t) same
 
 next_text : (d : Bor Text) (xs : List (Bor Text)) (i : ℕ) → i < length xs

@@ -6,18 +6,19 @@ use Rattle.clap.specs.Words.{App, Rule, Shape, Text, new_rule}
 use Rattle.clap.specs.Simple.{new_shape}
 use Rattle.clap.specs.declared.builder.action.ArgAction.TheVariants.{Set, Append, SetTrue}
 use Rattle.clap.specs.declared.builder.value_parser.ValueParser.TheVariants.{Names}
+use Rattle.pt_line.specs.declared.pages.Subcommand.{Subcommand}
+use Rattle.pt_line.specs.declared.pages.Subcommand.TheVariants.{Show, Verify, Locate, Edit, Plan, Check, Apply, Repair, Adopt}
 
 -- an argument that is required, and has one value
 abbrev pub needed : Text → Rule
 needed id = record (new_rule id) { required = true; action = Some Set }
 
--- `--sector-size BYTES`, which has one of these texts as its value, and 512 where it isn't given
+-- `--sector-size BYTES`, which has one of these texts as its value
 abbrev pub sector_size : Bor (List (Bor Text)) → Rule
 sector_size sizes = record (new_rule (codes "sector-size")) {
   long = Some (codes "sector-size");
   value_names = 1;
   parser = Some (Names sizes);
-  defaults = codes "512" ∷ [];
   action = Some Set;
 }
 
@@ -25,6 +26,14 @@ sector_size sizes = record (new_rule (codes "sector-size")) {
 abbrev pub fresh : Rule
 fresh = record (new_rule (codes "fresh")) {
   long = Some (codes "fresh");
+  value_names = 1;
+  action = Some Set;
+}
+
+-- `--after PLANFILE`
+abbrev pub after : Rule
+after = record (new_rule (codes "after")) {
+  long = Some (codes "after");
   value_names = 1;
   action = Some Set;
 }
@@ -37,6 +46,16 @@ no_lock = record (new_rule (codes "no-lock")) { long = Some (codes "no-lock"); a
 abbrev pub plan_only : Rule
 plan_only = record (new_rule (codes "plan")) { long = Some (codes "plan"); action = Some SetTrue }
 
+-- `--device`, `--in-use` and `--other-device`, flags
+abbrev pub device : Rule
+device = record (new_rule (codes "device")) { long = Some (codes "device"); action = Some SetTrue }
+
+abbrev pub in_use : Rule
+in_use = record (new_rule (codes "in-use")) { long = Some (codes "in-use"); action = Some SetTrue }
+
+abbrev pub other_device : Rule
+other_device = record (new_rule (codes "other-device")) { long = Some (codes "other-device"); action = Some SetTrue }
+
 -- one word or more
 abbrev pub edit_words : Rule
 edit_words = record (new_rule (codes "WORD")) {
@@ -45,43 +64,79 @@ edit_words = record (new_rule (codes "WORD")) {
   action = Some Append;
 }
 
--- the arguments of a command on an image alone, on a place in it, on words, and on a plan's file
+-- what is said of the image
+abbrev pub on_disk : Bor (List (Bor Text)) → List Rule
+on_disk sizes = device ∷ sector_size sizes ∷ []
+
+-- the arguments of a command on an image alone, on an image after a plan or not, on a place in it, on words, and on a plan's file
 abbrev pub image_rules : Bor (List (Bor Text)) → List Rule
-image_rules sizes = needed (codes "IMAGE") ∷ sector_size sizes ∷ []
+image_rules sizes = needed (codes "IMAGE") ∷ on_disk sizes
+
+abbrev pub show_rules : Bor (List (Bor Text)) → List Rule
+show_rules sizes = needed (codes "IMAGE") ∷ after ∷ on_disk sizes
 
 abbrev pub place_rules : Bor (List (Bor Text)) → List Rule
-place_rules sizes = needed (codes "IMAGE") ∷ needed (codes "PATH") ∷ needed (codes "K") ∷ sector_size sizes ∷ []
+place_rules sizes = needed (codes "IMAGE") ∷ needed (codes "PATH") ∷ needed (codes "K") ∷ on_disk sizes
 
 abbrev pub word_rules : Bor (List (Bor Text)) → List Rule
-word_rules sizes = needed (codes "IMAGE") ∷ fresh ∷ sector_size sizes ∷ edit_words ∷ []
+word_rules sizes = needed (codes "IMAGE") ∷ fresh ∷ (on_disk sizes ++ edit_words ∷ [])
 
 abbrev pub plan_rules : Bor (List (Bor Text)) → List Rule
-plan_rules sizes = needed (codes "IMAGE") ∷ needed (codes "PLANFILE") ∷ sector_size sizes ∷ []
+plan_rules sizes = needed (codes "IMAGE") ∷ needed (codes "PLANFILE") ∷ on_disk sizes
 
 -- on another image besides, with its plan alone or not
 abbrev pub other_rules : Bor (List (Bor Text)) → List Rule
-other_rules sizes = needed (codes "IMAGE") ∷ needed (codes "OTHER") ∷ plan_only ∷ sector_size sizes ∷ []
+other_rules sizes = needed (codes "IMAGE") ∷ needed (codes "OTHER") ∷ plan_only ∷ other_device ∷ on_disk sizes
 
 -- the same of a command that writes the image
 abbrev pub writing : List Rule → List Rule
-writing rules = rules ++ no_lock ∷ []
+writing rules = rules ++ in_use ∷ no_lock ∷ []
 
 abbrev pub subcommand : Text → List Rule → Shape
 subcommand name rules = record (new_shape name) { rules = rules }
 
--- the same as a command of its own
+abbrev pub name_of : Subcommand → Text
+name_of Show = codes "show"
+name_of Verify = codes "verify"
+name_of Locate = codes "locate"
+name_of Edit = codes "edit"
+name_of Plan = codes "plan"
+name_of Check = codes "check"
+name_of Apply = codes "apply"
+name_of Repair = codes "repair"
+name_of Adopt = codes "adopt"
+
+abbrev pub rules_of : Bor (List (Bor Text)) → Subcommand → List Rule
+rules_of sizes Show = show_rules sizes
+rules_of sizes Verify = image_rules sizes
+rules_of sizes Locate = place_rules sizes
+rules_of sizes Edit = writing (word_rules sizes)
+rules_of sizes Plan = word_rules sizes
+rules_of sizes Check = plan_rules sizes
+rules_of sizes Apply = writing (plan_rules sizes)
+rules_of sizes Repair = writing (image_rules sizes)
+rules_of sizes Adopt = writing (other_rules sizes)
+
+-- a subcommand as a command of its own
 abbrev pub page : Text → List Rule → App
 page name rules = record { top = subcommand name rules; subs = [] }
+
+abbrev pub page_of : Bor (List (Bor Text)) → Subcommand → App
+page_of sizes s = page (name_of s) (rules_of sizes s)
 
 -- the command but for its subcommands, of which one is required
 abbrev pub top : App
 top = record { top = record (new_shape (codes "ptab")) { has_version = true; subcommand_required = true }; subs = [] }
 
+-- the command with one of its subcommands
+abbrev pub alone : Bor (List (Bor Text)) → Subcommand → App
+alone sizes s = record { top = record top.top { is_leaf = false }; subs = (page_of sizes s).top ∷ [] }
+
 -- the command, where these are the texts of the sector's sizes
 abbrev pub ptab : Bor (List (Bor Text)) → App
 ptab sizes = record {
   top = record top.top { is_leaf = false };
-  subs = subcommand (codes "show") (image_rules sizes)
+  subs = subcommand (codes "show") (show_rules sizes)
       ∷ subcommand (codes "verify") (image_rules sizes)
       ∷ subcommand (codes "locate") (place_rules sizes)
       ∷ subcommand (codes "edit") (writing (word_rules sizes))

@@ -18,10 +18,11 @@ The first line is `gpt SECTORS FIRST LAST DISKGUID` (the usable sectors) or
   GPT    NUM FIRST LAST TYPE ATTRIBUTES UNIQUE [NAME]
   MBR    NUM FIRST LAST TYPE BOOT
   label  NUM.LETTER FIRST LAST FSTYPE
-Every sector is the disk's own number.
+Every sector is the disk's own number. With --after they are those that the plan
+leaves; or `no ..`, as `ptab check` says it.
 
-Exit status: 0 shown, 2 usage, 4 no table (standard error says why), 5 the image
-can't be read, 6 no memory.";
+Exit status: 0 shown, 1 no, 2 usage, 3 not a plan, 4 no table (standard error
+says why), 5 the image or the plan can't be read, 6 no memory.";
 
 pub const VERIFY: &str = "\
 Findings, the first that holds; E is a copy's fault, P and Q are partitions:
@@ -41,16 +42,14 @@ Exit status: 0 found, 1 none, 2 usage, a bad PATH or K, 4 no table, 5 the image
 can't be read, 6 no memory.";
 
 pub const EDIT: &str = "\
-Words: n:NUM:START:END[:CODE] new (0 lets ptab choose, END may be +SECTORS),
-d:PATH delete, t:PATH:CODE type, c:NUM:NAME name, u:NUM:GUID its GUID, U:GUID
-the disk's, A:NUM:BIT:V attribute, a:K alignment, e use a grown disk, o empty
-GPT, g MBR to GPT. PATH is 3 or 2.a; CODE EF00 8300 8200 0700 A500 A503, or two
-digits on an MBR. `o`, `n` and `g` take fresh GUIDs:
+Words: n:NUM:START:END[:CODE] new (0: ptab chooses; END may be +SECTORS), d:PATH
+delete, t:PATH:CODE type, c:NUM:NAME name, u:NUM:GUID its GUID, U:GUID the
+disk's, A:NUM:BIT:V attribute, a:K alignment, e use a grown disk, o empty GPT, g
+MBR to GPT. PATH is 3 or 2.a; CODE EF00 8300 8200 0700 A500 A503, or two digits.
   --fresh $(head -c 1024 /dev/urandom | od -An -v -tx1 | tr -d ' \\n')
 
-Exit status: 0 done, 2 usage or a bad word, 3 refused (`locked`: another program
-has the lock), 4 no table, 5 the image can't be opened, read or written: it has
-the old table or the new one, 6 no memory. After 2, 3, 4, 6 nothing was written.";
+Exit status: 0 done, 2 usage, 3 refused, 4 no table, 5 failed: the old or new
+table is there, 6 no memory. A device: ptab-run --device DEV ptab edit @ WORD..";
 
 pub const PLAN: &str = "\
 WORD and HEX are those of `edit`. Each write is a line `W SECTOR BYTES`, with
@@ -62,8 +61,7 @@ Exit status: 0 planned, 2 usage or a bad word, 3 refused, 4 no table, 5 the
 image can't be read, 6 no memory.";
 
 pub const CHECK: &str = "\
-`yes S`: a stop within the plan leaves the old layout before phase S and the new
-one after it (S is 0 where both are one). Else `no`, and the first that holds:
+`yes S`: before phase S a stop leaves the old layout, after it the new. Or `no`:
   1               more than 4096 writes
   2 WRITE         a write past the image's last sector
   3 WRITE         it changes boot code, bytes 0 to 439 of sector 0
@@ -80,6 +78,7 @@ The image is flushed and the plan is checked. After a yes each phase is written
 and flushed, and `done` says that all is durable: a stop before that leaves the
 old layout or the new one. Where `ptab check` says no, so does this, and nothing
 is written. Nor where another program has the image's lock: `refused: locked`.
+For a device: ptab-run --device DEV ptab apply @ PLANFILE
 
 Exit status: 0 done, 1 no, 2 usage, 3 not a plan, or locked, 5 a file can't be
 opened, read or written, 6 no memory. After 1, 2, 3 and 6 nothing was written.";
@@ -91,6 +90,7 @@ the same partitions. On a healthy image nothing is written.
   refused: repair 2   a finding from 7 to 11: `verify` tells it once the copies
                       agree, and `edit` mends it
   refused: locked     another program has the image's lock
+For a device: ptab-run --device DEV ptab repair @
 
 Exit status: 0 done, 2 usage, 3 refused, 4 no table, 5 the image can't be
 opened, read or written, 6 no memory. After 2, 3, 4 and 6 nothing was written.";
@@ -98,14 +98,11 @@ opened, read or written, 6 no memory. After 2, 3, 4 and 6 nothing was written.";
 pub const ADOPT: &str = "\
 The table that OTHER denotes becomes the image's, by a checked plan: a stop at
 any moment leaves the old table or OTHER's. Both have as many sectors. Boot
-code, an MBR's disk signature, hybrid records and data aren't taken.
-  refused: plan N, locked   as by `edit`
-  refused: other size       OTHER has another number of sectors
-  other: ..                 a fault of OTHER, as `no table: ..` or `device`
+code, an MBR's disk signature, hybrid records and data aren't taken. A fault of
+OTHER is told behind `other: `. Device: ptab-run --device DEV ptab adopt @ OTHER
 
-Exit status: 0 done, 2 usage, 3 refused, 4 OTHER has no table, 5 an image can't
-be opened, read or written: it has the old table or OTHER's, 6 no memory. After
-2, 3, 4 and 6 nothing was written.";
+Exit status: 0 done, 2 usage, 3 refused, 4 OTHER has no table, 5 failed: the old
+table or OTHER's is there, 6 no memory. After 2, 3, 4, 6 nothing was written.";
 
 pub const SHOW_ABOUT: &str = "Prints the image's partitions, a line each";
 

@@ -3,7 +3,9 @@
 
 mod args;
 mod help;
+mod jobs;
 mod line;
+mod pages;
 
 pub use args::take_words;
-pub use line::{Adoption, Job, Line, LineError, LockedBy, SectorSize, read_line};
+pub use line::{Adoption, InUse, Job, Line, LineError, LockedBy, Medium, SectorSize, read_line};

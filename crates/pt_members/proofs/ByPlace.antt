@@ -13,7 +13,7 @@ use Rattle.std.specs.Prelude.{cond, nat_eq}
 use Rattle.pt_members.specs.Members.{records_as, entries_as, logicals_as, record_member, entry_member, logical_member, slots, tops}
 use Rattle.pt_members.specs.Members.{logicals}
 use Rattle.pt_members.specs.Members.{label_of, parts_as, parts_in, part_of}
-use Rattle.pt_members.specs.Counts.{used_before, no_ebr, logical_at}
+use Rattle.pt_members.specs.Counts.{used_before, no_ebr, logical_at, number_at}
 use Rattle.pt_bsd.specs.declared.label.Label.{Label}
 use Rattle.pt_bsd.specs.declared.label.LabelEntry.{LabelEntry}
 use Rattle.pt_mbr.specs.declared.ebr.Ebr.{Ebr}
@@ -184,3 +184,8 @@ pub unused_at : (b : ℕ) (y : Body) (t : Table) (k : ℕ) (l : List (Option Ent
 unused_at b y t k l is same lt none =
     subst (λ (z : Body). get_or (slots b z) k None ≡ None) (sym is) (gpt_at b t k (within_gpt b y t k is lt)
     ∙ ap (option_map (entry_member b (1 + k))) (subst (λ (es : List (Option Entry)). get_or es k None ≡ None) same none))
+
+-- no logical partition comes before the first place
+pub from_five : (y : Body) → number_at y 0 ≡ 5
+from_five (Mbr rs chain) = refl
+from_five (Gpt t) = refl

@@ -80,7 +80,7 @@ abbrev pub no_place : Slice
 no_place = record { number = 0; first = 0; len = 0 }
 
 -- one more of some places
-place_more : (ps : List Slice) (k s : ℕ) (z : Slice) → k < length ps → IsPlace (take (k + 1) ps) s
+pub place_more : (ps : List Slice) (k s : ℕ) (z : Slice) → k < length ps → IsPlace (take (k + 1) ps) s
     → IsPlace (take k ps) s ⊎ (s ≡ place_of (get_or ps k z))
 place_more ps k s z lt is =
     elim (place_split (take k ps) (get_or ps k z ∷ []) s (subst (λ (l : List Slice). IsPlace l s) (take_more ps k z lt) is))
@@ -89,18 +89,11 @@ place_more ps k s z lt is =
       | inr x ↦ ⊎_elim (λ here. inr here) (λ no. absurd no) x
     ]
 
-place_back : (ps : List Slice) (k s : ℕ) (z : Slice) → k < length ps → IsPlace (take k ps) s ⊎ (s ≡ place_of (get_or ps k z))
+pub place_back : (ps : List Slice) (k s : ℕ) (z : Slice) → k < length ps → IsPlace (take k ps) s ⊎ (s ≡ place_of (get_or ps k z))
     → IsPlace (take (k + 1) ps) s
 place_back ps k s z lt is =
     subst (λ (l : List Slice). IsPlace l s) (sym (take_more ps k z lt)) (place_joined (take k ps) (get_or ps k z ∷ []) s
     (⊎_elim (λ x. inl x) (λ x. inr (inl x)) is))
-
-pub lowest_place : (ps : List Slice) (k from : ℕ) (z : Slice) (a b : Option ℕ) → k < length ps
-    → NextSectorIs (IsPlace (take k ps)) from a → NextSectorIs (λ s. s ≡ place_of (get_or ps k z)) from b
-    → NextSectorIs (IsPlace (take (k + 1) ps)) from (least_of a b)
-lowest_place ps k from z a b lt p q =
-    next_same (λ (s : ℕ). IsPlace (take k ps) s ⊎ (s ≡ place_of (get_or ps k z))) (IsPlace (take (k + 1) ps)) from (least_of a b)
-    (λ u. place_back ps k u z lt) (λ u. place_more ps k u z lt) (next_or _ _ from a b p q)
 
 -- a label place is one of the disk's sectors
 place_small : (n : ℕ) (p : Slice) → n < 2 ^ 64 → has_place n p ≡ true → p.first + 1 < 2 ^ 64

@@ -4,6 +4,8 @@ pub mod Homes
 pub mod InOrder
 pub mod LabelPlaces
 pub mod Lowest
+pub mod Listed
 pub mod Rows
 pub mod Elsewhere
 pub mod Reaching
+pub mod Widening

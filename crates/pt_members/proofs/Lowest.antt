@@ -48,7 +48,7 @@ next_past P s (Some t) is other p =
     ]
 
 -- one more extended boot record
-stands_more : (s k : ℕ) (es : List Ebr) (z : Ebr) → k < length es → StandsAt s (take (suc k) es)
+pub stands_more : (s k : ℕ) (es : List Ebr) (z : Ebr) → k < length es → StandsAt s (take (suc k) es)
     → StandsAt s (take k es) ⊎ (s ≡ (get_or es k z).at.0)
 stands_more s k [] z lt is = absurd (omega arith)
 stands_more s zero (e ∷ es) z lt (inl here) = inr here
@@ -58,7 +58,7 @@ stands_more s (suc k) (e ∷ es) z lt (inr there) =
     elim (stands_more s k es z (omega arith) there) as (λ _. StandsAt s (take (suc k) (e ∷ es))
     ⊎ (s ≡ (get_or es k z).at.0)) [ inl x ↦ inl (inr x) | inr x ↦ inr x ]
 
-stands_back : (s k : ℕ) (es : List Ebr) (z : Ebr) → k < length es → StandsAt s (take k es) ⊎ (s ≡ (get_or es k z).at.0)
+pub stands_back : (s k : ℕ) (es : List Ebr) (z : Ebr) → k < length es → StandsAt s (take k es) ⊎ (s ≡ (get_or es k z).at.0)
     → StandsAt s (take (suc k) es)
 stands_back s k [] z lt is = absurd (omega arith)
 stands_back s zero (e ∷ es) z lt (inl none) = absurd none
@@ -80,13 +80,13 @@ ebr_more k from es z a b lt p q =
 abbrev pub Under : (ℕ → ℕ → Type 0) → ℕ → ℕ → Type 0
 Under F k s = (j : ℕ) × (j < k) × F j s
 
-under_more : (F : ℕ → ℕ → Type 0) (k s : ℕ) → Under F (k + 1) s → Under F k s ⊎ F k s
+pub under_more : (F : ℕ → ℕ → Type 0) (k s : ℕ) → Under F (k + 1) s → Under F k s ⊎ F k s
 under_more F k s (j, lt, is) = elim (cases_lt j k) as (λ _. Under F k s ⊎ F k s) [
   | inl below ↦ inl (j, below, is)
   | inr up ↦ (let same : j ≡ k = omega arith in inr (subst (λ (i : ℕ). F i s) same is))
 ]
 
-under_back : (F : ℕ → ℕ → Type 0) (k s : ℕ) → Under F k s ⊎ F k s → Under F (k + 1) s
+pub under_back : (F : ℕ → ℕ → Type 0) (k s : ℕ) → Under F k s ⊎ F k s → Under F (k + 1) s
 under_back F k s (inl (j, lt, is)) = (j, omega arith, is)
 under_back F k s (inr here) = (k, omega arith, here)
 

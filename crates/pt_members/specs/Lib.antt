@@ -3,8 +3,10 @@ pub mod SliceLists
 pub mod Members
 pub mod Search
 pub mod Tables
+pub mod Lone
 pub mod Owned
 pub mod Reaches
+pub mod Leaves
 pub mod Places
 pub mod Counts
 pub mod Next

@@ -5,6 +5,7 @@
 //! stands for every layout, whatever disk denotes it.
 #![tactic(auto)]
 
+mod alone;
 mod layout;
 mod member;
 mod owned;
@@ -16,6 +17,7 @@ mod slices;
 mod slots;
 mod tables;
 
+pub use alone::{Alone, alone_sectors};
 pub use layout::{Body, Ebrs, Labelled, Labels, Layout, Slice};
 pub use member::{Kind, Member};
 pub use owned::{Reach, is_owned, reach_of};
@@ -25,7 +27,7 @@ pub use row::{Row, Source, part_row, row_at};
 pub use search::exists;
 pub use slices::label_places;
 pub use slots::{
-    entry_slot, find_label, is_slice_type, logical_number, logical_slot, part_slot, record_slot,
-    slot, slot_count, top_count,
+    entry_slot, find_label, is_slice_type, logical_number, logical_slot, next_number,
+    numbered_slot, part_slot, record_slot, slot, slot_count, top_count,
 };
 pub use tables::{is_ebr, is_table, least, next_table};

@@ -1,14 +1,16 @@
 //! The search for a member.
 
 ghost use Rattle.std.specs.Prelude.{◌≡◌, ◌<◌, ◌≤◌, ◌+◌, ◌^◌, ◌↔◌, IsTrue, IfSome, IfNone, Some, None, length, slice_index_or};
+ghost use Rattle.pt_members.specs.Counts.{number_at};
 ghost use Rattle.pt_members.specs.Members.{parts, parts_in, slots, Exists, Holds};
 ghost use Rattle.pt_path.specs.Paths.{rank};
 ghost use Rattle.pt_members.specs.Search.{IsAsWanted, FoundAt, FoundIn, FoundNear, Found, NoneNear, EntryMisses};
 
 use crate::layout::{Body, Layout};
 use crate::member::{Kind, Member};
-use crate::slots::{count_slots, find_label, part_slot, slot};
+use crate::slots::{count_slots, find_label, next_number, numbered_slot, part_slot};
 use pt_bsd::Label;
+use pt_mbr::FIRST_LOGICAL;
 use pt_path::Path;
 use pt_sector::Lba;
 
@@ -142,8 +144,14 @@ fn is_elsewhere<const B: usize>(layout: &Layout, k: usize, wanted: &Wanted) -> b
 }
 
 // The member in a place, where it or a partition of its label may be as wanted.
-fn candidate<const B: usize>(layout: &Layout, k: usize, wanted: &Wanted) -> Option<Member>
-    requires { k < length (slots B layout.now.body) }
+fn candidate<const B: usize>(
+    layout: &Layout,
+    k: usize,
+    number: u64,
+    wanted: &Wanted,
+) -> Option<Member>
+    requires within { k < length (slots B layout.now.body) }
+    requires number { number ≡ number_at layout.now.body k }
     ensures none { IfNone result (NoneNear B layout.now k wanted.now) }
     ensures some { IfSome result (λ m. slice_index_or (slots B layout.now.body) k None ≡ Some m) }
     ensures small { IfSome result (λ m. m.first < 2 ^ 66) }
@@ -151,19 +159,22 @@ fn candidate<const B: usize>(layout: &Layout, k: usize, wanted: &Wanted) -> Opti
     if is_elsewhere::<B>(layout, k, wanted) {
         return None;
     }
-    slot::<B>(&layout.body, k)
+    numbered_slot::<B>(&layout.body, k, number)
 }
 
 /// A member that is as wanted, the first in path order.
+#[tactic(auto, using(crate::proofs::ByPlace::from_five))]
 pub(crate) fn find<const B: usize>(layout: &Layout, wanted: &Wanted) -> Option<Member>
     ensures { Found B layout.now wanted.now result }
 {
+    let mut number = FIRST_LOGICAL;
     for k in 0..count_slots::<B>(&layout.body) {
-        if let Some(m) = candidate::<B>(layout, k, wanted) {
+        if let Some(m) = candidate::<B>(layout, k, number, wanted) {
             if let Some(found) = find_near(layout, &m, wanted) {
                 return Some(found);
             }
         }
+        number = next_number::<B>(&layout.body, k, number);
     }
     None
 }

@@ -3,11 +3,13 @@
 ghost use Rattle.std.specs.Prelude.{◌≡◌, ◌<◌, ◌+◌, ◌++◌, filter, option_to_list, length, slice_index_or, None, IfOk, IfSome, IsTrue, OnOk};
 ghost use Rattle.pt_sector.specs.Sectors.{IsSectorSize};
 ghost use Rattle.pt_members.specs.Members.{slots};
+ghost use Rattle.pt_members.specs.Counts.{number_at};
 ghost use Rattle.pt_members.specs.Slices.{has_place, slice_of, placed_in, places_of};
 
 use crate::layout::{Body, Slice};
 use crate::member::{Kind, Member};
-use crate::slots::{slot, slot_count};
+use crate::slots::{next_number, numbered_slot, slot_count};
+use pt_mbr::FIRST_LOGICAL;
 use std::alloc::{AllocError, Global};
 
 // The slice that a member is, where it is one and has a label place on a disk of so many sectors.
@@ -46,15 +48,21 @@ fn is_unused<const B: usize>(body: &Body, k: usize) -> bool
 }
 
 // The slice in a place, where it has a label place on a disk of so many sectors.
-pub(crate) fn placed_at<const B: usize>(sectors: u64, body: &Body, k: usize) -> Option<Slice>
-    requires { k < length (slots B body.now) }
+pub(crate) fn placed_at<const B: usize>(
+    sectors: u64,
+    body: &Body,
+    k: usize,
+    number: u64,
+) -> Option<Slice>
+    requires within { k < length (slots B body.now) }
+    requires number { number ≡ number_at body.now k }
     ensures value { option_to_list result ≡ placed_in sectors (slice_index_or (slots B body.now) k None) }
     ensures within { IfSome result (λ s. s.first + 1 < sectors) }
 {
     if is_unused::<B>(body, k) {
         return None;
     }
-    let m = slot::<B>(body, k)?;
+    let m = numbered_slot::<B>(body, k, number)?;
     placed(sectors, &m)
 }
 
@@ -68,7 +76,7 @@ fn push_place(places: &mut Vec<Slice>, place: Option<Slice>) -> Result<(), Alloc
 }
 
 /// The slices that have a label place on a disk of so many sectors, in order of their numbers.
-#[tactic(auto, using(crate::proofs::LabelPlaces::placed_more, crate::proofs::LabelPlaces::placed_end))]
+#[tactic(auto, using(crate::proofs::LabelPlaces::placed_more, crate::proofs::LabelPlaces::placed_end, crate::proofs::ByPlace::from_five))]
 pub fn label_places<const B: usize>(
     alloc: Global,
     sectors: u64,
@@ -78,8 +86,10 @@ pub fn label_places<const B: usize>(
     ensures { IfOk result (λ v. v.items ≡ places_of B sectors body.now) }
 {
     let mut places = Vec::new(alloc);
+    let mut number = FIRST_LOGICAL;
     for k in 0..slot_count::<B>(body) {
-        push_place(&mut places, placed_at::<B>(sectors, body, k))?;
+        push_place(&mut places, placed_at::<B>(sectors, body, k, number))?;
+        number = next_number::<B>(body, k, number);
     }
     Ok(places)
 }

@@ -6,7 +6,7 @@ ghost use Rattle.pt_members.specs.Members.{records_as, entries_as, logicals_as, 
 ghost use Rattle.pt_members.specs.Members.{label_of, part_of, parts_in, sized_member, number_path, record_member, logical_member};
 ghost use Rattle.pt_members.specs.Members.{is_slice_kind, entry_member};
 ghost use Rattle.pt_members.specs.declared.layout.Body.TheVariants.{Mbr};
-ghost use Rattle.pt_members.specs.Counts.{used_before, logical_at};
+ghost use Rattle.pt_members.specs.Counts.{used_before, logical_at, number_at};
 ghost use Rattle.pt_members.specs.OnePath.{HasFour};
 
 use crate::layout::{Body, Labelled, Labels};
@@ -176,6 +176,20 @@ pub fn logical_slot<const B: usize>(chain: &[Ebr], k: usize) -> Option<Member>
     }
 }
 
+// The same, where the number is known that it has if it is there.
+fn numbered_logical<const B: usize>(chain: &[Ebr], k: usize, number: u64) -> Option<Member>
+    requires within { k < length chain.now }
+    requires number { number ≡ 5 + used_before k chain.now }
+    ensures value { result ≡ logical_at B k chain.now }
+    ensures small { IfSome result (λ m. m.first < 2 ^ 66) }
+{
+    let ebr = chain[k];
+    match &ebr.logical {
+        Some(r) => Some(logical_of::<B>(number, ebr.at, r)),
+        None => None,
+    }
+}
+
 #[tactic(auto, using(crate::proofs::ByPlace::mbr_len))]
 fn mbr_count<const B: usize>(records: &[Option<Record>; 4], chain: &[Ebr]) -> usize
     ensures value { result ≡ length (slots B (Mbr «records».now chain.now)) }
@@ -198,6 +212,56 @@ fn mbr_slot<const B: usize>(
         record_slot::<B>(records, k)
     } else {
         logical_slot::<B>(chain, k - 4)
+    }
+}
+
+#[tactic(auto, using(crate::proofs::ByPlace::mbr_len, crate::proofs::ByPlace::mbr_low, crate::proofs::ByPlace::mbr_high))]
+fn numbered_mbr_slot<const B: usize>(
+    records: &[Option<Record>; 4],
+    chain: &[Ebr],
+    k: usize,
+    number: u64,
+) -> Option<Member>
+    requires within { k < length (slots B (Mbr «records».now chain.now)) }
+    requires number { number ≡ number_at (Mbr «records».now chain.now) k }
+    ensures value { result ≡ slice_index_or (slots B (Mbr «records».now chain.now)) k None }
+    ensures small { IfSome result (λ m. m.first < 2 ^ 66) }
+{
+    if k < 4 {
+        record_slot::<B>(records, k)
+    } else {
+        numbered_logical::<B>(chain, k - 4, number)
+    }
+}
+
+// The number of the next extended boot record's logical partition, where that of this one's is known.
+fn number_behind(chain: &[Ebr], k: usize, number: u64) -> u64
+    requires within { k < length chain.now }
+    requires number { number ≡ 5 + used_before k chain.now }
+    ensures { result ≡ 5 + used_before (k + 1) chain.now }
+{
+    if chain[k].logical.is_some() {
+        number + 1
+    } else {
+        number
+    }
+}
+
+#[tactic(auto, using(crate::proofs::ByPlace::mbr_len))]
+fn next_mbr_number<const B: usize>(
+    records: &[Option<Record>; 4],
+    chain: &[Ebr],
+    k: usize,
+    number: u64,
+) -> u64
+    requires within { k < length (slots B (Mbr «records».now chain.now)) }
+    requires number { number ≡ number_at (Mbr «records».now chain.now) k }
+    ensures { result ≡ number_at (Mbr «records».now chain.now) (k + 1) }
+{
+    if k < records.len() {
+        number
+    } else {
+        number_behind(chain, k - 4, number)
     }
 }
 
@@ -229,6 +293,38 @@ pub fn slot<const B: usize>(body: &Body, k: usize) -> Option<Member>
 {
     match body {
         Body::Mbr { records, chain } => mbr_slot::<B>(records, chain.as_slice(), k),
+        Body::Gpt(table) => entry_slot::<B>(table.entries.as_slice(), k),
+    }
+}
+
+/// The number of the next place's logical partition, where that of this place's is known. That of the first place is
+/// `FIRST_LOGICAL`.
+pub fn next_number<const B: usize>(body: &Body, k: usize, number: u64) -> u64
+    requires within { k < length (slots B body.now) }
+    requires number { number ≡ number_at body.now k }
+    ensures { result ≡ number_at body.now (k + 1) }
+{
+    match body {
+        Body::Mbr { records, chain } => {
+            next_mbr_number::<B>(records, chain.as_slice(), k, number)
+        }
+        Body::Gpt(_) => number,
+    }
+}
+
+/// The member in a place, where the number of its logical partition is known: to walk through the places without counting
+/// those before each.
+#[tactic(auto, using(crate::proofs::ByPlace::gpt_at, crate::proofs::ByPlace::gpt_len))]
+pub fn numbered_slot<const B: usize>(body: &Body, k: usize, number: u64) -> Option<Member>
+    requires within { k < length (slots B body.now) }
+    requires number { number ≡ number_at body.now k }
+    ensures value { result ≡ slice_index_or (slots B body.now) k None }
+    ensures small { IfSome result (λ m. m.first < 2 ^ 66) }
+{
+    match body {
+        Body::Mbr { records, chain } => {
+            numbered_mbr_slot::<B>(records, chain.as_slice(), k, number)
+        }
         Body::Gpt(table) => entry_slot::<B>(table.entries.as_slice(), k),
     }
 }

@@ -7,13 +7,16 @@ ghost use Rattle.pt_gpt.specs.Array.{array_len};
 ghost use Rattle.pt_members.specs.Slices.{placed_in, places_of, IsPlace};
 ghost use Rattle.pt_members.specs.Members.{slots};
 ghost use Rattle.pt_members.specs.Tables.{IsTable, IsEbr, IsBodyTable, IsGptTable};
+ghost use Rattle.pt_members.specs.Counts.{number_at};
+ghost use Rattle.pt_members.specs.Lone.{Lists, AreAlone};
 ghost use Rattle.pt_members.specs.Next.{NextSectorIs, least_of};
 
-use crate::layout::{Body, Layout, Slice};
+use crate::alone::{Alone, next_among};
+use crate::layout::{Body, Layout};
 use crate::slices::placed_at;
-use crate::slots::slot_count;
+use crate::slots::{next_number, slot_count};
 use pt_gpt::first_usable;
-use pt_mbr::Ebr;
+use pt_mbr::{Ebr, FIRST_LOGICAL};
 use pt_sector::Lba;
 
 // The lesser of two sectors.
@@ -70,45 +73,54 @@ fn next_of_body<const B: usize>(sectors: u64, body: &Body, from: u64) -> Option<
 }
 
 // The label place of the slice in a place, where it has one.
-fn place_from<const B: usize>(sectors: u64, body: &Body, k: usize, from: u64) -> Option<u64>
-    requires { k < length (slots B body.now) }
+fn place_from<const B: usize>(
+    sectors: u64,
+    body: &Body,
+    k: usize,
+    number: u64,
+    from: u64,
+) -> Option<u64>
+    requires within { k < length (slots B body.now) }
+    requires number { number ≡ number_at body.now k }
     ensures { NextSectorIs (IsPlace (placed_in sectors (slice_index_or (slots B body.now) k None))) from result }
 {
-    let slice = placed_at::<B>(sectors, body, k)?;
+    let slice = placed_at::<B>(sectors, body, k, number)?;
     not_below(slice.first + 1, from)
 }
 
+#[tactic(auto, using(crate::proofs::ByPlace::from_five))]
 fn next_label<const B: usize>(sectors: u64, body: &Body, from: u64) -> Option<u64>
     ensures { NextSectorIs (IsPlace (places_of B sectors body.now)) from result }
 {
     let mut next = None;
+    let mut number = FIRST_LOGICAL;
     for k in 0..slot_count::<B>(body) {
-        next = least(next, place_from::<B>(sectors, body, k, from));
+        next = least(next, place_from::<B>(sectors, body, k, number, from));
+        number = next_number::<B>(body, k, number);
     }
     next
 }
 
-// The lowest label place of some slices from one on.
-fn next_place(places: &[Slice], from: u64) -> Option<u64>
-    requires { All (λ p. p.first + 1 < 2 ^ 64) places.now }
-    ensures { NextSectorIs (IsPlace places.now) from result }
-{
-    let mut next = None;
-    for k in 0..places.len() {
-        next = least(next, not_below(places[k].first + 1, from));
-    }
-    next
-}
-
-// The lowest table sector from one on, of a layout whose slices with a label place are these.
-#[tactic(auto, using(crate::proofs::LabelPlaces::places_small))]
-pub fn next_table<const B: usize>(layout: &Layout, places: &[Slice], from: u64) -> Option<u64>
+// The lowest from one on that is a table's, of a kind of table whose extended boot records are these.
+fn next_of_kind<const B: usize>(sectors: u64, body: &Body, ebrs: &[u64], from: u64) -> Option<u64>
     requires size { IsSectorSize B }
-    requires all { places.now ≡ places_of B layout.now.sectors layout.now.body }
+    requires ebrs { Lists (IsEbr body.now) ebrs.now }
+    ensures { NextSectorIs (IsBodyTable B sectors body.now) from result }
+{
+    match body {
+        Body::Mbr { .. } => least(not_below(0, from), next_among(ebrs, from)),
+        Body::Gpt(_) => next_of_gpt::<B>(sectors, from),
+    }
+}
+
+// The lowest table sector from one on, of a layout whose lone table sectors are these.
+pub fn next_table<const B: usize>(layout: &Layout, alone: &Alone, from: u64) -> Option<u64>
+    requires size { IsSectorSize B }
+    requires all { AreAlone B layout.now alone.now }
     ensures { NextSectorIs (IsTable B layout.now) from result }
 {
-    let body = next_of_body::<B>(layout.sectors, &layout.body, from);
-    let label = next_place(places, from);
+    let body = next_of_kind::<B>(layout.sectors, &layout.body, &alone.ebrs, from);
+    let label = next_among(&alone.places, from);
     least(body, label)
 }
 
@@ -139,12 +151,10 @@ pub fn is_table<const B: usize>(layout: &Layout, lba: Lba) -> bool
     is_label_place::<B>(layout.sectors, &layout.body, lba.0)
 }
 
-// Whether a sector is an extended boot record.
-pub fn is_ebr(body: &Body, lba: u64) -> bool
-    ensures { IsTrue result ↔ IsEbr body.now lba }
+// Whether a sector is an extended boot record of a layout whose lone table sectors are these.
+pub fn is_ebr<const B: usize>(layout: &Layout, alone: &Alone, lba: u64) -> bool
+    requires { AreAlone B layout.now alone.now }
+    ensures { IsTrue result ↔ IsEbr layout.now.body lba }
 {
-    match body {
-        Body::Mbr { chain, .. } => next_ebr(chain.as_slice(), lba) == Some(lba),
-        Body::Gpt(_) => false,
-    }
+    next_among(&alone.ebrs, lba) == Some(lba)
 }

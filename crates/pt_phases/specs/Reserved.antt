@@ -4,10 +4,9 @@ use Rattle.pt_recover.specs.Spans.{IsIn}
 use Rattle.pt_members.specs.Owned.{OwnedOf}
 use Rattle.pt_members.specs.Reaches.{IsWithin}
 use Rattle.pt_phases.specs.declared.reserved.Reserved.{Reserved}
-use Rattle.pt_phases.specs.declared.reserved.Reserved.TheVariants.{Owned, Guarded, Reached}
+use Rattle.pt_phases.specs.declared.reserved.Reserved.TheVariants.{Owned, Guarded}
 
 -- the sector is one of them
 abbrev pub IsAnyReserved : ℕ → Reserved → ℕ → Type 0
-IsAnyReserved b (Owned layout) s = OwnedOf b layout.now s
+IsAnyReserved b (Owned layout reach) s = IsWithin reach s × OwnedOf b layout.now s
 IsAnyReserved b (Guarded trace) s = IsIn trace.now s
-IsAnyReserved b (Reached reach) s = IsWithin reach s

@@ -15,21 +15,18 @@ use pt_targets::owned_in;
 /// Sectors that a plan may not write, or not yet, and those among which they are.
 #[derive(Clone, Copy)]
 pub(crate) enum Reserved<'a> {
-    /// Those that a partition of the layout owns.
-    Owned(&'a Option<Layout>),
+    /// Those in a reach that a partition of the layout owns. An owner is searched for only of a sector in the reach.
+    Owned(&'a Option<Layout>, Reach),
     /// Those of a trace.
     Guarded(&'a Trace),
-    /// Those in the reach of a layout's partitions, among which are all that these own.
-    Reached(Reach),
 }
 
 fn is_reserved<const B: usize>(reserved: &Reserved, at: Lba) -> bool
     ensures { IsTrue result ↔ IsAnyReserved B reserved.now at.0 }
 {
     match reserved {
-        Reserved::Owned(layout) => owned_in::<B>(layout, at),
+        Reserved::Owned(layout, reach) => reach.contains(at) && owned_in::<B>(layout, at),
         Reserved::Guarded(trace) => trace.contains(at),
-        Reserved::Reached(reach) => reach.contains(at),
     }
 }
 
@@ -57,7 +54,7 @@ pub(crate) fn touches<const B: usize>(reserved: &Reserved, phases: &[Vec<Write<B
 }
 
 /// Whether a write of one of these phases is of a sector that a partition of the layout owns. An owner is searched for only
-/// where a write is in the reach of the partitions.
+/// of the writes in the reach of the partitions.
 pub(crate) fn touches_owned<const B: usize>(
     layout: &Option<Layout>,
     phases: &[Vec<Write<B>>],
@@ -65,13 +62,7 @@ pub(crate) fn touches_owned<const B: usize>(
     ensures { IsTrue result ↔ Touches (OwnedOf B layout.now) (writes_in (phases_in phases.now)) }
 {
     match layout {
-        Some(it) => {
-            if touches(&Reserved::Reached(reach_of::<B>(it)), phases) {
-                touches(&Reserved::Owned(layout), phases)
-            } else {
-                false
-            }
-        }
+        Some(it) => touches(&Reserved::Owned(layout, reach_of::<B>(it)), phases),
         None => false,
     }
 }

@@ -9,3 +9,4 @@ pub mod Reading
 pub mod Telling
 pub mod Wanting
 pub mod Outcomes
+pub mod Finishing

@@ -4,6 +4,7 @@ pub mod Batches
 pub mod Commits
 pub mod Ended
 pub mod Failed
+pub mod Finished
 pub mod History
 pub mod Landing
 pub mod Layouts

@@ -5,3 +5,5 @@ pub mod PlanRows
 pub mod NoPlan
 pub mod Asked
 pub mod ListRows
+pub mod SayingLike
+pub mod Unknown

@@ -74,6 +74,7 @@ none_listed b v d old new same status.Device r is = is
 none_listed b v d old new same status.Memory r is = (is, same)
 none_listed b v d old new same status.Want r is = (is, same)
 none_listed b v d old new same status.Room r is = absurd is
+none_listed b v d old new same status.WantOther r is = is
 
 pub members_not : (b : ℕ) (v : View) (d : Sectors) (old new : Listing) (s : Status) (r : Reply) → new ≡ old
     → OfView b v NoBuffers (NoLayout b v d) s r → MembersFor b v d old new s r

@@ -110,6 +110,7 @@ module _ (b : ℕ) (v : View) (d : Sectors) where
   none_at number letter k status.Memory r is = is
   none_at number letter k status.Want r is = is
   none_at number letter k status.Room r is = is
+  none_at number letter k status.WantOther r is = is
 
   pub located_not : (number letter k : ℕ) (s : Status) (r : Reply) → IsNamed number letter → OfView b v NoBuffers (NoLayout b v d) s r
       → LocatedFor b v d number letter k s r
@@ -199,6 +200,7 @@ module _ (b : ℕ) (v : View) (d : Sectors) where
   gives_plan batch phases old new status.Memory r ready given = given
   gives_plan batch phases old new status.Want r ready given = absurd given
   gives_plan batch phases old new status.Room r ready given = (phases, ready, given)
+  gives_plan batch phases old new status.WantOther r ready given = absurd given
 
   not_given : (batch : Words) (old new : Buffers) → new ≡ old → (s : Status) (r : Reply) → NoPlan b v d batch s r
       → Planned b v d batch old new s r
@@ -211,6 +213,7 @@ module _ (b : ℕ) (v : View) (d : Sectors) where
   not_given batch old new same status.Memory r is = (is, same)
   not_given batch old new same status.Want r is = (is, same)
   not_given batch old new same status.Room r is = absurd is
+  not_given batch old new same status.WantOther r is = is
 
   pub gives_not : (batch : Words) (old new : Buffers) (s : Status) (r : Reply) → new ≡ old
       → OfView b v NoBuffers (NoPlan b v d batch) s r → OfView b v (new ≡ old) (Planned b v d batch old new) s r
@@ -227,6 +230,7 @@ module _ (b : ℕ) (v : View) (d : Sectors) where
   gives_mended phases old new status.Memory r ready given = given
   gives_mended phases old new status.Want r ready given = absurd given
   gives_mended phases old new status.Room r ready given = (phases, ready, given)
+  gives_mended phases old new status.WantOther r ready given = absurd given
 
   pub gives_mending : (phases : List Writes) (old new : Buffers) (s : Status) (r : Reply) → IsView b v → IsReadyToMend b d phases
       → Gives phases old new s r → MendedFor b v d old new s r
@@ -242,6 +246,7 @@ module _ (b : ℕ) (v : View) (d : Sectors) where
   not_mended old new same status.Memory r is = (is, same)
   not_mended old new same status.Want r is = (is, same)
   not_mended old new same status.Room r is = absurd is
+  not_mended old new same status.WantOther r is = is
 
   pub mends_not : (old new : Buffers) (s : Status) (r : Reply) → new ≡ old → OfView b v NoBuffers (NoMending b v d) s r
       → MendedFor b v d old new s r
@@ -259,6 +264,7 @@ module _ (b : ℕ) (v : View) (d : Sectors) (words drawn : List ℕ) (old new : 
   no_guids status.Memory r same is = inl (refl, is, same)
   no_guids status.Want r same is = absurd is
   no_guids status.Room r same is = absurd is
+  no_guids status.WantOther r same is = absurd is
 
   -- bytes that are no words
   pub no_edits : (guids : List Guid) (s : Status) (r : Reply) → AreDrawn drawn guids → new ≡ old → IsUnasked (NoWords words) s r
@@ -272,6 +278,7 @@ module _ (b : ℕ) (v : View) (d : Sectors) (words drawn : List ℕ) (old new : 
   no_edits guids status.Memory r are same is = inl (refl, is, same)
   no_edits guids status.Want r are same is = absurd is
   no_edits guids status.Room r are same is = absurd is
+  no_edits guids status.WantOther r are same is = absurd is
 
   -- both are a batch's
   pub asked_for : (edits : List Edit) (guids : List Guid) (s : Status) (r : Reply) → AreEdits words edits → AreDrawn drawn guids
@@ -299,6 +306,7 @@ module _ (b : ℕ) (v : View) (d : Sectors) (rows : List WriteRow) (bytes : List
   no_rows status.Memory r is = inl (refl, is, tt)
   no_rows status.Want r is = absurd is
   no_rows status.Room r is = absurd is
+  no_rows status.WantOther r is = absurd is
 
   pub taken_is : (plan : List Writes) (s : Status) (r : Reply) → AreTaken b plan rows bytes
       → OfView b v NoBuffers (Checked b v d plan) s r → CheckedFor b v d rows bytes s r
@@ -346,8 +354,9 @@ unasked_on on status.Device r is = is
 unasked_on on status.Memory r is = is
 unasked_on on status.Want r is = is
 unasked_on on status.Room r is = is
+unasked_on on status.WantOther r is = is
 
-code_round : (s : Status) → to_z w32 (of_z w32 (status_code s)) ≡ status_code s
+pub code_round : (s : Status) → to_z w32 (of_z w32 (status_code s)) ≡ status_code s
 code_round status.Done = refl
 code_round status.No = refl
 code_round status.Usage = refl
@@ -357,6 +366,7 @@ code_round status.Device = refl
 code_round status.Memory = refl
 code_round status.Want = refl
 code_round status.Room = refl
+code_round status.WantOther = refl
 
 -- what C gets says what the answer says, of each disk of which the view is a part
 pub says_it : (claim : ℕ → Sectors → Status → Reply → Type 0) (stay : Type 0) (v : View) (d : Sectors) (b : ℕ) (elsewhere : Sectors)

@@ -48,14 +48,20 @@ known_is_there count ns ks elsewhere s v lt is =
     sym (get_or-map-range_with_len (λ (t : ℕ). known_or (known_of ns ks t) (sector elsewhere t)) 0 count s s [] lt (omega arith)
     ∙ ap (λ (o : Option (List ℕ)). known_or o (sector elsewhere s)) is)
 
--- the one fault that came is of a read of a sector that isn't in the view
-pub asked_of : (b : ℕ) (v : View) (count : ℕ) (ns ns' : List ℕ) (ks ks' : Sectors) (fs fs' : List Fault) (o : Option Fault)
-    → AreOf b v count ns ks → Asks count ns ns' ks ks' fs fs' → fs' ≡ with_fault fs o → (f : Fault) → o ≡ Some f → IsAsked b v f
+-- the one fault that came is of a read of a sector that isn't known
+pub asked_new : (count : ℕ) (ns ns' : List ℕ) (ks ks' : Sectors) (fs fs' : List Fault) (o : Option Fault) → Asks count ns ns' ks ks' fs fs'
+    → fs' ≡ with_fault fs o → (f : Fault) → o ≡ Some f → IsOfNew count ns ks f
 unfolding AreOfNew
-asked_of b v count ns ns' ks ks' fs fs' o are asks one f is =
+asked_new count ns ns' ks ks' fs fs' o asks one f is =
     let more : asks.more ≡ f ∷ [] = append_cancel_left fs asks.more (f ∷ []) (sym asks.come
     ∙ (one ∙ ap (λ (x : Option Fault). with_fault fs x) is)) in
-    let new : IsOfNew count ns ks f = (subst (AreOfNew count ns ks) more asks.unknown).0 in
+    (subst (AreOfNew count ns ks) more asks.unknown).0
+
+-- the same of a sector that isn't in the view
+pub asked_of : (b : ℕ) (v : View) (count : ℕ) (ns ns' : List ℕ) (ks ks' : Sectors) (fs fs' : List Fault) (o : Option Fault)
+    → AreOf b v count ns ks → Asks count ns ns' ks ks' fs fs' → fs' ≡ with_fault fs o → (f : Fault) → o ≡ Some f → IsAsked b v f
+asked_of b v count ns ns' ks ks' fs fs' o are asks one f is =
+    let new : IsOfNew count ns ks f = asked_new count ns ns' ks ks' fs fs' o asks one f is in
     subst (λ (l : Sectors). IsOfNew v.sectors v.numbers.now l f) are.sectors_are
     (subst (λ (l : List ℕ). IsOfNew v.sectors l ks f) are.numbers_are (subst (λ (n : ℕ). IsOfNew n ns ks f) are.count_is new))
 

@@ -32,7 +32,7 @@ use Rattle.pt_replay.specs.Judged.{Judged, Tells, OfView, OrMemory, NoBuffers}
 use Rattle.pt_replay.specs.Replies.{nothing, answer, at_sector, switching, finding_answer, table_answer, commit_answer, repair_answer}
 use Rattle.pt_replay.specs.Replies.{why_reply}
 use Rattle.pt_replay.specs.declared.answers.Status.{Status}
-use Rattle.pt_replay.specs.declared.answers.Status.TheVariants.{Done, No, Usage, Refused, NoTable, Device, Memory, Want, Room}
+use Rattle.pt_replay.specs.declared.answers.Status.TheVariants.{Done, No, Usage, Refused, NoTable, Device, Memory, Want, Room, WantOther}
 use Rattle.pt_replay.specs.declared.answers.Reply.{Reply}
 use Rattle.pt_replay.specs.declared.view.View.{View}
 
@@ -55,6 +55,7 @@ NoLayout b v d Device r = ⊥
 NoLayout b v d Memory r = r ≡ nothing
 NoLayout b v d Want r = Wants b v (Reads b d) r
 NoLayout b v d Room r = ⊥
+NoLayout b v d WantOther r = ⊥
 
 -- the disk is healthy, or the first finding is the one that the reply tells
 abbrev pub Verified : ℕ → View → Sectors → Status → Reply → Type 0
@@ -67,6 +68,7 @@ Verified b v d Device r = ⊥
 Verified b v d Memory r = r ≡ nothing
 Verified b v d Want r = Wants b v (VerdictReads b d) r
 Verified b v d Room r = ⊥
+Verified b v d WantOther r = ⊥
 
 -- the same, once the view is judged
 abbrev pub VerifiedFor : ℕ → View → Sectors → Status → Reply → Type 0
@@ -94,6 +96,7 @@ Located b v d number letter k Device r = ⊥
 Located b v d number letter k Memory r = r ≡ nothing
 Located b v d number letter k Want r = Wants b v (Reads b d) r
 Located b v d number letter k Room r = ⊥
+Located b v d number letter k WantOther r = ⊥
 
 -- the same, once the number and letter are judged, and then the view
 abbrev pub LocatedFor : ℕ → View → Sectors → ℕ → ℕ → ℕ → Status → Reply → Type 0
@@ -115,6 +118,7 @@ NoPlan b v d batch Device r = ⊥
 NoPlan b v d batch Memory r = r ≡ nothing
 NoPlan b v d batch Want r = Wants b v (CommitReads b v.sectors batch d) r
 NoPlan b v d batch Room r = ⊥
+NoPlan b v d batch WantOther r = ⊥
 
 -- a checked plan for the words stands in the buffers, or it has no room there; or there is none, and they stay as they were
 abbrev pub Planned : ℕ → View → Sectors → Words → Buffers → Buffers → Status → Reply → Type 0
@@ -127,6 +131,7 @@ Planned b v d batch old new Device r = ⊥
 Planned b v d batch old new Memory r = (r ≡ nothing) × (new ≡ old)
 Planned b v d batch old new Want r = NoPlan b v d batch Want r × (new ≡ old)
 Planned b v d batch old new Room r = (phases : List Writes) × IsReady b v.sectors batch d phases × HasNoPlace phases old new r
+Planned b v d batch old new WantOther r = ⊥
 
 -- the disk isn't repaired for the reason that the answer tells, with this status
 abbrev pub IsUnmended : ℕ → Sectors → Status → Reply → Type 0
@@ -143,6 +148,7 @@ NoMending b v d Device r = ⊥
 NoMending b v d Memory r = r ≡ nothing
 NoMending b v d Want r = Wants b v (RepairReads b v.sectors d) r
 NoMending b v d Room r = ⊥
+NoMending b v d WantOther r = ⊥
 
 -- a checked plan for a repair stands in the buffers, or it has no room there; or there is none, and they stay as they were
 abbrev pub Mended : ℕ → View → Sectors → Buffers → Buffers → Status → Reply → Type 0
@@ -155,6 +161,7 @@ Mended b v d old new Device r = ⊥
 Mended b v d old new Memory r = (r ≡ nothing) × (new ≡ old)
 Mended b v d old new Want r = NoMending b v d Want r × (new ≡ old)
 Mended b v d old new Room r = (phases : List Writes) × IsReadyToMend b d phases × HasNoPlace phases old new r
+Mended b v d old new WantOther r = ⊥
 
 -- the same, once the view is judged
 abbrev pub MendedFor : ℕ → View → Sectors → Buffers → Buffers → Status → Reply → Type 0
@@ -171,6 +178,7 @@ Checked b v d phases Device r = ⊥
 Checked b v d phases Memory r = r ≡ nothing
 Checked b v d phases Want r = Wants b v (CheckReads b d phases) r
 Checked b v d phases Room r = ⊥
+Checked b v d phases WantOther r = ⊥
 
 -- the same of what C asks for: the random bytes are judged, then the words, then the view
 abbrev pub PlannedFor : ℕ → View → Sectors → List ℕ → List ℕ → Buffers → Buffers → Status → Reply → Type 0
@@ -196,6 +204,7 @@ Members b v d old new Device r = ⊥
 Members b v d old new Memory r = (r ≡ nothing) × (new ≡ old)
 Members b v d old new Want r = NoLayout b v d Want r × (new ≡ old)
 Members b v d old new Room r = (o : Layout) × Denotes b d (Some o) × HasNoRoom b o old new r
+Members b v d old new WantOther r = ⊥
 
 -- the same, once the view is judged
 abbrev pub MembersFor : ℕ → View → Sectors → Listing → Listing → Status → Reply → Type 0

@@ -5,7 +5,7 @@ use Rattle.std.specs.Simd.{first_chunks}
 use Rattle.pt_sector.specs.Sectors.{Sectors}
 use Rattle.pt_sector.specs.Writes.{Writes}
 use Rattle.pt_replay.specs.declared.answers.Status.{Status}
-use Rattle.pt_replay.specs.declared.answers.Status.TheVariants.{Done, No, Usage, Refused, NoTable, Device, Memory, Want, Room}
+use Rattle.pt_replay.specs.declared.answers.Status.TheVariants.{Done, No, Usage, Refused, NoTable, Device, Memory, Want, Room, WantOther}
 use Rattle.pt_replay.specs.declared.answers.Reply.{Reply}
 use Rattle.pt_replay.specs.Codes.{the_rows}
 use Rattle.pt_replay.specs.Replies.{nothing, counting, bad_argument, bad_row}
@@ -145,3 +145,4 @@ Gives phases old new Device r = ⊥
 Gives phases old new Memory r = (r ≡ nothing) × (new ≡ old)
 Gives phases old new Want r = ⊥
 Gives phases old new Room r = HasNoPlace phases old new r
+Gives phases old new WantOther r = ⊥

@@ -7,7 +7,7 @@ use Rattle.pt_replay.specs.Known.{IsView}
 use Rattle.pt_replay.specs.Replies.{nothing, bad_argument}
 use Rattle.pt_replay.specs.Words.{AreSomeEdits, AreGroups, ToldOfWords}
 use Rattle.pt_replay.specs.declared.answers.Status.{Status}
-use Rattle.pt_replay.specs.declared.answers.Status.TheVariants.{Done, No, Usage, Refused, NoTable, Device, Memory, Want, Room}
+use Rattle.pt_replay.specs.declared.answers.Status.TheVariants.{Done, No, Usage, Refused, NoTable, Device, Memory, Want, Room, WantOther}
 use Rattle.pt_replay.specs.declared.answers.Reply.{Reply}
 use Rattle.pt_replay.specs.declared.rows.WriteRow.{WriteRow}
 use Rattle.pt_replay.specs.declared.view.View.{View}
@@ -47,6 +47,7 @@ IsUnasked told Device r = ⊥
 IsUnasked told Memory r = r ≡ nothing
 IsUnasked told Want r = ⊥
 IsUnasked told Room r = ⊥
+IsUnasked told WantOther r = ⊥
 
 -- the bytes are no words, and this is told of them
 abbrev pub NoWords : List ℕ → Reply → Type 0

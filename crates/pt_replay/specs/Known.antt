@@ -58,6 +58,11 @@ pub record IsPartOf (v : View) (d : Sectors) : Type 0 where
   pub as_many : length d ≡ v.sectors
   pub alike : (s : ℕ) (k : List ℕ) → s < v.sectors → held v s ≡ Some k → sector d s ≡ k
 
+-- a disk, and another one
+pub record Disks : Type 0 where
+  pub disk : Sectors
+  pub other : Sectors
+
 -- of so many sectors, this one isn't known
 pub record IsNew (count : ℕ) (ns : List ℕ) (ks : Sectors) (s : ℕ) : Type 0 where
   pub within : s < count

@@ -6,3 +6,5 @@ pub mod Words
 pub mod Listed
 pub mod Judged
 pub mod Claims
+pub mod Adopted
+pub mod Wanted

@@ -24,6 +24,8 @@ use Rattle.pt_words.specs.declared.error.EditError.{EditError}
 use Rattle.pt_targets.specs.Errors.{plan_error_number}
 use Rattle.pt_plan.specs.declared.error.CommitError.{CommitError}
 use Rattle.pt_plan.specs.declared.error.CommitError.TheVariants as commit
+use Rattle.pt_plan.specs.declared.like_error.LikeError.{LikeError}
+use Rattle.pt_plan.specs.declared.like_error.LikeError.TheVariants as like
 use Rattle.pt_plan.specs.declared.repair_error.RepairError.{RepairError}
 use Rattle.pt_plan.specs.declared.repair_error.RepairError.TheVariants as repair
 use Rattle.pt_replay.specs.Codes.{about_code, the_rows}
@@ -194,6 +196,25 @@ repair_answer (repair.Device f) = record { status = status.Device; reply = nothi
 repair_answer repair.Memory = record { status = status.Memory; reply = nothing }
 repair_answer (repair.Plan e) = told status.Refused about.Repair 5 (plan_error_number e) 0
 repair_answer (repair.Check w) = record { status = status.Refused; reply = why_reply w }
+
+-- an answer about the other disk: that it has no table, or that one of its sectors is wanted
+abbrev pub told_of_other : Status → Reply → Answer
+told_of_other status.NoTable r = answer status.NoTable (record r { about = about_code about.OtherTable })
+told_of_other status.Want r = answer status.WantOther r
+told_of_other s r = answer s r
+
+abbrev pub of_other : Answer → Answer
+of_other a = told_of_other a.status a.reply
+
+-- the other disk has another number of sectors
+abbrev pub other_count : Reply
+other_count = (told status.Refused about.Adopt 1 0 0).reply
+
+-- why a disk doesn't become like the other one
+abbrev pub like_answer : LikeError → Answer
+like_answer like.OtherSize = answer status.Refused other_count
+like_answer (like.Other e) = of_other (table_answer e)
+like_answer (like.Disk e) = commit_answer e
 
 -- a yes, with the phase of the switch
 abbrev pub accepting : ℕ → Answer

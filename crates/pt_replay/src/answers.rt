@@ -2,7 +2,7 @@
 
 ghost use Rattle.std.specs.Prelude.{◌≡◌, pos, negsuc};
 ghost use Rattle.pt_replay.specs.Codes.{status_code, about_code};
-ghost use Rattle.pt_replay.specs.Replies.{nothing, told, answer, wanting, bad_argument, failure_answer, letter_code};
+ghost use Rattle.pt_replay.specs.Replies.{nothing, told, answer, wanting, of_other, bad_argument, failure_answer, letter_code};
 ghost use Rattle.pt_replay.specs.declared.answers.Status.TheVariants as status;
 
 use pt_layout::Path;
@@ -29,6 +29,8 @@ pub enum Status {
     Want,
     /// The caller's buffers are too small.
     Room,
+    /// A sector of the other disk is wanted.
+    WantOther,
 }
 
 impl Status {
@@ -46,6 +48,7 @@ impl Status {
             Status::Memory => 6,
             Status::Want => -1,
             Status::Room => -2,
+            Status::WantOther => -3,
         }
     }
 }
@@ -55,7 +58,7 @@ impl Status {
 pub enum About {
     Nothing,
     /// An argument: 1 the sector's size, 2 the view, 3 the path, 4 the random bytes, 5 no words or words that are not
-    /// UTF-8, 6 the writes of a plan.
+    /// UTF-8, 6 the writes of a plan, 7 the sector's size of the other view, 8 the other view.
     Argument,
     /// An edit word that can't be read: the number is of the fault, `a` the word, from 1.
     Word,
@@ -71,6 +74,10 @@ pub enum About {
     Check,
     /// A refusal of a repair.
     Repair,
+    /// A refusal of the other disk: 1 it has another number of sectors.
+    Adopt,
+    /// Why the other disk has no table, numbered as in `Table`.
+    OtherTable,
 }
 
 impl About {
@@ -87,6 +94,8 @@ impl About {
             About::Plan => 6,
             About::Check => 7,
             About::Repair => 8,
+            About::Adopt => 9,
+            About::OtherTable => 10,
         }
     }
 }
@@ -212,6 +221,26 @@ impl Answer {
         let mut answer = self;
         answer.reply.b = path.number;
         answer.reply.b_letter = letter_of(path.letter);
+        answer
+    }
+
+    /// The same, told of the other disk.
+    pub fn of_other(self) -> Answer
+        ensures { result ≡ of_other self }
+    {
+        let mut answer = self;
+        match self.status {
+            Status::NoTable => answer.reply.about = About::OtherTable.code(),
+            Status::Want => answer.status = Status::WantOther,
+            Status::Done
+            | Status::No
+            | Status::Usage
+            | Status::Refused
+            | Status::Device
+            | Status::Memory
+            | Status::Room
+            | Status::WantOther => {}
+        }
         answer
     }
 

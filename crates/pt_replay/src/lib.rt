@@ -1,5 +1,5 @@
 //! Answers about a disk of which the caller knows some sectors (docs/c.md): what it denotes, whether it is healthy, where
-//! a partition's sectors are, and checked plans of edits and repairs.
+//! a partition's sectors are, and checked plans of edits and repairs, and of the layout of another disk.
 //!
 //! The caller reads and writes the disk. A call gets the sectors that were read so far, and ends with an answer or with the
 //! number of one more sector that it wants. It keeps no state: the next call begins anew.
@@ -8,8 +8,10 @@
 //! that the answer holds of the disk with just these sectors, whichever they are.
 #![tactic(auto)]
 
+mod adopting;
 mod answers;
 mod asking;
+mod body;
 mod checking;
 mod giving;
 mod health;
@@ -22,7 +24,9 @@ mod replay;
 mod rows;
 mod taking;
 mod view;
+mod wanting;
 
+pub use adopting::{adopted, beyond};
 pub use answers::{Answer, Reply, Status};
 pub use checking::checked;
 pub use health::verified;
@@ -31,3 +35,4 @@ pub use places::located;
 pub use planning::{mended, planned};
 pub use rows::{GuidBytes, GuidText, MemberRow, TableRow, WriteRow};
 pub use view::View;
+pub use wanting::wanted;

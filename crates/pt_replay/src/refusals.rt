@@ -1,13 +1,13 @@
 //! Why there is no plan, as C is told.
 
 ghost use Rattle.std.specs.Prelude.{◌≡◌};
-ghost use Rattle.pt_replay.specs.Replies.{why_reply, commit_answer, repair_answer};
+ghost use Rattle.pt_replay.specs.Replies.{why_reply, commit_answer, repair_answer, like_answer};
 ghost use Rattle.pt_plan.specs.declared.error.CommitError.TheVariants as commit;
 
 use crate::answers::{About, Answer, Status};
 use crate::recovered::no_table;
 use pt_check::Why;
-use pt_plan::{CommitError, RepairError};
+use pt_plan::{CommitError, LikeError, RepairError};
 use pt_sector::Fault;
 
 /// The reason of the checker, with its arguments as the command prints them.
@@ -49,6 +49,17 @@ pub fn refused(error: CommitError) -> Answer
         CommitError::Check(why) => reason(Status::Refused, why),
         CommitError::Device(met) => fault(met),
         CommitError::Memory => Answer::of(Status::Memory),
+    }
+}
+
+/// Why a disk doesn't become like another one.
+pub fn unlike(error: LikeError) -> Answer
+    ensures { result ≡ like_answer error }
+{
+    match error {
+        LikeError::OtherSize => Answer::told(Status::Refused, About::Adopt, 1),
+        LikeError::Other(why) => no_table(why).of_other(),
+        LikeError::Disk(error) => refused(error),
     }
 }
 

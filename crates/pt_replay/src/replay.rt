@@ -1,6 +1,6 @@
 //! A disk of which some sectors are known.
 
-ghost use Rattle.std.specs.Prelude.{◌≡◌, ◌<◌, ◌≤◌, ◌*◌, ◌^◌, ℕ, List, [], ◌∷◌, length, IfSome, IfNone, refl};
+ghost use Rattle.std.specs.Prelude.{◌≡◌, ◌<◌, ◌≤◌, ◌*◌, ◌^◌, ℕ, List, [], ◌∷◌, length, IfSome, IfNone, is_some, refl};
 ghost use Rattle.std.proofs.Common.{◌∙◌};
 ghost use Rattle.std.proofs.lemmas.List.FromFn.{length-map-range_with_len};
 ghost use Rattle.pt_sector.specs.Sectors.{IsSectorSize};
@@ -49,6 +49,14 @@ impl<'a, const B: usize> ReplayDisk<'a, B> {
             failed: Moments::new(),
             past: Moments::new(),
         })
+    }
+
+    /// Whether a sector is known.
+    pub fn is_known(&self, number: u64) -> bool
+        requires { IsSectorSize B }
+        ensures { result ≡ is_some (known_of self.now.numbers.now self.now.known.now number) }
+    {
+        known_at(self.numbers, self.known, number).is_some()
     }
 }
 

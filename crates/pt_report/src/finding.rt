@@ -1,19 +1,28 @@
 //! The first finding on a disk, as it is printed.
 
-use crate::why::{print_one, print_two};
+ghost use Rattle.std.specs.Prelude.{◌≡◌, ◌∷◌, OnOk};
+ghost use Rattle.std.specs.Io.KnownBytes.{Appends};
+ghost use Rattle.pt_report.specs.Lines.{rest_of};
+ghost use Rattle.pt_report.specs.Told.{finding_fields, finding_line, names_in};
+
+use crate::path::print_behind;
 use pt_gpt::Side;
-use pt_layout::{Finding, Path};
+use pt_layout::Finding;
 use std::io;
 use std::io::Write;
 
 /// Prints a finding as a no.
-pub fn print_finding<O: Write>(out: &mut O, finding: &Finding) -> io::Result<()> {
+pub fn print_finding<O: Write>(out: &mut O, finding: &Finding) -> io::Result<()>
+    ensures { OnOk result (Appends (O.contents out.old) (O.contents out.new) (finding_line finding.now)) }
+{
     write!(out, "no {} {}", finding.number(), title(finding))?;
-    print_what(out, finding)?;
-    out.write_all(b"\n")
+    print_named(out, finding)
 }
 
-fn title(finding: &Finding) -> &'static str {
+// What it says before it names anything.
+fn title(finding: &Finding) -> &'static str
+    ensures { finding_fields finding.now ≡ result.now ∷ names_in finding.now }
+{
     match finding {
         Finding::NoTable(_) => "no table",
         Finding::PrimaryCopy(_) => "primary copy",
@@ -30,15 +39,31 @@ fn title(finding: &Finding) -> &'static str {
     }
 }
 
-/// Prints what the finding names, each behind a space.
-fn print_what<O: Write>(out: &mut O, finding: &Finding) -> io::Result<()> {
+// Prints what the finding names, each behind a space, and the line's end.
+fn print_named<O: Write>(out: &mut O, finding: &Finding) -> io::Result<()>
+    ensures { OnOk result (Appends (O.contents out.old) (O.contents out.new) (rest_of (names_in finding.now))) }
+{
     match finding {
         Finding::NoTable(_) | Finding::CopiesDiffer | Finding::Alternate(_) | Finding::Protective =>
-            Ok(()),
-        Finding::PrimaryCopy(error) | Finding::BackupCopy(error) => print_one(out, &error.number()),
-        Finding::OutsideUsable(path) | Finding::ForeignLabel(path) => print_one(out, path),
-        Finding::Overlap(before, it) => print_two(out, before, it),
-        Finding::OnTable(path, at) => print_two(out, path, &at.0),
-        Finding::SameGuid(lower, higher) => print_two(out, lower, higher),
+            out.write_all(b"\n"),
+        Finding::PrimaryCopy(error) | Finding::BackupCopy(error) => writeln!(
+            out,
+            " {}",
+            error.number()
+        ),
+        Finding::OutsideUsable(path) | Finding::ForeignLabel(path) => {
+            print_behind(out, path)?;
+            out.write_all(b"\n")
+        }
+        Finding::Overlap(before, it) => {
+            print_behind(out, before)?;
+            print_behind(out, it)?;
+            out.write_all(b"\n")
+        }
+        Finding::OnTable(path, at) => {
+            print_behind(out, path)?;
+            writeln!(out, " {}", at.0)
+        }
+        Finding::SameGuid(lower, higher) => writeln!(out, " {lower} {higher}"),
     }
 }

@@ -1,8 +1,18 @@
 //! The lines that tell a layout.
 
-ghost use Rattle.std.specs.Prelude.{◌<◌, ◌^◌};
+ghost use Rattle.std.specs.Prelude.{◌≡◌, ◌<◌, ◌^◌, ◌++◌, codes, false, flat_map, length, option_to_list, slice_index_or, Some, None, OnOk};
+ghost use Rattle.std.specs.Io.KnownBytes.{Appends};
+ghost use Rattle.pt_guid.specs.Mixed.{text_of};
+ghost use Rattle.pt_members.specs.declared.layout.Body.TheVariants.{Gpt};
+ghost use Rattle.pt_members.specs.Members.{slots};
+ghost use Rattle.pt_members.specs.Rows.{part_rows, rows};
+ghost use Rattle.pt_report.specs.Lines.{hex, line};
+ghost use Rattle.pt_report.specs.Shown.{code_of, entry_fields, layout_text, row_line, rows_at, rows_below, rows_in, rows_of, source_fields};
+ghost use Rattle.pt_report.specs.Shown.{table_fields, type_text};
 
-use arrayvec::ArrayVec;
+use crate::name::print_name;
+use crate::path::print_path;
+use pt_bsd::Label;
 use pt_gpt::{Entry, Table};
 use pt_guid::{Guid, code_of_type};
 use pt_layout::{
@@ -15,119 +25,153 @@ use std::io::Write;
 const LETTERS: usize = 8;
 
 /// Prints a layout: a line for the table, then one a partition, by number, a slice before its letters.
-pub fn print_layout<const B: usize, O: Write>(out: &mut O, layout: &Layout) -> io::Result<()> {
-    match &layout.body {
-        Body::Mbr { .. } => writeln!(out, "mbr {}", layout.sectors)?,
-        Body::Gpt(table) => print_gpt(out, layout.sectors, table)?,
-    }
-    for k in 0..slot_count::<B>(&layout.body) {
-        if let Some(row) = row_at::<B>(&layout.body, k) {
-            print_row(out, &row)?;
-            print_parts(out, layout, &row.member)?;
-        }
-    }
-    Ok(())
+pub fn print_layout<const B: usize, O: Write>(out: &mut O, layout: &Layout) -> io::Result<()>
+    ensures { OnOk result (Appends (O.contents out.old) (O.contents out.new) (layout_text B layout.now)) }
+{
+    print_head(out, layout)?;
+    print_rows::<B, O>(out, layout)
 }
 
-fn print_gpt<O: Write>(out: &mut O, sectors: u64, table: &Table) -> io::Result<()> {
+fn print_head<O: Write>(out: &mut O, layout: &Layout) -> io::Result<()>
+    ensures { OnOk result (Appends (O.contents out.old) (O.contents out.new) (line (table_fields layout.now.sectors layout.now.body))) }
+{
+    match &layout.body {
+        Body::Mbr { .. } => writeln!(out, "mbr {}", layout.sectors),
+        Body::Gpt(table) => print_gpt(out, layout.sectors, table),
+    }
+}
+
+fn print_gpt<O: Write>(out: &mut O, sectors: u64, table: &Table) -> io::Result<()>
+    ensures { OnOk result (Appends (O.contents out.old) (O.contents out.new) (line (table_fields sectors (Gpt table.now)))) }
+{
     let mut text = [0; 36];
     let disk = table.disk.to_text(&mut text);
     writeln!(out, "gpt {sectors} {} {} {disk}", table.first, table.last)
 }
 
-fn print_guid<O: Write>(out: &mut O, guid: &Guid) -> io::Result<()> {
-    let mut text = [0; 36];
-    out.write_all(guid.to_text(&mut text).as_bytes())
-}
-
-/// Prints the partitions of a slice's label.
-fn print_parts<O: Write>(out: &mut O, layout: &Layout, slice: &Member) -> io::Result<()>
-    requires { slice.now.first < 2 ^ 66 }
+fn print_rows<const B: usize, O: Write>(out: &mut O, layout: &Layout) -> io::Result<()>
+    ensures { OnOk result (Appends (O.contents out.old) (O.contents out.new) (flat_map row_line (rows_of B layout.now))) }
 {
-    if slice.kind != Kind::Slice {
-        return Ok(());
-    }
-    if let Some(label) = find_label(&layout.labels, slice.path.number) {
-        for k in 0..LETTERS {
-            if let Some(row) = part_row(&label, slice, k) {
-                print_row(out, &row)?;
-            }
-        }
+    for k in 0..slot_count::<B>(&layout.body) {
+        print_place::<B, O>(out, layout, k)?;
     }
     Ok(())
 }
 
-/// Prints a partition: its path and its sectors, then what its record or entry tells.
-fn print_row<O: Write>(out: &mut O, row: &Row) -> io::Result<()> {
+// Prints the partition in a place, and those of its label.
+fn print_place<const B: usize, O: Write>(out: &mut O, layout: &Layout, k: usize) -> io::Result<()>
+    requires { k < length (slots B layout.now.body) }
+    ensures { OnOk result (Appends (O.contents out.old) (O.contents out.new)
+        (flat_map row_line (rows_at layout.now (slice_index_or (rows B layout.now.body) k None)))) }
+{
+    match row_at::<B>(&layout.body, k) {
+        Some(row) => {
+            print_row(out, &row)?;
+            print_below(out, layout, &row.member)
+        }
+        None => Ok(()),
+    }
+}
+
+// Prints what stands below a partition: the partitions of a slice's label.
+fn print_below<O: Write>(out: &mut O, layout: &Layout, member: &Member) -> io::Result<()>
+    requires { member.now.first < 2 ^ 66 }
+    ensures { OnOk result (Appends (O.contents out.old) (O.contents out.new)
+        (flat_map row_line (rows_below member.now.kind layout.now member.now))) }
+{
+    match member.kind {
+        Kind::Slice => match find_label(&layout.labels, member.path.number) {
+            Some(label) => print_parts(out, &label, member),
+            None => Ok(()),
+        },
+        Kind::Leaf | Kind::Extended => Ok(()),
+    }
+}
+
+fn print_parts<O: Write>(out: &mut O, label: &Label, slice: &Member) -> io::Result<()>
+    requires small { slice.now.first < 2 ^ 66 }
+    requires counted { length label.now.entries ≡ 8 }
+    ensures { OnOk result (Appends (O.contents out.old) (O.contents out.new)
+        (flat_map row_line (rows_in (Some label.now) slice.now))) }
+{
+    for k in 0..LETTERS {
+        print_part(out, label, slice, k)?;
+    }
+    Ok(())
+}
+
+// Prints the partition of a letter.
+fn print_part<O: Write>(out: &mut O, label: &Label, slice: &Member, k: usize) -> io::Result<()>
+    requires small { slice.now.first < 2 ^ 66 }
+    requires within { k < 8 }
+    requires counted { length label.now.entries ≡ 8 }
+    ensures { OnOk result (Appends (O.contents out.old) (O.contents out.new)
+        (flat_map row_line (option_to_list (slice_index_or (part_rows label.now slice.now) k None)))) }
+{
+    match part_row(label, slice, k) {
+        Some(row) => print_row(out, &row),
+        None => Ok(()),
+    }
+}
+
+// Prints a partition: its path and its sectors, then what its record or entry tells.
+fn print_row<O: Write>(out: &mut O, row: &Row) -> io::Result<()>
+    ensures { OnOk result (Appends (O.contents out.old) (O.contents out.new) (row_line row.now)) }
+{
     let member = &row.member;
-    write!(out, "{} {} {} ", member.path, member.first, member.last)?;
-    match &row.source {
+    print_path(out, &member.path)?;
+    write!(out, " {} {} ", member.first, member.last)?;
+    print_source(out, &row.source)
+}
+
+#[tactic(auto, using(crate::proofs::Hex::hex_padded))]
+fn print_source<O: Write>(out: &mut O, source: &Source) -> io::Result<()>
+    ensures { OnOk result (Appends (O.contents out.old) (O.contents out.new) (line (source_fields source.now))) }
+{
+    match source {
         Source::Record(record) => writeln!(out, "{:02X} {:02X}", record.kind, record.boot),
         Source::Entry(entry) => print_entry(out, entry),
         Source::Part(entry) => writeln!(out, "{:02X}", entry.fstype),
     }
 }
 
-fn print_entry<O: Write>(out: &mut O, entry: &Entry) -> io::Result<()> {
+fn print_entry<O: Write>(out: &mut O, entry: &Entry) -> io::Result<()>
+    ensures { OnOk result (Appends (O.contents out.old) (O.contents out.new) (line (entry_fields entry.now))) }
+{
     print_kind(out, &entry.kind)?;
-    write!(out, " {:016x} ", entry.attributes)?;
+    print_attributes(out, entry.attributes)?;
     print_guid(out, &entry.unique)?;
-    if entry.name[0] != 0 {
-        print_named(out, &entry.name)?;
-    }
-    out.write_all(b"\n")
+    print_name(out, &entry.name)
 }
 
-/// Prints a name behind a space.
-fn print_named<O: Write>(out: &mut O, name: &[u16; 36]) -> io::Result<()> {
-    out.write_all(b" ")?;
-    match plain_name(name) {
-        Some(text) => out.write_all(text.as_slice()),
-        None => print_name(out, name),
-    }
+// Prints attributes between spaces.
+#[tactic(auto, using(crate::proofs::Hex::hex_padded))]
+fn print_attributes<O: Write>(out: &mut O, attributes: u64) -> io::Result<()>
+    ensures { OnOk result (Appends (O.contents out.old) (O.contents out.new) (codes " " ++ (hex false 16 attributes ++ codes " "))) }
+{
+    write!(out, " {attributes:016x} ")
 }
 
-fn print_kind<O: Write>(out: &mut O, kind: &Guid) -> io::Result<()> {
-    match code_of_type(kind) {
+// The code of a type.
+fn code(kind: &Guid) -> Option<u16>
+    ensures { result ≡ code_of kind.now.0 }
+{
+    code_of_type(kind)
+}
+
+#[tactic(auto, using(crate::proofs::Hex::hex_padded))]
+fn print_kind<O: Write>(out: &mut O, kind: &Guid) -> io::Result<()>
+    ensures { OnOk result (Appends (O.contents out.old) (O.contents out.new) (type_text kind.now)) }
+{
+    match code(kind) {
         Some(code) => write!(out, "{code:04X}"),
         None => print_guid(out, kind),
     }
 }
 
-/// The units of a name up to its first zero.
-fn units(name: &[u16; 36]) -> &[u16] {
-    for k in 0..36 {
-        if name[k] == 0 {
-            return &name[..k];
-        }
-    }
-    name.as_slice()
-}
-
-/// A name, where each unit is a printed character of ASCII. Most names are, and decoding UTF-16 takes far longer.
-fn plain_name(name: &[u16; 36]) -> Option<ArrayVec<u8, 36>> {
-    let mut text = ArrayVec::new();
-    for unit in units(name) {
-        match u8::try_from(*unit) {
-            Ok(byte @ b' '..=b'~') if text.try_push(byte).is_ok() => {}
-            _ => return None,
-        }
-    }
-    Some(text)
-}
-
-/// Prints a name, with `?` for what has no printed form.
-fn print_name<O: Write>(out: &mut O, name: &[u16; 36]) -> io::Result<()> {
-    for found in char::decode_utf16(units(name).iter().copied()) {
-        print_shown(out, found.ok())?;
-    }
-    Ok(())
-}
-
-fn print_shown<O: Write>(out: &mut O, found: Option<char>) -> io::Result<()> {
-    let shown = match found {
-        Some(c) if c >= ' ' && c != '\u{7F}' => c,
-        _ => '?',
-    };
-    out.write_all(shown.encode_utf8(&mut [0; 4]).as_bytes())
+fn print_guid<O: Write>(out: &mut O, guid: &Guid) -> io::Result<()>
+    ensures { OnOk result (Appends (O.contents out.old) (O.contents out.new) (text_of guid.now.0)) }
+{
+    let mut text = [0; 36];
+    out.write_all(guid.to_text(&mut text).as_bytes())
 }

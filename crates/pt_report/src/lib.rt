@@ -2,8 +2,11 @@
 #![tactic(auto)]
 
 mod finding;
+pub mod laws;
 mod layout;
+mod name;
 mod no_table;
+mod path;
 mod reply;
 mod why;
 

@@ -1,44 +1,51 @@
 //! Why a disk denotes no layout, as it is printed.
 
+ghost use Rattle.std.specs.Prelude.{◌++◌, ◌∷◌, [], codes, decimal, OnOk};
+ghost use Rattle.std.specs.Io.KnownBytes.{Appends};
+ghost use Rattle.pt_report.specs.Lines.{line};
+ghost use Rattle.pt_report.specs.NoTables.{chain_text, no_table_text};
+
 use pt_layout::NoTable;
 use pt_mbr::ChainError;
 use std::io;
 use std::io::Write;
 
 /// Prints why a disk denotes no layout. A device's fault and the want of memory have the line that they have everywhere.
-pub fn print_no_table<E: Write>(err: &mut E, why: NoTable) -> io::Result<()> {
-    let line = match why {
-        NoTable::NoCopy(primary, backup) => return print_pair(
+pub fn print_no_table<E: Write>(err: &mut E, why: NoTable) -> io::Result<()>
+    ensures { OnOk result (Appends (E.contents err.old) (E.contents err.new) (no_table_text why)) }
+{
+    match why {
+        NoTable::NoCopy(primary, backup) => print_pair(
             err,
             "copies",
             primary.number(),
             u64::from(backup.number()),
         ),
-        NoTable::Chain(error) => return print_chain(err, error),
-        NoTable::TwoExtended => "no table: two extended\n",
-        NoTable::TooSmall => "no table: too small\n",
-        NoTable::Device(_) => "device\n",
-        NoTable::Memory => "memory\n",
-    };
-    err.write_all(line.as_bytes())
+        NoTable::Chain(error) => print_chain(err, error),
+        NoTable::TwoExtended => err.write_all(b"no table: two extended\n"),
+        NoTable::TooSmall => err.write_all(b"no table: too small\n"),
+        NoTable::Device(_) => err.write_all(b"device\n"),
+        NoTable::Memory => err.write_all(b"memory\n"),
+    }
 }
 
-fn print_chain<E: Write>(err: &mut E, error: ChainError) -> io::Result<()> {
+fn print_chain<E: Write>(err: &mut E, error: ChainError) -> io::Result<()>
+    ensures { OnOk result (Appends (E.contents err.old) (E.contents err.new) (chain_text error)) }
+{
     match error {
         ChainError::NoSignature(at)
         | ChainError::BadRecord(at)
         | ChainError::NotUpward(at)
         | ChainError::OutsideExtended(at) => print_pair(err, "chain", error.number(), at.0),
-        ChainError::TooLong => print_long(err, error.number()),
+        ChainError::TooLong => writeln!(err, "no table: chain {}", error.number()),
         ChainError::Device(_) => err.write_all(b"device\n"),
     }
 }
 
-fn print_long<E: Write>(err: &mut E, number: u8) -> io::Result<()> {
-    writeln!(err, "no table: chain {number}")
-}
-
-/// Prints what denotes nothing, with two numbers that say why.
-fn print_pair<E: Write>(err: &mut E, of: &str, first: u8, second: u64) -> io::Result<()> {
+// Prints what denotes nothing, with two numbers that say why.
+fn print_pair<E: Write>(err: &mut E, of: &str, first: u8, second: u64) -> io::Result<()>
+    ensures { OnOk result (Appends (E.contents err.old) (E.contents err.new)
+        (line ((codes "no table: " ++ of.now) ∷ decimal first ∷ decimal second ∷ []))) }
+{
     writeln!(err, "no table: {of} {first} {second}")
 }

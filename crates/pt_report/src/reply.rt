@@ -1,5 +1,10 @@
 //! The answers of the command, as values, and as they are printed.
 
+ghost use Rattle.std.specs.Prelude.{◌↔◌, IsTrue, OnOk};
+ghost use Rattle.std.specs.Io.KnownBytes.{Appends};
+ghost use Rattle.pt_report.specs.Replies.{IsNo, reply_text};
+ghost use Rattle.pt_report.specs.Told.{answer_line, place_line, verdict_line};
+
 use crate::finding::print_finding;
 use crate::layout::print_layout;
 use crate::why::print_no;
@@ -25,7 +30,9 @@ pub enum Reply {
 
 impl Reply {
     /// Whether it is a no, which has an exit status of its own.
-    pub fn is_no(&self) -> bool {
+    pub fn is_no(&self) -> bool
+        ensures { IsTrue result ↔ IsNo self.now }
+    {
         match self {
             Reply::Verdict(Verdict::No(_)) | Reply::Place(None) | Reply::Checked(Answer::No(_)) =>
                 true,
@@ -33,8 +40,11 @@ impl Reply {
         }
     }
 
-    /// Prints it. `B` is the size of the image's sectors.
-    pub fn print<const B: usize, O: Write>(&self, out: &mut O) -> io::Result<()> {
+    /// Prints it: after an Ok a writer that knows its bytes has these behind those that it had. `B` is the size of the image's
+    /// sectors.
+    pub fn print<const B: usize, O: Write>(&self, out: &mut O) -> io::Result<()>
+        ensures { OnOk result (Appends (O.contents out.old) (O.contents out.new) (reply_text B self.now)) }
+    {
         match self {
             Reply::Text(text) => out.write_all(text.as_bytes()),
             Reply::Layout(layout) => print_layout::<B, O>(out, layout),
@@ -46,21 +56,27 @@ impl Reply {
     }
 }
 
-fn print_verdict<O: Write>(out: &mut O, verdict: &Verdict) -> io::Result<()> {
+fn print_verdict<O: Write>(out: &mut O, verdict: &Verdict) -> io::Result<()>
+    ensures { OnOk result (Appends (O.contents out.old) (O.contents out.new) (verdict_line verdict.now)) }
+{
     match verdict {
         Verdict::Yes(_) => out.write_all(b"yes\n"),
         Verdict::No(finding) => print_finding(out, finding),
     }
 }
 
-fn print_place<O: Write>(out: &mut O, place: Option<Lba>) -> io::Result<()> {
+fn print_place<O: Write>(out: &mut O, place: Option<Lba>) -> io::Result<()>
+    ensures { OnOk result (Appends (O.contents out.old) (O.contents out.new) (place_line place)) }
+{
     match place {
         Some(at) => writeln!(out, "{}", at.0),
         None => out.write_all(b"none\n"),
     }
 }
 
-fn print_answer<O: Write>(out: &mut O, answer: Answer) -> io::Result<()> {
+fn print_answer<O: Write>(out: &mut O, answer: Answer) -> io::Result<()>
+    ensures { OnOk result (Appends (O.contents out.old) (O.contents out.new) (answer_line answer)) }
+{
     match answer {
         Answer::Yes { switch } => writeln!(out, "yes {switch}"),
         Answer::No(why) => print_no(out, why),

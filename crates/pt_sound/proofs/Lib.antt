@@ -4,3 +4,4 @@ pub mod Faulty
 pub mod Pairs
 pub mod Extended
 pub mod Marks
+pub mod OwnPlaces

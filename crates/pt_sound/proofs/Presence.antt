@@ -1,14 +1,16 @@
 -- Members that are present, place by place.
 use Rattle.std.proofs.Common.{◌≡◌, ◌<◌, ◌≤◌, ◌+◌, ℕ, suc, List, [], ◌∷◌, ◌++◌, length, get_or, take, drop, Option, Some, None, refl, sym}
-use Rattle.std.proofs.Common.{ap, ◌∙◌, arith, append-nil, length-append, length-drop, get_or-drop}
+use Rattle.std.proofs.Common.{ap, ◌∙◌, arith, inl, inr, append-nil, length-append, length-drop, get_or-drop}
 use Rattle.std.specs.Prelude.{◌-◌, option_to_list, slice_range}
 use Rattle.std.proofs.Math.Seq.{take-suc}
+use Rattle.std.proofs.lemmas.Bool.{cases_lt}
 use Rattle.std.proofs.lemmas.List.{take_all}
 use Rattle.std.proofs.lemmas.Grind.{flat_map-append}
 use Rattle.pt_bsd.specs.declared.label.Label.{Label}
 use Rattle.pt_members.specs.declared.layout.Body.{Body}
 use Rattle.pt_members.specs.declared.member.Member.{Member}
 use Rattle.pt_members.specs.Members.{present, slots, tops, logicals, parts_in}
+use Rattle.pt_sound.specs.Held.{from_on}
 use Rattle.pt_members.proofs.ByPlace.{parts_len, parts_none}
 
 present-one : (o : Option Member) → present (o ∷ []) ≡ option_to_list o
@@ -47,6 +49,29 @@ slot_more xs i k ms o new low lt is here both =
     range_more xs i k new low lt
     (both ∙ ap (λ (a : List Member). a ++ option_to_list o) is
     ∙ ap (λ (a : Option Member). present (slice_range xs i k) ++ option_to_list a) here)
+
+before : (i k : ℕ) (o : Option Member) → k < i → from_on i k o ≡ None
+before i k o lt = grind arith
+
+behind : (i k : ℕ) (o : Option Member) → i ≤ k → from_on i k o ≡ o
+behind i k o le = grind arith
+
+range_none : (xs : List (Option Member)) (i k : ℕ) → k ≤ i → present (slice_range xs i k) ≡ []
+range_none xs i k le = let e : k - i ≡ 0 = omega arith in ap (λ (n : ℕ). present (take n (drop i xs))) e
+
+-- one more place, of those from the i-th on
+pub from_more : (xs : List (Option Member)) (i k : ℕ) (ms : List Member) (o : Option Member) (new : List Member) → k < length xs
+    → ms ≡ present (slice_range xs i k) → o ≡ from_on i k (get_or xs k None) → new ≡ ms ++ option_to_list o
+    → new ≡ present (slice_range xs i (k + 1))
+from_more xs i k ms o new lt is here both = elim (cases_lt k i) as (λ _. new ≡ present (slice_range xs i (k + 1))) [
+  | inl low ↦
+      both ∙ ap (λ (a : List Member). a ++ option_to_list o) (is ∙ range_none xs i k (omega (arith, low)))
+      ∙ ap option_to_list (here ∙ before i k (get_or xs k None) low) ∙ sym (range_none xs i (k + 1) (omega (arith, low)))
+  | inr high ↦ slot_more xs i k ms o new high lt is (here ∙ behind i k (get_or xs k None) high) both
+]
+
+pub from_start : (xs : List (Option Member)) (i : ℕ) → present (slice_range xs i 0) ≡ []
+from_start xs i = range_none xs i 0 (omega arith)
 
 pub slots_end : (xs : List (Option Member)) (i k n : ℕ) (ms : List Member) → k ≡ n → ms ≡ present (slice_range xs i k)
     → ms ≡ present (slice_range xs i n)

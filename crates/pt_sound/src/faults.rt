@@ -2,14 +2,14 @@
 
 ghost use Rattle.std.specs.Prelude.{◌≡◌, ◌<◌, length, slice_index_or};
 ghost use Rattle.pt_sector.specs.Sectors.{IsSectorSize};
-ghost use Rattle.pt_members.specs.Slices.{places_of};
+ghost use Rattle.pt_members.specs.Lone.{AreAlone};
 ghost use Rattle.pt_sound.specs.Spots.{LeastIs};
 ghost use Rattle.pt_sound.specs.Row.{HasFault, FaultIn, FaultOfGroup, FaultAmong};
 
 use crate::buried::buried_in;
 use crate::groups::Siblings;
 use crate::spot::{Spot, first_of};
-use pt_members::{Layout, Member, Slice, exists};
+use pt_members::{Alone, Layout, Member, exists};
 
 /// What may be wrong with a member.
 #[derive(Clone, Copy)]
@@ -22,13 +22,13 @@ pub enum Fault {
 
 fn fault_of<const B: usize>(
     layout: &Layout,
-    places: &[Slice],
+    alone: &Alone,
     fault: Fault,
     group: &Siblings,
     m: &Member,
 ) -> Option<Spot>
     requires size { IsSectorSize B }
-    requires places { places.now ≡ places_of B layout.now.sectors layout.now.body }
+    requires alone { AreAlone B layout.now alone.now }
     ensures { LeastIs (HasFault B layout.now fault group.now m.now) result }
 {
     match fault {
@@ -46,7 +46,7 @@ fn fault_of<const B: usize>(
             if !exists(m) {
                 return None;
             }
-            match buried_in::<B>(layout, places, m) {
+            match buried_in::<B>(layout, alone, m) {
                 Some(lba) => Some(Spot { path: m.path, lba }),
                 None => None,
             }
@@ -56,12 +56,12 @@ fn fault_of<const B: usize>(
 
 fn fault_in<const B: usize>(
     layout: &Layout,
-    places: &[Slice],
+    alone: &Alone,
     fault: Fault,
     group: &Siblings,
 ) -> Option<Spot>
     requires size { IsSectorSize B }
-    requires places { places.now ≡ places_of B layout.now.sectors layout.now.body }
+    requires alone { AreAlone B layout.now alone.now }
     ensures { LeastIs (FaultIn B layout.now fault group.now) result }
 {
     let members = group.as_slice();
@@ -69,26 +69,26 @@ fn fault_in<const B: usize>(
     for i in 0..members.len() {
         first = first_of(
             first,
-            fault_of::<B>(layout, places, fault, group, &members[i]),
+            fault_of::<B>(layout, alone, fault, group, &members[i]),
         );
     }
     first
 }
 
-// The first member with a fault, in path order, and for a table the lowest sector. The places are those of the layout's labels.
+// The first member with a fault, in path order, and for a table the lowest sector.
 pub(crate) fn first_fault<const B: usize>(
     layout: &Layout,
-    places: &[Slice],
+    alone: &Alone,
     fault: Fault,
     groups: &[Siblings],
 ) -> Option<Spot>
     requires size { IsSectorSize B }
-    requires places { places.now ≡ places_of B layout.now.sectors layout.now.body }
+    requires alone { AreAlone B layout.now alone.now }
     ensures { LeastIs (FaultAmong B layout.now fault groups.now) result }
 {
     let mut first = None;
     for j in 0..groups.len() {
-        first = first_of(first, fault_in::<B>(layout, places, fault, &groups[j]));
+        first = first_of(first, fault_in::<B>(layout, alone, fault, &groups[j]));
     }
     first
 }

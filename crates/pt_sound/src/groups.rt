@@ -3,14 +3,18 @@
 ghost use Rattle.std.specs.Prelude.{◌≡◌, ◌+◌, ◌<◌, ◌≤◌, ◌^◌, ◌++◌, ◌↔◌, IsTrue, IfOk, OnOk, IfSome, length, take, slice_range};
 ghost use Rattle.std.specs.Prelude.{slice_index_or, option_to_list, flat_map, Some, None};
 ghost use Rattle.pt_mbr.specs.Extended.{extended_of};
-ghost use Rattle.pt_sound.specs.Held.{has_any, held_by};
+ghost use Rattle.pt_sound.specs.Held.{has_any, held_by, from_on};
+ghost use Rattle.pt_members.specs.Counts.{number_at};
 ghost use Rattle.pt_sound.specs.Sound.{LiesInside};
 ghost use Rattle.pt_members.specs.Members.{Group as GroupValue, group_of, groups_of, group_in, top_group, strays, slots, tops, logicals};
 ghost use Rattle.pt_members.specs.Members.{parts, parts_in, present};
 
 use pt_bsd::{Label, RESERVED};
-use pt_mbr::{Extended, Record, extended_of};
-use pt_members::{Body, Kind, Layout, Member, find_label, part_slot, slot, slot_count, top_count};
+use pt_mbr::{Extended, FIRST_LOGICAL, Record, extended_of};
+use pt_members::{
+    Body, Kind, Layout, Member, find_label, next_number, numbered_slot, part_slot, slot_count,
+    top_count,
+};
 use std::alloc::{AllocError, Global};
 use std::marker::Model;
 
@@ -66,6 +70,18 @@ fn push_member(members: &mut Vec<Member>, m: Option<Member>) -> Result<(), Alloc
     Ok(())
 }
 
+// The member in a place from one on.
+fn slot_from<const B: usize>(body: &Body, from: usize, k: usize, number: u64) -> Option<Member>
+    requires within { k < length (slots B body.now) }
+    requires number { number ≡ number_at body.now k }
+    ensures { result ≡ from_on from k (slice_index_or (slots B body.now) k None) }
+{
+    if k < from {
+        return None;
+    }
+    numbered_slot::<B>(body, k, number)
+}
+
 // The members in the places from one up to another.
 fn members_from<const B: usize>(
     alloc: Global,
@@ -78,8 +94,10 @@ fn members_from<const B: usize>(
     ensures { IfOk result (λ v. v.items ≡ present (slice_range (slots B body.now) from to)) }
 {
     let mut members = Vec::new(alloc);
-    for k in from..to {
-        push_member(&mut members, slot::<B>(body, k))?;
+    let mut number = FIRST_LOGICAL;
+    for k in 0..to {
+        push_member(&mut members, slot_from::<B>(body, from, k, number))?;
+        number = next_number::<B>(body, k, number);
     }
     Ok(members)
 }
@@ -207,18 +225,20 @@ fn held_at<const B: usize>(
     alloc: Global,
     layout: &Layout,
     k: usize,
+    number: u64,
 ) -> Result<Option<Siblings>, AllocError>
-    requires { k < length (slots B layout.now.body) }
+    requires within { k < length (slots B layout.now.body) }
+    requires number { number ≡ number_at layout.now.body k }
     ensures { IfOk result (λ g. option_to_list g ≡ held_by (group_in B layout.now) (slice_index_or (slots B layout.now.body) k None)) }
 {
-    match slot::<B>(&layout.body, k) {
+    match numbered_slot::<B>(&layout.body, k, number) {
         Some(m) => held::<B>(alloc, layout, &m),
         None => Ok(None),
     }
 }
 
 // All groups, in path order of what holds them, the top level first.
-#[tactic(auto, using(crate::proofs::Extended::groups_end))]
+#[tactic(auto, using(crate::proofs::Extended::groups_end, pt_members::proofs::ByPlace::from_five))]
 pub(crate) fn groups<const B: usize>(
     alloc: Global,
     layout: &Layout,
@@ -228,9 +248,11 @@ pub(crate) fn groups<const B: usize>(
     let mut groups = Vec::new(alloc);
     let top = top_siblings::<B>(alloc, layout)?;
     push_group(&mut groups, Some(top))?;
+    let mut number = FIRST_LOGICAL;
     for k in 0..slot_count::<B>(&layout.body) {
-        let group = held_at::<B>(alloc, layout, k)?;
+        let group = held_at::<B>(alloc, layout, k, number)?;
         push_group(&mut groups, group)?;
+        number = next_number::<B>(&layout.body, k, number);
     }
     let group = stray_siblings::<B>(alloc, &layout.body)?;
     push_group(&mut groups, group)?;

@@ -2,8 +2,8 @@
 
 ghost use Rattle.std.specs.Prelude.{◌≡◌, ◌+◌, ◌<◌, ◌↔◌, ℕ, IfOk, IsTrue, IsFalse, All, length, slice_index_or};
 ghost use Rattle.pt_sector.specs.Sectors.{IsSectorSize};
+ghost use Rattle.pt_members.specs.Lone.{AreAlone};
 ghost use Rattle.pt_members.specs.Members.{groups_of};
-ghost use Rattle.pt_members.specs.Slices.{places_of};
 ghost use Rattle.pt_sound.specs.Overlaps.{IsOrdered, FirstOverlapIs};
 ghost use Rattle.pt_sound.specs.Row.{AllOrdered, SharedIs};
 ghost use Rattle.pt_sound.specs.Twins.{HasSameUnique, SameAt, TwinIs, TwinsAre};
@@ -17,7 +17,7 @@ use crate::groups::{Siblings, groups};
 use crate::overlap::{Overlap, first_overlap};
 use crate::spot::Spot;
 use pt_gpt::Entry;
-use pt_members::{Body, Layout, Slice, label_places};
+use pt_members::{Alone, Body, Layout, alone_sectors};
 use pt_path::Path;
 use pt_sector::Lba;
 use std::alloc::{AllocError, Global};
@@ -124,15 +124,15 @@ fn same_guid(body: &Body) -> Option<(u64, u64)>
 
 fn outside_usable<const B: usize>(
     layout: &Layout,
-    places: &[Slice],
+    alone: &Alone,
     groups: &[Siblings],
 ) -> Option<Path>
     requires size { IsSectorSize B }
-    requires places { places.now ≡ places_of B layout.now.sectors layout.now.body }
+    requires alone { AreAlone B layout.now alone.now }
     requires all { groups.now ≡ groups_of B layout.now }
     ensures { OutsideIs B layout.now result }
 {
-    match first_fault::<B>(layout, places, Fault::Outside, groups) {
+    match first_fault::<B>(layout, alone, Fault::Outside, groups) {
         Some(spot) => Some(spot.path),
         None => None,
     }
@@ -154,14 +154,14 @@ fn overlapping<const B: usize>(
     }
 }
 
-fn on_table<const B: usize>(layout: &Layout, places: &[Slice], groups: &[Siblings]) -> Option<Spot>
+fn on_table<const B: usize>(layout: &Layout, alone: &Alone, groups: &[Siblings]) -> Option<Spot>
     requires size { IsSectorSize B }
-    requires places { places.now ≡ places_of B layout.now.sectors layout.now.body }
+    requires alone { AreAlone B layout.now alone.now }
     requires all { groups.now ≡ groups_of B layout.now }
     requires inside { AllInside B layout.now }
     ensures { OnTableIs B layout.now result }
 {
-    match first_fault::<B>(layout, places, Fault::Buried, groups) {
+    match first_fault::<B>(layout, alone, Fault::Buried, groups) {
         Some(spot) => Some(spot),
         None => None,
     }
@@ -176,15 +176,15 @@ pub fn unsound<const B: usize>(
     ensures found { IfOk result (λ f. UnsoundIs B layout.now f) }
 {
     let groups = groups::<B>(alloc, layout)?;
-    let places = label_places::<B>(alloc, layout.sectors, &layout.body)?;
-    if let Some(path) = outside_usable::<B>(layout, &places, &groups) {
+    let alone = alone_sectors::<B>(alloc, layout)?;
+    if let Some(path) = outside_usable::<B>(layout, &alone, &groups) {
         return Ok(Some(Finding::OutsideUsable(path)));
     }
     let overlap = overlapping::<B>(alloc, layout, &groups)?;
     if let Some(overlap) = overlap {
         return Ok(Some(Finding::Overlap(overlap.before, overlap.it)));
     }
-    if let Some(spot) = on_table::<B>(layout, &places, &groups) {
+    if let Some(spot) = on_table::<B>(layout, &alone, &groups) {
         return Ok(Some(Finding::OnTable(spot.path, Lba(spot.lba))));
     }
     match same_guid(&layout.body) {

@@ -1,3 +1,4 @@
 pub mod Linear
 pub mod TableFacts
 pub mod Eight
+pub mod Chunks

@@ -1,6 +1,7 @@
 //! CRC-32, eight bytes a step by eight tables.
 
 ghost use Rattle.std.specs.Prelude.{◌≡◌, ◌<◌, ◌+◌, ◌*◌, ℕ, length, fold, bit_xor};
+ghost use Rattle.std.specs.List.{concat};
 ghost use Rattle.pt_sum.specs.Crc.{bits, after_bit, after_bytes, crc_of};
 ghost use Rattle.pt_sum.specs.Moves.{moved};
 
@@ -50,13 +51,27 @@ fn after_eight(register: u32, bytes: &[u8]) -> u32
     last ^ moved_word(4, first)
 }
 
-// The register after these bytes.
-fn after(register: u32, bytes: &[u8]) -> u32
+// The register after chunks of sixteen bytes, two steps for each. It isn't inlined: beside a caller's variables, the loop could run short of
+// registers.
+#[inline(never)]
+fn after_chunks(register: u32, chunks: &[[u8; 16]]) -> u32
+    ensures { result ≡ after_bytes register (concat chunks.now) }
+{
+    let mut sum = register;
+    for chunk in chunks {
+        let (front, back) = chunk.split_at(8);
+        sum = after_eight(after_eight(sum, front), back);
+    }
+    sum
+}
+
+// The register after few bytes: one step where there are eight, and then byte by byte.
+fn after_few(register: u32, bytes: &[u8]) -> u32
     ensures { result ≡ after_bytes register bytes.now }
 {
     let mut sum = register;
     let mut rest = bytes;
-    while rest.len() >= 8 {
+    if rest.len() >= 8 {
         let (front, behind) = rest.split_at(8);
         sum = after_eight(sum, front);
         rest = behind;
@@ -65,6 +80,14 @@ fn after(register: u32, bytes: &[u8]) -> u32
         sum = after_byte(sum, *byte);
     }
     sum
+}
+
+// The register after these bytes.
+fn after(register: u32, bytes: &[u8]) -> u32
+    ensures { result ≡ after_bytes register bytes.now }
+{
+    let (chunks, rest) = bytes.as_chunks::<16>();
+    after_few(after_chunks(register, chunks), rest)
 }
 
 /// The CRC-32 of the bytes.

@@ -2,10 +2,10 @@
 
 ghost use Rattle.pt_sector.specs.Sectors.{IsSectorSize};
 
-use crate::images::open_to_write;
+use crate::images::Image;
 use crate::texts::Failure;
 use pt_apply::plan_text;
-use pt_file::{Access, FileDisk};
+use pt_file::FileDisk;
 use pt_line::{Adoption, LockedBy};
 use pt_plan::{commit_like, plan_like};
 use pt_report::Reply;
@@ -14,8 +14,8 @@ use std::fs::{File, Files};
 /// Gives an image the table that another one has, or prints the plan for that. The other image is opened first, for reading alone.
 pub fn adopt<const B: usize, R: Files<File = File> + AllocGlobal>(
     rt: &R,
-    image: &str,
-    other: &str,
+    image: Image<'_>,
+    other: Image<'_>,
     adoption: Adoption,
     locked_by: LockedBy,
 ) -> Result<Reply, Failure>
@@ -28,28 +28,28 @@ pub fn adopt<const B: usize, R: Files<File = File> + AllocGlobal>(
     }
 }
 
-fn open_other<const B: usize, R: Files<File = File>>(
+fn open_other<const B: usize, R: Files<File = File> + AllocGlobal>(
     rt: &R,
-    other: &str,
+    other: Image<'_>,
 ) -> Result<FileDisk<B>, Failure>
     requires { IsSectorSize B }
 {
-    match FileDisk::<B>::open(rt, other, Access::Read) {
+    match other.read::<B, R>(rt) {
         Ok(disk) => Ok(disk),
-        Err(_) => Err(Failure::OtherDevice),
+        Err(why) => Err(Failure::OtherOpening(why)),
     }
 }
 
 /// The image takes the other one's table.
 fn take<const B: usize, R: Files<File = File> + AllocGlobal>(
     rt: &R,
-    image: &str,
+    image: Image<'_>,
     mut other: FileDisk<B>,
     locked_by: LockedBy,
 ) -> Result<Reply, Failure>
     requires { IsSectorSize B }
 {
-    let mut disk = open_to_write::<B, R>(rt, image, locked_by)?;
+    let mut disk = image.write::<B, R>(rt, locked_by)?;
     commit_like::<B, _, _>(rt.alloc(), &mut disk, &mut other)?;
     Ok(Reply::Done)
 }
@@ -57,12 +57,12 @@ fn take<const B: usize, R: Files<File = File> + AllocGlobal>(
 /// The plan for that, as text.
 fn plan_taking<const B: usize, R: Files<File = File> + AllocGlobal>(
     rt: &R,
-    image: &str,
+    image: Image<'_>,
     mut other: FileDisk<B>,
 ) -> Result<Reply, Failure>
     requires { IsSectorSize B }
 {
-    let mut disk = FileDisk::<B>::open(rt, image, Access::Read)?;
+    let mut disk = image.read::<B, R>(rt)?;
     let plan = plan_like::<B, _, _>(rt.alloc(), &mut disk, &mut other)?;
     Ok(Reply::Text(plan_text(rt.alloc(), &plan)?))
 }

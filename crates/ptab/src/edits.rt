@@ -2,11 +2,10 @@
 
 ghost use Rattle.pt_sector.specs.Sectors.{IsSectorSize};
 
-use crate::images::open_to_write;
+use crate::images::Image;
 use crate::texts::Failure;
 use crate::words::Wanted;
 use pt_apply::plan_text;
-use pt_file::{Access, FileDisk};
 use pt_line::LockedBy;
 use pt_plan::{commit, plan_for};
 use pt_report::Reply;
@@ -15,13 +14,13 @@ use std::fs::{File, Files};
 /// Edits an image by words, as one commit.
 pub fn edit<const B: usize, R: Files<File = File> + AllocGlobal>(
     rt: &R,
-    image: &str,
+    image: Image<'_>,
     locked_by: LockedBy,
     wanted: &Wanted,
 ) -> Result<Reply, Failure>
     requires { IsSectorSize B }
 {
-    let mut disk = open_to_write::<B, R>(rt, image, locked_by)?;
+    let mut disk = image.write::<B, R>(rt, locked_by)?;
     commit::<B, _>(
         rt.alloc(),
         &mut disk,
@@ -34,12 +33,12 @@ pub fn edit<const B: usize, R: Files<File = File> + AllocGlobal>(
 /// The plan of what `edit` would do, as text.
 pub fn plan<const B: usize, R: Files<File = File> + AllocGlobal>(
     rt: &R,
-    image: &str,
+    image: Image<'_>,
     wanted: &Wanted,
 ) -> Result<Reply, Failure>
     requires { IsSectorSize B }
 {
-    let mut disk = FileDisk::<B>::open(rt, image, Access::Read)?;
+    let mut disk = image.read::<B, R>(rt)?;
     let plan = plan_for::<B, _>(
         rt.alloc(),
         &mut disk,

@@ -2,11 +2,10 @@
 
 ghost use Rattle.pt_sector.specs.Sectors.{IsSectorSize};
 
-use crate::images::open_to_write;
+use crate::images::Image;
 use crate::plan_file::read_plan_file;
 use crate::texts::Failure;
 use pt_check::Answer;
-use pt_file::{Access, FileDisk};
 use pt_line::LockedBy;
 use pt_plan::apply_checked;
 use pt_report::Reply;
@@ -15,13 +14,13 @@ use std::fs::{File, Files};
 /// Whether a plan may be applied to the image as it is now.
 pub fn check<const B: usize, R: Files<File = File> + AllocGlobal>(
     rt: &R,
-    image: &str,
+    image: Image<'_>,
     file: &str,
 ) -> Result<Reply, Failure>
     requires { IsSectorSize B }
 {
     let plan = read_plan_file::<B, R>(rt, file)?;
-    let mut disk = FileDisk::<B>::open(rt, image, Access::Read)?;
+    let mut disk = image.read::<B, R>(rt)?;
     let answer = pt_check::check(rt.alloc(), &mut disk, &plan)?;
     Ok(Reply::Checked(answer))
 }
@@ -29,14 +28,14 @@ pub fn check<const B: usize, R: Files<File = File> + AllocGlobal>(
 /// Applies a plan to the image, where the checker says that it may be.
 pub fn apply<const B: usize, R: Files<File = File> + AllocGlobal>(
     rt: &R,
-    image: &str,
+    image: Image<'_>,
     locked_by: LockedBy,
     file: &str,
 ) -> Result<Reply, Failure>
     requires { IsSectorSize B }
 {
     let plan = read_plan_file::<B, R>(rt, file)?;
-    let mut disk = open_to_write::<B, R>(rt, image, locked_by)?;
+    let mut disk = image.write::<B, R>(rt, locked_by)?;
     let answer = apply_checked(rt.alloc(), &mut disk, &plan)?;
     Ok(reply_of(answer))
 }

@@ -2,7 +2,7 @@
 
 ghost use Rattle.pt_sector.specs.Sectors.{IsSectorSize};
 
-use crate::images::open_to_write;
+use crate::images::Image;
 use crate::texts::Failure;
 use pt_line::LockedBy;
 use pt_report::Reply;
@@ -11,12 +11,12 @@ use std::fs::{File, Files};
 /// Repairs an image: makes it healthy, and keeps its layout.
 pub fn repair<const B: usize, R: Files<File = File> + AllocGlobal>(
     rt: &R,
-    image: &str,
+    image: Image<'_>,
     locked_by: LockedBy,
 ) -> Result<Reply, Failure>
     requires { IsSectorSize B }
 {
-    let mut disk = open_to_write::<B, R>(rt, image, locked_by)?;
+    let mut disk = image.write::<B, R>(rt, locked_by)?;
     pt_plan::repair::<B, _>(rt.alloc(), &mut disk)?;
     Ok(Reply::Done)
 }

@@ -4,12 +4,13 @@ ghost use Rattle.pt_sector.specs.Sectors.{IsSectorSize};
 
 use crate::adopt::adopt;
 use crate::edits::{edit, plan};
+use crate::images::Opening;
 use crate::plans::{apply, check};
 use crate::repair::repair;
 use crate::texts::{Failure, Status};
-use crate::views::{locate_in, show, verify_image};
+use crate::views::{locate_in, show, show_after, verify_image};
 use crate::words::Wanted;
-use pt_line::{Job, Line, SectorSize, read_line};
+use pt_line::{InUse, Job, Line, SectorSize, read_line};
 use pt_report::Reply;
 use std::fs::{File, Files};
 use std::io::Write;
@@ -17,16 +18,26 @@ use std::io::Write;
 /// What a job comes to: its answer, or why there is none.
 fn reply_to<const B: usize, R: Files<File = File> + AllocGlobal>(
     rt: &R,
+    opening: Opening,
     job: Job,
 ) -> Result<Reply, Failure>
     requires { IsSectorSize B }
 {
     match job {
         Job::Help(text) => Ok(Reply::Text(text)),
-        Job::Show { image } => show::<B, R>(rt, image.as_str()),
-        Job::Verify { image } => verify_image::<B, R>(rt, image.as_str()),
+        Job::Show { image, after: None } => show::<B, R>(rt, opening.of(image.as_str())),
+        Job::Show {
+            image,
+            after: Some(file),
+        } => show_after::<B, R>(rt, opening.of(image.as_str()), file.as_str()),
+        Job::Verify { image } => verify_image::<B, R>(rt, opening.of(image.as_str())),
         Job::Locate { image, path, place } => {
-            locate_in::<B, R>(rt, image.as_str(), path.as_str(), place.as_str())
+            locate_in::<B, R>(
+                rt,
+                opening.of(image.as_str()),
+                path.as_str(),
+                place.as_str(),
+            )
         }
         Job::Edit {
             image,
@@ -35,7 +46,7 @@ fn reply_to<const B: usize, R: Files<File = File> + AllocGlobal>(
             locked_by,
         } => {
             let wanted = Wanted::read(rt.alloc(), fresh.as_ref(), words.as_slice())?;
-            edit::<B, R>(rt, image.as_str(), locked_by, &wanted)
+            edit::<B, R>(rt, opening.of(image.as_str()), locked_by, &wanted)
         }
         Job::Plan {
             image,
@@ -43,21 +54,49 @@ fn reply_to<const B: usize, R: Files<File = File> + AllocGlobal>(
             words,
         } => {
             let wanted = Wanted::read(rt.alloc(), fresh.as_ref(), words.as_slice())?;
-            plan::<B, R>(rt, image.as_str(), &wanted)
+            plan::<B, R>(rt, opening.of(image.as_str()), &wanted)
         }
-        Job::Check { image, file } => check::<B, R>(rt, image.as_str(), file.as_str()),
+        Job::Check { image, file } => check::<B, R>(rt, opening.of(image.as_str()), file.as_str()),
         Job::Apply {
             image,
             file,
             locked_by,
-        } => apply::<B, R>(rt, image.as_str(), locked_by, file.as_str()),
-        Job::Repair { image, locked_by } => repair::<B, R>(rt, image.as_str(), locked_by),
+        } => apply::<B, R>(rt, opening.of(image.as_str()), locked_by, file.as_str()),
+        Job::Repair { image, locked_by } => repair::<B, R>(
+            rt,
+            opening.of(image.as_str()),
+            locked_by,
+        ),
         Job::Adopt {
             image,
             other,
+            other_medium,
             adoption,
             locked_by,
-        } => adopt::<B, R>(rt, image.as_str(), other.as_str(), adoption, locked_by),
+        } => {
+            let from = Opening {
+                medium: other_medium,
+                in_use: InUse::Refused,
+            };
+            let other = from.of(other.as_str());
+            adopt::<B, R>(rt, opening.of(image.as_str()), other, adoption, locked_by)
+        }
+    }
+}
+
+/// The image of a job.
+fn image_of(job: &Job) -> Option<&str> {
+    match job {
+        Job::Help(_) => None,
+        Job::Show { image, .. }
+        | Job::Verify { image }
+        | Job::Locate { image, .. }
+        | Job::Edit { image, .. }
+        | Job::Plan { image, .. }
+        | Job::Check { image, .. }
+        | Job::Apply { image, .. }
+        | Job::Repair { image, .. }
+        | Job::Adopt { image, .. } => Some(image.as_str()),
     }
 }
 
@@ -75,12 +114,13 @@ fn printed<const B: usize, O: Write>(reply: &Reply, out: &mut O) -> Result<Statu
 
 fn answer<const B: usize, R: Files<File = File> + AllocGlobal, O: Write>(
     rt: &R,
+    opening: Opening,
     job: Job,
     out: &mut O,
 ) -> Result<Status, Failure>
     requires { IsSectorSize B }
 {
-    let reply = reply_to::<B, R>(rt, job)?;
+    let reply = reply_to::<B, R>(rt, opening, job)?;
     printed::<B, O>(&reply, out)
 }
 
@@ -89,10 +129,20 @@ fn line_answer<R: Files<File = File> + AllocGlobal, O: Write>(
     words: &[&str],
     out: &mut O,
 ) -> Result<Status, Failure> {
-    let Line { job, size } = read_line(rt.alloc(), words)?;
+    let Line {
+        job,
+        size,
+        medium,
+        in_use,
+    } = read_line(rt.alloc(), words)?;
+    let opening = Opening { medium, in_use };
+    let size = match image_of(&job) {
+        Some(image) => opening.of(image).sector_size(rt, size)?,
+        None => SectorSize::Bytes512,
+    };
     match size {
-        SectorSize::Bytes512 => answer::<512, R, O>(rt, job, out),
-        SectorSize::Bytes4096 => answer::<4096, R, O>(rt, job, out),
+        SectorSize::Bytes512 => answer::<512, R, O>(rt, opening, job, out),
+        SectorSize::Bytes4096 => answer::<4096, R, O>(rt, opening, job, out),
     }
 }
 

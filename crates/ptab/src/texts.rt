@@ -1,7 +1,8 @@
 //! What the command answers: its texts and its exit statuses (docs/commands.md).
 
+use crate::images::as_device;
 use pt_check::CheckError;
-use pt_file::OpenError;
+use pt_file::{NoDevice, OpenError};
 use pt_layout::{NoTable, VerifyError};
 use pt_line::LineError;
 use pt_plan::{CommitError, LikeError, RepairError};
@@ -48,8 +49,10 @@ impl Status {
 pub enum Failure {
     /// An argument isn't UTF-8.
     NotText,
-    /// `clap`'s text.
-    Usage(String),
+    /// The words are not those of a command, as `clap` says.
+    Usage(clap::Error),
+    /// `--in-use` without `--device`.
+    InUseAlone,
     BadWord(String),
     BadFresh,
     BadPath,
@@ -64,15 +67,15 @@ pub enum Failure {
     Repair(u8),
     /// A text is no plan's: its first bad line, counted from 1; 0 where it is too long or no UTF-8.
     PlanText(u64),
-    /// The image's lock is held elsewhere.
-    Locked,
     /// The image whose table is to be taken has another number of sectors.
     OtherSize,
-    /// That image can't be opened.
-    OtherDevice,
+    /// Why that image isn't opened.
+    OtherOpening(NoDevice),
     /// Why that image has no table to take.
     Other(NoTable),
     NoTable(NoTable),
+    /// Why the image isn't opened.
+    Opening(NoDevice),
     Device,
     /// Nobody reads the output any more: there is no line, since that is nobody's fault.
     ClosedPipe,
@@ -81,6 +84,13 @@ pub enum Failure {
 
 /// What is printed where an argument isn't UTF-8, in the form of `clap`'s texts.
 const NOT_TEXT: &[u8] = b"error: an argument isn't UTF-8\n\nFor more information, try '--help'.\n";
+
+/// The same where `--in-use` is given without `--device`.
+const IN_USE_ALONE: &[u8] =
+    b"error: the argument '--in-use' needs '--device'\n\nFor more information, try '--help'.\n";
+
+/// What stands before a fault of the image whose table is to be taken.
+const OTHER: &[u8] = b"other: ";
 
 impl Failure {
     /// That of an output stream that failed.
@@ -96,6 +106,7 @@ impl Failure {
         match self {
             Failure::NotText
             | Failure::Usage(_)
+            | Failure::InUseAlone
             | Failure::BadWord(_)
             | Failure::BadFresh
             | Failure::BadPath
@@ -105,10 +116,10 @@ impl Failure {
             | Failure::Check(_)
             | Failure::Repair(_)
             | Failure::PlanText(_)
-            | Failure::Locked
             | Failure::OtherSize => Status::Refused,
             Failure::NoTable(why) | Failure::Other(why) => status_of(*why),
-            Failure::Device | Failure::ClosedPipe | Failure::OtherDevice => Status::Device,
+            Failure::Opening(why) | Failure::OtherOpening(why) => opening_status(why),
+            Failure::Device | Failure::ClosedPipe => Status::Device,
             Failure::Memory => Status::Memory,
         }
     }
@@ -124,7 +135,8 @@ impl Failure {
     fn print<E: Write>(&self, err: &mut E) -> io::Result<()> {
         match self {
             Failure::NotText => err.write_all(NOT_TEXT),
-            Failure::Usage(text) => err.write_all(text.as_bytes()),
+            Failure::Usage(error) => write!(err, "{error}"),
+            Failure::InUseAlone => err.write_all(IN_USE_ALONE),
             Failure::BadWord(word) => writeln!(err, "bad word {word}"),
             Failure::BadFresh => err.write_all(b"bad fresh\n"),
             Failure::BadPath => err.write_all(b"bad path\n"),
@@ -134,11 +146,17 @@ impl Failure {
             Failure::Check(number) => print_refusal(err, "check", u64::from(*number)),
             Failure::Repair(number) => print_refusal(err, "repair", u64::from(*number)),
             Failure::PlanText(line) => print_refusal(err, "plan text", *line),
-            Failure::Locked => err.write_all(b"refused: locked\n"),
             Failure::OtherSize => err.write_all(b"refused: other size\n"),
-            Failure::OtherDevice => err.write_all(b"other: device\n"),
-            Failure::Other(why) => print_other(err, *why),
+            Failure::OtherOpening(why) => {
+                err.write_all(OTHER)?;
+                print_opening(err, why)
+            }
+            Failure::Other(why) => {
+                err.write_all(OTHER)?;
+                print_no_table(err, *why)
+            }
             Failure::NoTable(why) => print_no_table(err, *why),
+            Failure::Opening(why) => print_opening(err, why),
             Failure::Device => err.write_all(b"device\n"),
             Failure::ClosedPipe => Ok(()),
             Failure::Memory => err.write_all(b"memory\n"),
@@ -155,10 +173,25 @@ fn status_of(why: NoTable) -> Status {
     }
 }
 
-/// Why the image whose table is to be taken has none.
-fn print_other<E: Write>(err: &mut E, why: NoTable) -> io::Result<()> {
-    err.write_all(b"other: ")?;
-    print_no_table(err, why)
+/// The status that goes with an image that isn't opened.
+fn opening_status(why: &NoDevice) -> Status {
+    match why {
+        NoDevice::Unopened | NoDevice::NotBlock => Status::Device,
+        NoDevice::SectorSize(_) => Status::Usage,
+        NoDevice::Locked | NoDevice::InUse(_) => Status::Refused,
+        NoDevice::Memory => Status::Memory,
+    }
+}
+
+fn print_opening<E: Write>(err: &mut E, why: &NoDevice) -> io::Result<()> {
+    match why {
+        NoDevice::Unopened => err.write_all(b"device\n"),
+        NoDevice::NotBlock => err.write_all(b"device: not a block device\n"),
+        NoDevice::SectorSize(bytes) => writeln!(err, "bad sector size: the device has {bytes}"),
+        NoDevice::Locked => err.write_all(b"refused: locked\n"),
+        NoDevice::InUse(by) => writeln!(err, "refused: in use: {by}"),
+        NoDevice::Memory => err.write_all(b"memory\n"),
+    }
 }
 
 /// What refused it, and the number by which it says why.
@@ -170,7 +203,8 @@ impl From<LineError> for Failure {
     fn from(error: LineError) -> Failure {
         match error {
             LineError::NotText => Failure::NotText,
-            LineError::Usage(text) => Failure::Usage(text),
+            LineError::Usage(error) => Failure::Usage(error),
+            LineError::InUseAlone => Failure::InUseAlone,
             LineError::Memory => Failure::Memory,
         }
     }
@@ -193,10 +227,13 @@ impl From<VerifyError> for Failure {
 
 impl From<OpenError> for Failure {
     fn from(error: OpenError) -> Failure {
-        match error {
-            OpenError::NoFile => Failure::Device,
-            OpenError::Locked => Failure::Locked,
-        }
+        Failure::Opening(as_device(error))
+    }
+}
+
+impl From<NoDevice> for Failure {
+    fn from(why: NoDevice) -> Failure {
+        Failure::Opening(why)
     }
 }
 

@@ -6,6 +6,7 @@ use Rattle.pt_apply.specs.Plans.{phases_of, finished}
 use Rattle.pt_recover.specs.Denotes.{Denotes}
 use Rattle.pt_sector.specs.declared.disk.Fault.{Fault}
 use Rattle.pt_check.specs.Failed.{fault_in}
+use Rattle.pt_check.specs.Recovered.{IsRecoveredOf}
 use Rattle.pt_check.proofs.Exits.{concluding}
 use Rattle.pt_check.proofs.Outside.{recovered_parts}
 use Rattle.pt_check.proofs.Reading.{finish_failed}
@@ -17,7 +18,7 @@ returns-clause-answers g c = λ tells.
     rw c.into_parts-old.ensures.layout (c.requires.known tells).denotes in
     rw c.conclude.ensures (concluding g.row.B (g.D.Disk.told c.args.disk.now).seen (phases_of c.args.plan.now)
     (c.requires.fit tells) c.into_parts-old.result.0 c.in_ok-end.end.layout
-    (record { from = from; to = c.in_ok-end.ensures.layout tells }) c.in_ok-trial.trial
+    (record { from = from; to = (c.in_ok-end.ensures.recovered tells).denotes }) c.in_ok-trial.trial
     c.misplaced.result c.in_ok-end.end.finding
     (rw (c.in_ok-end.ensures.same.same tells) at (c.in_ok-trial.ensures.tried tells)) c.misplaced.ensures
     (c.in_ok-end.ensures.wrong tells)).0
@@ -28,7 +29,7 @@ returns-clause-promises g c = λ tells.
     rw c.into_parts-old.ensures.layout (c.requires.known tells).denotes in
     rw c.conclude.ensures (concluding g.row.B (g.D.Disk.told c.args.disk.now).seen (phases_of c.args.plan.now)
     (c.requires.fit tells) c.into_parts-old.result.0 c.in_ok-end.end.layout
-    (record { from = from; to = c.in_ok-end.ensures.layout tells }) c.in_ok-trial.trial
+    (record { from = from; to = (c.in_ok-end.ensures.recovered tells).denotes }) c.in_ok-trial.trial
     c.misplaced.result c.in_ok-end.end.finding
     (rw (c.in_ok-end.ensures.same.same tells) at (c.in_ok-trial.ensures.tried tells)) c.misplaced.ensures
     (c.in_ok-end.ensures.wrong tells)).1
@@ -43,8 +44,9 @@ try_phases-requires g c = (
       (
         (λ tells. recovered_parts g.row.B _ _ c.args.before _ _ (ap (λ (t : Told). t.seen) (sym (c.in_ok-end.ensures.same.same tells)))
             (c.requires.known tells) c.into_parts-old.ensures.layout c.into_parts-old.ensures.trace),
-        (λ tells. subst (λ (t : Told). Denotes g.row.B (finished c.args.plan.now t.seen) c.in_ok-end.end.layout)
-            (sym (c.in_ok-end.ensures.same.same tells)) (c.in_ok-end.ensures.layout tells)),
+        (λ tells. subst (λ (t : Told). IsRecoveredOf g.row.B (finished c.args.plan.now t.seen)
+            (record { layout = c.in_ok-end.end.layout; trace = c.in_ok-end.end.trace }))
+            (sym (c.in_ok-end.ensures.same.same tells)) (c.in_ok-end.ensures.recovered tells)),
       ),
     ),
   ),

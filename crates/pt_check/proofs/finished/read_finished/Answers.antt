@@ -41,8 +41,8 @@ returns-clause-blames g c =
     ∙ ap g.D.Disk.faults (c.put_plan.ensures.disk ∙ c.new-over.ensures.disk) in
     search (rules, quiet)
 
-pub returns-clause-layout : goal.returns-clause-layout
-returns-clause-layout g c = λ tells. c.finished_of.ensures.layout _ _
+pub returns-clause-recovered : goal.returns-clause-recovered
+returns-clause-recovered g c = λ tells. c.finished_of.ensures.recovered _ _
     (subst (λ (d : Sectors). IsSurvey g.row.B d c.in_ok-told.told)
     (c.put_plan.ensures.seen ∙ ap (after (phases_of c.args.plan.now)) c.new-over.ensures.seen) (c.in_ok-told.ensures.ok tells))
 

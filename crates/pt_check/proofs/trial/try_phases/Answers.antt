@@ -16,7 +16,8 @@ use Rattle.pt_check.specs.declared.recovered.Recovered.{Recovered}
 use Rattle.pt_check.proofs.Firsts.{length-phases, count_on, lent_phase, index_within, seen_on, count_within}
 use Rattle.pt_check.proofs.Outside.{recovered_parts}
 use Rattle.pt_check.proofs.Trying.{course_none, refused_read, refused_neither, course_on}
-use Rattle.pt_check.proofs.Quiet.{last_trial, reading_quiet, passed_quiet}
+use Rattle.pt_check.proofs.Quiet.{reading_quiet, passed_quiet}
+use Rattle.pt_check.proofs.Settled.{settled_trial}
 use Rattle.pt_check.proofs.Reading.{phase_failed}
 use Rattle.pt_check.proofs.trial.try_phases.Goals as goal
 
@@ -196,20 +197,18 @@ returns-in_err-after-clause-place g c = λ tells.
     rw (p.1, p.2) (phase_failed g.row.B d _ phases (c.loop-i.i + 1) c.in_err-after.field-0.0 (omega (arith, below)) seen
     (c.in_err-after.ensures.place tells))
 
-pub returns-then-i-len-clause-tried : goal.returns-then-i-len-clause-tried
-returns-then-i-len-clause-tried g c = λ tells.
+pub returns-then-i-settles-clause-tried : goal.returns-then-i-settles-clause-tried
+returns-then-i-settles-clause-tried g c = λ tells.
     let phases = phases_of c.args.plan.now in
     let lt : c.loop-i.i < length c.args.plan.now.phases.items =
     omega (arith, c.loop-i-test.true, c.len-i-end.ensures, c.args.plan.now.phases.ok) in
     let below = index_within c.args.plan.now.phases.items c.loop-i.i lt in
     let lent = lent_phase c.args.plan.now.phases.items c.loop-i.i c.index-phase.result.now lt c.index-phase.ensures in
-    let all : c.loop-i.i + 1 ≡ length phases =
-    omega (arith, c.if-i-len.true, c.len.ensures, c.args.plan.now.phases.ok, length-phases c.args.plan.now.phases.items) in
-    last_trial (Denotes g.row.B) (Reads g.row.B) phases (g.D.Disk.told c.args.disk.now).seen c.args.layouts.now.old c.args.layouts.now.new
-    (denotes_one_lem g.row.B) c.loop-i.i below c.loop-i.before (c.loop-i.invariant.trace tells) c.loop-i.switch
+    settled_trial g.row.B phases (g.D.Disk.told c.args.disk.now).seen c.args.layouts.now.new c.args.end.now (c.requires.new tells)
+    (denotes_one_lem g.row.B) c.args.layouts.now.old c.loop-i.i below c.loop-i.before (c.loop-i.invariant.trace tells) c.loop-i.switch
     (c.loop-i.invariant.course tells)
     (subst (λ (w : Writes). TouchedIs (IsIn c.loop-i.before) w None) (lent c.deref.result.now c.deref.ensures.value) c.in_default.ensures)
-    all (c.requires.new tells) c.last_step.result c.last_step.ensures
+    (λ j ge less. c.settled-settles.ensures j (omega (arith, ge, c.if-i-settles.true)) less) c.last_step.result c.last_step.ensures
 
 pub loop-i-preserved-then-is_unread : goal.loop-i-preserved-then-is_unread
 loop-i-preserved-then-is_unread g c =

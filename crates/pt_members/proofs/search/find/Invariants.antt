@@ -1,9 +1,13 @@
 use Rattle.std.proofs.Common.{◌≡◌, ◌<◌, ℕ, get_or, Some, None}
+use Rattle.pt_members.specs.Counts.{number_at}
 use Rattle.pt_members.specs.Members.{slots}
 use Rattle.pt_members.specs.Search.{IsNear, IsAsWanted}
 use Rattle.pt_members.specs.declared.member.Member.{Member}
 use Rattle.pt_members.proofs.search.find.Given as goal
 
 abbrev pub invariant-loop-k : goal.invariant-loop-k
-invariant-loop-k g l =
-    (j : ℕ) (m x : Member) → j < l.k → get_or (slots g.row.B l.layout.body) j None ≡ Some m → IsNear l.layout m x → ¬ IsAsWanted l.wanted x
+invariant-loop-k g l = record {
+  none : (j : ℕ) (m x : Member) → j < l.k → get_or (slots g.row.B l.layout.body) j None ≡ Some m → IsNear l.layout m x
+      → ¬ IsAsWanted l.wanted x;
+  number : l.number ≡ number_at l.layout.body l.k;
+}

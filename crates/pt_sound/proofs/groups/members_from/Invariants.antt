@@ -1,7 +1,11 @@
 use Rattle.std.proofs.Common.{◌≡◌}
 use Rattle.std.specs.Prelude.{slice_range}
+use Rattle.pt_members.specs.Counts.{number_at}
 use Rattle.pt_members.specs.Members.{present, slots}
 use Rattle.pt_sound.proofs.groups.members_from.Given as goal
 
 abbrev pub invariant-loop-k : goal.invariant-loop-k
-invariant-loop-k g l = l.members.items ≡ present (slice_range (slots g.row.B l.body) l.from l.k)
+invariant-loop-k g l = record {
+  members : l.members.items ≡ present (slice_range (slots g.row.B l.body) l.from l.k);
+  number : l.number ≡ number_at l.body l.k;
+}

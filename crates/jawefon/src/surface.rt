@@ -1,0 +1,170 @@
+//! The surface as a program uses it: what its own values are made of, and the steps that no example takes.
+
+use crate::bsd::{decode_label, empty_label, encode_label};
+use crate::gpt::{Side, decode_header, encode_header, has_room, read_copy};
+use crate::mbr::{Mbr, decode_mbr, encode_mbr, protective, put_record, read_chain};
+use crate::sums::{Crc, crc32, xor16};
+use crate::{
+    After, Body, Code, CommitError, CrashDisk, Disk, Edit, End, Extent, Fault, Guid, Layout, Lba,
+    MemDisk, NoTable, Overlay, Path, ReadCache, Room, Sector, apply, code_of_type, commit, edit,
+    fresh, guids_for, is_owned, is_table, layout_after, make_plan, parse_guid, recover,
+    recover_traced, type_of_code, type_of_record, unsound,
+};
+use std::alloc::Global;
+use std::test::Fail;
+
+/// Partition 1.
+const FIRST: Path = Path {
+    number: 1,
+    letter: None,
+};
+
+/// An empty table, and a partition of 100 sectors at the start of the largest free block.
+fn words(alloc: Global) -> Result<Vec<Edit>, Fail> {
+    let mut edits = Vec::new(alloc);
+    edits.push(Edit::Empty)?;
+    edits.push(Edit::New {
+        path: FIRST,
+        start: 0,
+        end: End::Length(100),
+        code: Some(Code::Four(0x8300)),
+    })?;
+    Ok(edits)
+}
+
+fn guids() -> [Guid; 2] {
+    [fresh([1; 16]), fresh([2; 16])]
+}
+
+fn gpt_disk(alloc: Global) -> Result<MemDisk<512>, Fail> {
+    let mut disk = MemDisk::new(alloc, 4096)?;
+    commit(alloc, &mut disk, &words(alloc)?, &guids())?;
+    Ok(disk)
+}
+
+/// Without partition 1.
+fn without(alloc: Global, layout: &Layout) -> Result<Layout, Fail> {
+    let mut edits = Vec::new(alloc);
+    edits.push(Edit::Delete(FIRST))?;
+    Ok(edit::<512>(alloc, Some(layout), layout.sectors, &edits, &[])?)
+}
+
+#[test]
+fn a_layout_and_its_sectors(rt: HostRuntime) -> Result<(), Fail> {
+    let mut disk = gpt_disk(rt.alloc())?;
+    let (found, trace) = recover_traced(rt.alloc(), &mut disk);
+    let layout = found?;
+    assert!(rt; trace.contains(Lba(1)) && !trace.contains(Lba(2048)));
+    assert!(rt; is_table::<512>(&layout, Lba(33)) && !is_table::<512>(&layout, Lba(2048)));
+    assert!(rt; is_owned::<512>(&layout, Lba(2048)) && !is_owned::<512>(&layout, Lba(33)));
+    assert!(rt; unsound::<512>(rt.alloc(), &layout)? == None);
+    let linux = type_of_code(0x8300);
+    match &layout.body {
+        Body::Gpt(table) => match table.entries.get(0) {
+            Some(entry) => assert!(rt; Some(entry.kind) == linux),
+            None => assert!(rt; false),
+        },
+        Body::Mbr { .. } => assert!(rt; false),
+    }
+    Ok(())
+}
+
+#[test]
+fn type_codes(rt: HostRuntime) -> Result<(), Fail> {
+    let linux = parse_guid("0fc63daf-8483-4772-8e79-3d69d8477de4")?;
+    assert!(rt; type_of_code(0x8300) == Some(linux));
+    assert!(rt; type_of_record(0x83) == Some(linux));
+    assert!(rt; code_of_type(&linux) == Some(0x8300));
+    Ok(())
+}
+
+#[test]
+fn an_mbr_becomes_a_gpt(rt: HostRuntime) -> Result<(), Fail> {
+    let mut disk: MemDisk<512> = MemDisk::new(rt.alloc(), 4096)?;
+    disk.write(Lba(0), &encode_mbr(&Mbr::default(), &[0; 512]))?;
+    let layout = recover(rt.alloc(), &mut disk)?;
+    assert!(rt; guids_for(&layout) == 1);
+    let mut edits = Vec::new(rt.alloc());
+    edits.push(Edit::ToGpt)?;
+    commit(rt.alloc(), &mut disk, &edits, &[fresh([1; 16])])?;
+    let made = recover(rt.alloc(), &mut disk)?;
+    assert!(rt; matches!(&made.body, Body::Gpt(_)));
+    Ok(())
+}
+
+#[test]
+fn what_a_plan_makes(rt: HostRuntime) -> Result<(), Fail> {
+    let mut disk = gpt_disk(rt.alloc())?;
+    let old = recover(rt.alloc(), &mut disk)?;
+    let wanted = without(rt.alloc(), &old)?;
+    let mut plan = make_plan(rt.alloc(), &mut disk, &wanted)?;
+    match layout_after(rt.alloc(), &mut disk, &plan)? {
+        After::Layout(made) => assert!(rt; made.same(&wanted)),
+        After::No(_) => assert!(rt; false),
+    }
+    assert!(rt; recover(rt.alloc(), &mut disk)?.same(&old));
+    let _first = plan.phases.pop();
+    match layout_after(rt.alloc(), &mut disk, &plan)? {
+        After::Layout(_) => assert!(rt; false),
+        After::No(why) => assert!(rt; why.number() == 8),
+    }
+    Ok(())
+}
+
+#[test]
+fn a_plan_over_an_overlay(rt: HostRuntime) -> Result<(), Fail> {
+    let mut disk = gpt_disk(rt.alloc())?;
+    let old = recover(rt.alloc(), &mut disk)?;
+    let wanted = without(rt.alloc(), &old)?;
+    let room = Room::new(rt.alloc(), 100)?;
+    let mut over = Overlay::new(&mut disk, room);
+    let plan = make_plan(rt.alloc(), &mut over, &wanted)?;
+    apply(&mut over, &plan)?;
+    assert!(rt; recover(rt.alloc(), &mut over)?.same(&wanted));
+    drop(over);
+    let cache_room = Room::for_cache(rt.alloc())?;
+    let mut cache = ReadCache::new(&mut disk, cache_room);
+    assert!(rt; recover(rt.alloc(), &mut cache)?.same(&old));
+    Ok(())
+}
+
+#[test]
+fn a_disk_that_stops(rt: HostRuntime) -> Result<(), Fail> {
+    let mut disk: CrashDisk<512> = CrashDisk::new(rt.alloc(), 4096, 100)?;
+    disk.fail_at(20, false);
+    let words = words(rt.alloc())?;
+    let done = commit(rt.alloc(), &mut disk, &words, &guids());
+    assert!(rt; matches!(done, Err(CommitError::Device(_))));
+    let mut left = disk.stop(&[]);
+    let found = recover(rt.alloc(), &mut left);
+    assert!(rt; matches!(&found, Err(NoTable::NoCopy(_, _))));
+    Ok(())
+}
+
+#[test]
+fn formats(rt: HostRuntime) -> Result<(), Fail> {
+    let mut disk = gpt_disk(rt.alloc())?;
+    if !has_room::<512>(disk.sectors()) {
+        return Err(Fail::new("no room for a GPT"));
+    }
+    let table = read_copy(rt.alloc(), &mut disk, Side::Backup)?;
+    assert!(rt; table.first == 34 && table.last == 4062);
+    let mut sector: Sector<512> = [0; 512];
+    disk.read(Lba(1), &mut sector)?;
+    let header = decode_header(&sector)?;
+    assert!(rt; encode_header::<512>(&header) == sector);
+    assert!(rt; decode_mbr(&protective(4096, &[0; 512])).is_some());
+    assert!(rt; put_record(&[1; 512], 0, None)[446..462] == [0; 16]);
+    let label = empty_label(100);
+    assert!(rt; decode_label(&encode_label(&label, &[0; 512]), 2048, 100).is_ok());
+    assert!(rt; crc32(b"123456789") == 0xCBF4_3926 && xor16(&[1, 2, 3, 4]) == 0x0602);
+    let mut sum = Crc::new();
+    sum.update(b"123456789");
+    assert!(rt; sum.value() == 0xCBF4_3926);
+    match Extent::new(Lba(1), Lba(2)) {
+        Some(extent) => assert!(rt; read_chain(&mut disk, extent).is_err()),
+        None => assert!(rt; false),
+    }
+    assert!(rt; disk.flush() != Err(Fault::Flush));
+    Ok(())
+}

@@ -1,0 +1,55 @@
+-- The exit statuses.
+use Rattle.std.specs.Prelude.{ℕ, None}
+use Rattle.pt_check.specs.declared.answer.Answer.TheVariants as answer
+use Rattle.pt_recover.specs.declared.error.NoTable.{NoTable as Reason}
+use Rattle.pt_recover.specs.declared.error.NoTable.TheVariants as reason
+use Rattle.pt_report.specs.declared.reply.Reply.{Reply}
+use Rattle.pt_report.specs.declared.reply.Reply.TheVariants as reply
+use Rattle.pt_sound.specs.declared.finding.Verdict.TheVariants as verdict
+use Rattle.pt_answers.specs.declared.failure.Failure.{Failure}
+use Rattle.pt_answers.specs.declared.failure.Failure.TheVariants as failure
+use Rattle.pt_answers.specs.declared.status.Status.{Status}
+use Rattle.pt_answers.specs.declared.status.Status.TheVariants.{Done, No, Usage, Refused, NoTable, Device, Memory}
+
+abbrev pub status_code : Status → ℕ
+status_code Done = 0
+status_code No = 1
+status_code Usage = 2
+status_code Refused = 3
+status_code NoTable = 4
+status_code Device = 5
+status_code Memory = 6
+
+-- of an answer: a finding, no such sector and the checker's no are a no
+abbrev pub reply_status : Reply → Status
+reply_status (reply.Verdict (verdict.No finding)) = No
+reply_status (reply.Place None) = No
+reply_status (reply.Checked (answer.No why)) = No
+reply_status _ = Done
+
+-- of a disk that denotes nothing
+abbrev pub reason_status : Reason → Status
+reason_status (reason.Device at) = Device
+reason_status reason.Memory = Memory
+reason_status _ = NoTable
+
+abbrev pub failure_status : Failure → Status
+failure_status failure.NotText = Usage
+failure_status (failure.Usage text) = Usage
+failure_status (failure.BadWord word) = Usage
+failure_status failure.BadFresh = Usage
+failure_status failure.BadPath = Usage
+failure_status failure.BadNumber = Usage
+failure_status (failure.Edit number) = Refused
+failure_status (failure.Plan number) = Refused
+failure_status (failure.Check number) = Refused
+failure_status (failure.Repair number) = Refused
+failure_status (failure.PlanText number) = Refused
+failure_status failure.Locked = Refused
+failure_status failure.OtherSize = Refused
+failure_status failure.OtherDevice = Device
+failure_status (failure.Other why) = reason_status why
+failure_status (failure.NoTable why) = reason_status why
+failure_status failure.Device = Device
+failure_status failure.ClosedPipe = Device
+failure_status failure.Memory = Memory

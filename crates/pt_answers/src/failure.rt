@@ -1,0 +1,152 @@
+//! Why the command ends without an answer.
+
+ghost use Rattle.std.specs.Prelude.{◌≡◌, ◌++◌, codes, OnOk};
+ghost use Rattle.std.specs.Io.KnownBytes.{Appends};
+ghost use Rattle.std.specs.IoError.{error_kind};
+ghost use Rattle.pt_answers.specs.Failures.{IsTold, failure_text, output_failure, refusal_line};
+ghost use Rattle.pt_report.specs.NoTables.{no_table_text};
+ghost use Rattle.pt_answers.specs.Statuses.{failure_status, reason_status};
+
+use crate::status::Status;
+use pt_layout::NoTable;
+use pt_report::print_no_table;
+use std::io;
+use std::io::{ErrorKind, Write};
+
+/// Why the command ends without an answer: a line on standard error, and a status.
+#[derive(Drop)]
+pub enum Failure {
+    /// An argument isn't UTF-8.
+    NotText,
+    /// `clap`'s text.
+    Usage(String),
+    BadWord(String),
+    BadFresh,
+    BadPath,
+    BadNumber,
+    /// An edit was refused with this number.
+    Edit(u8),
+    /// A plan was refused with this number.
+    Plan(u8),
+    /// A plan was refused by the checker, with this number.
+    Check(u8),
+    /// A repair was refused with this number.
+    Repair(u8),
+    /// A text is no plan's: its first bad line, counted from 1; 0 where it is too long or no UTF-8.
+    PlanText(u64),
+    /// The image's lock is held elsewhere.
+    Locked,
+    /// The image whose table is to be taken has another number of sectors.
+    OtherSize,
+    /// That image can't be opened.
+    OtherDevice,
+    /// Why that image has no table to take.
+    Other(NoTable),
+    NoTable(NoTable),
+    Device,
+    /// Nobody reads the output any more: there is no line, since that is nobody's fault.
+    ClosedPipe,
+    Memory,
+}
+
+/// What is printed where an argument isn't UTF-8, in the form of `clap`'s texts.
+const NOT_TEXT: &[u8] = b"error: an argument isn't UTF-8\n\nFor more information, try '--help'.\n";
+
+impl Failure {
+    /// That of an output stream that failed.
+    pub fn of_output(error: &io::Error) -> Failure
+        ensures { result ≡ output_failure (error_kind error.now) }
+    {
+        match error.kind() {
+            ErrorKind::BrokenPipe => Failure::ClosedPipe,
+            _ => Failure::Device,
+        }
+    }
+
+    /// The status that goes with it.
+    pub fn status(&self) -> Status
+        ensures { result ≡ failure_status self.now }
+    {
+        match self {
+            Failure::NotText
+            | Failure::Usage(_)
+            | Failure::BadWord(_)
+            | Failure::BadFresh
+            | Failure::BadPath
+            | Failure::BadNumber => Status::Usage,
+            Failure::Edit(_)
+            | Failure::Plan(_)
+            | Failure::Check(_)
+            | Failure::Repair(_)
+            | Failure::PlanText(_)
+            | Failure::Locked
+            | Failure::OtherSize => Status::Refused,
+            Failure::NoTable(why) | Failure::Other(why) => status_of(*why),
+            Failure::Device | Failure::ClosedPipe | Failure::OtherDevice => Status::Device,
+            Failure::Memory => Status::Memory,
+        }
+    }
+
+    /// Prints its line, and gives the status with which the command ends: where the line can't be printed, a device's fault.
+    pub fn tell<E: Write>(&self, err: &mut E) -> Status
+        ensures { IsTold self.now (E.contents err.old) (E.contents err.new) result }
+    {
+        match self.print(err) {
+            Ok(()) => self.status(),
+            Err(_) => Status::Device,
+        }
+    }
+
+    /// Prints its line: after an Ok a writer that knows its bytes has it behind those that it had.
+    pub fn print<E: Write>(&self, err: &mut E) -> io::Result<()>
+        ensures { OnOk result (Appends (E.contents err.old) (E.contents err.new) (failure_text self.now)) }
+    {
+        match self {
+            Failure::NotText => err.write_all(NOT_TEXT),
+            Failure::Usage(text) => err.write_all(text.as_bytes()),
+            Failure::BadWord(word) => writeln!(err, "bad word {word}"),
+            Failure::BadFresh => err.write_all(b"bad fresh\n"),
+            Failure::BadPath => err.write_all(b"bad path\n"),
+            Failure::BadNumber => err.write_all(b"bad number\n"),
+            Failure::Edit(number) => print_refusal(err, "edit", u64::from(*number)),
+            Failure::Plan(number) => print_refusal(err, "plan", u64::from(*number)),
+            Failure::Check(number) => print_refusal(err, "check", u64::from(*number)),
+            Failure::Repair(number) => print_refusal(err, "repair", u64::from(*number)),
+            Failure::PlanText(line) => print_refusal(err, "plan text", *line),
+            Failure::Locked => err.write_all(b"refused: locked\n"),
+            Failure::OtherSize => err.write_all(b"refused: other size\n"),
+            Failure::OtherDevice => err.write_all(b"other: device\n"),
+            Failure::Other(why) => print_other(err, *why),
+            Failure::NoTable(why) => print_no_table(err, *why),
+            Failure::Device => err.write_all(b"device\n"),
+            Failure::ClosedPipe => Ok(()),
+            Failure::Memory => err.write_all(b"memory\n"),
+        }
+    }
+}
+
+// The status that goes with an image without a table.
+fn status_of(why: NoTable) -> Status
+    ensures { result ≡ reason_status why }
+{
+    match why {
+        NoTable::Device(_) => Status::Device,
+        NoTable::Memory => Status::Memory,
+        _ => Status::NoTable,
+    }
+}
+
+// Why the image whose table is to be taken has none.
+fn print_other<E: Write>(err: &mut E, why: NoTable) -> io::Result<()>
+    ensures { OnOk result (Appends (E.contents err.old) (E.contents err.new) (codes "other: " ++ no_table_text why)) }
+{
+    err.write_all(b"other: ")?;
+    print_no_table(err, why)
+}
+
+// What refused it, and the number by which it says why.
+fn print_refusal<E: Write>(err: &mut E, by: &str, number: u64) -> io::Result<()>
+    ensures { OnOk result (Appends (E.contents err.old) (E.contents err.new) (refusal_line by.now number)) }
+{
+    writeln!(err, "refused: {by} {number}")
+}

@@ -1,0 +1,89 @@
+//! What the library's errors come to.
+
+ghost use Rattle.std.specs.Prelude.{◌≡◌};
+ghost use Rattle.pt_answers.specs.Failures.{commit_failure, like_failure, repair_failure, unchecked_failure, unread_failure};
+ghost use Rattle.pt_answers.specs.declared.failure.Failure.TheVariants as failure;
+
+use crate::failure::Failure;
+use pt_check::CheckError;
+use pt_layout::{NoTable, VerifyError};
+use pt_plan::{CommitError, LikeError, RepairError};
+use std::alloc::AllocError;
+
+impl From<NoTable> for Failure {
+    ghost from_gives = { λ why f. f ≡ failure.NoTable why };
+
+    fn from(why: NoTable) -> Failure {
+        Failure::NoTable(why)
+    }
+}
+
+impl From<VerifyError> for Failure {
+    ghost from_gives = { λ error f. f ≡ unread_failure error };
+
+    fn from(error: VerifyError) -> Failure {
+        match error {
+            VerifyError::Device(_) => Failure::Device,
+            VerifyError::Memory => Failure::Memory,
+        }
+    }
+}
+
+impl From<AllocError> for Failure {
+    ghost from_gives = { λ _ f. f ≡ failure.Memory };
+
+    fn from(_error: AllocError) -> Failure {
+        Failure::Memory
+    }
+}
+
+impl From<CheckError> for Failure {
+    ghost from_gives = { λ error f. f ≡ unchecked_failure error };
+
+    fn from(error: CheckError) -> Failure {
+        match error {
+            CheckError::Device(_) => Failure::Device,
+            CheckError::Memory => Failure::Memory,
+        }
+    }
+}
+
+impl From<CommitError> for Failure {
+    ghost from_gives = { λ error f. f ≡ commit_failure error };
+
+    fn from(error: CommitError) -> Failure {
+        match error {
+            CommitError::NoTable(why) => Failure::NoTable(why),
+            CommitError::Edit(why) => Failure::Edit(why.number()),
+            CommitError::Plan(why) => Failure::Plan(why.number()),
+            CommitError::Check(why) => Failure::Check(why.number()),
+            CommitError::Device(_) => Failure::Device,
+            CommitError::Memory => Failure::Memory,
+        }
+    }
+}
+
+impl From<LikeError> for Failure {
+    ghost from_gives = { λ error f. f ≡ like_failure error };
+
+    fn from(error: LikeError) -> Failure {
+        match error {
+            LikeError::OtherSize => Failure::OtherSize,
+            LikeError::Other(why) => Failure::Other(why),
+            LikeError::Disk(error) => Failure::from(error),
+        }
+    }
+}
+
+impl From<RepairError> for Failure {
+    ghost from_gives = { λ error f. f ≡ repair_failure error };
+
+    fn from(error: RepairError) -> Failure {
+        match error {
+            RepairError::NoTable(why) => Failure::NoTable(why),
+            RepairError::Device(_) => Failure::Device,
+            RepairError::Memory => Failure::Memory,
+            refusal => Failure::Repair(refusal.number()),
+        }
+    }
+}

@@ -1,0 +1,90 @@
+//! `show`, `verify` and `locate`.
+
+ghost use Rattle.std.specs.Prelude.{◌≡◌};
+ghost use Rattle.pt_sector.specs.Calls.{Blames};
+ghost use Rattle.pt_sector.specs.Reads.{OnlyReads, fault_of};
+ghost use Rattle.pt_sector.specs.Sectors.{IsSectorSize};
+ghost use Rattle.pt_recover.specs.Answers.{fault_in};
+ghost use Rattle.pt_answers.specs.Answers.{Answers, Locates, NamesPlace, PlaceIs, Recovers, Verifies, locate_reply, show_reply, verify_reply};
+
+use crate::failure::Failure;
+use pt_layout::{Layout, NoTable, Path, locate, parse_number, parse_path, recover, verify};
+use pt_report::Reply;
+use pt_sector::{Disk, Lba};
+use std::alloc::Global;
+
+/// The layout that a disk denotes.
+pub fn show_disk<const B: usize, D: Disk<B>>(alloc: Global, disk: &mut D) -> Result<Reply, Failure>
+    requires size { IsSectorSize B }
+    ensures same { OnlyReads D.Disk disk.old disk.new }
+    ensures shows { Answers show_reply (λ r. Blames fault_in r (D.faults disk.old) (D.faults disk.new)
+        × (D.tells → Recovers B (D.told disk.old).seen r)) result }
+{
+    let layout = recover::<B, D>(alloc, disk)?;
+    Ok(Reply::Layout(layout))
+}
+
+/// Whether a disk is healthy: yes, or the first finding.
+pub fn verify_disk<const B: usize, D: Disk<B>>(
+    alloc: Global,
+    disk: &mut D,
+) -> Result<Reply, Failure>
+    requires size { IsSectorSize B }
+    ensures same { OnlyReads D.Disk disk.old disk.new }
+    ensures verifies { Answers verify_reply (λ r. Blames fault_of r (D.faults disk.old) (D.faults disk.new)
+        × (D.tells → Verifies B (D.told disk.old).seen r)) result }
+{
+    let verdict = verify::<B, D>(alloc, disk)?;
+    Ok(Reply::Verdict(verdict))
+}
+
+/// Where on a disk sector `k`, from 0 on, of a partition is.
+pub fn locate_on<const B: usize, D: Disk<B>>(
+    alloc: Global,
+    disk: &mut D,
+    path: &Path,
+    k: u64,
+) -> Result<Reply, Failure>
+    requires size { IsSectorSize B }
+    ensures same { OnlyReads D.Disk disk.old disk.new }
+    ensures locates { Answers locate_reply (λ r. Blames fault_in r (D.faults disk.old) (D.faults disk.new)
+        × (D.tells → Locates B (D.told disk.old).seen path.now k r)) result }
+{
+    let place = place_on::<B, D>(alloc, disk, path, k)?;
+    Ok(Reply::Place(place))
+}
+
+// That place, or why the disk denotes nothing.
+fn place_on<const B: usize, D: Disk<B>>(
+    alloc: Global,
+    disk: &mut D,
+    path: &Path,
+    k: u64,
+) -> Result<Option<Lba>, NoTable>
+    requires size { IsSectorSize B }
+    ensures same { OnlyReads D.Disk disk.old disk.new }
+    ensures blames { Blames fault_in result (D.faults disk.old) (D.faults disk.new) }
+    ensures locates { D.tells → Locates B (D.told disk.old).seen path.now k result }
+{
+    let layout = recover::<B, D>(alloc, disk)?;
+    Ok(place_in::<B>(&layout, path, k))
+}
+
+fn place_in<const B: usize>(layout: &Layout, path: &Path, k: u64) -> Option<Lba>
+    ensures { PlaceIs B layout.now path.now k result }
+{
+    locate::<B>(layout, path, k)
+}
+
+/// The partition and the number of its sector that two texts are.
+pub fn place_named(path: &str, number: &str) -> Result<(Path, u64), Failure>
+    ensures { NamesPlace path.now number.now result }
+{
+    let Some(path) = parse_path(path) else {
+        return Err(Failure::BadPath);
+    };
+    match parse_number(number) {
+        Some(k) => Ok((path, k)),
+        None => Err(Failure::BadNumber),
+    }
+}

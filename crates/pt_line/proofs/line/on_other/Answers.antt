@@ -1,9 +1,0 @@
-use Rattle.std.proofs.lemmas.Result.{IfOk-weaker}
-use Rattle.pt_line.proofs.line.on_other.Goals as goal
-
-pub returns : goal.returns
-returns c =
-    let one = c.image_page-page.ensures in
-    let two = IfOk-weaker c.with_arg-page.result _ _ (λ r takes. takes _ _ one c.other.ensures) c.with_arg-page.ensures in
-    let three = IfOk-weaker c.with_arg-page-2.result _ _ (λ r takes. takes _ _ two c.plan_only.ensures) c.with_arg-page-2.ensures in
-    IfOk-weaker c.with_arg.result _ _ (λ r takes. takes _ _ three c.sector_size.ensures) c.with_arg.ensures

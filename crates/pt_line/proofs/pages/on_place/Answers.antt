@@ -1,0 +1,9 @@
+use Rattle.std.proofs.lemmas.Result.{IfOk-weaker}
+use Rattle.pt_line.proofs.pages.on_place.Goals as goal
+
+pub returns : goal.returns
+returns c =
+    let one = c.image_page-page.ensures in
+    let two = IfOk-weaker c.with_arg-page.result _ _ (λ r takes. takes _ _ one c.needed.ensures) c.with_arg-page.ensures in
+    let three = IfOk-weaker c.with_arg-page-2.result _ _ (λ r takes. takes _ _ two c.needed-2.ensures) c.with_arg-page-2.ensures in
+    IfOk-weaker c.on_disk.result _ _ (λ r adds. adds _ three) c.on_disk.ensures

@@ -1,0 +1,228 @@
+//! What `clap`'s matches come to: the job of a subcommand, by the values of its arguments.
+
+ghost use Rattle.std.specs.Prelude.{◌≡◌, ◌↔◌, Some, IfOk, IsTrue, codes, map, string_bytes};
+ghost use Rattle.clap.specs.Walk.{texts as slice_texts};
+ghost use Rattle.clap.specs.Words.{found_of, rows_of, subcommand_rows_of};
+ghost use Rattle.pt_line.specs.Lines.{GivesIf, HasNoJob, IfJob, IsAdoption, IsGiven, IsInUse, IsLockedBy, IsMedium, IsSizeNamed};
+ghost use Rattle.pt_line.specs.Lines.{IsSizeOrLess, IsUnknown, MeansJob};
+ghost use Rattle.pt_line.specs.Lines.{text_in, texts_in};
+
+use crate::line::{Adoption, InUse, Job, Line, LineError, LockedBy, Medium, SectorSize};
+use clap::ArgMatches;
+use std::alloc::{AllocError, Global};
+
+fn text_of(alloc: Global, matches: &ArgMatches<'_>, id: &str) -> Result<String, AllocError>
+    ensures { IfOk result (λ text. string_bytes text ≡ text_in (rows_of (found_of matches.now)) id.now) }
+{
+    match matches.get_str(id) {
+        Some(text) => String::from_str(alloc, text),
+        None => Ok(String::new(alloc)),
+    }
+}
+
+fn copied(alloc: Global, texts: &[&str]) -> Result<Vec<String>, AllocError>
+    ensures { IfOk result (λ list. map string_bytes list.items ≡ slice_texts texts.now) }
+{
+    let mut list = Vec::new(alloc);
+    for text in texts {
+        list.push(String::from_str(alloc, text)?)?;
+    }
+    Ok(list)
+}
+
+fn texts_of(alloc: Global, matches: &ArgMatches<'_>, id: &str) -> Result<Vec<String>, AllocError>
+    ensures { IfOk result (λ list. map string_bytes list.items ≡ texts_in (rows_of (found_of matches.now)) id.now) }
+{
+    match matches.get_strs(id) {
+        Some(texts) => copied(alloc, texts),
+        None => Ok(Vec::new(alloc)),
+    }
+}
+
+/// The value of an option, where it is given.
+fn value_of(alloc: Global, matches: &ArgMatches<'_>, id: &str) -> Result<Option<String>, AllocError>
+    ensures { IfOk result (GivesIf (rows_of (found_of matches.now)) id.now) }
+{
+    match matches.get_str(id) {
+        Some(text) => Ok(Some(String::from_str(alloc, text)?)),
+        None => Ok(None),
+    }
+}
+
+fn size_named(text: &str) -> SectorSize
+    ensures { IsSizeNamed text.now result }
+{
+    match text {
+        "4096" => SectorSize::Bytes4096,
+        _ => SectorSize::Bytes512,
+    }
+}
+
+fn size_of(matches: &ArgMatches<'_>) -> Option<SectorSize>
+    ensures { IsSizeOrLess (rows_of (found_of matches.now)) result }
+{
+    match matches.get_str("sector-size") {
+        Some(text) => Some(size_named(text)),
+        None => None,
+    }
+}
+
+fn is_given(matches: &ArgMatches<'_>, id: &str) -> bool
+    ensures { IsTrue result ↔ IsGiven (rows_of (found_of matches.now)) id.now }
+{
+    let Some(flag) = matches.get_str(id) else {
+        return false;
+    };
+    flag == "true"
+}
+
+fn locked_by(matches: &ArgMatches<'_>) -> LockedBy
+    ensures { IsLockedBy (rows_of (found_of matches.now)) result }
+{
+    if is_given(matches, "no-lock") {
+        LockedBy::Caller
+    } else {
+        LockedBy::Ptab
+    }
+}
+
+fn medium_of(matches: &ArgMatches<'_>, flag: &str) -> Medium
+    ensures { IsMedium (rows_of (found_of matches.now)) flag.now result }
+{
+    if is_given(matches, flag) {
+        Medium::Device
+    } else {
+        Medium::File
+    }
+}
+
+fn in_use_of(matches: &ArgMatches<'_>) -> InUse
+    ensures { IsInUse (rows_of (found_of matches.now)) result }
+{
+    if is_given(matches, "in-use") {
+        InUse::Allowed
+    } else {
+        InUse::Refused
+    }
+}
+
+fn adoption_of(matches: &ArgMatches<'_>) -> Adoption
+    ensures { IsAdoption (rows_of (found_of matches.now)) result }
+{
+    if is_given(matches, "plan") {
+        Adoption::Planned
+    } else {
+        Adoption::Written
+    }
+}
+
+/// The fresh GUIDs of an edit, and its words.
+fn edit_of(
+    alloc: Global,
+    matches: &ArgMatches<'_>,
+) -> Result<(Option<String>, Vec<String>), AllocError>
+    ensures { IfOk result (λ p. GivesIf (rows_of (found_of matches.now)) (codes "fresh") p.0
+        × (map string_bytes p.1.items ≡ texts_in (rows_of (found_of matches.now)) (codes "WORD"))) }
+{
+    let fresh = value_of(alloc, matches, "fresh")?;
+    Ok((fresh, texts_of(alloc, matches, "WORD")?))
+}
+
+fn place_job(alloc: Global, inner: &ArgMatches<'_>, image: String) -> Result<Job, LineError>
+    requires { string_bytes image ≡ text_in (rows_of (found_of inner.now)) (codes "IMAGE") }
+    ensures { IfJob (codes "locate") (rows_of (found_of inner.now)) result }
+{
+    Ok(Job::Locate {
+        image,
+        path: text_of(alloc, inner, "PATH")?,
+        place: text_of(alloc, inner, "K")?,
+    })
+}
+
+fn adopt_job(alloc: Global, inner: &ArgMatches<'_>, image: String) -> Result<Job, LineError>
+    requires { string_bytes image ≡ text_in (rows_of (found_of inner.now)) (codes "IMAGE") }
+    ensures { IfJob (codes "adopt") (rows_of (found_of inner.now)) result }
+{
+    Ok(Job::Adopt {
+        image,
+        other: text_of(alloc, inner, "OTHER")?,
+        other_medium: medium_of(inner, "other-device"),
+        adoption: adoption_of(inner),
+        locked_by: locked_by(inner),
+    })
+}
+
+fn job_of(alloc: Global, name: &str, inner: &ArgMatches<'_>) -> Result<Job, LineError>
+    requires { ¬ IsUnknown name.now }
+    ensures { IfJob name.now (rows_of (found_of inner.now)) result }
+{
+    let image = text_of(alloc, inner, "IMAGE")?;
+    match name {
+        "show" => Ok(Job::Show {
+            image,
+            after: value_of(alloc, inner, "after")?,
+        }),
+        "verify" => Ok(Job::Verify { image }),
+        "locate" => place_job(alloc, inner, image),
+        "edit" => {
+            let (fresh, words) = edit_of(alloc, inner)?;
+            Ok(Job::Edit {
+                image,
+                fresh,
+                words,
+                locked_by: locked_by(inner),
+            })
+        }
+        "plan" => {
+            let (fresh, words) = edit_of(alloc, inner)?;
+            Ok(Job::Plan {
+                image,
+                fresh,
+                words,
+            })
+        }
+        "check" => Ok(Job::Check {
+            image,
+            file: text_of(alloc, inner, "PLANFILE")?,
+        }),
+        "apply" => Ok(Job::Apply {
+            image,
+            file: text_of(alloc, inner, "PLANFILE")?,
+            locked_by: locked_by(inner),
+        }),
+        "repair" => Ok(Job::Repair {
+            image,
+            locked_by: locked_by(inner),
+        }),
+        "adopt" => adopt_job(alloc, inner, image),
+        _ => unreachable!(),
+    }
+}
+
+/// The line of the subcommand with this name.
+fn line_in(alloc: Global, name: &str, inner: &ArgMatches<'_>) -> Result<Line, LineError>
+    requires { ¬ IsUnknown name.now }
+    ensures { MeansJob (Some (name.now, rows_of (found_of inner.now))) result }
+{
+    let medium = medium_of(inner, "device");
+    let in_use = in_use_of(inner);
+    if let (InUse::Allowed, Medium::File) = (in_use, medium) {
+        return Err(LineError::InUseAlone);
+    }
+    Ok(Line {
+        job: job_of(alloc, name, inner)?,
+        size: size_of(inner),
+        medium,
+        in_use,
+    })
+}
+
+pub(crate) fn line_of(alloc: Global, matches: &ArgMatches<'_>) -> Result<Line, LineError>
+    requires { ¬ HasNoJob (subcommand_rows_of matches.now) }
+    ensures { MeansJob (subcommand_rows_of matches.now) result }
+{
+    match matches.subcommand() {
+        Some((name, inner)) => line_in(alloc, name, inner),
+        None => unreachable!(),
+    }
+}

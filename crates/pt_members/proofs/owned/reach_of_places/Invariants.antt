@@ -1,0 +1,12 @@
+use Rattle.std.proofs.Common.{◌≡◌, ℕ}
+use Rattle.pt_members.specs.Counts.{number_at}
+use Rattle.pt_members.specs.Leaves.{OwnsAt}
+use Rattle.pt_members.specs.Reaches.{IsWithin}
+use Rattle.pt_members.proofs.Lowest.{Under}
+use Rattle.pt_members.proofs.owned.reach_of_places.Given as goal
+
+abbrev pub invariant-loop-k : goal.invariant-loop-k
+invariant-loop-k g l = record {
+  within : (s : ℕ) → Under (OwnsAt g.row.B l.layout) l.k s → IsWithin l.reach s;
+  number : l.number ≡ number_at l.layout.body l.k;
+}

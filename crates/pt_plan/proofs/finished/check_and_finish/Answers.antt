@@ -1,0 +1,17 @@
+use Rattle.std.proofs.lemmas.Result.{IfErr-weaker, IfOk-weaker}
+use Rattle.pt_apply.specs.Plans.{phases_of}
+use Rattle.pt_check.proofs.Reading.{finish_failed}
+use Rattle.pt_plan.proofs.Finishing.{after_yes}
+use Rattle.pt_plan.proofs.finished.check_and_finish.Goals as goal
+
+pub returns-in-Yes-clause-place : goal.returns-in-Yes-clause-place
+returns-in-Yes-clause-place g c = λ tells.
+    IfErr-weaker c.finish.result _ _ (finish_failed g.row.B (g.D.Disk.told c.args.disk.now).seen (phases_of c.args.plan.now))
+    (rw (c.in_ok-why.ensures.same.same tells) at (c.finish.ensures.place tells))
+
+pub returns-in-Yes-clause-after : goal.returns-in-Yes-clause-after
+returns-in-Yes-clause-after g c = λ tells.
+    IfOk-weaker c.finish.result _ _
+    (after_yes g.row.B (g.D.Disk.told c.args.disk.now).seen (phases_of c.args.plan.now) c.in_ok-why.field-0 c.in-Yes.switch c.in-Yes.is
+    (c.in_ok-why.ensures.answers tells) (c.in_ok-why.ensures.promises tells))
+    (rw (c.in_ok-why.ensures.same.same tells) at (c.finish.ensures.finished tells))

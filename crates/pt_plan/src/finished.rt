@@ -1,0 +1,139 @@
+//! What a plan makes of a disk, before it is applied.
+
+ghost use Rattle.std.specs.Prelude.{◌≡◌, ◌≤◌, ◌<◌, ◌+◌, length, IfOk, IfErr, IfSome, IsNone};
+ghost use Rattle.pt_sector.specs.Calls.{Blames};
+ghost use Rattle.pt_sector.specs.Reads.{OnlyReads};
+ghost use Rattle.pt_sector.specs.Sectors.{IsSectorSize};
+ghost use Rattle.pt_sector.specs.Writes.{written, after};
+ghost use Rattle.pt_sector.specs.Overlays.{room_left};
+ghost use Rattle.pt_apply.specs.Plans.{writes_of, phases_of, writes_in, finished};
+ghost use Rattle.pt_sound.specs.Findings.{VerdictReads};
+ghost use Rattle.pt_check.specs.CheckReads.{CheckReads};
+ghost use Rattle.pt_check.specs.Failed.{fault_in, FailedInCheck};
+ghost use Rattle.pt_plan.specs.Finished.{AfterIs, FinishedIs};
+
+use pt_apply::{Plan, Write};
+use pt_check::{Answer, CheckError, MOST_WRITES, Why, check};
+use pt_layout::{Layout, Verdict, verify};
+use pt_sector::{Disk, Overlay, ReadCache, Room};
+use std::alloc::Global;
+
+/// What a plan makes of a disk.
+#[derive(Drop)]
+pub enum After {
+    /// The plan may be applied, and the disk then denotes this layout.
+    Layout(Layout),
+    /// It may not: the checker's first reason against it.
+    No(Why),
+}
+
+/// How many writes the plan has, where they are not too many.
+fn count_writes<const B: usize>(plan: &Plan<B>) -> Option<usize>
+    ensures few { IfSome result (λ n. n ≡ length (writes_in (phases_of plan.now))) }
+    ensures many { IsNone result → 4096 < length (writes_in (phases_of plan.now)) }
+{
+    let mut count = 0;
+    for phase in &plan.phases {
+        if phase.len() > MOST_WRITES - count {
+            return None;
+        }
+        count += phase.len();
+    }
+    Some(count)
+}
+
+/// Puts a phase into an overlay that has room for it.
+fn put_phase<'a, const B: usize, D: Disk<B>>(over: &mut Overlay<'a, D, B>, phase: &[Write<B>])
+    requires size { IsSectorSize B }
+    requires room { length phase.now ≤ room_left over.old.own }
+    ensures same_reference { over.new.disk.ghost_name ≡ over.old.disk.ghost_name }
+    ensures disk { over.new.disk.now ≡ over.old.disk.now }
+    ensures faults { over.new.failed ≡ over.old.failed }
+    ensures room { room_left over.old.own ≤ room_left over.new.own + length phase.now }
+    ensures seen { (⟦<Overlay<'a, D, B> as Disk<B>>⟧.told over.new).seen ≡ written (writes_of phase.now)
+        (⟦<Overlay<'a, D, B> as Disk<B>>⟧.told over.old).seen }
+{
+    for write in phase {
+        over.put(write.lba, &write.bytes);
+    }
+}
+
+/// Puts a whole plan into an overlay that has room for it.
+fn put_plan<'a, const B: usize, D: Disk<B>>(over: &mut Overlay<'a, D, B>, plan: &Plan<B>)
+    requires size { IsSectorSize B }
+    requires room { length (writes_in (phases_of plan.now)) ≤ room_left over.old.own }
+    ensures same_reference { over.new.disk.ghost_name ≡ over.old.disk.ghost_name }
+    ensures disk { over.new.disk.now ≡ over.old.disk.now }
+    ensures faults { over.new.failed ≡ over.old.failed }
+    ensures seen { (⟦<Overlay<'a, D, B> as Disk<B>>⟧.told over.new).seen ≡ after (phases_of plan.now)
+        (⟦<Overlay<'a, D, B> as Disk<B>>⟧.told over.old).seen }
+{
+    for phase in &plan.phases {
+        put_phase(over, phase);
+    }
+}
+
+/// The layout of the finished disk, where that is healthy; a reason against the plan, where it has too many writes or the
+/// finished disk isn't healthy.
+fn finish<const B: usize, D: Disk<B>>(
+    alloc: Global,
+    disk: &mut D,
+    plan: &Plan<B>,
+) -> Result<After, CheckError>
+    requires size { IsSectorSize B }
+    ensures same { OnlyReads D.Disk disk.old disk.new }
+    ensures blames { Blames fault_in result (D.faults disk.old) (D.faults disk.new) }
+    ensures place { D.tells → IfErr result (FailedInCheck (VerdictReads B (finished plan.now (D.told disk.old).seen))) }
+    ensures finished { D.tells → IfOk result (FinishedIs B (D.told disk.old).seen (phases_of plan.now)) }
+{
+    let count = match count_writes(plan) {
+        Some(count) => count,
+        None => return Ok(After::No(Why::TooManyWrites)),
+    };
+    let room = Room::new(alloc, count)?;
+    let mut over = Overlay::new(disk, room);
+    put_plan(&mut over, plan);
+    match verify(alloc, &mut over)? {
+        Verdict::Yes(layout) => Ok(After::Layout(layout)),
+        Verdict::No(finding) => Ok(After::No(Why::Final(finding))),
+    }
+}
+
+/// The answer of [`layout_after`], by a disk that may be asked for a sector more than once.
+fn check_and_finish<const B: usize, D: Disk<B>>(
+    alloc: Global,
+    disk: &mut D,
+    plan: &Plan<B>,
+) -> Result<After, CheckError>
+    requires size { IsSectorSize B }
+    ensures same { OnlyReads D.Disk disk.old disk.new }
+    ensures blames { Blames fault_in result (D.faults disk.old) (D.faults disk.new) }
+    ensures place { D.tells → IfErr result (FailedInCheck (CheckReads B (D.told disk.old).seen (phases_of plan.now))) }
+    ensures after { D.tells → IfOk result (AfterIs B (D.told disk.old).seen (phases_of plan.now)) }
+{
+    match check(alloc, disk, plan)? {
+        Answer::No(why) => Ok(After::No(why)),
+        Answer::Yes { .. } => finish(alloc, disk, plan),
+    }
+}
+
+/// What the plan would make of the disk as it is now, wherever the plan comes from: the layout that the disk denotes once
+/// all of its writes are done, or the checker's first reason against it. Nothing is flushed or written.
+///
+/// No copy of the disk is made: an overlay holds the plan's writes, and a cache what was read, so that the disk is asked
+/// for each sector once.
+pub fn layout_after<const B: usize, D: Disk<B>>(
+    alloc: Global,
+    disk: &mut D,
+    plan: &Plan<B>,
+) -> Result<After, CheckError>
+    requires size { IsSectorSize B }
+    ensures same { OnlyReads D.Disk disk.old disk.new }
+    ensures blames { Blames fault_in result (D.faults disk.old) (D.faults disk.new) }
+    ensures place { D.tells → IfErr result (FailedInCheck (CheckReads B (D.told disk.old).seen (phases_of plan.now))) }
+    ensures after { D.tells → IfOk result (AfterIs B (D.told disk.old).seen (phases_of plan.now)) }
+{
+    let room = Room::for_cache(alloc)?;
+    let mut cache = ReadCache::new(disk, room);
+    check_and_finish(alloc, &mut cache, plan)
+}

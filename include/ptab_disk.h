@@ -1,0 +1,132 @@
+/*
+ * ptab_disk.h: the calls of ptab.h on an image or a block device. Each is one call: it reads what it needs, asks the library
+ * until it has an answer, and carries out what is to be written. docs/c.md tells how to use it. It is for Linux.
+ *
+ * Rules, besides those of ptab.h:
+ *   - each call reads the disk anew, its size too, so it answers for the disk as it is now;
+ *   - a call that writes first makes durable what is there, then reads, and writes a plan phase by phase with a sync after
+ *     each. It stops at the first write or sync that fails; the disk then has the old table or the new one;
+ *   - calls on one disk come one after the other; on different disks they may be in several threads at once;
+ *   - `errno` is that of the call that failed where PTAB_DEVICE is answered.
+ *
+ * Every call returns a status of ptab.h, but never PTAB_WANT or PTAB_WANT_OTHER, and fills the
+ * reply.
+ */
+#ifndef PTAB_DISK_H
+#define PTAB_DISK_H
+
+#include "ptab.h"
+
+#ifdef __cplusplus
+extern "C" {
+#endif
+
+/* A disk that is open. */
+typedef struct ptab_disk ptab_disk;
+
+/* How a disk is opened: a sum of these. Without PTAB_DISK_DEVICE it is a plain file, with it a block device; all else is
+   refused. A device that is to be written is claimed as the kernel claims it for a mount, so one that is in use is refused. */
+enum {
+  PTAB_DISK_READ = 0,
+  PTAB_DISK_WRITE = 1,    /* for writing, under the exclusive lock of flock(2) until it is closed */
+  PTAB_DISK_UNLOCKED = 2, /* takes no lock, since the caller holds it */
+  PTAB_DISK_DEVICE = 4    /* a block device */
+};
+
+/* More of what `reply.number` counts. */
+enum {
+  PTAB_ABOUT_DISK = 64,      /* 1 to 12, below: `sector` is that of a read or write, `b` is errno */
+  PTAB_ABOUT_OTHER_DISK = 65 /* the same of the other disk of ptab_disk_adopt */
+};
+
+enum {
+  PTAB_DISK_OPENING = 1,     /* PTAB_DEVICE: it can't be opened */
+  PTAB_DISK_KIND = 2,        /* PTAB_DEVICE: it is another kind of file, `a`, below */
+  PTAB_DISK_READING = 3,     /* PTAB_DEVICE: a sector can't be read, or the file ends before it */
+  PTAB_DISK_WRITING = 4,     /* PTAB_DEVICE: a sector can't be written */
+  PTAB_DISK_SYNCING = 5,     /* PTAB_DEVICE: what was written can't be made durable */
+  PTAB_DISK_LOCKING = 6,     /* PTAB_DEVICE: there are no locks */
+  PTAB_DISK_LOCKED = 7,      /* PTAB_REFUSED: the lock is held elsewhere */
+  PTAB_DISK_IN_USE = 8,      /* PTAB_REFUSED: the device is in use: mounted, as swap, or by another device */
+  PTAB_DISK_SECTOR_SIZE = 9, /* PTAB_USAGE: the device has sectors of `a` bytes */
+  PTAB_DISK_READ_ONLY = 10,  /* PTAB_USAGE: it was opened for reading alone */
+  PTAB_DISK_RANDOM = 11,     /* PTAB_DEVICE: the system gives no random bytes */
+  PTAB_DISK_HOW = 12         /* PTAB_USAGE: `how` is no sum of the above */
+};
+
+/* The kinds of PTAB_DISK_KIND. */
+enum {
+  PTAB_KIND_OTHER = 0,
+  PTAB_KIND_FILE = 1,
+  PTAB_KIND_BLOCK = 2,
+  PTAB_KIND_FOLDER = 3,
+  PTAB_KIND_CHARACTERS = 4,
+  PTAB_KIND_PIPE = 5,
+  PTAB_KIND_SOCKET = 6
+};
+
+/* Opens a disk, with sectors of 512 or 4096 bytes. Where `sector_size` is 0 it is a device's own, of a file 512. With any
+   status but PTAB_DONE `*disk` is NULL. */
+int32_t ptab_disk_open(const char *path, uint32_t how, uint32_t sector_size, ptab_disk **disk, ptab_reply *reply);
+
+/* The same of a descriptor, which stays the caller's: it was opened for reading, or for both and not for appending, a device
+   with O_EXCL. It is locked and unlocked as a path is, unless PTAB_DISK_UNLOCKED says that the caller does. */
+int32_t ptab_disk_take(int fd, uint32_t how, uint32_t sector_size, ptab_disk **disk, ptab_reply *reply);
+
+/* Ends the lock, and closes what ptab_disk_open opened. NULL is no disk, and nothing is done. */
+void ptab_disk_close(ptab_disk *disk);
+
+/* How many sectors the disk has now, and how many bytes each of them has. */
+int32_t ptab_disk_size(ptab_disk *disk, uint64_t *sectors, uint32_t *sector_size, ptab_reply *reply);
+
+/* ptab_members, ptab_verify, ptab_locate. */
+int32_t ptab_disk_members(ptab_disk *disk, ptab_table *table, ptab_member *rows, size_t rows_len, ptab_reply *reply);
+int32_t ptab_disk_verify(ptab_disk *disk, ptab_reply *reply);
+int32_t ptab_disk_locate(ptab_disk *disk, uint64_t number, uint8_t letter, uint64_t k, ptab_reply *reply);
+
+/*
+ * Calls that write, on a disk that was opened with PTAB_DISK_WRITE. With PTAB_DONE the disk is as wanted, and that is durable;
+ * `reply.count` is the number of sectors that were written. With PTAB_DEVICE it is that of the sectors that were written, or
+ * may have been in part, and `reply.phases` that of the phases that are durable. With every other status nothing was written.
+ */
+
+/* An edit by `words_len` words as `ptab edit` takes them, each ended by a zero byte. `drawn` has 16 random bytes for each GUID
+   that they need; where it is NULL they are drawn by getrandom(2). */
+int32_t ptab_disk_edit(ptab_disk *disk, const char *const *words, size_t words_len, const uint8_t *drawn, size_t drawn_len,
+                       ptab_reply *reply);
+
+/* A repair. */
+int32_t ptab_disk_repair(ptab_disk *disk, ptab_reply *reply);
+
+/* Gives the disk the layout that another one denotes, which is only read. Both may be the same. */
+int32_t ptab_disk_adopt(ptab_disk *disk, ptab_disk *other, ptab_reply *reply);
+
+/* Carries out a plan from elsewhere, if ptab_check says yes to it; PTAB_NO and the first reason else. */
+int32_t ptab_disk_apply(ptab_disk *disk, const ptab_write *writes, size_t writes_len, const uint8_t *bytes, size_t bytes_len,
+                        ptab_reply *reply);
+
+/* Plans, of which nothing is written: those that the calls above would carry out, and whether one may be. Buffers are
+   those of ptab.h; room for PTAB_MOST_WRITES is mostly enough, and PTAB_ROOM tells where it isn't. */
+int32_t ptab_disk_plan(ptab_disk *disk, const char *const *words, size_t words_len, const uint8_t *drawn, size_t drawn_len,
+                       ptab_write *writes, size_t writes_len, uint8_t *bytes, size_t bytes_len, ptab_reply *reply);
+int32_t ptab_disk_repair_plan(ptab_disk *disk, ptab_write *writes, size_t writes_len, uint8_t *bytes, size_t bytes_len,
+                              ptab_reply *reply);
+int32_t ptab_disk_adopt_plan(ptab_disk *disk, ptab_disk *other, ptab_write *writes, size_t writes_len, uint8_t *bytes,
+                             size_t bytes_len, ptab_reply *reply);
+int32_t ptab_disk_check(ptab_disk *disk, const ptab_write *writes, size_t writes_len, const uint8_t *bytes, size_t bytes_len,
+                        ptab_reply *reply);
+
+/* Texts: as much as `length` bytes hold, with a zero byte at the end. They give how many bytes the whole text has without
+   that, so a text of that length or more wasn't cut. */
+
+/* The sentence that says what a status and its reply mean, of these calls and of ptab.h's. */
+size_t ptab_message(int32_t status, const ptab_reply *reply, char *text, size_t length);
+
+/* A GPT partition's name in UTF-8, as `ptab show` prints it: at most 108 bytes. */
+size_t ptab_name_text(const ptab_member *row, char *text, size_t length);
+
+#ifdef __cplusplus
+}
+#endif
+
+#endif
