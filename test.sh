@@ -50,6 +50,7 @@ docs.py "$ptab"
 recipes.py "$ptab"
 from_sgdisk.py "$ptab"
 other_tools.py "$ptab"
+devices.py "$ptab"
 man_page.py "$ptab"
 LIST
 running=$!
