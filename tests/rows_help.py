@@ -54,7 +54,7 @@ def words(command):
     if not told:
         sys.exit("docs/commands.md tells no word")
     for letter in told:
-        if not re.search(rf"(^|[ ,]){letter}(:| )", text.split("Words:")[1], re.MULTILINE):
+        if not re.search(rf"(^|[ ,]){letter}(:|\s)", text.split("Words:")[1], re.MULTILINE):
             sys.exit(f"ptab edit --help doesn't tell the word {letter}")
     findings = page(command, "verify", "--help")
     for number in range(1, 12):
