@@ -3,7 +3,7 @@ call reads what it needs anew."""
 import ctypes as c
 
 DONE, NO, USAGE, REFUSED, NO_TABLE, DEVICE, MEMORY, WANT, ROOM, WANT_OTHER = 0, 1, 2, 3, 4, 5, 6, -1, -2, -3
-VERSION, MOST_MEMBERS, MOST_WRITES = 1, 1056, 264
+VERSION, MOST_MEMBERS, MOST_WRITES, MOST_WANTED = 1, 1056, 264, 132
 
 
 class View(c.Structure):
