@@ -50,6 +50,7 @@ docs/docs.py "$ptab"
 docs/recipes.py "$ptab"
 peers/from_sgdisk.py "$ptab"
 peers/other_tools.py "$ptab"
+failures/devices.py "$ptab"
 docs/man_page.py "$ptab"
 LIST
 running=$!

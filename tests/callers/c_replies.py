@@ -31,13 +31,15 @@ def misused(number, **fields):
 
 
 class Given:
-    """A view of an image: of all its sectors but some, or of some."""
+    """A view of an image: of all its sectors but some, or of some; and before or behind them these (number, bytes)."""
 
-    def __init__(self, image, size=512, without=(), only=None):
+    def __init__(self, image, size=512, without=(), only=None, before=(), behind=()):
         self.size, self.count = size, len(image) // size
         known = [k for k in (range(self.count) if only is None else only) if k not in without]
+        sectors = [*before, *((k, bytes(image[k * size:(k + 1) * size])) for k in known), *behind]
+        known = [number for number, _ in sectors]
         self.numbers = (ctypes.c_uint64 * max(1, len(known)))(*known)
-        self.bytes = ctypes.create_string_buffer(b"".join(bytes(image[k * size:(k + 1) * size]) for k in known) or b"\0")
+        self.bytes = ctypes.create_string_buffer(b"".join(content for _, content in sectors) or b"\0")
         self.view = lib.View(size, self.count, ctypes.addressof(self.numbers), len(known), ctypes.addressof(self.bytes), len(known) * size)
 
     def but(self, **fields):
@@ -365,6 +367,20 @@ def listed(calls):
     yield calls.wanted(Given(gpt, only=ends), 3), (lib.WANT, reply(sector=101, count=3))
 
 
+def twice(calls):
+    """Of a number that stands twice the first counts; the order of the others doesn't matter, and a number past the disk is no sector."""
+    gpt, blank = images.one_partition(), bytes(512)
+    for call in (calls.members, calls.verify, calls.plan, calls.repair):
+        whole_disk = call(Given(gpt))
+        yield call(Given(gpt, only=range(4095, -1, -1))), whole_disk
+        yield call(Given(gpt, only=[(k * 1365) % 4096 for k in range(4096)])), whole_disk
+        for k in (0, 1, 2, 33, 4063, 4094, 4095):
+            yield call(Given(gpt, behind=[(k, blank)])), whole_disk
+            yield call(Given(gpt, before=[(k, blank)])), call(Given(changed(gpt, k, blank)))
+            good = bytes(gpt[k * 512:(k + 1) * 512])
+            yield call(Given(gpt, without={k}, before=[(5000, blank), (k, good)], behind=[(k, blank), (k, good)])), whole_disk
+
+
 def room(calls):
     gpt, broken = Given(images.one_partition()), Given(changed(images.one_partition(), 1, bytes(512)))
     yield calls.members(gpt, 0), (lib.ROOM, reply(count=1))
@@ -379,7 +395,7 @@ def room(calls):
 def checked(it):
     """Compares them all, and says how many there were; `it` is the library."""
     calls, count = Calls(it), 0
-    for part in (arguments, unreadable, done, no, refused, wanted, listed, room):
+    for part in (arguments, unreadable, done, no, refused, wanted, listed, twice, room):
         for number, (found, expected) in enumerate(part(calls)):
             if found != expected:
                 raise SystemExit(f"C library: {part.__name__} {number}: {told(*found)}, wanted {told(*expected)}")

@@ -191,4 +191,5 @@ def main():
     print(f"sectors read once: {passed} passed, 0 failed")
 
 
-main()
+if __name__ == "__main__":
+    main()

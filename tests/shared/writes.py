@@ -8,10 +8,10 @@ CALLS = ("openat", "lseek", "write", "pwrite64", "ftruncate", *SYNCS)
 CALL = re.compile(rf"^(\d+ +)?({'|'.join(CALLS)})\((.*)\) += (\d+)$")
 
 
-def traced(command, path, sectors, calls=CALLS, **more):
+def traced(command, path, sectors, calls=CALLS, log=None, **more):
     """How a command ends, and the writes to an image, as (sector, bytes), before each sync of it, by whichever process of the command
     opened it last for writing."""
-    log = f"{path}.log"
+    log = log or f"{path}.log"
     done = subprocess.run(["strace", "-f", "-P", path, "-e", f"trace={','.join(calls)}", "-xx", "-s", str(2 * sectors.size), "-o", log,
                            *command], stdout=subprocess.PIPE, stderr=subprocess.PIPE, text=True, **more)
     phases, writes, held = [], [], None

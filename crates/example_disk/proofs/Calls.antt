@@ -64,6 +64,7 @@ module _ (first n : ℕ) where
     no_more = λ k v lt may.
         let within : k < n = omega (arith, lt, length-window first n old.durable) in
         let there : first + k < length old.durable = omega (arith, lt, length-window first n old.durable) in
-        hold_in first n old.durable old.pending k v within (failed.no_more (first + k) v there (hold_out first n new.durable new.pending k v within may));
+        hold_in first n old.durable old.pending k v within
+        (failed.no_more (first + k) v there (hold_out first n new.durable new.pending k v within may));
     time = elapses old new failed.time;
   }

@@ -13,7 +13,9 @@ use Rattle.example_disk.specs.Window.{window, moved, writes_in, told_in}
 
 -- they have no more bytes than the disk
 pub fewer_bytes : (first n count b : ℕ) → first + n ≤ count → count * b ≤ 2 ^ 64 → n * b ≤ 2 ^ 64
-fewer_bytes first n count b le bound = let less : n * b ≤ count * b = mul-le n b count b (omega (arith, le)) (omega arith) in omega (arith, less, bound)
+fewer_bytes first n count b le bound =
+    let less : n * b ≤ count * b = mul-le n b count b (omega (arith, le)) (omega arith) in
+    omega (arith, less, bound)
 
 module _ (first n : ℕ) where
   -- a write is of one of the sectors, or of none of them

@@ -9,22 +9,14 @@ ghost use Rattle.jawefon.specs.Sectors.{IsSectorSize};
 
 use anyhow::{Context, Result, bail};
 use jawefon::{
-    Disk, Edit, Guid, MemDisk, Path, commit, fresh, locate, members, parse_edit, recover,
+    Disk, Edit, Extent, Guid, Lba, MemDisk, Member, commit, fresh, members, parse_edit, recover,
 };
 use part_disk::PartDisk;
 
-/// How many sectors the disk has, and how many of them the guest's partition.
-const SECTORS: u64 = 8192;
+/// How many sectors the disk has.
+const SECTORS: u64 = 1024;
 
-const GUEST: u64 = 2048;
-
-/// The guest's partition.
-const FIRST: Path = Path {
-    number: 1,
-    letter: None,
-};
-
-/// The disk's own table, with the guest's partition.
+/// The disk's own table, with one partition, for the guest.
 static OUTER: [&str; 4] = ["o", "a:256", "n:1:256:+512:8300", "c:1:guest"];
 
 /// The guest's table, within that partition.
@@ -65,12 +57,24 @@ fn print_table<const B: usize, D: Disk<B>>(rt: &HostRuntime, disk: &mut D) -> Re
     Ok(())
 }
 
-/// The guest's partition as a disk.
+/// The sectors of a partition; none where they lie past any disk.
+fn extent_of(part: &Member) -> Option<Extent> {
+    let first = u64::try_from(part.first).ok()?;
+    let last = u64::try_from(part.last).ok()?;
+    Extent::new(Lba(first), Lba(last))
+}
+
+/// The disk's first partition as a disk.
 fn guest_of(rt: &HostRuntime, mut disk: MemDisk<512>) -> Result<PartDisk<512, MemDisk<512>>> {
     let layout = recover(rt.alloc(), &mut disk)?;
-    let guest = match locate::<512>(&layout, &FIRST, 0) {
-        Some(first) => PartDisk::new(disk, first, GUEST),
-        None => bail!("there is no partition {FIRST}"),
+    let parts = members::<512>(rt.alloc(), &layout)?;
+    let extent = match parts.first() {
+        Some(part) => extent_of(part),
+        None => bail!("the disk has no partition"),
+    };
+    let guest = match extent {
+        Some(extent) => PartDisk::new(disk, extent.first(), extent.len()),
+        None => None,
     };
     guest.context("the partition ends past the disk")
 }

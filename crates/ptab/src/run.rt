@@ -25,11 +25,13 @@ fn reply_to<const B: usize, R: Files<File = File> + AllocGlobal>(
 {
     match job {
         Job::Help(text) => Ok(Reply::Text(text)),
-        Job::Show { image, after: None } => show::<B, R>(rt, opening.of(image.as_str())),
-        Job::Show {
-            image,
-            after: Some(file),
-        } => show_after::<B, R>(rt, opening.of(image.as_str()), file.as_str()),
+        Job::Show { image, after } => {
+            let shown = opening.of(image.as_str());
+            match after {
+                None => show::<B, R>(rt, shown),
+                Some(file) => show_after::<B, R>(rt, shown, file.as_str()),
+            }
+        }
         Job::Verify { image } => verify_image::<B, R>(rt, opening.of(image.as_str())),
         Job::Locate { image, path, place } => {
             locate_in::<B, R>(
