@@ -28,8 +28,9 @@ import devices_runs
 from images import LARGE, SMALL, entry, room
 from reads import EDITS, FRESH, gpts, mbrs
 from tools import must, run
-from writes import choices, traced, written
+from writes import SYNCS, choices, traced, written
 
+CALLS = ("openat", "write", "pwrite64", "ftruncate", *SYNCS)
 DRAWN = os.urandom(128).hex()
 NOT_BLOCK = ("", "device: not a block device\n", 5)
 
@@ -213,7 +214,7 @@ def in_use(it, path):
             it.same("ptab-run", (done.returncode, "it is in use, or a partition of it" in done.stderr), (123, True))
             # in a namespace where it isn't mounted
             words = ["unshare", "-m", "sh", "-c", f'umount {place}; exec "$0" "$@"', sys.executable, devices_runs.RUN]
-            done = run(*words, "--device", loop.path, "sgdisk", "-c", "1:x", "@", env={**os.environ, "PTAB": it.ptab}, input="")
+            done = run(*words, "--device", loop.path, "sgdisk", "-c", "1:x", "@", input="")
             it.same("ptab-run in another namespace", (done.returncode, "it is in use" in done.stderr), (123, True))
         finally:
             must("umount", place)
@@ -243,7 +244,7 @@ def other_nodes(it, path):
         it.same("the same size", it.run("show", "--device", "--sector-size", "512", loop.path)[1:], ("", 0))
         it.same("another size", it.run("show", "--device", "--sector-size", "4096", loop.path)[::2], ("", 2))
         part, = loop.make_partitions()
-        it.same("within a partition", it.run("edit", "--device", part, "--fresh", DRAWN, "o", "n:1:64:0"), ("done\n", "", 0))
+        it.same("within a partition", it.run("edit", "--device", part, "--fresh", DRAWN, "a:1", "o", "n:1:64:0"), ("done\n", "", 0))
         it.same("what is in it", it.run("show", "--device", part)[0].splitlines()[1].split(" ")[:2], ["1", "64"])
         for words in (["edit", "--device", loop.path, *edit], ["repair", "--device", loop.path]):
             done = run("flock", loop.path, it.ptab, *words)
@@ -252,7 +253,7 @@ def other_nodes(it, path):
             it.same("the caller's lock", (done.stdout, done.stderr, done.returncode), ("done\n", "", 0))
         it.same("locked, and shown", run("flock", loop.path, it.ptab, "show", "--device", loop.path).returncode, 0)
     with Loop(path, 512, "--read-only") as loop:
-        it.same("read-only", it.run("edit", "--device", loop.path, *edit), ("", "device\n", 5))
+        it.same("read-only", it.run("edit", "--device", loop.path, "c:1:other"), ("", "device\n", 5))
         it.same("read-only, and shown", it.run("show", "--device", loop.path)[1:], ("", 0))
     with Loop(path, 4096) as loop:
         it.same("another size", it.run("show", "--device", "--sector-size", "512", loop.path)[::2], ("", 2))
@@ -299,7 +300,7 @@ def cut(it, sectors, what, image, edits):
     rng, words = random.Random(edits), ["--fresh", FRESH, *edits.split()]
     path, size = it.at("stopped"), ["--sector-size", str(sectors.size)]
     with Loop(put(it.at("under"), bytes(image)), sectors.size) as loop:
-        done, phases = traced([it.ptab, "edit", "--device", loop.path, *words], loop.path, sectors, log=it.at("calls"))
+        done, phases = traced([it.ptab, "edit", "--device", loop.path, *words], loop.path, sectors, CALLS, it.at("calls"))
         it.same(f"{what}: {edits}", (done.stdout, done.stderr, done.returncode), ("done\n", "", 0))
         after = loop.content()
 
