@@ -20,7 +20,7 @@ import tempfile
 import time
 
 ROOT = os.path.join(os.path.dirname(os.path.abspath(__file__)), "..")
-sys.path.insert(0, os.path.join(ROOT, "tests"))
+sys.path.insert(0, os.path.join(ROOT, "tests", "shared"))
 import replay as lib
 from images import FREEBSD, LARGE, SMALL, ebr, entry, guid, label, record
 
@@ -30,7 +30,7 @@ DRAWN = random.Random(1).randbytes(16 * 256)
 def library(archive, folder):
     """The archive as a shared object whose memory is counted."""
     path = f"{folder}/counting.so"
-    subprocess.run(["cc", "-std=c11", "-O2", "-fPIC", "-shared", f"{ROOT}/tests/c_library_memory.c", "-Wl,--whole-archive", archive,
+    subprocess.run(["cc", "-std=c11", "-O2", "-fPIC", "-shared", f"{ROOT}/tests/callers/c_library_memory.c", "-Wl,--whole-archive", archive,
                     "-Wl,--no-whole-archive", "-o", path], check=True)
     it = lib.Ptab(path)
     it.lib.test_refuse.argtypes = [ctypes.c_uint64, ctypes.c_uint64]

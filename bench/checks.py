@@ -16,7 +16,7 @@ import tempfile
 
 from measure import calls, instructions, reset
 
-sys.path.insert(0, os.path.join(os.path.dirname(os.path.abspath(__file__)), "..", "tests"))
+sys.path.insert(0, os.path.join(os.path.dirname(os.path.abspath(__file__)), "..", "tests", "shared"))
 from images import FREEBSD, SMALL, chained, ebr, entry, guid, label, long_chain, record  # noqa: E402
 from plans import phases_of, text_of  # noqa: E402
 

@@ -14,7 +14,7 @@ import tempfile
 
 from measure import measure
 
-sys.path.insert(0, os.path.join(os.path.dirname(os.path.abspath(__file__)), "..", "tests"))
+sys.path.insert(0, os.path.join(os.path.dirname(os.path.abspath(__file__)), "..", "tests", "shared"))
 from images import SMALL, ebr, record  # noqa: E402
 
 MIB = 1 << 20

@@ -132,7 +132,7 @@ def trait_text(trait, folders):
         for file in glob.glob(f"{folder}/src/**/*.rt", recursive=True):
             with open(file, encoding="utf-8") as it:
                 text = it.read()
-            if re.search(rf"^pub(?:\(crate\))? trait {trait}\b", text, re.MULTILINE):
+            if re.search(rf"^pub trait {trait}\b", text, re.MULTILINE):
                 return text
     raise SystemExit(f"wrong_bodies.py: no trait {trait}")
 

@@ -17,10 +17,11 @@ import tempfile
 import time
 from concurrent.futures import ThreadPoolExecutor
 
-from beside import SECONDS, proved_by
-from doubles import KEEPS_MEMORY
-
 HERE = os.path.dirname(os.path.abspath(__file__))
+sys.path.insert(0, f"{HERE}/shared")
+from beside import SECONDS, proved_by  # noqa: E402
+from doubles import KEEPS_MEMORY  # noqa: E402
+
 ROOT = os.path.dirname(HERE)
 
 

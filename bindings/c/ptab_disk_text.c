@@ -1,6 +1,6 @@
 /*
  * The sentences of statuses and replies, and the text of a name. They are those that the library's errors print
- * (docs/commands.md); tests/messages.py holds them against these.
+ * (docs/commands.md); tests/docs/messages.py holds them against these.
  */
 #define _POSIX_C_SOURCE 200809L
 #include "ptab_disk.h"

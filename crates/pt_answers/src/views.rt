@@ -5,7 +5,8 @@ ghost use Rattle.pt_sector.specs.Calls.{Blames};
 ghost use Rattle.pt_sector.specs.Reads.{OnlyReads, fault_of};
 ghost use Rattle.pt_sector.specs.Sectors.{IsSectorSize};
 ghost use Rattle.pt_recover.specs.Answers.{fault_in};
-ghost use Rattle.pt_answers.specs.Answers.{Answers, Locates, NamesPlace, PlaceIs, Recovers, Verifies, locate_reply, show_reply, verify_reply};
+ghost use Rattle.pt_answers.specs.Answers.{Answers, Locates, NamesPlace, PlaceIs, Recovers, Verifies, locate_reply, show_reply};
+ghost use Rattle.pt_answers.specs.Answers.{verify_reply};
 
 use crate::failure::Failure;
 use pt_layout::{Layout, NoTable, Path, locate, parse_number, parse_path, recover, verify};

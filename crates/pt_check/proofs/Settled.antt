@@ -26,7 +26,8 @@ module _ (phases : List Writes) (d : Sectors) where
   kept_by : (m : ℕ) → m < length phases → (s : ℕ) → ((v : List ℕ) → ¬ Puts (phase_at phases m) s v)
       → sector (disk_after phases d (m + 1)) s ≡ sector (disk_after phases d m) s
   kept_by m lt s none = subst (λ (x : Sectors). sector x s ≡ sector (disk_after phases d m) s)
-      (seen_on phases d m (phase_at phases m) (disk_after phases d m) (written (phase_at phases m) (disk_after phases d m)) lt refl refl refl)
+      (seen_on phases d m (phase_at phases m) (disk_after phases d m) (written (phase_at phases m) (disk_after phases d m)) lt refl refl
+      refl)
       (on_stop (λ v. v ≡ sector (disk_after phases d m) s) s (disk_after phases d m) (phase_at phases m)
       (written (phase_at phases m) (disk_after phases d m)) (stopped_written (phase_at phases m) (disk_after phases d m)) refl
       (λ v put. absurd (none v put)))
@@ -63,7 +64,8 @@ module _ (b : ℕ) (phases : List Writes) (d : Sectors) (new : Option Layout) (r
   passed_to_end : (old : Option Layout) (switch : Option ℕ) (n m : ℕ) → m + n ≡ length phases → SettlesFrom (IsIn runs) phases m
       → Course (Denotes b) (Reads b) phases d old new m switch → Course (Denotes b) (Reads b) phases d old new (length phases) switch
   passed_to_end old switch zero m all settles course =
-      subst (λ (k : ℕ). Course (Denotes b) (Reads b) phases d old new k switch) (let same : m ≡ length phases = omega (arith, all) in same) course
+      subst (λ (k : ℕ). Course (Denotes b) (Reads b) phases d old new k switch)
+      (let same : m ≡ length phases = omega (arith, all) in same) course
   passed_to_end old switch (suc n) m all settles course =
       passed_to_end old switch n (m + 1) (omega (arith, all)) (λ j ge lt. settles j (omega (arith, ge)) lt)
       (passed_quiet b phases d m (omega (arith, all)) runs (reading_end m (omega (arith, all)) settles)

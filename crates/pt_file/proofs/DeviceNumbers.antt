@@ -1,5 +1,6 @@
 -- Numbers of devices, from where their text is cut.
-use Rattle.std.proofs.Common.{◌≡◌, ◌≢◌, ◌<◌, ◌^◌, ℕ, List, ◌∷◌, ◌++◌, length, get_or, Option, Some, None, Bor, arith, lit<, length-append, IfNone}
+use Rattle.std.proofs.Common.{◌≡◌, ◌≢◌, ◌<◌, ◌^◌, ℕ, List, ◌∷◌, ◌++◌, length, get_or, Option, Some, None, Bor, arith, lit<}
+use Rattle.std.proofs.Common.{length-append, IfNone}
 use Rattle.std.specs.Fmt.{decimal}
 use Rattle.std.proofs.Math.Seq.{get_or-append_seam}
 use Rattle.std.proofs.lemmas.Str.Pattern.{IsSplitOnceResult, split_after, split_parts}

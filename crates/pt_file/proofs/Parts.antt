@@ -1,5 +1,6 @@
 -- The parts of a text between its spaces.
-use Rattle.std.proofs.Common.{◌≡◌, ◌≢◌, ◌<◌, ◌≤◌, ℕ, List, [], ◌∷◌, ◌++◌, length, drop, Option, Some, None, refl, sym, ◌∙◌, ap, subst, arith, lit<, Bor, IfNone}
+use Rattle.std.proofs.Common.{◌≡◌, ◌≢◌, ◌<◌, ◌≤◌, ℕ, List, [], ◌∷◌, ◌++◌, length, drop, Option, Some, None, refl, sym, ◌∙◌, ap, subst}
+use Rattle.std.proofs.Common.{arith, lit<, Bor, IfNone}
 use Rattle.std.proofs.Common.{IfSome, eqb, get_or, false, inl, inr, ◌⊎◌}
 use Rattle.std.specs.Option.{MatchOption}
 use Rattle.std.specs.List.{position_or_len, before_first, after_first}

@@ -7,3 +7,4 @@ pub mod Asked
 pub mod ListRows
 pub mod SayingLike
 pub mod Unknown
+pub mod FirstPlaces

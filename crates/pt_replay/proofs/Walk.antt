@@ -1,9 +1,7 @@
 -- The walk over the known sectors.
-use Rattle.std.proofs.Common.{◌≡◌, ◌++◌, refl, subst, ◌<◌, ◌≤◌, ◌+◌, ℕ, suc, sym, List, [], ◌∷◌, length, get_or, drop, drop-cons}
-use Rattle.std.proofs.Common.{Option, Some, None, ap, ◌∙◌, arith, false}
-use Rattle.std.specs.Prelude.{if◌then◌else◌, Bool, nat_eq}
-use Rattle.std.proofs.lemmas.Bool.{eq-eqb}
-use Rattle.std.proofs.lemmas.List.{drop_all, append_cancel_left}
+use Rattle.std.proofs.Common.{◌≡◌, ◌++◌, refl, subst, ◌<◌, ℕ, sym, List, [], ◌∷◌}
+use Rattle.std.proofs.Common.{Option, Some, None, ap, ◌∙◌, arith}
+use Rattle.std.proofs.lemmas.List.{append_cancel_left}
 use Rattle.std.proofs.lemmas.List.FromFn.{get_or-map-range_with_len}
 use Rattle.pt_sector.specs.Sectors.{Sectors, sector}
 use Rattle.pt_sector.specs.declared.disk.Fault.{Fault}
@@ -12,35 +10,6 @@ use Rattle.pt_sector.specs.declared.address.Lba.{Lba}
 use Rattle.pt_sector.specs.declared.disk.Fault.TheVariants.{Read}
 use Rattle.pt_replay.specs.Known.{known_of, known_or, whole, IsOfNew, AreOfNew, AreOf, IsAsked, Asks}
 use Rattle.pt_replay.specs.declared.view.View.{View}
-
-other_false : (a b : ℕ) → ¬ (a ≡ b) → nat_eq a b ≡ false
-other_false a b ne = grind arith
-
-known_cut : (ns : List ℕ) (ks : Sectors) (k s z : ℕ) (w : List ℕ) → k < length ns → k < length ks
-    → known_of (drop k ns) (drop k ks) s ≡ (if nat_eq (get_or ns k z) s then Some (get_or ks k w) else known_of (drop (k + 1) ns)
-    (drop (k + 1) ks) s)
-unfolding known_of
-known_cut ns ks k s z w in_ns in_ks =
-    let e : suc k ≡ k + 1 = omega arith in
-    ap (λ (l : List ℕ). known_of l (drop k ks) s) (drop-cons ns k z in_ns)
-    ∙ ap (λ (l : Sectors). known_of (get_or ns k z ∷ drop (suc k) ns) l s) (drop-cons ks k w in_ks)
-    ∙ ap (λ (m : ℕ). if nat_eq (get_or ns k z) s then Some (get_or ks k w) else known_of (drop m ns) (drop m ks) s) e
-
-pub known_here : (ns : List ℕ) (ks : Sectors) (k s z : ℕ) (w : List ℕ) → k < length ns → k < length ks → get_or ns k z ≡ s
-    → known_of (drop k ns) (drop k ks) s ≡ Some (get_or ks k w)
-known_here ns ks k s z w in_ns in_ks same =
-    known_cut ns ks k s z w in_ns in_ks ∙ ap (λ (c : Bool). if c then Some (get_or ks k w) else known_of (drop (k + 1) ns)
-    (drop (k + 1) ks) s) (eq-eqb (get_or ns k z) s same)
-
-pub known_next : (ns : List ℕ) (ks : Sectors) (k s z : ℕ) (w : List ℕ) → k < length ns → k < length ks → ¬ (get_or ns k z ≡ s)
-    → known_of (drop k ns) (drop k ks) s ≡ known_of (drop (k + 1) ns) (drop (k + 1) ks) s
-known_next ns ks k s z w in_ns in_ks other =
-    known_cut ns ks k s z w in_ns in_ks ∙ ap (λ (c : Bool). if c then Some (get_or ks k w) else known_of (drop (k + 1) ns)
-    (drop (k + 1) ks) s) (other_false (get_or ns k z) s other)
-
-pub known_end : (ns : List ℕ) (ks : Sectors) (k s : ℕ) → length ns ≤ k → known_of (drop k ns) (drop k ks) s ≡ None
-unfolding known_of
-known_end ns ks k s past = ap (λ (l : List ℕ). known_of l (drop k ks) s) (drop_all k ns past)
 
 pub known_is_there : (count : ℕ) (ns : List ℕ) (ks : Sectors) (elsewhere : Sectors) (s : ℕ) (v : List ℕ) → s < count
     → known_of ns ks s ≡ Some v → v ≡ sector (whole count ns ks elsewhere) s

@@ -1,4 +1,5 @@
 pub mod Known
+pub mod Places
 pub mod Codes
 pub mod Replies
 pub mod Given

@@ -39,10 +39,10 @@ fn plan_like<const B: usize>(
         (OfOtherCount view.now other.now NoBuffers (NoAdopting B view.now other.now
         (disk_of B view.now elsewhere.entry.items) (disk_of B other.now beyond.entry.items)))) a.status a.reply) }
 {
-    let Some(mut disk) = ReplayDisk::<B>::new(view, elsewhere) else {
+    let Some(mut disk) = ReplayDisk::<B>::new(alloc, view, elsewhere) else {
         return Err(Answer::bad_argument(2));
     };
-    let Some(mut model) = ReplayDisk::<B>::new(other, beyond) else {
+    let Some(mut model) = ReplayDisk::<B>::new(alloc, other, beyond) else {
         return Err(Answer::bad_argument(8));
     };
     match checked_plan_like::<B, _, _>(alloc, &mut disk, &mut model) {

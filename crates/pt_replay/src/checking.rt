@@ -48,7 +48,7 @@ fn plan_checked<const B: usize>(
     ensures says { OfView B view.now NoBuffers (Checked B view.now (disk_of B view.now elsewhere.entry.items) (phases_of plan.now))
         result.status result.reply }
 {
-    let Some(mut disk) = ReplayDisk::<B>::new(view, elsewhere) else {
+    let Some(mut disk) = ReplayDisk::<B>::new(alloc, view, elsewhere) else {
         return Answer::bad_argument(2);
     };
     match check(alloc, &mut disk, plan) {

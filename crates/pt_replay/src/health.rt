@@ -50,7 +50,7 @@ pub fn verified<const B: usize>(
     requires size { IsSectorSize B }
     ensures says { VerifiedFor B view.now (disk_of B view.now elsewhere.entry.items) result.status result.reply }
 {
-    let Some(mut disk) = ReplayDisk::<B>::new(view, elsewhere) else {
+    let Some(mut disk) = ReplayDisk::<B>::new(alloc, view, elsewhere) else {
         return Answer::bad_argument(2);
     };
     match verify::<B, _>(alloc, &mut disk) {

@@ -15,6 +15,7 @@ mod body;
 mod checking;
 mod giving;
 mod health;
+mod index;
 mod listing;
 mod places;
 mod planning;

@@ -39,7 +39,7 @@ fn plan_words<const B: usize>(
     ensures err { IfErr result (λ a. OfView B view.now NoBuffers (NoPlan B view.now (disk_of B view.now elsewhere.entry.items)
         (batch_of edits.now guids.now)) a.status a.reply) }
 {
-    let Some(mut disk) = ReplayDisk::<B>::new(view, elsewhere) else {
+    let Some(mut disk) = ReplayDisk::<B>::new(alloc, view, elsewhere) else {
         return Err(Answer::bad_argument(2));
     };
     match checked_plan_for::<B, _>(alloc, &mut disk, edits, guids) {
@@ -114,7 +114,7 @@ fn plan_repair<const B: usize>(
     ensures err { IfErr result (λ a. OfView B view.now NoBuffers (NoMending B view.now (disk_of B view.now elsewhere.entry.items))
         a.status a.reply) }
 {
-    let Some(mut disk) = ReplayDisk::<B>::new(view, elsewhere) else {
+    let Some(mut disk) = ReplayDisk::<B>::new(alloc, view, elsewhere) else {
         return Err(Answer::bad_argument(2));
     };
     match checked_plan_for_repair::<B, _>(alloc, &mut disk) {

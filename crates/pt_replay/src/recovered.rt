@@ -59,7 +59,7 @@ pub fn recovered<const B: usize>(
     ensures err { IfErr result (λ a. OfView B view.now NoBuffers (NoLayout B view.now (disk_of B view.now elsewhere.entry.items))
         a.status a.reply) }
 {
-    let Some(mut disk) = ReplayDisk::<B>::new(view, elsewhere) else {
+    let Some(mut disk) = ReplayDisk::<B>::new(alloc, view, elsewhere) else {
         return Err(Answer::bad_argument(2));
     };
     match recover::<B, _>(alloc, &mut disk) {

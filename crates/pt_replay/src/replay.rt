@@ -6,10 +6,13 @@ ghost use Rattle.std.proofs.lemmas.List.FromFn.{length-map-range_with_len};
 ghost use Rattle.pt_sector.specs.Sectors.{IsSectorSize};
 ghost use Rattle.pt_sector.specs.Past.{stopped_same};
 ghost use Rattle.pt_sector.specs.Calls.{untouched_same, untouched_on};
+ghost use Rattle.pt_replay.specs.Places.{Leads};
 ghost use Rattle.pt_replay.specs.Known.{known_of, whole, replay_told, disk_of, IsView, AreOf, Asks, asks_same, asks_on};
 
+use crate::index::Index;
 use crate::view::View;
 use pt_sector::{Disk, Fault, Lba, Moments};
+use std::alloc::Global;
 
 /// A disk that reads the known sectors, and fails at every other one and at every write.
 ///
@@ -19,16 +22,22 @@ pub struct ReplayDisk<'a, const B: usize> {
     sectors: u64,
     numbers: &'a [u64],
     known: &'a [[u8; B]],
+    index: Index,
     elsewhere: Moments<[u8; B]>,
     failed: Moments<Fault>,
     past: Moments<u64>,
     ghost paired: { length numbers.now ≡ length known.now },
     ghost fits: { sectors * B ≤ 2 ^ 64 },
+    ghost indexed: { Leads numbers.now index },
 }
 
 impl<'a, const B: usize> ReplayDisk<'a, B> {
     /// None where there are not as many sectors as numbers, a sector isn't whole, or the disk has 2^64 bytes.
-    pub fn new(view: &View<'a>, elsewhere: Moments<[u8; B]>) -> Option<ReplayDisk<'a, B>>
+    pub fn new(
+        alloc: Global,
+        view: &View<'a>,
+        elsewhere: Moments<[u8; B]>,
+    ) -> Option<ReplayDisk<'a, B>>
         requires { IsSectorSize B }
         ensures seen { IfSome result (λ d. (⟦<ReplayDisk<'a, B> as Disk<B>>⟧.told d).seen ≡ disk_of B view.now elsewhere.entry.items) }
         ensures view { IfSome result (λ d. AreOf B view.now d.sectors d.numbers.now d.known.now) }
@@ -45,6 +54,7 @@ impl<'a, const B: usize> ReplayDisk<'a, B> {
             sectors: view.sectors,
             numbers: view.numbers,
             known,
+            index: Index::new(alloc, view.numbers),
             elsewhere,
             failed: Moments::new(),
             past: Moments::new(),
@@ -56,20 +66,28 @@ impl<'a, const B: usize> ReplayDisk<'a, B> {
         requires { IsSectorSize B }
         ensures { result ≡ is_some (known_of self.now.numbers.now self.now.known.now number) }
     {
-        known_at(self.numbers, self.known, number).is_some()
+        known_at(&self.index, self.numbers, self.known, number).is_some()
     }
 }
 
 /// The sector of a number, where it is known.
-#[tactic(auto, using(crate::proofs::Walk::known_here, crate::proofs::Walk::known_next, crate::proofs::Walk::known_end))]
-fn known_at<const B: usize>(numbers: &[u64], known: &[[u8; B]], number: u64) -> Option<[u8; B]>
-    requires { length numbers.now ≡ length known.now }
+#[tactic(auto, using(crate::proofs::FirstPlaces::known_none, crate::proofs::FirstPlaces::known_some))]
+fn known_at<const B: usize>(
+    index: &Index,
+    numbers: &[u64],
+    known: &[[u8; B]],
+    number: u64,
+) -> Option<[u8; B]>
+    requires paired { length numbers.now ≡ length known.now }
+    requires indexed { Leads numbers.now index.now }
     ensures { result ≡ known_of numbers.now known.now number }
 {
-    for k in 0..numbers.len() {
-        if numbers[k] == number {
-            return Some(known[k]);
-        }
+    let place = match index.place(numbers, number) {
+        Some(place) => place,
+        None => return None,
+    };
+    if place < known.len() {
+        return Some(known[place]);
     }
     None
 }
@@ -104,7 +122,7 @@ impl<'a, const B: usize> Disk<B> for ReplayDisk<'a, B> {
 
     #[tactic(auto, using(crate::proofs::Walk::known_is_there))]
     fn read(&mut self, lba: Lba, into: &mut [u8; B]) -> Result<(), Fault> {
-        match known_at(self.numbers, self.known, lba.0) {
+        match known_at(&self.index, self.numbers, self.known, lba.0) {
             Some(bytes) => {
                 *into = bytes;
                 Ok(())

@@ -156,7 +156,7 @@ pub fn wanted<const B: usize>(
     requires size { IsSectorSize B }
     ensures says { WantedFor B view.now (disk_of B view.now elsewhere.entry.items) sectors.old sectors.new result.status result.reply }
 {
-    let Some(mut disk) = ReplayDisk::<B>::new(view, elsewhere) else {
+    let Some(mut disk) = ReplayDisk::<B>::new(alloc, view, elsewhere) else {
         return Answer::bad_argument(2);
     };
     match wanted_of(alloc, &mut disk) {

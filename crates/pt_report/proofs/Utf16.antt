@@ -1,6 +1,7 @@
 -- The first character of units of UTF-16, and the units behind it.
 use Rattle.std.proofs.Common.{◌≡◌, ℕ, ◌-◌, ◌<◌, List, [], ◌∷◌, length, take, drop, ap, ◌∙◌, arith, sym, refl, inl, inr}
-use Rattle.std.specs.Prelude.{if◌then◌else◌, Bool, true, false, ◌&&◌, nat_lt, nat_le, Option, Some, None, slice_index, IsSome, IsTrue, SomeIff, MatchOption}
+use Rattle.std.specs.Prelude.{if◌then◌else◌, Bool, true, false, ◌&&◌, nat_lt, nat_le, Option, Some, None, slice_index, IsSome, IsTrue}
+use Rattle.std.specs.Prelude.{SomeIff, MatchOption}
 use Rattle.std.specs.Char.{InScalarRange, IsScalar, OutOfScalarRange}
 use Rattle.std.specs.Char.Utf16.{utf16_chars, lone_unit_char, is_high_surrogate, is_low_surrogate, surrogate_pair_char}
 use Rattle.std.proofs.lemmas.Bool.{lt-ltb, le-ltb, lt-leb, le-leb, leb-true, ltb-true}

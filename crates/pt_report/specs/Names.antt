@@ -1,5 +1,6 @@
 -- The name of an entry, as it is shown.
-use Rattle.std.specs.Prelude.{if◌then◌else◌, ◌<◌, ◌≤◌, ◌==◌, ◌||◌, nat_lt, ℕ, List, [], ◌∷◌, flat_map, not, take_while, encode_utf8, Option, Some, None}
+use Rattle.std.specs.Prelude.{if◌then◌else◌, ◌<◌, ◌≤◌, ◌==◌, ◌||◌, nat_lt, ℕ, List, [], ◌∷◌, flat_map, not, take_while, encode_utf8}
+use Rattle.std.specs.Prelude.{Option, Some, None}
 use Rattle.std.specs.Char.Utf16.{utf16_chars}
 
 -- its units before the first zero

@@ -51,8 +51,8 @@ fn after_eight(register: u32, bytes: &[u8]) -> u32
     last ^ moved_word(4, first)
 }
 
-// The register after chunks of sixteen bytes, two steps for each. It isn't inlined: beside a caller's variables, the loop could run short of
-// registers.
+// The register after chunks of sixteen bytes, two steps for each. It isn't inlined: beside a caller's variables, the loop could run
+// short of registers.
 #[inline(never)]
 fn after_chunks(register: u32, chunks: &[[u8; 16]]) -> u32
     ensures { result ≡ after_bytes register (concat chunks.now) }

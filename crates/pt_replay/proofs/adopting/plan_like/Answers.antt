@@ -13,8 +13,8 @@ returns-in-Ok-clause-count g c =
     ∙ (equal c.in-Some-new.model.sectors c.in-Some.disk.sectors (λ not. let no = c.in-Ok.ensures.other_size.1 not in cc)
     ∙ c.in-Some.ensures.view.count_is)
 
-pub returns-in-Err-clause-err : goal.returns-in-Err-clause-err
-returns-in-Err-clause-err g c = rw c.unlike.ensures (inr (
+pub returns-clause-err : goal.returns-clause-err
+returns-clause-err g c = rw c.unlike.ensures (inr (
   c.in-Some.ensures.is_view,
   inr (
     c.in-Some-new.ensures.is_view,

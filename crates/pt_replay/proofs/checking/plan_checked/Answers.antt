@@ -35,8 +35,8 @@ returns-in-Ok-No g c = record {
   ));
 }
 
-pub returns-in-Err : goal.returns-in-Err
-returns-in-Err g c = record {
+pub returns : goal.returns
+returns g c = record {
   says = rw c.unchecked.ensures (inr (
     c.in-Some.ensures.is_view,
     says_unchecked g.row.B c.args.view.now (disk_of g.row.B c.args.view.now c.args.elsewhere.items) (phases_of c.args.plan.now)

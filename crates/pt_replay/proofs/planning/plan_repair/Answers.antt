@@ -7,8 +7,8 @@ use Rattle.pt_replay.proofs.planning.plan_repair.Goals as goal
 pub returns-in-Ok-clause-ok : goal.returns-in-Ok-clause-ok
 returns-in-Ok-clause-ok g c = rw c.in-Some.ensures.seen at (c.in-Ok.ensures.ready tt)
 
-pub returns-in-Err-clause-err : goal.returns-in-Err-clause-err
-returns-in-Err-clause-err g c = rw c.unmended.ensures (inr (
+pub returns-clause-err : goal.returns-clause-err
+returns-clause-err g c = rw c.unmended.ensures (inr (
   c.in-Some.ensures.is_view,
   says_unmended g.row.B c.args.view.now (disk_of g.row.B c.args.view.now c.args.elsewhere.items) c.in-Err.error
       (rw c.in-Some.ensures.seen at (c.in-Err.ensures.refused tt))

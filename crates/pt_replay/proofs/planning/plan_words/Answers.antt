@@ -8,8 +8,8 @@ use Rattle.pt_replay.proofs.planning.plan_words.Goals as goal
 pub returns-in-Ok-clause-ok : goal.returns-in-Ok-clause-ok
 returns-in-Ok-clause-ok g c = rw c.in-Some.ensures.view.count_is at (rw c.in-Some.ensures.seen at (c.in-Ok.ensures.ready tt))
 
-pub returns-in-Err-clause-err : goal.returns-in-Err-clause-err
-returns-in-Err-clause-err g c =
+pub returns-clause-err : goal.returns-clause-err
+returns-clause-err g c =
     let batch : Words = record { edits = c.args.edits.now; guids = c.args.guids.now } in
     rw c.refused.ensures (inr (
       c.in-Some.ensures.is_view,

@@ -4,8 +4,8 @@ use Rattle.pt_replay.proofs.Walk.{asked_of}
 use Rattle.pt_replay.proofs.Saying.{says_nothing}
 use Rattle.pt_replay.proofs.recovered.recovered.Goals as goal
 
-pub returns-in-Err-clause-err : goal.returns-in-Err-clause-err
-returns-in-Err-clause-err g c = rw c.no_table.ensures (inr (
+pub returns-clause-err : goal.returns-clause-err
+returns-clause-err g c = rw c.no_table.ensures (inr (
   c.in-Some.ensures.is_view,
   says_nothing g.row.B c.args.view.now (disk_of g.row.B c.args.view.now c.args.elsewhere.items) c.in-Err.why
       (rw c.in-Some.ensures.seen at (c.in-Err.ensures.err tt))

@@ -1,0 +1,143 @@
+#!/usr/bin/env python3
+"""The module for Python and the crate for Rust, where they aren't what disk_library.py has compared with the command: Python's
+exceptions, texts and type hints; in Rust, where there is a cargo, its tests without a warning, with the library in a folder and with the
+one that pkg-config finds, and its examples.
+
+usage: tests/callers/bindings.py PTAB ARCHIVE     ARCHIVE is crates/pt_c/out/libpt_c.a
+"""
+import inspect
+import os
+import shutil
+import subprocess
+import sys
+import typing
+import uuid
+
+HERE = os.path.dirname(os.path.abspath(__file__))
+ROOT = os.path.dirname(os.path.dirname(HERE))
+sys.path[:0] = [os.path.join(ROOT, "tests", "shared"), os.path.join(ROOT, "bindings", "python")]
+import images
+import ptab as lib
+from images import FREEBSD, SMALL, entry, label, record, room
+
+NO_COPY = "no MBR, and neither copy of a GPT exists: the signature isn't EFI PART (primary); the signature isn't EFI PART (backup)"
+checked = 0
+
+
+def same(what, found, wanted):
+    global checked
+    checked += 1
+    if found != wanted:
+        sys.exit(f"bindings: {what}:\n  found  {found!r:.600}\n  wanted {wanted!r:.600}")
+
+
+def must(*words, **more):
+    done = subprocess.run(words, capture_output=True, text=True, **more)
+    if done.returncode != 0:
+        sys.exit(f"{words}: status {done.returncode}\n{done.stdout}{done.stderr}")
+    return done.stdout
+
+
+def put(path, content):
+    with open(path, "wb") as it:
+        it.write(content)
+
+
+def error_of(call):
+    try:
+        found = call()
+    except Exception as error:
+        return error
+    sys.exit(f"bindings: no error, but {found!r}")
+
+
+def exceptions(folder):
+    """Each kind of exception is also the system's that goes with it, and prints as its sentence."""
+    path, blank = f"{folder}/image", f"{folder}/blank"
+    put(path, images.one_partition())
+    put(blank, SMALL.zeros(4096))
+    with lib.Disk(path, write=True) as disk, lib.Disk(blank) as none:
+        cases = ((lambda: disk.edit("x"), lib.BadArgument, ValueError, "word 1: another letter than a word's"),
+                 (lambda: disk.edit("d:2"), lib.Refused, lib.Error, "no such partition"),
+                 (lambda: disk.apply([[(100, bytes(512))]]), lib.Refused, lib.Error,
+                  "sector 100 is written, and is in the tables of neither layout"),
+                 (lambda: disk.apply([[(5, b"short")]]), lib.BadArgument, ValueError,
+                  "the plan's bytes aren't a whole sector for each write, or its phases aren't in order"),
+                 (lambda: lib.Disk(path, write=True), lib.Locked, BlockingIOError, "the lock is held elsewhere"),
+                 (none.table, lib.NoTable, lib.Error, f"there is no table: {NO_COPY}"),
+                 (lambda: disk.adopt(none), lib.NoTable, lib.Error, f"the other disk: {NO_COPY}"),
+                 (lambda: lib.Disk(f"{folder}/no"), lib.DeviceFault, OSError, "the disk can't be opened: No such file or directory"))
+        for call, kind, system, told in cases:
+            error = error_of(call)
+            same(told, (type(error), isinstance(error, (system, lib.Error)), str(error), repr(error)),
+                 (kind, True, told, f"{kind.__name__}({told!r})"))
+        same("a word with a zero byte", str(error_of(lambda: disk.edit("c:1:\0"))), "a word has a zero byte")
+        same("texts", (repr(disk), repr(disk.verify()), str(disk.verify()), str(none.verify())),
+             (f"Disk({path!r})", "Verdict('yes')", "yes", "there is no table"))
+    same("closed", (repr(disk), str(error_of(disk.verify))), (f"Disk({path!r}, closed)", "the disk is closed"))
+    disk.close()
+    del disk
+
+
+def rows(folder):
+    """The fields of a table and of its partitions, of each kind."""
+    path = f"{folder}/rows"
+    gpt = SMALL.gpt(300, {1: entry(40, 139, FREEBSD, images.guid(7), 5, "é𝄞"), 2: entry(150, 160, images.guid(9))})
+    SMALL.put(gpt, 41, label(100, {0: (30, 16, 7)}))
+    put(path, gpt)
+    with lib.Disk(path) as disk:
+        table = disk.table()
+        same("a GPT", table[:5], ("gpt", 300, 34, 266, uuid.UUID(images.DISK)))
+        same("its partitions", table.partitions, (
+            (1, "", 40, 139, "A500", "é𝄞", uuid.UUID(images.guid(7)), 5, 0), (1, "a", 56, 85, "07", "", None, 0, 0),
+            (2, "", 150, 160, images.guid(9), "", uuid.UUID(images.FIRST), 0, 0)))
+        same("paths", [it.path for it in table.partitions], ["1", "1.a", "2"])
+        same("places", (disk.locate(1, 5, "a"), disk.locate(2, 3), disk.locate(1, 0)), (61, 153, None))
+    put(path, SMALL.mbr(200, [record(0x83, 120, 30, 0x80)]))
+    with lib.Disk(path) as disk:
+        same("an MBR", disk.table(), ("mbr", 200, 0, 0, None, ((1, "", 120, 149, "83", "", None, 0, 0x80),)))
+
+
+def hints():
+    """Every public function has type hints that can be read."""
+    for name, it in inspect.getmembers(lib.Disk, inspect.isfunction):
+        if not name.startswith("_") or name == "__init__":
+            told = typing.get_type_hints(it)
+            same(f"hints of {name}", {*told}, {*inspect.signature(it).parameters, "return"} - {"self"})
+
+
+def in_rust(ptab, archive, folder):
+    """The crate in a copy, so that cargo leaves nothing here."""
+    if not shutil.which("cargo"):
+        return "no cargo here"
+    crate, prefix = f"{folder}/crate", f"{folder}/prefix"
+    shutil.copytree(f"{ROOT}/bindings/rust", crate, ignore=shutil.ignore_patterns("target", "Cargo.lock"))
+    where = {**os.environ, "CARGO_TARGET_DIR": f"{folder}/target", "RUSTFLAGS": "-D warnings", "CARGO_TERM_COLOR": "never"}
+    said = must("cargo", "test", "--offline", "--quiet", cwd=crate, env={**where, "PTAB_LIB_DIR": folder})
+    same("the tests in Rust", "5 passed; 0 failed" in said, True)
+    must(f"{ROOT}/install.sh", prefix, env={**os.environ, "PTAB": ptab, "LIBRARY": archive, "DESTDIR": ""})
+    if not shutil.which("pkg-config"):
+        return "Rust too, without pkg-config"
+    where["PKG_CONFIG_PATH"] = f"{prefix}/lib/pkgconfig"
+    put(f"{folder}/disk.img", SMALL.gpt(4096, {1: entry(2048, 4062, name="root")}))
+    example = ("cargo", "run", "--offline", "--quiet", "--manifest-path", f"{crate}/Cargo.toml", "--example")
+    same("rename.rs", must(*example, "rename", cwd=folder, env=where), "1 root\ndone\n")
+    same("show.rs", must(*example, "show", "--", "disk.img", "512", "t:1:8200", cwd=folder, env=where), "1 2048 4062 8200 archive\n")
+    done = subprocess.run([*example, "show", "--", "disk.img", "512", "d:9"], cwd=folder, env=where, capture_output=True, text=True)
+    same("a refusal", (done.stdout, done.stderr.splitlines()[-1], done.returncode), ("", "no such partition", 1))
+    return "Rust too"
+
+
+def main():
+    ptab, archive = os.path.abspath(sys.argv[1]), os.path.abspath(sys.argv[2])
+    with room() as folder:
+        must(f"{ROOT}/bindings/c/build.sh", archive, folder)
+        lib.load(f"{folder}/libptab.so.1")
+        exceptions(folder)
+        rows(folder)
+        hints()
+        rust = in_rust(ptab, archive, folder)
+    print(f"bindings: {checked} passed, 0 failed ({rust})")
+
+
+main()

@@ -1,0 +1,195 @@
+#!/usr/bin/env python3
+"""Runs install.sh into a folder of its own, with and without DESTDIR, and checks the files, their modes, that the installed program
+runs, and what the completion completes.
+
+With the archive of the library for callers in C it installs that too, and compiles a program with it.
+
+usage: tests/callers/install.py PTAB [ARCHIVE]
+"""
+import filecmp
+import os
+import shutil
+import stat
+import subprocess
+import sys
+import tempfile
+
+TOP = os.path.abspath(os.path.join(os.path.dirname(os.path.abspath(__file__)), "..", ".."))
+PLACES = {"bin/ptab": (None, 0o755), "bin/ptab-run": ("tools/ptab-run", 0o755), "share/man/man8/ptab.8": ("man/ptab.8", 0o644),
+          "share/man/man8/ptab-run.8": ("man/ptab-run.8", 0o644),
+          "share/bash-completion/completions/ptab": ("completion/ptab.bash", 0o644)}
+LIBRARY = ("include/ptab.h", "include/ptab_disk.h", "lib/libptab.a", "lib/libptab.so.1", "lib/libptab.so", "lib/pkgconfig/ptab.pc",
+           "lib/python3/dist-packages/ptab.py")
+COMMANDS = ["show", "verify", "locate", "edit", "plan", "check", "apply", "repair", "adopt"]
+WORDS = ["a:", "o", "n:", "d:", "t:", "c:", "u:", "U:", "A:", "e", "g"]
+# the words before the cursor, as bash divides them, and what is completed
+COMPLETIONS = (
+    (["ptab", ""], [*COMMANDS, "help"]), (["ptab", "re"], ["repair"]), (["ptab", "--h"], ["--help"]), (["ptab", "help", "ch"], ["check"]),
+    (["ptab", "help", "check", ""], []), (["ptab", "show", ""], ["folder", "a.img", "b.raw"]), (["ptab", "show", "a"], ["a.img"]),
+    (["ptab", "show", "n"], ["notes"]), (["ptab", "show", "folder/"], ["folder/c.img"]), (["ptab", "show", "a.img", ""], []),
+    (["ptab", "edit", "--"], ["--fresh", "--device", "--sector-size", "--in-use", "--no-lock", "--help"]),
+    (["ptab", "show", "--"], ["--after", "--device", "--sector-size", "--help"]), (["ptab", "verify", "--in"], []),
+    (["ptab", "adopt", "--o"], ["--other-device"]), (["ptab", "repair", "--in"], ["--in-use"]),
+    (["ptab", "show", "--after", "n"], ["notes"]), (["ptab", "show", "--after", "notes", ""], ["folder", "a.img", "b.raw"]),
+    (["ptab", "plan", "--"], ["--fresh", "--device", "--sector-size", "--help"]), (["ptab", "check", "--n"], []),
+    (["ptab", "apply", "--n"], ["--no-lock"]), (["ptab", "repair", "--no-lock", ""], ["folder", "a.img", "b.raw"]),
+    (["ptab", "edit", "--sector-size", ""], ["512", "4096"]), (["ptab", "edit", "--sector-size", "=", "4"], ["4096"]),
+    (["ptab", "edit", "--sector-size", "="], ["512", "4096"]),
+    (["ptab", "edit", "--sector-size", "4096", ""], ["folder", "a.img", "b.raw"]), (["ptab", "edit", "--fresh", ""], []),
+    (["ptab", "edit", "a.img", ""], WORDS), (["ptab", "edit", "a.img", "--fresh", "00", "u"], ["u:"]),
+    (["ptab", "plan", "--sector-size", "=", "512", "a.img", "e"], ["e"]), (["ptab", "edit", "a.img", "n", ":", ""], []),
+    (["ptab", "edit", "a.img", "n", ":"], []), (["ptab", "edit", "a.img", "n", ":", "1", ":", "0", ":", "0", "c"], ["c:"]),
+    (["ptab", "check", "a.img", "n"], ["notes"]), (["ptab", "apply", "a.img", "no"], ["notes"]),
+    (["ptab", "check", "a.img", "notes", ""], []), (["ptab", "locate", "a.img", "1", ""], []), (["ptab", "nonsense", ""], []),
+    (["ptab", "adopt", "a.img", ""], ["folder", "a.img", "b.raw"]), (["ptab", "adopt", "--p"], ["--plan"]),
+)
+checked = 0
+
+
+def same(what, found, wanted):
+    global checked
+    checked += 1
+    if found != wanted:
+        sys.exit(f"{what}:\n  found  {found}\n  wanted {wanted}")
+
+
+def files(folder):
+    return sorted(os.path.relpath(os.path.join(at, name), folder) for at, _, names in os.walk(folder) for name in names)
+
+
+def install(folder, words, wanted, **more):
+    """What install.sh says; its files stand in `wanted`, which holds no others, each with its bytes and its mode."""
+    done = subprocess.run([f"{TOP}/install.sh", *words], cwd=folder, capture_output=True, text=True, env={**os.environ, **more})
+    same(f"install.sh {words}", (done.returncode, done.stderr), (0, ""))
+    same("a line a file", done.stdout.splitlines(), [f"installed {wanted}/{place}" for place in PLACES])
+    same("the files", files(wanted), sorted(PLACES))
+    for place, (source, mode) in PLACES.items():
+        path = f"{wanted}/{place}"
+        same(f"the mode of {place}", stat.S_IMODE(os.stat(path).st_mode), mode)
+        same(f"the mode of its folder, {place}", stat.S_IMODE(os.stat(os.path.dirname(path)).st_mode), 0o755)
+        same(f"the bytes of {place}", filecmp.cmp(path, more["PTAB"] if source is None else f"{TOP}/{source}", shallow=False), True)
+
+
+def runs(folder, prefix):
+    """The installed program makes a table, and man finds its page."""
+    path = f"{folder}/made.img"
+    with open(path, "wb") as it:
+        it.truncate(1 << 20)
+    done = subprocess.run([f"{prefix}/bin/ptab", "edit", path, "--fresh", "0" * 32, "o"], capture_output=True, text=True)
+    same("the installed program", (done.returncode, done.stdout, done.stderr), (0, "done\n", ""))
+    done = subprocess.run([f"{prefix}/bin/ptab-run", path, "true", "@"], capture_output=True, text=True,
+                          env={key: value for key, value in os.environ.items() if key != "PTAB"})
+    same("ptab-run beside it", (done.returncode, done.stdout, done.stderr), (0, "", "ptab-run: true changed nothing\n"))
+    if shutil.which("man"):
+        where = {key: value for key, value in os.environ.items() if key != "MANPATH"}
+        for name in ("ptab", "ptab-run"):
+            done = subprocess.run(["man", "-M", f"{prefix}/share/man", "-w", "8", name], capture_output=True, text=True, env=where)
+            same("man -w", done.stdout.strip(), f"{prefix}/share/man/man8/{name}.8")
+
+
+def which_program(folder, ptab):
+    """Without PTAB packaging/build.py is asked, here one that writes down its words and tells this program's path; a fault
+    of it is kept."""
+    top = f"{folder}/top"
+    os.makedirs(f"{top}/packaging")
+    for name in ("install.sh", "man", "completion", "tools"):
+        (shutil.copytree if os.path.isdir(f"{TOP}/{name}") else shutil.copy)(f"{TOP}/{name}", f"{top}/{name}")
+    where = {key: value for key, value in os.environ.items() if key not in ("PTAB", "DESTDIR")} | {"LIBRARY": ""}
+    for does, status in ((f"print({ptab!r})", 0), ("sys.exit('not proved')", 1)):
+        with open(f"{top}/packaging/build.py", "w", encoding="utf-8") as it:
+            it.write(f"import sys\nopen({folder + '/asked'!r}, 'a').write(' '.join(sys.argv[1:]) + '\\n')\n{does}\n")
+        done = subprocess.run([f"{top}/install.sh", f"{folder}/which{status}"], capture_output=True, text=True, env=where)
+        same("install.sh without PTAB", done.returncode, status)
+        same("whether something is installed", os.path.exists(f"{folder}/which{status}"), status == 0)
+    same("the program that it takes", filecmp.cmp(f"{folder}/which0/bin/ptab", ptab, shallow=False), True)
+    with open(f"{folder}/asked", encoding="utf-8") as it:
+        same("what is asked for", it.read().splitlines(), ["ptab", "ptab"])
+
+
+def library(folder, ptab, archive):
+    """The files of the library; what a C program does that is compiled as pkg-config has it, and the module for Python, without a word on
+    where the library is. All have one version."""
+    prefix = f"{folder}/with"
+    done = subprocess.run([f"{TOP}/install.sh", prefix], capture_output=True, text=True,
+                          env={**os.environ, "PTAB": ptab, "LIBRARY": archive, "DESTDIR": ""})
+    same("install.sh with a library", (done.returncode, done.stderr), (0, ""))
+    same("its lines", done.stdout.splitlines(), [f"installed {prefix}/{place}" for place in (*PLACES, *LIBRARY)])
+    same("its files", files(prefix), sorted((*PLACES, *LIBRARY)))
+    for place, source in (("include/ptab.h", "include/ptab.h"), ("include/ptab_disk.h", "include/ptab_disk.h"),
+                          ("lib/python3/dist-packages/ptab.py", "bindings/python/ptab.py")):
+        same(f"{place}", filecmp.cmp(f"{prefix}/{place}", f"{TOP}/{source}", shallow=False), True)
+    with open(f"{prefix}/lib/pkgconfig/ptab.pc", encoding="utf-8") as it:
+        told = it.read().replace("${includedir}", f"{prefix}/include").replace("${libdir}", f"{prefix}/lib")
+    flags = [line.partition(": ")[2].split() for line in told.splitlines() if line.startswith(("Cflags: ", "Libs: "))]
+    subprocess.run(["cc", f"{TOP}/examples/c/rename.c", *flags[0], *flags[1], "-o", f"{folder}/rename"], check=True)
+    where = {key: value for key, value in os.environ.items() if key not in ("LD_LIBRARY_PATH", "PTAB_LIBRARY")}
+    where["PYTHONPATH"] = f"{prefix}/lib/python3/dist-packages"
+    for program in ([f"{folder}/rename"], [sys.executable, "-B", f"{TOP}/examples/python/rename.py"]):
+        with open(f"{folder}/disk.img", "wb") as it:
+            it.truncate(1 << 20)
+        words = ("--fresh", "0" * 64, "o", "a:1", "n:1:40:0", "c:1:root")
+        subprocess.run([ptab, "edit", f"{folder}/disk.img", *words], check=True, capture_output=True)
+        done = subprocess.run(program, capture_output=True, text=True, cwd=folder, env=where)
+        same(f"{program}", (done.stdout, done.stderr, done.returncode), ("1 root\ndone\n", "", 0))
+        shown = subprocess.run([ptab, "show", f"{folder}/disk.img"], capture_output=True, text=True, check=True).stdout
+        same("the name", shown.split()[-1], "archive")
+    version = subprocess.run([f"{TOP}/packaging/version.sh"], capture_output=True, text=True).stdout
+    same("the version for pkg-config", f"\nVersion: {version}" in told, True)
+
+
+def versions(ptab):
+    """The one version number, wherever it stands."""
+    done = subprocess.run([f"{TOP}/packaging/version.sh"], capture_output=True, text=True)
+    version = done.stdout.strip()
+    done = subprocess.run([ptab, "--version"], capture_output=True, text=True)
+    same("the version of the command", done.stdout, f"ptab {version}\n")
+    page, line = f'"Jawefon {version}"', f'version = "{version}"\n'
+    for place, head in (("man/ptab.8", page), ("man/ptab-run.8", page), ("CHANGELOG.md", f"## {version}"),
+                        ("bindings/python/pyproject.toml", line), ("bindings/rust/Cargo.toml", line)):
+        with open(f"{TOP}/{place}", encoding="utf-8") as it:
+            same(f"the version in {place}", head in it.read(), True)
+
+
+def refused(folder, ptab):
+    for words, status in (([], 2), ([""], 2), (["--help"], 2), (["/a", "/b"], 2)):
+        done = subprocess.run([f"{TOP}/install.sh", *words], cwd=folder, capture_output=True, text=True, env={**os.environ, "PTAB": ptab})
+        same(f"install.sh {words}", (done.returncode, done.stdout), (status, ""))
+    done = subprocess.run([f"{TOP}/install.sh", f"{folder}/x"], capture_output=True, text=True,
+                          env={**os.environ, "PTAB": f"{folder}/none"})
+    same("a program that isn't there", (done.returncode, done.stdout, os.path.exists(f"{folder}/x")), (1, "", False))
+
+
+def completions(folder, script):
+    os.makedirs(f"{folder}/images/folder")
+    for name in ("a.img", "b.raw", "notes", "folder/c.img"):
+        with open(f"{folder}/images/{name}", "wb"):
+            pass
+    line = ('source "$1"; shift; COMP_WORDS=("$@"); COMP_CWORD=$(($# - 1)); _ptab; '
+            '[ ${#COMPREPLY[@]} = 0 ] || printf "%s\\n" "${COMPREPLY[@]}"')
+    for words, wanted in COMPLETIONS:
+        done = subprocess.run(["bash", "-c", line, "bash", script, *words], cwd=f"{folder}/images", capture_output=True, text=True)
+        same(f"completing {words}: {done.stderr}", sorted(done.stdout.splitlines()), sorted(wanted))
+    line = 'source "$1"; complete -p ptab'
+    done = subprocess.run(["bash", "-c", line, "bash", script], capture_output=True, text=True)
+    same("complete -p", done.stdout, "complete -F _ptab ptab\n")
+
+
+def main():
+    ptab = os.path.abspath(sys.argv[1])
+    os.umask(0o077)
+    with tempfile.TemporaryDirectory() as folder:
+        install(folder, [f"{folder}/own"], f"{folder}/own", PTAB=ptab, DESTDIR="")
+        install(folder, ["near/by/"], f"{folder}/near/by", PTAB=ptab, DESTDIR="")
+        install(folder, ["/usr"], f"{folder}/stage/usr", PTAB=ptab, DESTDIR=f"{folder}/stage")
+        install(folder, [f"{folder}/own"], f"{folder}/own", PTAB=ptab, DESTDIR="")
+        runs(folder, f"{folder}/own")
+        which_program(folder, ptab)
+        if len(sys.argv) > 2:
+            library(folder, ptab, os.path.abspath(sys.argv[2]))
+        versions(ptab)
+        refused(folder, ptab)
+        completions(folder, f"{folder}/own/share/bash-completion/completions/ptab")
+    print(f"installing: {checked} passed, 0 failed")
+
+
+main()

@@ -1,0 +1,174 @@
+#!/usr/bin/env python3
+"""Builds the Debian package twice, in other folders, with other masks, time zones and languages, and compares the bytes; then looks at
+what it holds with `dpkg-deb -c` and `-I`, and runs the program that it unpacks.
+
+With the archive of the library for callers in C it does the same with the package of that.
+
+usage: tests/callers/package.py PTAB [ARCHIVE]
+"""
+import gzip
+import hashlib
+import os
+import re
+import subprocess
+import sys
+import tempfile
+import time
+
+TOP = os.path.abspath(os.path.join(os.path.dirname(os.path.abspath(__file__)), "..", ".."))
+KIT = "kit-of-the-test logic 0123456789abcdef"
+# a time to come: dpkg-deb itself turns later times into this one, and not earlier ones
+EPOCH = 4_000_000_000
+FOLDERS = ("", "usr/", "usr/bin/", "usr/share/", "usr/share/bash-completion/", "usr/share/bash-completion/completions/", "usr/share/doc/",
+           "usr/share/doc/ptab/", "usr/share/man/", "usr/share/man/man8/")
+FILES = {"usr/bin/ptab": "-rwxr-xr-x", "usr/bin/ptab-run": "-rwxr-xr-x", "usr/share/man/man8/ptab-run.8.gz": "-rw-r--r--",
+         "usr/share/bash-completion/completions/ptab": "-rw-r--r--",
+         "usr/share/doc/ptab/BUILD": "-rw-r--r--", "usr/share/doc/ptab/changelog.gz": "-rw-r--r--",
+         "usr/share/doc/ptab/copyright": "-rw-r--r--", "usr/share/man/man8/ptab.8.gz": "-rw-r--r--"}
+DEV = ("include/ptab.h", "include/ptab_disk.h", "lib/libptab.a", "lib/libptab.so", "lib/libptab.so.1", "lib/pkgconfig/ptab.pc",
+       "lib/python3/dist-packages/ptab.py", "share/doc/libptab-dev/c.md.gz")
+checked = 0
+
+
+def same(what, found, wanted):
+    global checked
+    checked += 1
+    if found != wanted:
+        sys.exit(f"{what}:\n  found  {found}\n  wanted {wanted}")
+
+
+def run(*words, **more):
+    done = subprocess.run(words, capture_output=True, text=True, **more)
+    if done.returncode != 0:
+        sys.exit(f"{words}: status {done.returncode}\n{done.stdout}{done.stderr}")
+    return done.stdout
+
+
+def content(path):
+    with open(path, "rb") as it:
+        return it.read()
+
+
+def build(ptab, out, cwd, mask=0o022, **more):
+    """The package's path, as debian.sh tells it."""
+    told = run(f"{TOP}/packaging/debian.sh", out, cwd=cwd, preexec_fn=lambda: os.umask(mask),
+               env={**os.environ, "PTAB": ptab, "KIT": KIT, "SOURCE_DATE_EPOCH": str(EPOCH), **more})
+    return os.path.join(cwd, told.strip())
+
+
+def listed(deb):
+    """What it holds: owners, modes and times are fixed."""
+    found = {}
+    for line in run("dpkg-deb", "-c", deb, env={**os.environ, "TZ": "UTC"}).splitlines():
+        mode, owner, _, day, hour, path = line.split()
+        same(f"the owner of {path}", owner, "root/root")
+        same(f"the time of {path}", (day, hour), tuple(time.strftime("%Y-%m-%d %H:%M", time.gmtime(EPOCH)).split()))
+        found[path.removeprefix("./")] = mode
+    same("what the package holds", found, {**FILES, **{folder: "drwxr-xr-x" for folder in FOLDERS}})
+
+
+def told(deb, sum_of):
+    """What it says of itself."""
+    text = run("dpkg-deb", "-I", deb)
+    fields = {name: run("dpkg-deb", "-f", deb, name).strip() for name in
+              ("Package", "Version", "Architecture", "Depends", "Section", "Priority", "Maintainer", "Description", "Installed-Size")}
+    head = run("git", "-C", TOP, "rev-parse", "HEAD").strip()
+    same("its name", (fields["Package"], fields["Section"], fields["Priority"]), ("ptab", "admin", "optional"))
+    same("its architecture", fields["Architecture"], run("dpkg", "--print-architecture").strip())
+    version = re.escape(run(f"{TOP}/packaging/version.sh").strip())
+    same("its version", bool(re.fullmatch(rf"{version}\+git\d{{14}}\.{head[:12]}(\.changed)?", fields["Version"])), True)
+    same("its maintainer", bool(re.fullmatch(r"[^<>]+ <[^<>@ ]+@[^<>@ ]+>", fields["Maintainer"])), True)
+    same("what it needs", bool(re.fullmatch(r"libc6 \(>= 2\.\d+\)", fields["Depends"])), True)
+    lines = fields["Description"].splitlines()
+    commit = head + ("-changed" if fields["Version"].endswith(".changed") else "")
+    same("its description's end", [line.strip() for line in lines[-3:]], [
+        f"Commit: {commit}", f"Kit: {KIT}", f"SHA-256 of the program: {sum_of}"])
+    same("dpkg-deb -I", (" new Debian package, version 2.0." in text, f"Kit: {KIT}" in text), (True, True))
+    return commit, fields
+
+
+def unpacked(ptab, deb, folder, commit, fields, sum_of):
+    tree, control = f"{folder}/tree", f"{folder}/control"
+    run("dpkg-deb", "-x", deb, tree)
+    run("dpkg-deb", "-e", deb, control)
+    same("the program", content(f"{tree}/usr/bin/ptab") == content(ptab), True)
+    same("the program runs", run(f"{tree}/usr/bin/ptab", "--help"), run(ptab, "--help"))
+    for name in ("ptab", "ptab-run"):
+        same("the man page", gzip.decompress(content(f"{tree}/usr/share/man/man8/{name}.8.gz")) == content(f"{TOP}/man/{name}.8"), True)
+    same("ptab-run", content(f"{tree}/usr/bin/ptab-run") == content(f"{TOP}/tools/ptab-run"), True)
+    same("the completion", content(f"{tree}/usr/share/bash-completion/completions/ptab") == content(f"{TOP}/completion/ptab.bash"), True)
+    built = content(f"{tree}/usr/share/doc/ptab/BUILD").decode()
+    same("BUILD", built.splitlines()[:5],
+         ["program: /usr/bin/ptab", f"sha256: {sum_of}", f"commit: {commit}", f"kit: {KIT}", f"time: {EPOCH}"])
+    changes = gzip.decompress(content(f"{tree}/usr/share/doc/ptab/changelog.gz")).decode().splitlines()
+    same("the changelog's first line", changes[0], f"ptab ({fields['Version']}) unstable; urgency=medium")
+    author = run("git", "-C", TOP, "log", "-1", "--format=%an <%ae>").strip()
+    hour = time.strftime("%a, %d %b %Y %H:%M:%S +0000", time.gmtime(EPOCH))
+    same("the changelog's last line", changes[-1], f" -- {author}  {hour}")
+    same("the changelog tells the commit", f"(commit {commit.removesuffix('-changed')})" in " ".join(changes), True)
+    same("the copyright file", content(f"{tree}/usr/share/doc/ptab/copyright").decode().splitlines()[0],
+         "Format: https://www.debian.org/doc/packaging-manuals/copyright-format/1.0/")
+    sums = dict(reversed(line.split("  ")) for line in content(f"{control}/md5sums").decode().splitlines())
+    same("md5sums", sums, {path: hashlib.md5(content(f"{tree}/{path}")).hexdigest() for path in FILES})
+    same("its size", int(fields["Installed-Size"]), sum((os.path.getsize(f"{tree}/{path}") + 1023) // 1024 for path in FILES))
+    # as BUILD says: the package again, from the installed program
+    line = re.search(r"^    PTAB=/usr/bin/ptab (.*) packaging/debian.sh ptab.deb$", built, re.MULTILINE).group(1)
+    done = run("sh", "-c", f"{line} PTAB={tree}/usr/bin/ptab {TOP}/packaging/debian.sh {folder}/again.deb")
+    same("the package again", (done, content(f"{folder}/again.deb") == content(deb)), (f"{folder}/again.deb\n", True))
+
+
+def library(archive, folder):
+    """The package of the library, built twice; what it holds."""
+    def built(out, mask, **more):
+        return run(f"{TOP}/packaging/debian_dev.sh", out, preexec_fn=lambda: os.umask(mask),
+                   env={**os.environ, "LIBRARY": archive, "KIT": KIT, "SOURCE_DATE_EPOCH": str(EPOCH), **more}).strip()
+    os.mkdir(f"{folder}/dev")
+    deb, again = built(f"{folder}/dev", 0o022), built(f"{folder}/dev.deb", 0o077, TZ="Asia/Tokyo", HOME=folder)
+    same("the bytes of both packages of the library", content(deb) == content(again), True)
+    found = {line.split()[5].removeprefix("./") for line in run("dpkg-deb", "-c", deb).splitlines() if not line.startswith("d")}
+    same("what the library's package holds", found, {f"usr/{place}" for place in DEV})
+    run("dpkg-deb", "-x", deb, f"{folder}/devtree")
+    for place, source in (("include/ptab.h", "include/ptab.h"), ("include/ptab_disk.h", "include/ptab_disk.h"),
+                          ("lib/python3/dist-packages/ptab.py", "bindings/python/ptab.py")):
+        same(f"its {place}", content(f"{folder}/devtree/usr/{place}") == content(f"{TOP}/{source}"), True)
+    with open(f"{folder}/devtree/usr/lib/pkgconfig/ptab.pc", encoding="utf-8") as it:
+        same("no path that the loader knows", "rpath" in it.read(), False)
+    sum_of = hashlib.sha256(content(archive)).hexdigest()
+    same("its description's end", run("dpkg-deb", "-f", deb, "Description").splitlines()[-1].strip(),
+         f"SHA-256 of the proved archive: {sum_of}")
+
+
+def refused(ptab, folder):
+    for words, more, status in (([], {}, 2), (["-x"], {}, 2), (["a", "b"], {}, 2), ([f"{folder}/no.deb"], {"PTAB": f"{folder}/none"}, 1)):
+        done = subprocess.run([f"{TOP}/packaging/debian.sh", *words], capture_output=True, text=True,
+                              env={**os.environ, "PTAB": ptab, "KIT": KIT, **more})
+        same(f"debian.sh {words}", (done.stdout, done.returncode), ("", status))
+    same("no package", os.path.exists(f"{folder}/no.deb"), False)
+
+
+def main():
+    ptab = os.path.abspath(sys.argv[1])
+    sum_of = hashlib.sha256(content(ptab)).hexdigest()
+    with tempfile.TemporaryDirectory() as folder:
+        os.mkdir(f"{folder}/out")
+        other = f"{folder}/the same program"
+        with open(other, "wb") as it:
+            it.write(content(ptab))
+        deb = build(ptab, f"{folder}/out", folder)
+        time.sleep(1.1)
+        again = build(other, "again.deb", f"{folder}/out", mask=0o077, TZ="Asia/Tokyo", LC_ALL="C.UTF-8", HOME=folder)
+        same("where it stands", (os.path.dirname(deb), again), (f"{folder}/out", f"{folder}/out/again.deb"))
+        same("the bytes of both", content(deb) == content(again), True)
+        later = build(ptab, f"{folder}/later.deb", folder, SOURCE_DATE_EPOCH=str(EPOCH + 1))
+        same("another time, other bytes", content(deb) == content(later), False)
+        listed(deb)
+        commit, fields = told(deb, sum_of)
+        same("its file name", os.path.basename(deb), f"ptab_{fields['Version']}_{fields['Architecture']}.deb")
+        unpacked(ptab, deb, folder, commit, fields, sum_of)
+        refused(ptab, folder)
+        if len(sys.argv) > 2:
+            library(os.path.abspath(sys.argv[2]), folder)
+    print(f"the package: {checked} passed, 0 failed; {sum_of[:16]}")
+
+
+main()

@@ -1,0 +1,246 @@
+#!/usr/bin/env python3
+"""Holds the documents against what they tell of. Each example session of README, of docs/commands.md and of docs/other_tools.md is run, a
+document's sessions in their order in one folder, and each command there answers what the document shows; docs/commands.md has one for each
+command, and says of each answer that isn't a success what to do. README's piece of a program stands in the example that it names, and
+examples/README.md lists each example. Each sentence that an error of the library prints stands in docs/commands.md. What docs/promises.md
+names is there, and each file of CONTRIBUTING.md's recipes.
+
+usage: tests/docs/docs.py PTAB [DOCUMENT...]
+"""
+import os
+import re
+import subprocess
+import sys
+import tempfile
+
+TOP = os.path.join(os.path.dirname(os.path.abspath(__file__)), "..", "..")
+DOCUMENTS = ("README.md", "docs/commands.md", "docs/other_tools.md")
+# how a document names a file, and those that it names of any crate
+NAMED = re.compile(r"`([\w/.]+\.(?:rt|antt|txt|sh))`|\b((?:docs|tests|man|include|examples|completion|packaging)/[\w/.-]+\w)")
+GENERIC = ("wrong_bodies.txt", "laws.rt")
+# the rows of docs/commands.md that need no advice
+SUCCESSES = ("a number", "0")
+COMMANDS = ("show", "verify", "locate", "edit", "plan", "check", "apply", "repair")
+# the errors with a sentence: the file, the type, and the rows of docs/commands.md that have its numbers; where it has none the sentence
+# stands anywhere in the document. Those of BSD labels are told by no command
+ERRORS = (("pt_gpt/src/error.rt", "CopyError", "| {} |"), ("pt_mbr/src/chain.rt", "ChainError", "| `no table: chain {}"),
+          ("pt_recover/src/error.rt", "NoTable", None), ("pt_sound/src/finding.rt", "Finding", "| `no {} "),
+          ("pt_words/src/error.rt", "EditError", None), ("pt_words/src/error.rt", "Refusal", "| `refused: edit {}`"),
+          ("pt_check/src/answer.rt", "Why", "| `no {}"), ("pt_targets/src/error.rt", "PlanError", "| `refused: plan {}`"),
+          ("pt_plan/src/error.rt", "CommitError", None), ("pt_plan/src/repair_error.rt", "RepairError", None),
+          ("pt_plan/src/like_error.rt", "LikeError", None),
+          ("pt_apply/src/error.rt", "PlanTextError", None))
+# said of the device, of memory and of what is wrapped, of which the document speaks in other words
+OTHERWISE = ("can't be read", "out of memory", "the plan is refused")
+
+
+def read(name):
+    with open(os.path.join(TOP, name), encoding="utf-8") as it:
+        return it.read()
+
+
+def blocks(text):
+    """The blocks of a document that hold commands."""
+    return [found for found in re.findall(r"^```\n(.*?)^```$", text, re.DOTALL | re.MULTILINE) if found.startswith("$ ")]
+
+
+def steps(block):
+    """(command, the output that follows it) of each command."""
+    for part in re.split(r"^\$ ", block, flags=re.MULTILINE)[1:]:
+        command, output = part.split("\n", 1)
+        while command.endswith(("\\", "|")):
+            more, output = output.split("\n", 1)
+            command = f"{command}\n{more}"
+        yield command, output
+
+
+def run(ptab, name, text):
+    """How many commands of a document's sessions were run."""
+    session = [step for block in blocks(text) for step in steps(block)]
+    if not session:
+        sys.exit(f"{name} has no session")
+    with tempfile.TemporaryDirectory() as folder:
+        os.mkdir(f"{folder}/bin")
+        os.symlink(ptab, f"{folder}/bin/ptab")
+        os.symlink(os.path.abspath(f"{TOP}/tools/ptab-run"), f"{folder}/bin/ptab-run")
+        where = {**os.environ, "PATH": f"{folder}/bin:{os.environ['PATH']}:/usr/sbin:/sbin", "LC_ALL": "C.UTF-8"}
+        os.mkdir(f"{folder}/images")
+        for command, wanted in session:
+            done = subprocess.run(["sh", "-c", command], cwd=f"{folder}/images", env=where, capture_output=True, text=True)
+            if done.stdout + done.stderr != wanted:
+                sys.exit(f"{name}: $ {command}\n  found  {done.stdout + done.stderr!r}\n  wanted {wanted!r}")
+    return len(session)
+
+
+def each_command(text):
+    """Each command's section has a session that calls it."""
+    for name in COMMANDS:
+        section = re.search(rf"^## {name}\n(.*?)(?=^## |\Z)", text, re.DOTALL | re.MULTILINE).group(1)
+        if not any(re.match(rf"ptab {name}\b", command) for block in blocks(section) for command, _ in steps(block)):
+            sys.exit(f"docs/commands.md has no example of ptab {name}")
+
+
+def pieces(name, text):
+    """How many lines of programs a document shows; each block stands as a whole in the file that the line before it names."""
+    count = 0
+    for path, piece in re.findall(r"`(crates/[^`]*\.rt)`[^\n]*\n\n```rust\n(.*?)^```$", text, re.DOTALL | re.MULTILINE):
+        if piece not in read(path):
+            sys.exit(f"{name}: this isn't in {path}:\n{piece}")
+        count += piece.count("\n")
+    if count == 0 and "```rust" in text:
+        sys.exit(f"{name} shows a program and doesn't name its file")
+    return count
+
+
+def rows(text):
+    """(heading of the table, cells) of each row of a document's tables."""
+    head = None
+    for line in text.splitlines():
+        if not line.startswith("|"):
+            head = None
+        elif head is None:
+            head = [cell.strip() for cell in line.strip()[1:-1].split("|")]
+        elif line.strip("|-: "):
+            yield head, [cell.strip() for cell in line.strip()[1:-1].split("|")]
+
+
+def advice(text):
+    """How many answers of docs/commands.md say what to do: all but the successes."""
+    count = 0
+    for head, cells in rows(text):
+        if head[0] in ("Table", "Word", "E", "Where"):
+            continue
+        if head[-1] != "What to do" or len(cells) != len(head) or not (cells[-1] or cells[0] in SUCCESSES):
+            sys.exit(f"docs/commands.md doesn't say what to do: {cells}")
+        count += 1
+    return count
+
+
+def examples():
+    """How many examples there are: examples/README.md lists them all, with how to run them, and no other."""
+    text = read("examples/README.md")
+    there = {os.path.relpath(f"{folder}/{name}", f"{TOP}/examples") for folder, _, names in os.walk(f"{TOP}/examples") for name in names}
+    there = {name for name in there if name != "README.md"} | {f"../crates/{name}/src/main.rt" for name in os.listdir(f"{TOP}/crates")
+                                                              if name.startswith("example_")}
+    told = set(re.findall(r"\]\(([^)]*)\)", text))
+    for name in told:
+        if not os.path.exists(f"{TOP}/examples/{name}"):
+            sys.exit(f"examples/README.md names what isn't there: {name}")
+    if there - told:
+        sys.exit(f"examples/README.md doesn't list {sorted(there - told)}")
+    if any("" in cells for _, cells in rows(text)):
+        sys.exit("examples/README.md has an example without a line on it")
+    return len(there)
+
+
+def names_in(cell):
+    """The names in a cell: `f`, `T::f` and `T::{f, g}` are f, f, and f and g."""
+    for found in re.findall(r"`([^`]*)`", cell):
+        for name in re.sub(r"^\w+::\{|\}$", "", found).split(","):
+            yield name.strip().split("::")[-1]
+
+
+def promised(crate, cells, is_law, files):
+    """How many names a row of docs/promises.md has; each stands in its file."""
+    call = cells[0]
+    clauses = " ".join(re.findall(r"\(([^)]*)\)", call)) if is_law else cells[1]
+    source = "".join(read(name) for name in files)
+    wanted = [(rf"\b(fn|struct|enum|type|trait|ghost) {name}\b", name) for name in names_in(re.sub(r"\([^)]*\)", "", call))]
+    wanted += [(r"ensures(?: \*)? \{" if name == "ensures" else rf"\b(ensures(?: \*)?|fn) {name}\b", name) for name in names_in(clauses)]
+    for pattern, name in wanted:
+        if not re.search(pattern, source):
+            sys.exit(f"docs/promises.md, {crate}: {name} of {call} isn't in {files}")
+    text, count = "", len(wanted)
+    for whole, name in re.findall(r"((?:crates/\w+/)?(?:specs/)?(?:laws/)?\w+\.antt)|`([^`]*)`", cells[-1]):
+        path = whole or (name if name.endswith(".antt") else "")
+        if path:
+            text = read(path if path.startswith("crates/") else f"crates/{crate}/specs/{path.removeprefix('specs/')}")
+        elif text and not re.search(rf"\b{re.escape(name)}\b", text):
+            sys.exit(f"docs/promises.md, {crate}: {name} isn't in the definitions that it names for {call}")
+        count += 1
+    return count
+
+
+def promises():
+    """How many names of functions, clauses, files and definitions docs/promises.md has; each is there."""
+    crate, files, count = None, [], 0
+    for part in re.split(r"^(?=##)", read("docs/promises.md"), flags=re.MULTILINE):
+        if not part.startswith("### "):
+            continue
+        crate = re.match(r"### (\w+)", part).group(1)
+        for head, cells in rows(part):
+            is_law = head[0] == "Law"
+            named = cells[2] if is_law else cells[3]
+            if named:
+                files = [f"crates/{crate}/{name.strip()}" for name in named.split(",")]
+            count += promised(crate, cells, is_law, files)
+    return count
+
+
+def plain(text):
+    return re.sub(r"\s+", " ", text.replace("`", "").replace("**", ""))
+
+
+def sentences(source, name):
+    """(number, sentence) of each variant of an error, without what it wraps; no number where the type has none."""
+    numbers = dict(re.findall(rf"{name}::(\w+)(?:\([^)]*\))? => (\d+),", source))
+    block = re.search(rf"^impl fmt::Display for {name} .*?^}}$", source, re.DOTALL | re.MULTILINE).group(0)
+    arms = re.split(rf"{name}::(\w+)", block)
+    for variant, arm in zip(arms[1::2], arms[2::2]):
+        for literal in re.findall(r'"((?:[^"\\]|\\.)*)"', arm):
+            text = re.sub(r": \{.*", "", literal)
+            if re.sub(r"\{[^}]*\}", "", text).strip() and not any(part in text for part in OTHERWISE):
+                yield numbers.get(variant), text
+
+
+def is_told(text, docs):
+    """Whether a sentence stands in a text that has names in capital letters in the places of values."""
+    pattern = r"[A-Z]+".join(re.escape(part) for part in re.split(r"\{[^}]*\}", text))
+    return re.search(pattern, plain(docs)) is not None
+
+
+def errors():
+    """How many sentences of errors stand in docs/commands.md, in the rows with their numbers: all."""
+    docs = read("docs/commands.md")
+    count = 0
+    for path, name, row in ERRORS:
+        for number, text in sentences(read(f"crates/{path}"), name):
+            rows = docs if row is None else "\n".join(line for line in docs.splitlines() if line.startswith(row.format(number)))
+            if not is_told(text, rows):
+                sys.exit(f"docs/commands.md doesn't say what {name} {number} prints: {text}")
+            count += 1
+    return count
+
+
+def places(name):
+    """How many files a document names; each is there. A name without a folder of the repository's stands in the crate, or beside the
+    file, that its line names before it."""
+    count = 0
+    for line in read(name).splitlines():
+        crate, beside = "", ""
+        for found in NAMED.finditer(line):
+            path = found[1] or found[2]
+            first = path.partition("/")[0]
+            if os.path.isdir(f"{TOP}/crates/{first}"):
+                crate = f"crates/{first}"
+            there = [it for it in (f"crates/{path}", path, f"{crate}/{path}", f"{beside}/{path}") if os.path.isfile(f"{TOP}/{it}")]
+            if not there and path not in GENERIC:
+                sys.exit(f"{name} names {path}, which isn't there: {line}")
+            beside = os.path.dirname(there[0]) if there else beside
+            count += 1
+    return count
+
+
+def main():
+    ptab = os.path.abspath(sys.argv[1])
+    for name in sys.argv[2:] or DOCUMENTS:
+        text = read(name)
+        print(f"{name}'s sessions: {run(ptab, name, text)} passed, 0 failed; {pieces(name, text)} lines of a program are as in its file")
+    each_command(read("docs/commands.md"))
+    print(f"docs/commands.md: {advice(read('docs/commands.md'))} answers say what to do; examples/README.md lists {examples()} examples")
+    print(f"docs/promises.md: {promises()} names are there")
+    print(f"CONTRIBUTING.md: {places('CONTRIBUTING.md')} files are there")
+    print(f"errors: {errors()} sentences stand in docs/commands.md, 0 are missing")
+
+
+main()

@@ -1,0 +1,278 @@
+#!/usr/bin/env python3
+"""Cuts the power in each phase of real edits, of every kind of table. The writes and syncs of the built command on an image are
+taken down by strace; then, for each phase, images that hold the phases before and any choice of this phase's writes are shown: the
+old layout (or none, where there was none) before the phase that switches, the new one after it, one of the two in it; and a repair of
+them keeps what they show and leaves them healthy. Repairs of every kind of damage are cut the same way: each such image has the layout
+that was there, and a repair of it ends as the whole one.
+
+usage: tests/failures/power_cut.py PTAB
+"""
+import os
+import random
+import subprocess
+import sys
+from concurrent.futures import ProcessPoolExecutor
+
+sys.path.insert(0, os.path.join(os.path.dirname(os.path.abspath(__file__)), "..", "shared"))
+import images
+from damages import Gpt, damages, sliced
+from images import FREEBSD, LARGE, SMALL, ebr, entry, guid, label, one_partition, record, room
+from writes import choices, recorded, written
+
+FRESH = "--fresh 000102030405060708090a0b0c0d0e0f" + "0" * 32
+MORE = FRESH + "".join(f"{number:032x}" for number in range(1, 4))
+checked = 0
+
+
+def shown(ptab, path, image, sectors, command="show"):
+    with open(path, "wb") as it:
+        it.write(image)
+    return said(ptab, path, sectors, command)
+
+
+def said(ptab, path, sectors, command):
+    done = subprocess.run([ptab, command, path, "--sector-size", str(sectors.size)], capture_output=True, text=True)
+    return done.stdout, done.stderr, done.returncode
+
+
+def repaired(ptab, path, sectors, found):
+    """Whether a repair of the image, which shows what was found, leaves it healthy with that; where that is no table it is refused."""
+    done = said(ptab, path, sectors, "repair")
+    if found[2] != 0:
+        return done == found
+    return (done, said(ptab, path, sectors, "show"), said(ptab, path, sectors, "verify")) == (("done\n", "", 0), found, ("yes\n", "", 0))
+
+
+def cut(ptab, folder, name, image, words, counts, switch, sectors=SMALL):
+    """Edits the image, and stops it in each phase."""
+    global checked
+    path = f"{folder}/image"
+    with open(path, "wb") as it:
+        it.write(image)
+    phases = [phase for phase in recorded(ptab, path, "edit", words, sectors) if phase]
+    with open(path, "rb") as it:
+        after = it.read()
+    if [len(phase) for phase in phases] != counts:
+        sys.exit(f"{name}: phases of {[len(phase) for phase in phases]} writes, not of {counts}")
+    old, new = shown(ptab, path, image, sectors), shown(ptab, path, after, sectors)
+    if old == new or shown(ptab, path, after, sectors, "verify")[0] != "yes\n":
+        sys.exit(f"{name}: nothing changed, or the image isn't healthy")
+    rng = random.Random(1)
+    before = bytes(image)
+    for number, phase in enumerate(phases, 1):
+        allowed = (old,) if number < switch else (new,) if number > switch else (old, new)
+        for writes in choices(rng, phase):
+            found = shown(ptab, path, written(before, writes, sectors), sectors)
+            if found not in allowed:
+                sys.exit(f"{name}: stopped in phase {number} by {[lba for lba, _ in writes]}: {found}")
+            if not repaired(ptab, path, sectors, found):
+                sys.exit(f"{name}: stopped in phase {number} by {[lba for lba, _ in writes]}: not repaired")
+            checked += 2
+        before = bytes(written(before, phase, sectors))
+    if before != after:
+        sys.exit(f"{name}: the writes don't make the image")
+
+
+def on_gpt():
+    """(name, image, words, the number of writes in each phase, the phase that switches)"""
+    whole = one_partition()
+    broken = bytearray(whole)
+    broken[SMALL.size] ^= 0xFF
+    sloppy = bytearray(whole)
+    sloppy[446 + 5] = 0xFE
+    yield "a name", whole, "c:1:data", [33, 1, 32, 1], 2
+    yield "a name from the backup", broken, "c:1:data", [1, 32, 1, 33], 3
+    yield "a name over a sloppy protective record", sloppy, "c:1:data", [33, 1, 32, 1, 1], 2
+    yield "a new table", SMALL.zeros(2048), f"{FRESH} o", [1, 32, 1, 33, 1], 3
+    yield "a new table with a partition", SMALL.zeros(2048), f"{FRESH} o a:1 n:1:0:0", [1, 32, 1, 33, 1], 3
+    yield "a new table over another", whole, f"{FRESH} o", [33, 1, 32, 1], 2
+    yield "a new partition", whole, f"{FRESH} a:1 n:2:100:200 c:2:new", [33, 1, 32, 1], 2
+    yield "a grown disk", whole + SMALL.zeros(1000), "e", [33, 1, 32, 1, 1], 2
+    two = SMALL.gpt(4096, {1: entry(2048, 3000), 2: entry(3001, 4000, unique=images.DISK)})
+    yield "a deletion", two, "d:1 t:2:8200", [33, 1, 32, 1], 2
+
+
+def on_slices_of_gpt():
+    sliced = SMALL.gpt(2048, {1: entry(100, 1099, FREEBSD)})
+    SMALL.put(sliced, 101, label(1000, {0: (100, 16, 7)}))
+    stale = SMALL.gpt(2048, {})
+    SMALL.put(stale, 101, label(1000, {0: (100, 16, 7)}))
+    broken = bytearray(sliced)
+    broken[SMALL.size] ^= 0xFF
+    yield "a slice", SMALL.gpt(2048, {}), f"{FRESH} a:1 n:1:100:1099:A500 n:1.a:0:0", [34, 1, 32, 1], 2
+    yield "a slice where a label lies", stale, f"{FRESH} a:1 n:1:100:1099:A500", [34, 1, 32, 1], 2
+    yield "a table with a slice", SMALL.zeros(2048), f"{FRESH} o a:1 n:1:100:1099:A500", [1, 33, 1, 33, 1], 3
+    yield "a slice from the backup", broken, f"{FRESH} a:1 n:2:1100:1199:A500", [1, 33, 1, 33], 3
+    yield "a deleted slice", sliced, "d:1", [33, 1, 32, 1], 2
+    yield "a named slice on a grown disk", sliced + SMALL.zeros(100), "c:1:bsd e", [33, 1, 32, 1, 1], 2
+    yield "a label's new partition", sliced, "a:1 n:1.b:216:0", [1], 1
+    yield "a label's changed partition", sliced, "t:1.a:01", [1], 1
+    yield "a label's deleted partition", sliced, "d:1.a", [1], 1
+
+
+def on_mbr():
+    one = SMALL.mbr(1024, [record(0x83, 100, 100)])
+    sliced = SMALL.mbr(1024, [record(0xA5, 100, 500)])
+    SMALL.put(sliced, 101, label(500, {0: (100, 16, 7)}))
+    stale = SMALL.mbr(1024, [])
+    SMALL.put(stale, 101, label(499, {0: (100, 16, 7)}))
+    again = SMALL.mbr(1024, [])
+    SMALL.put(again, 101, label(500, {}))
+    covering = SMALL.mbr(1024, [record(0x05, 100, 100)])
+    yield "a primary", SMALL.mbr(1024, []), "a:1 n:1:100:199", [1], 1
+    yield "a second primary", one, "a:1 n:2:200:299 t:1:07", [1], 1
+    yield "a deleted primary", one, "d:1", [1], 1
+    yield "an MBR to a GPT", one, f"{FRESH} g", [66, 1], 2
+    yield "an MBR with a slice to a GPT", sliced, f"{FRESH} g", [66, 1], 2
+    yield "an MBR to a GPT with a new slice", one, f"{MORE} g a:1 n:2:300:399:A500", [67, 1], 2
+    yield "a new table over an MBR", one, f"{FRESH} o", [66, 1], 2
+    yield "a new table over an MBR with a slice", sliced, f"{FRESH} o", [66, 1], 2
+    yield "a new table over a broken chain", covering, f"{FRESH} o", [66, 1], 2
+    yield "a slice", SMALL.mbr(1024, []), "a:1 n:1:100:599:A5", [1, 1], 2
+    yield "a slice with a partition", SMALL.mbr(1024, []), "a:1 n:1:100:599:A5 n:1.a:0:0", [1, 1], 2
+    yield "a slice where another label lies", stale, "a:1 n:1:100:599:A5", [1, 1], 2
+    yield "a slice where its label lies", again, "a:1 n:1:100:599:A5", [1], 1
+    yield "two slices", SMALL.mbr(1024, []), "a:1 n:1:100:599:A5 n:2:600:0:A5", [2, 1], 2
+    yield "a deleted slice", sliced, "d:1", [1], 1
+    yield "a label's new partition", sliced, "a:1 n:1.b:216:0", [1], 1
+    yield "a label's changed partition", sliced, "t:1.a:01", [1], 1
+    yield "a label's deleted partition", sliced, "d:1.a", [1], 1
+
+
+def chain(*ebrs, extended=True):
+    """1024 sectors with an extended partition of 800 from 100 on, and the boot records (sector, bytes) where it is or was."""
+    image = SMALL.mbr(1024, [record(0x83, 1, 50), record(0x05, 100, 800)] if extended else [record(0x83, 1, 50)])
+    for lba, content in ebrs:
+        SMALL.put(image, lba, content)
+    return image
+
+
+def on_chains():
+    empty = (100, ebr())
+    one = ((100, ebr(link=record(0x05, 99, 101))), (199, ebr(record(0x83, 1, 100))))
+    two = ((100, ebr(link=record(0x05, 99, 101))), (199, ebr(record(0x83, 1, 100), record(0x05, 299, 51))), (399, ebr(record(0x83, 1, 50))))
+    sliced = chain((100, ebr(link=record(0x05, 99, 101))), (199, ebr(record(0xA5, 1, 100))), (201, label(100, {0: (20, 16, 7)})))
+    yield "an extended partition", chain(extended=False), "a:1 n:2:100:899:05", [1, 1], 2
+    yield "an extended partition with a logical", chain(extended=False), "a:1 n:2:100:899:05 n:5:200:299", [2, 1], 2
+    yield "an extended partition with two logicals", chain(extended=False), "a:1 n:2:100:899:05 n:5:200:299 n:5:400:449", [3, 1], 2
+    yield "a first logical", chain(empty), "a:1 n:5:200:299", [1, 1], 2
+    yield "a first logical in the first boot record", chain(empty), "a:1 n:5:101:299", [1], 1
+    yield "a second logical", chain(*one), "a:1 n:5:400:449", [1, 1], 2
+    yield "a logical before another", chain(*one), "a:1 n:5:150:159", [1, 1], 2
+    yield "two logicals behind another", chain(*one), "a:1 n:5:400:449 n:5:500:549:82", [2, 1], 2
+    yield "a logical between two", chain(*two), "a:1 n:5:350:359", [1, 1], 2
+    yield "a deleted first logical", chain(*two), "d:5", [1], 1
+    yield "a deleted last logical", chain(*two), "d:6", [1], 1
+    gone = ((100, two[0][1]), (199, ebr(link=record(0x05, 299, 51))), (399, two[2][1]))
+    yield "a logical made again in its boot record", chain(*gone), "a:1 n:5:200:299", [1], 1
+    yield "a logical where a stale boot record lies", chain(empty, *two[1:]), "a:1 n:5:200:299", [1, 1], 2
+    yield "a logical where its own boot record lies", chain(empty, *one[1:]), "a:1 n:5:200:299", [1], 1
+    yield "a chain where a stale one lies", chain(*two, extended=False), "a:1 n:2:100:899:05 n:5:200:298", [2, 1], 2
+    yield "a chain where half of it lies", chain(*two, extended=False), "a:1 n:2:100:899:05 n:5:200:299", [1, 1], 2
+    yield "a longer extended partition over a stale chain", chain(*two, extended=False), "a:1 n:2:100:999:05", [1, 1], 2
+    yield "a logical's type", chain(*two), "t:5:07", [1], 1
+    yield "a deleted extended partition", chain(*two), "d:2", [1], 1
+    image = chain(*two)
+    image[446:462] = record(0x83, 40, 50)
+    yield "logicals to a GPT", image, f"{MORE} g", [66, 1], 2
+    yield "a new table over logicals", image, f"{FRESH} o", [66, 1], 2
+    yield "a logical slice", chain(empty), "a:1 n:5:200:299:A5", [2, 1], 2
+    yield "a label's new partition in a logical", sliced, "a:1 n:5.b:236:0", [1], 1
+    yield "a label's changed partition in a logical", sliced, "t:5.a:01", [1], 1
+    yield "a label's deleted partition in a logical", sliced, "d:5.a", [1], 1
+    yield "a logical before a slice", sliced, "a:1 n:5:101:110", [1], 1
+    yield "a deleted logical slice", sliced, "d:5", [1], 1
+
+
+def on_large_sectors():
+    whole = LARGE.gpt(64, {1: entry(6, 40)})
+    mbr = LARGE.mbr(64, [record(0x83, 6, 10), record(0x05, 20, 30)])
+    LARGE.put(mbr, 20, ebr())
+    yield "a name", whole, "c:1:data", [5, 1, 4, 1], 2
+    yield "a new table", LARGE.zeros(64), f"{FRESH} o", [1, 4, 1, 5, 1], 3
+    yield "a grown disk", whole + LARGE.zeros(10), "e", [5, 1, 4, 1, 1], 2
+    yield "a logical", mbr, "a:1 n:5:30:39", [1, 1], 2
+    yield "an MBR to a GPT", mbr, f"{FRESH} g", [10, 1], 2
+
+
+def repair_cut(ptab, folder, damage, sectors):
+    """Repairs a damaged image, stops that in each phase, and repairs what is left."""
+    global checked
+    path = f"{folder}/image"
+    old = shown(ptab, path, damage.image, sectors)
+    phases = recorded(ptab, path, "repair", [], sectors)
+    if old[2] != 0 or [len(phase) for phase in phases] != [0, *damage.phases(sectors)]:
+        sys.exit(f"{damage.name}: {old}, phases of {[len(phase) for phase in phases]} writes, not of {[0, *damage.phases(sectors)]}")
+    rng = random.Random(1)
+    before, seen = bytes(damage.image), set()
+    for number, phase in enumerate(phases, 1):
+        for writes in choices(rng, phase):
+            image = bytes(written(before, writes, sectors))
+            if image in seen:
+                continue
+            seen.add(image)
+            what = f"{damage.name}: stopped in phase {number} by {[lba for lba, _ in writes]}"
+            if shown(ptab, path, image, sectors) != old:
+                sys.exit(f"{what}: another layout")
+            if shown(ptab, path, image, sectors, "repair") != ("done\n", "", 0):
+                sys.exit(f"{what}: not repaired")
+            with open(path, "rb") as it:
+                if it.read() != damage.mended:
+                    sys.exit(f"{what}: not the image that a whole repair makes")
+            checked += 2
+        before = bytes(written(before, phase, sectors))
+    if before != damage.mended or shown(ptab, path, before, sectors, "verify")[0] != "yes\n":
+        sys.exit(f"{damage.name}: the writes don't make the image, or it isn't healthy")
+
+
+def kinds(tables):
+    """A damage of each finding, and of each fault of each copy; of the findings 4 to 6 all damages."""
+    met = set()
+    for gpt in tables:
+        for damage in damages(gpt):
+            kind = damage.finding if damage.finding[0] in "23" else damage.name
+            if "grown" in damage.name or "zeroed" in damage.name:
+                kind = damage.name
+            if kind not in met:
+                met.add(kind)
+                yield damage, gpt.sectors
+
+
+def repairs():
+    """Every damage whose repair is cut. The second table has only some of them cut again."""
+    small = Gpt("two", SMALL, 100, {1: entry(34, 50, name="data"), 2: entry(51, 60, unique=guid(2))})
+    large = Gpt("two large", LARGE, 30, {1: entry(6, 10, name="data"), 2: entry(11, 20, FREEBSD, guid(2))})
+    return [*kinds([small]), *kinds([large]), *list(kinds([sliced()]))[::5]]
+
+
+def cut_repairs(ptab, part, parts):
+    """How many stopped images were looked at."""
+    with room() as folder:
+        for damage, sectors in repairs()[part::parts]:
+            repair_cut(ptab, folder, damage, sectors)
+    return checked
+
+
+def cut_edits(ptab, sectors, table):
+    """The same."""
+    with room() as folder:
+        for name, image, words, counts, switch in table():
+            cut(ptab, folder, name, image, words.split(" "), counts, switch, sectors)
+    return checked
+
+
+def counted(call, *words):
+    before = checked
+    return call(*words) - before
+
+
+def main():
+    ptab = os.path.abspath(sys.argv[1])
+    with ProcessPoolExecutor() as pool:
+        tables = [(SMALL, table) for table in (on_gpt, on_slices_of_gpt, on_mbr, on_chains)] + [(LARGE, on_large_sectors)]
+        done = [pool.submit(counted, cut_edits, ptab, sectors, table) for sectors, table in tables]
+        done += [pool.submit(counted, cut_repairs, ptab, part, 8) for part in range(8)]
+        print(f"power cuts: {sum(it.result() for it in done)} passed, 0 failed")
+
+
+main()

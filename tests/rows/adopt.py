@@ -1,0 +1,130 @@
+#!/usr/bin/env python3
+"""`ptab adopt`: an image takes the table of another one, as a healthy table, or stays as it is and the reason is told. What is taken is
+compared by `show`, what stays byte by byte.
+
+usage: tests/rows/adopt.py PTAB
+"""
+import os
+import sys
+
+sys.path.insert(0, os.path.join(os.path.dirname(os.path.abspath(__file__)), "..", "shared"))
+import images
+from command import Command
+from images import FREEBSD, LARGE, SMALL, entry, guid, label, record
+
+COUNT = 300
+checked = 0
+
+
+def same(what, found, wanted):
+    global checked
+    checked += 1
+    if found != wanted:
+        sys.exit(f"adopt: {what}:\n  found  {found}\n  wanted {wanted}")
+
+
+class Pair:
+    """An image, and another one whose table is to be taken."""
+
+    def __init__(self, ptab, folder, sectors, image, other):
+        self.image = Command(ptab, os.path.join(folder, "image"), sectors).on(image)
+        self.other = Command(ptab, os.path.join(folder, "other"), sectors).on(other)
+
+    def adopt(self, *words):
+        return self.image.run("adopt", self.other.path, *words)
+
+
+def kinds(sectors):
+    """(what it is, an image of it) of tables that are healthy."""
+    first = sectors.array + 2
+    two = {1: entry(first, first + 9, name="data"), 3: entry(first + 20, first + 120, "21686148-6449-6E6F-744E-656564454649", guid(3), 4)}
+    yield "a GPT", sectors.gpt(COUNT, two)
+    yield "another GPT", sectors.gpt(COUNT, {2: entry(first + 5, first + 60, unique=guid(2))}, disk=guid(9))
+    if sectors is SMALL:
+        sliced = sectors.gpt(COUNT, {1: entry(100, 200, FREEBSD)})
+        sectors.put(sliced, 101, label(101, {0: (30, 16, 7)}))
+        yield "a GPT with a label", sliced
+
+
+def takes(make):
+    """A healthy image of each kind takes the table of each other kind, and so does a blank one."""
+    for sectors in (SMALL, LARGE):
+        tables = list(kinds(sectors))
+        for what, image in (*tables, ("a blank image", sectors.zeros(COUNT))):
+            for other_is, other in tables:
+                told = f"{what} takes {other_is}"
+                pair = make(sectors, image, other)
+                plan = pair.adopt("--plan")
+                same(f"{told}: nothing is written by --plan", pair.image.image(), bytes(image))
+                if plan[2]:
+                    same(f"{told}: refused alike", pair.adopt(), plan)
+                    same(f"{told}: nothing is written", pair.image.image(), bytes(image))
+                    same(f"{told}: why", plan[1] in ("refused: plan 1\n", "refused: plan 2\n"), True)
+                    continue
+                same(told, pair.adopt(), ("done\n", "", 0))
+                same(f"{told}: as it is shown", pair.image.run("show"), pair.other.run("show"))
+                same(f"{told}: healthy", pair.image.run("verify"), ("yes\n", "", 0))
+                same(f"{told}: the other is only read", pair.other.image(), bytes(other))
+                left, taken = pair.image.image(), make(sectors, image, other)
+                same(f"{told}: by its plan", applied(taken, plan[0]), left)
+                same(f"{told}: once more", (pair.adopt(), pair.image.image()), (("done\n", "", 0), left))
+
+
+def applied(pair, plan):
+    """The image once this plan's text was applied to it."""
+    path = f"{pair.image.path}.plan"
+    with open(path, "w", encoding="ascii") as it:
+        it.write(plan)
+    same("the plan is applied", pair.image.run("apply", path), ("done\n", "", 0))
+    return pair.image.image()
+
+
+def refuses(make):
+    """What isn't taken, and what is told then; the image stays byte for byte."""
+    gpt, mbr = SMALL.gpt(COUNT, {1: entry(40, 200)}), SMALL.mbr(COUNT, [record(0x83, 40, 100)])
+    broken = bytearray(gpt)
+    for lba in (1, COUNT - 1):
+        SMALL.put(broken, lba, bytes(512))
+    overlapping = SMALL.gpt(COUNT, {1: entry(40, 200), 2: entry(100, 250, unique=guid(2))})
+    for what, image, other, answer in (
+            ("a longer one", gpt, SMALL.gpt(COUNT + 1, {}), ("", "refused: other size\n", 3)),
+            ("no table", gpt, broken, ("", "other: no table: copies 1 1\n", 4)),
+            ("an MBR", gpt, mbr, ("", "refused: plan 1\n", 3)),
+            ("a table that isn't sound", gpt, overlapping, ("", "refused: plan 4\n", 3))):
+        pair = make(SMALL, image, other)
+        for words in ((), ("--plan",), ("--no-lock",)):
+            same(f"{what} isn't taken", pair.adopt(*words), answer)
+            same(f"the image after {what}", pair.image.image(), bytes(image))
+    pair = make(SMALL, gpt, gpt)
+    os.remove(pair.other.path)
+    same("no other image", pair.adopt(), ("", "other: device\n", 5))
+    same("a folder", pair.image.run("adopt", os.path.dirname(pair.other.path)), ("", "other: device\n", 5))
+    same("one image alone", pair.image.run("adopt")[2], 2)
+    same("itself", (pair.image.run("adopt", pair.image.path), pair.image.image()), (("done\n", "", 0), bytes(gpt)))
+    missing = make(SMALL, gpt, gpt)
+    os.remove(missing.image.path)
+    same("no image", missing.adopt(), ("", "device\n", 5))
+
+
+def mbrs(make):
+    """An MBR takes what one write of sector 0 makes of it."""
+    old = SMALL.mbr(COUNT, [record(0x83, 40, 100)])
+    new = SMALL.mbr(COUNT, [record(0x83, 40, 100), record(0x07, 150, 50, 0x80)])
+    pair = make(SMALL, old, new)
+    same("an MBR", pair.adopt(), ("done\n", "", 0))
+    same("the MBR", pair.image.run("show"), (f"mbr {COUNT}\n1 40 139 83 00\n2 150 199 07 80\n", "", 0))
+
+
+def main():
+    if len(sys.argv) != 2:
+        sys.exit("usage: tests/rows/adopt.py PTAB")
+    with images.room() as folder:
+        def make(*words):
+            return Pair(os.path.abspath(sys.argv[1]), folder, *words)
+        takes(make)
+        refuses(make)
+        mbrs(make)
+    print(f"adopt: {checked} passed, 0 failed")
+
+
+main()
