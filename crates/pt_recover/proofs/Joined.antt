@@ -1,5 +1,5 @@
 -- A run among others that ascend.
-use Rattle.std.proofs.Common.{◌≡◌, ◌<◌, ◌≤◌, ◌+◌, ℕ, suc, List, [], ◌∷◌, ◌++◌, length, get_or, take, drop, nat_lt, true, false, refl, sym}
+use Rattle.std.proofs.Common.{◌≡◌, ◌<◌, ◌≤◌, ◌+◌, ◌-◌, ℕ, zero, suc, List, [], ◌∷◌, ◌++◌, length, get_or, take, drop, nat_lt, true, false, refl, sym}
 use Rattle.std.proofs.Common.{ap, ◌∙◌, subst, arith, inl, inr, append_assoc}
 use Rattle.std.specs.Prelude.{◌⊎◌, ◌↔◌}
 use Rattle.std.specs.List.{insert, remove}
@@ -172,6 +172,31 @@ stands_last x (r ∷ rs) k z apart count below =
     ∙ ap (λ (l : List TracedRun). xs ++ joined x l) (drop_all (length xs) xs (omega arith))
     ∙ ap (λ (l : List TracedRun). xs ++ l) (joined_none x)
     ∙ sym e
+
+-- runs that all end below another one, with a gap
+stands_past : (x : TracedRun) (xs : List TracedRun) (at : ℕ) → at ≤ length xs
+    → ((k : ℕ) (d : TracedRun) → k < at → (get_or xs k d).last + 1 < x.first) → StandsBefore (joined x xs) xs at x
+stands_past x xs zero le below = refl
+stands_past x [] (suc n) le below = absurd (omega arith)
+stands_past x (r ∷ rs) (suc n) le below =
+    ap (λ (l : List TracedRun). r ∷ l) (stands_past x rs n (omega arith) (λ k d lt. below (suc k) d (omega arith)))
+    ∙ sym (joined_below x r rs (below 0 r (omega arith)))
+
+gap : (xs : List TracedRun) (k : ℕ) (d : TracedRun) → Apart xs → suc k < length xs
+    → ((get_or xs k d).last + 1 < (get_or xs (suc k) d).first) × ((get_or xs (suc k) d).first ≤ (get_or xs (suc k) d).last)
+gap [] k d apart lt = absurd (omega arith)
+gap (r ∷ []) k d apart lt = absurd (omega arith)
+gap (r ∷ q ∷ qs) zero d apart lt =
+    let parts = apart_split r (q ∷ qs) apart in (parts.1, (apart_split q qs parts.2).0)
+gap (r ∷ q ∷ qs) (suc k) d apart lt = gap (q ∷ qs) k d (apart_split r (q ∷ qs) apart).2 (omega arith)
+
+-- of runs that end below another one only the last can touch it
+pub stands_searched : (x : TracedRun) (xs : List TracedRun) (i : ℕ) → Apart xs → i ≤ length xs
+    → ((k : ℕ) (d : TracedRun) → k < i → (get_or xs k d).last < x.first) → StandsBefore (joined x xs) xs (i - 1) x
+stands_searched x xs i apart le ended =
+    stands_past x xs (i - 1) (omega arith) (λ k d lt.
+    (let next = gap xs k d apart (omega (arith, lt, le)) in
+    omega (arith, next.0, next.1, ended (suc k) d (omega (arith, lt)))))
 
 pub stands_below : (whole xs : List TracedRun) (at : ℕ) (z r x : TracedRun) → at < length xs → get_or xs at z ≡ r → StandsAs r x Below
     → StandsBefore whole xs at x → StandsBefore whole xs (at + 1) x

@@ -46,6 +46,17 @@ impl TracedRun {
     }
 }
 
+// The place before the first run that doesn't end below another one. That before it may touch it, and none further down.
+fn place_below(runs: &[TracedRun], new: &TracedRun) -> usize
+    requires { Apart runs.now }
+    ensures within { result ≤ length runs.now }
+    ensures stands { StandsBefore (joined new.now runs.now) runs.now result new.now }
+{
+    let first = new.first;
+    let ended = runs.partition_point(|run| run.last < first);
+    ended.saturating_sub(1)
+}
+
 // From which place on a run is to be compared with others, which ascend: from none on where the last one ends below it,
 // as it does where sectors are read in their order.
 #[tactic(auto, using(crate::proofs::Joined::stands_first, crate::proofs::Joined::stands_last))]
@@ -60,7 +71,7 @@ fn place_of(runs: &[TracedRun], new: &TracedRun) -> usize
     }
     match runs[count - 1].order(new) {
         Order::Below => count,
-        _ => 0,
+        _ => place_below(runs, new),
     }
 }
 
