@@ -7,7 +7,8 @@
   block device; and options that don't go with a device;
 - some forty jobs of sgdisk, sfdisk, fdisk, parted and cgpt through ptab-run, beside the same on an image, and which partitions the kernel
   has afterwards;
-- power cuts: every image that a stop among the writes to a device leaves has the old table or the new one.
+- power cuts: every image that a stop among the writes to a device leaves has the old table or the new one;
+- devices that go or fail while ptab or ptab-run writes them.
 
 It needs root and loop devices. Where there are none it says so, and tries what needs none.
 
@@ -24,6 +25,7 @@ import time
 
 TESTS = os.path.dirname(os.path.dirname(os.path.abspath(__file__)))
 sys.path[:0] = [f"{TESTS}/{it}" for it in ("shared", "rows", "peers")]
+import devices_gone
 import devices_runs
 from images import LARGE, SMALL, entry, room
 from reads import EDITS, FRESH, gpts, mbrs
@@ -355,8 +357,10 @@ def main():
             print(f"devices: no loop devices here, or no root: {it.passed} passed without any, 0 failed")
             return
         on_loops(it)
+        gone = devices_gone.all_of(it, Loop)
         jobs = devices_runs.all_of(ptab, Loop, place)
-        print(f"devices: {it.passed} passed, 0 failed; {jobs} jobs of other tools on devices are as on images, 0 failed")
+        print(f"devices: {it.passed} passed, 0 failed; {gone} went or failed in the middle; {jobs} jobs of other tools on devices are as on "
+              "images, 0 failed")
 
 
 if __name__ == "__main__":
