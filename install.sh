@@ -1,6 +1,6 @@
 #!/usr/bin/env bash
-# Installs the program and ptab-run, their man pages and the program's completion under PREFIX, and the library for callers in C (headers,
-# archive, shared object and a pkg-config file) with its module for Python, and says so in one line a file. It needs no root for a PREFIX of
+# Installs the program and ptab-run, their man pages and the program's completion for bash, zsh and fish under PREFIX, and the library for
+# callers in C (headers, archive, shared object and a pkg-config file) with its module for Python, and says so in one line a file. It needs no root for a PREFIX of
 # one's own.
 #
 # usage: ./install.sh PREFIX
@@ -47,6 +47,8 @@ put 755 "$here/tools/ptab-run" bin/ptab-run
 put 644 "$here/man/ptab.8" share/man/man8/ptab.8
 put 644 "$here/man/ptab-run.8" share/man/man8/ptab-run.8
 put 644 "$here/completion/ptab.bash" share/bash-completion/completions/ptab
+put 644 "$here/completion/ptab.zsh" share/zsh/site-functions/_ptab
+put 644 "$here/completion/ptab.fish" share/fish/vendor_completions.d/ptab.fish
 if [ -n "$library" ]; then
   made=$(mktemp -d)
   trap 'rm -rf "$made"' EXIT

@@ -1,5 +1,5 @@
 #!/usr/bin/env bash
-# Makes a Debian package of what was proved: the program, with ptab-run, their man pages, a completion, and notes on where it comes from.
+# Makes a Debian package of what was proved: the program, with ptab-run, their man pages, completion, and notes on where it comes from.
 # The same program, commit and kit give the same package, byte by byte. It needs no root.
 #
 # usage: packaging/debian.sh OUT     OUT is the .deb, or a folder for it
@@ -46,6 +46,8 @@ trap 'rm -rf "$folder"' EXIT
 tree=$folder/tree
 doc=$tree/usr/share/doc/ptab
 PTAB=$ptab DESTDIR=$tree "$here/install.sh" /usr >"$folder/installed"
+# where Debian's zsh looks for what packages bring
+mv "$tree/usr/share/zsh/site-functions" "$tree/usr/share/zsh/vendor-completions"
 gzip -9n "$tree/usr/share/man/man8/ptab.8" "$tree/usr/share/man/man8/ptab-run.8"
 install -d -m 755 "$tree/DEBIAN" "$doc"
 

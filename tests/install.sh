@@ -12,6 +12,8 @@ need strace strace
 need gcc gcc
 need c++ g++
 need valgrind valgrind
+need zsh zsh
+need fish fish
 [ -e /usr/include/stdlib.h ] || missing+=(libc6-dev)
 for word in "$@"; do
   case "$word" in

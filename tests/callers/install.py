@@ -1,6 +1,6 @@
 #!/usr/bin/env python3
 """Runs install.sh into a folder of its own, with and without DESTDIR, and checks the files, their modes, that the installed program
-runs, and what the completion completes.
+runs, and what bash, zsh and fish complete: each line the same, of a command each option that its `-h` has and no other, with its sentence.
 
 With the archive of the library for callers in C it installs that too, and compiles a program with it.
 
@@ -8,6 +8,7 @@ usage: tests/callers/install.py PTAB [ARCHIVE]
 """
 import filecmp
 import os
+import re
 import shutil
 import stat
 import subprocess
@@ -17,31 +18,27 @@ import tempfile
 TOP = os.path.abspath(os.path.join(os.path.dirname(os.path.abspath(__file__)), "..", ".."))
 PLACES = {"bin/ptab": (None, 0o755), "bin/ptab-run": ("tools/ptab-run", 0o755), "share/man/man8/ptab.8": ("man/ptab.8", 0o644),
           "share/man/man8/ptab-run.8": ("man/ptab-run.8", 0o644),
-          "share/bash-completion/completions/ptab": ("completion/ptab.bash", 0o644)}
+          "share/bash-completion/completions/ptab": ("completion/ptab.bash", 0o644),
+          "share/zsh/site-functions/_ptab": ("completion/ptab.zsh", 0o644),
+          "share/fish/vendor_completions.d/ptab.fish": ("completion/ptab.fish", 0o644)}
 LIBRARY = ("include/ptab.h", "include/ptab_disk.h", "lib/libptab.a", "lib/libptab.so.1", "lib/libptab.so", "lib/pkgconfig/ptab.pc",
            "lib/python3/dist-packages/ptab.py")
 COMMANDS = ["show", "verify", "locate", "edit", "plan", "check", "apply", "repair", "adopt"]
 WORDS = ["a:", "o", "n:", "d:", "t:", "c:", "u:", "U:", "A:", "e", "g"]
-# the words before the cursor, as bash divides them, and what is completed
+IMAGES = ["folder", "a.img", "b.raw"]
+# what stands before the cursor, and what is completed
 COMPLETIONS = (
-    (["ptab", ""], [*COMMANDS, "help"]), (["ptab", "re"], ["repair"]), (["ptab", "--h"], ["--help"]), (["ptab", "help", "ch"], ["check"]),
-    (["ptab", "help", "check", ""], []), (["ptab", "show", ""], ["folder", "a.img", "b.raw"]), (["ptab", "show", "a"], ["a.img"]),
-    (["ptab", "show", "n"], ["notes"]), (["ptab", "show", "folder/"], ["folder/c.img"]), (["ptab", "show", "a.img", ""], []),
-    (["ptab", "edit", "--"], ["--fresh", "--device", "--sector-size", "--in-use", "--no-lock", "--help"]),
-    (["ptab", "show", "--"], ["--after", "--device", "--sector-size", "--help"]), (["ptab", "verify", "--in"], []),
-    (["ptab", "adopt", "--o"], ["--other-device"]), (["ptab", "repair", "--in"], ["--in-use"]),
-    (["ptab", "show", "--after", "n"], ["notes"]), (["ptab", "show", "--after", "notes", ""], ["folder", "a.img", "b.raw"]),
-    (["ptab", "plan", "--"], ["--fresh", "--device", "--sector-size", "--help"]), (["ptab", "check", "--n"], []),
-    (["ptab", "apply", "--n"], ["--no-lock"]), (["ptab", "repair", "--no-lock", ""], ["folder", "a.img", "b.raw"]),
-    (["ptab", "edit", "--sector-size", ""], ["512", "4096"]), (["ptab", "edit", "--sector-size", "=", "4"], ["4096"]),
-    (["ptab", "edit", "--sector-size", "="], ["512", "4096"]),
-    (["ptab", "edit", "--sector-size", "4096", ""], ["folder", "a.img", "b.raw"]), (["ptab", "edit", "--fresh", ""], []),
-    (["ptab", "edit", "a.img", ""], WORDS), (["ptab", "edit", "a.img", "--fresh", "00", "u"], ["u:"]),
-    (["ptab", "plan", "--sector-size", "=", "512", "a.img", "e"], ["e"]), (["ptab", "edit", "a.img", "n", ":", ""], []),
-    (["ptab", "edit", "a.img", "n", ":"], []), (["ptab", "edit", "a.img", "n", ":", "1", ":", "0", ":", "0", "c"], ["c:"]),
-    (["ptab", "check", "a.img", "n"], ["notes"]), (["ptab", "apply", "a.img", "no"], ["notes"]),
-    (["ptab", "check", "a.img", "notes", ""], []), (["ptab", "locate", "a.img", "1", ""], []), (["ptab", "nonsense", ""], []),
-    (["ptab", "adopt", "a.img", ""], ["folder", "a.img", "b.raw"]), (["ptab", "adopt", "--p"], ["--plan"]),
+    ("ptab ", [*COMMANDS, "help"]), ("ptab re", ["repair"]), ("ptab --h", ["--help"]), ("ptab help ch", ["check"]),
+    ("ptab help check ", []), ("ptab show ", IMAGES), ("ptab show a", ["a.img"]), ("ptab show n", ["notes"]),
+    ("ptab show folder/", ["folder/c.img"]), ("ptab show a.img ", []), ("ptab verify --in", []), ("ptab adopt --o", ["--other-device"]),
+    ("ptab repair --in", ["--in-use"]), ("ptab show --after n", ["notes"]), ("ptab show --after notes ", IMAGES),
+    ("ptab check --n", []), ("ptab apply --n", ["--no-lock"]), ("ptab repair --no-lock ", IMAGES), ("ptab show --device ", IMAGES),
+    ("ptab edit --sector-size ", ["512", "4096"]), ("ptab edit --sector-size=4", ["4096"]), ("ptab edit --sector-size=", ["512", "4096"]),
+    ("ptab edit --sector-size 4096 ", IMAGES), ("ptab edit --fresh ", []), ("ptab edit a.img ", WORDS),
+    ("ptab edit a.img --fresh 00 u", ["u:"]), ("ptab plan --sector-size=512 a.img e", ["e"]), ("ptab edit a.img n:", []),
+    ("ptab edit a.img n:1:0:0 c", ["c:"]), ("ptab check a.img n", ["notes"]), ("ptab apply a.img no", ["notes"]),
+    ("ptab check a.img notes ", []), ("ptab locate a.img 1 ", []), ("ptab nonsense ", []), ("ptab adopt a.img ", IMAGES),
+    ("ptab adopt --p", ["--plan"]),
 )
 checked = 0
 
@@ -159,19 +156,71 @@ def refused(folder, ptab):
     same("a program that isn't there", (done.returncode, done.stdout, os.path.exists(f"{folder}/x")), (1, "", False))
 
 
-def completions(folder, script):
+def by_bash(prefix, line):
+    # a colon or an equals sign is a word of its own there
+    words = re.findall(r"[:=]|[^\s:=]+", line) + ([""] if line.endswith(" ") else [])
+    call = ('source "$1"; shift; COMP_WORDS=("$@"); COMP_CWORD=$(($# - 1)); _ptab; '
+            '[ ${#COMPREPLY[@]} = 0 ] || printf "%s\\n" "${COMPREPLY[@]}"')
+    return ["bash", "-c", call, "bash", f"{prefix}/share/bash-completion/completions/ptab", *words]
+
+
+def by_zsh(prefix, line):
+    return ["zsh", "-f", f"{TOP}/tests/callers/completions.zsh", f"{prefix}/share/zsh/site-functions", line]
+
+
+def by_fish(prefix, line):
+    return ["fish", "--no-config", "-c", f"source {prefix}/share/fish/vendor_completions.d/ptab.fish; complete -C '{line}'"]
+
+
+def completed(words, line, folder):
+    """{what a shell completes: its sentence, where the shell shows one}. An option is left out where none is begun, and one of a letter;
+    fish completes capital letters too, where small ones were begun."""
+    done = subprocess.run(words, cwd=folder, stdin=subprocess.DEVNULL, capture_output=True, text=True, timeout=60)
+    same(f"{words[0]} on {line!r}", (done.returncode, done.stderr), (0, ""))
+    last = line.split(" ")[-1]
+    found = dict(it.partition("\t")[::2] for it in done.stdout.splitlines())
+    found = {re.sub(r"^--[\w-]+=(?=.)|/$", "", key): value for key, value in found.items() if key != last or ":" not in key}
+    found = {key: value for key, value in found.items() if key.startswith(last.split("=")[-1])}
+    return {key: value for key, value in found.items() if not re.match(r"-\w$|--" if not last.startswith("-") else r"-\w$", key)}
+
+
+def told_by(ptab, name):
+    """{option: its sentence} of the help of a command, and of all {command: its sentence} too."""
+    text = subprocess.run([ptab, *([name] if name else []), "-h"], capture_output=True, text=True, check=True).stdout
+    before, _, behind = text.partition("Options:\n")
+    found = dict(re.findall(r"^ +(?:-\w, )?(--[\w-]+)(?: <\w+>)? +(.*)$", behind.split("\n\n")[0], re.MULTILINE))
+    commands = dict(re.findall(r"^  (\w+)  +(.*)$", before, re.MULTILINE)) if name == "" else {}
+    return {key: value.split(" (see")[0] for key, value in {**found, **commands}.items()}
+
+
+def completions(folder, prefix, ptab):
+    """How many shells complete each line, and as the help has it."""
     os.makedirs(f"{folder}/images/folder")
     for name in ("a.img", "b.raw", "notes", "folder/c.img"):
         with open(f"{folder}/images/{name}", "wb"):
             pass
-    line = ('source "$1"; shift; COMP_WORDS=("$@"); COMP_CWORD=$(($# - 1)); _ptab; '
-            '[ ${#COMPREPLY[@]} = 0 ] || printf "%s\\n" "${COMPREPLY[@]}"')
-    for words, wanted in COMPLETIONS:
-        done = subprocess.run(["bash", "-c", line, "bash", script, *words], cwd=f"{folder}/images", capture_output=True, text=True)
-        same(f"completing {words}: {done.stderr}", sorted(done.stdout.splitlines()), sorted(wanted))
+    with open(f"{TOP}/completion/ptab.zsh", encoding="utf-8") as it:
+        by_hand = it.read()
+    shells = [shell for shell in (by_bash, by_zsh, by_fish) if shutil.which(shell(prefix, "")[0])]
+    for shell in shells:
+        for line, wanted in COMPLETIONS:
+            found = completed(shell(prefix, line), line, f"{folder}/images")
+            same(f"{shell.__name__} {line!r}", sorted(found), sorted(wanted))
+        for name in ("", *COMMANDS):
+            told = told_by(ptab, name)
+            found = completed(shell(prefix, f"ptab {name} --".replace("  ", " ")), "--", f"{folder}/images")
+            found |= {} if name else completed(shell(prefix, "ptab "), "ptab ", f"{folder}/images")
+            same(f"{shell.__name__}: the options of {name}", sorted(found), sorted(told))
+            if shell is by_fish:
+                same(f"the sentences that fish shows of {name}", found, told)
+            if shell is by_zsh:
+                for option, sentence in told.items():
+                    shown = (f"{option}[{sentence}]", f"{option}=[{sentence}]", f"{option}}}'[{sentence}]", f"{option}:{sentence}")
+                    same(f"the sentence that zsh has of {option}", any(it in by_hand for it in shown), True)
     line = 'source "$1"; complete -p ptab'
-    done = subprocess.run(["bash", "-c", line, "bash", script], capture_output=True, text=True)
+    done = subprocess.run(["bash", "-c", line, "bash", f"{prefix}/share/bash-completion/completions/ptab"], capture_output=True, text=True)
     same("complete -p", done.stdout, "complete -F _ptab ptab\n")
+    return len(shells)
 
 
 def main():
@@ -188,8 +237,8 @@ def main():
             library(folder, ptab, os.path.abspath(sys.argv[2]))
         versions(ptab)
         refused(folder, ptab)
-        completions(folder, f"{folder}/own/share/bash-completion/completions/ptab")
-    print(f"installing: {checked} passed, 0 failed")
+        shells = completions(folder, f"{folder}/own", ptab)
+    print(f"installing: {checked} passed, 0 failed; {shells} shells of 3 complete as the help says")
 
 
 main()

@@ -20,9 +20,13 @@ KIT = "kit-of-the-test logic 0123456789abcdef"
 # a time to come: dpkg-deb itself turns later times into this one, and not earlier ones
 EPOCH = 4_000_000_000
 FOLDERS = ("", "usr/", "usr/bin/", "usr/share/", "usr/share/bash-completion/", "usr/share/bash-completion/completions/", "usr/share/doc/",
-           "usr/share/doc/ptab/", "usr/share/man/", "usr/share/man/man8/")
+           "usr/share/doc/ptab/", "usr/share/fish/", "usr/share/fish/vendor_completions.d/", "usr/share/man/", "usr/share/man/man8/",
+           "usr/share/zsh/", "usr/share/zsh/vendor-completions/")
+# the completions for bash, zsh and fish
+COMPLETIONS = {"usr/share/bash-completion/completions/ptab": "ptab.bash", "usr/share/zsh/vendor-completions/_ptab": "ptab.zsh",
+               "usr/share/fish/vendor_completions.d/ptab.fish": "ptab.fish"}
 FILES = {"usr/bin/ptab": "-rwxr-xr-x", "usr/bin/ptab-run": "-rwxr-xr-x", "usr/share/man/man8/ptab-run.8.gz": "-rw-r--r--",
-         "usr/share/bash-completion/completions/ptab": "-rw-r--r--",
+         **{place: "-rw-r--r--" for place in COMPLETIONS},
          "usr/share/doc/ptab/BUILD": "-rw-r--r--", "usr/share/doc/ptab/changelog.gz": "-rw-r--r--",
          "usr/share/doc/ptab/copyright": "-rw-r--r--", "usr/share/man/man8/ptab.8.gz": "-rw-r--r--"}
 DEV = ("include/ptab.h", "include/ptab_disk.h", "lib/libptab.a", "lib/libptab.so", "lib/libptab.so.1", "lib/pkgconfig/ptab.pc",
@@ -96,7 +100,8 @@ def unpacked(ptab, deb, folder, commit, fields, sum_of):
     for name in ("ptab", "ptab-run"):
         same("the man page", gzip.decompress(content(f"{tree}/usr/share/man/man8/{name}.8.gz")) == content(f"{TOP}/man/{name}.8"), True)
     same("ptab-run", content(f"{tree}/usr/bin/ptab-run") == content(f"{TOP}/tools/ptab-run"), True)
-    same("the completion", content(f"{tree}/usr/share/bash-completion/completions/ptab") == content(f"{TOP}/completion/ptab.bash"), True)
+    for place, source in COMPLETIONS.items():
+        same(place, content(f"{tree}/{place}") == content(f"{TOP}/completion/{source}"), True)
     built = content(f"{tree}/usr/share/doc/ptab/BUILD").decode()
     same("BUILD", built.splitlines()[:5],
          ["program: /usr/bin/ptab", f"sha256: {sum_of}", f"commit: {commit}", f"kit: {KIT}", f"time: {EPOCH}"])
