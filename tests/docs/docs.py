@@ -14,6 +14,9 @@ import sys
 import tempfile
 
 TOP = os.path.join(os.path.dirname(os.path.abspath(__file__)), "..", "..")
+sys.path.insert(0, os.path.join(TOP, "tests", "shared"))
+from sentences import ERRORS, is_told, sentences
+
 DOCUMENTS = ("README.md", "docs/commands.md", "docs/other_tools.md")
 # how a document names a file, and those that it names of any crate
 NAMED = re.compile(r"`([\w/.]+\.(?:rt|antt|txt|sh))`|\b((?:docs|tests|man|include|examples|completion|packaging)/[\w/.-]+\w)")
@@ -21,17 +24,6 @@ GENERIC = ("wrong_bodies.txt", "laws.rt")
 # the rows of docs/commands.md that need no advice
 SUCCESSES = ("a number", "0")
 COMMANDS = ("show", "verify", "locate", "edit", "plan", "check", "apply", "repair")
-# the errors with a sentence: the file, the type, and the rows of docs/commands.md that have its numbers; where it has none the sentence
-# stands anywhere in the document. Those of BSD labels are told by no command
-ERRORS = (("pt_gpt/src/error.rt", "CopyError", "| {} |"), ("pt_mbr/src/chain.rt", "ChainError", "| `no table: chain {}"),
-          ("pt_recover/src/error.rt", "NoTable", None), ("pt_sound/src/finding.rt", "Finding", "| `no {} "),
-          ("pt_words/src/error.rt", "EditError", None), ("pt_words/src/error.rt", "Refusal", "| `refused: edit {}`"),
-          ("pt_check/src/answer.rt", "Why", "| `no {}"), ("pt_targets/src/error.rt", "PlanError", "| `refused: plan {}`"),
-          ("pt_plan/src/error.rt", "CommitError", None), ("pt_plan/src/repair_error.rt", "RepairError", None),
-          ("pt_plan/src/like_error.rt", "LikeError", None),
-          ("pt_apply/src/error.rt", "PlanTextError", None))
-# said of the device, of memory and of what is wrapped, of which the document speaks in other words
-OTHERWISE = ("can't be read", "out of memory", "the plan is refused")
 
 
 def read(name):
@@ -175,28 +167,6 @@ def promises():
                 files = [f"crates/{crate}/{name.strip()}" for name in named.split(",")]
             count += promised(crate, cells, is_law, files)
     return count
-
-
-def plain(text):
-    return re.sub(r"\s+", " ", text.replace("`", "").replace("**", ""))
-
-
-def sentences(source, name):
-    """(number, sentence) of each variant of an error, without what it wraps; no number where the type has none."""
-    numbers = dict(re.findall(rf"{name}::(\w+)(?:\([^)]*\))? => (\d+),", source))
-    block = re.search(rf"^impl fmt::Display for {name} .*?^}}$", source, re.DOTALL | re.MULTILINE).group(0)
-    arms = re.split(rf"{name}::(\w+)", block)
-    for variant, arm in zip(arms[1::2], arms[2::2]):
-        for literal in re.findall(r'"((?:[^"\\]|\\.)*)"', arm):
-            text = re.sub(r": \{.*", "", literal)
-            if re.sub(r"\{[^}]*\}", "", text).strip() and not any(part in text for part in OTHERWISE):
-                yield numbers.get(variant), text
-
-
-def is_told(text, docs):
-    """Whether a sentence stands in a text that has names in capital letters in the places of values."""
-    pattern = r"[A-Z]+".join(re.escape(part) for part in re.split(r"\{[^}]*\}", text))
-    return re.search(pattern, plain(docs)) is not None
 
 
 def errors():

@@ -1,7 +1,9 @@
 #!/usr/bin/env python3
 """Compares man/ptab.8 with docs/commands.md and with the program's --help: every command, option, word, status and printed text that one
-of them has stands in the other. The program, its definition, its --help and docs/format.md list the same type codes, and the other pages
-say where they are listed. Then it runs the man page's examples. With groff the page is rendered and must have no warnings, and
+of them has stands in the other. The --help of each command has every text that docs/commands.md says the command prints of a fault, a
+refusal or a no, and no other, each with the sentence that stands for it there, in the man page, and in the library's error. The program,
+its definition, its --help and docs/format.md list the same type codes, and the other pages say where they are listed. Then it runs the
+man page's examples. With groff the page is rendered and must have no warnings, and
 texts are looked for in what it shows; without it they are looked for in the source.
 
 usage: tests/docs/man_page.py PTAB [--no-groff]
@@ -14,6 +16,10 @@ import sys
 import tempfile
 
 TOP = os.path.join(os.path.dirname(os.path.abspath(__file__)), "..", "..")
+sys.path.insert(0, os.path.join(TOP, "tests", "shared"))
+import sentences
+from sentences import read
+
 COMMANDS = ("show", "verify", "locate", "edit", "plan", "check", "apply", "repair", "adopt")
 NOT_DIAGNOSTICS = ("Word", "Table", "Status", "E")
 # what docs/commands.md writes shorter: the text there, and those printed that it stands for
@@ -21,6 +27,18 @@ SHORT = {"no table: ..": [], "a number": [], "no 5 alternate primary": ["no 5 al
          "refused: check N": []}
 # the options of all commands, and of all that write, which docs/commands.md tells once
 COMMON = ("[--sector-size BYTES]", "[--device]", "[--in-use]")
+# what the pages of all commands have together: the sentences of these stand in the page of all
+OF_ALL = ("device", "memory")
+# The errors of the library: the file, the type, the page of --help that has their sentences, and the text with their number. Where there is
+# no such text the sentence stands within one.
+SENTENCES = (("pt_gpt/src/error.rt", "CopyError", "show", "{}"), ("pt_mbr/src/chain.rt", "ChainError", "show", "no table: chain {}"),
+             ("pt_recover/src/error.rt", "NoTable", "show", None), ("pt_sound/src/finding.rt", "Finding", "verify", "no {}"),
+             ("pt_words/src/error.rt", "EditError", "edit", None), ("pt_words/src/error.rt", "Refusal", "edit", "refused: edit {}"),
+             ("pt_check/src/answer.rt", "Why", "check", "no {}"), ("pt_targets/src/error.rt", "PlanError", "edit", "refused: plan {}"),
+             ("pt_plan/src/repair_error.rt", "RepairError", "repair", None), ("pt_plan/src/like_error.rt", "LikeError", "adopt", None),
+             ("pt_apply/src/error.rt", "PlanTextError", "check", None))
+# of an error that the library wraps in another; the command prints it alone
+WRAPPED = (("RepairError", "there is no table"),)
 compared = 0
 
 
@@ -40,11 +58,6 @@ def holds(where, text, what):
 
 def flat(text):
     return re.sub(r"\s+", " ", text)
-
-
-def read(name):
-    with open(os.path.join(TOP, name), encoding="utf-8") as it:
-        return it.read()
 
 
 def plain(line):
@@ -127,11 +140,27 @@ def texts(docs):
     return set(found)
 
 
-def help_of(ptab, *words):
-    done = subprocess.run([ptab, *words, "--help"], capture_output=True, text=True)
+def help_of(ptab, *words, how="--help"):
+    done = subprocess.run([ptab, *words, how], capture_output=True, text=True)
     if done.returncode != 0:
-        sys.exit(f"ptab {' '.join(words)} --help: status {done.returncode}")
+        sys.exit(f"ptab {' '.join(words)} {how}: status {done.returncode}")
     return done.stdout
+
+
+def told_rows(text):
+    """{text: sentence} of a page of --help: a text stands behind two spaces, its sentence behind more of them or on the next lines."""
+    found, last = {}, None
+    for line in text[text.index("Exit status: " if "Exit status: " in text else "Exit status:"):].splitlines():
+        row = re.fullmatch(r"  (\S.*?)(?:   *(\S.*))?", line)
+        if row:
+            last = row[1]
+            same(f"{last} stands once", last in found, False)
+            found[last] = row[2] or ""
+        elif last and line.startswith("     "):
+            found[last] = f"{found[last]} {line.strip()}".strip()
+        else:
+            last = None
+    return {key: value.replace("`", "") for key, value in found.items()}
 
 
 def arguments(usage, *but):
@@ -158,7 +187,7 @@ def commands(ptab, page, docs):
     options = set()
     for line in synopsis[:-1]:
         name = line.split()[1]
-        text = help_of(ptab, name)
+        text = help_of(ptab, name, how="-h")
         usage = re.search(rf"Usage: ptab {name} \[OPTIONS\] (.*)", text).group(1).replace("<", "").replace(">", "")
         same(f"the arguments of {name}", re.sub(r" \[--[^]]*\]", "", line), f"ptab {name} {usage}")
         listed = text.split("Options:\n")[1].split("\n\n")[0]
@@ -215,10 +244,15 @@ def codes(ptab, page, docs):
 def statuses(ptab, page, docs):
     told = [cells[0] for head, cells in tables(docs) if head == "Status"]
     same("the statuses of docs/commands.md", list(tagged(page["EXIT STATUS"])), told)
-    same("the statuses of --help", digits(help_of(ptab)), "".join(told))
+    same("the statuses of -h", digits(help_of(ptab, how="-h")), "".join(told))
+    rows = told_rows(help_of(ptab))
+    same("the statuses of --help", list(rows), told)
+    meanings = {cells[0]: cells[1] for head, cells in tables(docs) if head == "Status"}
+    for number, meaning in tagged(page["EXIT STATUS"]).items():
+        one_sentence(f"status {number}", rows[number], meanings[number], meaning)
 
 
-def diagnostics(ptab, page, docs, text):
+def diagnostics(page, docs, text):
     """Every text that is printed, by number and name, and the faults of a copy."""
     described = tagged(page["DIAGNOSTICS"])
     wanted = texts(docs) | {"memory"}
@@ -227,23 +261,85 @@ def diagnostics(ptab, page, docs, text):
     for tag, meaning in described.items():
         holds("the page", text, tag)
         same(f"{tag} says what it means and what to do", len(meaning.split()) >= 8, True)
-    for name, marks in (("verify", r"no \d+ [a-z]+ [a-z]+"), ("check", r"no \d(?: [A-Z]+)*$"), ("apply", r"refused: locked"),
-                        ("repair", r"refused: (?:repair \d|locked)")):
-        shorter = flat(help_of(ptab, name))
-        for tag in described:
-            if not re.match(marks, tag):
-                continue
-            if name == "check":
-                tag = tag.removeprefix("no ")
-            holds(f"ptab {name} --help", shorter, re.sub(r" (primary|backup)$", " SIDE", tag).replace("guid A B", "guid P Q"))
-    for number in range(1, 12):
-        in_help = re.search(rf"no {number} ([a-z]+ [a-zA-Z]+)", flat(help_of(ptab, "verify"))).group(1).replace(" SIDE", " primary")
-        same(f"finding {number} of --help", any(tag.startswith(f"no {number} {in_help.split(' P')[0]}") for tag in described), True)
     rules = [(cells[0], flat(re.sub("`", "", cells[1]))) for head, cells in tables(docs) if head == "E"]
     lines = dict(re.findall(r"^\\fB(\d)\\fR  (.*)$", "\n".join(page["DIAGNOSTICS"]), re.MULTILINE))
     same("the faults of a copy", list(lines), [number for number, _ in rules])
     for number, rule in rules:
         same(f"fault {number}", lines[number], rule.replace("isn't", "is not").replace("aren't", "are not"))
+
+
+def of_sections(docs):
+    """{section: the texts that its tables have, with their meanings} of docs/commands.md."""
+    found = {}
+    for part in re.split(r"^## ", docs, flags=re.MULTILINE)[1:]:
+        found[part.split("\n")[0]] = {}
+        for head, cells in tables(part):
+            texts_of = re.match(r"`?([^`]*)`?", cells[0]).group(1)
+            if head == "E" or head not in NOT_DIAGNOSTICS and cells[0].startswith("`") and texts_of not in OF_ALL:
+                for text in SHORT.get(texts_of, [texts_of]):
+                    found[part.split("\n")[0]][text] = cells[1 if head in ("E", "Finding") or len(cells) < 4 else 2]
+    return found
+
+
+def texts_of_pages(docs):
+    """{command: {text: meaning}} of what its page of --help has."""
+    of = of_sections(docs)
+    no_table = {text: it for text, it in of["show"].items() if text.startswith("no table: ")}
+    copies = {text: it for text, it in of["verify"].items() if text.isdigit()}
+    in_use = {text: it for text, it in of["Devices"].items() if text.startswith("refused: in use")}
+    devices = {text: it for text, it in of["Devices"].items() if text not in in_use}
+    locked = {"refused: locked": of["edit"]["refused: locked"]}
+    plans = {text: it for text, it in of["edit"].items() if text.startswith("refused: plan ")}
+    plan_text = {text: it for text, it in of["check"].items() if text.startswith("refused: ")}
+    reads = {**no_table, **copies, **devices}
+    edit = {**of["edit"], **reads}
+    same("plan has no refusal of its own", of["plan"], {})
+    return {"show": {**reads, **plan_text}, "verify": {**of["verify"], **devices}, "locate": {**of["locate"], **reads},
+            "edit": {**edit, **in_use}, "plan": {text: it for text, it in edit.items() if text not in locked},
+            "check": {**of["check"], **devices}, "apply": {**of["check"], **locked, **in_use, **devices},
+            "repair": {**of["repair"], **locked, **in_use, **reads},
+            "adopt": {**of["adopt"], **plans, **locked, **in_use, **devices}}
+
+
+def spelled(text):
+    """A sentence as the man page spells it, from its first word on."""
+    for short, whole in (("isn't", "is not"), ("aren't", "are not"), ("doesn't", "does not"), ("can't", "cannot")):
+        text = text.replace(short, whole)
+    text = flat(re.sub(r" \([^)]*\)", "", text)).strip()
+    return text[:1].lower() + text[1:]
+
+
+def one_sentence(what, sentence, meaning, described):
+    """A sentence of --help stands in docs/commands.md's meaning of its text, and begins the man page's."""
+    without = re.sub(r" \([^)]*\)", "", flat(meaning.replace("`", "").replace("**", "")))
+    same(f"docs/commands.md on {what} has: {sentence}", re.search(rf"(^|, or ){re.escape(sentence)}($|[:;,.])", without) is not None, True)
+    told = spelled(described)
+    same(f"man/ptab.8 on {what}: {told}", re.match(re.escape(spelled(sentence)) + r"($|[:;,.])", told) is not None, True)
+
+
+def one_table(ptab, page, docs):
+    """Each text of each page of --help, with its sentence: docs/commands.md, the man page and the library have the same."""
+    described = tagged(page["DIAGNOSTICS"])
+    copies = dict(re.findall(r"^\\fB(\d)\\fR  (.*)$", "\n".join(page["DIAGNOSTICS"]), re.MULTILINE))
+    pages = {}
+    for name, wanted in texts_of_pages(docs).items():
+        page_of = help_of(ptab, name)
+        pages[name] = told = told_rows(page_of)
+        if name == "locate":
+            told["none"] = flat(re.search(r"^`none`: (.*?)\.$", page_of, re.DOTALL | re.MULTILINE).group(1))
+        forms = {"GPT", "MBR", "label", "--fresh $(head -c 1024 /dev/urandom | od -An -v -tx1 | tr -d ' \\n')"}
+        same(f"the texts of ptab {name} --help", sorted(set(told) - forms), sorted(wanted))
+        for text, meaning in wanted.items():
+            one_sentence(f"{text} ({name})", told[text], meaning, copies[text] if text.isdigit() else described[text])
+    for path, error, name, row in SENTENCES:
+        for number, text in sentences.sentences(read(f"crates/{path}"), error):
+            if (error, text) in WRAPPED:
+                continue
+            of = [sentence for key, sentence in pages[name].items() if row is None or re.match(rf"{row.format(number)}(?!\d)", key)]
+            ends = "(.*)" if row is None else "($|: .*)"
+            begins = "(.*)" if row is None else ""
+            found = [it for it in of if re.fullmatch(begins + sentences.pattern(text) + ends, it)]
+            same(f"ptab {name} --help on {error} {number or ''}: {text}", bool(found), True)
 
 
 def examples(ptab, page):
@@ -276,7 +372,8 @@ def main():
     words(ptab, page, docs)
     codes(ptab, page, docs)
     statuses(ptab, page, docs)
-    diagnostics(ptab, page, docs, text)
+    diagnostics(page, docs, text)
+    one_table(ptab, page, docs)
     examples(ptab, page)
     print(f"the man page, {'as groff shows it' if with_groff else 'its source'}: {compared} compared, 0 differ")
 

@@ -17,6 +17,8 @@ HERE = os.path.dirname(os.path.abspath(__file__))
 ROOT = os.path.dirname(os.path.dirname(HERE))
 sys.path.insert(0, os.path.join(ROOT, "tests", "shared"))
 import replay
+import sentences
+from sentences import displayed, is_told, read
 
 WORD, TABLE, FINDING, EDIT, PLAN, CHECK, REPAIR, ADOPT, OTHER_TABLE, DISK, OTHER_DISK = 2, 3, 4, 5, 6, 7, 8, 9, 10, 64, 65
 ARGUMENT = 1
@@ -45,18 +47,6 @@ def same(what, found, wanted):
     checked += 1
     if found != wanted:
         sys.exit(f"messages: {what}:\n  found  {found!r}\n  wanted {wanted!r}")
-
-
-def read(path):
-    with open(f"{ROOT}/{path}", encoding="utf-8") as it:
-        return it.read()
-
-
-def of_docs():
-    """The names of docs.py, which isn't run."""
-    found = {"__name__": "docs", "__file__": f"{HERE}/docs.py"}
-    exec(re.sub(r"\nmain\(\)\n$", "\n", read("tests/docs/docs.py")), found)
-    return found
 
 
 class Texts:
@@ -94,16 +84,6 @@ class Texts:
         return self.cut(self.lib.ptab_name_text, c.byref(row))
 
 
-def displayed(source, name):
-    """(variant, number or None, literal) of each sentence of an error."""
-    numbers = {variant: int(it) for variant, it in re.findall(rf"{name}::(\w+)(?:\([^)]*\))? => (\d+),", source)}
-    block = re.search(rf"^impl fmt::Display for {name} .*?^}}$", source, re.DOTALL | re.MULTILINE).group(0)
-    arms = re.split(rf"{name}::(\w+)", block)
-    for variant, arm in zip(arms[1::2], arms[2::2]):
-        for literal in re.findall(r'"((?:[^"\\]|\\.)*)"', arm):
-            yield variant, numbers.get(variant), literal
-
-
 def copies():
     """The sentences of the faults of a copy, by their numbers."""
     return {number: text for _, number, text in displayed(read("crates/pt_gpt/src/error.rt"), "CopyError") if number and number <= 9}
@@ -120,9 +100,9 @@ def filled(name, variant, literal):
     return literal
 
 
-def errors(texts, docs):
+def errors(texts):
     """Each sentence of each error."""
-    commands, rows = read("docs/commands.md"), {name: row for _, name, row in docs["ERRORS"]}
+    commands, rows = read("docs/commands.md"), {name: row for _, name, row in sentences.ERRORS}
     for path, name, about, numbers, untold, before in ERRORS:
         found = {}
         for variant, number, literal in displayed(read(f"crates/{path}"), name):
@@ -136,7 +116,7 @@ def errors(texts, docs):
             lines = commands if row is None else "\n".join(it for it in commands.splitlines() if it.startswith(row.format(number)))
             text = re.sub(r": \{.*", "", literal)
             if text != "out of memory":
-                same(f"{name} {variant} in docs/commands.md", docs["is_told"](text, lines), True)
+                same(f"{name} {variant} in docs/commands.md", is_told(text, lines), True)
         for number in range(20):
             if number not in found and (about, number) != (TABLE, 2):
                 same(f"{name} has no number {number}", texts.message(3, about=about, number=number, a=1), "it is refused")
@@ -157,7 +137,7 @@ def chains_and_copies(texts):
     same("a refused plan", texts.message(3, about=CHECK, number=1), "the plan is refused: more than 4096 writes")
 
 
-def of_disks(texts, docs):
+def of_disks(texts):
     """The sentences that docs/c.md has."""
     told = read("docs/c.md")
     cases = [(1, {"about": ARGUMENT, "number": number}) for number in range(1, 9)]
@@ -185,12 +165,11 @@ def names(texts):
 
 
 def main():
-    docs = of_docs()
     with tempfile.TemporaryDirectory() as folder:
         texts = Texts(folder)
-        errors(texts, docs)
+        errors(texts)
         chains_and_copies(texts)
-        of_disks(texts, docs)
+        of_disks(texts)
         names(texts)
     print(f"messages: {checked} passed, 0 failed")
 

@@ -1,4 +1,5 @@
-"""What the command says of itself: each page within a screen, with its words and its exit statuses, and a recipe that works."""
+"""What the command says of itself: each page of `-h` within a screen, with its words and its exit statuses, and `--help`, which says more;
+and a recipe that works."""
 import os
 import re
 import subprocess
@@ -17,7 +18,7 @@ def page(command, *words):
     lines = done.stdout.split("\n")
     if done.returncode != 0 or done.stderr or lines[-1] != "":
         sys.exit(f"ptab {' '.join(words)}: status {done.returncode}: {done.stderr}")
-    if len(lines) - 1 > 24 or max(map(len, lines)) > 80:
+    if "-h" in words and len(lines) > 25 or max(map(len, lines)) > 80:
         sys.exit(f"ptab {' '.join(words)} takes {len(lines) - 1} lines of {max(map(len, lines))} characters")
     Command.checked += 1
     return done.stdout
@@ -30,45 +31,46 @@ def holds(where, text, what):
 
 
 def pages(command):
-    whole = page(command, "--help")
+    whole = page(command, "-h")
     for name, statuses in STATUSES.items():
-        text = page(command, name, "--help") if name else whole
-        for other in ((["help", name], [name, "-h"]) if name else (["help"], ["-h"])):
-            if page(command, *other) != text:
-                sys.exit(f"ptab {' '.join(other)} says another thing than --help")
+        of = [name] if name else []
+        text, more = page(command, *of, "-h"), page(command, *of, "--help")
+        if page(command, "help", *of) != more:
+            sys.exit(f"ptab help {name} says another thing than --help")
+        head, usage = text.split("\n\n")[:2]
+        holds(f"{name} --help", more, f"{head}\n\n{usage}\n\n")
+        if len(more) < len(text) + 200:
+            sys.exit(f"ptab {name} --help says little more than -h")
         told = re.search(r"Exit status: (.*)", text, re.DOTALL).group(1).replace("\n", " ").split(". ")[0]
         if "".join(re.findall(r"(?:^|, )(\d) ", told)) != statuses:
-            sys.exit(f"ptab {name} --help tells the statuses of: {told}")
+            sys.exit(f"ptab {name} -h tells the statuses of: {told}")
         if name:
-            holds("ptab --help", whole, f"\n  {name} ")
+            holds(f"{name} --help", more, f"Exit status: {told.split(' ')[0]} ")
+            holds("ptab -h", whole, f"\n  {name} ")
             holds(name, text, f"Usage: ptab {name} ")
             holds(name, text, "--sector-size <BYTES>")
 
 
 def words(command):
-    """Every word, finding and reason of the checker that docs/commands.md tells, and no other word."""
+    """Every word and finding that docs/commands.md tells, and no other word. tests/docs/man_page.py has the sentences of --help."""
     with open(DOCS, encoding="utf-8") as it:
         docs = it.read()
-    text = page(command, "edit", "--help")
+    text = page(command, "edit", "-h")
     told = re.findall(r"^\| `(\w)(?::[^`]*)?` \|", docs, re.MULTILINE)
     if not told:
         sys.exit("docs/commands.md tells no word")
     for letter in told:
         if not re.search(rf"(^|[ ,]){letter}(:|\s)", text.split("Words:")[1], re.MULTILINE):
-            sys.exit(f"ptab edit --help doesn't tell the word {letter}")
-    findings = page(command, "verify", "--help")
+            sys.exit(f"ptab edit -h doesn't tell the word {letter}")
+    findings = page(command, "verify", "-h")
     for number in range(1, 12):
         name = re.search(rf"^\| `no {number} (\w+ \w+)", docs, re.MULTILINE)
-        holds("ptab verify --help", findings, f"no {number} " + name.group(1).split(" ")[0])
-    reasons = page(command, "check", "--help")
-    for number in range(1, 9):
-        names = re.search(rf"^\| `no {number}((?: [A-Z]+)*)` \|", docs, re.MULTILINE).group(1)
-        holds("ptab check --help", reasons, f"\n  {number}{names} ")
+        holds("ptab verify -h", findings, f"no {number} " + name.group(1).split(" ")[0])
 
 
 def recipe(command):
     """The recipe for fresh GUIDs, taken from the page, makes a table."""
-    fresh = re.search(r"--fresh \$\(.*\)", page(command, "edit", "--help")).group(0)
+    fresh = re.search(r"--fresh \$\(.*\)", page(command, "edit", "-h")).group(0)
     for size, sectors in ((512, 4096), (4096, 512)):
         command.on(SMALL.zeros(4096))
         line = f'"$1" edit "$2" --sector-size {size} {fresh} o'

@@ -8,9 +8,7 @@ ghost use Rattle.pt_line.specs.CommandLine as spec;
 ghost use Rattle.pt_line.specs.Lines.{AddsPage, AddsRules, Begins, IsArg, IsCommand, ReadsAs, TakesArg};
 
 use crate::help::{
-    ABOUT, ADOPT, ADOPT_ABOUT, APPLY, APPLY_ABOUT, CHECK, CHECK_ABOUT, EDIT, EDIT_ABOUT, LOCATE,
-    LOCATE_ABOUT, PLAN, PLAN_ABOUT, REPAIR, REPAIR_ABOUT, SHOW, SHOW_ABOUT, STATUSES, VERIFY,
-    VERIFY_ABOUT, VERSION,
+    ADOPT, APPLY, CHECK, EDIT, LOCATE, PLAN, PTAB, REPAIR, SHOW, Texts, VERIFY, VERSION,
 };
 use clap::{Arg, ArgAction, Command};
 use std::alloc::{AllocError, Global};
@@ -174,16 +172,19 @@ fn words<'a>(alloc: Global) -> Arg<'a>
 }
 
 /// A command with its texts, and no argument yet.
-fn page<'a>(alloc: Global, name: &'a str, about: &'a str, after: &'a str) -> Command<'a>
+fn page<'a>(alloc: Global, name: &'a str, texts: Texts) -> Command<'a>
     ensures { IsCommand (new_app name.entry.now) result }
 {
-    Command::new(alloc, name).about(about).after_help(after)
+    Command::new(alloc, name)
+        .about(texts.about)
+        .after_help(texts.short)
+        .after_long_help(texts.long)
 }
 
 fn top<'a>(alloc: Global) -> Command<'a>
     ensures { IsCommand spec.top result }
 {
-    page(alloc, "ptab", ABOUT, STATUSES)
+    page(alloc, "ptab", PTAB)
         .version(VERSION)
         .subcommand_required(true)
 }
@@ -230,39 +231,32 @@ fn on_disk<'a>(
 }
 
 /// A page on an image, with no other argument yet.
-fn image_page<'a>(
-    alloc: Global,
-    name: &'a str,
-    about: &'a str,
-    after: &'a str,
-) -> Result<Command<'a>, AllocError>
+fn image_page<'a>(alloc: Global, name: &'a str, texts: Texts) -> Result<Command<'a>, AllocError>
     ensures { IfOk result (IsCommand (spec.page name.entry.now (spec.needed (codes "IMAGE") ∷ []))) }
 {
-    page(alloc, name, about, after).arg(image(alloc))
+    page(alloc, name, texts).arg(image(alloc))
 }
 
 fn on_image<'a>(
     alloc: Global,
     sizes: &'a [&'a str],
     name: &'a str,
-    about: &'a str,
-    after: &'a str,
+    texts: Texts,
 ) -> Result<Command<'a>, AllocError>
     ensures { IfOk result (IsCommand (spec.page name.entry.now (spec.image_rules sizes.entry))) }
 {
-    on_disk(alloc, sizes, image_page(alloc, name, about, after))
+    on_disk(alloc, sizes, image_page(alloc, name, texts))
 }
 
 fn on_show<'a>(
     alloc: Global,
     sizes: &'a [&'a str],
     name: &'a str,
-    about: &'a str,
-    after_help: &'a str,
+    texts: Texts,
 ) -> Result<Command<'a>, AllocError>
     ensures { IfOk result (IsCommand (spec.page name.entry.now (spec.show_rules sizes.entry))) }
 {
-    let page = image_page(alloc, name, about, after_help);
+    let page = image_page(alloc, name, texts);
     let page = with_arg(page, after(alloc));
     on_disk(alloc, sizes, page)
 }
@@ -271,12 +265,11 @@ fn on_place<'a>(
     alloc: Global,
     sizes: &'a [&'a str],
     name: &'a str,
-    about: &'a str,
-    after: &'a str,
+    texts: Texts,
 ) -> Result<Command<'a>, AllocError>
     ensures { IfOk result (IsCommand (spec.page name.entry.now (spec.place_rules sizes.entry))) }
 {
-    let page = image_page(alloc, name, about, after);
+    let page = image_page(alloc, name, texts);
     let page = with_arg(page, needed(alloc, "PATH", "A partition, as 3, 5 or 2.a"));
     let page = with_arg(
         page,
@@ -289,12 +282,11 @@ fn on_words<'a>(
     alloc: Global,
     sizes: &'a [&'a str],
     name: &'a str,
-    about: &'a str,
-    after: &'a str,
+    texts: Texts,
 ) -> Result<Command<'a>, AllocError>
     ensures { IfOk result (IsCommand (spec.page name.entry.now (spec.word_rules sizes.entry))) }
 {
-    let page = image_page(alloc, name, about, after);
+    let page = image_page(alloc, name, texts);
     let page = with_arg(page, fresh(alloc));
     let page = on_disk(alloc, sizes, page);
     with_arg(page, words(alloc))
@@ -304,12 +296,11 @@ fn on_plan<'a>(
     alloc: Global,
     sizes: &'a [&'a str],
     name: &'a str,
-    about: &'a str,
-    after: &'a str,
+    texts: Texts,
 ) -> Result<Command<'a>, AllocError>
     ensures { IfOk result (IsCommand (spec.page name.entry.now (spec.plan_rules sizes.entry))) }
 {
-    let page = image_page(alloc, name, about, after);
+    let page = image_page(alloc, name, texts);
     let page = with_arg(page, plan_file(alloc));
     on_disk(alloc, sizes, page)
 }
@@ -318,12 +309,11 @@ fn on_other<'a>(
     alloc: Global,
     sizes: &'a [&'a str],
     name: &'a str,
-    about: &'a str,
-    after: &'a str,
+    texts: Texts,
 ) -> Result<Command<'a>, AllocError>
     ensures { IfOk result (IsCommand (spec.page name.entry.now (spec.other_rules sizes.entry))) }
 {
-    let page = image_page(alloc, name, about, after);
+    let page = image_page(alloc, name, texts);
     let page = with_arg(page, other(alloc));
     let page = with_arg(page, plan_only(alloc));
     let page = with_arg(page, other_device(alloc));
@@ -362,18 +352,15 @@ fn page_of<'a>(
     ensures { IfOk result (IsCommand (spec.page_of sizes.entry subcommand)) }
 {
     match subcommand {
-        Subcommand::Show => on_show(alloc, sizes, "show", SHOW_ABOUT, SHOW),
-        Subcommand::Verify => on_image(alloc, sizes, "verify", VERIFY_ABOUT, VERIFY),
-        Subcommand::Locate => on_place(alloc, sizes, "locate", LOCATE_ABOUT, LOCATE),
-        Subcommand::Edit => writing(alloc, on_words(alloc, sizes, "edit", EDIT_ABOUT, EDIT)),
-        Subcommand::Plan => on_words(alloc, sizes, "plan", PLAN_ABOUT, PLAN),
-        Subcommand::Check => on_plan(alloc, sizes, "check", CHECK_ABOUT, CHECK),
-        Subcommand::Apply => writing(alloc, on_plan(alloc, sizes, "apply", APPLY_ABOUT, APPLY)),
-        Subcommand::Repair => writing(
-            alloc,
-            on_image(alloc, sizes, "repair", REPAIR_ABOUT, REPAIR),
-        ),
-        Subcommand::Adopt => writing(alloc, on_other(alloc, sizes, "adopt", ADOPT_ABOUT, ADOPT)),
+        Subcommand::Show => on_show(alloc, sizes, "show", SHOW),
+        Subcommand::Verify => on_image(alloc, sizes, "verify", VERIFY),
+        Subcommand::Locate => on_place(alloc, sizes, "locate", LOCATE),
+        Subcommand::Edit => writing(alloc, on_words(alloc, sizes, "edit", EDIT)),
+        Subcommand::Plan => on_words(alloc, sizes, "plan", PLAN),
+        Subcommand::Check => on_plan(alloc, sizes, "check", CHECK),
+        Subcommand::Apply => writing(alloc, on_plan(alloc, sizes, "apply", APPLY)),
+        Subcommand::Repair => writing(alloc, on_image(alloc, sizes, "repair", REPAIR)),
+        Subcommand::Adopt => writing(alloc, on_other(alloc, sizes, "adopt", ADOPT)),
     }
 }
 
