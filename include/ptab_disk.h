@@ -84,6 +84,17 @@ int32_t ptab_disk_members(ptab_disk *disk, ptab_table *table, ptab_member *rows,
 int32_t ptab_disk_verify(ptab_disk *disk, ptab_reply *reply);
 int32_t ptab_disk_locate(ptab_disk *disk, uint64_t number, uint8_t letter, uint64_t k, ptab_reply *reply);
 
+/* A partition with its texts, which are those of `ptab show`. */
+typedef struct ptab_partition {
+  uint64_t first, last;
+  char path[24];  /* 3, or 2.a */
+  char type[40];  /* a code, a GUID, or two digits */
+  char name[112]; /* GPT: in UTF-8 */
+} ptab_partition;
+
+/* The partitions that ptab_disk_members gives, with their texts; `reply.count` is how many. */
+int32_t ptab_disk_list(ptab_disk *disk, ptab_partition *rows, size_t rows_len, ptab_reply *reply);
+
 /*
  * Calls that write, on a disk that was opened with PTAB_DISK_WRITE. With PTAB_DONE the disk is as wanted, and that is durable;
  * `reply.count` is the number of sectors that were written. With PTAB_DEVICE it is that of the sectors that were written, or
@@ -124,6 +135,10 @@ size_t ptab_message(int32_t status, const ptab_reply *reply, char *text, size_t 
 
 /* A GPT partition's name in UTF-8, as `ptab show` prints it: at most 108 bytes. */
 size_t ptab_name_text(const ptab_member *row, char *text, size_t length);
+
+/* For a program that ends at the first failure: unless the status is PTAB_DONE, prints its sentence on standard error, and
+   exits with the status; with PTAB_USAGE where that is less than 0. */
+void ptab_must(int32_t status, const ptab_reply *reply);
 
 #ifdef __cplusplus
 }

@@ -19,9 +19,11 @@ flags="-O2 -std=c11 -Wall -Wextra -pedantic -Werror -fPIC -I$here/../../include"
 ${CC:-cc} $flags -c "${MEMORY:-$here/memory.c}" -o "$folder/ptab_memory.o"
 ${CC:-cc} $flags -c "$here/ptab_disk.c" -o "$folder/ptab_disk.o"
 ${CC:-cc} $flags -c "$here/ptab_disk_text.c" -o "$folder/ptab_disk_text.o"
+${CC:-cc} $flags -c "$here/ptab_disk_list.c" -o "$folder/ptab_disk_list.o"
 cp "$archive" "$folder/libptab.a"
 chmod u+w "$folder/libptab.a"
-ar rDs "$folder/libptab.a" "$folder/ptab_memory.o" "$folder/ptab_disk.o" "$folder/ptab_disk_text.o" 2>"$folder/said"
+ar rDs "$folder/libptab.a" "$folder/ptab_memory.o" "$folder/ptab_disk.o" "$folder/ptab_disk_text.o" "$folder/ptab_disk_list.o" \
+  2>"$folder/said"
 {
   echo 'PTAB_1 {'
   echo '  global: ptab_wanted; ptab_members; ptab_verify; ptab_locate; ptab_plan; ptab_repair; ptab_adopt_plan; ptab_check;'
@@ -29,7 +31,7 @@ ar rDs "$folder/libptab.a" "$folder/ptab_memory.o" "$folder/ptab_disk.o" "$folde
   echo '  ptab_disk_open; ptab_disk_take; ptab_disk_close; ptab_disk_size; ptab_disk_members; ptab_disk_verify; ptab_disk_locate;'
   echo '  ptab_disk_edit; ptab_disk_repair; ptab_disk_adopt; ptab_disk_apply;'
   echo '  ptab_disk_plan; ptab_disk_repair_plan; ptab_disk_adopt_plan; ptab_disk_check;'
-  echo '  ptab_message; ptab_name_text;'
+  echo '  ptab_disk_list; ptab_message; ptab_name_text; ptab_must;'
   echo '  local: *;'
   echo '};'
 } >"$folder/exports"

@@ -31,6 +31,7 @@ from images import LARGE, SMALL, room
 
 DRAWN = bytes(range(256)) * 16
 WARNINGS = ("-Wall", "-Wextra", "-pedantic", "-Werror", "-O2")
+NO_COPY = "no MBR, and neither copy of a GPT exists: the signature isn't EFI PART (primary); the signature isn't EFI PART (backup)"
 WORDS = (["a:2048"], ["c:1:name"], ["d:1"], ["n:0:0:0"], ["o"], ["o", "n:0:0:+8", "c:1:root"], ["g"], ["t:1:8300"], ["e"], ["x"], ["d:2.a"],
          ["n:0:0:+5:8200", "d:1"], ["n:5:0:0"], ["t:2.a:07"], ["a:1", "n:0:0:0"], ["g", "c:1:é𝄞"],
          ["U:e896e426-a4e9-4c9e-8d92-b56974f85fcf"])
@@ -99,7 +100,7 @@ int main(void) { ptab_disk_close(0); return ptab_version() == PTAB_VERSION ? 0 :
                 must(compiler, standard, *WARNINGS, include, f"{folder}/{name}", f"{folder}/libptab.a", "-o", f"{folder}/h")
                 same(f"{compiler} {standard}", must(f"{folder}/h"), "")
     for compiler in compilers[0]:
-        for source in ("ptab_disk", "ptab_disk_text"):
+        for source in ("ptab_disk", "ptab_disk_text", "ptab_disk_list"):
             must(compiler, "-std=c11", *WARNINGS, include, "-c", f"{ROOT}/bindings/c/{source}.c", "-o", f"{folder}/{source}.o")
     for name in ("ptab", "rename"):
         must("cc", "-std=c11", *WARNINGS, include, f"{ROOT}/examples/c/{name}.c", f"{folder}/libptab.a", "-o", f"{folder}/{name}_c")
@@ -117,7 +118,11 @@ def small_programs(ptab, folder):
         where = {**os.environ, "PYTHONPATH": f"{ROOT}/bindings/python", "PTAB_LIBRARY": f"{folder}/libptab.so.1"}
         same(program, must(*program, cwd=folder, env=where), listed)
         same("the renamed partition", must(ptab, "show", image).splitlines()[1].split()[-1], "archive")
-    os.remove(image)
+    ends = (bytes(1 << 20), 4, f"there is no table: {NO_COPY}\n"), (None, 5, f"the disk can't be opened: {os.strerror(errno.ENOENT)}\n")
+    for blank, status, told in ends:
+        put(image, blank) if blank else os.remove(image)
+        done = subprocess.run([f"{folder}/rename_c"], cwd=folder, capture_output=True, text=True)
+        same("the program in C ends", (done.returncode, done.stdout, done.stderr), (status, "", told))
 
 
 # beside the command
@@ -159,7 +164,29 @@ def beside(ptab, example, folder, count):
                 answers.append((it.run(command, sectors, *more, *given), content(path)))
             same(f"{command} {given} on an image of {len(image)} bytes", answers[1], answers[0])
         by_plan(theirs, sectors, image, words)
+        listed(theirs, sectors)
         put(other, content(path))
+
+
+class Partition(ctypes.Structure):
+    """A row of ptab_disk_list."""
+    _fields_ = [("first", ctypes.c_uint64), ("last", ctypes.c_uint64), ("path", ctypes.c_char * 24), ("type", ctypes.c_char * 40),
+                ("name", ctypes.c_char * 112)]
+
+
+def listed(command, sectors):
+    """The rows of ptab_disk_list have what `ptab show` prints."""
+    status, shown, _ = command.run("show", sectors)
+    wanted = [(line.split(" ")[:4], line.split(" ", 6)[6:]) for line in shown.splitlines()[1:]]
+    library, reply, rows = lib.load(), lib._Reply(), (Partition * (len(wanted) + 1))()
+    library.ptab_disk_list.argtypes = [ctypes.c_void_p, ctypes.c_void_p, ctypes.c_size_t, ctypes.c_void_p]
+    with lib.Disk(command.path, sector_size=sectors.size) as disk:
+        for room_of in {0, len(wanted), len(rows)}:
+            found = library.ptab_disk_list(disk._disk, rows, room_of, ctypes.byref(reply))
+            same(f"ptab_disk_list into {room_of} rows", found, lib.ROOM if status == 0 and room_of < len(wanted) else status)
+            same("how many partitions there are", reply.count, len(wanted))
+    texts = [([it.path.decode(), str(it.first), str(it.last), it.type.decode()], [it.name.decode()] if it.name else []) for it in rows]
+    same("the rows of ptab_disk_list", texts[:-1], wanted)
 
 
 def by_plan(command, sectors, image, words):
