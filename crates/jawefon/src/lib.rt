@@ -3,8 +3,9 @@
 //! This crate is the whole surface under one name. `B` is the size of a sector, 512 or 4096 bytes.
 //!
 //! - **A disk** is anything that implements [`Disk`]; docs/own_disk.md shows how. [`FileDisk::open`] makes one of a plain file, under
-//!   its lock where the access is [`Access::Write`]; [`MemDisk::new`] makes one in memory, and [`CrashDisk::new`] one that fails and
-//!   stops as a test likes. An [`Overlay`] keeps what is written over a disk that it borrows, a [`ReadCache`] asks one for each sector
+//!   its lock where the access is [`Access::Write`], and [`FileDisk::open_device`] one of a block device, refused as [`NoDevice`] has
+//!   it where it is in use and [`InUse`] doesn't allow that; [`device_sector_size`] says which `B` it takes. [`MemDisk::new`] makes one
+//!   in memory, and [`CrashDisk::new`] one that fails and stops as a test likes. An [`Overlay`] keeps what is written over a disk that it borrows, a [`ReadCache`] asks one for each sector
 //!   once, and both take their [`Room`] beforehand. [`Moments`] are what a disk of one's own keeps for the proofs.
 //! - **Look**: [`recover`] gives the [`Layout`], [`members`] lists its partitions, [`locate`] and [`owner`] lead from a partition to
 //!   a sector and back, [`verify`] says whether the disk is healthy or what is wrong. [`recover_traced`] also gives the sectors that
@@ -37,7 +38,10 @@ pub use listing::members;
 pub use pt_apply::{Plan, PlanTextError, Write, apply, plan_text, read_plan};
 pub use pt_check::{Answer, CheckError, Why, check};
 pub use pt_edit::{Code, Edit, EditError, End, Refusal, edit, guids_for, parse_edit};
-pub use pt_file::{Access, FileDisk, MemStore, OpenError, Store, StoreDisk, open_plain};
+pub use pt_file::{
+    Access, FileDisk, InUse, MemStore, NoDevice, OpenError, Store, StoreDisk, device_sector_size,
+    open_plain,
+};
 pub use pt_guid::{
     Guid, GuidError, code_of_type, fresh, parse as parse_guid, type_of_code, type_of_record,
 };

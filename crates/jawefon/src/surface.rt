@@ -5,10 +5,11 @@ use crate::gpt::{Side, decode_header, encode_header, has_room, read_copy};
 use crate::mbr::{Mbr, decode_mbr, encode_mbr, protective, put_record, read_chain};
 use crate::sums::{Crc, crc32, xor16};
 use crate::{
-    After, Body, Code, CommitError, CrashDisk, Disk, Edit, End, Extent, Fault, Guid, Layout, Lba,
-    MemDisk, NoTable, Overlay, Path, ReadCache, Room, Sector, apply, code_of_type, commit, edit,
-    fresh, guids_for, is_owned, is_table, layout_after, make_plan, parse_guid, recover,
-    recover_traced, type_of_code, type_of_record, unsound,
+    Access, After, Body, Code, CommitError, CrashDisk, Disk, Edit, End, Extent, Fault, FileDisk,
+    Guid, InUse, Layout, Lba, MemDisk, NoDevice, NoTable, Overlay, Path, ReadCache, Room, Sector,
+    apply, code_of_type, commit, device_sector_size, edit, fresh, guids_for, is_owned, is_table,
+    layout_after, make_plan, parse_guid, recover, recover_traced, type_of_code, type_of_record,
+    unsound,
 };
 use std::alloc::Global;
 use std::test::Fail;
@@ -66,6 +67,21 @@ fn a_layout_and_its_sectors(rt: HostRuntime) -> Result<(), Fail> {
         },
         Body::Mbr { .. } => assert!(rt; false),
     }
+    Ok(())
+}
+
+/// What stands there is no block device, and is neither opened nor read as one.
+#[test]
+fn no_device(rt: HostRuntime) -> Result<(), Fail> {
+    for in_use in [InUse::Refused, InUse::Allowed] {
+        for (access, path) in [(Access::Read, "/dev/null"), (Access::Write, ".")] {
+            let opened = FileDisk::<512>::open_device(&rt, path, access, in_use);
+            assert!(rt; matches!(opened, Err(NoDevice::NotBlock)));
+            assert!(rt; matches!(device_sector_size(&rt, path), Err(NoDevice::NotBlock)));
+        }
+    }
+    let missing = FileDisk::<4096>::open_device(&rt, "no such file", Access::Read, InUse::Refused);
+    assert!(rt; matches!(missing, Err(NoDevice::Unopened)));
     Ok(())
 }
 
