@@ -1,12 +1,15 @@
 #!/usr/bin/env python3
 """The module for Python and the crate for Rust, where they aren't what disk_library.py has compared with the command: Python's
 exceptions, texts and type hints; in Rust, where there is a cargo, its tests without a warning, with the library in a folder and with the
-one that pkg-config finds, and its examples.
+one that pkg-config finds, and its examples; these beside the command on drawn images, and a write that fails, with a mending after it.
 
 usage: tests/callers/bindings.py PTAB ARCHIVE     ARCHIVE is crates/pt_c/out/libpt_c.a
 """
+import errno
 import inspect
 import os
+import random
+import resource
 import shutil
 import subprocess
 import sys
@@ -19,8 +22,10 @@ sys.path[:0] = [os.path.join(ROOT, "tests", "shared"), os.path.join(ROOT, "bindi
 import images
 import ptab as lib
 from images import FREEBSD, SMALL, entry, label, record, room
+from other_test import of_test
 
 NO_COPY = "no MBR, and neither copy of a GPT exists: the signature isn't EFI PART (primary); the signature isn't EFI PART (backup)"
+HOSTILE = of_test("hostile")
 checked = 0
 
 
@@ -125,7 +130,48 @@ def in_rust(ptab, archive, folder):
     same("show.rs", must(*example, "show", "--", "disk.img", "512", "t:1:8200", cwd=folder, env=where), "1 2048 4062 8200 archive\n")
     done = subprocess.run([*example, "show", "--", "disk.img", "512", "d:9"], cwd=folder, env=where, capture_output=True, text=True)
     same("a refusal", (done.stdout, done.stderr.splitlines()[-1], done.returncode), ("", "no such partition", 1))
+    show = f"{folder}/target/debug/examples/show"
+    drawn_images(ptab, show, where, folder)
+    failed_write(ptab, show, where, folder)
     return "Rust too"
+
+
+def shown(ptab, path, size):
+    """What the example prints of an image, by the command: of each line the path, place, type and name."""
+    done = subprocess.run([ptab, "show", "--sector-size", str(size), path], capture_output=True, text=True)
+    lines = [(line.split(" ")[:4], line.split(" ", 6)[6:]) for line in done.stdout.splitlines()[1:]]
+    return done.returncode, "".join(f"{' '.join(fields)} {''.join(name)}\n" for fields, name in lines)
+
+
+def drawn_images(ptab, show, where, folder):
+    """The example beside the command on drawn images, which it edits too."""
+    rng, path, copy = random.Random(3), f"{folder}/drawn", f"{folder}/copy"
+    for _ in range(40):
+        sectors, image = HOSTILE["hostile"](rng)
+        for words in ([], *rng.sample((["c:1:name"], ["d:1"], ["a:1"], ["a:1", "n:0:0:+8"], ["t:1:82"], ["o", "c:1:x"], ["d:9"]), 3)):
+            put(path, image)
+            put(copy, image)
+            mine = subprocess.run([show, path, str(sectors.size), *words], capture_output=True, text=True, env=where)
+            edited = subprocess.run([ptab, "edit", "--sector-size", str(sectors.size), "--fresh", "07" * 2048, copy, *words], capture_output=True).returncode \
+                if words else 0
+            status, wanted = shown(ptab, copy, sectors.size)
+            same(f"{words} on an image of {len(image)} bytes: {mine.stderr}", (mine.returncode == 0, mine.stdout),
+                 (edited == 0 and status == 0, wanted if edited == 0 else ""))
+            same(f"{words}: the table that is left", shown(ptab, path, sectors.size), (status, wanted))
+
+
+def failed_write(ptab, show, where, folder):
+    """A write of the last sector is refused by the system: the error says so, and the next call mends what was left."""
+    path, image = f"{folder}/fails", images.one_partition()
+    put(path, image)
+    limit = (len(image) - 512, resource.getrlimit(resource.RLIMIT_FSIZE)[1])
+    done = subprocess.run([show, path, "512", "c:1:data"], capture_output=True, text=True, env=where, restore_signals=False,
+                          preexec_fn=lambda: resource.setrlimit(resource.RLIMIT_FSIZE, limit))
+    same("a write that fails", (done.stdout, done.stderr, done.returncode),
+         ("", f"sector {len(image) // 512 - 1} can't be written: {os.strerror(errno.EFBIG)}\n", 1))
+    same("the old table is left", (shown(ptab, path, 512)[1], must(ptab, "repair", path)), ("1 2048 4062 8300 \n", "done\n"))
+    same("an edit after it", must(show, path, "512", "c:1:data", env=where), "1 2048 4062 8300 data\n")
+    same("it is healthy", must(ptab, "verify", path), "yes\n")
 
 
 def main():

@@ -13,7 +13,6 @@ import errno
 import fcntl
 import os
 import random
-import re
 import resource
 import shutil
 import socket
@@ -28,6 +27,7 @@ import images
 import ptab as lib
 from doubles import text_of
 from images import LARGE, SMALL, room
+from other_test import of_test
 
 DRAWN = bytes(range(256)) * 16
 WARNINGS = ("-Wall", "-Wextra", "-pedantic", "-Werror", "-O2")
@@ -36,15 +36,6 @@ WORDS = (["a:2048"], ["c:1:name"], ["d:1"], ["n:0:0:0"], ["o"], ["o", "n:0:0:+8"
          ["n:0:0:+5:8200", "d:1"], ["n:5:0:0"], ["t:2.a:07"], ["a:1", "n:0:0:0"], ["g", "c:1:é𝄞"],
          ["U:e896e426-a4e9-4c9e-8d92-b56974f85fcf"])
 checked = 0
-
-
-def of_test(name):
-    """The names of a test of failures, which isn't run."""
-    path = os.path.join(ROOT, "tests", "failures", f"{name}.py")
-    found = {"__name__": name, "__file__": path}
-    with open(path, encoding="utf-8") as file:
-        exec(re.sub(r"\nmain\(\)\n$", "\n", file.read()), found)
-    return found
 
 
 HOSTILE = of_test("hostile")
