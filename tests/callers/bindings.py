@@ -152,8 +152,8 @@ def drawn_images(ptab, show, where, folder):
             put(path, image)
             put(copy, image)
             mine = subprocess.run([show, path, str(sectors.size), *words], capture_output=True, text=True, env=where)
-            edited = subprocess.run([ptab, "edit", "--sector-size", str(sectors.size), "--fresh", "07" * 2048, copy, *words], capture_output=True).returncode \
-                if words else 0
+            edit = [ptab, "edit", "--sector-size", str(sectors.size), "--fresh", "07" * 2048, copy, *words]
+            edited = subprocess.run(edit, capture_output=True).returncode if words else 0
             status, wanted = shown(ptab, copy, sectors.size)
             same(f"{words} on an image of {len(image)} bytes: {mine.stderr}", (mine.returncode == 0, mine.stdout),
                  (edited == 0 and status == 0, wanted if edited == 0 else ""))

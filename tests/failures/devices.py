@@ -359,8 +359,8 @@ def main():
         on_loops(it)
         gone = devices_gone.all_of(it, Loop)
         jobs = devices_runs.all_of(ptab, Loop, place)
-        print(f"devices: {it.passed} passed, 0 failed; {gone} went or failed in the middle; {jobs} jobs of other tools on devices are as on "
-              "images, 0 failed")
+        print(f"devices: {it.passed} passed, 0 failed; {gone} went or failed in the middle; {jobs} jobs of other tools on devices are as "
+              "on images, 0 failed")
 
 
 if __name__ == "__main__":
