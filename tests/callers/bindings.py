@@ -119,7 +119,7 @@ def in_rust(ptab, archive, folder):
     shutil.copytree(f"{ROOT}/bindings/rust", crate, ignore=shutil.ignore_patterns("target", "Cargo.lock"))
     where = {**os.environ, "CARGO_TARGET_DIR": f"{folder}/target", "RUSTFLAGS": "-D warnings", "CARGO_TERM_COLOR": "never"}
     said = must("cargo", "test", "--offline", "--quiet", cwd=crate, env={**where, "PTAB_LIB_DIR": folder})
-    same("the tests in Rust", "5 passed; 0 failed" in said, True)
+    same("the tests in Rust", "6 passed; 0 failed" in said, True)
     must(f"{ROOT}/install.sh", prefix, env={**os.environ, "PTAB": ptab, "LIBRARY": archive, "DESTDIR": ""})
     if not shutil.which("pkg-config"):
         return "Rust too, without pkg-config"

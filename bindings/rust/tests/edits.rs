@@ -1,4 +1,4 @@
-//! Calls on images: several edits in one opening, the lock, refusals, plans, another disk's layout.
+//! Calls on images: several edits in one opening, the lock, refusals, plans, a repair, another disk's layout.
 use ptab::{Disk, Error, ErrorKind, Options, TableKind, Verdict};
 use std::fs;
 use std::path::PathBuf;
@@ -107,6 +107,21 @@ fn plans_are_checked_and_applied() {
     assert_eq!(disk.apply(&plan).expect("an application"), 67);
     assert_eq!(named(&mut disk), [pair("1", "planned")]);
     assert_eq!(disk.repair_plan().expect("a plan"), Vec::<Vec<ptab::Write>>::new());
+}
+
+#[test]
+fn a_lost_copy_is_repaired() {
+    let image = Image::made("repairs");
+    let mut disk = image.disk();
+    let healthy = fs::read(&image.0).expect("its bytes");
+    let mut damaged = healthy.clone();
+    damaged[512..1024].fill(0);
+    fs::write(&image.0, damaged).expect("a damage");
+    let found = disk.verify().expect("a verdict").to_string();
+    assert_eq!(found, "the primary copy of the GPT doesn't exist: the signature isn't EFI PART");
+    assert!(disk.repair().expect("a repair") > 0);
+    assert!(disk.verify().expect("a verdict").is_yes());
+    assert_eq!(fs::read(&image.0).expect("its bytes"), healthy);
 }
 
 #[test]
