@@ -9,3 +9,4 @@ pub mod Rows
 pub mod Elsewhere
 pub mod Reaching
 pub mod Widening
+pub mod Ascending

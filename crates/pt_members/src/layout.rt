@@ -1,6 +1,7 @@
 //! Layouts: what a disk may denote.
 
 ghost use Rattle.std.specs.Prelude.{◌≡◌, ◌↔◌, IfOk, IsTrue, List};
+ghost use Rattle.std.specs.List.Sorted.{IsNonDecreasingBy};
 ghost use Rattle.pt_mbr.specs.declared.ebr.Ebr.{Ebr};
 ghost use Rattle.pt_members.specs.declared.layout.Labelled.{Labelled};
 
@@ -69,16 +70,31 @@ pub struct Labelled {
     pub label: Label,
 }
 
+fn numbers_ascend(labels: &[Labelled]) -> bool
+    ensures { IsTrue result → IsNonDecreasingBy (λ l. l.number) labels.now }
+{
+    for k in 1..labels.len() {
+        if labels[k].number < labels[k - 1].number {
+            return false;
+        }
+    }
+    true
+}
+
 /// The labels of a layout, by ascending number of their slices.
 #[derive(Drop)]
 pub struct Labels {
     items: Vec<Labelled>,
+    // Whether the numbers ascend, as they do in a layout that was read. A caller's may come in any order.
+    ascend: bool,
 }
 
 impl Model for Labels {
     ghost Value = { List Labelled };
 
     ghost view = { λ l. l.items.items };
+
+    ghost invariant = { λ l. IsTrue l.ascend → IsNonDecreasingBy (λ x. x.number) l.items.items };
 }
 
 impl Labels {
@@ -86,7 +102,8 @@ impl Labels {
     pub fn new(items: Vec<Labelled>) -> Labels
         ensures { result ≡ items.items }
     {
-        Labels { items }
+        let ascend = numbers_ascend(&items);
+        Labels { items, ascend }
     }
 
     /// The labels with their slices' numbers.
@@ -103,13 +120,23 @@ impl Labels {
         &self.items
     }
 
+    // Whether the slices' numbers are known to ascend.
+    pub(crate) fn ascend(&self) -> bool
+        ensures { IsTrue result → IsNonDecreasingBy (λ l. l.number) self.now }
+    {
+        self.ascend
+    }
+
     /// Equal labels.
     pub fn copy(&self, alloc: Global) -> Result<Labels, AllocError>
         ensures { IfOk result (λ l. l ≡ self.now) }
     {
         let mut items = Vec::new(alloc);
         items.extend_from_slice(&self.items)?;
-        Ok(Labels { items })
+        Ok(Labels {
+            items,
+            ascend: self.ascend,
+        })
     }
 
     /// Whether the two are equal.

@@ -2,6 +2,7 @@
 
 ghost use Rattle.std.specs.Prelude.{◌≡◌, ◌+◌, ◌<◌, ◌≤◌, ◌^◌, ◌↔◌, ℕ, IsTrue, length, get_or, take, count_by, is_some, Some, None};
 ghost use Rattle.std.specs.Prelude.{option_map, IfSome, slice_index_or};
+ghost use Rattle.std.specs.List.Sorted.{IsNonDecreasingBy};
 ghost use Rattle.pt_members.specs.Members.{records_as, entries_as, logicals_as, slots, tops, record_kind, logical_kind, entry_kind};
 ghost use Rattle.pt_members.specs.Members.{label_of, part_of, parts_in, sized_member, number_path, record_member, logical_member};
 ghost use Rattle.pt_members.specs.Members.{is_slice_kind, entry_member};
@@ -341,10 +342,31 @@ fn label_in(labels: &[Labelled], number: u64) -> Option<Label>
     None
 }
 
+// The same, where the slices' numbers ascend.
+fn label_among(labels: &[Labelled], number: u64) -> Option<Label>
+    requires { IsNonDecreasingBy (λ l. l.number) labels.now }
+    ensures { result ≡ label_of labels.now number }
+{
+    let at = labels.partition_point(|it| it.number < number);
+    match labels.get(at) {
+        Some(it) => {
+            if it.number == number {
+                Some(it.label)
+            } else {
+                None
+            }
+        }
+        None => None,
+    }
+}
+
 /// The label of the slice of a number.
 pub fn find_label(labels: &Labels, number: u64) -> Option<Label>
     ensures { result ≡ label_of labels.now number }
 {
+    if labels.ascend() {
+        return label_among(labels.as_slice(), number);
+    }
     label_in(labels.as_slice(), number)
 }
 

@@ -105,7 +105,7 @@ fn join(runs: &mut Vec<TracedRun>, new: TracedRun) -> Result<(), AllocError>
     }
 }
 
-/// Sectors that were read: runs in order that don't touch.
+/// Sectors, as those that a recovery read: runs in order that don't touch.
 #[derive(Drop)]
 pub struct Trace {
     runs: Vec<TracedRun>,
@@ -151,7 +151,7 @@ impl Trace {
     }
 
     /// Adds the sectors from a first to a last.
-    pub(crate) fn add(&mut self, first: u64, last: u64) -> Result<(), AllocError>
+    pub fn add(&mut self, first: u64, last: u64) -> Result<(), AllocError>
         requires { first ≤ last }
         ensures { OnOk result (Adds self.old self.new (λ s. (first ≤ s) × (s ≤ last))) }
     {
