@@ -6,8 +6,13 @@ import re
 BEHIND_HEAD = re.compile(r"^\s*(?:requires|ensures|ghost)\b|\{|;\s*$", re.MULTILINE)
 # The closing bracket of each.
 CLOSING = {"(": ")", "<": ">", "{": "}", "[": "]"}
-# The one trait of std whose methods have wrong bodies.
-FROM = "pub trait From<T> {\nghost from_gives: {};\nfn from(value: T) -> Self\nensures { from_gives value result };\n}\n"
+# The traits of std whose methods have wrong bodies.
+OF_STD = {
+    "From": "pub trait From<T> {\nghost from_gives: {};\nfn from(value: T) -> Self\nensures { from_gives value result };\n}\n",
+    "Display": "ghost use Rattle.std.specs.Fmt.{DisplaysOnOk};\npub trait Display {\nghost output: {};\n"
+               "fn fmt<W: Write>(&self, f: &mut Formatter<W>) -> Result\n"
+               "ensures writes { DisplaysOnOk W.write_str_gives f.old result (output self.now) f.new };\n}\n",
+}
 
 
 def end_of(text, at):
@@ -95,9 +100,11 @@ class Function:
         return [it.removeprefix("mut ").partition(":")[0].split()[-1] for it in self.parameters]
 
     def call(self):
-        """A call of it with its own parameters."""
+        """A call of it with its own parameters. A trait that is named by a path isn't imported, so its method is called by that path."""
         kinds = [it.removeprefix("const ").partition(":")[0].strip() for it in parts_of(self.generics) if it[0] != "'"]
         names = self.names()
+        if self.impl and "::" in self.impl.trait:
+            return f"{self.impl.trait}::{self.name}({', '.join(it.lstrip('&') for it in names)})"
         of = "self." if names[:1] == ["self"] or names[:1] == ["&self"] else "Self::" if self.impl else ""
         generics = f"::<{', '.join(kinds)}>" if kinds else ""
         return f"{of}{self.name}{generics}({', '.join(names[of == 'self.':])})"
@@ -126,8 +133,8 @@ def function_of(text, path):
 
 def trait_text(trait, folders):
     """The text of the file that declares a trait."""
-    if trait == "From":
-        return FROM
+    if trait in OF_STD:
+        return OF_STD[trait]
     for folder in folders:
         for file in glob.glob(f"{folder}/src/**/*.rt", recursive=True):
             with open(file, encoding="utf-8") as it:

@@ -7,4 +7,5 @@ pub mod PlanTexts
 pub mod Faults
 pub mod Canonical
 pub mod Reading
+pub mod Sentences
 pub mod laws

@@ -1,8 +1,9 @@
 //! Why a text is no plan's.
 
-ghost use Rattle.std.specs.Prelude.{◌≡◌};
+ghost use Rattle.std.specs.Prelude.{◌≡◌, Some};
 ghost use Rattle.pt_apply.specs.Faults.{error_number};
 ghost use Rattle.pt_apply.specs.declared.error.PlanTextError.TheVariants.{Memory};
+ghost use Rattle.pt_apply.specs.Sentences.{plan_text_error_sentence};
 
 use std::alloc::AllocError;
 use std::error::Error;
@@ -34,6 +35,8 @@ impl PlanTextError {
 }
 
 impl fmt::Display for PlanTextError {
+    ghost output = { λ error. Some (plan_text_error_sentence error) };
+
     fn fmt<W: fmt::Write>(&self, f: &mut fmt::Formatter<W>) -> fmt::Result {
         match self {
             PlanTextError::BadLine(line) => write!(f, "line {line} is not a plan's"),

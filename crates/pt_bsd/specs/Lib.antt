@@ -5,4 +5,5 @@ pub mod Reading
 pub mod Empty
 pub mod Counted
 pub mod Writing
+pub mod Sentences
 pub mod laws

@@ -1,5 +1,8 @@
 //! Labels as values.
 
+ghost use Rattle.std.specs.Prelude.{Some};
+ghost use Rattle.pt_bsd.specs.Sentences.{label_error_sentence};
+
 use std::error::Error;
 use std::fmt;
 
@@ -67,6 +70,8 @@ pub enum LabelError {
 }
 
 impl fmt::Display for LabelError {
+    ghost output = { λ error. Some (label_error_sentence error) };
+
     fn fmt<W: fmt::Write>(&self, f: &mut fmt::Formatter<W>) -> fmt::Result {
         f.write_str(match self {
             LabelError::Magic => "the label lacks one of its two magic numbers",

@@ -6,4 +6,5 @@ pub mod Entry
 pub mod Array
 pub mod Copy
 pub mod Answers
+pub mod Sentences
 pub mod laws

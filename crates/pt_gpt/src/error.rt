@@ -1,8 +1,9 @@
 //! Why a copy of the table can't be read.
 
-ghost use Rattle.std.specs.Prelude.{◌≡◌, ◌↔◌, IsTrue};
+ghost use Rattle.std.specs.Prelude.{◌≡◌, ◌↔◌, IsTrue, Some};
 ghost use Rattle.pt_gpt.specs.Errors.{error_number, failure_in};
 ghost use Rattle.pt_gpt.specs.declared.error.CopyError.TheVariants.{Device, Memory};
+ghost use Rattle.pt_gpt.specs.Sentences.{copy_error_sentence};
 
 use pt_sector::{FailedRead, Failure, Lba};
 use std::alloc::AllocError;
@@ -40,6 +41,8 @@ pub enum CopyError {
 }
 
 impl fmt::Display for CopyError {
+    ghost output = { λ error. Some (copy_error_sentence error) };
+
     fn fmt<W: fmt::Write>(&self, f: &mut fmt::Formatter<W>) -> fmt::Result {
         let text = match self {
             CopyError::Signature => "the signature isn't EFI PART",

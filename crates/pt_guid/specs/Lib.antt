@@ -1,4 +1,5 @@
 pub mod Mixed
 pub mod Codes
 pub mod Fresh
+pub mod Sentences
 pub mod laws

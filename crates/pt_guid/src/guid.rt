@@ -4,6 +4,7 @@ ghost use Rattle.std.specs.Prelude.{◌≡◌, ◌<◌, ◌↔◌, All, IsTrue, 
 ghost use Rattle.uuid.specs.Text.{hyphenated_text, lower};
 ghost use Rattle.pt_guid.specs.Mixed.{mixed, stored_of, text_of};
 ghost use Rattle.pt_guid.specs.Fresh.{fresh_of};
+ghost use Rattle.pt_guid.specs.Sentences.{guid_error_sentence};
 
 use std::error::Error;
 use std::fmt;
@@ -23,6 +24,8 @@ pub enum GuidError {
 }
 
 impl fmt::Display for GuidError {
+    ghost output = { λ error. Some (guid_error_sentence error) };
+
     fn fmt<W: fmt::Write>(&self, f: &mut fmt::Formatter<W>) -> fmt::Result {
         match self {
             GuidError::NotAGuid => f.write_str("not a GUID"),

@@ -8,4 +8,5 @@ pub mod Chain
 pub mod Decoded
 pub mod Changes
 pub mod Numbers
+pub mod Sentences
 pub mod laws

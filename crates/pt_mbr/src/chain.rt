@@ -9,6 +9,7 @@ ghost use Rattle.pt_mbr.specs.Chain.{lba, span_of, IsInside, EbrAt, FaultAt, Wal
 ghost use Rattle.pt_mbr.specs.Chain.{fault_in};
 ghost use Rattle.pt_mbr.specs.Decoded.{EndsIn, StepsTo, StepsOut};
 ghost use Rattle.pt_mbr.specs.Numbers.{error_number};
+ghost use Rattle.pt_mbr.specs.Sentences.{chain_error_sentence};
 
 use crate::ebr::{Ebr, EbrFault, decode_ebr};
 use arrayvec::ArrayVec;
@@ -54,6 +55,8 @@ impl ChainError {
 }
 
 impl fmt::Display for ChainError {
+    ghost output = { λ error. Some (chain_error_sentence error) };
+
     fn fmt<W: fmt::Write>(&self, f: &mut fmt::Formatter<W>) -> fmt::Result {
         match self {
             ChainError::NoSignature(at) => {

@@ -1,5 +1,6 @@
 -- Numbers and paths as texts.
 use Rattle.std.specs.Prelude.{◌≡◌, ◌≢◌, length, slice_index, ◌<◌, ◌≤◌, ◌^◌, ◌+◌, ℕ, List, [], ◌∷◌, ◌++◌, Option, Some, None}
+use Rattle.std.specs.Prelude.{codes, encode_utf8, min}
 use Rattle.std.specs.Fmt.{decimal}
 use Rattle.pt_path.specs.declared.path.Path.{Path}
 
@@ -45,3 +46,12 @@ pub record IsDotted (digits text : List ℕ) (p : Path) : Type 0 where
   pub first : 1 ≤ p.number
   pub number : IsNumber digits p.number
   pub letter : IsLettered text p.letter
+
+-- what is shown behind the number of a path whose letter may be any number: nothing, or a dot and a character from a on
+abbrev pub shown_letter : Option ℕ → List ℕ
+shown_letter None = []
+shown_letter (Some letter) = codes "." ++ encode_utf8 (min (97 + letter) 255)
+
+-- a path as it is shown, also one that no text is
+abbrev pub shown_path : Path → List ℕ
+shown_path p = decimal p.number ++ shown_letter p.letter

@@ -1,6 +1,7 @@
 //! The names of partitions.
 
-ghost use Rattle.std.specs.Prelude.{◌<◌, ◌↔◌, IsTrue};
+ghost use Rattle.std.specs.Prelude.{◌<◌, ◌↔◌, IsTrue, Some};
+ghost use Rattle.pt_path.specs.Texts.{shown_path};
 
 use std::fmt;
 
@@ -14,6 +15,8 @@ pub struct Path {
 }
 
 impl fmt::Display for Path {
+    ghost output = { λ path. Some (shown_path path) };
+
     fn fmt<W: fmt::Write>(&self, f: &mut fmt::Formatter<W>) -> fmt::Result {
         match self.letter {
             Some(letter) => write!(

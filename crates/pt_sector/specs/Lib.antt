@@ -11,4 +11,5 @@ pub mod Reads
 pub mod Ascending
 pub mod Puts
 pub mod Overlays
+pub mod Sentences
 pub mod laws

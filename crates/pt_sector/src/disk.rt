@@ -4,6 +4,7 @@ ghost use Rattle.pt_sector.specs.declared.disk.Fault.TheVariants.{Read, Write, F
 ghost use Rattle.pt_sector.specs.Sectors.{sector};
 ghost use Rattle.pt_sector.specs.Device.{Told, MayLeave, Wrote, FailedWrite, Flushed, FailedFlush};
 ghost use Rattle.pt_sector.specs.Calls.{Blames, Untouched};
+ghost use Rattle.pt_sector.specs.Sentences.{fault_sentence};
 
 use crate::address::Lba;
 use std::error::Error;
@@ -18,6 +19,8 @@ pub enum Fault {
 }
 
 impl fmt::Display for Fault {
+    ghost output = { λ fault. Some (fault_sentence fault) };
+
     fn fmt<W: fmt::Write>(&self, f: &mut fmt::Formatter<W>) -> fmt::Result {
         let (at, failed) = match self {
             Fault::Read(at) => (at, " can't be read"),

@@ -7,6 +7,7 @@ ghost use Rattle.pt_sector.specs.Sectors.{sector};
 ghost use Rattle.pt_sector.specs.Calls.{Blames};
 ghost use Rattle.pt_sector.specs.Reads.{OnlyReads, read_of};
 ghost use Rattle.pt_sector.specs.declared.reading.Failure.TheVariants as failure;
+ghost use Rattle.pt_sector.specs.Sentences.{failed_read_sentence, failure_sentence};
 
 use crate::address::Lba;
 use crate::disk::Disk;
@@ -19,6 +20,8 @@ use std::fmt;
 pub struct FailedRead(pub Lba);
 
 impl fmt::Display for FailedRead {
+    ghost output = { λ failed. Some (failed_read_sentence failed) };
+
     fn fmt<W: fmt::Write>(&self, f: &mut fmt::Formatter<W>) -> fmt::Result {
         write!(f, "sector {} can't be read", self.0.0)
     }
@@ -36,6 +39,8 @@ pub enum Failure {
 }
 
 impl fmt::Display for Failure {
+    ghost output = { λ failure. Some (failure_sentence failure) };
+
     fn fmt<W: fmt::Write>(&self, f: &mut fmt::Formatter<W>) -> fmt::Result {
         match self {
             Failure::Device(at) => write!(f, "sector {} can't be read", at.0),

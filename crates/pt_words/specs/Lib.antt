@@ -1,4 +1,5 @@
 pub mod Numbers
 pub mod Words
 pub mod OneWord
+pub mod Sentences
 pub mod laws

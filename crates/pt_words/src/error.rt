@@ -1,9 +1,10 @@
 //! Why a text is no word, and why a word is refused.
 
-ghost use Rattle.std.specs.Prelude.{◌≡◌};
+ghost use Rattle.std.specs.Prelude.{◌≡◌, Some};
 ghost use Rattle.pt_words.specs.Numbers.{error_number, refusal_number};
 ghost use Rattle.pt_words.specs.declared.error.EditError.TheVariants as error;
 ghost use Rattle.pt_words.specs.declared.error.Refusal.TheVariants as refused;
+ghost use Rattle.pt_words.specs.Sentences.{edit_error_sentence, refusal_sentence};
 
 use pt_guid::GuidError;
 use std::alloc::AllocError;
@@ -52,6 +53,8 @@ impl EditError {
 }
 
 impl fmt::Display for EditError {
+    ghost output = { λ error. Some (edit_error_sentence error) };
+
     fn fmt<W: fmt::Write>(&self, f: &mut fmt::Formatter<W>) -> fmt::Result {
         f.write_str(match self {
             EditError::UnknownLetter => "another letter than a word's",
@@ -143,6 +146,8 @@ impl Refusal {
 }
 
 impl fmt::Display for Refusal {
+    ghost output = { λ refusal. Some (refusal_sentence refusal) };
+
     fn fmt<W: fmt::Write>(&self, f: &mut fmt::Formatter<W>) -> fmt::Result {
         f.write_str(match self {
             Refusal::NoSuchPartition => "no such partition",
