@@ -22,6 +22,8 @@ use Rattle.pt_apply.specs.Canonical.{text_of}
 use Rattle.pt_apply.specs.PlanTexts.{PlanText}
 use Rattle.pt_plan.specs.Applied.{Applied, ApplyFailed}
 use Rattle.pt_plan.specs.declared.error.CommitError.{CommitError}
+use Rattle.pt_plan.specs.declared.finished.After.{After}
+use Rattle.pt_plan.specs.declared.finished.After.TheVariants as after
 use Rattle.pt_plan.specs.declared.like_error.LikeError.{LikeError}
 use Rattle.pt_plan.specs.declared.repair_error.RepairError.{RepairError}
 use Rattle.pt_report.specs.declared.reply.Reply.{Reply}
@@ -43,6 +45,12 @@ show_reply (Err why) = Err (failure.NoTable why)
 abbrev pub Recovers : ℕ → Sectors → Result Layout NoTable → Type 0
 Recovers b d (Ok layout) = Denotes b d (Some layout)
 Recovers b d (Err why) = TellsNothing b d why
+
+-- `show --after`: the layout, or the checker's no
+abbrev pub after_reply : Result After CheckError → Result Reply Failure
+after_reply (Ok (after.Layout layout)) = Ok (reply.Layout layout)
+after_reply (Ok (after.No why)) = Ok (reply.Checked (No why))
+after_reply (Err error) = Err (unchecked_failure error)
 
 -- `verify`
 abbrev pub verify_reply : Result Verdict Unread → Result Reply Failure

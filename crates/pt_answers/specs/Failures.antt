@@ -1,8 +1,14 @@
 -- Why there is no answer, as it is printed, and what the errors of the library come to.
-use Rattle.std.specs.Prelude.{◌≡◌, ◌⊎◌, ℕ, List, [], ◌∷◌, ◌++◌, codes, decimal, string_bytes, Option}
+use Rattle.std.specs.Prelude.{◌≡◌, ◌⊎◌, ℕ, List, [], ◌∷◌, ◌++◌, codes, decimal, string_bytes, IfSome, Option, Some, None}
 use Rattle.std.specs.Io.KnownBytes.{Appends}
 use Rattle.std.specs.declared.io.ErrorKind.{ErrorKind}
 use Rattle.std.specs.declared.io.ErrorKind.TheVariants as kind
+use Rattle.pt_file.specs.declared.device.NoDevice.{NoDevice}
+use Rattle.pt_file.specs.declared.device.NoDevice.TheVariants as opening
+use Rattle.pt_file.specs.declared.open.OpenError.{OpenError}
+use Rattle.pt_file.specs.declared.open.OpenError.TheVariants as of_file
+use Rattle.pt_line.specs.declared.line.LineError.{LineError}
+use Rattle.pt_line.specs.declared.line.LineError.TheVariants as of_line
 use Rattle.pt_sector.specs.declared.reading.Failure.{Failure as Unread}
 use Rattle.pt_sector.specs.declared.reading.Failure.TheVariants as unread
 use Rattle.pt_words.specs.Numbers.{refusal_number}
@@ -20,9 +26,9 @@ use Rattle.pt_plan.specs.declared.repair_error.RepairError.TheVariants as repair
 use Rattle.pt_report.specs.Lines.{line}
 use Rattle.pt_report.specs.NoTables.{device_line, memory_line, no_table_text}
 use Rattle.pt_answers.specs.declared.failure.Failure.{Failure}
-use Rattle.pt_answers.specs.declared.failure.Failure.TheVariants.{NotText, Usage, BadWord, BadFresh, BadPath, BadNumber, Edit, Plan, Check}
-use Rattle.pt_answers.specs.declared.failure.Failure.TheVariants.{Repair, PlanText, Locked, OtherSize, OtherDevice, Other, NoTable, Device}
-use Rattle.pt_answers.specs.declared.failure.Failure.TheVariants.{ClosedPipe, Memory}
+use Rattle.pt_answers.specs.declared.failure.Failure.TheVariants.{NotText, Usage, InUseAlone, BadWord, BadFresh, BadPath, BadNumber, Edit}
+use Rattle.pt_answers.specs.declared.failure.Failure.TheVariants.{Plan, Check, Repair, PlanText, OtherSize, OtherOpening, Other, NoTable}
+use Rattle.pt_answers.specs.declared.failure.Failure.TheVariants.{Opening, Device, ClosedPipe, Memory}
 use Rattle.pt_answers.specs.declared.status.Status.{Status}
 use Rattle.pt_answers.specs.declared.status.Status.TheVariants as status
 use Rattle.pt_answers.specs.Statuses.{failure_status}
@@ -31,34 +37,62 @@ use Rattle.pt_answers.specs.Statuses.{failure_status}
 abbrev pub not_text : List ℕ
 not_text = codes "error: an argument isn't UTF-8\n\nFor more information, try '--help'.\n"
 
+-- the same where `--in-use` is given without `--device`
+abbrev pub in_use_alone : List ℕ
+in_use_alone = codes "error: the argument '--in-use' needs '--device'\n\nFor more information, try '--help'.\n"
+
 -- what refused it, and the number by which it says why
 abbrev pub refusal_line : List ℕ → ℕ → List ℕ
 refusal_line by number = line (codes "refused:" ∷ by ∷ decimal number ∷ [])
 
-abbrev pub failure_text : Failure → List ℕ
-failure_text NotText = not_text
-failure_text (Usage text) = string_bytes text
-failure_text (BadWord word) = line (codes "bad word" ∷ string_bytes word ∷ [])
-failure_text BadFresh = line (codes "bad fresh" ∷ [])
-failure_text BadPath = line (codes "bad path" ∷ [])
-failure_text BadNumber = line (codes "bad number" ∷ [])
-failure_text (Edit number) = refusal_line (codes "edit") number
-failure_text (Plan number) = refusal_line (codes "plan") number
-failure_text (Check number) = refusal_line (codes "check") number
-failure_text (Repair number) = refusal_line (codes "repair") number
-failure_text (PlanText number) = refusal_line (codes "plan text") number
-failure_text Locked = line (codes "refused: locked" ∷ [])
-failure_text OtherSize = line (codes "refused: other size" ∷ [])
-failure_text OtherDevice = line (codes "other: device" ∷ [])
-failure_text (Other why) = codes "other: " ++ no_table_text why
-failure_text (NoTable why) = no_table_text why
-failure_text Device = device_line
-failure_text ClosedPipe = []
-failure_text Memory = memory_line
+-- of an image that isn't opened
+abbrev pub opening_text : NoDevice → List ℕ
+opening_text opening.Unopened = device_line
+opening_text opening.NotBlock = line (codes "device: not a block device" ∷ [])
+opening_text (opening.SectorSize bytes) = line (codes "bad sector size: the device has" ∷ decimal bytes ∷ [])
+opening_text opening.Locked = line (codes "refused: locked" ∷ [])
+opening_text (opening.InUse by) = line (codes "refused: in use:" ∷ string_bytes by ∷ [])
+opening_text opening.Memory = memory_line
+
+-- the text, but of `clap`'s error, whose crate doesn't say it
+abbrev pub failure_text : Failure → Option (List ℕ)
+failure_text NotText = Some not_text
+failure_text (Usage error) = None
+failure_text InUseAlone = Some in_use_alone
+failure_text (BadWord word) = Some (line (codes "bad word" ∷ string_bytes word ∷ []))
+failure_text BadFresh = Some (line (codes "bad fresh" ∷ []))
+failure_text BadPath = Some (line (codes "bad path" ∷ []))
+failure_text BadNumber = Some (line (codes "bad number" ∷ []))
+failure_text (Edit number) = Some (refusal_line (codes "edit") number)
+failure_text (Plan number) = Some (refusal_line (codes "plan") number)
+failure_text (Check number) = Some (refusal_line (codes "check") number)
+failure_text (Repair number) = Some (refusal_line (codes "repair") number)
+failure_text (PlanText number) = Some (refusal_line (codes "plan text") number)
+failure_text OtherSize = Some (line (codes "refused: other size" ∷ []))
+failure_text (OtherOpening why) = Some (codes "other: " ++ opening_text why)
+failure_text (Other why) = Some (codes "other: " ++ no_table_text why)
+failure_text (NoTable why) = Some (no_table_text why)
+failure_text (Opening why) = Some (opening_text why)
+failure_text Device = Some device_line
+failure_text ClosedPipe = Some []
+failure_text Memory = Some memory_line
 
 -- the status, and the text was appended; or the text couldn't be printed, which is a device's fault
 abbrev pub IsTold : Failure → Option (List ℕ) → Option (List ℕ) → Status → Type 0
-IsTold failure old new ended = ((ended ≡ failure_status failure) × Appends old new (failure_text failure)) ⊎ (ended ≡ status.Device)
+IsTold failure old new ended =
+    ((ended ≡ failure_status failure) × IfSome (failure_text failure) (Appends old new)) ⊎ (ended ≡ status.Device)
+
+-- of a command line that is no job
+abbrev pub line_failure : LineError → Failure
+line_failure of_line.NotText = NotText
+line_failure (of_line.Usage error) = Usage error
+line_failure of_line.InUseAlone = InUseAlone
+line_failure of_line.Memory = Memory
+
+-- of a plain file that isn't opened, as of a device
+abbrev pub as_device : OpenError → NoDevice
+as_device of_file.NoFile = opening.Unopened
+as_device of_file.Locked = opening.Locked
 
 -- an output stream that failed: where nobody reads it any more, that is nobody's fault
 abbrev pub output_failure : ErrorKind → Failure

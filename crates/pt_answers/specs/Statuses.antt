@@ -1,5 +1,7 @@
 -- The exit statuses.
 use Rattle.std.specs.Prelude.{ℕ, None}
+use Rattle.pt_file.specs.declared.device.NoDevice.{NoDevice}
+use Rattle.pt_file.specs.declared.device.NoDevice.TheVariants as opening
 use Rattle.pt_check.specs.declared.answer.Answer.TheVariants as answer
 use Rattle.pt_recover.specs.declared.error.NoTable.{NoTable as Reason}
 use Rattle.pt_recover.specs.declared.error.NoTable.TheVariants as reason
@@ -33,9 +35,19 @@ reason_status (reason.Device at) = Device
 reason_status reason.Memory = Memory
 reason_status _ = NoTable
 
+-- of an image that isn't opened
+abbrev pub opening_status : NoDevice → Status
+opening_status opening.Unopened = Device
+opening_status opening.NotBlock = Device
+opening_status (opening.SectorSize bytes) = Usage
+opening_status opening.Locked = Refused
+opening_status (opening.InUse by) = Refused
+opening_status opening.Memory = Memory
+
 abbrev pub failure_status : Failure → Status
 failure_status failure.NotText = Usage
-failure_status (failure.Usage text) = Usage
+failure_status (failure.Usage error) = Usage
+failure_status failure.InUseAlone = Usage
 failure_status (failure.BadWord word) = Usage
 failure_status failure.BadFresh = Usage
 failure_status failure.BadPath = Usage
@@ -45,11 +57,11 @@ failure_status (failure.Plan number) = Refused
 failure_status (failure.Check number) = Refused
 failure_status (failure.Repair number) = Refused
 failure_status (failure.PlanText number) = Refused
-failure_status failure.Locked = Refused
 failure_status failure.OtherSize = Refused
-failure_status failure.OtherDevice = Device
+failure_status (failure.OtherOpening why) = opening_status why
 failure_status (failure.Other why) = reason_status why
 failure_status (failure.NoTable why) = reason_status why
+failure_status (failure.Opening why) = opening_status why
 failure_status failure.Device = Device
 failure_status failure.ClosedPipe = Device
 failure_status failure.Memory = Memory

@@ -1,13 +1,14 @@
 //! Why the command ends without an answer.
 
-ghost use Rattle.std.specs.Prelude.{◌≡◌, ◌++◌, codes, OnOk};
+ghost use Rattle.std.specs.Prelude.{◌≡◌, ◌++◌, codes, IfSome, OnOk};
 ghost use Rattle.std.specs.Io.KnownBytes.{Appends};
 ghost use Rattle.std.specs.IoError.{error_kind};
-ghost use Rattle.pt_answers.specs.Failures.{IsTold, failure_text, output_failure, refusal_line};
+ghost use Rattle.pt_answers.specs.Failures.{IsTold, failure_text, opening_text, output_failure, refusal_line};
 ghost use Rattle.pt_report.specs.NoTables.{no_table_text};
-ghost use Rattle.pt_answers.specs.Statuses.{failure_status, reason_status};
+ghost use Rattle.pt_answers.specs.Statuses.{failure_status, opening_status as status_of_opening, reason_status};
 
 use crate::status::Status;
+use pt_file::NoDevice;
 use pt_layout::NoTable;
 use pt_report::print_no_table;
 use std::io;
@@ -18,8 +19,10 @@ use std::io::{ErrorKind, Write};
 pub enum Failure {
     /// An argument isn't UTF-8.
     NotText,
-    /// `clap`'s text.
-    Usage(String),
+    /// The words are not those of a command, as `clap` says.
+    Usage(clap::Error),
+    /// `--in-use` without `--device`.
+    InUseAlone,
     BadWord(String),
     BadFresh,
     BadPath,
@@ -34,15 +37,15 @@ pub enum Failure {
     Repair(u8),
     /// A text is no plan's: its first bad line, counted from 1; 0 where it is too long or no UTF-8.
     PlanText(u64),
-    /// The image's lock is held elsewhere.
-    Locked,
     /// The image whose table is to be taken has another number of sectors.
     OtherSize,
-    /// That image can't be opened.
-    OtherDevice,
+    /// Why that image isn't opened.
+    OtherOpening(NoDevice),
     /// Why that image has no table to take.
     Other(NoTable),
     NoTable(NoTable),
+    /// Why the image isn't opened.
+    Opening(NoDevice),
     Device,
     /// Nobody reads the output any more: there is no line, since that is nobody's fault.
     ClosedPipe,
@@ -51,6 +54,10 @@ pub enum Failure {
 
 /// What is printed where an argument isn't UTF-8, in the form of `clap`'s texts.
 const NOT_TEXT: &[u8] = b"error: an argument isn't UTF-8\n\nFor more information, try '--help'.\n";
+
+/// The same where `--in-use` is given without `--device`.
+const IN_USE_ALONE: &[u8] =
+    b"error: the argument '--in-use' needs '--device'\n\nFor more information, try '--help'.\n";
 
 impl Failure {
     /// That of an output stream that failed.
@@ -70,6 +77,7 @@ impl Failure {
         match self {
             Failure::NotText
             | Failure::Usage(_)
+            | Failure::InUseAlone
             | Failure::BadWord(_)
             | Failure::BadFresh
             | Failure::BadPath
@@ -79,10 +87,10 @@ impl Failure {
             | Failure::Check(_)
             | Failure::Repair(_)
             | Failure::PlanText(_)
-            | Failure::Locked
             | Failure::OtherSize => Status::Refused,
             Failure::NoTable(why) | Failure::Other(why) => status_of(*why),
-            Failure::Device | Failure::ClosedPipe | Failure::OtherDevice => Status::Device,
+            Failure::Opening(why) | Failure::OtherOpening(why) => opening_status(why),
+            Failure::Device | Failure::ClosedPipe => Status::Device,
             Failure::Memory => Status::Memory,
         }
     }
@@ -97,13 +105,15 @@ impl Failure {
         }
     }
 
-    /// Prints its line: after an Ok a writer that knows its bytes has it behind those that it had.
+    /// Prints its line: after an Ok a writer that knows its bytes has it behind those that it had. Of the text of `clap`'s error
+    /// nothing is said here.
     pub fn print<E: Write>(&self, err: &mut E) -> io::Result<()>
-        ensures { OnOk result (Appends (E.contents err.old) (E.contents err.new) (failure_text self.now)) }
+        ensures { OnOk result (IfSome (failure_text self.now) (Appends (E.contents err.old) (E.contents err.new))) }
     {
         match self {
             Failure::NotText => err.write_all(NOT_TEXT),
-            Failure::Usage(text) => err.write_all(text.as_bytes()),
+            Failure::Usage(error) => write!(err, "{error}"),
+            Failure::InUseAlone => err.write_all(IN_USE_ALONE),
             Failure::BadWord(word) => writeln!(err, "bad word {word}"),
             Failure::BadFresh => err.write_all(b"bad fresh\n"),
             Failure::BadPath => err.write_all(b"bad path\n"),
@@ -113,11 +123,11 @@ impl Failure {
             Failure::Check(number) => print_refusal(err, "check", u64::from(*number)),
             Failure::Repair(number) => print_refusal(err, "repair", u64::from(*number)),
             Failure::PlanText(line) => print_refusal(err, "plan text", *line),
-            Failure::Locked => err.write_all(b"refused: locked\n"),
             Failure::OtherSize => err.write_all(b"refused: other size\n"),
-            Failure::OtherDevice => err.write_all(b"other: device\n"),
+            Failure::OtherOpening(why) => print_other_opening(err, why),
             Failure::Other(why) => print_other(err, *why),
             Failure::NoTable(why) => print_no_table(err, *why),
+            Failure::Opening(why) => print_opening(err, why),
             Failure::Device => err.write_all(b"device\n"),
             Failure::ClosedPipe => Ok(()),
             Failure::Memory => err.write_all(b"memory\n"),
@@ -134,6 +144,39 @@ fn status_of(why: NoTable) -> Status
         NoTable::Memory => Status::Memory,
         _ => Status::NoTable,
     }
+}
+
+// The status that goes with an image that isn't opened.
+fn opening_status(why: &NoDevice) -> Status
+    ensures { result ≡ status_of_opening why.now }
+{
+    match why {
+        NoDevice::Unopened | NoDevice::NotBlock => Status::Device,
+        NoDevice::SectorSize(_) => Status::Usage,
+        NoDevice::Locked | NoDevice::InUse(_) => Status::Refused,
+        NoDevice::Memory => Status::Memory,
+    }
+}
+
+fn print_opening<E: Write>(err: &mut E, why: &NoDevice) -> io::Result<()>
+    ensures { OnOk result (Appends (E.contents err.old) (E.contents err.new) (opening_text why.now)) }
+{
+    match why {
+        NoDevice::Unopened => err.write_all(b"device\n"),
+        NoDevice::NotBlock => err.write_all(b"device: not a block device\n"),
+        NoDevice::SectorSize(bytes) => writeln!(err, "bad sector size: the device has {bytes}"),
+        NoDevice::Locked => err.write_all(b"refused: locked\n"),
+        NoDevice::InUse(by) => writeln!(err, "refused: in use: {by}"),
+        NoDevice::Memory => err.write_all(b"memory\n"),
+    }
+}
+
+// Why the image whose table is to be taken isn't opened.
+fn print_other_opening<E: Write>(err: &mut E, why: &NoDevice) -> io::Result<()>
+    ensures { OnOk result (Appends (E.contents err.old) (E.contents err.new) (codes "other: " ++ opening_text why.now)) }
+{
+    err.write_all(b"other: ")?;
+    print_opening(err, why)
 }
 
 // Why the image whose table is to be taken has none.

@@ -1,14 +1,56 @@
 //! What the library's errors come to.
 
 ghost use Rattle.std.specs.Prelude.{◌≡◌};
-ghost use Rattle.pt_answers.specs.Failures.{commit_failure, like_failure, repair_failure, unchecked_failure, unread_failure};
+ghost use Rattle.pt_answers.specs.Failures.{as_device as device_error, commit_failure, like_failure, line_failure, repair_failure};
+ghost use Rattle.pt_answers.specs.Failures.{unchecked_failure, unread_failure};
 ghost use Rattle.pt_answers.specs.declared.failure.Failure.TheVariants as failure;
 
 use crate::failure::Failure;
 use pt_check::CheckError;
+use pt_file::{NoDevice, OpenError};
 use pt_layout::{NoTable, VerifyError};
+use pt_line::LineError;
 use pt_plan::{CommitError, LikeError, RepairError};
 use std::alloc::AllocError;
+
+impl From<LineError> for Failure {
+    ghost from_gives = { λ error f. f ≡ line_failure error };
+
+    fn from(error: LineError) -> Failure {
+        match error {
+            LineError::NotText => Failure::NotText,
+            LineError::Usage(error) => Failure::Usage(error),
+            LineError::InUseAlone => Failure::InUseAlone,
+            LineError::Memory => Failure::Memory,
+        }
+    }
+}
+
+impl From<NoDevice> for Failure {
+    ghost from_gives = { λ why f. f ≡ failure.Opening why };
+
+    fn from(why: NoDevice) -> Failure {
+        Failure::Opening(why)
+    }
+}
+
+impl From<OpenError> for Failure {
+    ghost from_gives = { λ error f. f ≡ failure.Opening (device_error error) };
+
+    fn from(error: OpenError) -> Failure {
+        Failure::Opening(as_device(error))
+    }
+}
+
+/// Why a file isn't opened, as of a device.
+pub fn as_device(error: OpenError) -> NoDevice
+    ensures { result ≡ device_error error }
+{
+    match error {
+        OpenError::NoFile => NoDevice::Unopened,
+        OpenError::Locked => NoDevice::Locked,
+    }
+}
 
 impl From<NoTable> for Failure {
     ghost from_gives = { λ why f. f ≡ failure.NoTable why };

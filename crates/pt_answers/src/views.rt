@@ -1,15 +1,21 @@
 //! `show`, `verify` and `locate`.
 
-ghost use Rattle.std.specs.Prelude.{◌≡◌};
+ghost use Rattle.std.specs.Prelude.{◌≡◌, IfOk};
 ghost use Rattle.pt_sector.specs.Calls.{Blames};
 ghost use Rattle.pt_sector.specs.Reads.{OnlyReads, fault_of};
 ghost use Rattle.pt_sector.specs.Sectors.{IsSectorSize};
 ghost use Rattle.pt_recover.specs.Answers.{fault_in};
-ghost use Rattle.pt_answers.specs.Answers.{Answers, Locates, NamesPlace, PlaceIs, Recovers, Verifies, locate_reply, show_reply};
-ghost use Rattle.pt_answers.specs.Answers.{verify_reply};
+ghost use Rattle.pt_apply.specs.Plans.{phases_of};
+ghost use Rattle.pt_check.specs.Failed.{fault_in as check_fault_in};
+ghost use Rattle.pt_plan.specs.Finished.{AfterIs};
+ghost use Rattle.pt_answers.specs.Answers.{Answers, Locates, NamesPlace, PlaceIs, Recovers, Verifies, after_reply, locate_reply};
+ghost use Rattle.pt_answers.specs.Answers.{show_reply, verify_reply};
 
 use crate::failure::Failure;
+use pt_apply::Plan;
+use pt_check::Answer;
 use pt_layout::{Layout, NoTable, Path, locate, parse_number, parse_path, recover, verify};
+use pt_plan::{After, layout_after};
 use pt_report::Reply;
 use pt_sector::{Disk, Lba};
 use std::alloc::Global;
@@ -23,6 +29,23 @@ pub fn show_disk<const B: usize, D: Disk<B>>(alloc: Global, disk: &mut D) -> Res
 {
     let layout = recover::<B, D>(alloc, disk)?;
     Ok(Reply::Layout(layout))
+}
+
+/// The layout that a disk would denote after a plan, or the checker's no.
+pub fn show_after<const B: usize, D: Disk<B>>(
+    alloc: Global,
+    disk: &mut D,
+    plan: &Plan<B>,
+) -> Result<Reply, Failure>
+    requires size { IsSectorSize B }
+    ensures same { OnlyReads D.Disk disk.old disk.new }
+    ensures shows { Answers after_reply (λ r. Blames check_fault_in r (D.faults disk.old) (D.faults disk.new)
+        × (D.tells → IfOk r (AfterIs B (D.told disk.old).seen (phases_of plan.now)))) result }
+{
+    match layout_after::<B, D>(alloc, disk, plan)? {
+        After::Layout(layout) => Ok(Reply::Layout(layout)),
+        After::No(why) => Ok(Reply::Checked(Answer::No(why))),
+    }
 }
 
 /// Whether a disk is healthy: yes, or the first finding.
