@@ -1,7 +1,8 @@
 //! What the checker answers.
 
-ghost use Rattle.std.specs.Prelude.{◌≡◌};
+ghost use Rattle.std.specs.Prelude.{◌≡◌, Some};
 ghost use Rattle.pt_check.specs.Numbers.{why_number};
+ghost use Rattle.pt_check.specs.Sentences.{why_sentence};
 
 use pt_layout::Finding;
 use pt_sector::Lba;
@@ -51,6 +52,8 @@ impl Why {
 }
 
 impl fmt::Display for Why {
+    ghost output = { λ why. Some (why_sentence why) };
+
     fn fmt<W: fmt::Write>(&self, f: &mut fmt::Formatter<W>) -> fmt::Result {
         match self {
             Why::TooManyWrites => f.write_str("more than 4096 writes"),

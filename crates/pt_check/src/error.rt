@@ -1,9 +1,10 @@
 //! What keeps the checker from an answer.
 
-ghost use Rattle.std.specs.Prelude.{◌≡◌};
+ghost use Rattle.std.specs.Prelude.{◌≡◌, Some};
 ghost use Rattle.pt_sector.specs.declared.disk.Fault.TheVariants.{Read};
 ghost use Rattle.pt_check.specs.Failed.{told_failure};
 ghost use Rattle.pt_check.specs.declared.error.CheckError.TheVariants.{Device, Memory};
+ghost use Rattle.pt_check.specs.Sentences.{check_error_sentence};
 
 use pt_sector::{FailedRead, Failure, Fault};
 use std::alloc::AllocError;
@@ -20,6 +21,8 @@ pub enum CheckError {
 }
 
 impl fmt::Display for CheckError {
+    ghost output = { λ error. Some (check_error_sentence error) };
+
     fn fmt<W: fmt::Write>(&self, f: &mut fmt::Formatter<W>) -> fmt::Result {
         match self {
             CheckError::Device(fault) => fmt::Display::fmt(fault, f),

@@ -1,10 +1,11 @@
 //! A disk in a block device, for callers who ask for one.
 
-ghost use Rattle.std.specs.Prelude.{◌≡◌, ◌≢◌, ◌⊎◌, ◌<◌, [], IfOk, IfErr};
+ghost use Rattle.std.specs.Prelude.{◌≡◌, ◌≢◌, ◌⊎◌, ◌<◌, [], IfOk, IfErr, Some};
 ghost use Rattle.pt_file.specs.declared.device.InUse.TheVariants.{Refused};
 ghost use Rattle.pt_file.specs.declared.device.NoDevice.TheVariants.{Locked, Memory, NotBlock, Unopened};
 ghost use Rattle.pt_file.specs.declared.open.Access.TheVariants.{Read, Write};
 ghost use Rattle.pt_file.specs.Devices.{TellsUse};
+ghost use Rattle.pt_file.specs.Sentences.{no_device_sentence};
 
 use crate::file_disk::{FileDisk, StoreDisk};
 use crate::numbers::DeviceNumber;
@@ -39,6 +40,8 @@ pub enum NoDevice {
 }
 
 impl fmt::Display for NoDevice {
+    ghost output = { λ why. Some (no_device_sentence why) };
+
     fn fmt<W: fmt::Write>(&self, f: &mut fmt::Formatter<W>) -> fmt::Result {
         match self {
             NoDevice::Unopened => f.write_str("the device can't be opened"),

@@ -1,8 +1,9 @@
 //! Plain files, opened under a lock or without one.
 
-ghost use Rattle.std.specs.Prelude.{◌≡◌, IfErr};
+ghost use Rattle.std.specs.Prelude.{◌≡◌, IfErr, Some};
 ghost use Rattle.pt_file.specs.declared.open.Access.TheVariants.{Write};
 ghost use Rattle.pt_file.specs.declared.open.OpenError.TheVariants.{Locked};
+ghost use Rattle.pt_file.specs.Sentences.{open_error_sentence};
 
 use std::error::Error;
 use std::fmt;
@@ -32,6 +33,8 @@ pub enum OpenError {
 }
 
 impl fmt::Display for OpenError {
+    ghost output = { λ error. Some (open_error_sentence error) };
+
     fn fmt<W: fmt::Write>(&self, f: &mut fmt::Formatter<W>) -> fmt::Result {
         f.write_str(match self {
             OpenError::NoFile => "the file can't be opened, or isn't a plain one",

@@ -1,7 +1,8 @@
 //! What the system's lists say of devices that are in use.
 
-ghost use Rattle.std.specs.Prelude.{◌≡◌, ◌≤◌, ◌≢◌, ℕ, List, [], ◌∷◌, length, drop, IfSome, IfNone, IsTrue, ◌↔◌, All, Any};
+ghost use Rattle.std.specs.Prelude.{◌≡◌, ◌≤◌, ◌≢◌, ℕ, List, [], ◌∷◌, length, drop, IfSome, IfNone, IsTrue, ◌↔◌, All, Any, Some};
 ghost use Rattle.pt_file.specs.Uses.{parts, IsSecond, IsSourceIn, IsMount, IsSwap, IsOn};
+ghost use Rattle.pt_file.specs.Sentences.{purpose_text};
 
 use crate::numbers::{DeviceNumber, is_one_of};
 use std::fmt;
@@ -30,6 +31,8 @@ pub(crate) struct Claim<'a> {
 }
 
 impl fmt::Display for Purpose<'_> {
+    ghost output = { λ purpose. Some (purpose_text purpose) };
+
     fn fmt<W: fmt::Write>(&self, f: &mut fmt::Formatter<W>) -> fmt::Result {
         match self {
             Purpose::Mount(mount) => write!(f, "{} is mounted on {}", mount.source, mount.place),

@@ -16,4 +16,5 @@ pub mod Repairs
 pub mod Steps
 pub mod Wanted
 pub mod Written
+pub mod Sentences
 pub mod laws

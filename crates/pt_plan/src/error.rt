@@ -1,9 +1,10 @@
 //! Why a commit did nothing.
 
-ghost use Rattle.std.specs.Prelude.{◌≡◌};
+ghost use Rattle.std.specs.Prelude.{◌≡◌, Some};
 ghost use Rattle.pt_plan.specs.Failed.{commit_error_number, commit_untabled, commit_failure, commit_unedited};
 ghost use Rattle.pt_plan.specs.Failed.{commit_unplanned, commit_unchecked};
 ghost use Rattle.pt_plan.specs.declared.error.CommitError.TheVariants as commit;
+ghost use Rattle.pt_plan.specs.Sentences.{commit_error_sentence};
 
 use pt_check::{CheckError, Why};
 use pt_edit::Refusal;
@@ -50,6 +51,8 @@ impl CommitError {
 }
 
 impl fmt::Display for CommitError {
+    ghost output = { λ error. Some (commit_error_sentence error) };
+
     fn fmt<W: fmt::Write>(&self, f: &mut fmt::Formatter<W>) -> fmt::Result {
         match self {
             CommitError::NoTable(why) => write!(f, "there is no table: {why}"),

@@ -1,8 +1,9 @@
 //! Why a disk doesn't become like another one.
 
-ghost use Rattle.std.specs.Prelude.{◌≡◌};
+ghost use Rattle.std.specs.Prelude.{◌≡◌, Some};
 ghost use Rattle.pt_plan.specs.Like.{like_error_number};
 ghost use Rattle.pt_plan.specs.declared.like_error.LikeError.TheVariants as like;
+ghost use Rattle.pt_plan.specs.Sentences.{like_error_sentence};
 
 use crate::error::CommitError;
 use pt_layout::NoTable;
@@ -36,6 +37,8 @@ impl LikeError {
 }
 
 impl fmt::Display for LikeError {
+    ghost output = { λ error. Some (like_error_sentence error) };
+
     fn fmt<W: fmt::Write>(&self, f: &mut fmt::Formatter<W>) -> fmt::Result {
         match self {
             LikeError::OtherSize => f.write_str("the other disk has another number of sectors"),

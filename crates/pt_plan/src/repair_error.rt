@@ -1,8 +1,9 @@
 //! Why a repair did nothing.
 
-ghost use Rattle.std.specs.Prelude.{◌≡◌};
+ghost use Rattle.std.specs.Prelude.{◌≡◌, Some};
 ghost use Rattle.pt_plan.specs.Mending.{repair_error_number, repair_untabled, repair_failure, repair_unplanned, repair_unchecked};
 ghost use Rattle.pt_plan.specs.declared.repair_error.RepairError.TheVariants as repair;
+ghost use Rattle.pt_plan.specs.Sentences.{repair_error_sentence};
 
 use pt_check::{CheckError, Why};
 use pt_layout::{Finding, NoTable};
@@ -49,6 +50,8 @@ impl RepairError {
 }
 
 impl fmt::Display for RepairError {
+    ghost output = { λ error. Some (repair_error_sentence error) };
+
     fn fmt<W: fmt::Write>(&self, f: &mut fmt::Formatter<W>) -> fmt::Result {
         match self {
             RepairError::NoTable(why) => write!(f, "there is no table: {why}"),

@@ -7,4 +7,5 @@ pub mod Spans
 pub mod Answers
 pub mod Steps
 pub mod LeavesReads
+pub mod Sentences
 pub mod laws

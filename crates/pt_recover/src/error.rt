@@ -1,8 +1,9 @@
 //! Why there is no layout.
 
-ghost use Rattle.std.specs.Prelude.{◌≡◌};
+ghost use Rattle.std.specs.Prelude.{◌≡◌, Some};
 ghost use Rattle.pt_recover.specs.Answers.{failure_in, told_chain, told_failure};
 ghost use Rattle.pt_recover.specs.declared.error.NoTable.TheVariants.{Device, Memory};
+ghost use Rattle.pt_recover.specs.Sentences.{no_table_sentence};
 
 use pt_gpt::CopyError;
 use pt_mbr::ChainError;
@@ -29,6 +30,8 @@ pub enum NoTable {
 }
 
 impl fmt::Display for NoTable {
+    ghost output = { λ why. Some (no_table_sentence why) };
+
     fn fmt<W: fmt::Write>(&self, f: &mut fmt::Formatter<W>) -> fmt::Result {
         match self {
             NoTable::NoCopy(primary, backup) => write!(

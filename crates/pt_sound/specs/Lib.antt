@@ -10,4 +10,5 @@ pub mod Marks
 pub mod Steps
 pub mod OneFinding
 pub mod Guarded
+pub mod Sentences
 pub mod laws

@@ -1,8 +1,9 @@
 //! What is wrong with a disk.
 
-ghost use Rattle.std.specs.Prelude.{◌≡◌};
+ghost use Rattle.std.specs.Prelude.{◌≡◌, Some};
 ghost use Rattle.pt_sound.specs.Findings.{finding_number};
 ghost use Rattle.pt_sound.specs.declared.finding.Finding.TheVariants as finding;
+ghost use Rattle.pt_sound.specs.Sentences.{finding_sentence};
 
 use pt_gpt::{CopyError, Side};
 use pt_members::Layout;
@@ -63,6 +64,8 @@ impl Finding {
 }
 
 impl fmt::Display for Finding {
+    ghost output = { λ finding. Some (finding_sentence finding) };
+
     fn fmt<W: fmt::Write>(&self, f: &mut fmt::Formatter<W>) -> fmt::Result {
         match self {
             Finding::NoTable(why) => write!(f, "there is no table: {why}"),

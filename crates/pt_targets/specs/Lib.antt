@@ -10,4 +10,5 @@ pub mod Misfits
 pub mod Unmade
 pub mod Unmendable
 pub mod Unplanned
+pub mod Sentences
 pub mod laws

@@ -1,9 +1,10 @@
 //! Why there is no plan.
 
-ghost use Rattle.std.specs.Prelude.{◌≡◌};
+ghost use Rattle.std.specs.Prelude.{◌≡◌, Some};
 ghost use Rattle.pt_sector.specs.declared.disk.Fault.TheVariants.{Read};
 ghost use Rattle.pt_targets.specs.Errors.{plan_error_number, plan_failure};
 ghost use Rattle.pt_targets.specs.declared.error.PlanError.TheVariants as plan;
+ghost use Rattle.pt_targets.specs.Sentences.{plan_error_sentence};
 
 use pt_sector::{FailedRead, Failure, Fault};
 use pt_sound::Finding;
@@ -47,6 +48,8 @@ impl PlanError {
 }
 
 impl fmt::Display for PlanError {
+    ghost output = { λ error. Some (plan_error_sentence error) };
+
     fn fmt<W: fmt::Write>(&self, f: &mut fmt::Formatter<W>) -> fmt::Result {
         match self {
             PlanError::NotOneSwitch => f.write_str("no order of writes has one moment of change"),
