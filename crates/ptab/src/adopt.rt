@@ -3,11 +3,9 @@
 ghost use Rattle.pt_sector.specs.Sectors.{IsSectorSize};
 
 use crate::images::Image;
-use crate::texts::Failure;
-use pt_apply::plan_text;
+use pt_answers::{Failure, adopt_disk, plan_adopting};
 use pt_file::FileDisk;
 use pt_line::{Adoption, LockedBy};
-use pt_plan::{commit_like, plan_like};
 use pt_report::Reply;
 use std::fs::{File, Files};
 
@@ -50,8 +48,7 @@ fn take<const B: usize, R: Files<File = File> + AllocGlobal>(
     requires { IsSectorSize B }
 {
     let mut disk = image.write::<B, R>(rt, locked_by)?;
-    commit_like::<B, _, _>(rt.alloc(), &mut disk, &mut other)?;
-    Ok(Reply::Done)
+    adopt_disk::<B, _, _>(rt.alloc(), &mut disk, &mut other)
 }
 
 /// The plan for that, as text.
@@ -63,6 +60,5 @@ fn plan_taking<const B: usize, R: Files<File = File> + AllocGlobal>(
     requires { IsSectorSize B }
 {
     let mut disk = image.read::<B, R>(rt)?;
-    let plan = plan_like::<B, _, _>(rt.alloc(), &mut disk, &mut other)?;
-    Ok(Reply::Text(plan_text(rt.alloc(), &plan)?))
+    plan_adopting::<B, _, _>(rt.alloc(), &mut disk, &mut other)
 }

@@ -3,11 +3,9 @@
 ghost use Rattle.pt_sector.specs.Sectors.{IsSectorSize};
 
 use crate::images::Image;
-use crate::texts::Failure;
 use crate::words::Wanted;
-use pt_apply::plan_text;
+use pt_answers::{Failure, edit_disk, plan_on};
 use pt_line::LockedBy;
-use pt_plan::{commit, plan_for};
 use pt_report::Reply;
 use std::fs::{File, Files};
 
@@ -21,13 +19,12 @@ pub fn edit<const B: usize, R: Files<File = File> + AllocGlobal>(
     requires { IsSectorSize B }
 {
     let mut disk = image.write::<B, R>(rt, locked_by)?;
-    commit::<B, _>(
+    edit_disk::<B, _>(
         rt.alloc(),
         &mut disk,
         wanted.edits.as_slice(),
         wanted.guids.as_slice(),
-    )?;
-    Ok(Reply::Done)
+    )
 }
 
 /// The plan of what `edit` would do, as text.
@@ -39,11 +36,10 @@ pub fn plan<const B: usize, R: Files<File = File> + AllocGlobal>(
     requires { IsSectorSize B }
 {
     let mut disk = image.read::<B, R>(rt)?;
-    let plan = plan_for::<B, _>(
+    plan_on::<B, _>(
         rt.alloc(),
         &mut disk,
         wanted.edits.as_slice(),
         wanted.guids.as_slice(),
-    )?;
-    Ok(Reply::Text(plan_text(rt.alloc(), &plan)?))
+    )
 }

@@ -2,8 +2,8 @@
 
 ghost use Rattle.pt_sector.specs.Sectors.{IsSectorSize};
 
-use crate::texts::Failure;
-use pt_file::{Access, FileDisk, NoDevice, OpenError, device_sector_size};
+use pt_answers::{Failure, as_device};
+use pt_file::{Access, FileDisk, NoDevice, device_sector_size};
 use pt_line::{InUse, LockedBy, Medium, SectorSize};
 use std::fs::{File, Files};
 
@@ -95,13 +95,5 @@ impl<'a> Image<'a> {
                 _ => Ok(SectorSize::Bytes512),
             },
         }
-    }
-}
-
-/// Why a file isn't opened, as of a device.
-pub fn as_device(error: OpenError) -> NoDevice {
-    match error {
-        OpenError::NoFile => NoDevice::Unopened,
-        OpenError::Locked => NoDevice::Locked,
     }
 }

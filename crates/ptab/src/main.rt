@@ -8,15 +8,14 @@ mod plan_file;
 mod plans;
 mod repair;
 mod run;
-mod texts;
 mod views;
 mod words;
 
+use pt_answers::{Failure, Status};
 use pt_line::take_words;
 use run::run;
 use std::io::BufWriter;
 use std::process::ExitCode;
-use texts::{Failure, Status};
 
 /// Runs the words after the program's name, with its answers on standard output.
 fn on_output(rt: &HostRuntime, words: &[String]) -> Result<Status, Failure> {

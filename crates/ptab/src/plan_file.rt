@@ -6,7 +6,7 @@ ghost use Rattle.pt_sector.specs.Sectors.{IsSectorSize};
 ghost use Rattle.pt_apply.specs.Plans.{phases_of};
 ghost use Rattle.pt_apply.specs.PlanTexts.{PlanText};
 
-use crate::texts::Failure;
+use pt_answers::Failure;
 use pt_apply::{Plan, PlanTextError, read_plan};
 use pt_file::{Access, open_plain};
 use std::alloc::Global;

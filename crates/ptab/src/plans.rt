@@ -4,10 +4,8 @@ ghost use Rattle.pt_sector.specs.Sectors.{IsSectorSize};
 
 use crate::images::Image;
 use crate::plan_file::read_plan_file;
-use crate::texts::Failure;
-use pt_check::Answer;
+use pt_answers::{Failure, apply_disk, check_on};
 use pt_line::LockedBy;
-use pt_plan::apply_checked;
 use pt_report::Reply;
 use std::fs::{File, Files};
 
@@ -21,8 +19,7 @@ pub fn check<const B: usize, R: Files<File = File> + AllocGlobal>(
 {
     let plan = read_plan_file::<B, R>(rt, file)?;
     let mut disk = image.read::<B, R>(rt)?;
-    let answer = pt_check::check(rt.alloc(), &mut disk, &plan)?;
-    Ok(Reply::Checked(answer))
+    check_on(rt.alloc(), &mut disk, &plan)
 }
 
 /// Applies a plan to the image, where the checker says that it may be.
@@ -36,14 +33,5 @@ pub fn apply<const B: usize, R: Files<File = File> + AllocGlobal>(
 {
     let plan = read_plan_file::<B, R>(rt, file)?;
     let mut disk = image.write::<B, R>(rt, locked_by)?;
-    let answer = apply_checked(rt.alloc(), &mut disk, &plan)?;
-    Ok(reply_of(answer))
-}
-
-/// What is replied where the checker gave this answer to a plan that was to be applied.
-fn reply_of(answer: Answer) -> Reply {
-    match answer {
-        Answer::Yes { .. } => Reply::Done,
-        no => Reply::Checked(no),
-    }
+    apply_disk(rt.alloc(), &mut disk, &plan)
 }

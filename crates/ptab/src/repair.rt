@@ -3,7 +3,7 @@
 ghost use Rattle.pt_sector.specs.Sectors.{IsSectorSize};
 
 use crate::images::Image;
-use crate::texts::Failure;
+use pt_answers::{Failure, repair_disk};
 use pt_line::LockedBy;
 use pt_report::Reply;
 use std::fs::{File, Files};
@@ -17,6 +17,5 @@ pub fn repair<const B: usize, R: Files<File = File> + AllocGlobal>(
     requires { IsSectorSize B }
 {
     let mut disk = image.write::<B, R>(rt, locked_by)?;
-    pt_plan::repair::<B, _>(rt.alloc(), &mut disk)?;
-    Ok(Reply::Done)
+    repair_disk::<B, _>(rt.alloc(), &mut disk)
 }

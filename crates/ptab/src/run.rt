@@ -7,9 +7,9 @@ use crate::edits::{edit, plan};
 use crate::images::Opening;
 use crate::plans::{apply, check};
 use crate::repair::repair;
-use crate::texts::{Failure, Status};
-use crate::views::{locate_in, show, show_after, verify_image};
+use crate::views::{locate_in, show, show_planned, verify_image};
 use crate::words::Wanted;
+use pt_answers::{Failure, Status, printed};
 use pt_line::{InUse, Job, Line, SectorSize, read_line};
 use pt_report::Reply;
 use std::fs::{File, Files};
@@ -29,7 +29,7 @@ fn reply_to<const B: usize, R: Files<File = File> + AllocGlobal>(
             let shown = opening.of(image.as_str());
             match after {
                 None => show::<B, R>(rt, shown),
-                Some(file) => show_after::<B, R>(rt, shown, file.as_str()),
+                Some(file) => show_planned::<B, R>(rt, shown, file.as_str()),
             }
         }
         Job::Verify { image } => verify_image::<B, R>(rt, opening.of(image.as_str())),
@@ -99,18 +99,6 @@ fn image_of(job: &Job) -> Option<&str> {
         | Job::Apply { image, .. }
         | Job::Repair { image, .. }
         | Job::Adopt { image, .. } => Some(image.as_str()),
-    }
-}
-
-/// Prints an answer, and gives its status.
-fn printed<const B: usize, O: Write>(reply: &Reply, out: &mut O) -> Result<Status, Failure> {
-    match reply.print::<B, O>(out) {
-        Ok(()) => Ok(if reply.is_no() {
-            Status::No
-        } else {
-            Status::Done
-        }),
-        Err(error) => Err(Failure::of_output(&error)),
     }
 }
 

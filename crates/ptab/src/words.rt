@@ -1,6 +1,6 @@
 //! The words of an edit, and the fresh GUIDs that they take.
 
-use crate::texts::Failure;
+use pt_answers::Failure;
 use pt_edit::{Edit, EditError, parse_edit};
 use pt_guid::{Guid, fresh as fresh_guid};
 use std::alloc::Global;
