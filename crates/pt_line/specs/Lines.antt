@@ -1,5 +1,5 @@
 -- What a command line asks for, by `clap`'s meaning of its words at the command.
-use Rattle.std.specs.Prelude.{◌≡◌, ◌≢◌, ◌⊎◌, false, true, List, [], ◌∷◌, map, Option, Some, None, Result, IfOk, Ok, Err, String}
+use Rattle.std.specs.Prelude.{◌≡◌, ◌≢◌, ◌⊎◌, ℕ, false, true, List, [], ◌∷◌, map, Option, Some, None, Result, IfOk, Ok, Err, String}
 use Rattle.std.specs.Prelude.{string_bytes}
 use Rattle.std.specs.Prelude.{IsSome, codes, unwrap_or, option_map}
 use Rattle.std.specs.Borrow.{Bor}
@@ -231,3 +231,10 @@ MeansAt app words (Err (Usage e)) = IsUsage (fault_of app words) (kind_of e)
 abbrev pub Means : List Text → Result Line LineError → Type 0
 Means words result = (sizes : Bor (List (Bor Text))) × (texts sizes.now ≡ codes "512" ∷ codes "4096" ∷ [])
     × MeansAt (ptab sizes) (codes "ptab" ∷ words) result
+
+-- what is printed of an error; of `clap`'s, whatever its text is
+abbrev pub line_sentence : LineError → Option (List ℕ)
+line_sentence NotText = Some (codes "an argument isn't UTF-8")
+line_sentence (Usage e) = None
+line_sentence InUseAlone = Some (codes "the argument '--in-use' needs '--device'")
+line_sentence Memory = Some (codes "memory")

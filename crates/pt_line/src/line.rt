@@ -4,13 +4,14 @@ ghost use Rattle.std.specs.Prelude.{◌≡◌, ◌∷◌, IfOk, MatchResult, cod
 ghost use Rattle.clap.specs.Walk.{texts as slice_texts};
 ghost use Rattle.clap.specs.Words.{kind_of, subcommand_rows_of};
 ghost use Rattle.pt_line.specs.declared.line.LineError.TheVariants.{Memory};
-ghost use Rattle.pt_line.specs.Lines.{HasNoJob, Means, MeansJob, Tells};
+ghost use Rattle.pt_line.specs.Lines.{HasNoJob, Means, MeansJob, Tells, line_sentence};
 
 use crate::jobs::line_of;
 use crate::pages::{SIZES, command};
 use clap::ArgMatches;
 use clap::error::ErrorKind;
 use std::alloc::{AllocError, Global};
+use std::fmt;
 use thiserror::Error;
 
 /// How many bytes the sectors of the image have.
@@ -121,16 +122,26 @@ pub enum Job {
 #[derive(Debug, Drop, Error)]
 pub enum LineError {
     /// A word isn't UTF-8.
-    #[error("an argument isn't UTF-8")]
     NotText,
     /// The words are not those of a command, as `clap` says.
-    #[error("{0}")]
     Usage(clap::Error),
     /// `--in-use` is said of no device.
-    #[error("the argument '--in-use' needs '--device'")]
     InUseAlone,
-    #[error("memory")]
+    /// Memory was refused.
     Memory,
+}
+
+impl fmt::Display for LineError {
+    ghost output = { λ error. line_sentence error };
+
+    fn fmt<W: fmt::Write>(&self, f: &mut fmt::Formatter<W>) -> fmt::Result {
+        match self {
+            LineError::NotText => f.write_str("an argument isn't UTF-8"),
+            LineError::Usage(error) => fmt::Display::fmt(error, f),
+            LineError::InUseAlone => f.write_str("the argument '--in-use' needs '--device'"),
+            LineError::Memory => f.write_str("memory"),
+        }
+    }
 }
 
 impl From<AllocError> for LineError {
