@@ -3,6 +3,7 @@ pub mod Sums
 pub mod Encodings
 pub mod Sides
 pub mod Pieces
+pub mod ByFirst
 pub mod Lists
 pub mod Lifts
 pub mod Whole

@@ -55,15 +55,17 @@ fn old_places<const B: usize>(
 fn answer<const B: usize>(
     alloc: Global,
     places: &[Place<B>],
-    old: &[Slice],
+    old: Vec<Slice>,
 ) -> Result<LabelTargets<B>, AllocError>
     requires { IsSectorSize B }
-    ensures { IfOk result (AnswerOf old.now places.now) }
+    ensures { IfOk result (AnswerOf old.items places.now) }
 {
     if let Some(number) = first_left(places) {
         return Ok(LabelTargets::Foreign(number));
     }
-    let found = targets(alloc, places, old)?;
+    let mut by_first = old;
+    by_first.sort_unstable_by_key(|slice| slice.first);
+    let found = targets(alloc, places, &by_first)?;
     match found {
         Some(targets) => Ok(LabelTargets::Targets(targets)),
         None => Ok(LabelTargets::Unreadable),
@@ -97,6 +99,6 @@ pub fn label_targets<const B: usize, D: Disk<B>>(
     };
     let places = read_places(alloc, disk, &spots)?;
     let old_slices = old_places::<B>(alloc, sectors, old)?;
-    let answer = answer(alloc, &places, &old_slices)?;
+    let answer = answer(alloc, &places, old_slices)?;
     Ok(answer)
 }

@@ -1,6 +1,7 @@
 //! What each label place must hold.
 
 ghost use Rattle.std.specs.Prelude.{◌≡◌, ◌↔◌, ◌<◌, ℕ, IsTrue, IfOk, MatchOption, length, slice_index};
+ghost use Rattle.std.specs.List.Sorted.{IsNonDecreasingBy};
 ghost use Rattle.pt_sector.specs.Sectors.{IsSectorSize};
 ghost use Rattle.pt_places.specs.Places.{IsLeftAt, FirstLeftIs, StaysAt, KeptIs, WrittenIs, LabelledIs, TargetIs, AreTargets, HasNone};
 
@@ -103,9 +104,10 @@ fn written<const B: usize>(
     }
 }
 
-// What a place with this label must hold.
+// What a place with this label must hold. The old slices ascend by first sector.
 fn labelled<const B: usize>(place: &Place<B>, label: &Label, old: &[Slice]) -> Option<Target<B>>
-    requires { IsSectorSize B }
+    requires size { IsSectorSize B }
+    requires ascend { IsNonDecreasingBy (λ s. s.first) old.now }
     ensures { LabelledIs old.now place.now label.now result }
 {
     match had_label(old, place.spot.slice, &place.bytes) {
@@ -122,7 +124,8 @@ fn labelled<const B: usize>(place: &Place<B>, label: &Label, old: &[Slice]) -> O
 
 // What a place must hold; none where its label can't be written so that it reads back.
 fn target<const B: usize>(place: &Place<B>, old: &[Slice]) -> Option<Target<B>>
-    requires { IsSectorSize B }
+    requires size { IsSectorSize B }
+    requires ascend { IsNonDecreasingBy (λ s. s.first) old.now }
     ensures { TargetIs old.now place.now result }
 {
     match place.spot.label {
@@ -137,7 +140,8 @@ pub(crate) fn targets<const B: usize>(
     places: &[Place<B>],
     old: &[Slice],
 ) -> Result<Option<Vec<Target<B>>>, AllocError>
-    requires { IsSectorSize B }
+    requires size { IsSectorSize B }
+    requires ascend { IsNonDecreasingBy (λ s. s.first) old.now }
     ensures { IfOk result (λ o. MatchOption o (HasNone old.now places.now) (λ v. AreTargets old.now places.now v.items)) }
 {
     let mut targets = Vec::new(alloc);

@@ -1,6 +1,6 @@
-use Rattle.std.proofs.Common.{All, take}
+use Rattle.std.specs.List.{AllWithin}
 use Rattle.pt_places.proofs.Pieces.{NotHad}
 use Rattle.pt_places.proofs.had.had_label.Given as goal
 
 abbrev pub invariant-loop-k : goal.invariant-loop-k
-invariant-loop-k g l = All (NotHad l.slice.first l.bytes) (take l.k l.old)
+invariant-loop-k g l = AllWithin (NotHad l.slice.first l.bytes) l.old 0 l.k

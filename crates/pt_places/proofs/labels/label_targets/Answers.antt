@@ -122,17 +122,16 @@ returns g c =
           let d : Sectors = (g.D.Disk.told c.args.disk.now).seen in
           let sectors : c.sectors-sectors.result ≡ length d =
           c.sectors-sectors.ensures ∙ sym (g.met.D.Disk.sized c.args.disk.now tells) in
-          let olds : OldAre g.row.B c.sectors-sectors.result c.args.old.now c.deref-4.result.now =
-          subst (λ (x : List Slice). OldAre g.row.B c.sectors-sectors.result c.args.old.now x)
-          (sym c.deref-4.ensures.value) c.in_ok-old_slices.ensures in
+          let olds : OldAre g.row.B c.sectors-sectors.result c.args.old.now c.in_ok-old_slices.old_slices.items =
+          c.in_ok-old_slices.ensures in
           whole d c.args.old.now c.args.wanted.now c.sectors-sectors.result n c.deref.result.now c.as_slice.result.now
-          c.in-Some.spots.items c.deref-3.result.now c.deref-4.result.now c.in_ok-answer.answer
+          c.in-Some.spots.items c.deref-3.result.now c.in_ok-old_slices.old_slices.items c.in_ok-answer.answer
           c.has_four.ensures (c.sectors-sectors.ensures ∙ sym c.requires.sectors)
           (c.deref.ensures.value ∙ c.in_ok-slices.ensures) c.as_slice.ensures
           (at_some c.in_ok-found.found c.in-Some.spots _ _ c.in-Some.is c.in_ok-found.ensures)
           (ap (λ (x : List (Place g.row.B)). map spot_of x) places ∙ here.spots ∙ c.deref-2.ensures.value) ats
           (subst (λ (x : List (Place g.row.B)). All (IsRead d) x) (sym places) (here.bytes tells))
-          (subst (λ (k : ℕ). OldAre g.row.B k c.args.old.now c.deref-4.result.now) sectors olds)
+          (subst (λ (k : ℕ). OldAre g.row.B k c.args.old.now c.in_ok-old_slices.old_slices.items) sectors olds)
           c.in_ok-answer.ensures;
-      in_range = within n c.deref-4.result.now c.deref-3.result.now c.in_ok-answer.answer ats c.in_ok-answer.ensures;
+      in_range = within n c.in_ok-old_slices.old_slices.items c.deref-3.result.now c.in_ok-answer.answer ats c.in_ok-answer.ensures;
     }
