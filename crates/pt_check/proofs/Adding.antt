@@ -1,7 +1,7 @@
 -- Sectors that are added to a trace, piece by piece.
-use Rattle.std.proofs.Common.{◌≡◌, ◌∙◌, ◌<◌, ◌≤◌, ◌+◌, ℕ, suc, List, length, get_or, take, Option, Some, None, refl, sym, subst}
+use Rattle.std.proofs.Common.{◌≡◌, ◌∙◌, ◌<◌, ◌≤◌, ◌+◌, ◌-◌, ℕ, suc, List, length, get_or, take, Option, Some, None, refl, sym, subst}
 use Rattle.std.proofs.Common.{arith, inl, inr, ⊎_elim}
-use Rattle.std.specs.Prelude.{◌⊎◌, ◌↔◌}
+use Rattle.std.specs.Prelude.{◌⊎◌, ◌↔◌, Result, Ok, Err, OnOk}
 use Rattle.std.proofs.lemmas.List.{take_all}
 use Rattle.pt_mbr.specs.Chain.{StandsAt}
 use Rattle.pt_mbr.specs.declared.ebr.Ebr.{Ebr}
@@ -13,12 +13,18 @@ use Rattle.pt_members.specs.Members.{slots, parts, IsMember}
 use Rattle.pt_members.specs.Owned.{Owns}
 use Rattle.pt_members.specs.Search.{InLayout}
 use Rattle.pt_members.specs.Slices.{IsPlace, place_of}
+use Rattle.pt_members.specs.Tables.{IsGptTable}
+use Rattle.pt_gpt.specs.Array.{array_len}
 use Rattle.pt_members.specs.Leaves.{IsLeafWith, HasLeafAt, HasLeaf, HasLeafNear, OwnsAt}
 use Rattle.pt_members.specs.laws.Grouped.{member_place, place_member}
 use Rattle.pt_members.proofs.Lowest.{Under, under_more, under_back, stands_more, stands_back}
 use Rattle.pt_members.proofs.LabelPlaces.{place_more, place_back}
 use Rattle.pt_recover.specs.Spans.{IsIn, Adds}
 use Rattle.pt_recover.specs.declared.trace.TracedRun.{TracedRun}
+
+pub on_ok : {T E : Type 0} (r : Result T E) (P Q : Type 0) → (P → Q) → OnOk r P → OnOk r Q
+on_ok (Ok x) P Q f is = f is
+on_ok (Err e) P Q f is = tt
 
 pub adds_none : (P : ℕ → Type 0) (r : List TracedRun) → ((s : ℕ) → ¬ P s) → Adds r r P
 adds_none P r none s = (λ is. inl is, λ is. ⊎_elim (λ was. was) (λ p. absurd (none s p)) is)
@@ -145,3 +151,25 @@ adds_label old mid new ps k z lt first second =
     adds_same (λ s. IsPlace (take k ps) s ⊎ (s ≡ place_of (get_or ps k z))) (IsPlace (take (k + 1) ps)) old new
     (λ s. place_back ps k s z lt) (λ s. place_more ps k s z lt)
     (adds_both (IsPlace (take k ps)) (λ s. s ≡ place_of (get_or ps k z)) old mid new first second)
+
+-- a label's partitions, where there is no label
+pub adds_unlabelled : (places : List (Option Member)) (r : List TracedRun) → length places ≡ 0 → Adds r r (HasLeaf places)
+adds_unlabelled places r none = adds_none (HasLeaf places) r (λ s there. omega (arith, there.1, none))
+
+-- both ends of a disk
+pub adds_ends : (b n : ℕ) (old mid new : List TracedRun) (edge : ℕ) → edge ≡ array_len b + 2 → 0 < n
+    → Adds old mid (λ s. (0 ≤ s) × (s ≤ edge - 1)) → Adds mid new (λ s. (n - (edge - 1) ≤ s) × (s ≤ n - 1))
+    → Adds old new (IsGptTable b n)
+adds_ends b n old mid new edge is some first second =
+    adds_same (λ s. ((0 ≤ s) × (s ≤ edge - 1)) ⊎ ((n - (edge - 1) ≤ s) × (s ≤ n - 1))) (IsGptTable b n) old new
+    (λ s at. ⊎_elim (λ low. inl (omega (arith, low.1, is))) (λ high. inr (omega (arith, high.0, is), omega (arith, high.1, some))) at)
+    (λ s at. ⊎_elim (λ low. inl (omega arith, omega (arith, low, is)))
+    (λ high. inr (omega (arith, high.0, is), omega (arith, high.1, some))) at)
+    (adds_both (λ s. (0 ≤ s) × (s ≤ edge - 1)) (λ s. (n - (edge - 1) ≤ s) × (s ≤ n - 1)) old mid new first second)
+
+pub adds_start_only : (b n : ℕ) (old mid : List TracedRun) (edge : ℕ) → edge ≡ array_len b + 2 → n ≡ 0
+    → Adds old mid (λ s. (0 ≤ s) × (s ≤ edge - 1)) → Adds old mid (IsGptTable b n)
+adds_start_only b n old mid edge is none first =
+    adds_same (λ s. (0 ≤ s) × (s ≤ edge - 1)) (IsGptTable b n) old mid
+    (λ s low. inl (omega (arith, low.1, is)))
+    (λ s at. ⊎_elim (λ low. (omega arith, omega (arith, low, is))) (λ high. absurd (omega (arith, high.1, none))) at) first
