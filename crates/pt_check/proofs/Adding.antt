@@ -2,14 +2,13 @@
 use Rattle.std.proofs.Common.{◌≡◌, ◌∙◌, ◌<◌, ◌≤◌, ◌+◌, ◌-◌, ℕ, suc, List, length, get_or, take, Option, Some, None, refl, sym, subst}
 use Rattle.std.proofs.Common.{arith, inl, inr, ⊎_elim}
 use Rattle.std.specs.Prelude.{◌⊎◌, ◌↔◌, Result, Ok, Err, OnOk}
-use Rattle.std.proofs.lemmas.List.{take_all}
 use Rattle.pt_mbr.specs.Chain.{StandsAt}
 use Rattle.pt_mbr.specs.declared.ebr.Ebr.{Ebr}
 use Rattle.pt_members.specs.declared.layout.Layout.{Layout}
 use Rattle.pt_members.specs.declared.layout.Slice.{Slice}
 use Rattle.pt_members.specs.declared.member.Kind.TheVariants.{Leaf, Slice as KindSlice}
 use Rattle.pt_members.specs.declared.member.Member.{Member}
-use Rattle.pt_members.specs.Members.{slots, parts, IsMember}
+use Rattle.pt_members.specs.Members.{slots, parts}
 use Rattle.pt_members.specs.Owned.{Owns}
 use Rattle.pt_members.specs.Search.{InLayout}
 use Rattle.pt_members.specs.Slices.{IsPlace, place_of}

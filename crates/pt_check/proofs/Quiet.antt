@@ -3,9 +3,8 @@ use Rattle.std.proofs.Common.{◌≡◌, ◌∙◌, inl, inr, ⊎_elim, ℕ, zer
 use Rattle.std.proofs.Common.{Option, Some, None}
 use Rattle.std.specs.Prelude.{slice_get}
 use Rattle.std.proofs.lemmas.Bool.{cases_lt}
-use Rattle.std.proofs.lemmas.List.{take_all}
 use Rattle.pt_sector.specs.Sectors.{Sectors, sector, Agrees}
-use Rattle.pt_sector.specs.Writes.{Writes, Puts, Stopped, written, after}
+use Rattle.pt_sector.specs.Writes.{Writes, Stopped, written}
 use Rattle.pt_sector.specs.laws.Written.{stopped_written, length-written}
 use Rattle.pt_apply.specs.Plans.{NoneIs}
 use Rattle.pt_recover.specs.Denotes.{Denotes, Reads, SameMeaning}
@@ -14,14 +13,10 @@ use Rattle.pt_recover.specs.laws.Terms.{reads_decide_lem, stop_keeps_lem}
 use Rattle.pt_recover.specs.Spans.{IsIn}
 use Rattle.pt_recover.specs.declared.trace.TracedRun.{TracedRun}
 use Rattle.pt_check.specs.Course.{phase_at, disk_after, IsCalm, LayoutsAre, Course}
-use Rattle.pt_check.specs.Trials.{TouchedIs, KeepsRead, LastIs, TrialIs, RefusedNeither}
-use Rattle.pt_check.specs.declared.trial.Trial.{Trial}
-use Rattle.pt_check.specs.declared.trial.Trial.TheVariants.{Refused, Passed}
-use Rattle.pt_check.specs.declared.answer.Why.TheVariants.{TooManyWrites, OutOfRange, BootCode, ReadSector, Neither}
-use Rattle.pt_check.specs.declared.answer.Why.TheVariants.{NotATable, Owned, Final}
+use Rattle.pt_check.specs.Trials.{TouchedIs, KeepsRead}
 use Rattle.pt_check.proofs.Firsts.{seen_on}
 use Rattle.pt_check.proofs.Keeping.{none_puts, on_stop}
-use Rattle.pt_check.proofs.Trying.{Reading, course_on, refused_neither}
+use Rattle.pt_check.proofs.Trying.{Reading}
 
 module _ {L : Type 0} (denotes : Sectors → Option L → Type 0) (reads : Sectors → ℕ → Type 0) (phases : List Writes) (d : Sectors)
     (old new : Option L) where

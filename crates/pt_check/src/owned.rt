@@ -27,12 +27,7 @@ fn add_leaf(owned: &mut Trace, m: &Member) -> Result<(), AllocError>
 }
 
 // Those of a label's entry.
-fn add_part(
-    owned: &mut Trace,
-    label: &Label,
-    slice: &Member,
-    k: usize,
-) -> Result<(), AllocError>
+fn add_part(owned: &mut Trace, label: &Label, slice: &Member, k: usize) -> Result<(), AllocError>
     requires small { slice.now.first < 2 ^ 66 }
     requires within { k < 8 }
     requires counted { length label.now.entries ≡ 8 }

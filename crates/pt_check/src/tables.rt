@@ -45,11 +45,7 @@ fn add_mbr(tables: &mut Trace, chain: &[Ebr]) -> Result<(), AllocError>
     add_chain(tables, chain)
 }
 
-fn add_body<const B: usize>(
-    tables: &mut Trace,
-    sectors: u64,
-    body: &Body,
-) -> Result<(), AllocError>
+fn add_body<const B: usize>(tables: &mut Trace, sectors: u64, body: &Body) -> Result<(), AllocError>
     requires { IsSectorSize B }
     ensures { OnOk result (Adds tables.old tables.new (IsBodyTable B sectors body.now)) }
 {

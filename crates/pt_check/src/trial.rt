@@ -85,10 +85,7 @@ fn is_unread<const B: usize>(phase: &[Write<B>], trace: &Trace) -> bool
 }
 
 /// Whether a write is of the bytes that stand in its sector.
-fn repeats<const B: usize, D: Disk<B>>(
-    disk: &mut D,
-    write: &Write<B>,
-) -> Result<bool, FailedRead>
+fn repeats<const B: usize, D: Disk<B>>(disk: &mut D, write: &Write<B>) -> Result<bool, FailedRead>
     requires { IsSectorSize B }
     ensures same { OnlyReads D.Disk disk.old disk.new }
     ensures blames { Blames read_of result (D.faults disk.old) (D.faults disk.new) }

@@ -1,4 +1,4 @@
-use Rattle.std.proofs.Common.{rules, ◌≡◌, ◌≤◌, arith}
+use Rattle.std.proofs.Common.{rules, ◌≡◌, ◌≤◌}
 use Rattle.pt_members.specs.declared.member.Kind.TheVariants.{Leaf}
 use Rattle.pt_members.specs.Leaves.{IsLeafWith}
 use Rattle.pt_members.specs.Members.{Exists}

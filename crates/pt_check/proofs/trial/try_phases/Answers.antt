@@ -1,4 +1,4 @@
-use Rattle.std.proofs.Common.{rules, ◌≡◌, ◌∙◌, ℕ, ◌+◌, ◌<◌, Bool, List, refl, sym, ap, subst, arith, length, Some, None, Ok, Err}
+use Rattle.std.proofs.Common.{rules, ◌≡◌, ◌∙◌, ℕ, ◌+◌, ◌<◌, Bool, sym, ap, subst, arith, length, Some, None, Ok, Err}
 use Rattle.std.proofs.lemmas.Result.{err_from_is_err_and}
 use Rattle.pt_sector.specs.Writes.{Writes}
 use Rattle.pt_sector.specs.Calls.{with_fault}
@@ -238,10 +238,10 @@ loop-i-preserved-then-keeps g c =
     let below = index_within c.args.plan.now.phases.items c.loop-i.i lt in
     let lent = lent_phase c.args.plan.now.phases.items c.loop-i.i c.index-phase.result.now lt c.index-phase.ensures in
     let kept = λ (tells : g.D.Disk.tells).
-        subst (λ (ws : Writes). KeepsRead (IsIn c.loop-i.before) (disk_after phases d c.loop-i.i) ws)
-        (lent c.deref-in-loop-i.result.now c.deref-in-loop-i.ensures.value)
-        (subst (λ (x : Sectors). KeepsRead (IsIn c.loop-i.before) x (writes_of c.deref-in-loop-i.result.now))
-        (c.loop-i.invariant.seen tells) (c.in_ok-keeps.ensures.kept tells c.if-keeps.true)) in
+    subst (λ (ws : Writes). KeepsRead (IsIn c.loop-i.before) (disk_after phases d c.loop-i.i) ws)
+    (lent c.deref-in-loop-i.result.now c.deref-in-loop-i.ensures.value)
+    (subst (λ (x : Sectors). KeepsRead (IsIn c.loop-i.before) x (writes_of c.deref-in-loop-i.result.now))
+    (c.loop-i.invariant.seen tells) (c.in_ok-keeps.ensures.kept tells c.if-keeps.true)) in
     let same_here : OnlyReads g.D.Disk c.args.disk.now c.keeps_read.new.disk.disk.now =
     g.met.D.Disk.reads_on _ _ _ c.loop-i.invariant.same c.in_ok-keeps.ensures.same.through.0.below in
     let quiet_here : g.D.Disk.faults c.keeps_read.new.disk.disk.now ≡ g.D.Disk.faults c.args.disk.now =
