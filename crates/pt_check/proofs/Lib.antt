@@ -11,3 +11,4 @@ pub mod Reading
 pub mod Settled
 pub mod Clear
 pub mod Quiet
+pub mod Adding

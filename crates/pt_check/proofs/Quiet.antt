@@ -1,25 +1,22 @@
 -- A phase that writes nothing that is read, and the last phase.
-use Rattle.std.proofs.Common.{◌≡◌, inr, ⊎_elim, ℕ, ◌+◌, ◌<◌, ◌≤◌, List, length, take, refl, sym, subst, arith, Option, Some, None}
+use Rattle.std.proofs.Common.{◌≡◌, ◌∙◌, inl, inr, ⊎_elim, ℕ, zero, suc, ◌+◌, ◌<◌, ◌≤◌, List, [], ◌∷◌, length, refl, sym, ap, subst, arith}
+use Rattle.std.proofs.Common.{Option, Some, None}
+use Rattle.std.specs.Prelude.{slice_get}
 use Rattle.std.proofs.lemmas.Bool.{cases_lt}
-use Rattle.std.proofs.lemmas.List.{take_all}
-use Rattle.pt_sector.specs.Sectors.{Sectors}
-use Rattle.pt_sector.specs.Writes.{Writes, Stopped, written, after}
-use Rattle.pt_sector.specs.laws.Written.{stopped_written}
+use Rattle.pt_sector.specs.Sectors.{Sectors, sector, Agrees}
+use Rattle.pt_sector.specs.Writes.{Writes, Stopped, written}
+use Rattle.pt_sector.specs.laws.Written.{stopped_written, length-written}
 use Rattle.pt_apply.specs.Plans.{NoneIs}
 use Rattle.pt_recover.specs.Denotes.{Denotes, Reads, SameMeaning}
 use Rattle.pt_recover.specs.LeavesReads.{LeavesReads}
-use Rattle.pt_recover.specs.laws.Terms.{stop_keeps_lem}
+use Rattle.pt_recover.specs.laws.Terms.{reads_decide_lem, stop_keeps_lem}
 use Rattle.pt_recover.specs.Spans.{IsIn}
 use Rattle.pt_recover.specs.declared.trace.TracedRun.{TracedRun}
 use Rattle.pt_check.specs.Course.{phase_at, disk_after, IsCalm, LayoutsAre, Course}
-use Rattle.pt_check.specs.Trials.{TouchedIs, LastIs, TrialIs, RefusedNeither}
-use Rattle.pt_check.specs.declared.trial.Trial.{Trial}
-use Rattle.pt_check.specs.declared.trial.Trial.TheVariants.{Refused, Passed}
-use Rattle.pt_check.specs.declared.answer.Why.TheVariants.{TooManyWrites, OutOfRange, BootCode, ReadSector, Neither}
-use Rattle.pt_check.specs.declared.answer.Why.TheVariants.{NotATable, Owned, Final}
+use Rattle.pt_check.specs.Trials.{TouchedIs, KeepsRead}
 use Rattle.pt_check.proofs.Firsts.{seen_on}
-use Rattle.pt_check.proofs.Keeping.{none_puts}
-use Rattle.pt_check.proofs.Trying.{Reading, course_on, refused_neither}
+use Rattle.pt_check.proofs.Keeping.{none_puts, on_stop}
+use Rattle.pt_check.proofs.Trying.{Reading}
 
 module _ {L : Type 0} (denotes : Sectors → Option L → Type 0) (reads : Sectors → ℕ → Type 0) (phases : List Writes) (d : Sectors)
     (old new : Option L) where
@@ -73,3 +70,52 @@ module _ (b : ℕ) (phases : List Writes) (d : Sectors) (i : ℕ) (below : i < l
       → Course (Denotes b) (Reads b) phases d old new (i + 1) switch
   passed_quiet old new switch course =
       course_quiet (Denotes b) (Reads b) phases d old new i switch course (inr leaves) (λ o is. (same_meaning.denotes o).1 is)
+
+-- a phase whose one write is of the bytes that stand there
+pub kept_one : (S : ℕ → Type 0) (d : Sectors) (ws : Writes) (k : ℕ) (w : ℕ × List ℕ) → length ws ≤ 1 → slice_get ws k ≡ Some w
+    → w.1 ≡ sector d w.0 → KeepsRead S d ws
+kept_one S d [] k w le at is s v puts in_s = absurd puts
+kept_one S d (x ∷ []) zero w le at is s v (inl here) in_s =
+    let same : x ≡ w = some_same x w at in
+    sym here.1 ∙ ap (λ (y : ℕ × List ℕ). y.1) same ∙ is ∙ ap (sector d) (sym (ap (λ (y : ℕ × List ℕ). y.0) same) ∙ here.0)
+  where
+    some_same : (y z : ℕ × List ℕ) → Some y ≡ Some z → y ≡ z
+    some_same y z it = cc
+kept_one S d (x ∷ []) zero w le at is s v (inr none) in_s = absurd none
+kept_one S d (x ∷ []) (suc k) w le at is s v puts in_s = absurd cc
+kept_one S d (x ∷ y ∷ ws) k w le at is s v puts in_s = absurd (omega (arith, le))
+
+pub kept_none : (S : ℕ → Type 0) (d : Sectors) (ws : Writes) → NoneIs (λ (w : ℕ × List ℕ). S w.0) ws → KeepsRead S d ws
+kept_none S d ws none s v puts in_s = absurd (none_puts (λ (w : ℕ × List ℕ). S w.0) ws none s v puts in_s)
+
+module _ (b : ℕ) (phases : List Writes) (d : Sectors) (i : ℕ) (below : i < length phases) (runs : List TracedRun)
+    (reading : Reading (Reads b) (disk_after phases d i) runs)
+    (keeps : KeepsRead (IsIn runs) (disk_after phases d i) (phase_at phases i)) where
+  kept_agrees : Agrees (Reads b (disk_after phases d i)) (disk_after phases d (i + 1)) (disk_after phases d i)
+  kept_agrees = subst (λ (x : Sectors). Agrees (Reads b (disk_after phases d i)) x (disk_after phases d i))
+      (seen_on phases d i (phase_at phases i) (disk_after phases d i) (written (phase_at phases i) (disk_after phases d i)) below refl refl
+      refl)
+      (record {
+        count = length-written (phase_at phases i) (disk_after phases d i);
+        each = λ s read. on_stop (λ v. v ≡ sector (disk_after phases d i) s) s (disk_after phases d i) (phase_at phases i)
+            (written (phase_at phases i) (disk_after phases d i)) (stopped_written (phase_at phases i) (disk_after phases d i)) refl
+            (λ v put. keeps s v put ((reading.same s).1 read));
+      })
+
+  kept_meaning : SameMeaning b (disk_after phases d (i + 1)) (disk_after phases d i)
+  kept_meaning = reads_decide_lem b (disk_after phases d (i + 1)) (disk_after phases d i) kept_agrees
+
+  kept_calm : TouchedIs (IsIn runs) (phase_at phases i) None → IsCalm (Denotes b) (Reads b) phases d i
+  kept_calm touched = ⊎_elim (λ few. inl few)
+      (λ nothing. inr (λ s v puts read. none_puts (λ (w : ℕ × List ℕ). IsIn runs w.0) (phase_at phases i) nothing s v puts
+      ((reading.same s).1 read))) touched
+
+  pub reading_kept : Reading (Reads b) (disk_after phases d (i + 1)) runs
+  reading_kept = record {
+    same = λ s. (λ is. (kept_meaning.reads s).1 ((reading.same s).0 is), λ is. (reading.same s).1 ((kept_meaning.reads s).0 is));
+  }
+
+  pub passed_kept : TouchedIs (IsIn runs) (phase_at phases i) None → (old new : Option _) (switch : Option ℕ)
+      → Course (Denotes b) (Reads b) phases d old new i switch → Course (Denotes b) (Reads b) phases d old new (i + 1) switch
+  passed_kept touched old new switch course =
+      course_quiet (Denotes b) (Reads b) phases d old new i switch course (kept_calm touched) (λ o is. (kept_meaning.denotes o).1 is)

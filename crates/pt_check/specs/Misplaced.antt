@@ -3,12 +3,24 @@ use Rattle.std.specs.Prelude.{◌≡◌, ◌⊎◌, ℕ, List, Option, Some, Non
 use Rattle.pt_sector.specs.Writes.{Writes}
 use Rattle.pt_members.specs.declared.layout.Layout.{Layout}
 use Rattle.pt_members.specs.Owned.{OwnedOf}
-use Rattle.pt_members.specs.Tables.{TableOf}
+use Rattle.pt_members.specs.declared.layout.Body.{Body}
+use Rattle.pt_members.specs.declared.layout.Body.TheVariants.{Mbr, Gpt}
+use Rattle.pt_members.specs.Tables.{TableOf, IsGptTable}
 use Rattle.pt_apply.specs.Plans.{NoneIs}
 use Rattle.pt_check.specs.First.{FirstWriteIs}
 use Rattle.pt_check.specs.declared.answer.Why.{Why}
 use Rattle.pt_check.specs.declared.answer.Why.TheVariants.{NotATable, Owned}
 use Rattle.pt_check.specs.declared.objection.Found.{Found}
+
+-- a table that each layout of the kind has on n sectors, whatever its chain and its slices
+abbrev pub IsFixed : ℕ → ℕ → Body → ℕ → Type 0
+IsFixed b n (Mbr records chain) s = s ≡ 0
+IsFixed b n (Gpt t) s = IsGptTable b n s
+
+-- such a table of what is denoted; nothing has none
+abbrev pub FixedOf : ℕ → Option Layout → ℕ → Type 0
+FixedOf b None s = ⊥
+FixedOf b (Some o) s = IsFixed b o.sectors o.body s
 
 -- in the tables of neither layout
 abbrev pub InNoTable : ℕ → Option Layout → Option Layout → ℕ × List ℕ → Type 0

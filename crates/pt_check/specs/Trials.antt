@@ -1,7 +1,7 @@
 -- How the phases of a plan are tried.
 use Rattle.std.specs.Prelude.{◌≡◌, ◌⊎◌, ℕ, ◌+◌, ◌<◌, ◌≤◌, List, length, Option, Some, None, IsSome}
-use Rattle.pt_sector.specs.Sectors.{Sectors}
-use Rattle.pt_sector.specs.Writes.{Writes}
+use Rattle.pt_sector.specs.Sectors.{Sectors, sector}
+use Rattle.pt_sector.specs.Writes.{Writes, Puts}
 use Rattle.pt_sector.specs.declared.address.Lba.{Lba}
 use Rattle.pt_check.specs.Course.{phase_at, Course, IsCalm}
 use Rattle.pt_apply.specs.Plans.{NoneIs}
@@ -17,6 +17,10 @@ use Rattle.pt_check.specs.declared.trial.Step.TheVariants as step
 abbrev pub TouchedIs : (ℕ → Type 0) → Writes → Option Lba → Type 0
 TouchedIs S ws None = (length ws ≤ 1) ⊎ NoneIs (λ (w : ℕ × List ℕ). S w.0) ws
 TouchedIs S ws (Some lba) = (1 < length ws) × ((k : ℕ) × (w : ℕ × List ℕ) × (lba.0 ≡ w.0) × IsFirst (λ (v : ℕ × List ℕ). S v.0) ws k w)
+
+-- each write of a sector in S is of the bytes that d has there
+abbrev pub KeepsRead : (ℕ → Type 0) → Sectors → Writes → Type 0
+KeepsRead S d ws = (s : ℕ) (v : List ℕ) → Puts ws s v → S s → v ≡ sector d s
 
 -- the switch so far, which is the phase of this number where it gave the new layout as the first; or neither layout
 abbrev pub StepIs : {L : Type 0} → Option L → Option L → Option L → Option ℕ → ℕ → Step → Type 0

@@ -22,7 +22,7 @@ fn boot_code(sector: &[u8]) -> &[u8]
     &sector[..BOOT_CODE]
 }
 
-fn same_bytes(bytes: &[u8], others: &[u8]) -> bool
+pub(crate) fn same_bytes(bytes: &[u8], others: &[u8]) -> bool
     ensures { IsTrue result ↔ (bytes.now ≡ others.now) }
 {
     *bytes == *others

@@ -9,8 +9,7 @@ ghost use Rattle.pt_check.specs.Answers.{Answers, AreInRange, AreJudged, Promise
 ghost use Rattle.pt_check.specs.Course.{switch_number};
 ghost use Rattle.pt_check.specs.CheckReads.{CheckReads, WritesHead};
 ghost use Rattle.pt_check.specs.Failed.{fault_in, FailedInCheck};
-ghost use Rattle.pt_check.specs.First.{FirstWriteIs};
-ghost use Rattle.pt_check.specs.Misplaced.{InOwned, MisplacedIs};
+ghost use Rattle.pt_check.specs.Misplaced.{MisplacedIs};
 ghost use Rattle.pt_check.specs.Reasons.{IsFit};
 ghost use Rattle.pt_check.specs.Recovered.{IsRecoveredOf};
 
@@ -18,15 +17,15 @@ use crate::answer::{Answer, Why};
 use crate::boot::other_boot_code;
 use crate::error::CheckError;
 use crate::finished::{Finished, read_finished};
-use crate::objection::{Found, first_in_plan};
-use crate::places::{NoTable, OutOfRange, OwnedByOne, is_clear, reach_in};
+use crate::objection::first_in_plan;
+use crate::places::{OutOfRange, first_owned, first_stray, is_clear};
 use crate::recovered::{Recovered, read_layout};
 use crate::trial::{Layouts, Trial, try_phases};
 use crate::writes::count_writes;
 use pt_apply::Plan;
 use pt_layout::Finding;
 use pt_sector::{Disk, FailedRead, ReadCache, Room};
-use std::alloc::Global;
+use std::alloc::{AllocError, Global};
 
 /// Whether the plan may be applied to the disk as it is now, wherever the plan comes from.
 ///
@@ -158,7 +157,8 @@ fn check_phases<const B: usize, D: Disk<B>>(
     } = end;
     let layouts = Layouts { old, new };
     let trial = try_phases(alloc, disk, plan, count, &layouts, trace, &end)?;
-    Ok(conclude(trial, misplaced(plan, &layouts), finding))
+    let misplaced = misplaced(alloc, plan, &layouts)?;
+    Ok(conclude(trial, misplaced, finding))
 }
 
 /// The answer from its parts: the first reason against the plan, or the switch. What is wrong with the finished disk
@@ -182,37 +182,25 @@ fn conclude(trial: Trial, misplaced: Option<Why>, finding: Option<Finding>) -> A
 }
 
 /// The first write of a sector in the tables of neither layout, else the first of one that is owned in either.
-#[tactic(auto, using(crate::proofs::Clear::none_in_either))]
-fn misplaced<const B: usize>(plan: &Plan<B>, layouts: &Layouts) -> Option<Why>
+fn misplaced<const B: usize>(
+    alloc: Global,
+    plan: &Plan<B>,
+    layouts: &Layouts,
+) -> Result<Option<Why>, AllocError>
     requires size { IsSectorSize B }
     requires few { length (writes_in (phases_of plan.now)) ≤ 4096 }
-    ensures { MisplacedIs B (writes_in (phases_of plan.now)) layouts.now.old layouts.now.new result }
+    ensures { IfOk result (MisplacedIs B (writes_in (phases_of plan.now)) layouts.now.old layouts.now.new) }
 {
-    if let Some(found) = first_in_plan(&NoTable { layouts }, plan) {
-        return Some(Why::NotATable(found.lba));
+    if let Some(found) = first_stray(alloc, plan, layouts)? {
+        return Ok(Some(Why::NotATable(found.lba)));
     }
     if is_clear(&layouts.old, plan) && is_clear(&layouts.new, plan) {
-        return None;
+        return Ok(None);
     }
-    match first_owned(plan, layouts) {
-        Some(found) => Some(Why::Owned(found.lba)),
-        None => None,
+    match first_owned(alloc, plan, layouts)? {
+        Some(found) => Ok(Some(Why::Owned(found.lba))),
+        None => Ok(None),
     }
-}
-
-/// The first write of a sector that is owned in either layout.
-#[tactic(auto, using(crate::proofs::Clear::first_same))]
-fn first_owned<const B: usize>(plan: &Plan<B>, layouts: &Layouts) -> Option<Found>
-    requires size { IsSectorSize B }
-    requires few { length (writes_in (phases_of plan.now)) ≤ 4096 }
-    ensures { FirstWriteIs (InOwned B layouts.now.old layouts.now.new) (writes_in (phases_of plan.now)) result }
-{
-    let objection = OwnedByOne {
-        layouts,
-        old: reach_in::<B>(&layouts.old),
-        new: reach_in::<B>(&layouts.new),
-    };
-    first_in_plan(&objection, plan)
 }
 
 /// The switch as it is told.

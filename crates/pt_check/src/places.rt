@@ -1,18 +1,26 @@
 //! Where a plan may write.
 
-ghost use Rattle.std.specs.Prelude.{◌≡◌, ◌<◌, ◌≤◌, ◌⊎◌, ◌↔◌, ℕ, IsTrue, length};
+ghost use Rattle.std.specs.Prelude.{◌≡◌, ◌<◌, ◌≤◌, ◌↔◌, IsTrue, IfOk, length};
 ghost use Rattle.pt_sector.specs.Sectors.{IsSectorSize};
 ghost use Rattle.pt_members.specs.Owned.{OwnedOf};
-ghost use Rattle.pt_members.specs.Tables.{TableOf};
+ghost use Rattle.pt_members.specs.Tables.{IsGptTable};
 ghost use Rattle.pt_members.specs.Reaches.{IsWithin};
+ghost use Rattle.pt_recover.specs.Spans.{IsIn};
 ghost use Rattle.pt_apply.specs.Plans.{NoneIs, phases_of, writes_in};
+ghost use Rattle.pt_check.specs.First.{FirstWriteIs};
+ghost use Rattle.pt_check.specs.Misplaced.{FixedOf, InNoTable, InOwned};
 
-use crate::objection::{Objection, first_in_plan};
+use crate::objection::{Found, Objection, first_in_plan};
+use crate::owned::owned_in_either;
+use crate::tables::tables_in_either;
 use crate::trial::Layouts;
 use pt_apply::{Plan, Write};
-use pt_layout::{Layout, is_owned, is_table};
+use pt_gpt::first_usable;
+use pt_layout::{Body, Layout};
 use pt_members::{Reach, reach_of};
+use pt_recover::Trace;
 use pt_sector::Lba;
+use std::alloc::{AllocError, Global};
 
 /// Against sectors past the disk's last.
 #[derive(Clone, Copy)]
@@ -28,74 +36,104 @@ impl<const B: usize> Objection<B> for OutOfRange {
     }
 }
 
-fn has_table<const B: usize>(layout: &Option<Layout>, lba: Lba) -> bool
+/// Whether a sector is a table that each layout of the kind has: sector 0 of an MBR, or one of a GPT but for label places.
+fn is_fixed<const B: usize>(layout: &Option<Layout>, lba: Lba) -> bool
     requires { IsSectorSize B }
-    ensures { IsTrue result ↔ TableOf B layout.now lba.0 }
+    ensures { IsTrue result ↔ FixedOf B layout.now lba.0 }
 {
-    match layout {
-        Some(layout) => is_table::<B>(layout, lba),
-        None => false,
+    let Some(layout) = layout else {
+        return false;
+    };
+    match &layout.body {
+        Body::Mbr { .. } => lba.0 == 0,
+        Body::Gpt(_) => is_at_end::<B>(layout.sectors, lba),
     }
 }
 
-fn owns<const B: usize>(layout: &Option<Layout>, lba: Lba) -> bool
+/// Whether a sector is a table of a GPT on a disk of so many sectors, but for label places.
+fn is_at_end<const B: usize>(sectors: u64, lba: Lba) -> bool
     requires { IsSectorSize B }
-    ensures { IsTrue result ↔ OwnedOf B layout.now lba.0 }
+    ensures { IsTrue result ↔ IsGptTable B sectors lba.0 }
 {
-    match layout {
-        Some(layout) => is_owned::<B>(layout, lba),
-        None => false,
-    }
+    let edge = first_usable::<B>();
+    lba.0 < edge || (sectors.saturating_sub(edge - 1) <= lba.0 && lba.0 < sectors)
 }
 
-/// Against sectors in the tables of neither layout.
+/// Against sectors that are no fixed tables of either layout. It asks for no extended boot record and no label place.
 #[derive(Clone, Copy)]
-pub(crate) struct NoTable<'a> {
-    pub layouts: &'a Layouts,
+struct Moves<'a> {
+    layouts: &'a Layouts,
 }
 
-impl<const B: usize> Objection<B> for NoTable<'_> {
-    ghost against = { λ o w. (¬ TableOf B o.layouts.now.old w.0) × (¬ TableOf B o.layouts.now.new w.0) };
+impl<const B: usize> Objection<B> for Moves<'_> {
+    ghost against = { λ o w. (¬ FixedOf B o.layouts.now.old w.0) × (¬ FixedOf B o.layouts.now.new w.0) };
 
     fn objects(&self, write: &Write<B>) -> bool {
-        if has_table::<B>(&self.layouts.old, write.lba) {
+        if is_fixed::<B>(&self.layouts.old, write.lba) {
             return false;
         }
-        !has_table::<B>(&self.layouts.new, write.lba)
+        !is_fixed::<B>(&self.layouts.new, write.lba)
     }
 }
 
-/// Against sectors that a partition of either layout owns, among those in a reach of each. An owner is searched for only of a
-/// sector in the reach.
+/// Against sectors that aren't among these.
 #[derive(Clone, Copy)]
-pub(crate) struct OwnedByOne<'a> {
-    pub layouts: &'a Layouts,
-    /// Among which are all that the old layout's partitions own.
-    pub old: Reach,
-    /// Among which are all that the new one's own.
-    pub new: Reach,
+struct Outside<'a> {
+    sectors: &'a Trace,
 }
 
-impl<const B: usize> Objection<B> for OwnedByOne<'_> {
-    ghost against = { λ o w. (IsWithin o.old w.0 × OwnedOf B o.layouts.now.old w.0)
-        ⊎ (IsWithin o.new w.0 × OwnedOf B o.layouts.now.new w.0) };
+impl<const B: usize> Objection<B> for Outside<'_> {
+    ghost against = { λ o w. ¬ IsIn o.sectors.now w.0 };
 
     fn objects(&self, write: &Write<B>) -> bool {
-        if self.old.contains(write.lba) && owns::<B>(&self.layouts.old, write.lba) {
-            return true;
-        }
-        self.new.contains(write.lba) && owns::<B>(&self.layouts.new, write.lba)
+        !self.sectors.contains(write.lba)
     }
 }
 
-/// Sectors among which are all that the layout's partitions own; nothing owns none.
-pub(crate) fn reach_in<const B: usize>(layout: &Option<Layout>) -> Reach
-    ensures { (s : ℕ) → OwnedOf B layout.now s → IsWithin result s }
-{
-    match layout {
-        Some(layout) => reach_of::<B>(layout),
-        None => Reach { low: 1, high: 0 },
+/// Against sectors that are among these.
+#[derive(Clone, Copy)]
+struct Among<'a> {
+    sectors: &'a Trace,
+}
+
+impl<const B: usize> Objection<B> for Among<'_> {
+    ghost against = { λ o w. IsIn o.sectors.now w.0 };
+
+    fn objects(&self, write: &Write<B>) -> bool {
+        self.sectors.contains(write.lba)
     }
+}
+
+/// The first write of a sector in the tables of neither layout. Extended boot records and label places are looked for only
+/// where a write is elsewhere than in the fixed tables.
+pub(crate) fn first_stray<const B: usize>(
+    alloc: Global,
+    plan: &Plan<B>,
+    layouts: &Layouts,
+) -> Result<Option<Found>, AllocError>
+    requires size { IsSectorSize B }
+    requires few { length (writes_in (phases_of plan.now)) ≤ 4096 }
+    ensures { IfOk result (FirstWriteIs (InNoTable B layouts.now.old layouts.now.new) (writes_in (phases_of plan.now))) }
+{
+    if first_in_plan(&Moves { layouts }, plan).is_none() {
+        return Ok(None);
+    }
+    let tables = tables_in_either::<B>(alloc, layouts)?;
+    Ok(first_in_plan(&Outside { sectors: &tables }, plan))
+}
+
+/// The first write of a sector that is owned in either layout.
+pub(crate) fn first_owned<const B: usize>(
+    alloc: Global,
+    plan: &Plan<B>,
+    layouts: &Layouts,
+) -> Result<Option<Found>, AllocError>
+    requires size { IsSectorSize B }
+    requires few { length (writes_in (phases_of plan.now)) ≤ 4096 }
+    ensures { IfOk result (FirstWriteIs (InOwned B layouts.now.old layouts.now.new) (writes_in (phases_of plan.now))) }
+{
+    let owned = owned_in_either::<B>(alloc, layouts)?;
+    Ok(first_in_plan(&Among { sectors: &owned }, plan))
 }
 
 /// Against sectors in the reach of a layout's partitions.

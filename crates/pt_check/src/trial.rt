@@ -2,8 +2,8 @@
 
 ghost use Rattle.std.specs.Prelude.{◌≡◌, ◌≤◌, ◌+◌, length, IfOk, IfErr, IsTrue};
 ghost use Rattle.pt_sector.specs.Calls.{Blames};
-ghost use Rattle.pt_sector.specs.Reads.{OnlyReads};
-ghost use Rattle.pt_sector.specs.Sectors.{IsSectorSize};
+ghost use Rattle.pt_sector.specs.Reads.{OnlyReads, read_of};
+ghost use Rattle.pt_sector.specs.Sectors.{IsSectorSize, sector};
 ghost use Rattle.pt_sector.specs.Writes.{written};
 ghost use Rattle.pt_sector.specs.Overlays.{room_left};
 ghost use Rattle.pt_apply.specs.Plans.{writes_of, phases_of, writes_in, finished, NoneIs};
@@ -12,16 +12,17 @@ ghost use Rattle.pt_recover.specs.Spans.{IsIn};
 ghost use Rattle.pt_check.specs.CheckReads.{CheckReads};
 ghost use Rattle.pt_check.specs.Failed.{fault_in, FailedInCheck};
 ghost use Rattle.pt_check.specs.Recovered.{IsRecoveredOf};
-ghost use Rattle.pt_check.specs.Trials.{TouchedIs, StepIs, LastIs, SettlesFrom, TrialIs};
+ghost use Rattle.pt_check.specs.Trials.{TouchedIs, KeepsRead, StepIs, LastIs, SettlesFrom, TrialIs};
 
 use crate::answer::Why;
+use crate::boot::same_bytes;
 use crate::error::CheckError;
 use crate::objection::{Objection, first_in_phase};
 use crate::recovered::{Recovered, read_layout};
 use crate::same::same_layout;
 use pt_apply::{Plan, Write};
 use pt_recover::{Layout, Trace};
-use pt_sector::{Disk, Lba, Overlay, Room};
+use pt_sector::{Disk, FailedRead, Lba, Overlay, Room, read_sector};
 use std::alloc::Global;
 
 /// What the phases came to: a reason against the plan, or the phase that gave the new layout, if it isn't the old one.
@@ -81,6 +82,45 @@ fn is_unread<const B: usize>(phase: &[Write<B>], trace: &Trace) -> bool
         Some(_) => false,
         None => true,
     }
+}
+
+/// Whether a write is of the bytes that stand in its sector.
+fn repeats<const B: usize, D: Disk<B>>(disk: &mut D, write: &Write<B>) -> Result<bool, FailedRead>
+    requires { IsSectorSize B }
+    ensures same { OnlyReads D.Disk disk.old disk.new }
+    ensures blames { Blames read_of result (D.faults disk.old) (D.faults disk.new) }
+    ensures place { IfErr result (λ e. e.0 ≡ write.now.lba) }
+    ensures repeats { D.tells → IfOk result (λ yes. IsTrue yes → write.now.bytes ≡ sector (D.told disk.old).seen write.now.lba.0) }
+{
+    if write.lba.0 >= disk.sectors() {
+        return Ok(false);
+    }
+    let mut bytes = [0; B];
+    read_sector(disk, write.lba, &mut bytes)?;
+    Ok(same_bytes(&write.bytes[..], &bytes[..]))
+}
+
+/// Whether a phase leaves each sector of the trace as it is: none of its writes is of one, or its one write is of the bytes that
+/// stand there. The disk after it then denotes what it did, by the same sectors.
+fn keeps_read<const B: usize, D: Disk<B>>(
+    disk: &mut D,
+    phase: &[Write<B>],
+    trace: &Trace,
+) -> Result<bool, FailedRead>
+    requires { IsSectorSize B }
+    ensures same { OnlyReads D.Disk disk.old disk.new }
+    ensures blames { Blames read_of result (D.faults disk.old) (D.faults disk.new) }
+    ensures place { IfErr result (λ e. IsIn trace.now e.0.0) }
+    ensures kept { D.tells → IfOk result
+        (λ yes. IsTrue yes → KeepsRead (IsIn trace.now) (D.told disk.old).seen (writes_of phase.now)) }
+{
+    let Some(k) = first_in_phase(&IsRead { trace }, phase) else {
+        return Ok(true);
+    };
+    if phase.len() > 1 {
+        return Ok(false);
+    }
+    repeats(disk, &phase[k])
 }
 
 /// What a phase gave: the switch so far, or neither layout.
@@ -155,7 +195,7 @@ pub(crate) fn put_phase<'a, const B: usize, D: Disk<B>>(
 /// Tries the phases in an overlay: each may write what recovery reads only as its one write, and gives the old or the
 /// new layout. `end` has the sectors that recovery of the finished disk reads.
 ///
-/// The disk is recovered only after a phase that writes a sector that recovery reads: after any other it denotes what it
+/// The disk is recovered only after a phase that changes a sector that recovery reads: after any other it denotes what it
 /// did. Once no later phase writes a sector of `end`, it denotes what the finished disk does.
 pub(crate) fn try_phases<const B: usize, D: Disk<B>>(
     alloc: Global,
@@ -191,8 +231,9 @@ pub(crate) fn try_phases<const B: usize, D: Disk<B>>(
         if i + 1 >= settles {
             return Ok(last_step(layouts, switch, number));
         }
+        let keeps = keeps_read(&mut over, phase, &before)?;
         put_phase(&mut over, phase);
-        if is_unread(phase, &before) {
+        if keeps {
             continue;
         }
         let after = read_layout(alloc, &mut over)?;

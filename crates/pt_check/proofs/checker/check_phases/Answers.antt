@@ -19,8 +19,8 @@ returns-clause-answers g c = λ tells.
     rw c.conclude.ensures (concluding g.row.B (g.D.Disk.told c.args.disk.now).seen (phases_of c.args.plan.now)
     (c.requires.fit tells) c.into_parts-old.result.0 c.in_ok-end.end.layout
     (record { from = from; to = (c.in_ok-end.ensures.recovered tells).denotes }) c.in_ok-trial.trial
-    c.misplaced.result c.in_ok-end.end.finding
-    (rw (c.in_ok-end.ensures.same.same tells) at (c.in_ok-trial.ensures.tried tells)) c.misplaced.ensures
+    c.in_ok-misplaced.misplaced c.in_ok-end.end.finding
+    (rw (c.in_ok-end.ensures.same.same tells) at (c.in_ok-trial.ensures.tried tells)) c.in_ok-misplaced.ensures
     (c.in_ok-end.ensures.wrong tells)).0
 
 pub returns-clause-promises : goal.returns-clause-promises
@@ -30,8 +30,8 @@ returns-clause-promises g c = λ tells.
     rw c.conclude.ensures (concluding g.row.B (g.D.Disk.told c.args.disk.now).seen (phases_of c.args.plan.now)
     (c.requires.fit tells) c.into_parts-old.result.0 c.in_ok-end.end.layout
     (record { from = from; to = (c.in_ok-end.ensures.recovered tells).denotes }) c.in_ok-trial.trial
-    c.misplaced.result c.in_ok-end.end.finding
-    (rw (c.in_ok-end.ensures.same.same tells) at (c.in_ok-trial.ensures.tried tells)) c.misplaced.ensures
+    c.in_ok-misplaced.misplaced c.in_ok-end.end.finding
+    (rw (c.in_ok-end.ensures.same.same tells) at (c.in_ok-trial.ensures.tried tells)) c.in_ok-misplaced.ensures
     (c.in_ok-end.ensures.wrong tells)).1
 
 pub try_phases-requires : goal.try_phases-requires

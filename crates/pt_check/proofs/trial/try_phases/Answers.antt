@@ -1,22 +1,24 @@
-use Rattle.std.proofs.Common.{rules, ◌≡◌, ◌∙◌, ℕ, ◌+◌, ◌<◌, List, refl, sym, ap, subst, arith, length, Some, None, Ok, Err}
+use Rattle.std.proofs.Common.{rules, ◌≡◌, ◌∙◌, ℕ, ◌+◌, ◌<◌, Bool, sym, ap, subst, arith, length, Some, None, Ok, Err}
 use Rattle.std.proofs.lemmas.Result.{err_from_is_err_and}
 use Rattle.pt_sector.specs.Writes.{Writes}
 use Rattle.pt_sector.specs.Calls.{with_fault}
-use Rattle.pt_sector.specs.Reads.{OnlyReads, blames_below}
+use Rattle.pt_sector.specs.Reads.{OnlyReads, blames_below, read_of}
+use Rattle.pt_sector.specs.Sectors.{Sectors}
 use Rattle.pt_sector.specs.Overlays.{room_left}
 use Rattle.pt_sector.specs.Device.{Told}
-use Rattle.pt_apply.specs.Plans.{phases_of, writes_of, NoneIs}
+use Rattle.pt_apply.specs.Plans.{phases_of, writes_of}
 use Rattle.pt_recover.specs.Denotes.{Denotes, Reads}
 use Rattle.pt_recover.specs.laws.Terms.{denotes_one_lem}
 use Rattle.pt_recover.specs.Spans.{IsIn}
-use Rattle.pt_check.specs.Course.{Course, phase_at}
+use Rattle.pt_check.specs.CheckReads.{phase}
+use Rattle.pt_check.specs.Course.{Course, disk_after}
 use Rattle.pt_check.specs.Failed.{fault_in}
-use Rattle.pt_check.specs.Trials.{TouchedIs}
+use Rattle.pt_check.specs.Trials.{TouchedIs, KeepsRead}
 use Rattle.pt_check.specs.declared.recovered.Recovered.{Recovered}
 use Rattle.pt_check.proofs.Firsts.{length-phases, count_on, lent_phase, index_within, seen_on, count_within}
 use Rattle.pt_check.proofs.Outside.{recovered_parts}
 use Rattle.pt_check.proofs.Trying.{course_none, refused_read, refused_neither, course_on}
-use Rattle.pt_check.proofs.Quiet.{reading_quiet, passed_quiet}
+use Rattle.pt_check.proofs.Quiet.{reading_kept, passed_kept}
 use Rattle.pt_check.proofs.Settled.{settled_trial}
 use Rattle.pt_check.proofs.Reading.{phase_failed}
 use Rattle.pt_check.proofs.trial.try_phases.Goals as goal
@@ -61,9 +63,10 @@ put_phase-requires g c = (
         omega (
           arith,
           c.loop-i.invariant.room,
+          ap room_left c.in_ok-keeps.ensures.same.through.1,
           count_within c.args.plan.now.phases.items c.loop-i.i c.index-phase.result.now
               (omega (arith, c.loop-i-test.true, c.len-i-end.ensures, c.args.plan.now.phases.ok)) c.index-phase.ensures,
-          ap length c.deref-in-loop-i.ensures.value,
+          ap length c.deref-in-loop-i-2.ensures.value,
         ),
       ),
     ),
@@ -79,8 +82,8 @@ returns-in-Neither-clause-tried g c = λ tells.
     let below = index_within c.args.plan.now.phases.items c.loop-i.i lt in
     let lent = lent_phase c.args.plan.now.phases.items c.loop-i.i c.index-phase.result.now lt c.index-phase.ensures in
     let after = recovered_parts g.row.B _ _ c.in_ok-after.after c.into_parts-layout.result.0 c.into_parts-layout.result.1
-    (seen_on phases d c.loop-i.i (writes_of c.deref-in-loop-i.result.now) _ _ below
-    (lent c.deref-in-loop-i.result.now c.deref-in-loop-i.ensures.value) (c.loop-i.invariant.seen tells) c.put_phase.ensures.seen)
+    (seen_on phases d c.loop-i.i (writes_of c.deref-in-loop-i-2.result.now) _ _ below
+    (lent c.deref-in-loop-i-2.result.now c.deref-in-loop-i-2.ensures.value) (ap (λ (t : Told). t.seen) (c.in_ok-keeps.ensures.same.same tells) ∙ c.loop-i.invariant.seen tells) c.put_phase.ensures.seen)
     (c.in_ok-after.ensures.recovered tells) c.into_parts-layout.ensures.layout c.into_parts-layout.ensures.trace in
     refused_neither (Denotes g.row.B) (Reads g.row.B) phases d c.args.layouts.now.old c.args.layouts.now.new
     c.loop-i.i below c.loop-i.before (c.loop-i.invariant.trace tells) c.loop-i.switch (c.loop-i.invariant.course tells)
@@ -95,24 +98,30 @@ loop-i-preserved g c =
     omega (arith, c.loop-i-test.true, c.len-i-end.ensures, c.args.plan.now.phases.ok) in
     let below = index_within c.args.plan.now.phases.items c.loop-i.i lt in
     let lent = lent_phase c.args.plan.now.phases.items c.loop-i.i c.index-phase.result.now lt c.index-phase.ensures in
-    let seen = λ (tells : g.D.Disk.tells). seen_on phases d c.loop-i.i (writes_of c.deref-in-loop-i.result.now) _ _ below
-    (lent c.deref-in-loop-i.result.now c.deref-in-loop-i.ensures.value) (c.loop-i.invariant.seen tells) c.put_phase.ensures.seen in
+    let seen = λ (tells : g.D.Disk.tells). seen_on phases d c.loop-i.i (writes_of c.deref-in-loop-i-2.result.now) _ _ below
+    (lent c.deref-in-loop-i-2.result.now c.deref-in-loop-i-2.ensures.value) (ap (λ (t : Told). t.seen) (c.in_ok-keeps.ensures.same.same tells) ∙ c.loop-i.invariant.seen tells) c.put_phase.ensures.seen in
     let after = λ (tells : g.D.Disk.tells). recovered_parts g.row.B _ _ c.in_ok-after.after c.into_parts-layout.result.0
     c.into_parts-layout.result.1 (seen tells) (c.in_ok-after.ensures.recovered tells)
     c.into_parts-layout.ensures.layout c.into_parts-layout.ensures.trace in
+    let same_here : OnlyReads g.D.Disk c.args.disk.now c.keeps_read.new.disk.disk.now =
+    g.met.D.Disk.reads_on _ _ _ c.loop-i.invariant.same c.in_ok-keeps.ensures.same.through.0.below in
+    let quiet_here : g.D.Disk.faults c.keeps_read.new.disk.disk.now ≡ g.D.Disk.faults c.args.disk.now =
+    blames_below g.D.Disk read_of (Ok c.in_ok-keeps.keeps) _ _ _ _ c.in_ok-keeps.ensures.same.through.0 c.in_ok-keeps.ensures.blames
+    ∙ c.loop-i.invariant.quiet in
     record {
       same_reference = search rules;
-      same = g.met.D.Disk.reads_on _ _ _ c.loop-i.invariant.same
+      same = g.met.D.Disk.reads_on _ _ _ same_here
           (rw c.put_phase.ensures.disk at c.in_ok-after.ensures.same.through.0.below);
       quiet = blames_below g.D.Disk fault_in (Ok c.in_ok-after.after) _ _ _ _ c.in_ok-after.ensures.same.through.0
-          c.in_ok-after.ensures.blames ∙ ap g.D.Disk.faults c.put_phase.ensures.disk ∙ c.loop-i.invariant.quiet;
+          c.in_ok-after.ensures.blames ∙ ap g.D.Disk.faults c.put_phase.ensures.disk ∙ quiet_here;
       room = omega (
         arith,
         c.loop-i.invariant.room,
+        ap room_left c.in_ok-keeps.ensures.same.through.1,
         c.put_phase.ensures.room,
         ap room_left c.in_ok-after.ensures.same.through.1,
         count_on c.args.plan.now.phases.items c.loop-i.i c.index-phase.result.now lt c.index-phase.ensures,
-        ap length c.deref-in-loop-i.ensures.value,
+        ap length c.deref-in-loop-i-2.ensures.value,
       );
       seen = λ tells. ap (λ (t : Told). t.seen) (c.in_ok-after.ensures.same.same tells) ∙ seen tells;
       trace = λ tells. record { same = (after tells).reads };
@@ -125,8 +134,11 @@ loop-i-preserved g c =
 pub returns-in_err-after-clause-blames : goal.returns-in_err-after-clause-blames
 returns-in_err-after-clause-blames g c =
     let p = err_from_is_err_and c.from_residual-in_err-after.result c.from_residual-in_err-after.ensures.1 in
+    let quiet_here : g.D.Disk.faults c.keeps_read.new.disk.disk.now ≡ g.D.Disk.faults c.args.disk.now =
+    blames_below g.D.Disk read_of (Ok c.in_ok-keeps.keeps) _ _ _ _ c.in_ok-keeps.ensures.same.through.0 c.in_ok-keeps.ensures.blames
+    ∙ c.loop-i.invariant.quiet in
     let quiet : g.D.Disk.faults c.put_phase.new.over.disk.now ≡ g.D.Disk.faults c.args.disk.now =
-    ap g.D.Disk.faults c.put_phase.ensures.disk ∙ c.loop-i.invariant.quiet in
+    ap g.D.Disk.faults c.put_phase.ensures.disk ∙ quiet_here in
     let e = c.in_err-after.field-0.0 in
     let below : g.D.Disk.faults c.read_layout.new.disk.disk.now ≡ with_fault (g.D.Disk.faults c.put_phase.new.over.disk.now) (fault_in e) =
     blames_below g.D.Disk {T = Recovered} fault_in (Err e) _ _ _ _ c.in_err-after.ensures.same.through.0 c.in_err-after.ensures.blames in
@@ -136,15 +148,20 @@ returns-in_err-after-clause-blames g c =
 
 pub returns-in-Neither-clause-same : goal.returns-in-Neither-clause-same
 returns-in-Neither-clause-same g c =
+    let same_here : OnlyReads g.D.Disk c.args.disk.now c.keeps_read.new.disk.disk.now =
+    g.met.D.Disk.reads_on _ _ _ c.loop-i.invariant.same c.in_ok-keeps.ensures.same.through.0.below in
     let same : OnlyReads g.D.Disk c.args.disk.now c.read_layout.new.disk.disk.now =
-    g.met.D.Disk.reads_on _ _ _ c.loop-i.invariant.same (rw c.put_phase.ensures.disk at c.in_ok-after.ensures.same.through.0.below) in
+    g.met.D.Disk.reads_on _ _ _ same_here (rw c.put_phase.ensures.disk at c.in_ok-after.ensures.same.through.0.below) in
     search (rules, same)
 
 pub returns-in-Neither-clause-blames : goal.returns-in-Neither-clause-blames
 returns-in-Neither-clause-blames g c =
+    let quiet_here : g.D.Disk.faults c.keeps_read.new.disk.disk.now ≡ g.D.Disk.faults c.args.disk.now =
+    blames_below g.D.Disk read_of (Ok c.in_ok-keeps.keeps) _ _ _ _ c.in_ok-keeps.ensures.same.through.0 c.in_ok-keeps.ensures.blames
+    ∙ c.loop-i.invariant.quiet in
     let quiet : g.D.Disk.faults c.read_layout.new.disk.disk.now ≡ g.D.Disk.faults c.args.disk.now =
     blames_below g.D.Disk fault_in (Ok c.in_ok-after.after) _ _ _ _ c.in_ok-after.ensures.same.through.0 c.in_ok-after.ensures.blames
-    ∙ ap g.D.Disk.faults c.put_phase.ensures.disk ∙ c.loop-i.invariant.quiet in
+    ∙ ap g.D.Disk.faults c.put_phase.ensures.disk ∙ quiet_here in
     search (rules, quiet)
 
 pub returns-clause-tried : goal.returns-clause-tried
@@ -173,8 +190,10 @@ returns-in-Some-clause-blames g c = search (rules, c.loop-i.invariant.quiet)
 
 pub returns-in_err-after-clause-same : goal.returns-in_err-after-clause-same
 returns-in_err-after-clause-same g c =
+    let same_here : OnlyReads g.D.Disk c.args.disk.now c.keeps_read.new.disk.disk.now =
+    g.met.D.Disk.reads_on _ _ _ c.loop-i.invariant.same c.in_ok-keeps.ensures.same.through.0.below in
     let same : OnlyReads g.D.Disk c.args.disk.now c.read_layout.new.disk.disk.now =
-    g.met.D.Disk.reads_on _ _ _ c.loop-i.invariant.same (rw c.put_phase.ensures.disk at c.in_err-after.ensures.same.through.0.below) in
+    g.met.D.Disk.reads_on _ _ _ same_here (rw c.put_phase.ensures.disk at c.in_err-after.ensures.same.through.0.below) in
     search (rules, same)
 
 pub returns-clause-same : goal.returns-clause-same
@@ -192,8 +211,8 @@ returns-in_err-after-clause-place g c = λ tells.
     omega (arith, c.loop-i-test.true, c.len-i-end.ensures, c.args.plan.now.phases.ok) in
     let below = index_within c.args.plan.now.phases.items c.loop-i.i lt in
     let lent = lent_phase c.args.plan.now.phases.items c.loop-i.i c.index-phase.result.now lt c.index-phase.ensures in
-    let seen = seen_on phases d c.loop-i.i (writes_of c.deref-in-loop-i.result.now) _ _ below
-    (lent c.deref-in-loop-i.result.now c.deref-in-loop-i.ensures.value) (c.loop-i.invariant.seen tells) c.put_phase.ensures.seen in
+    let seen = seen_on phases d c.loop-i.i (writes_of c.deref-in-loop-i-2.result.now) _ _ below
+    (lent c.deref-in-loop-i-2.result.now c.deref-in-loop-i-2.ensures.value) (ap (λ (t : Told). t.seen) (c.in_ok-keeps.ensures.same.same tells) ∙ c.loop-i.invariant.seen tells) c.put_phase.ensures.seen in
     rw (p.1, p.2) (phase_failed g.row.B d _ phases (c.loop-i.i + 1) c.in_err-after.field-0.0 (omega (arith, below)) seen
     (c.in_err-after.ensures.place tells))
 
@@ -210,31 +229,65 @@ returns-then-i-settles-clause-tried g c = λ tells.
     (subst (λ (w : Writes). TouchedIs (IsIn c.loop-i.before) w None) (lent c.deref.result.now c.deref.ensures.value) c.in_default.ensures)
     (λ j ge less. c.settled-settles.ensures j (omega (arith, ge, c.if-i-settles.true)) less) c.last_step.result c.last_step.ensures
 
-pub loop-i-preserved-then-is_unread : goal.loop-i-preserved-then-is_unread
-loop-i-preserved-then-is_unread g c =
+pub loop-i-preserved-then-keeps : goal.loop-i-preserved-then-keeps
+loop-i-preserved-then-keeps g c =
     let phases = phases_of c.args.plan.now in
     let d = (g.D.Disk.told c.args.disk.now).seen in
     let lt : c.loop-i.i < length c.args.plan.now.phases.items =
     omega (arith, c.loop-i-test.true, c.len-i-end.ensures, c.args.plan.now.phases.ok) in
     let below = index_within c.args.plan.now.phases.items c.loop-i.i lt in
     let lent = lent_phase c.args.plan.now.phases.items c.loop-i.i c.index-phase.result.now lt c.index-phase.ensures in
-    let none : NoneIs (λ (w : ℕ × List ℕ). IsIn c.loop-i.before w.0) (phase_at phases c.loop-i.i) =
-    subst (λ (ws : Writes). NoneIs (λ (w : ℕ × List ℕ). IsIn c.loop-i.before w.0) ws)
-    (lent c.deref-in-loop-i-2.result.now c.deref-in-loop-i-2.ensures.value) (c.if-is_unread.ensures refl) in
+    let kept = λ (tells : g.D.Disk.tells).
+    subst (λ (ws : Writes). KeepsRead (IsIn c.loop-i.before) (disk_after phases d c.loop-i.i) ws)
+    (lent c.deref-in-loop-i.result.now c.deref-in-loop-i.ensures.value)
+    (subst (λ (x : Sectors). KeepsRead (IsIn c.loop-i.before) x (writes_of c.deref-in-loop-i.result.now))
+    (c.loop-i.invariant.seen tells) (c.in_ok-keeps.ensures.kept tells c.if-keeps.true)) in
+    let same_here : OnlyReads g.D.Disk c.args.disk.now c.keeps_read.new.disk.disk.now =
+    g.met.D.Disk.reads_on _ _ _ c.loop-i.invariant.same c.in_ok-keeps.ensures.same.through.0.below in
+    let quiet_here : g.D.Disk.faults c.keeps_read.new.disk.disk.now ≡ g.D.Disk.faults c.args.disk.now =
+    blames_below g.D.Disk read_of (Ok c.in_ok-keeps.keeps) _ _ _ _ c.in_ok-keeps.ensures.same.through.0 c.in_ok-keeps.ensures.blames
+    ∙ c.loop-i.invariant.quiet in
     record {
       same_reference = search rules;
-      same = subst (λ (x : _). OnlyReads g.D.Disk c.args.disk.now x) (sym c.put_phase.ensures.disk) c.loop-i.invariant.same;
-      quiet = ap g.D.Disk.faults c.put_phase.ensures.disk ∙ c.loop-i.invariant.quiet;
+      same = subst (λ (x : _). OnlyReads g.D.Disk c.args.disk.now x) (sym c.put_phase.ensures.disk) same_here;
+      quiet = ap g.D.Disk.faults c.put_phase.ensures.disk ∙ quiet_here;
       room = omega (
         arith,
         c.loop-i.invariant.room,
+        ap room_left c.in_ok-keeps.ensures.same.through.1,
         c.put_phase.ensures.room,
         count_on c.args.plan.now.phases.items c.loop-i.i c.index-phase.result.now lt c.index-phase.ensures,
-        ap length c.deref-in-loop-i.ensures.value,
+        ap length c.deref-in-loop-i-2.ensures.value,
       );
-      seen = λ tells. seen_on phases d c.loop-i.i (writes_of c.deref-in-loop-i.result.now) _ _ below
-          (lent c.deref-in-loop-i.result.now c.deref-in-loop-i.ensures.value) (c.loop-i.invariant.seen tells) c.put_phase.ensures.seen;
-      trace = λ tells. reading_quiet g.row.B phases d c.loop-i.i below c.loop-i.before (c.loop-i.invariant.trace tells) none;
-      course = λ tells. passed_quiet g.row.B phases d c.loop-i.i below c.loop-i.before (c.loop-i.invariant.trace tells) none
-          c.args.layouts.now.old c.args.layouts.now.new c.loop-i.switch (c.loop-i.invariant.course tells);
+      seen = λ tells. seen_on phases d c.loop-i.i (writes_of c.deref-in-loop-i-2.result.now) _ _ below
+          (lent c.deref-in-loop-i-2.result.now c.deref-in-loop-i-2.ensures.value) (ap (λ (t : Told). t.seen) (c.in_ok-keeps.ensures.same.same tells) ∙ c.loop-i.invariant.seen tells) c.put_phase.ensures.seen;
+      trace = λ tells. reading_kept g.row.B phases d c.loop-i.i below c.loop-i.before (c.loop-i.invariant.trace tells) (kept tells);
+      course = λ tells. passed_kept g.row.B phases d c.loop-i.i below c.loop-i.before (c.loop-i.invariant.trace tells) (kept tells)
+          (subst (λ (w : Writes). TouchedIs (IsIn c.loop-i.before) w None) (lent c.deref.result.now c.deref.ensures.value)
+          c.in_default.ensures) c.args.layouts.now.old c.args.layouts.now.new c.loop-i.switch (c.loop-i.invariant.course tells);
     }
+
+pub returns-in_err-keeps-clause-same : goal.returns-in_err-keeps-clause-same
+returns-in_err-keeps-clause-same g c =
+    let same : OnlyReads g.D.Disk c.args.disk.now c.keeps_read.new.disk.disk.now =
+    g.met.D.Disk.reads_on _ _ _ c.loop-i.invariant.same c.in_err-keeps.ensures.same.through.0.below in
+    search (rules, same)
+
+pub returns-in_err-keeps-clause-blames : goal.returns-in_err-keeps-clause-blames
+returns-in_err-keeps-clause-blames g c =
+    let p = err_from_is_err_and c.from_residual-in_err-keeps.result c.from_residual-in_err-keeps.ensures.1 in
+    let e = c.in_err-keeps.field-0.0 in
+    let below : g.D.Disk.faults c.keeps_read.new.disk.disk.now ≡ with_fault (g.D.Disk.faults c.loop-i.over.disk.now) (read_of e) =
+    blames_below g.D.Disk {T = Bool} read_of (Err e) _ _ _ _ c.in_err-keeps.ensures.same.through.0 c.in_err-keeps.ensures.blames in
+    let blames : g.D.Disk.faults c.keeps_read.new.disk.disk.now ≡ with_fault (g.D.Disk.faults c.args.disk.now) (read_of e) =
+    rw c.loop-i.invariant.quiet at below in
+    rw (p.1, p.2) (search (rules, blames))
+
+pub returns-in_err-keeps-clause-place : goal.returns-in_err-keeps-clause-place
+returns-in_err-keeps-clause-place g c = λ tells.
+    let p = err_from_is_err_and c.from_residual-in_err-keeps.result c.from_residual-in_err-keeps.ensures.1 in
+    let lt : c.loop-i.i < length c.args.plan.now.phases.items =
+    omega (arith, c.loop-i-test.true, c.len-i-end.ensures, c.args.plan.now.phases.ok) in
+    let below = index_within c.args.plan.now.phases.items c.loop-i.i lt in
+    rw (p.1, p.2) (phase c.loop-i.i (omega (arith, below))
+    (((c.loop-i.invariant.trace tells).same c.in_err-keeps.field-0.0.0.0).0 c.in_err-keeps.ensures.place))
