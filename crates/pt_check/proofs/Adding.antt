@@ -1,7 +1,7 @@
 -- Sectors that are added to a trace, piece by piece.
-use Rattle.std.proofs.Common.{◌≡◌, ◌∙◌, ◌<◌, ◌≤◌, ◌+◌, ◌-◌, ℕ, suc, List, length, get_or, take, Option, Some, None, refl, sym, subst}
+use Rattle.std.proofs.Common.{◌≡◌, ◌∙◌, ◌<◌, ◌≤◌, ◌+◌, ◌-◌, ℕ, suc, List, length, get_or, take, Option, Some, None, sym, subst}
 use Rattle.std.proofs.Common.{arith, inl, inr, ⊎_elim}
-use Rattle.std.specs.Prelude.{◌⊎◌, ◌↔◌, Result, Ok, Err, OnOk}
+use Rattle.std.specs.Prelude.{◌⊎◌, Result, Ok, Err, OnOk}
 use Rattle.pt_mbr.specs.Chain.{StandsAt}
 use Rattle.pt_mbr.specs.declared.ebr.Ebr.{Ebr}
 use Rattle.pt_members.specs.declared.layout.Layout.{Layout}
@@ -14,11 +14,11 @@ use Rattle.pt_members.specs.Search.{InLayout}
 use Rattle.pt_members.specs.Slices.{IsPlace, place_of}
 use Rattle.pt_members.specs.Tables.{IsGptTable}
 use Rattle.pt_gpt.specs.Array.{array_len}
-use Rattle.pt_members.specs.Leaves.{IsLeafWith, HasLeafAt, HasLeaf, HasLeafNear, OwnsAt}
+use Rattle.pt_members.specs.Leaves.{HasLeafAt, HasLeaf, HasLeafNear, OwnsAt}
 use Rattle.pt_members.specs.laws.Grouped.{member_place, place_member}
 use Rattle.pt_members.proofs.Lowest.{Under, under_more, under_back, stands_more, stands_back}
 use Rattle.pt_members.proofs.LabelPlaces.{place_more, place_back}
-use Rattle.pt_recover.specs.Spans.{IsIn, Adds}
+use Rattle.pt_recover.specs.Spans.{Adds}
 use Rattle.pt_recover.specs.declared.trace.TracedRun.{TracedRun}
 
 pub on_ok : {T E : Type 0} (r : Result T E) (P Q : Type 0) → (P → Q) → OnOk r P → OnOk r Q
@@ -43,10 +43,6 @@ adds_both P Q old mid new first second s = (
       (λ pq. ⊎_elim (λ p. (second s).1 (inl ((first s).1 (inr p)))) (λ q. (second s).1 (inr q)) pq) is,
 )
 
--- what was added to nothing
-pub adds_only : (P : ℕ → Type 0) (old new : List TracedRun) → ((s : ℕ) → ¬ IsIn old s) → Adds old new P → (s : ℕ) → IsIn new s ↔ P s
-adds_only P old new none is s = (λ now. ⊎_elim (λ was. absurd (none s was)) (λ p. p) ((is s).0 now), λ p. (is s).1 (inr p))
-
 -- one of a row more
 pub adds_start : (F : ℕ → ℕ → Type 0) (r : List TracedRun) → Adds r r (Under F 0)
 adds_start F r = adds_none (Under F 0) r (λ s is. omega (arith, is.1))
@@ -59,18 +55,6 @@ adds_more F k old mid new first second =
 
 some_same : (x y : Member) → Some x ≡ Some y → x ≡ y
 some_same x y same = cc
-
--- what stands in a place is one member
-pub adds_at : (places : List (Option Member)) (k : ℕ) (m : Member) (old new : List TracedRun) → get_or places k None ≡ Some m
-    → Adds old new (IsLeafWith m) → Adds old new (HasLeafAt places k)
-adds_at places k m old new at is =
-    adds_same (IsLeafWith m) (HasLeafAt places k) old new (λ s leaf. (m, at, leaf))
-    (λ s leaf. subst (λ (y : Member). IsLeafWith y s) (some_same leaf.0 m (sym leaf.1 ∙ at)) leaf.2) is
-
-pub adds_empty : (places : List (Option Member)) (k : ℕ) (r : List TracedRun) → get_or places k None ≡ None
-    → Adds r r (HasLeafAt places k)
-adds_empty places k r at =
-    adds_none (HasLeafAt places k) r (λ s leaf. (let never : None ≡ Some leaf.0 = sym at ∙ leaf.1 in absurd cc))
 
 pub adds_all : (places : List (Option Member)) (k : ℕ) (old new : List TracedRun) → length places ≡ k
     → Adds old new (Under (HasLeafAt places) k) → Adds old new (HasLeaf places)
@@ -93,24 +77,11 @@ pub adds_slice : (o : Layout) (m : Member) (old new : List TracedRun) → m.kind
 adds_slice o m old new slice is =
     adds_same (HasLeaf (parts o m)) (HasLeafNear o m) old new (λ s. slice_near o m s slice) (λ s. near_slice o m s slice) is
 
-near_other : (o : Layout) (m : Member) (s : ℕ) → ¬ (m.kind ≡ KindSlice) → HasLeafNear o m s → IsLeafWith m s
-near_other o m s other (x, near, leaf) =
-    ⊎_elim (λ same. subst (λ (y : Member). IsLeafWith y s) same leaf) (λ part. absurd (other part.0)) near
-
-pub adds_other : (o : Layout) (m : Member) (old new : List TracedRun) → ¬ (m.kind ≡ KindSlice) → Adds old new (IsLeafWith m)
-    → Adds old new (HasLeafNear o m)
-adds_other o m old new other is =
-    adds_same (IsLeafWith m) (HasLeafNear o m) old new (λ s leaf. (m, inl refl, leaf)) (λ s. near_other o m s other) is
-
 pub adds_place : (b : ℕ) (o : Layout) (k : ℕ) (m : Member) (old new : List TracedRun) → get_or (slots b o.body) k None ≡ Some m
     → Adds old new (HasLeafNear o m) → Adds old new (OwnsAt b o k)
 adds_place b o k m old new at is =
     adds_same (HasLeafNear o m) (OwnsAt b o k) old new (λ s near. (m, at, near))
     (λ s there. subst (λ (y : Member). HasLeafNear o y s) (some_same there.0 m (sym there.1 ∙ at)) there.2) is
-
-pub adds_unused : (b : ℕ) (o : Layout) (k : ℕ) (r : List TracedRun) → get_or (slots b o.body) k None ≡ None → Adds r r (OwnsAt b o k)
-adds_unused b o k r at =
-    adds_none (OwnsAt b o k) r (λ s there. (let never : None ≡ Some there.0 = sym at ∙ there.1 in absurd cc))
 
 -- what the partitions of a layout own is what stands in its places, and in the labels there
 owns_there : (b : ℕ) (o : Layout) (n s : ℕ) → length (slots b o.body) ≡ n → Owns b o s → Under (OwnsAt b o) n s

@@ -21,13 +21,6 @@ pub none_owned : (b : ℕ) (l : Option Layout) (o : Layout) (r : Reach) (ws : Wr
 none_owned b l o r ws is reach none k w at owned =
     none k w at (reach w.0 (subst (λ (x : Option Layout). OwnedOf b x w.0) is owned))
 
-pub none_denoted : (b : ℕ) (l : Option Layout) (ws : Writes) → l ≡ None → NoneIs (λ (w : ℕ × List ℕ). OwnedOf b l w.0) ws
-none_denoted b l ws is k w at owned = subst (λ (x : Option Layout). OwnedOf b x w.0) is owned
-
-pub none_in_either : (b : ℕ) (old new : Option Layout) (ws : Writes) → NoneIs (λ (w : ℕ × List ℕ). OwnedOf b old w.0) ws
-    → NoneIs (λ (w : ℕ × List ℕ). OwnedOf b new w.0) ws → NoneIs (InOwned b old new) ws
-none_in_either b old new ws none_old none_new k w at is = ⊎_elim (none_old k w at) (none_new k w at) is
-
 -- the first write of which P holds is the first of which Q does, where the two say the same
 first_as : (P Q : ℕ × List ℕ → Type 0) (ws : Writes) (f : Option Found) → ((w : ℕ × List ℕ) → P w → Q w)
     → ((w : ℕ × List ℕ) → Q w → P w) → FirstWriteIs P ws f → FirstWriteIs Q ws f

@@ -61,11 +61,6 @@ module _ (b : ℕ) (phases : List Writes) (d : Sectors) (i : ℕ) (below : i < l
       refl)
       (stopped_written (phase_at phases i) (disk_after phases d i)))
 
-  pub reading_quiet : Reading (Reads b) (disk_after phases d (i + 1)) runs
-  reading_quiet = record {
-    same = λ s. (λ is. (same_meaning.reads s).1 ((reading.same s).0 is), λ is. (reading.same s).1 ((same_meaning.reads s).0 is));
-  }
-
   pub passed_quiet : (old new : Option _) (switch : Option ℕ) → Course (Denotes b) (Reads b) phases d old new i switch
       → Course (Denotes b) (Reads b) phases d old new (i + 1) switch
   passed_quiet old new switch course =

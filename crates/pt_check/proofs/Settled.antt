@@ -1,7 +1,7 @@
 -- A disk after which no phase writes a sector that recovery of the finished disk reads.
 use Rattle.std.proofs.Common.{◌≡◌, ◌∙◌, ℕ, zero, suc, ◌+◌, ◌-◌, ◌<◌, ◌≤◌, List, length, take, refl, sym, ap, subst, arith, Option, None}
 use Rattle.std.proofs.lemmas.List.{take_all}
-use Rattle.pt_sector.specs.Sectors.{Sectors, sector, Agrees}
+use Rattle.pt_sector.specs.Sectors.{Sectors, sector}
 use Rattle.pt_sector.specs.Writes.{Writes, Puts, written, after}
 use Rattle.pt_sector.specs.laws.Written.{stopped_written, length-after}
 use Rattle.pt_members.specs.declared.layout.Layout.{Layout}
@@ -19,7 +19,7 @@ use Rattle.pt_check.specs.declared.answer.Why.TheVariants.{NotATable, Owned, Fin
 use Rattle.pt_check.proofs.Firsts.{seen_on}
 use Rattle.pt_check.proofs.Keeping.{none_puts, on_stop}
 use Rattle.pt_check.proofs.Trying.{Reading, course_on, refused_neither}
-use Rattle.pt_check.proofs.Quiet.{reading_quiet, passed_quiet}
+use Rattle.pt_check.proofs.Quiet.{passed_quiet}
 
 module _ (phases : List Writes) (d : Sectors) where
   -- a phase keeps a sector that it doesn't write

@@ -83,7 +83,8 @@ returns-in-Neither-clause-tried g c = λ tells.
     let lent = lent_phase c.args.plan.now.phases.items c.loop-i.i c.index-phase.result.now lt c.index-phase.ensures in
     let after = recovered_parts g.row.B _ _ c.in_ok-after.after c.into_parts-layout.result.0 c.into_parts-layout.result.1
     (seen_on phases d c.loop-i.i (writes_of c.deref-in-loop-i-2.result.now) _ _ below
-    (lent c.deref-in-loop-i-2.result.now c.deref-in-loop-i-2.ensures.value) (ap (λ (t : Told). t.seen) (c.in_ok-keeps.ensures.same.same tells) ∙ c.loop-i.invariant.seen tells) c.put_phase.ensures.seen)
+    (lent c.deref-in-loop-i-2.result.now c.deref-in-loop-i-2.ensures.value)
+    (ap (λ (t : Told). t.seen) (c.in_ok-keeps.ensures.same.same tells) ∙ c.loop-i.invariant.seen tells) c.put_phase.ensures.seen)
     (c.in_ok-after.ensures.recovered tells) c.into_parts-layout.ensures.layout c.into_parts-layout.ensures.trace in
     refused_neither (Denotes g.row.B) (Reads g.row.B) phases d c.args.layouts.now.old c.args.layouts.now.new
     c.loop-i.i below c.loop-i.before (c.loop-i.invariant.trace tells) c.loop-i.switch (c.loop-i.invariant.course tells)
@@ -99,7 +100,8 @@ loop-i-preserved g c =
     let below = index_within c.args.plan.now.phases.items c.loop-i.i lt in
     let lent = lent_phase c.args.plan.now.phases.items c.loop-i.i c.index-phase.result.now lt c.index-phase.ensures in
     let seen = λ (tells : g.D.Disk.tells). seen_on phases d c.loop-i.i (writes_of c.deref-in-loop-i-2.result.now) _ _ below
-    (lent c.deref-in-loop-i-2.result.now c.deref-in-loop-i-2.ensures.value) (ap (λ (t : Told). t.seen) (c.in_ok-keeps.ensures.same.same tells) ∙ c.loop-i.invariant.seen tells) c.put_phase.ensures.seen in
+    (lent c.deref-in-loop-i-2.result.now c.deref-in-loop-i-2.ensures.value)
+    (ap (λ (t : Told). t.seen) (c.in_ok-keeps.ensures.same.same tells) ∙ c.loop-i.invariant.seen tells) c.put_phase.ensures.seen in
     let after = λ (tells : g.D.Disk.tells). recovered_parts g.row.B _ _ c.in_ok-after.after c.into_parts-layout.result.0
     c.into_parts-layout.result.1 (seen tells) (c.in_ok-after.ensures.recovered tells)
     c.into_parts-layout.ensures.layout c.into_parts-layout.ensures.trace in
@@ -212,7 +214,8 @@ returns-in_err-after-clause-place g c = λ tells.
     let below = index_within c.args.plan.now.phases.items c.loop-i.i lt in
     let lent = lent_phase c.args.plan.now.phases.items c.loop-i.i c.index-phase.result.now lt c.index-phase.ensures in
     let seen = seen_on phases d c.loop-i.i (writes_of c.deref-in-loop-i-2.result.now) _ _ below
-    (lent c.deref-in-loop-i-2.result.now c.deref-in-loop-i-2.ensures.value) (ap (λ (t : Told). t.seen) (c.in_ok-keeps.ensures.same.same tells) ∙ c.loop-i.invariant.seen tells) c.put_phase.ensures.seen in
+    (lent c.deref-in-loop-i-2.result.now c.deref-in-loop-i-2.ensures.value)
+    (ap (λ (t : Told). t.seen) (c.in_ok-keeps.ensures.same.same tells) ∙ c.loop-i.invariant.seen tells) c.put_phase.ensures.seen in
     rw (p.1, p.2) (phase_failed g.row.B d _ phases (c.loop-i.i + 1) c.in_err-after.field-0.0 (omega (arith, below)) seen
     (c.in_err-after.ensures.place tells))
 
@@ -260,7 +263,8 @@ loop-i-preserved-then-keeps g c =
         ap length c.deref-in-loop-i-2.ensures.value,
       );
       seen = λ tells. seen_on phases d c.loop-i.i (writes_of c.deref-in-loop-i-2.result.now) _ _ below
-          (lent c.deref-in-loop-i-2.result.now c.deref-in-loop-i-2.ensures.value) (ap (λ (t : Told). t.seen) (c.in_ok-keeps.ensures.same.same tells) ∙ c.loop-i.invariant.seen tells) c.put_phase.ensures.seen;
+          (lent c.deref-in-loop-i-2.result.now c.deref-in-loop-i-2.ensures.value)
+          (ap (λ (t : Told). t.seen) (c.in_ok-keeps.ensures.same.same tells) ∙ c.loop-i.invariant.seen tells) c.put_phase.ensures.seen;
       trace = λ tells. reading_kept g.row.B phases d c.loop-i.i below c.loop-i.before (c.loop-i.invariant.trace tells) (kept tells);
       course = λ tells. passed_kept g.row.B phases d c.loop-i.i below c.loop-i.before (c.loop-i.invariant.trace tells) (kept tells)
           (subst (λ (w : Writes). TouchedIs (IsIn c.loop-i.before) w None) (lent c.deref.result.now c.deref.ensures.value)
