@@ -143,10 +143,10 @@ def promised(crate, cells, is_law, files):
         if not re.search(pattern, source):
             sys.exit(f"docs/promises.md, {crate}: {name} of {call} isn't in {files}")
     text, count = "", len(wanted)
-    for whole, name in re.findall(r"((?:crates/\w+/)?(?:specs/)?(?:laws/)?\w+\.antt)|`([^`]*)`", cells[-1]):
+    for whole, name in re.findall(r"((?:crates/\w+/)?(?:specs/|proofs/)?(?:inner/)?\w+\.antt)|`([^`]*)`", cells[-1]):
         path = whole or (name if name.endswith(".antt") else "")
         if path:
-            text = read(path if path.startswith("crates/") else f"crates/{crate}/specs/{path.removeprefix('specs/')}")
+            text = read(path if path.startswith("crates/") else f"crates/{crate}/{path}" if "/" in path else f"crates/{crate}/specs/{path}")
         elif text and not re.search(rf"\b{re.escape(name)}\b", text):
             sys.exit(f"docs/promises.md, {crate}: {name} isn't in the definitions that it names for {call}")
         count += 1

@@ -27,9 +27,9 @@ ARGUMENT = 1
 ERRORS = (
     ("pt_words/src/error.rt", "EditError", WORD, {}, ("Memory",), "word 7: "),
     ("pt_words/src/error.rt", "Refusal", EDIT, {}, (), ""),
-    ("pt_targets/src/error.rt", "PlanError", PLAN, {}, ("Device", "Memory"), ""),
+    ("pt_cases/src/targets/error.rt", "PlanError", PLAN, {}, ("Device", "Memory"), ""),
     ("pt_check/src/answer.rt", "Why", CHECK, {}, (), ""),
-    ("pt_sound/src/finding.rt", "Finding", FINDING, {}, (), ""),
+    ("pt_layout/src/sound/finding.rt", "Finding", FINDING, {}, (), ""),
     ("pt_plan/src/repair_error.rt", "RepairError", REPAIR, {"Unsound": 2}, ("NoTable", "Device", "Memory", "Plan", "Check"), ""),
     ("pt_plan/src/like_error.rt", "LikeError", ADOPT, {"OtherSize": 1}, ("Other", "Disk"), ""),
     ("pt_recover/src/error.rt", "NoTable", TABLE, {"NoCopy": 1, "TwoExtended": 3, "TooSmall": 4}, ("Chain", "Device", "Memory"),

@@ -1,6 +1,6 @@
 #!/usr/bin/env python3
 """What follows a plan of which a call failed: a repair, or another name, of which each call fails in turn too; and sessions of three
-names. The program pt_faults tries them on disks in memory, in parts on all processors.
+names. The program test_faults tries them on disks in memory, in parts on all processors.
 
 usage: tests/failures/runs.py FAULTS
 """

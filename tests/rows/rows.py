@@ -1,6 +1,6 @@
 #!/usr/bin/env python3
 """Runs the built command on images made by docs/format.md: each line of output, each status, and what stays unchanged. With the
-program pt_doubles, each image and plan is read and checked by plain versions too.
+program test_doubles, each image and plan is read and checked by plain versions too.
 
 usage: tests/rows/rows.py PTAB [DOUBLES]
 """

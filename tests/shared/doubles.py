@@ -1,4 +1,4 @@
-"""The program pt_doubles, plain versions of verify and check, on each image and plan that the command is run on."""
+"""The program test_doubles, plain versions of verify and check, on each image and plan that the command is run on."""
 import os
 import subprocess
 import sys

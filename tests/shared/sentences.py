@@ -6,9 +6,9 @@ ROOT = os.path.dirname(os.path.dirname(os.path.dirname(os.path.abspath(__file__)
 # the errors with a sentence: the file, the type, and the rows of docs/commands.md that have its numbers; where it has none the sentence
 # stands anywhere in the document. Those of BSD labels are told by no command
 ERRORS = (("pt_gpt/src/error.rt", "CopyError", "| {} |"), ("pt_mbr/src/chain.rt", "ChainError", "| `no table: chain {}"),
-          ("pt_recover/src/error.rt", "NoTable", None), ("pt_sound/src/finding.rt", "Finding", "| `no {} "),
+          ("pt_recover/src/error.rt", "NoTable", None), ("pt_layout/src/sound/finding.rt", "Finding", "| `no {} "),
           ("pt_words/src/error.rt", "EditError", None), ("pt_words/src/error.rt", "Refusal", "| `refused: edit {}`"),
-          ("pt_check/src/answer.rt", "Why", "| `no {}"), ("pt_targets/src/error.rt", "PlanError", "| `refused: plan {}`"),
+          ("pt_check/src/answer.rt", "Why", "| `no {}"), ("pt_cases/src/targets/error.rt", "PlanError", "| `refused: plan {}`"),
           ("pt_plan/src/error.rt", "CommitError", None), ("pt_plan/src/repair_error.rt", "RepairError", None),
           ("pt_plan/src/like_error.rt", "LikeError", None),
           ("pt_apply/src/error.rt", "PlanTextError", None))

@@ -4,11 +4,11 @@ use Rattle.std.proofs.Common.{sym, ap, ◌∙◌, arith, inl, inr, min}
 use Rattle.std.specs.List.{cons_option}
 use Rattle.std.proofs.lemmas.List.{map-append}
 use Rattle.std.proofs.lemmas.List.Elements.{filter_map-append}
-use Rattle.jawefon.specs.Sectors.{Sectors}
-use Rattle.jawefon.specs.Writes.{Writes}
+use Rattle.jawefon.specs.Sectors.{Sectors, Writes}
 use Rattle.jawefon.specs.Device.{Told, Elapses, now_of, Wrote, FailedWrite, Flushed, FailedFlush}
 use Rattle.example_disk.specs.Window.{window, moved, writes_in, moment_in, told_in}
-use Rattle.example_disk.specs.Within.{moved-in, window-set, length-window, hold_in, hold_out}
+use Rattle.example_disk.proofs.WithinLemmas.{moved-in, window-set, hold_out}
+use Rattle.example_disk.specs.inner.ForFields.{length-window, hold_in}
 
 module _ (first n : ℕ) where
   one_more : (ws more : Writes) (k : ℕ) (v : List ℕ) → k < n → more ≡ ws ++ (first + k, v) ∷ []

@@ -1,2 +1,3 @@
 pub mod Window
 pub mod Within
+pub mod inner

@@ -1,8 +1,7 @@
 -- Consecutive sectors of a disk, as a disk of their own.
 use Rattle.std.specs.Prelude.{ℕ, ◌-◌, List, map, take, drop, nat_le, nat_lt, Option, Some, None, if◌then◌else◌}
 use Rattle.std.specs.List.{filter_map}
-use Rattle.jawefon.specs.Sectors.{Sectors}
-use Rattle.jawefon.specs.Writes.{Writes}
+use Rattle.jawefon.specs.Sectors.{Sectors, Writes}
 use Rattle.jawefon.specs.Device.{Told, Moment}
 
 -- n sectors from this one on

@@ -2,9 +2,9 @@
 
 ghost use Rattle.std.specs.Prelude.{◌≡◌, ◌≤◌, ◌<◌, ◌+◌, ◌^◌, IfSome};
 ghost use Rattle.std.proofs.Common.{refl};
-ghost use Rattle.jawefon.specs.Calls.{untouched_same, untouched_on};
+ghost use Rattle.jawefon.specs.ForFields.{untouched_same, untouched_on};
 ghost use Rattle.example_disk.specs.Window.{told_in};
-ghost use Rattle.example_disk.specs.Within.{fewer_bytes, sized_in, may_leave_in};
+ghost use Rattle.example_disk.specs.inner.ForFields.{fewer_bytes, sized_in, may_leave_in};
 
 use jawefon::{Disk, Fault, Lba, Moments};
 

@@ -6,10 +6,9 @@ use Rattle.pt_members.specs.declared.layout.Layout.{Layout}
 use Rattle.pt_members.specs.declared.member.Member.{Member}
 use Rattle.pt_members.specs.declared.member.Kind.{Kind}
 use Rattle.pt_members.specs.declared.member.Kind.TheVariants.{Leaf, Slice, Extended}
-use Rattle.pt_members.specs.Members.{label_of, parts, parts_in, present}
+use Rattle.pt_members.specs.Members.{label_of, parts, parts_in, present, below}
 use Rattle.pt_members.proofs.ByPlace.{parts_len}
-use Rattle.pt_sound.proofs.Presence.{no_parts}
-use Rattle.pt_members.specs.Rows.{below}
+use Rattle.pt_layout.proofs.Presence.{no_parts}
 
 -- all entries of a label
 pub parts_whole : (l : Label) (m : Member) (k : ℕ) (start list : List Member) → length l.entries ≡ 8 → 8 ≤ k

@@ -1,1 +1,2 @@
 pub mod Growing
+pub use Rattle.pt_sector.proofs.CallsLemmas

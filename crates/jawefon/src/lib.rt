@@ -37,11 +37,12 @@ mod surface;
 pub use listing::members;
 pub use pt_apply::{Plan, PlanTextError, Write, apply, plan_text, read_plan};
 pub use pt_check::{Answer, CheckError, Why, check};
-pub use pt_edit::{Code, Edit, EditError, End, Refusal, edit, guids_for, parse_edit};
-pub use pt_file::{
+pub use pt_disks::in_memory::{CrashDisk, MemDisk};
+pub use pt_disks::{
     Access, FileDisk, InUse, MemStore, NoDevice, OpenError, Store, StoreDisk, device_sector_size,
     open_plain,
 };
+pub use pt_edit::{Code, Edit, EditError, End, Refusal, edit, guids_for, parse_edit};
 pub use pt_guid::{
     Guid, GuidError, code_of_type, fresh, parse as parse_guid, type_of_code, type_of_record,
 };
@@ -50,11 +51,10 @@ pub use pt_layout::{
     Verdict, VerifyError, is_owned, is_table, locate, owner, parse_path, recover, recover_traced,
     unsound, verify,
 };
-pub use pt_memory::{CrashDisk, MemDisk};
+pub use pt_plan::runs::{Batch, Reply, session};
 pub use pt_plan::{
     After, CommitError, LikeError, PlanError, RepairError, apply_checked, commit, commit_layout,
     commit_like, layout_after, make_plan, plan_for, plan_for_layout, plan_for_repair, plan_like,
     repair,
 };
-pub use pt_runs::{Batch, Reply, session};
 pub use pt_sector::{Disk, Extent, Fault, Lba, Moments, Overlay, ReadCache, Room, Sector};

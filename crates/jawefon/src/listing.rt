@@ -1,8 +1,7 @@
 //! The partitions of a layout as a list.
 
 ghost use Rattle.std.specs.Prelude.{◌≡◌, ◌++◌, ◌<◌, ◌^◌, length, option_to_list, slice_index_or, None, IfOk, OnOk};
-ghost use Rattle.pt_members.specs.Members.{slots, parts_in, present};
-ghost use Rattle.pt_members.specs.Rows.{below, members_of, rows_at};
+ghost use Rattle.pt_members.specs.Members.{slots, parts_in, present, below, members_of, rows_at};
 
 use pt_bsd::Label;
 use pt_layout::{Kind, Layout, Member, find_label, part_slot, slot, slot_count};

@@ -1,9 +1,10 @@
 -- The answer to a plan that was made: its text, or want of memory for it.
 use Rattle.std.proofs.Common.{◌≡◌, ◌∙◌, List, ℕ, sym, Ok, Err}
 use Rattle.std.specs.Prelude.{Result}
-use Rattle.pt_sector.specs.Writes.{Writes}
+use Rattle.pt_sector.specs.Sectors.{Writes}
 use Rattle.pt_report.specs.declared.reply.Reply.{Reply}
-use Rattle.pt_answers.specs.Answers.{IsTextOrMemory, Plans}
+use Rattle.pt_answers.specs.inner.Answers.{IsTextOrMemory}
+use Rattle.pt_answers.specs.Answers.{Plans}
 use Rattle.pt_answers.specs.declared.failure.Failure.{Failure}
 use Rattle.pt_answers.specs.declared.failure.Failure.TheVariants.{Memory}
 

@@ -1,26 +1,23 @@
 -- What each subcommand answers, by what the library's call gave.
 use Rattle.std.specs.Prelude.{◌≡◌, ℕ, List, Option, Some, None, Result, Ok, Err, string_bytes}
-use Rattle.pt_sector.specs.Sectors.{Sectors}
-use Rattle.pt_sector.specs.Writes.{Writes}
+use Rattle.pt_sector.specs.Sectors.{Sectors, Writes}
 use Rattle.pt_sector.specs.Device.{Told}
 use Rattle.pt_sector.specs.declared.address.Lba.{Lba}
 use Rattle.pt_sector.specs.declared.reading.Failure.{Failure as Unread}
 use Rattle.pt_path.specs.declared.path.Path.{Path}
-use Rattle.pt_path.specs.Texts.{IsNumber, IsPath}
+use Rattle.pt_path.specs.Paths.{IsNumber, IsPath}
 use Rattle.pt_members.specs.declared.layout.Layout.{Layout}
-use Rattle.pt_members.specs.Places.{IsPlaceOf}
-use Rattle.pt_recover.specs.Answers.{TellsNothing}
-use Rattle.pt_recover.specs.Denotes.{Denotes}
+use Rattle.pt_members.specs.Tables.{IsPlaceOf}
+use Rattle.pt_recover.specs.Denotes.{TellsNothing, Denotes}
 use Rattle.pt_recover.specs.declared.error.NoTable.{NoTable}
-use Rattle.pt_sound.specs.Findings.{VerdictIs}
-use Rattle.pt_sound.specs.declared.finding.Verdict.{Verdict}
+use Rattle.pt_layout.specs.Healthy.{VerdictIs}
+use Rattle.pt_layout.specs.declared.sound.finding.Verdict.{Verdict}
 use Rattle.pt_check.specs.Answers.{Answers as AnswersPlan, Promises}
 use Rattle.pt_check.specs.declared.answer.Answer.{Answer}
 use Rattle.pt_check.specs.declared.answer.Answer.TheVariants.{No, Yes}
 use Rattle.pt_check.specs.declared.error.CheckError.{CheckError}
-use Rattle.pt_apply.specs.Canonical.{text_of}
-use Rattle.pt_apply.specs.PlanTexts.{PlanText}
-use Rattle.pt_plan.specs.Applied.{Applied, ApplyFailed}
+use Rattle.pt_apply.specs.PlanTexts.{text_of, PlanText}
+use Rattle.pt_plan.specs.Commits.{Applied, ApplyFailed}
 use Rattle.pt_plan.specs.declared.error.CommitError.{CommitError}
 use Rattle.pt_plan.specs.declared.finished.After.{After}
 use Rattle.pt_plan.specs.declared.finished.After.TheVariants as after
@@ -122,11 +119,6 @@ Applies b phases old new (Err error) = ApplyFailed b phases old new error
 abbrev pub IsTextOf : ℕ → List Writes → Reply → Type 0
 IsTextOf b phases (reply.Text text) = PlanText b phases (string_bytes text) × (string_bytes text ≡ text_of phases)
 IsTextOf b phases _ = ⊥
-
--- that, or there was no memory for it
-abbrev pub IsTextOrMemory : ℕ → List Writes → Result Reply Failure → Type 0
-IsTextOrMemory b phases (Ok reply) = IsTextOf b phases reply
-IsTextOrMemory b phases (Err told) = told ≡ failure.Memory
 
 -- `plan`, and `adopt --plan`: the text of a plan of which this holds, or a refusal, which this explains
 abbrev pub Plans : {E : Type 0} → ℕ → (List Writes → Type 0) → (E → Type 0) → (E → Failure) → Result Reply Failure → Type 0

@@ -3,28 +3,28 @@ use Rattle.std.specs.Prelude.{◌≡◌, ◌⊎◌, ℕ, List, [], ◌∷◌, �
 use Rattle.std.specs.Io.KnownBytes.{Appends}
 use Rattle.std.specs.declared.io.ErrorKind.{ErrorKind}
 use Rattle.std.specs.declared.io.ErrorKind.TheVariants as kind
-use Rattle.pt_file.specs.declared.device.NoDevice.{NoDevice}
-use Rattle.pt_file.specs.declared.device.NoDevice.TheVariants as opening
-use Rattle.pt_file.specs.declared.open.OpenError.{OpenError}
-use Rattle.pt_file.specs.declared.open.OpenError.TheVariants as of_file
+use Rattle.pt_disks.specs.declared.device.NoDevice.{NoDevice}
+use Rattle.pt_disks.specs.declared.device.NoDevice.TheVariants as opening
+use Rattle.pt_disks.specs.declared.open.OpenError.{OpenError}
+use Rattle.pt_disks.specs.declared.open.OpenError.TheVariants as of_file
 use Rattle.pt_line.specs.declared.line.LineError.{LineError}
 use Rattle.pt_line.specs.declared.line.LineError.TheVariants as of_line
 use Rattle.pt_sector.specs.declared.reading.Failure.{Failure as Unread}
 use Rattle.pt_sector.specs.declared.reading.Failure.TheVariants as unread
-use Rattle.pt_words.specs.Numbers.{refusal_number}
-use Rattle.pt_targets.specs.Errors.{plan_error_number}
-use Rattle.pt_check.specs.Numbers.{why_number}
+use Rattle.pt_words.specs.Words.{refusal_number}
+use Rattle.pt_cases.specs.Unplanned.{plan_error_number}
+use Rattle.pt_check.specs.Answers.{why_number}
 use Rattle.pt_check.specs.declared.error.CheckError.{CheckError}
 use Rattle.pt_check.specs.declared.error.CheckError.TheVariants as check
-use Rattle.pt_plan.specs.Mending.{repair_error_number}
+use Rattle.pt_plan.specs.Repairs.{repair_error_number}
 use Rattle.pt_plan.specs.declared.error.CommitError.{CommitError}
 use Rattle.pt_plan.specs.declared.error.CommitError.TheVariants as commit
 use Rattle.pt_plan.specs.declared.like_error.LikeError.{LikeError}
 use Rattle.pt_plan.specs.declared.like_error.LikeError.TheVariants as like
 use Rattle.pt_plan.specs.declared.repair_error.RepairError.{RepairError}
 use Rattle.pt_plan.specs.declared.repair_error.RepairError.TheVariants as repair
-use Rattle.pt_report.specs.Lines.{line}
-use Rattle.pt_report.specs.NoTables.{device_line, memory_line, no_table_text}
+use Rattle.pt_report.specs.Shown.{line}
+use Rattle.pt_report.specs.Replies.{device_line, memory_line, no_table_text}
 use Rattle.pt_answers.specs.declared.failure.Failure.{Failure}
 use Rattle.pt_answers.specs.declared.failure.Failure.TheVariants.{NotText, Usage, InUseAlone, BadWord, BadFresh, BadPath, BadNumber, Edit}
 use Rattle.pt_answers.specs.declared.failure.Failure.TheVariants.{Plan, Check, Repair, PlanText, OtherSize, OtherOpening, Other, NoTable}

@@ -1,17 +1,20 @@
--- The exit statuses.
+-- Exit statuses, and what is printed.
 use Rattle.std.specs.Prelude.{ℕ, None}
-use Rattle.pt_file.specs.declared.device.NoDevice.{NoDevice}
-use Rattle.pt_file.specs.declared.device.NoDevice.TheVariants as opening
+use Rattle.pt_disks.specs.declared.device.NoDevice.{NoDevice}
+use Rattle.pt_disks.specs.declared.device.NoDevice.TheVariants as opening
 use Rattle.pt_check.specs.declared.answer.Answer.TheVariants as answer
 use Rattle.pt_recover.specs.declared.error.NoTable.{NoTable as Reason}
 use Rattle.pt_recover.specs.declared.error.NoTable.TheVariants as reason
 use Rattle.pt_report.specs.declared.reply.Reply.{Reply}
 use Rattle.pt_report.specs.declared.reply.Reply.TheVariants as reply
-use Rattle.pt_sound.specs.declared.finding.Verdict.TheVariants as verdict
+use Rattle.pt_layout.specs.declared.sound.finding.Verdict.TheVariants as verdict
 use Rattle.pt_answers.specs.declared.failure.Failure.{Failure}
 use Rattle.pt_answers.specs.declared.failure.Failure.TheVariants as failure
 use Rattle.pt_answers.specs.declared.status.Status.{Status}
 use Rattle.pt_answers.specs.declared.status.Status.TheVariants.{Done, No, Usage, Refused, NoTable, Device, Memory}
+use Rattle.pt_answers.specs.declared.failure.Failure.TheVariants.{ClosedPipe}
+
+-- ## The exit statuses.
 
 abbrev pub status_code : Status → ℕ
 status_code Done = 0
@@ -65,3 +68,10 @@ failure_status (failure.Opening why) = opening_status why
 failure_status failure.Device = Device
 failure_status failure.ClosedPipe = Device
 failure_status failure.Memory = Memory
+
+-- ## What an output stream that failed comes to.
+
+abbrev pub IsOfOutput : Failure → Type 0
+IsOfOutput ClosedPipe = Unit {0}
+IsOfOutput failure.Device = Unit {0}
+IsOfOutput _ = ⊥

@@ -1,10 +1,10 @@
 //! `adopt`.
 
 ghost use Rattle.std.specs.Prelude.{◌≡◌, ◌↔◌, Err, IfErr};
-ghost use Rattle.pt_sector.specs.Calls.{Blames, with_fault};
-ghost use Rattle.pt_sector.specs.Reads.{OnlyReads};
+ghost use Rattle.pt_sector.specs.Device.{Blames, with_fault};
+ghost use Rattle.pt_sector.specs.Overlays.{OnlyReads};
 ghost use Rattle.pt_sector.specs.Sectors.{IsSectorSize};
-ghost use Rattle.pt_plan.specs.Like.{fault_in_disk, fault_in_other, BecomesLike, IsLikePlan, LikeHidesNoFailure, NotLike};
+ghost use Rattle.pt_plan.specs.Layouts.{fault_in_disk, fault_in_other, BecomesLike, IsLikePlan, LikeHidesNoFailure, NotLike};
 ghost use Rattle.pt_answers.specs.Answers.{Answers, Plans, adopt_reply};
 ghost use Rattle.pt_answers.specs.Failures.{like_failure};
 

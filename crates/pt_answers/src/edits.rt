@@ -1,11 +1,11 @@
 //! `edit` and `plan`.
 
 ghost use Rattle.std.specs.Prelude.{◌≡◌, IfErr};
-ghost use Rattle.pt_sector.specs.Calls.{Blames, with_fault};
-ghost use Rattle.pt_sector.specs.Reads.{OnlyReads};
+ghost use Rattle.pt_sector.specs.Device.{Blames, with_fault};
+ghost use Rattle.pt_sector.specs.Overlays.{OnlyReads};
 ghost use Rattle.pt_sector.specs.Sectors.{IsSectorSize};
 ghost use Rattle.pt_plan.specs.Batches.{Commits, IsPlanned, IsRefusal};
-ghost use Rattle.pt_plan.specs.Failed.{commit_fault_in as fault_in, HidesNoFailure};
+ghost use Rattle.pt_plan.specs.Commits.{commit_fault_in as fault_in, HidesNoFailure};
 ghost use Rattle.pt_answers.specs.Answers.{Answers, Plans, edit_reply};
 ghost use Rattle.pt_answers.specs.Failures.{commit_failure};
 

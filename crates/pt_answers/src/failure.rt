@@ -4,11 +4,11 @@ ghost use Rattle.std.specs.Prelude.{◌≡◌, ◌++◌, codes, IfSome, OnOk};
 ghost use Rattle.std.specs.Io.KnownBytes.{Appends};
 ghost use Rattle.std.specs.IoError.{error_kind};
 ghost use Rattle.pt_answers.specs.Failures.{IsTold, failure_text, opening_text, output_failure, refusal_line};
-ghost use Rattle.pt_report.specs.NoTables.{no_table_text};
+ghost use Rattle.pt_report.specs.Replies.{no_table_text};
 ghost use Rattle.pt_answers.specs.Statuses.{failure_status, opening_status as status_of_opening, reason_status};
 
 use crate::status::Status;
-use pt_file::NoDevice;
+use pt_disks::NoDevice;
 use pt_layout::NoTable;
 use pt_report::print_no_table;
 use std::io;

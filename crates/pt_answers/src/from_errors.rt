@@ -7,7 +7,7 @@ ghost use Rattle.pt_answers.specs.declared.failure.Failure.TheVariants as failur
 
 use crate::failure::Failure;
 use pt_check::CheckError;
-use pt_file::{NoDevice, OpenError};
+use pt_disks::{NoDevice, OpenError};
 use pt_layout::{NoTable, VerifyError};
 use pt_line::LineError;
 use pt_plan::{CommitError, LikeError, RepairError};

@@ -3,7 +3,7 @@
 ghost use Rattle.std.specs.Prelude.{◌<◌, All, length};
 ghost use Rattle.pt_sector.specs.Sectors.{IsSectorSize};
 ghost use Rattle.pt_apply.specs.Plans.{phases_of};
-ghost use Rattle.pt_answers.specs.Answers.{IsTextOrMemory};
+ghost use Rattle.pt_answers.specs.inner.Answers.{IsTextOrMemory};
 
 use crate::failure::Failure;
 use pt_apply::{Plan, plan_text};

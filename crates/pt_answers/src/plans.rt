@@ -1,14 +1,12 @@
 //! `check` and `apply`.
 
 ghost use Rattle.std.specs.Prelude.{◌≡◌, IfOk};
-ghost use Rattle.pt_sector.specs.Calls.{Blames};
-ghost use Rattle.pt_sector.specs.Reads.{OnlyReads};
-ghost use Rattle.pt_sector.specs.Since.{LeavesOnly};
+ghost use Rattle.pt_sector.specs.Device.{Blames, LeavesOnly};
+ghost use Rattle.pt_sector.specs.Overlays.{OnlyReads};
 ghost use Rattle.pt_sector.specs.Sectors.{IsSectorSize};
 ghost use Rattle.pt_apply.specs.Plans.{phases_of};
-ghost use Rattle.pt_check.specs.Failed.{fault_in as check_fault_in};
-ghost use Rattle.pt_plan.specs.Applied.{SafelyStopped};
-ghost use Rattle.pt_plan.specs.Failed.{commit_fault_in as fault_in};
+ghost use Rattle.pt_check.specs.Answers.{fault_in as check_fault_in};
+ghost use Rattle.pt_plan.specs.Commits.{SafelyStopped, commit_fault_in as fault_in};
 ghost use Rattle.pt_answers.specs.Answers.{Answers, Applies, Checks, apply_reply, check_reply};
 
 use crate::failure::Failure;

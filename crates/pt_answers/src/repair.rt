@@ -1,10 +1,10 @@
 //! `repair`.
 
 ghost use Rattle.std.specs.Prelude.{◌≡◌, IfErr};
-ghost use Rattle.pt_sector.specs.Calls.{Blames};
+ghost use Rattle.pt_sector.specs.Device.{Blames};
 ghost use Rattle.pt_sector.specs.Sectors.{IsSectorSize};
 ghost use Rattle.pt_plan.specs.Batches.{Repairs};
-ghost use Rattle.pt_plan.specs.Mending.{repair_fault_in as fault_in, MendHidesNoFailure};
+ghost use Rattle.pt_plan.specs.Repairs.{repair_fault_in as fault_in, MendHidesNoFailure};
 ghost use Rattle.pt_answers.specs.Answers.{Answers, repair_reply};
 
 use crate::failure::Failure;

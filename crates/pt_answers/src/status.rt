@@ -4,8 +4,7 @@ ghost use Rattle.std.specs.Prelude.{◌≡◌, OnOk, IfOk, IfErr};
 ghost use Rattle.std.specs.Io.KnownBytes.{Appends};
 ghost use Rattle.pt_report.specs.Replies.{reply_text};
 ghost use Rattle.pt_answers.specs.Failures.{output_failure};
-ghost use Rattle.pt_answers.specs.Statuses.{reply_status, status_code};
-ghost use Rattle.pt_answers.specs.Outputs.{IsOfOutput};
+ghost use Rattle.pt_answers.specs.Statuses.{reply_status, status_code, IsOfOutput};
 
 use crate::failure::Failure;
 use pt_report::Reply;

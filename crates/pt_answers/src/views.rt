@@ -1,13 +1,13 @@
 //! `show`, `verify` and `locate`.
 
 ghost use Rattle.std.specs.Prelude.{◌≡◌, IfOk};
-ghost use Rattle.pt_sector.specs.Calls.{Blames};
-ghost use Rattle.pt_sector.specs.Reads.{OnlyReads, fault_of};
+ghost use Rattle.pt_sector.specs.Device.{Blames};
+ghost use Rattle.pt_sector.specs.Overlays.{OnlyReads, fault_of};
 ghost use Rattle.pt_sector.specs.Sectors.{IsSectorSize};
-ghost use Rattle.pt_recover.specs.Answers.{fault_in};
+ghost use Rattle.pt_recover.specs.Denotes.{fault_in};
 ghost use Rattle.pt_apply.specs.Plans.{phases_of};
-ghost use Rattle.pt_check.specs.Failed.{fault_in as check_fault_in};
-ghost use Rattle.pt_plan.specs.Finished.{AfterIs};
+ghost use Rattle.pt_check.specs.Answers.{fault_in as check_fault_in};
+ghost use Rattle.pt_plan.specs.Layouts.{AfterIs};
 ghost use Rattle.pt_answers.specs.Answers.{Answers, Locates, NamesPlace, PlaceIs, Recovers, Verifies, after_reply, locate_reply};
 ghost use Rattle.pt_answers.specs.Answers.{show_reply, verify_reply};
 

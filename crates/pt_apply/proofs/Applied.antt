@@ -3,17 +3,15 @@ use Rattle.std.proofs.Common.{◌≡◌, ◌∙◌, inl, inr, ⊎_elim, ℕ, zer
 use Rattle.std.proofs.Common.{Some, refl, sym, ap, subst, arith, add-one, Vec}
 use Rattle.std.specs.declared.alloc.Global.{Global}
 use Rattle.std.proofs.lemmas.List.{append-nil, append_assoc, length-map}
-use Rattle.pt_sector.specs.Sectors.{Sectors, sector}
-use Rattle.pt_sector.specs.Writes.{Writes, Stopped, Puts, written, after}
-use Rattle.pt_sector.specs.Device.{Told, Moment, MayLeave, LeftBy}
-use Rattle.pt_sector.specs.Since.{LeavesOnly}
-use Rattle.pt_sector.specs.laws.Since.{leaves_through}
+use Rattle.pt_sector.specs.Sectors.{Sectors, sector, Writes, Stopped, Puts, written, after}
+use Rattle.pt_sector.specs.Device.{Told, Moment, MayLeave, LeftBy, LeavesOnly}
+use Rattle.pt_sector.proofs.Since.{leaves_through}
 use Rattle.pt_sector.specs.declared.disk.Fault.{Fault}
-use Rattle.pt_apply.specs.Plans.{writes_of, phases_in, faults_of}
-use Rattle.pt_apply.specs.Runs.{Settled, StoppedIn, StoppedSomewhere, Passed, Reached, CallFailed, FaultOf}
-use Rattle.pt_apply.specs.Moments.{Within, Ended}
+use Rattle.pt_apply.specs.Plans.{writes_of, phases_in, faults_of, Settled, StoppedIn, StoppedSomewhere, Passed, Reached, CallFailed}
+use Rattle.pt_apply.specs.Plans.{FaultOf}
+use Rattle.pt_apply.specs.inner.Plans.{Within, Ended}
 use Rattle.pt_apply.specs.declared.plan.Write.{Write}
-use Rattle.pt_apply.specs.laws.Items.{phase-at}
+use Rattle.pt_apply.proofs.ItemsLemmas.{phase-at}
 use Rattle.pt_apply.proofs.Items.{after-more, length-phases}
 
 -- a settled disk is stopped before the first write of the next phase

@@ -9,15 +9,14 @@ use Rattle.std.specs.Prelude.{IsOk, IfSome}
 use Rattle.std.specs.Option.{MatchOption}
 use Rattle.std.specs.Bool.{MatchBool}
 use Rattle.std.proofs.Math.Seq.{get_or-append_seam}
-use Rattle.pt_sector.specs.Writes.{Writes}
-use Rattle.pt_apply.specs.Faults.{MayFollow}
+use Rattle.pt_sector.specs.Sectors.{Writes}
+use Rattle.pt_apply.specs.PlanTexts.{MayFollow, IsWriteLine, IsFlushLine, LineItem, Put, Flush, IsLine}
 use Rattle.std.specs.Result.{result_unwrap_or}
 use Rattle.hex.specs.Hex.{decode_sized, is_hex_digit}
 use Rattle.hex.specs.declared.error.FromHexError.{FromHexError}
 use Rattle.hex.proofs.HexLemmas.{IsOk-decode_sized}
 use Rattle.pt_path.proofs.Numbers.{lacks}
-use Rattle.pt_apply.specs.Reading.{Lacks}
-use Rattle.pt_apply.specs.Lines.{IsWriteLine, IsFlushLine, LineItem, Put, Flush, IsLine}
+use Rattle.pt_apply.specs.inner.PlanTexts.{Lacks}
 
 -- what holds anyway is said of none
 pub if_none : {X P : Type 0} (found : Option X) → P → IfNone found P

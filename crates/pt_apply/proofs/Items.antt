@@ -1,11 +1,9 @@
 -- The write at an index, and the phase at an index.
-use Rattle.std.proofs.Common.{◌≡◌, ◌∙◌, inl, inr, ℕ, zero, suc, ◌+◌, ◌<◌, ◌≤◌, List, [], ◌∷◌, length, slice_get, Some, drop, take}
-use Rattle.std.proofs.Common.{get_or, refl, sym, ap, arith, add-one, Vec}
+use Rattle.std.proofs.Common.{◌≡◌, ◌∙◌, inl, inr, ℕ, zero, suc, ◌+◌, ◌<◌, ◌≤◌, List, [], ◌∷◌, length, slice_get, Some, drop, take, get_or}
+use Rattle.std.proofs.Common.{refl, sym, ap, arith, add-one, Vec, Ok, Err}
 use Rattle.std.specs.Prelude.{Result, IfErr}
-use Rattle.std.proofs.Common.{Ok, Err}
 use Rattle.std.specs.declared.alloc.Global.{Global}
-use Rattle.pt_sector.specs.Sectors.{Sectors}
-use Rattle.pt_sector.specs.Writes.{Writes, Puts, written, after}
+use Rattle.pt_sector.specs.Sectors.{Sectors, Writes, Puts, written, after}
 use Rattle.pt_sector.specs.declared.disk.Fault.{Fault}
 use Rattle.pt_sector.specs.declared.disk.Fault.TheVariants as fault
 use Rattle.pt_apply.specs.Plans.{writes_of, phases_in, faults_of}

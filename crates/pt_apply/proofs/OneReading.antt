@@ -3,10 +3,9 @@ use Rattle.std.proofs.Common.{◌≡◌, ◌⊎◌, inl, inr, ◌<◌, ◌+◌, 
 use Rattle.std.proofs.Common.{subst, arith, append_assoc}
 use Rattle.std.proofs.lemmas.List.{append-nil}
 use Rattle.std.proofs.lemmas.List.Elements.{All-head, All-tail}
-use Rattle.pt_sector.specs.Writes.{Writes}
-use Rattle.pt_apply.specs.Lines.{joined, IsWriteLine, IsFlushLine, LineItem, Put, Flush, IsLine, AreLines}
-use Rattle.pt_apply.specs.PlanTexts.{PlanText, steps_of, puts, NoneEmpty}
-use Rattle.pt_apply.specs.Faults.{MayFollow, IsBadLine, LacksFlush, IsTextFault}
+use Rattle.pt_sector.specs.Sectors.{Writes}
+use Rattle.pt_apply.specs.PlanTexts.{joined, IsWriteLine, IsFlushLine, LineItem, Put, Flush, IsLine, AreLines, PlanText, steps_of, puts}
+use Rattle.pt_apply.specs.PlanTexts.{NoneEmpty, MayFollow, IsBadLine, LacksFlush, IsTextFault}
 use Rattle.pt_apply.specs.declared.error.PlanTextError.{PlanTextError}
 use Rattle.pt_apply.specs.declared.error.PlanTextError.TheVariants.{BadLine, NoFinalFlush, Memory}
 use Rattle.pt_apply.proofs.Cuts.{one_cut, line_lineless, step_one}

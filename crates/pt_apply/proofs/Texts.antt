@@ -1,16 +1,16 @@
 -- The canonical text is the plan's.
-use Rattle.std.proofs.Common.{◌≡◌, ◌<◌, ◌^◌, ◌+◌, ℕ, List, [], ◌∷◌, ◌++◌, length, map, refl, sym, ap, ◌∙◌, subst, arith, append_assoc, ◌≤◌}
-use Rattle.std.proofs.Common.{get_or, take, Result, Ok, Err}
+use Rattle.std.proofs.Common.{◌≡◌, ◌<◌, ◌^◌, ◌+◌, ℕ, List, [], ◌∷◌, ◌++◌, length, map, refl, sym, ap, ◌∙◌, subst, arith, append_assoc}
+use Rattle.std.proofs.Common.{◌≤◌, get_or, take, Result, Ok, Err}
 use Rattle.std.proofs.lemmas.List.{append-nil, map-append, take_more, take_all, length-map}
 use Rattle.std.proofs.lemmas.List.Elements.{All-nil, All-cons, All-head, All-tail}
 use Rattle.std.specs.Prelude.{All, OnOk, Vec}
 use Rattle.std.specs.declared.alloc.Global.{Global}
 use Rattle.pt_apply.specs.declared.plan.Write.{Write}
 use Rattle.pt_apply.specs.Plans.{writes_of, phases_in}
-use Rattle.pt_sector.specs.Writes.{Writes}
-use Rattle.pt_apply.specs.Lines.{joined, Flush, AreLines}
-use Rattle.pt_apply.specs.PlanTexts.{PlanText, steps_of, puts, NoneEmpty}
-use Rattle.pt_apply.specs.Canonical.{write_line, HasLine, HaveLines, writes_text, text_of}
+use Rattle.pt_sector.specs.Sectors.{Writes}
+use Rattle.pt_apply.specs.PlanTexts.{joined, Flush, AreLines, PlanText, steps_of, puts, NoneEmpty, write_line, writes_text, text_of}
+use Rattle.pt_apply.specs.inner.PlanTexts.{HasLine}
+use Rattle.pt_apply.proofs.CanonicalLemmas.{HaveLines}
 use Rattle.hex.specs.Hex.{encode_lower, IsBytes}
 use Rattle.hex.proofs.HexLemmas.{decode_sized-encode_lower}
 use Rattle.std.specs.List.{concat}

@@ -1,22 +1,19 @@
 -- A phase as it is written.
-use Rattle.std.proofs.Common.{◌≡◌, ◌∙◌, ◌⊎◌, inl, inr, ⊎_elim, ℕ, ◌+◌, ◌<◌, List, [], ◌∷◌, ◌++◌, length, slice_set, refl, sym, ap}
-use Rattle.std.proofs.Common.{subst, arith, length-set, length-append}
+use Rattle.std.proofs.Common.{◌≡◌, ◌∙◌, ◌⊎◌, inl, inr, ⊎_elim, ℕ, ◌+◌, ◌<◌, List, [], ◌∷◌, ◌++◌, length, slice_set, refl, sym, ap, subst}
+use Rattle.std.proofs.Common.{arith, length-set, length-append, Ok, Err}
 use Rattle.std.specs.Prelude.{Result, OnOk, OnErr, IfErr}
-use Rattle.std.proofs.Common.{Ok, Err}
 use Rattle.std.proofs.lemmas.Bool.{cases_eq}
 use Rattle.std.proofs.lemmas.List.{append-nil, append_assoc}
-use Rattle.pt_apply.specs.Moments.{left_split}
+use Rattle.pt_apply.proofs.MomentsLemmas.{left_split}
 use Rattle.std.proofs.lemmas.Grind.{common_steps}
-use Rattle.pt_sector.specs.Sectors.{Sectors, sector}
-use Rattle.pt_sector.specs.Writes.{Writes, Stopped, MayHold, Puts, written}
-use Rattle.pt_sector.specs.laws.Written.{length-written}
+use Rattle.pt_sector.specs.Sectors.{Sectors, sector, Writes, Stopped, MayHold, Puts, written}
+use Rattle.pt_sector.specs.inner.ForFields.{length-written}
 use Rattle.pt_sector.specs.Device.{Told, Moment, MayLeave, TakesWrite, Wrote, FailedWrite, Flushed, FailedFlush, Elapses, now_of}
 use Rattle.pt_sector.specs.declared.disk.Fault.{Fault}
 use Rattle.pt_sector.specs.declared.disk.Fault.TheVariants as fault
 use Rattle.pt_apply.specs.declared.plan.Write.{Write}
-use Rattle.pt_apply.specs.Plans.{writes_of}
-use Rattle.pt_apply.specs.Runs.{Settled}
-use Rattle.pt_apply.specs.Moments.{Within, Ended}
+use Rattle.pt_apply.specs.Plans.{writes_of, Settled}
+use Rattle.pt_apply.specs.inner.Plans.{Within, Ended}
 use Rattle.pt_apply.proofs.Items.{fault-of-flush}
 
 -- the phase ws on d is being written: index writes were done, rest are left

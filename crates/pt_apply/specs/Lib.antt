@@ -1,11 +1,4 @@
-pub mod Moments
-pub mod Plans
-pub mod Promises
-pub mod Runs
-pub mod Lines
 pub mod PlanTexts
-pub mod Faults
-pub mod Canonical
-pub mod Reading
+pub mod Plans
 pub mod Sentences
-pub mod laws
+pub mod inner

@@ -1,7 +1,7 @@
 //! Why a text is no plan's.
 
 ghost use Rattle.std.specs.Prelude.{◌≡◌, Some};
-ghost use Rattle.pt_apply.specs.Faults.{error_number};
+ghost use Rattle.pt_apply.specs.PlanTexts.{error_number};
 ghost use Rattle.pt_apply.specs.declared.error.PlanTextError.TheVariants.{Memory};
 ghost use Rattle.pt_apply.specs.Sentences.{plan_text_error_sentence};
 

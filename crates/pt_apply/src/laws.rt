@@ -1,9 +1,8 @@
 //! What holds of texts, whatever they are. Each function does nothing: its contract is the law.
 
 ghost use Rattle.std.specs.Prelude.{◌≡◌, ℕ, List};
-ghost use Rattle.pt_sector.specs.Writes.{Writes};
-ghost use Rattle.pt_apply.specs.PlanTexts.{PlanText};
-ghost use Rattle.pt_apply.specs.Faults.{IsTextFault};
+ghost use Rattle.pt_sector.specs.Sectors.{Writes};
+ghost use Rattle.pt_apply.specs.PlanTexts.{PlanText, IsTextFault};
 ghost use Rattle.pt_apply.specs.declared.error.PlanTextError.{PlanTextError as ErrorValue};
 
 /// A text is one plan's at most.

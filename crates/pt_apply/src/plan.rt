@@ -1,11 +1,9 @@
 ghost use Rattle.std.specs.Prelude.{◌≡◌, ◌≤◌, ◌<◌, ◌+◌, ℕ, length, Some, slice_get, OnOk, IfErr};
-ghost use Rattle.pt_sector.specs.Sectors.{IsSectorSize};
-ghost use Rattle.pt_sector.specs.Writes.{Stopped, written};
-ghost use Rattle.pt_sector.specs.Calls.{Blames};
-ghost use Rattle.pt_sector.specs.Since.{LeavesOnly};
-ghost use Rattle.pt_apply.specs.Plans.{writes_of, phases_of, finished, faults_of, InRange, PhaseInRange};
-ghost use Rattle.pt_apply.specs.Runs.{Settled, StoppedSomewhere, Reached, CallFailed, FaultOf};
-ghost use Rattle.pt_apply.specs.Moments.{Within, Ended};
+ghost use Rattle.pt_sector.specs.Sectors.{IsSectorSize, Stopped, written};
+ghost use Rattle.pt_sector.specs.Device.{Blames, LeavesOnly};
+ghost use Rattle.pt_apply.specs.Plans.{writes_of, phases_of, finished, faults_of, InRange, PhaseInRange, Settled, StoppedSomewhere};
+ghost use Rattle.pt_apply.specs.Plans.{Reached, CallFailed, FaultOf};
+ghost use Rattle.pt_apply.specs.inner.Plans.{Within, Ended};
 
 use pt_sector::{Disk, Fault, Lba, Sector};
 

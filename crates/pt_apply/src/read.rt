@@ -4,10 +4,8 @@ ghost use Rattle.std.specs.Prelude.{◌≡◌, ◌≢◌, ◌<◌, ◌++◌, ◌
 ghost use Rattle.hex.specs.Hex.{decode_sized};
 ghost use Rattle.pt_sector.specs.Sectors.{IsSectorSize};
 ghost use Rattle.pt_apply.specs.Plans.{phases_of};
-ghost use Rattle.pt_apply.specs.Lines.{LineItem, IsLine, IsWriteLine};
-ghost use Rattle.pt_apply.specs.PlanTexts.{PlanText};
-ghost use Rattle.pt_apply.specs.Faults.{TextRefused};
-ghost use Rattle.pt_apply.specs.Reading.{Lacks, step_of, TakesLine};
+ghost use Rattle.pt_apply.specs.PlanTexts.{LineItem, IsLine, IsWriteLine, PlanText, TextRefused};
+ghost use Rattle.pt_apply.specs.inner.PlanTexts.{Lacks, step_of, TakesLine};
 
 use crate::error::PlanTextError;
 use crate::plan::{Plan, Write};

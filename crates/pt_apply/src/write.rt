@@ -4,8 +4,8 @@ ghost use Rattle.std.specs.Prelude.{◌≡◌, ◌++◌, ◌<◌, All, length, I
 ghost use Rattle.std.specs.String.{string_bytes};
 ghost use Rattle.pt_sector.specs.Sectors.{IsSectorSize};
 ghost use Rattle.pt_apply.specs.Plans.{writes_of, phases_of};
-ghost use Rattle.pt_apply.specs.Canonical.{HasLine, write_text, phase_text, text_of};
-ghost use Rattle.pt_apply.specs.PlanTexts.{PlanText};
+ghost use Rattle.pt_apply.specs.inner.PlanTexts.{HasLine};
+ghost use Rattle.pt_apply.specs.PlanTexts.{write_text, phase_text, text_of, PlanText};
 
 use crate::plan::{Plan, Write};
 use std::alloc::{AllocError, Global};

@@ -5,9 +5,8 @@ use Rattle.std.specs.Prelude.{slice_index_or}
 use Rattle.std.proofs.lemmas.Bool.{cases_lt}
 use Rattle.std.proofs.lemmas.List.{drop-drop, drop_at, length-take-le}
 use Rattle.byteorder.specs.Endian.{little_number}
-use Rattle.pt_bsd.specs.Bytes.{number_at}
-use Rattle.pt_bsd.specs.Label.{HasEntry, place_of}
-use Rattle.pt_bsd.specs.Writing.{put_at, entry_from, LabelEntryFits, ChangesOnly, EntryIsPut, PutSoFar}
+use Rattle.pt_bsd.specs.Labels.{number_at, HasEntry, place_of}
+use Rattle.pt_bsd.specs.inner.Labels.{put_at, entry_from, LabelEntryFits, ChangesOnly, EntryIsPut, PutSoFar}
 use Rattle.pt_bsd.specs.declared.label.LabelEntry.{LabelEntry}
 use Rattle.pt_bsd.proofs.Front.{read_back}
 use Rattle.pt_bsd.proofs.Parts.{range_kept, changes_wider, changes_both}

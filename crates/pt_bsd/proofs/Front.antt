@@ -5,7 +5,7 @@ use Rattle.std.proofs.lemmas.List.{take_at}
 use Rattle.std.proofs.Math.Seq.{drop-append-add}
 use Rattle.byteorder.specs.Endian.{little_number, little_bytes}
 use Rattle.byteorder.specs.Numbers.{little_number-reads_back}
-use Rattle.pt_bsd.specs.Writing.{put_at, head_from, HeadFits, tail_from, TailFits, HasFront}
+use Rattle.pt_bsd.specs.inner.Labels.{put_at, head_from, HeadFits, tail_from, TailFits, HasFront}
 use Rattle.pt_bsd.specs.declared.label.Label.{Label}
 
 pub read_back : (n x : ℕ) → x < 256 ^ n → little_number n (little_bytes n x) ≡ x

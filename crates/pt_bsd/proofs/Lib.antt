@@ -1,5 +1,9 @@
-pub mod Parts
-pub mod Front
+pub mod CountedLemmas
 pub mod Entries
+pub mod Equal
+pub mod Front
+pub mod Parts
+pub mod ReadingLemmas
 pub mod Sums
+pub mod Terms
 pub mod Written

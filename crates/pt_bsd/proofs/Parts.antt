@@ -3,7 +3,7 @@ use Rattle.std.proofs.Common.{◌≡◌, ◌⊎◌, ℕ, ◌+◌, ◌-◌, ◌�
 use Rattle.std.proofs.Common.{append_assoc, length-append, length-drop}
 use Rattle.std.specs.Prelude.{slice_range}
 use Rattle.std.proofs.lemmas.List.{take-take, drop-drop, drop-take, drop_at, take_at, length-take-le}
-use Rattle.pt_bsd.specs.Writing.{put_at, ChangesOnly}
+use Rattle.pt_bsd.specs.inner.Labels.{put_at, ChangesOnly}
 
 -- a part behind what stands already
 pub put_next : (i : ℕ) (part front behind : List ℕ) → length front ≡ i

@@ -7,9 +7,9 @@ use Rattle.std.proofs.lemmas.List.{drop_more, take-append-drop, length-take-le}
 use Rattle.std.proofs.Math.Seq.{take-append-add}
 use Rattle.std.proofs.lemmas.List.Sums.{fold-append}
 use Rattle.byteorder.specs.Endian.{little_number, little_bytes}
-use Rattle.pt_sum.specs.Words.{words, xor_of}
-use Rattle.pt_bsd.specs.Bytes.{number_at}
-use Rattle.pt_bsd.specs.Writing.{put_at}
+use Rattle.pt_sum.specs.Sums.{words, xor_of}
+use Rattle.pt_bsd.specs.Labels.{number_at}
+use Rattle.pt_bsd.specs.inner.Labels.{put_at}
 use Rattle.pt_bsd.proofs.Front.{read_back}
 
 -- a sum that begins with a word is that word and the sum from none

@@ -4,11 +4,11 @@ use Rattle.std.proofs.Common.{inl, inr}
 use Rattle.std.specs.Prelude.{slice_range, slice_index_or}
 use Rattle.std.proofs.lemmas.Bool.{cases_lt}
 use Rattle.byteorder.specs.Endian.{little_number}
-use Rattle.pt_sum.specs.Words.{xor_of}
-use Rattle.pt_bsd.specs.Bytes.{number_at}
-use Rattle.pt_bsd.specs.Label.{HasSum, HasRaw, HasLabelFields, IsEntry, LabelBytes, entry_of, place_of, counted_in}
-use Rattle.pt_bsd.specs.Counted.{count_of, IsThere, IsCounted, IsRaw, FitsSlice}
-use Rattle.pt_bsd.specs.Writing.{ChangesOnly, HasFront, EntryIsPut, PutSoFar}
+use Rattle.pt_sum.specs.Sums.{xor_of}
+use Rattle.pt_bsd.specs.Labels.{number_at, HasSum, HasRaw, HasLabelFields, IsEntry, LabelBytes, entry_of, place_of, counted_in, count_of}
+use Rattle.pt_bsd.specs.Labels.{IsCounted, IsRaw, FitsSlice}
+use Rattle.pt_bsd.proofs.CountedLemmas.{IsThere}
+use Rattle.pt_bsd.specs.inner.Labels.{ChangesOnly, HasFront, EntryIsPut, PutSoFar}
 use Rattle.pt_bsd.specs.declared.label.Label.{Label}
 use Rattle.pt_bsd.specs.declared.label.LabelEntry.{LabelEntry}
 use Rattle.pt_bsd.proofs.Parts.{range_kept}

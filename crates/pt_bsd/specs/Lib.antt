@@ -1,9 +1,3 @@
-pub mod Bytes
-pub mod Label
-pub mod Form
-pub mod Reading
-pub mod Empty
-pub mod Counted
-pub mod Writing
+pub mod Labels
 pub mod Sentences
-pub mod laws
+pub mod inner

@@ -2,9 +2,8 @@
 
 ghost use Rattle.std.specs.Prelude.{◌≡◌, ◌<◌, ◌≤◌, ◌+◌, ◌↔◌, ℕ, [], ◌∷◌, None, IfOk, IfErr, IsTrue, length, slice_range, slice_index_or};
 ghost use Rattle.pt_sector.specs.Sectors.{IsSectorSize};
-ghost use Rattle.pt_bsd.specs.Bytes.{number_at};
-ghost use Rattle.pt_bsd.specs.Label.{geometry_at, counted_in, HasMagic, HasMagics, HasCount, HasSum, HasSectorSize, HasRaw, HasLabelFields};
-ghost use Rattle.pt_bsd.specs.Label.{HasEntry, HasEntries, IsEntry, LabelBytes, IsLabelFault};
+ghost use Rattle.pt_bsd.specs.Labels.{number_at, geometry_at, counted_in, HasMagic, HasMagics, HasCount, HasSum, HasSectorSize, HasRaw};
+ghost use Rattle.pt_bsd.specs.Labels.{HasLabelFields, HasEntry, HasEntries, IsEntry, LabelBytes, IsLabelFault};
 
 use crate::label::{Label, LabelEntry, LabelError};
 use byteorder::{ByteOrder, LittleEndian};
@@ -49,7 +48,7 @@ fn has_count(bytes: &[u8]) -> bool
     3 <= count && count <= 8
 }
 
-#[tactic(auto, unfolding(crate::specs::Label::HasSum))]
+#[tactic(auto, unfolding(crate::specs::Labels::HasSum))]
 fn has_sum(bytes: &[u8]) -> bool
     requires long { 512 ≤ length bytes.now }
     requires count { HasCount bytes.now }

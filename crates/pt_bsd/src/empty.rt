@@ -1,7 +1,7 @@
 //! The label of a new slice.
 
 ghost use Rattle.std.specs.Prelude.{◌≡◌};
-ghost use Rattle.pt_bsd.specs.Empty.{entry_of_size, empty_of};
+ghost use Rattle.pt_bsd.specs.Labels.{entry_of_size, empty_of};
 
 use crate::label::{Label, LabelEntry};
 

@@ -5,12 +5,10 @@ ghost use Rattle.std.specs.Prelude.{replicate, slice_index, slice_index_or};
 ghost use Rattle.std.specs.List.{flat_map};
 ghost use Rattle.byteorder.specs.Endian.{little_bytes};
 ghost use Rattle.pt_sector.specs.Sectors.{IsSectorSize};
-ghost use Rattle.pt_sum.specs.Words.{xor_of};
-ghost use Rattle.pt_bsd.specs.Bytes.{number_at};
-ghost use Rattle.pt_bsd.specs.Label.{LabelBytes, HasEntry, place_of};
-ghost use Rattle.pt_bsd.specs.Counted.{end_of, count_of, IsCounted, FitsSlice};
-ghost use Rattle.pt_bsd.specs.Writing.{put_at, ChangesOnly, head_from, HeadFits, tail_from, TailFits, entry_from, LabelEntryFits, HasFront};
-ghost use Rattle.pt_bsd.specs.Writing.{EntryIsPut, PutSoFar};
+ghost use Rattle.pt_sum.specs.Sums.{xor_of};
+ghost use Rattle.pt_bsd.specs.Labels.{number_at, LabelBytes, HasEntry, place_of, end_of, count_of, IsCounted, FitsSlice};
+ghost use Rattle.pt_bsd.specs.inner.Labels.{put_at, ChangesOnly, head_from, HeadFits, tail_from, TailFits, entry_from, LabelEntryFits};
+ghost use Rattle.pt_bsd.specs.inner.Labels.{HasFront, EntryIsPut, PutSoFar};
 
 use crate::decode::{ENTRIES, ENTRY, MAGIC, decode_label};
 use crate::label::{Label, LabelEntry};
@@ -18,7 +16,7 @@ use byteorder::{ByteOrder, LittleEndian};
 use pt_sector::Sector;
 use pt_sum::xor16;
 
-#[tactic(auto, unfolding(crate::specs::Writing::put_at))]
+#[tactic(auto, unfolding(crate::specs::inner::Labels::put_at))]
 fn put(bytes: &mut [u8], at: usize, part: &[u8])
     requires { at + length part.now ≤ length bytes.old }
     ensures { bytes.new ≡ put_at at part.now bytes.old }
@@ -34,7 +32,7 @@ fn put_name(bytes: &mut [u8], at: usize, name: &[u8; 16])
     put(bytes, at, &name[..]);
 }
 
-#[tactic(auto, unfolding(crate::specs::Writing::put_at))]
+#[tactic(auto, unfolding(crate::specs::inner::Labels::put_at))]
 fn put_u16(bytes: &mut [u8], at: usize, number: u16)
     requires { at + 2 ≤ length bytes.old }
     ensures put { bytes.new ≡ put_at at (little_bytes 2 number) bytes.old }
@@ -43,7 +41,7 @@ fn put_u16(bytes: &mut [u8], at: usize, number: u16)
     LittleEndian::write_u16(&mut bytes[at..at + 2], number);
 }
 
-#[tactic(auto, unfolding(crate::specs::Writing::put_at))]
+#[tactic(auto, unfolding(crate::specs::inner::Labels::put_at))]
 fn put_u32(bytes: &mut [u8], at: usize, number: u32)
     requires { at + 4 ≤ length bytes.old }
     ensures put { bytes.new ≡ put_at at (little_bytes 4 number) bytes.old }
@@ -52,7 +50,7 @@ fn put_u32(bytes: &mut [u8], at: usize, number: u32)
     LittleEndian::write_u32(&mut bytes[at..at + 4], number);
 }
 
-#[tactic(auto, unfolding(crate::specs::Writing::put_at))]
+#[tactic(auto, unfolding(crate::specs::inner::Labels::put_at))]
 fn put_geometry(bytes: &mut [u8], at: usize, numbers: &[u32; 4])
     requires { at + 16 ≤ length bytes.old }
     ensures put { bytes.new ≡ put_at at (flat_map (little_bytes 4) numbers.now) bytes.old }
@@ -63,7 +61,7 @@ fn put_geometry(bytes: &mut [u8], at: usize, numbers: &[u32; 4])
 }
 
 // Bytes 0 to 63.
-#[tactic(auto, unfolding(crate::specs::Writing::head_from))]
+#[tactic(auto, unfolding(crate::specs::inner::Labels::head_from))]
 fn head(label: &Label) -> [u8; 64]
     ensures bytes { result ≡ head_from label.now label.now.type_name label.now.pack_name label.now.geometry }
     ensures fits { HeadFits label.now }
@@ -81,7 +79,7 @@ fn head(label: &Label) -> [u8; 64]
 }
 
 // Bytes 132 to 147, with zeros in place of the sum.
-#[tactic(auto, unfolding(crate::specs::Writing::tail_from))]
+#[tactic(auto, unfolding(crate::specs::inner::Labels::tail_from))]
 fn tail(label: &Label, count: u16) -> [u8; 16]
     ensures bytes { result ≡ tail_from label.now count }
     ensures fits { TailFits label.now }
@@ -94,7 +92,7 @@ fn tail(label: &Label, count: u16) -> [u8; 16]
     bytes
 }
 
-#[tactic(auto, unfolding(crate::specs::Writing::entry_from))]
+#[tactic(auto, unfolding(crate::specs::inner::Labels::entry_from))]
 fn entry_bytes(entry: &LabelEntry) -> [u8; 16]
     ensures bytes { result ≡ entry_from entry.now }
     ensures fits { LabelEntryFits entry.now }

@@ -1,8 +1,7 @@
 //! The form of a label, and where its entries lie on the disk.
 
 ghost use Rattle.std.specs.Prelude.{◌≡◌, ◌<◌, ◌^◌, ℕ, IfSome, IfNone};
-ghost use Rattle.pt_bsd.specs.Label.{entry_of};
-ghost use Rattle.pt_bsd.specs.Form.{form_of, sector_by, entry_first_of};
+ghost use Rattle.pt_bsd.specs.Labels.{entry_of, form_of, sector_by, entry_first_of};
 
 use crate::label::{Label, LabelEntry, RAW};
 

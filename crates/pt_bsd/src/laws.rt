@@ -1,10 +1,8 @@
 //! What holds of labels whatever the bytes are.
 
 ghost use Rattle.std.specs.Prelude.{◌≡◌, ◌≢◌, ◌<◌, ℕ, List};
-ghost use Rattle.pt_bsd.specs.Label.{LabelBytes, HasLabel, IsLabelFault, counted_in};
-ghost use Rattle.pt_bsd.specs.Counted.{count_of, IsCounted, FitsSlice, with_entry};
-ghost use Rattle.pt_bsd.specs.Empty.{empty_of};
-ghost use Rattle.pt_bsd.specs.Form.{form_of, HasForm};
+ghost use Rattle.pt_bsd.specs.Labels.{LabelBytes, HasLabel, IsLabelFault, counted_in, count_of, IsCounted, FitsSlice, with_entry};
+ghost use Rattle.pt_bsd.specs.Labels.{empty_of, form_of, HasForm};
 ghost use Rattle.pt_bsd.specs.declared.label.LabelEntry.{LabelEntry};
 ghost use Rattle.pt_bsd.specs.declared.label.Label.{Label};
 ghost use Rattle.pt_bsd.specs.declared.label.LabelError.{LabelError};

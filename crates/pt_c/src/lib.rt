@@ -9,16 +9,13 @@
 #![tactic(auto)]
 
 ghost use Rattle.std.specs.Prelude.{◌≡◌, pos};
-ghost use Rattle.pt_guid.specs.Mixed.{text_of};
-ghost use Rattle.pt_replay.specs.Codes.{IsTypeCode};
+ghost use Rattle.pt_guid.specs.Guids.{text_of};
+ghost use Rattle.pt_replay.specs.Replies.{IsTypeCode};
 ghost use Rattle.pt_replay.specs.Given.{buffers};
 ghost use Rattle.pt_sector.specs.Sectors.{Sectors};
-ghost use Rattle.pt_replay.specs.Known.{IsPartOf, Disks};
+ghost use Rattle.pt_replay.specs.Wanted.{IsPartOf, Disks, OfSize, NoBuffers, WantedFor};
 ghost use Rattle.pt_replay.specs.Listed.{listing};
-ghost use Rattle.pt_replay.specs.Judged.{OfSize, NoBuffers};
-ghost use Rattle.pt_replay.specs.Claims.{Says, MembersFor, VerifiedFor, LocatedFor, PlannedFor, MendedFor, CheckedFor};
-ghost use Rattle.pt_replay.specs.Adopted.{AdoptedFor};
-ghost use Rattle.pt_replay.specs.Wanted.{WantedFor};
+ghost use Rattle.pt_replay.specs.Claims.{Says, MembersFor, VerifiedFor, LocatedFor, PlannedFor, MendedFor, CheckedFor, AdoptedFor};
 
 use pt_guid::{Guid, code_of_type};
 use pt_replay::{

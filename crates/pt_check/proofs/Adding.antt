@@ -1,6 +1,6 @@
 -- Sectors that are added to a trace, piece by piece.
-use Rattle.std.proofs.Common.{◌≡◌, ◌∙◌, ◌<◌, ◌≤◌, ◌+◌, ◌-◌, ℕ, suc, List, length, get_or, take, Option, Some, None, sym, subst}
-use Rattle.std.proofs.Common.{arith, inl, inr, ⊎_elim}
+use Rattle.std.proofs.Common.{◌≡◌, ◌∙◌, ◌<◌, ◌≤◌, ◌+◌, ◌-◌, ℕ, suc, List, length, get_or, take, Option, Some, None, sym, subst, arith}
+use Rattle.std.proofs.Common.{inl, inr, ⊎_elim}
 use Rattle.std.specs.Prelude.{◌⊎◌, Result, Ok, Err, OnOk}
 use Rattle.pt_mbr.specs.Chain.{StandsAt}
 use Rattle.pt_mbr.specs.declared.ebr.Ebr.{Ebr}
@@ -8,14 +8,12 @@ use Rattle.pt_members.specs.declared.layout.Layout.{Layout}
 use Rattle.pt_members.specs.declared.layout.Slice.{Slice}
 use Rattle.pt_members.specs.declared.member.Kind.TheVariants.{Leaf, Slice as KindSlice}
 use Rattle.pt_members.specs.declared.member.Member.{Member}
-use Rattle.pt_members.specs.Members.{slots, parts}
-use Rattle.pt_members.specs.Owned.{Owns}
-use Rattle.pt_members.specs.Search.{InLayout}
-use Rattle.pt_members.specs.Slices.{IsPlace, place_of}
-use Rattle.pt_members.specs.Tables.{IsGptTable}
-use Rattle.pt_gpt.specs.Array.{array_len}
-use Rattle.pt_members.specs.Leaves.{HasLeafAt, HasLeaf, HasLeafNear, OwnsAt}
-use Rattle.pt_members.specs.laws.Grouped.{member_place, place_member}
+use Rattle.pt_members.specs.Members.{slots, parts, IsPlace, place_of}
+use Rattle.pt_members.specs.Tables.{Owns, IsGptTable}
+use Rattle.pt_members.specs.inner.Tables.{InLayout}
+use Rattle.pt_gpt.specs.Copies.{array_len}
+use Rattle.pt_members.specs.inner.Members.{HasLeafAt, HasLeaf, HasLeafNear, OwnsAt}
+use Rattle.pt_members.proofs.Grouped.{member_place, place_member}
 use Rattle.pt_members.proofs.Lowest.{Under, under_more, under_back, stands_more, stands_back}
 use Rattle.pt_members.proofs.LabelPlaces.{place_more, place_back}
 use Rattle.pt_recover.specs.Spans.{Adds}

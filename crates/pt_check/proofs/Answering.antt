@@ -2,15 +2,12 @@
 use Rattle.std.proofs.Common.{◌≡◌, ◌∙◌, ◌⊎◌, inl, inr, ⊎_elim, ℕ, ◌+◌, ◌*◌, ◌<◌, ◌≤◌, List, length, subst, arith, Option}
 use Rattle.std.specs.Prelude.{◌↔◌}
 use Rattle.std.proofs.lemmas.Bool.{cases_lt}
-use Rattle.pt_sector.specs.Sectors.{Sectors, Agrees}
-use Rattle.pt_sector.specs.Writes.{Writes, after}
-use Rattle.pt_sound.specs.declared.finding.Finding.{Finding}
-use Rattle.pt_apply.specs.Promises.{Safe, Keeps, Switches}
-use Rattle.pt_check.specs.laws.Accepted.{no_read, no_neither, same_or, most_or}
-use Rattle.pt_check.specs.Course.{IsCalm, Course, switch_number}
-use Rattle.pt_apply.specs.Plans.{writes_in, NoneIs}
-use Rattle.pt_check.specs.Reasons.{stage, turn, most_writes, FirstWrite, FirstSector, IsPastLast, ChangesBoot, ReadsSector, Leads}
-use Rattle.pt_check.specs.Reasons.{GivesNeither, IsStray, IsOwned, Holds}
+use Rattle.pt_sector.specs.Sectors.{Sectors, Agrees, Writes, after}
+use Rattle.pt_layout.specs.declared.sound.finding.Finding.{Finding}
+use Rattle.pt_apply.specs.Plans.{Safe, Keeps, Switches, writes_in, NoneIs}
+use Rattle.pt_check.proofs.Accepted.{no_read, no_neither, same_or, most_or}
+use Rattle.pt_check.specs.Answers.{IsCalm, Course, switch_number, stage, turn, most_writes, FirstWrite, FirstSector, IsPastLast}
+use Rattle.pt_check.specs.Answers.{ChangesBoot, ReadsSector, Leads, GivesNeither, IsStray, IsOwned, Holds}
 use Rattle.pt_check.specs.declared.answer.Why.{Why}
 use Rattle.pt_check.specs.declared.answer.Why.TheVariants.{TooManyWrites, OutOfRange, BootCode, ReadSector, Neither, NotATable, Owned}
 use Rattle.pt_check.specs.declared.answer.Why.TheVariants.{Final}

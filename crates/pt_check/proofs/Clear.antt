@@ -1,20 +1,18 @@
 -- Writes of which none is of an owned sector.
 use Rattle.std.proofs.Common.{◌≡◌, ◌⊎◌, ℕ, List, Option, Some, None, inl, inr, ⊎_elim, subst}
 use Rattle.std.specs.Prelude.{◌↔◌}
-use Rattle.pt_sector.specs.Writes.{Writes}
+use Rattle.pt_sector.specs.Sectors.{Writes}
 use Rattle.pt_members.specs.declared.layout.Layout.{Layout}
 use Rattle.pt_members.specs.declared.owned.Reach.{Reach}
-use Rattle.pt_members.specs.Owned.{Owns, OwnedOf}
-use Rattle.pt_members.specs.Reaches.{IsWithin}
+use Rattle.pt_members.specs.Tables.{Owns, OwnedOf, IsWithin, TableOf, IsBodyTable}
 use Rattle.pt_members.specs.declared.layout.Body.{Body}
 use Rattle.pt_members.specs.declared.layout.Body.TheVariants.{Mbr, Gpt}
-use Rattle.pt_members.specs.Tables.{TableOf, IsBodyTable}
 use Rattle.pt_recover.specs.Spans.{IsIn}
 use Rattle.pt_recover.specs.declared.trace.TracedRun.{TracedRun}
 use Rattle.pt_apply.specs.Plans.{NoneIs}
 use Rattle.pt_check.specs.declared.objection.Found.{Found}
-use Rattle.pt_check.specs.First.{FirstWriteIs}
-use Rattle.pt_check.specs.Misplaced.{InOwned, InNoTable, IsFixed, FixedOf}
+use Rattle.pt_check.specs.inner.Answers.{FirstWriteIs}
+use Rattle.pt_check.specs.Answers.{InOwned, InNoTable, IsFixed, FixedOf}
 
 pub none_owned : (b : ℕ) (l : Option Layout) (o : Layout) (r : Reach) (ws : Writes) → l ≡ Some o → ((s : ℕ) → Owns b o s → IsWithin r s)
     → NoneIs (λ (w : ℕ × List ℕ). IsWithin r w.0) ws → NoneIs (λ (w : ℕ × List ℕ). OwnedOf b l w.0) ws

@@ -1,25 +1,19 @@
 -- The exits of the checker.
 use Rattle.std.proofs.Common.{◌≡◌, ◌⊎◌, inl, inr, ℕ, ◌+◌, ◌*◌, ◌<◌, ◌≤◌, List, length, refl, ap, subst, arith, Option, Some, None}
-use Rattle.pt_sector.specs.Sectors.{Sectors, Agrees}
-use Rattle.pt_sector.specs.Writes.{Writes, after}
+use Rattle.pt_sector.specs.Sectors.{Sectors, Agrees, Writes, after}
 use Rattle.pt_recover.specs.Denotes.{Denotes, Reads}
-use Rattle.pt_recover.specs.laws.Terms.{denotes_one_lem, reads_decide_lem}
+use Rattle.pt_recover.proofs.Terms.{denotes_one_lem, reads_decide_lem}
 use Rattle.pt_members.specs.declared.layout.Layout.{Layout}
-use Rattle.pt_sound.specs.declared.finding.Finding.{Finding}
-use Rattle.pt_sound.specs.Findings.{IsFinding}
-use Rattle.pt_sound.specs.Healthy.{Healthy}
-use Rattle.pt_sound.specs.laws.Terms.{finding_excludes_lem}
-use Rattle.pt_check.specs.Course.{Course, IsCalm, switch_number}
+use Rattle.pt_layout.specs.declared.sound.finding.Finding.{Finding}
+use Rattle.pt_layout.specs.Healthy.{IsFinding, Healthy}
+use Rattle.pt_layout.proofs.Terms.{finding_excludes_lem}
+use Rattle.pt_check.specs.Answers.{Course, IsCalm, switch_number, stage, turn, most_writes, FirstWrite, IsPastLast, ChangesBoot, IsFit}
+use Rattle.pt_check.specs.Answers.{Leads, IsStray, IsOwned, Holds, Answers, Promises}
 use Rattle.pt_apply.specs.Plans.{writes_in, NoneIs}
-use Rattle.pt_check.specs.First.{FirstWriteIs}
-use Rattle.pt_check.specs.Reasons.{stage, turn, most_writes, FirstWrite, IsPastLast, ChangesBoot, IsFit, Leads, IsStray, IsOwned, Holds}
-use Rattle.pt_check.specs.Trials.{TrialIs}
+use Rattle.pt_check.specs.inner.Answers.{FirstWriteIs, TrialIs, MisplacedIs, WrongIs, concluded}
 use Rattle.pt_sector.specs.declared.address.Lba.{Lba}
-use Rattle.pt_check.specs.Misplaced.{MisplacedIs}
-use Rattle.pt_check.specs.laws.Accepted.{is_switch}
-use Rattle.pt_members.specs.Owned.{OwnedOf}
-use Rattle.pt_members.specs.Tables.{TableOf}
-use Rattle.pt_check.specs.Answers.{WrongIs, Answers, Promises, concluded}
+use Rattle.pt_check.proofs.Accepted.{is_switch}
+use Rattle.pt_members.specs.Tables.{OwnedOf, TableOf}
 use Rattle.pt_check.specs.declared.answer.Why.{Why}
 use Rattle.pt_check.specs.declared.answer.Why.TheVariants.{TooManyWrites, OutOfRange, BootCode, ReadSector, Neither, NotATable, Owned}
 use Rattle.pt_check.specs.declared.answer.Why.TheVariants.{Final}

@@ -1,8 +1,8 @@
 -- What a survey of the finished disk tells.
 use Rattle.std.specs.Prelude.{◌≡◌, ℕ, List, Option, Some, None, Result, Ok, Err}
 use Rattle.std.specs.Result.{result_ok}
-use Rattle.pt_sector.specs.Calls.{with_fault}
-use Rattle.pt_sector.specs.Reads.{fault_of}
+use Rattle.pt_sector.specs.Device.{with_fault}
+use Rattle.pt_sector.specs.Overlays.{fault_of}
 use Rattle.pt_sector.specs.Sectors.{Sectors}
 use Rattle.pt_sector.specs.declared.disk.Fault.{Fault}
 use Rattle.pt_sector.specs.declared.reading.Failure.{Failure}
@@ -12,10 +12,9 @@ use Rattle.pt_recover.specs.declared.error.NoTable.{NoTable}
 use Rattle.pt_members.specs.declared.layout.Layout.{Layout}
 use Rattle.pt_layout.specs.Surveys.{FoundIs, FindingIs, IsSurvey}
 use Rattle.pt_layout.specs.declared.survey.Survey.{Survey}
-use Rattle.pt_sound.specs.declared.finding.Finding.{Finding}
-use Rattle.pt_check.specs.Answers.{WrongIs}
-use Rattle.pt_check.specs.Failed.{fault_in, told_failure}
-use Rattle.pt_check.specs.Recovered.{IsRecoveredOf}
+use Rattle.pt_layout.specs.declared.sound.finding.Finding.{Finding}
+use Rattle.pt_check.specs.inner.Answers.{WrongIs}
+use Rattle.pt_check.specs.Answers.{fault_in, told_failure, IsRecoveredOf}
 
 denotes_found : (b : ℕ) (d : Sectors) (found : Result Layout NoTable) → FoundIs b d found → Denotes b d (result_ok found)
 denotes_found b d (Ok o) is = is

@@ -5,15 +5,13 @@ use Rattle.std.specs.declared.alloc.Global.{Global}
 use Rattle.std.proofs.lemmas.Bool.{cases_order, cases_lt}
 use Rattle.std.proofs.lemmas.List.{append_assoc, append-nil, length-map, get_or_default}
 use Rattle.std.proofs.lemmas.Option.{slice_get_within}
-use Rattle.pt_sector.specs.Sectors.{Sectors}
-use Rattle.pt_sector.specs.Writes.{Writes, written}
-use Rattle.pt_sector.specs.laws.Written.{after-take_more}
-use Rattle.pt_check.specs.Course.{phase_at, disk_after}
-use Rattle.pt_apply.specs.laws.Items.{phase-at}
+use Rattle.pt_sector.specs.Sectors.{Sectors, Writes, written}
+use Rattle.pt_sector.proofs.Written.{after-take_more}
+use Rattle.pt_check.specs.Answers.{phase_at, disk_after, IsFirst, FirstWrite, FirstSector}
+use Rattle.pt_apply.proofs.ItemsLemmas.{phase-at}
 use Rattle.pt_apply.specs.Plans.{writes_of, phases_in, writes_in, NoneIs}
 use Rattle.pt_apply.specs.declared.plan.Write.{Write}
-use Rattle.pt_check.specs.First.{IsFirst, FirstWriteIs}
-use Rattle.pt_check.specs.Reasons.{FirstWrite, FirstSector}
+use Rattle.pt_check.specs.inner.Answers.{FirstWriteIs}
 use Rattle.pt_check.specs.declared.objection.Found.{Found}
 
 -- phases of a plan

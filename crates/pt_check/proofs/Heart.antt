@@ -5,12 +5,10 @@ use Rattle.std.proofs.lemmas.Bool.{cases_lt}
 use Rattle.std.proofs.lemmas.List.{get_or_default}
 use Rattle.std.proofs.Math.ListN.{get_or-eq_default}
 use Rattle.std.proofs.Math.Seq.{take-length}
-use Rattle.pt_sector.specs.Sectors.{Sectors, Agrees}
-use Rattle.pt_sector.specs.Writes.{Writes, Puts, Stopped, written, after}
-use Rattle.pt_sector.specs.laws.Written.{stopped_none, stopped_one, agrees_stopped, after-take_more}
-use Rattle.pt_apply.specs.Runs.{StoppedIn}
-use Rattle.pt_apply.specs.Promises.{Switches}
-use Rattle.pt_check.specs.Course.{phase_at, disk_after, IsCalm, LayoutsAre, switch_number}
+use Rattle.pt_sector.specs.Sectors.{Sectors, Agrees, Writes, Puts, Stopped, written, after}
+use Rattle.pt_sector.proofs.Written.{stopped_none, stopped_one, agrees_stopped, after-take_more}
+use Rattle.pt_apply.specs.Plans.{StoppedIn, Switches}
+use Rattle.pt_check.specs.Answers.{phase_at, disk_after, IsCalm, LayoutsAre, switch_number}
 
 module _ {L : Type 0} (denotes : Sectors → Option L → Type 0) (reads : Sectors → ℕ → Type 0)
     (decide : (c x : Sectors) → Agrees (reads x) c x → (o : Option L) → denotes x o → denotes c o) where

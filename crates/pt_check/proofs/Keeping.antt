@@ -1,20 +1,16 @@
 -- What each disk stopped in a plan keeps, by the writes of the plan alone.
-use Rattle.std.proofs.Common.{◌≡◌, ◌∙◌, inl, inr, ⊎_elim, ℕ, zero, suc, List, [], ◌∷◌, length, take, refl, sym, subst, arith, Bool}
-use Rattle.std.proofs.Common.{true, false, Option}
-use Rattle.pt_sound.specs.declared.finding.Finding.{Finding}
+use Rattle.std.proofs.Common.{◌≡◌, ◌∙◌, inl, inr, ⊎_elim, ℕ, zero, suc, List, [], ◌∷◌, length, take, refl, sym, subst, arith, Bool, true}
+use Rattle.std.proofs.Common.{false, Option}
+use Rattle.pt_layout.specs.declared.sound.finding.Finding.{Finding}
 use Rattle.std.specs.Str.{bytes_eq}
 use Rattle.std.proofs.lemmas.Slice.Eq.{bytes_eq-Decides}
 use Rattle.std.proofs.lemmas.Bool.{cases_lt}
 use Rattle.std.proofs.Math.ListN.{get_or-eq_default}
-use Rattle.pt_sector.specs.Sectors.{Sectors, sector}
-use Rattle.pt_sector.specs.Writes.{Writes, Puts, Stopped, written, after}
-use Rattle.pt_sector.specs.laws.Written.{stopped_written}
-use Rattle.pt_apply.specs.laws.Puts.{puts_split, puts_left, puts_right}
-use Rattle.pt_apply.specs.Runs.{StoppedIn}
-use Rattle.pt_apply.specs.Promises.{boot_code, Keeps}
-use Rattle.pt_check.specs.Course.{phase_at, disk_after}
-use Rattle.pt_apply.specs.Plans.{writes_in, NoneIs}
-use Rattle.pt_check.specs.Reasons.{ChangesBoot, IsStray, IsOwned}
+use Rattle.pt_sector.specs.Sectors.{Sectors, sector, Writes, Puts, Stopped, written, after}
+use Rattle.pt_sector.proofs.Written.{stopped_written}
+use Rattle.pt_apply.proofs.Puts.{puts_split, puts_left, puts_right}
+use Rattle.pt_apply.specs.Plans.{StoppedIn, boot_code, Keeps, writes_in, NoneIs}
+use Rattle.pt_check.specs.Answers.{phase_at, disk_after, ChangesBoot, IsStray, IsOwned}
 
 -- writes of a plan
 

@@ -2,14 +2,13 @@
 use Rattle.std.proofs.Common.{◌≡◌, ◌⊎◌, ⊎_elim, ℕ, List, Option, Some, None, Ok, Err, subst, sym}
 use Rattle.std.specs.Prelude.{Result, OnOk, IfOk, IfErr, ◌↔◌}
 use Rattle.pt_sector.specs.Sectors.{Sectors}
-use Rattle.pt_recover.specs.Denotes.{Denotes, Reads}
+use Rattle.pt_recover.specs.Denotes.{Denotes, Reads, IsOutsideDisk, TellsNothing, IsTraceOf, failure_in}
 use Rattle.pt_recover.specs.Spans.{IsIn}
-use Rattle.pt_recover.specs.Answers.{IsOutsideDisk, TellsNothing, IsTraceOf, failure_in}
 use Rattle.pt_members.specs.declared.layout.Layout.{Layout}
 use Rattle.pt_recover.specs.declared.error.NoTable.{NoTable}
 use Rattle.pt_recover.specs.declared.trace.TracedRun.{TracedRun}
 use Rattle.pt_recover.specs.declared.error.NoTable.TheVariants.{NoCopy, Chain, TwoExtended, TooSmall, Device, Memory}
-use Rattle.pt_check.specs.Recovered.{IsRecoveredOf}
+use Rattle.pt_check.specs.Answers.{IsRecoveredOf}
 use Rattle.pt_check.specs.declared.recovered.Recovered.{Recovered}
 
 -- an answer that is neither of the device's nor of memory's isn't outside the disk's content

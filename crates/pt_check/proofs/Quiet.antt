@@ -3,17 +3,16 @@ use Rattle.std.proofs.Common.{◌≡◌, ◌∙◌, inl, inr, ⊎_elim, ℕ, zer
 use Rattle.std.proofs.Common.{Option, Some, None}
 use Rattle.std.specs.Prelude.{slice_get}
 use Rattle.std.proofs.lemmas.Bool.{cases_lt}
-use Rattle.pt_sector.specs.Sectors.{Sectors, sector, Agrees}
-use Rattle.pt_sector.specs.Writes.{Writes, Stopped, written}
-use Rattle.pt_sector.specs.laws.Written.{stopped_written, length-written}
+use Rattle.pt_sector.specs.Sectors.{Sectors, sector, Agrees, Writes, Stopped, written}
+use Rattle.pt_sector.proofs.Written.{stopped_written}
+use Rattle.pt_sector.specs.inner.ForFields.{length-written}
 use Rattle.pt_apply.specs.Plans.{NoneIs}
-use Rattle.pt_recover.specs.Denotes.{Denotes, Reads, SameMeaning}
-use Rattle.pt_recover.specs.LeavesReads.{LeavesReads}
-use Rattle.pt_recover.specs.laws.Terms.{reads_decide_lem, stop_keeps_lem}
+use Rattle.pt_recover.specs.Denotes.{Denotes, Reads, SameMeaning, LeavesReads}
+use Rattle.pt_recover.proofs.Terms.{reads_decide_lem, stop_keeps_lem}
 use Rattle.pt_recover.specs.Spans.{IsIn}
 use Rattle.pt_recover.specs.declared.trace.TracedRun.{TracedRun}
-use Rattle.pt_check.specs.Course.{phase_at, disk_after, IsCalm, LayoutsAre, Course}
-use Rattle.pt_check.specs.Trials.{TouchedIs, KeepsRead}
+use Rattle.pt_check.specs.Answers.{phase_at, disk_after, IsCalm, LayoutsAre, Course}
+use Rattle.pt_check.specs.inner.Answers.{TouchedIs, KeepsRead}
 use Rattle.pt_check.proofs.Firsts.{seen_on}
 use Rattle.pt_check.proofs.Keeping.{none_puts, on_stop}
 use Rattle.pt_check.proofs.Trying.{Reading}

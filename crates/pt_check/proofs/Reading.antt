@@ -1,27 +1,23 @@
 -- Where a device failed in a check.
 use Rattle.std.specs.Prelude.{◌≡◌, ◌≤◌, ℕ, List, length, Option, Some, None, Result, Ok, Err, IfErr}
 use Rattle.std.proofs.Common.{refl, subst}
-use Rattle.pt_sector.specs.Calls.{read_in_more}
-use Rattle.pt_sector.specs.Sectors.{Sectors}
-use Rattle.pt_sector.specs.Writes.{Writes, Puts, after}
-use Rattle.pt_sector.specs.Reads.{FailedIn}
+use Rattle.pt_sector.proofs.CallsLemmas.{read_in_more}
+use Rattle.pt_sector.specs.Sectors.{Sectors, Writes, Puts, after}
+use Rattle.pt_sector.specs.Overlays.{FailedIn}
 use Rattle.pt_sector.specs.declared.reading.Failure.{Failure}
 use Rattle.pt_sector.specs.declared.reading.Failure.TheVariants as failure
 use Rattle.pt_apply.specs.Plans.{writes_in}
-use Rattle.pt_recover.specs.Denotes.{Reads}
-use Rattle.pt_recover.specs.Answers.{FailedInDisk, failure_in}
+use Rattle.pt_recover.specs.Denotes.{Reads, FailedInDisk, failure_in}
 use Rattle.pt_recover.specs.declared.error.NoTable.{NoTable}
 use Rattle.pt_members.specs.declared.layout.Layout.{Layout}
 use Rattle.pt_layout.proofs.Failing.{reason_failed}
-use Rattle.pt_sound.specs.Findings.{VerdictReads}
-use Rattle.pt_check.specs.CheckReads.{CheckReads, WritesHead, phase, finish}
-use Rattle.pt_check.specs.Course.{disk_after}
-use Rattle.pt_check.specs.Failed.{FailedInCheck, told_failure}
-use Rattle.pt_check.specs.First.{FirstWriteIs}
+use Rattle.pt_layout.specs.Healthy.{VerdictReads}
+use Rattle.pt_check.specs.Answers.{CheckReads, WritesHead, phase, finish, disk_after, FailedInCheck, told_failure}
+use Rattle.pt_check.specs.inner.Answers.{FirstWriteIs}
 use Rattle.pt_check.specs.declared.error.CheckError.{CheckError}
 use Rattle.pt_check.specs.declared.error.CheckError.TheVariants.{Device, Memory}
 use Rattle.pt_check.specs.declared.objection.Found.{Found}
-use Rattle.pt_check.specs.laws.Accepted.{got_puts}
+use Rattle.pt_check.proofs.Accepted.{got_puts}
 
 -- at one of more sectors
 pub check_wider : (S T : ℕ → Type 0) (e : CheckError) → ((s : ℕ) → S s → T s) → FailedInCheck S e → FailedInCheck T e

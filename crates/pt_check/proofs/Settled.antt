@@ -1,21 +1,19 @@
 -- A disk after which no phase writes a sector that recovery of the finished disk reads.
 use Rattle.std.proofs.Common.{◌≡◌, ◌∙◌, ℕ, zero, suc, ◌+◌, ◌-◌, ◌<◌, ◌≤◌, List, length, take, refl, sym, ap, subst, arith, Option, None}
 use Rattle.std.proofs.lemmas.List.{take_all}
-use Rattle.pt_sector.specs.Sectors.{Sectors, sector}
-use Rattle.pt_sector.specs.Writes.{Writes, Puts, written, after}
-use Rattle.pt_sector.specs.laws.Written.{stopped_written, length-after}
+use Rattle.pt_sector.specs.Sectors.{Sectors, sector, Writes, Puts, written, after}
+use Rattle.pt_sector.proofs.Written.{stopped_written, length-after}
 use Rattle.pt_members.specs.declared.layout.Layout.{Layout}
 use Rattle.pt_recover.specs.Denotes.{Denotes, Reads, SameMeaning}
-use Rattle.pt_recover.specs.laws.Terms.{reads_decide_lem}
+use Rattle.pt_recover.proofs.Terms.{reads_decide_lem}
 use Rattle.pt_recover.specs.Spans.{IsIn}
 use Rattle.pt_recover.specs.declared.trace.TracedRun.{TracedRun}
-use Rattle.pt_check.specs.Course.{phase_at, disk_after, Course}
-use Rattle.pt_check.specs.Recovered.{IsRecoveredOf}
-use Rattle.pt_check.specs.Trials.{SettlesFrom, TouchedIs, LastIs, TrialIs, RefusedNeither}
+use Rattle.pt_check.specs.Answers.{phase_at, disk_after, Course, IsRecoveredOf}
+use Rattle.pt_check.specs.inner.Answers.{SettlesFrom, TouchedIs, LastIs, TrialIs, RefusedNeither}
 use Rattle.pt_check.specs.declared.trial.Trial.{Trial}
 use Rattle.pt_check.specs.declared.trial.Trial.TheVariants.{Refused, Passed}
-use Rattle.pt_check.specs.declared.answer.Why.TheVariants.{TooManyWrites, OutOfRange, BootCode, ReadSector, Neither}
-use Rattle.pt_check.specs.declared.answer.Why.TheVariants.{NotATable, Owned, Final}
+use Rattle.pt_check.specs.declared.answer.Why.TheVariants.{TooManyWrites, OutOfRange, BootCode, ReadSector, Neither, NotATable, Owned}
+use Rattle.pt_check.specs.declared.answer.Why.TheVariants.{Final}
 use Rattle.pt_check.proofs.Firsts.{seen_on}
 use Rattle.pt_check.proofs.Keeping.{none_puts, on_stop}
 use Rattle.pt_check.proofs.Trying.{Reading, course_on, refused_neither}

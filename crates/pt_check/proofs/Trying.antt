@@ -2,14 +2,12 @@
 use Rattle.std.proofs.Common.{◌≡◌, ◌∙◌, inl, inr, ⊎_elim, ℕ, ◌+◌, ◌<◌, ◌≤◌, List, length, refl, sym, subst, arith, Option, Some, None}
 use Rattle.std.specs.Prelude.{◌↔◌, IsSome}
 use Rattle.std.proofs.lemmas.Bool.{cases_lt}
-use Rattle.pt_sector.specs.Sectors.{Sectors}
-use Rattle.pt_sector.specs.Writes.{Writes}
+use Rattle.pt_sector.specs.Sectors.{Sectors, Writes}
 use Rattle.pt_sector.specs.declared.address.Lba.{Lba}
 use Rattle.pt_recover.specs.Spans.{IsIn}
 use Rattle.pt_recover.specs.declared.trace.TracedRun.{TracedRun}
-use Rattle.pt_check.specs.Course.{phase_at, disk_after, IsCalm, LayoutsAre, Course}
-use Rattle.pt_check.specs.First.{IsFirst}
-use Rattle.pt_check.specs.Trials.{TouchedIs, StepIs, RefusedRead, RefusedNeither}
+use Rattle.pt_check.specs.Answers.{phase_at, disk_after, IsCalm, LayoutsAre, Course, IsFirst}
+use Rattle.pt_check.specs.inner.Answers.{TouchedIs, StepIs, RefusedRead, RefusedNeither}
 use Rattle.pt_check.specs.declared.trial.Step.TheVariants.{Goes, Neither}
 use Rattle.pt_check.proofs.Keeping.{none_puts}
 

@@ -1,7 +1,7 @@
 -- What is printed of a plan that is refused, and where there is no answer.
 use Rattle.std.specs.Prelude.{ℕ, List, ◌++◌, codes, decimal}
 use Rattle.pt_sector.specs.Sentences.{fault_sentence, no_memory}
-use Rattle.pt_sound.specs.Sentences.{finding_sentence}
+use Rattle.pt_layout.specs.Sentences.{finding_sentence}
 use Rattle.pt_check.specs.declared.answer.Why.{Why}
 use Rattle.pt_check.specs.declared.answer.Why.TheVariants as why
 use Rattle.pt_check.specs.declared.error.CheckError.{CheckError}

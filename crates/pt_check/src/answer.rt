@@ -1,7 +1,7 @@
 //! What the checker answers.
 
 ghost use Rattle.std.specs.Prelude.{◌≡◌, Some};
-ghost use Rattle.pt_check.specs.Numbers.{why_number};
+ghost use Rattle.pt_check.specs.Answers.{why_number};
 ghost use Rattle.pt_check.specs.Sentences.{why_sentence};
 
 use pt_layout::Finding;

@@ -1,12 +1,12 @@
 //! The boot code: the first 440 bytes of sector 0.
 
 ghost use Rattle.std.specs.Prelude.{◌≡◌, ◌≤◌, ◌<◌, ◌↔◌, IsTrue, take, length, IfOk, IfErr};
-ghost use Rattle.pt_sector.specs.Calls.{Blames};
-ghost use Rattle.pt_sector.specs.Reads.{OnlyReads, read_of};
+ghost use Rattle.pt_sector.specs.Device.{Blames};
+ghost use Rattle.pt_sector.specs.Overlays.{OnlyReads, read_of};
 ghost use Rattle.pt_sector.specs.Sectors.{IsSectorSize};
 ghost use Rattle.pt_apply.specs.Plans.{phases_of, writes_in, NoneIs};
-ghost use Rattle.pt_check.specs.CheckReads.{WritesHead};
-ghost use Rattle.pt_check.specs.Reasons.{ChangesBoot, NumberIs};
+ghost use Rattle.pt_check.specs.Answers.{WritesHead, ChangesBoot};
+ghost use Rattle.pt_check.specs.inner.Answers.{NumberIs};
 
 use crate::objection::{Objection, first_in_plan};
 use pt_apply::{Plan, Write};

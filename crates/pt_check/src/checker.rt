@@ -1,17 +1,13 @@
 //! Whether a plan may be applied.
 
 ghost use Rattle.std.specs.Prelude.{◌≡◌, ◌≤◌, length, IfOk, IfErr};
-ghost use Rattle.pt_sector.specs.Calls.{Blames};
-ghost use Rattle.pt_sector.specs.Reads.{OnlyReads, read_of};
+ghost use Rattle.pt_sector.specs.Device.{Blames};
+ghost use Rattle.pt_sector.specs.Overlays.{OnlyReads, read_of};
 ghost use Rattle.pt_sector.specs.Sectors.{IsSectorSize};
 ghost use Rattle.pt_apply.specs.Plans.{phases_of, writes_in};
-ghost use Rattle.pt_check.specs.Answers.{Answers, AreInRange, AreJudged, Promises, WritesFit, concluded};
-ghost use Rattle.pt_check.specs.Course.{switch_number};
-ghost use Rattle.pt_check.specs.CheckReads.{CheckReads, WritesHead};
-ghost use Rattle.pt_check.specs.Failed.{fault_in, FailedInCheck};
-ghost use Rattle.pt_check.specs.Misplaced.{MisplacedIs};
-ghost use Rattle.pt_check.specs.Reasons.{IsFit};
-ghost use Rattle.pt_check.specs.Recovered.{IsRecoveredOf};
+ghost use Rattle.pt_check.specs.Answers.{Answers, Promises, WritesFit, switch_number, CheckReads, WritesHead, fault_in, FailedInCheck};
+ghost use Rattle.pt_check.specs.Answers.{IsFit, IsRecoveredOf};
+ghost use Rattle.pt_check.specs.inner.Answers.{AreInRange, AreJudged, concluded, MisplacedIs};
 
 use crate::answer::{Answer, Why};
 use crate::boot::other_boot_code;

@@ -2,7 +2,7 @@
 
 ghost use Rattle.std.specs.Prelude.{◌≡◌, Some};
 ghost use Rattle.pt_sector.specs.declared.disk.Fault.TheVariants.{Read};
-ghost use Rattle.pt_check.specs.Failed.{told_failure};
+ghost use Rattle.pt_check.specs.Answers.{told_failure};
 ghost use Rattle.pt_check.specs.declared.error.CheckError.TheVariants.{Device, Memory};
 ghost use Rattle.pt_check.specs.Sentences.{check_error_sentence};
 

@@ -1,17 +1,14 @@
 //! The disk with the whole plan written, seen through an overlay.
 
 ghost use Rattle.std.specs.Prelude.{◌≡◌, ◌≤◌, ℕ, length, IfOk, IfErr};
-ghost use Rattle.pt_sector.specs.Calls.{Blames};
-ghost use Rattle.pt_sector.specs.Reads.{OnlyReads};
-ghost use Rattle.pt_sector.specs.Sectors.{Sectors, IsSectorSize};
-ghost use Rattle.pt_sector.specs.Writes.{after};
-ghost use Rattle.pt_sector.specs.Overlays.{room_left};
+ghost use Rattle.pt_sector.specs.Device.{Blames};
+ghost use Rattle.pt_sector.specs.Overlays.{OnlyReads, room_left};
+ghost use Rattle.pt_sector.specs.Sectors.{Sectors, IsSectorSize, after};
 ghost use Rattle.pt_apply.specs.Plans.{phases_of, finished, writes_in};
 ghost use Rattle.pt_layout.specs.Surveys.{IsSurvey};
-ghost use Rattle.pt_sound.specs.Findings.{VerdictReads};
-ghost use Rattle.pt_check.specs.Failed.{fault_in, FailedInCheck};
-ghost use Rattle.pt_check.specs.Answers.{WrongIs};
-ghost use Rattle.pt_check.specs.Recovered.{IsRecoveredOf};
+ghost use Rattle.pt_layout.specs.Healthy.{VerdictReads};
+ghost use Rattle.pt_check.specs.Answers.{fault_in, FailedInCheck, IsRecoveredOf};
+ghost use Rattle.pt_check.specs.inner.Answers.{WrongIs};
 
 use crate::error::CheckError;
 use crate::trial::put_phase;
@@ -21,8 +18,8 @@ use pt_recover::Trace;
 use pt_sector::{Disk, Overlay, Room};
 use std::alloc::Global;
 
-/// Puts a whole plan into an overlay that has room for it.
-fn put_plan<'a, const B: usize, D: Disk<B>>(over: &mut Overlay<'a, D, B>, plan: &Plan<B>)
+/// Puts a whole plan into an overlay that has room for it: what it shows is then the disk with all of the plan's writes done.
+pub fn put_plan<'a, const B: usize, D: Disk<B>>(over: &mut Overlay<'a, D, B>, plan: &Plan<B>)
     requires size { IsSectorSize B }
     requires room { length (writes_in (phases_of plan.now)) ≤ room_left over.old.own }
     ensures same_reference { over.new.disk.ghost_name ≡ over.old.disk.ghost_name }

@@ -1,7 +1,7 @@
 ghost use Rattle.std.specs.Prelude.{◌≡◌, ◌↔◌, ◌<◌, ◌≤◌, ◌+◌, ℕ, List, length, IsTrue};
 ghost use Rattle.pt_sector.specs.Sectors.{IsSectorSize};
 ghost use Rattle.pt_apply.specs.Plans.{writes_of, phases_of, writes_in};
-ghost use Rattle.pt_check.specs.First.{FirstIs, FirstWriteIs};
+ghost use Rattle.pt_check.specs.inner.Answers.{FirstIs, FirstWriteIs};
 
 use pt_apply::{Plan, Write};
 use pt_sector::Lba;

@@ -1,10 +1,9 @@
 //! The sectors that partitions own, in one list of runs: to ask for many of them.
 
 ghost use Rattle.std.specs.Prelude.{◌≡◌, ◌<◌, ◌≤◌, ◌^◌, ◌↔◌, ◌⊎◌, ℕ, Some, IfOk, OnOk, length};
-ghost use Rattle.pt_members.specs.Counts.{number_at};
-ghost use Rattle.pt_members.specs.Leaves.{IsLeafWith, HasLeafAt, HasLeaf, HasLeafNear, OwnsAt};
-ghost use Rattle.pt_members.specs.Members.{parts, parts_in, slots};
-ghost use Rattle.pt_members.specs.Owned.{Owns, OwnedOf};
+ghost use Rattle.pt_members.specs.Members.{number_at, parts, parts_in, slots};
+ghost use Rattle.pt_members.specs.inner.Members.{IsLeafWith, HasLeafAt, HasLeaf, HasLeafNear, OwnsAt};
+ghost use Rattle.pt_members.specs.Tables.{Owns, OwnedOf};
 ghost use Rattle.pt_recover.specs.Spans.{IsIn, Adds};
 
 use crate::trial::Layouts;

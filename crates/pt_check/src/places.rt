@@ -2,13 +2,11 @@
 
 ghost use Rattle.std.specs.Prelude.{◌≡◌, ◌<◌, ◌≤◌, ◌↔◌, IsTrue, IfOk, length};
 ghost use Rattle.pt_sector.specs.Sectors.{IsSectorSize};
-ghost use Rattle.pt_members.specs.Owned.{OwnedOf};
-ghost use Rattle.pt_members.specs.Tables.{IsGptTable};
-ghost use Rattle.pt_members.specs.Reaches.{IsWithin};
+ghost use Rattle.pt_members.specs.Tables.{OwnedOf, IsGptTable, IsWithin};
 ghost use Rattle.pt_recover.specs.Spans.{IsIn};
 ghost use Rattle.pt_apply.specs.Plans.{NoneIs, phases_of, writes_in};
-ghost use Rattle.pt_check.specs.First.{FirstWriteIs};
-ghost use Rattle.pt_check.specs.Misplaced.{FixedOf, InNoTable, InOwned};
+ghost use Rattle.pt_check.specs.inner.Answers.{FirstWriteIs};
+ghost use Rattle.pt_check.specs.Answers.{FixedOf, InNoTable, InOwned};
 
 use crate::objection::{Found, Objection, first_in_plan};
 use crate::owned::owned_in_either;

@@ -1,10 +1,9 @@
 ghost use Rattle.std.specs.Prelude.{◌≡◌, IfOk, IfErr};
-ghost use Rattle.pt_sector.specs.Calls.{Blames};
-ghost use Rattle.pt_sector.specs.Reads.{OnlyReads};
+ghost use Rattle.pt_sector.specs.Device.{Blames};
+ghost use Rattle.pt_sector.specs.Overlays.{OnlyReads};
 ghost use Rattle.pt_sector.specs.Sectors.{IsSectorSize};
 ghost use Rattle.pt_recover.specs.Denotes.{Reads};
-ghost use Rattle.pt_check.specs.Failed.{fault_in, FailedInCheck};
-ghost use Rattle.pt_check.specs.Recovered.{IsRecoveredOf};
+ghost use Rattle.pt_check.specs.Answers.{fault_in, FailedInCheck, IsRecoveredOf};
 
 use crate::error::CheckError;
 use pt_recover::{Layout, Trace, recover_traced};

@@ -3,7 +3,7 @@
 ghost use Rattle.std.specs.Prelude.{◌≡◌, ◌<◌, ◌+◌, ◌^◌, ◌↔◌, ◌⊎◌, ℕ, All, IfOk, OnOk};
 ghost use Rattle.pt_sector.specs.Sectors.{IsSectorSize};
 ghost use Rattle.pt_mbr.specs.Chain.{StandsAt};
-ghost use Rattle.pt_members.specs.Slices.{IsPlace};
+ghost use Rattle.pt_members.specs.Members.{IsPlace};
 ghost use Rattle.pt_members.specs.Tables.{IsTable, IsBodyTable, IsGptTable, TableOf};
 ghost use Rattle.pt_recover.specs.Spans.{IsIn, Adds};
 

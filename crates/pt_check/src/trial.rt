@@ -1,18 +1,14 @@
 //! The phases of a plan, tried one after the other over the disk.
 
 ghost use Rattle.std.specs.Prelude.{◌≡◌, ◌≤◌, ◌+◌, length, IfOk, IfErr, IsTrue};
-ghost use Rattle.pt_sector.specs.Calls.{Blames};
-ghost use Rattle.pt_sector.specs.Reads.{OnlyReads, read_of};
-ghost use Rattle.pt_sector.specs.Sectors.{IsSectorSize, sector};
-ghost use Rattle.pt_sector.specs.Writes.{written};
-ghost use Rattle.pt_sector.specs.Overlays.{room_left};
+ghost use Rattle.pt_sector.specs.Device.{Blames};
+ghost use Rattle.pt_sector.specs.Overlays.{OnlyReads, read_of, room_left};
+ghost use Rattle.pt_sector.specs.Sectors.{IsSectorSize, sector, written};
 ghost use Rattle.pt_apply.specs.Plans.{writes_of, phases_of, writes_in, finished, NoneIs};
 ghost use Rattle.pt_recover.specs.Denotes.{Denotes, Reads};
 ghost use Rattle.pt_recover.specs.Spans.{IsIn};
-ghost use Rattle.pt_check.specs.CheckReads.{CheckReads};
-ghost use Rattle.pt_check.specs.Failed.{fault_in, FailedInCheck};
-ghost use Rattle.pt_check.specs.Recovered.{IsRecoveredOf};
-ghost use Rattle.pt_check.specs.Trials.{TouchedIs, KeepsRead, StepIs, LastIs, SettlesFrom, TrialIs};
+ghost use Rattle.pt_check.specs.Answers.{CheckReads, fault_in, FailedInCheck, IsRecoveredOf};
+ghost use Rattle.pt_check.specs.inner.Answers.{TouchedIs, KeepsRead, StepIs, LastIs, SettlesFrom, TrialIs};
 
 use crate::answer::Why;
 use crate::boot::same_bytes;

@@ -6,8 +6,8 @@ use pt_apply::Plan;
 /// How many writes a plan may have.
 pub const MOST_WRITES: usize = 4096;
 
-/// How many writes the plan has, where they are not too many.
-pub(crate) fn count_writes<const B: usize>(plan: &Plan<B>) -> Option<usize>
+/// How many writes the plan has, or none where they are more than [`MOST_WRITES`].
+pub fn count_writes<const B: usize>(plan: &Plan<B>) -> Option<usize>
     ensures few { IfSome result (λ n. (n ≡ length (writes_in (phases_of plan.now))) × (n ≤ 4096)) }
     ensures many { IsNone result → 4096 < length (writes_in (phases_of plan.now)) }
 {

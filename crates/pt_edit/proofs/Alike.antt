@@ -4,7 +4,7 @@ use Rattle.std.proofs.lemmas.List.{get_or_default}
 use Rattle.std.proofs.lemmas.Bool.{cases_lt}
 use Rattle.pt_guid.specs.declared.guid.Guid.{Guid}
 use Rattle.pt_edit.specs.Converted.{HasTwins}
-use Rattle.pt_edit.specs.Twins.{HaveOneGuid, HasTwin}
+use Rattle.pt_edit.specs.inner.Entries.{HaveOneGuid, HasTwin}
 
 pub same_of : (guids : List Guid) (i j : ℕ) (z : Guid) → i < length guids → j < length guids → get_or guids i z ≡ get_or guids j z
     → HaveOneGuid guids i j

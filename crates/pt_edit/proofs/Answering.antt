@@ -4,34 +4,29 @@ use Rattle.std.specs.String.{string_bytes}
 use Rattle.std.proofs.Common.{refl, sym, subst, inl, inr}
 use Rattle.std.proofs.lemmas.Bool.{cases_lt}
 use Rattle.pt_guid.specs.declared.guid.Guid.{Guid}
-use Rattle.pt_gpt.specs.Array.{array_len}
+use Rattle.pt_gpt.specs.Copies.{array_len, HasRoom}
 use Rattle.pt_gpt.specs.declared.table.Table.{Table}
 use Rattle.pt_mbr.specs.declared.record.Record.{Record}
 use Rattle.pt_mbr.specs.declared.ebr.Ebr.{Ebr}
-use Rattle.pt_gpt.specs.Array.{HasRoom}
 use Rattle.pt_members.specs.declared.layout.Layout.{Layout}
 use Rattle.pt_members.specs.declared.layout.Body.{Body}
 use Rattle.pt_members.specs.declared.layout.Body.TheVariants.{Mbr, Gpt}
-use Rattle.pt_members.specs.OnePath.{HasFour}
-use Rattle.pt_words.specs.laws.Searches.{Decided, le_decided}
+use Rattle.pt_members.specs.Tables.{HasFour}
+use Rattle.pt_words.proofs.Searches.{Decided, le_decided}
 use Rattle.pt_words.specs.declared.error.Refusal.{Refusal}
 use Rattle.pt_words.specs.declared.error.Refusal.TheVariants.{NotForThisTable, NoFreshGuid, NoRoomForGpt, NameTooLong, SameGuid}
 use Rattle.pt_words.specs.declared.word.Code.{Code}
 use Rattle.pt_words.specs.declared.word.Edit.{Edit}
 use Rattle.pt_words.specs.declared.word.Edit.TheVariants.{Align, New, Delete, SetKind, SetName, SetUnique, SetDisk, SetBit, Extend, ToGpt}
 use Rattle.pt_words.specs.declared.word.Edit.TheVariants.{Empty}
-use Rattle.pt_labels.specs.laws.Answers.{part_typed_answers_lem, part_deleted_answers_lem, part_new_answers_lem}
-use Rattle.pt_records.specs.Typed.{RecordTyped, RecordNotTyped}
-use Rattle.pt_records.specs.Deleted.{RecordDeleted, RecordNotDeleted}
-use Rattle.pt_records.specs.Created.{RecordNew, RecordNotNew}
-use Rattle.pt_records.specs.laws.Answers.{typed_answers_lem, deleted_answers_lem, new_answers_lem}
+use Rattle.pt_edit.proofs.LabelsAnswers.{part_typed_answers_lem, part_deleted_answers_lem, part_new_answers_lem}
+use Rattle.pt_edit.specs.MbrEdits.{RecordTyped, RecordNotTyped, RecordDeleted, RecordNotDeleted, RecordNew, RecordNotNew}
+use Rattle.pt_edit.proofs.RecordsAnswers.{typed_answers_lem, deleted_answers_lem, new_answers_lem}
 use Rattle.pt_edit.proofs.Converting.{convert_answers_lem}
-use Rattle.pt_edit.specs.Names.{units_of}
-use Rattle.pt_edit.specs.Changes.{Elsewhere}
-use Rattle.pt_edit.specs.Spots.{EntryTyped, EntryNotTyped, EntryDeleted, EntryNotDeleted}
-use Rattle.pt_edit.specs.NewEntry.{EntryMade, EntryNotMade}
+use Rattle.pt_edit.specs.Entries.{units_of, Elsewhere, EntryTyped, EntryNotTyped, EntryDeleted, EntryNotDeleted, EntryMade, EntryNotMade}
 use Rattle.pt_edit.specs.Edited.{State, initial, empty_gpt, no_room, no_guid, InKind, Typed, NotTyped, Deleted, NotDeleted, Made, NotMade}
-use Rattle.pt_edit.specs.Edited.{asked_for, MakesOn, RefusesOn, taken_by, MakesOf, RefusedOf, Takes, Refuses, WordsEnd, EditedFrom, Edited}
+use Rattle.pt_edit.specs.Edited.{asked_for, MakesOn, RefusesOn, taken_by, MakesOf, RefusedOf, Takes, Refuses, WordsEnd, EditedFrom}
+use Rattle.pt_edit.specs.Edited.{Edited}
 use Rattle.pt_words.specs.declared.asked.Asked.{Asked}
 use Rattle.pt_edit.proofs.EntryAnswers.{changed_or, changed_freely_or, table_made_or, elsewhere_decided, entry_typed_or, entry_deleted_or}
 use Rattle.pt_edit.proofs.EntryAnswers.{entry_made_or}

@@ -7,30 +7,25 @@ use Rattle.std.proofs.Math.ListN.{set}
 use Rattle.pt_guid.specs.declared.guid.Guid.{Guid}
 use Rattle.pt_mbr.specs.Chain.{StandsAt}
 use Rattle.pt_mbr.specs.declared.ebr.Ebr.{Ebr}
-use Rattle.pt_gpt.specs.Array.{array_len}
+use Rattle.pt_gpt.specs.Copies.{array_len, HasRoom, edge}
 use Rattle.pt_gpt.specs.declared.entry.Entry.{Entry}
 use Rattle.pt_gpt.specs.declared.table.Table.{Table}
-use Rattle.pt_gpt.specs.Array.{HasRoom}
 use Rattle.pt_members.specs.declared.layout.Layout.{Layout}
 use Rattle.pt_members.specs.declared.layout.Body.{Body}
 use Rattle.pt_members.specs.declared.layout.Body.TheVariants.{Mbr, Gpt}
-use Rattle.pt_members.specs.OnePath.{HasFour}
-use Rattle.pt_members.specs.Tables.{IsEbr}
+use Rattle.pt_members.specs.Tables.{HasFour, IsEbr}
 use Rattle.pt_members.specs.Members.{Group, groups_of, IsMember, present, logicals}
 use Rattle.pt_members.specs.declared.member.Kind.{Kind}
 use Rattle.pt_members.specs.declared.member.Kind.TheVariants.{Leaf, Slice, Extended}
 use Rattle.pt_members.specs.declared.member.Member.{Member}
-use Rattle.pt_words.specs.laws.Searches.{Decided, both_decided, either_decided, not_decided, alike_decided, le_decided, lt_decided}
-use Rattle.pt_words.specs.laws.Searches.{numbers_decided, search_below, search_list}
+use Rattle.pt_words.proofs.Searches.{Decided, both_decided, either_decided, not_decided, alike_decided, le_decided, lt_decided}
+use Rattle.pt_words.proofs.Searches.{numbers_decided, search_below, search_list}
 use Rattle.pt_words.specs.declared.error.Refusal.{Refusal}
 use Rattle.pt_words.specs.declared.error.Refusal.TheVariants.{NotForThisTable, UnknownCode, NoRoomForGpt, NoFreshGuid, SameGuid}
-use Rattle.pt_edit.specs.Partitions.{partitions}
-use Rattle.pt_gpt.specs.Array.{edge}
-use Rattle.pt_edit.specs.Room.{LiesOutside, IsOutsider, NoRoom, small, partition, ebr, many}
+use Rattle.pt_edit.specs.Entries.{partitions, LiesOutside, IsOutsider, NoRoom, small, partition, ebr, many}
 use Rattle.pt_edit.specs.Converted.{HasRecords, new_type, HasUnknown, entry_of, guids_taken, HasTwins, IsGptOf, MayConvert, Converted}
 use Rattle.pt_edit.specs.Converted.{NotConverted, no_mbr, unknown, no_room, too_few, twins}
-use Rattle.pt_edit.specs.Twins.{HaveOneGuid, HasTwin}
-use Rattle.pt_edit.specs.Placed.{Placeable}
+use Rattle.pt_edit.specs.inner.Entries.{HaveOneGuid, HasTwin, Placeable}
 use Rattle.pt_edit.specs.declared.partition.Partition.{Partition}
 use Rattle.pt_edit.proofs.Alike.{same_of, of_same, twice_of, no_twins}
 use Rattle.pt_edit.proofs.Numbers.{placed}

@@ -6,11 +6,10 @@ use Rattle.std.proofs.lemmas.List.{take_all}
 use Rattle.std.proofs.lemmas.List.Sums.{sum_by-cons}
 use Rattle.pt_mbr.specs.declared.record.Record.{Record}
 use Rattle.pt_mbr.specs.declared.ebr.Ebr.{Ebr}
-use Rattle.pt_members.specs.Counts.{used_before}
-use Rattle.pt_members.specs.Members.{logicals_as, present}
-use Rattle.pt_members.specs.SliceLists.{next_number}
-use Rattle.pt_edit.specs.laws.Kept.{logicals_same}
-use Rattle.pt_edit.specs.laws.Parts.{logical, logicals_from}
+use Rattle.pt_members.specs.Members.{used_before, logicals_as, present}
+use Rattle.pt_members.proofs.SliceListsLemmas.{next_number}
+use Rattle.pt_edit.proofs.Kept.{logicals_same}
+use Rattle.pt_edit.proofs.PartsLemmas.{logical, logicals_from}
 
 -- it isn't empty
 abbrev has_logical : Ebr → Bool

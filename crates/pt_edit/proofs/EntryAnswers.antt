@@ -1,6 +1,5 @@
 -- Each word on an entry of a GPT makes a layout of each, or is refused for a reason.
-use Rattle.std.specs.Prelude.{◌≡◌, ◌≢◌, ◌≤◌, ◌⊎◌, ◌+◌, ◌-◌, ℕ, List, [], ◌∷◌, length, slice_index_or, slice_set, Option, Some}
-use Rattle.std.specs.Prelude.{None}
+use Rattle.std.specs.Prelude.{◌≡◌, ◌≢◌, ◌≤◌, ◌⊎◌, ◌+◌, ◌-◌, ℕ, List, [], ◌∷◌, length, slice_index_or, slice_set, Option, Some, None}
 use Rattle.std.proofs.Common.{refl, sym, subst, inl, inr, arith}
 use Rattle.std.proofs.lemmas.Bool.{cases_lt, cases_eq}
 use Rattle.pt_guid.specs.declared.guid.Guid.{Guid}
@@ -9,28 +8,23 @@ use Rattle.pt_gpt.specs.declared.table.Table.{Table}
 use Rattle.pt_members.specs.declared.layout.Layout.{Layout}
 use Rattle.pt_members.specs.declared.layout.Body.{Body}
 use Rattle.pt_members.specs.declared.layout.Body.TheVariants.{Mbr, Gpt}
-use Rattle.pt_words.specs.laws.Searches.{Decided, both_decided, either_decided, alike_decided, le_decided, lt_decided, eq_decided}
-use Rattle.pt_words.specs.laws.Searches.{true_decided}
-use Rattle.pt_words.specs.laws.Searches.{option_cases, search_below}
+use Rattle.pt_words.proofs.Searches.{Decided, both_decided, either_decided, alike_decided, le_decided, lt_decided, eq_decided}
+use Rattle.pt_words.proofs.Searches.{true_decided, option_cases, search_below}
 use Rattle.pt_words.specs.declared.error.Refusal.{Refusal}
 use Rattle.pt_words.specs.declared.error.Refusal.TheVariants.{NoSuchPartition, NumberTaken, NoSpace, UnknownCode, ContainerType}
 use Rattle.pt_words.specs.declared.error.Refusal.TheVariants.{NotForThisTable, NoFreshGuid, SameGuid}
 use Rattle.pt_words.specs.declared.word.Code.{Code}
-use Rattle.pt_space.specs.declared.space.Run.{Run}
-use Rattle.pt_space.specs.laws.Answers.{PlacedOr, place_answers_lem}
-use Rattle.pt_labels.specs.Lists.{without_label}
+use Rattle.pt_edit.specs.declared.space.space.Run.{Run}
+use Rattle.pt_edit.proofs.SpaceAnswers.{PlacedOr, place_answers_lem}
+use Rattle.pt_edit.specs.SliceLabels.{without_label}
 use Rattle.pt_edit.proofs.Converting.{guids_decided}
-use Rattle.pt_edit.specs.Changes.{IsGpt, HasUsedEntry, with_entry, with_body, Changed, Missing, no_gpt, no_entry, NotChanged, missing}
-use Rattle.pt_edit.specs.Changes.{barred}
-use Rattle.pt_edit.specs.Changes.{IsElsewhere, Elsewhere, TableMade, NoTable}
-use Rattle.pt_labels.specs.laws.Retyped.{IsRetypedAs, retyped_or}
-use Rattle.pt_edit.specs.Spots.{is_slice, entry_type, EntryTyped, EntryNotTyped, EntryDeleted}
-use Rattle.pt_edit.specs.Spots.{EntryNotDeleted}
-use Rattle.pt_edit.specs.NewEntry.{IsUnusedEntry, TakesNumber, given, lowest, NoNumber, no_such_number, taken, all_taken, new_type}
-use Rattle.pt_edit.specs.NewEntry.{table_area}
-use Rattle.pt_edit.specs.NewEntry.{EntryHasPlace, NoPlace, no_number, no_type, no_sectors, run_length, IsWrongSize, with_new_entry}
-use Rattle.pt_edit.specs.NewEntry.{EntryMade}
-use Rattle.pt_edit.specs.NewEntry.{EntryNotMade, no_place, wrong_size, no_guid, same_guid}
+use Rattle.pt_edit.specs.Entries.{IsGpt, HasUsedEntry, with_entry, with_body, Changed, Missing, no_gpt, no_entry, NotChanged, missing}
+use Rattle.pt_edit.specs.Entries.{barred, IsElsewhere, Elsewhere, TableMade, NoTable, is_slice, entry_type, EntryTyped, EntryNotTyped}
+use Rattle.pt_edit.specs.Entries.{EntryDeleted, EntryNotDeleted, IsUnusedEntry, TakesNumber, given, lowest, NoNumber, no_such_number}
+use Rattle.pt_edit.specs.Entries.{taken, all_taken, new_type, table_area, EntryHasPlace, NoPlace, no_number, no_type, no_sectors}
+use Rattle.pt_edit.specs.Entries.{run_length, IsWrongSize, with_new_entry, EntryMade, EntryNotMade, no_place, wrong_size, no_guid}
+use Rattle.pt_edit.specs.Entries.{same_guid}
+use Rattle.pt_edit.proofs.Retyped.{IsRetypedAs, retyped_or}
 use Rattle.pt_words.specs.declared.asked.Asked.{Asked}
 
 absent_decided : {X : Type 0} (o : Option X) → Decided (o ≡ None)

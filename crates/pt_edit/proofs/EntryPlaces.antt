@@ -7,7 +7,7 @@ use Rattle.std.proofs.lemmas.Bool.{cases_lt}
 use Rattle.pt_guid.specs.declared.guid.Guid.{Guid}
 use Rattle.pt_gpt.specs.declared.entry.Entry.{Entry}
 use Rattle.pt_edit.specs.Converted.{IsItemAt, entry_of}
-use Rattle.pt_edit.specs.Placed.{Placeable, ArePlaced}
+use Rattle.pt_edit.specs.inner.Entries.{Placeable, ArePlaced}
 use Rattle.pt_edit.specs.declared.partition.Partition.{Partition}
 
 -- the first k of the partitions are in place

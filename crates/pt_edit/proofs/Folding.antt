@@ -6,7 +6,7 @@ use Rattle.std.proofs.Math.Seq.{drop-cons}
 use Rattle.pt_guid.specs.declared.guid.Guid.{Guid}
 use Rattle.pt_members.specs.declared.layout.Layout.{Layout}
 use Rattle.pt_edit.specs.Edited.{State, MakesOf, RefusedOf, Takes, Refuses, EditedFrom}
-use Rattle.pt_edit.specs.Fold.{state_of}
+use Rattle.pt_edit.specs.inner.Edited.{state_of}
 use Rattle.pt_edit.specs.declared.state.State.{State as Kept}
 use Rattle.pt_words.specs.declared.error.Refusal.{Refusal}
 use Rattle.pt_words.specs.declared.error.Refusal.TheVariants.{Memory}

@@ -11,20 +11,17 @@ use Rattle.pt_bsd.specs.declared.label.LabelEntry.{LabelEntry}
 use Rattle.pt_members.specs.declared.layout.Layout.{Layout}
 use Rattle.pt_members.specs.declared.layout.Body.{Body}
 use Rattle.pt_members.specs.declared.layout.Body.TheVariants.{Mbr, Gpt}
-use Rattle.pt_members.specs.OnePath.{HasFour}
+use Rattle.pt_members.specs.Tables.{HasFour}
 use Rattle.pt_words.specs.declared.word.Code.{Code}
 use Rattle.pt_words.specs.declared.word.End.{End}
 use Rattle.pt_words.specs.declared.word.Edit.{Edit}
 use Rattle.pt_words.specs.declared.word.Edit.TheVariants.{Align, New, Delete, SetKind, SetName, SetUnique, SetDisk, SetBit, Extend, ToGpt}
 use Rattle.pt_words.specs.declared.word.Edit.TheVariants.{Empty}
-use Rattle.pt_labels.specs.Parts.{with_entry_of, PartMade}
-use Rattle.pt_records.specs.Records.{OfMbr, with_record, with_mbr}
-use Rattle.pt_records.specs.Typed.{TypedIn, typed_record, typed_logical, RecordTyped}
-use Rattle.pt_records.specs.Deleted.{PrimaryDeleted, plain, extended, DeletedIn, deleted_record, deleted_logical, RecordDeleted}
-use Rattle.pt_records.specs.Created.{NewIn, new_record, new_logical, RecordNew}
-use Rattle.pt_edit.specs.Changes.{Changed, TableMade}
-use Rattle.pt_edit.specs.Spots.{EntryTyped, EntryDeleted}
-use Rattle.pt_edit.specs.NewEntry.{EntryMade}
+use Rattle.pt_edit.specs.SliceLabels.{with_entry_of, PartMade}
+use Rattle.pt_edit.specs.Records.{OfMbr, with_record, with_mbr}
+use Rattle.pt_edit.specs.MbrEdits.{TypedIn, typed_record, typed_logical, RecordTyped, PrimaryDeleted, plain, extended, DeletedIn}
+use Rattle.pt_edit.specs.MbrEdits.{deleted_record, deleted_logical, RecordDeleted, NewIn, new_record, new_logical, RecordNew}
+use Rattle.pt_edit.specs.Entries.{Changed, TableMade, EntryTyped, EntryDeleted, EntryMade}
 use Rattle.pt_edit.specs.Edited.{InKind, Typed, Deleted, Made, asked_for, MakesOn}
 use Rattle.pt_words.specs.declared.asked.Asked.{Asked}
 

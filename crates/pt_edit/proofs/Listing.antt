@@ -1,6 +1,6 @@
 -- The partitions of the rows of a body, one place more at a time.
-use Rattle.std.proofs.Common.{◌≡◌, ◌≤◌, ◌+◌, ℕ, List, [], ◌∷◌, ◌++◌, length, get_or, take, Option, None}
-use Rattle.std.proofs.Common.{sym, ap, ◌∙◌, inl, inr, arith, append-nil}
+use Rattle.std.proofs.Common.{◌≡◌, ◌≤◌, ◌+◌, ℕ, List, [], ◌∷◌, ◌++◌, length, get_or, take, Option, None, sym, ap, ◌∙◌, inl, inr, arith}
+use Rattle.std.proofs.Common.{append-nil}
 use Rattle.std.specs.Prelude.{flat_map}
 use Rattle.std.proofs.lemmas.Bool.{cases_lt}
 use Rattle.std.proofs.lemmas.List.{take_more, take_all, get_or_past}
@@ -9,9 +9,8 @@ use Rattle.pt_members.specs.declared.layout.Body.{Body}
 use Rattle.pt_members.specs.declared.member.Member.{Member}
 use Rattle.pt_members.specs.declared.row.Row.{Row}
 use Rattle.pt_members.specs.declared.row.Source.{Source}
-use Rattle.pt_members.specs.Members.{slots}
-use Rattle.pt_members.specs.Rows.{sources, rows_with, rows}
-use Rattle.pt_edit.specs.Partitions.{kept_at}
+use Rattle.pt_members.specs.Members.{slots, sources, rows_with, rows}
+use Rattle.pt_edit.specs.Entries.{kept_at}
 use Rattle.pt_edit.specs.declared.partition.Partition.{Partition}
 
 -- those of the first k places

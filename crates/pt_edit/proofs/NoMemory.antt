@@ -15,24 +15,16 @@ use Rattle.pt_words.specs.declared.word.End.{End}
 use Rattle.pt_words.specs.declared.word.Edit.{Edit}
 use Rattle.pt_words.specs.declared.word.Edit.TheVariants.{Align, New, Delete, SetKind, SetName, SetUnique, SetDisk, SetBit, Extend, ToGpt}
 use Rattle.pt_words.specs.declared.word.Edit.TheVariants.{Empty}
-use Rattle.pt_space.specs.Area.{Area}
-use Rattle.pt_space.specs.Placed.{NotLed, record_outside, record_taken, NotStarted, no_room, not_usable, not_free, not_led, NotEnded}
-use Rattle.pt_space.specs.Placed.{before_start, past_usable, past_block, NotPlaced, no_start, no_end}
-use Rattle.pt_labels.specs.laws.Retyped.{not_retyped_real}
-use Rattle.pt_labels.specs.Parts as parts
-use Rattle.pt_labels.specs.New as partitions
-use Rattle.pt_records.specs.Chains as chains
-use Rattle.pt_records.specs.ChainNew as logicals
-use Rattle.pt_records.specs.Records.{OfMbr}
-use Rattle.pt_records.specs.Numbers as numbers
-use Rattle.pt_records.specs.Typed as typed
-use Rattle.pt_records.specs.Deleted as deleted
-use Rattle.pt_records.specs.New as records
-use Rattle.pt_records.specs.Created as created
+use Rattle.pt_edit.specs.Space.{Area, NotLed, record_outside, record_taken, NotStarted, no_room, not_usable, not_free, not_led, NotEnded}
+use Rattle.pt_edit.specs.Space.{before_start, past_usable, past_block, NotPlaced, no_start, no_end}
+use Rattle.pt_edit.proofs.Retyped.{not_retyped_real}
+use Rattle.pt_edit.specs.SliceLabels as parts
+use Rattle.pt_edit.specs.Chains as chains
+use Rattle.pt_edit.specs.Records.{OfMbr}
+use Rattle.pt_edit.specs.Records as numbers
+use Rattle.pt_edit.specs.MbrEdits as typed
 use Rattle.pt_edit.specs.Converted as converted
-use Rattle.pt_edit.specs.Changes as changes
-use Rattle.pt_edit.specs.Spots as spots
-use Rattle.pt_edit.specs.NewEntry as entries
+use Rattle.pt_edit.specs.Entries as changes
 use Rattle.pt_edit.specs.Edited.{State, initial, EmptyRefused, InKind, NotTyped, NotDeleted, NotMade, asked_for, RefusesOn, RefusedOf}
 use Rattle.pt_edit.specs.Edited.{Refuses, WordsEnd, EditedFrom, Edited}
 use Rattle.pt_edit.specs.Edited as edited
@@ -75,16 +67,16 @@ part_typed : (b number letter : ℕ) (code : Code) (o : Layout) (r : Refusal) �
 part_typed b number letter code o r (parts.no_part x) e = part b o number letter r x e
 part_typed b number letter code o r (parts.unknown_code m l f x y is) e = absurd cc
 
-unused : (b : ℕ) (o : Layout) (number letter : ℕ) (r : Refusal) → partitions.NoUnused b o number letter r → r ≡ Memory → ⊥
-unused b o number letter r (partitions.missing x) e = entry b o number letter r x e
-unused b o number letter r (partitions.taken m l f x y is) e = absurd cc
+unused : (b : ℕ) (o : Layout) (number letter : ℕ) (r : Refusal) → parts.NoUnused b o number letter r → r ≡ Memory → ⊥
+unused b o number letter r (parts.missing x) e = entry b o number letter r x e
+unused b o number letter r (parts.taken m l f x y is) e = absurd cc
 
 part_new : (b number letter alignment start : ℕ) (end : End) (code : Option Code) (o : Layout) (r : Refusal)
-    → partitions.PartNotNew b number letter alignment start end code o r → r ≡ Memory → ⊥
-part_new b number letter alignment start end code o r (partitions.no_unused x) e = unused b o number letter r x e
-part_new b number letter alignment start end code o r (partitions.no_type m l f x y is) e = absurd cc
-part_new b number letter alignment start end code o r (partitions.no_place m l f kind x y z) e = placed _ alignment start end r z e
-part_new b number letter alignment start end code o r (partitions.no_offset m l f kind run x y z u is) e = absurd cc
+    → parts.PartNotNew b number letter alignment start end code o r → r ≡ Memory → ⊥
+part_new b number letter alignment start end code o r (parts.no_unused x) e = unused b o number letter r x e
+part_new b number letter alignment start end code o r (parts.no_type m l f x y is) e = absurd cc
+part_new b number letter alignment start end code o r (parts.no_place m l f kind x y z) e = placed _ alignment start end r z e
+part_new b number letter alignment start end code o r (parts.no_offset m l f kind run x y z u is) e = absurd cc
 
 -- logical partitions
 logical_typed : (b number : ℕ) (code : Code) (chain : List Ebr) (r : Refusal) → chains.LogicalNotTyped b number code chain r
@@ -96,17 +88,17 @@ logical_deleted number chain r x e =
     let is = x.is in
     absurd cc
 
-kind_new : (code : Option Code) (r : Refusal) → logicals.NoKind code r → r ≡ Memory → ⊥
-kind_new code r (logicals.unknown_code x is) e = absurd cc
-kind_new code r (logicals.extended_code kind x y is) e = absurd cc
+kind_new : (code : Option Code) (r : Refusal) → chains.NoKind code r → r ≡ Memory → ⊥
+kind_new code r (chains.unknown_code x is) e = absurd cc
+kind_new code r (chains.extended_code kind x y is) e = absurd cc
 
 logical_new : (b : ℕ) (extended : Option Record) (chain : List Ebr) (alignment start : ℕ) (end : End) (code : Option Code)
-    (r : Refusal) → logicals.LogicalNotNew b extended chain alignment start end code r → r ≡ Memory → ⊥
-logical_new b extended chain alignment start end code r (logicals.no_parent x is) e = absurd cc
-logical_new b extended chain alignment start end code r (logicals.no_kind p x y) e = kind_new code r y e
-logical_new b extended chain alignment start end code r (logicals.no_place p kind x y z) e = placed _ alignment start end r z e
-logical_new b extended chain alignment start end code r (logicals.misfit p kind run x y z u is) e = absurd cc
-logical_new b extended chain alignment start end code r (logicals.full p kind run x y z u v is) e = absurd cc
+    (r : Refusal) → chains.LogicalNotNew b extended chain alignment start end code r → r ≡ Memory → ⊥
+logical_new b extended chain alignment start end code r (chains.no_parent x is) e = absurd cc
+logical_new b extended chain alignment start end code r (chains.no_kind p x y) e = kind_new code r y e
+logical_new b extended chain alignment start end code r (chains.no_place p kind x y z) e = placed _ alignment start end r z e
+logical_new b extended chain alignment start end code r (chains.misfit p kind run x y z u is) e = absurd cc
+logical_new b extended chain alignment start end code r (chains.full p kind run x y z u v is) e = absurd cc
 
 -- records
 in_records : {C : Type 0} (y : Body) (Holds : List (Option Record) → List Ebr → Type 0) → OfMbr y Holds
@@ -123,33 +115,33 @@ typed_in : (b number : ℕ) (code : Code) (rs : List (Option Record)) (chain : L
 typed_in b number code rs chain r (typed.record_not_typed x y) e = primary_typed b number code rs r y e
 typed_in b number code rs chain r (typed.logical_not_typed x y) e = logical_typed b number code chain r y e
 
-deleted_in : (number : ℕ) (rs : List (Option Record)) (chain : List Ebr) (r : Refusal) → deleted.NotDeletedIn number rs chain r
+deleted_in : (number : ℕ) (rs : List (Option Record)) (chain : List Ebr) (r : Refusal) → typed.NotDeletedIn number rs chain r
     → r ≡ Memory → ⊥
-deleted_in number rs chain r (deleted.record_not_deleted x y) e =
+deleted_in number rs chain r (typed.record_not_deleted x y) e =
     let is = y.is in
     absurd cc
-deleted_in number rs chain r (deleted.logical_not_deleted x y) e = logical_deleted number chain r y e
+deleted_in number rs chain r (typed.logical_not_deleted x y) e = logical_deleted number chain r y e
 
 numbered : (rs : List (Option Record)) (asked : ℕ) (r : Refusal) → numbers.NotNumbered rs asked r → r ≡ Memory → ⊥
 numbered rs asked r (numbers.past_records x is) e = absurd cc
 numbered rs asked r (numbers.used x y is) e = absurd cc
 numbered rs asked r (numbers.none_unused x y is) e = absurd cc
 
-chosen : (rs : List (Option Record)) (asked : ℕ) (code : Option Code) (r : Refusal) → records.NotChosen rs asked code r → r ≡ Memory → ⊥
-chosen rs asked code r (records.not_numbered x) e = numbered rs asked r x e
-chosen rs asked code r (records.unknown number x y is) e = absurd cc
-chosen rs asked code r (records.second number kind x y z is) e = absurd cc
+chosen : (rs : List (Option Record)) (asked : ℕ) (code : Option Code) (r : Refusal) → typed.NotChosen rs asked code r → r ≡ Memory → ⊥
+chosen rs asked code r (typed.not_numbered x) e = numbered rs asked r x e
+chosen rs asked code r (typed.unknown number x y is) e = absurd cc
+chosen rs asked code r (typed.second number kind x y z is) e = absurd cc
 
 record_new : (b asked alignment start : ℕ) (end : End) (code : Option Code) (n : ℕ) (rs : List (Option Record)) (r : Refusal)
-    → records.RecordNotMade b asked alignment start end code n rs r → r ≡ Memory → ⊥
-record_new b asked alignment start end code n rs r (records.not_chosen x) e = chosen rs asked code r x e
-record_new b asked alignment start end code n rs r (records.not_placed number kind x y) e = placed _ alignment start end r y e
-record_new b asked alignment start end code n rs r (records.too_short number kind run x y z is) e = absurd cc
+    → typed.RecordNotMade b asked alignment start end code n rs r → r ≡ Memory → ⊥
+record_new b asked alignment start end code n rs r (typed.not_chosen x) e = chosen rs asked code r x e
+record_new b asked alignment start end code n rs r (typed.not_placed number kind x y) e = placed _ alignment start end r y e
+record_new b asked alignment start end code n rs r (typed.too_short number kind run x y z is) e = absurd cc
 
 new_in : (b asked alignment start : ℕ) (end : End) (code : Option Code) (n : ℕ) (rs : List (Option Record)) (chain : List Ebr)
-    (r : Refusal) → created.NotNewIn b asked alignment start end code n rs chain r → r ≡ Memory → ⊥
-new_in b asked alignment start end code n rs chain r (created.no_new_record x y) e = record_new b asked alignment start end code n rs r y e
-new_in b asked alignment start end code n rs chain r (created.no_new_logical x y) e = logical_new b _ chain alignment start end code r y e
+    (r : Refusal) → typed.NotNewIn b asked alignment start end code n rs chain r → r ≡ Memory → ⊥
+new_in b asked alignment start end code n rs chain r (typed.no_new_record x y) e = record_new b asked alignment start end code n rs r y e
+new_in b asked alignment start end code n rs chain r (typed.no_new_logical x y) e = logical_new b _ chain alignment start end code r y e
 
 -- `g`
 conversion : (b : ℕ) (guids : List Guid) (o : Layout) (r : Refusal) → converted.NotConverted b guids o r → r ≡ Memory → ⊥
@@ -171,30 +163,30 @@ changed number Barred why o r other (changes.barred t f x y z is) e =
     let same : why ≡ Memory = cc in
     other same
 
-entry_typed : (b : ℕ) (t : Table) (number : ℕ) (code : Code) (r : Refusal) → spots.EntryNotTyped b t number code r → r ≡ Memory → ⊥
+entry_typed : (b : ℕ) (t : Table) (number : ℕ) (code : Code) (r : Refusal) → changes.EntryNotTyped b t number code r → r ≡ Memory → ⊥
 entry_typed b t number code r x e = not_retyped_real _ _ _ _ r x e
 
-entry_numbered : (t : Table) (wanted : ℕ) (r : Refusal) → entries.NoNumber t wanted r → r ≡ Memory → ⊥
-entry_numbered t wanted r (entries.no_such_number x is) e = absurd cc
-entry_numbered t wanted r (entries.taken f x is) e = absurd cc
-entry_numbered t wanted r (entries.all_taken x y is) e = absurd cc
+entry_numbered : (t : Table) (wanted : ℕ) (r : Refusal) → changes.NoNumber t wanted r → r ≡ Memory → ⊥
+entry_numbered t wanted r (changes.no_such_number x is) e = absurd cc
+entry_numbered t wanted r (changes.taken f x is) e = absurd cc
+entry_numbered t wanted r (changes.all_taken x y is) e = absurd cc
 
-entry_placed : (t : Table) (a : Asked) (r : Refusal) → entries.NoPlace t a r → r ≡ Memory → ⊥
-entry_placed t a r (entries.no_number x) e = entry_numbered t a.number r x e
-entry_placed t a r (entries.no_type number x y is) e = absurd cc
-entry_placed t a r (entries.no_sectors number kind x y z) e = placed _ a.alignment a.start a.end r z e
+entry_placed : (t : Table) (a : Asked) (r : Refusal) → changes.NoPlace t a r → r ≡ Memory → ⊥
+entry_placed t a r (changes.no_number x) e = entry_numbered t a.number r x e
+entry_placed t a r (changes.no_type number x y is) e = absurd cc
+entry_placed t a r (changes.no_sectors number kind x y z) e = placed _ a.alignment a.start a.end r z e
 
-entry_new : (b : ℕ) (t : Table) (a : Asked) (fresh : List Guid) (r : Refusal) → entries.EntryNotMade b t a fresh r → r ≡ Memory → ⊥
-entry_new b t a fresh r (entries.no_place x) e = entry_placed t a r x e
-entry_new b t a fresh r (entries.wrong_size number kind run x y is) e = absurd cc
-entry_new b t a fresh r (entries.no_guid number kind run x y z is) e = absurd cc
-entry_new b t a fresh r (entries.same_guid number kind run guid rest x y z u is) e = absurd cc
+entry_new : (b : ℕ) (t : Table) (a : Asked) (fresh : List Guid) (r : Refusal) → changes.EntryNotMade b t a fresh r → r ≡ Memory → ⊥
+entry_new b t a fresh r (changes.no_place x) e = entry_placed t a r x e
+entry_new b t a fresh r (changes.wrong_size number kind run x y is) e = absurd cc
+entry_new b t a fresh r (changes.no_guid number kind run x y z is) e = absurd cc
+entry_new b t a fresh r (changes.same_guid number kind run guid rest x y z u is) e = absurd cc
 
 -- words by their path
 not_typed : (b number : ℕ) (letter : Option ℕ) (code : Code) (o : Layout) (r : Refusal) → NotTyped b number letter code o r → r ≡ Memory → ⊥
 not_typed b number (Some letter) code o r x e = part_typed b number letter code o r x e
 not_typed b number None code o r x e =
-    either_kind o.body (typed.RecordNotTyped b number code o r) (λ t. spots.EntryNotTyped b t number code r)
+    either_kind o.body (typed.RecordNotTyped b number code o r) (λ t. changes.EntryNotTyped b t number code r)
     (λ y. in_records o.body (λ rs chain. typed.NotTypedIn b number code rs chain r) y (λ rs chain z. typed_in b number code rs chain r z e))
     (λ t y. entry_typed b t number code r y e)
     x
@@ -202,8 +194,8 @@ not_typed b number None code o r x e =
 not_deleted : (b number : ℕ) (letter : Option ℕ) (o : Layout) (r : Refusal) → NotDeleted b number letter o r → r ≡ Memory → ⊥
 not_deleted b number (Some letter) o r x e = part b o number letter r x e
 not_deleted b number None o r x e =
-    either_kind o.body (deleted.RecordNotDeleted number o r) (λ t. spots.EntryNotDeleted t number r)
-    (λ y. in_records o.body (λ rs chain. deleted.NotDeletedIn number rs chain r) y (λ rs chain z. deleted_in number rs chain r z e))
+    either_kind o.body (typed.RecordNotDeleted number o r) (λ t. changes.EntryNotDeleted t number r)
+    (λ y. in_records o.body (λ rs chain. typed.NotDeletedIn number rs chain r) y (λ rs chain z. deleted_in number rs chain r z e))
     (λ t y. (let is = y.is in absurd cc))
     x
 
@@ -211,8 +203,8 @@ not_made : (b : ℕ) (letter : Option ℕ) (a : Asked) (fresh : List Guid) (o : 
     → r ≡ Memory → ⊥
 not_made b (Some letter) a fresh o r x e = part_new b a.number letter a.alignment a.start a.end a.code o r x e
 not_made b None a fresh o r x e =
-    either_kind o.body (created.RecordNotNew b a.number a.alignment a.start a.end a.code o r) (λ t. entries.EntryNotMade b t a fresh r)
-    (λ y. in_records o.body (λ rs chain. created.NotNewIn b a.number a.alignment a.start a.end a.code o.sectors rs chain r) y
+    either_kind o.body (typed.RecordNotNew b a.number a.alignment a.start a.end a.code o r) (λ t. changes.EntryNotMade b t a fresh r)
+    (λ y. in_records o.body (λ rs chain. typed.NotNewIn b a.number a.alignment a.start a.end a.code o.sectors rs chain r) y
     (λ rs chain z. new_in b a.number a.alignment a.start a.end a.code o.sectors rs chain r z e))
     (λ t y. entry_new b t a fresh r y e)
     x

@@ -3,12 +3,11 @@ use Rattle.std.proofs.Common.{◌≡◌, ◌≢◌, ◌<◌, ◌≤◌, ◌+◌,
 use Rattle.std.proofs.Common.{length-append, map, Option, Some, None, refl, sym, ap, ◌∙◌, subst, arith, inl, inr}
 use Rattle.std.specs.Prelude.{Contains, filter, cond}
 use Rattle.std.proofs.lemmas.Bool.{cases_lt}
-use Rattle.pt_gpt.specs.Array.{array_len}
+use Rattle.pt_gpt.specs.Copies.{array_len, HasRoom, edge}
 use Rattle.pt_mbr.specs.declared.record.Record.{Record}
 use Rattle.pt_mbr.specs.declared.ebr.Ebr.{Ebr}
-use Rattle.pt_mbr.specs.Extended.{is_extended}
-use Rattle.pt_gpt.specs.Array.{HasRoom}
-use Rattle.pt_members.specs.SliceLists.{next_number}
+use Rattle.pt_mbr.specs.Records.{is_extended}
+use Rattle.pt_members.proofs.SliceListsLemmas.{next_number}
 use Rattle.pt_members.specs.declared.layout.Labelled.{Labelled}
 use Rattle.pt_members.specs.declared.layout.Layout.{Layout}
 use Rattle.pt_members.specs.declared.layout.Body.{Body}
@@ -16,16 +15,13 @@ use Rattle.pt_members.specs.declared.layout.Body.TheVariants.{Mbr, Gpt}
 use Rattle.pt_members.specs.declared.member.Kind.TheVariants.{Extended}
 use Rattle.pt_members.specs.declared.member.Member.{Member}
 use Rattle.pt_members.specs.Members.{present, slots, logicals, logicals_as}
-use Rattle.pt_members.specs.OnePath.{HasFour}
-use Rattle.pt_members.specs.laws.Grouped.{from_present, place_member}
-use Rattle.pt_edit.specs.Partitions.{partitions}
-use Rattle.pt_gpt.specs.Array.{edge}
-use Rattle.pt_edit.specs.Room.{LiesOutside, NoRoom, small, partition, many}
+use Rattle.pt_members.specs.Tables.{HasFour}
+use Rattle.pt_members.proofs.Grouped.{from_present, place_member}
+use Rattle.pt_edit.specs.Entries.{partitions, LiesOutside, NoRoom, small, partition, many, member_of, is_kept, is_kept_kind}
 use Rattle.pt_edit.specs.Converted.{IsItemAt}
-use Rattle.pt_edit.specs.Placed.{Placeable}
-use Rattle.pt_edit.specs.Kept.{member_of, is_kept, is_kept_kind}
-use Rattle.pt_edit.specs.laws.Kept.{kept_lem, logicals_same}
-use Rattle.pt_edit.specs.laws.Parts.{partition_of, primary, primaries, logical, logicals_from, partitions_mbr, partitions_gpt}
+use Rattle.pt_edit.specs.inner.Entries.{Placeable}
+use Rattle.pt_edit.proofs.Kept.{kept_lem, logicals_same}
+use Rattle.pt_edit.proofs.PartsLemmas.{partition_of, primary, primaries, logical, logicals_from, partitions_mbr, partitions_gpt}
 use Rattle.pt_edit.specs.declared.partition.Partition.{Partition}
 use Rattle.pt_edit.proofs.Searches.{not_true}
 

@@ -6,15 +6,14 @@ use Rattle.pt_gpt.specs.declared.table.Table.{Table}
 use Rattle.pt_members.specs.declared.layout.Layout.{Layout}
 use Rattle.pt_members.specs.declared.layout.Body.{Body}
 use Rattle.pt_members.specs.declared.layout.Body.TheVariants.{Mbr, Gpt}
-use Rattle.pt_space.specs.declared.space.Run.{Run}
-use Rattle.pt_space.specs.Area.{Area}
-use Rattle.pt_space.specs.Placed.{Placed}
-use Rattle.pt_space.specs.laws.Terms.{placed_is_free_lem}
+use Rattle.pt_edit.specs.declared.space.space.Run.{Run}
+use Rattle.pt_edit.specs.Space.{Area, Placed}
+use Rattle.pt_edit.proofs.SpaceTerms.{placed_is_free_lem}
 use Rattle.pt_words.specs.declared.word.End.{End}
 use Rattle.pt_words.specs.declared.word.Edit.{Edit}
 use Rattle.pt_words.specs.declared.word.Edit.TheVariants.{Align, New, Delete, SetKind, SetName, SetUnique, SetDisk, SetBit, Extend, ToGpt}
 use Rattle.pt_words.specs.declared.word.Edit.TheVariants.{Empty}
-use Rattle.pt_edit.specs.NewEntry.{EntryMade, IsUnusedEntry, TakesNumber, given, lowest}
+use Rattle.pt_edit.specs.Entries.{EntryMade, IsUnusedEntry, TakesNumber, given, lowest}
 use Rattle.pt_edit.specs.Edited.{InKind, Made, MakesOn, asked_for, taken_by, taken_by_new}
 use Rattle.pt_words.specs.declared.asked.Asked.{Asked}
 

@@ -1,20 +1,19 @@
 -- The searches for what lies outside, one place at a time.
-use Rattle.std.proofs.Common.{◌≡◌, ◌<◌, ◌≤◌, ◌+◌, ◌↔◌, IsTrue, ℕ, zero, suc, Bool, true, false}
-use Rattle.std.proofs.Common.{List, [], ◌∷◌, length, get_or, drop, Option, Some, None}
-use Rattle.std.proofs.Common.{refl, sym, ap, ◌∙◌, subst, arith, inl, inr}
+use Rattle.std.proofs.Common.{◌≡◌, ◌<◌, ◌≤◌, ◌+◌, ◌↔◌, IsTrue, ℕ, zero, suc, Bool, true, false, List, [], ◌∷◌, length, get_or, drop}
+use Rattle.std.proofs.Common.{Option, Some, None, refl, sym, ap, ◌∙◌, subst, arith, inl, inr}
 use Rattle.std.proofs.lemmas.Bool.{cases_lt}
 use Rattle.std.proofs.lemmas.List.{drop_all, drop_more}
 use Rattle.pt_mbr.specs.Chain.{StandsAt}
 use Rattle.pt_mbr.specs.declared.ebr.Ebr.{Ebr}
 use Rattle.pt_bsd.specs.declared.label.Label.{Label}
 use Rattle.pt_bsd.specs.declared.label.LabelEntry.{LabelEntry}
-use Rattle.pt_gpt.specs.Array.{HasRoom}
+use Rattle.pt_gpt.specs.Copies.{HasRoom}
 use Rattle.pt_members.specs.declared.layout.Layout.{Layout}
 use Rattle.pt_members.specs.Members.{parts_as, parts_in, slots}
-use Rattle.pt_members.specs.laws.Grouped.{place_member, member_place}
+use Rattle.pt_members.proofs.Grouped.{place_member, member_place}
 use Rattle.pt_members.specs.declared.member.Member.{Member}
-use Rattle.pt_edit.specs.Room.{LiesOutside, IsOutsider, NoRoom, small, partition, ebr, many}
-use Rattle.pt_edit.specs.Outside.{HasOutsider, HasNear, HasAny, HasEbr, IsChainInWay}
+use Rattle.pt_edit.specs.Entries.{LiesOutside, IsOutsider, NoRoom, small, partition, ebr, many}
+use Rattle.pt_edit.specs.inner.Entries.{HasOutsider, HasNear, HasAny, HasEbr, IsChainInWay}
 
 -- a chain's record stands where it does
 pub stands : (es : List Ebr) (k : ℕ) (z : Ebr) → k < length es → StandsAt (get_or es k z).at.0 es

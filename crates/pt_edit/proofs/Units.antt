@@ -9,7 +9,7 @@ use Rattle.std.specs.Char.Escape.{encode_utf16}
 use Rattle.std.specs.Str.{chars, IsUtf8}
 use Rattle.std.proofs.Math.Utf8.{encode}
 use Rattle.std.proofs.lemmas.Str.{chars_past_char, IsUtf8-past_char}
-use Rattle.pt_edit.specs.Names.{units_of, padded}
+use Rattle.pt_edit.specs.Entries.{units_of, padded}
 
 -- with one more zero at the place where the next unit comes
 padded_from : (ys : List ℕ) (y k : ℕ) → 36 - length ys ≡ suc k → set (padded ys) (length ys) y ≡ ys ++ y ∷ replicate k 0

@@ -1,5 +1,6 @@
 -- What `g` makes of a layout, or why not.
-use Rattle.std.specs.Prelude.{◌≡◌, ◌≢◌, ◌<◌, ◌≤◌, ◌+◌, ◌-◌, ℕ, List, length, slice_index_or, replicate, Contains, Option, None, option_map}
+use Rattle.std.specs.Prelude.{◌≡◌, ◌≢◌, ◌<◌, ◌≤◌, ◌+◌, ◌-◌, ℕ, List, length, slice_index_or, replicate, Contains, Option, None}
+use Rattle.std.specs.Prelude.{option_map}
 use Rattle.pt_guid.specs.Codes.{type_of_record}
 use Rattle.pt_guid.specs.declared.guid.Guid.{Guid}
 use Rattle.pt_gpt.specs.declared.entry.Entry.{Entry}
@@ -9,9 +10,8 @@ use Rattle.pt_members.specs.declared.layout.Body.{Body}
 use Rattle.pt_members.specs.declared.layout.Body.TheVariants.{Mbr, Gpt}
 use Rattle.pt_words.specs.declared.error.Refusal.{Refusal}
 use Rattle.pt_words.specs.declared.error.Refusal.TheVariants.{NotForThisTable, UnknownCode, NoRoomForGpt, NoFreshGuid, SameGuid}
-use Rattle.pt_edit.specs.Partitions.{partitions}
-use Rattle.pt_gpt.specs.Array.{edge}
-use Rattle.pt_edit.specs.Room.{NoRoom}
+use Rattle.pt_edit.specs.Entries.{partitions, NoRoom}
+use Rattle.pt_gpt.specs.Copies.{edge}
 use Rattle.pt_edit.specs.declared.partition.Partition.{Partition}
 
 -- it is the table of an MBR

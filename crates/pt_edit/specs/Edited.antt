@@ -1,21 +1,17 @@
--- What words make of a layout, or of nothing.
+-- All words in order.
 use Rattle.std.specs.Prelude.{◌≡◌, ◌-◌, ◌/◌, ◌⊎◌, ℕ, List, [], ◌∷◌, drop, replicate, Option, Some, None, Result, Ok, Err}
 use Rattle.std.specs.String.{string_bytes}
 use Rattle.pt_guid.specs.declared.guid.Guid.{Guid}
 use Rattle.pt_gpt.specs.declared.table.Table.{Table}
-use Rattle.pt_gpt.specs.Array.{HasRoom, edge}
+use Rattle.pt_gpt.specs.Copies.{HasRoom, edge}
 use Rattle.pt_members.specs.declared.layout.Layout.{Layout}
 use Rattle.pt_members.specs.declared.layout.Body.{Body}
 use Rattle.pt_members.specs.declared.layout.Body.TheVariants.{Mbr, Gpt}
 use Rattle.pt_edit.specs.Converted.{guids_taken, Converted, NotConverted}
-use Rattle.pt_records.specs.Typed.{RecordTyped, RecordNotTyped}
-use Rattle.pt_records.specs.Deleted.{RecordDeleted, RecordNotDeleted}
-use Rattle.pt_records.specs.Created.{RecordNew, RecordNotNew}
-use Rattle.pt_labels.specs.New.{PartNew, PartNotNew}
-use Rattle.pt_labels.specs.Parts.{PartTyped, PartNotTyped, PartDeleted, PartNotDeleted}
-use Rattle.pt_edit.specs.Changes.{Named, NameRefused, UniqueSet, UniqueRefused, BitSet, BitRefused, DiskSet, Extended, NoTable}
-use Rattle.pt_edit.specs.Spots.{EntryTyped, EntryNotTyped, EntryDeleted, EntryNotDeleted}
-use Rattle.pt_edit.specs.NewEntry.{EntryMade, EntryNotMade}
+use Rattle.pt_edit.specs.MbrEdits.{RecordTyped, RecordNotTyped, RecordDeleted, RecordNotDeleted, RecordNew, RecordNotNew}
+use Rattle.pt_edit.specs.SliceLabels.{PartNew, PartNotNew, PartTyped, PartNotTyped, PartDeleted, PartNotDeleted}
+use Rattle.pt_edit.specs.Entries.{Named, NameRefused, UniqueSet, UniqueRefused, BitSet, BitRefused, DiskSet, Extended, NoTable}
+use Rattle.pt_edit.specs.Entries.{EntryTyped, EntryNotTyped, EntryDeleted, EntryNotDeleted, EntryMade, EntryNotMade}
 use Rattle.pt_words.specs.declared.asked.Asked.{Asked}
 use Rattle.pt_words.specs.declared.error.Refusal.{Refusal}
 use Rattle.pt_words.specs.declared.error.Refusal.TheVariants.{NotForThisTable, NoFreshGuid, NoRoomForGpt}

@@ -2,11 +2,11 @@
 
 ghost use Rattle.std.specs.Prelude.{◌≡◌, ◌≢◌, ◌≤◌, ◌+◌, IfOk, IfErr, OnOk, length};
 ghost use Rattle.pt_sector.specs.Sectors.{IsSectorSize};
-ghost use Rattle.pt_members.specs.OnePath.{HasFour};
+ghost use Rattle.pt_members.specs.Tables.{HasFour};
 ghost use Rattle.pt_members.specs.declared.layout.Body.TheVariants.{Gpt};
-ghost use Rattle.pt_edit.specs.Partitions.{partitions};
-ghost use Rattle.pt_edit.specs.Placed.{Placeable};
-ghost use Rattle.pt_gpt.specs.Array.{edge};
+ghost use Rattle.pt_edit.specs.Entries.{partitions};
+ghost use Rattle.pt_edit.specs.inner.Entries.{Placeable};
+ghost use Rattle.pt_gpt.specs.Copies.{edge};
 ghost use Rattle.pt_edit.specs.Converted.{HasRecords, MayConvert, IsGptOf, Converted, NotConverted};
 
 use crate::entry_types::has_unknown;

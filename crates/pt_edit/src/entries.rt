@@ -1,7 +1,7 @@
 //! The words `c`, `u` and `A`, which change one entry of a GPT.
 
 ghost use Rattle.std.specs.Prelude.{◌≡◌, ◌↔◌, IsTrue, IfOk, IfErr};
-ghost use Rattle.pt_edit.specs.Changes.{Named, NameRefused, Elsewhere, UniqueSet, UniqueRefused, with_bit, BitSet, BitRefused};
+ghost use Rattle.pt_edit.specs.Entries.{Named, NameRefused, Elsewhere, UniqueSet, UniqueRefused, with_bit, BitSet, BitRefused};
 
 use crate::gpt::with_used;
 use crate::name::padded_units;

@@ -6,7 +6,7 @@ ghost use Rattle.pt_sector.specs.Sectors.{IsSectorSize};
 ghost use Rattle.pt_members.specs.declared.layout.Layout.{Layout};
 ghost use Rattle.pt_words.specs.declared.error.Refusal.{Refusal};
 ghost use Rattle.pt_edit.specs.Edited.{WordsEnd, EditedFrom, Edited};
-ghost use Rattle.pt_edit.specs.Fold.{state_of};
+ghost use Rattle.pt_edit.specs.inner.Edited.{state_of};
 
 use crate::state::{FIRST_ALIGNMENT, State, take_word};
 use pt_guid::Guid;

@@ -2,11 +2,11 @@
 
 ghost use Rattle.std.specs.Prelude.{◌≡◌, ◌≤◌, IfOk, IfErr, IfSome, IfNone, length};
 ghost use Rattle.pt_gpt.specs.declared.entry.Entry.{Entry};
-ghost use Rattle.pt_edit.specs.Changes.{HasUsedEntry, Missing, NoTable, with_entry};
-ghost use Rattle.pt_edit.specs.Whole.{whole_of, without_spot};
+ghost use Rattle.pt_edit.specs.Entries.{HasUsedEntry, Missing, NoTable, with_entry};
+ghost use Rattle.pt_edit.specs.inner.Entries.{whole_of, without_spot};
 
+use crate::labels::drop_label;
 use pt_gpt::{Entry, Table};
-use pt_labels::drop_label;
 use pt_members::{Body, Labels, Layout};
 use pt_words::Refusal;
 

@@ -1,11 +1,11 @@
 //! The layout of a GPT or of an MBR in its parts.
 
 ghost use Rattle.std.specs.Prelude.{◌≡◌};
-ghost use Rattle.pt_edit.specs.Whole.{layout_of};
+ghost use Rattle.pt_edit.specs.inner.Entries.{layout_of};
 
 use crate::gpt::Gpt;
+use crate::records::MbrParts;
 use pt_members::{Body, Layout};
-use pt_records::MbrParts;
 
 /// The parts of a layout by its kind.
 #[derive(Drop)]

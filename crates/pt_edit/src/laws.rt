@@ -6,14 +6,13 @@ ghost use Rattle.pt_members.specs.declared.layout.Layout.{Layout};
 ghost use Rattle.pt_edit.specs.Edited.{Edited};
 ghost use Rattle.pt_words.specs.declared.error.Refusal.{Refusal};
 ghost use Rattle.pt_words.specs.declared.word.Edit.{Edit};
-ghost use Rattle.pt_members.specs.OnePath.{HasFour};
+ghost use Rattle.pt_members.specs.Tables.{HasFour};
 ghost use Rattle.pt_words.specs.declared.error.Refusal.TheVariants.{Memory};
 ghost use Rattle.pt_mbr.specs.declared.record.Record.{Record};
 ghost use Rattle.pt_mbr.specs.declared.ebr.Ebr.{Ebr};
 ghost use Rattle.pt_members.specs.declared.layout.Body.TheVariants.{Mbr};
 ghost use Rattle.pt_members.specs.Members.{present, slots};
-ghost use Rattle.pt_edit.specs.Partitions.{partitions};
-ghost use Rattle.pt_edit.specs.Kept.{is_kept, member_of};
+ghost use Rattle.pt_edit.specs.Entries.{partitions, is_kept, member_of};
 ghost use Rattle.pt_edit.specs.Converted.{Converted, NotConverted};
 
 /// Words make one layout of another or of nothing, or are refused for one reason.

@@ -1,7 +1,7 @@
 //! Names as an entry keeps them.
 
 ghost use Rattle.std.specs.Prelude.{◌≡◌, ◌≤◌, ◌<◌, IfSome, IfNone, length};
-ghost use Rattle.pt_edit.specs.Names.{units_of, padded};
+ghost use Rattle.pt_edit.specs.Entries.{units_of, padded};
 
 /// How many UTF-16 units an entry's name has.
 pub(crate) const NAME_UNITS: usize = 36;

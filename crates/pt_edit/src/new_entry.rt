@@ -1,21 +1,20 @@
 //! The word `n` without a letter, in a GPT: a new entry.
 
 ghost use Rattle.std.specs.Prelude.{◌≡◌, ◌≢◌, ◌≤◌, ◌<◌, ◌^◌, ◌↔◌, ℕ, [], IsTrue, IfOk, IfErr, IfSome, IfNone, ◌∷◌, drop, Some, None};
-ghost use Rattle.pt_space.specs.Area.{area_of};
-ghost use Rattle.pt_edit.specs.NewEntry.{IsUnusedEntry, TakesNumber, NoNumber, new_type, table_area, EntryHasPlace, NoPlace, IsWrongSize};
-ghost use Rattle.pt_edit.specs.NewEntry.{new_entry_of, new_labels, with_new_entry, EntryMade, EntryNotMade};
-ghost use Rattle.pt_edit.specs.Changes.{Elsewhere};
-ghost use Rattle.pt_edit.specs.Whole.{whole_of};
+ghost use Rattle.pt_edit.specs.Space.{area_of};
+ghost use Rattle.pt_edit.specs.Entries.{IsUnusedEntry, TakesNumber, NoNumber, new_type, table_area, EntryHasPlace, NoPlace, IsWrongSize};
+ghost use Rattle.pt_edit.specs.Entries.{new_entry_of, new_labels, with_new_entry, EntryMade, EntryNotMade, Elsewhere};
+ghost use Rattle.pt_edit.specs.inner.Entries.{whole_of};
 
 use crate::entries::is_elsewhere;
 use crate::gpt::{Gpt, used_entry};
+use crate::labels::add_label;
+use crate::space::{Lead, Run, Space, place, taken_by_entries};
 use crate::spots::{entry_type_of, is_slice_kind_of};
 use pt_bsd::empty_label;
 use pt_gpt::{Entry, Table};
 use pt_guid::Guid;
-use pt_labels::add_label;
 use pt_members::{Labels, Layout};
-use pt_space::{Lead, Run, Space, place, taken_by_entries};
 use pt_words::{Asked, Code, Refusal};
 use std::alloc::{AllocError, Global};
 

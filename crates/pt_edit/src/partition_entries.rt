@@ -2,7 +2,7 @@
 
 ghost use Rattle.std.specs.Prelude.{◌≡◌, ◌<◌, ◌≤◌, ◌+◌, ◌^◌, IfOk, length};
 ghost use Rattle.pt_edit.specs.Converted.{entry_of};
-ghost use Rattle.pt_edit.specs.Placed.{Placeable, ArePlaced};
+ghost use Rattle.pt_edit.specs.inner.Entries.{Placeable, ArePlaced};
 
 use crate::partition::Partition;
 use pt_gpt::{Entry, MOST_ENTRIES};

@@ -4,10 +4,9 @@
 //! slices, and that doesn't matter here.
 
 ghost use Rattle.std.specs.Prelude.{◌≡◌, ◌<◌, ◌++◌, ◌^◌, IfOk, OnOk, length, option_to_list, slice_index_or, None};
-ghost use Rattle.pt_members.specs.Members.{slots};
-ghost use Rattle.pt_members.specs.OnePath.{HasFour};
-ghost use Rattle.pt_members.specs.Rows.{rows};
-ghost use Rattle.pt_edit.specs.Partitions.{kept_of, kept_at, partitions};
+ghost use Rattle.pt_members.specs.Members.{slots, rows};
+ghost use Rattle.pt_members.specs.Tables.{HasFour};
+ghost use Rattle.pt_edit.specs.Entries.{kept_of, kept_at, partitions};
 ghost use Rattle.pt_edit.specs.Converted.{guids_taken};
 
 use crate::partition::Partition;

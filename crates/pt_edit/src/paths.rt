@@ -4,10 +4,10 @@ ghost use Rattle.std.specs.Prelude.{◌≢◌, IfOk, IfErr};
 ghost use Rattle.pt_edit.specs.Edited.{Typed, NotTyped, Deleted, NotDeleted, Made, NotMade};
 
 use crate::kinds::{Parts, parts_of};
+use crate::labels::{delete_part, new_part, set_part_kind};
 use crate::new_entry::new_entry;
 use crate::spots::{delete_entry, set_entry_kind};
 use pt_guid::Guid;
-use pt_labels::{delete_part, new_part, set_part_kind};
 use pt_members::Layout;
 use pt_path::Path;
 use pt_words::{Asked, Code, Refusal};
@@ -27,7 +27,7 @@ pub(crate) fn set_kind<const B: usize>(
     }
     match parts_of(layout) {
         Parts::OfGpt(gpt) => set_entry_kind::<B>(gpt, path.number, code),
-        Parts::OfMbr(parts) => pt_records::set_kind::<B>(parts, path.number, code),
+        Parts::OfMbr(parts) => crate::records::set_kind::<B>(parts, path.number, code),
     }
 }
 
@@ -41,7 +41,7 @@ pub(crate) fn delete<const B: usize>(layout: Layout, path: &Path) -> Result<Layo
     }
     match parts_of(layout) {
         Parts::OfGpt(gpt) => delete_entry(gpt, path.number),
-        Parts::OfMbr(parts) => pt_records::delete(parts, path.number),
+        Parts::OfMbr(parts) => crate::records::delete(parts, path.number),
     }
 }
 
@@ -60,7 +60,7 @@ pub(crate) fn new<const B: usize>(
         Some(letter) => new_part::<B>(alloc, layout, letter, asked),
         None => match parts_of(layout) {
             Parts::OfGpt(gpt) => new_entry::<B>(alloc, gpt, asked, fresh),
-            Parts::OfMbr(parts) => pt_records::new::<B>(alloc, parts, asked),
+            Parts::OfMbr(parts) => crate::records::new::<B>(alloc, parts, asked),
         },
     }
 }

@@ -5,8 +5,8 @@ ghost use Rattle.pt_sector.specs.Sectors.{IsSectorSize};
 ghost use Rattle.pt_mbr.specs.Chain.{StandsAt};
 ghost use Rattle.pt_members.specs.Members.{parts, parts_in, logicals_as, present};
 ghost use Rattle.pt_members.specs.Tables.{IsEbr};
-ghost use Rattle.pt_edit.specs.Room.{LiesOutside, IsOutsider, NoRoom};
-ghost use Rattle.pt_edit.specs.Outside.{HasOutsider, HasNear, HasAny, HasEbr, IsChainInWay};
+ghost use Rattle.pt_edit.specs.Entries.{LiesOutside, IsOutsider, NoRoom};
+ghost use Rattle.pt_edit.specs.inner.Entries.{HasOutsider, HasNear, HasAny, HasEbr, IsChainInWay};
 
 use pt_bsd::Label;
 use pt_gpt::{first_usable, has_room};

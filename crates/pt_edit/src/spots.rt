@@ -1,9 +1,9 @@
 //! The words `t` and `d` of an entry of a GPT.
 
 ghost use Rattle.std.specs.Prelude.{◌≡◌, IfOk, IfErr, IfSome, IfNone, Some, None};
-ghost use Rattle.pt_edit.specs.Spots.{is_slice, entry_type, EntryTyped, EntryNotTyped, EntryDeleted, EntryNotDeleted};
-ghost use Rattle.pt_edit.specs.Changes.{with_body, with_entry};
-ghost use Rattle.pt_edit.specs.Whole.{whole_of};
+ghost use Rattle.pt_edit.specs.Entries.{is_slice, entry_type, EntryTyped, EntryNotTyped, EntryDeleted, EntryNotDeleted, with_body};
+ghost use Rattle.pt_edit.specs.Entries.{with_entry};
+ghost use Rattle.pt_edit.specs.inner.Entries.{whole_of};
 ghost use Rattle.pt_members.specs.declared.layout.Layout.{Layout};
 ghost use Rattle.pt_members.specs.declared.layout.Body.TheVariants.{Gpt as OfGpt};
 

@@ -3,7 +3,7 @@
 ghost use Rattle.std.specs.Prelude.{◌≡◌, ◌≢◌, ◌≤◌, IfOk, IfErr, drop, length};
 ghost use Rattle.pt_sector.specs.Sectors.{IsSectorSize};
 ghost use Rattle.pt_edit.specs.Edited.{Takes, Refuses, MakesOf, RefusedOf, MakesOn, RefusesOn, Emptied, EmptyRefused, taken_by};
-ghost use Rattle.pt_edit.specs.Fold.{state_of};
+ghost use Rattle.pt_edit.specs.inner.Edited.{state_of};
 
 use crate::convert::to_gpt;
 use crate::entries::{rename, set_bit, set_unique};

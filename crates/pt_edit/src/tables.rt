@@ -2,8 +2,8 @@
 
 ghost use Rattle.std.specs.Prelude.{◌≡◌, IfOk, IfErr};
 ghost use Rattle.pt_sector.specs.Sectors.{IsSectorSize};
-ghost use Rattle.pt_gpt.specs.Array.{HasRoom};
-ghost use Rattle.pt_edit.specs.Changes.{DiskSet, Extended, NoTable};
+ghost use Rattle.pt_gpt.specs.Copies.{HasRoom};
+ghost use Rattle.pt_edit.specs.Entries.{DiskSet, Extended, NoTable};
 ghost use Rattle.pt_edit.specs.Edited.{empty_gpt};
 
 use crate::gpt::Gpt;

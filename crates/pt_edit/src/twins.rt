@@ -2,7 +2,7 @@
 
 ghost use Rattle.std.specs.Prelude.{◌≡◌, ◌<◌, ◌≤◌, ◌+◌, ◌↔◌, ℕ, IsTrue, length};
 ghost use Rattle.pt_edit.specs.Converted.{HasTwins};
-ghost use Rattle.pt_edit.specs.Twins.{HasTwin, HaveOneGuid};
+ghost use Rattle.pt_edit.specs.inner.Entries.{HasTwin, HaveOneGuid};
 
 use pt_guid::Guid;
 

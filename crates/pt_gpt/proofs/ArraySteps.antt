@@ -4,9 +4,9 @@ use Rattle.std.specs.Prelude.{slice_index_or, Option, None, IfSome}
 use Rattle.std.proofs.lemmas.Bool.{cases_lt}
 use Rattle.std.proofs.lemmas.List.{take_at, length-take-le}
 use Rattle.std.proofs.Math.Seq.{take-append-add}
-use Rattle.pt_gpt.specs.Bytes.{put_at}
-use Rattle.pt_gpt.specs.Entry.{EntryFits, entry_bytes}
-use Rattle.pt_gpt.specs.Array.{entries_bytes}
+use Rattle.pt_gpt.specs.inner.Entries.{put_at}
+use Rattle.pt_gpt.specs.Entries.{EntryFits, entry_bytes}
+use Rattle.pt_gpt.specs.Copies.{entries_bytes}
 use Rattle.pt_gpt.specs.declared.entry.Entry.{Entry}
 
 pub no_entries : (es : List (Option Entry)) (i : ℕ) → entries_bytes es i 0 ≡ []

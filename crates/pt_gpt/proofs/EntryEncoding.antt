@@ -3,10 +3,10 @@ use Rattle.std.proofs.Common.{◌≡◌, ℕ, ◌+◌, ◌*◌, List, [], ◌∷
 use Rattle.std.specs.List.{flat_map}
 use Rattle.std.proofs.lemmas.List.{append-nil, drop_all}
 use Rattle.byteorder.specs.Endian.{little_bytes}
-use Rattle.pt_gpt.specs.Bytes.{put_at}
-use Rattle.pt_gpt.specs.Entry.{EntryFits, used_bytes}
+use Rattle.pt_gpt.specs.inner.Entries.{put_at}
+use Rattle.pt_gpt.specs.Entries.{EntryFits, used_bytes}
 use Rattle.pt_gpt.specs.declared.entry.Entry.{Entry}
-use Rattle.pt_gpt.specs.laws.Written.{laid, length_units}
+use Rattle.pt_gpt.proofs.Written.{laid, length_units}
 
 put_last : (i : ℕ) (units x : List ℕ) → length units ≡ 72 → length x ≡ i + 72 → put_at i units x ≡ take i x ++ units
 unfolding put_at

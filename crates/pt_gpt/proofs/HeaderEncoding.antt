@@ -1,11 +1,11 @@
 -- What is written is a header.
 use Rattle.std.proofs.Common.{◌≡◌, ℕ, ◌^◌, ◌<◌, ◌≤◌, List, [], ◌∷◌, ◌++◌, length, drop, replicate, refl, arith, lit≤}
 use Rattle.std.specs.Prelude.{slice_range}
-use Rattle.pt_sum.specs.Crc.{crc_of}
-use Rattle.pt_gpt.specs.Bytes.{put_at}
-use Rattle.pt_gpt.specs.Header.{HeaderBytes, header_size}
-use Rattle.pt_gpt.specs.HeaderSector.{unsummed_from, summed_from, HeaderFits}
-use Rattle.pt_gpt.specs.laws.Written.{number_back}
+use Rattle.pt_sum.specs.Sums.{crc_of}
+use Rattle.pt_gpt.specs.inner.Entries.{put_at}
+use Rattle.pt_gpt.specs.Copies.{HeaderBytes, header_size}
+use Rattle.pt_gpt.specs.inner.Copies.{unsummed_from, summed_from, HeaderFits}
+use Rattle.pt_gpt.proofs.Written.{number_back}
 use Rattle.pt_gpt.specs.declared.header.Header.{Header}
 
 -- a header with a rest behind it

@@ -2,13 +2,10 @@
 use Rattle.std.proofs.Common.{◌≡◌, ◌≤◌, ◌<◌, ◌+◌, ◌*◌, ◌^◌, ℕ, List, refl, ap, ◌∙◌, subst, inl, inr, arith}
 use Rattle.std.specs.Prelude.{◌⊎◌, length, Option, None}
 use Rattle.pt_sector.specs.Sectors.{Sectors, sector, IsSectorSize}
-use Rattle.pt_sum.specs.Crc.{crc_of}
-use Rattle.pt_gpt.specs.Errors.{IsOutsideCopy, NeedsNoMemory, FailedInCopy, fault_in}
-use Rattle.pt_gpt.specs.Header.{HeaderBytes, IsHeaderFault}
-use Rattle.pt_gpt.specs.Copy.{header_place, IsPlaced, IsPlaceFault, IsHead, no_header, misplaced, no_head, other_crc, array_of, HasArrayCrc}
-use Rattle.pt_gpt.specs.Copy.{CopyWith}
-use Rattle.pt_gpt.specs.Array.{AreEntries, HasRoom, counted}
-use Rattle.pt_gpt.specs.Answers.{TellsHeadFault, TellsFault}
+use Rattle.pt_sum.specs.Sums.{crc_of}
+use Rattle.pt_gpt.specs.Copies.{IsOutsideCopy, NeedsNoMemory, FailedInCopy, fault_in, HeaderBytes, IsHeaderFault, header_place, IsPlaced}
+use Rattle.pt_gpt.specs.Copies.{IsPlaceFault, IsHead, no_header, misplaced, no_head, other_crc, array_of, HasArrayCrc, CopyWith}
+use Rattle.pt_gpt.specs.Copies.{AreEntries, HasRoom, counted, TellsHeadFault, TellsFault}
 use Rattle.pt_gpt.specs.declared.header.Header.{Header}
 use Rattle.pt_gpt.specs.declared.entry.Entry.{Entry}
 use Rattle.pt_gpt.specs.declared.error.CopyError.{CopyError}

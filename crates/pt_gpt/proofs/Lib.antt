@@ -1,7 +1,10 @@
-pub mod HeaderEncoding
+pub mod ArraySteps
 pub mod EntryEncoding
+pub mod Faults
+pub mod HeaderEncoding
 pub mod Heads
 pub mod Parts
-pub mod ArraySteps
-pub mod Same
 mod Puts
+pub mod Same
+pub mod Terms
+pub mod Written

@@ -1,20 +1,18 @@
 -- Entries that come in parts.
-use Rattle.std.proofs.Common.{◌≡◌, ℕ, ◌/◌, ◌^◌, zero-le, min, add-one}
-use Rattle.std.proofs.Common.{◌∷◌, ◌+◌, ◌*◌, ◌-◌, ◌<◌, ◌≤◌, List, [], ◌++◌, length, get_or, take, drop}
-use Rattle.std.proofs.Common.{bit_xor, Option, None, refl, sym, ap, ◌∙◌, subst, arith, inl, inr, length-append, append_assoc}
+use Rattle.std.proofs.Common.{◌≡◌, ℕ, ◌/◌, ◌^◌, zero-le, min, add-one, ◌∷◌, ◌+◌, ◌*◌, ◌-◌, ◌<◌, ◌≤◌, List, [], ◌++◌, length, get_or, take}
+use Rattle.std.proofs.Common.{drop, bit_xor, Option, None, refl, sym, ap, ◌∙◌, subst, arith, inl, inr, length-append, append_assoc}
 use Rattle.std.specs.Prelude.{slice_range}
 use Rattle.std.proofs.lemmas.Bool.{cases_lt}
-use Rattle.std.proofs.lemmas.List.{get_or_append_left, get_or-append_right, drop-append-le, take-append-le, length-drop, take_all, take_min}
-use Rattle.std.proofs.lemmas.List.{get_or_push, length_push, append-nil, length-take-le}
+use Rattle.std.proofs.lemmas.List.{get_or_append_left, get_or-append_right, drop-append-le, take-append-le, length-drop, take_all}
+use Rattle.std.proofs.lemmas.List.{take_min, get_or_push, length_push, append-nil, length-take-le}
 use Rattle.std.proofs.Math.Seq.{drop-append-add, take-append-add}
 use Rattle.std.proofs.Math.Nat.{add-mul, one-mul}
-use Rattle.pt_sum.specs.Crc.{after_bytes, crc_of}
-use Rattle.pt_sum.specs.laws.Terms.{after_bytes-append}
+use Rattle.pt_sum.specs.Sums.{after_bytes, crc_of}
+use Rattle.pt_sum.proofs.Terms.{after_bytes-append}
 use Rattle.pt_gpt.specs.declared.entry.Entry.{Entry}
 use Rattle.pt_sector.specs.Sectors.{Sectors, sector, IsSectorSize}
-use Rattle.pt_gpt.specs.Array.{AreEntries}
-use Rattle.pt_gpt.specs.Entry.{EntryIs}
-use Rattle.pt_gpt.specs.Copy.{bytes_from}
+use Rattle.pt_gpt.specs.Copies.{AreEntries, bytes_from}
+use Rattle.pt_gpt.specs.Entries.{EntryIs}
 
 pub are_append : (es fs : List (Option Entry)) (x y : List ℕ) → AreEntries es x → AreEntries fs y → AreEntries (es ++ fs) (x ++ y)
 are_append es fs x y p q =

@@ -1,7 +1,7 @@
 -- What is written into a part of some bytes.
 use Rattle.std.proofs.Common.{◌≡◌, ◌≤◌, ℕ, ◌+◌, ◌-◌, List, [], ◌++◌, length, take, drop, refl, ap, ◌∙◌, arith, length-drop}
 use Rattle.std.proofs.lemmas.List.{append-nil, drop-drop, drop_all, length-take-le}
-use Rattle.pt_gpt.specs.Bytes.{put_at}
+use Rattle.pt_gpt.specs.inner.Entries.{put_at}
 use borrow.Rule.Slice.PartMut.{put_mid}
 
 pub part_long : (at n : ℕ) (bytes : List ℕ) → at + n ≤ length bytes → length (take (at + n - at) (drop at bytes)) ≡ n

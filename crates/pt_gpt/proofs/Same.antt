@@ -6,7 +6,7 @@ use Rattle.std.specs.Option.{option_eq}
 use Rattle.std.specs.Str.{bytes_eq}
 use Rattle.std.proofs.lemmas.Bool.Decides.{Decides-and, Decides-eqb}
 use Rattle.std.proofs.lemmas.Slice.Eq.{bytes_eq-Decides}
-use Rattle.pt_gpt.specs.laws.Terms.{entry_ext}
+use Rattle.pt_gpt.proofs.Terms.{entry_ext}
 use Rattle.pt_gpt.specs.declared.entry.Entry.{Entry}
 
 abbrev just : Entry → Option Entry

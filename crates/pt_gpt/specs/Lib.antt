@@ -1,10 +1,4 @@
-pub mod Bytes
-pub mod Errors
-pub mod Header
-pub mod HeaderSector
-pub mod Entry
-pub mod Array
-pub mod Copy
-pub mod Answers
+pub mod Copies
+pub mod Entries
 pub mod Sentences
-pub mod laws
+pub mod inner

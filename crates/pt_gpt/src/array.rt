@@ -1,11 +1,11 @@
 //! An array of entries as its sectors.
 
 ghost use Rattle.std.specs.Prelude.{◌≡◌, ◌+◌, ◌*◌, ◌/◌, ◌<◌, ◌≤◌, IfSome, None, length, slice_index_or, ◌^◌};
-ghost use Rattle.pt_sum.specs.Crc.{crc_of};
+ghost use Rattle.pt_sum.specs.Sums.{crc_of};
 ghost use Rattle.pt_sector.specs.Sectors.{IsSectorSize};
-ghost use Rattle.pt_gpt.specs.Bytes.{put_at};
-ghost use Rattle.pt_gpt.specs.Entry.{EntryFits, entry_bytes};
-ghost use Rattle.pt_gpt.specs.Array.{array_len, entries_bytes, array_bytes, array_sector, AllFit};
+ghost use Rattle.pt_gpt.specs.inner.Entries.{put_at};
+ghost use Rattle.pt_gpt.specs.Entries.{EntryFits, entry_bytes};
+ghost use Rattle.pt_gpt.specs.Copies.{array_len, entries_bytes, array_bytes, array_sector, AllFit};
 
 use crate::entry::{Entry, encode_entry};
 use crate::view::ENTRY_SIZE;

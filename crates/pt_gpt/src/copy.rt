@@ -2,13 +2,10 @@
 
 ghost use Rattle.std.specs.Prelude.{◌≡◌, ◌⊎◌, ◌+◌, ◌*◌, ◌<◌, ◌≤◌, IfOk, IfErr, OnOk, length};
 ghost use Rattle.pt_sector.specs.Sectors.{IsSectorSize, sector};
-ghost use Rattle.pt_sector.specs.Calls.{Blames};
-ghost use Rattle.pt_sector.specs.Reads.{OnlyReads};
-ghost use Rattle.pt_gpt.specs.Errors.{IsOutsideCopy, NeedsNoMemory, fault_in, FailedInCopy};
-ghost use Rattle.pt_gpt.specs.Header.{HeaderBytes, IsHeaderFault};
-ghost use Rattle.pt_gpt.specs.Array.{HasRoom};
-ghost use Rattle.pt_gpt.specs.Copy.{header_place, IsPlaced, IsHead, CopyWith, Copy, SideReads};
-ghost use Rattle.pt_gpt.specs.Answers.{TellsHeadFault, TellsFault};
+ghost use Rattle.pt_sector.specs.Device.{Blames};
+ghost use Rattle.pt_sector.specs.Overlays.{OnlyReads};
+ghost use Rattle.pt_gpt.specs.Copies.{IsOutsideCopy, NeedsNoMemory, fault_in, FailedInCopy, HeaderBytes, IsHeaderFault, HasRoom};
+ghost use Rattle.pt_gpt.specs.Copies.{header_place, IsPlaced, IsHead, CopyWith, Copy, SideReads, TellsHeadFault, TellsFault};
 
 use crate::entries::read_entries;
 use crate::error::CopyError;

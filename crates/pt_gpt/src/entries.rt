@@ -2,13 +2,11 @@
 
 ghost use Rattle.std.specs.Prelude.{◌≡◌, ◌+◌, ◌*◌, ◌/◌, ◌<◌, ◌≤◌, ◌^◌, ◌++◌, IfOk, IfErr, OnOk, List, Option, length, take, vec_len};
 ghost use Rattle.std.specs.Prelude.{vec_capacity};
-ghost use Rattle.pt_sum.specs.Crc.{crc_of};
+ghost use Rattle.pt_sum.specs.Sums.{crc_of};
 ghost use Rattle.pt_sector.specs.Sectors.{IsSectorSize};
-ghost use Rattle.pt_sector.specs.Calls.{Blames};
-ghost use Rattle.pt_sector.specs.Reads.{OnlyReads};
-ghost use Rattle.pt_gpt.specs.Errors.{IsOutsideCopy, fault_in, FailedInCopy};
-ghost use Rattle.pt_gpt.specs.Array.{counted, AreEntries};
-ghost use Rattle.pt_gpt.specs.Copy.{bytes_from};
+ghost use Rattle.pt_sector.specs.Device.{Blames};
+ghost use Rattle.pt_sector.specs.Overlays.{OnlyReads};
+ghost use Rattle.pt_gpt.specs.Copies.{IsOutsideCopy, fault_in, FailedInCopy, counted, AreEntries, bytes_from};
 ghost use Rattle.pt_gpt.specs.declared.entry.Entry.{Entry};
 
 use crate::entry::Entry;

@@ -2,8 +2,8 @@
 
 ghost use Rattle.std.specs.Prelude.{◌≡◌, ◌+◌, ◌<◌, ◌≤◌, ◌^◌, IfSome, MatchOption, ℕ, length, slice_index, replicate, flat_map};
 ghost use Rattle.byteorder.specs.Endian.{little_bytes};
-ghost use Rattle.pt_gpt.specs.Bytes.{put_at};
-ghost use Rattle.pt_gpt.specs.Entry.{EntryFields, EntryBytes, EntryIs, EntryFits, IsTyped, used_bytes};
+ghost use Rattle.pt_gpt.specs.inner.Entries.{put_at};
+ghost use Rattle.pt_gpt.specs.Entries.{EntryFields, EntryBytes, EntryIs, EntryFits, IsTyped, used_bytes};
 
 use crate::bytes::{put_guid, put_u64};
 use crate::view::EntryView;
@@ -43,7 +43,7 @@ fn put_units(bytes: &mut [u8], at: usize, units: &[u16; 36])
     LittleEndian::write_u16_into(units, &mut bytes[at..at + 72]);
 }
 
-#[tactic(auto, unfolding(crate::specs::Entry::used_bytes))]
+#[tactic(auto, unfolding(crate::specs::Entries::used_bytes))]
 fn used(entry: &Entry) -> [u8; 128]
     ensures bytes { result ≡ used_bytes entry.now }
     ensures fits { EntryFits entry.now }

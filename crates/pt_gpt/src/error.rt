@@ -1,7 +1,7 @@
 //! Why a copy of the table can't be read.
 
 ghost use Rattle.std.specs.Prelude.{◌≡◌, ◌↔◌, IsTrue, Some};
-ghost use Rattle.pt_gpt.specs.Errors.{error_number, failure_in};
+ghost use Rattle.pt_gpt.specs.Copies.{error_number, failure_in};
 ghost use Rattle.pt_gpt.specs.declared.error.CopyError.TheVariants.{Device, Memory};
 ghost use Rattle.pt_gpt.specs.Sentences.{copy_error_sentence};
 

@@ -1,10 +1,10 @@
 //! The header of a table, as a value and as a sector.
 
 ghost use Rattle.std.specs.Prelude.{◌≡◌, ◌-◌, ◌<◌, ◌≤◌, ◌^◌, ◌↔◌, ◌++◌, IfOk, IfErr, IsTrue, length, slice_range, replicate, take, drop};
-ghost use Rattle.pt_sum.specs.Crc.{crc_of};
+ghost use Rattle.pt_sum.specs.Sums.{crc_of};
 ghost use Rattle.pt_sector.specs.Sectors.{IsSectorSize};
-ghost use Rattle.pt_gpt.specs.Header.{HeaderFields, HeaderBytes, IsHeaderFault, HasHeaderSignature, HasCrc, header_size};
-ghost use Rattle.pt_gpt.specs.HeaderSector.{unsummed_from, summed_from, HeaderFits};
+ghost use Rattle.pt_gpt.specs.Copies.{HeaderFields, HeaderBytes, IsHeaderFault, HasHeaderSignature, HasCrc, header_size};
+ghost use Rattle.pt_gpt.specs.inner.Copies.{unsummed_from, summed_from, HeaderFits};
 
 use crate::bytes::{guid_at, put_guid, put_u32, put_u64, u32_at, u64_at};
 use crate::error::CopyError;
@@ -120,7 +120,7 @@ pub fn decode_header<const B: usize>(bytes: &Sector<B>) -> Result<Header, CopyEr
     checked_header(&bytes[..], B)
 }
 
-#[tactic(auto, unfolding(crate::specs::HeaderSector::unsummed_from))]
+#[tactic(auto, unfolding(crate::specs::inner::Copies::unsummed_from))]
 fn unsummed(header: &Header) -> [u8; 92]
     ensures bytes { result ≡ unsummed_from header.now header.now.disk.0 }
     ensures fits { HeaderFits header.now }
@@ -141,7 +141,7 @@ fn unsummed(header: &Header) -> [u8; 92]
     bytes
 }
 
-#[tactic(auto, unfolding(crate::specs::HeaderSector::summed_from))]
+#[tactic(auto, unfolding(crate::specs::inner::Copies::summed_from))]
 fn summed(header: &Header) -> [u8; 92]
     ensures bytes { result ≡ summed_from header.now header.now.disk.0 }
     ensures fits { HeaderFits header.now }

@@ -1,14 +1,12 @@
 //! What is true of every disk and all bytes: empty functions whose contracts are the laws.
 //!
-//! The terms that they stand on are in specs/laws/Terms.antt, for contracts above to cite.
+//! The terms that they stand on are in proofs/Terms.antt, for contracts above to cite.
 
 ghost use Rattle.std.specs.Prelude.{◌≡◌, ◌≤◌, ◌⊎◌, ◌↔◌, ℕ, List, Option, length};
 ghost use Rattle.pt_sector.specs.Sectors.{Sectors, Agrees, IsSectorSize};
-ghost use Rattle.pt_gpt.specs.Header.{HeaderBytes, IsHeaderFault};
-ghost use Rattle.pt_gpt.specs.Entry.{EntryBytes, IsTyped};
-ghost use Rattle.pt_gpt.specs.Array.{AreEntries, AllFit, AllTyped, array_bytes};
-ghost use Rattle.pt_gpt.specs.Copy.{header_place, IsHead, IsHeadFault, Copy, HasCopy, IsCopyFault, InArray, SideReads, SameSide, CopyWith};
-ghost use Rattle.pt_gpt.specs.Copy.{IsWrittenCopy};
+ghost use Rattle.pt_gpt.specs.Copies.{HeaderBytes, IsHeaderFault, AreEntries, AllFit, AllTyped, array_bytes, header_place, IsHead};
+ghost use Rattle.pt_gpt.specs.Copies.{IsHeadFault, Copy, HasCopy, IsCopyFault, InArray, SideReads, SameSide, CopyWith, IsWrittenCopy};
+ghost use Rattle.pt_gpt.specs.Entries.{EntryBytes, IsTyped};
 ghost use Rattle.pt_gpt.specs.declared.header.Header.{Header};
 ghost use Rattle.pt_gpt.specs.declared.entry.Entry.{Entry};
 ghost use Rattle.pt_gpt.specs.declared.error.CopyError.{CopyError};

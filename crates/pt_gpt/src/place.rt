@@ -2,8 +2,7 @@
 
 ghost use Rattle.std.specs.Prelude.{◌≡◌, ◌+◌, ◌*◌, ◌≤◌, ◌↔◌, IsTrue, OnOk, IfErr};
 ghost use Rattle.pt_sector.specs.Sectors.{IsSectorSize};
-ghost use Rattle.pt_gpt.specs.Array.{array_len, HasRoom, edge, counted};
-ghost use Rattle.pt_gpt.specs.Copy.{header_place, array_place, IsPlaced, IsPlaceFault};
+ghost use Rattle.pt_gpt.specs.Copies.{array_len, HasRoom, edge, counted, header_place, array_place, IsPlaced, IsPlaceFault};
 
 use crate::error::CopyError;
 use crate::header::Header;

@@ -1,5 +1,6 @@
 -- One step through the table of codes.
-use Rattle.std.proofs.Common.{◌≡◌, ◌<◌, ◌≤◌, ◌+◌, ℕ, List, [], ◌∷◌, length, get_or, drop, Bool, true, false, Some, None, refl, sym, ap, ◌∙◌}
+use Rattle.std.proofs.Common.{◌≡◌, ◌<◌, ◌≤◌, ◌+◌, ℕ, List, [], ◌∷◌, length, get_or, drop, Bool, true, false, Some, None, refl, sym, ap}
+use Rattle.std.proofs.Common.{◌∙◌}
 use Rattle.std.specs.Prelude.{◌≢◌, nat_eq}
 use Rattle.std.proofs.lemmas.List.{drop_more, drop_all}
 use Rattle.std.proofs.lemmas.Bool.{eq-eqb, ne_eqb}

@@ -1,6 +1,6 @@
 -- The type codes and their GUIDs.
 use Rattle.std.specs.Prelude.{ℕ, List, [], ◌∷◌, ◌==◌, ◌*◌, map, Option, Some, None, if◌then◌else◌}
-use Rattle.pt_guid.specs.Mixed.{mixed}
+use Rattle.pt_guid.specs.Guids.{mixed}
 use Rattle.pt_guid.specs.declared.guid.Guid.{Guid}
 
 -- 516E7CB4-6ECF-11D6-8FF8-00022D09712B, the type of slices

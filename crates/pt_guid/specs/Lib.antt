@@ -1,5 +1,3 @@
-pub mod Mixed
 pub mod Codes
-pub mod Fresh
+pub mod Guids
 pub mod Sentences
-pub mod laws

@@ -2,8 +2,7 @@
 
 ghost use Rattle.std.specs.Prelude.{◌≡◌, ◌<◌, ◌↔◌, All, IsTrue, IfOk, IfErr, Some, None, length, replicate};
 ghost use Rattle.uuid.specs.Text.{hyphenated_text, lower};
-ghost use Rattle.pt_guid.specs.Mixed.{mixed, stored_of, text_of};
-ghost use Rattle.pt_guid.specs.Fresh.{fresh_of};
+ghost use Rattle.pt_guid.specs.Guids.{mixed, stored_of, text_of, fresh_of};
 ghost use Rattle.pt_guid.specs.Sentences.{guid_error_sentence};
 
 use std::error::Error;

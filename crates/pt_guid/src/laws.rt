@@ -1,7 +1,7 @@
 //! What holds of texts, of stored bytes and of codes, whatever they are.
 
 ghost use Rattle.std.specs.Prelude.{◌≡◌, ◌<◌, ℕ, List, All, Some, length, ◌≢◌, replicate};
-ghost use Rattle.pt_guid.specs.Mixed.{mixed, stored_of, text_of};
+ghost use Rattle.pt_guid.specs.Guids.{mixed, stored_of, text_of};
 ghost use Rattle.pt_guid.specs.Codes.{type_of};
 
 /// Sixteen bytes that are rearranged twice are as before.

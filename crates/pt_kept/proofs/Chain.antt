@@ -7,16 +7,15 @@ use Rattle.std.proofs.lemmas.List.{map-append}
 use Rattle.std.proofs.lemmas.List.Elements.{filter-append}
 use Rattle.pt_mbr.specs.declared.record.Record.{Record}
 use Rattle.pt_mbr.specs.declared.ebr.Ebr.{Ebr}
-use Rattle.pt_members.specs.Members.{records_as, logicals_as}
-use Rattle.pt_members.specs.laws.SliceLists.{primary_some, logical_none, logical_some, next_is}
-use Rattle.pt_members.specs.Slices.{slice_from}
-use Rattle.pt_members.specs.SliceLists.{next_number}
-use Rattle.pt_members.specs.laws.SliceLists.{record_slice, primary_slice, primary_slices, logical_slice, logical_slices}
+use Rattle.pt_members.specs.Members.{records_as, logicals_as, slice_from}
+use Rattle.pt_members.proofs.SliceLists.{primary_some, logical_none, logical_some, next_is, record_slice, primary_slice, primary_slices}
+use Rattle.pt_members.proofs.SliceLists.{logical_slice, logical_slices}
+use Rattle.pt_members.proofs.SliceListsLemmas.{next_number}
 use Rattle.pt_members.specs.declared.layout.Slice.{Slice}
 use Rattle.pt_kept.proofs.Lists.{slices_by, filter_in, filter_out}
 use Rattle.pt_kept.proofs.Entries.{is_not, is_not_true, is_not_false}
-use Rattle.pt_cases.specs.Ascending.{NumbersAscend}
-use Rattle.pt_cases.specs.laws.Ascending.{logicals_ascend}
+use Rattle.pt_cases.specs.Writes.{NumbersAscend}
+use Rattle.pt_cases.proofs.Ascending.{logicals_ascend}
 
 -- all numbers pass a test, or none does
 pub ascending_kept : (f : ℕ → Bool) (n : ℕ) (ss : List Slice) → ((m : ℕ) → n ≤ m → f m ≡ true) → NumbersAscend n ss → slices_by f ss ≡ ss

@@ -1,46 +1,38 @@
 -- What a conversion to GPT keeps.
-use Rattle.std.specs.Prelude.{◌≡◌, ◌≢◌, ◌<◌, ◌≤◌, ◌⊎◌, ◌+◌, ◌-◌, ◌*◌, ◌++◌, ◌∷◌, [], ℕ, suc, Bool, true, false, cond, List, flat_map}
-use Rattle.std.specs.Prelude.{map, filter, length, replicate, slice_index_or, Option, Some, None, IfSome, Contains, if◌then◌else◌, nat_eq}
+use Rattle.std.specs.Prelude.{◌≡◌, ◌≢◌, ◌<◌, ◌≤◌, ◌⊎◌, ◌+◌, ◌-◌, ◌*◌, ◌++◌, ◌∷◌, [], ℕ, suc, Bool, true, false, cond, List, flat_map, map}
+use Rattle.std.specs.Prelude.{filter, length, replicate, slice_index_or, Option, Some, None, IfSome, Contains, if◌then◌else◌, nat_eq}
 use Rattle.std.proofs.Common.{refl, sym, ap, subst, ◌∙◌, inl, inr, arith}
 use Rattle.std.proofs.lemmas.Bool.{cases_lt, true≢false, eqb-true, eqb-false}
 use Rattle.std.proofs.lemmas.Slice.Eq.{bytes_eq-Decides}
 use Rattle.pt_guid.specs.Codes.{freebsd, type_of}
-use Rattle.pt_guid.specs.laws.Terms.{codes_differ}
-use Rattle.pt_guid.specs.Mixed.{mixed}
+use Rattle.pt_guid.proofs.Terms.{codes_differ}
+use Rattle.pt_guid.specs.Guids.{mixed}
 use Rattle.pt_guid.specs.declared.guid.Guid.{Guid}
-use Rattle.pt_gpt.specs.Array.{array_len, AllTyped}
-use Rattle.pt_gpt.specs.Entry.{IsTyped}
+use Rattle.pt_gpt.specs.Copies.{array_len, AllTyped, HasRoom}
+use Rattle.pt_gpt.specs.Entries.{IsTyped}
 use Rattle.pt_gpt.specs.declared.entry.Entry.{Entry}
 use Rattle.pt_gpt.specs.declared.table.Table.{Table}
 use Rattle.pt_mbr.specs.declared.record.Record.{Record}
 use Rattle.pt_mbr.specs.declared.ebr.Ebr.{Ebr}
-use Rattle.pt_gpt.specs.Array.{HasRoom}
-use Rattle.pt_members.specs.Members.{entries_as, present, slots}
-use Rattle.pt_members.specs.laws.SliceLists.{entry_some}
-use Rattle.pt_members.specs.laws.SliceLists.{slices_gpt, slices_mbr}
-use Rattle.pt_members.specs.Members.{is_slice_kind}
-use Rattle.pt_members.specs.Slices as slices
-use Rattle.pt_members.specs.Slices.{slice_from, slice_as, slice_of, slices_of}
-use Rattle.pt_members.specs.laws.SliceLists.{entry_slice, entry_slices}
+use Rattle.pt_members.specs.Members.{entries_as, present, slots, is_slice_kind, slice_from, slice_as, slice_of, slices_of, label_of}
+use Rattle.pt_members.proofs.SliceLists.{entry_some, slices_gpt, slices_mbr, entry_slice, entry_slices}
+use Rattle.pt_members.specs.Members as slices
 use Rattle.pt_members.specs.declared.layout.Slice.{Slice}
 use Rattle.pt_members.specs.declared.layout.Layout.{Layout}
 use Rattle.pt_members.specs.declared.layout.Body.{Body}
 use Rattle.pt_members.specs.declared.layout.Body.TheVariants.{Mbr, Gpt}
-use Rattle.pt_members.specs.Members.{label_of}
-use Rattle.pt_members.specs.OnePath.{HasFour}
+use Rattle.pt_members.specs.Tables.{HasFour}
 use Rattle.pt_members.specs.declared.member.Kind.{Kind}
 use Rattle.pt_members.specs.declared.member.Kind.TheVariants as kind
 use Rattle.pt_members.specs.declared.member.Member.{Member}
-use Rattle.pt_edit.specs.Kept.{member_of, is_kept, is_kept_kind}
-use Rattle.pt_edit.specs.Partitions.{partitions}
-use Rattle.pt_edit.specs.laws.Kept.{kept_lem}
-use Rattle.pt_edit.specs.Room.{NoRoom, small}
+use Rattle.pt_edit.specs.Entries.{member_of, is_kept, is_kept_kind, partitions, NoRoom, small}
+use Rattle.pt_edit.proofs.Kept.{kept_lem}
 use Rattle.pt_edit.specs.Converted.{new_type, HasUnknown, IsItemAt, entry_of, IsGptOf, Converted, HasRecords}
-use Rattle.pt_edit.specs.Placed.{Placeable}
+use Rattle.pt_edit.specs.inner.Entries.{Placeable}
 use Rattle.pt_edit.specs.declared.partition.Partition.{Partition}
 use Rattle.pt_edit.proofs.Numbers.{placed}
 use Rattle.pt_edit.proofs.EntryPlaces.{at_place}
-use Rattle.pt_cases.specs.Shape.{AreLabelsOf, Shaped}
+use Rattle.pt_cases.specs.Writes.{AreLabelsOf, Shaped}
 use Rattle.pt_cases.specs.Keeps.{Keeps}
 use Rattle.pt_kept.proofs.Lists.{contains_cases, contains_later}
 use Rattle.pt_kept.proofs.Tables.{keeps_gpt}

@@ -1,6 +1,6 @@
 -- How one more extended boot record enters a chain that fits.
-use Rattle.std.specs.Prelude.{◌≡◌, ◌<◌, ◌⊎◌, ◌∷◌, [], ℕ, zero, suc, Bool, true, false, List, flat_map, length}
-use Rattle.std.specs.Prelude.{slice_index_or, slice_set, slice_get, Option, Some, None, Contains}
+use Rattle.std.specs.Prelude.{◌≡◌, ◌<◌, ◌⊎◌, ◌∷◌, [], ℕ, zero, suc, Bool, true, false, List, flat_map, length, slice_index_or, slice_set}
+use Rattle.std.specs.Prelude.{slice_get, Option, Some, None, Contains}
 use Rattle.std.specs.List.{insert}
 use Rattle.std.proofs.Common.{refl, sym, ap, subst, ◌∙◌, inl, inr, arith}
 use Rattle.pt_sector.specs.Sectors.{Span, InSpan}
@@ -8,11 +8,9 @@ use Rattle.pt_sector.specs.declared.address.Lba.{Lba}
 use Rattle.pt_mbr.specs.Chain.{IsUpward, lba}
 use Rattle.pt_mbr.specs.declared.record.Record.{Record}
 use Rattle.pt_mbr.specs.declared.ebr.Ebr.{Ebr}
-use Rattle.pt_mbr.specs.Extended.{is_extended, extended_of, extent_of}
-use Rattle.pt_records.specs.Chains.{ebr_at}
-use Rattle.pt_records.specs.Entered.{IsEmptyIn}
-use Rattle.pt_records.specs.ChainNew.{empty_sector}
-use Rattle.pt_cases.specs.Shape.{FitsRecord, FitsSlot, FitsLogical, Linked, FitsChain, FitsExtended}
+use Rattle.pt_mbr.specs.Records.{is_extended, extended_of, extent_of}
+use Rattle.pt_edit.specs.Chains.{ebr_at, IsEmptyIn, empty_sector}
+use Rattle.pt_cases.specs.Writes.{FitsRecord, FitsSlot, FitsLogical, Linked, FitsChain, FitsExtended}
 use Rattle.pt_kept.proofs.Lists.{contains_cases, contains_later}
 use Rattle.pt_kept.proofs.Tables.{contains_append}
 

@@ -6,11 +6,8 @@ use Rattle.std.proofs.lemmas.Bool.{eq-eqb, ne_eqb, lt-ltb, le-ltb}
 use Rattle.std.proofs.lemmas.List.Elements.{filter-append}
 use Rattle.pt_gpt.specs.declared.entry.Entry.{Entry}
 use Rattle.pt_mbr.specs.declared.record.Record.{Record}
-use Rattle.pt_members.specs.Members.{records_as, entries_as}
-use Rattle.pt_members.specs.laws.SliceLists.{primary_some, entry_some}
-use Rattle.pt_members.specs.Members.{is_slice_kind}
-use Rattle.pt_members.specs.Slices.{slice_from}
-use Rattle.pt_members.specs.laws.SliceLists.{record_slice, primary_slice, primary_slices, entry_slice, entry_slices}
+use Rattle.pt_members.specs.Members.{records_as, entries_as, is_slice_kind, slice_from}
+use Rattle.pt_members.proofs.SliceLists.{primary_some, entry_some, record_slice, primary_slice, primary_slices, entry_slice, entry_slices}
 use Rattle.pt_members.specs.declared.layout.Slice.{Slice}
 use Rattle.pt_kept.proofs.Lists.{slices_by, filter_in, filter_out}
 

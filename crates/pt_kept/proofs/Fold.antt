@@ -13,20 +13,18 @@ use Rattle.pt_words.specs.declared.word.End.{End}
 use Rattle.pt_words.specs.declared.word.Edit.{Edit}
 use Rattle.pt_words.specs.declared.word.Edit.TheVariants.{Align, New, Delete, SetKind, SetName, SetUnique, SetDisk, SetBit, Extend, ToGpt}
 use Rattle.pt_words.specs.declared.word.Edit.TheVariants.{Empty}
-use Rattle.pt_records.specs.Records.{OfMbr}
-use Rattle.pt_records.specs.Typed.{TypedIn, typed_record, typed_logical, RecordTyped}
-use Rattle.pt_records.specs.Deleted.{DeletedIn, deleted_record, deleted_logical, RecordDeleted}
-use Rattle.pt_records.specs.Created.{NewIn, new_record, new_logical, RecordNew}
-use Rattle.pt_labels.specs.New.{PartNew}
-use Rattle.pt_edit.specs.Spots.{EntryTyped, EntryDeleted}
-use Rattle.pt_edit.specs.NewEntry.{EntryMade}
+use Rattle.pt_edit.specs.Records.{OfMbr}
+use Rattle.pt_edit.specs.MbrEdits.{TypedIn, typed_record, typed_logical, RecordTyped, DeletedIn, deleted_record, deleted_logical}
+use Rattle.pt_edit.specs.MbrEdits.{RecordDeleted, NewIn, new_record, new_logical, RecordNew}
+use Rattle.pt_edit.specs.SliceLabels.{PartNew}
+use Rattle.pt_edit.specs.Entries.{EntryTyped, EntryDeleted, EntryMade}
 use Rattle.pt_edit.specs.Edited.{State, initial, InKind, Typed, Deleted, Made, asked_for, MakesOn, MakesOf, Takes, WordsEnd, EditedFrom}
 use Rattle.pt_edit.specs.Edited.{Edited}
 use Rattle.pt_words.specs.declared.asked.Asked.{Asked}
-use Rattle.pt_cases.specs.Shape.{Shaped}
+use Rattle.pt_cases.specs.Writes.{Shaped}
 use Rattle.pt_cases.specs.Keeps.{Keeps}
 use Rattle.pt_kept.specs.Old.{MayBe}
-use Rattle.pt_cases.specs.laws.Terms.{keeps_refl, keeps_trans}
+use Rattle.pt_cases.proofs.Terms.{keeps_refl, keeps_trans}
 use Rattle.pt_kept.proofs.Parts.{keeps_entry_of, keeps_part}
 use Rattle.pt_kept.proofs.Logicals.{keeps_logical_typed, keeps_logical_deleted}
 use Rattle.pt_kept.proofs.NewLogicals.{keeps_logical_new}

@@ -5,33 +5,29 @@ use Rattle.std.proofs.Common.{refl, sym, ap, subst, ◌∙◌, inl, inr, arith}
 use Rattle.std.proofs.lemmas.Bool.{cases_lt, true≢false}
 use Rattle.std.proofs.lemmas.List.{length-replicate, get_or-replicate}
 use Rattle.pt_guid.specs.Codes.{type_of}
-use Rattle.pt_guid.specs.laws.Terms.{types_are_used}
+use Rattle.pt_guid.proofs.Terms.{types_are_used}
 use Rattle.pt_guid.specs.declared.guid.Guid.{Guid}
-use Rattle.pt_gpt.specs.Array.{AllTyped, HasRoom, edge}
-use Rattle.pt_gpt.specs.Entry.{IsTyped}
+use Rattle.pt_gpt.specs.Copies.{AllTyped, HasRoom, edge}
+use Rattle.pt_gpt.specs.Entries.{IsTyped}
 use Rattle.pt_gpt.specs.declared.entry.Entry.{Entry}
 use Rattle.pt_gpt.specs.declared.table.Table.{Table}
-use Rattle.pt_members.specs.laws.SliceLists.{entry_some}
-use Rattle.pt_members.specs.laws.SliceLists.{slices_gpt}
-use Rattle.pt_members.specs.Members.{is_slice_kind}
-use Rattle.pt_members.specs.laws.SliceLists.{entry_slice}
-use Rattle.pt_members.specs.Slices.{slices_of}
+use Rattle.pt_members.proofs.SliceLists.{entry_some, slices_gpt, entry_slice}
+use Rattle.pt_members.specs.Members.{is_slice_kind, slices_of}
 use Rattle.pt_members.specs.declared.layout.Slice.{Slice}
-use Rattle.pt_bsd.specs.Empty.{empty_of}
-use Rattle.pt_labels.specs.Lists.{with_new_label}
+use Rattle.pt_bsd.specs.Labels.{empty_of}
+use Rattle.pt_edit.specs.SliceLabels.{with_new_label}
 use Rattle.pt_members.specs.declared.layout.Labelled.{Labelled}
 use Rattle.pt_members.specs.declared.layout.Layout.{Layout}
 use Rattle.pt_members.specs.declared.layout.Body.TheVariants.{Gpt}
 use Rattle.pt_words.specs.declared.word.Code.{Code}
 use Rattle.pt_words.specs.declared.word.Code.TheVariants.{Two, Four}
-use Rattle.pt_space.specs.laws.Terms.{placed_is_free_lem}
-use Rattle.pt_edit.specs.Changes.{HasUsedEntry, Changed, DiskSet, Extended, with_entry, with_body}
-use Rattle.pt_edit.specs.Spots.{is_slice, entry_type, EntryTyped, EntryDeleted}
-use Rattle.pt_edit.specs.NewEntry.{IsUnusedEntry, TakesNumber, given, lowest, new_type, table_area, run_length, new_entry_of, new_labels}
-use Rattle.pt_edit.specs.NewEntry.{with_new_entry, EntryMade}
+use Rattle.pt_edit.proofs.SpaceTerms.{placed_is_free_lem}
+use Rattle.pt_edit.specs.Entries.{HasUsedEntry, Changed, DiskSet, Extended, with_entry, with_body, is_slice, entry_type, EntryTyped}
+use Rattle.pt_edit.specs.Entries.{EntryDeleted, IsUnusedEntry, TakesNumber, given, lowest, new_type, table_area, run_length, new_entry_of}
+use Rattle.pt_edit.specs.Entries.{new_labels, with_new_entry, EntryMade}
 use Rattle.pt_edit.specs.Edited.{empty_gpt}
 use Rattle.pt_words.specs.declared.asked.Asked.{Asked}
-use Rattle.pt_cases.specs.Shape.{FitsTable, AreLabelsOf, Shaped}
+use Rattle.pt_cases.specs.Writes.{FitsTable, AreLabelsOf, Shaped}
 use Rattle.pt_cases.specs.Keeps.{Keeps}
 use Rattle.pt_kept.proofs.Entries.{entry_numbered, entries_many, many_none}
 use Rattle.pt_kept.proofs.Tables.{keeps_table, keeps_small, keeps_entry, keeps_without, keeps_leaf, keeps_slice, table_fits, no_record}

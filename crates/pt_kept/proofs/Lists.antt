@@ -1,14 +1,14 @@
 -- Lists of slices and of their labels, by numbers.
-use Rattle.std.specs.Prelude.{◌≡◌, ◌≢◌, ◌<◌, ◌≤◌, ◌⊎◌, ◌++◌, ◌∷◌, [], ℕ, zero, suc, Bool, true, false, List, filter, Contains, Option, Some}
-use Rattle.std.specs.Prelude.{None, nat_eq, nat_lt}
+use Rattle.std.specs.Prelude.{◌≡◌, ◌≢◌, ◌<◌, ◌≤◌, ◌⊎◌, ◌++◌, ◌∷◌, [], ℕ, zero, suc, Bool, true, false, List, filter, Contains, Option}
+use Rattle.std.specs.Prelude.{Some, None, nat_eq, nat_lt}
 use Rattle.std.proofs.Common.{refl, sym, ap, subst, ◌∙◌, inl, inr, arith}
 use Rattle.std.proofs.lemmas.Bool.{cases_lt, eq-eqb, ne_eqb, eqb-true, eqb-false, false≢true, lt-ltb, le-ltb}
 use Rattle.pt_bsd.specs.declared.label.Label.{Label}
 use Rattle.pt_members.specs.declared.layout.Slice.{Slice}
 use Rattle.pt_members.specs.declared.layout.Labelled.{Labelled}
 use Rattle.pt_members.specs.Members.{label_of}
-use Rattle.pt_labels.specs.Lists.{labelled, labels_below, labels_above, with_new_label}
-use Rattle.pt_cases.specs.Shape.{FitsLabel, AreLabelsOf}
+use Rattle.pt_edit.specs.SliceLabels.{labelled, labels_below, labels_above, with_new_label}
+use Rattle.pt_cases.specs.Writes.{FitsLabel, AreLabelsOf}
 
 -- the slices whose numbers pass a test, and the labels
 abbrev pub slices_by : (ℕ → Bool) → List Slice → List Slice

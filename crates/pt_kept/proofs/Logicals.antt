@@ -4,37 +4,32 @@ use Rattle.std.specs.Prelude.{slice_set, Option, Some, None, Contains, nat_eq}
 use Rattle.std.proofs.Common.{refl, sym, ap, subst, ◌∙◌, inl, inr, arith}
 use Rattle.std.proofs.lemmas.Bool.{eqb-false, true≢false}
 use Rattle.pt_sector.specs.Sectors.{Span}
-use Rattle.pt_mbr.specs.Record.{IsExtendedKind}
+use Rattle.pt_mbr.specs.Records.{IsExtendedKind, is_extended, extended_of, extent_of}
 use Rattle.pt_mbr.specs.declared.record.Record.{Record}
 use Rattle.pt_mbr.specs.declared.ebr.Ebr.{Ebr}
 use Rattle.pt_sector.specs.declared.address.Lba.{Lba}
 use Rattle.pt_mbr.specs.Chain.{lba}
-use Rattle.pt_mbr.specs.Extended.{is_extended, extended_of, extent_of}
-use Rattle.pt_members.specs.laws.SliceLists.{logical_some, record_no}
-use Rattle.pt_members.specs.laws.SliceLists.{slices_mbr}
-use Rattle.pt_members.specs.SliceLists.{next_number}
-use Rattle.pt_members.specs.laws.SliceLists.{primary_slices, logical_slice, logical_slices}
-use Rattle.pt_members.specs.Slices.{slices_of}
+use Rattle.pt_members.proofs.SliceLists.{logical_some, record_no, slices_mbr, primary_slices, logical_slice, logical_slices}
+use Rattle.pt_members.proofs.SliceListsLemmas.{next_number}
+use Rattle.pt_members.specs.Members.{slices_of, no_ebr, label_of}
 use Rattle.pt_members.specs.declared.layout.Slice.{Slice}
 use Rattle.pt_members.specs.declared.layout.Labelled.{Labelled}
 use Rattle.pt_members.specs.declared.layout.Layout.{Layout}
 use Rattle.pt_members.specs.declared.layout.Body.TheVariants.{Mbr}
-use Rattle.pt_members.specs.Counts.{no_ebr}
-use Rattle.pt_members.specs.Members.{label_of}
-use Rattle.pt_labels.specs.Lists.{lowered}
+use Rattle.pt_edit.specs.SliceLabels.{lowered}
 use Rattle.pt_words.specs.declared.word.Code.{Code}
 use Rattle.pt_words.specs.declared.word.Code.TheVariants.{Two, Four}
-use Rattle.pt_records.specs.Types.{record_type, is_container}
-use Rattle.pt_records.specs.Chains.{ebr_at, LogicalTyped, LogicalDeleted}
-use Rattle.pt_cases.specs.Shape.{FitsRecord, FitsLogical, Linked, FitsExtended, FitsMbr, AreLabelsOf, Shaped}
+use Rattle.pt_edit.specs.Records.{record_type, is_container}
+use Rattle.pt_edit.specs.Chains.{ebr_at, LogicalTyped, LogicalDeleted}
+use Rattle.pt_cases.specs.Writes.{FitsRecord, FitsLogical, Linked, FitsExtended, FitsMbr, AreLabelsOf, Shaped}
 use Rattle.pt_cases.specs.Keeps.{IsOldLabel, IsNewLabel, IsRetyped, IsMadeLogical, Keeps}
 use Rattle.pt_kept.proofs.Lists.{slices_by, contains_filter}
 use Rattle.pt_kept.proofs.Entries.{is_not, is_not_false}
 use Rattle.pt_kept.proofs.Chain.{primaries_below, renumbered, number_by, number_least, next_of, chain_same, chain_lowered, lower}
 use Rattle.pt_kept.proofs.Chain.{slices_lowered, lowered_append, lowered_low}
 use Rattle.pt_kept.proofs.Moved.{are_lowered, label_of_lowered}
-use Rattle.pt_kept.proofs.Mbr.{mbr_of, WasLogical, keeps_mbr, body_fits, old_labels, same_slice, same_records, same_logical}
-use Rattle.pt_kept.proofs.Mbr.{any_default, contains_set, contains_at, contains_map, fits_set, number_same}
+use Rattle.pt_kept.proofs.Mbr.{mbr_of, WasLogical, keeps_mbr, body_fits, old_labels, same_slice, same_records, same_logical, any_default}
+use Rattle.pt_kept.proofs.Mbr.{contains_set, contains_at, contains_map, fits_set, number_same}
 
 -- a type that a code gives a record is none of an unused or of a protective one
 pub type_plain : (code : Code) (kind : ℕ) → record_type code ≡ Some kind → (kind ≢ 0) × (kind ≢ 0xEE)

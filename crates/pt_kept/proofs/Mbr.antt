@@ -1,6 +1,6 @@
 -- What edits of an MBR keep.
-use Rattle.std.specs.Prelude.{◌≡◌, ◌<◌, ◌≤◌, ◌⊎◌, ◌+◌, ◌∷◌, [], ℕ, zero, suc, List, map, take, length}
-use Rattle.std.specs.Prelude.{slice_index_or, slice_set, Option, Some, None, Contains, is_some, if◌then◌else◌}
+use Rattle.std.specs.Prelude.{◌≡◌, ◌<◌, ◌≤◌, ◌⊎◌, ◌+◌, ◌∷◌, [], ℕ, zero, suc, List, map, take, length, slice_index_or, slice_set, Option}
+use Rattle.std.specs.Prelude.{Some, None, Contains, is_some, if◌then◌else◌}
 use Rattle.std.proofs.Common.{refl, sym, ap, subst, ◌∙◌, inl, inr, arith}
 use Rattle.std.proofs.lemmas.List.{length-set}
 use Rattle.std.proofs.lemmas.List.Sums.{sum_by-cons}
@@ -9,20 +9,18 @@ use Rattle.pt_sector.specs.declared.address.Lba.{Lba}
 use Rattle.pt_mbr.specs.Chain.{IsUpward, lba}
 use Rattle.pt_mbr.specs.declared.record.Record.{Record}
 use Rattle.pt_mbr.specs.declared.ebr.Ebr.{Ebr}
-use Rattle.pt_mbr.specs.Extended.{extended_of, extent_of}
-use Rattle.pt_members.specs.SliceLists.{next_number}
-use Rattle.pt_members.specs.Slices.{slices_of}
+use Rattle.pt_mbr.specs.Records.{extended_of, extent_of}
+use Rattle.pt_members.proofs.SliceListsLemmas.{next_number}
+use Rattle.pt_members.specs.Members.{slices_of, used_before, label_of}
 use Rattle.pt_members.specs.declared.layout.Slice.{Slice}
 use Rattle.pt_members.specs.declared.layout.Labelled.{Labelled}
 use Rattle.pt_members.specs.declared.layout.Layout.{Layout}
 use Rattle.pt_members.specs.declared.layout.Body.{Body}
 use Rattle.pt_members.specs.declared.layout.Body.TheVariants.{Mbr}
-use Rattle.pt_members.specs.Counts.{used_before}
-use Rattle.pt_members.specs.Members.{label_of}
-use Rattle.pt_cases.specs.Shape.{FitsLogical, Linked, FitsChain, FitsExtended, FitsMbr, FitsBody, AreLabelsOf, Shaped}
+use Rattle.pt_cases.specs.Writes.{FitsLogical, Linked, FitsChain, FitsExtended, FitsMbr, FitsBody, AreLabelsOf, Shaped}
 use Rattle.pt_cases.specs.Keeps.{LabelStays, IsOldLabel, IsNewLabel, IsRetyped, IsMadeRecord, IsMadeLogical, IsMbrBody, Keeps, records_in}
 use Rattle.pt_cases.specs.Keeps.{chain_in}
-use Rattle.pt_cases.specs.laws.Terms.{label_stays_refl_lem}
+use Rattle.pt_cases.proofs.Terms.{label_stays_refl_lem}
 use Rattle.pt_kept.proofs.Lists.{contains_cases, contains_later}
 use Rattle.pt_kept.proofs.Chain.{number_by, next_of}
 

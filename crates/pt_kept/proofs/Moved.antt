@@ -7,13 +7,12 @@ use Rattle.pt_bsd.specs.declared.label.Label.{Label}
 use Rattle.pt_members.specs.declared.layout.Slice.{Slice}
 use Rattle.pt_members.specs.declared.layout.Labelled.{Labelled}
 use Rattle.pt_members.specs.Members.{label_of}
-use Rattle.pt_labels.specs.Lists.{labelled, without_label, lowered_as, lowered, raised_as, raised}
-use Rattle.pt_cases.specs.Shape.{FitsLabel, AreLabelsOf}
+use Rattle.pt_edit.specs.SliceLabels.{labelled, without_label, lowered_as, lowered, raised_as, raised}
+use Rattle.pt_cases.specs.Writes.{FitsLabel, AreLabelsOf, NumbersAscend}
 use Rattle.pt_kept.proofs.Lists.{slices_by, filter_in, filter_out, are_filter, label_of_by, label_of_head, label_of_tail, contains_cases}
 use Rattle.pt_kept.proofs.Lists.{contains_later, contains_filter}
 use Rattle.pt_kept.proofs.Entries.{is_not, is_not_true, is_not_false, is_below, is_above}
-use Rattle.pt_cases.specs.Ascending.{NumbersAscend}
-use Rattle.pt_cases.specs.laws.Ascending.{ascend_from}
+use Rattle.pt_cases.proofs.Ascending.{ascend_from}
 use Rattle.pt_kept.proofs.Chain.{AreBelow, ascending_kept, ascending_gone, renumbered, lower, lower_above, lower_below, slices_lowered}
 use Rattle.pt_kept.proofs.Raised.{greatest, raise, raise_below, raise_above, slices_raised}
 

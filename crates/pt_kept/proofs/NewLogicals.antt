@@ -10,46 +10,41 @@ use Rattle.pt_sector.specs.declared.address.Lba.{Lba}
 use Rattle.pt_mbr.specs.Chain.{lba}
 use Rattle.pt_mbr.specs.declared.record.Record.{Record}
 use Rattle.pt_mbr.specs.declared.ebr.Ebr.{Ebr}
-use Rattle.pt_bsd.specs.Empty.{empty_of}
-use Rattle.pt_mbr.specs.Extended.{extended_of, extent_of}
-use Rattle.pt_members.specs.laws.SliceLists.{logical_none, logical_some, record_yes, record_no}
-use Rattle.pt_members.specs.laws.SliceLists.{slices_mbr}
-use Rattle.pt_members.specs.Slices.{slice_from, slices_of}
-use Rattle.pt_members.specs.SliceLists.{next_number}
-use Rattle.pt_members.specs.laws.SliceLists.{record_slice, primary_slices, logical_slice, logical_slices}
+use Rattle.pt_bsd.specs.Labels.{empty_of}
+use Rattle.pt_mbr.specs.Records.{extended_of, extent_of}
+use Rattle.pt_members.proofs.SliceLists.{logical_none, logical_some, record_yes, record_no, slices_mbr, record_slice, primary_slices}
+use Rattle.pt_members.proofs.SliceLists.{logical_slice, logical_slices}
+use Rattle.pt_members.specs.Members.{slice_from, slices_of, no_ebr, label_of}
+use Rattle.pt_members.proofs.SliceListsLemmas.{next_number}
 use Rattle.pt_members.specs.declared.layout.Slice.{Slice}
 use Rattle.pt_members.specs.declared.layout.Labelled.{Labelled}
 use Rattle.pt_members.specs.declared.layout.Layout.{Layout}
 use Rattle.pt_members.specs.declared.layout.Body.{Body}
 use Rattle.pt_members.specs.declared.layout.Body.TheVariants.{Mbr}
-use Rattle.pt_members.specs.Counts.{no_ebr}
-use Rattle.pt_members.specs.Members.{label_of}
-use Rattle.pt_labels.specs.Lists.{raised, with_new_label}
+use Rattle.pt_edit.specs.SliceLabels.{raised, with_new_label}
 use Rattle.pt_words.specs.declared.word.Code.{Code}
 use Rattle.pt_words.specs.declared.word.End.{End}
-use Rattle.pt_space.specs.declared.space.Run.{Run}
-use Rattle.pt_space.specs.Area.{IsInRuns}
-use Rattle.pt_space.specs.laws.Terms.{placed_is_free_lem}
-use Rattle.pt_records.specs.Types.{new_type, is_slice}
-use Rattle.pt_records.specs.Chains.{ebr_at, number_at, with_logical}
-use Rattle.pt_records.specs.Entered.{IsEmptyAt, IsPlaceFor, with_ebr, Entered, reused, added}
-use Rattle.pt_records.specs.ChainNew.{logical_area, len_of, record_for, IsMisfit, labels_with, NewKind, LogicalNew, empty_sector, taken_of}
-use Rattle.pt_cases.specs.Shape.{FitsLogical, FitsChain, FitsExtended, FitsMbr, AreLabelsOf, Shaped}
+use Rattle.pt_edit.specs.declared.space.space.Run.{Run}
+use Rattle.pt_edit.specs.Space.{IsInRuns}
+use Rattle.pt_edit.proofs.SpaceTerms.{placed_is_free_lem}
+use Rattle.pt_edit.specs.Records.{new_type, is_slice}
+use Rattle.pt_edit.specs.Chains.{ebr_at, number_at, with_logical, IsEmptyAt, IsPlaceFor, with_ebr, Entered, reused, added, logical_area}
+use Rattle.pt_edit.specs.Chains.{len_of, record_for, IsMisfit, labels_with, NewKind, LogicalNew, empty_sector, taken_of}
+use Rattle.pt_cases.specs.Writes.{FitsLogical, FitsChain, FitsExtended, FitsMbr, AreLabelsOf, Shaped, NumbersAscend}
 use Rattle.pt_cases.specs.Keeps.{IsOldLabel, IsNewLabel, IsMadeLogical, Keeps}
-use Rattle.pt_cases.specs.laws.Terms.{same_but_parts_refl}
+use Rattle.pt_cases.proofs.Terms.{same_but_parts_refl}
 use Rattle.pt_kept.proofs.Lists.{slices_by, are_entered, label_of_new, label_of_old, contains_cases, contains_filter}
 use Rattle.pt_kept.proofs.Entries.{is_below, is_above, around}
 use Rattle.pt_kept.proofs.Tables.{contains_append, empty_fits, slice_len}
-use Rattle.pt_cases.specs.Ascending.{NumbersAscend}
-use Rattle.pt_cases.specs.laws.Ascending.{slices_ascend_lem}
+use Rattle.pt_cases.proofs.Ascending.{slices_ascend_lem}
 use Rattle.pt_kept.proofs.Chain.{AreBelow, below_append, below_more, primaries_below, logicals_below, renumbered, number_by, number_least}
 use Rattle.pt_kept.proofs.Chain.{chain_same, next_of}
 use Rattle.pt_kept.proofs.Raised.{greatest, raise, slices_raised, raised_low, chain_filled, chain_inserted}
 use Rattle.pt_kept.proofs.Moved.{are_raised, label_of_raised, raise_free, raised_ascend, raised_free, split_at}
-use Rattle.pt_kept.proofs.Mbr.{mbr_of, WasLogical, keeps_mbr, body_fits, old_labels, same_slice, same_records, same_logical}
-use Rattle.pt_kept.proofs.Mbr.{contains_set, contains_at, contains_map, fits_set, number_same}
+use Rattle.pt_kept.proofs.Mbr.{mbr_of, WasLogical, keeps_mbr, body_fits, old_labels, same_slice, same_records, same_logical, contains_set}
+use Rattle.pt_kept.proofs.Mbr.{contains_at, contains_map, fits_set, number_same}
 use Rattle.pt_kept.proofs.Logicals.{type_plain, not_extended, read_at}
-use Rattle.pt_records.specs.laws.LinkLaws.{not_own}
+use Rattle.pt_edit.proofs.LinkLaws.{not_own}
 use Rattle.pt_kept.proofs.Entering.{linked_enter, first_at, contains_insert, empty_listed, extended_fits, chain_of, refit_one}
 
 -- the type of a new record is none of an unused or of a protective one

@@ -8,33 +8,29 @@ use Rattle.std.proofs.lemmas.List.Elements.{filter-append}
 use Rattle.pt_mbr.specs.Chain.{lba}
 use Rattle.pt_mbr.specs.declared.record.Record.{Record}
 use Rattle.pt_mbr.specs.declared.ebr.Ebr.{Ebr}
-use Rattle.pt_bsd.specs.Empty.{empty_of}
-use Rattle.pt_mbr.specs.Extended.{is_extended, extended_of}
-use Rattle.pt_members.specs.Members.{logicals_as}
-use Rattle.pt_members.specs.SliceLists.{next_number}
-use Rattle.pt_members.specs.laws.SliceLists.{primary_some, record_yes, logical_slice}
-use Rattle.pt_members.specs.laws.SliceLists.{slices_mbr}
-use Rattle.pt_members.specs.Slices.{slice_from, slices_of}
-use Rattle.pt_members.specs.laws.SliceLists.{primary_slice, primary_slices, logical_slices}
+use Rattle.pt_bsd.specs.Labels.{empty_of}
+use Rattle.pt_mbr.specs.Records.{is_extended, extended_of}
+use Rattle.pt_members.specs.Members.{logicals_as, slice_from, slices_of, label_of}
+use Rattle.pt_members.proofs.SliceListsLemmas.{next_number}
+use Rattle.pt_members.proofs.SliceLists.{primary_some, record_yes, logical_slice, slices_mbr, primary_slice, primary_slices}
+use Rattle.pt_members.proofs.SliceLists.{logical_slices}
 use Rattle.pt_members.specs.declared.layout.Slice.{Slice}
 use Rattle.pt_members.specs.declared.layout.Labelled.{Labelled}
 use Rattle.pt_members.specs.declared.layout.Layout.{Layout}
 use Rattle.pt_members.specs.declared.layout.Body.TheVariants.{Mbr}
-use Rattle.pt_members.specs.Members.{label_of}
-use Rattle.pt_labels.specs.Lists.{with_new_label}
+use Rattle.pt_edit.specs.SliceLabels.{with_new_label}
 use Rattle.pt_words.specs.declared.word.Code.{Code}
 use Rattle.pt_words.specs.declared.word.End.{End}
-use Rattle.pt_space.specs.laws.Terms.{placed_is_free_lem}
-use Rattle.pt_records.specs.Types.{is_slice}
-use Rattle.pt_records.specs.ChainNew.{len_of}
-use Rattle.pt_records.specs.Numbers.{IsUnusedNumber, TakesRecordNumber, as_asked, lowest_one}
-use Rattle.pt_records.specs.New.{extended_record, disk_area, record_at, new_chain, new_labels, RecordMade}
-use Rattle.pt_cases.specs.Shape.{FitsRecord, FitsExtended, FitsMbr, AreLabelsOf, Shaped}
+use Rattle.pt_edit.proofs.SpaceTerms.{placed_is_free_lem}
+use Rattle.pt_edit.specs.Records.{is_slice, IsUnusedNumber, TakesRecordNumber, as_asked, lowest_one}
+use Rattle.pt_edit.specs.Chains.{len_of}
+use Rattle.pt_edit.specs.MbrEdits.{extended_record, disk_area, record_at, new_chain, new_labels, RecordMade}
+use Rattle.pt_cases.specs.Writes.{FitsRecord, FitsExtended, FitsMbr, AreLabelsOf, Shaped}
 use Rattle.pt_cases.specs.Keeps.{IsMadeRecord, IsMadeLogical, Keeps}
 use Rattle.pt_kept.proofs.Lists.{slices_by, are_entered, contains_cases}
 use Rattle.pt_kept.proofs.Entries.{is_below, is_above, around, records_with, records_same}
 use Rattle.pt_kept.proofs.Tables.{empty_fits, slice_len, entered_label}
-use Rattle.pt_cases.specs.laws.Ascending.{logicals_ascend}
+use Rattle.pt_cases.proofs.Ascending.{logicals_ascend}
 use Rattle.pt_kept.proofs.Chain.{ascending_kept, ascending_gone, emptied}
 use Rattle.pt_kept.proofs.Mbr.{mbr_of, WasRecord, WasLogical, keeps_mbr, body_fits, old_labels, same_slice, same_logical}
 use Rattle.pt_kept.proofs.NewLogicals.{new_plain}

@@ -1,20 +1,18 @@
 -- Logical slices stand in the order of their numbers; the label of a slice in a layout, as it changes.
-use Rattle.std.specs.Prelude.{◌≡◌, ◌≢◌, ◌<◌, ◌≤◌, ◌+◌, ◌∷◌, [], ℕ, Bool, true, false, List, length, slice_index_or}
-use Rattle.std.specs.Prelude.{slice_set, Option, Some, None, is_some, nat_eq}
+use Rattle.std.specs.Prelude.{◌≡◌, ◌≢◌, ◌<◌, ◌≤◌, ◌+◌, ◌∷◌, [], ℕ, Bool, true, false, List, length, slice_index_or, slice_set, Option}
+use Rattle.std.specs.Prelude.{Some, None, is_some, nat_eq}
 use Rattle.std.proofs.Common.{refl, sym, ap, subst, ◌∙◌, inl, inr, arith}
 use Rattle.std.proofs.lemmas.Bool.{cases_lt, ne_eqb, eqb-true, eqb-false}
 use Rattle.std.proofs.lemmas.List.{length-set, get_or-set_same, get_or-set_other}
-use Rattle.pt_bsd.specs.Counted.{count_of}
-use Rattle.pt_bsd.specs.laws.Terms.{with_entry_counted, with_entry_fits}
+use Rattle.pt_bsd.specs.Labels.{count_of}
+use Rattle.pt_bsd.proofs.Terms.{with_entry_counted, with_entry_fits}
 use Rattle.pt_bsd.specs.declared.label.Label.{Label}
 use Rattle.pt_bsd.specs.declared.label.LabelEntry.{LabelEntry}
 use Rattle.pt_members.specs.declared.layout.Slice.{Slice}
 use Rattle.pt_members.specs.declared.layout.Labelled.{Labelled}
 use Rattle.pt_members.specs.Members.{label_of}
-use Rattle.pt_labels.specs.Lists.{labelled, relabelled_as, with_label}
-use Rattle.pt_labels.specs.Parts.{with_part}
-use Rattle.pt_cases.specs.Shape.{FitsLabel, AreLabelsOf}
-use Rattle.pt_cases.specs.Ascending.{NumbersAscend}
+use Rattle.pt_edit.specs.SliceLabels.{labelled, relabelled_as, with_label, with_part}
+use Rattle.pt_cases.specs.Writes.{FitsLabel, AreLabelsOf, NumbersAscend}
 use Rattle.pt_cases.specs.Keeps.{SameButParts}
 use Rattle.pt_kept.proofs.Lists.{label_of_head, label_of_tail}
 

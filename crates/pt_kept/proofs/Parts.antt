@@ -5,16 +5,14 @@ use Rattle.std.proofs.lemmas.Bool.{cases_lt, eqb-true, eqb-false}
 use Rattle.std.proofs.lemmas.List.{get_or_past}
 use Rattle.pt_bsd.specs.declared.label.Label.{Label}
 use Rattle.pt_bsd.specs.declared.label.LabelEntry.{LabelEntry}
-use Rattle.pt_members.specs.Slices.{slices_of}
+use Rattle.pt_members.specs.Members.{slices_of, label_of}
 use Rattle.pt_members.specs.declared.layout.Layout.{Layout}
 use Rattle.pt_members.specs.declared.member.Member.{Member}
-use Rattle.pt_members.specs.Members.{label_of}
-use Rattle.pt_labels.specs.Lists.{with_label}
-use Rattle.pt_labels.specs.Parts.{HasPartEntry, PartMade, with_part, with_entry_of}
-use Rattle.pt_cases.specs.Shape.{Shaped}
+use Rattle.pt_edit.specs.SliceLabels.{with_label, HasPartEntry, PartMade, with_part, with_entry_of}
+use Rattle.pt_cases.specs.Writes.{Shaped}
 use Rattle.pt_cases.specs.Keeps.{LabelStays, Keeps}
-use Rattle.pt_cases.specs.laws.Terms.{label_stays_refl_lem}
-use Rattle.pt_cases.specs.laws.Ascending.{slices_ascend_lem}
+use Rattle.pt_cases.proofs.Terms.{label_stays_refl_lem}
+use Rattle.pt_cases.proofs.Ascending.{slices_ascend_lem}
 use Rattle.pt_kept.proofs.Order.{are_with, label_of_with, label_of_changed, part_fits, same_but_part}
 
 -- an entry that stands in a list stands inside it

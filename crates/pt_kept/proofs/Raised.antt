@@ -9,12 +9,12 @@ use Rattle.std.proofs.lemmas.List.Elements.{filter-append}
 use Rattle.pt_mbr.specs.declared.record.Record.{Record}
 use Rattle.pt_mbr.specs.declared.ebr.Ebr.{Ebr}
 use Rattle.pt_members.specs.Members.{logicals_as}
-use Rattle.pt_members.specs.SliceLists.{next_number}
-use Rattle.pt_members.specs.laws.SliceLists.{logical_slice, logical_slices}
+use Rattle.pt_members.proofs.SliceListsLemmas.{next_number}
+use Rattle.pt_members.proofs.SliceLists.{logical_slice, logical_slices}
 use Rattle.pt_members.specs.declared.layout.Slice.{Slice}
 use Rattle.pt_kept.proofs.Lists.{slices_by}
 use Rattle.pt_kept.proofs.Entries.{is_below, is_above, around}
-use Rattle.pt_cases.specs.laws.Ascending.{logicals_ascend}
+use Rattle.pt_cases.proofs.Ascending.{logicals_ascend}
 use Rattle.pt_kept.proofs.Chain.{AreBelow, below_logical, ascending_kept, ascending_gone, by_below, none_below, renumbered, map_below}
 use Rattle.pt_kept.proofs.Chain.{Moves, chain_moved, number_by, number_least, next_of, next_most, emptied}
 

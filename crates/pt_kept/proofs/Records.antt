@@ -1,32 +1,27 @@
 -- What edits of an MBR's records keep.
-use Rattle.std.specs.Prelude.{◌≡◌, ◌<◌, ◌≤◌, ◌⊎◌, ◌+◌, ◌-◌, ◌++◌, ◌∷◌, [], ℕ, zero, suc, Bool, true, false, List, length}
-use Rattle.std.specs.Prelude.{slice_index_or, slice_set, Option, Some, None, Contains, nat_eq}
+use Rattle.std.specs.Prelude.{◌≡◌, ◌<◌, ◌≤◌, ◌⊎◌, ◌+◌, ◌-◌, ◌++◌, ◌∷◌, [], ℕ, zero, suc, Bool, true, false, List, length, slice_index_or}
+use Rattle.std.specs.Prelude.{slice_set, Option, Some, None, Contains, nat_eq}
 use Rattle.std.proofs.Common.{refl, sym, ap, subst, ◌∙◌, inl, arith}
 use Rattle.std.proofs.lemmas.Bool.{eqb-true, eqb-false, lt-ltb, le-ltb}
 use Rattle.std.proofs.lemmas.List.{length-set, get_or-set_same, get_or-set_other, length-append}
 use Rattle.std.proofs.lemmas.List.Elements.{filter-append}
 use Rattle.pt_mbr.specs.declared.record.Record.{Record}
 use Rattle.pt_mbr.specs.declared.ebr.Ebr.{Ebr}
-use Rattle.pt_mbr.specs.Extended.{is_extended, extended_of}
-use Rattle.pt_members.specs.Members.{logicals_as}
-use Rattle.pt_members.specs.laws.SliceLists.{primary_some, record_no}
-use Rattle.pt_members.specs.laws.SliceLists.{slices_mbr}
-use Rattle.pt_members.specs.laws.SliceLists.{primary_slice, primary_slices, logical_slices}
-use Rattle.pt_members.specs.Slices.{slices_of}
+use Rattle.pt_mbr.specs.Records.{is_extended, extended_of}
+use Rattle.pt_members.specs.Members.{logicals_as, slices_of, label_of}
+use Rattle.pt_members.proofs.SliceLists.{primary_some, record_no, slices_mbr, primary_slice, primary_slices, logical_slices}
 use Rattle.pt_members.specs.declared.layout.Slice.{Slice}
 use Rattle.pt_members.specs.declared.layout.Layout.{Layout}
 use Rattle.pt_members.specs.declared.layout.Body.TheVariants.{Mbr}
-use Rattle.pt_members.specs.Members.{label_of}
-use Rattle.pt_labels.specs.Lists.{without_label, without_logicals}
+use Rattle.pt_edit.specs.SliceLabels.{without_label, without_logicals}
 use Rattle.pt_words.specs.declared.word.Code.{Code}
-use Rattle.pt_records.specs.Records.{IsPrimary}
-use Rattle.pt_records.specs.Typed.{PrimaryTyped}
-use Rattle.pt_records.specs.Deleted.{PrimaryDeleted, plain, extended}
-use Rattle.pt_cases.specs.Shape.{FitsRecord, FitsSlot, FitsExtended, FitsMbr, AreLabelsOf, Shaped}
+use Rattle.pt_edit.specs.Records.{IsPrimary}
+use Rattle.pt_edit.specs.MbrEdits.{PrimaryTyped, PrimaryDeleted, plain, extended}
+use Rattle.pt_cases.specs.Writes.{FitsRecord, FitsSlot, FitsExtended, FitsMbr, AreLabelsOf, Shaped}
 use Rattle.pt_cases.specs.Keeps.{IsRetyped, IsMadeRecord, Keeps}
 use Rattle.pt_kept.proofs.Lists.{slices_by, are_filter, label_of_by, contains_filter}
 use Rattle.pt_kept.proofs.Entries.{is_not, is_not_true, is_below, records_without, records_same}
-use Rattle.pt_cases.specs.laws.Ascending.{logicals_ascend}
+use Rattle.pt_cases.proofs.Ascending.{logicals_ascend}
 use Rattle.pt_kept.proofs.Chain.{ascending_kept, ascending_gone, by_below, primaries_below}
 use Rattle.pt_kept.proofs.Mbr.{mbr_of, WasRecord, keeps_mbr, body_fits, old_labels, same_slice, same_records, same_logical}
 use Rattle.pt_kept.proofs.Logicals.{type_plain, container_plain, container_leaf, logical_of}

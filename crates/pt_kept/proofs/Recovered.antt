@@ -1,15 +1,14 @@
 -- Edits of what a disk denotes.
 use Rattle.std.specs.Prelude.{◌*◌, ◌≤◌, ◌^◌, ℕ, List, Option, Some, None, Ok, IfSome, length}
 use Rattle.pt_sector.specs.Sectors.{Sectors, IsSectorSize}
-use Rattle.pt_sector.specs.laws.Bound.{few_sectors}
+use Rattle.pt_sector.proofs.Bound.{few_sectors}
 use Rattle.pt_guid.specs.declared.guid.Guid.{Guid}
-use Rattle.pt_recover.specs.Denotes.{Denotes}
-use Rattle.pt_recover.specs.Numbers.{Numbers}
+use Rattle.pt_recover.specs.Denotes.{Denotes, Numbers}
 use Rattle.pt_members.specs.declared.layout.Layout.{Layout}
 use Rattle.pt_words.specs.declared.word.Edit.{Edit}
 use Rattle.pt_edit.specs.Edited.{Edited}
 use Rattle.pt_cases.specs.Keeps.{Keeps}
-use Rattle.pt_cases.specs.laws.Denoted.{denoted_is_shaped_lem}
+use Rattle.pt_cases.proofs.Denoted.{denoted_is_shaped_lem}
 use Rattle.pt_kept.specs.Old.{MayBe}
 use Rattle.pt_kept.proofs.Fold.{edit_keeps_lem}
 

@@ -3,30 +3,26 @@ use Rattle.std.specs.Prelude.{◌≡◌, ◌≢◌, ◌<◌, ◌≤◌, ◌⊎�
 use Rattle.std.specs.Prelude.{slice_set, ◌^◌, Option, Some, None, IfSome, Contains, if◌then◌else◌, nat_eq, ◌&&◌}
 use Rattle.std.proofs.Common.{refl, sym, ap, subst, ◌∙◌, inl, inr, arith}
 use Rattle.std.proofs.lemmas.Bool.{eqb-true, eqb-false, ltb-true, lt-ltb, le-leb, true≢false}
-use Rattle.pt_bsd.specs.laws.Terms.{empty_counted}
+use Rattle.pt_bsd.proofs.Terms.{empty_counted}
 use Rattle.std.proofs.lemmas.List.{length-set, get_or-set_same, get_or-set_other}
-use Rattle.pt_gpt.specs.Array.{AllTyped}
-use Rattle.pt_gpt.specs.Entry.{IsTyped}
+use Rattle.pt_gpt.specs.Copies.{AllTyped}
+use Rattle.pt_gpt.specs.Entries.{IsTyped}
 use Rattle.pt_gpt.specs.declared.entry.Entry.{Entry}
 use Rattle.pt_gpt.specs.declared.table.Table.{Table}
 use Rattle.pt_mbr.specs.declared.record.Record.{Record}
 use Rattle.pt_mbr.specs.declared.ebr.Ebr.{Ebr}
-use Rattle.pt_bsd.specs.Empty.{empty_of}
-use Rattle.pt_members.specs.laws.SliceLists.{entry_some}
-use Rattle.pt_members.specs.laws.SliceLists.{slices_gpt}
-use Rattle.pt_members.specs.Members.{is_slice_kind}
-use Rattle.pt_members.specs.Slices.{slice_from, slices_of}
-use Rattle.pt_members.specs.laws.SliceLists.{entry_slice, entry_slices}
+use Rattle.pt_bsd.specs.Labels.{empty_of}
+use Rattle.pt_members.proofs.SliceLists.{entry_some, slices_gpt, entry_slice, entry_slices}
+use Rattle.pt_members.specs.Members.{is_slice_kind, slice_from, slices_of, label_of}
 use Rattle.pt_members.specs.declared.layout.Slice.{Slice}
 use Rattle.pt_members.specs.declared.layout.Labelled.{Labelled}
 use Rattle.pt_members.specs.declared.layout.Layout.{Layout}
 use Rattle.pt_members.specs.declared.layout.Body.{Body}
 use Rattle.pt_members.specs.declared.layout.Body.TheVariants.{Gpt}
-use Rattle.pt_members.specs.Members.{label_of}
-use Rattle.pt_labels.specs.Lists.{without_label, with_new_label}
-use Rattle.pt_cases.specs.Shape.{FitsTable, FitsBody, FitsLabel, AreLabelsOf, Shaped}
+use Rattle.pt_edit.specs.SliceLabels.{without_label, with_new_label}
+use Rattle.pt_cases.specs.Writes.{FitsTable, FitsBody, FitsLabel, AreLabelsOf, Shaped}
 use Rattle.pt_cases.specs.Keeps.{LabelStays, IsOldLabel, IsNewLabel, Keeps}
-use Rattle.pt_cases.specs.laws.Terms.{same_but_parts_refl, label_stays_refl_lem}
+use Rattle.pt_cases.proofs.Terms.{same_but_parts_refl, label_stays_refl_lem}
 use Rattle.pt_kept.proofs.Lists.{slices_by, contains_later, are_filter, are_entered, label_of_by, label_of_new, label_of_old}
 use Rattle.pt_kept.proofs.Lists.{contains_filter, contains_cases}
 use Rattle.pt_kept.proofs.Entries.{is_not, is_not_false, is_below, is_above, around, slices_without, slices_with, slices_same}

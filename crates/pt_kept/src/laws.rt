@@ -2,19 +2,16 @@
 
 ghost use Rattle.std.specs.Prelude.{◌*◌, ◌<◌, ◌≤◌, ◌^◌, ℕ, List, Option, Ok, IfSome, length, ◌≡◌};
 ghost use Rattle.pt_guid.specs.declared.guid.Guid.{Guid};
-ghost use Rattle.pt_sector.specs.Sectors.{Sectors, IsSectorSize};
-ghost use Rattle.pt_recover.specs.Denotes.{Denotes};
-ghost use Rattle.pt_recover.specs.Numbers.{Numbers};
+ghost use Rattle.pt_sector.specs.Sectors.{Sectors, IsSectorSize, Writes};
+ghost use Rattle.pt_recover.specs.Denotes.{Denotes, Numbers};
 ghost use Rattle.pt_members.specs.declared.layout.Layout.{Layout};
 ghost use Rattle.pt_words.specs.declared.word.Edit.{Edit};
 ghost use Rattle.pt_edit.specs.Edited.{Edited};
 ghost use Rattle.pt_cases.specs.Keeps.{Keeps};
 ghost use Rattle.pt_kept.specs.Old.{MayBe};
-ghost use Rattle.pt_sector.specs.Writes.{Writes};
 ghost use Rattle.pt_cases.specs.Cases.{IsPlan};
-ghost use Rattle.pt_targets.specs.Errors.{IsFailure};
-ghost use Rattle.pt_targets.specs.Unplanned.{Unplanned};
-ghost use Rattle.pt_targets.specs.declared.error.PlanError.{PlanError};
+ghost use Rattle.pt_cases.specs.Unplanned.{IsFailure, Unplanned};
+ghost use Rattle.pt_cases.specs.declared.targets.error.PlanError.{PlanError};
 
 /// What words make of a layout that a disk may denote, or of nothing, keeps of it what `Keeps` says.
 pub fn edit_keeps()

@@ -1,25 +1,22 @@
 -- What two halves of a disk come to.
 use Rattle.std.proofs.Common.{◌≡◌, ℕ, List, length, true, false, Some, Ok, Err, refl, sym, subst}
 use Rattle.pt_sector.specs.Sectors.{Sectors}
-use Rattle.pt_gpt.specs.Copy.{HasCopy}
-use Rattle.pt_gpt.specs.laws.Terms.{no_copy_lem}
+use Rattle.pt_gpt.specs.Copies.{HasCopy, HasRoom}
+use Rattle.pt_gpt.proofs.Terms.{no_copy_lem}
 use Rattle.pt_gpt.specs.declared.table.Side.TheVariants.{Primary}
-use Rattle.pt_gpt.specs.Array.{HasRoom}
-use Rattle.pt_recover.specs.Mbr.{IsMbrDisk}
+use Rattle.pt_recover.specs.Denotes.{IsMbrDisk}
 use Rattle.pt_recover.specs.Spans.{IsIn}
 use Rattle.pt_recover.specs.declared.error.NoTable.{NoTable}
 use Rattle.pt_recover.specs.declared.error.NoTable.TheVariants.{NoCopy}
 use Rattle.pt_recover.specs.declared.trace.TracedRun.{TracedRun}
-use Rattle.pt_sound.specs.declared.finding.Finding.TheVariants.{PrimaryCopy, BackupCopy}
+use Rattle.pt_layout.specs.declared.sound.finding.Finding.TheVariants.{PrimaryCopy, BackupCopy}
 use Rattle.pt_layout.specs.declared.halves.Half.{Half}
 use Rattle.pt_layout.specs.declared.halves.Halves.{Halves}
 use Rattle.pt_layout.specs.declared.halves.Halves.TheVariants.{Both, OnlyPrimary, OnlyBackup, Neither}
 use Rattle.pt_layout.specs.declared.health.Head.{Head}
 use Rattle.pt_layout.specs.declared.survey.Chosen.{Chosen}
-use Rattle.pt_layout.specs.Chosen.{ChosenIs, TableStands, chosen_of}
-use Rattle.pt_layout.specs.Halves.{HalfIs, HalvesAre}
+use Rattle.pt_layout.specs.inner.Surveys.{ChosenIs, TableStands, chosen_of, HalfIs, HalvesAre, IsBodyTrace, nothing_of}
 use Rattle.pt_layout.specs.Surveys.{HeadOf, IsSurvey}
-use Rattle.pt_layout.specs.Verdicts.{IsBodyTrace, nothing_of}
 use Rattle.pt_layout.proofs.Verdicts.{primary_body, backup_body, pair_broken, neither_reason}
 use Rattle.pt_layout.proofs.Surveys.{nothing_survey}
 

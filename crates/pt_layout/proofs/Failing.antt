@@ -1,32 +1,29 @@
 -- Where a device failed in a verdict.
-use Rattle.std.specs.Prelude.{◌≡◌, ◌<◌, ◌⊎◌, ℕ, List, length, get_or, Some, None, Result, Ok, Err, IfErr}
-use Rattle.std.specs.Prelude.{IfOk}
+use Rattle.std.specs.Prelude.{◌≡◌, ◌<◌, ◌⊎◌, ℕ, List, length, get_or, Some, None, Result, Ok, Err, IfErr, IfOk}
 use Rattle.std.proofs.Common.{◌∙◌, refl, sym, ap, subst, inl, inr, Option}
-use Rattle.pt_sector.specs.Calls.{Blames, with_fault}
+use Rattle.pt_sector.specs.Device.{Blames, with_fault}
 use Rattle.pt_sector.specs.Sectors.{Sectors}
-use Rattle.pt_gpt.specs.Copy.{SideReads}
-use Rattle.pt_sector.specs.Reads.{FailedIn, failed_more, fault_of}
+use Rattle.pt_gpt.specs.Copies.{SideReads, IsOutsideCopy, failure_in as failure_of_copy, FailedInCopy, HasRoom}
+use Rattle.pt_sector.specs.Overlays.{FailedIn, fault_of}
+use Rattle.pt_sector.proofs.ReadsLemmas.{failed_more}
 use Rattle.pt_sector.specs.declared.disk.Fault.{Fault}
 use Rattle.pt_sector.specs.declared.address.Lba.{Lba}
 use Rattle.pt_sector.specs.declared.reading.Failure.{Failure}
 use Rattle.pt_sector.specs.declared.reading.Failure.TheVariants as failure
-use Rattle.pt_gpt.specs.Errors.{IsOutsideCopy, failure_in as failure_of_copy, FailedInCopy}
 use Rattle.pt_gpt.specs.declared.table.Side.TheVariants.{Primary, Backup}
 use Rattle.pt_gpt.specs.declared.error.CopyError.{CopyError}
 use Rattle.pt_gpt.specs.declared.error.CopyError.TheVariants as copy
-use Rattle.pt_recover.specs.Mbr.{IsMbrDisk}
-use Rattle.pt_gpt.specs.Array.{HasRoom}
-use Rattle.pt_members.specs.Slices.{places_of, place_of, IsPlace}
-use Rattle.pt_recover.specs.Denotes.{BodyIs, Reads, body, label, table}
-use Rattle.pt_recover.specs.Answers.{IsOutsideDisk, failure_in as failure_of_disk, FailedInDisk, fault_in}
+use Rattle.pt_recover.specs.Denotes.{IsMbrDisk, BodyIs, Reads, body, label, table, IsOutsideDisk, failure_in as failure_of_disk}
+use Rattle.pt_recover.specs.Denotes.{FailedInDisk, fault_in}
+use Rattle.pt_members.specs.Members.{places_of, place_of, IsPlace}
 use Rattle.pt_recover.specs.declared.error.NoTable.{NoTable}
 use Rattle.pt_recover.specs.declared.error.NoTable.TheVariants as no
 use Rattle.pt_members.specs.declared.layout.Body.{Body}
 use Rattle.pt_members.specs.declared.layout.Slice.{Slice}
 use Rattle.pt_recover.proofs.Failed.{place_at}
-use Rattle.pt_sound.specs.Findings.{VerdictReads}
+use Rattle.pt_layout.specs.Healthy.{VerdictReads}
 use Rattle.pt_recover.specs.declared.trace.TracedRun.{TracedRun}
-use Rattle.pt_layout.specs.Verdicts.{FailsAs, IsNothingOf}
+use Rattle.pt_layout.specs.inner.Surveys.{FailsAs, IsNothingOf}
 use Rattle.pt_layout.specs.declared.survey.Survey.{Survey}
 
 -- a copy's failure

@@ -4,13 +4,12 @@ use Rattle.std.proofs.lemmas.Bool.{cases_lt}
 use Rattle.std.proofs.lemmas.List.{get_or_default}
 use Rattle.std.proofs.lemmas.List.Elements.{Contains-get_or}
 use Rattle.pt_sector.specs.Sectors.{Sectors}
-use Rattle.pt_members.specs.Slices.{places_of}
+use Rattle.pt_members.specs.Members.{places_of, number_path}
 use Rattle.pt_members.specs.declared.layout.Slice.{Slice}
 use Rattle.pt_members.specs.declared.layout.Layout.{Layout}
-use Rattle.pt_members.specs.Members.{number_path}
-use Rattle.pt_sound.specs.Healthy.{IsForeign, HasForeign}
-use Rattle.pt_members.specs.Next.{NextSectorIs}
-use Rattle.pt_layout.specs.Foreign.{ForeignAmong, ForeignIs, no_slice}
+use Rattle.pt_layout.specs.Healthy.{IsForeign, HasForeign}
+use Rattle.pt_members.specs.Tables.{NextSectorIs}
+use Rattle.pt_layout.specs.inner.Surveys.{ForeignAmong, ForeignIs, no_slice}
 
 among_has : (b : ℕ) (d : Sectors) (o : Layout) (n : ℕ) → ForeignAmong d (places_of b o.sectors o.body) n → HasForeign b d o n
 among_has b d o n is = record {

@@ -3,15 +3,11 @@ use Rattle.std.proofs.Common.{◌≡◌, ◌<◌, ◌^◌, ℕ, List, length, Bo
 use Rattle.std.specs.Prelude.{◌↔◌, ◌⊎◌, IsTrue, IfOk, Result, Err}
 use Rattle.pt_sector.specs.Sectors.{Sectors}
 use Rattle.pt_sector.specs.declared.reading.Failure.{Failure}
-use Rattle.pt_gpt.specs.Copy.{HasCopy}
+use Rattle.pt_gpt.specs.Copies.{HasCopy, HasRoom}
 use Rattle.pt_gpt.specs.declared.table.Table.{Table}
 use Rattle.pt_gpt.specs.declared.table.Side.TheVariants.{Primary}
-use Rattle.pt_recover.specs.Answers.{IsReason, IsOutsideDisk, TellsNothing, IsTraceOf}
-use Rattle.pt_recover.specs.Denotes.{BodyIs, Denotes}
-use Rattle.pt_gpt.specs.Array.{HasRoom}
-use Rattle.pt_members.specs.Slices.{places_of, place_of, IsPlace}
-use Rattle.pt_recover.specs.Mbr.{IsMbrDisk}
-use Rattle.pt_recover.specs.Numbers.{Numbers, BodyNumbers}
+use Rattle.pt_recover.specs.Denotes.{IsReason, IsOutsideDisk, TellsNothing, IsTraceOf, BodyIs, Denotes, IsMbrDisk, Numbers, BodyNumbers}
+use Rattle.pt_members.specs.Members.{places_of, place_of, IsPlace}
 use Rattle.pt_recover.specs.Spans.{IsIn, Adds}
 use Rattle.pt_recover.specs.declared.error.NoTable.{NoTable}
 use Rattle.pt_members.specs.declared.layout.Layout.{Layout}
@@ -19,14 +15,14 @@ use Rattle.pt_members.specs.declared.layout.Body.{Body}
 use Rattle.pt_members.specs.declared.layout.Body.TheVariants.{Gpt}
 use Rattle.pt_members.specs.declared.layout.Slice.{Slice}
 use Rattle.pt_recover.specs.declared.trace.TracedRun.{TracedRun}
-use Rattle.pt_sound.specs.declared.finding.Finding.{Finding}
+use Rattle.pt_layout.specs.declared.sound.finding.Finding.{Finding}
 use Rattle.pt_layout.specs.declared.health.Head.{Head}
 use Rattle.pt_layout.specs.declared.health.Head.TheVariants as head
-use Rattle.pt_sound.specs.Guarded.{IsGuarded, place}
-use Rattle.pt_sound.specs.laws.Guarded.{guarded_reads, reads_guarded, guarded_places, guarded_nowhere}
+use Rattle.pt_layout.specs.Healthy.{IsGuarded, place}
+use Rattle.pt_layout.proofs.Guarded.{guarded_reads, reads_guarded, guarded_places, guarded_nowhere}
 use Rattle.pt_layout.specs.Surveys.{HeadOf, FindingIs, IsSurvey}
 use Rattle.pt_layout.specs.declared.survey.Survey.{Survey}
-use Rattle.pt_layout.specs.Verdicts.{LayoutOf, ArePlaces, IsBodyTrace, IsNothingOf, nothing_of}
+use Rattle.pt_layout.specs.inner.Surveys.{LayoutOf, ArePlaces, IsBodyTrace, IsNothingOf, nothing_of}
 use Rattle.pt_layout.proofs.Failing.{reason_inside}
 use Rattle.pt_layout.proofs.Traced.{body_trace}
 use Rattle.pt_layout.proofs.Verdicts.{gpt_denotes}

@@ -1,19 +1,16 @@
 -- What a survey's trace has.
 use Rattle.std.proofs.Common.{◌≡◌, ◌<◌, ℕ, List, [], length, refl, arith, inl, inr, None}
 use Rattle.pt_sector.specs.Sectors.{Sectors}
-use Rattle.pt_recover.specs.Answers.{IsTraceOf}
+use Rattle.pt_recover.specs.Denotes.{IsTraceOf, BodyIs, BodyReads, Denotes, Reads, TableReads, IsMbrDisk}
 use Rattle.pt_recover.specs.Denotes as denotes
-use Rattle.pt_recover.specs.Denotes.{BodyIs, BodyReads, Denotes, Reads}
-use Rattle.pt_gpt.specs.Array.{HasRoom}
-use Rattle.pt_recover.specs.Gpt.{TableReads}
-use Rattle.pt_members.specs.Slices.{places_of, IsPlace}
-use Rattle.pt_recover.specs.Mbr.{IsMbrDisk}
+use Rattle.pt_gpt.specs.Copies.{HasRoom}
+use Rattle.pt_members.specs.Members.{places_of, IsPlace}
 use Rattle.pt_recover.specs.Spans.{IsIn, Adds}
 use Rattle.pt_members.specs.declared.layout.Body.{Body}
 use Rattle.pt_recover.specs.declared.trace.TracedRun.{TracedRun}
 use Rattle.pt_recover.proofs.Traces.{in_none}
 use Rattle.pt_recover.proofs.Whole.{all_read, trace_is}
-use Rattle.pt_layout.specs.Verdicts.{IsBodyTrace}
+use Rattle.pt_layout.specs.inner.Surveys.{IsBodyTrace}
 
 from_nothing : (b : ℕ) (d : Sectors) (runs : List TracedRun) → IsBodyTrace b d runs → Adds [] runs (BodyReads b d)
 from_nothing b d runs are s =

@@ -1,38 +1,31 @@
 -- The first finding of a disk, step by step.
 use Rattle.std.proofs.Common.{◌≡◌, ◌≢◌, ◌<◌, ℕ, length, Option, Some, None, refl, sym, subst, arith, inl, inr}
 use Rattle.pt_sector.specs.Sectors.{Sectors, sector}
-use Rattle.pt_gpt.specs.Copy.{CopyWith, IsCopyFault}
-use Rattle.pt_gpt.specs.laws.Terms.{no_copy_lem}
+use Rattle.pt_gpt.specs.Copies.{CopyWith, IsCopyFault, HasRoom}
+use Rattle.pt_gpt.proofs.Terms.{no_copy_lem}
 use Rattle.pt_gpt.specs.declared.error.CopyError.{CopyError}
 use Rattle.pt_gpt.specs.declared.table.Side.TheVariants.{Primary, Backup}
 use Rattle.pt_gpt.specs.declared.table.Table.{Table}
-use Rattle.pt_recover.specs.Mbr.{IsMbrDisk, IsMbr}
+use Rattle.pt_recover.specs.Denotes.{IsMbrDisk, IsMbr, LabelsAre, TableIs, BodyIs, Denotes, IsReason, RecordsAre}
 use Rattle.pt_mbr.specs.declared.mbr.Mbr.{Mbr as Records}
-use Rattle.pt_mbr.specs.Protective.{IsProtective}
+use Rattle.pt_mbr.specs.Records.{IsProtective}
 use Rattle.pt_gpt.specs.declared.header.Header.{Header}
-use Rattle.pt_members.specs.Slices.{places_of}
-use Rattle.pt_recover.specs.Labels.{LabelsAre}
-use Rattle.pt_gpt.specs.Array.{HasRoom}
-use Rattle.pt_recover.specs.Gpt.{TableIs}
-use Rattle.pt_recover.specs.Denotes.{BodyIs, Denotes}
-use Rattle.pt_recover.specs.Answers.{IsReason, RecordsAre}
+use Rattle.pt_members.specs.Members.{places_of}
 use Rattle.pt_recover.specs.declared.error.NoTable.TheVariants as no
 use Rattle.pt_members.specs.declared.layout.Layout.{Layout}
 use Rattle.pt_members.specs.declared.layout.Body.{Body}
 use Rattle.pt_members.specs.declared.layout.Body.TheVariants.{Mbr, Gpt}
 use Rattle.pt_path.specs.declared.path.Path.{Path}
-use Rattle.pt_sound.specs.declared.finding.Finding.{Finding}
-use Rattle.pt_sound.specs.declared.finding.Finding.TheVariants.{NoTable, PrimaryCopy, BackupCopy, CopiesDiffer, Alternate, Protective}
-use Rattle.pt_sound.specs.declared.finding.Finding.TheVariants.{OutsideUsable, Overlap, OnTable, SameGuid, ForeignLabel}
-use Rattle.pt_sound.specs.Sound.{Sound, UnsoundIs}
-use Rattle.pt_sound.specs.Healthy.{IsBodyWhole, IsHealthy, HasCopies}
-use Rattle.pt_layout.specs.Foreign.{ForeignIs}
-use Rattle.pt_sound.specs.Findings.{IsFinding, IsBodyBroken, IsBroken}
+use Rattle.pt_layout.specs.declared.sound.finding.Finding.{Finding}
+use Rattle.pt_layout.specs.declared.sound.finding.Finding.TheVariants.{NoTable, PrimaryCopy, BackupCopy, CopiesDiffer, Alternate}
+use Rattle.pt_layout.specs.declared.sound.finding.Finding.TheVariants.{Protective, OutsideUsable, Overlap, OnTable, SameGuid}
+use Rattle.pt_layout.specs.declared.sound.finding.Finding.TheVariants.{ForeignLabel}
+use Rattle.pt_layout.specs.Sound.{Sound, UnsoundIs}
+use Rattle.pt_layout.specs.Healthy.{IsBodyWhole, IsHealthy, HasCopies, IsFinding, IsBodyBroken, IsBroken}
+use Rattle.pt_layout.specs.inner.Surveys.{ForeignIs, HalfIs, HeadIs, BrokenIs, LayoutOf, PairIs}
 use Rattle.pt_layout.specs.Surveys.{HeadOf}
-use Rattle.pt_layout.specs.Halves.{HalfIs}
 use Rattle.pt_layout.specs.declared.health.Head.{Head}
 use Rattle.pt_layout.specs.declared.health.Head.TheVariants as head
-use Rattle.pt_layout.specs.Verdicts.{HeadIs, BrokenIs, LayoutOf, PairIs}
 use Rattle.pt_layout.specs.declared.halves.Half.{Half}
 
 pub unsound_finding : (b : ℕ) (d : Sectors) (o : Layout) (f : Finding) → Denotes b d (Some o) → IsBodyWhole b d o.body

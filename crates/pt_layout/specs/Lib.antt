@@ -1,5 +1,5 @@
-pub mod Halves
-pub mod Foreign
-pub mod Verdicts
-pub mod Chosen
+pub mod Healthy
+pub mod Sentences
+pub mod Sound
 pub mod Surveys
+pub mod inner

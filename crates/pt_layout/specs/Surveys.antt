@@ -1,21 +1,15 @@
--- What one reading of a disk tells.
+-- What a survey of a disk says.
 use Rattle.std.specs.Prelude.{◌<◌, ◌↔◌, ℕ, length, Option, Some, None, Result, Ok, Err, IsTrue, IfOk}
 use Rattle.pt_sector.specs.Sectors.{Sectors, sector}
-use Rattle.pt_mbr.specs.Protective.{IsProtective}
-use Rattle.pt_gpt.specs.Copy.{HasCopy}
+use Rattle.pt_mbr.specs.Records.{IsProtective}
+use Rattle.pt_gpt.specs.Copies.{HasCopy, HasRoom}
 use Rattle.pt_gpt.specs.declared.table.Side.TheVariants.{Primary}
-use Rattle.pt_recover.specs.Answers.{IsReason, IsTraceOf}
-use Rattle.pt_recover.specs.Denotes.{Denotes}
-use Rattle.pt_gpt.specs.Array.{HasRoom}
-use Rattle.pt_recover.specs.Mbr.{IsMbrDisk}
-use Rattle.pt_recover.specs.Numbers.{Numbers}
+use Rattle.pt_recover.specs.Denotes.{IsReason, IsTraceOf, Denotes, IsMbrDisk, Numbers}
 use Rattle.pt_recover.specs.Spans.{IsIn}
 use Rattle.pt_recover.specs.declared.error.NoTable.{NoTable}
 use Rattle.pt_members.specs.declared.layout.Layout.{Layout}
-use Rattle.pt_sound.specs.Findings.{IsFinding}
-use Rattle.pt_sound.specs.Guarded.{IsGuarded}
-use Rattle.pt_sound.specs.Healthy.{IsHealthy}
-use Rattle.pt_sound.specs.declared.finding.Finding.{Finding}
+use Rattle.pt_layout.specs.Healthy.{IsFinding, IsGuarded, IsHealthy}
+use Rattle.pt_layout.specs.declared.sound.finding.Finding.{Finding}
 use Rattle.pt_layout.specs.declared.health.Head.{Head}
 use Rattle.pt_layout.specs.declared.health.Head.TheVariants as head
 use Rattle.pt_layout.specs.declared.survey.Survey.{Survey}

@@ -1,12 +1,12 @@
 //! Label places that bear the magic of a label and hold none.
 
 ghost use Rattle.std.specs.Prelude.{◌≡◌, ◌<◌, ◌↔◌, IsTrue, IfOk, IfErr, OnOk, All};
-ghost use Rattle.pt_sector.specs.Calls.{Blames};
-ghost use Rattle.pt_sector.specs.Reads.{OnlyReads, FailedIn, fault_of, read_of};
+ghost use Rattle.pt_sector.specs.Device.{Blames};
+ghost use Rattle.pt_sector.specs.Overlays.{OnlyReads, FailedIn, fault_of, read_of};
 ghost use Rattle.pt_sector.specs.Sectors.{IsSectorSize};
-ghost use Rattle.pt_members.specs.Slices.{place_of, places_of, IsPlace};
-ghost use Rattle.pt_members.specs.Next.{NextSectorIs};
-ghost use Rattle.pt_layout.specs.Foreign.{ForeignBytes, ForeignOf, ForeignAmong, ForeignIs};
+ghost use Rattle.pt_members.specs.Members.{place_of, places_of, IsPlace};
+ghost use Rattle.pt_members.specs.Tables.{NextSectorIs};
+ghost use Rattle.pt_layout.specs.inner.Surveys.{ForeignBytes, ForeignOf, ForeignAmong, ForeignIs};
 
 use pt_bsd::{bears_magic, decode_label};
 use pt_members::{Layout, Slice, label_places, least};

@@ -1,17 +1,14 @@
 //! The two copies of a GPT, with their headers.
 
 ghost use Rattle.std.specs.Prelude.{◌≡◌, ◌⊎◌, IfOk, IfErr, OnOk, Ok, Err, true, false};
-ghost use Rattle.pt_sector.specs.Calls.{Blames};
-ghost use Rattle.pt_sector.specs.Reads.{OnlyReads, FailedIn, fault_of};
+ghost use Rattle.pt_sector.specs.Device.{Blames};
+ghost use Rattle.pt_sector.specs.Overlays.{OnlyReads, FailedIn, fault_of};
 ghost use Rattle.pt_sector.specs.Sectors.{IsSectorSize};
-ghost use Rattle.pt_gpt.specs.Errors.{IsOutsideCopy, fault_in as fault_in_copy, FailedInCopy};
-ghost use Rattle.pt_gpt.specs.Answers.{TellsFault};
-ghost use Rattle.pt_gpt.specs.Copy.{SideReads};
+ghost use Rattle.pt_gpt.specs.Copies.{IsOutsideCopy, fault_in as fault_in_copy, FailedInCopy, TellsFault, SideReads, HasRoom};
 ghost use Rattle.pt_gpt.specs.declared.table.Side.TheVariants.{Primary, Backup};
-ghost use Rattle.pt_gpt.specs.Array.{HasRoom};
-ghost use Rattle.pt_recover.specs.Gpt.{TableReads};
+ghost use Rattle.pt_recover.specs.Denotes.{TableReads};
 ghost use Rattle.pt_recover.specs.Spans.{Adds};
-ghost use Rattle.pt_layout.specs.Halves.{HalfIs, HalfOrFault, HalvesAre, paired_as};
+ghost use Rattle.pt_layout.specs.inner.Surveys.{HalfIs, HalfOrFault, HalvesAre, paired_as};
 
 use pt_gpt::{CopyError, Header, Side, Table};
 use pt_recover::{Trace, traced_copy};

@@ -1,19 +1,19 @@
 //! Whether a disk is healthy.
 
 ghost use Rattle.std.specs.Prelude.{◌≡◌, ◌<◌, ℕ, IfOk, IfErr};
-ghost use Rattle.pt_sector.specs.Calls.{Blames};
-ghost use Rattle.pt_sector.specs.Reads.{OnlyReads, FailedIn, fault_of, read_of};
+ghost use Rattle.pt_sector.specs.Device.{Blames};
+ghost use Rattle.pt_sector.specs.Overlays.{OnlyReads, FailedIn, fault_of, read_of};
 ghost use Rattle.pt_sector.specs.Sectors.{IsSectorSize, Sectors, sector};
-ghost use Rattle.pt_recover.specs.Answers.{RecordsAre};
-ghost use Rattle.pt_layout.specs.Verdicts.{HeadIs};
-ghost use Rattle.pt_sound.specs.Findings.{VerdictIs, VerdictReads};
+ghost use Rattle.pt_recover.specs.Denotes.{RecordsAre};
+ghost use Rattle.pt_layout.specs.inner.Surveys.{HeadIs};
+ghost use Rattle.pt_layout.specs.Healthy.{VerdictIs, VerdictReads};
 ghost use Rattle.pt_layout.specs.Surveys.{IsSurvey};
 
+use crate::sound::{Finding, Verdict};
 use crate::survey::{Survey, survey_disk};
 use pt_mbr::{Mbr, is_protective};
 use pt_recover::records_of;
 use pt_sector::{Disk, FailedRead, Failure, Lba, Sector, read_sector};
-use pt_sound::{Finding, Verdict};
 use std::alloc::Global;
 
 /// What sector 0 says of a disk.

@@ -4,8 +4,10 @@
 mod foreign;
 mod halves;
 mod health;
+pub mod sound;
 mod survey;
 
+pub use crate::sound::{Finding, Verdict, unsound};
 pub use health::{Head, verify};
 pub use pt_members::{
     Body, Ebrs, Kind, Labelled, Labels, Layout, Member, Owner, Row, Slice, Source, entry_slot,
@@ -15,5 +17,4 @@ pub use pt_members::{
 pub use pt_path::{Path, parse_number, parse_path};
 pub use pt_recover::{NoTable, Trace, recover, recover_traced};
 pub use pt_sector::Failure as VerifyError;
-pub use pt_sound::{Finding, Verdict, unsound};
 pub use survey::{Survey, survey_disk};

@@ -1,37 +1,30 @@
 //! What one reading of a disk tells.
 
 ghost use Rattle.std.specs.Prelude.{◌≡◌, ◌<◌, ◌≤◌, ◌^◌, ◌↔◌, ℕ, IfOk, IfErr, OnOk, IsTrue, All, Some, Ok, Err, false};
-ghost use Rattle.pt_sector.specs.Calls.{Blames};
-ghost use Rattle.pt_sector.specs.Reads.{OnlyReads, FailedIn, fault_of};
+ghost use Rattle.pt_sector.specs.Device.{Blames};
+ghost use Rattle.pt_sector.specs.Overlays.{OnlyReads, FailedIn, fault_of};
 ghost use Rattle.pt_sector.specs.Sectors.{IsSectorSize};
-ghost use Rattle.pt_gpt.specs.Copy.{HasCopy};
+ghost use Rattle.pt_gpt.specs.Copies.{HasCopy, HasRoom};
 ghost use Rattle.pt_gpt.specs.declared.table.Side.TheVariants.{Primary, Backup};
-ghost use Rattle.pt_recover.specs.Denotes.{BodyIs, Denotes, Reads};
-ghost use Rattle.pt_gpt.specs.Array.{HasRoom};
-ghost use Rattle.pt_members.specs.Slices.{places_of, place_of, IsPlace};
-ghost use Rattle.pt_recover.specs.Labels.{LabelsAre};
-ghost use Rattle.pt_recover.specs.Mbr.{IsMbr, IsMbrDisk};
-ghost use Rattle.pt_recover.specs.Numbers.{Numbers};
+ghost use Rattle.pt_recover.specs.Denotes.{BodyIs, Denotes, Reads, LabelsAre, IsMbr, IsMbrDisk, Numbers, IsTraceOf};
+ghost use Rattle.pt_members.specs.Members.{places_of, place_of, IsPlace};
 ghost use Rattle.pt_recover.specs.Spans.{Adds};
 ghost use Rattle.pt_members.specs.declared.layout.Body.TheVariants.{Gpt};
-ghost use Rattle.pt_layout.specs.Halves.{HalfIs, HalvesAre};
-ghost use Rattle.pt_layout.specs.Verdicts.{LayoutOf, PairIs, BrokenIs, ArePlaces, IsBodyTrace, FailsAs, IsNothingOf, nothing_of};
-ghost use Rattle.pt_layout.specs.Chosen.{ChosenIs, TableStands, chosen_of};
-ghost use Rattle.pt_recover.specs.Answers.{IsTraceOf};
-ghost use Rattle.pt_sound.specs.Healthy.{IsBodyWhole};
-ghost use Rattle.pt_sound.specs.Findings.{VerdictReads};
+ghost use Rattle.pt_layout.specs.inner.Surveys.{HalfIs, HalvesAre, LayoutOf, PairIs, BrokenIs, ArePlaces, IsBodyTrace, FailsAs};
+ghost use Rattle.pt_layout.specs.inner.Surveys.{IsNothingOf, nothing_of, ChosenIs, TableStands, chosen_of};
+ghost use Rattle.pt_layout.specs.Healthy.{IsBodyWhole, VerdictReads};
 ghost use Rattle.pt_layout.specs.Surveys.{HeadOf, FindingIs, IsSurvey};
 
 use crate::foreign::first_foreign;
 use crate::halves::{Half, Halves, read_halves};
 use crate::health::{Head, read_first};
+use crate::sound::{Finding, unsound};
 use pt_gpt::{Side, Table, has_room};
 use pt_mbr::Mbr;
 use pt_members::{Body, Labels, Layout, Slice, label_places};
 use pt_path::Path;
 use pt_recover::{NoTable, Trace, recover_known, traced_labels};
 use pt_sector::{Disk, Failure};
-use pt_sound::{Finding, unsound};
 use std::alloc::{AllocError, Global};
 
 /// What one reading of a disk tells.

@@ -9,8 +9,9 @@ use Rattle.clap.specs.Simple.{App, Shape, built, entered, names_of}
 use Rattle.clap.specs.Walk.{Names, Rule, Text, Walk, finished, nothing_held, settled, texts, walk, walk_from, walked}
 use Rattle.clap.specs.Words.{fault_of, is_simple, is_simple_and_free, subcommand_of}
 use Rattle.clap.specs.declared.builder.command.Command.{Command}
-use Rattle.pt_line.specs.CommandLine.{alone, name_of, ptab}
-use Rattle.pt_line.specs.Lines.{Begins, IsCommand, ReadsAs}
+use Rattle.pt_line.specs.inner.CommandLine.{alone, name_of}
+use Rattle.pt_line.specs.CommandLine.{ptab}
+use Rattle.pt_line.specs.inner.Lines.{Begins, IsCommand, ReadsAs}
 use Rattle.pt_line.specs.declared.pages.Subcommand.{Subcommand}
 use Rattle.pt_line.specs.declared.pages.Subcommand.TheVariants.{Show, Verify, Locate, Edit, Plan, Check, Apply, Repair, Adopt}
 

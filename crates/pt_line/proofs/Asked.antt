@@ -21,9 +21,8 @@ use Rattle.clap.specs.declared.error.kind.ErrorKind.TheVariants.{DisplayHelp, Di
 use Rattle.clap.proofs.WalkLemmas.{list_any-map}
 use Rattle.pt_line.specs.CommandLine.{device, image_rules, in_use, no_lock, other_device, other_rules, place_rules, plan_only, plan_rules}
 use Rattle.pt_line.specs.CommandLine.{ptab, sector_size, show_rules, word_rules, writing}
-use Rattle.pt_line.specs.Lines.{IsJob, IsJobOrEmpty, IsLineOf, IsLineOrEmpty, IsSize, IsSizeOrLess, IsUnknown, IsUsage, HasNoJob}
-use Rattle.pt_line.specs.Lines.{MeansAt, MeansJob}
-use Rattle.pt_line.specs.Lines.{ReadsAs, Tells}
+use Rattle.pt_line.specs.Lines.{IsJob, IsLineOf, IsSize, IsUsage, MeansAt}
+use Rattle.pt_line.specs.inner.Lines.{IsJobOrEmpty, IsLineOrEmpty, IsSizeOrLess, IsUnknown, HasNoJob, MeansJob, ReadsAs, Tells}
 use Rattle.pt_line.specs.declared.line.Job.{Job}
 use Rattle.pt_line.specs.declared.line.Job.TheVariants as job
 use Rattle.pt_line.specs.declared.line.Line.{Line}

@@ -1,6 +1,6 @@
-pub mod Values
-pub mod Rows
-pub mod Walks
-pub mod Taken
 pub mod Alone
 pub mod Asked
+pub mod Rows
+pub mod Taken
+pub mod Values
+pub mod Walks

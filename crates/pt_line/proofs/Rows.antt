@@ -8,9 +8,9 @@ use Rattle.std.proofs.lemmas.Slice.Eq.{bytes_eq-Decides}
 use Rattle.clap.specs.Facts.{parser_of_value, unwrap_or_range}
 use Rattle.clap.specs.Kinds.{Kinds, or_else, range_kinds, value_kinds}
 use Rattle.clap.specs.Values.{refused_kind}
-use Rattle.clap.specs.Walk.{Held, Row, Rule, Text, action_of, arg_by_id, at_row, default_rows, finished, has_row, more_values, most_values}
-use Rattle.clap.specs.Walk.{reacted, reading_by, settled, settled_rows, used, used_as, used_by_id, values_or_missing, with_default}
-use Rattle.clap.specs.Walk.{with_values, without}
+use Rattle.clap.specs.Walk.{Held, Row, Rule, Text, action_of, arg_by_id, at_row, default_rows, finished, has_row, more_values}
+use Rattle.clap.specs.Walk.{most_values, reacted, reading_by, settled, settled_rows, used, used_as, used_by_id, values_or_missing}
+use Rattle.clap.specs.Walk.{with_default, with_values, without}
 use Rattle.clap.specs.Takes.{value_passes}
 use Rattle.clap.specs.Faults.{action_fault, react_fault, repeat_fault, settle_fault, use_fault, values_fault}
 use Rattle.clap.specs.declared.builder.action.ArgAction.{ArgAction}

@@ -1,6 +1,6 @@
 -- What words without fault leave: the subcommand that they enter, and values of its arguments.
-use Rattle.std.proofs.Common.{◌≡◌, ◌∙◌, ◌&&◌, ◌||◌, ◌⊎◌, inl, inr, Bool, cond, true, false, not, ◌<◌, arith, length, refl, sym, subst, List}
-use Rattle.std.proofs.Common.{[], ◌∷◌, Option, Some, None, true≢false, codes, slice_get, is_some}
+use Rattle.std.proofs.Common.{◌≡◌, ◌∙◌, ◌&&◌, ◌||◌, ◌⊎◌, inl, inr, Bool, cond, true, false, not, ◌<◌, arith, length, refl, sym, subst}
+use Rattle.std.proofs.Common.{List, [], ◌∷◌, Option, Some, None, true≢false, codes, slice_get, is_some}
 use Rattle.std.specs.Prelude.{IfSome, IsSome, find, option_map, option_and_then}
 use Rattle.std.specs.Option.{option_map_or}
 use Rattle.std.specs.List.{list_any}
@@ -10,8 +10,8 @@ use Rattle.clap.specs.Facts.{explicit_source}
 use Rattle.clap.specs.Kinds.{Kinds, check_kinds}
 use Rattle.clap.specs.Simple.{App, Shape, entered, label_of, names_of, rows_at}
 use Rattle.clap.specs.Takes.{is_given}
-use Rattle.clap.specs.Walk.{Names, Row, Rule, Text, all_of, answers_to, finished, first_of, nothing_held, rows_after, settled}
-use Rattle.clap.specs.Walk.{walk, walk_from}
+use Rattle.clap.specs.Walk.{Names, Row, Rule, Text, all_of, answers_to, finished, first_of, nothing_held, rows_after, settled, walk}
+use Rattle.clap.specs.Walk.{walk_from}
 use Rattle.clap.specs.Faults.{built_fault, check_fault, defaults_fault, entered_fault, level_fault, settle_fault, walk_fault}
 use Rattle.pt_line.proofs.Rows.{Each, IsFull, IsSound, finished_full, neither}
 use Rattle.pt_line.proofs.Walks.{GoesWell, StopsWell, goes_well}

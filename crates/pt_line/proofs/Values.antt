@@ -6,7 +6,7 @@ use Rattle.std.specs.Borrow.{Bor}
 use Rattle.clap.specs.Walk.{Row, Text, all_of, first_of, rows_of, texts}
 use Rattle.clap.specs.Matches.{first_value, matched_of, raw_values}
 use Rattle.clap.specs.declared.parser.matches.Found.{Found}
-use Rattle.pt_line.specs.Lines.{IsSizeNamed, IsSizeOrLess}
+use Rattle.pt_line.specs.inner.Lines.{IsSizeNamed, IsSizeOrLess}
 use Rattle.pt_line.specs.declared.line.SectorSize.{SectorSize}
 use Rattle.pt_line.specs.declared.line.SectorSize.TheVariants.{Bytes512, Bytes4096}
 use Rattle.clap.proofs.WalkLemmas.{first_value-rows, raw_values-rows}

@@ -1,6 +1,6 @@
 -- What a walk over words leaves, where no step of it fails: each entry has values that may be, and no call for help was met.
-use Rattle.std.proofs.Common.{◌≡◌, ◌&&◌, Bool, cond, true, false, not, ℕ, zero, suc, refl, List, [], ◌∷◌, length, drop, Option, Some, None}
-use Rattle.std.proofs.Common.{codes}
+use Rattle.std.proofs.Common.{◌≡◌, ◌&&◌, Bool, cond, true, false, not, ℕ, zero, suc, refl, List, [], ◌∷◌, length, drop, Option, Some}
+use Rattle.std.proofs.Common.{None, codes}
 use Rattle.std.specs.Prelude.{IfSome, fold, is_some, slice_get, encode_utf8}
 use Rattle.std.specs.Option.{option_map_or}
 use Rattle.std.specs.Str.{bytes_eq, chars}
@@ -8,11 +8,11 @@ use Rattle.clap.specs.Lexer.{long_of, short_of}
 use Rattle.clap.specs.Kinds.{Kinds, or_else}
 use Rattle.clap.specs.Simple.{Shape}
 use Rattle.clap.specs.Walk.{Held, Names, Outcome, Rule, Step, Text, Waiting, Walk, after_flag, after_step, arg_by_id, arg_by_index}
-use Rattle.clap.specs.Walk.{arg_by_long, arg_by_short, attached_value, bundle, bundle_met, bundle_step, done, flag_met, has_long, has_short}
-use Rattle.clap.specs.Walk.{idle, is_pending, long_met, long_or_other, next, option, option_met, option_word, pushed, plain, plain_word}
-use Rattle.clap.specs.Walk.{positional, positional_held, reacted, refused, settled, short_met, short_or_plain, subcommand, subcommand_met}
-use Rattle.clap.specs.Walk.{subcommand_or_other, takes_several, takes_values, to_positional, trailing, value, waits, walked, walked_from}
-use Rattle.clap.specs.Walk.{word_met}
+use Rattle.clap.specs.Walk.{arg_by_long, arg_by_short, attached_value, bundle, bundle_met, bundle_step, done, flag_met, has_long}
+use Rattle.clap.specs.Walk.{has_short, idle, is_pending, long_met, long_or_other, next, option, option_met, option_word, pushed, plain}
+use Rattle.clap.specs.Walk.{plain_word, positional, positional_held, reacted, refused, settled, short_met, short_or_plain, subcommand}
+use Rattle.clap.specs.Walk.{subcommand_met, subcommand_or_other, takes_several, takes_values, to_positional, trailing, value, waits}
+use Rattle.clap.specs.Walk.{walked, walked_from, word_met}
 use Rattle.clap.specs.Faults.{bundle_fault, bundle_step_fault, flag_word_fault, flags_fault, long_fault, option_fault, other_fault}
 use Rattle.clap.specs.Faults.{positional_fault, react_fault, settle_fault, short_fault, step_fault, stray_fault, turn_fault, walk_fault}
 use Rattle.clap.specs.Faults.{word_fault}

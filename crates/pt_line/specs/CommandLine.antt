@@ -6,8 +6,6 @@ use Rattle.clap.specs.Words.{App, Rule, Shape, Text, new_rule}
 use Rattle.clap.specs.Simple.{new_shape}
 use Rattle.clap.specs.declared.builder.action.ArgAction.TheVariants.{Set, Append, SetTrue}
 use Rattle.clap.specs.declared.builder.value_parser.ValueParser.TheVariants.{Names}
-use Rattle.pt_line.specs.declared.pages.Subcommand.{Subcommand}
-use Rattle.pt_line.specs.declared.pages.Subcommand.TheVariants.{Show, Verify, Locate, Edit, Plan, Check, Apply, Repair, Adopt}
 
 -- an argument that is required, and has one value
 abbrev pub needed : Text → Rule
@@ -95,42 +93,9 @@ writing rules = rules ++ in_use ∷ no_lock ∷ []
 abbrev pub subcommand : Text → List Rule → Shape
 subcommand name rules = record (new_shape name) { rules = rules }
 
-abbrev pub name_of : Subcommand → Text
-name_of Show = codes "show"
-name_of Verify = codes "verify"
-name_of Locate = codes "locate"
-name_of Edit = codes "edit"
-name_of Plan = codes "plan"
-name_of Check = codes "check"
-name_of Apply = codes "apply"
-name_of Repair = codes "repair"
-name_of Adopt = codes "adopt"
-
-abbrev pub rules_of : Bor (List (Bor Text)) → Subcommand → List Rule
-rules_of sizes Show = show_rules sizes
-rules_of sizes Verify = image_rules sizes
-rules_of sizes Locate = place_rules sizes
-rules_of sizes Edit = writing (word_rules sizes)
-rules_of sizes Plan = word_rules sizes
-rules_of sizes Check = plan_rules sizes
-rules_of sizes Apply = writing (plan_rules sizes)
-rules_of sizes Repair = writing (image_rules sizes)
-rules_of sizes Adopt = writing (other_rules sizes)
-
--- a subcommand as a command of its own
-abbrev pub page : Text → List Rule → App
-page name rules = record { top = subcommand name rules; subs = [] }
-
-abbrev pub page_of : Bor (List (Bor Text)) → Subcommand → App
-page_of sizes s = page (name_of s) (rules_of sizes s)
-
 -- the command but for its subcommands, of which one is required
 abbrev pub top : App
 top = record { top = record (new_shape (codes "ptab")) { has_version = true; subcommand_required = true }; subs = [] }
-
--- the command with one of its subcommands
-abbrev pub alone : Bor (List (Bor Text)) → Subcommand → App
-alone sizes s = record { top = record top.top { is_leaf = false }; subs = (page_of sizes s).top ∷ [] }
 
 -- the command, where these are the texts of the sector's sizes
 abbrev pub ptab : Bor (List (Bor Text)) → App

@@ -3,9 +3,8 @@
 ghost use Rattle.std.specs.Prelude.{◌≡◌, ◌↔◌, Some, IfOk, IsTrue, codes, map, string_bytes};
 ghost use Rattle.clap.specs.Walk.{texts as slice_texts};
 ghost use Rattle.clap.specs.Words.{found_of, rows_of, subcommand_rows_of};
-ghost use Rattle.pt_line.specs.Lines.{GivesIf, HasNoJob, IfJob, IsAdoption, IsGiven, IsInUse, IsLockedBy, IsMedium, IsSizeNamed};
-ghost use Rattle.pt_line.specs.Lines.{IsSizeOrLess, IsUnknown, MeansJob};
-ghost use Rattle.pt_line.specs.Lines.{text_in, texts_in};
+ghost use Rattle.pt_line.specs.inner.Lines.{GivesIf, HasNoJob, IfJob, IsSizeNamed, IsSizeOrLess, IsUnknown, MeansJob, text_in, texts_in};
+ghost use Rattle.pt_line.specs.Lines.{IsAdoption, IsGiven, IsInUse, IsLockedBy, IsMedium};
 
 use crate::line::{Adoption, InUse, Job, Line, LineError, LockedBy, Medium, SectorSize};
 use clap::ArgMatches;

@@ -4,7 +4,8 @@ ghost use Rattle.std.specs.Prelude.{◌≡◌, ◌∷◌, IfOk, MatchResult, cod
 ghost use Rattle.clap.specs.Walk.{texts as slice_texts};
 ghost use Rattle.clap.specs.Words.{kind_of, subcommand_rows_of};
 ghost use Rattle.pt_line.specs.declared.line.LineError.TheVariants.{Memory};
-ghost use Rattle.pt_line.specs.Lines.{HasNoJob, Means, MeansJob, Tells, line_sentence};
+ghost use Rattle.pt_line.specs.inner.Lines.{HasNoJob, MeansJob, Tells};
+ghost use Rattle.pt_line.specs.Lines.{Means, line_sentence};
 
 use crate::jobs::line_of;
 use crate::pages::{SIZES, command};

@@ -5,7 +5,8 @@ ghost use Rattle.clap.specs.Walk.{texts as slice_texts};
 ghost use Rattle.clap.specs.Words.{new_app, new_rule};
 ghost use Rattle.clap.specs.declared.builder.action.ArgAction.TheVariants.{Set, SetTrue};
 ghost use Rattle.pt_line.specs.CommandLine as spec;
-ghost use Rattle.pt_line.specs.Lines.{AddsPage, AddsRules, Begins, IsArg, IsCommand, ReadsAs, TakesArg};
+ghost use Rattle.pt_line.specs.inner.CommandLine as spec_inner;
+ghost use Rattle.pt_line.specs.inner.Lines.{AddsPage, AddsRules, Begins, IsArg, IsCommand, ReadsAs, TakesArg};
 
 use crate::help::{
     ADOPT, APPLY, CHECK, EDIT, LOCATE, PLAN, PTAB, REPAIR, SHOW, Texts, VERIFY, VERSION,
@@ -32,7 +33,7 @@ pub(crate) enum Subcommand {
 
 /// The subcommand with this name.
 fn subcommand_named(name: &str) -> Option<Subcommand>
-    ensures { IfSome result (λ subcommand. name.now ≡ spec.name_of subcommand) }
+    ensures { IfSome result (λ subcommand. name.now ≡ spec_inner.name_of subcommand) }
 {
     match name {
         "show" => Some(Subcommand::Show),
@@ -232,7 +233,7 @@ fn on_disk<'a>(
 
 /// A page on an image, with no other argument yet.
 fn image_page<'a>(alloc: Global, name: &'a str, texts: Texts) -> Result<Command<'a>, AllocError>
-    ensures { IfOk result (IsCommand (spec.page name.entry.now (spec.needed (codes "IMAGE") ∷ []))) }
+    ensures { IfOk result (IsCommand (spec_inner.page name.entry.now (spec.needed (codes "IMAGE") ∷ []))) }
 {
     page(alloc, name, texts).arg(image(alloc))
 }
@@ -243,7 +244,7 @@ fn on_image<'a>(
     name: &'a str,
     texts: Texts,
 ) -> Result<Command<'a>, AllocError>
-    ensures { IfOk result (IsCommand (spec.page name.entry.now (spec.image_rules sizes.entry))) }
+    ensures { IfOk result (IsCommand (spec_inner.page name.entry.now (spec.image_rules sizes.entry))) }
 {
     on_disk(alloc, sizes, image_page(alloc, name, texts))
 }
@@ -254,7 +255,7 @@ fn on_show<'a>(
     name: &'a str,
     texts: Texts,
 ) -> Result<Command<'a>, AllocError>
-    ensures { IfOk result (IsCommand (spec.page name.entry.now (spec.show_rules sizes.entry))) }
+    ensures { IfOk result (IsCommand (spec_inner.page name.entry.now (spec.show_rules sizes.entry))) }
 {
     let page = image_page(alloc, name, texts);
     let page = with_arg(page, after(alloc));
@@ -267,7 +268,7 @@ fn on_place<'a>(
     name: &'a str,
     texts: Texts,
 ) -> Result<Command<'a>, AllocError>
-    ensures { IfOk result (IsCommand (spec.page name.entry.now (spec.place_rules sizes.entry))) }
+    ensures { IfOk result (IsCommand (spec_inner.page name.entry.now (spec.place_rules sizes.entry))) }
 {
     let page = image_page(alloc, name, texts);
     let page = with_arg(page, needed(alloc, "PATH", "A partition, as 3, 5 or 2.a"));
@@ -284,7 +285,7 @@ fn on_words<'a>(
     name: &'a str,
     texts: Texts,
 ) -> Result<Command<'a>, AllocError>
-    ensures { IfOk result (IsCommand (spec.page name.entry.now (spec.word_rules sizes.entry))) }
+    ensures { IfOk result (IsCommand (spec_inner.page name.entry.now (spec.word_rules sizes.entry))) }
 {
     let page = image_page(alloc, name, texts);
     let page = with_arg(page, fresh(alloc));
@@ -298,7 +299,7 @@ fn on_plan<'a>(
     name: &'a str,
     texts: Texts,
 ) -> Result<Command<'a>, AllocError>
-    ensures { IfOk result (IsCommand (spec.page name.entry.now (spec.plan_rules sizes.entry))) }
+    ensures { IfOk result (IsCommand (spec_inner.page name.entry.now (spec.plan_rules sizes.entry))) }
 {
     let page = image_page(alloc, name, texts);
     let page = with_arg(page, plan_file(alloc));
@@ -311,7 +312,7 @@ fn on_other<'a>(
     name: &'a str,
     texts: Texts,
 ) -> Result<Command<'a>, AllocError>
-    ensures { IfOk result (IsCommand (spec.page name.entry.now (spec.other_rules sizes.entry))) }
+    ensures { IfOk result (IsCommand (spec_inner.page name.entry.now (spec.other_rules sizes.entry))) }
 {
     let page = image_page(alloc, name, texts);
     let page = with_arg(page, other(alloc));
@@ -349,7 +350,7 @@ fn page_of<'a>(
     sizes: &'a [&'a str],
     subcommand: Subcommand,
 ) -> Result<Command<'a>, AllocError>
-    ensures { IfOk result (IsCommand (spec.page_of sizes.entry subcommand)) }
+    ensures { IfOk result (IsCommand (spec_inner.page_of sizes.entry subcommand)) }
 {
     match subcommand {
         Subcommand::Show => on_show(alloc, sizes, "show", SHOW),
@@ -386,14 +387,14 @@ fn alone<'a>(
     sizes: &'a [&'a str],
     subcommand: Subcommand,
 ) -> Result<Command<'a>, AllocError>
-    ensures { IfOk result (IsCommand (spec.alone sizes.entry subcommand)) }
+    ensures { IfOk result (IsCommand (spec_inner.alone sizes.entry subcommand)) }
 {
     with_page(Ok(top(alloc)), page_of(alloc, sizes, subcommand))
 }
 
 /// The subcommand that the first of the words names.
 fn named_first(words: &[&str]) -> Option<Subcommand>
-    ensures { IfSome result (λ subcommand. Begins (spec.name_of subcommand) (slice_texts words.now)) }
+    ensures { IfSome result (λ subcommand. Begins (spec_inner.name_of subcommand) (slice_texts words.now)) }
 {
     match words {
         [first, ..] => subcommand_named(first),

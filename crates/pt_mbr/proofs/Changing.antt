@@ -3,12 +3,13 @@ use Rattle.std.proofs.Common.{◌≡◌, ◌≢◌, ℕ, zero, suc, ◌+◌, ◌
 use Rattle.std.proofs.Common.{ap, ◌∙◌, subst, arith, inl, inr}
 use Rattle.std.specs.Prelude.{◌⊎◌, slice_index, slice_range}
 use Rattle.std.proofs.lemmas.List.{ext_get_or, get_or-drop, get_or-take, length-drop, length-take-le}
-use Rattle.pt_mbr.specs.Bytes.{HasSignature}
-use Rattle.pt_mbr.specs.Record.{RecordIs, ReadsAsUsed, IsWritten, boot_of, place_of, record_bytes}
-use Rattle.pt_mbr.specs.Mbr.{IsBootIndicator, HasBootIndicators, MbrBytes, BearsProtective}
-use Rattle.pt_mbr.specs.Changes.{mbr_of, IsChanged, IsStep, IsPlainRecord, ArePlain}
+use Rattle.pt_mbr.specs.Records.{HasSignature, RecordIs, ReadsAsUsed, place_of, record_bytes, IsBootIndicator, HasBootIndicators}
+use Rattle.pt_mbr.specs.Records.{MbrBytes, BearsProtective}
+use Rattle.pt_mbr.specs.inner.Records.{IsWritten, boot_of}
+use Rattle.pt_mbr.specs.Changes.{mbr_of, IsChanged, IsPlainRecord, ArePlain}
+use Rattle.pt_mbr.specs.inner.Changes.{IsStep}
 use Rattle.pt_mbr.specs.declared.record.Record.{Record}
-use Rattle.pt_mbr.specs.laws.Kept.{range_same, record_kept}
+use Rattle.pt_mbr.proofs.Kept.{range_same, record_kept}
 use Rattle.pt_mbr.proofs.Encoding.{places_apart, none_bytes, zero_at}
 
 -- a part of the bytes that are the same one by one

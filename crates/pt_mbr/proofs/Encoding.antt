@@ -10,10 +10,10 @@ use Rattle.std.proofs.Math.Seq.{drop-append_seam, take-append_seam}
 use Rattle.std.proofs.lemmas.Slice.{drop-append-drop}
 use Rattle.byteorder.specs.Endian.{little_number, little_bytes}
 use Rattle.byteorder.specs.Numbers.{little_number-reads_back}
-use Rattle.pt_mbr.specs.Bytes.{put_at}
-use Rattle.pt_mbr.specs.Record.{HasFields, RecordIs, RecordFits, ReadsAsUsed, place_of, record_bytes}
+use Rattle.pt_mbr.specs.Records.{put_at, HasFields, RecordIs, ReadsAsUsed, place_of, record_bytes}
+use Rattle.pt_mbr.specs.inner.Records.{RecordFits}
 use Rattle.pt_mbr.specs.declared.record.Record.{Record}
-use Rattle.pt_mbr.specs.laws.Kept.{range_at}
+use Rattle.pt_mbr.proofs.Kept.{range_at}
 
 pub read_back : (n x : ℕ) → x < 256 ^ n → little_number n (little_bytes n x) ≡ x
 read_back n x small = ap (little_number n) (sym (append-nil (little_bytes n x))) ∙ little_number-reads_back n x [] small

@@ -3,12 +3,10 @@ use Rattle.std.proofs.Common.{◌≡◌, ℕ, ◌+◌, ◌<◌, ◌≤◌, List,
 use Rattle.std.proofs.Common.{arith, inl}
 use Rattle.std.specs.Prelude.{slice_range, slice_index, slice_set}
 use Rattle.std.proofs.lemmas.List.{take-append-drop, drop-drop, get_or-drop, length-drop}
-use Rattle.pt_mbr.specs.Bytes.{put_at, HasSignature}
-use Rattle.pt_mbr.specs.Record.{RecordFits, record_bytes}
-use Rattle.pt_mbr.specs.Mbr.{HasBootIndicators}
-use Rattle.pt_mbr.specs.Protective.{IsProtective, protective_record, protective_bytes}
+use Rattle.pt_mbr.specs.Records.{put_at, HasSignature, record_bytes, HasBootIndicators, IsProtective, protective_record}
+use Rattle.pt_mbr.specs.inner.Records.{RecordFits, protective_bytes}
 use Rattle.pt_mbr.proofs.Encoding.{has_fields, bytes_back, index_at, first_at}
-use Rattle.pt_mbr.specs.laws.Kept.{range_at}
+use Rattle.pt_mbr.proofs.Kept.{range_at}
 
 -- the bytes of a protective sector
 pub protective_laid : (n : ℕ) (e b : List ℕ) → e ≡ record_bytes (Some (protective_record n)) → b ≡ put_at 0 e (replicate 66 0)

@@ -6,14 +6,15 @@ use Rattle.std.proofs.lemmas.Bool.{cases_lt}
 use Rattle.std.proofs.lemmas.List.{ext_get_or, get_or-drop, get_or-take, get_or-replicate, get_or_past, length-drop, length-replicate}
 use Rattle.std.proofs.lemmas.List.{length-take-le}
 use Rattle.pt_sector.specs.declared.address.Lba.{Lba}
-use Rattle.pt_mbr.specs.Bytes.{number_at, put_at, HasSignature}
-use Rattle.pt_mbr.specs.Record.{IsUsed, RecordIs, ReadsAsUsed, IsExtendedKind, IsWritten, boot_of, record_bytes}
-use Rattle.pt_mbr.specs.Mbr.{IsBootIndicator, HasBootIndicators}
-use Rattle.pt_mbr.specs.Ebr.{EbrBytes, NextIs, HasZeros, HasBadLogical, HasBadLink}
-use Rattle.pt_mbr.specs.Changes.{IsChanged, IsStep, IsPlainRecord, IsPlainLogical, LinksTo}
+use Rattle.pt_mbr.specs.Records.{number_at, put_at, HasSignature, IsUsed, RecordIs, ReadsAsUsed, IsExtendedKind, record_bytes}
+use Rattle.pt_mbr.specs.Records.{IsBootIndicator, HasBootIndicators}
+use Rattle.pt_mbr.specs.inner.Records.{IsWritten, boot_of}
+use Rattle.pt_mbr.specs.Chain.{EbrBytes, NextIs, HasZeros, HasBadLogical, HasBadLink}
+use Rattle.pt_mbr.specs.Changes.{IsChanged, IsPlainRecord, IsPlainLogical, LinksTo}
+use Rattle.pt_mbr.specs.inner.Changes.{IsStep}
 use Rattle.pt_mbr.specs.declared.record.Record.{Record}
 use Rattle.pt_mbr.specs.declared.ebr.Ebr.{Ebr}
-use Rattle.pt_mbr.specs.laws.Kept.{record_kept}
+use Rattle.pt_mbr.proofs.Kept.{record_kept}
 use Rattle.pt_mbr.proofs.Encoding.{put_here, put_other, first_at, index_at}
 use Rattle.pt_mbr.proofs.Changing.{Stays, Stands, Turned, part_same, step_other, step_stays, stays_so, stands_on, written_stands, turned}
 use Rattle.pt_mbr.proofs.Changing.{changed, plain_usable, plain_boot, reads, boots}

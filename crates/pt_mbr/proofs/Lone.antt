@@ -1,10 +1,9 @@
 -- The extended records, place by place.
-use Rattle.std.proofs.Common.{◌≡◌, ◌<◌, ◌≤◌, ◌+◌, ℕ, List, ◌∷◌, ◌++◌, length, get_or, drop, Option, Some, None, refl, ap, ◌∙◌, arith, true}
-use Rattle.std.proofs.Common.{false, append-nil}
+use Rattle.std.proofs.Common.{◌≡◌, ◌<◌, ◌≤◌, ◌+◌, ℕ, List, ◌∷◌, ◌++◌, length, get_or, drop, Option, Some, None, refl, ap, ◌∙◌, arith}
+use Rattle.std.proofs.Common.{true, false, append-nil}
 use Rattle.std.proofs.lemmas.List.{drop_all, drop_more}
-use Rattle.pt_mbr.specs.Record.{IsExtendedKind}
+use Rattle.pt_mbr.specs.Records.{IsExtendedKind, extended_of, is_extended}
 use Rattle.pt_mbr.specs.declared.record.Record.{Record}
-use Rattle.pt_mbr.specs.Extended.{extended_of, is_extended}
 
 is_kind : (k : ℕ) → IsExtendedKind k → is_extended k ≡ true
 is_kind k is = grind arith

@@ -4,11 +4,11 @@ use Rattle.std.specs.Prelude.{◌⊎◌}
 use Rattle.pt_sector.specs.Sectors.{Sectors, Span}
 use Rattle.pt_sector.specs.declared.address.Lba.{Lba}
 use Rattle.pt_mbr.specs.Chain.{lba, IsInside, ChainFault, ChainReads, IsDevice, StandsAt, ReadsAre}
-use Rattle.pt_mbr.specs.Decoded.{EndsIn}
+use Rattle.pt_mbr.specs.Changes.{EndsIn}
 use Rattle.pt_mbr.specs.declared.ebr.Ebr.{Ebr}
 use Rattle.pt_mbr.specs.declared.chain.ChainError.{ChainError}
 use Rattle.pt_mbr.specs.declared.chain.ChainError.TheVariants.{NoSignature, BadRecord, NotUpward, OutsideExtended, TooLong, Device}
-use Rattle.pt_mbr.specs.laws.Reading.{of_way, at_is_read, before_is_read}
+use Rattle.pt_mbr.proofs.ReadingLemmas.{of_way, at_is_read, before_is_read}
 
 -- where the sector at fault was read, and is the first of no other
 no_record : (Q : Type 0) (d : Sectors) (x : Span) (e : ChainError) (f : ChainFault d x e) (list : List Ebr) (s : ℕ)

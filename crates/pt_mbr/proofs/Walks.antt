@@ -3,9 +3,8 @@ use Rattle.std.proofs.Common.{◌≡◌, ◌<◌, ◌≤◌, List, [], ◌∷◌
 use Rattle.std.proofs.lemmas.List.{length_push}
 use Rattle.pt_sector.specs.Sectors.{Sectors, sector, Span}
 use Rattle.pt_sector.specs.declared.address.Lba.{Lba}
-use Rattle.pt_mbr.specs.Chain.{lba, IsInside, IsUpward, EbrAt, Walk, Chain}
-use Rattle.pt_mbr.specs.Ebr.{IsEbrFault}
-use Rattle.pt_mbr.specs.Decoded.{EndsIn}
+use Rattle.pt_mbr.specs.Chain.{lba, IsInside, IsUpward, EbrAt, Walk, Chain, IsEbrFault}
+use Rattle.pt_mbr.specs.Changes.{EndsIn}
 use Rattle.pt_mbr.specs.declared.ebr.Ebr.{Ebr}
 use Rattle.pt_mbr.specs.declared.ebr.EbrFault.TheVariants as ebr
 use Rattle.pt_mbr.specs.declared.chain.ChainError.TheVariants.{NoSignature, BadRecord, NotUpward, OutsideExtended, TooLong, Device}

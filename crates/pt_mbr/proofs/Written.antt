@@ -2,12 +2,12 @@
 use Rattle.std.proofs.Common.{◌≡◌, ℕ, zero, suc, ◌+◌, ◌<◌, ◌≤◌, List, [], ◌∷◌, ◌++◌, length, drop, get_or, Option, Some, None, refl, sym}
 use Rattle.std.proofs.Common.{ap, ◌∙◌, subst, arith, inl, inr}
 use Rattle.std.specs.Prelude.{◌⊎◌, slice_index, slice_range}
-use Rattle.pt_mbr.specs.Bytes.{put_at, HasSignature}
-use Rattle.pt_mbr.specs.Record.{RecordIs, ReadsAsUsed, IsWritten, boot_of, place_of, record_bytes}
-use Rattle.pt_mbr.specs.Mbr.{IsMbrFormed, IsBootIndicator, HasBootIndicators, AreRecords}
+use Rattle.pt_mbr.specs.Records.{put_at, HasSignature, RecordIs, ReadsAsUsed, place_of, record_bytes, IsMbrFormed, IsBootIndicator}
+use Rattle.pt_mbr.specs.Records.{HasBootIndicators, AreRecords}
+use Rattle.pt_mbr.specs.inner.Records.{IsWritten, boot_of}
 use Rattle.pt_mbr.specs.declared.record.Record.{Record}
 use Rattle.pt_mbr.proofs.Encoding.{put_here, put_other, index_at, first_at}
-use Rattle.pt_mbr.specs.laws.Kept.{range_same, record_kept}
+use Rattle.pt_mbr.proofs.Kept.{range_same, record_kept}
 
 -- a record that some bytes are may be written
 pub usable_of : (o : Option Record) (at : ℕ) (b : List ℕ) → RecordIs o at b → ReadsAsUsed o

@@ -1,15 +1,62 @@
--- Chains of extended boot records.
-use Rattle.std.specs.Prelude.{◌≡◌, ◌<◌, ◌≤◌, ◌⊎◌, ◌↔◌, ℕ, List, [], ◌∷◌, length, Option, Some, None}
-use Rattle.pt_sector.specs.Sectors.{Sectors, sector, Span, InSpan}
+-- Extended boot records, and the chain of them.
+use Rattle.std.specs.Prelude.{◌≡◌, ◌⊎◌, ◌+◌, ℕ, List, slice_index, slice_range, replicate, Option, Some, None, ◌<◌, ◌≤◌, ◌↔◌, [], ◌∷◌}
+use Rattle.std.specs.Prelude.{length}
 use Rattle.pt_sector.specs.declared.address.Lba.{Lba}
+use Rattle.pt_mbr.specs.Records.{number_at, HasSignature, IsUsed, RecordIs, IsExtendedKind, HasBootIndicators}
+use Rattle.pt_mbr.specs.declared.ebr.Ebr.{Ebr}
+use Rattle.pt_mbr.specs.declared.ebr.EbrFault.{EbrFault}
+use Rattle.pt_mbr.specs.declared.ebr.EbrFault.TheVariants.{NoSignature, BadRecord}
+use Rattle.pt_sector.specs.Sectors.{Sectors, sector, Span, InSpan}
 use Rattle.pt_sector.specs.declared.disk.Fault.{Fault}
 use Rattle.pt_sector.specs.declared.disk.Fault.TheVariants.{Read}
 use Rattle.pt_sector.specs.declared.address.Extent.{Extent}
-use Rattle.pt_mbr.specs.Ebr.{EbrBytes, IsEbrFault}
-use Rattle.pt_mbr.specs.declared.ebr.Ebr.{Ebr}
 use Rattle.pt_mbr.specs.declared.ebr.EbrFault.TheVariants as ebr
 use Rattle.pt_mbr.specs.declared.chain.ChainError.{ChainError}
-use Rattle.pt_mbr.specs.declared.chain.ChainError.TheVariants.{NoSignature, BadRecord, NotUpward, OutsideExtended, TooLong, Device}
+use Rattle.pt_mbr.specs.declared.chain.ChainError.TheVariants as chain_error
+use Rattle.pt_mbr.specs.declared.chain.ChainError.TheVariants.{NotUpward, OutsideExtended, TooLong, Device}
+
+-- ## Extended boot records.
+
+-- records three and four are zero
+unfoldable pub HasZeros : List ℕ → Type 0
+HasZeros b = slice_range b 478 510 ≡ replicate 32 0
+
+-- a logical partition of a type that it may not have
+unfoldable pub HasBadLogical : List ℕ → Type 0
+HasBadLogical b = IsUsed 446 b × (IsExtendedKind (slice_index b 450) ⊎ (slice_index b 450 ≡ 0xEE))
+
+-- a link of a type that it may not have
+unfoldable pub HasBadLink : List ℕ → Type 0
+HasBadLink b = IsUsed 462 b × (¬ IsExtendedKind (slice_index b 466))
+
+-- a used link leads as many sectors past the first of the extended partition as its start says
+abbrev pub NextIs : ℕ → Option Lba → List ℕ → Type 0
+NextIs first None b = ¬ IsUsed 462 b
+NextIs first (Some next) b = IsUsed 462 b × (next.0 ≡ first + number_at 470 4 b)
+
+-- the extended boot record that stands at a place, in an extended partition from `first` on
+pub record EbrBytes (first : ℕ) (at : Lba) (e : Ebr) (b : List ℕ) : Type 0 where
+  pub signature : HasSignature b
+  pub boots : HasBootIndicators b
+  pub zeros : HasZeros b
+  pub logical_kind : ¬ HasBadLogical b
+  pub link_kind : ¬ HasBadLink b
+  pub place : e.at ≡ at
+  pub logical : RecordIs e.logical 446 b
+  pub next : NextIs first e.next b
+
+pub data IsBadRecord (b : List ℕ) : Type 0 where
+  boots : ¬ HasBootIndicators b → IsBadRecord b
+  zeros : ¬ HasZeros b → IsBadRecord b
+  logical : HasBadLogical b → IsBadRecord b
+  link : HasBadLink b → IsBadRecord b
+
+-- the first rule that fails
+abbrev pub IsEbrFault : EbrFault → List ℕ → Type 0
+IsEbrFault NoSignature b = ¬ HasSignature b
+IsEbrFault BadRecord b = HasSignature b × IsBadRecord b
+
+-- ## Chains of extended boot records.
 
 -- the sectors of an extent
 abbrev pub span_of : Extent → Span
@@ -47,8 +94,8 @@ pub record Chain (d : Sectors) (x : Span) (list : List Ebr) : Type 0 where
 abbrev pub FaultAt : Sectors → Span → ℕ → Lba → ChainError → Type 0
 FaultAt d x k at (OutsideExtended y) = (y ≡ at) × (¬ IsInside x (length d) at)
 FaultAt d x k at TooLong = IsInside x (length d) at × (k ≡ 128)
-FaultAt d x k at (NoSignature y) = (y ≡ at) × IsInside x (length d) at × (k < 128) × IsEbrFault ebr.NoSignature (sector d at.0)
-FaultAt d x k at (BadRecord y) = (y ≡ at) × IsInside x (length d) at × (k < 128) × IsEbrFault ebr.BadRecord (sector d at.0)
+FaultAt d x k at (chain_error.NoSignature y) = (y ≡ at) × IsInside x (length d) at × (k < 128) × IsEbrFault ebr.NoSignature (sector d at.0)
+FaultAt d x k at (chain_error.BadRecord y) = (y ≡ at) × IsInside x (length d) at × (k < 128) × IsEbrFault ebr.BadRecord (sector d at.0)
 FaultAt d x k at (NotUpward y) = (y ≡ at) × (k < 128) × (e : Ebr) × EbrAt d x at e × (¬ IsUpward at e.next)
 FaultAt d x k at (Device y) = (y ≡ at) × IsInside x (length d) at × (k < 128)
 
@@ -94,15 +141,15 @@ StandsAt s (e ∷ es) = (s ≡ e.at.0) ⊎ StandsAt s es
 
 -- s is the sector at fault, and was read
 abbrev pub IsAtFault : ChainError → ℕ → Type 0
-IsAtFault (NoSignature y) s = s ≡ y.0
-IsAtFault (BadRecord y) s = s ≡ y.0
+IsAtFault (chain_error.NoSignature y) s = s ≡ y.0
+IsAtFault (chain_error.BadRecord y) s = s ≡ y.0
 IsAtFault (NotUpward y) s = s ≡ y.0
 IsAtFault e s = ⊥
 
 -- s was read, and is no extended boot record
 abbrev pub IsReadBy : ChainError → ℕ → Type 0
-IsReadBy (NoSignature y) s = s ≡ y.0
-IsReadBy (BadRecord y) s = s ≡ y.0
+IsReadBy (chain_error.NoSignature y) s = s ≡ y.0
+IsReadBy (chain_error.BadRecord y) s = s ≡ y.0
 IsReadBy e s = ⊥
 
 -- what was read up to a fault of the disk, where these were decoded

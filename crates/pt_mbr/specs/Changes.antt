@@ -1,11 +1,16 @@
--- Records written into a sector that holds others.
-use Rattle.std.specs.Prelude.{◌≡◌, ◌≢◌, ◌<◌, ◌≤◌, ◌^◌, ◌⊎◌, ◌+◌, ◌∷◌, [], ℕ, List, get_or, slice_range, Option, Some, None}
+-- Which bytes of a sector change where records do.
+use Rattle.std.specs.Prelude.{◌≡◌, ◌≢◌, ◌<◌, ◌≤◌, ◌^◌, ◌⊎◌, ◌+◌, ◌∷◌, [], ℕ, List, get_or, slice_range, Option, Some, None, ◌++◌}
 use Rattle.pt_sector.specs.declared.address.Lba.{Lba}
-use Rattle.pt_mbr.specs.Record.{IsExtendedKind, IsWritten, place_of, record_bytes}
-use Rattle.pt_mbr.specs.Mbr.{IsBootIndicator}
+use Rattle.pt_mbr.specs.Records.{IsExtendedKind, place_of, record_bytes, IsBootIndicator}
 use Rattle.pt_mbr.specs.declared.record.Record.{Record}
 use Rattle.pt_mbr.specs.declared.mbr.Mbr.{Mbr}
 use Rattle.pt_mbr.specs.declared.ebr.Ebr.{Ebr}
+use Rattle.pt_sector.specs.Sectors.{Sectors, Span}
+use Rattle.pt_mbr.specs.Chain.{ChainFault}
+use Rattle.pt_mbr.specs.declared.chain.ChainError.{ChainError}
+use Rattle.pt_mbr.specs.declared.chain.ChainError.TheVariants.{NotUpward}
+
+-- ## Records written into a sector that holds others.
 
 -- the master boot record of these records
 abbrev pub mbr_of : List (Option Record) → Mbr
@@ -16,10 +21,6 @@ abbrev pub IsChanged : Type 0 → Option Record → ℕ → List ℕ → List �
 IsChanged Same new k b c =
     (Same × (slice_range c (place_of k) (place_of k + 16) ≡ slice_range b (place_of k) (place_of k + 16)))
     ⊎ ((¬ Same) × (slice_range c (place_of k) (place_of k + 16) ≡ record_bytes new))
-
--- c is b, with record k written as the new one where it does not stay the same
-abbrev pub IsStep : Type 0 → Option Record → ℕ → List ℕ → List ℕ → Type 0
-IsStep Same new k b c = (Same × (c ≡ b)) ⊎ ((¬ Same) × IsWritten new k b c)
 
 -- a record that is read as one, and is no protective one
 pub record IsPlain (r : Record) : Type 0 where
@@ -75,3 +76,15 @@ pub record FitsLink (first : ℕ) (next : Ebr) : Type 0 where
   pub start : next.at.0 < first + 2 ^ 32
   pub some : 0 < reach_of next.logical
   pub size : reach_of next.logical < 2 ^ 32
+
+-- ## The extended boot records that a walk has decoded.
+
+-- the extended boot records that were decoded up to a fault, after those that lead to it
+abbrev pub IsDecoded : List Ebr → List Ebr → ChainError → Type 0
+IsDecoded before list (NotUpward y) = (e : Ebr) × (e.at ≡ y) × (list ≡ before ++ e ∷ [])
+IsDecoded before list e = list ≡ before
+
+-- the way ended in a fault, with these decoded
+pub record EndsIn (d : Sectors) (x : Span) (list : List Ebr) (e : ChainError) : Type 0 where
+  pub fault : ChainFault d x e
+  pub decoded : IsDecoded fault.before list e

@@ -1,12 +1,5 @@
-pub mod Bytes
-pub mod Record
-pub mod Extended
-pub mod Mbr
-pub mod Protective
-pub mod Ebr
 pub mod Chain
-pub mod Decoded
 pub mod Changes
-pub mod Numbers
+pub mod Records
 pub mod Sentences
-pub mod laws
+pub mod inner

@@ -1,14 +1,16 @@
-ghost use Rattle.std.specs.Prelude.{◌≡◌, ◌+◌, ◌<◌, ◌≤◌, ◌^◌, ◌↔◌, ◌⊎◌, [], List, Some, IfSome, IfOk, IfErr, OnOk, OnErr, ℕ, length, IsTrue};
+ghost use Rattle.std.specs.Prelude.{◌≡◌, ◌+◌, ◌<◌, ◌≤◌, ◌^◌, ◌↔◌, ◌⊎◌, [], List, Some, IfSome, IfOk, IfErr, OnOk, OnErr, ℕ, length};
+ghost use Rattle.std.specs.Prelude.{IsTrue};
 ghost use Rattle.arrayvec.specs.ArrayVec.{array_vec_len};
 ghost use Rattle.pt_sector.specs.Sectors.{IsSectorSize, Span};
-ghost use Rattle.pt_sector.specs.Calls.{Blames};
-ghost use Rattle.pt_sector.specs.Reads.{OnlyReads};
+ghost use Rattle.pt_sector.specs.Device.{Blames};
+ghost use Rattle.pt_sector.specs.Overlays.{OnlyReads};
 ghost use Rattle.pt_mbr.specs.declared.chain.ChainError.TheVariants.{Device};
 ghost use Rattle.pt_mbr.specs.declared.ebr.Ebr.{Ebr};
 ghost use Rattle.pt_mbr.specs.Chain.{lba, span_of, IsInside, EbrAt, FaultAt, Walk, Chain, ChainFault, ChainReads, StandsAt, ReadsAre};
 ghost use Rattle.pt_mbr.specs.Chain.{fault_in};
-ghost use Rattle.pt_mbr.specs.Decoded.{EndsIn, StepsTo, StepsOut};
-ghost use Rattle.pt_mbr.specs.Numbers.{error_number};
+ghost use Rattle.pt_mbr.specs.Changes.{EndsIn};
+ghost use Rattle.pt_mbr.specs.inner.Changes.{StepsTo, StepsOut};
+ghost use Rattle.pt_mbr.specs.Records.{error_number};
 ghost use Rattle.pt_mbr.specs.Sentences.{chain_error_sentence};
 
 use crate::ebr::{Ebr, EbrFault, decode_ebr};

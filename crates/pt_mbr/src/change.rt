@@ -2,11 +2,10 @@
 
 ghost use Rattle.std.specs.Prelude.{◌≡◌, ◌≢◌, ◌<◌, ◌≤◌, ◌⊎◌, ◌+◌, ℕ, None, Some, IfSome, IfNone, get_or, take, slice_index, slice_range};
 ghost use Rattle.pt_sector.specs.Sectors.{IsSectorSize};
-ghost use Rattle.pt_mbr.specs.Bytes.{HasSignature};
-ghost use Rattle.pt_mbr.specs.Record.{record_bytes};
-ghost use Rattle.pt_mbr.specs.Mbr.{MbrBytes, BearsProtective};
-ghost use Rattle.pt_mbr.specs.Ebr.{EbrBytes};
-ghost use Rattle.pt_mbr.specs.Changes.{mbr_of, reach_of, IsChanged, IsStep, ArePlain, IsPlainLogical, LinksTo, IsLink, FitsLink};
+ghost use Rattle.pt_mbr.specs.Records.{HasSignature, record_bytes, MbrBytes, BearsProtective};
+ghost use Rattle.pt_mbr.specs.Chain.{EbrBytes};
+ghost use Rattle.pt_mbr.specs.Changes.{mbr_of, reach_of, IsChanged, ArePlain, IsPlainLogical, LinksTo, IsLink, FitsLink};
+ghost use Rattle.pt_mbr.specs.inner.Changes.{IsStep};
 
 use crate::ebr::Ebr;
 use crate::encode::put_value;

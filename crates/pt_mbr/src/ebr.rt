@@ -1,6 +1,6 @@
 ghost use Rattle.std.specs.Prelude.{◌≡◌, ◌+◌, ◌<◌, ◌≤◌, ◌^◌, ◌↔◌, IfOk, IfErr, length, IsTrue};
 ghost use Rattle.pt_sector.specs.Sectors.{IsSectorSize};
-ghost use Rattle.pt_mbr.specs.Ebr.{EbrBytes, IsEbrFault, HasZeros, HasBadLogical, HasBadLink, NextIs};
+ghost use Rattle.pt_mbr.specs.Chain.{EbrBytes, IsEbrFault, HasZeros, HasBadLogical, HasBadLink, NextIs};
 
 use crate::bytes::has_signature;
 use crate::mbr::has_boot_indicators;
@@ -28,7 +28,7 @@ pub enum EbrFault {
     BadRecord,
 }
 
-#[tactic(auto, unfolding(crate::specs::Ebr::HasZeros))]
+#[tactic(auto, unfolding(crate::specs::Chain::HasZeros))]
 fn has_zeros(bytes: &[u8]) -> bool
     requires { 512 ≤ length bytes.now }
     ensures { IsTrue result ↔ HasZeros bytes.now }
@@ -36,7 +36,7 @@ fn has_zeros(bytes: &[u8]) -> bool
     bytes[478..510] == [0; 32]
 }
 
-#[tactic(auto, unfolding(crate::specs::Ebr::HasBadLogical))]
+#[tactic(auto, unfolding(crate::specs::Chain::HasBadLogical))]
 fn has_bad_logical(bytes: &[u8]) -> bool
     requires { 512 ≤ length bytes.now }
     ensures { IsTrue result ↔ HasBadLogical bytes.now }
@@ -44,7 +44,7 @@ fn has_bad_logical(bytes: &[u8]) -> bool
     is_used(bytes, 446) && (is_extended_kind(bytes[450]) || bytes[450] == PROTECTIVE)
 }
 
-#[tactic(auto, unfolding(crate::specs::Ebr::HasBadLink))]
+#[tactic(auto, unfolding(crate::specs::Chain::HasBadLink))]
 fn has_bad_link(bytes: &[u8]) -> bool
     requires { 512 ≤ length bytes.now }
     ensures { IsTrue result ↔ HasBadLink bytes.now }

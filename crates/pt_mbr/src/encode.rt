@@ -1,8 +1,7 @@
 ghost use Rattle.std.specs.Prelude.{◌≡◌, ◌<◌, ◌≤◌, ◌⊎◌, ◌+◌, ℕ, List, None, get_or, slice_index, slice_range};
 ghost use Rattle.pt_sector.specs.Sectors.{IsSectorSize};
-ghost use Rattle.pt_mbr.specs.Bytes.{HasSignature};
-ghost use Rattle.pt_mbr.specs.Record.{IsWritten, place_of, record_bytes};
-ghost use Rattle.pt_mbr.specs.Mbr.{MbrBytes};
+ghost use Rattle.pt_mbr.specs.Records.{HasSignature, place_of, record_bytes, MbrBytes};
+ghost use Rattle.pt_mbr.specs.inner.Records.{IsWritten};
 
 use crate::mbr::{Mbr, put_part, put_record};
 use crate::record::Record;

@@ -1,7 +1,7 @@
 //! The extended ones of four records.
 
 ghost use Rattle.std.specs.Prelude.{◌≡◌, ◌<◌, ◌+◌, ◌++◌, drop, option_to_list};
-ghost use Rattle.pt_mbr.specs.Extended.{extended_of, ExtendedIs};
+ghost use Rattle.pt_mbr.specs.Records.{extended_of, ExtendedIs};
 
 use crate::record::{Record, is_extended_kind};
 

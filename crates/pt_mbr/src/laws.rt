@@ -1,11 +1,8 @@
 ghost use Rattle.std.specs.Prelude.{◌≡◌, ◌<◌, ◌≤◌, ◌+◌, ◌⊎◌, ◌↔◌, ℕ, List, length, slice_index, Option};
 ghost use Rattle.pt_sector.specs.Sectors.{Sectors, Span, Agrees};
 ghost use Rattle.pt_sector.specs.declared.address.Lba.{Lba};
-ghost use Rattle.pt_mbr.specs.Record.{RecordIs};
-ghost use Rattle.pt_mbr.specs.Mbr.{MbrBytes, BearsProtective};
-ghost use Rattle.pt_mbr.specs.Protective.{IsProtective};
-ghost use Rattle.pt_mbr.specs.Ebr.{EbrBytes, IsEbrFault};
-ghost use Rattle.pt_mbr.specs.Chain.{Chain, ChainFault, ChainReads, IsDevice, StandsAt, IsAtFault, SameChains};
+ghost use Rattle.pt_mbr.specs.Records.{RecordIs, MbrBytes, BearsProtective, IsProtective};
+ghost use Rattle.pt_mbr.specs.Chain.{EbrBytes, IsEbrFault, Chain, ChainFault, ChainReads, IsDevice, StandsAt, IsAtFault, SameChains};
 ghost use Rattle.pt_mbr.specs.declared.record.Record.{Record};
 ghost use Rattle.pt_mbr.specs.declared.mbr.Mbr.{Mbr};
 ghost use Rattle.pt_mbr.specs.declared.ebr.Ebr.{Ebr};

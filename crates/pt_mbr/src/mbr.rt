@@ -2,10 +2,10 @@ ghost use Rattle.std.specs.Prelude.{◌≡◌, ◌<◌, ◌≤◌, ◌≢◌, �
 ghost use Rattle.std.specs.Prelude.{slice_index, slice_range, replicate};
 ghost use Rattle.pt_sector.specs.Sectors.{IsSectorSize};
 ghost use Rattle.std.specs.Option.{option_map};
-ghost use Rattle.pt_mbr.specs.Bytes.{put_at};
-ghost use Rattle.pt_mbr.specs.Record.{RecordIs, RecordFits, HasFields, ReadsAsUsed, IsPut, place_of, record_bytes};
+ghost use Rattle.pt_mbr.specs.Records.{put_at, RecordIs, HasFields, ReadsAsUsed, IsPut, place_of, record_bytes, IsMbrFormed, MbrBytes};
+ghost use Rattle.pt_mbr.specs.Records.{AreRecords, BearsProtective, HasBootIndicators, IsBootIndicator};
+ghost use Rattle.pt_mbr.specs.inner.Records.{RecordFits};
 ghost use Rattle.pt_mbr.specs.declared.record.Record.{Record};
-ghost use Rattle.pt_mbr.specs.Mbr.{IsMbrFormed, MbrBytes, AreRecords, BearsProtective, HasBootIndicators, IsBootIndicator};
 
 use crate::bytes::{has_signature, put_bytes};
 use crate::record::{PROTECTIVE, Record, encode_record, record_at};
@@ -24,7 +24,7 @@ fn is_boot_indicator(byte: u8) -> bool
     byte == 0 || byte == 0x80
 }
 
-#[tactic(auto, unfolding(crate::specs::Mbr::HasBootIndicators))]
+#[tactic(auto, unfolding(crate::specs::Records::HasBootIndicators))]
 pub(crate) fn has_boot_indicators(bytes: &[u8]) -> bool
     requires { 512 ≤ length bytes.now }
     ensures { IsTrue result ↔ HasBootIndicators bytes.now }
@@ -73,7 +73,7 @@ pub fn decode_mbr<const B: usize>(sector: &Sector<B>) -> Option<Mbr>
 /// Whether one of the four records, used or not, has the type EE: offset 450, 466, 482 or 498.
 ///
 /// A decoded [`Mbr`] can't show such a record where its size is 0.
-#[tactic(auto, unfolding(crate::specs::Mbr::BearsProtective))]
+#[tactic(auto, unfolding(crate::specs::Records::BearsProtective))]
 pub fn bears_protective<const B: usize>(sector: &Sector<B>) -> bool
     requires size { IsSectorSize B }
     ensures { IsTrue result ↔ BearsProtective sector.now }

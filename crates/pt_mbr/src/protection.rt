@@ -1,6 +1,7 @@
 ghost use Rattle.std.specs.Prelude.{◌≡◌, ◌<◌, ◌≤◌, ◌⊎◌, ◌↔◌, IsTrue, ℕ, length, slice_index, slice_range};
 ghost use Rattle.pt_sector.specs.Sectors.{IsSectorSize};
-ghost use Rattle.pt_mbr.specs.Protective.{IsProtective, protective_record, protective_bytes};
+ghost use Rattle.pt_mbr.specs.Records.{IsProtective, protective_record};
+ghost use Rattle.pt_mbr.specs.inner.Records.{protective_bytes};
 
 use crate::bytes::put_bytes;
 use crate::mbr::put_part;

@@ -1,6 +1,6 @@
 ghost use Rattle.std.specs.Prelude.{◌≡◌, ◌≤◌, ◌+◌, ◌↔◌, IsTrue, Some, length, slice_range};
-ghost use Rattle.pt_mbr.specs.Bytes.{put_at};
-ghost use Rattle.pt_mbr.specs.Record.{IsUsed, HasFields, RecordIs, IsExtendedKind, RecordFits, record_bytes};
+ghost use Rattle.pt_mbr.specs.Records.{put_at, IsUsed, HasFields, RecordIs, IsExtendedKind, record_bytes};
+ghost use Rattle.pt_mbr.specs.inner.Records.{RecordFits};
 
 use crate::bytes::{put_bytes, put_u32};
 use byteorder::{ByteOrder, LittleEndian};

@@ -1,19 +1,13 @@
 -- Lists of members by place.
-use Rattle.std.proofs.Common.{◌≡◌, ◌<◌, ◌≤◌, ◌+◌, ℕ, zero, suc, List, [], ◌∷◌, length, get_or}
-use Rattle.std.proofs.Common.{Option, Some, None, refl, sym, ap, subst, ◌∙◌, arith}
-use Rattle.std.specs.Prelude.{option_map, if◌then◌else◌, Bool, is_some, take, ◌-◌}
-use Rattle.std.proofs.Common.{true, false}
+use Rattle.std.proofs.Common.{◌≡◌, ◌<◌, ◌≤◌, ◌+◌, ℕ, zero, suc, List, [], ◌∷◌, length, get_or, Option, Some, None, refl, sym, ap, subst}
+use Rattle.std.proofs.Common.{◌∙◌, arith, true, false, length-append, drop, drop-cons}
+use Rattle.std.specs.Prelude.{option_map, if◌then◌else◌, Bool, is_some, take, ◌-◌, cond, nat_eq}
 use Rattle.std.proofs.lemmas.List.Sums.{sum_by-cons}
-use Rattle.std.proofs.lemmas.List.{get_or_append_left, get_or-append_right}
-use Rattle.std.proofs.Common.{length-append, drop, drop-cons}
+use Rattle.std.proofs.lemmas.List.{get_or_append_left, get_or-append_right, drop_all}
 use Rattle.std.proofs.lemmas.Bool.{eq-eqb}
-use Rattle.std.proofs.lemmas.List.{drop_all}
 use Rattle.pt_members.specs.declared.layout.Labelled.{Labelled}
-use Rattle.std.specs.Prelude.{cond, nat_eq}
 use Rattle.pt_members.specs.Members.{records_as, entries_as, logicals_as, record_member, entry_member, logical_member, slots, tops}
-use Rattle.pt_members.specs.Members.{logicals}
-use Rattle.pt_members.specs.Members.{label_of, parts_as, parts_in, part_of}
-use Rattle.pt_members.specs.Counts.{used_before, no_ebr, logical_at, number_at}
+use Rattle.pt_members.specs.Members.{logicals, label_of, parts_as, parts_in, part_of, used_before, no_ebr, logical_at, number_at}
 use Rattle.pt_bsd.specs.declared.label.Label.{Label}
 use Rattle.pt_bsd.specs.declared.label.LabelEntry.{LabelEntry}
 use Rattle.pt_mbr.specs.declared.ebr.Ebr.{Ebr}

@@ -1,7 +1,7 @@
 -- Of an entry that doesn't have a sector, on a GPT without labels, no partition has it.
-use Rattle.std.proofs.Common.{◌≡◌, ◌<◌, ◌≤◌, ◌+◌, ℕ, List, [], ◌∷◌, get_or, length, Option, Some, None}
+use Rattle.std.proofs.Common.{◌≡◌, ◌<◌, ◌≤◌, ◌+◌, ℕ, List, [], ◌∷◌, get_or, length, Option, Some, None, IsTrue, ltb, refl, sym, ap, subst}
+use Rattle.std.proofs.Common.{◌∙◌, arith, inl, inr}
 use borrow.Author.Tests.{ltb-true}
-use Rattle.std.proofs.Common.{IsTrue, ltb, refl, sym, ap, subst, ◌∙◌, arith, inl, inr}
 use Rattle.std.specs.Prelude.{option_map, IfSome}
 use Rattle.std.proofs.lemmas.Bool.{cases_lt}
 use Rattle.pt_sector.specs.declared.address.Lba.{Lba}
@@ -15,8 +15,8 @@ use Rattle.pt_members.specs.declared.member.Member.{Member}
 use Rattle.pt_members.specs.declared.search.Wanted.{Wanted}
 use Rattle.pt_members.specs.declared.search.Wanted.TheVariants.{LeafWith}
 use Rattle.pt_members.specs.Members.{slots, entry_member, label_of}
-use Rattle.pt_members.specs.Search.{IsNear, IsAsWanted, FoundNear, NoneNear, EntryMisses}
-use Rattle.pt_members.specs.OnePath.{some_one}
+use Rattle.pt_members.specs.inner.Tables.{IsNear, IsAsWanted, FoundNear, NoneNear, EntryMisses}
+use Rattle.pt_members.proofs.OnePathLemmas.{some_one}
 use Rattle.pt_members.proofs.ByPlace.{gpt_len, gpt_at, parts_none}
 
 -- the member of an entry has the entry's sectors

@@ -10,7 +10,7 @@ use Rattle.pt_mbr.specs.declared.record.Record.{Record}
 use Rattle.pt_mbr.specs.declared.ebr.Ebr.{Ebr}
 use Rattle.pt_mbr.specs.contracts.ebr.EbrPartialEq.TheImpl as ebr_eq
 use Rattle.pt_mbr.specs.contracts.record.RecordPartialEq.TheImpl as record_eq
-use Rattle.pt_bsd.specs.laws.Equal.{also, decides_as, option_decides, list_decides, label_decides}
+use Rattle.pt_bsd.proofs.Equal.{also, decides_as, option_decides, list_decides, label_decides}
 use Rattle.pt_members.specs.declared.layout.Labelled.{Labelled}
 use Rattle.pt_members.specs.contracts.layout.LabelledPartialEq.TheImpl as labelled_eq
 

@@ -6,10 +6,9 @@ use Rattle.pt_path.specs.declared.path.Path.{Path}
 use Rattle.pt_members.specs.declared.member.Member.{Member}
 use Rattle.pt_members.specs.declared.search.Wanted.TheVariants.{LeafWith, LeafNamed, SliceWith}
 use Rattle.pt_path.specs.Paths.{rank}
-use Rattle.pt_members.specs.Owned.{Owns}
-use Rattle.pt_members.specs.Search.{InLayout, IsAsWanted, IsFirstWanted}
-use Rattle.pt_members.specs.Places.{IsPlaceOf, IsInSlice, NoneBefore}
-use Rattle.pt_members.specs.laws.Grouped.{place_member, member_place}
+use Rattle.pt_members.specs.Tables.{Owns, IsPlaceOf, IsInSlice, NoneBefore}
+use Rattle.pt_members.specs.inner.Tables.{InLayout, IsAsWanted, IsFirstWanted}
+use Rattle.pt_members.proofs.Grouped.{place_member, member_place}
 
 pub place_found : (b : ℕ) (o : Layout) (p : Path) (k : ℕ) (m : Member) → InLayout b o m → IsAsWanted (LeafNamed p k) m
     → IsPlaceOf b o p k (m.first + k)

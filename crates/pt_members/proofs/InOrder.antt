@@ -1,6 +1,6 @@
 -- Members by place are in path order.
-use Rattle.std.proofs.Common.{◌≡◌, ◌<◌, ◌≤◌, ◌+◌, ◌-◌, ◌*◌, ℕ, zero, suc, List, [], ◌∷◌, length, get_or, Option, Some, None, refl}
-use Rattle.std.proofs.Common.{sym, ap, subst, ◌∙◌, arith, inl, inr, Bool, true}
+use Rattle.std.proofs.Common.{◌≡◌, ◌<◌, ◌≤◌, ◌+◌, ◌-◌, ◌*◌, ℕ, zero, suc, List, [], ◌∷◌, length, get_or, Option, Some, None, refl, sym}
+use Rattle.std.proofs.Common.{ap, subst, ◌∙◌, arith, inl, inr, Bool, true}
 use Rattle.std.specs.Prelude.{◌⊎◌, cond, is_some, option_map}
 use Rattle.std.proofs.lemmas.Bool.{cases_lt}
 use Rattle.pt_bsd.specs.declared.label.Label.{Label}
@@ -18,10 +18,10 @@ use Rattle.pt_members.specs.declared.member.Member.{Member}
 use Rattle.pt_members.specs.declared.search.Wanted.{Wanted}
 use Rattle.pt_members.specs.declared.search.Wanted.TheVariants.{LeafWith, LeafNamed, SliceWith}
 use Rattle.pt_path.specs.Paths.{rank}
-use Rattle.pt_members.specs.Counts.{used_before, no_ebr}
-use Rattle.pt_members.specs.Members.{slots, parts_in, part_of, label_of, record_member, logical_member, entry_member}
-use Rattle.pt_members.specs.Search.{AtPlace, IsNear, InLayout, IsAsWanted, FoundAt, FoundIn, FoundNear, Found}
-use Rattle.pt_members.specs.OnePath.{HasFour, slot_whole, some_one, part_is, part_path, parts_letter}
+use Rattle.pt_members.specs.Members.{used_before, no_ebr, slots, parts_in, part_of, label_of, record_member, logical_member, entry_member}
+use Rattle.pt_members.specs.inner.Tables.{AtPlace, IsNear, InLayout, IsAsWanted, FoundAt, FoundIn, FoundNear, Found}
+use Rattle.pt_members.specs.Tables.{HasFour}
+use Rattle.pt_members.proofs.OnePathLemmas.{slot_whole, some_one, part_is, part_path, parts_letter}
 use Rattle.pt_members.proofs.ByPlace.{count_step, mbr_len, mbr_low, mbr_high, gpt_len, gpt_at, parts_len, parts_none, part_at}
 
 -- the rank of a label's partition

@@ -1,6 +1,6 @@
 -- The slices with a label place, one place more at a time.
-use Rattle.std.proofs.Common.{◌≡◌, ◌<◌, ◌≤◌, ◌+◌, ℕ, List, [], ◌∷◌, ◌++◌, length, get_or, take, filter, Option, None, sym, ap, ◌∙◌}
-use Rattle.std.proofs.Common.{Some, refl, subst, inl, inr, ⊎_elim, append-nil, arith, true, ◌^◌}
+use Rattle.std.proofs.Common.{◌≡◌, ◌<◌, ◌≤◌, ◌+◌, ℕ, List, [], ◌∷◌, ◌++◌, length, get_or, take, filter, Option, None, sym, ap, ◌∙◌, Some}
+use Rattle.std.proofs.Common.{refl, subst, inl, inr, ⊎_elim, append-nil, arith, true, ◌^◌}
 use Rattle.std.specs.Prelude.{◌⊎◌, flat_map, All}
 use Rattle.std.proofs.lemmas.List.{take_more, take_all}
 use Rattle.std.proofs.lemmas.List.Elements.{filter-append, filter_passes}
@@ -10,9 +10,9 @@ use Rattle.pt_members.specs.declared.layout.Body.{Body}
 use Rattle.pt_members.specs.declared.member.Kind.{Kind}
 use Rattle.pt_members.specs.declared.member.Kind.TheVariants as kind
 use Rattle.pt_members.specs.declared.member.Member.{Member}
-use Rattle.pt_members.specs.Members.{slots}
-use Rattle.pt_members.specs.Slices.{slice_of, slice_in, slices_of, has_place, place_of, placed_in, places_of, IsPlace}
-use Rattle.pt_members.specs.Next.{NextSectorIs, least_of}
+use Rattle.pt_members.specs.Members.{slots, slice_of, slice_in, slices_of, has_place, place_of, places_of, IsPlace}
+use Rattle.pt_members.specs.inner.Members.{placed_in}
+use Rattle.pt_members.specs.Tables.{NextSectorIs, least_of}
 use Rattle.pt_members.proofs.Lowest.{next_same, next_or}
 
 -- those of the first k places

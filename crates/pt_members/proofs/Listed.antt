@@ -1,18 +1,17 @@
 -- Sectors that are listed, and the lowest of them from one on.
-use Rattle.std.proofs.Common.{◌≡◌, ◌<◌, ◌≤◌, ◌+◌, ℕ, suc, List, [], ◌∷◌, ◌++◌, length, get_or, take, Option, Some, None, true, false}
-use Rattle.std.proofs.Common.{ltb}
+use Rattle.std.proofs.Common.{◌≡◌, ◌<◌, ◌≤◌, ◌+◌, ℕ, suc, List, [], ◌∷◌, ◌++◌, length, get_or, take, Option, Some, None, true, false, ltb}
 use Rattle.std.proofs.Common.{sym, subst, arith, inl, inr, ⊎_elim}
 use Rattle.std.specs.Prelude.{◌⊎◌, ◌↔◌, Contains, IsPermutation}
 use Rattle.std.specs.List.Sorted.{IsNonDecreasing, IsPartitionPoint}
 use Rattle.std.proofs.lemmas.Bool.{cases_lt, ltb-true, ltb-false}
 use Rattle.std.proofs.lemmas.List.Elements.{Contains-push, Contains-push_cases, Contains-append_left}
 use Rattle.std.proofs.lemmas.List.Sorted.{Contains-permutation, IsPermutation-sym}
-use Rattle.pt_members.specs.Lone.{Lists, Gains}
-use Rattle.pt_members.specs.Next.{NextSectorIs}
+use Rattle.pt_members.specs.Tables.{Lists, NextSectorIs}
+use Rattle.pt_members.specs.inner.Tables.{Gains}
 use Rattle.pt_mbr.specs.Chain.{StandsAt}
 use Rattle.pt_mbr.specs.declared.ebr.Ebr.{Ebr}
 use Rattle.pt_members.specs.declared.layout.Slice.{Slice}
-use Rattle.pt_members.specs.Slices.{IsPlace, place_of}
+use Rattle.pt_members.specs.Members.{IsPlace, place_of}
 use Rattle.pt_members.proofs.Lowest.{stands_more, stands_back, next_same}
 use Rattle.pt_members.proofs.LabelPlaces.{place_more, place_back}
 

@@ -5,7 +5,7 @@ use Rattle.std.specs.Prelude.{◌⊎◌}
 use Rattle.std.proofs.lemmas.Bool.{cases_lt}
 use Rattle.pt_mbr.specs.Chain.{StandsAt}
 use Rattle.pt_mbr.specs.declared.ebr.Ebr.{Ebr}
-use Rattle.pt_members.specs.Next.{NextSectorIs, least_of}
+use Rattle.pt_members.specs.Tables.{NextSectorIs, least_of}
 
 pub next_same : (P Q : ℕ → Type 0) (from : ℕ) (r : Option ℕ) → ((u : ℕ) → P u → Q u) → ((u : ℕ) → Q u → P u) → NextSectorIs P from r
     → NextSectorIs Q from r

@@ -8,8 +8,8 @@ use Rattle.pt_gpt.specs.declared.table.Table.{Table}
 use Rattle.pt_members.specs.declared.layout.Layout.{Layout}
 use Rattle.pt_members.specs.declared.layout.Body.TheVariants.{Gpt}
 use Rattle.pt_members.specs.declared.owned.Reach.{Reach}
-use Rattle.pt_members.specs.Owned.{Owns}
-use Rattle.pt_members.specs.Reaches.{IsWithin, Spans, AllSpanned}
+use Rattle.pt_members.specs.Tables.{Owns, IsWithin}
+use Rattle.pt_members.specs.inner.Tables.{Spans, AllSpanned}
 use Rattle.pt_members.proofs.Elsewhere.{none_near, misses_at}
 use Rattle.pt_members.proofs.Homes.{owns_none}
 

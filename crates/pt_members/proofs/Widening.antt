@@ -5,11 +5,10 @@ use Rattle.pt_members.specs.declared.member.Kind.TheVariants.{Leaf, Slice}
 use Rattle.pt_members.specs.declared.member.Member.{Member}
 use Rattle.pt_members.specs.declared.owned.Reach.{Reach}
 use Rattle.pt_members.specs.Members.{slots, parts}
-use Rattle.pt_members.specs.Owned.{Owns}
-use Rattle.pt_members.specs.Reaches.{IsWithin}
-use Rattle.pt_members.specs.Search.{InLayout}
-use Rattle.pt_members.specs.Leaves.{IsLeafWith, HasLeafAt, HasLeaf, HasLeafNear, OwnsAt, Widens}
-use Rattle.pt_members.specs.laws.Grouped.{member_place}
+use Rattle.pt_members.specs.Tables.{Owns, IsWithin}
+use Rattle.pt_members.specs.inner.Tables.{InLayout}
+use Rattle.pt_members.specs.inner.Members.{IsLeafWith, HasLeafAt, HasLeaf, HasLeafNear, OwnsAt, Widens}
+use Rattle.pt_members.proofs.Grouped.{member_place}
 use Rattle.pt_members.proofs.Lowest.{Under, under_more}
 
 pub widens_none : (P : ℕ → Type 0) (r : Reach) → ((s : ℕ) → ¬ P s) → Widens P r r

@@ -1,15 +1,3 @@
-pub mod Slices
-pub mod SliceLists
 pub mod Members
-pub mod Search
 pub mod Tables
-pub mod Lone
-pub mod Owned
-pub mod Reaches
-pub mod Leaves
-pub mod Places
-pub mod Counts
-pub mod Next
-pub mod OnePath
-pub mod Rows
-pub mod laws
+pub mod inner

@@ -1,14 +1,12 @@
--- The members of a layout, in groups of siblings.
---
--- Members are the used entries and records, the logical partitions, and the partitions of labels but c. Sectors are
--- the disk's own numbers. With sectors of 4096 bytes there are no slices.
-use Rattle.std.specs.Prelude.{if◌then◌else◌, ◌<◌, ◌≤◌, ◌+◌, ◌-◌, ◌^◌, ℕ, List, [], ◌∷◌, ◌++◌, flat_map, option_map, option_to_list, is_some}
-use Rattle.std.specs.Prelude.{Contains, Bool, Option, Some, None, nat_eq, ◌&&◌}
+-- The partitions of a layout, its slices, and the rows that show them.
+use Rattle.std.specs.Prelude.{if◌then◌else◌, ◌<◌, ◌≤◌, ◌+◌, ◌-◌, ◌^◌, ℕ, List, [], ◌∷◌, ◌++◌, flat_map, option_map, option_to_list}
+use Rattle.std.specs.Prelude.{is_some, Contains, Bool, Option, Some, None, nat_eq, ◌&&◌, ◌≡◌, ◌⊎◌, filter, nat_lt, nat_le, map, take}
+use Rattle.std.specs.Prelude.{count_by, slice_index_or}
 use Rattle.std.specs.Str.{bytes_eq}
-use Rattle.pt_bsd.specs.Form.{entry_first_of}
-use Rattle.pt_mbr.specs.Extended.{is_extended, extended_of}
+use Rattle.pt_bsd.specs.Labels.{entry_first_of}
+use Rattle.pt_mbr.specs.Records.{is_extended, extended_of}
 use Rattle.pt_guid.specs.Codes.{freebsd}
-use Rattle.pt_guid.specs.Mixed.{mixed}
+use Rattle.pt_guid.specs.Guids.{mixed}
 use Rattle.pt_mbr.specs.declared.record.Record.{Record}
 use Rattle.pt_mbr.specs.declared.ebr.Ebr.{Ebr}
 use Rattle.pt_gpt.specs.declared.entry.Entry.{Entry}
@@ -22,6 +20,16 @@ use Rattle.pt_path.specs.declared.path.Path.{Path}
 use Rattle.pt_members.specs.declared.member.Kind.{Kind}
 use Rattle.pt_members.specs.declared.member.Kind.TheVariants.{Leaf, Slice, Extended}
 use Rattle.pt_members.specs.declared.member.Member.{Member}
+use Rattle.pt_members.specs.declared.layout.Slice.{Slice as SliceValue}
+use Rattle.pt_members.specs.declared.member.Kind.TheVariants as kind
+use Rattle.pt_members.specs.declared.row.Row.{Row}
+use Rattle.pt_members.specs.declared.row.Source.{Source}
+use Rattle.pt_members.specs.declared.row.Source.TheVariants as source
+
+-- ## The members of a layout, in groups of siblings.
+--
+-- Members are the used entries and records, the logical partitions, and the partitions of labels but c. Sectors are
+-- the disk's own numbers. With sectors of 4096 bytes there are no slices.
 
 abbrev pub number_path : ℕ → Path
 number_path n = record { number = n; letter = None }
@@ -162,3 +170,117 @@ pub record IsMember (b : ℕ) (o : Layout) (m : Member) : Type 0 where
   pub group : Group
   pub stands : Contains (groups_of b o) group
   pub sibling : Contains group.members m
+
+-- ## Slices, and where their label places are.
+--
+-- A slice is a member of that kind: what slices there are, in which order and under which numbers, the list of members says.
+
+-- how many sectors there are from a first to a last; none where no such extent exists
+abbrev pub extent_len : ℕ → ℕ → ℕ
+extent_len first last = if nat_le first last && nat_lt last (2 ^ 63) then last - first + 1 else 0
+
+-- the slice from a first to a last sector
+abbrev pub slice_from : ℕ → ℕ → ℕ → SliceValue
+slice_from number first last = record { number = number; first = first; len = extent_len first last }
+
+-- this slice, where the kind is that of slices
+abbrev pub slice_as : Kind → SliceValue → List SliceValue
+slice_as kind.Leaf s = []
+slice_as kind.Slice s = s ∷ []
+slice_as kind.Extended s = []
+
+-- the slice that a member is, if it is one
+abbrev pub slice_of : Member → List SliceValue
+slice_of m = slice_as m.kind (slice_from m.path.number m.first m.last)
+
+-- the slice that stands in a place
+abbrev pub slice_in : Option Member → List SliceValue
+slice_in None = []
+slice_in (Some m) = slice_of m
+
+-- the slices of a layout in order of their numbers
+unfoldable pub slices_of : ℕ → Body → List SliceValue
+slices_of b body = flat_map slice_in (slots b body)
+
+-- the slice has a second sector, and that is one of the disk's n
+abbrev pub has_place : ℕ → SliceValue → Bool
+has_place n s = nat_lt 1 s.len && nat_lt (s.first + 1) n
+
+-- the second sector of a slice, where its label stands
+abbrev pub place_of : SliceValue → ℕ
+place_of s = s.first + 1
+
+-- the slices that have a label place on a disk of n sectors
+unfoldable pub places_of : ℕ → ℕ → Body → List SliceValue
+places_of b n body = filter (has_place n) (slices_of b body)
+
+-- the label place of one of these slices
+abbrev pub IsPlace : List SliceValue → ℕ → Type 0
+IsPlace [] s = ⊥
+IsPlace (p ∷ ps) s = (s ≡ place_of p) ⊎ IsPlace ps s
+
+-- ## The partitions of a layout in the order of their paths, and what stands in the place of each.
+
+-- what stands below a member in its place: the partitions of a slice's label
+abbrev pub below : Layout → Member → List Member
+below o m = elim m.kind as (λ k. List Member) [
+  | Leaf ↦ []
+  | Slice ↦ present (parts o m)
+  | Extended ↦ []
+]
+
+-- a place: nothing where it is unused
+abbrev pub rows_at : Layout → Option Member → List Member
+rows_at o None = []
+rows_at o (Some m) = m ∷ below o m
+
+-- the records or entries, then the logical partitions
+abbrev pub members_of : ℕ → Layout → List Member
+members_of b o = flat_map (rows_at o) (slots b o.body)
+
+-- the record or the entry in each place, as in `slots`
+unfoldable pub sources : Body → List (Option Source)
+sources (Mbr records chain) = map (option_map source.Record) records ++ map (λ (e : Ebr). option_map source.Record e.logical) chain
+sources (Gpt t) = map (option_map source.Entry) t.entries
+
+-- the entries of a label, as in `parts_in`
+abbrev pub part_sources : Label → List (Option Source)
+part_sources l = map (option_map source.Part) l.entries
+
+-- a partition with what stands in its place
+abbrev pub row_of : Option Member → Option Source → Option Row
+row_of None s = None
+row_of (Some m) None = None
+row_of (Some m) (Some s) = Some (record { member = m; source = s })
+
+unfoldable pub rows_with : List (Option Member) → List (Option Source) → List (Option Row)
+rows_with [] ss = []
+rows_with (m ∷ ms) [] = []
+rows_with (m ∷ ms) (s ∷ ss) = row_of m s ∷ rows_with ms ss
+
+-- the records or entries, then the logical partitions, as in `slots`
+abbrev pub rows : ℕ → Body → List (Option Row)
+rows b body = rows_with (slots b body) (sources body)
+
+-- the partitions of a slice's label, as in `parts_in`
+abbrev pub part_rows : Label → Member → List (Option Row)
+part_rows l m = rows_with (parts_in (Some l) m) (part_sources l)
+
+-- ## Logical partitions by the place of their extended boot records.
+
+-- how many of the first k have a logical partition
+abbrev pub used_before : ℕ → List Ebr → ℕ
+used_before k chain = count_by (λ (e : Ebr). is_some e.logical) (take k chain)
+
+abbrev pub no_ebr : Ebr
+no_ebr = record { at = record { 0 = 0 }; logical = None; next = None }
+
+-- the logical partition of extended boot record k
+abbrev pub logical_at : ℕ → ℕ → List Ebr → Option Member
+logical_at b k chain =
+    option_map (logical_member b (5 + used_before k chain) (slice_index_or chain k no_ebr).at.0) (slice_index_or chain k no_ebr).logical
+
+-- the number of the logical partition in a place, the records coming first, or of one that comes in front of it
+abbrev pub number_at : Body → ℕ → ℕ
+number_at (Mbr records chain) k = 5 + used_before (k - 4) chain
+number_at (Gpt t) k = 5

@@ -4,10 +4,9 @@ ghost use Rattle.std.specs.Prelude.{◌≡◌, ◌<◌, ◌+◌, ◌^◌, ◌↔
 ghost use Rattle.std.specs.List.Sorted.{IsNonDecreasing};
 ghost use Rattle.pt_sector.specs.Sectors.{IsSectorSize};
 ghost use Rattle.pt_mbr.specs.Chain.{StandsAt};
-ghost use Rattle.pt_members.specs.Lone.{Lists, Gains, AreAlone};
-ghost use Rattle.pt_members.specs.Next.{NextSectorIs};
-ghost use Rattle.pt_members.specs.Slices.{IsPlace};
-ghost use Rattle.pt_members.specs.Tables.{IsEbr};
+ghost use Rattle.pt_members.specs.Tables.{Lists, AreAlone, NextSectorIs, IsEbr};
+ghost use Rattle.pt_members.specs.inner.Tables.{Gains};
+ghost use Rattle.pt_members.specs.Members.{IsPlace};
 
 use crate::layout::{Body, Layout, Slice};
 use crate::slices::label_places;

@@ -1,11 +1,10 @@
 //! The sectors that partitions own.
 
 ghost use Rattle.std.specs.Prelude.{◌≡◌, ◌<◌, ◌≤◌, ◌^◌, ◌↔◌, ℕ, IfSome, IsTrue, Some, length};
-ghost use Rattle.pt_members.specs.Counts.{number_at};
-ghost use Rattle.pt_members.specs.Leaves.{IsLeafWith, HasLeafAt, HasLeaf, HasLeafNear, OwnsAt, Widens};
-ghost use Rattle.pt_members.specs.Members.{parts, parts_in, slots};
-ghost use Rattle.pt_members.specs.Owned.{Owns};
-ghost use Rattle.pt_members.specs.Reaches.{IsWithin, Spans, AllSpanned};
+ghost use Rattle.pt_members.specs.Members.{number_at, parts, parts_in, slots};
+ghost use Rattle.pt_members.specs.inner.Members.{IsLeafWith, HasLeafAt, HasLeaf, HasLeafNear, OwnsAt, Widens};
+ghost use Rattle.pt_members.specs.Tables.{Owns, IsWithin};
+ghost use Rattle.pt_members.specs.inner.Tables.{Spans, AllSpanned};
 
 use crate::layout::{Body, Layout};
 use crate::member::{Kind, Member};

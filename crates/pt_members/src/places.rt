@@ -2,7 +2,7 @@
 
 ghost use Rattle.std.specs.Prelude.{◌↔◌, ℕ, IsTrue, IfSome, IfNone};
 ghost use Rattle.pt_sector.specs.Sectors.{IsSectorSize};
-ghost use Rattle.pt_members.specs.Places.{IsPlaceOf, IsUnusable, IsInSlice, OwnerIs};
+ghost use Rattle.pt_members.specs.Tables.{IsPlaceOf, IsUnusable, IsInSlice, OwnerIs};
 
 use crate::layout::{Body, Layout};
 use crate::ownership::Owner;

@@ -2,8 +2,7 @@
 
 ghost use Rattle.std.specs.Prelude.{◌≡◌, ◌<◌, ◌+◌, ◌^◌, IfSome, None, length, slice_index_or};
 ghost use Rattle.pt_members.specs.declared.layout.Body.TheVariants.{Mbr};
-ghost use Rattle.pt_members.specs.Members.{slots};
-ghost use Rattle.pt_members.specs.Rows.{sources, part_sources, row_of, rows, part_rows};
+ghost use Rattle.pt_members.specs.Members.{slots, sources, part_sources, row_of, rows, part_rows};
 
 use crate::layout::Body;
 use crate::member::Member;

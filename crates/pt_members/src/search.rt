@@ -1,10 +1,9 @@
 //! The search for a member.
 
 ghost use Rattle.std.specs.Prelude.{◌≡◌, ◌<◌, ◌≤◌, ◌+◌, ◌^◌, ◌↔◌, IsTrue, IfSome, IfNone, Some, None, length, slice_index_or};
-ghost use Rattle.pt_members.specs.Counts.{number_at};
-ghost use Rattle.pt_members.specs.Members.{parts, parts_in, slots, Exists, Holds};
+ghost use Rattle.pt_members.specs.Members.{number_at, parts, parts_in, slots, Exists, Holds};
 ghost use Rattle.pt_path.specs.Paths.{rank};
-ghost use Rattle.pt_members.specs.Search.{IsAsWanted, FoundAt, FoundIn, FoundNear, Found, NoneNear, EntryMisses};
+ghost use Rattle.pt_members.specs.inner.Tables.{IsAsWanted, FoundAt, FoundIn, FoundNear, Found, NoneNear, EntryMisses};
 
 use crate::layout::{Body, Layout};
 use crate::member::{Kind, Member};

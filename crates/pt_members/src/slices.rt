@@ -1,10 +1,10 @@
 //! Slices, and where their labels stand.
 
-ghost use Rattle.std.specs.Prelude.{◌≡◌, ◌<◌, ◌+◌, ◌++◌, filter, option_to_list, length, slice_index_or, None, IfOk, IfSome, IsTrue, OnOk};
+ghost use Rattle.std.specs.Prelude.{◌≡◌, ◌<◌, ◌+◌, ◌++◌, filter, option_to_list, length, slice_index_or, None, IfOk, IfSome, IsTrue};
+ghost use Rattle.std.specs.Prelude.{OnOk};
 ghost use Rattle.pt_sector.specs.Sectors.{IsSectorSize};
-ghost use Rattle.pt_members.specs.Members.{slots};
-ghost use Rattle.pt_members.specs.Counts.{number_at};
-ghost use Rattle.pt_members.specs.Slices.{has_place, slice_of, placed_in, places_of};
+ghost use Rattle.pt_members.specs.Members.{slots, number_at, has_place, slice_of, places_of};
+ghost use Rattle.pt_members.specs.inner.Members.{placed_in};
 
 use crate::layout::{Body, Slice};
 use crate::member::{Kind, Member};

@@ -5,10 +5,9 @@ ghost use Rattle.std.specs.Prelude.{option_map, IfSome, slice_index_or};
 ghost use Rattle.std.specs.List.Sorted.{IsNonDecreasingBy};
 ghost use Rattle.pt_members.specs.Members.{records_as, entries_as, logicals_as, slots, tops, record_kind, logical_kind, entry_kind};
 ghost use Rattle.pt_members.specs.Members.{label_of, part_of, parts_in, sized_member, number_path, record_member, logical_member};
-ghost use Rattle.pt_members.specs.Members.{is_slice_kind, entry_member};
+ghost use Rattle.pt_members.specs.Members.{is_slice_kind, entry_member, used_before, logical_at, number_at};
 ghost use Rattle.pt_members.specs.declared.layout.Body.TheVariants.{Mbr};
-ghost use Rattle.pt_members.specs.Counts.{used_before, logical_at, number_at};
-ghost use Rattle.pt_members.specs.OnePath.{HasFour};
+ghost use Rattle.pt_members.specs.Tables.{HasFour};
 
 use crate::layout::{Body, Labelled, Labels};
 use crate::member::{Kind, Member};

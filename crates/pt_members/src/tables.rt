@@ -3,13 +3,10 @@
 ghost use Rattle.std.specs.Prelude.{◌≡◌, ◌<◌, ◌≤◌, ◌+◌, ◌^◌, ◌↔◌, ◌⊎◌, All, IsTrue, length, slice_index_or, None};
 ghost use Rattle.pt_sector.specs.Sectors.{IsSectorSize};
 ghost use Rattle.pt_mbr.specs.Chain.{StandsAt};
-ghost use Rattle.pt_gpt.specs.Array.{array_len};
-ghost use Rattle.pt_members.specs.Slices.{placed_in, places_of, IsPlace};
-ghost use Rattle.pt_members.specs.Members.{slots};
-ghost use Rattle.pt_members.specs.Tables.{IsTable, IsEbr, IsBodyTable, IsGptTable};
-ghost use Rattle.pt_members.specs.Counts.{number_at};
-ghost use Rattle.pt_members.specs.Lone.{Lists, AreAlone};
-ghost use Rattle.pt_members.specs.Next.{NextSectorIs, least_of};
+ghost use Rattle.pt_gpt.specs.Copies.{array_len};
+ghost use Rattle.pt_members.specs.inner.Members.{placed_in};
+ghost use Rattle.pt_members.specs.Members.{places_of, IsPlace, slots, number_at};
+ghost use Rattle.pt_members.specs.Tables.{IsTable, IsEbr, IsBodyTable, IsGptTable, Lists, AreAlone, NextSectorIs, least_of};
 
 use crate::alone::{Alone, next_among};
 use crate::layout::{Body, Layout};

@@ -6,7 +6,8 @@ use Rattle.std.specs.Str.Parse.{AllDigits, digits_value, IsNumeral, without_lead
 use Rattle.std.proofs.lemmas.Bool.{cases_lt}
 use Rattle.std.proofs.lemmas.Str.Parse.{IsNumeralModel, numerals_by_value, tells_digits, not_in_digits, without_leading_plus_none}
 use Rattle.std.proofs.lemmas.Fmt.{decimal_is_IsNumeral, decimal_digit, first_decimal, decimal-digits_value, parse-decimal}
-use Rattle.pt_path.specs.Texts.{IsNumber, IsPlainText}
+use Rattle.pt_path.specs.Paths.{IsNumber}
+use Rattle.pt_path.specs.inner.Paths.{IsPlainText}
 
 own : IsNumeralModel (AllDigits 10) (digits_value 10)
 own = numerals_by_value (AllDigits 10) tells_digits

@@ -1,13 +1,14 @@
 -- Paths at their dot.
-use Rattle.std.proofs.Common.{◌≡◌, ◌≢◌, ◌<◌, ◌≤◌, ◌^◌, ◌+◌, ℕ, List, [], ◌∷◌, ◌++◌, length, get_or, Option, Some, None, refl, sym, ap, ◌∙◌}
-use Rattle.std.proofs.Common.{subst, arith, lit<, Bor, IfNone, length-append}
+use Rattle.std.proofs.Common.{◌≡◌, ◌≢◌, ◌<◌, ◌≤◌, ◌^◌, ◌+◌, ℕ, List, [], ◌∷◌, ◌++◌, length, get_or, Option, Some, None, refl, sym, ap}
+use Rattle.std.proofs.Common.{◌∙◌, subst, arith, lit<, Bor, IfNone, length-append}
 use Rattle.std.specs.Fmt.{decimal}
 use Rattle.std.specs.Option.{MatchOption}
 use Rattle.std.proofs.Math.Seq.{get_or-append_seam}
 use Rattle.std.proofs.lemmas.List.{append-nil}
 use Rattle.std.proofs.lemmas.Str.Pattern.{IsSplitOnceResult, split_after, split_parts}
 use Rattle.pt_path.specs.declared.path.Path.{Path}
-use Rattle.pt_path.specs.Texts.{IsNumber, IsPath, IsLetter, letter_text, IsUndotted, IsLettered, IsDotted}
+use Rattle.pt_path.specs.Paths.{IsNumber, IsPath, IsLetter, letter_text}
+use Rattle.pt_path.specs.inner.Paths.{IsUndotted, IsLettered, IsDotted}
 use Rattle.pt_path.proofs.Numbers.{lacks}
 
 -- what the parts of a text that is cut at its first dot say of the path that it is

@@ -1,3 +1,2 @@
 pub mod Paths
-pub mod Texts
-pub mod laws
+pub mod inner

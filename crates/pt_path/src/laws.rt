@@ -2,16 +2,16 @@
 
 ghost use Rattle.std.specs.Prelude.{◌≡◌, ℕ, List};
 ghost use Rattle.pt_path.specs.declared.path.Path.{Path};
-ghost use Rattle.pt_path.specs.Texts.{IsNumber, IsPath};
+ghost use Rattle.pt_path.specs.Paths.{IsNumber, IsPath};
 
 /// A text is one number at most.
-#[tactic(auto, using(crate::specs::laws::OneText::number_is_one_lem))]
+#[tactic(auto, using(crate::proofs::OneText::number_is_one_lem))]
 pub fn number_is_one()
     ensures { (text : List ℕ) (m n : ℕ) → IsNumber text m → IsNumber text n → m ≡ n }
 {}
 
 /// A text is one path at most.
-#[tactic(auto, using(crate::specs::laws::OneText::path_is_one_lem))]
+#[tactic(auto, using(crate::proofs::OneText::path_is_one_lem))]
 pub fn path_is_one()
     ensures { (text : List ℕ) (p q : Path) → IsPath text p → IsPath text q → p ≡ q }
 {}

@@ -1,7 +1,8 @@
 //! Numbers and paths as texts.
 
 ghost use Rattle.std.specs.Prelude.{◌≡◌, ◌≢◌, ◌<◌, ◌+◌, ℕ, IfSome, IfNone, [], ◌∷◌, ◌↔◌, IsTrue};
-ghost use Rattle.pt_path.specs.Texts.{IsNumber, IsPath, IsPlainText, IsUndotted, IsDotted};
+ghost use Rattle.pt_path.specs.Paths.{IsNumber, IsPath};
+ghost use Rattle.pt_path.specs.inner.Paths.{IsPlainText, IsUndotted, IsDotted};
 ghost use Rattle.pt_path.specs.declared.path.Path.{Path};
 
 use crate::path::Path;

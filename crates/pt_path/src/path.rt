@@ -1,7 +1,7 @@
 //! The names of partitions.
 
 ghost use Rattle.std.specs.Prelude.{◌<◌, ◌↔◌, IsTrue, Some};
-ghost use Rattle.pt_path.specs.Texts.{shown_path};
+ghost use Rattle.pt_path.specs.Paths.{shown_path};
 
 use std::fmt;
 

@@ -1,17 +1,15 @@
 -- A flush, calls that only read, and then a plan that is applied.
 use Rattle.std.proofs.Common.{◌≡◌, ◌∙◌, inl, ℕ, List, refl, sym, ap, subst}
-use Rattle.pt_sector.specs.Sectors.{Sectors}
-use Rattle.pt_sector.specs.Writes.{Writes, after}
-use Rattle.pt_sector.specs.Device.{Told, MayLeave, Flushed, FailedFlush}
-use Rattle.pt_sector.specs.Since.{LeavesOnly}
-use Rattle.pt_sector.specs.laws.Since.{leaves_once, leaves_through, leaves_weaker}
-use Rattle.pt_apply.specs.Runs.{Settled, StoppedSomewhere}
+use Rattle.pt_sector.specs.Sectors.{Sectors, Writes, after}
+use Rattle.pt_sector.specs.Device.{Told, MayLeave, Flushed, FailedFlush, LeavesOnly}
+use Rattle.pt_sector.proofs.Since.{leaves_once, leaves_through, leaves_weaker}
+use Rattle.pt_apply.specs.Plans.{Settled, StoppedSomewhere}
 use Rattle.pt_check.specs.Answers.{Answers, Promises}
 use Rattle.pt_check.specs.declared.answer.Answer.{Answer}
 use Rattle.pt_check.specs.declared.answer.Answer.TheVariants.{No, Yes}
 use Rattle.pt_check.specs.declared.answer.Why.{Why}
 use Rattle.pt_plan.proofs.Histories.{flush_leaves, failed_flush_leaves}
-use Rattle.pt_plan.specs.Applied.{SafelyStopped, Applied}
+use Rattle.pt_plan.specs.Commits.{SafelyStopped, Applied}
 
 pub failed_flush : (old new : Told) (P : Sectors → Type 0) → FailedFlush old new → LeavesOnly old new P
 failed_flush old new P failed = leaves_once old new P failed.time (λ c may. inl (failed_flush_leaves old new failed c may))

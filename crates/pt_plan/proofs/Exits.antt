@@ -2,29 +2,23 @@
 use Rattle.std.proofs.Common.{◌≡◌, ◌∙◌, ◌⊎◌, inl, inr, ⊎_elim, ℕ, zero, suc, List, [], ◌∷◌, ◌++◌, refl, sym, ap, subst, Option, Some}
 use Rattle.std.proofs.Common.{None, Result, Ok, Err, slice_get, slice_index_or}
 use Rattle.std.proofs.lemmas.List.{append_cancel_left}
-use Rattle.pt_sector.specs.Sectors.{Sectors}
-use Rattle.pt_sector.specs.Writes.{Writes, after}
-use Rattle.pt_sector.specs.Device.{Told, MayLeave, Flushed, FailedFlush}
-use Rattle.pt_sector.specs.Calls.{IsReadIn, AreReads, ReadFaults, with_fault}
+use Rattle.pt_sector.specs.Sectors.{Sectors, Writes, after}
+use Rattle.pt_sector.specs.Device.{Told, MayLeave, Flushed, FailedFlush, IsReadIn, AreReads, ReadFaults, with_fault, LeavesOnly}
 use Rattle.pt_sector.specs.declared.address.Lba.{Lba}
 use Rattle.pt_sector.specs.declared.disk.Fault.{Fault}
 use Rattle.pt_sector.specs.declared.disk.Fault.TheVariants.{Read, Write, Flush}
-use Rattle.pt_sector.specs.Since.{LeavesOnly}
-use Rattle.pt_sector.specs.laws.Since.{leaves_once, leaves_through, leaves_weaker}
-use Rattle.pt_apply.specs.Plans.{faults_of}
-use Rattle.pt_apply.specs.Runs.{Settled, StoppedSomewhere, CallFailed}
-use Rattle.pt_apply.specs.Promises.{Keeps}
+use Rattle.pt_sector.proofs.Since.{leaves_once, leaves_through, leaves_weaker}
+use Rattle.pt_apply.specs.Plans.{faults_of, Settled, StoppedSomewhere, CallFailed, Keeps}
 use Rattle.pt_recover.specs.declared.error.NoTable.{NoTable as Reason}
 use Rattle.pt_members.specs.declared.layout.Layout.{Layout}
 use Rattle.pt_words.specs.declared.error.Refusal.{Refusal}
-use Rattle.pt_targets.specs.declared.error.PlanError.{PlanError}
+use Rattle.pt_cases.specs.declared.targets.error.PlanError.{PlanError}
 use Rattle.pt_plan.specs.declared.error.CommitError.{CommitError}
 use Rattle.pt_plan.specs.declared.error.CommitError.TheVariants.{NoTable, Edit, Plan, Check, Device, Memory}
-use Rattle.pt_plan.specs.laws.Settled.{settled_leaves}
-use Rattle.pt_plan.specs.Failed.{commit_fault_in}
-use Rattle.pt_plan.specs.History.{Past, Either, Has}
-use Rattle.pt_plan.specs.Written.{MetRead}
-use Rattle.pt_plan.specs.Commits.{Leads, Refuses, Bounded, Ready, FailedWriting, EndsBy, Ends, refused, Committed}
+use Rattle.pt_plan.proofs.EveryPlan.{settled_leaves}
+use Rattle.pt_plan.specs.Commits.{commit_fault_in, Past, Either, Has, Leads, Refuses, Bounded, Ready, FailedWriting, EndsBy, Ends}
+use Rattle.pt_plan.specs.Commits.{refused, Committed}
+use Rattle.pt_plan.specs.inner.Commits.{MetRead}
 use Rattle.pt_plan.proofs.Histories.{has_either, has_unchanged, has_done, has_new, has_old, failed_flush_leaves, still, so_far}
 use Rattle.pt_plan.proofs.Histories.{stopped_means, stopped_keeps}
 

@@ -1,21 +1,17 @@
 -- A plan that was checked, and not applied to its end: how it failed.
 use Rattle.std.proofs.Common.{◌≡◌, inr, ℕ, List, [], sym, subst, Some, slice_index_or}
-use Rattle.pt_sector.specs.Sectors.{Sectors}
-use Rattle.pt_sector.specs.Writes.{Writes}
-use Rattle.pt_sector.specs.Device.{Told, Flushed}
-use Rattle.pt_sector.specs.Calls.{IsReadIn, ReadFaults, with_fault}
+use Rattle.pt_sector.specs.Sectors.{Sectors, Writes}
+use Rattle.pt_sector.specs.Device.{Told, Flushed, IsReadIn, ReadFaults, with_fault}
 use Rattle.pt_sector.specs.declared.disk.Fault.{Fault}
 use Rattle.pt_sector.specs.declared.disk.Fault.TheVariants.{Read, Write, Flush}
-use Rattle.pt_apply.specs.Runs.{CallFailed}
-use Rattle.pt_check.specs.Answers.{Answers, Promises}
-use Rattle.pt_check.specs.Failed.{fault_in}
+use Rattle.pt_apply.specs.Plans.{CallFailed}
+use Rattle.pt_check.specs.Answers.{Answers, Promises, fault_in}
 use Rattle.pt_check.specs.declared.answer.Answer.{Answer}
 use Rattle.pt_check.specs.declared.answer.Answer.TheVariants.{Yes}
 use Rattle.pt_check.specs.declared.error.CheckError.{CheckError}
 use Rattle.pt_check.specs.declared.error.CheckError.TheVariants.{Device, Memory}
-use Rattle.pt_plan.specs.Failed.{commit_unchecked}
+use Rattle.pt_plan.specs.Commits.{commit_unchecked, FailedApplying, FailsBy, ApplyFailed}
 use Rattle.pt_plan.proofs.Exits.{met_read, reads_nothing}
-use Rattle.pt_plan.specs.Applied.{FailedApplying, FailsBy, ApplyFailed}
 
 module _ (b : ℕ) (phases : List Writes) (old : Told) where
   by_read : (fault : Fault) (new : Told) → IsReadIn (λ s. Unit {0}) fault → Flushed old new → FailsBy b phases fault old new

@@ -1,12 +1,12 @@
 -- What a plan makes of a disk.
 use Rattle.std.specs.Prelude.{◌≡◌, ℕ, List}
 use Rattle.std.proofs.Common.{subst}
-use Rattle.pt_sector.specs.Sectors.{Sectors}
-use Rattle.pt_sector.specs.Writes.{Writes}
+use Rattle.pt_sector.specs.Sectors.{Sectors, Writes}
 use Rattle.pt_check.specs.Answers.{Answers, Promises}
 use Rattle.pt_check.specs.declared.answer.Answer.{Answer}
 use Rattle.pt_check.specs.declared.answer.Answer.TheVariants.{Yes}
-use Rattle.pt_plan.specs.Finished.{AfterIs, FinishedIs}
+use Rattle.pt_plan.specs.Layouts.{AfterIs}
+use Rattle.pt_plan.specs.inner.Layouts.{FinishedIs}
 use Rattle.pt_plan.specs.declared.finished.After.{After}
 use Rattle.pt_plan.specs.declared.finished.After.TheVariants as outcome
 

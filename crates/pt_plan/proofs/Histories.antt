@@ -2,14 +2,11 @@
 use Rattle.std.proofs.Common.{◌≡◌, ◌∙◌, ◌⊎◌, inl, inr, ⊎_elim, ℕ, ◌+◌, List, [], ◌∷◌, ◌++◌, length, refl, sym, ap, subst, arith, Option}
 use Rattle.std.proofs.Common.{Some, Result, Ok}
 use Rattle.std.proofs.lemmas.Bool.{cases_order}
-use Rattle.pt_sector.specs.Sectors.{Sectors, sector}
-use Rattle.pt_sector.specs.Writes.{Writes, Puts, MayHold, after}
-use Rattle.pt_sector.specs.Device.{Told, MayLeave, Flushed, FailedFlush}
-use Rattle.pt_sector.specs.Since.{LeavesOnly}
-use Rattle.pt_sector.specs.laws.Since.{leaves_once}
-use Rattle.pt_apply.specs.Promises.{Keeps, Safe, Switches}
-use Rattle.pt_apply.specs.Runs.{StoppedSomewhere}
-use Rattle.pt_plan.specs.History.{Past, Done, Unchanged, Either, Steps, History, Has}
+use Rattle.pt_sector.specs.Sectors.{Sectors, sector, Writes, Puts, MayHold, after}
+use Rattle.pt_sector.specs.Device.{Told, MayLeave, Flushed, FailedFlush, LeavesOnly}
+use Rattle.pt_sector.proofs.Since.{leaves_once}
+use Rattle.pt_apply.specs.Plans.{Keeps, Safe, Switches, StoppedSomewhere}
+use Rattle.pt_plan.specs.Commits.{Past, Done, Unchanged, Either, Steps, History, Has}
 
 pub one_of : {L : Type 0} (means : Option L → Type 0) (old new : Option L) (switch phase : ℕ) → Switches means old new switch phase
     → means old ⊎ means new

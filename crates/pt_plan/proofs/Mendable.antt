@@ -1,26 +1,23 @@
 -- The steps before a repair's first write.
 use Rattle.std.proofs.Common.{◌≡◌, ℕ, List, [], Option, Some, None, Result, Ok, Err, IfErr, refl, sym, subst}
-use Rattle.pt_sector.specs.Sectors.{Sectors, IsSectorSize}
-use Rattle.pt_sector.specs.Writes.{Writes}
-use Rattle.pt_recover.specs.Answers.{failure_in}
-use Rattle.pt_recover.specs.Denotes.{Denotes}
-use Rattle.pt_recover.specs.laws.Terms.{denotes_one_lem}
+use Rattle.pt_sector.specs.Sectors.{Sectors, IsSectorSize, Writes}
+use Rattle.pt_recover.specs.Denotes.{failure_in, Denotes}
+use Rattle.pt_recover.proofs.Terms.{denotes_one_lem}
 use Rattle.pt_recover.specs.declared.error.NoTable.{NoTable as Reason}
 use Rattle.pt_recover.specs.declared.error.NoTable.TheVariants as reason
 use Rattle.pt_members.specs.declared.layout.Layout.{Layout}
-use Rattle.pt_sound.specs.Healthy.{Healthy, IsHealthy}
-use Rattle.pt_plan.specs.laws.Accepted.{plan_finishes, plan_not_refused}
+use Rattle.pt_layout.specs.Healthy.{Healthy, IsHealthy}
+use Rattle.pt_plan.proofs.EveryPlan.{plan_finishes, plan_not_refused}
 use Rattle.pt_cases.specs.Cases.{IsPlan, idle, backup_first, primary_first, from_mbr, one_label, within_mbr}
-use Rattle.pt_exact.specs.laws.Mended.{repair_is_planned_lem, mendable_by_plan_lem}
-use Rattle.pt_planner.specs.Known.{ReasonIs}
-use Rattle.pt_targets.specs.Unmendable.{IsUnmendableBy}
-use Rattle.pt_targets.specs.Errors.{IsFailure}
-use Rattle.pt_targets.specs.declared.error.PlanError.{PlanError}
-use Rattle.pt_targets.specs.declared.error.PlanError.TheVariants as plan
+use Rattle.pt_cases.proofs.Mended.{repair_is_planned_lem, mendable_by_plan_lem}
+use Rattle.pt_planner.specs.PlanReads.{ReasonIs}
+use Rattle.pt_cases.specs.Unplanned.{IsUnmendableBy, IsFailure}
+use Rattle.pt_cases.specs.declared.targets.error.PlanError.{PlanError}
+use Rattle.pt_cases.specs.declared.targets.error.PlanError.TheVariants as plan
 use Rattle.pt_plan.specs.Batches.{IsMendPlan, IsReadyToMend, IsMendRefusal}
-use Rattle.pt_plan.specs.Failed.{HidesNoFailure}
-use Rattle.pt_plan.specs.Mending.{repair_told}
-use Rattle.pt_plan.specs.Steps.{IsSafe, NotPlanned, NotSafe}
+use Rattle.pt_plan.specs.Commits.{HidesNoFailure}
+use Rattle.pt_plan.specs.inner.Repairs.{repair_told}
+use Rattle.pt_plan.specs.inner.Commits.{IsSafe, NotPlanned, NotSafe}
 use Rattle.pt_plan.specs.declared.error.CommitError.{CommitError}
 use Rattle.pt_plan.specs.declared.error.CommitError.TheVariants.{NoTable, Edit, Plan, Check, Device, Memory}
 

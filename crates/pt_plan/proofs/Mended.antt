@@ -2,27 +2,23 @@
 use Rattle.std.proofs.Common.{◌≡◌, ◌∙◌, inl, inr, ⊎_elim, ℕ, List, [], ◌∷◌, ◌++◌, length, refl, sym, ap, subst, arith, Option, Some}
 use Rattle.std.proofs.Common.{Result, Ok, Err, slice_index_or}
 use Rattle.std.proofs.lemmas.List.{append-nil}
-use Rattle.pt_sector.specs.Sectors.{Sectors}
-use Rattle.pt_sector.specs.Writes.{Writes, after}
-use Rattle.pt_sector.specs.Device.{Told, Moment, MayLeave, Flushed, FailedFlush}
-use Rattle.pt_sector.specs.Calls.{IsReadIn}
+use Rattle.pt_sector.specs.Sectors.{Sectors, Writes, after}
+use Rattle.pt_sector.specs.Device.{Told, Moment, MayLeave, Flushed, FailedFlush, IsReadIn, LeavesOnly}
 use Rattle.pt_sector.specs.declared.disk.Fault.{Fault}
 use Rattle.pt_sector.specs.declared.disk.Fault.TheVariants.{Read, Write, Flush}
-use Rattle.pt_sector.specs.Since.{LeavesOnly}
-use Rattle.pt_sector.specs.laws.Since.{leaves_once, leaves_through, leaves_weaker}
-use Rattle.pt_apply.specs.Runs.{Settled, StoppedSomewhere, Reached, CallFailed}
-use Rattle.pt_apply.specs.Promises.{Keeps}
+use Rattle.pt_sector.proofs.Since.{leaves_once, leaves_through, leaves_weaker}
+use Rattle.pt_apply.specs.Plans.{Settled, StoppedSomewhere, Reached, CallFailed, Keeps}
 use Rattle.pt_recover.specs.declared.error.NoTable.{NoTable as Reason}
 use Rattle.pt_members.specs.declared.layout.Layout.{Layout}
-use Rattle.pt_sound.specs.declared.finding.Finding.{Finding}
+use Rattle.pt_layout.specs.declared.sound.finding.Finding.{Finding}
 use Rattle.pt_words.specs.declared.error.Refusal.{Refusal}
 use Rattle.pt_plan.specs.declared.repair_error.RepairError.{RepairError}
 use Rattle.pt_plan.specs.declared.repair_error.RepairError.TheVariants.{NoTable, Unsound, Device, Memory, Plan, Check}
-use Rattle.pt_plan.specs.laws.Settled.{settled_leaves}
-use Rattle.pt_plan.specs.History.{Past, Unchanged, Has}
-use Rattle.pt_plan.specs.Mending.{repair_fault_in}
-use Rattle.pt_plan.specs.Repairs.{Mendable, ReadyToMend, RefusesToMend, FailedMending, MendEndsBy, MendBounded, Mends, Repaired}
-use Rattle.pt_plan.specs.Written.{MetRead}
+use Rattle.pt_plan.proofs.EveryPlan.{settled_leaves}
+use Rattle.pt_plan.specs.Commits.{Past, Unchanged, Has}
+use Rattle.pt_plan.specs.Repairs.{repair_fault_in, Mendable, ReadyToMend, RefusesToMend, FailedMending, MendEndsBy, MendBounded, Mends}
+use Rattle.pt_plan.specs.Repairs.{Repaired}
+use Rattle.pt_plan.specs.inner.Commits.{MetRead}
 use Rattle.pt_plan.proofs.Exits.{reads_nothing}
 use Rattle.pt_plan.proofs.Histories.{has_unchanged, has_same, failed_flush_leaves, still, so_far, stopped_means, stopped_keeps}
 

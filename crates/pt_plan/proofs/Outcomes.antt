@@ -1,22 +1,19 @@
 -- What a commit and a repair did, by how their flush, plan and writes went.
 use Rattle.std.proofs.Common.{◌≡◌, ◌∙◌, ℕ, List, [], length, Option, Some, refl, sym, ap, subst, Result, Ok, Err}
-use Rattle.pt_sector.specs.Sectors.{Sectors}
-use Rattle.pt_sector.specs.Writes.{Writes, after}
-use Rattle.pt_sector.specs.Device.{Told, MayLeave, Flushed, FailedFlush}
-use Rattle.pt_sector.specs.Since.{LeavesOnly}
+use Rattle.pt_sector.specs.Sectors.{Sectors, Writes, after}
+use Rattle.pt_sector.specs.Device.{Told, MayLeave, Flushed, FailedFlush, LeavesOnly}
 use Rattle.pt_sector.specs.declared.disk.Fault.{Fault}
 use Rattle.pt_sector.specs.declared.disk.Fault.TheVariants.{Flush}
-use Rattle.pt_apply.specs.Runs.{Settled, StoppedSomewhere, Reached, CallFailed}
+use Rattle.pt_apply.specs.Plans.{Settled, StoppedSomewhere, Reached, CallFailed}
 use Rattle.pt_recover.specs.declared.error.NoTable.{NoTable as Reason}
 use Rattle.pt_members.specs.declared.layout.Layout.{Layout}
-use Rattle.pt_sound.specs.declared.finding.Finding.{Finding}
+use Rattle.pt_layout.specs.declared.sound.finding.Finding.{Finding}
 use Rattle.pt_words.specs.declared.error.Refusal.{Refusal}
-use Rattle.pt_targets.specs.declared.error.PlanError.{PlanError}
-use Rattle.pt_plan.specs.Commits.{Committed, Ready, Refuses}
+use Rattle.pt_cases.specs.declared.targets.error.PlanError.{PlanError}
+use Rattle.pt_plan.specs.Commits.{Committed, Ready, Refuses, commit_fault_in}
 use Rattle.pt_plan.specs.Repairs.{Repaired, ReadyToMend, RefusesToMend}
-use Rattle.pt_plan.specs.Mending.{repair_told}
-use Rattle.pt_plan.specs.Failed.{commit_fault_in}
-use Rattle.pt_plan.specs.Written.{MetRead, Begun, Written, unflushed, unplanned, unapplied, applied}
+use Rattle.pt_plan.specs.inner.Repairs.{repair_told}
+use Rattle.pt_plan.specs.inner.Commits.{MetRead, Begun, Written, unflushed, unplanned, unapplied, applied}
 use Rattle.pt_plan.specs.declared.error.CommitError.{CommitError}
 use Rattle.pt_plan.specs.declared.error.CommitError.TheVariants.{Device}
 use Rattle.pt_plan.specs.declared.repair_error.RepairError.{RepairError}

@@ -1,21 +1,21 @@
 -- Where a device failed in the steps of a commit.
 use Rattle.std.specs.Prelude.{◌≡◌, ℕ, List, slice_index_or, [], None}
-use Rattle.pt_sector.specs.Writes.{Writes}
-use Rattle.pt_sector.specs.Reads.{FailedIn}
-use Rattle.pt_sector.specs.Calls.{IsReadIn}
+use Rattle.pt_sector.specs.Sectors.{Writes}
+use Rattle.pt_sector.specs.Overlays.{FailedIn}
+use Rattle.pt_sector.specs.Device.{IsReadIn}
 use Rattle.pt_sector.specs.declared.disk.Fault.{Fault}
 use Rattle.pt_sector.specs.declared.disk.Fault.TheVariants.{Read, Write, Flush}
 use Rattle.pt_sector.specs.declared.reading.Failure.{Failure}
 use Rattle.pt_sector.specs.declared.reading.Failure.TheVariants as failure
-use Rattle.pt_apply.specs.Runs.{FaultOf}
-use Rattle.pt_check.specs.Failed.{FailedInCheck}
+use Rattle.pt_apply.specs.Plans.{FaultOf}
+use Rattle.pt_check.specs.Answers.{FailedInCheck}
 use Rattle.pt_check.specs.declared.error.CheckError.{CheckError}
 use Rattle.pt_check.specs.declared.error.CheckError.TheVariants as check
 use Rattle.pt_planner.specs.PlanReads.{FailedInPlan}
-use Rattle.pt_targets.specs.declared.error.PlanError.{PlanError}
-use Rattle.pt_targets.specs.declared.error.PlanError.TheVariants as plan
-use Rattle.pt_plan.specs.Failed.{commit_fault_in, commit_failure, commit_unplanned, commit_unchecked}
-use Rattle.pt_plan.specs.Reading.{FailedInCommit}
+use Rattle.pt_cases.specs.declared.targets.error.PlanError.{PlanError}
+use Rattle.pt_cases.specs.declared.targets.error.PlanError.TheVariants as plan
+use Rattle.pt_plan.specs.Commits.{commit_fault_in, commit_failure, commit_unplanned, commit_unchecked}
+use Rattle.pt_plan.specs.Batches.{FailedInCommit}
 use Rattle.pt_plan.specs.declared.error.CommitError.{CommitError}
 use Rattle.pt_plan.specs.declared.error.CommitError.TheVariants as commit
 use Rattle.pt_plan.proofs.Exits.{reads_nothing}

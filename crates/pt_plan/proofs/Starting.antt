@@ -1,31 +1,25 @@
 -- The steps before a commit's first write.
-use Rattle.std.proofs.Common.{◌≡◌, ◌∙◌, ℕ, zero, suc, ◌+◌, ◌<◌, List, [], ◌∷◌, length, drop, get_or, Option, Some, None, Ok, Err}
-use Rattle.std.proofs.Common.{refl, sym, ap, subst, arith, add-one}
-use Rattle.pt_sector.specs.Sectors.{Sectors, IsSectorSize}
-use Rattle.pt_sector.specs.Writes.{Writes}
-use Rattle.pt_recover.specs.Answers.{IsReason, failure_in}
+use Rattle.std.proofs.Common.{◌≡◌, ◌∙◌, ℕ, zero, suc, ◌+◌, ◌<◌, List, [], ◌∷◌, length, drop, get_or, Option, Some, None, Ok, Err, refl}
+use Rattle.std.proofs.Common.{sym, ap, subst, arith, add-one}
+use Rattle.pt_sector.specs.Sectors.{Sectors, IsSectorSize, Writes}
+use Rattle.pt_recover.specs.Denotes.{IsReason, failure_in, Denotes}
 use Rattle.pt_recover.specs.declared.error.NoTable.{NoTable as Reason}
 use Rattle.pt_recover.specs.declared.error.NoTable.TheVariants as reason
-use Rattle.pt_sound.specs.Healthy.{Healthy}
-use Rattle.pt_members.specs.Owned.{OwnedOf}
-use Rattle.pt_members.specs.Tables.{TableOf}
-use Rattle.pt_plan.specs.laws.Accepted.{plan_finishes, plan_not_refused}
+use Rattle.pt_layout.specs.Healthy.{Healthy}
+use Rattle.pt_members.specs.Tables.{OwnedOf, TableOf}
+use Rattle.pt_plan.proofs.EveryPlan.{plan_finishes, plan_not_refused}
 use Rattle.pt_cases.specs.Cases.{IsPlan}
-use Rattle.pt_planner.specs.Known.{ReasonIs}
-use Rattle.pt_targets.specs.Errors.{fault_in}
-use Rattle.pt_targets.specs.Unplanned.{Unplanned}
-use Rattle.pt_targets.specs.declared.error.PlanError.{PlanError}
-use Rattle.pt_targets.specs.declared.error.PlanError.TheVariants as plan
-use Rattle.pt_plan.specs.Batches.{Words, Makes, MakesTable, EditedBy, IsPlanned, IsReady, IsRefusal}
-use Rattle.pt_plan.specs.Commits.{Leads}
-use Rattle.pt_plan.specs.Failed.{commit_fault_in, commit_unplanned, HidesNoFailure}
-use Rattle.pt_planner.specs.PlanReads.{PlanReads}
-use Rattle.pt_plan.specs.Reading as reading
-use Rattle.pt_plan.specs.Reading.{EditReads, FailedInCommit}
-use Rattle.pt_plan.specs.Steps.{sectors_in, StartsFrom, MayStart, NotEdited, NotPlanned, IsSafe, NotSafe}
+use Rattle.pt_planner.specs.PlanReads.{ReasonIs, PlanReads}
+use Rattle.pt_cases.specs.Unplanned.{fault_in, Unplanned}
+use Rattle.pt_cases.specs.declared.targets.error.PlanError.{PlanError}
+use Rattle.pt_cases.specs.declared.targets.error.PlanError.TheVariants as plan
+use Rattle.pt_plan.specs.Batches.{Words, Makes, MakesTable, EditedBy, IsPlanned, IsReady, IsRefusal, EditReads, FailedInCommit}
+use Rattle.pt_plan.specs.Commits.{Leads, commit_fault_in, commit_unplanned, HidesNoFailure}
+use Rattle.pt_plan.specs.Batches as reading
+use Rattle.pt_plan.specs.inner.Commits.{sectors_in, MayStart, NotEdited, NotPlanned, IsSafe, NotSafe}
+use Rattle.pt_plan.proofs.PhasesLemmas.{StartsFrom}
 use Rattle.pt_plan.specs.declared.error.CommitError.{CommitError}
 use Rattle.pt_plan.specs.declared.error.CommitError.TheVariants.{NoTable, Edit, Plan, Check, Device, Memory}
-use Rattle.pt_recover.specs.Denotes.{Denotes}
 use Rattle.pt_members.specs.declared.layout.Layout.{Layout}
 
 pub drop-next : {X : Type 0} (xs : List X) (i : ℕ) (x : X) → i < length xs → x ≡ get_or xs i x → drop i xs ≡ x ∷ drop (i + 1) xs

@@ -2,11 +2,12 @@
 use Rattle.std.proofs.Common.{◌≡◌, ℕ, refl, sym, subst}
 use Rattle.pt_sector.specs.declared.disk.Fault.{Fault}
 use Rattle.pt_sector.specs.declared.disk.Fault.TheVariants.{Read, Write, Flush}
-use Rattle.pt_targets.specs.declared.error.PlanError.TheVariants as plan
-use Rattle.pt_plan.specs.Failed.{commit_fault_in, HidesNoFailure}
-use Rattle.pt_plan.specs.Mending.{repair_fault_in, repair_told, MendHidesNoFailure}
-use Rattle.pt_plan.specs.Reading.{FailedInCommit, FailedInRepair}
-use Rattle.pt_plan.specs.Written.{MetRead}
+use Rattle.pt_cases.specs.declared.targets.error.PlanError.TheVariants as plan
+use Rattle.pt_plan.specs.Commits.{commit_fault_in, HidesNoFailure}
+use Rattle.pt_plan.specs.Repairs.{repair_fault_in, MendHidesNoFailure}
+use Rattle.pt_plan.specs.inner.Repairs.{repair_told}
+use Rattle.pt_plan.specs.Batches.{FailedInCommit, FailedInRepair}
+use Rattle.pt_plan.specs.inner.Commits.{MetRead}
 use Rattle.pt_plan.specs.declared.error.CommitError.{CommitError}
 use Rattle.pt_plan.specs.declared.error.CommitError.TheVariants.{NoTable, Edit, Plan, Check, Device, Memory}
 use Rattle.pt_plan.specs.declared.repair_error.RepairError.TheVariants as repair

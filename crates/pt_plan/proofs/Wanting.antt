@@ -1,27 +1,22 @@
 -- The steps before the first write, by what is wanted.
 use Rattle.std.proofs.Common.{◌≡◌, ℕ, List, length, Option, Some, inl, inr, refl, sym, subst}
-use Rattle.pt_sector.specs.Sectors.{Sectors, IsSectorSize}
-use Rattle.pt_sector.specs.Writes.{Writes}
+use Rattle.pt_sector.specs.Sectors.{Sectors, IsSectorSize, Writes}
 use Rattle.pt_sector.specs.declared.reading.Failure.{Failure}
 use Rattle.pt_sector.specs.declared.reading.Failure.TheVariants as failure
-use Rattle.pt_recover.specs.Answers.{IsReason}
-use Rattle.pt_recover.specs.Denotes.{Denotes}
+use Rattle.pt_recover.specs.Denotes.{IsReason, Denotes}
 use Rattle.pt_members.specs.declared.layout.Layout.{Layout}
-use Rattle.pt_members.specs.Owned.{OwnedOf}
-use Rattle.pt_members.specs.Tables.{TableOf}
-use Rattle.pt_sound.specs.Findings.{VerdictReads}
-use Rattle.pt_sound.specs.Healthy.{Healthy}
+use Rattle.pt_members.specs.Tables.{OwnedOf, TableOf}
+use Rattle.pt_layout.specs.Healthy.{VerdictReads, Healthy}
 use Rattle.pt_cases.specs.Cases.{IsPlan, idle, backup_first, primary_first, from_mbr, one_label, within_mbr}
-use Rattle.pt_check.specs.CheckReads.{CheckReads}
+use Rattle.pt_check.specs.Answers.{CheckReads}
 use Rattle.pt_planner.specs.PlanReads.{PlanReads, MakeReads}
-use Rattle.pt_targets.specs.Unplanned.{Unplanned}
-use Rattle.pt_plan.specs.laws.Accepted.{plan_lands, plan_finishes, plan_not_refused}
-use Rattle.pt_plan.specs.Commits.{Leads}
-use Rattle.pt_plan.specs.Failed.{commit_failure}
+use Rattle.pt_cases.specs.Unplanned.{Unplanned}
+use Rattle.pt_plan.proofs.EveryPlan.{plan_lands, plan_finishes, plan_not_refused}
+use Rattle.pt_plan.specs.Commits.{Leads, commit_failure}
 use Rattle.pt_plan.specs.Layouts.{Becomes, FromNothing, IsAccepted, IsReadyFor, IsRefusalOf}
-use Rattle.pt_plan.specs.Reading as reading
-use Rattle.pt_plan.specs.Steps.{NotPlanned, IsSafe, NotSafe}
-use Rattle.pt_plan.specs.Wanted.{IsPlanOf, IsReadyOf, IsRefusedBy, PlanOfReads, WriteOfReads}
+use Rattle.pt_plan.specs.Batches as reading
+use Rattle.pt_plan.specs.inner.Commits.{NotPlanned, IsSafe, NotSafe}
+use Rattle.pt_plan.specs.inner.Layouts.{IsPlanOf, IsReadyOf, IsRefusedBy, PlanOfReads, WriteOfReads}
 use Rattle.pt_plan.specs.declared.error.CommitError.{CommitError}
 use Rattle.pt_plan.specs.declared.error.CommitError.TheVariants.{NoTable, Edit, Plan, Check, Device, Memory}
 use Rattle.pt_plan.specs.declared.wanted.Wanted.{Wanted}

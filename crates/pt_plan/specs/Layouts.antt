@@ -1,21 +1,27 @@
--- Commits of a layout. It is a commit whose words are the layout itself: they make it of any other, and of nothing.
-use Rattle.std.specs.Prelude.{◌≡◌, ℕ, List, Option, Result, Ok}
-use Rattle.pt_sector.specs.Sectors.{Sectors}
-use Rattle.pt_sector.specs.Writes.{Writes}
+-- Plans and commits of a layout, or of another disk's layout.
+use Rattle.std.specs.Prelude.{◌≡◌, ℕ, List, Option, Result, Ok, length, Some, None, Err}
+use Rattle.pt_sector.specs.Sectors.{Sectors, Writes, after}
 use Rattle.pt_sector.specs.Device.{Told}
-use Rattle.pt_recover.specs.Answers.{IsReason}
-use Rattle.pt_recover.specs.Denotes.{Denotes}
+use Rattle.pt_recover.specs.Denotes.{IsReason, Denotes, TellsNothing, FailedInDisk, fault_in}
 use Rattle.pt_members.specs.declared.layout.Layout.{Layout}
-use Rattle.pt_members.specs.Owned.{OwnedOf}
-use Rattle.pt_members.specs.Tables.{TableOf}
-use Rattle.pt_sound.specs.Healthy.{Healthy}
+use Rattle.pt_members.specs.Tables.{OwnedOf, TableOf}
+use Rattle.pt_layout.specs.Healthy.{Healthy}
 use Rattle.pt_words.specs.declared.error.Refusal.{Refusal}
 use Rattle.pt_cases.specs.Cases.{IsPlan}
-use Rattle.pt_targets.specs.Unplanned.{Unplanned}
-use Rattle.pt_plan.specs.Accepted.{turn_of}
-use Rattle.pt_plan.specs.Landing.{Lands}
-use Rattle.pt_plan.specs.Commits.{Committed, Ready, Refuses}
+use Rattle.pt_cases.specs.Unplanned.{Unplanned}
+use Rattle.pt_plan.specs.Commits.{turn_of, Lands, Committed, Ready, Refuses, commit_fault_in, HidesNoFailure}
 use Rattle.pt_plan.specs.declared.error.CommitError.{CommitError}
+use Rattle.pt_sector.specs.declared.disk.Fault.{Fault}
+use Rattle.pt_planner.specs.PlanReads.{MakeReads}
+use Rattle.pt_plan.specs.Batches.{FailedInCommit, LayoutReads}
+use Rattle.pt_plan.specs.declared.like_error.LikeError.{LikeError}
+use Rattle.pt_plan.specs.declared.like_error.LikeError.TheVariants.{OtherSize, Other, Disk}
+use Rattle.pt_check.specs.Answers.{Answers, Promises}
+use Rattle.pt_check.specs.declared.answer.Answer.TheVariants.{No, Yes}
+use Rattle.pt_plan.specs.declared.finished.After.{After}
+use Rattle.pt_plan.specs.declared.finished.After.TheVariants as outcome
+
+-- ## Commits of a layout. It is a commit whose words are the layout itself: they make it of any other, and of nothing.
 
 -- what any layout, or nothing, becomes by a wanted one: that layout. It is never refused
 abbrev pub Becomes : Option Layout → Layout → Result Layout Refusal → Type 0
@@ -44,3 +50,89 @@ pub record IsAccepted (b : ℕ) (wanted : Layout) (d : Sectors) (phases : List W
   pub from : Denotes b d old
   pub planned : IsPlan b d wanted phases
   pub lands : Lands b d old wanted phases (turn_of planned)
+
+-- ## What a call tells that makes a disk like another one. Of the sectors, d are the disk's and e the other one's.
+
+abbrev pub like_error_number : LikeError → ℕ
+like_error_number OtherSize = 1
+like_error_number (Other why) = 2
+like_error_number (Disk error) = 3
+
+-- the fault of the disk, and of the other one, that an error carries
+abbrev pub fault_in_disk : LikeError → Option Fault
+fault_in_disk OtherSize = None
+fault_in_disk (Other why) = None
+fault_in_disk (Disk error) = commit_fault_in error
+
+abbrev pub fault_in_other : LikeError → Option Fault
+fault_in_other OtherSize = None
+fault_in_other (Other why) = fault_in why
+fault_in_other (Disk error) = None
+
+-- neither a fault of the disk nor want of memory is told within another error
+abbrev pub LikeHidesNoFailure : LikeError → Type 0
+LikeHidesNoFailure OtherSize = Unit {0}
+LikeHidesNoFailure (Other why) = Unit {0}
+LikeHidesNoFailure (Disk error) = HidesNoFailure error
+
+-- the sector whose read failed is one of these: of the disk, and of the other one
+abbrev pub FailedInLike : (ℕ → Type 0) → LikeError → Type 0
+FailedInLike S OtherSize = Unit {0}
+FailedInLike S (Other why) = Unit {0}
+FailedInLike S (Disk error) = FailedInCommit S error
+
+abbrev pub FailedInOther : (ℕ → Type 0) → LikeError → Type 0
+FailedInOther S OtherSize = Unit {0}
+FailedInOther S (Other why) = FailedInDisk S why
+FailedInOther S (Disk error) = Unit {0}
+
+-- the sectors of the disk that a plan for the other one's layout reads, and those that a commit of that layout reads
+abbrev pub LikePlanReads : ℕ → Sectors → Sectors → ℕ → Type 0
+LikePlanReads b e d s = (wanted : Layout) × Denotes b e (Some wanted) × MakeReads b d wanted s
+
+abbrev pub LikeReads : ℕ → Sectors → Sectors → ℕ → Type 0
+LikeReads b e d s = (wanted : Layout) × Denotes b e (Some wanted) × LayoutReads b wanted d s
+
+-- an error of the other disk comes before anything is asked of the disk, and another size before anything is asked of either
+abbrev pub LeftAlone : {D E : Type 0} → D → D → E → E → LikeError → Type 0
+LeftAlone old new other now_other OtherSize = (new ≡ old) × (now_other ≡ other)
+LeftAlone old new other now_other (Other why) = new ≡ old
+LeftAlone old new other now_other (Disk error) = Unit {0}
+
+-- a plan of d for the layout that e denotes
+pub record IsLikePlan (b : ℕ) (e d : Sectors) (phases : List Writes) : Type 0 where
+  pub wanted : Layout
+  pub denotes : Denotes b e (Some wanted)
+  pub accepted : IsAccepted b wanted d phases
+
+-- a checked one
+pub record IsReadyLike (b : ℕ) (e d : Sectors) (phases : List Writes) : Type 0 where
+  pub wanted : Layout
+  pub denotes : Denotes b e (Some wanted)
+  pub ready : IsReadyFor b wanted d phases
+
+-- why there is none
+abbrev pub NotLike : ℕ → Sectors → Sectors → LikeError → Type 0
+NotLike b e d OtherSize = ¬ (length e ≡ length d)
+NotLike b e d (Other why) = TellsNothing b e why
+NotLike b e d (Disk error) = (wanted : Layout) × Denotes b e (Some wanted) × IsRefusalOf b wanted d error
+
+-- a commit of the layout that e denotes; where there is none, or the other disk has another size, the disk is as before
+abbrev pub BecomesLike : ℕ → Sectors → Result Unit LikeError → Told → Told → Type 0
+BecomesLike b e (Ok x) old new = (wanted : Layout) × Denotes b e (Some wanted) × CommitsLayout b wanted (Ok x) old new
+BecomesLike b e (Err (Disk error)) old new = (wanted : Layout) × Denotes b e (Some wanted) × CommitsLayout b wanted (Err error) old new
+BecomesLike b e (Err error) old new = NotLike b e old.seen error × (new ≡ old)
+
+-- ## What a plan makes of a disk d with sectors of b bytes.
+
+-- the checker answers yes, and with all of the plan's writes done the disk denotes this layout
+pub record LeavesLayout (b : ℕ) (d : Sectors) (phases : List Writes) (layout : Layout) : Type 0 where
+  pub switch : ℕ
+  pub yes : Answers b d phases (Yes switch)
+  pub safe : Promises b d phases (Yes switch)
+  pub denotes : Denotes b (after phases d) (Some layout)
+
+-- the layout that the plan makes; or the reason with which the checker answers no
+abbrev pub AfterIs : ℕ → Sectors → List Writes → After → Type 0
+AfterIs b d phases (outcome.Layout layout) = LeavesLayout b d phases layout
+AfterIs b d phases (outcome.No why) = Answers b d phases (No why)

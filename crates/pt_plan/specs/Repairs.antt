@@ -1,20 +1,29 @@
--- What a repair does to a disk, over what a disk denotes, and what the planner says.
+-- What a repair does.
 use Rattle.std.specs.Prelude.{◌⊎◌, ℕ, List, Option, Some, None, Result, Ok, Err}
-use Rattle.pt_sector.specs.Sectors.{Sectors}
-use Rattle.pt_sector.specs.Writes.{Writes, after}
-use Rattle.pt_sector.specs.Device.{Told, Flushed, FailedFlush}
-use Rattle.pt_sector.specs.Since.{LeavesOnly}
+use Rattle.pt_sector.specs.Sectors.{Sectors, Writes, after}
+use Rattle.pt_sector.specs.Device.{Told, Flushed, FailedFlush, LeavesOnly}
 use Rattle.pt_sector.specs.declared.disk.Fault.{Fault}
 use Rattle.pt_sector.specs.declared.disk.Fault.TheVariants.{Read, Write, Flush}
-use Rattle.pt_apply.specs.Runs.{Settled, CallFailed}
-use Rattle.pt_apply.specs.Promises.{Keeps, Safe}
+use Rattle.pt_apply.specs.Plans.{Settled, CallFailed, Keeps, Safe}
 use Rattle.pt_recover.specs.declared.error.NoTable.{NoTable as Reason}
 use Rattle.pt_members.specs.declared.layout.Layout.{Layout}
-use Rattle.pt_sound.specs.declared.finding.Finding.{Finding}
+use Rattle.pt_layout.specs.declared.sound.finding.Finding.{Finding}
 use Rattle.pt_words.specs.declared.error.Refusal.{Refusal}
 use Rattle.pt_plan.specs.declared.repair_error.RepairError.{RepairError}
 use Rattle.pt_plan.specs.declared.repair_error.RepairError.TheVariants.{NoTable, Unsound, Device, Memory, Plan, Check}
-use Rattle.pt_plan.specs.History.{Unchanged, Carries}
+use Rattle.pt_plan.specs.Commits.{Unchanged, Carries}
+use Rattle.pt_sector.specs.declared.reading.Failure.{Failure}
+use Rattle.pt_sector.specs.declared.reading.Failure.TheVariants as failure
+use Rattle.pt_recover.specs.Denotes.{IsOutsideDisk}
+use Rattle.pt_recover.specs.declared.error.NoTable.TheVariants as nothing
+use Rattle.pt_check.specs.declared.error.CheckError.{CheckError}
+use Rattle.pt_check.specs.declared.error.CheckError.TheVariants as check
+use Rattle.pt_cases.specs.Unplanned.{IsFailure}
+use Rattle.pt_cases.specs.declared.targets.error.PlanError.{PlanError}
+use Rattle.pt_cases.specs.declared.targets.error.PlanError.TheVariants as plan
+use Rattle.pt_plan.specs.declared.repair_error.RepairError.TheVariants as repair
+
+-- ## What a repair does to a disk, over what a disk denotes, and what the planner says.
 
 module _ (denotes : Sectors → Option Layout → Type 0) (unmendable : Sectors → Layout → Finding → Type 0) where
   -- d denotes this layout, and nothing keeps it from being mended
@@ -88,3 +97,44 @@ module _ {W : Type 0} (denotes : Sectors → Option Layout → Type 0) (reason :
     pub ends : Mends result old new
     pub bounds : LeavesOnly old new (MendBounded denotes plans unmendable healthy table owned old.seen)
     pub idle : healthy old.seen → Flushed old new ⊎ FailedFlush old new
+
+-- ## Errors of a repair: their numbers, and the failures of the device that go with them.
+
+abbrev pub repair_error_number : RepairError → ℕ
+repair_error_number (repair.NoTable e) = 1
+repair_error_number (repair.Unsound f) = 2
+repair_error_number (repair.Device fault) = 3
+repair_error_number repair.Memory = 4
+repair_error_number (repair.Plan e) = 5
+repair_error_number (repair.Check why) = 6
+
+-- the fault that a repair's error carries
+abbrev pub repair_fault_in : RepairError → Option Fault
+repair_fault_in (repair.Device fault) = Some fault
+repair_fault_in _ = None
+
+-- neither the device's fault nor want of memory is told within another error
+abbrev pub MendHidesNoFailure : RepairError → Type 0
+MendHidesNoFailure (repair.NoTable e) = ¬ IsOutsideDisk e
+MendHidesNoFailure (repair.Plan e) = ¬ IsFailure e
+MendHidesNoFailure _ = Unit {0}
+
+-- what a repair tells where there is no table, of a failure, and of the planner's and the checker's errors
+abbrev pub repair_untabled : Reason → RepairError
+repair_untabled (nothing.Device at) = repair.Device (Read at)
+repair_untabled nothing.Memory = repair.Memory
+repair_untabled e = repair.NoTable e
+
+abbrev pub repair_failure : Failure → RepairError
+repair_failure (failure.Device at) = repair.Device (Read at)
+repair_failure failure.Memory = repair.Memory
+
+abbrev pub repair_unplanned : PlanError → RepairError
+repair_unplanned (plan.Unsound f) = repair.Unsound f
+repair_unplanned (plan.Device fault) = repair.Device fault
+repair_unplanned plan.Memory = repair.Memory
+repair_unplanned e = repair.Plan e
+
+abbrev pub repair_unchecked : CheckError → RepairError
+repair_unchecked (check.Device fault) = repair.Device fault
+repair_unchecked check.Memory = repair.Memory

@@ -2,9 +2,9 @@
 use Rattle.std.specs.Prelude.{ℕ, List, ◌++◌, codes}
 use Rattle.pt_sector.specs.Sentences.{fault_sentence, no_memory}
 use Rattle.pt_recover.specs.Sentences.{no_table_sentence}
-use Rattle.pt_sound.specs.Sentences.{finding_sentence}
+use Rattle.pt_layout.specs.Sentences.{finding_sentence}
 use Rattle.pt_words.specs.Sentences.{refusal_sentence}
-use Rattle.pt_targets.specs.Sentences.{plan_error_sentence}
+use Rattle.pt_cases.specs.Sentences.{plan_error_sentence}
 use Rattle.pt_check.specs.Sentences.{why_sentence}
 use Rattle.pt_plan.specs.declared.error.CommitError.{CommitError}
 use Rattle.pt_plan.specs.declared.error.CommitError.TheVariants as commit

@@ -2,13 +2,11 @@
 
 ghost use Rattle.std.specs.Prelude.{◌≡◌, IfOk, IfErr};
 ghost use Rattle.pt_sector.specs.Sectors.{IsSectorSize};
-ghost use Rattle.pt_sector.specs.Calls.{Blames};
-ghost use Rattle.pt_sector.specs.Since.{LeavesOnly};
+ghost use Rattle.pt_sector.specs.Device.{Blames, LeavesOnly};
 ghost use Rattle.pt_apply.specs.Plans.{phases_of};
-ghost use Rattle.pt_check.specs.CheckReads.{CheckReads};
-ghost use Rattle.pt_plan.specs.Reading.{FailedInCommit};
-ghost use Rattle.pt_plan.specs.Applied.{Applied, ApplyFailed, SafelyStopped};
-ghost use Rattle.pt_plan.specs.Failed.{commit_fault_in as fault_in};
+ghost use Rattle.pt_check.specs.Answers.{CheckReads};
+ghost use Rattle.pt_plan.specs.Batches.{FailedInCommit};
+ghost use Rattle.pt_plan.specs.Commits.{Applied, ApplyFailed, SafelyStopped, commit_fault_in as fault_in};
 
 use crate::error::CommitError;
 use pt_apply::{Plan, apply};

@@ -2,12 +2,11 @@
 
 ghost use Rattle.std.specs.Prelude.{◌≡◌, ◌<◌, All, length, IfOk, IfErr};
 ghost use Rattle.pt_sector.specs.Sectors.{IsSectorSize};
-ghost use Rattle.pt_sector.specs.Calls.{Blames};
-ghost use Rattle.pt_sector.specs.Reads.{OnlyReads};
+ghost use Rattle.pt_sector.specs.Device.{Blames};
+ghost use Rattle.pt_sector.specs.Overlays.{OnlyReads};
 ghost use Rattle.pt_apply.specs.Plans.{phases_of, InRange};
-ghost use Rattle.pt_plan.specs.Batches.{Commits, IsPlanned, IsReady, IsRefusal};
-ghost use Rattle.pt_plan.specs.Reading.{FailedInCommit, EditReads, CommitReads};
-ghost use Rattle.pt_plan.specs.Failed.{commit_fault_in as fault_in, HidesNoFailure};
+ghost use Rattle.pt_plan.specs.Batches.{Commits, IsPlanned, IsReady, IsRefusal, FailedInCommit, EditReads, CommitReads};
+ghost use Rattle.pt_plan.specs.Commits.{commit_fault_in as fault_in, HidesNoFailure};
 
 use crate::error::CommitError;
 use crate::prepare::{checked_plan_wanted, plan_wanted};

@@ -1,8 +1,8 @@
 //! Why a commit did nothing.
 
 ghost use Rattle.std.specs.Prelude.{◌≡◌, Some};
-ghost use Rattle.pt_plan.specs.Failed.{commit_error_number, commit_untabled, commit_failure, commit_unedited};
-ghost use Rattle.pt_plan.specs.Failed.{commit_unplanned, commit_unchecked};
+ghost use Rattle.pt_plan.specs.Commits.{commit_error_number, commit_untabled, commit_failure, commit_unedited, commit_unplanned};
+ghost use Rattle.pt_plan.specs.Commits.{commit_unchecked};
 ghost use Rattle.pt_plan.specs.declared.error.CommitError.TheVariants as commit;
 ghost use Rattle.pt_plan.specs.Sentences.{commit_error_sentence};
 

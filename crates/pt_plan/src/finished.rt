@@ -1,19 +1,17 @@
 //! What a plan makes of a disk, before it is applied.
 
-ghost use Rattle.std.specs.Prelude.{◌≡◌, ◌≤◌, ◌<◌, ◌+◌, length, IfOk, IfErr, IfSome, IsNone};
-ghost use Rattle.pt_sector.specs.Calls.{Blames};
-ghost use Rattle.pt_sector.specs.Reads.{OnlyReads};
-ghost use Rattle.pt_sector.specs.Sectors.{IsSectorSize};
-ghost use Rattle.pt_sector.specs.Writes.{written, after};
-ghost use Rattle.pt_sector.specs.Overlays.{room_left};
-ghost use Rattle.pt_apply.specs.Plans.{writes_of, phases_of, writes_in, finished};
-ghost use Rattle.pt_sound.specs.Findings.{VerdictReads};
-ghost use Rattle.pt_check.specs.CheckReads.{CheckReads};
-ghost use Rattle.pt_check.specs.Failed.{fault_in, FailedInCheck};
-ghost use Rattle.pt_plan.specs.Finished.{AfterIs, FinishedIs};
+ghost use Rattle.std.specs.Prelude.{◌<◌, IfOk, IfErr};
+ghost use Rattle.pt_sector.specs.Device.{Blames};
+ghost use Rattle.pt_sector.specs.Overlays.{OnlyReads};
+ghost use Rattle.pt_sector.specs.Sectors.{IsSectorSize, after};
+ghost use Rattle.pt_apply.specs.Plans.{phases_of, finished};
+ghost use Rattle.pt_layout.specs.Healthy.{VerdictReads};
+ghost use Rattle.pt_check.specs.Answers.{CheckReads, fault_in, FailedInCheck};
+ghost use Rattle.pt_plan.specs.Layouts.{AfterIs};
+ghost use Rattle.pt_plan.specs.inner.Layouts.{FinishedIs};
 
-use pt_apply::{Plan, Write};
-use pt_check::{Answer, CheckError, MOST_WRITES, Why, check};
+use pt_apply::Plan;
+use pt_check::{Answer, CheckError, Why, check, count_writes, put_plan};
 use pt_layout::{Layout, Verdict, verify};
 use pt_sector::{Disk, Overlay, ReadCache, Room};
 use std::alloc::Global;
@@ -25,52 +23,6 @@ pub enum After {
     Layout(Layout),
     /// It may not: the checker's first reason against it.
     No(Why),
-}
-
-/// How many writes the plan has, where they are not too many.
-fn count_writes<const B: usize>(plan: &Plan<B>) -> Option<usize>
-    ensures few { IfSome result (λ n. n ≡ length (writes_in (phases_of plan.now))) }
-    ensures many { IsNone result → 4096 < length (writes_in (phases_of plan.now)) }
-{
-    let mut count = 0;
-    for phase in &plan.phases {
-        if phase.len() > MOST_WRITES - count {
-            return None;
-        }
-        count += phase.len();
-    }
-    Some(count)
-}
-
-/// Puts a phase into an overlay that has room for it.
-fn put_phase<'a, const B: usize, D: Disk<B>>(over: &mut Overlay<'a, D, B>, phase: &[Write<B>])
-    requires size { IsSectorSize B }
-    requires room { length phase.now ≤ room_left over.old.own }
-    ensures same_reference { over.new.disk.ghost_name ≡ over.old.disk.ghost_name }
-    ensures disk { over.new.disk.now ≡ over.old.disk.now }
-    ensures faults { over.new.failed ≡ over.old.failed }
-    ensures room { room_left over.old.own ≤ room_left over.new.own + length phase.now }
-    ensures seen { (⟦<Overlay<'a, D, B> as Disk<B>>⟧.told over.new).seen ≡ written (writes_of phase.now)
-        (⟦<Overlay<'a, D, B> as Disk<B>>⟧.told over.old).seen }
-{
-    for write in phase {
-        over.put(write.lba, &write.bytes);
-    }
-}
-
-/// Puts a whole plan into an overlay that has room for it.
-fn put_plan<'a, const B: usize, D: Disk<B>>(over: &mut Overlay<'a, D, B>, plan: &Plan<B>)
-    requires size { IsSectorSize B }
-    requires room { length (writes_in (phases_of plan.now)) ≤ room_left over.old.own }
-    ensures same_reference { over.new.disk.ghost_name ≡ over.old.disk.ghost_name }
-    ensures disk { over.new.disk.now ≡ over.old.disk.now }
-    ensures faults { over.new.failed ≡ over.old.failed }
-    ensures seen { (⟦<Overlay<'a, D, B> as Disk<B>>⟧.told over.new).seen ≡ after (phases_of plan.now)
-        (⟦<Overlay<'a, D, B> as Disk<B>>⟧.told over.old).seen }
-{
-    for phase in &plan.phases {
-        put_phase(over, phase);
-    }
 }
 
 /// The layout of the finished disk, where that is healthy; a reason against the plan, where it has too many writes or the

@@ -1,25 +1,21 @@
 //! Laws of plans and the checker. The functions do nothing: their contracts are the laws.
 
 ghost use Rattle.std.specs.Prelude.{ℕ, List, All, Contains, Option};
-ghost use Rattle.pt_sector.specs.Sectors.{Sectors, IsSectorSize};
-ghost use Rattle.pt_sector.specs.Writes.{Writes, after};
+ghost use Rattle.pt_sector.specs.Sectors.{Sectors, IsSectorSize, Writes, after};
 ghost use Rattle.pt_recover.specs.Denotes.{Denotes};
-ghost use Rattle.pt_members.specs.Slices.{places_of};
+ghost use Rattle.pt_members.specs.Members.{places_of};
 ghost use Rattle.pt_members.specs.declared.layout.Layout.{Layout};
 ghost use Rattle.pt_members.specs.declared.layout.Slice.{Slice};
 ghost use Rattle.pt_bsd.specs.declared.label.Label.{Label};
-ghost use Rattle.pt_sound.specs.Healthy.{IsHealthy};
+ghost use Rattle.pt_layout.specs.Healthy.{IsHealthy};
 ghost use Rattle.pt_check.specs.Answers.{Answers};
 ghost use Rattle.pt_check.specs.declared.answer.Answer.TheVariants.{No};
 ghost use Rattle.pt_check.specs.declared.answer.Why.{Why};
 ghost use Rattle.pt_cases.specs.Cases.{IsPlan};
-ghost use Rattle.pt_plan.specs.Ended.{HoldsTarget};
-ghost use Rattle.pt_plan.specs.Landing.{Lands};
-ghost use Rattle.pt_plan.specs.Phases.{IsPhase};
-ghost use Rattle.pt_plan.specs.Accepted.{turn_of};
+ghost use Rattle.pt_plan.specs.Commits.{HoldsTarget, Lands, IsPhase, turn_of};
 
 /// A plan of a disk for a layout is accepted with its switch, and the disk is healthy after it, with that layout.
-#[tactic(auto, using(crate::specs::laws::Accepted::plan_lands))]
+#[tactic(auto, using(crate::proofs::EveryPlan::plan_lands))]
 pub fn plan_is_accepted()
     ensures { (b : ℕ) (d : Sectors) (o : Option Layout) (p : Layout) (phases : List Writes) → IsSectorSize b → Denotes b d o
         → (is : IsPlan b d p phases) → Lands b d o p phases (turn_of is) }

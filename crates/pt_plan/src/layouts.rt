@@ -2,15 +2,14 @@
 
 ghost use Rattle.std.specs.Prelude.{◌≡◌, ◌<◌, All, length, IfOk, IfErr};
 ghost use Rattle.pt_sector.specs.Sectors.{IsSectorSize};
-ghost use Rattle.pt_sector.specs.Calls.{Blames};
-ghost use Rattle.pt_sector.specs.Reads.{OnlyReads};
+ghost use Rattle.pt_sector.specs.Device.{Blames};
+ghost use Rattle.pt_sector.specs.Overlays.{OnlyReads};
 ghost use Rattle.pt_apply.specs.Plans.{phases_of, InRange};
 ghost use Rattle.pt_planner.specs.PlanReads.{FailedInPlan, MakeReads};
-ghost use Rattle.pt_targets.specs.Errors.{fault_in as plan_fault_in};
-ghost use Rattle.pt_targets.specs.Unplanned.{Unplanned};
+ghost use Rattle.pt_cases.specs.Unplanned.{fault_in as plan_fault_in, Unplanned};
 ghost use Rattle.pt_plan.specs.Layouts.{CommitsLayout, IsAccepted, IsReadyFor, IsRefusalOf};
-ghost use Rattle.pt_plan.specs.Reading.{FailedInCommit, LayoutReads};
-ghost use Rattle.pt_plan.specs.Failed.{commit_fault_in as fault_in, HidesNoFailure};
+ghost use Rattle.pt_plan.specs.Batches.{FailedInCommit, LayoutReads};
+ghost use Rattle.pt_plan.specs.Commits.{commit_fault_in as fault_in, HidesNoFailure};
 
 use crate::error::CommitError;
 use crate::prepare::checked_plan_wanted;

@@ -13,6 +13,7 @@ mod like_error;
 mod prepare;
 mod repair_error;
 mod repairs;
+pub mod runs;
 mod wanted;
 mod writing;
 

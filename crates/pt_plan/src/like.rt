@@ -2,12 +2,13 @@
 
 ghost use Rattle.std.specs.Prelude.{◌≡◌, ◌↔◌, ◌<◌, All, Some, length, IfOk, IfErr};
 ghost use Rattle.pt_sector.specs.Sectors.{IsSectorSize};
-ghost use Rattle.pt_sector.specs.Calls.{Blames};
-ghost use Rattle.pt_sector.specs.Reads.{OnlyReads};
+ghost use Rattle.pt_sector.specs.Device.{Blames};
+ghost use Rattle.pt_sector.specs.Overlays.{OnlyReads};
 ghost use Rattle.pt_apply.specs.Plans.{phases_of, InRange};
 ghost use Rattle.pt_recover.specs.Denotes.{Denotes, Reads};
-ghost use Rattle.pt_plan.specs.Like.{fault_in_disk, fault_in_other, LikeHidesNoFailure, FailedInLike, FailedInOther};
-ghost use Rattle.pt_plan.specs.Like.{LikePlanReads, LikeReads, IsOfOther, LeftAlone, IsLikePlan, IsReadyLike, NotLike, BecomesLike};
+ghost use Rattle.pt_plan.specs.Layouts.{fault_in_disk, fault_in_other, LikeHidesNoFailure, FailedInLike, FailedInOther, LikePlanReads};
+ghost use Rattle.pt_plan.specs.Layouts.{LikeReads, LeftAlone, IsLikePlan, IsReadyLike, NotLike, BecomesLike};
+ghost use Rattle.pt_plan.specs.inner.Layouts.{IsOfOther};
 ghost use Rattle.pt_plan.specs.declared.like_error.LikeError.TheVariants.{OtherSize};
 
 use crate::layouts::{checked_plan_for_layout, commit_layout};

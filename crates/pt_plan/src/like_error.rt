@@ -1,7 +1,7 @@
 //! Why a disk doesn't become like another one.
 
 ghost use Rattle.std.specs.Prelude.{◌≡◌, Some};
-ghost use Rattle.pt_plan.specs.Like.{like_error_number};
+ghost use Rattle.pt_plan.specs.Layouts.{like_error_number};
 ghost use Rattle.pt_plan.specs.declared.like_error.LikeError.TheVariants as like;
 ghost use Rattle.pt_plan.specs.Sentences.{like_error_sentence};
 

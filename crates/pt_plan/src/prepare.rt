@@ -2,22 +2,20 @@
 
 ghost use Rattle.std.specs.Prelude.{◌≡◌, ◌↔◌, ◌<◌, All, length, Ok, Some, None, OnOk, IfOk, IfErr, IsTrue};
 ghost use Rattle.pt_sector.specs.Sectors.{IsSectorSize};
-ghost use Rattle.pt_sector.specs.Calls.{Blames};
-ghost use Rattle.pt_sector.specs.Reads.{OnlyReads};
+ghost use Rattle.pt_sector.specs.Device.{Blames};
+ghost use Rattle.pt_sector.specs.Overlays.{OnlyReads};
 ghost use Rattle.pt_apply.specs.Plans.{phases_of, InRange};
-ghost use Rattle.pt_recover.specs.Answers.{failure_in};
+ghost use Rattle.pt_recover.specs.Denotes.{failure_in};
 ghost use Rattle.pt_recover.specs.declared.error.NoTable.{NoTable as Reason};
 ghost use Rattle.pt_cases.specs.Cases.{IsPlan};
-ghost use Rattle.pt_check.specs.CheckReads.{CheckReads};
-ghost use Rattle.pt_check.specs.Recovered.{IsRecoveredOf};
-ghost use Rattle.pt_planner.specs.Known.{IsKnown, ReasonIs};
-ghost use Rattle.pt_planner.specs.PlanReads.{PlanReads};
-ghost use Rattle.pt_plan.specs.Batches.{IsPlanned, IsReady, IsRefusal, IsMendPlan, IsMendRefusal, MakesTable, EditedBy};
-ghost use Rattle.pt_plan.specs.Failed.{commit_fault_in as fault_in, HidesNoFailure};
-ghost use Rattle.pt_plan.specs.Mending.{repair_told};
-ghost use Rattle.pt_plan.specs.Reading.{FailedInCommit, EditReads, CommitReads, MendReads};
-ghost use Rattle.pt_plan.specs.Steps.{sectors_in, MayStart, NotEdited, NotPlanned, IsSafe, NotSafe};
-ghost use Rattle.pt_plan.specs.Wanted.{IsPlanOf, IsReadyOf, IsRefusedBy, PlanOfReads, WriteOfReads};
+ghost use Rattle.pt_check.specs.Answers.{CheckReads, IsRecoveredOf};
+ghost use Rattle.pt_planner.specs.PlanReads.{IsKnown, ReasonIs, PlanReads};
+ghost use Rattle.pt_plan.specs.Batches.{IsPlanned, IsReady, IsRefusal, IsMendPlan, IsMendRefusal, MakesTable, EditedBy, FailedInCommit};
+ghost use Rattle.pt_plan.specs.Batches.{EditReads, CommitReads, MendReads};
+ghost use Rattle.pt_plan.specs.Commits.{commit_fault_in as fault_in, HidesNoFailure};
+ghost use Rattle.pt_plan.specs.inner.Repairs.{repair_told};
+ghost use Rattle.pt_plan.specs.inner.Commits.{sectors_in, MayStart, NotEdited, NotPlanned, IsSafe, NotSafe};
+ghost use Rattle.pt_plan.specs.inner.Layouts.{IsPlanOf, IsReadyOf, IsRefusedBy, PlanOfReads, WriteOfReads};
 ghost use Rattle.pt_plan.specs.declared.error.CommitError.TheVariants as commit;
 
 use crate::error::CommitError;

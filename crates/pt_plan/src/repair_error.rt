@@ -1,7 +1,7 @@
 //! Why a repair did nothing.
 
 ghost use Rattle.std.specs.Prelude.{◌≡◌, Some};
-ghost use Rattle.pt_plan.specs.Mending.{repair_error_number, repair_untabled, repair_failure, repair_unplanned, repair_unchecked};
+ghost use Rattle.pt_plan.specs.Repairs.{repair_error_number, repair_untabled, repair_failure, repair_unplanned, repair_unchecked};
 ghost use Rattle.pt_plan.specs.declared.repair_error.RepairError.TheVariants as repair;
 ghost use Rattle.pt_plan.specs.Sentences.{repair_error_sentence};
 

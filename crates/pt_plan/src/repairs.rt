@@ -2,12 +2,12 @@
 
 ghost use Rattle.std.specs.Prelude.{◌≡◌, ◌<◌, All, length, IfOk, IfErr};
 ghost use Rattle.pt_sector.specs.Sectors.{IsSectorSize};
-ghost use Rattle.pt_sector.specs.Calls.{Blames};
-ghost use Rattle.pt_sector.specs.Reads.{OnlyReads};
+ghost use Rattle.pt_sector.specs.Device.{Blames};
+ghost use Rattle.pt_sector.specs.Overlays.{OnlyReads};
 ghost use Rattle.pt_apply.specs.Plans.{phases_of, InRange};
-ghost use Rattle.pt_plan.specs.Batches.{IsMendPlan, IsReadyToMend, IsMendRefusal, Repairs};
-ghost use Rattle.pt_plan.specs.Mending.{repair_fault_in as fault_in, repair_told, MendHidesNoFailure};
-ghost use Rattle.pt_plan.specs.Reading.{FailedInRepair, MendReads, RepairReads};
+ghost use Rattle.pt_plan.specs.Batches.{IsMendPlan, IsReadyToMend, IsMendRefusal, Repairs, FailedInRepair, MendReads, RepairReads};
+ghost use Rattle.pt_plan.specs.Repairs.{repair_fault_in as fault_in, MendHidesNoFailure};
+ghost use Rattle.pt_plan.specs.inner.Repairs.{repair_told};
 
 use crate::error::CommitError;
 use crate::prepare::{checked_plan_wanted, plan_wanted};

@@ -2,11 +2,11 @@
 
 ghost use Rattle.std.specs.Prelude.{◌≡◌, IfErr};
 ghost use Rattle.pt_sector.specs.Sectors.{IsSectorSize};
-ghost use Rattle.pt_sector.specs.Calls.{Blames};
-ghost use Rattle.pt_plan.specs.Failed.{commit_fault_in as fault_in, HidesNoFailure};
-ghost use Rattle.pt_plan.specs.Reading.{FailedInCommit};
-ghost use Rattle.pt_plan.specs.Wanted.{IsReadyOf, IsRefusedBy, WriteOfReads};
-ghost use Rattle.pt_plan.specs.Written.{Written};
+ghost use Rattle.pt_sector.specs.Device.{Blames};
+ghost use Rattle.pt_plan.specs.Commits.{commit_fault_in as fault_in, HidesNoFailure};
+ghost use Rattle.pt_plan.specs.Batches.{FailedInCommit};
+ghost use Rattle.pt_plan.specs.inner.Layouts.{IsReadyOf, IsRefusedBy, WriteOfReads};
+ghost use Rattle.pt_plan.specs.inner.Commits.{Written};
 
 use crate::error::CommitError;
 use crate::prepare::checked_plan_wanted;

@@ -5,16 +5,15 @@ use Rattle.pt_sector.specs.Sectors.{Sectors}
 use Rattle.pt_gpt.specs.declared.table.Table.{Table}
 use Rattle.pt_mbr.specs.declared.ebr.Ebr.{Ebr}
 use Rattle.pt_mbr.specs.declared.record.Record.{Record}
-use Rattle.pt_mbr.specs.Extended.{extended_of}
+use Rattle.pt_mbr.specs.Records.{extended_of}
 use Rattle.pt_members.specs.declared.layout.Body.TheVariants.{Mbr, Gpt}
 use Rattle.pt_members.specs.declared.layout.Layout.{Layout}
-use Rattle.pt_sound.specs.Healthy.{IsHealthy}
-use Rattle.pt_sound.specs.Sound.{Sound}
-use Rattle.pt_cases.specs.Causes.{MayBePlanned, MayHave, HadMbr}
-use Rattle.pt_cases.specs.Shape.{FitsTable}
-use Rattle.pt_cases.specs.Links.{IsLoneChain}
-use Rattle.pt_targets.specs.Starts.{Start}
-use Rattle.pt_planner.specs.Known.{IsKnown}
+use Rattle.pt_layout.specs.Healthy.{IsHealthy}
+use Rattle.pt_layout.specs.Sound.{Sound}
+use Rattle.pt_cases.specs.Cases.{MayBePlanned, MayHave, HadMbr}
+use Rattle.pt_cases.specs.Writes.{FitsTable, IsLoneChain}
+use Rattle.pt_cases.specs.Unplanned.{Start}
+use Rattle.pt_planner.specs.PlanReads.{IsKnown}
 use Rattle.pt_planner.specs.declared.known.Known.{Known}
 
 -- a layout that a disk of n sectors may have

@@ -1,18 +1,20 @@
 -- What the planner answers where a part of it fails.
 use Rattle.std.proofs.Common.{◌≡◌, inl, ℕ, List, Option, None, Result, Ok, Err, IfErr, refl}
 use Rattle.pt_sector.specs.Sectors.{Sectors}
-use Rattle.pt_sector.specs.Calls.{read_in_more, with_fault}
-use Rattle.pt_sector.specs.Reads.{FailedIn, fault_of}
+use Rattle.pt_sector.proofs.CallsLemmas.{read_in_more}
+use Rattle.pt_sector.specs.Device.{with_fault}
+use Rattle.pt_sector.specs.Overlays.{FailedIn, fault_of}
 use Rattle.pt_sector.specs.declared.disk.Fault.{Fault}
 use Rattle.pt_sector.specs.declared.reading.Failure.{Failure}
 use Rattle.pt_sector.specs.declared.reading.Failure.TheVariants as failure
 use Rattle.pt_members.specs.declared.layout.Layout.{Layout}
-use Rattle.pt_targets.specs.Errors.{fault_in, plan_failure}
-use Rattle.pt_targets.specs.Unplanned.{Hindered, Unplanned}
-use Rattle.pt_targets.specs.declared.error.PlanError.{PlanError}
-use Rattle.pt_targets.specs.declared.error.PlanError.TheVariants.{NotOneSwitch, ReusedInOneBatch, NeedsRepair, Unsound, Device, Memory}
+use Rattle.pt_cases.specs.Unplanned.{fault_in, plan_failure, Unplanned}
+use Rattle.pt_cases.specs.inner.Unplanned.{Hindered}
+use Rattle.pt_cases.specs.declared.targets.error.PlanError.{PlanError}
+use Rattle.pt_cases.specs.declared.targets.error.PlanError.TheVariants.{NotOneSwitch, ReusedInOneBatch, NeedsRepair, Unsound, Device}
+use Rattle.pt_cases.specs.declared.targets.error.PlanError.TheVariants.{Memory}
 use Rattle.pt_planner.specs.PlanReads.{FailedInPlan}
-use Rattle.pt_planner.specs.State.{IsUnsoundBy, PlacesStop}
+use Rattle.pt_planner.specs.inner.PlanReads.{IsUnsoundBy, PlacesStop}
 
 pub failure_blames : (old new : List Fault) (e : Failure) → new ≡ with_fault old (fault_of e)
     → new ≡ with_fault old (fault_in (plan_failure e))

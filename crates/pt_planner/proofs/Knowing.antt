@@ -1,19 +1,19 @@
 -- What a survey makes known, and what follows for a wanted layout.
-use Rattle.std.proofs.Common.{◌≡◌, ◌↔◌, ◌⊎◌, inl, inr, ℕ, Bool, true, false, Option, Some, None, Result, Ok, Err, IfOk, IsTrue, refl}
-use Rattle.std.proofs.Common.{sym, ap, ◌∙◌, subst}
+use Rattle.std.proofs.Common.{◌≡◌, ◌↔◌, ◌⊎◌, inl, inr, ℕ, Bool, true, false, Option, Some, None, Result, Ok, Err, IfOk, IsTrue, refl, sym}
+use Rattle.std.proofs.Common.{ap, ◌∙◌, subst}
 use Rattle.std.specs.Prelude.{is_some, not, IfSome}
 use Rattle.pt_sector.specs.Sectors.{Sectors}
-use Rattle.pt_recover.specs.Denotes.{Denotes}
-use Rattle.pt_recover.specs.laws.Terms.{denotes_one_lem}
-use Rattle.pt_recover.specs.Numbers.{Numbers}
+use Rattle.pt_recover.specs.Denotes.{Denotes, Numbers}
+use Rattle.pt_recover.proofs.Terms.{denotes_one_lem}
 use Rattle.pt_recover.specs.declared.error.NoTable.{NoTable}
 use Rattle.pt_members.specs.declared.layout.Layout.{Layout}
-use Rattle.pt_sound.specs.Healthy.{IsHealthy}
-use Rattle.pt_sound.specs.laws.Terms.{finding_excludes_lem}
+use Rattle.pt_layout.specs.Healthy.{IsHealthy}
+use Rattle.pt_layout.proofs.Terms.{finding_excludes_lem}
 use Rattle.pt_layout.specs.Surveys.{FoundIs, FindingIs, IsSurvey}
-use Rattle.pt_sound.specs.declared.finding.Finding.{Finding}
+use Rattle.pt_layout.specs.declared.sound.finding.Finding.{Finding}
 use Rattle.pt_layout.specs.declared.survey.Survey.{Survey}
-use Rattle.pt_planner.specs.Known.{KnownWrong, IsEither, IsKnown, IsKnownOf, FoundAs, ReasonIs}
+use Rattle.pt_planner.specs.PlanReads.{KnownWrong, IsEither, IsKnown, ReasonIs}
+use Rattle.pt_planner.specs.inner.PlanReads.{IsKnownOf, FoundAs}
 use Rattle.pt_planner.specs.declared.known.Known.{Known}
 
 old_is : (b : ℕ) (d : Sectors) (found : Result Layout NoTable) (old : Option Layout) (reason : Option NoTable)

@@ -1,46 +1,40 @@
 -- From the parts of a plan to the planner's answer.
-use Rattle.std.proofs.Common.{◌≡◌, ◌↔◌, inl, inr, ℕ, zero, suc, ◌<◌, List, [], ◌∷◌, length, Bool, true, false, Option, Some, None}
-use Rattle.std.proofs.Common.{Result, Ok, Err, IfOk, IfErr, IsTrue, All, refl, subst, arith}
-use Rattle.std.proofs.Common.{◌∙◌, sym}
+use Rattle.std.proofs.Common.{◌≡◌, ◌↔◌, inl, inr, ℕ, zero, suc, ◌<◌, List, [], ◌∷◌, length, Bool, true, false, Option, Some, None, Result}
+use Rattle.std.proofs.Common.{Ok, Err, IfOk, IfErr, IsTrue, All, refl, subst, arith, ◌∙◌, sym}
 use Rattle.std.specs.Prelude.{Contains, get_or}
 use Rattle.pt_sector.specs.Sectors.{Sectors}
-use Rattle.pt_gpt.specs.Copy.{HasCopy}
+use Rattle.pt_gpt.specs.Copies.{HasCopy}
 use Rattle.pt_gpt.specs.declared.table.Side.TheVariants.{Primary}
 use Rattle.pt_gpt.specs.declared.table.Table.{Table}
 use Rattle.pt_mbr.specs.declared.ebr.Ebr.{Ebr}
 use Rattle.pt_mbr.specs.declared.record.Record.{Record}
-use Rattle.pt_recover.specs.Denotes.{Denotes, BodyIs}
-use Rattle.pt_recover.specs.laws.Terms.{denotes_one_lem}
-use Rattle.pt_mbr.specs.Extended.{extended_of}
-use Rattle.pt_recover.specs.Mbr.{IsMbrDisk}
+use Rattle.pt_recover.specs.Denotes.{Denotes, BodyIs, IsMbrDisk}
+use Rattle.pt_recover.proofs.Terms.{denotes_one_lem}
+use Rattle.pt_mbr.specs.Records.{extended_of}
 use Rattle.pt_members.specs.declared.layout.Body.TheVariants.{Mbr, Gpt}
 use Rattle.pt_members.specs.declared.layout.Layout.{Layout}
-use Rattle.pt_sound.specs.Findings.{IsBodyBroken, IsLayoutFinding}
-use Rattle.pt_sound.specs.Healthy.{IsHealthy, IsBodyWhole}
-use Rattle.pt_sound.specs.Sound.{Sound}
+use Rattle.pt_layout.specs.Healthy.{IsBodyBroken, IsLayoutFinding, IsHealthy, IsBodyWhole}
+use Rattle.pt_layout.specs.Sound.{Sound}
 use Rattle.pt_layout.specs.Surveys.{HeadOf}
-use Rattle.pt_sound.specs.declared.finding.Finding.{Finding}
-use Rattle.pt_sound.specs.declared.finding.Finding.TheVariants as finding
+use Rattle.pt_layout.specs.declared.sound.finding.Finding.{Finding}
+use Rattle.pt_layout.specs.declared.sound.finding.Finding.TheVariants as finding
 use Rattle.pt_layout.specs.declared.health.Head.{Head}
 use Rattle.pt_layout.specs.declared.health.Head.TheVariants as head
-use Rattle.pt_cases.specs.Cases.{ChangesLabels}
-use Rattle.pt_cases.specs.Causes.{MayBePlanned}
-use Rattle.pt_cases.specs.Shape.{FitsTable}
-use Rattle.pt_cases.specs.Links.{IsLoneChain}
-use Rattle.pt_targets.specs.Misfits.{NoneLeft}
-use Rattle.pt_phases.specs.Starts.{OrderIs, HeadAsRead, CopiesStart}
-use Rattle.pt_phases.specs.declared.order.Order.{Order}
-use Rattle.pt_phases.specs.declared.order.Order.TheVariants.{BackupFirst, PrimaryFirst, FromMbr}
-use Rattle.pt_targets.specs.Causes.{HasNoTurn, HasNoCopies}
-use Rattle.pt_targets.specs.Starts.{Start, StopsBy}
-use Rattle.pt_targets.specs.Targets.{AreLabelTargets, AreMbrTargets}
-use Rattle.pt_targets.specs.declared.error.PlanError.{PlanError}
-use Rattle.pt_targets.specs.declared.error.PlanError.TheVariants.{NotOneSwitch, ReusedInOneBatch, NeedsRepair, Unsound, Device, Memory}
-use Rattle.pt_targets.specs.declared.target.Target.{Target}
-use Rattle.pt_phases.specs.Turns.{MbrStart, LabelStart, Unbroken}
-use Rattle.pt_planner.specs.Known.{KnownWrong, IsKnown}
-use Rattle.pt_planner.specs.State.{IsBrokenBy, OrderOf, PlacesStop}
-use Rattle.pt_targets.specs.Unplanned.{other_disk, misplaced, targets, unreadable, turn, copies, Hindered, Unplanned}
+use Rattle.pt_cases.specs.Cases.{ChangesLabels, MayBePlanned}
+use Rattle.pt_cases.specs.Writes.{FitsTable, IsLoneChain}
+use Rattle.pt_cases.specs.Unplanned.{NoneLeft, HasNoTurn, HasNoCopies, Start, StopsBy, other_disk, misplaced, targets, unreadable, turn}
+use Rattle.pt_cases.specs.Unplanned.{copies, Unplanned}
+use Rattle.pt_planner.specs.Phases.{OrderIs, HeadAsRead, CopiesStart, MbrStart, LabelStart, Unbroken}
+use Rattle.pt_planner.specs.declared.phases.order.Order.{Order}
+use Rattle.pt_planner.specs.declared.phases.order.Order.TheVariants.{BackupFirst, PrimaryFirst, FromMbr}
+use Rattle.pt_cases.specs.Targets.{AreLabelTargets, AreMbrTargets}
+use Rattle.pt_cases.specs.declared.targets.error.PlanError.{PlanError}
+use Rattle.pt_cases.specs.declared.targets.error.PlanError.TheVariants.{NotOneSwitch, ReusedInOneBatch, NeedsRepair, Unsound, Device}
+use Rattle.pt_cases.specs.declared.targets.error.PlanError.TheVariants.{Memory}
+use Rattle.pt_cases.specs.declared.targets.target.Target.{Target}
+use Rattle.pt_planner.specs.PlanReads.{KnownWrong, IsKnown}
+use Rattle.pt_planner.specs.inner.PlanReads.{IsBrokenBy, OrderOf, PlacesStop}
+use Rattle.pt_cases.specs.inner.Unplanned.{Hindered}
 use Rattle.pt_planner.specs.declared.known.Known.{Known}
 
 pub ok_so : {A E : Type 0} (r : Result A E) (P Q : A → Type 0) → ((x : A) → P x → Q x) → IfOk r P → IfOk r Q

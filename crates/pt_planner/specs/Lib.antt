@@ -1,3 +1,4 @@
-pub mod Known
-pub mod State
+pub mod Phases
+pub mod Places
 pub mod PlanReads
+pub mod inner

@@ -1,13 +1,13 @@
 //! What the planner knows of a disk.
 
 ghost use Rattle.std.specs.Prelude.{◌≡◌, IfOk, IfErr, IfSome, IfNone};
-ghost use Rattle.pt_sector.specs.Calls.{Blames};
-ghost use Rattle.pt_sector.specs.Reads.{OnlyReads, FailedIn, fault_of};
+ghost use Rattle.pt_sector.specs.Device.{Blames};
+ghost use Rattle.pt_sector.specs.Overlays.{OnlyReads, FailedIn, fault_of};
 ghost use Rattle.pt_sector.specs.Sectors.{IsSectorSize};
-ghost use Rattle.pt_recover.specs.Answers.{IsReason};
-ghost use Rattle.pt_recover.specs.Numbers.{Numbers};
-ghost use Rattle.pt_sound.specs.Findings.{VerdictReads};
-ghost use Rattle.pt_planner.specs.Known.{IsEither, IsKnown, IsKnownOf, ReasonIs};
+ghost use Rattle.pt_recover.specs.Denotes.{IsReason, Numbers};
+ghost use Rattle.pt_layout.specs.Healthy.{VerdictReads};
+ghost use Rattle.pt_planner.specs.PlanReads.{IsEither, IsKnown, ReasonIs};
+ghost use Rattle.pt_planner.specs.inner.PlanReads.{IsKnownOf};
 
 use pt_layout::{Finding, Head, Layout, NoTable, Survey, Trace, survey_disk};
 use pt_sector::{Disk, Failure};

@@ -1,11 +1,15 @@
 //! The planner: plans that lead from what a disk denotes to another layout.
 #![tactic(auto)]
 
+pub mod chains;
+pub mod copies;
 mod known;
+pub mod phases;
+pub mod places;
 mod planner;
 mod plans;
 mod state;
 
 pub use known::{Known, read_known};
 pub use planner::{make_plan, plan_from};
-pub use pt_targets::PlanError;
+pub use pt_cases::targets::PlanError;

@@ -1,25 +1,23 @@
 //! Plans that lead from what a disk denotes to another layout.
 
 ghost use Rattle.std.specs.Prelude.{◌≡◌, ◌⊎◌, ◌<◌, ◌≤◌, All, Some, length, OnOk, IfOk, IfErr};
-ghost use Rattle.pt_sector.specs.Calls.{Blames};
-ghost use Rattle.pt_sector.specs.Reads.{OnlyReads};
+ghost use Rattle.pt_sector.specs.Device.{Blames};
+ghost use Rattle.pt_sector.specs.Overlays.{OnlyReads};
 ghost use Rattle.pt_sector.specs.Sectors.{IsSectorSize};
 ghost use Rattle.pt_apply.specs.Plans.{phases_of, InRange};
-ghost use Rattle.pt_sound.specs.Sound.{Sound};
+ghost use Rattle.pt_layout.specs.Sound.{Sound};
 ghost use Rattle.pt_cases.specs.Cases.{IsPlan};
-ghost use Rattle.pt_targets.specs.Errors.{fault_in};
-ghost use Rattle.pt_planner.specs.Known.{IsKnown};
-ghost use Rattle.pt_planner.specs.PlanReads.{FailedInPlan, PlanReads, MakeReads};
-ghost use Rattle.pt_planner.specs.State.{IsUnsoundBy};
-ghost use Rattle.pt_targets.specs.Unplanned.{Unplanned};
+ghost use Rattle.pt_cases.specs.Unplanned.{fault_in, Unplanned};
+ghost use Rattle.pt_planner.specs.PlanReads.{IsKnown, FailedInPlan, PlanReads, MakeReads};
+ghost use Rattle.pt_planner.specs.inner.PlanReads.{IsUnsoundBy};
 
 use crate::known::{Known, read_known};
 use crate::plans::{places_of, to_gpt, to_mbr};
 use crate::state::{is_done, is_same, may_be};
 use pt_apply::Plan;
+use pt_cases::targets::PlanError;
 use pt_layout::{Body, Layout, unsound};
 use pt_sector::{Disk, ReadCache, Room};
-use pt_targets::PlanError;
 use std::alloc::Global;
 
 /// That the layout is sound.

@@ -1,40 +1,35 @@
 //! The targets of a wanted layout, and the plan that they make.
 
 ghost use Rattle.std.specs.Prelude.{◌≡◌, ◌<◌, All, None, length, IfOk, IfErr};
-ghost use Rattle.pt_sector.specs.Calls.{Blames};
-ghost use Rattle.pt_sector.specs.Reads.{OnlyReads, read_of};
+ghost use Rattle.pt_sector.specs.Device.{Blames};
+ghost use Rattle.pt_sector.specs.Overlays.{OnlyReads, read_of};
 ghost use Rattle.pt_sector.specs.Sectors.{IsSectorSize};
 ghost use Rattle.pt_apply.specs.Plans.{phases_of, InRange};
 ghost use Rattle.pt_members.specs.declared.layout.Body.TheVariants.{Mbr, Gpt};
-ghost use Rattle.pt_mbr.specs.Extended.{extended_of};
-ghost use Rattle.pt_cases.specs.Cases.{IsPlan};
-ghost use Rattle.pt_cases.specs.Causes.{HadMbr};
-ghost use Rattle.pt_cases.specs.Shape.{FitsTable};
-ghost use Rattle.pt_cases.specs.Links.{IsLoneChain};
-ghost use Rattle.pt_phases.specs.Starts.{HeadAsRead};
+ghost use Rattle.pt_mbr.specs.Records.{extended_of};
+ghost use Rattle.pt_cases.specs.Cases.{IsPlan, HadMbr};
+ghost use Rattle.pt_cases.specs.Writes.{FitsTable, IsLoneChain};
+ghost use Rattle.pt_planner.specs.Phases.{HeadAsRead};
 ghost use Rattle.pt_layout.specs.Surveys.{HeadOf};
 ghost use Rattle.pt_layout.specs.declared.health.Head.TheVariants as kind;
 ghost use Rattle.pt_recover.specs.Denotes.{Denotes};
-ghost use Rattle.pt_targets.specs.Errors.{fault_in};
-ghost use Rattle.pt_targets.specs.Starts.{Start};
-ghost use Rattle.pt_targets.specs.Targets.{AreLabelTargets};
-ghost use Rattle.pt_targets.specs.Misfits.{NoneLeft};
-ghost use Rattle.pt_planner.specs.Known.{IsKnown};
-ghost use Rattle.pt_planner.specs.PlanReads.{FailedInPlan, PlanReads};
-ghost use Rattle.pt_planner.specs.State.{PlacesStop};
-ghost use Rattle.pt_targets.specs.Unplanned.{Hindered};
+ghost use Rattle.pt_cases.specs.Unplanned.{fault_in, Start, NoneLeft};
+ghost use Rattle.pt_cases.specs.Targets.{AreLabelTargets};
+ghost use Rattle.pt_planner.specs.PlanReads.{IsKnown, FailedInPlan, PlanReads};
+ghost use Rattle.pt_planner.specs.inner.PlanReads.{PlacesStop};
+ghost use Rattle.pt_cases.specs.inner.Unplanned.{Hindered};
 
+use crate::chains::mbr_targets;
 use crate::known::Known;
+use crate::phases::{Setting, both_copies, one_label, within_mbr};
+use crate::places::{LabelTargets, label_targets};
 use crate::state::{changes_labels, is_broken, order_of};
 use pt_apply::Plan;
-use pt_chains::mbr_targets;
+use pt_cases::targets::{PlanError, Target};
 use pt_gpt::Table;
 use pt_layout::{Body, Ebrs, Finding, Head, Layout, Path};
 use pt_mbr::Record;
-use pt_phases::{Setting, both_copies, one_label, within_mbr};
-use pt_places::{LabelTargets, label_targets};
 use pt_sector::{Disk, FailedRead, Lba, Sector, read_sector};
-use pt_targets::{PlanError, Target};
 use std::alloc::Global;
 
 /// What the label places of the wanted layout must hold.

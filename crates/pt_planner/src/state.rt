@@ -2,17 +2,16 @@
 
 ghost use Rattle.std.specs.Prelude.{◌≡◌, ◌⊎◌, ◌↔◌, IsTrue, Option, Some, length};
 ghost use Rattle.pt_sector.specs.Sectors.{Sectors, IsSectorSize};
-ghost use Rattle.pt_sound.specs.Healthy.{IsHealthy};
-ghost use Rattle.pt_cases.specs.Cases.{ChangesLabels};
-ghost use Rattle.pt_cases.specs.Causes.{MayBePlanned, HadMbr};
-ghost use Rattle.pt_planner.specs.Known.{IsKnown};
-ghost use Rattle.pt_planner.specs.State.{IsBrokenBy, OrderOf};
+ghost use Rattle.pt_layout.specs.Healthy.{IsHealthy};
+ghost use Rattle.pt_cases.specs.Cases.{ChangesLabels, MayBePlanned, HadMbr};
+ghost use Rattle.pt_planner.specs.PlanReads.{IsKnown};
+ghost use Rattle.pt_planner.specs.inner.PlanReads.{IsBrokenBy, OrderOf};
 
+use crate::chains::is_linked;
+use crate::copies::fits_table;
 use crate::known::Known;
-use pt_chains::is_linked;
-use pt_copies::fits_table;
+use crate::phases::Order;
 use pt_layout::{Body, Finding, Head, Layout};
-use pt_phases::Order;
 
 /// Whether the disk denotes the layout.
 pub(crate) fn is_same(old: &Option<Layout>, wanted: &Layout) -> bool

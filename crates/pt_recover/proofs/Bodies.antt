@@ -3,16 +3,14 @@ use Rattle.std.proofs.Common.{◌≡◌, ◌≢◌, ◌<◌, ℕ, List, length, 
 use Rattle.std.specs.Prelude.{◌⊎◌}
 use Rattle.pt_sector.specs.Sectors.{Sectors}
 use Rattle.pt_mbr.specs.declared.record.Record.{Record}
-use Rattle.pt_gpt.specs.laws.Terms.{no_copy_lem}
+use Rattle.pt_gpt.proofs.Terms.{no_copy_lem}
 use Rattle.pt_gpt.specs.declared.table.Side.TheVariants.{Primary, Backup}
-use Rattle.pt_mbr.specs.Extended.{extended_of}
-use Rattle.pt_recover.specs.Mbr.{IsMbrDisk, IsMbr, ExtendedReads}
-use Rattle.pt_gpt.specs.Array.{HasRoom}
-use Rattle.pt_recover.specs.Gpt.{TableReads}
-use Rattle.pt_recover.specs.Denotes.{Denotes, BodyReads, head, chain, table}
-use Rattle.pt_recover.specs.laws.One.{mbr_one}
-use Rattle.pt_recover.specs.Answers.{TellsNothing, IsOutsideDisk}
-use Rattle.pt_recover.specs.Steps.{RestReads, of_chain, of_table, AreCopyFaults}
+use Rattle.pt_mbr.specs.Records.{extended_of}
+use Rattle.pt_recover.specs.Denotes.{IsMbrDisk, IsMbr, ExtendedReads, TableReads, Denotes, BodyReads, head, chain, table, TellsNothing}
+use Rattle.pt_recover.specs.Denotes.{IsOutsideDisk}
+use Rattle.pt_gpt.specs.Copies.{HasRoom}
+use Rattle.pt_recover.proofs.One.{mbr_one}
+use Rattle.pt_recover.specs.inner.Denotes.{RestReads, of_chain, of_table, AreCopyFaults}
 use Rattle.pt_recover.specs.Spans.{Adds}
 use Rattle.pt_recover.specs.declared.error.NoTable.{NoTable}
 use Rattle.pt_recover.specs.declared.error.NoTable.TheVariants.{NoCopy, TooSmall}

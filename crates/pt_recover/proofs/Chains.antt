@@ -7,8 +7,8 @@ use Rattle.pt_mbr.specs.declared.ebr.Ebr.{Ebr}
 use Rattle.pt_mbr.specs.declared.chain.ChainError.{ChainError}
 use Rattle.pt_mbr.specs.declared.chain.ChainError.TheVariants.{NoSignature, BadRecord, NotUpward, OutsideExtended, TooLong, Device}
 use Rattle.pt_recover.specs.Spans.{Adds}
-use Rattle.pt_recover.specs.Steps.{ToldAs}
-use Rattle.pt_recover.specs.Answers.{IsOutsideDisk}
+use Rattle.pt_recover.specs.inner.Denotes.{ToldAs}
+use Rattle.pt_recover.specs.Denotes.{IsOutsideDisk}
 use Rattle.pt_recover.specs.declared.trace.TracedRun.{TracedRun}
 use Rattle.pt_recover.specs.declared.error.NoTable.{NoTable}
 use Rattle.pt_recover.proofs.Traces.{adds_same}

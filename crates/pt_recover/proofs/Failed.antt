@@ -2,24 +2,21 @@
 use Rattle.std.specs.Prelude.{◌≡◌, ◌<◌, ℕ, List, length, get_or, Option, Some, None}
 use Rattle.std.proofs.Common.{[], ◌∷◌, zero, suc, refl, sym, subst, arith, inl, inr}
 use Rattle.pt_sector.specs.Sectors.{Sectors}
-use Rattle.pt_sector.specs.Reads.{FailedIn as FailedAt, failed_more}
+use Rattle.pt_sector.specs.Overlays.{FailedIn as FailedAt}
+use Rattle.pt_sector.proofs.ReadsLemmas.{failed_more}
 use Rattle.pt_sector.specs.declared.address.Lba.{Lba}
 use Rattle.pt_sector.specs.declared.reading.Failure.{Failure}
 use Rattle.pt_sector.specs.declared.reading.Failure.TheVariants as failure
 use Rattle.pt_mbr.specs.declared.record.Record.{Record}
-use Rattle.pt_gpt.specs.Copy.{SideReads, HasCopy}
-use Rattle.pt_gpt.specs.Errors.{IsOutsideCopy, failure_in as failure_of_copy, FailedInCopy}
+use Rattle.pt_gpt.specs.Copies.{SideReads, HasCopy, IsOutsideCopy, failure_in as failure_of_copy, FailedInCopy, HasRoom}
 use Rattle.pt_gpt.specs.declared.table.Side.TheVariants.{Primary, Backup}
 use Rattle.pt_gpt.specs.declared.error.CopyError.{CopyError}
 use Rattle.pt_gpt.specs.declared.error.CopyError.TheVariants as copy
-use Rattle.pt_mbr.specs.Extended.{extended_of}
-use Rattle.pt_recover.specs.Mbr.{IsMbrDisk, IsMbr, ExtendedReads}
-use Rattle.pt_gpt.specs.Array.{HasRoom}
-use Rattle.pt_recover.specs.Gpt.{TableReads}
-use Rattle.pt_members.specs.Slices.{places_of, place_of, IsPlace}
-use Rattle.pt_recover.specs.Steps.{RestReads, of_chain, of_table}
-use Rattle.pt_recover.specs.Denotes.{BodyIs, BodyReads, Reads, body, label, chain, table}
-use Rattle.pt_recover.specs.Answers.{FailedInDisk, told_failure}
+use Rattle.pt_mbr.specs.Records.{extended_of}
+use Rattle.pt_recover.specs.Denotes.{IsMbrDisk, IsMbr, ExtendedReads, TableReads, BodyIs, BodyReads, Reads, body, label, chain, table}
+use Rattle.pt_recover.specs.Denotes.{FailedInDisk, told_failure}
+use Rattle.pt_members.specs.Members.{places_of, place_of, IsPlace}
+use Rattle.pt_recover.specs.inner.Denotes.{RestReads, of_chain, of_table}
 use Rattle.pt_members.specs.declared.layout.Body.{Body}
 use Rattle.pt_members.specs.declared.layout.Slice.{Slice}
 use Rattle.pt_recover.specs.declared.error.NoTable.{NoTable}

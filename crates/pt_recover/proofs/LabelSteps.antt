@@ -4,9 +4,9 @@ use Rattle.std.proofs.Common.{subst, inl, inr, append_assoc, append-nil}
 use Rattle.std.proofs.lemmas.List.{drop_all, drop_more}
 use Rattle.pt_sector.specs.Sectors.{Sectors, sector}
 use Rattle.pt_bsd.specs.declared.label.Label.{Label}
-use Rattle.pt_members.specs.Slices.{place_of}
-use Rattle.pt_recover.specs.Labels.{LabelsAre}
-use Rattle.pt_recover.specs.Steps.{LabelIs, labelled}
+use Rattle.pt_members.specs.Members.{place_of}
+use Rattle.pt_recover.specs.Denotes.{LabelsAre}
+use Rattle.pt_recover.specs.inner.Denotes.{LabelIs, labelled}
 use Rattle.pt_members.specs.declared.layout.Slice.{Slice}
 use Rattle.pt_members.specs.declared.layout.Labelled.{Labelled}
 

@@ -7,14 +7,11 @@ use Rattle.pt_mbr.specs.declared.record.Record.{Record}
 use Rattle.pt_mbr.specs.declared.ebr.Ebr.{Ebr}
 use Rattle.pt_mbr.specs.declared.chain.ChainError.{ChainError}
 use Rattle.pt_mbr.specs.declared.chain.ChainError.TheVariants.{OutsideExtended}
-use Rattle.pt_mbr.specs.Extended.{ExtendedIs}
-use Rattle.pt_mbr.specs.laws.Terms.{fault_has_no_chain}
-use Rattle.pt_mbr.specs.Extended.{extended_of, extent_of}
-use Rattle.pt_recover.specs.Mbr.{IsMbr, HasChain, ExtendedReads}
-use Rattle.pt_recover.specs.Denotes.{Denotes}
-use Rattle.pt_recover.specs.laws.One.{mbr_one}
-use Rattle.pt_recover.specs.Answers.{TellsNothing, IsOutsideDisk}
-use Rattle.pt_recover.specs.Steps.{IsChainFault}
+use Rattle.pt_mbr.specs.Records.{ExtendedIs, extended_of, extent_of}
+use Rattle.pt_mbr.proofs.Terms.{fault_has_no_chain}
+use Rattle.pt_recover.specs.Denotes.{IsMbr, HasChain, ExtendedReads, Denotes, TellsNothing, IsOutsideDisk}
+use Rattle.pt_recover.proofs.One.{mbr_one}
+use Rattle.pt_recover.specs.inner.Denotes.{IsChainFault}
 use Rattle.pt_recover.specs.Spans.{Adds}
 use Rattle.pt_mbr.specs.declared.extended.Extended.TheVariants as found
 use Rattle.pt_recover.specs.declared.error.NoTable.{NoTable}

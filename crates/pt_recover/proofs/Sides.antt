@@ -2,16 +2,15 @@
 use Rattle.std.proofs.Common.{◌≡◌, ℕ, List, length, sym, ap, ◌∙◌, inl, inr}
 use Rattle.std.specs.Prelude.{◌⊎◌}
 use Rattle.pt_sector.specs.Sectors.{Sectors}
-use Rattle.pt_gpt.specs.Errors.{IsOutsideCopy}
-use Rattle.pt_gpt.specs.Answers.{TellsHeadFault, TellsFault}
-use Rattle.pt_gpt.specs.Copy.{header_place, IsHead, InArray, Copy, HasCopy, IsCopyFault, SideReads}
-use Rattle.pt_gpt.specs.laws.Terms.{side_reads_head_lem, side_reads_fault_lem, no_copy_lem}
+use Rattle.pt_gpt.specs.Copies.{IsOutsideCopy, TellsHeadFault, TellsFault, header_place, IsHead, InArray, Copy, HasCopy, IsCopyFault}
+use Rattle.pt_gpt.specs.Copies.{SideReads}
+use Rattle.pt_gpt.proofs.Terms.{side_reads_head_lem, side_reads_fault_lem, no_copy_lem}
 use Rattle.pt_gpt.specs.declared.header.Header.{Header}
 use Rattle.pt_gpt.specs.declared.error.CopyError.{CopyError}
 use Rattle.pt_gpt.specs.declared.table.Side.{Side}
 use Rattle.pt_gpt.specs.declared.table.Side.TheVariants.{Primary, Backup}
 use Rattle.pt_gpt.specs.declared.table.Table.{Table}
-use Rattle.pt_recover.specs.Gpt.{TableReads}
+use Rattle.pt_recover.specs.Denotes.{TableReads}
 use Rattle.pt_recover.specs.Spans.{Adds}
 use Rattle.pt_recover.specs.declared.trace.TracedRun.{TracedRun}
 use Rattle.pt_recover.proofs.Traces.{adds_same, adds_both}

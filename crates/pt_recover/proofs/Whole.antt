@@ -3,11 +3,9 @@ use Rattle.std.proofs.Common.{◌≡◌, ◌<◌, ℕ, List, length, get_or, fil
 use Rattle.std.specs.Prelude.{◌⊎◌}
 use Rattle.std.proofs.lemmas.List.Elements.{filter_passes}
 use Rattle.pt_sector.specs.Sectors.{Sectors}
-use Rattle.pt_members.specs.Slices.{places_of, slices_of, has_place, place_of, IsPlace}
-use Rattle.pt_recover.specs.Labels.{LabelsAre}
-use Rattle.pt_recover.specs.Denotes.{BodyIs, BodyReads, Denotes, Reads, body, label}
-use Rattle.pt_recover.specs.laws.One.{body_one}
-use Rattle.pt_recover.specs.Answers.{TellsNothing, IsOutsideDisk, IsTraceOf}
+use Rattle.pt_members.specs.Members.{places_of, slices_of, has_place, place_of, IsPlace}
+use Rattle.pt_recover.specs.Denotes.{LabelsAre, BodyIs, BodyReads, Denotes, Reads, body, label, TellsNothing, IsOutsideDisk, IsTraceOf}
+use Rattle.pt_recover.proofs.One.{body_one}
 use Rattle.pt_recover.specs.Spans.{IsIn, Adds}
 use Rattle.pt_recover.specs.declared.error.NoTable.{NoTable}
 use Rattle.pt_members.specs.declared.layout.Body.{Body}

@@ -1,11 +1,4 @@
-pub mod Mbr
-pub mod Gpt
-pub mod Labels
-pub mod Numbers
 pub mod Denotes
-pub mod Spans
-pub mod Answers
-pub mod Steps
-pub mod LeavesReads
 pub mod Sentences
-pub mod laws
+pub mod Spans
+pub mod inner

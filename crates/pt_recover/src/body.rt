@@ -1,14 +1,13 @@
 //! What stands in a table: the records and the chain of an MBR disk, or the table of a GPT disk.
 
 ghost use Rattle.std.specs.Prelude.{◌≡◌, ◌<◌, ◌⊎◌, IfOk, IfErr, IfSome, OnOk};
-ghost use Rattle.pt_sector.specs.Calls.{Blames};
-ghost use Rattle.pt_sector.specs.Reads.{OnlyReads, read_of};
+ghost use Rattle.pt_sector.specs.Device.{Blames};
+ghost use Rattle.pt_sector.specs.Overlays.{OnlyReads, read_of};
 ghost use Rattle.pt_sector.specs.Sectors.{IsSectorSize, sector};
-ghost use Rattle.pt_recover.specs.Mbr.{IsMbrDisk, IsMbr};
-ghost use Rattle.pt_recover.specs.Denotes.{BodyIs, BodyReads};
-ghost use Rattle.pt_recover.specs.Steps.{RestReads};
+ghost use Rattle.pt_recover.specs.Denotes.{IsMbrDisk, IsMbr, BodyIs, BodyReads, IsOutsideDisk, TellsNothing, fault_in, FailedInDisk};
+ghost use Rattle.pt_recover.specs.Denotes.{RecordsAre};
+ghost use Rattle.pt_recover.specs.inner.Denotes.{RestReads};
 ghost use Rattle.pt_recover.specs.Spans.{Adds};
-ghost use Rattle.pt_recover.specs.Answers.{IsOutsideDisk, TellsNothing, fault_in, FailedInDisk, RecordsAre};
 
 use crate::error::NoTable;
 use crate::extended::read_lone;

@@ -1,7 +1,7 @@
 //! Why there is no layout.
 
 ghost use Rattle.std.specs.Prelude.{◌≡◌, Some};
-ghost use Rattle.pt_recover.specs.Answers.{failure_in, told_chain, told_failure};
+ghost use Rattle.pt_recover.specs.Denotes.{failure_in, told_chain, told_failure};
 ghost use Rattle.pt_recover.specs.declared.error.NoTable.TheVariants.{Device, Memory};
 ghost use Rattle.pt_recover.specs.Sentences.{no_table_sentence};
 

@@ -1,15 +1,14 @@
 //! The chain of a lone extended partition, and the sectors that it stands in.
 
 ghost use Rattle.std.specs.Prelude.{◌≡◌, ◌<◌, ◌⊎◌, IfOk, IfErr, OnOk, IfSome, IfNone};
-ghost use Rattle.pt_sector.specs.Calls.{Blames};
-ghost use Rattle.pt_sector.specs.Reads.{OnlyReads};
+ghost use Rattle.pt_sector.specs.Device.{Blames};
+ghost use Rattle.pt_sector.specs.Overlays.{OnlyReads};
 ghost use Rattle.pt_sector.specs.Sectors.{IsSectorSize};
 ghost use Rattle.pt_mbr.specs.Chain.{span_of, Chain, ChainReads, StandsAt, IsReadBy};
-ghost use Rattle.pt_mbr.specs.Extended.{extended_of, extent_of};
-ghost use Rattle.pt_recover.specs.Mbr.{IsMbr, HasChain, ExtendedReads};
-ghost use Rattle.pt_recover.specs.Steps.{ToldAs, IsChainFault};
+ghost use Rattle.pt_mbr.specs.Records.{extended_of, extent_of};
+ghost use Rattle.pt_recover.specs.Denotes.{IsMbr, HasChain, ExtendedReads, IsOutsideDisk, TellsNothing, fault_in, FailedInDisk};
+ghost use Rattle.pt_recover.specs.inner.Denotes.{ToldAs, IsChainFault};
 ghost use Rattle.pt_recover.specs.Spans.{Adds};
-ghost use Rattle.pt_recover.specs.Answers.{IsOutsideDisk, TellsNothing, fault_in, FailedInDisk};
 
 use crate::error::NoTable;
 use crate::trace::Trace;

@@ -1,12 +1,12 @@
 //! Labels, each from its slice's label place.
 
 ghost use Rattle.std.specs.Prelude.{◌≡◌, ◌<◌, ◌++◌, All, IfOk, IfErr, OnOk};
-ghost use Rattle.pt_sector.specs.Calls.{Blames};
-ghost use Rattle.pt_sector.specs.Reads.{OnlyReads, FailedIn, fault_of};
+ghost use Rattle.pt_sector.specs.Device.{Blames};
+ghost use Rattle.pt_sector.specs.Overlays.{OnlyReads, FailedIn, fault_of};
 ghost use Rattle.pt_sector.specs.Sectors.{IsSectorSize, sector};
-ghost use Rattle.pt_members.specs.Slices.{place_of, IsPlace};
-ghost use Rattle.pt_recover.specs.Labels.{LabelsAre};
-ghost use Rattle.pt_recover.specs.Steps.{labelled, LabelIs};
+ghost use Rattle.pt_members.specs.Members.{place_of, IsPlace};
+ghost use Rattle.pt_recover.specs.Denotes.{LabelsAre};
+ghost use Rattle.pt_recover.specs.inner.Denotes.{labelled, LabelIs};
 ghost use Rattle.pt_recover.specs.Spans.{Adds};
 
 use crate::trace::Trace;

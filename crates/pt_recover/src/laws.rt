@@ -1,11 +1,8 @@
 //! What holds of the meaning of disks, whatever they hold.
 
 ghost use Rattle.std.specs.Prelude.{◌≡◌, ℕ, List, Option, None};
-ghost use Rattle.pt_sector.specs.Sectors.{Sectors, Agrees};
-ghost use Rattle.pt_sector.specs.Writes.{Writes, Stopped};
-ghost use Rattle.pt_recover.specs.Denotes.{Denotes, Reads, SameMeaning};
-ghost use Rattle.pt_recover.specs.LeavesReads.{LeavesReads};
-ghost use Rattle.pt_recover.specs.Answers.{IsReason};
+ghost use Rattle.pt_sector.specs.Sectors.{Sectors, Agrees, Writes, Stopped};
+ghost use Rattle.pt_recover.specs.Denotes.{Denotes, Reads, SameMeaning, LeavesReads, IsReason};
 ghost use Rattle.pt_recover.specs.declared.error.NoTable.{NoTable};
 ghost use Rattle.pt_members.specs.declared.layout.Layout.{Layout};
 
@@ -26,13 +23,13 @@ pub fn stop_keeps()
 {}
 
 /// A disk has one reason at most to denote nothing.
-#[tactic(auto, using(crate::specs::laws::Terms::reason_is_one_lem))]
+#[tactic(auto, using(crate::proofs::Terms::reason_is_one_lem))]
 pub fn reason_is_one()
     ensures { (b : ℕ) (d : Sectors) (e f : NoTable) → IsReason b d e → IsReason b d f → e ≡ f }
 {}
 
 /// A disk with a reason to denote nothing denotes nothing.
-#[tactic(auto, using(crate::specs::laws::Terms::reason_is_nothing_lem))]
+#[tactic(auto, using(crate::proofs::Terms::reason_is_nothing_lem))]
 pub fn reason_is_nothing()
     ensures { (b : ℕ) (d : Sectors) (e : NoTable) → IsReason b d e → Denotes b d None }
 {}

@@ -2,7 +2,7 @@
 //!
 //! An MBR disk denotes its records, the chain of its lone extended partition and its labels; every other disk the
 //! table of its primary copy, or else of its backup, and its labels. docs/model.md tells it in words, specs/Denotes.antt
-//! exactly. The laws of src/laws.rt stand as terms in specs/laws/Terms.antt, for contracts above to cite.
+//! exactly. The laws of src/laws.rt stand as terms in proofs/Terms.antt, for contracts above to cite.
 #![tactic(auto)]
 
 mod body;

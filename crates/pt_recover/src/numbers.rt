@@ -1,7 +1,7 @@
 //! The numbers of records have 32 bits. Their types say so; contracts above see a layout as a value without types.
 
 ghost use Rattle.std.specs.Prelude.{◌<◌, ◌^◌, All};
-ghost use Rattle.pt_recover.specs.Numbers.{SlotNumbers, EbrNumbers, BodyNumbers};
+ghost use Rattle.pt_recover.specs.Denotes.{SlotNumbers, EbrNumbers, BodyNumbers};
 
 use pt_mbr::{Ebr, Record};
 use pt_members::Body;

@@ -1,14 +1,12 @@
 //! Recovery: the layout that a disk denotes.
 
 ghost use Rattle.std.specs.Prelude.{◌≡◌, ◌⊎◌, OnOk, IfOk, IfErr, IfSome, Some};
-ghost use Rattle.pt_sector.specs.Calls.{Blames};
-ghost use Rattle.pt_sector.specs.Reads.{OnlyReads};
+ghost use Rattle.pt_sector.specs.Device.{Blames};
+ghost use Rattle.pt_sector.specs.Overlays.{OnlyReads};
 ghost use Rattle.pt_sector.specs.Sectors.{IsSectorSize};
-ghost use Rattle.pt_recover.specs.Denotes.{Denotes, Reads};
-ghost use Rattle.pt_recover.specs.Mbr.{IsMbr};
-ghost use Rattle.pt_recover.specs.Numbers.{Numbers};
+ghost use Rattle.pt_recover.specs.Denotes.{Denotes, Reads, IsMbr, Numbers, IsOutsideDisk, TellsNothing, fault_in, FailedInDisk};
+ghost use Rattle.pt_recover.specs.Denotes.{IsTraceOf};
 ghost use Rattle.pt_recover.specs.Spans.{Adds};
-ghost use Rattle.pt_recover.specs.Answers.{IsOutsideDisk, TellsNothing, fault_in, FailedInDisk, IsTraceOf};
 
 use crate::body::body_of;
 use crate::error::NoTable;

@@ -1,18 +1,14 @@
 //! The table of a GPT disk, and the sectors that decide it.
 
 ghost use Rattle.std.specs.Prelude.{◌≡◌, ◌+◌, ◌-◌, ◌≤◌, ◌⊎◌, IfOk, IfErr, OnOk};
-ghost use Rattle.pt_sector.specs.Calls.{Blames};
-ghost use Rattle.pt_sector.specs.Reads.{OnlyReads};
+ghost use Rattle.pt_sector.specs.Device.{Blames};
+ghost use Rattle.pt_sector.specs.Overlays.{OnlyReads};
 ghost use Rattle.pt_sector.specs.Sectors.{IsSectorSize};
-ghost use Rattle.pt_gpt.specs.Array.{counted};
-ghost use Rattle.pt_gpt.specs.Errors.{IsOutsideCopy, fault_in as fault_in_copy, FailedInCopy};
-ghost use Rattle.pt_gpt.specs.Copy.{IsPlaced, InArray, Copy, CopyWith, SideReads};
-ghost use Rattle.pt_gpt.specs.Answers.{TellsFault};
-ghost use Rattle.pt_gpt.specs.Array.{HasRoom};
-ghost use Rattle.pt_recover.specs.Gpt.{TableIs, TableReads};
-ghost use Rattle.pt_recover.specs.Steps.{AreCopyFaults};
+ghost use Rattle.pt_gpt.specs.Copies.{counted, IsOutsideCopy, fault_in as fault_in_copy, FailedInCopy, IsPlaced, InArray, Copy, CopyWith};
+ghost use Rattle.pt_gpt.specs.Copies.{SideReads, TellsFault, HasRoom};
+ghost use Rattle.pt_recover.specs.Denotes.{TableIs, TableReads, IsOutsideDisk, fault_in, FailedInDisk};
+ghost use Rattle.pt_recover.specs.inner.Denotes.{AreCopyFaults};
 ghost use Rattle.pt_recover.specs.Spans.{Adds};
-ghost use Rattle.pt_recover.specs.Answers.{IsOutsideDisk, fault_in, FailedInDisk};
 
 use crate::error::NoTable;
 use crate::trace::Trace;

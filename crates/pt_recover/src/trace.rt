@@ -1,7 +1,8 @@
 //! The sectors that a recovery read.
 
 ghost use Rattle.std.specs.Prelude.{◌≡◌, ◌≤◌, ◌↔◌, ℕ, List, length, IsTrue, IfOk, OnOk};
-ghost use Rattle.pt_recover.specs.Spans.{IsIn, Apart, hull, joined, StandsAs, StandsBefore, Adds};
+ghost use Rattle.pt_recover.specs.Spans.{IsIn, Apart, Adds};
+ghost use Rattle.pt_recover.specs.inner.Spans.{hull, joined, StandsAs, StandsBefore};
 ghost use Rattle.pt_recover.specs.declared.trace.TracedRun.{TracedRun};
 
 use pt_sector::Lba;

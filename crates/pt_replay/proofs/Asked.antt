@@ -7,14 +7,12 @@ use Rattle.std.specs.Prelude.{MatchOption}
 use Rattle.std.specs.Str.{IsUtf8}
 use Rattle.std.proofs.lemmas.Str.{IsUtf8-drop, IsCharBoundary-after_ascii}
 use Rattle.pt_words.specs.declared.word.Edit.{Edit}
-use Rattle.pt_words.specs.Words.{fields, IsWord}
+use Rattle.pt_words.specs.Words.{fields, IsWord, IsWordFault}
 use Rattle.pt_words.specs.declared.error.EditError.{EditError}
-use Rattle.pt_words.specs.Words.{IsWordFault}
-use Rattle.pt_words.specs.laws.WordLaws.{fault_is_no_word_lem}
-use Rattle.pt_replay.specs.Codes.{the_words}
-use Rattle.pt_replay.specs.Words.{AreWords, AreEdits, HasNoZero}
-use Rattle.pt_replay.specs.Judged.{NoWords}
-use Rattle.pt_replay.specs.Replies.{bad_argument, bad_word}
+use Rattle.pt_words.proofs.WordLaws.{fault_is_no_word_lem}
+use Rattle.pt_replay.specs.Replies.{the_words, bad_argument, bad_word}
+use Rattle.pt_replay.specs.Given.{AreWords, AreEdits, HasNoZero}
+use Rattle.pt_replay.specs.inner.Wanted.{NoWords}
 use Rattle.pt_replay.specs.declared.answers.Reply.{Reply}
 
 -- a cut at the first zero byte

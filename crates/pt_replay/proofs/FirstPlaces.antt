@@ -9,8 +9,8 @@ use Rattle.std.proofs.lemmas.Bool.Decides.{nat_tests}
 use Rattle.std.proofs.lemmas.List.{drop_all}
 use Rattle.std.proofs.lemmas.Option.{slice_get_past}
 use Rattle.pt_sector.specs.Sectors.{Sectors}
-use Rattle.pt_replay.specs.Known.{known_of}
-use Rattle.pt_replay.specs.Places.{place_from, sector_in}
+use Rattle.pt_replay.specs.Wanted.{known_of, place_from}
+use Rattle.pt_replay.proofs.ViewLemmas.{sector_in}
 
 -- the map leads from each number to its first place from k on
 abbrev pub LeadsFrom : ℕ → List ℕ → BTreeMap ℕ ℕ → Type 0

@@ -1,10 +1,11 @@
-pub mod Walk
-pub mod Parts
-pub mod Saying
-pub mod PlanRows
-pub mod NoPlan
 pub mod Asked
+pub mod FirstPlaces
 pub mod ListRows
+pub mod NoPlan
+pub mod Parts
+pub mod PlanRows
+pub mod Saying
 pub mod SayingLike
 pub mod Unknown
-pub mod FirstPlaces
+pub mod ViewLemmas
+pub mod Walk

@@ -1,6 +1,6 @@
 -- The rows of a layout, one place after the other.
-use Rattle.std.proofs.Common.{◌≡◌, ◌≤◌, ◌<◌, ◌+◌, ◌-◌, ◌++◌, ◌∙◌, append_assoc, ℕ, List, [], ◌∷◌, length, get_or, map, None}
-use Rattle.std.proofs.Common.{Option, ap, sym, arith}
+use Rattle.std.proofs.Common.{◌≡◌, ◌≤◌, ◌<◌, ◌+◌, ◌-◌, ◌++◌, ◌∙◌, append_assoc, ℕ, List, [], ◌∷◌, length, get_or, map, None, Option, ap}
+use Rattle.std.proofs.Common.{sym, arith}
 use Rattle.std.specs.Prelude.{flat_map}
 use Rattle.std.specs.List.{range_with_len}
 use Rattle.std.proofs.lemmas.Grind.{flat_map-append}
@@ -11,7 +11,7 @@ use Rattle.pt_mbr.specs.declared.ebr.Ebr.{Ebr}
 use Rattle.pt_mbr.specs.declared.record.Record.{Record}
 use Rattle.pt_sector.specs.Sectors.{Sectors}
 use Rattle.pt_replay.specs.Claims.{NoLayout, Members, MembersFor}
-use Rattle.pt_replay.specs.Judged.{OfView, NoBuffers}
+use Rattle.pt_replay.specs.Wanted.{OfView, NoBuffers}
 use Rattle.pt_replay.proofs.Saying.{viewed}
 use Rattle.pt_replay.specs.Listed.{Listing, records_in}
 use Rattle.pt_replay.specs.declared.answers.Status.{Status}

@@ -1,16 +1,16 @@
 -- Rows that are no plan.
-use Rattle.std.proofs.Common.{◌≡◌, ◌∙◌, ◌<◌, ◌≤◌, ◌+◌, ◌*◌, ◌/◌, ℕ, List, [], ◌∷◌, ◌++◌, length, take, drop, get_or, sym, ap, subst, arith}
-use Rattle.std.proofs.Common.{append_assoc, inl, inr, map, suc}
+use Rattle.std.proofs.Common.{◌≡◌, ◌∙◌, ◌<◌, ◌≤◌, ◌+◌, ◌*◌, ◌/◌, ℕ, List, [], ◌∷◌, ◌++◌, length, take, drop, get_or, sym, ap, subst}
+use Rattle.std.proofs.Common.{arith, append_assoc, inl, inr, map, suc}
 use Rattle.std.specs.Prelude.{◌%◌, ◌-◌, ◌≢◌, ◌⊎◌}
 use Rattle.std.proofs.Math.Nat.{mul-mod_left, mul-div_cancel, eq-or-lt_of_le}
 use Rattle.std.proofs.Math.Seq.{get_or-append_seam}
 use Rattle.std.proofs.lemmas.List.{take-append-drop, drop_more, length-append, length-map, map-append, length-take-le}
-use Rattle.pt_sector.specs.Sectors.{IsSectorSize}
-use Rattle.pt_sector.specs.Writes.{Writes}
-use Rattle.pt_replay.specs.Codes.{the_rows}
-use Rattle.pt_replay.specs.Given.{rows_in, rows_from, AreFull, AreTaken, IsGrowing, IsMisplaced, Took, phase_at, IsInOrder}
-use Rattle.pt_replay.specs.Judged.{NoRows}
-use Rattle.pt_replay.specs.Replies.{bad_argument, bad_row}
+use Rattle.pt_sector.specs.Sectors.{IsSectorSize, Writes}
+use Rattle.pt_replay.specs.Replies.{the_rows, bad_argument, bad_row}
+use Rattle.pt_replay.specs.Given.{rows_in, rows_from, AreFull, AreTaken, phase_at, IsInOrder}
+use Rattle.pt_replay.proofs.ViewLemmas.{IsGrowing}
+use Rattle.pt_replay.specs.inner.Given.{IsMisplaced, Took}
+use Rattle.pt_replay.specs.inner.Wanted.{NoRows}
 use Rattle.pt_replay.specs.declared.answers.Reply.{Reply}
 use Rattle.pt_replay.specs.declared.rows.WriteRow.{WriteRow}
 use Rattle.pt_replay.specs.declared.taking.Partial.{Partial}

@@ -3,7 +3,7 @@ use Rattle.std.proofs.Common.{◌≡◌, ◌<◌, ℕ, List, [], length, Option,
 use Rattle.std.proofs.lemmas.List.{ext_get_or}
 use Rattle.std.proofs.lemmas.List.FromFn.{get_or-map-range_with_len, length-map-range_with_len}
 use Rattle.pt_sector.specs.Sectors.{Sectors, sector}
-use Rattle.pt_replay.specs.Known.{known_or, disk_of, held, IsPartOf}
+use Rattle.pt_replay.specs.Wanted.{known_or, disk_of, held, IsPartOf}
 use Rattle.pt_replay.specs.declared.view.View.{View}
 
 -- sector s of the disk of a view

@@ -4,12 +4,12 @@ use Rattle.std.proofs.Common.{append_assoc, length-append, refl, inl, inr}
 use Rattle.std.proofs.lemmas.List.{append-nil, map-append, take_more, length-map, length-take-le}
 use Rattle.std.specs.Prelude.{Vec}
 use Rattle.std.specs.declared.alloc.Global.{Global}
-use Rattle.pt_sector.specs.Sectors.{Sectors}
-use Rattle.pt_sector.specs.Writes.{Writes}
+use Rattle.pt_sector.specs.Sectors.{Sectors, Writes}
 use Rattle.pt_apply.specs.declared.plan.Write.{Write}
 use Rattle.pt_apply.specs.Plans.{writes_of, phases_in}
-use Rattle.pt_replay.specs.Given.{rows_in, bytes_in, rows_from, bytes_of, sectors_of, AreRows, AreFull, phases_read, IsNumbered}
-use Rattle.pt_replay.specs.Given.{Took, AreRead, IsGrowing}
+use Rattle.pt_replay.specs.Given.{rows_in, bytes_in, rows_from, bytes_of, sectors_of, AreFull}
+use Rattle.pt_replay.specs.inner.Given.{AreRows, phases_read, IsNumbered, Took}
+use Rattle.pt_replay.proofs.ViewLemmas.{AreRead, IsGrowing}
 use Rattle.pt_replay.specs.declared.rows.WriteRow.{WriteRow}
 use Rattle.pt_replay.specs.declared.taking.Partial.{Partial}
 

@@ -1,47 +1,45 @@
 -- What answers say.
 use Rattle.std.proofs.Common.{◌≡◌, inl, inr, sym, subst, ap, ◌∙◌, List, to_z, of_z, w32, ℤ, ℕ, Some, None, refl}
-use Rattle.pt_sector.specs.Sectors.{Sectors, IsSectorSize}
-use Rattle.pt_sector.specs.Calls.{IsReadIn}
-use Rattle.pt_sector.specs.Reads.{FailedIn, fault_of}
+use Rattle.pt_sector.specs.Sectors.{Sectors, IsSectorSize, Writes}
+use Rattle.pt_sector.specs.Device.{IsReadIn}
+use Rattle.pt_sector.specs.Overlays.{FailedIn, fault_of}
 use Rattle.pt_sector.specs.declared.disk.Fault.{Fault}
 use Rattle.pt_sector.specs.declared.disk.Fault.TheVariants as fault
 use Rattle.pt_sector.specs.declared.reading.Failure.{Failure}
 use Rattle.pt_sector.specs.declared.reading.Failure.TheVariants as failure
 use Rattle.pt_mbr.specs.declared.chain.ChainError.{ChainError}
 use Rattle.pt_mbr.specs.declared.chain.ChainError.TheVariants as chain
-use Rattle.pt_recover.specs.Answers.{IsReason, TellsNothing, FailedInDisk, fault_in, LacksChain}
-use Rattle.pt_recover.specs.Denotes.{Denotes, Reads}
+use Rattle.pt_recover.specs.Denotes.{IsReason, TellsNothing, FailedInDisk, fault_in, LacksChain, Denotes, Reads}
 use Rattle.pt_recover.specs.declared.error.NoTable.{NoTable}
 use Rattle.pt_recover.specs.declared.error.NoTable.TheVariants as table
 use Rattle.pt_members.specs.declared.layout.Layout.{Layout}
-use Rattle.pt_sound.specs.Findings.{IsFinding, VerdictReads}
-use Rattle.pt_members.specs.Places.{IsPlaceOf}
-use Rattle.pt_sound.specs.declared.finding.Finding.{Finding}
-use Rattle.pt_sound.specs.declared.finding.Finding.TheVariants as finding
+use Rattle.pt_layout.specs.Healthy.{IsFinding, VerdictReads}
+use Rattle.pt_members.specs.Tables.{IsPlaceOf}
+use Rattle.pt_layout.specs.declared.sound.finding.Finding.{Finding}
+use Rattle.pt_layout.specs.declared.sound.finding.Finding.TheVariants as finding
 use Rattle.pt_path.specs.declared.path.Path.{Path}
-use Rattle.pt_sector.specs.Writes.{Writes}
-use Rattle.pt_check.specs.CheckReads.{CheckReads}
-use Rattle.pt_check.specs.Failed.{FailedInCheck, fault_in as check_fault_in}
+use Rattle.pt_check.specs.Answers.{CheckReads, FailedInCheck, fault_in as check_fault_in}
 use Rattle.pt_check.specs.declared.error.CheckError.{CheckError}
 use Rattle.pt_check.specs.declared.error.CheckError.TheVariants as check
-use Rattle.pt_plan.specs.Batches.{Words, IsReady, IsRefusal, IsReadyToMend, IsMendRefusal}
-use Rattle.pt_plan.specs.Failed.{commit_fault_in}
-use Rattle.pt_plan.specs.Mending.{repair_fault_in}
-use Rattle.pt_plan.specs.Reading.{FailedInCommit, FailedInRepair, CommitReads, RepairReads}
+use Rattle.pt_plan.specs.Batches.{Words, IsReady, IsRefusal, IsReadyToMend, IsMendRefusal, FailedInCommit, FailedInRepair, CommitReads}
+use Rattle.pt_plan.specs.Batches.{RepairReads}
+use Rattle.pt_plan.specs.Commits.{commit_fault_in}
+use Rattle.pt_plan.specs.Repairs.{repair_fault_in}
 use Rattle.pt_plan.specs.declared.error.CommitError.{CommitError}
 use Rattle.pt_plan.specs.declared.error.CommitError.TheVariants as commit
 use Rattle.pt_plan.specs.declared.repair_error.RepairError.{RepairError}
 use Rattle.pt_plan.specs.declared.repair_error.RepairError.TheVariants as repair
 use Rattle.pt_replay.specs.Claims.{NoLayout, Verified, Located, LocatedFor, NoPlan, Planned, PlannedFor, NoMending, Mended, MendedFor}
 use Rattle.pt_replay.specs.Claims.{Checked, CheckedFor, IsNamed, path_in, Says}
-use Rattle.pt_replay.specs.Given.{Buffers, Gives, AreTaken}
-use Rattle.pt_replay.specs.Codes.{status_code, the_size}
-use Rattle.pt_replay.specs.Judged.{OfView, OfSize, NoBuffers, IsUnasked, NoWords, NoGroups, NoRows}
-use Rattle.pt_replay.specs.Known.{IsAsked, IsView, disk_of, IsPartOf}
-use Rattle.pt_replay.specs.Words.{AreEdits, AreDrawn, IsAskedFor, batch_of}
+use Rattle.pt_replay.specs.Given.{Buffers, AreTaken, AreEdits, AreDrawn, IsAskedFor}
+use Rattle.pt_replay.specs.inner.Given.{Gives, batch_of}
+use Rattle.pt_replay.specs.Replies.{status_code, the_size, nothing, failure_answer, finding_answer, table_answer, chain_answer}
+use Rattle.pt_replay.specs.Replies.{commit_answer, repair_answer, bad_argument}
+use Rattle.pt_replay.specs.Wanted.{OfView, OfSize, NoBuffers, IsView, disk_of, IsPartOf}
+use Rattle.pt_replay.specs.inner.Wanted.{IsUnasked, NoWords, NoGroups, NoRows}
+use Rattle.pt_replay.proofs.ViewLemmas.{IsAsked}
 use Rattle.pt_replay.proofs.Parts.{part_is}
-use Rattle.pt_replay.specs.Replies.{nothing, failure_answer, finding_answer, table_answer, chain_answer, commit_answer, repair_answer}
-use Rattle.pt_replay.specs.Replies.{check_answer, bad_argument}
+use Rattle.pt_replay.specs.inner.Replies.{check_answer}
 use Rattle.pt_replay.specs.declared.answers.Status.{Status}
 use Rattle.pt_replay.specs.declared.answers.Status.TheVariants as status
 use Rattle.pt_replay.specs.declared.answers.Reply.{Reply}

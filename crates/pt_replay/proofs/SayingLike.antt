@@ -1,29 +1,26 @@
 -- What answers say of plans by which a disk becomes like another one.
 use Rattle.std.proofs.Common.{◌≡◌, ◌≢◌, inl, inr, sym, subst, ap, ◌∙◌, List, to_z, of_z, w32, ℤ, ℕ, Some, refl, arith}
-use Rattle.pt_sector.specs.Sectors.{Sectors, IsSectorSize}
-use Rattle.pt_sector.specs.Writes.{Writes}
+use Rattle.pt_sector.specs.Sectors.{Sectors, IsSectorSize, Writes}
 use Rattle.pt_sector.specs.declared.disk.Fault.{Fault}
 use Rattle.pt_sector.specs.declared.disk.Fault.TheVariants as fault
 use Rattle.pt_mbr.specs.declared.chain.ChainError.{ChainError}
 use Rattle.pt_mbr.specs.declared.chain.ChainError.TheVariants as chain
-use Rattle.pt_recover.specs.Answers.{TellsNothing, FailedInDisk, fault_in}
-use Rattle.pt_recover.specs.Denotes.{Reads}
+use Rattle.pt_recover.specs.Denotes.{TellsNothing, FailedInDisk, fault_in, Reads}
 use Rattle.pt_recover.specs.declared.error.NoTable.{NoTable}
 use Rattle.pt_recover.specs.declared.error.NoTable.TheVariants as table
-use Rattle.pt_plan.specs.Failed.{commit_fault_in}
-use Rattle.pt_plan.specs.Like.{fault_in_disk, fault_in_other, FailedInLike, FailedInOther, LikeReads, IsReadyLike, NotLike}
-use Rattle.pt_plan.specs.Reading.{FailedInCommit}
+use Rattle.pt_plan.specs.Commits.{commit_fault_in}
+use Rattle.pt_plan.specs.Layouts.{fault_in_disk, fault_in_other, FailedInLike, FailedInOther, LikeReads, IsReadyLike, NotLike}
+use Rattle.pt_plan.specs.Batches.{FailedInCommit}
 use Rattle.pt_plan.specs.declared.error.CommitError.{CommitError}
 use Rattle.pt_plan.specs.declared.error.CommitError.TheVariants as commit
 use Rattle.pt_plan.specs.declared.like_error.LikeError.{LikeError}
 use Rattle.pt_plan.specs.declared.like_error.LikeError.TheVariants as like
-use Rattle.pt_replay.specs.Adopted.{NoAdopting, Adopted, AdoptedFor, OfOther, OfOtherSize, OfOtherCount}
-use Rattle.pt_replay.specs.Claims.{Says}
-use Rattle.pt_replay.specs.Codes.{status_code}
-use Rattle.pt_replay.specs.Given.{Buffers, Gives}
-use Rattle.pt_replay.specs.Judged.{OfView, OfSize, NoBuffers}
-use Rattle.pt_replay.specs.Known.{IsAsked, IsView, IsPartOf, disk_of}
-use Rattle.pt_replay.specs.Replies.{like_answer}
+use Rattle.pt_replay.specs.Claims.{NoAdopting, Adopted, AdoptedFor, OfOther, OfOtherSize, OfOtherCount, Says}
+use Rattle.pt_replay.specs.Replies.{status_code, like_answer}
+use Rattle.pt_replay.specs.Given.{Buffers}
+use Rattle.pt_replay.specs.inner.Given.{Gives}
+use Rattle.pt_replay.specs.Wanted.{OfView, OfSize, NoBuffers, IsView, IsPartOf, disk_of}
+use Rattle.pt_replay.proofs.ViewLemmas.{IsAsked}
 use Rattle.pt_replay.proofs.Parts.{part_is}
 use Rattle.pt_replay.proofs.Saying.{viewed, code_round}
 use Rattle.pt_replay.specs.declared.answers.Status.{Status}

@@ -1,6 +1,6 @@
 -- Sectors that are wanted, taken up one after the other.
-use Rattle.std.proofs.Common.{◌≡◌, ◌<◌, ◌+◌, ◌++◌, ◌∙◌, ℕ, zero, suc, List, [], ◌∷◌, length, get_or, All, None, Some}
-use Rattle.std.proofs.Common.{sym, ap, subst, inl, inr, arith, refl, true, false, length-append, Result, Ok, Err, IfOk}
+use Rattle.std.proofs.Common.{◌≡◌, ◌<◌, ◌+◌, ◌++◌, ◌∙◌, ℕ, zero, suc, List, [], ◌∷◌, length, get_or, All, None, Some, sym, ap, subst, inl}
+use Rattle.std.proofs.Common.{inr, arith, refl, true, false, length-append, Result, Ok, Err, IfOk}
 use Rattle.std.specs.Prelude.{◌⊎◌, nat_eq, MatchResult}
 use Rattle.std.specs.List.{IsDistinct, list_any}
 use Rattle.std.proofs.Math.Nat.{eq-or-lt_of_le}
@@ -11,15 +11,14 @@ use Rattle.std.proofs.lemmas.Map.Keys.{IsDistinct-push}
 use Rattle.pt_sector.specs.Sectors.{Sectors}
 use Rattle.pt_sector.specs.declared.disk.Fault.{Fault}
 use Rattle.pt_sector.specs.declared.disk.Fault.TheVariants as fault
-use Rattle.pt_members.specs.Slices.{IsPlace, place_of, places_of}
+use Rattle.pt_members.specs.Members.{IsPlace, place_of, places_of}
 use Rattle.pt_members.specs.declared.layout.Body.{Body}
 use Rattle.pt_members.specs.declared.layout.Slice.{Slice}
-use Rattle.pt_recover.specs.Answers.{TellsNothing, FailedInDisk, fault_in}
-use Rattle.pt_recover.specs.Denotes.{BodyIs, Reads, label}
+use Rattle.pt_recover.specs.Denotes.{TellsNothing, FailedInDisk, fault_in, BodyIs, Reads, label}
 use Rattle.pt_recover.specs.declared.error.NoTable.{NoTable as Reason}
 use Rattle.pt_recover.specs.declared.error.NoTable.TheVariants as reason
-use Rattle.pt_replay.specs.Known.{known_of, IsNew, IsOfNew, AreOf, sectors_in}
-use Rattle.pt_replay.specs.Wanted.{AreUnknown, ListsWanted, IsSettled, IsAlone, TakesUp, GivesList, WantsAll}
+use Rattle.pt_replay.specs.Wanted.{known_of, IsNew, IsOfNew, sectors_in, IsSettled, WantsAll}
+use Rattle.pt_replay.specs.inner.Wanted.{AreOf, AreUnknown, ListsWanted, IsAlone, TakesUp, GivesList}
 use Rattle.pt_replay.specs.declared.answers.Status.{Status}
 use Rattle.pt_replay.specs.declared.answers.Status.TheVariants as status
 use Rattle.pt_replay.specs.declared.answers.Reply.{Reply}

@@ -1,14 +1,15 @@
 -- The walk over the known sectors.
-use Rattle.std.proofs.Common.{◌≡◌, ◌++◌, refl, subst, ◌<◌, ℕ, sym, List, [], ◌∷◌}
-use Rattle.std.proofs.Common.{Option, Some, None, ap, ◌∙◌, arith}
+use Rattle.std.proofs.Common.{◌≡◌, ◌++◌, refl, subst, ◌<◌, ℕ, sym, List, [], ◌∷◌, Option, Some, None, ap, ◌∙◌, arith}
 use Rattle.std.proofs.lemmas.List.{append_cancel_left}
 use Rattle.std.proofs.lemmas.List.FromFn.{get_or-map-range_with_len}
 use Rattle.pt_sector.specs.Sectors.{Sectors, sector}
 use Rattle.pt_sector.specs.declared.disk.Fault.{Fault}
-use Rattle.pt_sector.specs.Calls.{with_fault}
+use Rattle.pt_sector.specs.Device.{with_fault}
 use Rattle.pt_sector.specs.declared.address.Lba.{Lba}
 use Rattle.pt_sector.specs.declared.disk.Fault.TheVariants.{Read}
-use Rattle.pt_replay.specs.Known.{known_of, known_or, whole, IsOfNew, AreOfNew, AreOf, IsAsked, Asks}
+use Rattle.pt_replay.specs.Wanted.{known_of, known_or, whole, IsOfNew, AreOfNew, Asks}
+use Rattle.pt_replay.specs.inner.Wanted.{AreOf}
+use Rattle.pt_replay.proofs.ViewLemmas.{IsAsked}
 use Rattle.pt_replay.specs.declared.view.View.{View}
 
 pub known_is_there : (count : ℕ) (ns : List ℕ) (ks : Sectors) (elsewhere : Sectors) (s : ℕ) (v : List ℕ) → s < count

@@ -1,40 +1,36 @@
--- What a status says of the disk d, of which the caller has given the view v.
-use Rattle.std.specs.Prelude.{◌≡◌, ◌≤◌, ◌-◌, ◌⊎◌, ℕ, ℤ, List, Some, None, nat_eq, if◌then◌else◌}
-use Rattle.pt_sector.specs.Sectors.{Sectors}
-use Rattle.pt_recover.specs.Answers.{IsReason}
-use Rattle.pt_recover.specs.Denotes.{Denotes, Reads}
+-- What a reply says of each disk that has the sectors that were shown.
+use Rattle.std.specs.Prelude.{◌≡◌, ◌≤◌, ◌-◌, ◌⊎◌, ℕ, ℤ, List, Some, None, nat_eq, if◌then◌else◌, ◌≢◌}
+use Rattle.pt_sector.specs.Sectors.{Sectors, Writes}
+use Rattle.pt_recover.specs.Denotes.{IsReason, Denotes, Reads}
 use Rattle.pt_recover.specs.declared.error.NoTable.{NoTable as Reason}
 use Rattle.pt_members.specs.declared.layout.Layout.{Layout}
-use Rattle.pt_sound.specs.Findings.{IsFinding, VerdictReads}
-use Rattle.pt_sound.specs.Healthy.{Healthy}
-use Rattle.pt_members.specs.Places.{IsPlaceOf}
-use Rattle.pt_sound.specs.declared.finding.Finding.{Finding as FindingValue}
+use Rattle.pt_layout.specs.Healthy.{IsFinding, VerdictReads, Healthy}
+use Rattle.pt_members.specs.Tables.{IsPlaceOf, OwnedOf, TableOf}
+use Rattle.pt_layout.specs.declared.sound.finding.Finding.{Finding as FindingValue}
 use Rattle.pt_path.specs.declared.path.Path.{Path}
-use Rattle.pt_sector.specs.Writes.{Writes}
-use Rattle.pt_plan.specs.Batches.{Words, IsReady, IsRefusal, IsReadyToMend, IsMendRefusal}
-use Rattle.pt_plan.specs.Reading.{CommitReads, RepairReads}
+use Rattle.pt_plan.specs.Batches.{Words, IsReady, IsRefusal, IsReadyToMend, IsMendRefusal, CommitReads, RepairReads}
 use Rattle.pt_plan.specs.declared.error.CommitError.{CommitError}
 use Rattle.pt_plan.specs.declared.repair_error.RepairError.{RepairError}
-use Rattle.pt_replay.specs.Words.{AreSomeEdits, AreGroups, ToldOfWords, IsAskedFor}
-use Rattle.pt_replay.specs.Given.{Buffers, Stands, HasNoPlace, AreTaken, ArePlan, ToldOfRows}
+use Rattle.pt_replay.specs.Given.{AreSomeEdits, AreGroups, ToldOfWords, IsAskedFor, Buffers, Stands, HasNoPlace, AreTaken, ArePlan}
+use Rattle.pt_replay.specs.Given.{ToldOfRows}
 use Rattle.pt_replay.specs.Listed.{Listing, IsListed, HasNoRoom}
 use Rattle.pt_replay.specs.declared.rows.WriteRow.{WriteRow}
-use Rattle.pt_apply.specs.Promises.{Safe}
-use Rattle.pt_check.specs.Answers.{Answers}
-use Rattle.pt_check.specs.CheckReads.{CheckReads}
-use Rattle.pt_members.specs.Owned.{OwnedOf}
-use Rattle.pt_members.specs.Tables.{TableOf}
+use Rattle.pt_apply.specs.Plans.{Safe}
+use Rattle.pt_check.specs.Answers.{Answers, CheckReads}
 use Rattle.pt_check.specs.declared.answer.Answer.TheVariants.{No as AnswerNo}
 use Rattle.pt_check.specs.declared.answer.Why.{Why}
-use Rattle.pt_replay.specs.Codes.{status_code, the_path, the_random_bytes}
-use Rattle.pt_replay.specs.Known.{IsWanted}
-use Rattle.pt_replay.specs.Judged.{Judged, Tells, OfView, OrMemory, NoBuffers}
-use Rattle.pt_replay.specs.Replies.{nothing, answer, at_sector, switching, finding_answer, table_answer, commit_answer, repair_answer}
-use Rattle.pt_replay.specs.Replies.{why_reply}
+use Rattle.pt_replay.specs.Replies.{status_code, the_path, the_random_bytes, nothing, answer, at_sector, switching, finding_answer}
+use Rattle.pt_replay.specs.Replies.{table_answer, commit_answer, repair_answer, why_reply, the_other_size, the_other_view, other_count}
+use Rattle.pt_replay.specs.Replies.{like_answer}
+use Rattle.pt_replay.specs.Wanted.{IsWanted, Judged, Tells, OfView, OrMemory, NoBuffers, IsView}
 use Rattle.pt_replay.specs.declared.answers.Status.{Status}
 use Rattle.pt_replay.specs.declared.answers.Status.TheVariants.{Done, No, Usage, Refused, NoTable, Device, Memory, Want, Room, WantOther}
 use Rattle.pt_replay.specs.declared.answers.Reply.{Reply}
 use Rattle.pt_replay.specs.declared.view.View.{View}
+use Rattle.pt_plan.specs.Layouts.{LikeReads, IsReadyLike, NotLike}
+use Rattle.pt_plan.specs.declared.like_error.LikeError.{LikeError}
+
+-- ## What a status says of the disk d, of which the caller has given the view v.
 
 -- the disk denotes nothing, for the reason that the reply tells
 abbrev pub SaysNothing : ℕ → Sectors → Reply → Type 0
@@ -213,3 +209,55 @@ MembersFor b v d old new = OfView b v (new ≡ old) (Members b v d old new)
 -- a code that C gets is that of a status, and what the status says is so
 abbrev pub Says : (Status → Reply → Type 0) → ℤ → Reply → Type 0
 Says claim code r = (s : Status) × (code ≡ status_code s) × claim s r
+
+-- ## What a status says of a plan by which the disk d becomes like the disk e, of which the caller has given the views v and o.
+
+-- the disk doesn't become like the other one for the reason that the answer tells, with this status
+abbrev pub IsUnlike : ℕ → Sectors → Sectors → Status → Reply → Type 0
+IsUnlike b d e s r = (x : LikeError) × NotLike b e d x × (like_answer x ≡ answer s r)
+
+-- no plan to become like the other disk; a sector that is wanted is one of the disk's or one of the other's, as the status says
+abbrev pub NoAdopting : ℕ → View → View → Sectors → Sectors → Status → Reply → Type 0
+NoAdopting b v o d e Done r = ⊥
+NoAdopting b v o d e No r = ⊥
+NoAdopting b v o d e Usage r = ⊥
+NoAdopting b v o d e Refused r = IsUnlike b d e Refused r
+NoAdopting b v o d e NoTable r = IsUnlike b d e NoTable r
+NoAdopting b v o d e Device r = ⊥
+NoAdopting b v o d e Memory r = r ≡ nothing
+NoAdopting b v o d e Want r = Wants b v (LikeReads b e d) r
+NoAdopting b v o d e Room r = ⊥
+NoAdopting b v o d e WantOther r = Wants b o (Reads b e) r
+
+-- a checked plan for the layout of the other disk stands in the buffers, or it has no room there; or there is none, and they stay as
+-- they were
+abbrev pub Adopted : ℕ → View → View → Sectors → Sectors → Buffers → Buffers → Status → Reply → Type 0
+Adopted b v o d e old new Done r = (phases : List Writes) × IsReadyLike b e d phases × Stands phases old new r
+Adopted b v o d e old new No r = ⊥
+Adopted b v o d e old new Usage r = ⊥
+Adopted b v o d e old new Refused r = NoAdopting b v o d e Refused r × (new ≡ old)
+Adopted b v o d e old new NoTable r = NoAdopting b v o d e NoTable r × (new ≡ old)
+Adopted b v o d e old new Device r = ⊥
+Adopted b v o d e old new Memory r = (r ≡ nothing) × (new ≡ old)
+Adopted b v o d e old new Want r = NoAdopting b v o d e Want r × (new ≡ old)
+Adopted b v o d e old new Room r = (phases : List Writes) × IsReadyLike b e d phases × HasNoPlace phases old new r
+Adopted b v o d e old new WantOther r = NoAdopting b v o d e WantOther r × (new ≡ old)
+
+-- the view of the other disk is judged
+abbrev pub OfOther : ℕ → View → Type 0 → (Status → Reply → Type 0) → Status → Reply → Type 0
+OfOther b o stay = Judged (IsView b o) (Tells the_other_view stay)
+
+-- its size of sectors is judged: it is that of the disk
+abbrev pub OfOtherSize : ℕ → View → Type 0 → (Status → Reply → Type 0) → Status → Reply → Type 0
+OfOtherSize b o stay = Judged (o.sector_size ≡ b) (Tells the_other_size stay)
+
+-- the numbers of sectors of both disks are compared: where they differ, this is refused
+abbrev pub OfOtherCount : View → View → Type 0 → (Status → Reply → Type 0) → Status → Reply → Type 0
+OfOtherCount v o stay rest s r =
+    ((o.sectors ≢ v.sectors) × (s ≡ Refused) × (r ≡ other_count) × stay) ⊎ ((o.sectors ≡ v.sectors) × rest s r)
+
+-- the same, once the other view's size of sectors is judged, then the view, then the other view, and then the numbers of sectors
+abbrev pub AdoptedFor : ℕ → View → View → Sectors → Sectors → Buffers → Buffers → Status → Reply → Type 0
+AdoptedFor b v o d e old new =
+    OfOtherSize b o (new ≡ old) (OfView b v (new ≡ old) (OfOther b o (new ≡ old) (OfOtherCount v o (new ≡ old)
+    (Adopted b v o d e old new))))

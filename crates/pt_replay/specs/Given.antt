@@ -1,17 +1,93 @@
--- The writes of plans, in rows and bytes.
-use Rattle.std.specs.Prelude.{◌≡◌, ◌≢◌, ◌<◌, ◌≤◌, ◌*◌, ◌⊎◌, ◌/◌, ℕ, ◌+◌, ◌-◌, List, [], ◌∷◌, ◌++◌, map, flat_map, length, take, drop}
-use Rattle.std.specs.Prelude.{slice_index_or}
+-- What a caller gives: views, rows of plans, words, random bytes.
+use Rattle.std.specs.Prelude.{◌≡◌, ◌≢◌, ◌<◌, ◌+◌, ◌*◌, ◌/◌, ◌⊎◌, ℕ, List, [], ◌∷◌, ◌++◌, length, map, slice_index, ◌≤◌, ◌-◌, flat_map}
+use Rattle.std.specs.Prelude.{take, drop, slice_index_or}
+use Rattle.std.specs.Str.{IsUtf8}
 use Rattle.std.specs.Simd.{first_chunks}
-use Rattle.pt_sector.specs.Sectors.{Sectors}
-use Rattle.pt_sector.specs.Writes.{Writes}
-use Rattle.pt_replay.specs.declared.answers.Status.{Status}
-use Rattle.pt_replay.specs.declared.answers.Status.TheVariants.{Done, No, Usage, Refused, NoTable, Device, Memory, Want, Room, WantOther}
+use Rattle.pt_guid.specs.Guids.{fresh_of}
+use Rattle.pt_guid.specs.declared.guid.Guid.{Guid}
+use Rattle.pt_words.specs.declared.error.EditError.{EditError}
+use Rattle.pt_words.specs.declared.word.Edit.{Edit}
+use Rattle.pt_words.specs.Words.{fields, IsWord, IsWordFault}
+use Rattle.pt_plan.specs.Batches.{Words}
+use Rattle.pt_replay.specs.Replies.{the_words, bad_argument, bad_word, the_rows, counting, bad_row}
 use Rattle.pt_replay.specs.declared.answers.Reply.{Reply}
-use Rattle.pt_replay.specs.Codes.{the_rows}
-use Rattle.pt_replay.specs.Replies.{nothing, counting, bad_argument, bad_row}
+use Rattle.pt_sector.specs.Sectors.{Sectors, Writes}
 use Rattle.pt_replay.specs.declared.rows.WriteRow.{WriteRow}
-use Rattle.pt_replay.specs.declared.taking.Partial.{Partial}
-use Rattle.pt_apply.specs.Plans.{writes_of, phases_in}
+
+-- ## What C asks for: words and random bytes.
+
+-- no byte of the text is zero
+abbrev pub HasNoZero : List ℕ → Type 0
+HasNoZero text = (i : ℕ) → i < length text → slice_index text i ≢ 0
+
+-- the bytes are these words, each ended by a zero byte
+unfoldable pub AreWords : List ℕ → List Edit → Type 0
+AreWords bytes [] = bytes ≡ []
+AreWords bytes (e ∷ es) = (word : List ℕ) × (rest : List ℕ) × (bytes ≡ word ++ 0 ∷ rest) × HasNoZero word × IsWord (fields word) e
+    × AreWords rest es
+
+-- the bytes are a text in UTF-8 of these words, at least one
+pub record AreEdits (bytes : List ℕ) (edits : List Edit) : Type 0 where
+  pub text : IsUtf8 bytes
+  pub some : edits ≢ []
+  pub words_are : AreWords bytes edits
+
+-- the bytes end within a word: behind words that can be read stands more, and no zero byte ends it
+pub record AreUnended (bytes : List ℕ) : Type 0 where
+  pub front : List ℕ
+  pub rest : List ℕ
+  pub before : List Edit
+  pub split : bytes ≡ front ++ rest
+  pub read : AreWords front before
+  pub unended : HasNoZero rest
+  pub some : rest ≢ []
+
+-- the bytes aren't a text of words, whatever the words are: not UTF-8, none at all, or ending within a word
+abbrev pub AreNoText : List ℕ → Type 0
+AreNoText bytes = (¬ IsUtf8 bytes) ⊎ ((bytes ≡ []) ⊎ AreUnended bytes)
+
+-- the bytes are a text whose word `at`, from 1, can't be read for the reason e, and all words before it can
+pub record IsBadWord (bytes : List ℕ) (at : ℕ) (e : EditError) : Type 0 where
+  pub text : IsUtf8 bytes
+  pub front : List ℕ
+  pub word : List ℕ
+  pub rest : List ℕ
+  pub before : List Edit
+  pub split : bytes ≡ front ++ (word ++ 0 ∷ rest)
+  pub read : AreWords front before
+  pub ended : HasNoZero word
+  pub fault : IsWordFault (fields word) e
+  pub place : at ≡ length before + 1
+
+-- what is told of bytes that are no words: that they are no text of words, or the first word that can't be read
+abbrev pub ToldOfWords : List ℕ → Reply → Type 0
+ToldOfWords bytes r =
+    (AreNoText bytes × (r ≡ bad_argument the_words))
+    ⊎ ((at : ℕ) × (e : EditError) × IsBadWord bytes at e × (r ≡ bad_word at e))
+
+-- the bytes are words
+abbrev pub AreSomeEdits : List ℕ → Type 0
+AreSomeEdits bytes = (edits : List Edit) × AreEdits bytes edits
+
+-- the GUIDs of random bytes, sixteen for each
+abbrev pub drawn_of : List ℕ → List Guid
+drawn_of bytes = map (λ (group : List ℕ). record { 0 = fresh_of group }) (first_chunks 16 (length bytes / 16) bytes)
+
+-- the random bytes are whole groups, and these their GUIDs
+pub record AreDrawn (bytes : List ℕ) (guids : List Guid) : Type 0 where
+  pub whole : length bytes ≡ length guids * 16
+  pub guids_are : guids ≡ drawn_of bytes
+
+-- the random bytes are whole groups
+abbrev pub AreGroups : List ℕ → Type 0
+AreGroups bytes = (guids : List Guid) × AreDrawn bytes guids
+
+-- the batch is what was asked for
+pub record IsAskedFor (words drawn : List ℕ) (batch : Words) : Type 0 where
+  pub edits : AreEdits words batch.edits
+  pub guids : AreDrawn drawn batch.guids
+
+-- ## The writes of plans, in rows and bytes.
 
 -- the rows of a phase of this number
 abbrev pub rows_in : ℕ → Writes → List WriteRow
@@ -28,11 +104,6 @@ rows_from n (p ∷ ps) = rows_in n p ++ rows_from (n + 1) ps
 unfoldable pub bytes_of : List Writes → List ℕ
 bytes_of [] = []
 bytes_of (p ∷ ps) = bytes_in p ++ bytes_of ps
-
--- the phases stand in these rows, numbered from 1 on, with their bytes at the same places
-pub record AreRows (phases : List Writes) (rows : List WriteRow) (bytes : List ℕ) : Type 0 where
-  pub rows_are : rows ≡ rows_from 1 phases
-  pub bytes_are : bytes ≡ bytes_of phases
 
 -- their sectors
 unfoldable pub sectors_of : List Writes → Sectors
@@ -77,41 +148,6 @@ ToldOfRows b rows bytes r =
     ((length bytes ≢ length rows * b) × (r ≡ bad_argument the_rows))
     ⊎ ((k : ℕ) × (length bytes ≡ length rows * b) × IsBadRow rows k × (r ≡ bad_row k))
 
--- the phases that were read so far, the last of which grows
-abbrev pub phases_read : {b : _} → Partial b → List Writes
-phases_read p = phases_in p.phases.items ++ writes_of p.last.items ∷ []
-
--- the last phase has its number
-abbrev pub IsNumbered : {b : _} → Partial b → Type 0
-IsNumbered p = p.number ≡ 1 + length (phases_in p.phases.items)
-
--- the last phase has the number of the last row of those read so far, and no phase is empty
-pub record IsGrowing {b : _} (rows : List WriteRow) (p : Partial b) : Type 0 where
-  pub front : AreFull (phases_in p.phases.items)
-  pub last : ((rows ≡ []) × (p.number ≡ 1) × (length p.last.items ≡ 0))
-      ⊎ ((before : List WriteRow) × (row : WriteRow) × (rows ≡ before ++ row ∷ []) × (row.phase ≡ p.number) × (1 ≤ length p.last.items))
-
--- the row is neither of the last phase nor of a next one
-pub record IsMisplaced {b : _} (row : WriteRow) (p : Partial b) : Type 0 where
-  pub not_last : row.phase ≢ p.number
-  pub not_next : 1 ≤ length p.last.items → row.phase ≢ p.number + 1
-
--- one more write was read
-pub record Took {b : _} (row : WriteRow) (sector : List ℕ) (old new : Partial b) : Type 0 where
-  pub numbered : IsNumbered new
-  pub front : AreFull (phases_in old.phases.items) → AreFull (phases_in new.phases.items)
-  pub last : row.phase ≡ new.number
-  pub next : (row.phase ≡ old.number) ⊎ ((row.phase ≡ old.number + 1) × (1 ≤ length old.last.items))
-  pub some : 1 ≤ length new.last.items
-  pub rows : rows_from 1 (phases_read new) ≡ rows_from 1 (phases_read old) ++ row ∷ []
-  pub sectors : sectors_of (phases_read new) ≡ sectors_of (phases_read old) ++ sector ∷ []
-
--- the rows and sectors read so far are those of the phases
-pub record AreRead {b : _} (rows : List WriteRow) (sectors : Sectors) (p : Partial b) : Type 0 where
-  pub numbered : IsNumbered p
-  pub rows_are : rows ≡ rows_from 1 (phases_read p)
-  pub sectors_are : sectors ≡ sectors_of (phases_read p)
-
 -- what the caller's buffers hold
 pub record Buffers : Type 0 where
   pub writes : List WriteRow
@@ -133,16 +169,3 @@ pub record HasNoPlace (phases : List Writes) (old new : Buffers) (r : Reply) : T
   pub reply_is : r ≡ counting (length (rows_from 1 phases)) (length phases)
   pub small : (length old.writes < length (rows_from 1 phases)) ⊎ (length old.bytes < length (bytes_of phases))
   pub stay : new ≡ old
-
--- a plan is given, or there is no room for it, or no memory
-abbrev pub Gives : List Writes → Buffers → Buffers → Status → Reply → Type 0
-Gives phases old new Done r = Stands phases old new r
-Gives phases old new No r = ⊥
-Gives phases old new Usage r = ⊥
-Gives phases old new Refused r = ⊥
-Gives phases old new NoTable r = ⊥
-Gives phases old new Device r = ⊥
-Gives phases old new Memory r = (r ≡ nothing) × (new ≡ old)
-Gives phases old new Want r = ⊥
-Gives phases old new Room r = HasNoPlace phases old new r
-Gives phases old new WantOther r = ⊥

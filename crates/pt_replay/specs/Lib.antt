@@ -1,11 +1,6 @@
-pub mod Known
-pub mod Places
-pub mod Codes
-pub mod Replies
-pub mod Given
-pub mod Words
-pub mod Listed
-pub mod Judged
 pub mod Claims
-pub mod Adopted
+pub mod Given
+pub mod Listed
+pub mod Replies
 pub mod Wanted
+pub mod inner

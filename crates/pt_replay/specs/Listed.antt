@@ -1,6 +1,6 @@
 -- What C gets of a layout: its table, and a row for each partition.
-use Rattle.std.specs.Prelude.{◌≡◌, ◌<◌, ℕ, List, [], ◌∷◌, ◌++◌, map, flat_map, length, take, drop, min, replicate}
-use Rattle.std.specs.Prelude.{Option, Some, None, option_map, option_to_list, slice_index_or}
+use Rattle.std.specs.Prelude.{◌≡◌, ◌<◌, ℕ, List, [], ◌∷◌, ◌++◌, map, flat_map, length, take, drop, min, replicate, Option, Some, None}
+use Rattle.std.specs.Prelude.{option_map, option_to_list, slice_index_or}
 use Rattle.std.specs.List.{range_with_len}
 use Rattle.pt_bsd.specs.declared.label.Label.{Label}
 use Rattle.pt_bsd.specs.declared.label.LabelEntry.{LabelEntry}

@@ -1,40 +1,100 @@
--- What replies say.
-use Rattle.std.specs.Prelude.{ℕ, ◌+◌, ◌%◌, Option, Some, None}
+-- What a caller in C is replied, field by field.
+use Rattle.std.specs.Prelude.{◌≡◌, ◌≢◌, ◌⊎◌, ℕ, ℤ, pos, negsuc, List, Some, ◌+◌, ◌%◌, Option, None}
+use Rattle.pt_guid.specs.Codes.{type_of}
+use Rattle.pt_replay.specs.declared.answers.Status.{Status}
+use Rattle.pt_replay.specs.declared.answers.Status.TheVariants.{Done, No, Usage, Refused, NoTable, Device, Memory, Want, Room, WantOther}
+use Rattle.pt_replay.specs.declared.answers.About.{About}
+use Rattle.pt_replay.specs.declared.answers.About.TheVariants as about
 use Rattle.pt_sector.specs.declared.address.Lba.{Lba}
 use Rattle.pt_sector.specs.declared.disk.Fault.TheVariants as fault
 use Rattle.pt_sector.specs.declared.reading.Failure.{Failure}
 use Rattle.pt_sector.specs.declared.reading.Failure.TheVariants as failure
-use Rattle.pt_gpt.specs.Errors.{error_number}
+use Rattle.pt_gpt.specs.Copies.{error_number}
 use Rattle.pt_gpt.specs.declared.table.Side.{Side}
 use Rattle.pt_gpt.specs.declared.table.Side.TheVariants.{Primary, Backup}
 use Rattle.pt_mbr.specs.declared.chain.ChainError.{ChainError}
 use Rattle.pt_mbr.specs.declared.chain.ChainError.TheVariants as chain
-use Rattle.pt_recover.specs.declared.error.NoTable.{NoTable}
+use Rattle.pt_recover.specs.declared.error.NoTable.{NoTable as NoTableValue}
 use Rattle.pt_recover.specs.declared.error.NoTable.TheVariants as table
-use Rattle.pt_sound.specs.Findings.{finding_number}
+use Rattle.pt_layout.specs.Healthy.{finding_number}
 use Rattle.pt_path.specs.declared.path.Path.{Path}
-use Rattle.pt_sound.specs.declared.finding.Finding.{Finding}
-use Rattle.pt_sound.specs.declared.finding.Finding.TheVariants as finding
-use Rattle.pt_check.specs.declared.error.CheckError.{CheckError}
-use Rattle.pt_check.specs.declared.error.CheckError.TheVariants as check
+use Rattle.pt_layout.specs.declared.sound.finding.Finding.{Finding}
+use Rattle.pt_layout.specs.declared.sound.finding.Finding.TheVariants as finding
 use Rattle.pt_check.specs.declared.answer.Why.{Why}
 use Rattle.pt_check.specs.declared.answer.Why.TheVariants as why
-use Rattle.pt_words.specs.Numbers.{refusal_number, error_number as word_error_number}
+use Rattle.pt_words.specs.Words.{refusal_number, error_number as word_error_number}
 use Rattle.pt_words.specs.declared.error.EditError.{EditError}
-use Rattle.pt_targets.specs.Errors.{plan_error_number}
+use Rattle.pt_cases.specs.Unplanned.{plan_error_number}
 use Rattle.pt_plan.specs.declared.error.CommitError.{CommitError}
 use Rattle.pt_plan.specs.declared.error.CommitError.TheVariants as commit
 use Rattle.pt_plan.specs.declared.like_error.LikeError.{LikeError}
 use Rattle.pt_plan.specs.declared.like_error.LikeError.TheVariants as like
 use Rattle.pt_plan.specs.declared.repair_error.RepairError.{RepairError}
 use Rattle.pt_plan.specs.declared.repair_error.RepairError.TheVariants as repair
-use Rattle.pt_replay.specs.Codes.{about_code, the_rows}
-use Rattle.pt_replay.specs.declared.answers.Status.{Status}
 use Rattle.pt_replay.specs.declared.answers.Status.TheVariants as status
-use Rattle.pt_replay.specs.declared.answers.About.{About}
-use Rattle.pt_replay.specs.declared.answers.About.TheVariants as about
 use Rattle.pt_replay.specs.declared.answers.Reply.{Reply}
 use Rattle.pt_replay.specs.declared.answers.Answer.{Answer}
+
+-- ## The numbers that C sees.
+
+-- the statuses of the command, and three more
+abbrev pub status_code : Status → ℤ
+status_code Done = pos 0
+status_code No = pos 1
+status_code Usage = pos 2
+status_code Refused = pos 3
+status_code NoTable = pos 4
+status_code Device = pos 5
+status_code Memory = pos 6
+status_code Want = negsuc 0
+status_code Room = negsuc 1
+status_code WantOther = negsuc 2
+
+-- the code of the type of these stored bytes, or -1 where no code stands for it
+abbrev pub IsTypeCode : List ℕ → ℤ → Type 0
+IsTypeCode stored code =
+    ((c : ℕ) × (code ≡ pos c) × (type_of c ≡ Some stored)) ⊎ ((code ≡ negsuc 0) × ((c : ℕ) → type_of c ≢ Some stored))
+
+-- the numbers of arguments: the sector size, the view, the number and letter of a partition, the random bytes, the words, the rows, the
+-- sector size of the other view, the other view
+abbrev pub the_size : ℕ
+the_size = 1
+
+abbrev pub the_view : ℕ
+the_view = 2
+
+abbrev pub the_path : ℕ
+the_path = 3
+
+abbrev pub the_random_bytes : ℕ
+the_random_bytes = 4
+
+abbrev pub the_words : ℕ
+the_words = 5
+
+abbrev pub the_rows : ℕ
+the_rows = 6
+
+abbrev pub the_other_size : ℕ
+the_other_size = 7
+
+abbrev pub the_other_view : ℕ
+the_other_view = 8
+
+abbrev pub about_code : About → ℕ
+about_code about.Nothing = 0
+about_code about.Argument = 1
+about_code about.Word = 2
+about_code about.Table = 3
+about_code about.Finding = 4
+about_code about.Edit = 5
+about_code about.Plan = 6
+about_code about.Check = 7
+about_code about.Repair = 8
+about_code about.Adopt = 9
+about_code about.OtherTable = 10
+
+-- ## What replies say.
 
 -- a letter from a on, of a label's entry; 0 for none
 abbrev pub letter_code : Option ℕ → ℕ
@@ -158,7 +218,7 @@ chain_answer chain.TooLong = told status.NoTable about.Table 2 5 0
 chain_answer (chain.Device at) = record { status = status.Device; reply = nothing }
 
 -- why a disk denotes nothing
-abbrev pub table_answer : NoTable → Answer
+abbrev pub table_answer : NoTableValue → Answer
 table_answer (table.NoCopy e f) = told status.NoTable about.Table 1 (error_number e) (error_number f)
 table_answer (table.Chain e) = chain_answer e
 table_answer table.TwoExtended = told status.NoTable about.Table 3 0 0
@@ -215,13 +275,3 @@ abbrev pub like_answer : LikeError → Answer
 like_answer like.OtherSize = answer status.Refused other_count
 like_answer (like.Other e) = of_other (table_answer e)
 like_answer (like.Disk e) = commit_answer e
-
--- a yes, with the phase of the switch
-abbrev pub accepting : ℕ → Answer
-accepting switch = answer status.Done (switching switch)
-
--- why a plan isn't checked
-abbrev pub check_answer : CheckError → Answer
-check_answer (check.Device (fault.Read at)) = wanting at
-check_answer (check.Device f) = record { status = status.Device; reply = nothing }
-check_answer check.Memory = record { status = status.Memory; reply = nothing }

@@ -3,11 +3,10 @@
 ghost use Rattle.std.specs.Prelude.{◌≡◌, IfOk, IfErr};
 ghost use Rattle.pt_sector.specs.Sectors.{Sectors, IsSectorSize};
 ghost use Rattle.pt_apply.specs.Plans.{phases_of};
-ghost use Rattle.pt_plan.specs.Like.{IsReadyLike};
-ghost use Rattle.pt_replay.specs.Known.{disk_of, IsView};
-ghost use Rattle.pt_replay.specs.Judged.{OfView, NoBuffers};
+ghost use Rattle.pt_plan.specs.Layouts.{IsReadyLike};
+ghost use Rattle.pt_replay.specs.Wanted.{disk_of, IsView, OfView, NoBuffers};
 ghost use Rattle.pt_replay.specs.Given.{buffers};
-ghost use Rattle.pt_replay.specs.Adopted.{NoAdopting, OfOther, OfOtherCount, AdoptedFor};
+ghost use Rattle.pt_replay.specs.Claims.{NoAdopting, OfOther, OfOtherCount, AdoptedFor};
 
 use crate::answers::Answer;
 use crate::giving::give_plan;

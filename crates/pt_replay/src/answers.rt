@@ -1,8 +1,8 @@
 //! How a call ends: its status, and what goes with it.
 
 ghost use Rattle.std.specs.Prelude.{◌≡◌, pos, negsuc};
-ghost use Rattle.pt_replay.specs.Codes.{status_code, about_code};
-ghost use Rattle.pt_replay.specs.Replies.{nothing, told, answer, wanting, of_other, bad_argument, failure_answer, letter_code};
+ghost use Rattle.pt_replay.specs.Replies.{status_code, about_code, nothing, told, answer, wanting, of_other, bad_argument};
+ghost use Rattle.pt_replay.specs.Replies.{failure_answer, letter_code};
 ghost use Rattle.pt_replay.specs.declared.answers.Status.TheVariants as status;
 
 use pt_layout::Path;

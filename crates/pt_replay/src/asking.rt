@@ -2,9 +2,9 @@
 
 ghost use Rattle.std.specs.Prelude.{◌≡◌, ◌≢◌, IfOk, IfErr};
 ghost use Rattle.pt_words.specs.declared.error.EditError.TheVariants as EditError;
-ghost use Rattle.pt_replay.specs.Judged.{IsUnasked, NoWords, NoGroups};
+ghost use Rattle.pt_replay.specs.inner.Wanted.{IsUnasked, NoWords, NoGroups};
 ghost use Rattle.pt_replay.specs.Replies.{bad_word};
-ghost use Rattle.pt_replay.specs.Words.{AreEdits, AreDrawn};
+ghost use Rattle.pt_replay.specs.Given.{AreEdits, AreDrawn};
 
 use crate::answers::{About, Answer, Status};
 use pt_edit::{Edit, EditError, parse_edit};

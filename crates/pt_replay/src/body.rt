@@ -2,14 +2,12 @@
 //! the first sector that can't be read.
 
 ghost use Rattle.std.specs.Prelude.{◌≡◌, IfSome, IfNone, ◌<◌};
-ghost use Rattle.pt_sector.specs.Reads.{OnlyReads};
+ghost use Rattle.pt_sector.specs.Overlays.{OnlyReads};
 ghost use Rattle.pt_sector.specs.Sectors.{IsSectorSize};
 ghost use Rattle.pt_mbr.specs.Chain.{span_of, Chain};
-ghost use Rattle.pt_mbr.specs.Extended.{extended_of, extent_of};
-ghost use Rattle.pt_recover.specs.Denotes.{BodyIs};
-ghost use Rattle.pt_recover.specs.Gpt.{TableIs};
-ghost use Rattle.pt_recover.specs.Mbr.{IsMbr, IsMbrDisk, HasChain};
-ghost use Rattle.pt_gpt.specs.Array.{HasRoom};
+ghost use Rattle.pt_mbr.specs.Records.{extended_of, extent_of};
+ghost use Rattle.pt_recover.specs.Denotes.{BodyIs, TableIs, IsMbr, IsMbrDisk, HasChain};
+ghost use Rattle.pt_gpt.specs.Copies.{HasRoom};
 
 use pt_gpt::{Side, Table, has_room};
 use pt_layout::{Body, Ebrs, Trace};

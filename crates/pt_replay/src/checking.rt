@@ -3,10 +3,9 @@
 ghost use Rattle.std.specs.Prelude.{◌≡◌};
 ghost use Rattle.pt_sector.specs.Sectors.{IsSectorSize};
 ghost use Rattle.pt_apply.specs.Plans.{phases_of};
-ghost use Rattle.pt_replay.specs.Known.{disk_of};
+ghost use Rattle.pt_replay.specs.Wanted.{disk_of, OfView, NoBuffers};
 ghost use Rattle.pt_replay.specs.Claims.{Checked, CheckedFor};
-ghost use Rattle.pt_replay.specs.Judged.{OfView, NoBuffers};
-ghost use Rattle.pt_replay.specs.Replies.{check_answer, accepting};
+ghost use Rattle.pt_replay.specs.inner.Replies.{check_answer, accepting};
 
 use crate::answers::{Answer, Status};
 use crate::refusals::reason;

@@ -3,7 +3,8 @@
 ghost use Rattle.std.specs.Prelude.{◌≡◌, ◌≤◌, ◌++◌, length, take, drop, IfOk, OnOk};
 ghost use Rattle.pt_sector.specs.Sectors.{IsSectorSize};
 ghost use Rattle.pt_apply.specs.Plans.{writes_of, phases_of};
-ghost use Rattle.pt_replay.specs.Given.{rows_in, bytes_in, AreRows, buffers, Gives};
+ghost use Rattle.pt_replay.specs.Given.{rows_in, bytes_in, buffers};
+ghost use Rattle.pt_replay.specs.inner.Given.{AreRows, Gives};
 ghost use Rattle.pt_replay.specs.Replies.{answer, counting};
 
 use crate::answers::{Answer, Status};

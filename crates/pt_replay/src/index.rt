@@ -1,7 +1,7 @@
 //! Where the sectors of a view stand, by their numbers.
 
 ghost use Rattle.std.specs.Prelude.{◌≡◌, IfOk};
-ghost use Rattle.pt_replay.specs.Places.{LeadsTo, Leads, place_from};
+ghost use Rattle.pt_replay.specs.Wanted.{LeadsTo, Leads, place_from};
 
 use std::alloc::{AllocError, Global};
 use std::collections::BTreeMap;

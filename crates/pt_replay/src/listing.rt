@@ -3,7 +3,7 @@
 ghost use Rattle.std.specs.Prelude.{◌≡◌, ◌++◌, ◌<◌, ◌^◌, length, option_map, option_to_list, slice_index_or, Some, None, IfOk, OnOk};
 ghost use Rattle.pt_sector.specs.Sectors.{IsSectorSize};
 ghost use Rattle.pt_members.specs.Members.{slots, parts_in};
-ghost use Rattle.pt_replay.specs.Known.{disk_of};
+ghost use Rattle.pt_replay.specs.Wanted.{disk_of};
 ghost use Rattle.pt_replay.specs.Listed.{row_of_table, kind_code, narrowed, records_in, row_of_member, row_of_record, row_of_entry};
 ghost use Rattle.pt_replay.specs.Listed.{listing, row_of_part, row_in_place, part_rows, rows_below, rows_at, rows_of};
 ghost use Rattle.pt_replay.specs.Claims.{MembersFor};

@@ -2,7 +2,7 @@
 
 ghost use Rattle.std.specs.Prelude.{◌≡◌, IfSome, IfNone};
 ghost use Rattle.pt_sector.specs.Sectors.{IsSectorSize};
-ghost use Rattle.pt_replay.specs.Known.{disk_of};
+ghost use Rattle.pt_replay.specs.Wanted.{disk_of};
 ghost use Rattle.pt_replay.specs.Claims.{IsNamed, LocatedFor, path_in};
 
 use crate::answers::{Answer, Status};

@@ -4,9 +4,8 @@ ghost use Rattle.std.specs.Prelude.{◌≡◌, IfOk, IfErr};
 ghost use Rattle.pt_sector.specs.Sectors.{IsSectorSize};
 ghost use Rattle.pt_apply.specs.Plans.{phases_of};
 ghost use Rattle.pt_plan.specs.Batches.{IsReady, IsReadyToMend};
-ghost use Rattle.pt_replay.specs.Known.{disk_of, IsView};
-ghost use Rattle.pt_replay.specs.Judged.{OfView, NoBuffers};
-ghost use Rattle.pt_replay.specs.Words.{batch_of};
+ghost use Rattle.pt_replay.specs.Wanted.{disk_of, IsView, OfView, NoBuffers};
+ghost use Rattle.pt_replay.specs.inner.Given.{batch_of};
 ghost use Rattle.pt_replay.specs.Given.{buffers};
 ghost use Rattle.pt_replay.specs.Claims.{NoPlan, Planned, PlannedFor, NoMending, MendedFor};
 

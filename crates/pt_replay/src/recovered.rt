@@ -3,8 +3,7 @@
 ghost use Rattle.std.specs.Prelude.{◌≡◌, Some, IfOk, IfErr};
 ghost use Rattle.pt_sector.specs.Sectors.{IsSectorSize};
 ghost use Rattle.pt_recover.specs.Denotes.{Denotes};
-ghost use Rattle.pt_replay.specs.Known.{disk_of, IsView};
-ghost use Rattle.pt_replay.specs.Judged.{OfView, NoBuffers};
+ghost use Rattle.pt_replay.specs.Wanted.{disk_of, IsView, OfView, NoBuffers};
 ghost use Rattle.pt_replay.specs.Replies.{table_answer, chain_answer};
 ghost use Rattle.pt_replay.specs.Claims.{NoLayout};
 

@@ -4,10 +4,10 @@ ghost use Rattle.std.specs.Prelude.{◌≡◌, ◌<◌, ◌≤◌, ◌*◌, ◌^
 ghost use Rattle.std.proofs.Common.{◌∙◌};
 ghost use Rattle.std.proofs.lemmas.List.FromFn.{length-map-range_with_len};
 ghost use Rattle.pt_sector.specs.Sectors.{IsSectorSize};
-ghost use Rattle.pt_sector.specs.Past.{stopped_same};
-ghost use Rattle.pt_sector.specs.Calls.{untouched_same, untouched_on};
-ghost use Rattle.pt_replay.specs.Places.{Leads};
-ghost use Rattle.pt_replay.specs.Known.{known_of, whole, replay_told, disk_of, IsView, AreOf, Asks, asks_same, asks_on};
+ghost use Rattle.pt_sector.specs.inner.ForFields.{stopped_same, untouched_same, untouched_on};
+ghost use Rattle.pt_replay.specs.Wanted.{Leads, known_of, whole, replay_told, disk_of, IsView, Asks};
+ghost use Rattle.pt_replay.specs.inner.Wanted.{AreOf};
+ghost use Rattle.pt_replay.specs.inner.ForFields.{asks_same, asks_on};
 
 use crate::index::Index;
 use crate::view::View;
@@ -134,14 +134,14 @@ impl<'a, const B: usize> Disk<B> for ReplayDisk<'a, B> {
         }
     }
 
-    #[tactic(auto, using(crate::specs::Known::moments_on))]
+    #[tactic(auto, using(crate::proofs::ViewLemmas::moments_on))]
     fn write(&mut self, lba: Lba, _bytes: &[u8; B]) -> Result<(), Fault> {
         self.past = self.past.and(&lba.0);
         self.failed = self.failed.and(&Fault::Write(lba));
         Err(Fault::Write(lba))
     }
 
-    #[tactic(auto, using(crate::specs::Known::moments_on))]
+    #[tactic(auto, using(crate::proofs::ViewLemmas::moments_on))]
     fn flush(&mut self) -> Result<(), Fault> {
         self.past = self.past.and(&0);
         self.failed = self.failed.and(&Fault::Flush);

@@ -3,8 +3,9 @@
 ghost use Rattle.std.specs.Prelude.{◌≡◌, IfOk, IfErr, IsTrue, IsFalse};
 ghost use Rattle.pt_sector.specs.Sectors.{IsSectorSize};
 ghost use Rattle.pt_apply.specs.Plans.{phases_of, phases_in};
-ghost use Rattle.pt_replay.specs.Given.{rows_from, sectors_of, phases_read, AreFull, IsNumbered, IsGrowing, IsMisplaced, Took, AreTaken};
-ghost use Rattle.pt_replay.specs.Judged.{IsUnasked, NoRows};
+ghost use Rattle.pt_replay.specs.Given.{rows_from, sectors_of, AreFull, AreTaken};
+ghost use Rattle.pt_replay.specs.inner.Given.{phases_read, IsNumbered, IsMisplaced, Took};
+ghost use Rattle.pt_replay.specs.inner.Wanted.{IsUnasked, NoRows};
 ghost use Rattle.pt_replay.specs.Replies.{answer, bad_row};
 ghost use Rattle.pt_replay.specs.declared.answers.Status.TheVariants as status;
 

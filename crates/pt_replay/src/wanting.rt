@@ -2,10 +2,10 @@
 
 ghost use Rattle.std.specs.Prelude.{◌≡◌, ◌<◌, [], ◌∷◌, All, None, Ok, Err, IfOk, IfErr, OnOk, MatchResult};
 ghost use Rattle.pt_sector.specs.Sectors.{IsSectorSize};
-ghost use Rattle.pt_members.specs.Slices.{place_of, places_of};
-ghost use Rattle.pt_replay.specs.Known.{disk_of, known_of, whole};
+ghost use Rattle.pt_members.specs.Members.{place_of, places_of};
+ghost use Rattle.pt_replay.specs.Wanted.{disk_of, known_of, whole, WantedFor};
 ghost use Rattle.pt_replay.specs.Replies.{answer, nothing};
-ghost use Rattle.pt_replay.specs.Wanted.{GivesList, TakesUp, AreUnknown, IsAlone, ListsWanted, WantedFor};
+ghost use Rattle.pt_replay.specs.inner.Wanted.{GivesList, TakesUp, AreUnknown, IsAlone, ListsWanted};
 ghost use Rattle.pt_replay.specs.declared.answers.Status.TheVariants as status;
 
 use crate::answers::{Answer, Status};

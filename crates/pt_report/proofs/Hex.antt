@@ -2,7 +2,7 @@
 use Rattle.std.proofs.Common.{◌≡◌, ℕ, ◌-◌, ◌^◌, [], ◌++◌, length, ap, ◌∙◌, arith, append-nil}
 use Rattle.std.specs.Prelude.{Bool, false, replicate}
 use Rattle.std.specs.Fmt.{digits, padded_integral, format_spec, char_count}
-use Rattle.pt_report.specs.Lines.{hex}
+use Rattle.pt_report.specs.Shown.{hex}
 
 pub hex_padded : (upper : Bool) (count n : ℕ)
     → padded_integral (format_spec 32 0 4 count (2 ^ 64 - 1)) false [] (digits 16 upper n) ≡ hex upper count n

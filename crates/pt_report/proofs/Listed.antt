@@ -8,8 +8,7 @@ use Rattle.pt_bsd.specs.declared.label.Label.{Label}
 use Rattle.pt_members.specs.declared.layout.Body.{Body}
 use Rattle.pt_members.specs.declared.member.Member.{Member}
 use Rattle.pt_members.specs.declared.row.Source.{Source}
-use Rattle.pt_members.specs.Members.{parts_in, slots}
-use Rattle.pt_members.specs.Rows.{part_rows, part_sources, rows, rows_with, sources}
+use Rattle.pt_members.specs.Members.{parts_in, slots, part_rows, part_sources, rows, rows_with, sources}
 use Rattle.pt_members.proofs.ByPlace.{parts_len}
 
 module _ {X Y : Type 0} (f : Option X → List Y) (text : Y → List ℕ) where

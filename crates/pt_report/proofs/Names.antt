@@ -5,7 +5,7 @@ use Rattle.std.specs.Char.Utf16.{utf16_chars, lone_unit_char}
 use Rattle.std.proofs.lemmas.Bool.{le-ltb, lt-leb}
 use Rattle.std.proofs.lemmas.Str.{encode_ascii}
 use Rattle.std.proofs.lemmas.List.Sums.{prefix_len_is}
-use Rattle.pt_report.specs.Names.{char_bytes, name_text, units_of}
+use Rattle.pt_report.specs.Shown.{char_bytes, name_text, units_of}
 use Rattle.pt_report.proofs.Utf16.{first_lone}
 
 -- a unit that is a printed character of ASCII

@@ -3,8 +3,8 @@ use Rattle.std.proofs.Common.{◌≡◌, ℕ, ◌+◌, ◌<◌, ◌≤◌, ◌^�
 use Rattle.std.specs.Prelude.{codes, decimal, encode_utf8, min}
 use Rattle.std.proofs.lemmas.Str.{encode_ascii}
 use Rattle.pt_path.specs.declared.path.Path.{Path}
-use Rattle.pt_path.specs.Texts.{IsLetter, IsPath, letter_text as letter_read}
-use Rattle.pt_report.specs.Lines.{letter_text, path_text}
+use Rattle.pt_path.specs.Paths.{IsLetter, IsPath, letter_text as letter_read}
+use Rattle.pt_report.specs.Shown.{letter_text, path_text}
 
 lettered : (l : Option ℕ) → IsLetter l → letter_text l ≡ letter_read l
 lettered None letter = refl

@@ -6,7 +6,7 @@ use Rattle.std.specs.Char.{InScalarRange, IsScalar, OutOfScalarRange}
 use Rattle.std.specs.Char.Utf16.{utf16_chars, lone_unit_char, is_high_surrogate, is_low_surrogate, surrogate_pair_char}
 use Rattle.std.proofs.lemmas.Bool.{lt-ltb, le-ltb, lt-leb, le-leb, leb-true, ltb-true}
 use Rattle.std.proofs.lemmas.List.{take_all}
-use Rattle.pt_report.specs.Names.{IsPair}
+use Rattle.pt_report.specs.inner.Shown.{IsPair}
 
 -- a unit alone: a character where it is a scalar value
 lone_scalar : (u : ℕ) → InScalarRange u → lone_unit_char u ≡ Some u

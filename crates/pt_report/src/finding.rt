@@ -2,8 +2,9 @@
 
 ghost use Rattle.std.specs.Prelude.{◌≡◌, ◌∷◌, OnOk};
 ghost use Rattle.std.specs.Io.KnownBytes.{Appends};
-ghost use Rattle.pt_report.specs.Lines.{rest_of};
-ghost use Rattle.pt_report.specs.Told.{finding_fields, finding_line, names_in};
+ghost use Rattle.pt_report.specs.Shown.{rest_of};
+ghost use Rattle.pt_report.specs.Replies.{finding_fields, finding_line};
+ghost use Rattle.pt_report.specs.inner.Replies.{names_in};
 
 use crate::path::print_behind;
 use pt_gpt::Side;

@@ -2,11 +2,10 @@
 
 ghost use Rattle.std.specs.Prelude.{◌≡◌, ◌≤◌, ◌<◌, ◌^◌, ℕ, map};
 ghost use Rattle.pt_path.specs.declared.path.Path.{Path};
-ghost use Rattle.pt_path.specs.Texts.{IsLetter, IsPath};
+ghost use Rattle.pt_path.specs.Paths.{IsLetter, IsPath};
 ghost use Rattle.pt_members.specs.declared.layout.Layout.{Layout};
-ghost use Rattle.pt_members.specs.Rows.{members_of};
-ghost use Rattle.pt_report.specs.Lines.{path_text};
-ghost use Rattle.pt_report.specs.Shown.{member_of, rows_of};
+ghost use Rattle.pt_members.specs.Members.{members_of};
+ghost use Rattle.pt_report.specs.Shown.{path_text, member_of, rows_of};
 
 /// The lines of a layout are those of its partitions: each has one, in the order of their paths.
 #[tactic(auto, using(crate::proofs::Members::rows_are_members_lem))]

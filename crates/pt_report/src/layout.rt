@@ -1,14 +1,13 @@
 //! The lines that tell a layout.
 
-ghost use Rattle.std.specs.Prelude.{◌≡◌, ◌<◌, ◌^◌, ◌++◌, codes, false, flat_map, length, option_to_list, slice_index_or, Some, None, OnOk};
+ghost use Rattle.std.specs.Prelude.{◌≡◌, ◌<◌, ◌^◌, ◌++◌, codes, false, flat_map, length, option_to_list, slice_index_or, Some, None};
+ghost use Rattle.std.specs.Prelude.{OnOk};
 ghost use Rattle.std.specs.Io.KnownBytes.{Appends};
-ghost use Rattle.pt_guid.specs.Mixed.{text_of};
+ghost use Rattle.pt_guid.specs.Guids.{text_of};
 ghost use Rattle.pt_members.specs.declared.layout.Body.TheVariants.{Gpt};
-ghost use Rattle.pt_members.specs.Members.{slots};
-ghost use Rattle.pt_members.specs.Rows.{part_rows, rows};
-ghost use Rattle.pt_report.specs.Lines.{hex, line};
-ghost use Rattle.pt_report.specs.Shown.{code_of, entry_fields, layout_text, row_line, rows_at, rows_below, rows_in, rows_of, source_fields};
-ghost use Rattle.pt_report.specs.Shown.{table_fields, type_text};
+ghost use Rattle.pt_members.specs.Members.{slots, part_rows, rows};
+ghost use Rattle.pt_report.specs.Shown.{hex, line, code_of, entry_fields, layout_text, row_line, rows_at, rows_below, rows_in, rows_of};
+ghost use Rattle.pt_report.specs.Shown.{source_fields, table_fields, type_text};
 
 use crate::name::print_name;
 use crate::path::print_path;

@@ -3,8 +3,8 @@
 ghost use Rattle.std.specs.Prelude.{◌≡◌, ◌<◌, ◌∷◌, ◌↔◌, length, IfSome, IsTrue, OnOk};
 ghost use Rattle.std.specs.Char.Utf16.{utf16_chars};
 ghost use Rattle.std.specs.Io.KnownBytes.{Appends};
-ghost use Rattle.pt_report.specs.Lines.{rest_of};
-ghost use Rattle.pt_report.specs.Names.{char_bytes, IsPair, name_fields, name_text, units_of};
+ghost use Rattle.pt_report.specs.Shown.{rest_of, char_bytes, name_fields, name_text, units_of};
+ghost use Rattle.pt_report.specs.inner.Shown.{IsPair};
 
 use arrayvec::ArrayVec;
 use std::io;

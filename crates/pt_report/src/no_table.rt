@@ -2,8 +2,8 @@
 
 ghost use Rattle.std.specs.Prelude.{◌++◌, ◌∷◌, [], codes, decimal, OnOk};
 ghost use Rattle.std.specs.Io.KnownBytes.{Appends};
-ghost use Rattle.pt_report.specs.Lines.{line};
-ghost use Rattle.pt_report.specs.NoTables.{chain_text, no_table_text};
+ghost use Rattle.pt_report.specs.Shown.{line};
+ghost use Rattle.pt_report.specs.Replies.{chain_text, no_table_text};
 
 use pt_layout::NoTable;
 use pt_mbr::ChainError;

@@ -2,7 +2,7 @@
 
 ghost use Rattle.std.specs.Prelude.{◌++◌, codes, OnOk};
 ghost use Rattle.std.specs.Io.KnownBytes.{Appends};
-ghost use Rattle.pt_report.specs.Lines.{path_text};
+ghost use Rattle.pt_report.specs.Shown.{path_text};
 
 use pt_layout::Path;
 use std::io;

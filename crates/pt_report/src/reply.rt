@@ -2,8 +2,7 @@
 
 ghost use Rattle.std.specs.Prelude.{◌↔◌, IsTrue, OnOk};
 ghost use Rattle.std.specs.Io.KnownBytes.{Appends};
-ghost use Rattle.pt_report.specs.Replies.{IsNo, reply_text};
-ghost use Rattle.pt_report.specs.Told.{answer_line, place_line, verdict_line};
+ghost use Rattle.pt_report.specs.Replies.{IsNo, reply_text, answer_line, place_line, verdict_line};
 
 use crate::finding::print_finding;
 use crate::layout::print_layout;

@@ -2,8 +2,8 @@
 
 ghost use Rattle.std.specs.Prelude.{OnOk};
 ghost use Rattle.std.specs.Io.KnownBytes.{Appends};
-ghost use Rattle.pt_report.specs.Lines.{rest_of};
-ghost use Rattle.pt_report.specs.Told.{why_fields, why_line};
+ghost use Rattle.pt_report.specs.Shown.{rest_of};
+ghost use Rattle.pt_report.specs.Replies.{why_fields, why_line};
 
 use pt_check::Why;
 use std::io;

@@ -1,23 +1,21 @@
 -- Writes in the order of their sectors: what a search finds, and what a new write does.
-use Rattle.std.proofs.Common.{◌≡◌, ◌≢◌, ◌∙◌, ℕ, zero, suc, ◌+◌, ◌-◌, ◌<◌, ◌≤◌, ◌==◌, List, [], ◌∷◌, ◌++◌, cond, length, get_or, take, drop}
-use Rattle.std.proofs.Common.{slice_set, map, refl, sym, ap, subst, arith, Result, Ok, Err, IfOk, IfErr, set-set}
+use Rattle.std.proofs.Common.{◌≡◌, ◌≢◌, ◌∙◌, ℕ, zero, suc, ◌+◌, ◌-◌, ◌<◌, ◌≤◌, ◌==◌, List, [], ◌∷◌, ◌++◌, cond, length, get_or, take}
+use Rattle.std.proofs.Common.{drop, slice_set, map, refl, sym, ap, subst, arith, Result, Ok, Err, IfOk, IfErr, set-set}
 use Rattle.std.specs.List.{insert}
 use Rattle.std.specs.List.Sorted.{IsSearchInRange, IsBinarySearchResult, IsNonDecreasingBy}
 use Rattle.std.specs.Ordering.{nat_cmp, ordering_index}
 use Rattle.std.proofs.lemmas.Cmp.{ranked}
-use Rattle.std.proofs.lemmas.List.{map-append, take-map, drop-map, length-map, get_or-drop, take-append-drop, set_comm}
-use Rattle.std.proofs.lemmas.List.{length-drop, get_or-set_same, get_or-set_other, get_or_append_left}
+use Rattle.std.proofs.lemmas.List.{map-append, take-map, drop-map, length-map, get_or-drop, take-append-drop, set_comm, length-drop}
+use Rattle.std.proofs.lemmas.List.{get_or-set_same, get_or-set_other, get_or_append_left}
 use Rattle.std.proofs.lemmas.List.Sorted.{IsNonDecreasingBy-from_default}
 use Rattle.std.proofs.lemmas.List.Edits.{length-insert, get_or-insert_below, get_or-insert_at, get_or-insert_above}
 use Rattle.std.proofs.lemmas.Bool.Decides.{nat_tests}
 use Rattle.std.proofs.lemmas.Grind.{common_steps}
 use Rattle.std.proofs.Math.ListN as N
-use Rattle.pt_sector.specs.Sectors.{Sectors}
-use Rattle.pt_sector.specs.Writes.{Writes, written}
-use Rattle.pt_sector.specs.Written.{value_after}
-use Rattle.pt_sector.specs.laws.Written.{written-append}
-use Rattle.pt_sector.specs.Ascending.{sector_at, IsAscending, IsWriteAt, IsGapFor}
-use Rattle.pt_sector.specs.Puts.{puts_as_writes, as_write, no_put, slot_at, SlotsFit, SlotsApart}
+use Rattle.pt_sector.specs.Sectors.{Sectors, Writes, written, sector_at, IsAscending, IsWriteAt, puts_as_writes, as_write, no_put}
+use Rattle.pt_sector.specs.Sectors.{slot_at, SlotsFit, SlotsApart}
+use Rattle.pt_sector.specs.inner.Sectors.{value_after, IsGapFor}
+use Rattle.pt_sector.proofs.Written.{written-append}
 use Rattle.pt_sector.specs.declared.put.Put.{Put}
 
 -- no write is of sector k

@@ -1,2 +1,10 @@
-pub mod Walks
+pub mod Bound
+pub mod CallsLemmas
+pub mod ExtentsLemmas
 pub mod InOrder
+pub mod OverlaysLemmas
+pub mod ReadsLemmas
+pub mod Since
+pub mod Spans
+pub mod Walks
+pub mod Written

@@ -1,15 +1,5 @@
-pub mod Sectors
-pub mod Spans
-pub mod Extents
-pub mod Writes
-pub mod Written
 pub mod Device
-pub mod Past
-pub mod Since
-pub mod Calls
-pub mod Reads
-pub mod Ascending
-pub mod Puts
 pub mod Overlays
+pub mod Sectors
 pub mod Sentences
-pub mod laws
+pub mod inner

@@ -1,17 +1,45 @@
--- What an overlay tells.
-use Rattle.std.specs.Prelude.{◌≡◌, ℕ, ◌-◌, List, [], ◌∷◌, ◌++◌, map, length, vec_len}
-use Rattle.std.proofs.Common.{ap, ◌∙◌}
-use Rattle.std.proofs.lemmas.List.{map-append}
-use Rattle.pt_sector.specs.Sectors.{Sectors}
-use Rattle.pt_sector.specs.Writes.{Writes, written}
-use Rattle.pt_sector.specs.laws.Written.{length-written}
-use Rattle.pt_sector.specs.Device.{Told, Moment, Elapses}
-use Rattle.pt_sector.specs.Past.{told_of}
-use Rattle.pt_sector.specs.Puts.{puts_as_writes}
-use Rattle.pt_sector.specs.Ascending.{Has}
+-- What calls that only read leave, and what an overlay shows.
+use Rattle.std.specs.Prelude.{◌≡◌, ℕ, List, ◌++◌, Option, Some, None, ◌-◌, [], map, vec_len}
+use Rattle.pt_sector.specs.Device.{Untouched, Told, Moment, told_of}
+use Rattle.pt_sector.specs.declared.disk.Fault.{Fault}
+use Rattle.pt_sector.specs.declared.disk.Fault.TheVariants.{Read}
+use Rattle.pt_sector.specs.declared.disk.Disk.{Ghosts}
+use Rattle.pt_sector.specs.declared.reading.FailedRead.{FailedRead}
+use Rattle.pt_sector.specs.declared.reading.Failure.{Failure}
+use Rattle.pt_sector.specs.declared.reading.Failure.TheVariants as failure
+use Rattle.pt_sector.specs.Sectors.{Sectors, Writes, written, puts_as_writes, Has}
 use Rattle.pt_sector.specs.declared.overlay.Overlay.{Overlay}
 use Rattle.pt_sector.specs.declared.own.Own.{Own}
 use Rattle.pt_sector.specs.declared.room.Room.{Room}
+
+-- ## Calls that only read, by the ghosts of a disk.
+
+-- a call that only reads: the disk is the same in all that its ghosts say, but for faults of reads
+abbrev pub OnlyReads : {D B : _} → Ghosts D B → D → D → Type 0
+OnlyReads g old new = Untouched g.count g.name g.reads g.tells g.told g.faults old new
+
+-- a disk above reads through to one that it borrows: that one was only read, and the same faults came to both
+pub record ReadsThrough {D B : _} (g : Ghosts D B) (old new : D) (above now_above : List Fault) : Type 0 where
+  pub below : OnlyReads g old new
+  pub more : List Fault
+  pub come_above : now_above ≡ above ++ more
+  pub come_below : g.faults new ≡ g.faults old ++ more
+
+-- the fault that a failed read is
+abbrev pub read_of : FailedRead → Option Fault
+read_of e = Some (Read e.0)
+
+-- the fault that a failure is, if it is the device's
+abbrev pub fault_of : Failure → Option Fault
+fault_of (failure.Device at) = Some (Read at)
+fault_of failure.Memory = None
+
+-- the sector whose read failed is one of these
+abbrev pub FailedIn : (ℕ → Type 0) → Failure → Type 0
+FailedIn S (failure.Device at) = S at.0
+FailedIn S failure.Memory = Unit {0}
+
+-- ## What an overlay tells.
 
 -- the sectors that are kept, each with its bytes
 abbrev pub own_writes : {b : _} → Own b → Writes
@@ -42,10 +70,3 @@ room_left own = own.room - vec_len own.puts
 -- for how many there is room
 abbrev pub room_for : {b : _} → Room b → ℕ
 room_for room = room.own.room
-
-pub length-shown : {b : _} (seen : Sectors) (own : Own b) → length (shown seen own) ≡ length seen
-length-shown seen own = length-written (own_writes own) seen
-
-pub elapses_overlay : {b : _} (seen : Sectors) (old new : Own b) (past later : List (Own b)) → later ≡ past ++ old ∷ []
-    → Elapses (overlay_told seen old past) (overlay_told seen new later)
-elapses_overlay seen old new past later is = ap (moments seen) is ∙ map-append (λ (own : Own _). (shown seen own, [])) past (old ∷ [])

@@ -1,6 +1,5 @@
 ghost use Rattle.std.specs.Prelude.{◌≡◌, ◌<◌, ◌≤◌, ◌+◌, ◌^◌, ◌↔◌, IfSome, IsSome, IsTrue};
-ghost use Rattle.pt_sector.specs.Sectors.{InSpan};
-ghost use Rattle.pt_sector.specs.Spans.{span, Share, IsWithin};
+ghost use Rattle.pt_sector.specs.Sectors.{InSpan, span, Share, IsWithin};
 
 /// The number of a sector, counted from 0.
 #[derive(Clone, Copy, Debug, Default, PartialEq, Eq, PartialOrd, Ord)]

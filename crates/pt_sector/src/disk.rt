@@ -2,8 +2,7 @@ ghost use Rattle.std.specs.Prelude.{◌≡◌, ◌<◌, ◌≤◌, ◌*◌, ◌^
 ghost use Rattle.pt_sector.specs.declared.disk.Fault.{Fault};
 ghost use Rattle.pt_sector.specs.declared.disk.Fault.TheVariants.{Read, Write, Flush};
 ghost use Rattle.pt_sector.specs.Sectors.{sector};
-ghost use Rattle.pt_sector.specs.Device.{Told, MayLeave, Wrote, FailedWrite, Flushed, FailedFlush};
-ghost use Rattle.pt_sector.specs.Calls.{Blames, Untouched};
+ghost use Rattle.pt_sector.specs.Device.{Told, MayLeave, Wrote, FailedWrite, Flushed, FailedFlush, Blames, Untouched};
 ghost use Rattle.pt_sector.specs.Sentences.{fault_sentence};
 
 use crate::address::Lba;

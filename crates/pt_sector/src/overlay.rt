@@ -2,11 +2,9 @@ ghost use Rattle.std.specs.Prelude.{◌≡◌, ◌≤◌, ◌<◌, ◌+◌, ◌�
 ghost use Rattle.std.specs.Prelude.{OnErr};
 ghost use Rattle.std.proofs.Common.{refl, ◌∙◌};
 ghost use Rattle.pt_sector.specs.declared.disk.Fault.TheVariants.{Read, Write, Flush};
-ghost use Rattle.pt_sector.specs.Device.{Wrote, FailedWrite, Flushed};
-ghost use Rattle.pt_sector.specs.Calls.{Blames, untouched_same, untouched_on};
-ghost use Rattle.pt_sector.specs.Reads.{ReadsThrough, through_same, through_on};
-ghost use Rattle.pt_sector.specs.Past.{stopped_same};
-ghost use Rattle.pt_sector.specs.Overlays.{content, IsOwnSector, length-shown, shown, room_left, room_for};
+ghost use Rattle.pt_sector.specs.Device.{Wrote, FailedWrite, Flushed, Blames};
+ghost use Rattle.pt_sector.specs.inner.ForFields.{untouched_same, untouched_on, through_same, through_on, stopped_same, length-shown};
+ghost use Rattle.pt_sector.specs.Overlays.{ReadsThrough, content, IsOwnSector, shown, room_left, room_for};
 
 use crate::address::Lba;
 use crate::disk::{Disk, Fault};

@@ -1,10 +1,8 @@
-ghost use Rattle.std.specs.Prelude.{◌≡◌, ◌≤◌, ◌<◌, ◌+◌, ◌↔◌, ℕ, List, [], slice_set, vec_len, vec_capacity, IfOk, IfErr};
-ghost use Rattle.std.specs.Prelude.{IsTrue, IsFalse, true, false, if◌then◌else◌};
-ghost use Rattle.pt_sector.specs.Sectors.{Sectors, IsSectorSize};
-ghost use Rattle.pt_sector.specs.Writes.{written};
-ghost use Rattle.pt_sector.specs.Written.{value_after};
-ghost use Rattle.pt_sector.specs.Ascending.{IsAscending, IsWriteAt, IsGapFor, Has};
-ghost use Rattle.pt_sector.specs.Puts.{puts_as_writes, SlotsFit, SlotsApart};
+ghost use Rattle.std.specs.Prelude.{◌≡◌, ◌≤◌, ◌<◌, ◌+◌, ◌↔◌, ℕ, List, [], slice_set, vec_len, vec_capacity, IfOk, IfErr, IsTrue, IsFalse};
+ghost use Rattle.std.specs.Prelude.{true, false, if◌then◌else◌};
+ghost use Rattle.pt_sector.specs.Sectors.{Sectors, IsSectorSize, written, IsAscending, IsWriteAt, Has, puts_as_writes, SlotsFit};
+ghost use Rattle.pt_sector.specs.Sectors.{SlotsApart};
+ghost use Rattle.pt_sector.specs.inner.Sectors.{value_after, IsGapFor};
 
 use crate::address::Lba;
 use crate::put::Put;

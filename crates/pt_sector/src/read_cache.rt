@@ -1,8 +1,7 @@
 ghost use Rattle.std.specs.Prelude.{◌≡◌};
-ghost use Rattle.pt_sector.specs.Calls.{untouched_same, untouched_on};
-ghost use Rattle.pt_sector.specs.Reads.{OnlyReads};
+ghost use Rattle.pt_sector.specs.inner.ForFields.{untouched_same, untouched_on};
+ghost use Rattle.pt_sector.specs.Overlays.{OnlyReads, shown};
 ghost use Rattle.pt_sector.specs.Sectors.{Sectors};
-ghost use Rattle.pt_sector.specs.Overlays.{shown};
 
 use crate::address::Lba;
 use crate::disk::{Disk, Fault};

@@ -4,8 +4,8 @@ ghost use Rattle.std.specs.Prelude.{◌≡◌, ◌<◌, Option, Some, OnOk, IfEr
 ghost use Rattle.pt_sector.specs.declared.disk.Fault.{Fault};
 ghost use Rattle.pt_sector.specs.declared.disk.Fault.TheVariants.{Read};
 ghost use Rattle.pt_sector.specs.Sectors.{sector};
-ghost use Rattle.pt_sector.specs.Calls.{Blames};
-ghost use Rattle.pt_sector.specs.Reads.{OnlyReads, read_of};
+ghost use Rattle.pt_sector.specs.Device.{Blames};
+ghost use Rattle.pt_sector.specs.Overlays.{OnlyReads, read_of};
 ghost use Rattle.pt_sector.specs.declared.reading.Failure.TheVariants as failure;
 ghost use Rattle.pt_sector.specs.Sentences.{failed_read_sentence, failure_sentence};
 

@@ -1,12 +1,13 @@
 -- Bytes that are summed part by part.
-use Rattle.std.proofs.Common.{◌≡◌, ℕ, zero, suc, ◌+◌, ◌*◌, ◌<◌, List, [], ◌∷◌, ◌++◌, length, get_or, take, drop, refl, sym, ap, ◌∙◌, arith}
+use Rattle.std.proofs.Common.{◌≡◌, ℕ, zero, suc, ◌+◌, ◌*◌, ◌<◌, List, [], ◌∷◌, ◌++◌, length, get_or, take, drop, refl, sym, ap, ◌∙◌}
+use Rattle.std.proofs.Common.{arith}
 use Rattle.std.specs.List.{concat}
 use Rattle.std.specs.Simd.{first_chunks}
 use Rattle.std.proofs.Math.Seq.{take-add}
 use Rattle.std.proofs.lemmas.List.{append-nil, take_more, take-append-drop}
 use Rattle.std.proofs.lemmas.List.Folds.{concat-append}
-use Rattle.pt_sum.specs.Crc.{after_bytes}
-use Rattle.pt_sum.specs.laws.Terms.{after_bytes-append}
+use Rattle.pt_sum.specs.Sums.{after_bytes}
+use Rattle.pt_sum.proofs.Terms.{after_bytes-append}
 
 -- the first n bytes, and then the others
 pub two_parts : (register n : ℕ) (xs : List ℕ) → after_bytes (after_bytes register (take n xs)) (drop n xs) ≡ after_bytes register xs

@@ -7,9 +7,9 @@ use Rattle.std.proofs.lemmas.List.{append-nil}
 use Rattle.std.proofs.lemmas.Nat.{shr-shr, pow-add}
 use Rattle.std.proofs.Math.Nat.{pow-suc}
 use Rattle.std.specs.Int.Bits.{xor_assoc}
-use Rattle.pt_sum.specs.Crc.{bits, after_bit, after_bytes}
-use Rattle.pt_sum.specs.Moves.{moved}
-use Rattle.pt_sum.specs.laws.Terms.{after_bytes-append}
+use Rattle.pt_sum.specs.Sums.{bits, after_bit, after_bytes}
+use Rattle.pt_sum.specs.inner.Sums.{moved}
+use Rattle.pt_sum.proofs.Terms.{after_bytes-append}
 use Rattle.pt_sum.proofs.Linear.{moved_split, moved-add, moved-xor, at_once}
 
 -- the low byte moves apart from the rest

@@ -1,4 +1,5 @@
+pub mod Chunks
+pub mod Eight
 pub mod Linear
 pub mod TableFacts
-pub mod Eight
-pub mod Chunks
+pub mod Terms

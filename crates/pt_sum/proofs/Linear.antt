@@ -7,8 +7,8 @@ use Rattle.std.proofs.lemmas.List.Sums.{fold-append}
 use Rattle.std.proofs.Math.Nat.{div-one, pow-suc, div-eq_of_lt}
 use Rattle.std.proofs.lemmas.Nat.{xor_comm, xor_shr, xor_mod, shr-shr, div-add-mod', mod_below, pow_pos}
 use lib.Bits.{xor_shifted}
-use Rattle.pt_sum.specs.Crc.{bits, shifted, after_bit, after_bytes}
-use Rattle.pt_sum.specs.Moves.{moved}
+use Rattle.pt_sum.specs.Sums.{bits, shifted, after_bit, after_bytes}
+use Rattle.pt_sum.specs.inner.Sums.{moved}
 
 pub xor_half : (a b : ℕ) → bit_xor a b / 2 ≡ bit_xor (a / 2) (b / 2)
 xor_half a b = xor_shr a b 1

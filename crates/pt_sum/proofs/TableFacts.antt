@@ -5,8 +5,8 @@ use Rattle.std.specs.List.{range_with_len}
 use Rattle.std.proofs.lemmas.List.FromFn.{get_or-map-range_with_len}
 use Rattle.std.proofs.lemmas.Nat.{xor_shr, and_mask}
 use Rattle.std.specs.Int.Bits.{xor_zero_r}
-use Rattle.pt_sum.specs.Crc.{bits, shifted, after_bit}
-use Rattle.pt_sum.specs.Moves.{moved}
+use Rattle.pt_sum.specs.Sums.{bits, shifted, after_bit}
+use Rattle.pt_sum.specs.inner.Sums.{moved}
 use Rattle.pt_sum.proofs.Linear.{moved_split, byte_at_once}
 use Rattle.pt_sum.specs.declared.tables.TheConstants.{TABLES}
 

@@ -1,4 +1,2 @@
-pub mod Crc
-pub mod Moves
-pub mod Words
-pub mod laws
+pub mod Sums
+pub mod inner

@@ -2,8 +2,8 @@
 
 ghost use Rattle.std.specs.Prelude.{◌≡◌, ◌<◌, ◌+◌, ◌*◌, ℕ, length, fold, bit_xor};
 ghost use Rattle.std.specs.List.{concat};
-ghost use Rattle.pt_sum.specs.Crc.{bits, after_bit, after_bytes, crc_of};
-ghost use Rattle.pt_sum.specs.Moves.{moved};
+ghost use Rattle.pt_sum.specs.Sums.{bits, after_bit, after_bytes, crc_of};
+ghost use Rattle.pt_sum.specs.inner.Sums.{moved};
 
 use crate::tables::TABLES;
 use std::marker::Model;

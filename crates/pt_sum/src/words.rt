@@ -1,7 +1,7 @@
 //! The sum of 16-bit words without carry.
 
 ghost use Rattle.std.specs.Prelude.{◌≡◌, ◌%◌, length};
-ghost use Rattle.pt_sum.specs.Words.{xor_of};
+ghost use Rattle.pt_sum.specs.Sums.{xor_of};
 
 /// The exclusive or of the little-endian 16-bit words.
 pub fn xor16(bytes: &[u8]) -> u16

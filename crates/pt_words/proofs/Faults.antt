@@ -1,13 +1,13 @@
 -- Faults of a word's fields.
 use Rattle.std.proofs.Common.{◌≡◌, ◌≢◌, ℕ, Bool, true, cond, List, [], ◌∷◌, length, Some, None, Result, Ok, Err, IfErr, refl, sym, ap}
-use Rattle.std.proofs.Common.{subst}
-use Rattle.std.proofs.Common.{◌≤◌, ◌+◌, arith, ◌∙◌, nat_le}
+use Rattle.std.proofs.Common.{subst, ◌≤◌, ◌+◌, arith, ◌∙◌, nat_le}
 use Rattle.std.specs.List.{join_with_byte}
 use Rattle.std.proofs.lemmas.Bool.Decides.{nat_tests}
 use Rattle.std.proofs.lemmas.Bool.{ne_eqb}
 use Rattle.std.proofs.lemmas.List.Splits.{join_with_byte-slice_split}
 use Rattle.pt_words.specs.Words.{Field, number, new_path, end, code, greatest, fields, kinds, exactly, is_letter, IsFault, IsWordFault}
-use Rattle.pt_words.specs.Words.{Miscounted, count_fault, field_fault, FirstBad}
+use Rattle.pt_words.specs.Words.{count_fault, field_fault, FirstBad}
+use Rattle.pt_words.specs.inner.Words.{Miscounted}
 use Rattle.pt_words.specs.declared.error.EditError.{EditError}
 use Rattle.pt_words.specs.declared.error.EditError.TheVariants.{FieldCount, Memory}
 use Rattle.pt_words.specs.declared.word.Edit.{Edit}

@@ -1,5 +1,3 @@
-pub mod Numbers
-pub mod Words
-pub mod OneWord
 pub mod Sentences
-pub mod laws
+pub mod Words
+pub mod inner

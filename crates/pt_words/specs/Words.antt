@@ -1,14 +1,17 @@
--- Edit words as texts: their fields stand between colons, the first is a letter.
-use Rattle.std.specs.Prelude.{◌≡◌, ◌≢◌, ◌≤◌, ◌<◌, ◌-◌, ◌^◌, ◌⊎◌, ℕ, Bool, true, List, [], ◌∷◌, length, Option, Some, None, if◌then◌else◌}
-use Rattle.std.specs.Prelude.{◌==◌, nat_le}
+-- Words of an edit: what they mean, and their texts.
+use Rattle.std.specs.Prelude.{ℕ, ◌≡◌, ◌≤◌, ◌<◌, ◌-◌, ◌^◌, ◌⊎◌, Bool, true, List, [], ◌∷◌, length, Option, Some, None, if◌then◌else◌, ◌==◌}
+use Rattle.std.specs.Prelude.{nat_le, String}
+use Rattle.pt_words.specs.declared.error.EditError.{EditError}
+use Rattle.pt_words.specs.declared.error.Refusal.{Refusal}
+use Rattle.pt_words.specs.declared.error.EditError.TheVariants.{UnknownLetter, FieldCount, NotANumber, NotAGuid, NotACode}
+use Rattle.pt_words.specs.declared.error.EditError.TheVariants as error
+use Rattle.pt_words.specs.declared.error.Refusal.TheVariants as refusal
 use Rattle.std.specs.List.{slice_split, join_with_byte, list_any}
 use Rattle.std.specs.Str.Parse.{AllDigits, digits_value}
 use Rattle.std.specs.String.{string_bytes}
-use Rattle.pt_guid.specs.Mixed.{stored_of}
+use Rattle.pt_guid.specs.Guids.{stored_of}
 use Rattle.pt_path.specs.declared.path.Path.{Path}
-use Rattle.pt_path.specs.Texts.{IsNumber, IsPath}
-use Rattle.pt_words.specs.declared.error.EditError.{EditError}
-use Rattle.pt_words.specs.declared.error.EditError.TheVariants.{UnknownLetter, FieldCount, NotANumber, NotAGuid, NotACode}
+use Rattle.pt_path.specs.Paths.{IsNumber, IsPath}
 use Rattle.pt_words.specs.declared.word.Edit.{Edit}
 use Rattle.pt_words.specs.declared.word.Edit.TheVariants.{Align, New, Delete, SetKind, SetName, SetUnique, SetDisk, SetBit, Extend, ToGpt}
 use Rattle.pt_words.specs.declared.word.Edit.TheVariants.{Empty}
@@ -16,6 +19,36 @@ use Rattle.pt_words.specs.declared.word.End.{End}
 use Rattle.pt_words.specs.declared.word.End.TheVariants.{Block, Length, At}
 use Rattle.pt_words.specs.declared.word.Code.{Code}
 use Rattle.pt_words.specs.declared.word.Code.TheVariants.{Two, Four}
+use Rattle.std.specs.Global.{Global}
+
+-- ## The numbers that stand for errors and refusals in what is printed.
+
+abbrev pub error_number : EditError → ℕ
+error_number UnknownLetter = 1
+error_number FieldCount = 2
+error_number NotANumber = 3
+error_number NotAGuid = 4
+error_number NotACode = 5
+error_number error.Memory = 6
+
+abbrev pub refusal_number : Refusal → ℕ
+refusal_number refusal.NoSuchPartition = 1
+refusal_number refusal.NumberTaken = 2
+refusal_number refusal.NoSpace = 3
+refusal_number refusal.OutsideUsable = 4
+refusal_number refusal.Overlap = 5
+refusal_number refusal.UnknownCode = 6
+refusal_number refusal.NameTooLong = 7
+refusal_number refusal.ContainerType = 8
+refusal_number refusal.NotForThisTable = 9
+refusal_number refusal.NoFreshGuid = 10
+refusal_number refusal.SameGuid = 11
+refusal_number refusal.NoRoomForGpt = 12
+refusal_number refusal.ForeignLabel = 13
+refusal_number refusal.Memory = 14
+refusal_number refusal.LabelOffset = 15
+
+-- ## Edit words as texts: their fields stand between colons, the first is a letter.
 
 -- the greatest number of 64 bits
 abbrev pub greatest : ℕ
@@ -24,11 +57,6 @@ greatest = 2 ^ 64 - 1
 -- the parts of a text between its colons
 abbrev pub fields : List ℕ → List (List ℕ)
 fields text = slice_split (λ b. b == 58) text
-
--- the same where there may be no text, and then no field
-abbrev pub fields_after : Option (List ℕ) → List (List ℕ)
-fields_after None = []
-fields_after (Some text) = fields text
 
 -- the text is a number in a range
 pub record IsNumberIn (least most : ℕ) (text : List ℕ) (n : ℕ) : Type 0 where
@@ -115,10 +143,6 @@ error_of guid = NotAGuid
 abbrev pub Misfit : Field → List ℕ → EditError → Type 0
 Misfit k f e = (¬ Fits k f) × (e ≡ error_of k)
 
--- there are more or fewer fields, and it is told so
-abbrev pub Miscounted : ℕ → List (List ℕ) → EditError → Type 0
-Miscounted n fs e = (length fs ≢ n) × (e ≡ FieldCount)
-
 -- the letters of words: a, n, d, t, c, u, U, A, e, g and o
 abbrev pub is_letter : ℕ → Bool
 is_letter letter = list_any (λ l. l == letter) (97 ∷ 110 ∷ 100 ∷ 116 ∷ 99 ∷ 117 ∷ 85 ∷ 65 ∷ 101 ∷ 103 ∷ 111 ∷ [])
@@ -157,3 +181,10 @@ pub data IsFault (letter : List ℕ) (rest : List (List ℕ)) (e : EditError) : 
 abbrev pub IsWordFault : List (List ℕ) → EditError → Type 0
 IsWordFault [] e = ⊥
 IsWordFault (letter ∷ rest) e = IsFault letter rest e
+
+-- ## A text is one word at most, and has one fault at most.
+
+-- words that say the same: they are one, and of two names the texts are one, wherever in memory these lie
+abbrev pub IsAlike : Edit → Edit → Type 0
+IsAlike (SetName n name) w = (other : String Global) × (w ≡ SetName n other) × (string_bytes name ≡ string_bytes other)
+IsAlike v w = v ≡ w

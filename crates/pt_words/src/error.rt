@@ -1,7 +1,7 @@
 //! Why a text is no word, and why a word is refused.
 
 ghost use Rattle.std.specs.Prelude.{◌≡◌, Some};
-ghost use Rattle.pt_words.specs.Numbers.{error_number, refusal_number};
+ghost use Rattle.pt_words.specs.Words.{error_number, refusal_number};
 ghost use Rattle.pt_words.specs.declared.error.EditError.TheVariants as error;
 ghost use Rattle.pt_words.specs.declared.error.Refusal.TheVariants as refused;
 ghost use Rattle.pt_words.specs.Sentences.{edit_error_sentence, refusal_sentence};

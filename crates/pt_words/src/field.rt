@@ -2,10 +2,11 @@
 
 ghost use Rattle.std.specs.Prelude.{◌≡◌, IfOk, IfErr, IfSome, IfNone, [], ◌∷◌, Some};
 ghost use Rattle.std.specs.Option.{option_map};
-ghost use Rattle.pt_guid.specs.Mixed.{stored_of};
-ghost use Rattle.pt_path.specs.Texts.{IsPath};
-ghost use Rattle.pt_words.specs.Words.{fields, fields_after, IsNumberIn, IsNewPath, IsEnd, IsCode, Misfit, Miscounted};
-ghost use Rattle.pt_words.specs.Words.{greatest, number, path, new_path, end, code, guid};
+ghost use Rattle.pt_guid.specs.Guids.{stored_of};
+ghost use Rattle.pt_path.specs.Paths.{IsPath};
+ghost use Rattle.pt_words.specs.Words.{fields, IsNumberIn, IsNewPath, IsEnd, IsCode, Misfit, greatest, number, path, new_path, end, code};
+ghost use Rattle.pt_words.specs.Words.{guid};
+ghost use Rattle.pt_words.specs.inner.Words.{fields_after, Miscounted};
 
 use crate::error::EditError;
 use crate::word::{Code, End};

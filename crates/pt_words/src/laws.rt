@@ -1,8 +1,7 @@
 //! What holds of texts, whatever they are.
 
 ghost use Rattle.std.specs.Prelude.{◌≡◌, ℕ, List, ◌⊎◌, ◌∷◌, drop, String};
-ghost use Rattle.pt_words.specs.OneWord.{IsAlike};
-ghost use Rattle.pt_words.specs.Words.{IsWord, IsWordFault};
+ghost use Rattle.pt_words.specs.Words.{IsAlike, IsWord, IsWordFault};
 ghost use Rattle.pt_words.specs.declared.error.EditError.{EditError};
 ghost use Rattle.pt_words.specs.declared.word.Edit.{Edit};
 ghost use Rattle.std.specs.Global.{Global};

@@ -2,7 +2,8 @@
 
 ghost use Rattle.std.specs.Prelude.{◌≡◌, ◌≢◌, ◌<◌, ℕ, IfOk, IfErr, IfSome, IfNone, [], ◌∷◌};
 ghost use Rattle.std.specs.Option.{option_map};
-ghost use Rattle.pt_words.specs.Words.{fields, fields_after, IsWord, IsFault, IsWordFault};
+ghost use Rattle.pt_words.specs.Words.{fields, IsWord, IsFault, IsWordFault};
+ghost use Rattle.pt_words.specs.inner.Words.{fields_after};
 
 use crate::error::EditError;
 use crate::field::next_field;

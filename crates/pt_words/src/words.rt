@@ -2,7 +2,8 @@
 
 ghost use Rattle.std.specs.Prelude.{◌≢◌, length, IfOk, IfErr, [], ◌∷◌};
 ghost use Rattle.std.specs.Option.{option_map};
-ghost use Rattle.pt_words.specs.Words.{fields_after, IsWord, IsFault};
+ghost use Rattle.pt_words.specs.inner.Words.{fields_after};
+ghost use Rattle.pt_words.specs.Words.{IsWord, IsFault};
 
 use crate::error::EditError;
 use crate::field::{

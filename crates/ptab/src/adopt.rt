@@ -4,7 +4,7 @@ ghost use Rattle.pt_sector.specs.Sectors.{IsSectorSize};
 
 use crate::images::Image;
 use pt_answers::{Failure, adopt_disk, plan_adopting};
-use pt_file::FileDisk;
+use pt_disks::FileDisk;
 use pt_line::{Adoption, LockedBy};
 use pt_report::Reply;
 use std::fs::{File, Files};

@@ -3,7 +3,7 @@
 ghost use Rattle.pt_sector.specs.Sectors.{IsSectorSize};
 
 use pt_answers::{Failure, as_device};
-use pt_file::{Access, FileDisk, NoDevice, device_sector_size};
+use pt_disks::{Access, FileDisk, NoDevice, device_sector_size};
 use pt_line::{InUse, LockedBy, Medium, SectorSize};
 use std::fs::{File, Files};
 
@@ -71,8 +71,8 @@ impl<'a> Image<'a> {
             },
             Medium::Device => {
                 let in_use = match in_use {
-                    InUse::Refused => pt_file::InUse::Refused,
-                    InUse::Allowed => pt_file::InUse::Allowed,
+                    InUse::Refused => pt_disks::InUse::Refused,
+                    InUse::Allowed => pt_disks::InUse::Allowed,
                 };
                 FileDisk::<B>::open_device(rt, self.path, access, in_use)
             }

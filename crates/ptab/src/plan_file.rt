@@ -8,7 +8,7 @@ ghost use Rattle.pt_apply.specs.PlanTexts.{PlanText};
 
 use pt_answers::Failure;
 use pt_apply::{Plan, PlanTextError, read_plan};
-use pt_file::{Access, open_plain};
+use pt_disks::{Access, open_plain};
 use std::alloc::Global;
 use std::fs::{File, Files};
 use std::io::{ErrorKind, Read};

@@ -1,8 +1,8 @@
 use Rattle.std.proofs.Common.{◌≡◌, ℕ, refl, inl, inr, arith}
 use Rattle.pt_sector.specs.Sectors.{Sectors, IsSectorSize}
 use Rattle.pt_replay.specs.Given.{buffers}
-use Rattle.pt_replay.specs.Judged.{OfView}
-use Rattle.pt_replay.specs.Adopted.{Adopted, AdoptedFor, OfOther, OfOtherCount}
+use Rattle.pt_replay.specs.Wanted.{OfView}
+use Rattle.pt_replay.specs.Claims.{Adopted, AdoptedFor, OfOther, OfOtherCount}
 use Rattle.pt_replay.proofs.Saying.{says_no_size}
 use Rattle.pt_replay.proofs.SayingLike.{says_of_both}
 use Rattle.pt_c.proofs.ptab_adopt_plan.Goals as goal

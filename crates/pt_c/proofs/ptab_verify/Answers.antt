@@ -1,6 +1,6 @@
 use Rattle.std.proofs.Common.{ℕ, refl, inl, inr, arith}
 use Rattle.pt_sector.specs.Sectors.{Sectors, IsSectorSize}
-use Rattle.pt_replay.specs.Judged.{NoBuffers}
+use Rattle.pt_replay.specs.Wanted.{NoBuffers}
 use Rattle.pt_replay.specs.Claims.{VerifiedFor}
 use Rattle.pt_replay.proofs.Saying.{says_it, says_no_size}
 use Rattle.pt_c.proofs.ptab_verify.Goals as goal

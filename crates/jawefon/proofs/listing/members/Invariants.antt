@@ -1,7 +1,6 @@
 use Rattle.std.proofs.Common.{◌≡◌, take}
 use Rattle.std.specs.Prelude.{flat_map}
-use Rattle.pt_members.specs.Members.{slots}
-use Rattle.pt_members.specs.Rows.{rows_at}
+use Rattle.pt_members.specs.Members.{slots, rows_at}
 use Rattle.jawefon.proofs.listing.members.Given as goal
 
 abbrev pub invariant-loop-k : goal.invariant-loop-k

@@ -1,11 +1,10 @@
 use Rattle.std.proofs.Common.{rules, ◌≡◌, ℕ, List, length, ap, subst, arith}
 use Rattle.std.proofs.lemmas.Result.{err_from_is_err_and}
-use Rattle.pt_sector.specs.laws.Since.{leaves_none}
+use Rattle.pt_sector.proofs.Since.{leaves_none}
 use Rattle.pt_apply.proofs.Applied.{reached_none, settled_on, leaves_phase, reached_on, failed_in, fault_in}
-use Rattle.pt_sector.specs.Writes.{Writes, after}
+use Rattle.pt_sector.specs.Sectors.{Writes, after}
 use Rattle.pt_apply.proofs.Items.{length-phases, take-all}
-use Rattle.pt_apply.specs.Plans.{phases_of}
-use Rattle.pt_apply.specs.Runs.{Reached, Settled}
+use Rattle.pt_apply.specs.Plans.{phases_of, Reached, Settled}
 use Rattle.pt_apply.proofs.plan.apply.Goals as goal
 
 pub loop-phase-init : goal.loop-phase-init

@@ -1,6 +1,6 @@
 use Rattle.std.proofs.Common.{rules, ◌∙◌}
 use Rattle.std.proofs.lemmas.Result.{err_from_is_err_and}
-use Rattle.pt_apply.specs.laws.Items.{drop-writes}
+use Rattle.pt_apply.proofs.ItemsLemmas.{drop-writes}
 use Rattle.pt_apply.proofs.Items.{drop-all_writes, puts-write, fault-of-write, some_fault, whole_index}
 use Rattle.pt_apply.proofs.Writing.{started, writing_on, writing_failed, ends_done, ends_settled, ends_failed}
 use Rattle.pt_apply.proofs.plan.write_phase.Goals as goal

@@ -1,8 +1,8 @@
 use Rattle.std.proofs.Common.{◌<◌, ℕ, List, [], length, sym, ◌∙◌, subst, lit<, arith, inl, inr}
 use Rattle.std.proofs.lemmas.Result.{err_from_is_err_and}
 use Rattle.std.proofs.lemmas.Str.Pattern.{split_parts}
-use Rattle.pt_sector.specs.Writes.{Writes}
-use Rattle.pt_apply.specs.Reading.{phases_read, last_read}
+use Rattle.pt_sector.specs.Sectors.{Writes}
+use Rattle.pt_apply.specs.inner.PlanTexts.{phases_read, last_read}
 use Rattle.pt_apply.proofs.Cuts.{Parts, when_true, when_false}
 use Rattle.pt_apply.proofs.Growing.{IsReading, reading_begins, reading_more, reading_bad, reading_ends, reading_done, reading_fits}
 use Rattle.pt_apply.proofs.Growing.{reading_unended, reading_unflushed, has_none, has_writes, shorter, utf8_after}

@@ -1,7 +1,7 @@
 use Rattle.std.proofs.Common.{length}
 use denote.Shadow.{shadow}
 use denote.Text.{Utf8}
-use Rattle.pt_apply.specs.Reading.{phases_read, last_read}
+use Rattle.pt_apply.specs.inner.PlanTexts.{phases_read, last_read}
 use Rattle.pt_apply.proofs.Growing.{IsReading}
 use Rattle.pt_apply.proofs.read.read_plan.Given as goal
 

@@ -1,6 +1,6 @@
 use Rattle.std.proofs.Common.{sym, ◌∙◌}
 use Rattle.std.proofs.lemmas.Result.{err_from_is_err_and}
-use Rattle.pt_apply.specs.Reading.{last_read, phases_read}
+use Rattle.pt_apply.specs.inner.PlanTexts.{last_read, phases_read}
 use Rattle.pt_apply.proofs.Cuts.{no_fit}
 use Rattle.pt_apply.proofs.Growing.{grows_write, grows_flush, no_flush_yet}
 use Rattle.pt_apply.proofs.read.take_line.Goals as goal

@@ -4,10 +4,11 @@ use Rattle.std.specs.declared.alloc.Global.{Global}
 use Rattle.std.specs.String.{string_bytes}
 use Rattle.std.proofs.lemmas.List.{take_all}
 use Rattle.std.proofs.lemmas.Result.{err_from_is_err_and}
-use Rattle.pt_sector.specs.Writes.{Writes}
+use Rattle.pt_sector.specs.Sectors.{Writes}
 use Rattle.pt_apply.specs.declared.plan.Write.{Write}
 use Rattle.pt_apply.specs.Plans.{writes_of, phases_of, phases_in}
-use Rattle.pt_apply.specs.Canonical.{phase_text, text_of, HasLine}
+use Rattle.pt_apply.specs.PlanTexts.{phase_text, text_of}
+use Rattle.pt_apply.specs.inner.PlanTexts.{HasLine}
 use Rattle.pt_apply.proofs.Texts.{text_more, held_more, all_taken, canonical, none_empty}
 use Rattle.pt_apply.proofs.write.plan_text.Goals as goal
 

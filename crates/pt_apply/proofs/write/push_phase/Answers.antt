@@ -2,7 +2,8 @@ use Rattle.std.specs.Prelude.{All}
 use Rattle.std.specs.String.{string_bytes}
 use Rattle.pt_apply.specs.declared.plan.Write.{Write}
 use Rattle.pt_apply.specs.Plans.{writes_of}
-use Rattle.pt_apply.specs.Canonical.{write_text, HasLine}
+use Rattle.pt_apply.specs.PlanTexts.{write_text}
+use Rattle.pt_apply.specs.inner.PlanTexts.{HasLine}
 use Rattle.pt_apply.proofs.Texts.{text_more, held_more, all_taken, on_ok}
 use Rattle.pt_apply.proofs.write.push_phase.Goals as goal
 

@@ -1,8 +1,8 @@
 use Rattle.std.proofs.Common.{◌≡◌, ◌<◌, ◌+◌, ℕ, List, Option, Some, None, slice_set, arith, ◌∙◌, inl, inr}
 use Rattle.std.proofs.lemmas.List.{get_or-set_same, get_or-set_other, length-set}
 use Rattle.std.proofs.lemmas.Bool.{cases_lt}
-use Rattle.pt_bsd.specs.Label.{counted_in, place_of, HasEntry}
-use Rattle.pt_bsd.specs.Reading.{ReadSoFar}
+use Rattle.pt_bsd.specs.Labels.{counted_in, place_of, HasEntry}
+use Rattle.pt_bsd.proofs.ReadingLemmas.{ReadSoFar}
 use Rattle.pt_bsd.specs.declared.label.LabelEntry.{LabelEntry}
 use Rattle.pt_bsd.proofs.decode.entries_in.Goals as goal
 

@@ -1,4 +1,4 @@
-use Rattle.pt_bsd.specs.Reading.{ReadSoFar}
+use Rattle.pt_bsd.proofs.ReadingLemmas.{ReadSoFar}
 use Rattle.pt_bsd.proofs.decode.entries_in.Given as goal
 
 abbrev pub invariant-loop-k : goal.invariant-loop-k

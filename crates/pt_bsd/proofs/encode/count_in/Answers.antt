@@ -2,7 +2,7 @@ use Rattle.std.proofs.Common.{◌≡◌, ◌∙◌, ◌+◌, ◌<◌, ℕ, suc, 
 use Rattle.std.proofs.Common.{rules, arith}
 use Rattle.std.specs.Option.{is_some}
 use Rattle.std.proofs.lemmas.List.{drop_more, drop_all}
-use Rattle.pt_bsd.specs.Counted.{count_of}
+use Rattle.pt_bsd.specs.Labels.{count_of}
 use Rattle.pt_bsd.specs.declared.label.LabelEntry.{LabelEntry}
 use Rattle.pt_bsd.proofs.encode.count_in.Goals as goal
 

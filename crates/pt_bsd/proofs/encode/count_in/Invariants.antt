@@ -1,5 +1,5 @@
 use Rattle.std.proofs.Common.{◌≡◌, ◌-◌, ◌+◌, ◌≤◌, drop}
-use Rattle.pt_bsd.specs.Counted.{count_of}
+use Rattle.pt_bsd.specs.Labels.{count_of}
 use Rattle.pt_bsd.proofs.encode.count_in.Given as goal
 
 abbrev pub invariant-loop-count : goal.invariant-loop-count

@@ -1,8 +1,8 @@
 use Rattle.std.proofs.Common.{◌≡◌, sym, ◌∙◌, subst}
 use Rattle.std.proofs.lemmas.Bool.{false≢true}
-use Rattle.pt_bsd.specs.Label.{LabelBytes}
-use Rattle.pt_bsd.specs.laws.Terms.{label_one, label_none}
-use Rattle.pt_bsd.specs.laws.Equal.{label_decides}
+use Rattle.pt_bsd.specs.Labels.{LabelBytes}
+use Rattle.pt_bsd.proofs.Terms.{label_one, label_none}
+use Rattle.pt_bsd.proofs.Equal.{label_decides}
 use Rattle.pt_bsd.specs.declared.label.Label.{Label}
 use Rattle.pt_bsd.proofs.encode.encode_for.Goals as goal
 

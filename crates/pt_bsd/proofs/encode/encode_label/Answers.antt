@@ -1,4 +1,4 @@
-use Rattle.pt_bsd.specs.laws.Terms.{label_counted, label_fits}
+use Rattle.pt_bsd.proofs.Terms.{label_counted, label_fits}
 use Rattle.pt_bsd.proofs.encode.encode_label.Goals as goal
 
 pub returns-clause-again : goal.returns-clause-again

@@ -1,7 +1,7 @@
 use Rattle.std.proofs.Common.{◌+◌, None}
 use Rattle.std.specs.Prelude.{slice_index_or}
-use Rattle.pt_bsd.specs.Label.{place_of}
-use Rattle.pt_bsd.specs.Writing.{EntryIsPut}
+use Rattle.pt_bsd.specs.Labels.{place_of}
+use Rattle.pt_bsd.specs.inner.Labels.{EntryIsPut}
 use Rattle.pt_bsd.proofs.Entries.{put_more}
 use Rattle.pt_bsd.proofs.Parts.{changes_none}
 use Rattle.pt_bsd.proofs.encode.put_entries.Goals as goal

@@ -1,4 +1,4 @@
-use Rattle.pt_bsd.specs.Writing.{PutSoFar}
+use Rattle.pt_bsd.specs.inner.Labels.{PutSoFar}
 use Rattle.pt_bsd.proofs.encode.put_entries.Given as goal
 
 abbrev pub invariant-loop-k : goal.invariant-loop-k

@@ -1,5 +1,5 @@
 use Rattle.std.proofs.Common.{◌≡◌, ◌≤◌, ◌∙◌, ℕ, List, length, refl, ap, arith}
-use Rattle.pt_bsd.specs.Writing.{put_at, ChangesOnly}
+use Rattle.pt_bsd.specs.inner.Labels.{put_at, ChangesOnly}
 use Rattle.pt_bsd.proofs.Parts.{put_three, put_changes, length-put_at, changes_wider, changes_both}
 use Rattle.pt_bsd.proofs.Front.{is_front}
 use Rattle.pt_bsd.proofs.encode.put_front.Goals as goal

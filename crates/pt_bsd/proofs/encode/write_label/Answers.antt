@@ -1,6 +1,6 @@
 use Rattle.std.proofs.Common.{◌∙◌, ap, inl, lit≤, arith}
 use Rattle.byteorder.specs.Endian.{little_number}
-use Rattle.pt_bsd.specs.Label.{place_of}
+use Rattle.pt_bsd.specs.Labels.{place_of}
 use Rattle.pt_bsd.proofs.Parts.{range_kept, changes_wider, changes_both}
 use Rattle.pt_bsd.proofs.Written.{written}
 use Rattle.pt_bsd.proofs.encode.write_label.Goals as goal

@@ -1,4 +1,4 @@
-use Rattle.pt_bsd.specs.laws.Terms.{with_entry_counted, with_entry_fits, with_entry_form}
+use Rattle.pt_bsd.proofs.Terms.{with_entry_counted, with_entry_fits, with_entry_form}
 use Rattle.pt_bsd.proofs.laws.changed_label_fits.Goals as goal
 
 pub returns : goal.returns

@@ -1,4 +1,4 @@
-use Rattle.pt_bsd.specs.laws.Terms.{empty_counted, empty_fits}
+use Rattle.pt_bsd.proofs.Terms.{empty_counted, empty_fits}
 use Rattle.pt_bsd.proofs.laws.empty_label_fits.Goals as goal
 
 pub returns : goal.returns

@@ -1,4 +1,4 @@
-use Rattle.pt_bsd.specs.laws.Terms.{label_form}
+use Rattle.pt_bsd.proofs.Terms.{label_form}
 use Rattle.pt_bsd.proofs.laws.fitting_label_has_form.Goals as goal
 
 pub returns : goal.returns

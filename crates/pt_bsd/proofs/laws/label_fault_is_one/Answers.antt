@@ -1,4 +1,4 @@
-use Rattle.pt_bsd.specs.laws.Terms.{fault_one}
+use Rattle.pt_bsd.proofs.Terms.{fault_one}
 use Rattle.pt_bsd.proofs.laws.label_fault_is_one.Goals as goal
 
 pub returns : goal.returns

@@ -1,4 +1,4 @@
-use Rattle.pt_bsd.specs.laws.Terms.{label_count, label_counted, label_fits}
+use Rattle.pt_bsd.proofs.Terms.{label_count, label_counted, label_fits}
 use Rattle.pt_bsd.proofs.laws.read_label_fits.Goals as goal
 
 pub returns : goal.returns

@@ -1,4 +1,4 @@
-use Rattle.pt_cases.specs.laws.Along.{along_labels_lem}
+use Rattle.pt_cases.proofs.Along.{along_labels_lem}
 use Rattle.pt_cases.proofs.laws.along_labels.Goals as goal
 
 pub returns : goal.returns

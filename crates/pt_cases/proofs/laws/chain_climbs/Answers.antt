@@ -1,4 +1,4 @@
-use Rattle.pt_cases.specs.laws.Links.{chain_climbs_lem}
+use Rattle.pt_cases.proofs.Links.{chain_climbs_lem}
 use Rattle.pt_cases.proofs.laws.chain_climbs.Goals as goal
 
 pub returns : goal.returns

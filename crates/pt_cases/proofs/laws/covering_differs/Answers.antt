@@ -1,4 +1,4 @@
-use Rattle.pt_cases.specs.laws.Covers.{covering_differs_lem}
+use Rattle.pt_cases.proofs.Covers.{covering_differs_lem}
 use Rattle.pt_cases.proofs.laws.covering_differs.Goals as goal
 
 pub returns : goal.returns

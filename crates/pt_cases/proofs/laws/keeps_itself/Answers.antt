@@ -1,4 +1,4 @@
-use Rattle.pt_cases.specs.laws.Terms.{keeps_refl}
+use Rattle.pt_cases.proofs.Terms.{keeps_refl}
 use Rattle.pt_cases.proofs.laws.keeps_itself.Goals as goal
 
 pub returns : goal.returns

@@ -1,4 +1,4 @@
-use Rattle.pt_cases.specs.laws.StandsOn.{label_stays_lem}
+use Rattle.pt_cases.proofs.StandsOn.{label_stays_lem}
 use Rattle.pt_cases.proofs.laws.label_stays_read.Goals as goal
 
 pub returns : goal.returns

@@ -1,4 +1,4 @@
-use Rattle.pt_cases.specs.laws.Along.{label_fits_lem}
+use Rattle.pt_cases.proofs.Along.{label_fits_lem}
 use Rattle.pt_cases.proofs.laws.labels_fit_places.Goals as goal
 
 pub returns : goal.returns

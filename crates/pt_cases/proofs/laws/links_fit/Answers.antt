@@ -1,4 +1,4 @@
-use Rattle.pt_cases.specs.laws.Links.{links_fit_lem}
+use Rattle.pt_cases.proofs.Links.{links_fit_lem}
 use Rattle.pt_cases.proofs.laws.links_fit.Goals as goal
 
 pub returns : goal.returns

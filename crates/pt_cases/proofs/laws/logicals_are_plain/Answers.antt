@@ -1,4 +1,4 @@
-use Rattle.pt_cases.specs.laws.Links.{shaped_logical_lem}
+use Rattle.pt_cases.proofs.Links.{shaped_logical_lem}
 use Rattle.pt_cases.proofs.laws.logicals_are_plain.Goals as goal
 
 pub returns : goal.returns

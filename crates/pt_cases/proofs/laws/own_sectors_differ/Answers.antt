@@ -1,4 +1,4 @@
-use Rattle.pt_cases.specs.laws.Differ.{own_differ_lem}
+use Rattle.pt_cases.proofs.Differ.{own_differ_lem}
 use Rattle.pt_cases.proofs.laws.own_sectors_differ.Goals as goal
 
 pub returns : goal.returns

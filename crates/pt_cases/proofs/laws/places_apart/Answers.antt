@@ -1,4 +1,4 @@
-use Rattle.pt_cases.specs.laws.LabelPlaces.{places_apart_lem}
+use Rattle.pt_cases.proofs.LabelPlaces.{places_apart_lem}
 use Rattle.pt_cases.proofs.laws.places_apart.Goals as goal
 
 pub returns : goal.returns

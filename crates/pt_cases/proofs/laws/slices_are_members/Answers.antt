@@ -1,4 +1,4 @@
-use Rattle.pt_cases.specs.laws.SliceMembers.{slices_are_members_lem}
+use Rattle.pt_cases.proofs.SliceMembers.{slices_are_members_lem}
 use Rattle.pt_cases.proofs.laws.slices_are_members.Goals as goal
 
 pub returns : goal.returns

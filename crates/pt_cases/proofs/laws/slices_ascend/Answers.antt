@@ -1,4 +1,4 @@
-use Rattle.pt_cases.specs.laws.Ascending.{slices_ascend_lem}
+use Rattle.pt_cases.proofs.Ascending.{slices_ascend_lem}
 use Rattle.pt_cases.proofs.laws.slices_ascend.Goals as goal
 
 pub returns : goal.returns

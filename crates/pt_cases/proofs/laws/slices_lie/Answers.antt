@@ -1,4 +1,4 @@
-use Rattle.pt_cases.specs.laws.SliceMembers.{slice_lies_lem}
+use Rattle.pt_cases.proofs.SliceMembers.{slice_lies_lem}
 use Rattle.pt_cases.proofs.laws.slices_lie.Goals as goal
 
 pub returns : goal.returns

@@ -1,11 +1,10 @@
-use Rattle.std.proofs.Common.{rules, ◌≡◌, ◌∙◌, ℕ, zero, suc, ◌*◌, ◌<◌, true, false, List, take, inl, inr, Option, Some, None, refl}
-use Rattle.std.proofs.Common.{ap, subst, arith}
+use Rattle.std.proofs.Common.{rules, ◌≡◌, ◌∙◌, ℕ, zero, suc, ◌*◌, ◌<◌, true, false, List, take, inl, inr, Option, Some, None, refl, ap}
+use Rattle.std.proofs.Common.{subst, arith}
 use Rattle.std.specs.Option.{is_some}
 use Rattle.std.proofs.lemmas.Result.{err_from_is_err_and}
-use Rattle.pt_sector.specs.Sectors.{IsSectorSize}
-use Rattle.pt_sector.specs.Writes.{Writes}
+use Rattle.pt_sector.specs.Sectors.{IsSectorSize, Writes}
 use Rattle.pt_apply.specs.Plans.{phases_of, writes_in, NoneIs}
-use Rattle.pt_check.specs.First.{FirstWriteIs}
+use Rattle.pt_check.specs.inner.Answers.{FirstWriteIs}
 use Rattle.pt_check.specs.declared.objection.Found.{Found}
 use Rattle.pt_check.proofs.Firsts.{first_number}
 use Rattle.pt_sector.specs.declared.address.Lba.{Lba}

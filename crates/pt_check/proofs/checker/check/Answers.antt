@@ -1,7 +1,7 @@
 use Rattle.std.proofs.Common.{rules}
-use Rattle.pt_sector.specs.Calls.{Blames}
-use Rattle.pt_sector.specs.Reads.{OnlyReads}
-use Rattle.pt_check.specs.Failed.{fault_in}
+use Rattle.pt_sector.specs.Device.{Blames}
+use Rattle.pt_sector.specs.Overlays.{OnlyReads}
+use Rattle.pt_check.specs.Answers.{fault_in}
 use Rattle.pt_check.proofs.checker.check.Goals as goal
 
 pub returns-in_err-room-clause-same : goal.returns-in_err-room-clause-same

@@ -1,18 +1,14 @@
 use Rattle.std.proofs.Common.{rules, sym, subst, Ok, Err}
 use Rattle.std.specs.Prelude.{ℕ, Result, IfOk}
-use Rattle.pt_sector.specs.Calls.{blames_after}
+use Rattle.pt_sector.proofs.CallsLemmas.{blames_after}
 use Rattle.pt_sector.specs.Device.{Told}
 use Rattle.pt_apply.specs.Plans.{InRange, phases_of}
 use Rattle.pt_apply.specs.declared.plan.Plan.{Plan}
-use Rattle.pt_check.specs.Answers.{WritesFit}
-use Rattle.pt_check.specs.Failed.{fault_in}
-use Rattle.pt_check.specs.Reasons.{IsFit}
-use Rattle.pt_check.specs.Recovered.{IsRecoveredOf}
+use Rattle.pt_check.specs.Answers.{WritesFit, fault_in, IsFit, IsRecoveredOf, boot}
 use Rattle.pt_check.specs.declared.answer.Answer.{Answer}
 use Rattle.pt_check.specs.declared.answer.Answer.TheVariants.{No, Yes}
 use Rattle.pt_check.specs.declared.error.CheckError.{CheckError}
 use Rattle.std.proofs.lemmas.Result.{err_from_is_err_and}
-use Rattle.pt_check.specs.CheckReads.{boot}
 use Rattle.pt_check.proofs.checker.check_known.Goals as goal
 
 fits : {b : _} (n : ℕ) (plan : Plan b) (r : Result Answer CheckError) → InRange n plan → IfOk r (λ a. WritesFit n plan a)

@@ -1,12 +1,10 @@
 use Rattle.std.proofs.Common.{rules, ◌∙◌, List, sym, ap, subst}
 use Rattle.std.proofs.lemmas.Result.{err_from_is_err_and}
-use Rattle.pt_sector.specs.Calls.{with_fault}
-use Rattle.pt_sector.specs.Device.{Told}
+use Rattle.pt_sector.specs.Device.{with_fault, Told}
 use Rattle.pt_apply.specs.Plans.{phases_of, finished}
 use Rattle.pt_recover.specs.Denotes.{Denotes}
 use Rattle.pt_sector.specs.declared.disk.Fault.{Fault}
-use Rattle.pt_check.specs.Failed.{fault_in}
-use Rattle.pt_check.specs.Recovered.{IsRecoveredOf}
+use Rattle.pt_check.specs.Answers.{fault_in, IsRecoveredOf}
 use Rattle.pt_check.proofs.Exits.{concluding}
 use Rattle.pt_check.proofs.Outside.{recovered_parts}
 use Rattle.pt_check.proofs.Reading.{finish_failed}

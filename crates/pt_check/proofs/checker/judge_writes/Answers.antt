@@ -1,13 +1,12 @@
-use Rattle.std.proofs.Common.{rules, ◌≡◌, ◌∙◌, ◌<◌, ◌≤◌, ℕ, List, length, sym, subst, arith, Some}
-use Rattle.pt_sector.specs.Writes.{Writes}
+use Rattle.std.proofs.Common.{rules, ◌≡◌, ◌∙◌, ◌<◌, ◌≤◌, ℕ, List, length, sym, subst, arith, Some, refl}
+use Rattle.pt_sector.specs.Sectors.{Writes}
 use Rattle.pt_apply.specs.Plans.{phases_of, writes_in, NoneIs}
-use Rattle.pt_check.specs.First.{IsFirst, FirstWriteIs}
-use Rattle.pt_check.specs.Reasons.{FirstWrite}
+use Rattle.pt_check.specs.Answers.{IsFirst, FirstWrite}
+use Rattle.pt_check.specs.inner.Answers.{FirstWriteIs}
 use Rattle.pt_check.specs.declared.objection.Found.{Found}
 use Rattle.pt_check.proofs.Exits.{outside, boot}
 use Rattle.pt_check.proofs.Ranges.{in_range}
 use Rattle.std.proofs.lemmas.Result.{err_from_is_err_and}
-use Rattle.std.proofs.Common.{refl}
 use Rattle.pt_check.proofs.checker.judge_writes.Goals as goal
 
 abbrev Past : ℕ → ℕ × List ℕ → Type 0

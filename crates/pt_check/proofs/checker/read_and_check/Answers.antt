@@ -1,9 +1,8 @@
 use Rattle.std.proofs.Common.{rules, refl, sym, subst, arith}
 use Rattle.std.proofs.lemmas.Result.{err_from_is_err_and}
-use Rattle.pt_sector.specs.Calls.{blames_after}
+use Rattle.pt_sector.proofs.CallsLemmas.{blames_after}
 use Rattle.pt_sector.specs.Device.{Told}
-use Rattle.pt_check.specs.Failed.{fault_in}
-use Rattle.pt_check.specs.Recovered.{IsRecoveredOf}
+use Rattle.pt_check.specs.Answers.{fault_in, IsRecoveredOf}
 use Rattle.pt_apply.specs.Plans.{phases_of}
 use Rattle.pt_check.proofs.Reading.{phase_failed}
 use Rattle.pt_check.proofs.checker.read_and_check.Goals as goal

@@ -1,15 +1,15 @@
 use Rattle.std.proofs.Common.{rules, ◌≡◌, ◌∙◌, ap, subst, arith, Ok, Err}
 use Rattle.std.proofs.lemmas.Result.{err_from_is_err_and}
-use Rattle.pt_sector.specs.Calls.{with_fault}
-use Rattle.pt_sector.specs.Reads.{OnlyReads, FailedIn, blames_below, fault_of}
-use Rattle.pt_sector.specs.Sectors.{Sectors}
-use Rattle.pt_sector.specs.Writes.{after}
+use Rattle.pt_sector.specs.Device.{with_fault}
+use Rattle.pt_sector.specs.Overlays.{OnlyReads, FailedIn, fault_of}
+use Rattle.pt_sector.proofs.ReadsLemmas.{blames_below}
+use Rattle.pt_sector.specs.Sectors.{Sectors, after}
 use Rattle.pt_apply.specs.Plans.{phases_of}
 use Rattle.pt_layout.specs.Surveys.{IsSurvey}
 use Rattle.pt_layout.specs.declared.survey.Survey.{Survey}
-use Rattle.pt_check.specs.Failed.{fault_in, told_failure}
+use Rattle.pt_check.specs.Answers.{fault_in, told_failure}
 use Rattle.pt_check.proofs.Finishing.{failure_blames}
-use Rattle.pt_sound.specs.Findings.{VerdictReads}
+use Rattle.pt_layout.specs.Healthy.{VerdictReads}
 use Rattle.pt_check.proofs.Reading.{failed_told}
 use Rattle.pt_check.proofs.finished.read_finished.Goals as goal
 

@@ -1,6 +1,6 @@
 use Rattle.std.proofs.Common.{rules, ◌≡◌, ◌≤◌}
 use Rattle.pt_members.specs.declared.member.Kind.TheVariants.{Leaf}
-use Rattle.pt_members.specs.Leaves.{IsLeafWith}
+use Rattle.pt_members.specs.inner.Members.{IsLeafWith}
 use Rattle.pt_members.specs.Members.{Exists}
 use Rattle.pt_check.proofs.Adding.{on_ok, adds_same}
 use Rattle.pt_check.proofs.owned.add_leaf.Goals as goal

@@ -1,6 +1,6 @@
 use Rattle.std.proofs.Common.{Some, arith}
 use Rattle.pt_members.specs.Members.{parts_in}
-use Rattle.pt_members.specs.Leaves.{HasLeafAt}
+use Rattle.pt_members.specs.inner.Members.{HasLeafAt}
 use Rattle.pt_members.proofs.ByPlace.{parts_len}
 use Rattle.pt_check.proofs.Adding.{adds_start, adds_more, adds_all}
 use Rattle.pt_check.proofs.owned.add_parts.Goals as goal

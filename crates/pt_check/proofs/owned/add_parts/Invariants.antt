@@ -1,6 +1,6 @@
 use Rattle.std.proofs.Common.{Some}
 use Rattle.pt_members.specs.Members.{parts_in}
-use Rattle.pt_members.specs.Leaves.{HasLeafAt}
+use Rattle.pt_members.specs.inner.Members.{HasLeafAt}
 use Rattle.pt_members.proofs.Lowest.{Under}
 use Rattle.pt_recover.specs.Spans.{Adds}
 use Rattle.pt_check.proofs.owned.add_parts.Given as goal

@@ -1,5 +1,5 @@
 use Rattle.std.proofs.Common.{sym, arith}
-use Rattle.pt_members.specs.Leaves.{OwnsAt}
+use Rattle.pt_members.specs.inner.Members.{OwnsAt}
 use Rattle.pt_members.proofs.ByPlace.{from_five}
 use Rattle.pt_check.proofs.Adding.{adds_start, adds_more, adds_owned}
 use Rattle.pt_check.proofs.owned.add_places.Goals as goal

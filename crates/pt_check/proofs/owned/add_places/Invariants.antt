@@ -1,6 +1,6 @@
 use Rattle.std.proofs.Common.{◌≡◌}
-use Rattle.pt_members.specs.Counts.{number_at}
-use Rattle.pt_members.specs.Leaves.{OwnsAt}
+use Rattle.pt_members.specs.Members.{number_at}
+use Rattle.pt_members.specs.inner.Members.{OwnsAt}
 use Rattle.pt_members.proofs.Lowest.{Under}
 use Rattle.pt_recover.specs.Spans.{Adds}
 use Rattle.pt_check.proofs.owned.add_places.Given as goal

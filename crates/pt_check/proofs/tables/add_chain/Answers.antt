@@ -2,7 +2,7 @@ use Rattle.std.proofs.Common.{◌≤◌, List, length, subst, arith}
 use Rattle.std.proofs.lemmas.List.{take_all}
 use Rattle.pt_mbr.specs.Chain.{StandsAt}
 use Rattle.pt_mbr.specs.declared.ebr.Ebr.{Ebr}
-use Rattle.pt_members.specs.Counts.{no_ebr}
+use Rattle.pt_members.specs.Members.{no_ebr}
 use Rattle.pt_recover.specs.Spans.{Adds}
 use Rattle.pt_check.proofs.Adding.{adds_none, adds_ebr}
 use Rattle.pt_check.proofs.tables.add_chain.Goals as goal

@@ -1,7 +1,7 @@
 use Rattle.std.proofs.Common.{◌≤◌, List, length, subst, arith}
 use Rattle.std.proofs.lemmas.List.{take_all}
 use Rattle.pt_members.specs.declared.layout.Slice.{Slice}
-use Rattle.pt_members.specs.Slices.{IsPlace}
+use Rattle.pt_members.specs.Members.{IsPlace}
 use Rattle.pt_members.proofs.LabelPlaces.{no_place}
 use Rattle.pt_recover.specs.Spans.{Adds}
 use Rattle.pt_check.proofs.Adding.{adds_none, adds_label}

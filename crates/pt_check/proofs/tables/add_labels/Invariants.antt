@@ -1,5 +1,5 @@
 use Rattle.std.proofs.Common.{take}
-use Rattle.pt_members.specs.Slices.{IsPlace}
+use Rattle.pt_members.specs.Members.{IsPlace}
 use Rattle.pt_recover.specs.Spans.{Adds}
 use Rattle.pt_check.proofs.tables.add_labels.Given as goal
 

@@ -1,7 +1,7 @@
 use Rattle.std.proofs.Common.{rules, ◌∙◌, ap, arith, drop, ◌+◌}
-use Rattle.pt_sector.specs.Writes.{written}
+use Rattle.pt_sector.specs.Sectors.{written}
 use Rattle.pt_apply.specs.Plans.{writes_of}
-use Rattle.pt_apply.specs.laws.Items.{drop-writes}
+use Rattle.pt_apply.proofs.ItemsLemmas.{drop-writes}
 use Rattle.pt_check.proofs.trial.put_phase.Goals as goal
 
 pub loop-write-preserved : goal.loop-write-preserved

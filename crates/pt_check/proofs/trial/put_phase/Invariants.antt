@@ -1,5 +1,5 @@
 use Rattle.std.proofs.Common.{◌≡◌, ◌≤◌, ◌+◌, drop}
-use Rattle.pt_sector.specs.Writes.{written}
+use Rattle.pt_sector.specs.Sectors.{written}
 use Rattle.pt_sector.specs.Overlays.{room_left, shown}
 use Rattle.pt_apply.specs.Plans.{writes_of}
 use Rattle.pt_check.proofs.trial.put_phase.Given as goal

@@ -1,9 +1,9 @@
 use Rattle.std.proofs.Common.{◌≡◌, ⊎_elim, ℕ, ◌<◌, List, length, subst, arith}
 use Rattle.std.proofs.lemmas.Bool.{cases_lt}
-use Rattle.pt_sector.specs.Writes.{Writes}
+use Rattle.pt_sector.specs.Sectors.{Writes}
 use Rattle.pt_apply.specs.Plans.{phases_of, NoneIs}
 use Rattle.pt_recover.specs.Spans.{IsIn}
-use Rattle.pt_check.specs.Course.{phase_at}
+use Rattle.pt_check.specs.Answers.{phase_at}
 use Rattle.pt_check.proofs.Firsts.{lent_phase}
 use Rattle.pt_check.proofs.trial.settled.Goals as goal
 use Rattle.pt_check.proofs.trial.settled.Goals.{then-not-is_unread, else-not-is_unread}

@@ -1,19 +1,15 @@
 use Rattle.std.proofs.Common.{rules, ◌≡◌, ◌∙◌, ℕ, ◌+◌, ◌<◌, Bool, sym, ap, subst, arith, length, Some, None, Ok, Err}
 use Rattle.std.proofs.lemmas.Result.{err_from_is_err_and}
-use Rattle.pt_sector.specs.Writes.{Writes}
-use Rattle.pt_sector.specs.Calls.{with_fault}
-use Rattle.pt_sector.specs.Reads.{OnlyReads, blames_below, read_of}
-use Rattle.pt_sector.specs.Sectors.{Sectors}
-use Rattle.pt_sector.specs.Overlays.{room_left}
-use Rattle.pt_sector.specs.Device.{Told}
+use Rattle.pt_sector.specs.Sectors.{Writes, Sectors}
+use Rattle.pt_sector.specs.Device.{with_fault, Told}
+use Rattle.pt_sector.specs.Overlays.{OnlyReads, read_of, room_left}
+use Rattle.pt_sector.proofs.ReadsLemmas.{blames_below}
 use Rattle.pt_apply.specs.Plans.{phases_of, writes_of}
 use Rattle.pt_recover.specs.Denotes.{Denotes, Reads}
-use Rattle.pt_recover.specs.laws.Terms.{denotes_one_lem}
+use Rattle.pt_recover.proofs.Terms.{denotes_one_lem}
 use Rattle.pt_recover.specs.Spans.{IsIn}
-use Rattle.pt_check.specs.CheckReads.{phase}
-use Rattle.pt_check.specs.Course.{Course, disk_after}
-use Rattle.pt_check.specs.Failed.{fault_in}
-use Rattle.pt_check.specs.Trials.{TouchedIs, KeepsRead}
+use Rattle.pt_check.specs.Answers.{phase, Course, disk_after, fault_in}
+use Rattle.pt_check.specs.inner.Answers.{TouchedIs, KeepsRead}
 use Rattle.pt_check.specs.declared.recovered.Recovered.{Recovered}
 use Rattle.pt_check.proofs.Firsts.{length-phases, count_on, lent_phase, index_within, seen_on, count_within}
 use Rattle.pt_check.proofs.Outside.{recovered_parts}

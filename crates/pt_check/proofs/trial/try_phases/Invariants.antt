@@ -1,9 +1,8 @@
 use Rattle.std.proofs.Common.{◌≡◌, ◌≤◌, ◌+◌, length, take}
-use Rattle.pt_sector.specs.Overlays.{room_left, shown}
-use Rattle.pt_sector.specs.Reads.{OnlyReads}
+use Rattle.pt_sector.specs.Overlays.{room_left, shown, OnlyReads}
 use Rattle.pt_apply.specs.Plans.{phases_of, writes_in}
 use Rattle.pt_recover.specs.Denotes.{Denotes, Reads}
-use Rattle.pt_check.specs.Course.{disk_after, Course}
+use Rattle.pt_check.specs.Answers.{disk_after, Course}
 use Rattle.pt_check.proofs.Trying.{Reading}
 use Rattle.pt_check.proofs.trial.try_phases.Given as goal
 

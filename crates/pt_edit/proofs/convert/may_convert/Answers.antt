@@ -1,5 +1,5 @@
 use Rattle.std.proofs.Common.{◌≡◌, ℕ, List, length, refl, ap, subst, arith}
-use Rattle.pt_edit.specs.Partitions.{partitions}
+use Rattle.pt_edit.specs.Entries.{partitions}
 use Rattle.pt_edit.specs.Converted.{HasUnknown, HasTwins, no_room, too_few, twins}
 use Rattle.pt_edit.specs.declared.partition.Partition.{Partition}
 use Rattle.pt_edit.proofs.Searches.{not_true}

@@ -1,5 +1,5 @@
 use Rattle.std.proofs.Common.{◌+◌, ◌≤◌, List, length, subst, sym, ◌∙◌}
-use Rattle.pt_edit.specs.Placed.{Placeable}
+use Rattle.pt_edit.specs.inner.Entries.{Placeable}
 use Rattle.pt_edit.specs.declared.partition.Partition.{Partition}
 use Rattle.pt_edit.proofs.Numbers.{placed}
 use Rattle.pt_edit.proofs.convert.table_of.Goals as goal

@@ -1,7 +1,7 @@
 use Rattle.std.proofs.Common.{ap, refl}
 use Rattle.std.proofs.lemmas.Result.{err_from_is_err_and}
 use Rattle.pt_members.specs.declared.layout.Layout.{Layout}
-use Rattle.pt_edit.specs.Changes.{missing, barred}
+use Rattle.pt_edit.specs.Entries.{missing, barred}
 use Rattle.pt_edit.proofs.entries.rename.Goals as goal
 
 pub returns-in_err-gpt-clause-err : goal.returns-in_err-gpt-clause-err

@@ -2,7 +2,7 @@
 use Rattle.std.proofs.Common.{◌≤◌, drop, length, Result}
 use Rattle.pt_members.specs.declared.layout.Layout.{Layout}
 use Rattle.pt_edit.specs.Edited.{EditedFrom}
-use Rattle.pt_edit.specs.Fold.{state_of}
+use Rattle.pt_edit.specs.inner.Edited.{state_of}
 use Rattle.pt_words.specs.declared.error.Refusal.{Refusal}
 use Rattle.pt_edit.proofs.fold.take_words.Given as goal
 

@@ -1,7 +1,7 @@
 use Rattle.std.proofs.Common.{ap, refl}
 use Rattle.std.proofs.lemmas.Result.{err_from_is_err_and}
 use Rattle.pt_members.specs.declared.layout.Layout.{Layout}
-use Rattle.pt_edit.specs.Changes.{no_gpt, no_entry}
+use Rattle.pt_edit.specs.Entries.{no_gpt, no_entry}
 use Rattle.pt_edit.proofs.gpt.with_used.Goals as goal
 
 pub returns-in-None-clause-err : goal.returns-in-None-clause-err

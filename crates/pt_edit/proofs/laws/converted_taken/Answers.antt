@@ -1,4 +1,4 @@
-use Rattle.pt_edit.specs.laws.ConversionLaws.{converted_taken_lem}
+use Rattle.pt_edit.proofs.ConversionLaws.{converted_taken_lem}
 use Rattle.pt_edit.proofs.laws.converted_taken.Goals as goal
 
 pub returns : goal.returns

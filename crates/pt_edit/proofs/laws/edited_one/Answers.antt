@@ -1,4 +1,4 @@
-use Rattle.pt_edit.specs.laws.Terms.{edited_one_lem}
+use Rattle.pt_edit.proofs.EditTerms.{edited_one_lem}
 use Rattle.pt_edit.proofs.laws.edited_one.Goals as goal
 
 pub returns : goal.returns

@@ -1,4 +1,4 @@
-use Rattle.pt_edit.specs.laws.Kept.{kept_lem}
+use Rattle.pt_edit.proofs.Kept.{kept_lem}
 use Rattle.pt_edit.proofs.laws.partitions_kept.Goals as goal
 
 pub returns : goal.returns

@@ -1,4 +1,4 @@
-use Rattle.pt_edit.specs.laws.ConversionLaws.{not_converted_one_lem}
+use Rattle.pt_edit.proofs.ConversionLaws.{not_converted_one_lem}
 use Rattle.pt_edit.proofs.laws.refusal_one.Goals as goal
 
 pub returns : goal.returns

@@ -1,7 +1,7 @@
 -- Each unit that comes is the next of the name's, and after the last one all have come.
 use Rattle.std.proofs.Common.{◌<◌, length, ap, sym, ◌∙◌, arith, length-append}
 use Rattle.std.specs.Str.Iter.{encode_utf16_rest, encode_utf16_pending}
-use Rattle.pt_edit.specs.Names.{padded}
+use Rattle.pt_edit.specs.Entries.{padded}
 use Rattle.pt_edit.proofs.Units.{padded_push, so_far_more, so_far_end, so_far_long}
 use Rattle.pt_edit.proofs.name.padded_units.Goals as goal
 

@@ -2,7 +2,7 @@
 use Rattle.std.proofs.Common.{◌≡◌, ◌≤◌, ◌++◌, length}
 use Rattle.std.specs.Str.{IsUtf8}
 use Rattle.std.specs.Str.Iter.{encode_utf16_rest, encode_utf16_pending}
-use Rattle.pt_edit.specs.Names.{units_of, padded}
+use Rattle.pt_edit.specs.Entries.{units_of, padded}
 use Rattle.pt_edit.proofs.name.padded_units.Given as goal
 
 abbrev pub invariant-loop-unit : goal.invariant-loop-unit

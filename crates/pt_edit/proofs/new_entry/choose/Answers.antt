@@ -1,6 +1,6 @@
 use Rattle.std.proofs.Common.{refl}
 use Rattle.std.proofs.lemmas.Result.{err_from_is_err_and}
-use Rattle.pt_edit.specs.NewEntry.{no_place, wrong_size, no_guid, same_guid}
+use Rattle.pt_edit.specs.Entries.{no_place, wrong_size, no_guid, same_guid}
 use Rattle.pt_edit.proofs.Places.{refuted}
 use Rattle.pt_edit.proofs.new_entry.choose.Goals as goal
 

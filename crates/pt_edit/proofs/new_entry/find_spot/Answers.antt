@@ -1,8 +1,7 @@
 use Rattle.std.proofs.Common.{refl, subst, arith}
 use Rattle.std.proofs.lemmas.Result.{err_from_is_err_and}
-use Rattle.pt_space.specs.Area.{Area, area_of}
-use Rattle.pt_space.specs.Placed.{Placed, NotPlaced}
-use Rattle.pt_edit.specs.NewEntry.{no_number, no_type, no_sectors}
+use Rattle.pt_edit.specs.Space.{Area, area_of, Placed, NotPlaced}
+use Rattle.pt_edit.specs.Entries.{no_number, no_type, no_sectors}
 use Rattle.pt_edit.proofs.Places.{last_within, first_within}
 use Rattle.pt_edit.proofs.new_entry.find_spot.Goals as goal
 

@@ -1,5 +1,5 @@
 use Rattle.std.proofs.Common.{refl}
-use Rattle.pt_edit.specs.NewEntry.{taken}
+use Rattle.pt_edit.specs.Entries.{taken}
 use Rattle.pt_edit.proofs.new_entry.number_for.Goals as goal
 
 pub returns-in-Some-used_entry-clause-err : goal.returns-in-Some-used_entry-clause-err

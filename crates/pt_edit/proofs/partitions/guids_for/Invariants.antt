@@ -1,7 +1,7 @@
 use Rattle.std.proofs.Common.{◌≡◌, ◌≤◌, ◌+◌, take, length}
 use Rattle.std.specs.Prelude.{flat_map}
-use Rattle.pt_members.specs.Rows.{rows}
-use Rattle.pt_edit.specs.Partitions.{kept_at}
+use Rattle.pt_members.specs.Members.{rows}
+use Rattle.pt_edit.specs.Entries.{kept_at}
 use Rattle.pt_edit.proofs.partitions.guids_for.Given as goal
 
 abbrev pub invariant-loop-k : goal.invariant-loop-k

@@ -1,6 +1,6 @@
 use Rattle.std.proofs.Common.{◌++◌, List, ap, ◌∙◌, arith}
 use Rattle.std.specs.Prelude.{option_to_list}
-use Rattle.pt_members.specs.Rows.{rows}
+use Rattle.pt_members.specs.Members.{rows}
 use Rattle.pt_edit.specs.declared.partition.Partition.{Partition}
 use Rattle.pt_edit.proofs.Listing.{kept_more, kept_end}
 use Rattle.pt_edit.proofs.partitions.partitions_of.Goals as goal

@@ -1,5 +1,5 @@
 use Rattle.std.proofs.Common.{refl}
-use Rattle.pt_members.specs.Counts.{no_ebr}
+use Rattle.pt_members.specs.Members.{no_ebr}
 use Rattle.pt_edit.proofs.Searches.{stands, next_ebr, no_ebr_left, not_true}
 use Rattle.pt_edit.proofs.room.has_ebr_outside.Goals as goal
 

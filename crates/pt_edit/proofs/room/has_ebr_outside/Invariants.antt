@@ -1,5 +1,5 @@
 use Rattle.std.proofs.Common.{drop}
-use Rattle.pt_edit.specs.Outside.{HasEbr}
+use Rattle.pt_edit.specs.inner.Entries.{HasEbr}
 use Rattle.pt_edit.proofs.room.has_ebr_outside.Given as goal
 
 abbrev pub invariant-loop-ebr : goal.invariant-loop-ebr

@@ -1,6 +1,6 @@
 use Rattle.std.proofs.Common.{arith, refl, sym, ◌∙◌}
 use Rattle.pt_members.specs.Members.{slots}
-use Rattle.pt_edit.specs.Outside.{HasNear}
+use Rattle.pt_edit.specs.inner.Entries.{HasNear}
 use Rattle.pt_edit.proofs.Searches.{denied_here, none_up_to}
 use Rattle.pt_edit.proofs.room.has_outsider.Goals.{in-Some+else-is_near_outside, in_default}
 use Rattle.pt_edit.proofs.room.has_outsider.Goals as goal

@@ -1,7 +1,7 @@
 use Rattle.std.proofs.Common.{◌≡◌, ◌<◌, ℕ, get_or, Some, None}
 use Rattle.pt_members.specs.Members.{slots}
 use Rattle.pt_members.specs.declared.member.Member.{Member}
-use Rattle.pt_edit.specs.Outside.{HasNear}
+use Rattle.pt_edit.specs.inner.Entries.{HasNear}
 use Rattle.pt_edit.proofs.room.has_outsider.Given as goal
 
 abbrev pub invariant-loop-k : goal.invariant-loop-k

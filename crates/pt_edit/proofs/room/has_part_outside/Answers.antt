@@ -1,7 +1,6 @@
-use Rattle.std.proofs.Common.{arith}
+use Rattle.std.proofs.Common.{arith, Some}
 use Rattle.pt_members.specs.Members.{parts_in}
-use Rattle.std.proofs.Common.{Some}
-use Rattle.pt_edit.specs.Room.{IsOutsider}
+use Rattle.pt_edit.specs.Entries.{IsOutsider}
 use Rattle.pt_edit.proofs.Searches.{denied_here, none_up_to, none_outside, parts_len}
 use Rattle.pt_edit.proofs.room.has_part_outside.Goals.{in-Some+else-is_outsider, in_default}
 use Rattle.pt_edit.proofs.room.has_part_outside.Goals as goal

@@ -1,7 +1,7 @@
 use Rattle.std.proofs.Common.{◌≡◌, ◌<◌, ℕ, get_or, Some, None}
 use Rattle.pt_members.specs.Members.{parts_in}
 use Rattle.pt_members.specs.declared.member.Member.{Member}
-use Rattle.pt_edit.specs.Room.{IsOutsider}
+use Rattle.pt_edit.specs.Entries.{IsOutsider}
 use Rattle.pt_edit.proofs.room.has_part_outside.Given as goal
 
 abbrev pub invariant-loop-k : goal.invariant-loop-k

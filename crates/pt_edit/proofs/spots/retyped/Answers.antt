@@ -1,5 +1,5 @@
 use Rattle.std.proofs.Common.{◌∙◌, sym, refl, inl, inr}
-use Rattle.pt_labels.specs.Retyped.{unknown, contains}
+use Rattle.pt_edit.specs.SliceLabels.{unknown, contains}
 use Rattle.pt_edit.proofs.spots.retyped.Goals as goal
 
 pub returns-in-None-entry_type_of-clause-err : goal.returns-in-None-entry_type_of-clause-err

@@ -1,4 +1,4 @@
-use Rattle.pt_edit.specs.Whole.{whole_of}
+use Rattle.pt_edit.specs.inner.Entries.{whole_of}
 use Rattle.pt_edit.proofs.spots.set_entry_kind.Goals as goal
 
 pub with_entry-requires-clause-first : goal.with_entry-requires-clause-first

@@ -1,4 +1,4 @@
-use Rattle.pt_edit.specs.Fold.{state_of}
+use Rattle.pt_edit.specs.inner.Edited.{state_of}
 use Rattle.pt_edit.proofs.Folding.{other_takes, other_refuses}
 use Rattle.pt_edit.proofs.state.take_word.Goals as goal
 

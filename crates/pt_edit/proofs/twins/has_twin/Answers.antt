@@ -1,5 +1,5 @@
 use Rattle.std.proofs.Common.{ℕ, ◌+◌}
-use Rattle.pt_edit.specs.Twins.{HaveOneGuid}
+use Rattle.pt_edit.specs.inner.Entries.{HaveOneGuid}
 use Rattle.pt_edit.proofs.Searches.{not_true}
 use Rattle.pt_edit.proofs.Alike.{none_more, no_twin}
 use Rattle.pt_edit.proofs.twins.has_twin.Goals as goal

@@ -1,5 +1,5 @@
 use Rattle.std.proofs.Common.{◌<◌, ◌+◌, ℕ}
-use Rattle.pt_edit.specs.Twins.{HaveOneGuid}
+use Rattle.pt_edit.specs.inner.Entries.{HaveOneGuid}
 use Rattle.pt_edit.proofs.twins.has_twin.Given as goal
 
 abbrev pub invariant-loop-i : goal.invariant-loop-i

@@ -1,4 +1,4 @@
-use Rattle.pt_edit.specs.Twins.{HasTwin}
+use Rattle.pt_edit.specs.inner.Entries.{HasTwin}
 use Rattle.pt_edit.proofs.Searches.{not_true}
 use Rattle.pt_edit.proofs.Alike.{none_more, no_twins}
 use Rattle.pt_edit.proofs.twins.has_twins.Goals as goal

@@ -1,9 +1,9 @@
 use Rattle.std.proofs.Common.{◌≡◌, ◌∙◌, ◌+◌, ◌++◌, List, ℕ, sym, ap, arith, zero-add}
 use Rattle.std.specs.Prelude.{slice_index_or, None}
-use Rattle.pt_sum.specs.Crc.{after_bytes}
-use Rattle.pt_sum.specs.laws.Terms.{after_bytes-append}
-use Rattle.pt_gpt.specs.Entry.{entry_bytes}
-use Rattle.pt_gpt.specs.Array.{entries_bytes}
+use Rattle.pt_sum.specs.Sums.{after_bytes}
+use Rattle.pt_sum.proofs.Terms.{after_bytes-append}
+use Rattle.pt_gpt.specs.Entries.{entry_bytes}
+use Rattle.pt_gpt.specs.Copies.{entries_bytes}
 use Rattle.pt_gpt.proofs.ArraySteps.{no_entries, next_entry, fits_next}
 use Rattle.pt_gpt.proofs.array.array_crc.Goals as goal
 

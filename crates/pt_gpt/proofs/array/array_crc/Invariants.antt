@@ -1,8 +1,8 @@
 use Rattle.std.proofs.Common.{◌≡◌, ◌<◌, ℕ, None}
 use Rattle.std.specs.Prelude.{slice_index_or, IfSome}
-use Rattle.pt_sum.specs.Crc.{after_bytes}
-use Rattle.pt_gpt.specs.Entry.{EntryFits}
-use Rattle.pt_gpt.specs.Array.{entries_bytes}
+use Rattle.pt_sum.specs.Sums.{after_bytes}
+use Rattle.pt_gpt.specs.Entries.{EntryFits}
+use Rattle.pt_gpt.specs.Copies.{entries_bytes}
 use Rattle.pt_gpt.proofs.array.array_crc.Given as goal
 
 abbrev pub invariant-loop-entry : goal.invariant-loop-entry

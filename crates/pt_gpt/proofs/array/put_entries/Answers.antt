@@ -1,7 +1,7 @@
 use Rattle.std.proofs.Common.{◌∙◌, ◌+◌, ◌*◌, ◌++◌, List, ℕ, take, sym, ap, refl, arith}
 use Rattle.std.specs.Prelude.{Option}
-use Rattle.pt_gpt.specs.Entry.{entry_bytes}
-use Rattle.pt_gpt.specs.Array.{entries_bytes}
+use Rattle.pt_gpt.specs.Entries.{entry_bytes}
+use Rattle.pt_gpt.specs.Copies.{entries_bytes}
 use Rattle.pt_gpt.specs.declared.entry.Entry.{Entry}
 use Rattle.pt_gpt.proofs.ArraySteps.{no_entries, next_entry, put_next}
 use Rattle.pt_gpt.proofs.array.put_entries.Goals as goal

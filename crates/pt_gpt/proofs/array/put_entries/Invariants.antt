@@ -1,5 +1,5 @@
 use Rattle.std.proofs.Common.{◌≡◌, ◌*◌, length, take}
-use Rattle.pt_gpt.specs.Array.{entries_bytes}
+use Rattle.pt_gpt.specs.Copies.{entries_bytes}
 use Rattle.pt_gpt.proofs.array.put_entries.Given as goal
 
 abbrev pub invariant-loop-k : goal.invariant-loop-k

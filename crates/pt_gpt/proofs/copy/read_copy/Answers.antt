@@ -2,9 +2,7 @@ use Rattle.std.proofs.Common.{◌≡◌, ◌∙◌, ap, inl, subst, sym}
 use Rattle.std.specs.Prelude.{IfOk, IfErr}
 use Rattle.std.proofs.lemmas.Result.{err_from_is_err_and}
 use Rattle.pt_sector.specs.Device.{Told}
-use Rattle.pt_gpt.specs.Errors.{FailedInCopy}
-use Rattle.pt_gpt.specs.Copy.{header_place, Copy, IsHead, SideReads}
-use Rattle.pt_gpt.specs.Answers.{TellsFault}
+use Rattle.pt_gpt.specs.Copies.{FailedInCopy, header_place, Copy, IsHead, SideReads, TellsFault}
 use Rattle.pt_gpt.proofs.Heads.{failed_in, fault_of_head}
 use Rattle.pt_gpt.proofs.copy.read_copy.Goals as goal
 

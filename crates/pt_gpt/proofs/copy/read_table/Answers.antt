@@ -1,6 +1,6 @@
 use Rattle.std.proofs.Common.{◌∙◌, sym, inl, inr}
 use Rattle.std.proofs.lemmas.Result.{err_from_is_err_and}
-use Rattle.pt_gpt.specs.Copy.{SideReads, InArray}
+use Rattle.pt_gpt.specs.Copies.{SideReads, InArray}
 use Rattle.pt_gpt.proofs.Heads.{failed_in, other_crc_of, table_of, array_within, small_within}
 use Rattle.pt_gpt.proofs.copy.read_table.Goals as goal
 

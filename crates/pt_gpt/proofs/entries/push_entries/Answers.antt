@@ -1,6 +1,6 @@
 use Rattle.std.proofs.Common.{◌∙◌, ◌+◌, ◌*◌, refl, arith}
 use Rattle.std.specs.Prelude.{slice_range}
-use Rattle.pt_gpt.specs.Entry.{EntryIs}
+use Rattle.pt_gpt.specs.Entries.{EntryIs}
 use Rattle.pt_gpt.proofs.Parts.{pushed_none, pushed_one}
 use Rattle.pt_gpt.proofs.entries.push_entries.Goals as goal
 

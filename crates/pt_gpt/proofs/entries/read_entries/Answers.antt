@@ -3,7 +3,7 @@ use Rattle.std.specs.Prelude.{length, vec_len}
 use Rattle.std.proofs.lemmas.Result.{err_from_is_err_and}
 use Rattle.pt_sector.specs.Sectors.{sector}
 use Rattle.pt_sector.specs.Device.{Told}
-use Rattle.pt_gpt.specs.Array.{AreEntries}
+use Rattle.pt_gpt.specs.Copies.{AreEntries}
 use Rattle.pt_gpt.proofs.Parts.{streamed_none, streamed_more, sector_within, pushed_more, left_less, part_len, part_whole, part_room}
 use Rattle.pt_gpt.proofs.Parts.{all_summed, sector_of, sector_before, sector_fits, sector_small, last_of, all_pushed, none_pushed}
 use Rattle.pt_gpt.proofs.Parts.{few_bytes, taken_long, taken_within}

@@ -1,6 +1,6 @@
 use Rattle.std.proofs.Common.{◌≡◌, ◌*◌, ◌+◌, ◌-◌}
 use Rattle.std.specs.Prelude.{vec_len, vec_capacity}
-use Rattle.pt_sector.specs.Reads.{OnlyReads}
+use Rattle.pt_sector.specs.Overlays.{OnlyReads}
 use Rattle.pt_gpt.proofs.Parts.{Streamed}
 use Rattle.pt_gpt.proofs.entries.read_entries.Given as goal
 

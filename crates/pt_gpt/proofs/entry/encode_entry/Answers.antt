@@ -1,5 +1,5 @@
-use Rattle.pt_gpt.specs.Entry.{EntryFields, EntryBytes, IsTyped}
-use Rattle.pt_gpt.specs.laws.Written.{used_fields, used_entry}
+use Rattle.pt_gpt.specs.Entries.{EntryFields, EntryBytes, IsTyped}
+use Rattle.pt_gpt.proofs.Written.{used_fields, used_entry}
 use Rattle.pt_gpt.proofs.entry.encode_entry.Goals as goal
 
 pub returns-in-Some-clause-fields : goal.returns-in-Some-clause-fields

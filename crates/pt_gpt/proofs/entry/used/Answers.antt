@@ -1,4 +1,4 @@
-use Rattle.pt_gpt.specs.Entry.{EntryFits}
+use Rattle.pt_gpt.specs.Entries.{EntryFits}
 use Rattle.pt_gpt.proofs.EntryEncoding.{put_used}
 use Rattle.pt_gpt.proofs.entry.used.Goals as goal
 

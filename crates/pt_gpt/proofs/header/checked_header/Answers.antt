@@ -1,6 +1,6 @@
 use Rattle.std.proofs.Common.{◌≤◌, ◌∙◌, refl, sym, length}
 use Rattle.std.proofs.lemmas.Bool.{false≢true}
-use Rattle.pt_gpt.specs.Header.{HasCrc, HasSize}
+use Rattle.pt_gpt.specs.Copies.{HasCrc, HasSize}
 use Rattle.pt_gpt.proofs.header.checked_header.Goals as goal
 
 pub has_crc-requires-clause-high : goal.has_crc-requires-clause-high

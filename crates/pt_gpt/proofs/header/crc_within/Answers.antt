@@ -1,7 +1,7 @@
 use Rattle.std.proofs.Common.{◌++◌, ℕ, List, take, sym, ap, ◌∙◌, replicate}
 use Rattle.std.specs.Prelude.{bit_xor, slice_range}
-use Rattle.pt_sum.specs.Crc.{after_bytes}
-use Rattle.pt_sum.specs.laws.Terms.{after_bytes-append}
+use Rattle.pt_sum.specs.Sums.{after_bytes}
+use Rattle.pt_sum.proofs.Terms.{after_bytes-append}
 use Rattle.pt_gpt.proofs.header.crc_within.Goals as goal
 
 pub returns : goal.returns

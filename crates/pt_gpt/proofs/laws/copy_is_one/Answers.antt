@@ -1,4 +1,4 @@
-use Rattle.pt_gpt.specs.laws.Terms.{copy_is_one_lem}
+use Rattle.pt_gpt.proofs.Terms.{copy_is_one_lem}
 use Rattle.pt_gpt.proofs.laws.copy_is_one.Goals as goal
 
 pub returns : goal.returns

@@ -1,4 +1,4 @@
-use Rattle.pt_gpt.specs.laws.Terms.{copy_count_lem, copy_is_typed_lem}
+use Rattle.pt_gpt.proofs.Terms.{copy_count_lem, copy_is_typed_lem}
 use Rattle.pt_gpt.proofs.laws.copy_is_shaped.Goals as goal
 
 pub returns-clause-count : goal.returns-clause-count

@@ -1,4 +1,4 @@
-use Rattle.pt_gpt.specs.laws.Written.{entries_back_lem}
+use Rattle.pt_gpt.proofs.Written.{entries_back_lem}
 use Rattle.pt_gpt.proofs.laws.entries_read_back.Goals as goal
 
 pub returns : goal.returns

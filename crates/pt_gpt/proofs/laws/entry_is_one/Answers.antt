@@ -1,4 +1,4 @@
-use Rattle.pt_gpt.specs.laws.Terms.{entry_is_one_lem, entries_are_one_lem}
+use Rattle.pt_gpt.proofs.Terms.{entry_is_one_lem, entries_are_one_lem}
 use Rattle.pt_gpt.proofs.laws.entry_is_one.Goals as goal
 
 pub returns-clause-one : goal.returns-clause-one

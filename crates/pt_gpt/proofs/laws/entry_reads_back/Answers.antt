@@ -1,5 +1,5 @@
 use Rattle.std.specs.Prelude.{Some}
-use Rattle.pt_gpt.specs.laws.Terms.{entry_same}
+use Rattle.pt_gpt.proofs.Terms.{entry_same}
 use Rattle.pt_gpt.proofs.laws.entry_reads_back.Goals as goal
 
 pub returns : goal.returns

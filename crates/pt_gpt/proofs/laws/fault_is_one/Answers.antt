@@ -1,4 +1,4 @@
-use Rattle.pt_gpt.specs.laws.Faults.{copy_fault_is_one_lem}
+use Rattle.pt_gpt.proofs.Faults.{copy_fault_is_one_lem}
 use Rattle.pt_gpt.proofs.laws.fault_is_one.Goals as goal
 
 pub returns : goal.returns

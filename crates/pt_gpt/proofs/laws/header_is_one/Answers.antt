@@ -1,4 +1,4 @@
-use Rattle.pt_gpt.specs.laws.Terms.{header_is_one_lem}
+use Rattle.pt_gpt.proofs.Terms.{header_is_one_lem}
 use Rattle.pt_gpt.proofs.laws.header_is_one.Goals as goal
 
 pub returns : goal.returns

@@ -1,8 +1,8 @@
 use Rattle.std.proofs.Common.{◌≡◌, ℕ, List, ap, Result, Ok, Err, IfOk, IfErr}
-use Rattle.pt_gpt.specs.Header.{HeaderBytes, IsHeaderFault}
+use Rattle.pt_gpt.specs.Copies.{HeaderBytes, IsHeaderFault}
 use Rattle.pt_gpt.specs.declared.header.Header.{Header}
 use Rattle.pt_gpt.specs.declared.error.CopyError.{CopyError}
-use Rattle.pt_gpt.specs.laws.Terms.{header_is_one_lem, no_header_lem}
+use Rattle.pt_gpt.proofs.Terms.{header_is_one_lem, no_header_lem}
 use Rattle.pt_gpt.proofs.laws.header_reads_back.Goals as goal
 
 read_back : (b : ℕ) (h : Header) (bytes : List ℕ) (r : Result Header CopyError) → HeaderBytes b h bytes

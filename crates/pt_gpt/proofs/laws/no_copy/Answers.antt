@@ -1,4 +1,4 @@
-use Rattle.pt_gpt.specs.laws.Terms.{no_copy_lem, no_head_lem}
+use Rattle.pt_gpt.proofs.Terms.{no_copy_lem, no_head_lem}
 use Rattle.pt_gpt.proofs.laws.no_copy.Goals as goal
 
 pub returns-clause-copy : goal.returns-clause-copy

@@ -1,4 +1,4 @@
-use Rattle.pt_gpt.specs.laws.Terms.{no_header_lem}
+use Rattle.pt_gpt.proofs.Terms.{no_header_lem}
 use Rattle.pt_gpt.proofs.laws.no_header.Goals as goal
 
 pub returns : goal.returns

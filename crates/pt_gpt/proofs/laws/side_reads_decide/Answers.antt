@@ -1,4 +1,4 @@
-use Rattle.pt_gpt.specs.laws.Terms.{side_reads_decide_lem}
+use Rattle.pt_gpt.proofs.Terms.{side_reads_decide_lem}
 use Rattle.pt_gpt.proofs.laws.side_reads_decide.Goals as goal
 
 pub returns : goal.returns

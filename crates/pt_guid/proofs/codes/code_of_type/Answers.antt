@@ -4,7 +4,7 @@ use Rattle.std.specs.Str.{bytes_eq}
 use Rattle.std.proofs.lemmas.Bool.{true≢false}
 use Rattle.std.proofs.lemmas.Slice.Eq.{bytes_eq-Decides}
 use Rattle.pt_guid.specs.Codes.{rows}
-use Rattle.pt_guid.specs.laws.Rows.{row_holds, rows_apart}
+use Rattle.pt_guid.proofs.Rows.{row_holds, rows_apart}
 use Rattle.pt_guid.proofs.Table.{no_row, type_past}
 use Rattle.pt_guid.proofs.codes.code_of_type.Goals as goal
 

@@ -2,7 +2,7 @@ use Rattle.std.proofs.Common.{◌≡◌, ℕ, List, length, Option, Some, None, 
 use Rattle.std.specs.Option.{option_map}
 use Rattle.std.proofs.lemmas.Bool.{false≢true}
 use Rattle.uuid.specs.Text.{parsed, parsed_hyphenated}
-use Rattle.pt_guid.specs.Mixed.{mixed}
+use Rattle.pt_guid.specs.Guids.{mixed}
 use Rattle.pt_guid.proofs.guid.parse.Goals as goal
 
 is_none : (o : Option (List ℕ)) → ((x : List ℕ) × (o ≡ Some x) → false ≡ true) → o ≡ None

@@ -1,4 +1,4 @@
-use Rattle.pt_guid.specs.laws.Terms.{codes_differ}
+use Rattle.pt_guid.proofs.Terms.{codes_differ}
 use Rattle.pt_guid.proofs.laws.codes_differ.Goals as goal
 
 pub returns : goal.returns

@@ -1,4 +1,4 @@
-use Rattle.pt_guid.specs.laws.Terms.{mixed_twice}
+use Rattle.pt_guid.proofs.Terms.{mixed_twice}
 use Rattle.pt_guid.proofs.laws.mixed_twice.Goals as goal
 
 pub returns : goal.returns

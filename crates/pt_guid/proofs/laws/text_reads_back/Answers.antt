@@ -1,4 +1,4 @@
-use Rattle.pt_guid.specs.laws.Terms.{text_reads_back}
+use Rattle.pt_guid.proofs.Terms.{text_reads_back}
 use Rattle.pt_guid.proofs.laws.text_reads_back.Goals as goal
 
 pub returns : goal.returns

@@ -1,4 +1,4 @@
-use Rattle.pt_guid.specs.laws.Terms.{types_are_used}
+use Rattle.pt_guid.proofs.Terms.{types_are_used}
 use Rattle.pt_guid.proofs.laws.types_are_used.Goals as goal
 
 pub returns : goal.returns

@@ -1,5 +1,5 @@
 use Rattle.pt_kept.proofs.Recovered.{edit_of_disk_keeps_lem}
-use Rattle.pt_exact.specs.laws.Answers.{planned_has_no_error, error_is_one}
+use Rattle.pt_cases.proofs.Answers.{planned_has_no_error, error_is_one}
 use Rattle.pt_kept.proofs.laws.words_have_one_answer.Goals as goal
 
 pub returns : goal.returns

@@ -1,10 +1,10 @@
 use Rattle.std.proofs.Common.{◌≡◌, ◌∙◌, ℕ, List, Option, Some, None, sym, ap, subst}
 use Rattle.pt_sector.specs.Sectors.{Sectors}
-use Rattle.pt_members.specs.Slices.{places_of}
+use Rattle.pt_members.specs.Members.{places_of}
 use Rattle.pt_members.specs.declared.layout.Slice.{Slice}
 use Rattle.pt_recover.proofs.Whole.{places_within}
-use Rattle.pt_members.specs.Next.{NextSectorIs}
-use Rattle.pt_layout.specs.Foreign.{ForeignAmong}
+use Rattle.pt_members.specs.Tables.{NextSectorIs}
+use Rattle.pt_layout.specs.inner.Surveys.{ForeignAmong}
 use Rattle.pt_layout.proofs.Foreignness.{foreign_none, foreign_some}
 use Rattle.pt_layout.proofs.foreign.first_foreign.Goals as goal
 

@@ -1,6 +1,6 @@
 use Rattle.std.proofs.Common.{◌≡◌, ℕ, List, subst}
-use Rattle.pt_members.specs.Next.{NextSectorIs}
-use Rattle.pt_layout.specs.Foreign.{ForeignBytes}
+use Rattle.pt_members.specs.Tables.{NextSectorIs}
+use Rattle.pt_layout.specs.inner.Surveys.{ForeignBytes}
 use Rattle.pt_layout.proofs.foreign.foreign_number.Goals as goal
 
 pub returns-clause-ok : goal.returns-clause-ok

@@ -1,6 +1,6 @@
 use Rattle.std.proofs.Common.{◌≡◌, ◌∙◌, Bool, true, false, refl, sym}
 use Rattle.std.proofs.lemmas.Bool.{false≢true}
-use Rattle.pt_bsd.specs.laws.Terms.{no_label}
+use Rattle.pt_bsd.proofs.Terms.{no_label}
 use Rattle.pt_layout.proofs.foreign.is_foreign.Goals as goal
 
 not_true : (c : Bool) → c ≡ false → c ≡ true → ⊥

@@ -2,8 +2,8 @@ use Rattle.std.proofs.lemmas.Result.{err_from_is_err_and}
 use Rattle.std.proofs.Common.{◌≡◌, ◌+◌, ◌∙◌, ℕ, Option, length, get_or, sym, subst, arith}
 use Rattle.pt_sector.specs.Sectors.{Sectors}
 use Rattle.pt_sector.specs.Device.{Told}
-use Rattle.pt_members.specs.Next.{NextSectorIs}
-use Rattle.pt_layout.specs.Foreign.{ForeignOf, no_slice}
+use Rattle.pt_members.specs.Tables.{NextSectorIs}
+use Rattle.pt_layout.specs.inner.Surveys.{ForeignOf, no_slice}
 use Rattle.pt_members.proofs.Lowest.{Under, next_more}
 use Rattle.pt_layout.proofs.Failing.{place_failed}
 use Rattle.pt_layout.proofs.foreign.lowest_foreign.Goals as goal

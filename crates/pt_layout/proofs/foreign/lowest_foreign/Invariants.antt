@@ -1,7 +1,7 @@
 use Rattle.std.proofs.Common.{◌≡◌, get_or}
-use Rattle.pt_sector.specs.Reads.{OnlyReads}
-use Rattle.pt_members.specs.Next.{NextSectorIs}
-use Rattle.pt_layout.specs.Foreign.{ForeignOf, no_slice}
+use Rattle.pt_sector.specs.Overlays.{OnlyReads}
+use Rattle.pt_members.specs.Tables.{NextSectorIs}
+use Rattle.pt_layout.specs.inner.Surveys.{ForeignOf, no_slice}
 use Rattle.pt_members.proofs.Lowest.{Under}
 use Rattle.pt_layout.proofs.foreign.lowest_foreign.Given as goal
 

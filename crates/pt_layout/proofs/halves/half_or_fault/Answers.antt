@@ -1,5 +1,5 @@
 use Rattle.std.proofs.Common.{◌∙◌, sym}
-use Rattle.pt_gpt.specs.Copy.{SideReads}
+use Rattle.pt_gpt.specs.Copies.{SideReads}
 use Rattle.pt_recover.proofs.Sides.{inside_adds}
 use Rattle.pt_layout.proofs.Failing.{told_failed, copy_inside}
 use Rattle.pt_layout.proofs.halves.half_or_fault.Goals as goal

@@ -1,21 +1,19 @@
 use Rattle.std.proofs.lemmas.Result.{err_from_is_err_and}
-use Rattle.std.proofs.Common.{◌≡◌, ◌∙◌, ℕ, List, true, false, length, refl, inl, inr}
+use Rattle.std.proofs.Common.{◌≡◌, ◌∙◌, ℕ, List, true, false, length, refl, inl, inr, sym, subst}
 use Rattle.std.specs.Prelude.{Result, Ok, Err, is_err}
 use Rattle.pt_sector.specs.Sectors.{Sectors}
-use Rattle.pt_sector.specs.Reads.{failed_more}
-use Rattle.pt_gpt.specs.Copy.{SideReads}
-use Rattle.pt_gpt.specs.laws.Terms.{no_copy_lem}
+use Rattle.pt_sector.proofs.ReadsLemmas.{failed_more}
+use Rattle.pt_gpt.specs.Copies.{SideReads, HasRoom}
+use Rattle.pt_gpt.proofs.Terms.{no_copy_lem}
 use Rattle.pt_gpt.specs.declared.error.CopyError.{CopyError}
 use Rattle.pt_gpt.specs.declared.table.Side.TheVariants.{Primary, Backup}
-use Rattle.pt_gpt.specs.Array.{HasRoom}
-use Rattle.pt_recover.specs.Gpt.{TableReads}
+use Rattle.pt_recover.specs.Denotes.{TableReads}
 use Rattle.pt_recover.specs.Spans.{Adds}
 use Rattle.pt_recover.specs.declared.trace.TracedRun.{TracedRun}
 use Rattle.pt_recover.proofs.Sides.{primary_read, both_read}
 use Rattle.pt_layout.specs.declared.halves.Half.{Half}
-use Rattle.pt_layout.specs.Halves.{HalfOrFault, HalvesAre, paired_as}
+use Rattle.pt_layout.specs.inner.Surveys.{HalfOrFault, HalvesAre, paired_as}
 use Rattle.pt_layout.proofs.Failing.{BothReads}
-use Rattle.std.proofs.Common.{sym, subst}
 use Rattle.pt_layout.proofs.halves.read_halves.Goals as goal
 
 -- the sectors of the backup side count where there is no primary copy

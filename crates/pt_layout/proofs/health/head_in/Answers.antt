@@ -1,6 +1,6 @@
 use Rattle.std.proofs.Common.{◌≡◌, ◌∙◌, Bool, true, false, Option, sym, subst}
 use Rattle.pt_mbr.specs.declared.mbr.Mbr.{Mbr}
-use Rattle.pt_recover.specs.Answers.{RecordsAre}
+use Rattle.pt_recover.specs.Denotes.{RecordsAre}
 use Rattle.pt_layout.proofs.health.head_in.Goals as goal
 
 not_true : (c : Bool) → c ≡ false → c ≡ true → ⊥

@@ -2,8 +2,8 @@ use Rattle.std.proofs.lemmas.Result.{err_from_is_err_and}
 use Rattle.std.proofs.Common.{ℕ, List, ap, subst}
 use Rattle.pt_sector.specs.Sectors.{sector}
 use Rattle.pt_sector.specs.declared.address.Lba.{Lba}
-use Rattle.pt_recover.specs.Answers.{RecordsAre}
-use Rattle.pt_layout.specs.Verdicts.{HeadIs}
+use Rattle.pt_recover.specs.Denotes.{RecordsAre}
+use Rattle.pt_layout.specs.inner.Surveys.{HeadIs}
 use Rattle.pt_layout.proofs.health.read_first.Goals as goal
 
 pub returns-in_err-read_sector-clause-same : goal.returns-in_err-read_sector-clause-same

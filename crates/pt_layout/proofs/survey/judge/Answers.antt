@@ -1,14 +1,12 @@
 use Rattle.std.proofs.lemmas.Result.{err_from_is_err_and}
-use Rattle.std.proofs.Common.{Option, Some, None, subst, sym}
+use Rattle.std.proofs.Common.{Option, Some, None, subst, sym, ◌∙◌, refl}
 use Rattle.pt_sector.specs.Sectors.{Sectors}
-use Rattle.pt_sound.specs.declared.finding.Finding.{Finding}
+use Rattle.pt_layout.specs.declared.sound.finding.Finding.{Finding}
 use Rattle.pt_path.specs.declared.path.Path.{Path}
-use Rattle.pt_sound.specs.Sound.{Sound, UnsoundIs}
-use Rattle.pt_layout.specs.Foreign.{ForeignIs}
-use Rattle.pt_layout.proofs.Verdicts.{unsound_finding, healthy}
+use Rattle.pt_layout.specs.Sound.{Sound, UnsoundIs}
+use Rattle.pt_layout.specs.inner.Surveys.{ForeignIs}
+use Rattle.pt_layout.proofs.Verdicts.{unsound_finding, healthy, foreign_finding}
 use Rattle.pt_layout.proofs.Failing.{label_failed}
-use Rattle.std.proofs.Common.{◌∙◌, refl}
-use Rattle.pt_layout.proofs.Verdicts.{foreign_finding}
 use Rattle.pt_layout.proofs.survey.judge.Goals as goal
 
 pub returns-in-Some-clause-ok : goal.returns-in-Some-clause-ok

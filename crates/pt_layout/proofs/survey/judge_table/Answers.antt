@@ -1,17 +1,15 @@
 use Rattle.std.proofs.lemmas.Result.{err_from_is_err_and}
-use Rattle.std.proofs.Common.{Some, Ok, sym, subst}
+use Rattle.std.proofs.Common.{Some, Ok, sym, subst, ◌∙◌}
 use Rattle.pt_sector.specs.Sectors.{Sectors}
 use Rattle.pt_sector.specs.Device.{Told}
-use Rattle.pt_recover.specs.Denotes.{Denotes}
+use Rattle.pt_recover.specs.Denotes.{Denotes, Reads}
 use Rattle.pt_members.specs.declared.layout.Body.TheVariants.{Gpt}
 use Rattle.pt_layout.specs.Surveys.{FindingIs}
 use Rattle.pt_layout.proofs.Failing.{label_failed}
 use Rattle.pt_layout.proofs.Verdicts.{gpt_denotes}
-use Rattle.std.proofs.Common.{◌∙◌}
-use Rattle.pt_sector.specs.Reads.{FailedIn}
-use Rattle.pt_recover.specs.Denotes.{Reads}
+use Rattle.pt_sector.specs.Overlays.{FailedIn}
 use Rattle.pt_members.specs.declared.layout.Body.{Body}
-use Rattle.pt_layout.specs.Verdicts.{BrokenIs}
+use Rattle.pt_layout.specs.inner.Surveys.{BrokenIs}
 use Rattle.pt_layout.proofs.survey.judge_table.Goals as goal
 
 pub returns-in_err-placed-clause-place : goal.returns-in_err-placed-clause-place

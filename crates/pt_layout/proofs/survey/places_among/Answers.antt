@@ -1,7 +1,7 @@
 use Rattle.std.proofs.lemmas.Result.{err_from_is_err_and}
 use Rattle.std.proofs.Common.{◌<◌, ◌^◌, get_or, refl, arith}
 use Rattle.pt_members.specs.declared.layout.Slice.{Slice}
-use Rattle.pt_members.specs.Slices.{place_of, IsPlace}
+use Rattle.pt_members.specs.Members.{place_of, IsPlace}
 use Rattle.pt_recover.proofs.Traces.{left_first, place_more, place_end}
 use Rattle.pt_layout.proofs.Surveys.{only_places}
 use Rattle.pt_layout.proofs.survey.places_among.Goals as goal

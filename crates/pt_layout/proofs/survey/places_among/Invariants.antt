@@ -1,5 +1,5 @@
 use Rattle.std.proofs.Common.{ℕ, drop}
-use Rattle.pt_members.specs.Slices.{IsPlace}
+use Rattle.pt_members.specs.Members.{IsPlace}
 use Rattle.pt_recover.specs.Spans.{IsIn}
 use Rattle.pt_recover.proofs.Traces.{Left}
 use Rattle.pt_layout.proofs.survey.places_among.Given as goal

@@ -1,23 +1,20 @@
-use Rattle.std.proofs.Common.{◌≡◌, ◌∙◌, length, sym, subst, arith}
+use Rattle.std.proofs.Common.{◌≡◌, ◌∙◌, length, sym, subst, arith, inl}
 use Rattle.pt_sector.specs.Sectors.{Sectors}
 use Rattle.pt_sector.specs.Device.{Told}
-use Rattle.pt_gpt.specs.Array.{HasRoom}
-use Rattle.pt_recover.specs.Mbr.{IsMbr, IsMbrDisk}
+use Rattle.pt_gpt.specs.Copies.{HasRoom}
+use Rattle.pt_recover.specs.Denotes.{IsMbr, IsMbrDisk, head, body}
 use Rattle.pt_recover.specs.declared.error.NoTable.TheVariants.{TooSmall}
-use Rattle.pt_layout.specs.Surveys.{HeadOf}
+use Rattle.pt_layout.specs.Surveys.{HeadOf, IsSurvey}
 use Rattle.pt_layout.specs.declared.health.Head.TheVariants.{Unprotected}
 use Rattle.pt_layout.proofs.Verdicts.{small_reason, empty_head, head_is, records_mbr, records_plain}
 use Rattle.pt_layout.proofs.Surveys.{nothing_survey}
 use Rattle.pt_layout.proofs.Traced.{empty_trace}
 use Rattle.std.specs.Prelude.{IfOk, IfErr}
 use Rattle.std.proofs.lemmas.Result.{err_from_is_err_and}
-use Rattle.std.proofs.Common.{inl}
-use Rattle.pt_sector.specs.Calls.{blames_after}
-use Rattle.pt_sector.specs.Reads.{FailedIn, fault_of}
-use Rattle.pt_recover.specs.Denotes.{head, body}
+use Rattle.pt_sector.proofs.CallsLemmas.{blames_after}
+use Rattle.pt_sector.specs.Overlays.{FailedIn, fault_of}
 use Rattle.pt_recover.proofs.Bodies.{some_sector}
-use Rattle.pt_sound.specs.Findings.{VerdictReads}
-use Rattle.pt_layout.specs.Surveys.{IsSurvey}
+use Rattle.pt_layout.specs.Healthy.{VerdictReads}
 use Rattle.pt_layout.proofs.survey.survey_disk.Goals as goal
 
 pub returns-then-sectors-eq0-clause-ok : goal.returns-then-sectors-eq0-clause-ok

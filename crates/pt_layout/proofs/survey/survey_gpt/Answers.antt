@@ -3,20 +3,19 @@ use Rattle.std.proofs.lemmas.Bool.{false≢true}
 use Rattle.std.proofs.Common.{◌≡◌, ◌∙◌, ℕ, length, sym, subst, refl}
 use Rattle.pt_sector.specs.Sectors.{Sectors}
 use Rattle.pt_sector.specs.Device.{Told}
-use Rattle.pt_gpt.specs.Array.{HasRoom}
+use Rattle.pt_gpt.specs.Copies.{HasRoom}
 use Rattle.pt_recover.specs.declared.error.NoTable.TheVariants.{TooSmall}
-use Rattle.pt_layout.specs.Surveys.{HeadOf}
+use Rattle.pt_layout.specs.Surveys.{HeadOf, IsSurvey}
 use Rattle.pt_layout.proofs.Verdicts.{small_reason}
 use Rattle.pt_layout.proofs.Surveys.{nothing_survey}
 use Rattle.pt_layout.proofs.Traced.{small_trace, table_trace}
 use Rattle.pt_layout.proofs.Failing.{halves_failed}
 use Rattle.std.specs.Prelude.{IfOk, IfErr}
-use Rattle.pt_sector.specs.Calls.{blames_after}
-use Rattle.pt_sector.specs.Reads.{FailedIn, fault_of}
-use Rattle.pt_recover.specs.Mbr.{IsMbrDisk}
-use Rattle.pt_sound.specs.Findings.{VerdictReads}
-use Rattle.pt_layout.specs.Halves.{HalvesAre}
-use Rattle.pt_layout.specs.Surveys.{IsSurvey}
+use Rattle.pt_sector.proofs.CallsLemmas.{blames_after}
+use Rattle.pt_sector.specs.Overlays.{FailedIn, fault_of}
+use Rattle.pt_recover.specs.Denotes.{IsMbrDisk}
+use Rattle.pt_layout.specs.Healthy.{VerdictReads}
+use Rattle.pt_layout.specs.inner.Surveys.{HalvesAre}
 use Rattle.pt_layout.proofs.survey.survey_gpt.Goals as goal
 
 pub returns-then-not-has_room-clause-ok : goal.returns-then-not-has_room-clause-ok

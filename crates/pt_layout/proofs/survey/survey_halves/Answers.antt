@@ -1,12 +1,11 @@
-use Rattle.std.proofs.Common.{◌≡◌, ◌∙◌, ℕ, length, Ok, Err, sym, subst}
+use Rattle.std.proofs.Common.{◌≡◌, ◌∙◌, ℕ, length, Ok, Err, sym, subst, refl, arith}
 use Rattle.std.specs.Prelude.{Result}
 use Rattle.pt_sector.specs.Sectors.{Sectors}
-use Rattle.pt_gpt.specs.Array.{HasRoom}
+use Rattle.pt_gpt.specs.Copies.{HasRoom}
 use Rattle.pt_recover.specs.declared.error.NoTable.{NoTable}
 use Rattle.pt_layout.specs.declared.survey.Chosen.{Chosen}
-use Rattle.pt_layout.specs.Chosen.{ChosenIs}
+use Rattle.pt_layout.specs.inner.Surveys.{ChosenIs}
 use Rattle.pt_layout.proofs.Chosen.{chosen_stands, none_chosen}
-use Rattle.std.proofs.Common.{refl, arith}
 use Rattle.pt_layout.proofs.survey.survey_halves.Goals as goal
 
 pub survey_table-requires-clause-chosen : goal.survey_table-requires-clause-chosen

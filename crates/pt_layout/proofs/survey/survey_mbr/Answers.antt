@@ -1,24 +1,15 @@
-use Rattle.std.specs.Prelude.{Result, IfErr, OnOk, ◌⊎◌}
-use Rattle.std.proofs.Common.{sym, subst}
+use Rattle.std.specs.Prelude.{Result, IfErr, OnOk, ◌⊎◌, IfOk}
+use Rattle.std.proofs.Common.{sym, subst, Some}
 use Rattle.pt_sector.specs.Sectors.{Sectors}
-use Rattle.pt_sector.specs.Device.{Told}
-use Rattle.pt_recover.specs.Answers.{TellsNothing, IsOutsideDisk, IsTraceOf, FailedInDisk}
-use Rattle.pt_recover.specs.Denotes.{Reads}
+use Rattle.pt_sector.specs.Device.{Told, Blames}
+use Rattle.pt_recover.specs.Denotes.{TellsNothing, IsOutsideDisk, IsTraceOf, FailedInDisk, Reads, fault_in, Denotes, IsMbrDisk, Numbers}
 use Rattle.pt_recover.specs.declared.error.NoTable.{NoTable}
 use Rattle.pt_members.specs.declared.layout.Layout.{Layout}
-use Rattle.pt_layout.proofs.Failing.{survey_failed, reason_fails}
-use Rattle.pt_layout.proofs.Surveys.{reason_survey}
-use Rattle.std.specs.Prelude.{IfOk}
-use Rattle.std.proofs.Common.{Some}
-use Rattle.pt_sector.specs.Calls.{Blames, blames_after}
-use Rattle.pt_sector.specs.Reads.{fault_of}
-use Rattle.pt_recover.specs.Answers.{fault_in}
-use Rattle.pt_recover.specs.Denotes.{Denotes}
-use Rattle.pt_recover.specs.Mbr.{IsMbrDisk}
-use Rattle.pt_recover.specs.Numbers.{Numbers}
+use Rattle.pt_layout.proofs.Failing.{survey_failed, reason_fails, reason_blames}
+use Rattle.pt_layout.proofs.Surveys.{reason_survey, nothing_numbers}
+use Rattle.pt_sector.proofs.CallsLemmas.{blames_after}
+use Rattle.pt_sector.specs.Overlays.{fault_of}
 use Rattle.pt_layout.specs.Surveys.{IsSurvey}
-use Rattle.pt_layout.proofs.Failing.{reason_blames}
-use Rattle.pt_layout.proofs.Surveys.{nothing_numbers}
 use Rattle.pt_layout.proofs.survey.survey_mbr.Goals as goal
 
 pub survey_layout-requires-clause-traced : goal.survey_layout-requires-clause-traced

@@ -1,15 +1,14 @@
 use Rattle.std.proofs.lemmas.Result.{err_from_is_err_and}
 use Rattle.std.proofs.Common.{ℕ, length, sym, subst}
 use Rattle.pt_sector.specs.Sectors.{Sectors}
-use Rattle.pt_recover.specs.Answers.{IsTraceOf}
-use Rattle.pt_members.specs.Slices.{places_of, IsPlace}
+use Rattle.pt_recover.specs.Denotes.{IsTraceOf}
+use Rattle.pt_members.specs.Members.{places_of, IsPlace}
 use Rattle.pt_recover.specs.Spans.{Adds}
 use Rattle.pt_members.specs.declared.layout.Body.TheVariants.{Gpt}
-use Rattle.pt_layout.specs.Verdicts.{ArePlaces}
+use Rattle.pt_layout.specs.inner.Surveys.{ArePlaces}
 use Rattle.pt_layout.proofs.Failing.{read_failed}
-use Rattle.pt_layout.proofs.Surveys.{table_survey}
+use Rattle.pt_layout.proofs.Surveys.{table_survey, gpt_numbers}
 use Rattle.pt_layout.proofs.Traced.{whole_trace}
-use Rattle.pt_layout.proofs.Surveys.{gpt_numbers}
 use Rattle.pt_layout.proofs.survey.survey_table.Goals as goal
 
 pub judge_table-requires-clause-body : goal.judge_table-requires-clause-body

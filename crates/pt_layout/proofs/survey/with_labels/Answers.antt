@@ -1,12 +1,12 @@
 use Rattle.std.proofs.Common.{◌∙◌, ℕ, List, refl, sym, ap, subst, arith}
 use Rattle.pt_sector.specs.Sectors.{Sectors}
-use Rattle.pt_members.specs.Slices.{places_of, IsPlace}
+use Rattle.pt_members.specs.Members.{places_of, IsPlace}
 use Rattle.pt_members.specs.declared.layout.Slice.{Slice}
 use Rattle.pt_members.specs.declared.layout.Body.TheVariants.{Gpt}
-use Rattle.pt_recover.specs.Labels.{LabelsAre}
+use Rattle.pt_recover.specs.Denotes.{LabelsAre}
 use Rattle.pt_recover.specs.Spans.{Adds}
 use Rattle.pt_recover.proofs.Whole.{places_within}
-use Rattle.pt_layout.specs.Verdicts.{ArePlaces}
+use Rattle.pt_layout.specs.inner.Surveys.{ArePlaces}
 use Rattle.pt_layout.proofs.Surveys.{places_fit}
 use Rattle.pt_layout.proofs.survey.with_labels.Goals as goal
 

@@ -1,14 +1,14 @@
 use Rattle.std.proofs.Common.{◌+◌, ℕ, List, Option, rules, arith, ap, subst, sym, ◌∙◌, Some}
 use Rattle.std.proofs.lemmas.Bool.{false≢true}
 use Rattle.std.proofs.lemmas.Result.{err_from_is_err_and}
-use Rattle.pt_sector.specs.Calls.{with_fault}
-use Rattle.pt_sector.specs.Device.{Told}
+use Rattle.pt_sector.specs.Device.{with_fault, Told}
 use Rattle.pt_sector.specs.declared.address.Lba.{Lba}
 use Rattle.pt_sector.specs.declared.disk.Fault.{Fault}
 use Rattle.pt_mbr.specs.Chain.{lba, span_of, fault_in, Walk, Chain}
-use Rattle.pt_mbr.specs.Decoded.{EndsIn, StepsTo}
+use Rattle.pt_mbr.specs.Changes.{EndsIn}
+use Rattle.pt_mbr.specs.inner.Changes.{StepsTo}
 use Rattle.pt_mbr.proofs.Walks.{starts_out, too_long}
-use Rattle.pt_mbr.specs.laws.Same.{inside_same}
+use Rattle.pt_mbr.proofs.Same.{inside_same}
 use Rattle.pt_mbr.proofs.chain.follow.Goals as goal
 
 pub returns-then-not-is_inside-clause-err : goal.returns-then-not-is_inside-clause-err

@@ -1,5 +1,5 @@
 use Rattle.std.proofs.Common.{◌≡◌, length, Some}
-use Rattle.pt_sector.specs.Reads.{OnlyReads}
+use Rattle.pt_sector.specs.Overlays.{OnlyReads}
 use Rattle.pt_mbr.specs.Chain.{lba, span_of, IsInside, Walk}
 use Rattle.pt_mbr.proofs.chain.follow.Given as goal
 

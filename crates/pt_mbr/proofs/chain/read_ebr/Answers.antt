@@ -1,12 +1,11 @@
 use Rattle.std.proofs.Common.{subst, List, ℕ}
 use Rattle.std.proofs.lemmas.Result.{err_from_is_err_and}
 use Rattle.pt_sector.specs.declared.address.Lba.{Lba}
-use Rattle.pt_mbr.specs.Ebr.{EbrBytes, IsEbrFault}
-use Rattle.pt_mbr.specs.Chain.{span_of}
+use Rattle.pt_mbr.specs.Chain.{EbrBytes, IsEbrFault, span_of}
 use Rattle.pt_mbr.specs.declared.ebr.EbrFault.{EbrFault}
 use Rattle.pt_mbr.specs.declared.ebr.EbrFault.TheVariants as ebr
 use Rattle.pt_mbr.proofs.Walks.{no_signature, bad_record, device}
-use Rattle.pt_mbr.specs.laws.Same.{inside_same}
+use Rattle.pt_mbr.proofs.Same.{inside_same}
 use Rattle.pt_mbr.proofs.chain.read_ebr.Goals as goal
 
 pub returns-in_err-read_sector-clause-err : goal.returns-in_err-read_sector-clause-err

@@ -5,7 +5,7 @@ use Rattle.std.proofs.lemmas.List.{length_push}
 use Rattle.pt_mbr.specs.declared.ebr.Ebr.{Ebr}
 use Rattle.pt_mbr.specs.Chain.{span_of}
 use Rattle.pt_mbr.proofs.Walks.{chain_ends, walk_on, links_down, links_outside}
-use Rattle.pt_mbr.specs.laws.Same.{inside_same}
+use Rattle.pt_mbr.proofs.Same.{inside_same}
 use Rattle.pt_mbr.proofs.chain.step.Goals as goal
 
 pub returns-in_err-ebr-clause-err : goal.returns-in_err-ebr-clause-err

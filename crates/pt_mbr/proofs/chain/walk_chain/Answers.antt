@@ -1,12 +1,12 @@
 use Rattle.pt_mbr.proofs.Reading.{reads_are}
 use Rattle.pt_mbr.specs.declared.chain.ChainError.{ChainError}
 use Rattle.pt_mbr.specs.declared.ebr.Ebr.{Ebr}
-use Rattle.pt_mbr.specs.Decoded.{EndsIn}
+use Rattle.pt_mbr.specs.Changes.{EndsIn}
 use Rattle.pt_sector.specs.Sectors.{Sectors, Span}
 use Rattle.std.proofs.Common.{List}
 use Rattle.std.proofs.lemmas.Result.{err_from_is_err_and}
 use Rattle.pt_mbr.specs.Chain.{span_of, ChainFault}
-use Rattle.pt_mbr.specs.laws.Reading.{of_list}
+use Rattle.pt_mbr.proofs.ReadingLemmas.{of_list}
 use Rattle.pt_mbr.proofs.chain.walk_chain.Goals as goal
 
 of_ends : (d : Sectors) (x : Span) (list : List Ebr) (e : ChainError) → EndsIn d x list e → ChainFault d x e

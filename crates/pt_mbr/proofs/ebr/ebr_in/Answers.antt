@@ -1,6 +1,6 @@
 use Rattle.std.proofs.Common.{◌∙◌, refl, sym}
 use Rattle.std.proofs.lemmas.Bool.{false≢true}
-use Rattle.pt_mbr.specs.Ebr.{boots, zeros, logical, link}
+use Rattle.pt_mbr.specs.Chain.{boots, zeros, logical, link}
 use Rattle.pt_mbr.proofs.ebr.ebr_in.Goals as goal
 
 pub returns-then-not-has_boot_indicators-clause-err : goal.returns-then-not-has_boot_indicators-clause-err

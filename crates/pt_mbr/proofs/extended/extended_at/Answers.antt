@@ -1,5 +1,5 @@
 use Rattle.std.proofs.Common.{rules, None, arith}
-use Rattle.pt_mbr.specs.Record.{IsExtendedKind}
+use Rattle.pt_mbr.specs.Records.{IsExtendedKind}
 use Rattle.pt_mbr.proofs.Lone.{one_here, other_here}
 use Rattle.pt_mbr.proofs.extended.extended_at.Goals as goal
 

@@ -1,5 +1,5 @@
 use Rattle.std.specs.Prelude.{◌≡◌, ◌++◌, option_to_list, drop}
-use Rattle.pt_mbr.specs.Extended.{extended_of}
+use Rattle.pt_mbr.specs.Records.{extended_of}
 use Rattle.pt_mbr.proofs.extended.extended_of.Given as goal
 
 abbrev pub invariant-loop-k : goal.invariant-loop-k

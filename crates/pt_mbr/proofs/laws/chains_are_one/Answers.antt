@@ -1,4 +1,4 @@
-use Rattle.pt_mbr.specs.laws.Terms.{chain_is_one, fault_has_no_chain}
+use Rattle.pt_mbr.proofs.Terms.{chain_is_one, fault_has_no_chain}
 use Rattle.pt_mbr.proofs.laws.chains_are_one.Goals as goal
 
 pub returns : goal.returns

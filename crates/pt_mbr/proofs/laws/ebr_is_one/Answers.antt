@@ -1,4 +1,4 @@
-use Rattle.pt_mbr.specs.laws.Terms.{ebr_is_one, fault_has_no_ebr}
+use Rattle.pt_mbr.proofs.Terms.{ebr_is_one, fault_has_no_ebr}
 use Rattle.pt_mbr.proofs.laws.ebr_is_one.Goals as goal
 
 pub returns : goal.returns

@@ -1,4 +1,4 @@
-use Rattle.pt_mbr.specs.laws.Terms.{fault_is_one}
+use Rattle.pt_mbr.proofs.Terms.{fault_is_one}
 use Rattle.pt_mbr.proofs.laws.faults_are_one.Goals as goal
 
 pub returns : goal.returns

@@ -1,4 +1,4 @@
-use Rattle.pt_mbr.specs.laws.Terms.{mbr_is_one}
+use Rattle.pt_mbr.proofs.Terms.{mbr_is_one}
 use Rattle.pt_mbr.proofs.laws.mbr_is_one.Goals as goal
 
 pub returns : goal.returns

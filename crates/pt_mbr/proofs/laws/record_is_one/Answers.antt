@@ -1,4 +1,4 @@
-use Rattle.pt_mbr.specs.laws.Terms.{record_is_one}
+use Rattle.pt_mbr.proofs.Terms.{record_is_one}
 use Rattle.pt_mbr.proofs.laws.record_is_one.Goals as goal
 
 pub returns : goal.returns

@@ -1,8 +1,8 @@
 use Rattle.std.proofs.Common.{arith, sym, ap, ◌∙◌, ◌+◌, ℕ, List, length, drop}
 use Rattle.std.specs.Prelude.{slice_index}
-use Rattle.pt_mbr.specs.Record.{place_of}
+use Rattle.pt_mbr.specs.Records.{place_of}
 use Rattle.pt_mbr.proofs.Encoding.{put_here, put_other, range_put, fields_put, record_put, places_apart}
-use Rattle.pt_mbr.specs.laws.Kept.{record_kept}
+use Rattle.pt_mbr.proofs.Kept.{record_kept}
 use Rattle.pt_mbr.proofs.mbr.put_record.Goals as goal
 
 pub returns-clause-other : goal.returns-clause-other

@@ -1,5 +1,5 @@
 use Rattle.std.proofs.Common.{ap, ◌∙◌, Some}
-use Rattle.pt_mbr.specs.Record.{record_bytes}
+use Rattle.pt_mbr.specs.Records.{record_bytes}
 use Rattle.pt_mbr.specs.declared.record.Record.{Record}
 use Rattle.pt_mbr.proofs.Guarding.{protective_laid}
 use Rattle.pt_mbr.proofs.protection.bytes_for.Goals as goal

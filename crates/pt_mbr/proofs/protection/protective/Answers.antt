@@ -1,6 +1,6 @@
 use Rattle.std.proofs.Common.{arith, ap, sym, ◌∙◌, ◌+◌, ℕ, List, length, drop}
 use Rattle.std.specs.Prelude.{slice_index}
-use Rattle.pt_mbr.specs.Bytes.{put_at}
+use Rattle.pt_mbr.specs.Records.{put_at}
 use Rattle.pt_mbr.proofs.Encoding.{put_here, put_other}
 use Rattle.pt_mbr.proofs.Guarding.{protects, is_those, stays}
 use Rattle.pt_mbr.proofs.protection.protective.Goals as goal

@@ -1,6 +1,6 @@
 use Rattle.std.proofs.Common.{ℕ, List, subst}
 use Rattle.std.proofs.lemmas.List.Sorted.{IsNonDecreasingBy-from_sort}
-use Rattle.pt_members.specs.Lone.{Gains}
+use Rattle.pt_members.specs.inner.Tables.{Gains}
 use Rattle.pt_members.specs.Tables.{IsEbr}
 use Rattle.pt_members.proofs.Listed.{listed}
 use Rattle.pt_members.proofs.alone.ebrs_of.Goals as goal

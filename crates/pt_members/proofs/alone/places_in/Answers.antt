@@ -1,7 +1,7 @@
 use Rattle.std.proofs.Common.{ℕ, List, subst}
 use Rattle.std.proofs.lemmas.List.Sorted.{IsNonDecreasingBy-from_sort}
-use Rattle.pt_members.specs.Lone.{Gains}
-use Rattle.pt_members.specs.Slices.{IsPlace}
+use Rattle.pt_members.specs.inner.Tables.{Gains}
+use Rattle.pt_members.specs.Members.{IsPlace}
 use Rattle.pt_members.proofs.Listed.{listed}
 use Rattle.pt_members.proofs.alone.places_in.Goals as goal
 

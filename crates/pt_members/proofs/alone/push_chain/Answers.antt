@@ -3,7 +3,7 @@ use Rattle.std.specs.Prelude.{OnOk}
 use Rattle.pt_mbr.specs.Chain.{StandsAt}
 use Rattle.pt_mbr.specs.declared.ebr.Ebr.{Ebr}
 use Rattle.pt_members.specs.declared.layout.Body.{Body}
-use Rattle.pt_members.specs.Lone.{Gains}
+use Rattle.pt_members.specs.inner.Tables.{Gains}
 use Rattle.pt_members.specs.Tables.{IsEbr}
 use Rattle.pt_members.proofs.alone.push_chain.Goals as goal
 

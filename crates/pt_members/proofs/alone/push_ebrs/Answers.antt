@@ -2,8 +2,8 @@ use Rattle.std.proofs.Common.{◌≤◌, List, length, subst, arith}
 use Rattle.std.proofs.lemmas.List.{take_all}
 use Rattle.pt_mbr.specs.Chain.{StandsAt}
 use Rattle.pt_mbr.specs.declared.ebr.Ebr.{Ebr}
-use Rattle.pt_members.specs.Counts.{no_ebr}
-use Rattle.pt_members.specs.Lone.{Gains}
+use Rattle.pt_members.specs.Members.{no_ebr}
+use Rattle.pt_members.specs.inner.Tables.{Gains}
 use Rattle.pt_members.proofs.Listed.{ebrs_more}
 use Rattle.pt_members.proofs.alone.push_ebrs.Goals as goal
 

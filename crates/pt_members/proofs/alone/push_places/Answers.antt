@@ -1,8 +1,8 @@
 use Rattle.std.proofs.Common.{◌≤◌, List, length, subst, arith}
 use Rattle.std.proofs.lemmas.List.{take_all}
 use Rattle.pt_members.specs.declared.layout.Slice.{Slice}
-use Rattle.pt_members.specs.Lone.{Gains}
-use Rattle.pt_members.specs.Slices.{IsPlace}
+use Rattle.pt_members.specs.inner.Tables.{Gains}
+use Rattle.pt_members.specs.Members.{IsPlace}
 use Rattle.pt_members.proofs.LabelPlaces.{no_place}
 use Rattle.pt_members.proofs.Listed.{places_more}
 use Rattle.pt_members.proofs.alone.push_places.Goals as goal

@@ -1,6 +1,6 @@
 use Rattle.std.proofs.Common.{take}
-use Rattle.pt_members.specs.Lone.{Gains}
-use Rattle.pt_members.specs.Slices.{IsPlace}
+use Rattle.pt_members.specs.inner.Tables.{Gains}
+use Rattle.pt_members.specs.Members.{IsPlace}
 use Rattle.pt_members.proofs.alone.push_places.Given as goal
 
 abbrev pub invariant-loop-k : goal.invariant-loop-k

@@ -1,6 +1,6 @@
 use Rattle.std.proofs.Common.{rules, ◌≡◌, List, length, Option, subst}
 use Rattle.pt_gpt.specs.declared.entry.Entry.{Entry}
-use Rattle.pt_members.specs.Reaches.{AllSpanned}
+use Rattle.pt_members.specs.inner.Tables.{AllSpanned}
 use Rattle.pt_members.proofs.Reaching.{reached}
 use Rattle.pt_members.proofs.owned.reach_of.Goals as goal
 

@@ -1,5 +1,5 @@
 use Rattle.std.proofs.Common.{arith}
-use Rattle.pt_members.specs.Leaves.{OwnsAt}
+use Rattle.pt_members.specs.inner.Members.{OwnsAt}
 use Rattle.pt_members.proofs.Widening.{within_more, owns_there}
 use Rattle.pt_members.proofs.owned.reach_of_places.Goals as goal
 

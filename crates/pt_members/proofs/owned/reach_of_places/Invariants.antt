@@ -1,7 +1,7 @@
 use Rattle.std.proofs.Common.{◌≡◌, ℕ}
-use Rattle.pt_members.specs.Counts.{number_at}
-use Rattle.pt_members.specs.Leaves.{OwnsAt}
-use Rattle.pt_members.specs.Reaches.{IsWithin}
+use Rattle.pt_members.specs.Members.{number_at}
+use Rattle.pt_members.specs.inner.Members.{OwnsAt}
+use Rattle.pt_members.specs.Tables.{IsWithin}
 use Rattle.pt_members.proofs.Lowest.{Under}
 use Rattle.pt_members.proofs.owned.reach_of_places.Given as goal
 

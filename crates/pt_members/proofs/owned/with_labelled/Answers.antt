@@ -1,7 +1,7 @@
 use Rattle.std.proofs.Common.{Option, subst}
 use Rattle.pt_bsd.specs.declared.label.Label.{Label}
 use Rattle.pt_members.specs.Members.{parts_in}
-use Rattle.pt_members.specs.Leaves.{HasLeaf, Widens}
+use Rattle.pt_members.specs.inner.Members.{HasLeaf, Widens}
 use Rattle.pt_members.proofs.owned.with_labelled.Goals as goal
 
 pub returns-in-Some : goal.returns-in-Some

@@ -1,6 +1,6 @@
 use Rattle.std.proofs.Common.{Some, arith}
 use Rattle.pt_members.specs.Members.{parts_in}
-use Rattle.pt_members.specs.Leaves.{HasLeafAt}
+use Rattle.pt_members.specs.inner.Members.{HasLeafAt}
 use Rattle.pt_members.proofs.ByPlace.{parts_len}
 use Rattle.pt_members.proofs.Widening.{widens_start, widens_more, widens_all}
 use Rattle.pt_members.proofs.owned.with_parts.Goals as goal

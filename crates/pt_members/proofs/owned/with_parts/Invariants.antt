@@ -1,6 +1,6 @@
 use Rattle.std.proofs.Common.{Some}
 use Rattle.pt_members.specs.Members.{parts_in}
-use Rattle.pt_members.specs.Leaves.{HasLeafAt, Widens}
+use Rattle.pt_members.specs.inner.Members.{HasLeafAt, Widens}
 use Rattle.pt_members.proofs.Lowest.{Under}
 use Rattle.pt_members.proofs.owned.with_parts.Given as goal
 

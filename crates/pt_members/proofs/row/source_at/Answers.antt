@@ -2,7 +2,7 @@ use Rattle.std.proofs.Common.{List, get_or, None, ap, sym, ◌∙◌}
 use Rattle.pt_mbr.specs.declared.ebr.Ebr.{Ebr}
 use Rattle.pt_members.specs.declared.layout.Body.{Body}
 use Rattle.pt_members.specs.declared.layout.Body.TheVariants.{Mbr}
-use Rattle.pt_members.specs.Rows.{sources}
+use Rattle.pt_members.specs.Members.{sources}
 use Rattle.pt_members.proofs.ByPlace.{within_gpt, within_mbr}
 use Rattle.pt_members.proofs.row.source_at.Goals as goal
 

@@ -1,5 +1,5 @@
 use Rattle.std.proofs.Common.{arith, rules}
-use Rattle.pt_members.specs.Search.{NoneNear}
+use Rattle.pt_members.specs.inner.Tables.{NoneNear}
 use Rattle.pt_members.proofs.Elsewhere.{none_found, none_yet}
 use Rattle.pt_members.proofs.InOrder.{slot_first}
 use Rattle.pt_members.proofs.search.find.Goals.{in-Some+in_default-find_near, in_default}

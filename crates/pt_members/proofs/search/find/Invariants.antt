@@ -1,7 +1,6 @@
 use Rattle.std.proofs.Common.{◌≡◌, ◌<◌, ℕ, get_or, Some, None}
-use Rattle.pt_members.specs.Counts.{number_at}
-use Rattle.pt_members.specs.Members.{slots}
-use Rattle.pt_members.specs.Search.{IsNear, IsAsWanted}
+use Rattle.pt_members.specs.Members.{number_at, slots}
+use Rattle.pt_members.specs.inner.Tables.{IsNear, IsAsWanted}
 use Rattle.pt_members.specs.declared.member.Member.{Member}
 use Rattle.pt_members.proofs.search.find.Given as goal
 

@@ -1,6 +1,6 @@
 use Rattle.std.proofs.Common.{◌≡◌, ◌<◌, ℕ, get_or, Some, None}
 use Rattle.pt_members.specs.Members.{parts_in}
-use Rattle.pt_members.specs.Search.{IsAsWanted}
+use Rattle.pt_members.specs.inner.Tables.{IsAsWanted}
 use Rattle.pt_members.specs.declared.member.Member.{Member}
 use Rattle.pt_members.proofs.search.find_part.Given as goal
 

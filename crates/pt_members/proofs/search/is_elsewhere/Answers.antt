@@ -1,5 +1,5 @@
 use Rattle.std.proofs.Common.{rules, ◌≡◌, length, sym, subst}
-use Rattle.pt_members.specs.Search.{NoneNear}
+use Rattle.pt_members.specs.inner.Tables.{NoneNear}
 use Rattle.pt_members.specs.declared.search.Wanted.{Wanted}
 use Rattle.pt_members.proofs.Elsewhere.{none_near}
 use Rattle.pt_members.proofs.search.is_elsewhere.Goals as goal

@@ -1,6 +1,5 @@
 use Rattle.std.proofs.Common.{◌≡◌}
-use Rattle.pt_members.specs.Counts.{number_at}
-use Rattle.pt_members.specs.Members.{slots}
+use Rattle.pt_members.specs.Members.{number_at, slots}
 use Rattle.pt_members.proofs.LabelPlaces.{placed_before}
 use Rattle.pt_members.proofs.slices.label_places.Given as goal
 

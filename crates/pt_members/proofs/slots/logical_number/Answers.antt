@@ -2,7 +2,7 @@ use Rattle.std.proofs.Common.{◌≡◌, ◌+◌, arith, sym, ◌∙◌}
 use Rattle.std.specs.Option.{is_some}
 use Rattle.std.proofs.lemmas.List.Sums.{count_by_more_yes, count_by_more_no}
 use Rattle.pt_mbr.specs.declared.ebr.Ebr.{Ebr}
-use Rattle.pt_members.specs.Counts.{used_before, no_ebr}
+use Rattle.pt_members.specs.Members.{used_before, no_ebr}
 use Rattle.pt_members.proofs.slots.logical_number.Goals.{then-is_some, else-is_some}
 use Rattle.pt_members.proofs.slots.logical_number.Goals as goal
 

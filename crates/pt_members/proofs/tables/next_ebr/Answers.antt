@@ -2,8 +2,8 @@ use Rattle.std.proofs.Common.{◌+◌, ◌≤◌, ℕ, List, length, take, Optio
 use Rattle.std.proofs.lemmas.List.{take_all}
 use Rattle.pt_mbr.specs.Chain.{StandsAt}
 use Rattle.pt_mbr.specs.declared.ebr.Ebr.{Ebr}
-use Rattle.pt_members.specs.Counts.{no_ebr}
-use Rattle.pt_members.specs.Next.{NextSectorIs}
+use Rattle.pt_members.specs.Members.{no_ebr}
+use Rattle.pt_members.specs.Tables.{NextSectorIs}
 use Rattle.pt_members.proofs.Lowest.{ebr_more}
 use Rattle.pt_members.proofs.tables.next_ebr.Goals as goal
 

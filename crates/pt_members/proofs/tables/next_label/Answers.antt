@@ -1,8 +1,7 @@
 use Rattle.std.proofs.Common.{◌+◌, ℕ, List, Option, sym, subst, arith}
 use Rattle.pt_members.specs.declared.layout.Slice.{Slice}
-use Rattle.pt_members.specs.Members.{slots}
-use Rattle.pt_members.specs.Next.{NextSectorIs}
-use Rattle.pt_members.specs.Slices.{IsPlace}
+use Rattle.pt_members.specs.Members.{slots, IsPlace}
+use Rattle.pt_members.specs.Tables.{NextSectorIs}
 use Rattle.pt_members.proofs.LabelPlaces.{placed_before, placed_end, lowest_more}
 use Rattle.pt_members.proofs.tables.next_label.Goals as goal
 

@@ -1,8 +1,6 @@
 use Rattle.std.proofs.Common.{◌≡◌}
-use Rattle.pt_members.specs.Counts.{number_at}
-use Rattle.pt_members.specs.Members.{slots}
-use Rattle.pt_members.specs.Next.{NextSectorIs}
-use Rattle.pt_members.specs.Slices.{IsPlace}
+use Rattle.pt_members.specs.Members.{number_at, slots, IsPlace}
+use Rattle.pt_members.specs.Tables.{NextSectorIs}
 use Rattle.pt_members.proofs.LabelPlaces.{placed_before}
 use Rattle.pt_members.proofs.tables.next_label.Given as goal
 

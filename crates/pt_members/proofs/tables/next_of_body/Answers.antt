@@ -3,8 +3,7 @@ use Rattle.pt_mbr.specs.Chain.{StandsAt}
 use Rattle.pt_mbr.specs.declared.ebr.Ebr.{Ebr}
 use Rattle.pt_members.specs.declared.layout.Body.{Body}
 use Rattle.pt_members.specs.declared.layout.Body.TheVariants.{Mbr}
-use Rattle.pt_members.specs.Tables.{IsBodyTable}
-use Rattle.pt_members.specs.Next.{NextSectorIs}
+use Rattle.pt_members.specs.Tables.{IsBodyTable, NextSectorIs}
 use Rattle.pt_members.proofs.Lowest.{next_or}
 use Rattle.pt_members.proofs.tables.next_of_body.Goals as goal
 

@@ -2,9 +2,7 @@ use Rattle.std.proofs.Common.{◌≡◌, ℕ, Option, sym, subst}
 use Rattle.pt_mbr.specs.Chain.{StandsAt}
 use Rattle.pt_members.specs.declared.layout.Body.{Body}
 use Rattle.pt_members.specs.declared.layout.Body.TheVariants.{Mbr}
-use Rattle.pt_members.specs.Lone.{Lists}
-use Rattle.pt_members.specs.Tables.{IsBodyTable, IsEbr}
-use Rattle.pt_members.specs.Next.{NextSectorIs}
+use Rattle.pt_members.specs.Tables.{Lists, IsBodyTable, IsEbr, NextSectorIs}
 use Rattle.pt_members.proofs.Listed.{next_listed}
 use Rattle.pt_members.proofs.Lowest.{next_or}
 use Rattle.pt_members.proofs.tables.next_of_kind.Goals as goal

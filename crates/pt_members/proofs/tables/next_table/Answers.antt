@@ -1,8 +1,6 @@
 use Rattle.std.proofs.Common.{ℕ, List, Option, sym, subst}
-use Rattle.pt_members.specs.Slices.{places_of, IsPlace}
-use Rattle.pt_members.specs.Lone.{Lists}
-use Rattle.pt_members.specs.Tables.{IsTable, IsBodyTable}
-use Rattle.pt_members.specs.Next.{NextSectorIs}
+use Rattle.pt_members.specs.Members.{places_of, IsPlace}
+use Rattle.pt_members.specs.Tables.{Lists, IsTable, IsBodyTable, NextSectorIs}
 use Rattle.pt_members.proofs.Listed.{next_listed}
 use Rattle.pt_members.proofs.Lowest.{next_or}
 use Rattle.pt_members.proofs.tables.next_table.Goals as goal

@@ -1,5 +1,5 @@
 use Rattle.std.proofs.Common.{arith}
-use Rattle.pt_path.specs.laws.OneText.{number_is_one_lem}
+use Rattle.pt_path.proofs.OneText.{number_is_one_lem}
 use Rattle.pt_path.proofs.number.undotted.Goals as goal
 
 pub returns-then-number-eq0-clause-none : goal.returns-then-number-eq0-clause-none

@@ -1,11 +1,10 @@
 use Rattle.std.proofs.Common.{subst, arith}
 use Rattle.std.proofs.lemmas.Result.{err_from_is_err_and}
 use Rattle.pt_apply.specs.Plans.{phases_of}
-use Rattle.pt_check.specs.Answers.{WritesFit}
+use Rattle.pt_check.specs.Answers.{WritesFit, CheckReads}
 use Rattle.pt_check.specs.declared.answer.Answer.{Answer}
 use Rattle.pt_plan.proofs.Applying.{settled, failed_flush, so_far, refused, goes_on, done}
 use Rattle.pt_plan.proofs.Failing.{unchecked, unapplied}
-use Rattle.pt_check.specs.CheckReads.{CheckReads}
 use Rattle.pt_plan.proofs.Reading.{by_flush, by_call, commit_check_failed}
 use Rattle.pt_plan.proofs.checked.apply_checked.Goals as goal
 

@@ -1,4 +1,4 @@
-use Rattle.pt_recover.specs.laws.Terms.{denotes_one_lem}
+use Rattle.pt_recover.proofs.Terms.{denotes_one_lem}
 use Rattle.pt_plan.proofs.Outcomes.{committed}
 use Rattle.pt_plan.proofs.commits.commit.Goals as goal
 

@@ -1,10 +1,9 @@
 use Rattle.std.proofs.Common.{◌∙◌, ap, subst}
 use Rattle.std.proofs.lemmas.Result.{err_from_is_err_and}
-use Rattle.pt_sector.specs.Reads.{FailedIn}
-use Rattle.pt_sector.specs.Sectors.{Sectors}
-use Rattle.pt_sector.specs.Writes.{after}
+use Rattle.pt_sector.specs.Overlays.{FailedIn}
+use Rattle.pt_sector.specs.Sectors.{Sectors, after}
 use Rattle.pt_apply.specs.Plans.{phases_of}
-use Rattle.pt_sound.specs.Findings.{VerdictReads}
+use Rattle.pt_layout.specs.Healthy.{VerdictReads}
 use Rattle.pt_check.proofs.Reading.{failed_told}
 use Rattle.pt_plan.proofs.finished.finish.Goals as goal
 

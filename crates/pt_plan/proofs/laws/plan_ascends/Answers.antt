@@ -1,4 +1,4 @@
-use Rattle.pt_plan.specs.Phases.{plan_ascends_lem}
+use Rattle.pt_plan.proofs.PhasesLemmas.{plan_ascends_lem}
 use Rattle.pt_plan.proofs.laws.plan_ascends.Goals as goal
 
 pub returns : goal.returns

@@ -1,4 +1,4 @@
-use Rattle.pt_plan.specs.Ended.{plan_labels}
+use Rattle.pt_plan.proofs.EveryPlan.{plan_labels}
 use Rattle.pt_plan.proofs.laws.plan_holds_labels.Goals as goal
 
 pub returns : goal.returns

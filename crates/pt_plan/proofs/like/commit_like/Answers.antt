@@ -1,6 +1,6 @@
 use Rattle.std.proofs.lemmas.Result.{err_from_is_err_and}
-use Rattle.pt_plan.specs.Like.{LikeReads}
-use Rattle.pt_plan.specs.Reading.{LayoutReads}
+use Rattle.pt_plan.specs.Layouts.{LikeReads}
+use Rattle.pt_plan.specs.Batches.{LayoutReads}
 use Rattle.pt_plan.proofs.Reading.{commit_wider}
 use Rattle.pt_plan.proofs.like.commit_like.Goals as goal
 

@@ -1,9 +1,8 @@
 use Rattle.std.proofs.Common.{subst}
 use Rattle.pt_apply.specs.Plans.{phases_of}
-use Rattle.pt_check.specs.Answers.{Answers, Promises}
+use Rattle.pt_check.specs.Answers.{Answers, Promises, CheckReads}
 use Rattle.pt_check.specs.declared.answer.Answer.{Answer}
 use Rattle.std.proofs.lemmas.Result.{err_from_is_err_and}
-use Rattle.pt_check.specs.CheckReads.{CheckReads}
 use Rattle.pt_plan.proofs.Reading.{commit_check_failed}
 use Rattle.pt_plan.proofs.prepare.checked.Goals as goal
 

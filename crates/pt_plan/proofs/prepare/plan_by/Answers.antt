@@ -1,9 +1,8 @@
 use Rattle.std.proofs.lemmas.Result.{err_from_is_err_and, IfErr-weaker, IfOk-weaker}
 use Rattle.pt_apply.specs.Plans.{phases_of}
-use Rattle.pt_plan.specs.Batches.{Words}
+use Rattle.pt_plan.specs.Batches.{Words, EditReads}
 use Rattle.pt_plan.proofs.Starting.{starts, no_start, not_edited, not_edited_nowhere, not_planned, planned, plan_read}
 use Rattle.pt_planner.specs.PlanReads.{PlanReads}
-use Rattle.pt_plan.specs.Reading.{EditReads}
 use Rattle.pt_plan.proofs.Reading.{commit_nowhere, commit_wider}
 use Rattle.pt_plan.proofs.prepare.plan_by.Goals as goal
 

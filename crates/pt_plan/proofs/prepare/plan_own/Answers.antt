@@ -4,7 +4,7 @@ use Rattle.pt_apply.specs.Plans.{phases_of}
 use Rattle.pt_members.specs.declared.layout.Layout.{Layout}
 use Rattle.pt_planner.specs.PlanReads.{PlanReads}
 use Rattle.pt_recover.specs.Denotes.{Denotes}
-use Rattle.pt_plan.specs.Reading.{MendReads, mend_plan}
+use Rattle.pt_plan.specs.Batches.{MendReads, mend_plan}
 use Rattle.pt_plan.proofs.Mendable.{mend_planned, mend_refused_of, nothing_to_mend}
 use Rattle.pt_plan.proofs.Reading.{commit_nowhere, commit_wider}
 use Rattle.pt_plan.proofs.prepare.plan_own.Goals as goal

@@ -1,9 +1,9 @@
 use Rattle.std.proofs.Common.{arith}
-use Rattle.pt_sector.specs.Calls.{blames_after}
-use Rattle.pt_plan.specs.Failed.{commit_fault_in}
+use Rattle.pt_sector.proofs.CallsLemmas.{blames_after}
+use Rattle.pt_plan.specs.Commits.{commit_fault_in}
 use Rattle.std.proofs.lemmas.Result.{err_from_is_err_and}
-use Rattle.pt_sound.specs.Findings.{VerdictReads}
-use Rattle.pt_plan.specs.Wanted.{PlanOfReads}
+use Rattle.pt_layout.specs.Healthy.{VerdictReads}
+use Rattle.pt_plan.specs.inner.Layouts.{PlanOfReads}
 use Rattle.pt_plan.proofs.Reading.{commit_failed}
 use Rattle.pt_plan.proofs.Wanting.{verdict_of, failed_of}
 use Rattle.pt_plan.proofs.prepare.read_and_plan.Goals as goal

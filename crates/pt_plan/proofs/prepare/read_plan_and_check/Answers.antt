@@ -1,9 +1,9 @@
 use Rattle.std.proofs.lemmas.Result.{err_from_is_err_and}
 use Rattle.std.proofs.Common.{◌∙◌, arith}
 use Rattle.pt_apply.specs.Plans.{phases_of}
-use Rattle.pt_sound.specs.Findings.{VerdictReads}
-use Rattle.pt_check.specs.CheckReads.{CheckReads}
-use Rattle.pt_plan.specs.Wanted.{PlanOfReads, WriteOfReads}
+use Rattle.pt_layout.specs.Healthy.{VerdictReads}
+use Rattle.pt_check.specs.Answers.{CheckReads}
+use Rattle.pt_plan.specs.inner.Layouts.{PlanOfReads, WriteOfReads}
 use Rattle.pt_plan.proofs.Reading.{commit_failed, commit_wider}
 use Rattle.pt_plan.proofs.Wanting.{ready_of, not_safe_of, failed_of, verdict_of, planned_of, checked_of}
 use Rattle.pt_plan.proofs.prepare.read_plan_and_check.Goals as goal

@@ -1,5 +1,5 @@
 use Rattle.std.proofs.Common.{ap, sym}
-use Rattle.pt_recover.specs.laws.Terms.{denotes_one_lem}
+use Rattle.pt_recover.proofs.Terms.{denotes_one_lem}
 use Rattle.pt_plan.proofs.Mendable.{none_of_healthy}
 use Rattle.pt_plan.proofs.Outcomes.{repaired, told_of}
 use Rattle.pt_plan.proofs.repairs.repair.Goals as goal

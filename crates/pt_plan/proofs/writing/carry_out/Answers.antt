@@ -1,8 +1,8 @@
 use Rattle.std.proofs.Common.{arith}
 use Rattle.std.proofs.lemmas.Result.{err_from_is_err_and}
 use Rattle.pt_apply.specs.Plans.{phases_of}
-use Rattle.pt_plan.specs.Failed.{commit_fault_in}
-use Rattle.pt_plan.specs.Wanted.{WriteOfReads}
+use Rattle.pt_plan.specs.Commits.{commit_fault_in}
+use Rattle.pt_plan.specs.inner.Layouts.{WriteOfReads}
 use Rattle.pt_plan.proofs.Applying.{settled}
 use Rattle.pt_plan.proofs.Exits.{met_read}
 use Rattle.pt_plan.proofs.Reading.{by_flush, by_call}

@@ -1,7 +1,7 @@
 use Rattle.std.proofs.Common.{rules}
-use Rattle.pt_sector.specs.Calls.{Blames}
-use Rattle.pt_sector.specs.Reads.{OnlyReads}
-use Rattle.pt_targets.specs.Errors.{fault_in}
+use Rattle.pt_sector.specs.Device.{Blames}
+use Rattle.pt_sector.specs.Overlays.{OnlyReads}
+use Rattle.pt_cases.specs.Unplanned.{fault_in}
 use Rattle.pt_planner.proofs.planner.make_plan.Goals as goal
 
 pub returns-in_err-room-clause-same : goal.returns-in_err-room-clause-same

@@ -1,14 +1,13 @@
 use Rattle.std.proofs.Common.{◌∙◌, ℕ, length, ap, refl, sym, subst, arith}
 use Rattle.std.specs.Prelude.{IfOk, IfErr}
 use Rattle.std.proofs.lemmas.Result.{err_from_is_err_and}
-use Rattle.pt_sector.specs.Calls.{blames_after}
+use Rattle.pt_sector.proofs.CallsLemmas.{blames_after}
 use Rattle.pt_sector.specs.Device.{Told}
-use Rattle.pt_mbr.specs.Extended.{extended_of}
+use Rattle.pt_mbr.specs.Records.{extended_of}
 use Rattle.pt_apply.specs.Plans.{phases_in, phases_of, InRange}
 use Rattle.pt_cases.specs.Cases.{IsPlan, idle}
-use Rattle.pt_cases.specs.Shape.{FitsTable}
-use Rattle.pt_cases.specs.Links.{IsLoneChain}
-use Rattle.pt_targets.specs.Errors.{fault_in}
+use Rattle.pt_cases.specs.Writes.{FitsTable, IsLoneChain}
+use Rattle.pt_cases.specs.Unplanned.{fault_in}
 use Rattle.pt_planner.specs.PlanReads.{FailedInPlan, PlanReads}
 use Rattle.pt_planner.proofs.Beginning.{of_disk, starts}
 use Rattle.pt_planner.proofs.Failing.{unsound_blames, unsound_nowhere, unsound_unplanned}

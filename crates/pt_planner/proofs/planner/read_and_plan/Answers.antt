@@ -1,13 +1,12 @@
 use Rattle.std.proofs.Common.{◌∙◌, ℕ, length, sym, subst, arith, inl, inr}
 use Rattle.std.specs.Prelude.{IfOk, IfErr}
 use Rattle.std.proofs.lemmas.Result.{err_from_is_err_and}
-use Rattle.pt_sector.specs.Calls.{blames_after}
+use Rattle.pt_sector.proofs.CallsLemmas.{blames_after}
 use Rattle.pt_sector.specs.Device.{Told}
 use Rattle.pt_apply.specs.Plans.{phases_of, InRange}
 use Rattle.pt_cases.specs.Cases.{IsPlan}
-use Rattle.pt_targets.specs.Errors.{fault_in}
-use Rattle.pt_targets.specs.Unplanned.{Unplanned}
-use Rattle.pt_sound.specs.Findings.{VerdictReads}
+use Rattle.pt_cases.specs.Unplanned.{fault_in, Unplanned}
+use Rattle.pt_layout.specs.Healthy.{VerdictReads}
 use Rattle.pt_planner.specs.PlanReads.{FailedInPlan, PlanReads, MakeReads}
 use Rattle.pt_planner.proofs.Failing.{failed_planned, plan_wider, failure_blames, failure_unplanned}
 use Rattle.pt_planner.proofs.Making.{err_so}

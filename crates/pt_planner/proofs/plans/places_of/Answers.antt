@@ -1,10 +1,9 @@
 use Rattle.std.proofs.Common.{◌<◌, inl, inr, refl, subst}
 use Rattle.std.proofs.lemmas.Result.{err_from_is_err_and}
-use Rattle.pt_members.specs.Slices.{places_of, IsPlace}
+use Rattle.pt_members.specs.Members.{places_of, IsPlace}
 use Rattle.pt_planner.specs.PlanReads.{label}
-use Rattle.pt_places.specs.Answers.{PlacesAnswer}
-use Rattle.pt_places.specs.Places.{AreWithin}
-use Rattle.pt_targets.specs.declared.target.Target.{Target}
+use Rattle.pt_planner.specs.Places.{PlacesAnswer, AreWithin}
+use Rattle.pt_cases.specs.declared.targets.target.Target.{Target}
 use Rattle.pt_planner.proofs.Failing.{failed_planned, failure_blames, failure_stops}
 use Rattle.pt_planner.proofs.Making.{all_of}
 use Rattle.pt_planner.proofs.plans.places_of.Goals as goal

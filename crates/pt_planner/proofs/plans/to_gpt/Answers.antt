@@ -1,11 +1,11 @@
 use Rattle.std.proofs.Common.{rules, ◌∙◌, ◌<◌, ℕ, refl, sym, subst}
 use Rattle.std.specs.Prelude.{All, IfOk}
 use Rattle.std.proofs.lemmas.Result.{err_from_is_err_and}
-use Rattle.pt_sector.specs.Calls.{blames_none}
+use Rattle.pt_sector.proofs.CallsLemmas.{blames_none}
 use Rattle.pt_apply.specs.Plans.{InRange}
-use Rattle.pt_cases.specs.Shape.{FitsTable}
-use Rattle.pt_targets.specs.Errors.{fault_in}
-use Rattle.pt_targets.specs.declared.target.Target.{Target}
+use Rattle.pt_cases.specs.Writes.{FitsTable}
+use Rattle.pt_cases.specs.Unplanned.{fault_in}
+use Rattle.pt_cases.specs.declared.targets.target.Target.{Target}
 use Rattle.pt_planner.specs.PlanReads.{head}
 use Rattle.pt_planner.proofs.Failing.{faultless_nowhere}
 use Rattle.pt_planner.proofs.Making.{ok_so, err_so, turn_hinders, copies_hinder, label_start, copies_start, isnt, order_mbr}

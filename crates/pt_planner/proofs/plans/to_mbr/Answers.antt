@@ -6,19 +6,17 @@ use Rattle.pt_mbr.specs.declared.ebr.Ebr.{Ebr}
 use Rattle.pt_mbr.specs.declared.record.Record.{Record}
 use Rattle.pt_recover.specs.Denotes.{Denotes, BodyIs}
 use Rattle.pt_members.specs.declared.layout.Body.{Body}
-use Rattle.pt_sector.specs.Calls.{blames_none}
+use Rattle.pt_sector.proofs.CallsLemmas.{blames_none}
 use Rattle.pt_gpt.specs.declared.table.Table.{Table}
-use Rattle.pt_mbr.specs.Extended.{extended_of}
+use Rattle.pt_mbr.specs.Records.{extended_of}
 use Rattle.pt_members.specs.declared.layout.Body.TheVariants.{Mbr, Gpt}
 use Rattle.pt_members.specs.declared.layout.Layout.{Layout}
-use Rattle.pt_cases.specs.Causes.{HadMbr}
-use Rattle.pt_cases.specs.Links.{IsLoneChain}
-use Rattle.pt_targets.specs.Errors.{fault_in}
-use Rattle.pt_targets.specs.Unmade.{HasUnmade}
-use Rattle.pt_targets.specs.Targets.{AreMbrTargets}
-use Rattle.pt_targets.specs.declared.target.Target.{Target}
-use Rattle.pt_targets.specs.Unplanned.{unmade}
-use Rattle.pt_chains.specs.Steps.{IsHeadOrEbr}
+use Rattle.pt_cases.specs.Cases.{HadMbr}
+use Rattle.pt_cases.specs.Writes.{IsLoneChain}
+use Rattle.pt_cases.specs.Unplanned.{fault_in, HasUnmade, unmade}
+use Rattle.pt_cases.specs.Targets.{AreMbrTargets}
+use Rattle.pt_cases.specs.declared.targets.target.Target.{Target}
+use Rattle.pt_planner.specs.Places.{IsHeadOrEbr}
 use Rattle.pt_planner.specs.PlanReads.{PlanReads, head, ebr}
 use Rattle.pt_planner.proofs.Failing.{failed_planned, faultless_nowhere, failure_blames, failure_hindered}
 use Rattle.pt_planner.proofs.Making.{ok_so, err_so, all_of, turn_hinders, mbr_start}

@@ -1,15 +1,12 @@
 use Rattle.std.specs.Prelude.{◌⊎◌, ◌<◌}
-use Rattle.std.proofs.Common.{length}
-use Rattle.std.proofs.lemmas.Result.{on_ok_weaker, IfErr-weaker}
+use Rattle.std.proofs.Common.{length, refl, inl}
+use Rattle.std.proofs.lemmas.Result.{on_ok_weaker, IfErr-weaker, err_from_is_err_and}
 use Rattle.pt_sector.specs.Sectors.{Sectors}
-use Rattle.pt_recover.specs.Answers.{IsOutsideDisk, FailedInDisk}
-use Rattle.pt_recover.specs.Steps.{RestReads}
-use Rattle.pt_recover.specs.Denotes.{BodyReads}
+use Rattle.pt_recover.specs.Denotes.{IsOutsideDisk, FailedInDisk, BodyReads}
+use Rattle.pt_recover.specs.inner.Denotes.{RestReads}
 use Rattle.pt_recover.specs.Spans.{Adds}
 use Rattle.pt_recover.proofs.Bodies.{body_read, body_read_or}
 use Rattle.pt_recover.proofs.Failed.{body_failed}
-use Rattle.std.proofs.Common.{refl, inl}
-use Rattle.std.proofs.lemmas.Result.{err_from_is_err_and}
 use Rattle.pt_recover.proofs.body.read_after.Goals as goal
 
 pub returns-clause-place : goal.returns-clause-place

@@ -1,24 +1,18 @@
-use Rattle.std.proofs.Common.{◌≡◌, ℕ, List, Result, length, ap, subst, inl}
-use Rattle.std.specs.Prelude.{◌⊎◌, ◌<◌, OnOk, IfOk, IfErr}
+use Rattle.std.proofs.Common.{◌≡◌, ℕ, List, Result, length, ap, subst, inl, refl, sym, inr}
+use Rattle.std.specs.Prelude.{◌⊎◌, ◌<◌, OnOk, IfOk, IfErr, Option, Some, None}
 use Rattle.std.proofs.lemmas.Result.{on_ok_weaker, IfErr-weaker, err_from_is_err_and}
-use Rattle.pt_sector.specs.Calls.{blames_after}
-use Rattle.pt_sector.specs.Sectors.{Sectors}
+use Rattle.pt_sector.proofs.CallsLemmas.{blames_after}
+use Rattle.pt_sector.specs.Sectors.{Sectors, sector}
 use Rattle.pt_sector.specs.Device.{Told}
-use Rattle.pt_recover.specs.Answers.{IsOutsideDisk, TellsNothing, fault_in, FailedInDisk}
-use Rattle.pt_recover.specs.Steps.{RestReads}
-use Rattle.pt_recover.specs.Denotes.{BodyIs, BodyReads, head}
+use Rattle.pt_recover.specs.Denotes.{IsOutsideDisk, TellsNothing, fault_in, FailedInDisk, BodyIs, BodyReads, head, RecordsAre, IsMbr}
+use Rattle.pt_recover.specs.Denotes.{IsMbrDisk}
+use Rattle.pt_recover.specs.inner.Denotes.{RestReads}
 use Rattle.pt_recover.specs.Spans.{Adds}
 use Rattle.pt_recover.specs.declared.error.NoTable.{NoTable}
 use Rattle.pt_recover.specs.declared.trace.TracedRun.{TracedRun}
-use Rattle.pt_recover.proofs.Bodies.{some_sector, body_read, body_read_or, no_sector}
+use Rattle.pt_recover.proofs.Bodies.{some_sector, body_read, body_read_or, no_sector, no_sector_read}
 use Rattle.pt_recover.proofs.Failed.{body_failed}
-use Rattle.std.specs.Prelude.{Option, Some, None}
-use Rattle.std.proofs.Common.{refl, sym, inr}
-use Rattle.pt_sector.specs.Sectors.{sector}
 use Rattle.pt_mbr.specs.declared.mbr.Mbr.{Mbr}
-use Rattle.pt_recover.specs.Answers.{RecordsAre}
-use Rattle.pt_recover.specs.Mbr.{IsMbr, IsMbrDisk}
-use Rattle.pt_recover.proofs.Bodies.{no_sector_read}
 use Rattle.pt_recover.proofs.body.read_body.Goals as goal
 
 -- what the rest of a disk gives after sector 0, with another disk's value for what was seen

@@ -1,11 +1,9 @@
 use Rattle.std.proofs.lemmas.Result.{err_from_is_err_and}
-use Rattle.std.proofs.Common.{length, refl, subst, ℕ, ◌∙◌, sym}
-use Rattle.pt_gpt.specs.Array.{HasRoom}
-use Rattle.pt_recover.specs.Answers.{IsOutsideDisk}
-use Rattle.pt_recover.proofs.Bodies.{enough, rest_gpt, rest_gpt_or, no_copies, too_small}
+use Rattle.std.proofs.Common.{length, refl, subst, ℕ, ◌∙◌, sym, inr}
+use Rattle.pt_gpt.specs.Copies.{HasRoom}
+use Rattle.pt_recover.specs.Denotes.{IsOutsideDisk}
+use Rattle.pt_recover.proofs.Bodies.{enough, rest_gpt, rest_gpt_or, no_copies, too_small, no_rest}
 use Rattle.pt_recover.proofs.Failed.{rest_of_table}
-use Rattle.std.proofs.Common.{inr}
-use Rattle.pt_recover.proofs.Bodies.{no_rest}
 use Rattle.pt_recover.proofs.body.read_gpt.Goals as goal
 
 pub returns-clause-ok : goal.returns-clause-ok

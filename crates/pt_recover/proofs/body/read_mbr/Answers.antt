@@ -1,5 +1,5 @@
 use Rattle.std.proofs.lemmas.Result.{err_from_is_err_and}
-use Rattle.pt_recover.specs.Answers.{IsOutsideDisk}
+use Rattle.pt_recover.specs.Denotes.{IsOutsideDisk}
 use Rattle.pt_recover.proofs.Bodies.{rest_mbr, rest_mbr_or}
 use Rattle.pt_recover.proofs.Failed.{rest_of_chain}
 use Rattle.pt_recover.proofs.body.read_mbr.Goals as goal

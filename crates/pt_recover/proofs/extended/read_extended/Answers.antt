@@ -3,11 +3,11 @@ use Rattle.pt_sector.specs.Sectors.{Sectors, Span}
 use Rattle.std.specs.Prelude.{◌⊎◌}
 use Rattle.pt_mbr.specs.declared.chain.ChainError.TheVariants as way
 use Rattle.pt_recover.specs.declared.error.NoTable.{NoTable}
-use Rattle.pt_recover.specs.Answers.{fault_in, IsOutsideDisk, FailedInDisk}
-use Rattle.pt_recover.specs.Steps.{ToldAs, IsChainFault}
+use Rattle.pt_recover.specs.Denotes.{fault_in, IsOutsideDisk, FailedInDisk}
+use Rattle.pt_recover.specs.inner.Denotes.{ToldAs, IsChainFault}
 use Rattle.pt_mbr.specs.declared.chain.ChainError.{ChainError}
 use Rattle.pt_sector.specs.declared.disk.Fault.{Fault}
-use Rattle.pt_sector.specs.Calls.{with_fault}
+use Rattle.pt_sector.specs.Device.{with_fault}
 use Rattle.std.proofs.Common.{◌≡◌, ◌∙◌, Option, sym, ap, inl, inr, Some, length, subst}
 use Rattle.pt_mbr.specs.Chain.{span_of, fault_in as fault_in_chain, lba, IsInside, Walk, ChainFault, ChainReads}
 use Rattle.pt_recover.proofs.Chains.{chain_traced, fault_traced}

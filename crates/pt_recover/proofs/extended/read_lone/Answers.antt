@@ -1,20 +1,18 @@
 use Rattle.pt_mbr.specs.declared.record.Record.{Record}
 use Rattle.pt_recover.proofs.Failed.{wider}
 use Rattle.std.specs.Prelude.{◌⊎◌}
-use Rattle.std.proofs.Common.{sym, subst, ℕ, List}
+use Rattle.std.proofs.Common.{sym, subst, ℕ, List, inr, refl}
 use Rattle.std.proofs.lemmas.Result.{IfErr-weaker, IfOk-weaker, on_ok_weaker}
 use Rattle.pt_sector.specs.Sectors.{Sectors, Span}
 use Rattle.pt_mbr.specs.Chain.{lba, span_of, ChainReads, Chain}
 use Rattle.pt_mbr.specs.declared.chain.ChainError.TheVariants.{OutsideExtended}
-use Rattle.pt_mbr.specs.Extended.{extended_of}
-use Rattle.pt_recover.specs.Mbr.{ExtendedReads, HasChain}
+use Rattle.pt_mbr.specs.Records.{extended_of}
+use Rattle.pt_recover.specs.Denotes.{ExtendedReads, HasChain, TellsNothing, IsOutsideDisk, FailedInDisk}
 use Rattle.pt_recover.specs.Spans.{Adds}
-use Rattle.pt_recover.specs.Steps.{IsChainFault}
-use Rattle.pt_recover.specs.Answers.{TellsNothing, IsOutsideDisk, FailedInDisk}
+use Rattle.pt_recover.specs.inner.Denotes.{IsChainFault}
 use Rattle.pt_recover.specs.declared.error.NoTable.TheVariants as no
-use Rattle.pt_recover.proofs.Nothing.{two_extended, no_extent, bad_chain, lone_read_or, lone_is, lone_read}
-use Rattle.pt_recover.proofs.Nothing.{nothing_read, two_read, none_read}
-use Rattle.std.proofs.Common.{inr, refl}
+use Rattle.pt_recover.proofs.Nothing.{two_extended, no_extent, bad_chain, lone_read_or, lone_is, lone_read, nothing_read, two_read}
+use Rattle.pt_recover.proofs.Nothing.{none_read}
 use Rattle.pt_recover.proofs.extended.read_lone.Goals as goal
 
 pub returns-in-More-clause-err : goal.returns-in-More-clause-err

@@ -1,4 +1,4 @@
-use Rattle.pt_bsd.specs.laws.Terms.{no_label}
+use Rattle.pt_bsd.proofs.Terms.{no_label}
 use Rattle.pt_recover.proofs.labels.label_of.Goals as goal
 
 pub returns-in-Ok : goal.returns-in-Ok

@@ -1,13 +1,12 @@
 use Rattle.std.proofs.lemmas.Result.{err_from_is_err_and}
 use Rattle.std.proofs.Common.{◌<◌, ◌∙◌, ℕ, sym, ap, subst, List, get_or, refl, arith}
 use Rattle.pt_sector.specs.Sectors.{Sectors, sector}
-use Rattle.pt_sector.specs.Calls.{with_fault}
-use Rattle.pt_sector.specs.Device.{Told}
-use Rattle.pt_sector.specs.Reads.{fault_of}
+use Rattle.pt_sector.specs.Device.{with_fault, Told}
+use Rattle.pt_sector.specs.Overlays.{fault_of}
 use Rattle.pt_sector.specs.declared.disk.Fault.{Fault}
-use Rattle.pt_members.specs.Slices.{place_of}
-use Rattle.pt_recover.specs.Labels.{LabelsAre}
-use Rattle.pt_recover.specs.Steps.{LabelIs}
+use Rattle.pt_members.specs.Members.{place_of}
+use Rattle.pt_recover.specs.Denotes.{LabelsAre}
+use Rattle.pt_recover.specs.inner.Denotes.{LabelIs}
 use Rattle.pt_members.specs.declared.layout.Slice.{Slice}
 use Rattle.pt_members.specs.declared.layout.Labelled.{Labelled}
 use Rattle.pt_recover.proofs.LabelSteps.{label_more, labels_end}

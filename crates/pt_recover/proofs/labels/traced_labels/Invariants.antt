@@ -1,6 +1,6 @@
 use Rattle.std.specs.Prelude.{◌≡◌, drop}
-use Rattle.pt_sector.specs.Reads.{OnlyReads}
-use Rattle.pt_members.specs.Slices.{IsPlace}
+use Rattle.pt_sector.specs.Overlays.{OnlyReads}
+use Rattle.pt_members.specs.Members.{IsPlace}
 use Rattle.pt_recover.proofs.Traces.{Left}
 use Rattle.pt_recover.proofs.LabelSteps.{Continues}
 use Rattle.pt_recover.proofs.labels.traced_labels.Given as goal

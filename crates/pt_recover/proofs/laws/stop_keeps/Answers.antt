@@ -1,4 +1,4 @@
-use Rattle.pt_recover.specs.laws.Terms.{stop_keeps_lem}
+use Rattle.pt_recover.proofs.Terms.{stop_keeps_lem}
 use Rattle.pt_recover.proofs.laws.stop_keeps.Goals as goal
 
 pub returns : goal.returns

@@ -1,5 +1,5 @@
 use Rattle.std.proofs.Common.{◌<◌, ℕ, length, get_or}
-use Rattle.pt_recover.specs.Numbers.{EbrNumbers}
+use Rattle.pt_recover.specs.Denotes.{EbrNumbers}
 use Rattle.pt_mbr.specs.declared.ebr.Ebr.{Ebr}
 use Rattle.pt_recover.proofs.numbers.chain_numbers.Given as goal
 

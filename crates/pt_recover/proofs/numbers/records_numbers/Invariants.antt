@@ -1,5 +1,5 @@
 use Rattle.std.proofs.Common.{◌<◌, ℕ, length, get_or, Option}
-use Rattle.pt_recover.specs.Numbers.{SlotNumbers}
+use Rattle.pt_recover.specs.Denotes.{SlotNumbers}
 use Rattle.pt_mbr.specs.declared.record.Record.{Record}
 use Rattle.pt_recover.proofs.numbers.records_numbers.Given as goal
 

@@ -1,12 +1,12 @@
 use Rattle.std.proofs.lemmas.Result.{err_from_is_err_and}
 use Rattle.std.proofs.Common.{◌≡◌, ◌∙◌, List, Option, length, refl, sym, ap, inl}
-use Rattle.pt_sector.specs.Calls.{with_fault}
-use Rattle.pt_sector.specs.Reads.{fault_of}
+use Rattle.pt_sector.specs.Device.{with_fault}
+use Rattle.pt_sector.specs.Overlays.{fault_of}
 use Rattle.pt_sector.specs.Sectors.{Sectors}
 use Rattle.pt_sector.specs.declared.disk.Fault.{Fault}
 use Rattle.pt_sector.specs.declared.reading.Failure.{Failure}
 use Rattle.pt_sector.specs.declared.reading.Failure.TheVariants as failure
-use Rattle.pt_recover.specs.Answers.{IsOutsideDisk, fault_in, told_failure}
+use Rattle.pt_recover.specs.Denotes.{IsOutsideDisk, fault_in, told_failure}
 use Rattle.pt_recover.proofs.Whole.{places_within, all_read, none_read}
 use Rattle.pt_recover.proofs.Failed.{reads_failed, label_failed}
 use Rattle.pt_recover.proofs.recovery.recover_into.Goals as goal

@@ -1,7 +1,6 @@
 use Rattle.std.specs.Prelude.{◌⊎◌}
 use Rattle.std.proofs.lemmas.Result.{on_ok_weaker, IfErr-weaker}
-use Rattle.pt_recover.specs.Answers.{IsOutsideDisk, IsTraceOf}
-use Rattle.pt_recover.specs.Denotes.{Reads}
+use Rattle.pt_recover.specs.Denotes.{IsOutsideDisk, IsTraceOf, Reads}
 use Rattle.pt_recover.specs.Spans.{Adds}
 use Rattle.pt_recover.proofs.Whole.{trace_is, trace_or}
 use Rattle.pt_recover.proofs.recovery.recover_known.Goals as goal

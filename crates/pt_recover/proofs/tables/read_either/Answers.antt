@@ -1,18 +1,15 @@
-use Rattle.pt_gpt.specs.Errors.{failure_in as failure_of_copy, fault_in as fault_in_copy, FailedInCopy}
+use Rattle.pt_gpt.specs.Copies.{failure_in as failure_of_copy, fault_in as fault_in_copy, FailedInCopy, Copy, IsCopyFault, SideReads}
 use Rattle.pt_gpt.specs.declared.error.CopyError.{CopyError}
 use Rattle.pt_gpt.specs.declared.error.CopyError.TheVariants as copy
-use Rattle.pt_sector.specs.Calls.{with_fault}
+use Rattle.pt_sector.specs.Device.{with_fault, Told}
 use Rattle.pt_sector.specs.declared.disk.Fault.{Fault}
 use Rattle.pt_sector.specs.declared.reading.Failure.{Failure}
 use Rattle.pt_sector.specs.declared.reading.Failure.TheVariants as failure
 use Rattle.std.proofs.Common.{◌≡◌, ◌∙◌, List, Option, Some, None, refl, sym, ap, subst, inl, inr}
 use Rattle.pt_sector.specs.Sectors.{Sectors}
-use Rattle.pt_sector.specs.Device.{Told}
-use Rattle.pt_gpt.specs.Copy.{Copy, IsCopyFault, SideReads}
 use Rattle.pt_gpt.specs.declared.table.Side.TheVariants.{Primary, Backup}
-use Rattle.pt_recover.specs.Gpt.{TableReads}
+use Rattle.pt_recover.specs.Denotes.{TableReads, IsOutsideDisk, fault_in, told_failure, FailedInDisk}
 use Rattle.pt_recover.specs.Spans.{Adds}
-use Rattle.pt_recover.specs.Answers.{IsOutsideDisk, fault_in, told_failure, FailedInDisk}
 use Rattle.pt_recover.proofs.Sides.{primary_read, none_there, inside_fault, inside_adds, both_read}
 use Rattle.pt_recover.proofs.Failed.{primary_failed, backup_failed, inside_of}
 use Rattle.pt_recover.proofs.tables.read_either.Goals as goal

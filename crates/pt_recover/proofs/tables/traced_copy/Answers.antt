@@ -1,15 +1,10 @@
 use Rattle.std.proofs.lemmas.Result.{err_from_is_err_and}
-use Rattle.std.proofs.Common.{◌≡◌, ◌∙◌, List, sym, ap, subst, inl, inr}
-use Rattle.pt_sector.specs.Calls.{with_fault}
-use Rattle.pt_sector.specs.Device.{Told}
+use Rattle.std.proofs.Common.{◌≡◌, ◌∙◌, List, sym, ap, subst, inl, inr, refl, arith}
+use Rattle.pt_sector.specs.Device.{with_fault, Told}
 use Rattle.pt_sector.specs.declared.disk.Fault.{Fault}
-use Rattle.pt_gpt.specs.Answers.{TellsFault}
-use Rattle.pt_gpt.specs.Errors.{FailedInCopy, fault_in}
-use Rattle.pt_gpt.specs.Copy.{header_place, IsHead, SideReads}
+use Rattle.pt_gpt.specs.Copies.{TellsFault, FailedInCopy, fault_in, header_place, IsHead, SideReads}
 use Rattle.pt_gpt.proofs.Heads.{fault_of_head, failed_in}
 use Rattle.pt_recover.proofs.Sides.{head_read, array_read}
-use Rattle.std.proofs.Common.{refl}
-use Rattle.std.proofs.Common.{arith}
 use Rattle.pt_recover.proofs.tables.traced_copy.Goals as goal
 
 pub returns-in_err-header-clause-err : goal.returns-in_err-header-clause-err

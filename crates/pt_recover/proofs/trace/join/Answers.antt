@@ -1,6 +1,7 @@
 use Rattle.std.proofs.Common.{◌≡◌, ◌<◌, ◌≤◌, ◌∙◌, sym, subst, List, length, arith}
 use Rattle.std.specs.List.{insert}
-use Rattle.pt_recover.specs.Spans.{Apart, joined}
+use Rattle.pt_recover.specs.Spans.{Apart}
+use Rattle.pt_recover.specs.inner.Spans.{joined}
 use Rattle.pt_recover.specs.declared.trace.TracedRun.{TracedRun}
 use Rattle.pt_recover.proofs.Joined.{apart_none, apart_joined, some_hull, stands_below, stands_touching, stands_above, stands_end}
 use Rattle.pt_recover.proofs.trace.join.Goals as goal

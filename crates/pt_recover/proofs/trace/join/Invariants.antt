@@ -1,5 +1,5 @@
 use Rattle.std.proofs.Common.{◌≤◌, ◌-◌, length}
-use Rattle.pt_recover.specs.Spans.{joined, StandsBefore}
+use Rattle.pt_recover.specs.inner.Spans.{joined, StandsBefore}
 use Rattle.pt_recover.proofs.trace.join.Given as goal
 
 abbrev pub invariant-loop-at : goal.invariant-loop-at

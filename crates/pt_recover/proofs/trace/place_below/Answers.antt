@@ -1,7 +1,7 @@
 use Rattle.std.proofs.Common.{◌≡◌, ◌-◌, ℕ, List, ltb, sym, subst, arith, rules}
 use Rattle.std.proofs.lemmas.Bool.{ltb-true}
 use Rattle.std.proofs.lemmas.List.Sorted.{IsPartitionPoint-from_clause, IsPartitionedBy-ltb}
-use Rattle.pt_recover.specs.Spans.{joined, StandsBefore}
+use Rattle.pt_recover.specs.inner.Spans.{joined, StandsBefore}
 use Rattle.pt_recover.specs.declared.trace.TracedRun.{TracedRun}
 use Rattle.pt_recover.proofs.Joined.{stands_searched}
 use Rattle.pt_recover.proofs.Searched.{lasts_rise, IsPoint}

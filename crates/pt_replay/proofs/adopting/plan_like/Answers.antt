@@ -1,5 +1,5 @@
 use Rattle.std.proofs.Common.{◌∙◌, inr, sym, ap, Err}
-use Rattle.pt_replay.specs.Known.{disk_of}
+use Rattle.pt_replay.specs.Wanted.{disk_of}
 use Rattle.pt_replay.proofs.Walk.{asked_of}
 use Rattle.pt_replay.proofs.SayingLike.{says_unlike, equal}
 use Rattle.pt_replay.proofs.adopting.plan_like.Goals as goal

@@ -4,7 +4,7 @@ use Rattle.pt_replay.proofs.Asked.{Cut, none_read, one_more, all_read, onward_fi
 use Rattle.pt_replay.proofs.Asked.{no_rest}
 use Rattle.pt_replay.specs.Replies.{bad_word}
 use Rattle.pt_words.specs.declared.word.Edit.{Edit}
-use Rattle.pt_replay.specs.Judged.{IsUnasked, NoWords}
+use Rattle.pt_replay.specs.inner.Wanted.{IsUnasked, NoWords}
 use Rattle.pt_replay.specs.declared.answers.Answer.{Answer}
 use Rattle.pt_replay.proofs.Saying.{unasked_on}
 use Rattle.pt_replay.proofs.asking.edits_of.Goals as goal

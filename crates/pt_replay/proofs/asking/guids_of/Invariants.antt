@@ -1,5 +1,5 @@
 use Rattle.std.proofs.Common.{◌≡◌, ℕ, List, map, take}
-use Rattle.pt_guid.specs.Fresh.{fresh_of}
+use Rattle.pt_guid.specs.Guids.{fresh_of}
 use Rattle.pt_guid.specs.declared.guid.Guid.{Guid}
 use Rattle.pt_replay.proofs.asking.guids_of.Given as goal
 

@@ -1,5 +1,5 @@
 use Rattle.std.proofs.Common.{length, refl}
-use Rattle.pt_gpt.specs.Array.{HasRoom}
+use Rattle.pt_gpt.specs.Copies.{HasRoom}
 use Rattle.pt_recover.proofs.Bodies.{enough}
 use Rattle.pt_replay.proofs.body.gpt_body.Goals as goal
 

@@ -1,6 +1,6 @@
 use Rattle.std.proofs.Common.{◌∙◌, sym, subst, inr}
 use Rattle.pt_sector.specs.Device.{Told}
-use Rattle.pt_gpt.specs.Copy.{Copy}
+use Rattle.pt_gpt.specs.Copies.{Copy}
 use Rattle.pt_gpt.specs.declared.table.Side.TheVariants.{Backup}
 use Rattle.pt_recover.proofs.Sides.{none_there}
 use Rattle.pt_recover.proofs.Failed.{inside_of}

@@ -1,5 +1,5 @@
 use Rattle.pt_apply.specs.Plans.{phases_of}
-use Rattle.pt_replay.specs.Known.{disk_of}
+use Rattle.pt_replay.specs.Wanted.{disk_of}
 use Rattle.pt_replay.proofs.Saying.{no_rows, taken_is}
 use Rattle.pt_replay.proofs.checking.checked.Goals as goal
 

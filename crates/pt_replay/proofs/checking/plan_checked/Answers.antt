@@ -2,7 +2,7 @@ use Rattle.std.proofs.Common.{inr, subst, refl}
 use Rattle.pt_apply.specs.Plans.{phases_of}
 use Rattle.pt_check.specs.Answers.{Answers, Promises}
 use Rattle.pt_check.specs.declared.answer.Answer.{Answer}
-use Rattle.pt_replay.specs.Known.{disk_of}
+use Rattle.pt_replay.specs.Wanted.{disk_of}
 use Rattle.pt_replay.proofs.Walk.{asked_of}
 use Rattle.pt_replay.proofs.Saying.{says_unchecked}
 use Rattle.pt_replay.proofs.checking.plan_checked.Goals as goal

@@ -1,6 +1,6 @@
 use Rattle.std.proofs.Common.{take}
 use Rattle.pt_apply.specs.Plans.{phases_in}
-use Rattle.pt_replay.specs.Given.{AreRows}
+use Rattle.pt_replay.specs.inner.Given.{AreRows}
 use Rattle.pt_replay.proofs.giving.list.Given as goal
 
 abbrev pub invariant-loop-k : goal.invariant-loop-k

@@ -1,5 +1,5 @@
 use Rattle.std.proofs.Common.{inr}
-use Rattle.pt_replay.specs.Known.{disk_of}
+use Rattle.pt_replay.specs.Wanted.{disk_of}
 use Rattle.pt_replay.proofs.Walk.{asked_of}
 use Rattle.pt_replay.proofs.Saying.{says_failure}
 use Rattle.pt_replay.proofs.health.verified.Goals as goal

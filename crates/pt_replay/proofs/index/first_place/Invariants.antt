@@ -1,5 +1,5 @@
 use Rattle.std.proofs.Common.{◌≡◌, drop}
-use Rattle.pt_replay.specs.Places.{place_from}
+use Rattle.pt_replay.specs.Wanted.{place_from}
 use Rattle.pt_replay.proofs.index.first_place.Given as goal
 
 abbrev pub invariant-loop-k : goal.invariant-loop-k

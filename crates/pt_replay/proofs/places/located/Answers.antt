@@ -1,4 +1,4 @@
-use Rattle.pt_replay.specs.Known.{disk_of}
+use Rattle.pt_replay.specs.Wanted.{disk_of}
 use Rattle.pt_replay.proofs.Saying.{none_located}
 use Rattle.pt_replay.proofs.places.located.Goals as goal
 

@@ -1,7 +1,7 @@
 use Rattle.std.proofs.Common.{refl}
 use Rattle.pt_apply.specs.Plans.{phases_of}
 use Rattle.pt_replay.specs.Given.{buffers}
-use Rattle.pt_replay.specs.Known.{disk_of}
+use Rattle.pt_replay.specs.Wanted.{disk_of}
 use Rattle.pt_replay.proofs.Saying.{gives_mending, mends_not}
 use Rattle.pt_replay.proofs.planning.mended.Goals as goal
 

@@ -1,8 +1,8 @@
 use Rattle.std.proofs.Common.{inr, refl}
 use Rattle.pt_apply.specs.Plans.{phases_of}
 use Rattle.pt_replay.specs.Given.{buffers}
-use Rattle.pt_replay.specs.Known.{disk_of}
-use Rattle.pt_replay.specs.Words.{batch_of}
+use Rattle.pt_replay.specs.Wanted.{disk_of}
+use Rattle.pt_replay.specs.inner.Given.{batch_of}
 use Rattle.pt_replay.proofs.Saying.{gives_plan, gives_not}
 use Rattle.pt_replay.proofs.planning.plan_given.Goals as goal
 

@@ -1,6 +1,6 @@
 use Rattle.std.proofs.Common.{inr}
 use Rattle.pt_plan.specs.Batches.{Words}
-use Rattle.pt_replay.specs.Known.{disk_of}
+use Rattle.pt_replay.specs.Wanted.{disk_of}
 use Rattle.pt_replay.proofs.Walk.{asked_of}
 use Rattle.pt_replay.proofs.Saying.{says_refused}
 use Rattle.pt_replay.proofs.planning.plan_words.Goals as goal

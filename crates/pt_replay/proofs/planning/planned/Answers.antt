@@ -1,8 +1,8 @@
 use Rattle.std.proofs.Common.{sym, subst, refl, List}
 use Rattle.pt_words.specs.declared.word.Edit.{Edit}
 use Rattle.pt_guid.specs.declared.guid.Guid.{Guid}
-use Rattle.pt_replay.specs.Known.{disk_of}
-use Rattle.pt_replay.specs.Words.{AreEdits, AreDrawn}
+use Rattle.pt_replay.specs.Wanted.{disk_of}
+use Rattle.pt_replay.specs.Given.{AreEdits, AreDrawn}
 use Rattle.pt_replay.proofs.Saying.{no_guids, no_edits, asked_for}
 use Rattle.pt_replay.proofs.planning.planned.Goals as goal
 

@@ -1,6 +1,6 @@
 use Rattle.std.proofs.Common.{◌<◌, length, refl, sym, subst, arith, rules}
 use Rattle.std.proofs.lemmas.List.{get_or_default}
-use Rattle.pt_replay.specs.Judged.{IsUnasked, NoRows}
+use Rattle.pt_replay.specs.inner.Wanted.{IsUnasked, NoRows}
 use Rattle.pt_replay.specs.declared.answers.Answer.{Answer}
 use Rattle.pt_replay.specs.declared.taking.Partial.{Partial}
 use Rattle.pt_replay.proofs.NoPlan.{none_in_order, one_in_order, groups_are, size_some, no_sectors, no_rows_here}

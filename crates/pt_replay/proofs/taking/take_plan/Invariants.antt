@@ -1,5 +1,5 @@
 use Rattle.std.proofs.Common.{take}
-use Rattle.pt_replay.specs.Given.{AreRead, IsGrowing}
+use Rattle.pt_replay.proofs.ViewLemmas.{AreRead, IsGrowing}
 use Rattle.pt_replay.proofs.NoPlan.{AreInOrder}
 use Rattle.pt_replay.proofs.taking.take_plan.Given as goal
 

@@ -1,6 +1,6 @@
 use Rattle.std.proofs.Common.{ℕ, List, inr, subst}
-use Rattle.pt_replay.specs.Known.{disk_of}
-use Rattle.pt_replay.specs.Wanted.{GivesList}
+use Rattle.pt_replay.specs.Wanted.{disk_of}
+use Rattle.pt_replay.specs.inner.Wanted.{GivesList}
 use Rattle.pt_replay.proofs.Unknown.{gives_wanted, lists_in_view}
 use Rattle.pt_replay.proofs.wanting.wanted.Goals as goal
 

@@ -1,6 +1,6 @@
 use Rattle.std.proofs.Common.{sym, subst, IfOk}
 use Rattle.pt_recover.specs.declared.error.NoTable.{NoTable}
-use Rattle.pt_replay.specs.Wanted.{IsAlone}
+use Rattle.pt_replay.specs.inner.Wanted.{IsAlone}
 use Rattle.pt_replay.proofs.Unknown.{if_told}
 use Rattle.pt_replay.proofs.wanting.wanted_by.Goals as goal
 

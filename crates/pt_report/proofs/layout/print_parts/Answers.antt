@@ -3,7 +3,7 @@ use Rattle.std.specs.Prelude.{flat_map, option_to_list}
 use Rattle.std.specs.Io.KnownBytes.{Appends}
 use Rattle.std.proofs.KnownBytes.{Appends-trans}
 use Rattle.pt_members.specs.declared.row.Row.{Row}
-use Rattle.pt_members.specs.Rows.{part_rows}
+use Rattle.pt_members.specs.Members.{part_rows}
 use Rattle.pt_report.specs.Shown.{row_line}
 use Rattle.pt_report.proofs.Listed.{all_parts, grown}
 use Rattle.pt_report.proofs.layout.print_parts.Goals as goal

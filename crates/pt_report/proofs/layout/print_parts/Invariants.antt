@@ -1,7 +1,7 @@
 use Rattle.std.proofs.Common.{take}
 use Rattle.std.specs.Prelude.{flat_map, option_to_list}
 use Rattle.std.specs.Io.KnownBytes.{Appends}
-use Rattle.pt_members.specs.Rows.{part_rows}
+use Rattle.pt_members.specs.Members.{part_rows}
 use Rattle.pt_report.specs.Shown.{row_line}
 use Rattle.pt_report.proofs.layout.print_parts.Given as goal
 

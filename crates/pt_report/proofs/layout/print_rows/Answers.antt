@@ -3,8 +3,7 @@ use Rattle.std.specs.Prelude.{flat_map}
 use Rattle.std.specs.Io.KnownBytes.{Appends}
 use Rattle.std.proofs.KnownBytes.{Appends-trans}
 use Rattle.pt_members.specs.declared.row.Row.{Row}
-use Rattle.pt_members.specs.Members.{slots}
-use Rattle.pt_members.specs.Rows.{rows}
+use Rattle.pt_members.specs.Members.{slots, rows}
 use Rattle.pt_report.specs.Shown.{row_line, rows_at}
 use Rattle.pt_report.proofs.Listed.{all_rows, grown}
 use Rattle.pt_report.proofs.layout.print_rows.Goals as goal

@@ -1,7 +1,7 @@
 use Rattle.std.proofs.Common.{take}
 use Rattle.std.specs.Prelude.{flat_map}
 use Rattle.std.specs.Io.KnownBytes.{Appends}
-use Rattle.pt_members.specs.Rows.{rows}
+use Rattle.pt_members.specs.Members.{rows}
 use Rattle.pt_report.specs.Shown.{row_line, rows_at}
 use Rattle.pt_report.proofs.layout.print_rows.Given as goal
 

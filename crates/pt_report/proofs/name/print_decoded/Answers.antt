@@ -2,7 +2,7 @@ use Rattle.std.proofs.Common.{ap, sym, subst, Option, ℕ, List}
 use Rattle.std.specs.Prelude.{flat_map}
 use Rattle.std.specs.Io.KnownBytes.{Appends}
 use Rattle.std.proofs.KnownBytes.{Appends-nil, Appends-trans}
-use Rattle.pt_report.specs.Names.{char_bytes}
+use Rattle.pt_report.specs.Shown.{char_bytes}
 use Rattle.pt_report.proofs.Names.{nothing_left}
 use Rattle.pt_report.proofs.name.print_decoded.Goals as goal
 

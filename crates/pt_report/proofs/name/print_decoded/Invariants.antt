@@ -1,6 +1,6 @@
 use Rattle.std.proofs.Common.{ℕ, List, Option, length}
 use Rattle.std.specs.Io.KnownBytes.{Appends}
-use Rattle.pt_report.specs.Names.{name_text}
+use Rattle.pt_report.specs.Shown.{name_text}
 use Rattle.pt_report.proofs.name.print_decoded.Given as goal
 
 -- what is printed with the rest of the name behind it is the name

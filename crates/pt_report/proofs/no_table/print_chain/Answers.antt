@@ -1,13 +1,12 @@
-use Rattle.std.proofs.Common.{◌≡◌, ◌∙◌, ◌∷◌, [], ap, sym, subst, List, ℕ}
+use Rattle.std.proofs.Common.{◌≡◌, ◌∙◌, ◌∷◌, [], ap, sym, subst, List, ℕ, inl, inr}
 use Rattle.std.specs.Prelude.{◌⊎◌, codes, decimal, OnOk}
-use Rattle.std.proofs.Common.{inl, inr}
 use Rattle.std.specs.Io.KnownBytes.{Appends}
 use Rattle.pt_sector.specs.declared.address.Lba.{Lba}
-use Rattle.pt_mbr.specs.Numbers.{error_number}
+use Rattle.pt_mbr.specs.Records.{error_number}
 use Rattle.pt_mbr.specs.declared.chain.ChainError.{ChainError}
 use Rattle.pt_mbr.specs.declared.chain.ChainError.TheVariants.{NoSignature, BadRecord, NotUpward, OutsideExtended}
-use Rattle.pt_report.specs.Lines.{line}
-use Rattle.pt_report.specs.NoTables.{chain_at, chain_text}
+use Rattle.pt_report.specs.Shown.{line}
+use Rattle.pt_report.specs.Replies.{chain_at, chain_text}
 use Rattle.pt_report.proofs.no_table.print_chain.Goals as goal
 
 placed : (e : ChainError) (at : Lba)

@@ -1,9 +1,9 @@
 use Rattle.std.proofs.Common.{◌∙◌, ◌∷◌, [], ap, sym, subst, List, ℕ}
 use Rattle.std.specs.Prelude.{codes, decimal, OnOk}
 use Rattle.std.specs.Io.KnownBytes.{Appends}
-use Rattle.pt_gpt.specs.Errors.{error_number}
-use Rattle.pt_report.specs.Lines.{line}
-use Rattle.pt_report.specs.NoTables.{no_table_text}
+use Rattle.pt_gpt.specs.Copies.{error_number}
+use Rattle.pt_report.specs.Shown.{line}
+use Rattle.pt_report.specs.Replies.{no_table_text}
 use Rattle.pt_report.proofs.no_table.print_no_table.Goals as goal
 
 pub returns-in-NoCopy : goal.returns-in-NoCopy

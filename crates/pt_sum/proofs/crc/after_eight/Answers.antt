@@ -1,6 +1,6 @@
 use Rattle.std.proofs.Common.{ℕ, ◌<◌, get_or, sym, ap, ◌∙◌, arith}
 use Rattle.std.proofs.lemmas.Nat.{xor_comm}
-use Rattle.pt_sum.specs.Crc.{after_bytes}
+use Rattle.pt_sum.specs.Sums.{after_bytes}
 use Rattle.pt_sum.proofs.Eight.{eight_at_once, of_eight}
 use Rattle.pt_sum.proofs.crc.after_eight.Goals as goal
 

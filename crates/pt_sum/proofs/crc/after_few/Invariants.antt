@@ -1,5 +1,5 @@
 use Rattle.std.proofs.Common.{◌≡◌, take}
-use Rattle.pt_sum.specs.Crc.{after_bytes}
+use Rattle.pt_sum.specs.Sums.{after_bytes}
 use Rattle.pt_sum.proofs.crc.after_few.Given as goal
 
 abbrev pub invariant-loop-byte : goal.invariant-loop-byte

@@ -1,4 +1,4 @@
-use Rattle.pt_sum.specs.laws.Terms.{after_bytes-append}
+use Rattle.pt_sum.proofs.Terms.{after_bytes-append}
 use Rattle.pt_sum.proofs.laws.sum_by_parts.Goals as goal
 
 pub returns : goal.returns

@@ -1,7 +1,7 @@
 use Rattle.std.proofs.Common.{◌≡◌, ℕ, ◌+◌, ◌*◌, ◌<◌, List, length, get_or, drop, fold, arith}
 use Rattle.std.specs.Prelude.{bit_xor}
 use Rattle.std.proofs.lemmas.List.{drop_more, drop_all}
-use Rattle.pt_sum.specs.Words.{words, xor_of}
+use Rattle.pt_sum.specs.Sums.{words, xor_of}
 use Rattle.pt_sum.proofs.words.xor16.Goals as goal
 
 words_more : (xs : List ℕ) (i sum total : ℕ) → 2 * i + 1 < length xs → fold bit_xor sum (words (drop (2 * i) xs)) ≡ total

@@ -1,6 +1,6 @@
 use Rattle.std.proofs.Common.{◌≡◌, ◌*◌, drop, fold}
 use Rattle.std.specs.Prelude.{bit_xor}
-use Rattle.pt_sum.specs.Words.{words, xor_of}
+use Rattle.pt_sum.specs.Sums.{words, xor_of}
 use Rattle.pt_sum.proofs.words.xor16.Given as goal
 
 abbrev pub invariant-loop-i : goal.invariant-loop-i

@@ -1,5 +1,5 @@
 use Rattle.std.proofs.Common.{refl, arith}
-use Rattle.pt_path.specs.laws.OneText.{number_is_one_lem}
+use Rattle.pt_path.proofs.OneText.{number_is_one_lem}
 use Rattle.pt_words.proofs.field.number_in.Goals as goal
 
 pub returns-then-found-low-clause-err : goal.returns-then-found-low-clause-err

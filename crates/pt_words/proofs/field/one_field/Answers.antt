@@ -1,6 +1,6 @@
 use Rattle.std.proofs.Common.{◌∷◌, ◌∙◌, ap, refl, arith, Option, List, ℕ, Bor}
 use Rattle.std.specs.Option.{option_map}
-use Rattle.pt_words.specs.Words.{fields_after}
+use Rattle.pt_words.specs.inner.Words.{fields_after}
 use Rattle.pt_words.proofs.Cuts.{some_field}
 use Rattle.pt_words.proofs.field.one_field.Goals as goal
 

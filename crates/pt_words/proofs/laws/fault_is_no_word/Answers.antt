@@ -1,4 +1,4 @@
-use Rattle.pt_words.specs.laws.WordLaws.{fault_is_no_word_lem}
+use Rattle.pt_words.proofs.WordLaws.{fault_is_no_word_lem}
 use Rattle.pt_words.proofs.laws.fault_is_no_word.Goals as goal
 
 pub returns : goal.returns

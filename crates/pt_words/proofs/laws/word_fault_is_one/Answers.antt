@@ -1,4 +1,4 @@
-use Rattle.pt_words.specs.laws.OneWord.{word_fault_is_one_lem}
+use Rattle.pt_words.proofs.OneWord.{word_fault_is_one_lem}
 use Rattle.pt_words.proofs.laws.word_fault_is_one.Goals as goal
 
 pub returns : goal.returns

@@ -1,7 +1,8 @@
 use Rattle.std.proofs.Common.{List, ℕ, Option, Bor, [], ◌∷◌, ◌∙◌, length, refl, sym, ap, subst, arith, inl}
 use Rattle.std.proofs.lemmas.Result.{err_from_is_err_and}
 use Rattle.std.specs.Option.{option_map}
-use Rattle.pt_words.specs.Words.{number, greatest, fields, fields_after, IsFault}
+use Rattle.pt_words.specs.Words.{number, greatest, fields, IsFault}
+use Rattle.pt_words.specs.inner.Words.{fields_after}
 use Rattle.pt_words.specs.declared.error.EditError.TheVariants.{FieldCount}
 use Rattle.pt_words.proofs.Cuts.{some_field}
 use Rattle.pt_words.proofs.Faults.{bad_count, bad_field, name_count, named_rest}

@@ -1,6 +1,7 @@
 use Rattle.std.proofs.Common.{List, ℕ, Option, Bor, [], ◌∷◌, refl, sym, subst, arith}
 use Rattle.std.specs.Option.{option_map}
-use Rattle.pt_words.specs.Words.{fields, fields_after, IsFault}
+use Rattle.pt_words.specs.Words.{fields, IsFault}
+use Rattle.pt_words.specs.inner.Words.{fields_after}
 use Rattle.pt_words.specs.declared.error.EditError.TheVariants.{FieldCount}
 use Rattle.pt_words.proofs.Cuts.{some_field}
 use Rattle.pt_words.proofs.Faults.{other_count, bad_count}

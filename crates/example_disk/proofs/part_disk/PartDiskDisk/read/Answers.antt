@@ -1,5 +1,6 @@
 use Rattle.std.proofs.Common.{refl, ap}
-use Rattle.jawefon.specs.Calls.{no_faults, one_fault}
+use Rattle.jawefon.specs.ForFields.{no_faults}
+use Rattle.jawefon.proofs.CallsLemmas.{one_fault}
 use Rattle.example_disk.specs.Window.{told_in}
 use Rattle.example_disk.proofs.part_disk.PartDiskDisk.read.Goals as goal
 

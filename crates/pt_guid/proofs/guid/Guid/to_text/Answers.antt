@@ -1,7 +1,7 @@
 use Rattle.std.proofs.Common.{◌≡◌, ap, ◌∙◌}
 use Rattle.uuid.specs.Text.{hyphenated_text, lower}
-use Rattle.pt_guid.specs.Mixed.{stored_of, text_of}
-use Rattle.pt_guid.specs.laws.Terms.{text_reads_back}
+use Rattle.pt_guid.specs.Guids.{stored_of, text_of}
+use Rattle.pt_guid.proofs.Terms.{text_reads_back}
 use Rattle.pt_guid.proofs.guid.Guid.to_text.Goals as goal
 
 pub returns-clause-text : goal.returns-clause-text

@@ -1,6 +1,7 @@
 use Rattle.std.proofs.Common.{subst, sym, List, ap, ◌∙◌, inl, inr}
 use Rattle.std.specs.Prelude.{◌⊎◌, ◌↔◌}
-use Rattle.pt_recover.specs.Spans.{InRun, IsIn, joined}
+use Rattle.pt_recover.specs.Spans.{InRun, IsIn}
+use Rattle.pt_recover.specs.inner.Spans.{joined}
 use Rattle.pt_recover.specs.declared.trace.TracedRun.{TracedRun}
 use Rattle.pt_recover.proofs.Joined.{in_joined}
 use Rattle.pt_recover.proofs.trace.Trace.add.Goals as goal

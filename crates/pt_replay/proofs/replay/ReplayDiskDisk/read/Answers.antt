@@ -1,6 +1,7 @@
 use Rattle.std.proofs.Common.{refl}
-use Rattle.pt_sector.specs.Calls.{no_faults, one_fault}
-use Rattle.pt_replay.specs.Known.{asks_same}
+use Rattle.pt_sector.specs.inner.ForFields.{no_faults}
+use Rattle.pt_sector.proofs.CallsLemmas.{one_fault}
+use Rattle.pt_replay.specs.inner.ForFields.{asks_same}
 use Rattle.pt_replay.proofs.Walk.{asks_one}
 use Rattle.pt_replay.proofs.replay.ReplayDiskDisk.read.Goals as goal
 

@@ -1,7 +1,7 @@
 use Rattle.std.proofs.Common.{arith}
 use Rattle.std.proofs.lemmas.Bool.Decides.{nat_tests}
-use Rattle.pt_sector.specs.Spans.{span}
-use Rattle.pt_sector.specs.laws.Spans.{share_ends, ends_share}
+use Rattle.pt_sector.specs.Sectors.{span}
+use Rattle.pt_sector.proofs.Spans.{share_ends, ends_share}
 use Rattle.pt_sector.proofs.address.Extent.meets.Goals as goal
 
 pub returns-then-self-other : goal.returns-then-self-other

@@ -1,10 +1,10 @@
 use Rattle.std.proofs.Common.{◌≡◌, ◌∙◌, [], ◌∷◌, refl, sym, ap, length, arith}
 use Rattle.std.proofs.lemmas.List.{append-nil}
 use Rattle.pt_sector.specs.Device.{Told}
-use Rattle.pt_sector.specs.Calls.{no_faults, one_fault}
-use Rattle.pt_sector.specs.Reads.{through_same}
+use Rattle.pt_sector.specs.inner.ForFields.{no_faults, through_same}
+use Rattle.pt_sector.proofs.CallsLemmas.{one_fault}
 use Rattle.pt_sector.specs.Sectors.{sector}
-use Rattle.pt_sector.specs.laws.Written.{sector-written}
+use Rattle.pt_sector.proofs.Written.{sector-written}
 use Rattle.pt_sector.specs.Overlays.{own_writes, shown, overlay_told}
 use Rattle.pt_sector.proofs.overlay.OverlayDisk.read.Goals as goal
 

@@ -1,5 +1,6 @@
 use Rattle.pt_sector.specs.declared.own.Own.{Own}
-use Rattle.pt_sector.specs.Overlays.{shown, elapses_overlay}
+use Rattle.pt_sector.specs.Overlays.{shown}
+use Rattle.pt_sector.proofs.OverlaysLemmas.{elapses_overlay}
 use Rattle.std.proofs.Common.{◌≡◌, slice_set, refl, ap, inl, arith}
 use Rattle.pt_sector.proofs.overlay.OverlayDisk.write.Goals as goal
 

@@ -2,9 +2,8 @@ use Rattle.std.proofs.Common.{◌≡◌, ◌∙◌, ◌<◌, ◌≤◌, ◌+◌,
 use Rattle.std.specs.Prelude.{vec_len, vec_capacity, IsOk}
 use Rattle.std.specs.List.{insert}
 use Rattle.std.proofs.lemmas.List.{get_or_default}
-use Rattle.pt_sector.specs.Writes.{written}
-use Rattle.pt_sector.specs.Puts.{puts_as_writes, no_put, slot_at, SlotsFit, SlotsApart}
-use Rattle.pt_sector.specs.Ascending.{IsAscending, IsWriteAt, IsGapFor}
+use Rattle.pt_sector.specs.Sectors.{written, puts_as_writes, no_put, slot_at, SlotsFit, SlotsApart, IsAscending, IsWriteAt}
+use Rattle.pt_sector.specs.inner.Sectors.{IsGapFor}
 use Rattle.pt_sector.specs.declared.put.Put.{Put}
 use Rattle.pt_sector.proofs.InOrder.{put_over, put_between, order_between, none_in_gap, length-puts, rises_with, at_with, gap_with}
 use Rattle.pt_sector.proofs.InOrder.{fit_insert, apart_insert}

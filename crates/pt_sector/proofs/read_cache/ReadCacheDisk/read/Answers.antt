@@ -1,10 +1,9 @@
-use Rattle.pt_sector.specs.Calls.{no_faults}
+use Rattle.pt_sector.specs.inner.ForFields.{no_faults}
 use Rattle.std.proofs.Common.{◌≡◌, ◌∙◌, ℕ, Bool, true, false, List, [], length, slice_set, sym, ap, arith, refl}
 use Rattle.std.specs.Prelude.{IsTrue, IsFalse}
 use Rattle.std.proofs.lemmas.List.{set-get_or}
-use Rattle.pt_sector.specs.Sectors.{Sectors, sector}
-use Rattle.pt_sector.specs.Writes.{written}
-use Rattle.pt_sector.specs.laws.Written.{sector-written}
+use Rattle.pt_sector.specs.Sectors.{Sectors, sector, written}
+use Rattle.pt_sector.proofs.Written.{sector-written}
 use Rattle.pt_sector.specs.Overlays.{own_writes, shown}
 use Rattle.pt_sector.specs.declared.own.Own.{Own}
 use Rattle.pt_sector.proofs.read_cache.ReadCacheDisk.read.Goals as goal

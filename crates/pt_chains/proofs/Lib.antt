@@ -1,9 +1,0 @@
-mod Begun
-mod Equal
-mod Heads
-mod Linking
-mod Links
-mod Made
-mod Over
-mod Parts
-mod Whole

@@ -1,3 +1,0 @@
-pub mod Ranges
-pub mod Wrote
-pub mod Assembling

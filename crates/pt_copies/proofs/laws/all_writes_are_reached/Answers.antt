@@ -1,9 +1,0 @@
-use Rattle.pt_copies.specs.laws.Reached.{backup_first_reached, primary_first_reached, from_mbr_reached}
-use Rattle.pt_copies.proofs.laws.all_writes_are_reached.Goals as goal
-
-pub returns : goal.returns
-returns c = record {
-  backup_first = backup_first_reached;
-  primary_first = primary_first_reached;
-  from_mbr = from_mbr_reached;
-}

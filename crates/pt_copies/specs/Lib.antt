@@ -1,4 +1,0 @@
-pub mod Added
-pub mod Reached
-pub mod Written
-pub mod laws

@@ -1,0 +1,10 @@
+pub mod BlocksLemmas
+pub mod CrashLemmas
+pub mod Crashes
+pub mod DeviceNumbers
+pub mod InMemory
+pub mod InMemoryLemmas
+pub mod Parts
+pub mod Picked
+pub mod Reading
+pub mod StoresLemmas

@@ -1,0 +1,12 @@
+use Rattle.std.proofs.Common.{arith}
+use Rattle.pt_edit.proofs.Pushed.{one_entry, all_entries}
+use Rattle.pt_edit.proofs.space.taken.taken_by_entries.Goals as goal
+
+pub returns : goal.returns
+returns c =
+    all_entries c.args.entries.now c.loop-k.k c.loop-k.taken.items (omega (arith, c.loop-k-test.false)) c.loop-k.invariant
+
+pub loop-k-preserved : goal.loop-k-preserved
+loop-k-preserved c =
+    one_entry c.args.entries.now c.loop-k.k c.entry_slot.result c.loop-k.taken.items c.push_run.new.taken.items
+    (omega (arith, c.loop-k-test.true)) c.entry_slot.ensures.value c.loop-k.invariant c.in_ok-push_run.ensures

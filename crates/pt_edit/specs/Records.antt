@@ -1,0 +1,90 @@
+-- Words on the records of an MBR.
+use Rattle.std.specs.Prelude.{ℕ, Bool, Option, Some, None, if◌then◌else◌, nat_eq, ◌&&◌, ◌||◌, ◌≡◌, ◌≤◌, ◌-◌, List, slice_index_or}
+use Rattle.std.specs.Prelude.{slice_set, ◌<◌}
+use Rattle.pt_mbr.specs.Records.{is_extended}
+use Rattle.pt_words.specs.declared.word.Code.{Code}
+use Rattle.pt_words.specs.declared.word.Code.TheVariants.{Two, Four}
+use Rattle.pt_mbr.specs.declared.record.Record.{Record}
+use Rattle.pt_mbr.specs.declared.ebr.Ebr.{Ebr}
+use Rattle.pt_members.specs.declared.layout.Labelled.{Labelled}
+use Rattle.pt_members.specs.declared.layout.Layout.{Layout}
+use Rattle.pt_members.specs.declared.layout.Body.{Body}
+use Rattle.pt_members.specs.declared.layout.Body.TheVariants.{Mbr, Gpt}
+use Rattle.pt_edit.specs.declared.records.parts.MbrParts.{MbrParts}
+use Rattle.pt_words.specs.declared.error.Refusal.{Refusal}
+use Rattle.pt_words.specs.declared.error.Refusal.TheVariants.{NoSuchPartition, NumberTaken, NoSpace}
+
+-- ## The type bytes of records.
+
+-- the type byte that a code gives a record: two digits, and neither 00 of unused records nor EE of protective ones
+abbrev pub record_type : Code → Option ℕ
+record_type (Two kind) = if nat_eq kind 0 || nat_eq kind 0xEE then None else Some kind
+record_type (Four kind) = None
+
+-- the type byte of a new record, 83 where no code is given
+abbrev pub new_type : Option Code → Option ℕ
+new_type None = Some 0x83
+new_type (Some code) = record_type code
+
+-- the slices' type; there are none with sectors of 4096 bytes
+abbrev pub is_slice : ℕ → ℕ → Bool
+is_slice b kind = nat_eq b 512 && nat_eq kind 0xA5
+
+-- a type of records that hold other partitions
+abbrev pub is_container : ℕ → ℕ → Bool
+is_container b kind = is_extended kind || is_slice b kind
+
+-- ## The records of sector 0 by their numbers, and their types.
+
+-- the layout of an MBR
+abbrev pub layout_with : ℕ → List (Option Record) → List Ebr → List Labelled → Layout
+layout_with sectors records chain labels = record { sectors = sectors; body = Mbr records chain; labels = labels }
+
+-- the layout that its parts are
+abbrev pub whole_of : MbrParts → Layout
+whole_of m = layout_with m.sectors m.records m.chain m.labels
+
+-- what holds of the records and the chain of an MBR, and of no other body
+abbrev pub OfMbr : Body → (List (Option Record) → List Ebr → Type 0) → Type 0
+OfMbr (Mbr records chain) Holds = Holds records chain
+OfMbr (Gpt t) Holds = ⊥
+
+-- the numbers of the records of sector 0
+abbrev pub IsPrimary : ℕ → Type 0
+IsPrimary number = (1 ≤ number) × (number ≤ 4)
+
+-- the used record of a number
+pub record HasRecord (records : List (Option Record)) (number : ℕ) (r : Record) : Type 0 where
+  pub primary : IsPrimary number
+  pub used : slice_index_or records (number - 1) None ≡ Some r
+
+-- the records with another thing at a number
+abbrev pub with_record : List (Option Record) → ℕ → Option Record → List (Option Record)
+with_record records number r = slice_set records (number - 1) r
+
+-- the layout with other records, another chain and other labels
+abbrev pub with_mbr : Layout → List (Option Record) → List Ebr → List Labelled → Layout
+with_mbr o records chain labels = layout_with o.sectors records chain labels
+
+-- ## The number of a new record.
+
+-- a number of no used record
+pub record IsUnusedNumber (records : List (Option Record)) (number : ℕ) : Type 0 where
+  pub primary : IsPrimary number
+  pub unused : slice_index_or records (number - 1) None ≡ None
+
+-- the lowest of these
+pub record IsLowestUnused (records : List (Option Record)) (number : ℕ) : Type 0 where
+  pub unused : IsUnusedNumber records number
+  pub lowest : (k : ℕ) → IsUnusedNumber records k → number ≤ k
+
+-- the number that is asked for, or for 0 the lowest unused one
+pub data TakesRecordNumber (records : List (Option Record)) (asked number : ℕ) : Type 0 where
+  as_asked : asked ≡ number → IsUnusedNumber records number → TakesRecordNumber records asked number
+  lowest_one : asked ≡ 0 → IsLowestUnused records number → TakesRecordNumber records asked number
+
+-- why there is none
+pub data NotNumbered (records : List (Option Record)) (asked : ℕ) (r : Refusal) : Type 0 where
+  past_records : 4 < asked → r ≡ NoSuchPartition → NotNumbered records asked r
+  used : IsPrimary asked → ¬ IsUnusedNumber records asked → r ≡ NumberTaken → NotNumbered records asked r
+  none_unused : asked ≡ 0 → ((k : ℕ) → ¬ IsUnusedNumber records k) → r ≡ NoSpace → NotNumbered records asked r

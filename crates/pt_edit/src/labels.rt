@@ -1,0 +1,12 @@
+//! The labels of a layout's slices: the words `t`, `d` and `n` with a letter, and the list of labels.
+pub mod laws;
+mod lists;
+mod new;
+mod parts;
+mod slices;
+
+pub use lists::{
+    add_label, drop_label, drop_logical_labels, lower_labels, put_label, raise_labels,
+};
+pub use new::new_part;
+pub use parts::{delete_part, set_part_kind};

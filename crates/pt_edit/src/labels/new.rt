@@ -1,0 +1,144 @@
+//! The word `n` with a letter: a new partition of a slice's label.
+
+ghost use Rattle.std.specs.Prelude.{◌≡◌, ◌≢◌, ◌<◌, ◌≤◌, ◌^◌, ℕ, IfOk, IfErr, IfSome, IfNone};
+ghost use Rattle.pt_bsd.specs.Labels.{sector_by};
+ghost use Rattle.pt_words.specs.declared.error.Refusal.TheVariants.{Memory};
+ghost use Rattle.pt_edit.specs.Space.{area_of, Placed, NotPlaced};
+ghost use Rattle.pt_edit.specs.SliceLabels.{HasUnused, NoUnused, new_type, area_in, len_of, HasOffset, new_entry, PartNew, PartNotNew};
+
+use crate::labels::parts::{PartEntry, entry_of, part_type_of, put_entry};
+use crate::space::{Lead, Run, Space, place, taken_by_parts};
+use pt_bsd::{Form, Label, LabelEntry};
+use pt_members::{Layout, Member};
+use pt_words::{Asked, Code, Refusal};
+use std::alloc::{AllocError, Global};
+
+/// The type of a new partition where no code is given: a fast file system.
+const FAST_FILE_SYSTEM: u8 = 7;
+
+/// How many sectors at a slice's start are reserved.
+const RESERVED: u128 = 16;
+
+// The entry of a letter of a slice's label, where it is counted, isn't c, and has no sectors.
+fn unused_of<const B: usize>(layout: &Layout, number: u64, letter: u8) -> Result<PartEntry, Refusal>
+    ensures within { IfOk result (λ _. letter < 8) }
+    ensures ok { IfOk result (λ s. HasUnused B layout.now number letter s.slice s.label s.entry) }
+    ensures err { IfErr result (NoUnused B layout.now number letter) }
+    ensures small { IfOk result (λ s. s.slice.first < 2 ^ 66) }
+{
+    let spot = entry_of::<B>(layout, number, letter)?;
+    if spot.entry.size != 0 {
+        return Err(Refusal::NumberTaken);
+    }
+    Ok(spot)
+}
+
+fn new_type_of(code: &Option<Code>) -> Option<u8>
+    ensures { result ≡ new_type code.now }
+{
+    match code {
+        Some(code) => part_type_of(code),
+        None => Some(FAST_FILE_SYSTEM),
+    }
+}
+
+// Where a partition of a slice may stand.
+fn space_in(alloc: Global, label: Label, slice: &Member) -> Result<Space, AllocError>
+    requires { slice.now.first < 2 ^ 66 }
+    ensures { IfOk result (λ s. area_of s ≡ area_in label slice.now) }
+{
+    let taken = taken_by_parts(alloc, &label, slice)?;
+    Ok(Space {
+        low: slice.first + RESERVED,
+        high: slice.last,
+        taken,
+        lead: Lead::None,
+    })
+}
+
+// Where a partition of a slice is placed.
+fn place_in(alloc: Global, label: Label, slice: &Member, asked: &Asked) -> Result<Run, Refusal>
+    requires { slice.now.first < 2 ^ 66 }
+    ensures ok { IfOk result (λ run. Placed (area_in label slice.now) asked.now.alignment asked.now.start asked.now.end run) }
+    ensures err { IfErr result (λ refusal. refusal ≢ Memory
+        → NotPlaced (area_in label slice.now) asked.now.alignment asked.now.start asked.now.end refusal) }
+{
+    let space = space_in(alloc, label, slice)?;
+    place(space, asked.alignment, asked.start, asked.end)
+}
+
+// The offset that a form gives to a sector, in a slice with this first sector.
+fn offset_of(form: Form, slice_first: u128, sector: u128) -> Option<u32>
+    ensures some { IfSome result (λ offset. sector_by form slice_first offset ≡ sector) }
+    ensures none { IfNone result ((offset : ℕ) → offset < 2 ^ 32 → ¬ (sector_by form slice_first offset ≡ sector)) }
+{
+    let offset = match form {
+        Form::Relative => sector.checked_sub(slice_first)?,
+        Form::Absolute => sector,
+    };
+    u32::try_from(offset).ok()
+}
+
+// How many sectors there are.
+fn len_in(run: Run) -> Option<u32>
+    requires { run.first ≤ run.last }
+    ensures some { IfSome result (λ len. len ≡ len_of run) }
+    ensures none { IfNone result (2 ^ 32 ≤ len_of run) }
+{
+    u32::try_from(run.last - run.first).ok()?.checked_add(1)
+}
+
+// The entry of a new partition in these sectors.
+fn entry_at(label: &Label, slice: &Member, run: Run, kind: u8) -> Option<LabelEntry>
+    requires { run.first ≤ run.last }
+    ensures some { IfSome result (λ e. HasOffset label.now slice.now run e.offset × (e ≡ new_entry (len_of run) e.offset kind)) }
+    ensures none { IfNone result ((offset : ℕ) → ¬ HasOffset label.now slice.now run offset) }
+{
+    let offset = offset_of(label.form(), slice.first, run.first)?;
+    let size = len_in(run)?;
+    Some(LabelEntry {
+        size,
+        offset,
+        fragment: 0,
+        fstype: kind,
+        frag: 0,
+        cpg: 0,
+    })
+}
+
+/// `n` with a letter: the layout with a new partition, of a letter from 0 for a, in the label of the slice of the number
+/// that is asked for. All else of it stays.
+///
+/// The alignment, the start and the end are in the disk's own sector numbers. A partition may stand from the slice's
+/// seventeenth sector on, and in none of the label's other partitions. Its offset is written in the label's form. Its
+/// type is 07 where no code is given.
+///
+/// Refused, the first of these, with `NoSuchPartition` where the number is no slice's (there are none with sectors of
+/// 4096 bytes), `ForeignLabel` where the slice has no label, `ContainerType` for c, `NoSuchPartition` for a letter that
+/// the label doesn't count, `NumberTaken` for one that has sectors, `UnknownCode` for a code of four digits or 00, what
+/// `place` of pt_edit::space refuses, and `LabelOffset` where the offset or the number of sectors is 2^32 or more. `Memory` is
+/// want of memory.
+pub fn new_part<const B: usize>(
+    alloc: Global,
+    layout: Layout,
+    letter: u8,
+    asked: &Asked,
+) -> Result<Layout, Refusal>
+    ensures ok { IfOk result (λ made.
+        PartNew B asked.now.number letter asked.now.alignment asked.now.start asked.now.end asked.now.code layout made) }
+    ensures err { IfErr result (λ refusal. refusal ≢ Memory
+        → PartNotNew B asked.now.number letter asked.now.alignment asked.now.start asked.now.end asked.now.code layout refusal) }
+{
+    let number = asked.number;
+    let spot = unused_of::<B>(&layout, number, letter)?;
+    let kind = match new_type_of(&asked.code) {
+        Some(kind) => kind,
+        None => return Err(Refusal::UnknownCode),
+    };
+    let run = place_in(alloc, spot.label, &spot.slice, asked)?;
+    let entry = match entry_at(&spot.label, &spot.slice, run, kind) {
+        Some(entry) => entry,
+        None => return Err(Refusal::LabelOffset),
+    };
+    Ok(put_entry(layout, number, letter, &spot.label, entry))
+}

@@ -1,0 +1,83 @@
+//! The layout of an MBR in its parts.
+
+ghost use Rattle.std.specs.Prelude.{◌≡◌, ◌↔◌, IsTrue, IfSome, IfNone};
+ghost use Rattle.pt_mbr.specs.declared.record.Record.{Record};
+ghost use Rattle.pt_edit.specs.Records.{layout_with, whole_of, IsPrimary, HasRecord, with_record};
+
+use pt_mbr::Record;
+use pt_members::{Body, Ebrs, Labels, Layout};
+
+/// What the layout of an MBR has.
+#[derive(Drop)]
+pub struct MbrParts {
+    /// The number of the disk's sectors.
+    pub sectors: u64,
+    /// The records of sector 0, an unused one being none.
+    pub records: [Option<Record>; 4],
+    /// The chain of the extended partition.
+    pub chain: Ebrs,
+    /// The labels of the slices.
+    pub labels: Labels,
+}
+
+impl MbrParts {
+    /// The layout of the parts.
+    pub fn whole(self) -> Layout
+        ensures { result ≡ whole_of self }
+    {
+        let MbrParts {
+            sectors,
+            records,
+            chain,
+            labels,
+        } = self;
+        layout_of(sectors, records, chain, labels)
+    }
+}
+
+// The layout of an MBR.
+pub(crate) fn layout_of(
+    sectors: u64,
+    records: [Option<Record>; 4],
+    chain: Ebrs,
+    labels: Labels,
+) -> Layout
+    ensures { result ≡ layout_with sectors records chain labels }
+{
+    Layout {
+        sectors,
+        body: Body::Mbr { records, chain },
+        labels,
+    }
+}
+
+// Whether a number is a record's.
+pub(crate) fn is_primary(number: u64) -> bool
+    ensures { IsTrue result ↔ IsPrimary number }
+{
+    1 <= number && number <= 4
+}
+
+// The used record of a number.
+pub(crate) fn used_record(records: &[Option<Record>; 4], number: u64) -> Option<Record>
+    ensures some { IfSome result (λ r. HasRecord records.now number r) }
+    ensures none { IfNone result ((r : Record) → ¬ HasRecord records.now number r) }
+{
+    if !is_primary(number) {
+        return None;
+    }
+    records[number as usize - 1]
+}
+
+// The records with another thing at a number.
+pub(crate) fn put_record(
+    mut records: [Option<Record>; 4],
+    number: u64,
+    new: Option<Record>,
+) -> [Option<Record>; 4]
+    requires { IsPrimary number }
+    ensures { result ≡ with_record records number new }
+{
+    records[number as usize - 1] = new;
+    records
+}

@@ -1,0 +1,53 @@
+//! What holds of places, wherever they are looked for.
+
+ghost use Rattle.std.specs.Prelude.{◌≡◌, ◌≢◌, ◌≤◌, ◌*◌, ℕ, List, ◌⊎◌};
+ghost use Rattle.pt_edit.specs.declared.space.space.Run.{Run};
+ghost use Rattle.pt_words.specs.declared.word.End.{End};
+ghost use Rattle.pt_words.specs.declared.error.Refusal.{Refusal};
+ghost use Rattle.pt_edit.specs.Space.{SameSectors, with_taken, Area, IsFreeRun, rounded_up, IsRoundedUp, Placed, NotPlaced};
+
+/// One run at most is placed.
+pub fn placed_one()
+    ensures { (a : Area) (alignment start : ℕ) (end : End) (r q : Run) → Placed a alignment start end r
+        → Placed a alignment start end q → r ≡ q }
+{}
+
+/// It is refused for one reason at most.
+pub fn refused_one()
+    ensures { (a : Area) (alignment start : ℕ) (end : End) (r q : Refusal) → NotPlaced a alignment start end r
+        → NotPlaced a alignment start end q → r ≡ q }
+{}
+
+/// What is placed isn't refused.
+pub fn placed_is_not_refused()
+    ensures { (a : Area) (alignment start : ℕ) (end : End) (r : Run) (q : Refusal) → Placed a alignment start end r
+        → ¬ NotPlaced a alignment start end q }
+{}
+
+/// What is placed has sectors, all usable and none taken, and before them room for the record that leads it.
+pub fn placed_is_free()
+    ensures { (a : Area) (alignment start : ℕ) (end : End) (r : Run) → Placed a alignment start end r → IsFreeRun a r }
+{}
+
+/// A sector rounded up is the least multiple of the alignment that isn't below it.
+pub fn rounded_up_is_least()
+    ensures { (alignment k : ℕ) → alignment ≢ 0 → IsRoundedUp alignment k (rounded_up alignment k) }
+{}
+
+/// Only which sectors are taken counts, and not which runs have them: what is placed is placed.
+pub fn placed_by_sectors()
+    ensures { (a : Area) (alignment start : ℕ) (end : End) (runs : List Run) (r : Run) → SameSectors a.taken runs
+        → Placed a alignment start end r → Placed (with_taken a runs) alignment start end r }
+{}
+
+/// And what is refused is refused.
+pub fn refused_by_sectors()
+    ensures { (a : Area) (alignment start : ℕ) (end : End) (runs : List Run) (r : Refusal) → SameSectors a.taken runs
+        → NotPlaced a alignment start end r → NotPlaced (with_taken a runs) alignment start end r }
+{}
+
+/// A partition has a place in each area, or there is a reason why it has none.
+pub fn place_answers()
+    ensures { (a : Area) (alignment start : ℕ) (end : End) → ((r : Run) × Placed a alignment start end r)
+        ⊎ ((e : Refusal) × NotPlaced a alignment start end e) }
+{}

@@ -1,5 +1,0 @@
-use Rattle.pt_exact.specs.laws.Tables.{both_planned_switch}
-use Rattle.pt_exact.proofs.laws.both_copies_come_with_one_switch.Goals as goal
-
-pub returns : goal.returns
-returns c = both_planned_switch

@@ -1,4 +1,0 @@
-//! Which of the planner's errors can be told: of the layout that a disk denotes, and of one that words make of it.
-#![tactic(auto)]
-
-pub mod laws;

@@ -1,2 +1,0 @@
-pub mod DeviceNumbers
-pub mod Parts

@@ -1,7 +1,0 @@
-use Rattle.std.proofs.Common.{ℕ, ◌<◌, ◌≤◌, slice_index_or}
-use Rattle.pt_file.specs.Uses.{IsOn}
-use Rattle.pt_file.specs.declared.uses.Claim.{Claim}
-use Rattle.pt_file.proofs.uses.use_among.Given as goal
-
-abbrev pub invariant-loop-claim : goal.invariant-loop-claim
-invariant-loop-claim l = (k : ℕ) (d : Claim) → k < l.claim-index → ¬ IsOn l.devices (slice_index_or l.claims k d)

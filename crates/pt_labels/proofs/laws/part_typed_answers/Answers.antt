@@ -1,5 +1,0 @@
-use Rattle.pt_labels.specs.laws.Answers.{part_typed_answers_lem}
-use Rattle.pt_labels.proofs.laws.part_typed_answers.Goals as goal
-
-pub returns : goal.returns
-returns c = part_typed_answers_lem

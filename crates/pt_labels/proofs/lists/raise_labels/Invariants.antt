@@ -1,7 +1,0 @@
-use Rattle.std.proofs.Common.{◌≡◌}
-use Rattle.pt_labels.specs.Lists.{raised_as}
-use Rattle.pt_labels.proofs.Changed.{changed_to}
-use Rattle.pt_labels.proofs.lists.raise_labels.Given as goal
-
-abbrev pub invariant-loop-k : goal.invariant-loop-k
-invariant-loop-k l = l.items.items ≡ changed_to (raised_as l.number) l.k l.initial.items.items

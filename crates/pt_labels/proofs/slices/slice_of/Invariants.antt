@@ -1,8 +1,0 @@
-use Rattle.std.proofs.Common.{◌≡◌, ◌<◌, ℕ, get_or, Some, None}
-use Rattle.pt_members.specs.declared.member.Member.{Member}
-use Rattle.pt_members.specs.Members.{slots}
-use Rattle.pt_labels.specs.Slices.{IsSliceOf}
-use Rattle.pt_labels.proofs.slices.slice_of.Given as goal
-
-abbrev pub invariant-loop-k : goal.invariant-loop-k
-invariant-loop-k g l = (j : ℕ) (x : Member) → j < l.k → get_or (slots g.row.B l.body) j None ≡ Some x → ¬ IsSliceOf l.number x

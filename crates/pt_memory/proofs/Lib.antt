@@ -1,3 +1,0 @@
-pub mod InMemory
-pub mod Picked
-pub mod Crashes

@@ -1,8 +1,0 @@
-use Rattle.std.proofs.Common.{arith}
-use Rattle.std.proofs.lemmas.Grind.{common_steps}
-use Rattle.pt_memory.specs.laws.Reading.{sector-reading}
-use Rattle.pt_memory.proofs.cache.WriteCache.read.Goals as goal
-
-pub returns : goal.returns
-returns g c =
-    grind (arith, common_steps, sector-reading c.args.self.now.pending.items c.args.self.now.durable.items c.args.lba.0 c.requires)

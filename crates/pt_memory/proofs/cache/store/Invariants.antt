@@ -1,6 +1,0 @@
-use Rattle.std.proofs.Common.{◌≡◌, drop}
-use Rattle.pt_memory.specs.Pending.{reading}
-use Rattle.pt_memory.proofs.cache.store.Given as goal
-
-abbrev pub invariant-loop-write : goal.invariant-loop-write
-invariant-loop-write g l = reading (drop l.write-index l.pending) l.durable ≡ reading l.pending l.initial.durable

@@ -1,2 +1,0 @@
--- Lemmas on the definitions of specs/: no contract is made of them.
-pub mod OneText

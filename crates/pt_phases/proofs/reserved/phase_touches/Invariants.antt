@@ -1,8 +1,0 @@
-use Rattle.std.proofs.Common.{take}
-use Rattle.pt_apply.specs.Plans.{writes_of}
-use Rattle.pt_phases.specs.Phases.{Touches}
-use Rattle.pt_phases.specs.Reserved.{IsAnyReserved}
-use Rattle.pt_phases.proofs.reserved.phase_touches.Given as goal
-
-abbrev pub invariant-loop-write : goal.invariant-loop-write
-invariant-loop-write g l = ¬ Touches (IsAnyReserved g.row.B l.reserved) (writes_of (take l.write-index l.phase))

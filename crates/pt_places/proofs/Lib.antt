@@ -1,9 +1,0 @@
-pub mod SameBytes
-pub mod Sums
-pub mod Encodings
-pub mod Sides
-pub mod Pieces
-pub mod ByFirst
-pub mod Lists
-pub mod Lifts
-pub mod Whole

@@ -1,3 +1,0 @@
-pub mod Answers
-pub mod Places
-pub mod Spots

@@ -1,0 +1,9 @@
+use Rattle.pt_recover.specs.Denotes.{Denotes}
+use Rattle.pt_plan.specs.Batches.{EditedBy, Commits, Repairs}
+use Rattle.pt_plan.proofs.RunsLemmas.{run_keeps_lem}
+use Rattle.pt_plan.proofs.runs.laws.run_keeps_history.Goals as goal
+
+pub returns : goal.returns
+returns c =
+    λ b n. run_keeps_lem (Denotes b) (EditedBy b n) (Commits b n) (λ w result old new did. did.history) (Repairs b n)
+    (λ result old new did. did.history)

@@ -1,0 +1,4 @@
+pub mod Commits
+pub mod Layouts
+pub mod Repairs
+pub mod Sessions

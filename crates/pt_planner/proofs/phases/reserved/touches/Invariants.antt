@@ -1,0 +1,7 @@
+use Rattle.std.proofs.Common.{take}
+use Rattle.pt_apply.specs.Plans.{phases_in, writes_in}
+use Rattle.pt_planner.specs.inner.Phases.{Touches, IsAnyReserved}
+use Rattle.pt_planner.proofs.phases.reserved.touches.Given as goal
+
+abbrev pub invariant-loop-phase : goal.invariant-loop-phase
+invariant-loop-phase g l = ¬ Touches (IsAnyReserved g.row.B l.reserved) (writes_in (phases_in (take l.phase-index l.phases)))

@@ -1,0 +1,70 @@
+-- What the planner knows of a disk, and what it reads: what private contracts cite.
+use Rattle.std.specs.Prelude.{◌≡◌, Option, Some, None, Result, Ok, Err, ◌⊎◌, ℕ, Bool, true, false}
+use Rattle.pt_recover.specs.declared.error.NoTable.{NoTable}
+use Rattle.pt_members.specs.declared.layout.Layout.{Layout}
+use Rattle.pt_layout.specs.declared.survey.Survey.{Survey}
+use Rattle.pt_planner.specs.declared.known.Known.{Known}
+use Rattle.pt_sector.specs.Sectors.{Sectors}
+use Rattle.pt_members.specs.Members.{number_path}
+use Rattle.pt_layout.specs.Sound.{IsUnsound}
+use Rattle.pt_layout.specs.declared.sound.finding.Finding.{Finding}
+use Rattle.pt_layout.specs.declared.sound.finding.Finding.TheVariants.{PrimaryCopy, BackupCopy, CopiesDiffer, Alternate, Protective}
+use Rattle.pt_layout.specs.declared.sound.finding.Finding.TheVariants.{ForeignLabel}
+use Rattle.pt_layout.specs.declared.health.Head.{Head}
+use Rattle.pt_layout.specs.declared.health.Head.TheVariants as head
+use Rattle.pt_planner.specs.declared.phases.order.Order.{Order}
+use Rattle.pt_planner.specs.declared.phases.order.Order.TheVariants.{BackupFirst, PrimaryFirst, FromMbr}
+use Rattle.pt_cases.specs.Unplanned.{LabelsFit, IsFirstLeft, HasUnreadable, NoneLeft}
+use Rattle.pt_cases.specs.declared.targets.error.PlanError.{PlanError}
+use Rattle.pt_cases.specs.declared.targets.error.PlanError.TheVariants.{NotOneSwitch, ReusedInOneBatch, NeedsRepair, Unsound, Device}
+use Rattle.pt_cases.specs.declared.targets.error.PlanError.TheVariants.{Memory}
+
+-- ## What the planner knows of a disk.
+
+-- the layout found, or the reason why none was
+abbrev pub FoundAs : Result Layout NoTable → Option Layout → Option NoTable → Type 0
+FoundAs (Ok o) old reason = (old ≡ Some o) × (reason ≡ None)
+FoundAs (Err e) old reason = (old ≡ None) × (reason ≡ Some e)
+
+-- what a survey says, in the planner's words
+pub record IsKnownOf (read : Survey) (x : Known) (reason : Option NoTable) : Type 0 where
+  pub head : x.head ≡ read.head
+  pub found : FoundAs read.found x.old reason
+  pub finding : x.finding ≡ read.finding
+  pub primary : x.primary ≡ read.primary
+  pub guarded : x.guarded ≡ read.guarded
+  pub trace : x.trace ≡ read.trace
+
+-- ## What the planner finds before it makes a plan.
+
+-- the findings that tell of a copy, or of what protects it
+abbrev pub IsBrokenBy : Option Finding → Bool → Type 0
+IsBrokenBy (Some (PrimaryCopy e)) broken = broken ≡ true
+IsBrokenBy (Some (BackupCopy e)) broken = broken ≡ true
+IsBrokenBy (Some CopiesDiffer) broken = broken ≡ true
+IsBrokenBy (Some (Alternate side)) broken = broken ≡ true
+IsBrokenBy (Some Protective) broken = broken ≡ true
+IsBrokenBy _ broken = broken ≡ false
+
+-- the order for a disk with this sector 0, and with a primary copy or without
+abbrev pub OrderOf : Head → Bool → Order → Type 0
+OrderOf head.Mbr primary order = order ≡ FromMbr
+OrderOf head.Protected true order = order ≡ BackupFirst
+OrderOf head.Protected false order = order ≡ PrimaryFirst
+OrderOf head.Unprotected true order = order ≡ BackupFirst
+OrderOf head.Unprotected false order = order ≡ PrimaryFirst
+
+-- why the label places of p have no targets
+abbrev pub PlacesStop : ℕ → Sectors → Option Layout → Layout → PlanError → Type 0
+PlacesStop b d o p NotOneSwitch = (¬ LabelsFit b p) ⊎ (NoneLeft b d p × HasUnreadable b d o p)
+PlacesStop b d o p (Unsound f) = (n : ℕ) × IsFirstLeft b d p n × (f ≡ ForeignLabel (number_path n))
+PlacesStop b d o p Memory = Unit {0}
+PlacesStop b d o p (Device fault) = Unit {0}
+PlacesStop b d o p ReusedInOneBatch = ⊥
+PlacesStop b d o p NeedsRepair = ⊥
+
+-- the first thing that is wrong with the layout, or want of memory
+abbrev pub IsUnsoundBy : ℕ → Layout → PlanError → Type 0
+IsUnsoundBy b p (Unsound f) = IsUnsound b p f
+IsUnsoundBy b p Memory = Unit {0}
+IsUnsoundBy b p _ = ⊥

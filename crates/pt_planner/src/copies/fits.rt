@@ -1,0 +1,43 @@
+//! Whether a table fits a disk.
+
+ghost use Rattle.std.specs.Prelude.{◌≡◌, ◌<◌, ◌≤◌, IsTrue, ◌↔◌};
+ghost use Rattle.pt_sector.specs.Sectors.{IsSectorSize};
+ghost use Rattle.pt_gpt.specs.Copies.{AllTyped};
+ghost use Rattle.pt_cases.specs.Writes.{FitsTable};
+
+use pt_gpt::{Entry, Table, array_sectors};
+
+/// The most entries that a table has.
+const MOST_ENTRIES: usize = 128;
+
+/// Whether each used entry has a type.
+fn all_typed(entries: &[Option<Entry>]) -> bool
+    ensures { IsTrue result ↔ AllTyped entries.now }
+{
+    for k in 0..entries.len() {
+        if let Some(entry) = entries[k] {
+            if entry.kind.0 == [0; 16] {
+                return false;
+            }
+        }
+    }
+    true
+}
+
+/// Whether a GPT of so many sectors may have the table.
+pub fn fits_table<const B: usize>(sectors: u64, table: &Table) -> bool
+    requires { IsSectorSize B }
+    ensures { IsTrue result ↔ FitsTable B sectors table.now }
+{
+    let edge = array_sectors::<B>() + 2;
+    if sectors < 2 * edge {
+        return false;
+    }
+    if table.entries.len() < 1 || table.entries.len() > MOST_ENTRIES {
+        return false;
+    }
+    if table.first < edge || table.first > table.last || table.last > sectors - edge {
+        return false;
+    }
+    all_typed(table.entries.as_slice())
+}

@@ -1,0 +1,227 @@
+//! Plans that write both copies of a table, and labels with them.
+
+ghost use Rattle.std.specs.Prelude.{◌≡◌, ◌<◌, ◌≤◌, ◌∷◌, ◌++◌, [], length, All, IfOk, OnOk};
+ghost use Rattle.pt_sector.specs.Sectors.{IsSectorSize};
+ghost use Rattle.pt_apply.specs.Plans.{writes_of, phases_of, phases_in, InRange, PhaseInRange, writes_in};
+ghost use Rattle.pt_sum.specs.Sums.{crc_of};
+ghost use Rattle.pt_gpt.specs.Copies.{array_bytes, AllFit, HasRoom};
+ghost use Rattle.pt_gpt.specs.declared.table.Side.TheVariants.{Primary};
+ghost use Rattle.pt_cases.specs.Cases.{backup_first_phases, primary_first_phases, from_mbr_phases, primary_and_labels};
+ghost use Rattle.pt_cases.specs.Writes.{array_phase, one_write};
+ghost use Rattle.pt_cases.specs.Keeps.{copies_bound};
+ghost use Rattle.pt_planner.specs.inner.Phases.{ArePrimary};
+ghost use Rattle.pt_planner.specs.Phases.{last_of, WroteCopies};
+
+use crate::copies::parts::{header_sector, push_array, push_backup, single, sum_of};
+use pt_apply::{Plan, Write};
+use pt_gpt::{Side, Table};
+use pt_sector::Sector;
+use std::alloc::{AllocError, Global};
+
+/// The first sector of the primary array.
+const PRIMARY_ARRAY: u64 = 2;
+
+/// The primary array.
+fn primary_array<const B: usize>(
+    alloc: Global,
+    sectors: u64,
+    table: &Table,
+) -> Result<Vec<Write<B>>, AllocError>
+    requires size { IsSectorSize B }
+    requires room { HasRoom B sectors }
+    ensures { IfOk result (λ ws. writes_of ws.items ≡ array_phase B sectors table.now Primary) }
+{
+    let mut writes = Vec::new(alloc);
+    push_array(&mut writes, table.entries.as_slice(), PRIMARY_ARRAY)?;
+    Ok(writes)
+}
+
+/// The primary array, and labels after it.
+fn array_and_labels<const B: usize>(
+    alloc: Global,
+    sectors: u64,
+    table: &Table,
+    labels: &[Write<B>],
+) -> Result<Vec<Write<B>>, AllocError>
+    requires size { IsSectorSize B }
+    requires room { HasRoom B sectors }
+    ensures { IfOk result (λ ws. writes_of ws.items ≡ primary_and_labels B sectors table.now (writes_of labels.now)) }
+{
+    let mut writes = primary_array(alloc, sectors, table)?;
+    writes.extend_from_slice(labels)?;
+    Ok(writes)
+}
+
+/// Adds a phase.
+fn push_phase<const B: usize>(
+    phases: &mut Vec<Vec<Write<B>>>,
+    phase: Vec<Write<B>>,
+) -> Result<(), AllocError>
+    ensures { OnOk result (phases_in phases.new.items ≡ phases_in phases.old.items ++ writes_of phase.entry.items ∷ []) }
+{
+    phases.push(phase)?;
+    Ok(())
+}
+
+/// Adds a phase of one write.
+fn push_single<const B: usize>(
+    phases: &mut Vec<Vec<Write<B>>>,
+    alloc: Global,
+    lba: u64,
+    bytes: &Sector<B>,
+) -> Result<(), AllocError>
+    requires { IsSectorSize B }
+    ensures { OnOk result (phases_in phases.new.items ≡ phases_in phases.old.items ++ one_write lba bytes.now ∷ []) }
+{
+    push_phase(phases, single(alloc, lba, bytes)?)
+}
+
+/// Adds the phases of the primary copy: its header zeroed, a phase that has its array, and its header.
+fn push_primary<const B: usize>(
+    phases: &mut Vec<Vec<Write<B>>>,
+    array: Vec<Write<B>>,
+    alloc: Global,
+    sectors: u64,
+    table: &Table,
+    sum: u32,
+) -> Result<(), AllocError>
+    requires size { IsSectorSize B }
+    requires room { HasRoom B sectors }
+    requires few { length table.now.entries ≤ 128 }
+    requires sum { sum ≡ crc_of (array_bytes table.now.entries) }
+    requires fit { AllFit table.now.entries }
+    ensures { OnOk result (ArePrimary B sectors table.now (writes_of array.entry.items) (phases_in phases.old.items)
+        (phases_in phases.new.items)) }
+{
+    push_single(phases, alloc, 1, &[0; B])?;
+    push_phase(phases, array)?;
+    push_single(
+        phases,
+        alloc,
+        1,
+        &header_sector(sectors, table, sum, Side::Primary),
+    )?;
+    Ok(())
+}
+
+/// Adds the phase of sector 0, if it is written.
+fn push_last<const B: usize>(
+    phases: &mut Vec<Vec<Write<B>>>,
+    alloc: Global,
+    last: &Option<Sector<B>>,
+) -> Result<(), AllocError>
+    requires { IsSectorSize B }
+    ensures { OnOk result (phases_in phases.new.items ≡ phases_in phases.old.items ++ last_of last.now) }
+{
+    match last {
+        Some(bytes) => push_single(phases, alloc, 0, bytes),
+        None => Ok(()),
+    }
+}
+
+/// The plan where a primary copy stands: the labels and the backup copy; sector 1 zeroed; the primary array; the primary
+/// header; sector 0, if it is written.
+pub fn backup_first<const B: usize>(
+    alloc: Global,
+    sectors: u64,
+    table: &Table,
+    labels: Vec<Write<B>>,
+    last: &Option<Sector<B>>,
+) -> Result<Plan<B>, AllocError>
+    requires size { IsSectorSize B }
+    requires room { HasRoom B sectors }
+    requires few { length table.now.entries ≤ 128 }
+    requires labels_in_range { PhaseInRange sectors labels.items }
+    ensures phases { IfOk result (λ plan. WroteCopies B sectors table.now
+        (λ p k. backup_first_phases B sectors table.now p k (writes_of labels.entry.items) (last_of last.now)) (phases_of plan)) }
+    ensures in_range { IfOk result (InRange sectors) }
+    ensures some { IfOk result (λ plan. All (λ p. 0 < length p.items) plan.phases.items) }
+    ensures count { IfOk result (λ plan. length (writes_in (phases_of plan)) ≤ copies_bound B (length labels.entry.items)) }
+{
+    let sum = sum_of(table);
+    let mut front = labels;
+    push_backup(&mut front, sectors, table, sum)?;
+    let array = primary_array(alloc, sectors, table)?;
+    let mut phases = Vec::new(alloc);
+    push_phase(&mut phases, front)?;
+    push_primary(&mut phases, array, alloc, sectors, table, sum)?;
+    push_last(&mut phases, alloc, last)?;
+    Ok(Plan { phases })
+}
+
+/// The plan where no primary copy stands: sector 1 zeroed; the primary array and the labels; the primary header; the
+/// backup copy; sector 0, if it is written.
+pub fn primary_first<const B: usize>(
+    alloc: Global,
+    sectors: u64,
+    table: &Table,
+    labels: Vec<Write<B>>,
+    last: &Option<Sector<B>>,
+) -> Result<Plan<B>, AllocError>
+    requires size { IsSectorSize B }
+    requires room { HasRoom B sectors }
+    requires few { length table.now.entries ≤ 128 }
+    requires labels_in_range { PhaseInRange sectors labels.items }
+    ensures phases { IfOk result (λ plan. WroteCopies B sectors table.now
+        (λ p k. primary_first_phases B sectors table.now p k (writes_of labels.entry.items) (last_of last.now)) (phases_of plan)) }
+    ensures in_range { IfOk result (InRange sectors) }
+    ensures some { IfOk result (λ plan. All (λ p. 0 < length p.items) plan.phases.items) }
+    ensures count { IfOk result (λ plan. length (writes_in (phases_of plan)) ≤ copies_bound B (length labels.entry.items)) }
+{
+    let sum = sum_of(table);
+    let array = array_and_labels(alloc, sectors, table, labels.as_slice())?;
+    let mut backup = Vec::new(alloc);
+    push_backup(&mut backup, sectors, table, sum)?;
+    let mut phases = Vec::new(alloc);
+    push_primary(&mut phases, array, alloc, sectors, table, sum)?;
+    push_phase(&mut phases, backup)?;
+    push_last(&mut phases, alloc, last)?;
+    Ok(Plan { phases })
+}
+
+/// The phases from an MBR disk.
+fn phases_from_mbr<const B: usize>(
+    alloc: Global,
+    sectors: u64,
+    table: &Table,
+    labels: &[Write<B>],
+    head: &Sector<B>,
+) -> Result<Vec<Vec<Write<B>>>, AllocError>
+    requires size { IsSectorSize B }
+    requires room { HasRoom B sectors }
+    requires few { length table.now.entries ≤ 128 }
+    ensures { IfOk result (λ ps. WroteCopies B sectors table.now
+        (λ p k. from_mbr_phases B sectors table.now p k (writes_of labels.now) head.now) (phases_in ps.items)) }
+{
+    let sum = sum_of(table);
+    let mut writes = single(alloc, 1, &header_sector(sectors, table, sum, Side::Primary))?;
+    push_array(&mut writes, table.entries.as_slice(), PRIMARY_ARRAY)?;
+    writes.extend_from_slice(labels)?;
+    push_backup(&mut writes, sectors, table, sum)?;
+    let mut phases = Vec::new(alloc);
+    push_phase(&mut phases, writes)?;
+    push_single(&mut phases, alloc, 0, head)?;
+    Ok(phases)
+}
+
+/// The plan from an MBR disk: both copies and the labels; sector 0.
+pub fn from_mbr<const B: usize>(
+    alloc: Global,
+    sectors: u64,
+    table: &Table,
+    labels: Vec<Write<B>>,
+    head: &Sector<B>,
+) -> Result<Plan<B>, AllocError>
+    requires size { IsSectorSize B }
+    requires room { HasRoom B sectors }
+    requires few { length table.now.entries ≤ 128 }
+    requires labels_in_range { PhaseInRange sectors labels.items }
+    ensures phases { IfOk result (λ plan. WroteCopies B sectors table.now
+        (λ p k. from_mbr_phases B sectors table.now p k (writes_of labels.entry.items) head.now) (phases_of plan)) }
+    ensures in_range { IfOk result (InRange sectors) }
+    ensures some { IfOk result (λ plan. All (λ p. 0 < length p.items) plan.phases.items) }
+    ensures count { IfOk result (λ plan. length (writes_in (phases_of plan)) ≤ copies_bound B (length labels.entry.items)) }
+{
+    let phases = phases_from_mbr(alloc, sectors, table, labels.as_slice(), head)?;
+    Ok(Plan { phases })
+}

@@ -1,0 +1,110 @@
+//! The plan of both copies.
+
+ghost use Rattle.std.specs.Prelude.{◌≡◌, ◌<◌, ◌≤◌, length, All, IfOk, IfErr, None};
+ghost use Rattle.pt_sector.specs.Sectors.{Sectors, IsSectorSize};
+ghost use Rattle.pt_apply.specs.Plans.{writes_of, phases_of, InRange, PhaseInRange, writes_in};
+ghost use Rattle.pt_gpt.specs.Copies.{HasRoom};
+ghost use Rattle.pt_members.specs.declared.layout.Layout.{Layout};
+ghost use Rattle.pt_cases.specs.Cases.{IsPlan};
+ghost use Rattle.pt_cases.specs.Keeps.{copies_bound};
+ghost use Rattle.pt_cases.specs.Unplanned.{HasNoCopies, fault_in, StopsBy};
+ghost use Rattle.pt_planner.specs.inner.Phases.{Arranged, Closes};
+ghost use Rattle.pt_planner.specs.Phases.{CopiesStart, last_of};
+ghost use Rattle.pt_planner.specs.declared.phases.order.Order.TheVariants.{FromMbr};
+
+use crate::copies::{backup_first, from_mbr, primary_first, protected_head, protecting};
+use crate::phases::order::Order;
+use crate::phases::refusal::accept;
+use crate::phases::setting::Setting;
+use pt_apply::{Plan, Write};
+use pt_cases::targets::{PlanError, Target, in_order, new_writes};
+use pt_gpt::Table;
+use pt_sector::Sector;
+use std::alloc::{AllocError, Global};
+
+/// The sector 0 to be written last, none where it is protective.
+fn last_sector<const B: usize>(sectors: u64, head: &Option<Sector<B>>) -> Option<Sector<B>>
+    requires { IsSectorSize B }
+    ensures { Closes sectors head.now (last_of result) }
+{
+    match head {
+        None => None,
+        Some(head) => protecting(sectors, head),
+    }
+}
+
+/// The phases of both copies and these labels.
+fn arranged<const B: usize>(
+    alloc: Global,
+    order: Order,
+    setting: &Setting<B>,
+    table: &Table,
+    labels: Vec<Write<B>>,
+) -> Result<Plan<B>, AllocError>
+    requires size { IsSectorSize B }
+    requires room { HasRoom B setting.now.sectors }
+    requires few { length table.now.entries ≤ 128 }
+    requires head { order ≡ FromMbr → ¬ (setting.now.head ≡ None) }
+    requires labels_in_range { PhaseInRange setting.now.sectors labels.items }
+    ensures phases { IfOk result (λ plan. Arranged B setting.now.sectors table.now setting.now.head
+        (writes_of labels.entry.items) order (phases_of plan)) }
+    ensures in_range { IfOk result (InRange setting.now.sectors) }
+    ensures some { IfOk result (λ plan. All (λ p. 0 < length p.items) plan.phases.items) }
+    ensures short { IfOk result (λ plan. length plan.phases.items ≤ 5) }
+    ensures count { IfOk result (λ plan. length (writes_in (phases_of plan)) ≤ copies_bound B (length labels.entry.items)) }
+{
+    let sectors = setting.sectors;
+    let last = last_sector(sectors, &setting.head);
+    match order {
+        Order::BackupFirst => backup_first(alloc, sectors, table, labels, &last),
+        Order::PrimaryFirst => primary_first(alloc, sectors, table, labels, &last),
+        Order::FromMbr => {
+            let head = setting.head.unwrap_or([0; B]);
+            from_mbr(
+                alloc,
+                sectors,
+                table,
+                labels,
+                &protected_head(sectors, &head),
+            )
+        }
+    }
+}
+
+/// The plan that writes both copies of a GPT's table, in the order that the disk asks for, and the new labels.
+///
+/// `places` are the targets of the wanted layout's label places, in any order. It is `NotOneSwitch` first where two of
+/// them are of one sector, then `ReusedInOneBatch`, and then `NotOneSwitch` for a label that changes or a guarded sector.
+pub fn both_copies<const B: usize>(
+    alloc: Global,
+    order: Order,
+    setting: &Setting<B>,
+    table: &Table,
+    places: Vec<Target<B>>,
+) -> Result<Plan<B>, PlanError>
+    requires size { IsSectorSize B }
+    requires room { HasRoom B setting.now.sectors }
+    requires few { length table.now.entries ≤ 128 }
+    requires head { order ≡ FromMbr → ¬ (setting.now.head ≡ None) }
+    requires in_range { All (λ t. t.at.0 < setting.now.sectors) places.items }
+    ensures plan { IfOk result (λ plan. (d : Sectors) (p : Layout) → length d ≡ setting.now.sectors
+        → CopiesStart d setting.now.old.now p table.now order setting.now.guarded.now setting.now.head places.entry.items
+        → IsPlan B d p (phases_of plan)) }
+    ensures err { IfErr result (λ e. (d : Sectors) (p : Layout) → length d ≡ setting.now.sectors
+        → CopiesStart d setting.now.old.now p table.now order setting.now.guarded.now setting.now.head places.entry.items
+        → StopsBy B d setting.now.old.now p (HasNoCopies B d setting.now.old.now p) e) }
+    ensures in_range { IfOk result (InRange setting.now.sectors) }
+    ensures some { IfOk result (λ plan. All (λ p. 0 < length p.items) plan.phases.items) }
+    ensures faultless { IfErr result (λ e. fault_in e ≡ None) }
+    ensures short { IfOk result (λ plan. length plan.phases.items ≤ 5) }
+    ensures count { IfOk result (λ plan. length (writes_in (phases_of plan)) ≤ copies_bound B (length places.entry.items)) }
+{
+    let targets = match in_order(places) {
+        None => return Err(PlanError::NotOneSwitch),
+        Some(targets) => targets,
+    };
+    let labels = new_writes(alloc, &targets, setting.guarded)?;
+    let plan = arranged(alloc, order, setting, table, labels)?;
+    accept(order, setting.old, setting.guarded, &targets, &plan)?;
+    Ok(plan)
+}

@@ -1,7 +1,0 @@
-use Rattle.std.proofs.Common.{◌<◌, ℕ}
-use Rattle.pt_records.specs.Chains.{ebr_at}
-use Rattle.pt_records.specs.Entered.{IsEmptyIn}
-use Rattle.pt_records.proofs.chain_enter.find_empty.Given as goal
-
-abbrev pub invariant-loop-k : goal.invariant-loop-k
-invariant-loop-k l = (j : ℕ) → j < l.k → ¬ IsEmptyIn l.at.0 (ebr_at l.chain j)

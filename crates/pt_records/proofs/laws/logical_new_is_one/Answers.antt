@@ -1,5 +1,0 @@
-use Rattle.pt_records.specs.laws.ChainNewLaws.{logical_new_one_lem}
-use Rattle.pt_records.proofs.laws.logical_new_is_one.Goals as goal
-
-pub returns : goal.returns
-returns c = logical_new_one_lem

@@ -1,5 +1,0 @@
-use Rattle.pt_records.specs.laws.LinkLaws.{logical_typed_linked_lem}
-use Rattle.pt_records.proofs.laws.logical_typed_is_linked.Goals as goal
-
-pub returns : goal.returns
-returns c = logical_typed_linked_lem

@@ -1,5 +1,0 @@
--- Lemmas on the definitions of specs/: no contract is made of them.
-pub mod Terms
-pub mod Same
-pub mod One
-pub mod Reasons

@@ -1,0 +1,4 @@
+pub mod ForFields
+pub mod Given
+pub mod Replies
+pub mod Wanted

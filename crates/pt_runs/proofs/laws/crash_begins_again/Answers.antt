@@ -1,7 +1,0 @@
-use Rattle.pt_recover.specs.Denotes.{Denotes}
-use Rattle.pt_plan.specs.Batches.{EditedBy}
-use Rattle.pt_runs.specs.Calls.{begins_again_lem}
-use Rattle.pt_runs.proofs.laws.crash_begins_again.Goals as goal
-
-pub returns : goal.returns
-returns c = λ b n. begins_again_lem (Denotes b) (EditedBy b n)

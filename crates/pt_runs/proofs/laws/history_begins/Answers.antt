@@ -1,7 +1,0 @@
-use Rattle.pt_recover.specs.Denotes.{Denotes}
-use Rattle.pt_plan.specs.Batches.{EditedBy}
-use Rattle.pt_runs.specs.Calls.{begins_lem}
-use Rattle.pt_runs.proofs.laws.history_begins.Goals as goal
-
-pub returns : goal.returns
-returns c = λ b n. begins_lem (Denotes b) (EditedBy b n)

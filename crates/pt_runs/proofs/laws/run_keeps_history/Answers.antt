@@ -1,9 +1,0 @@
-use Rattle.pt_recover.specs.Denotes.{Denotes}
-use Rattle.pt_plan.specs.Batches.{EditedBy, Commits, Repairs}
-use Rattle.pt_runs.specs.laws.Carried.{run_keeps_lem}
-use Rattle.pt_runs.proofs.laws.run_keeps_history.Goals as goal
-
-pub returns : goal.returns
-returns c =
-    λ b n. run_keeps_lem (Denotes b) (EditedBy b n) (Commits b n) (λ w result old new did. did.history) (Repairs b n)
-    (λ result old new did. did.history)

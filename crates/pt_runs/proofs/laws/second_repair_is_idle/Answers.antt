@@ -1,9 +1,0 @@
-use Rattle.std.proofs.Common.{⊎_elim}
-use Rattle.pt_runs.specs.laws.Idle.{only_flushes_lem}
-use Rattle.pt_runs.proofs.laws.second_repair_is_idle.Goals as goal
-
-pub returns : goal.returns
-returns c = λ b n words result old mid new done again. ⊎_elim
-    (λ did. only_flushes_lem mid new did.ends.0 (again.idle did.ends.1))
-    (λ did. only_flushes_lem mid new did.ends.0 (again.idle did.ends.1))
-    done

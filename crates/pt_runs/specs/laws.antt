@@ -1,3 +1,0 @@
--- Lemmas on the definitions of specs/: no contract is made of them.
-pub mod Carried
-pub mod Idle

@@ -1,7 +1,0 @@
-//! Sessions of commits, and the laws of runs of commits, repairs and sessions.
-#![tactic(auto)]
-
-pub mod laws;
-mod sessions;
-
-pub use sessions::{Batch, Reply, session};

@@ -1,0 +1,2 @@
+pub mod ForFields
+pub mod Sectors

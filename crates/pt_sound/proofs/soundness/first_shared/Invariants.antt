@@ -1,7 +1,0 @@
-use Rattle.std.proofs.Common.{ℕ, ◌<◌, get_or}
-use Rattle.pt_sound.specs.Overlaps.{IsApart}
-use Rattle.pt_sound.specs.Row.{no_group}
-use Rattle.pt_sound.proofs.soundness.first_shared.Given as goal
-
-abbrev pub invariant-loop-k : goal.invariant-loop-k
-invariant-loop-k l = (j : ℕ) → j < l.k → IsApart (get_or l.groups j no_group).members

@@ -1,6 +1,0 @@
-use Rattle.pt_space.specs.Area.{area_of}
-use Rattle.pt_space.proofs.Gaps.{Swept}
-use Rattle.pt_space.proofs.block.sweep.Given as goal
-
-abbrev pub invariant-loop-run : goal.invariant-loop-run
-invariant-loop-run l = Swept (area_of l.space) l.alignment l.run-index l.first l.best

@@ -1,5 +1,0 @@
-use Rattle.pt_space.specs.laws.Terms.{placed_is_not_refused_lem}
-use Rattle.pt_space.proofs.laws.placed_is_not_refused.Goals as goal
-
-pub returns : goal.returns
-returns c = placed_is_not_refused_lem

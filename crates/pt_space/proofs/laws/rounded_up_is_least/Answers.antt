@@ -1,5 +1,0 @@
-use Rattle.pt_space.specs.laws.Rounding.{rounded_up_is_least_lem}
-use Rattle.pt_space.proofs.laws.rounded_up_is_least.Goals as goal
-
-pub returns : goal.returns
-returns c = rounded_up_is_least_lem

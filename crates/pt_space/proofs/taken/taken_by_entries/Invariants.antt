@@ -1,7 +1,0 @@
-use Rattle.std.proofs.Common.{◌≡◌, take}
-use Rattle.pt_members.specs.Members.{entries_as}
-use Rattle.pt_space.specs.Taken.{taken_by}
-use Rattle.pt_space.proofs.taken.taken_by_entries.Given as goal
-
-abbrev pub invariant-loop-k : goal.invariant-loop-k
-invariant-loop-k l = l.taken.items ≡ taken_by (take l.k (entries_as 512 1 l.entries))

@@ -1,7 +1,0 @@
-use Rattle.std.proofs.Common.{◌≡◌, take, Some}
-use Rattle.pt_members.specs.Members.{parts_in}
-use Rattle.pt_space.specs.Taken.{taken_by}
-use Rattle.pt_space.proofs.taken.taken_by_parts.Given as goal
-
-abbrev pub invariant-loop-k : goal.invariant-loop-k
-invariant-loop-k l = l.taken.items ≡ taken_by (take l.k (parts_in (Some l.label) l.slice))

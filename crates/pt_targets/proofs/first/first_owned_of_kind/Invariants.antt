@@ -1,7 +1,0 @@
-use Rattle.std.proofs.Common.{take}
-use Rattle.pt_targets.specs.Firsts.{NoneHas}
-use Rattle.pt_targets.specs.Selected.{IsOwnedOf}
-use Rattle.pt_targets.proofs.first.first_owned_of_kind.Given as goal
-
-abbrev pub invariant-loop-target : goal.invariant-loop-target
-invariant-loop-target g l = NoneHas (IsOwnedOf l.old l.kind) (take l.target-index l.targets)

@@ -1,5 +1,0 @@
-use Rattle.pt_apply.specs.Plans.{PhaseInRange}
-use Rattle.pt_trials_layouts.proofs.apply.phase.Given as goal
-
-abbrev pub invariant-loop-k : goal.invariant-loop-k
-invariant-loop-k g l = PhaseInRange 4096 l.writes.items

@@ -1,5 +1,0 @@
--- Lemmas on the definitions of specs/: no contract is made of them.
-pub mod OneWord
-pub mod WordLaws
-pub mod Searches
-pub mod Answers
