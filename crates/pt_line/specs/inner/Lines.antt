@@ -72,7 +72,8 @@ IsSizeNamed text Bytes4096 = text ≡ codes "4096"
 -- the same, where every other value stands for 512
 abbrev pub IsSizeOrLess : List Row → Option SectorSize → Type 0
 IsSizeOrLess rows None = first_of (codes "sector-size") rows ≡ None
-IsSizeOrLess rows (Some Bytes512) = IsSome (first_of (codes "sector-size") rows) × (first_of (codes "sector-size") rows ≢ Some (codes "4096"))
+IsSizeOrLess rows (Some Bytes512) =
+    IsSome (first_of (codes "sector-size") rows) × (first_of (codes "sector-size") rows ≢ Some (codes "4096"))
 IsSizeOrLess rows (Some Bytes4096) = first_of (codes "sector-size") rows ≡ Some (codes "4096")
 
 -- no command has this name

@@ -36,7 +36,9 @@ module _ {D : Type 0} (count : D → ℕ) (name : D → ℕ) (reads : D → D �
   untouched_same reads_same a =
       record { same_count = refl; same_name = refl; through = reads_same a; same = λ t. refl; came = no_faults (faults a) (faults a) refl }
 
-  pub untouched_on : ((a b c : D) → reads a b → reads b c → reads a c) → (a b c : D) → (Untouched {D = D} count name reads tells told faults) a b → (Untouched {D = D} count name reads tells told faults) b c → (Untouched {D = D} count name reads tells told faults) a c
+  pub untouched_on : ((a b c : D) → reads a b → reads b c → reads a c) → (a b c : D)
+      → (Untouched {D = D} count name reads tells told faults) a b → (Untouched {D = D} count name reads tells told faults) b c
+      → (Untouched {D = D} count name reads tells told faults) a c
   untouched_on reads_on a b c ab bc = record {
     same_count = bc.same_count ∙ ab.same_count;
     same_name = bc.same_name ∙ ab.same_name;
