@@ -13,8 +13,8 @@ bodies=$(mktemp)
 scripts=$(mktemp)
 # the programs, those that only tests run, and the archive for callers in C, once they are proved
 ptab="$PWD/crates/ptab/out/ptab"
-doubles="$PWD/crates/pt_doubles/out/test_doubles"
-faults="$PWD/crates/pt_faults/out/test_faults"
+doubles="$PWD/crates/test_doubles/out/test_doubles"
+faults="$PWD/crates/test_faults/out/test_faults"
 archive="$PWD/crates/pt_c/out/libpt_c.a"
 # Beside `rt ci`, on processors that it leaves idle: more wrong bodies, each once what its crate stands on is proved, and the scripts, each
 # once what it runs is. These run on all processors once `rt ci` has ended, and the wrong bodies on two, so those go first. Each has a
