@@ -1,15 +1,13 @@
 //! `show`, `verify` and `locate`.
 
-ghost use Rattle.std.specs.Prelude.{◌≡◌, IfOk};
+ghost use Rattle.std.specs.Prelude.{◌≡◌};
 ghost use Rattle.pt_sector.specs.Device.{Blames};
-ghost use Rattle.pt_sector.specs.Overlays.{OnlyReads, fault_of};
+ghost use Rattle.pt_sector.specs.Overlays.{OnlyReads};
 ghost use Rattle.pt_sector.specs.Sectors.{IsSectorSize};
 ghost use Rattle.pt_recover.specs.Denotes.{fault_in};
 ghost use Rattle.pt_apply.specs.Plans.{phases_of};
-ghost use Rattle.pt_check.specs.Answers.{fault_in as check_fault_in};
-ghost use Rattle.pt_plan.specs.Layouts.{AfterIs};
-ghost use Rattle.pt_answers.specs.Answers.{Answers, Locates, NamesPlace, PlaceIs, Recovers, Verifies, after_reply, locate_reply};
-ghost use Rattle.pt_answers.specs.Answers.{show_reply, verify_reply};
+ghost use Rattle.pt_answers.specs.Answers.{Locates, NamesPlace, PlaceIs};
+ghost use Rattle.pt_answers.specs.OnDisks.{LocatesOn, ShowsAfter, ShowsDisk, VerifiesDisk};
 
 use crate::failure::Failure;
 use pt_apply::Plan;
@@ -23,9 +21,7 @@ use std::alloc::Global;
 /// The layout that a disk denotes.
 pub fn show_disk<const B: usize, D: Disk<B>>(alloc: Global, disk: &mut D) -> Result<Reply, Failure>
     requires size { IsSectorSize B }
-    ensures same { OnlyReads D.Disk disk.old disk.new }
-    ensures shows { Answers show_reply (λ r. Blames fault_in r (D.faults disk.old) (D.faults disk.new)
-        × (D.tells → Recovers B (D.told disk.old).seen r)) result }
+    ensures shows { ShowsDisk D.Disk disk.old disk.new result }
 {
     let layout = recover::<B, D>(alloc, disk)?;
     Ok(Reply::Layout(layout))
@@ -38,9 +34,7 @@ pub fn show_after<const B: usize, D: Disk<B>>(
     plan: &Plan<B>,
 ) -> Result<Reply, Failure>
     requires size { IsSectorSize B }
-    ensures same { OnlyReads D.Disk disk.old disk.new }
-    ensures shows { Answers after_reply (λ r. Blames check_fault_in r (D.faults disk.old) (D.faults disk.new)
-        × (D.tells → IfOk r (AfterIs B (D.told disk.old).seen (phases_of plan.now)))) result }
+    ensures shows { ShowsAfter D.Disk (phases_of plan.now) disk.old disk.new result }
 {
     match layout_after::<B, D>(alloc, disk, plan)? {
         After::Layout(layout) => Ok(Reply::Layout(layout)),
@@ -54,9 +48,7 @@ pub fn verify_disk<const B: usize, D: Disk<B>>(
     disk: &mut D,
 ) -> Result<Reply, Failure>
     requires size { IsSectorSize B }
-    ensures same { OnlyReads D.Disk disk.old disk.new }
-    ensures verifies { Answers verify_reply (λ r. Blames fault_of r (D.faults disk.old) (D.faults disk.new)
-        × (D.tells → Verifies B (D.told disk.old).seen r)) result }
+    ensures verifies { VerifiesDisk D.Disk disk.old disk.new result }
 {
     let verdict = verify::<B, D>(alloc, disk)?;
     Ok(Reply::Verdict(verdict))
@@ -70,9 +62,7 @@ pub fn locate_on<const B: usize, D: Disk<B>>(
     k: u64,
 ) -> Result<Reply, Failure>
     requires size { IsSectorSize B }
-    ensures same { OnlyReads D.Disk disk.old disk.new }
-    ensures locates { Answers locate_reply (λ r. Blames fault_in r (D.faults disk.old) (D.faults disk.new)
-        × (D.tells → Locates B (D.told disk.old).seen path.now k r)) result }
+    ensures locates { LocatesOn D.Disk path.now k disk.old disk.new result }
 {
     let place = place_on::<B, D>(alloc, disk, path, k)?;
     Ok(Reply::Place(place))

@@ -1,71 +1,39 @@
-//! Images: plain files, or block devices where the line says so.
+//! The files and the devices of the machine, as images.
 
+ghost use Rattle.std.specs.Prelude.{◌≡◌};
 ghost use Rattle.pt_sector.specs.Sectors.{IsSectorSize};
 
-use pt_answers::{Failure, as_device};
-use pt_disks::{Access, FileDisk, NoDevice, device_sector_size};
-use pt_line::{InUse, LockedBy, Medium, SectorSize};
+use crate::past::Past;
+use pt_answers::{Images, Opening, as_device};
+use pt_disks::{Access, FileDisk, NoDevice, OpenError, device_sector_size, open_plain};
+use pt_line::{InUse, Medium};
 use std::fs::{File, Files};
 
-/// How a line's image is opened.
-#[derive(Clone, Copy)]
-pub struct Opening {
-    pub medium: Medium,
-    pub in_use: InUse,
+/// Opens images as disks with sectors of `B` bytes: plain files, or block devices where the line says so.
+pub struct FileImages<'a, const B: usize, R: Files<File = File> + AllocGlobal> {
+    rt: &'a R,
+    past: Past<FileDisk<B>>,
 }
 
-impl Opening {
-    pub fn of(self, path: &str) -> Image<'_> {
-        Image {
-            path,
-            opening: self,
+impl<'a, const B: usize, R: Files<File = File> + AllocGlobal> FileImages<'a, B, R> {
+    pub fn new(rt: &'a R) -> FileImages<'a, B, R> {
+        FileImages {
+            rt,
+            past: Past::new(),
         }
     }
-}
 
-/// An image as a line names it.
-#[derive(Clone, Copy)]
-pub struct Image<'a> {
-    path: &'a str,
-    opening: Opening,
-}
-
-impl<'a> Image<'a> {
-    /// Opens it for reading.
-    pub fn read<const B: usize, R: Files<File = File> + AllocGlobal>(
-        self,
-        rt: &R,
-    ) -> Result<FileDisk<B>, NoDevice>
-        requires { IsSectorSize B }
-    {
-        self.open::<B, R>(rt, Access::Read)
-    }
-
-    /// Opens it for reading and writing, under a lock of the command's own or under the caller's.
-    pub fn write<const B: usize, R: Files<File = File> + AllocGlobal>(
-        self,
-        rt: &R,
-        locked_by: LockedBy,
-    ) -> Result<FileDisk<B>, NoDevice>
-        requires { IsSectorSize B }
-    {
-        let access = match locked_by {
-            LockedBy::Ptab => Access::Write,
-            LockedBy::Caller => Access::WriteUnlocked,
-        };
-        self.open::<B, R>(rt, access)
-    }
-
-    fn open<const B: usize, R: Files<File = File> + AllocGlobal>(
-        self,
-        rt: &R,
+    fn opened(
+        &self,
+        path: &str,
+        opening: Opening,
         access: Access,
     ) -> Result<FileDisk<B>, NoDevice>
         requires { IsSectorSize B }
     {
-        let Opening { medium, in_use } = self.opening;
+        let Opening { medium, in_use } = opening;
         match medium {
-            Medium::File => match FileDisk::<B>::open(rt, self.path, access) {
+            Medium::File => match FileDisk::<B>::open(self.rt, path, access) {
                 Ok(disk) => Ok(disk),
                 Err(error) => Err(as_device(error)),
             },
@@ -74,26 +42,36 @@ impl<'a> Image<'a> {
                     InUse::Refused => pt_disks::InUse::Refused,
                     InUse::Allowed => pt_disks::InUse::Allowed,
                 };
-                FileDisk::<B>::open_device(rt, self.path, access, in_use)
+                FileDisk::<B>::open_device(self.rt, path, access, in_use)
             }
         }
     }
+}
 
-    /// The size of its sectors: the one that the line says, else a device's own, else 512. A device that doesn't tell its own, or has
-    /// another one, is refused where it is opened.
-    pub fn sector_size<R: Files<File = File> + AllocGlobal>(
-        self,
-        rt: &R,
-        said: Option<SectorSize>,
-    ) -> Result<SectorSize, Failure> {
-        match (said, self.opening.medium) {
-            (Some(size), _) => Ok(size),
-            (None, Medium::File) => Ok(SectorSize::Bytes512),
-            (None, Medium::Device) => match device_sector_size(rt, self.path) {
-                Ok(4096) => Ok(SectorSize::Bytes4096),
-                Err(NoDevice::Memory) => Err(Failure::Memory),
-                _ => Ok(SectorSize::Bytes512),
-            },
-        }
+impl<'a, const B: usize, R: Files<File = File> + AllocGlobal> Images<B, FileDisk<B>, File>
+    for FileImages<'a, B, R>
+{
+    ghost past = { λ images. images.past.calls };
+
+    fn device_sector_size(&mut self, path: &str) -> Result<u64, NoDevice> {
+        let found = device_sector_size(self.rt, path);
+        self.past = self.past.sized(path, &found);
+        found
+    }
+
+    fn open(&mut self, path: &str, opening: Opening, access: Access) -> Result<FileDisk<B>, NoDevice> {
+        let opened = self.opened(path, opening, access);
+        self.past = self.past.opened(path, opening, access, &opened);
+        opened
+    }
+
+    fn close(&mut self, disk: FileDisk<B>) {
+        self.past = self.past.closed(&disk);
+    }
+
+    fn open_plan(&mut self, path: &str) -> Result<File, OpenError> {
+        let opened = open_plain(self.rt, path, Access::Read);
+        self.past = self.past.plan_opened(path, &opened);
+        opened
     }
 }

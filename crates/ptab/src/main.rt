@@ -1,19 +1,12 @@
 //! The command `ptab`: shows, verifies, edits and repairs the partition table of a disk image, and plans and checks edits.
 #![tactic(auto)]
 
-mod adopt;
-mod edits;
 mod images;
-mod plan_file;
-mod plans;
-mod repair;
-mod run;
-mod views;
-mod words;
+mod past;
 
-use pt_answers::{Failure, Status};
+use images::FileImages;
+use pt_answers::{Failure, Status, run};
 use pt_line::take_words;
-use run::run;
 use std::io::BufWriter;
 use std::process::ExitCode;
 
@@ -25,8 +18,16 @@ fn on_output(rt: &HostRuntime, words: &[String]) -> Result<Status, Failure> {
             return Err(Failure::Memory);
         }
     }
+    let mut small = FileImages::<512, HostRuntime>::new(rt);
+    let mut large = FileImages::<4096, HostRuntime>::new(rt);
     match BufWriter::new(rt.alloc(), rt.stdout()) {
-        Ok(mut out) => run(rt, texts.as_slice(), &mut out),
+        Ok(mut out) => run(
+            rt.alloc(),
+            &mut small,
+            &mut large,
+            texts.as_slice(),
+            &mut out,
+        ),
         Err(_) => Err(Failure::Memory),
     }
 }

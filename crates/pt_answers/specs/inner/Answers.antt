@@ -1,12 +1,21 @@
 -- What each subcommand answers, by what the library's call gave.
-use Rattle.std.specs.Prelude.{◌≡◌, ℕ, List, Result, Ok, Err}
+use Rattle.std.specs.Prelude.{◌≡◌, ◌<◌, ◌⊎◌, ℕ, List, Result, Ok, Err, IsUtf8, length}
 use Rattle.pt_sector.specs.Sectors.{Writes}
 use Rattle.pt_report.specs.declared.reply.Reply.{Reply}
 use Rattle.pt_answers.specs.declared.failure.Failure.{Failure}
 use Rattle.pt_answers.specs.declared.failure.Failure.TheVariants as failure
 use Rattle.pt_answers.specs.Answers.{IsTextOf}
+use Rattle.pt_answers.specs.Images.{most_text}
 
 -- that, or there was no memory for it
 abbrev pub IsTextOrMemory : ℕ → List Writes → Result Reply Failure → Type 0
 IsTextOrMemory b phases (Ok reply) = IsTextOf b phases reply
 IsTextOrMemory b phases (Err told) = told ≡ failure.Memory
+
+-- why a file can't be read
+abbrev pub IsUnreadable : Failure → Type 0
+IsUnreadable why = (why ≡ failure.Device) ⊎ (why ≡ failure.Memory)
+
+-- bytes that are too many, or no UTF-8
+abbrev pub IsNoText : List ℕ → Failure → Type 0
+IsNoText bytes why = (why ≡ failure.PlanText 0) × ((most_text < length bytes) ⊎ ¬ IsUtf8 bytes)

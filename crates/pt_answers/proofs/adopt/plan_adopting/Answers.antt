@@ -4,13 +4,13 @@ use Rattle.pt_plan.specs.declared.like_error.LikeError.TheVariants.{Disk}
 use Rattle.pt_answers.proofs.Texts.{text_told}
 use Rattle.pt_answers.proofs.adopt.plan_adopting.Goals as goal
 
-pub returns-clause-plans : goal.returns-clause-plans
-returns-clause-plans g c =
+pub returns : goal.returns
+returns g c =
     let plan = c.in_ok-plan.ensures in
-    text_told g.row.B _ _ _ (Disk Memory) _ _ (plan.blames, plan.blames_other, plan.planned) (
+    record { plans = (plan.same, plan.same_other, text_told g.row.B _ _ _ (Disk Memory) _ _ (plan.blames, plan.blames_other, plan.planned) (
       plan.blames,
       plan.blames_other,
       λ told told_other.
           ((plan.planned told told_other).wanted, (plan.planned told told_other).denotes, tt),
     )
-    refl c.text_of_plan.ensures
+    refl c.text_of_plan.ensures) }

@@ -1,16 +1,14 @@
 //! Plans in files.
 
-ghost use Rattle.std.specs.Prelude.{◌≡◌, ◌≤◌, ◌+◌, ◌==◌, length, take, count_by, IfOk, OnOk, IfSome};
+ghost use Rattle.std.specs.Prelude.{◌≡◌, ◌≢◌, ◌≤◌, ◌<◌, ◌+◌, length, take, count_by, IfOk, IfErr, OnOk, IfSome, IsUtf8};
 ghost use Rattle.std.specs.String.{string_bytes};
 ghost use Rattle.pt_sector.specs.Sectors.{IsSectorSize};
-ghost use Rattle.pt_apply.specs.Plans.{phases_of};
-ghost use Rattle.pt_apply.specs.PlanTexts.{PlanText};
+ghost use Rattle.pt_answers.specs.Images.{ReadsPlan, line_feeds};
+ghost use Rattle.pt_answers.specs.inner.Answers.{IsNoText, IsUnreadable};
 
-use pt_answers::Failure;
+use crate::failure::Failure;
 use pt_apply::{Plan, PlanTextError, read_plan};
-use pt_disks::{Access, open_plain};
 use std::alloc::Global;
-use std::fs::{File, Files};
 use std::io::{ErrorKind, Read};
 
 /// The most bytes that a plan's text may have, 8 MiB.
@@ -18,7 +16,8 @@ const MOST: usize = 8_388_608;
 
 /// The bytes that a reader begins with, one more than a plan's text may have at most.
 fn first_bytes<T: Read + Drop>(alloc: Global, reader: T) -> Result<Vec<u8>, Failure>
-    ensures { IfOk result (λ bytes. IfSome (T.remaining reader) (λ all. bytes.items ≡ take (MOST + 1) all)) }
+    ensures ok { IfOk result (λ bytes. IfSome (T.remaining reader) (λ all. bytes.items ≡ take (MOST + 1) all)) }
+    ensures err { IfErr result IsUnreadable }
 {
     let mut bytes = Vec::new(alloc);
     let mut start = reader.take(MOST as u64 + 1);
@@ -38,6 +37,7 @@ fn first_bytes<T: Read + Drop>(alloc: Global, reader: T) -> Result<Vec<u8>, Fail
 fn text_of(bytes: Vec<u8>) -> Result<String, Failure>
     ensures ok { IfOk result (λ text. string_bytes text ≡ bytes.items) }
     ensures short { OnOk result (length bytes.items ≤ MOST) }
+    ensures err { IfErr result (IsNoText bytes.items) }
 {
     if bytes.len() > MOST {
         return Err(Failure::PlanText(0));
@@ -49,7 +49,7 @@ fn text_of(bytes: Vec<u8>) -> Result<String, Failure>
 }
 
 fn count_lines(text: &str) -> u64
-    ensures { result ≡ count_by (λ byte. byte == 10) text.now }
+    ensures { result ≡ line_feeds text.now }
 {
     text.as_bytes()
         .iter()
@@ -57,10 +57,11 @@ fn count_lines(text: &str) -> u64
         .count() as u64
 }
 
-/// The plan of a text.
+/// The plan of a text that isn't too long.
 fn plan_of<const B: usize>(alloc: Global, text: &str) -> Result<Plan<B>, Failure>
-    requires { IsSectorSize B }
-    ensures { IfOk result (λ plan. PlanText B (phases_of plan) text.now) }
+    requires size { IsSectorSize B }
+    requires short { length text.now ≤ MOST }
+    ensures { ReadsPlan B (Some text.now) result }
 {
     match read_plan::<B>(alloc, text) {
         Ok(plan) => Ok(plan),
@@ -70,17 +71,16 @@ fn plan_of<const B: usize>(alloc: Global, text: &str) -> Result<Plan<B>, Failure
     }
 }
 
-/// The plan in a plain file.
+/// The plan in a file that was opened.
 ///
-/// `Device` where the file can't be read or isn't a plain one, `PlanText` where it holds no plan's text.
-pub fn read_plan_file<const B: usize, R: Files<File = File> + AllocGlobal>(
-    rt: &R,
-    path: &str,
+/// `Device` where it can't be read, `PlanText` where it holds no plan's text.
+pub(crate) fn plan_in<const B: usize, T: Read + Drop>(
+    alloc: Global,
+    file: T,
 ) -> Result<Plan<B>, Failure>
     requires { IsSectorSize B }
+    ensures { ReadsPlan B (T.remaining file) result }
 {
-    let alloc = rt.alloc();
-    let file = open_plain(rt, path, Access::Read)?;
     let text = text_of(first_bytes(alloc, file)?)?;
     plan_of::<B>(alloc, text.as_str())
 }

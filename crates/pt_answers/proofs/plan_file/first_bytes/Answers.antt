@@ -1,7 +1,7 @@
 use Rattle.std.proofs.Common.{◌≡◌, ◌+◌, ◌++◌, ℕ, List, [], take, IfSome, Option, Some, None}
 use Rattle.std.specs.Option.{option_map}
-use Rattle.ptab.specs.declared.plan_file.TheConstants.{MOST}
-use Rattle.ptab.proofs.plan_file.first_bytes.Goals as goal
+use Rattle.pt_answers.specs.declared.plan_file.TheConstants.{MOST}
+use Rattle.pt_answers.proofs.plan_file.first_bytes.Goals as goal
 
 -- what a reader's first bytes are, where it tells its bytes
 first_of : (all : Option (List ℕ)) (n : ℕ) (read : List ℕ) → IfSome (option_map (take n) all) (λ some. read ≡ [] ++ some)
@@ -9,8 +9,8 @@ first_of : (all : Option (List ℕ)) (n : ℕ) (read : List ℕ) → IfSome (opt
 first_of None n read is = tt
 first_of (Some some) n read is = is
 
-pub returns-in-Ok : goal.returns-in-Ok
-returns-in-Ok g c =
+pub returns-in-Ok-clause-ok : goal.returns-in-Ok-clause-ok
+returns-in-Ok-clause-ok g c =
     first_of _ (MOST + 1) _ (rw (
       c.take-start.ensures.limit,
       c.take-start.ensures.inner,

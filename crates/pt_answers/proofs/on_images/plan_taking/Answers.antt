@@ -1,0 +1,7 @@
+use Rattle.pt_answers.proofs.Opened.{on_images}
+use Rattle.pt_answers.proofs.on_images.plan_taking.Goals as goal
+
+pub returns : goal.returns
+returns g c =
+    on_images _ _ _ _ _ _ _ _ _ _ _ _ _ _ _ _ _ _ _ c.in-Ok.is c.open.ensures c.in_ok-disk.was c.open-2.ensures c.close.ensures
+    c.close-2.ensures c.plan_adopting-answer.ensures.plans

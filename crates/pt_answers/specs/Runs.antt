@@ -1,0 +1,164 @@
+-- What a run of the command does for each line: the calls by which its images are opened, the subcommand that is done on them, and what
+-- is printed.
+use Rattle.std.specs.Prelude.{◌≡◌, ◌==◌, if◌then◌else◌, ℕ, List, ◌∷◌, Option, Some, None, Result, Ok, Err, IfErr, IfOk, OnOk, map, option_map, string_bytes}
+use Rattle.std.specs.Io.KnownBytes.{Appends, Keeps}
+use Rattle.pt_sector.specs.declared.disk.Disk.{Ghosts}
+use Rattle.pt_path.specs.declared.path.Path.{Path}
+use Rattle.pt_apply.specs.Plans.{phases_of}
+use Rattle.pt_apply.specs.declared.plan.Plan.{Plan}
+use Rattle.pt_disks.specs.declared.device.NoDevice.{NoDevice}
+use Rattle.pt_disks.specs.declared.device.NoDevice.TheVariants as opening
+use Rattle.pt_disks.specs.declared.open.Access.{Access}
+use Rattle.pt_disks.specs.declared.open.Access.TheVariants.{Read, Write, WriteUnlocked}
+use Rattle.pt_line.specs.Lines.{Means}
+use Rattle.pt_line.specs.declared.line.Adoption.TheVariants.{Planned, Written}
+use Rattle.pt_line.specs.declared.line.InUse.TheVariants.{Refused}
+use Rattle.pt_line.specs.declared.line.Job.{Job}
+use Rattle.pt_line.specs.declared.line.Job.TheVariants as job
+use Rattle.pt_line.specs.declared.line.Line.{Line}
+use Rattle.pt_line.specs.declared.line.LineError.{LineError}
+use Rattle.pt_line.specs.declared.line.LockedBy.{LockedBy}
+use Rattle.pt_line.specs.declared.line.LockedBy.TheVariants.{Ptab, Caller}
+use Rattle.pt_line.specs.declared.line.Medium.{Medium}
+use Rattle.pt_line.specs.declared.line.Medium.TheVariants.{File, Device}
+use Rattle.pt_line.specs.declared.line.SectorSize.{SectorSize}
+use Rattle.pt_line.specs.declared.line.SectorSize.TheVariants.{Bytes512, Bytes4096}
+use Rattle.pt_report.specs.Replies.{reply_text}
+use Rattle.pt_report.specs.declared.reply.Reply.{Reply}
+use Rattle.pt_report.specs.declared.reply.Reply.TheVariants as reply
+use Rattle.pt_answers.specs.Answers.{NamesPlace}
+use Rattle.pt_answers.specs.Failures.{line_failure}
+use Rattle.pt_answers.specs.Images.{Call, Doing, OnImage, OnImages, Sized, Then, WithPlan}
+use Rattle.pt_answers.specs.OnDisks.{AdoptsFrom, AppliesTo, ChecksOn, EditsDisk, LocatesOn, PlansAdopting, PlansOn, RepairsDisk, ShowsAfter, ShowsDisk}
+use Rattle.pt_answers.specs.OnDisks.{VerifiesDisk}
+use Rattle.pt_answers.specs.Statuses.{IsOfOutput, reply_status}
+use Rattle.pt_answers.specs.Wanted.{IsWanted, words_of}
+use Rattle.pt_answers.specs.declared.failure.Failure.{Failure}
+use Rattle.pt_answers.specs.declared.failure.Failure.TheVariants as failure
+use Rattle.pt_answers.specs.declared.images.Opening.{Opening}
+use Rattle.pt_answers.specs.declared.status.Status.{Status}
+use Rattle.pt_answers.specs.declared.words.Wanted.{Wanted}
+
+-- ## A job.
+
+-- for writing, under the command's own lock or the caller's
+abbrev pub writing : LockedBy → Access
+writing Ptab = Write
+writing Caller = WriteUnlocked
+
+-- the path and the number of `locate` are read before its image is opened
+abbrev pub WithPlace : {C : Type 0} → List ℕ → List ℕ → (Path → ℕ → Doing C) → Doing C
+WithPlace path number Next old new answer = (named : Result (Path × ℕ) Failure) × NamesPlace path number named
+    × Then (λ place. Next place.0 place.1) named old new answer
+
+-- the words of an edit are read before its image is opened
+abbrev pub WithWords : {C : Type 0} → Option (List ℕ) → List (List ℕ) → (Wanted → Doing C) → Doing C
+WithWords fresh words Next old new answer =
+    (wanted : Result Wanted Failure) × IsWanted fresh words wanted × Then Next wanted old new answer
+
+-- the image whose table is adopted; it is only read, so it may be in use
+abbrev pub other_as : Medium → Opening
+other_as medium = record { medium = medium; in_use = Refused }
+
+-- what is done for a job: `g` are the ghosts of the disks, and `remaining` the bytes of the file of a plan
+abbrev pub RunsJob : {D : _} {T : Type 0} {B : _} → Ghosts D B → (T → Option (List ℕ)) → Opening → Job → Doing (Call D T)
+RunsJob g remaining opening (job.Help text) old new answer = (new ≡ old) × (answer ≡ Ok (reply.Text text))
+RunsJob g remaining opening (job.Show image None) old new answer =
+    OnImage (string_bytes image) opening Read (ShowsDisk g) old new answer
+RunsJob {D} {T} {B} g remaining opening (job.Show image (Some file)) old new answer =
+    WithPlan B remaining (string_bytes file) (λ plan. OnImage (string_bytes image) opening Read (ShowsAfter g (phases_of plan))) old new answer
+RunsJob g remaining opening (job.Verify image) old new answer =
+    OnImage (string_bytes image) opening Read (VerifiesDisk g) old new answer
+RunsJob g remaining opening (job.Locate image path place) old new answer = WithPlace (string_bytes path) (string_bytes place)
+    (λ p k. OnImage (string_bytes image) opening Read (LocatesOn g p k)) old new answer
+RunsJob g remaining opening (job.Edit image fresh words locked_by) old new answer =
+    WithWords (option_map string_bytes fresh) (map string_bytes words.items)
+    (λ wanted. OnImage (string_bytes image) opening (writing locked_by) (EditsDisk g (words_of wanted))) old new answer
+RunsJob g remaining opening (job.Plan image fresh words) old new answer =
+    WithWords (option_map string_bytes fresh) (map string_bytes words.items)
+    (λ wanted. OnImage (string_bytes image) opening Read (PlansOn g (words_of wanted))) old new answer
+RunsJob {D} {T} {B} g remaining opening (job.Check image file) old new answer =
+    WithPlan B remaining (string_bytes file) (λ plan. OnImage (string_bytes image) opening Read (ChecksOn g (phases_of plan))) old new answer
+RunsJob {D} {T} {B} g remaining opening (job.Apply image file locked_by) old new answer = WithPlan B remaining (string_bytes file)
+    (λ plan. OnImage (string_bytes image) opening (writing locked_by) (AppliesTo g (phases_of plan))) old new answer
+RunsJob g remaining opening (job.Repair image locked_by) old new answer =
+    OnImage (string_bytes image) opening (writing locked_by) (RepairsDisk g) old new answer
+RunsJob g remaining opening (job.Adopt image other medium Written locked_by) old new answer =
+    OnImages (string_bytes image) opening (writing locked_by) (string_bytes other) (other_as medium) Read (AdoptsFrom g g) old new answer
+RunsJob g remaining opening (job.Adopt image other medium Planned locked_by) old new answer =
+    OnImages (string_bytes image) opening Read (string_bytes other) (other_as medium) Read (PlansAdopting g g) old new answer
+
+-- ## The size of a sector.
+
+abbrev pub image_of : Job → Option (List ℕ)
+image_of (job.Help text) = None
+image_of (job.Show image after) = Some (string_bytes image)
+image_of (job.Verify image) = Some (string_bytes image)
+image_of (job.Locate image path place) = Some (string_bytes image)
+image_of (job.Edit image fresh words locked_by) = Some (string_bytes image)
+image_of (job.Plan image fresh words) = Some (string_bytes image)
+image_of (job.Check image file) = Some (string_bytes image)
+image_of (job.Apply image file locked_by) = Some (string_bytes image)
+image_of (job.Repair image locked_by) = Some (string_bytes image)
+image_of (job.Adopt image other medium adoption locked_by) = Some (string_bytes image)
+
+-- that of a device which has sectors of so many bytes: another one than 512 and 4096 is refused where the device is opened, as is one
+-- that isn't known
+abbrev pub size_of_device : Result ℕ NoDevice → Result SectorSize Failure
+size_of_device (Ok bytes) = Ok (if bytes == 4096 then Bytes4096 else Bytes512)
+size_of_device (Err opening.Memory) = Err failure.Memory
+size_of_device (Err why) = Ok Bytes512
+
+-- the size that the line says; else 512, and of a device's image its own
+abbrev pub Sizes : {D T : Type 0} → Option SectorSize → Medium → Option (List ℕ) → List (Call D T) → List (Call D T)
+    → Result SectorSize Failure → Type 0
+Sizes (Some size) medium image old new answer = (new ≡ old) × (answer ≡ Ok size)
+Sizes None File image old new answer = (new ≡ old) × (answer ≡ Ok Bytes512)
+Sizes None Device None old new answer = (new ≡ old) × (answer ≡ Ok Bytes512)
+Sizes None Device (Some path) old new answer =
+    (found : Result ℕ NoDevice) × (new ≡ Sized path found ∷ old) × (answer ≡ size_of_device found)
+
+-- ## A line.
+
+-- an answer is printed, with its status, unless the output fails; of a failure nothing is
+abbrev pub Prints : ℕ → Result Reply Failure → Option (List ℕ) → Option (List ℕ) → Result Status Failure → Type 0
+Prints b (Ok reply) old new result = OnOk result (Appends old new (reply_text b reply))
+    × IfOk result (λ status. status ≡ reply_status reply) × IfErr result IsOfOutput
+Prints b (Err why) old new result = Keeps old new × (result ≡ Err why)
+
+abbrev pub opening_of : Line → Opening
+opening_of line = record { medium = line.medium; in_use = line.in_use }
+
+-- what is done for a line on disks with sectors of `B` bytes, and printed
+abbrev pub RunsLine : {D : _} {T : Type 0} {B : _} → Ghosts D B → (T → Option (List ℕ)) → Line → List (Call D T) → List (Call D T)
+    → Option (List ℕ) → Option (List ℕ) → Result Status Failure → Type 0
+RunsLine {D} {T} {B} g remaining line old new printed_old printed_new result = (answer : Result Reply Failure)
+    × RunsJob g remaining (opening_of line) line.job old new answer × Prints B answer printed_old printed_new result
+
+-- the line on images with sectors of this size, where that was found: `small` opens those of 512 bytes, and `large` those of 4,096
+abbrev pub RunsSized : {D E T : Type 0} → Ghosts D 512 → Ghosts E 4096 → (T → Option (List ℕ)) → Line → Result SectorSize Failure
+    → List (Call D T) → List (Call D T) → List (Call E T) → List (Call E T)
+    → Option (List ℕ) → Option (List ℕ) → Result Status Failure → Type 0
+RunsSized g h remaining line (Err why) small_old small_new large_old large_new old new result =
+    (small_new ≡ small_old) × (large_new ≡ large_old) × Keeps old new × (result ≡ Err why)
+RunsSized g h remaining line (Ok Bytes512) small_old small_new large_old large_new old new result =
+    (large_new ≡ large_old) × RunsLine g remaining line small_old small_new old new result
+RunsSized g h remaining line (Ok Bytes4096) small_old small_new large_old large_new old new result =
+    (small_new ≡ small_old) × RunsLine h remaining line large_old large_new old new result
+
+-- what a line comes to: nothing is opened where the words are none; else the size of a sector is found first
+abbrev pub RunsRead : {D E T : Type 0} → Ghosts D 512 → Ghosts E 4096 → (T → Option (List ℕ)) → Result Line LineError
+    → List (Call D T) → List (Call D T) → List (Call E T) → List (Call E T)
+    → Option (List ℕ) → Option (List ℕ) → Result Status Failure → Type 0
+RunsRead g h remaining (Err error) small_old small_new large_old large_new old new result =
+    (small_new ≡ small_old) × (large_new ≡ large_old) × Keeps old new × (result ≡ Err (line_failure error))
+RunsRead {D} {E} {T} g h remaining (Ok line) small_old small_new large_old large_new old new result =
+    (between : List (Call D T)) × (size : Result SectorSize Failure) × Sizes line.size line.medium (image_of line.job) small_old between size
+    × RunsSized g h remaining line size between small_new large_old large_new old new result
+
+-- a run of the command: its words, the calls that it made, what its output holds, and its status or why it ended without an answer
+abbrev pub RunsWords : {D E T : Type 0} → Ghosts D 512 → Ghosts E 4096 → (T → Option (List ℕ)) → List (List ℕ)
+    → List (Call D T) → List (Call D T) → List (Call E T) → List (Call E T)
+    → Option (List ℕ) → Option (List ℕ) → Result Status Failure → Type 0
+RunsWords g h remaining words small_old small_new large_old large_new old new result = (line : Result Line LineError) × Means words line
+    × RunsRead g h remaining line small_old small_new large_old large_new old new result

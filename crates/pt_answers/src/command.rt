@@ -1,0 +1,205 @@
+//! A run of the command: a line of words, what it opens, an output stream, and an exit status.
+
+ghost use Rattle.std.specs.Prelude.{◌≡◌, option_map, map, string_bytes, Option};
+ghost use Rattle.clap.specs.Walk.{texts as slice_texts};
+ghost use Rattle.pt_sector.specs.Sectors.{IsSectorSize};
+ghost use Rattle.pt_answers.specs.Answers.{NamesPlace};
+ghost use Rattle.pt_answers.specs.Images.{IsPlanAt, OnImages, OnImage, WithPlan};
+ghost use Rattle.pt_answers.specs.OnDisks.{AdoptsFrom};
+ghost use Rattle.pt_answers.specs.Runs.{Prints, RunsJob, RunsLine, RunsSized, RunsWords, Sizes, image_of, other_as, size_of_device};
+
+use crate::failure::Failure;
+use crate::images::{Images, Opening};
+use crate::on_images::{
+    Image, apply, check, edit, locate, plan, plan_taking, repair, show, show_planned, take, verify,
+};
+use crate::plan_file::plan_in;
+use crate::status::{Status, printed};
+use crate::views::place_named;
+use crate::words::Wanted;
+use pt_apply::Plan;
+use pt_disks::NoDevice;
+use pt_line::{Adoption, InUse, Job, Line, Medium, SectorSize, read_line};
+use pt_report::Reply;
+use pt_sector::Disk;
+use std::alloc::Global;
+use std::io::{Read, Write};
+
+/// The plan in a file.
+fn plan_at<const B: usize, D: Disk<B> + Drop, T: Read + Drop, I: Images<B, D, T>>(
+    alloc: Global,
+    images: &mut I,
+    path: &str,
+) -> Result<Plan<B>, Failure>
+    requires { IsSectorSize B }
+    ensures { IsPlanAt B T.remaining path.now (I.past images.old) (I.past images.new) result }
+{
+    let file = images.open_plan(path)?;
+    plan_in::<B, T>(alloc, file)
+}
+
+/// What a job comes to: its answer, or why there is none. Words and plans are read before an image is opened.
+fn reply_to<const B: usize, D: Disk<B> + Drop, T: Read + Drop, I: Images<B, D, T>>(
+    alloc: Global,
+    images: &mut I,
+    opening: Opening,
+    job: Job,
+) -> Result<Reply, Failure>
+    requires { IsSectorSize B }
+    ensures { RunsJob D.Disk T.remaining opening job (I.past images.old) (I.past images.new) result }
+{
+    match job {
+        Job::Help(text) => Ok(Reply::Text(text)),
+        Job::Show { image, after } => match after {
+            None => show(alloc, images, Image { path: image.as_str(), opening }),
+            Some(file) => {
+                let plan = plan_at(alloc, images, file.as_str())?;
+                show_planned(alloc, images, Image { path: image.as_str(), opening }, &plan)
+            }
+        },
+        Job::Verify { image } => verify(alloc, images, Image { path: image.as_str(), opening }),
+        Job::Locate { image, path, place } => {
+            let (path, k) = place_named(path.as_str(), place.as_str())?;
+            locate(alloc, images, Image { path: image.as_str(), opening }, &path, k)
+        }
+        Job::Edit { image, fresh, words, locked_by } => {
+            let wanted = Wanted::read(alloc, &fresh, words.as_slice())?;
+            edit(alloc, images, Image { path: image.as_str(), opening }, locked_by, &wanted)
+        }
+        Job::Plan { image, fresh, words } => {
+            let wanted = Wanted::read(alloc, &fresh, words.as_slice())?;
+            plan(alloc, images, Image { path: image.as_str(), opening }, &wanted)
+        }
+        Job::Check { image, file } => {
+            let plan = plan_at(alloc, images, file.as_str())?;
+            check(alloc, images, Image { path: image.as_str(), opening }, &plan)
+        }
+        Job::Apply { image, file, locked_by } => {
+            let plan = plan_at(alloc, images, file.as_str())?;
+            apply(alloc, images, Image { path: image.as_str(), opening }, locked_by, &plan)
+        }
+        Job::Repair { image, locked_by } => repair(alloc, images, Image { path: image.as_str(), opening }, locked_by),
+        Job::Adopt { image, other, other_medium, adoption, locked_by } => {
+            let other = Image { path: other.as_str(), opening: as_other(other_medium) };
+            let image = Image { path: image.as_str(), opening };
+            match adoption {
+                Adoption::Written => take(alloc, images, image, other, locked_by),
+                Adoption::Planned => plan_taking(alloc, images, image, other),
+            }
+        }
+    }
+}
+
+// The image whose table is adopted is only read, so nothing is asked about its use.
+fn as_other(medium: Medium) -> Opening
+    ensures { result ≡ other_as medium }
+{
+    Opening {
+        medium,
+        in_use: InUse::Refused,
+    }
+}
+
+/// The image of a job.
+fn image_in(job: &Job) -> Option<&str>
+    ensures { option_map (λ text. text.now) result ≡ image_of job.now }
+{
+    match job {
+        Job::Help(_) => None,
+        Job::Show { image, .. }
+        | Job::Verify { image }
+        | Job::Locate { image, .. }
+        | Job::Edit { image, .. }
+        | Job::Plan { image, .. }
+        | Job::Check { image, .. }
+        | Job::Apply { image, .. }
+        | Job::Repair { image, .. }
+        | Job::Adopt { image, .. } => Some(image.as_str()),
+    }
+}
+
+// That of a device. Another size than the two, and one that isn't known, are refused where the device is opened.
+fn size_found(found: Result<u64, NoDevice>) -> Result<SectorSize, Failure>
+    ensures { result ≡ size_of_device found }
+{
+    match found {
+        Ok(4096) => Ok(SectorSize::Bytes4096),
+        Err(NoDevice::Memory) => Err(Failure::Memory),
+        _ => Ok(SectorSize::Bytes512),
+    }
+}
+
+/// How many bytes the sectors of an image have: what the line says, else what its device does, else 512.
+fn size_of<const B: usize, D: Disk<B> + Drop, T: Read + Drop, I: Images<B, D, T>>(
+    images: &mut I,
+    said: Option<SectorSize>,
+    medium: Medium,
+    image: Option<&str>,
+) -> Result<SectorSize, Failure>
+    ensures { Sizes said medium (option_map (λ text. text.now) image.entry) (I.past images.old) (I.past images.new) result }
+{
+    match (said, medium, image) {
+        (Some(size), _, _) => Ok(size),
+        (None, Medium::Device, Some(path)) => size_found(images.device_sector_size(path)),
+        _ => Ok(SectorSize::Bytes512),
+    }
+}
+
+// Prints an answer on an image with sectors of `B` bytes, to its end. Where the stream fails, what was done stands.
+fn printed_whole<const B: usize, O: Write>(reply: &Reply, out: &mut O) -> Result<Status, Failure>
+    ensures { Prints B (Ok reply.now) (O.contents out.old) (O.contents out.new) result }
+{
+    let status = printed::<B, O>(reply, out)?;
+    match out.flush() {
+        Ok(()) => Ok(status),
+        Err(error) => Err(Failure::of_output(&error)),
+    }
+}
+
+fn answer<const B: usize, D: Disk<B> + Drop, T: Read + Drop, I: Images<B, D, T>, O: Write>(
+    alloc: Global,
+    images: &mut I,
+    line: Line,
+    out: &mut O,
+) -> Result<Status, Failure>
+    requires { IsSectorSize B }
+    ensures { RunsLine D.Disk T.remaining line (I.past images.old) (I.past images.new) (O.contents out.old) (O.contents out.new) result }
+{
+    let Line {
+        job,
+        size: _,
+        medium,
+        in_use,
+    } = line;
+    let reply = reply_to::<B, D, T, I>(alloc, images, Opening { medium, in_use }, job)?;
+    printed_whole::<B, O>(&reply, out)
+}
+
+/// Runs the command on the words after its name, with its answers on `out`, and gives its status.
+///
+/// `small` opens images with sectors of 512 bytes, and `large` those of 4096. Where `out` fails, also at its end, that is why the command
+/// ends, and what was done stands.
+pub fn run<
+    D: Disk<512> + Drop,
+    E: Disk<4096> + Drop,
+    T: Read + Drop,
+    I: Images<512, D, T>,
+    J: Images<4096, E, T>,
+    O: Write,
+>(
+    alloc: Global,
+    small: &mut I,
+    large: &mut J,
+    words: &[&str],
+    out: &mut O,
+) -> Result<Status, Failure>
+    ensures { RunsWords D.Disk E.Disk T.remaining (slice_texts words.now) (I.past small.old) (I.past small.new) (J.past large.old)
+        (J.past large.new) (O.contents out.old) (O.contents out.new) result }
+{
+    let line = read_line(alloc, words)?;
+    let size = size_of::<512, D, T, I>(small, line.size, line.medium, image_in(&line.job))?;
+    match size {
+        SectorSize::Bytes512 => answer::<512, D, T, I, O>(alloc, small, line, out),
+        SectorSize::Bytes4096 => answer::<4096, E, T, J, O>(alloc, large, line, out),
+    }
+}

@@ -1,0 +1,235 @@
+//! A subcommand on images: they are opened, it is done on them, and they are closed.
+
+ghost use Rattle.std.specs.Prelude.{◌≡◌};
+ghost use Rattle.pt_sector.specs.Sectors.{IsSectorSize};
+ghost use Rattle.pt_apply.specs.Plans.{phases_of};
+ghost use Rattle.pt_disks.specs.declared.open.Access.TheVariants.{Read as Reading};
+ghost use Rattle.pt_answers.specs.Images.{OnImage, OnImages};
+ghost use Rattle.pt_answers.specs.OnDisks.{AdoptsFrom, AppliesTo, ChecksOn, EditsDisk, LocatesOn, PlansAdopting, PlansOn, RepairsDisk};
+ghost use Rattle.pt_answers.specs.OnDisks.{ShowsAfter, ShowsDisk, VerifiesDisk};
+ghost use Rattle.pt_answers.specs.Runs.{writing};
+ghost use Rattle.pt_answers.specs.Wanted.{words_of};
+
+use crate::adopt::{adopt_disk, plan_adopting};
+use crate::edits::{edit_disk, plan_on};
+use crate::failure::Failure;
+use crate::images::{Images, Opening};
+use crate::plans::{apply_disk, check_on};
+use crate::repair::repair_disk;
+use crate::views::{locate_on, show_after, show_disk, verify_disk};
+use crate::words::Wanted;
+use pt_apply::Plan;
+use pt_disks::Access;
+use pt_layout::Path;
+use pt_line::LockedBy;
+use pt_report::Reply;
+use pt_sector::Disk;
+use std::alloc::Global;
+use std::io::Read;
+
+/// An image as a line names it.
+#[derive(Clone, Copy)]
+pub(crate) struct Image<'a> {
+    pub path: &'a str,
+    pub opening: Opening,
+}
+
+// For writing, under the command's own lock or the caller's.
+fn access_for(locked_by: LockedBy) -> Access
+    ensures { result ≡ writing locked_by }
+{
+    match locked_by {
+        LockedBy::Ptab => Access::Write,
+        LockedBy::Caller => Access::WriteUnlocked,
+    }
+}
+
+/// The partitions of an image.
+pub(crate) fn show<const B: usize, D: Disk<B> + Drop, T: Read + Drop, I: Images<B, D, T>>(
+    alloc: Global,
+    images: &mut I,
+    image: Image<'_>,
+) -> Result<Reply, Failure>
+    requires { IsSectorSize B }
+    ensures { OnImage image.entry.path.now image.entry.opening Reading (ShowsDisk D.Disk) (I.past images.old) (I.past images.new) result }
+{
+    let mut disk = images.open(image.path, image.opening, Access::Read)?;
+    let answer = show_disk::<B, D>(alloc, &mut disk);
+    images.close(disk);
+    answer
+}
+
+/// Those that it would have after a plan, or the checker's no.
+pub(crate) fn show_planned<const B: usize, D: Disk<B> + Drop, T: Read + Drop, I: Images<B, D, T>>(
+    alloc: Global,
+    images: &mut I,
+    image: Image<'_>,
+    plan: &Plan<B>,
+) -> Result<Reply, Failure>
+    requires { IsSectorSize B }
+    ensures { OnImage image.entry.path.now image.entry.opening Reading (ShowsAfter D.Disk (phases_of plan.now)) (I.past images.old) (I.past images.new) result }
+{
+    let mut disk = images.open(image.path, image.opening, Access::Read)?;
+    let answer = show_after::<B, D>(alloc, &mut disk, plan);
+    images.close(disk);
+    answer
+}
+
+/// Whether an image is healthy, or what is first wrong with it.
+pub(crate) fn verify<const B: usize, D: Disk<B> + Drop, T: Read + Drop, I: Images<B, D, T>>(
+    alloc: Global,
+    images: &mut I,
+    image: Image<'_>,
+) -> Result<Reply, Failure>
+    requires { IsSectorSize B }
+    ensures { OnImage image.entry.path.now image.entry.opening Reading (VerifiesDisk D.Disk) (I.past images.old) (I.past images.new) result }
+{
+    let mut disk = images.open(image.path, image.opening, Access::Read)?;
+    let answer = verify_disk::<B, D>(alloc, &mut disk);
+    images.close(disk);
+    answer
+}
+
+/// Where on the disk sector `k` of a partition is.
+pub(crate) fn locate<const B: usize, D: Disk<B> + Drop, T: Read + Drop, I: Images<B, D, T>>(
+    alloc: Global,
+    images: &mut I,
+    image: Image<'_>,
+    path: &Path,
+    k: u64,
+) -> Result<Reply, Failure>
+    requires { IsSectorSize B }
+    ensures { OnImage image.entry.path.now image.entry.opening Reading (LocatesOn D.Disk path.now k) (I.past images.old) (I.past images.new) result }
+{
+    let mut disk = images.open(image.path, image.opening, Access::Read)?;
+    let answer = locate_on::<B, D>(alloc, &mut disk, path, k);
+    images.close(disk);
+    answer
+}
+
+/// Edits an image by words, as one commit.
+pub(crate) fn edit<const B: usize, D: Disk<B> + Drop, T: Read + Drop, I: Images<B, D, T>>(
+    alloc: Global,
+    images: &mut I,
+    image: Image<'_>,
+    locked_by: LockedBy,
+    wanted: &Wanted,
+) -> Result<Reply, Failure>
+    requires { IsSectorSize B }
+    ensures { OnImage image.entry.path.now image.entry.opening (writing locked_by) (EditsDisk D.Disk (words_of wanted.now)) (I.past images.old) (I.past images.new) result }
+{
+    let mut disk = images.open(image.path, image.opening, access_for(locked_by))?;
+    let answer = edit_disk::<B, D>(alloc, &mut disk, wanted.edits.as_slice(), wanted.guids.as_slice());
+    images.close(disk);
+    answer
+}
+
+/// The plan of what `edit` would do, as text.
+pub(crate) fn plan<const B: usize, D: Disk<B> + Drop, T: Read + Drop, I: Images<B, D, T>>(
+    alloc: Global,
+    images: &mut I,
+    image: Image<'_>,
+    wanted: &Wanted,
+) -> Result<Reply, Failure>
+    requires { IsSectorSize B }
+    ensures { OnImage image.entry.path.now image.entry.opening Reading (PlansOn D.Disk (words_of wanted.now)) (I.past images.old) (I.past images.new) result }
+{
+    let mut disk = images.open(image.path, image.opening, Access::Read)?;
+    let answer = plan_on::<B, D>(alloc, &mut disk, wanted.edits.as_slice(), wanted.guids.as_slice());
+    images.close(disk);
+    answer
+}
+
+/// Whether a plan may be applied to an image as it is now.
+pub(crate) fn check<const B: usize, D: Disk<B> + Drop, T: Read + Drop, I: Images<B, D, T>>(
+    alloc: Global,
+    images: &mut I,
+    image: Image<'_>,
+    plan: &Plan<B>,
+) -> Result<Reply, Failure>
+    requires { IsSectorSize B }
+    ensures { OnImage image.entry.path.now image.entry.opening Reading (ChecksOn D.Disk (phases_of plan.now)) (I.past images.old) (I.past images.new) result }
+{
+    let mut disk = images.open(image.path, image.opening, Access::Read)?;
+    let answer = check_on::<B, D>(alloc, &mut disk, plan);
+    images.close(disk);
+    answer
+}
+
+/// Applies a plan to an image, where the checker says that it may be.
+pub(crate) fn apply<const B: usize, D: Disk<B> + Drop, T: Read + Drop, I: Images<B, D, T>>(
+    alloc: Global,
+    images: &mut I,
+    image: Image<'_>,
+    locked_by: LockedBy,
+    plan: &Plan<B>,
+) -> Result<Reply, Failure>
+    requires { IsSectorSize B }
+    ensures { OnImage image.entry.path.now image.entry.opening (writing locked_by) (AppliesTo D.Disk (phases_of plan.now)) (I.past images.old) (I.past images.new) result }
+{
+    let mut disk = images.open(image.path, image.opening, access_for(locked_by))?;
+    let answer = apply_disk::<B, D>(alloc, &mut disk, plan);
+    images.close(disk);
+    answer
+}
+
+/// Makes an image healthy, and keeps its layout.
+pub(crate) fn repair<const B: usize, D: Disk<B> + Drop, T: Read + Drop, I: Images<B, D, T>>(
+    alloc: Global,
+    images: &mut I,
+    image: Image<'_>,
+    locked_by: LockedBy,
+) -> Result<Reply, Failure>
+    requires { IsSectorSize B }
+    ensures { OnImage image.entry.path.now image.entry.opening (writing locked_by) (RepairsDisk D.Disk) (I.past images.old) (I.past images.new) result }
+{
+    let mut disk = images.open(image.path, image.opening, access_for(locked_by))?;
+    let answer = repair_disk::<B, D>(alloc, &mut disk);
+    images.close(disk);
+    answer
+}
+
+/// The image takes the table of another one, which is opened first, for reading alone.
+pub(crate) fn take<const B: usize, D: Disk<B> + Drop, T: Read + Drop, I: Images<B, D, T>>(
+    alloc: Global,
+    images: &mut I,
+    image: Image<'_>,
+    other: Image<'_>,
+    locked_by: LockedBy,
+) -> Result<Reply, Failure>
+    requires { IsSectorSize B }
+    ensures { OnImages image.entry.path.now image.entry.opening (writing locked_by) other.entry.path.now other.entry.opening Reading
+        (AdoptsFrom D.Disk D.Disk) (I.past images.old) (I.past images.new) result }
+{
+    let mut other = match images.open(other.path, other.opening, Access::Read) {
+        Ok(other) => other,
+        Err(why) => return Err(Failure::OtherOpening(why)),
+    };
+    let mut disk = images.open(image.path, image.opening, access_for(locked_by))?;
+    let answer = adopt_disk::<B, D, D>(alloc, &mut disk, &mut other);
+    images.close(disk);
+    images.close(other);
+    answer
+}
+
+/// The plan for that, as text.
+pub(crate) fn plan_taking<const B: usize, D: Disk<B> + Drop, T: Read + Drop, I: Images<B, D, T>>(
+    alloc: Global,
+    images: &mut I,
+    image: Image<'_>,
+    other: Image<'_>,
+) -> Result<Reply, Failure>
+    requires { IsSectorSize B }
+    ensures { OnImages image.entry.path.now image.entry.opening Reading other.entry.path.now other.entry.opening Reading
+        (PlansAdopting D.Disk D.Disk) (I.past images.old) (I.past images.new) result }
+{
+    let mut other = match images.open(other.path, other.opening, Access::Read) {
+        Ok(other) => other,
+        Err(why) => return Err(Failure::OtherOpening(why)),
+    };
+    let mut disk = images.open(image.path, image.opening, Access::Read)?;
+    let answer = plan_adopting::<B, D, D>(alloc, &mut disk, &mut other);
+    images.close(disk);
+    images.close(other);
+    answer
+}
