@@ -5,12 +5,16 @@ ghost use Rattle.pt_sector.specs.Sectors.{IsSectorSize};
 
 use crate::past::Past;
 use pt_answers::{Images, Opening, as_device};
-use pt_disks::{Access, FileDisk, NoDevice, OpenError, device_sector_size, open_plain};
+use pt_disks::{Access, FileDisk, NoDevice, OpenError, Store, device_sector_size, open_plain};
 use pt_line::{InUse, Medium};
 use std::fs::{File, Files};
 
 /// Opens images as disks with sectors of `B` bytes: plain files, or block devices where the line says so.
-pub struct FileImages<'a, const B: usize, R: Files<File = File> + AllocGlobal> {
+#[derive(Drop)]
+pub struct FileImages<'a, const B: usize, R: Files<File = File> + AllocGlobal>
+where
+    File: Store<B>,
+{
     rt: &'a R,
     past: Past<FileDisk<B>>,
 }

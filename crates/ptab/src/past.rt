@@ -25,11 +25,11 @@ impl<D> Past<D> {
     pub fn new() -> Past<D>
         ensures { result.calls ≡ [] }
     {
-        Past::any()
+        Past::of(&())
     }
 
-    /// Holds whatever a proof supposes.
-    fn any() -> Past<D>
+    /// Holds whatever a proof supposes, by a value that it may speak of.
+    fn of<X>(_by: &X) -> Past<D>
         ghost supposed: { List (Call D FileValue) }
         ensures { result.calls ≡ supposed }
     {
@@ -39,7 +39,7 @@ impl<D> Past<D> {
     pub fn sized(&self, path: &str, found: &Result<u64, NoDevice>) -> Past<D>
         ensures { result.calls ≡ Sized path.now found.now ∷ self.now.calls }
     {
-        Past::any()
+        Past::of(&(self, path, found))
     }
 
     pub fn opened(
@@ -51,18 +51,18 @@ impl<D> Past<D> {
     ) -> Past<D>
         ensures { result.calls ≡ Opened path.now opening access opened.now ∷ self.now.calls }
     {
-        Past::any()
+        Past::of(&(self, path, opening, access, opened))
     }
 
     pub fn closed(&self, disk: &D) -> Past<D>
         ensures { result.calls ≡ Closed disk.now ∷ self.now.calls }
     {
-        Past::any()
+        Past::of(&(self, disk))
     }
 
     pub fn plan_opened(&self, path: &str, opened: &Result<File, OpenError>) -> Past<D>
         ensures { result.calls ≡ PlanOpened path.now opened.now ∷ self.now.calls }
     {
-        Past::any()
+        Past::of(&(self, path, opened))
     }
 }

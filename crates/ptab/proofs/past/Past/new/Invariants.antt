@@ -1,5 +1,5 @@
 use Rattle.std.proofs.Common.{[]}
 use Rattle.ptab.proofs.past.Past.new.Given as goal
 
-abbrev pub ghost-any : goal.ghost-any
-ghost-any g a = []
+abbrev pub ghost-of : goal.ghost-of
+ghost-of g a = []

@@ -2,5 +2,5 @@ use Rattle.std.proofs.Common.{◌∷◌}
 use Rattle.pt_answers.specs.Images.{Sized}
 use Rattle.ptab.proofs.past.Past.sized.Given as goal
 
-abbrev pub ghost-any : goal.ghost-any
-ghost-any g a = Sized a.path.now a.found.now ∷ a.self.now.calls
+abbrev pub ghost-of : goal.ghost-of
+ghost-of g a = Sized a._by.now.1.now a._by.now.2.now ∷ a._by.now.0.now.calls
