@@ -151,7 +151,7 @@ def contracts_of(file):
         elif it := re.match(r"^(\s*)(pub(?:\([^)]*\))? )?(?:const )?(?:extern \"C\" )?fn (\w+)", line):
             end = at
             while not re.match(rf"^{it[1]}(\{{|\{{\}}|\).*\{{|.*;)$", lines[end]) and not lines[end].rstrip().endswith((" {", "{}", ";")) \
-                    or (lines[end].strip() not in ("{", "{}") and re.match(r"^\s*(ensures|requires) ", lines[end])):
+                    or (lines[end].strip() not in ("{", "{}") and re.match(r"^\s*(ensures|requires) .*[^;]$", lines[end])):
                 end += 1
             found.append((it[3], it[2] != "pub(crate) " and (it[2] or it[1]), "\n".join(lines[at:end + 1])))
             at = end + 1

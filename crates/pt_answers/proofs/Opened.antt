@@ -1,5 +1,5 @@
 -- Images that were opened, used and closed.
-use Rattle.std.proofs.Common.{◌≡◌, ◌∷◌, ◌∙◌, List, ap, Ok, Err}
+use Rattle.std.proofs.Common.{◌≡◌, ◌∷◌, ◌∙◌, List, ap, Ok}
 use Rattle.std.specs.Prelude.{Result, ℕ}
 use Rattle.pt_disks.specs.declared.device.NoDevice.{NoDevice}
 use Rattle.pt_disks.specs.declared.open.Access.{Access}
@@ -26,9 +26,17 @@ pub on_images : {D T : Type 0} (path : List ℕ) (opening : Opening) (access : A
     → OnImages path opening access other_path other_opening other_access Does old new answer
 on_images path opening access other_path other_opening other_access Does opened beside other disk left other_left old first second third new answer
     is opens is_beside opens_beside closes closes_other does = (
-  Ok other,
-  (Ok disk, (left, other_left, closes_other ∙ ap (λ (calls : List (Call _ _)). Closed other_left ∷ calls) (closes ∙ ap (λ (calls : List (Call _ _)). Closed left ∷ calls)
-  (opens_beside ∙ (ap (λ (r : Result _ NoDevice). Opened path opening access r ∷ first) is_beside
-  ∙ ap (λ (calls : List (Call _ _)). Opened path opening access (Ok disk) ∷ calls)
-  (opens ∙ ap (λ (r : Result _ NoDevice). Opened other_path other_opening other_access r ∷ old) is)))), does)),
-)
+      Ok other,
+      (
+        Ok disk,
+        (
+          left,
+          other_left,
+          closes_other ∙ ap (λ (calls : List (Call _ _)). Closed other_left ∷ calls) (closes ∙ ap (λ (calls : List (Call _ _)). Closed left ∷ calls)
+              (opens_beside ∙ (ap (λ (r : Result _ NoDevice). Opened path opening access r ∷ first) is_beside
+              ∙ ap (λ (calls : List (Call _ _)). Opened path opening access (Ok disk) ∷ calls)
+              (opens ∙ ap (λ (r : Result _ NoDevice). Opened other_path other_opening other_access r ∷ old) is)))),
+          does,
+        ),
+      ),
+    )

@@ -11,10 +11,9 @@ use Rattle.pt_words.specs.Words.{fields, IsWord, IsWordFault}
 use Rattle.pt_words.specs.declared.error.EditError.{EditError}
 use Rattle.pt_words.specs.declared.error.EditError.TheVariants as edit_error
 use Rattle.pt_words.specs.declared.word.Edit.{Edit}
-use Rattle.pt_answers.specs.Images.{Call, Doing, IsPlanAt, IsPlanFault, ReadsPlan, WithPlan, most_text}
+use Rattle.pt_answers.specs.Images.{Call, Doing, IsPlanAt, ReadsPlan, WithPlan, most_text}
 use Rattle.pt_answers.specs.Wanted.{AreEdits, AreGiven, IsFirstBad, IsWanted}
 use Rattle.pt_answers.specs.declared.failure.Failure.{Failure}
-use Rattle.pt_answers.specs.declared.failure.Failure.TheVariants as failure
 use Rattle.pt_report.specs.declared.reply.Reply.{Reply}
 use Rattle.pt_answers.specs.inner.Answers.{IsNoText}
 use Rattle.pt_answers.specs.inner.Wanted.{IsBadOr, IsNamed, IsUnread}

@@ -1,6 +1,6 @@
 -- What opens the images and the plans that a line names, by its calls, the newest first, and what is done on what it opened.
-use Rattle.std.specs.Prelude.{◌≡◌, ◌≢◌, ◌≤◌, ◌<◌, ◌⊎◌, ◌==◌, ℕ, List, [], ◌∷◌, ◌++◌, Option, Some, None, Result, Ok, Err, IfSome, count_by}
-use Rattle.std.specs.Prelude.{length, map, string_bytes, IsUtf8}
+use Rattle.std.specs.Prelude.{◌≡◌, ◌≤◌, ◌<◌, ◌⊎◌, ◌==◌, ℕ, List, ◌∷◌, Option, Result, Ok, Err, IfSome, count_by}
+use Rattle.std.specs.Prelude.{length, IsUtf8}
 use Rattle.pt_apply.specs.Plans.{phases_of}
 use Rattle.pt_apply.specs.PlanTexts.{IsBadLine, LacksFlush, PlanText}
 use Rattle.pt_apply.specs.declared.plan.Plan.{Plan}
@@ -59,7 +59,7 @@ abbrev pub OnImages : {D T : Type 0} → List ℕ → Opening → Access → Lis
     → (D → D → D → D → Result Reply Failure → Type 0) → Doing (Call D T)
 OnImages {D} path opening access other_path other_opening other_access Does old new answer = (opened : Result D NoDevice)
     × Then (λ other between last told. (beside : Result D NoDevice)
-        × Then (OnBoth Does other) (opened_as failure.Opening beside) (Opened path opening access beside ∷ between) last told)
+    × Then (OnBoth Does other) (opened_as failure.Opening beside) (Opened path opening access beside ∷ between) last told)
     (opened_as failure.OtherOpening opened) (Opened other_path other_opening other_access opened ∷ old) new answer
 
 -- ## The file of a plan.

@@ -5,7 +5,6 @@ use Rattle.std.specs.Io.KnownBytes.{Appends, Keeps}
 use Rattle.pt_sector.specs.declared.disk.Disk.{Ghosts}
 use Rattle.pt_path.specs.declared.path.Path.{Path}
 use Rattle.pt_apply.specs.Plans.{phases_of}
-use Rattle.pt_apply.specs.declared.plan.Plan.{Plan}
 use Rattle.pt_disks.specs.declared.device.NoDevice.{NoDevice}
 use Rattle.pt_disks.specs.declared.device.NoDevice.TheVariants as opening
 use Rattle.pt_disks.specs.declared.open.Access.{Access}

@@ -51,37 +51,135 @@ fn reply_to<const B: usize, D: Disk<B> + Drop, T: Read + Drop, I: Images<B, D, T
     match job {
         Job::Help(text) => Ok(Reply::Text(text)),
         Job::Show { image, after } => match after {
-            None => show(alloc, images, Image { path: image.as_str(), opening }),
+            None => show(
+                alloc,
+                images,
+                Image {
+                    path: image.as_str(),
+                    opening,
+                },
+            ),
             Some(file) => {
                 let plan = plan_at(alloc, images, file.as_str())?;
-                show_planned(alloc, images, Image { path: image.as_str(), opening }, &plan)
+                show_planned(
+                    alloc,
+                    images,
+                    Image {
+                        path: image.as_str(),
+                        opening,
+                    },
+                    &plan,
+                )
             }
         },
-        Job::Verify { image } => verify(alloc, images, Image { path: image.as_str(), opening }),
+        Job::Verify { image } => verify(
+            alloc,
+            images,
+            Image {
+                path: image.as_str(),
+                opening,
+            },
+        ),
         Job::Locate { image, path, place } => {
             let (path, k) = place_named(path.as_str(), place.as_str())?;
-            locate(alloc, images, Image { path: image.as_str(), opening }, &path, k)
+            locate(
+                alloc,
+                images,
+                Image {
+                    path: image.as_str(),
+                    opening,
+                },
+                &path,
+                k,
+            )
         }
-        Job::Edit { image, fresh, words, locked_by } => {
+        Job::Edit {
+            image,
+            fresh,
+            words,
+            locked_by,
+        } => {
             let wanted = Wanted::read(alloc, &fresh, words.as_slice())?;
-            edit(alloc, images, Image { path: image.as_str(), opening }, locked_by, &wanted)
+            edit(
+                alloc,
+                images,
+                Image {
+                    path: image.as_str(),
+                    opening,
+                },
+                locked_by,
+                &wanted,
+            )
         }
-        Job::Plan { image, fresh, words } => {
+        Job::Plan {
+            image,
+            fresh,
+            words,
+        } => {
             let wanted = Wanted::read(alloc, &fresh, words.as_slice())?;
-            plan(alloc, images, Image { path: image.as_str(), opening }, &wanted)
+            plan(
+                alloc,
+                images,
+                Image {
+                    path: image.as_str(),
+                    opening,
+                },
+                &wanted,
+            )
         }
         Job::Check { image, file } => {
             let plan = plan_at(alloc, images, file.as_str())?;
-            check(alloc, images, Image { path: image.as_str(), opening }, &plan)
+            check(
+                alloc,
+                images,
+                Image {
+                    path: image.as_str(),
+                    opening,
+                },
+                &plan,
+            )
         }
-        Job::Apply { image, file, locked_by } => {
+        Job::Apply {
+            image,
+            file,
+            locked_by,
+        } => {
             let plan = plan_at(alloc, images, file.as_str())?;
-            apply(alloc, images, Image { path: image.as_str(), opening }, locked_by, &plan)
+            apply(
+                alloc,
+                images,
+                Image {
+                    path: image.as_str(),
+                    opening,
+                },
+                locked_by,
+                &plan,
+            )
         }
-        Job::Repair { image, locked_by } => repair(alloc, images, Image { path: image.as_str(), opening }, locked_by),
-        Job::Adopt { image, other, other_medium, adoption, locked_by } => {
-            let other = Image { path: other.as_str(), opening: as_other(other_medium) };
-            let image = Image { path: image.as_str(), opening };
+        Job::Repair { image, locked_by } => repair(
+            alloc,
+            images,
+            Image {
+                path: image.as_str(),
+                opening,
+            },
+            locked_by,
+        ),
+        Job::Adopt {
+            image,
+            other,
+            other_medium,
+            adoption,
+            locked_by,
+        } => {
+            let other = Image {
+                path: other.as_str(),
+                opening: as_other(other_medium),
+            };
+            let image = Image {
+                path: image.as_str(),
+                opening,
+            };
             match adoption {
                 Adoption::Written => take(alloc, images, image, other, locked_by),
                 Adoption::Planned => plan_taking(alloc, images, image, other),

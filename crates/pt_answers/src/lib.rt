@@ -13,7 +13,6 @@ mod plan_file;
 mod plan_texts;
 mod plans;
 mod repair;
-
 mod status;
 mod views;
 mod words;
@@ -26,6 +25,5 @@ pub use from_errors::as_device;
 pub use images::{Images, Opening};
 pub use plans::{apply_disk, check_on};
 pub use repair::repair_disk;
-
 pub use status::{Status, printed};
 pub use views::{locate_on, place_named, show_after, show_disk, verify_disk};

@@ -119,7 +119,12 @@ pub(crate) fn edit<const B: usize, D: Disk<B> + Drop, T: Read + Drop, I: Images<
     ensures { OnImage image.entry.path.now image.entry.opening (writing locked_by) (EditsDisk D.Disk (words_of wanted.now)) (I.past images.old) (I.past images.new) result }
 {
     let mut disk = images.open(image.path, image.opening, access_for(locked_by))?;
-    let answer = edit_disk::<B, D>(alloc, &mut disk, wanted.edits.as_slice(), wanted.guids.as_slice());
+    let answer = edit_disk::<B, D>(
+        alloc,
+        &mut disk,
+        wanted.edits.as_slice(),
+        wanted.guids.as_slice(),
+    );
     images.close(disk);
     answer
 }
@@ -135,7 +140,12 @@ pub(crate) fn plan<const B: usize, D: Disk<B> + Drop, T: Read + Drop, I: Images<
     ensures { OnImage image.entry.path.now image.entry.opening Reading (PlansOn D.Disk (words_of wanted.now)) (I.past images.old) (I.past images.new) result }
 {
     let mut disk = images.open(image.path, image.opening, Access::Read)?;
-    let answer = plan_on::<B, D>(alloc, &mut disk, wanted.edits.as_slice(), wanted.guids.as_slice());
+    let answer = plan_on::<B, D>(
+        alloc,
+        &mut disk,
+        wanted.edits.as_slice(),
+        wanted.guids.as_slice(),
+    );
     images.close(disk);
     answer
 }

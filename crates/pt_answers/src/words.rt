@@ -21,11 +21,7 @@ pub struct Wanted {
 
 impl Wanted {
     /// Those of words, and of the text of the GUIDs.
-    pub fn read(
-        alloc: Global,
-        fresh: &Option<String>,
-        words: &[String],
-    ) -> Result<Wanted, Failure>
+    pub fn read(alloc: Global, fresh: &Option<String>, words: &[String]) -> Result<Wanted, Failure>
         ensures { IsWanted (option_map string_bytes fresh.now) (map string_bytes words.now) result }
     {
         let guids = guids_of(alloc, fresh)?;

@@ -1,6 +1,6 @@
 -- Each text is a word, or has a fault.
 use Rattle.std.specs.Prelude.{◌≡◌, ◌<◌, ◌⊎◌, ◌+◌, ◌-◌, ◌^◌, ◌==◌, ℕ, true, false, nat_le, List, [], ◌∷◌, ◌++◌, length, take, drop}
-use Rattle.std.specs.Prelude.{slice_index, Contains, Option, Some, None, String}
+use Rattle.std.specs.Prelude.{slice_index, Contains, Option, Some, None, String, Result, Ok, Err, IfErr}
 use Rattle.std.specs.Char.{digit_value}
 use Rattle.std.specs.Fmt.{decimal}
 use Rattle.std.specs.Global.{Global}
@@ -21,7 +21,7 @@ use Rattle.pt_words.proofs.Searches.{Decided, both_decided, alike_decided, le_de
 use Rattle.pt_words.proofs.Searches.{in_tail}
 use Rattle.pt_words.specs.Words.{greatest, Field, number, path, new_path, end, code, guid, IsNumberIn, IsNewPath, IsEnd, IsHex, IsCode}
 use Rattle.pt_words.specs.Words.{Fits, error_of, is_letter, exactly, kinds, FirstBad, IsFault, letter_fault, count_fault, field_fault}
-use Rattle.pt_words.specs.Words.{IsWordFault, IsWord}
+use Rattle.pt_words.specs.Words.{IsNaming, IsWordFault, IsWord}
 use Rattle.pt_words.specs.declared.error.EditError.{EditError}
 use Rattle.pt_words.specs.declared.error.EditError.TheVariants.{UnknownLetter, FieldCount, Memory}
 use Rattle.pt_words.specs.declared.word.Code.{Code}
@@ -435,7 +435,7 @@ bad_other (k ∷ ks) [] e bad same = bad
 bad_other (k ∷ ks) (f ∷ fs) e (inl (not, is)) same = told_other k (sym is ∙ same)
 bad_other (k ∷ ks) (f ∷ fs) e (inr (fits, bad)) same = bad_other ks fs e bad same
 
-fault_other : (letter : List ℕ) (rest : List (List ℕ)) (e : EditError) → IsFault letter rest e → e ≡ Memory → ⊥
+pub fault_other : (letter : List ℕ) (rest : List (List ℕ)) (e : EditError) → IsFault letter rest e → e ≡ Memory → ⊥
 fault_other letter rest e (letter_fault not is) same = absurd cc
 fault_other letter rest e (count_fault l here known none is) same = absurd cc
 fault_other letter rest e (field_fault l ks here known are bad) same = bad_other ks rest e bad same
@@ -444,3 +444,19 @@ fault_other letter rest e (field_fault l ks here known are bad) same = bad_other
 pub memory_is_no_fault_lem : (fs : List (List ℕ)) → IsWordFault fs Memory → ⊥
 memory_is_no_fault_lem [] fault = fault
 memory_is_no_fault_lem (letter ∷ rest) fault = fault_other letter rest Memory fault refl
+
+-- ## Memory is wanted for a name alone.
+
+pub naming_fault : (r : Result Edit EditError) (l m : ℕ) (fs : List (List ℕ)) → m ≡ l → IfErr r (IsFault (l ∷ []) fs)
+    → IfErr r (λ e. e ≡ Memory → IsNaming ((m ∷ []) ∷ fs))
+naming_fault (Ok w) l m fs same h = tt
+naming_fault (Err e) l m fs same h = λ is. absurd (fault_other (l ∷ []) fs e h is)
+
+pub naming_as : (r : Result Edit EditError) (l m : ℕ) (fs : List (List ℕ)) → m ≡ l
+    → IfErr r (λ e. e ≡ Memory → IsNaming ((l ∷ []) ∷ fs)) → IfErr r (λ e. e ≡ Memory → IsNaming ((m ∷ []) ∷ fs))
+naming_as r l m fs same h = subst (λ (x : ℕ). IfErr r (λ e. e ≡ Memory → IsNaming ((x ∷ []) ∷ fs))) (sym same) h
+
+pub naming_word : (r : Result Edit EditError) (all : List (List ℕ)) (letter : List ℕ) (l : ℕ) (fs : List (List ℕ)) → all ≡ letter ∷ fs
+    → letter ≡ l ∷ [] → IfErr r (λ e. e ≡ Memory → IsNaming ((l ∷ []) ∷ fs)) → IfErr r (λ e. e ≡ Memory → IsNaming all)
+naming_word r all letter l fs whole same h =
+    subst (λ (x : List (List ℕ)). IfErr r (λ e. e ≡ Memory → IsNaming x)) (sym (whole ∙ ap (λ (x : List ℕ). x ∷ fs) same)) h

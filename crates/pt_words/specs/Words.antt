@@ -182,6 +182,10 @@ abbrev pub IsWordFault : List (List ℕ) → EditError → Type 0
 IsWordFault [] e = ⊥
 IsWordFault (letter ∷ rest) e = IsFault letter rest e
 
+-- the fields of a word that names a partition, which takes memory
+abbrev pub IsNaming : List (List ℕ) → Type 0
+IsNaming fs = (f : List ℕ) × (g : List ℕ) × (rest : List (List ℕ)) × (n : ℕ) × (fs ≡ (99 ∷ []) ∷ f ∷ g ∷ rest) × IsNumberIn 1 greatest f n
+
 -- ## A text is one word at most, and has one fault at most.
 
 -- words that say the same: they are one, and of two names the texts are one, wherever in memory these lie

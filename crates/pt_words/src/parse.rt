@@ -2,7 +2,7 @@
 
 ghost use Rattle.std.specs.Prelude.{◌≡◌, ◌≢◌, ◌<◌, ℕ, IfOk, IfErr, IfSome, IfNone, [], ◌∷◌};
 ghost use Rattle.std.specs.Option.{option_map};
-ghost use Rattle.pt_words.specs.Words.{fields, IsWord, IsFault, IsWordFault};
+ghost use Rattle.pt_words.specs.Words.{fields, IsWord, IsFault, IsNaming, IsWordFault};
 ghost use Rattle.pt_words.specs.inner.Words.{fields_after};
 
 use crate::error::EditError;
@@ -29,6 +29,7 @@ fn only_byte(text: &str) -> Option<u8>
 fn parse_word(alloc: Global, letter: u8, rest: Option<&str>) -> Result<Edit, EditError>
     ensures ok { IfOk result (IsWord ((letter ∷ []) ∷ fields_after (option_map (λ t. t.now) rest.entry))) }
     ensures err { IfErr result (λ e. e ≢ EditError.Memory → IsFault (letter ∷ []) (fields_after (option_map (λ t. t.now) rest.entry)) e) }
+    ensures memory { IfErr result (λ e. e ≡ EditError.Memory → IsNaming ((letter ∷ []) ∷ fields_after (option_map (λ t. t.now) rest.entry))) }
 {
     match letter {
         b'a' => parse_align(rest),
@@ -53,6 +54,7 @@ fn parse_word(alloc: Global, letter: u8, rest: Option<&str>) -> Result<Edit, Edi
 pub fn parse_edit(alloc: Global, text: &str) -> Result<Edit, EditError>
     ensures ok { IfOk result (IsWord (fields text.now)) }
     ensures err { IfErr result (λ e. e ≢ EditError.Memory → IsWordFault (fields text.now) e) }
+    ensures memory { IfErr result (λ e. e ≡ EditError.Memory → IsNaming (fields text.now)) }
 {
     let (letter, rest) = match next_field(Some(text)) {
         Some(parts) => parts,

@@ -1,9 +1,9 @@
 //! Words by their letters.
 
-ghost use Rattle.std.specs.Prelude.{◌≢◌, length, IfOk, IfErr, [], ◌∷◌};
+ghost use Rattle.std.specs.Prelude.{◌≡◌, ◌≢◌, length, IfOk, IfErr, [], ◌∷◌};
 ghost use Rattle.std.specs.Option.{option_map};
 ghost use Rattle.pt_words.specs.inner.Words.{fields_after};
-ghost use Rattle.pt_words.specs.Words.{IsWord, IsFault};
+ghost use Rattle.pt_words.specs.Words.{IsWord, IsFault, IsNaming};
 
 use crate::error::EditError;
 use crate::field::{
@@ -113,6 +113,7 @@ pub(crate) fn parse_empty(rest: Option<&str>) -> Result<Edit, EditError>
 pub(crate) fn parse_set_name(alloc: Global, rest: Option<&str>) -> Result<Edit, EditError>
     ensures ok { IfOk result (IsWord ((99 ∷ []) ∷ fields_after (option_map (λ t. t.now) rest.entry))) }
     ensures err { IfErr result (λ e. e ≢ EditError.Memory → IsFault (99 ∷ []) (fields_after (option_map (λ t. t.now) rest.entry)) e) }
+    ensures memory { IfErr result (λ e. e ≡ EditError.Memory → IsNaming ((99 ∷ []) ∷ fields_after (option_map (λ t. t.now) rest.entry))) }
 {
     let (number, rest) = match next_field(rest) {
         Some((number, rest)) => (number, rest),

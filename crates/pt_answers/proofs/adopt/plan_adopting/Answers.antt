@@ -7,10 +7,16 @@ use Rattle.pt_answers.proofs.adopt.plan_adopting.Goals as goal
 pub returns : goal.returns
 returns g c =
     let plan = c.in_ok-plan.ensures in
-    record { plans = (plan.same, plan.same_other, text_told g.row.B _ _ _ (Disk Memory) _ _ (plan.blames, plan.blames_other, plan.planned) (
-      plan.blames,
-      plan.blames_other,
-      λ told told_other.
-          ((plan.planned told told_other).wanted, (plan.planned told told_other).denotes, tt),
-    )
-    refl c.text_of_plan.ensures) }
+    record {
+      plans = (
+        plan.same,
+        plan.same_other,
+        text_told g.row.B _ _ _ (Disk Memory) _ _ (plan.blames, plan.blames_other, plan.planned) (
+          plan.blames,
+          plan.blames_other,
+          λ told told_other.
+              ((plan.planned told told_other).wanted, (plan.planned told told_other).denotes, tt),
+        )
+            refl c.text_of_plan.ensures,
+      );
+    }

@@ -8,6 +8,10 @@ returns-in_err-size g c =
     let p = err_from_is_err_and c.from_residual-in_err-size.result c.from_residual-in_err-size.ensures.1 in (
       Ok c.in_ok-line.line,
       rw (c.in_ok-line.was) at c.read_line.ensures.means,
-      (g.I.Images.past c.size_of.new.images, Err c.in_err-size.field-0.0, rw (c.in_err-size.was, c.image_in.ensures) at c.size_of.ensures,
-      (refl, refl, kept _, p.1 ∙ ap (λ e. Err e) p.2)),
+      (
+        g.I.Images.past c.size_of.new.images,
+        Err c.in_err-size.field-0.0,
+        rw (c.in_err-size.was, c.image_in.ensures) at c.size_of.ensures,
+        (refl, refl, kept _, p.1 ∙ ap (λ e. Err e) p.2),
+      ),
     )

@@ -1,4 +1,3 @@
-use Rattle.std.proofs.Common.{rules}
 use Rattle.pt_answers.proofs.Opened.{on_image}
 use Rattle.pt_answers.proofs.on_images.edit.Goals as goal
 
