@@ -29,8 +29,8 @@ use Rattle.pt_answers.specs.declared.failure.Failure.{Failure}
 use Rattle.pt_answers.specs.declared.failure.Failure.TheVariants.{NotText, Usage, InUseAlone, BadWord, BadFresh, BadPath, BadNumber, Edit}
 use Rattle.pt_answers.specs.declared.failure.Failure.TheVariants.{Plan, Check, Repair, PlanText, OtherSize, OtherOpening, Other, NoTable}
 use Rattle.pt_answers.specs.declared.failure.Failure.TheVariants.{Opening, Device, ClosedPipe, Memory}
-use Rattle.pt_answers.specs.declared.status.Status.{Status}
-use Rattle.pt_answers.specs.declared.status.Status.TheVariants as status
+use Rattle.pt_report.specs.declared.status.Status.{Status}
+use Rattle.pt_report.specs.declared.status.Status.TheVariants as status
 use Rattle.pt_answers.specs.Statuses.{failure_status}
 
 -- where an argument isn't UTF-8, in the form of `clap`'s texts

@@ -30,12 +30,13 @@ use Rattle.pt_answers.specs.Failures.{line_failure}
 use Rattle.pt_answers.specs.Images.{Call, Doing, OnImage, OnImages, Sized, Then, WithPlan}
 use Rattle.pt_answers.specs.OnDisks.{AdoptsFrom, AppliesTo, ChecksOn, EditsDisk, LocatesOn, PlansAdopting, PlansOn, RepairsDisk, ShowsAfter, ShowsDisk}
 use Rattle.pt_answers.specs.OnDisks.{VerifiesDisk}
-use Rattle.pt_answers.specs.Statuses.{IsOfOutput, reply_status}
+use Rattle.pt_answers.specs.Statuses.{IsOfOutput}
+use Rattle.pt_report.specs.Statuses.{reply_status}
 use Rattle.pt_answers.specs.Wanted.{IsWanted, words_of}
 use Rattle.pt_answers.specs.declared.failure.Failure.{Failure}
 use Rattle.pt_answers.specs.declared.failure.Failure.TheVariants as failure
 use Rattle.pt_answers.specs.declared.images.Opening.{Opening}
-use Rattle.pt_answers.specs.declared.status.Status.{Status}
+use Rattle.pt_report.specs.declared.status.Status.{Status}
 use Rattle.pt_answers.specs.declared.words.Wanted.{Wanted}
 
 -- ## A job.

@@ -1,36 +1,15 @@
 -- Exit statuses, and what is printed.
-use Rattle.std.specs.Prelude.{ℕ, None}
 use Rattle.pt_disks.specs.declared.device.NoDevice.{NoDevice}
 use Rattle.pt_disks.specs.declared.device.NoDevice.TheVariants as opening
-use Rattle.pt_check.specs.declared.answer.Answer.TheVariants as answer
 use Rattle.pt_recover.specs.declared.error.NoTable.{NoTable as Reason}
 use Rattle.pt_recover.specs.declared.error.NoTable.TheVariants as reason
-use Rattle.pt_report.specs.declared.reply.Reply.{Reply}
-use Rattle.pt_report.specs.declared.reply.Reply.TheVariants as reply
-use Rattle.pt_layout.specs.declared.sound.finding.Verdict.TheVariants as verdict
 use Rattle.pt_answers.specs.declared.failure.Failure.{Failure}
 use Rattle.pt_answers.specs.declared.failure.Failure.TheVariants as failure
-use Rattle.pt_answers.specs.declared.status.Status.{Status}
-use Rattle.pt_answers.specs.declared.status.Status.TheVariants.{Done, No, Usage, Refused, NoTable, Device, Memory}
+use Rattle.pt_report.specs.declared.status.Status.{Status}
+use Rattle.pt_report.specs.declared.status.Status.TheVariants.{Usage, Refused, NoTable, Device, Memory}
 use Rattle.pt_answers.specs.declared.failure.Failure.TheVariants.{ClosedPipe}
 
 -- ## The exit statuses.
-
-abbrev pub status_code : Status → ℕ
-status_code Done = 0
-status_code No = 1
-status_code Usage = 2
-status_code Refused = 3
-status_code NoTable = 4
-status_code Device = 5
-status_code Memory = 6
-
--- of an answer: a finding, no such sector and the checker's no are a no
-abbrev pub reply_status : Reply → Status
-reply_status (reply.Verdict (verdict.No finding)) = No
-reply_status (reply.Place None) = No
-reply_status (reply.Checked (answer.No why)) = No
-reply_status _ = Done
 
 -- of a disk that denotes nothing
 abbrev pub reason_status : Reason → Status

@@ -14,13 +14,13 @@ use crate::on_images::{
     Image, apply, check, edit, locate, plan, plan_taking, repair, show, show_planned, take, verify,
 };
 use crate::plan_file::plan_in;
-use crate::status::{Status, printed};
+use crate::status::printed;
 use crate::views::place_named;
 use crate::words::Wanted;
 use pt_apply::Plan;
 use pt_disks::NoDevice;
 use pt_line::{Adoption, InUse, Job, Line, Medium, SectorSize, read_line};
-use pt_report::Reply;
+use pt_report::{Reply, Status};
 use pt_sector::Disk;
 use std::alloc::Global;
 use std::io::{Read, Write};

@@ -7,10 +7,9 @@ ghost use Rattle.pt_answers.specs.Failures.{IsTold, failure_text, opening_text, 
 ghost use Rattle.pt_report.specs.Replies.{no_table_text};
 ghost use Rattle.pt_answers.specs.Statuses.{failure_status, opening_status as status_of_opening, reason_status};
 
-use crate::status::Status;
 use pt_disks::NoDevice;
 use pt_layout::NoTable;
-use pt_report::print_no_table;
+use pt_report::{Status, print_no_table};
 use std::io;
 use std::io::{ErrorKind, Write};
 

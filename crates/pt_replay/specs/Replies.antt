@@ -1,6 +1,8 @@
 -- What a caller in C is replied, field by field.
 use Rattle.std.specs.Prelude.{◌≡◌, ◌≢◌, ◌⊎◌, ℕ, ℤ, pos, negsuc, List, Some, ◌+◌, ◌%◌, Option, None}
 use Rattle.pt_guid.specs.Codes.{type_of}
+use Rattle.pt_report.specs.Statuses.{status_code as exit_code}
+use Rattle.pt_report.specs.declared.status.Status.TheVariants as exit
 use Rattle.pt_replay.specs.declared.answers.Status.{Status}
 use Rattle.pt_replay.specs.declared.answers.Status.TheVariants.{Done, No, Usage, Refused, NoTable, Device, Memory, Want, Room, WantOther}
 use Rattle.pt_replay.specs.declared.answers.About.{About}
@@ -39,13 +41,13 @@ use Rattle.pt_replay.specs.declared.answers.Answer.{Answer}
 
 -- the statuses of the command, and three more
 abbrev pub status_code : Status → ℤ
-status_code Done = pos 0
-status_code No = pos 1
-status_code Usage = pos 2
-status_code Refused = pos 3
-status_code NoTable = pos 4
-status_code Device = pos 5
-status_code Memory = pos 6
+status_code Done = pos (exit_code exit.Done)
+status_code No = pos (exit_code exit.No)
+status_code Usage = pos (exit_code exit.Usage)
+status_code Refused = pos (exit_code exit.Refused)
+status_code NoTable = pos (exit_code exit.NoTable)
+status_code Device = pos (exit_code exit.Device)
+status_code Memory = pos (exit_code exit.Memory)
 status_code Want = negsuc 0
 status_code Room = negsuc 1
 status_code WantOther = negsuc 2

@@ -4,8 +4,10 @@ ghost use Rattle.std.specs.Prelude.{◌≡◌, pos, negsuc};
 ghost use Rattle.pt_replay.specs.Replies.{status_code, about_code, nothing, told, answer, wanting, of_other, bad_argument};
 ghost use Rattle.pt_replay.specs.Replies.{failure_answer, letter_code};
 ghost use Rattle.pt_replay.specs.declared.answers.Status.TheVariants as status;
+ghost use Rattle.pt_report.specs.Statuses.{status_code as code_of_exit};
 
 use pt_layout::Path;
+use pt_report::Status as ExitStatus;
 use pt_sector::{Failure, Lba};
 
 /// How a call ends. The first seven are the exit statuses of the command.
@@ -39,18 +41,24 @@ impl Status {
         ensures { result ≡ status_code self }
     {
         match self {
-            Status::Done => 0,
-            Status::No => 1,
-            Status::Usage => 2,
-            Status::Refused => 3,
-            Status::NoTable => 4,
-            Status::Device => 5,
-            Status::Memory => 6,
+            Status::Done => exit_code(ExitStatus::Done),
+            Status::No => exit_code(ExitStatus::No),
+            Status::Usage => exit_code(ExitStatus::Usage),
+            Status::Refused => exit_code(ExitStatus::Refused),
+            Status::NoTable => exit_code(ExitStatus::NoTable),
+            Status::Device => exit_code(ExitStatus::Device),
+            Status::Memory => exit_code(ExitStatus::Memory),
             Status::Want => -1,
             Status::Room => -2,
             Status::WantOther => -3,
         }
     }
+}
+
+fn exit_code(status: ExitStatus) -> i32
+    ensures { result ≡ pos (code_of_exit status) }
+{
+    i32::from(status.code())
 }
 
 /// What the number of a reply is of.

@@ -8,7 +8,9 @@ mod name;
 mod no_table;
 mod path;
 mod reply;
+mod status;
 mod why;
 
 pub use no_table::print_no_table;
 pub use reply::Reply;
+pub use status::Status;
