@@ -14,7 +14,12 @@ pub on_image : {D T : Type 0} (path : List ℕ) (opening : Opening) (access : Ac
     → OnImage path opening access Does old new answer
 on_image path opening access Does opened disk left old between new answer is opens closed does = (
   Ok disk,
-  (left, closed ∙ ap (λ (calls : List (Call _ _)). Closed left ∷ calls) (opens ∙ ap (λ (r : Result _ NoDevice). Opened path opening access r ∷ old) is), does),
+  (
+    left,
+    closed ∙ ap (λ (calls : List (Call _ _)). Closed left ∷ calls) (opens
+        ∙ ap (λ (r : Result _ NoDevice). Opened path opening access r ∷ old) is),
+    does,
+  ),
 )
 
 pub on_images : {D T : Type 0} (path : List ℕ) (opening : Opening) (access : Access) (other_path : List ℕ) (other_opening : Opening)
@@ -24,7 +29,8 @@ pub on_images : {D T : Type 0} (path : List ℕ) (opening : Opening) (access : A
     → beside ≡ Ok disk → second ≡ Opened path opening access beside ∷ first
     → third ≡ Closed left ∷ second → new ≡ Closed other_left ∷ third → Does disk left other other_left answer
     → OnImages path opening access other_path other_opening other_access Does old new answer
-on_images path opening access other_path other_opening other_access Does opened beside other disk left other_left old first second third new answer
+on_images path opening access other_path other_opening other_access Does opened beside other disk left other_left old first second third
+    new answer
     is opens is_beside opens_beside closes closes_other does = (
       Ok other,
       (
@@ -32,7 +38,8 @@ on_images path opening access other_path other_opening other_access Does opened 
         (
           left,
           other_left,
-          closes_other ∙ ap (λ (calls : List (Call _ _)). Closed other_left ∷ calls) (closes ∙ ap (λ (calls : List (Call _ _)). Closed left ∷ calls)
+          closes_other ∙ ap (λ (calls : List (Call _ _)). Closed other_left ∷ calls) (closes
+              ∙ ap (λ (calls : List (Call _ _)). Closed left ∷ calls)
               (opens_beside ∙ (ap (λ (r : Result _ NoDevice). Opened path opening access r ∷ first) is_beside
               ∙ ap (λ (calls : List (Call _ _)). Opened path opening access (Ok disk) ∷ calls)
               (opens ∙ ap (λ (r : Result _ NoDevice). Opened other_path other_opening other_access r ∷ old) is)))),

@@ -1,5 +1,6 @@
 -- Words and plans, as far as they are read.
-use Rattle.std.proofs.Common.{◌≡◌, ◌≢◌, min, ◌+◌, ◌<◌, ◌≤◌, ◌⊎◌, ◌∷◌, [], ◌++◌, ◌∙◌, List, ℕ, ap, sym, subst, map, take, drop, length, get_or, refl, inl, inr, arith}
+use Rattle.std.proofs.Common.{◌≡◌, ◌≢◌, min, ◌+◌, ◌<◌, ◌≤◌, ◌⊎◌, ◌∷◌, [], ◌++◌, ◌∙◌, List, ℕ, ap, sym, subst, map, take, drop, length}
+use Rattle.std.proofs.Common.{get_or, refl, inl, inr, arith}
 use Rattle.std.proofs.Common.{Some, None, Ok, Err, string_bytes, suc, Bool, true, false, nat_lt}
 use Rattle.std.specs.Prelude.{Option, Result, IfSome, IsUtf8, String}
 use Rattle.std.specs.declared.alloc.Global.{Global}
@@ -90,7 +91,8 @@ bad_next words k x text edits why told place read fault (inr unread) =
     bad_told (texts words) (string_bytes (get_or words k x)) told (first_bad words k x edits why place.0 read
     (subst (λ (t : List ℕ). IsWordFault (fields t) why) at (fault unread.0))) (subst (λ (t : List ℕ). IsNamed t told) at unread.1)
 
-pub wanted_bad : (fresh : Option (List ℕ)) (words : List (List ℕ)) (guids : List Guid) (why : Failure) → AreGiven fresh guids → IsBadOr words why
+pub wanted_bad : (fresh : Option (List ℕ)) (words : List (List ℕ)) (guids : List Guid) (why : Failure) → AreGiven fresh guids
+    → IsBadOr words why
     → IsWanted fresh words (Err why)
 wanted_bad fresh words guids why given (inl memory) = inl memory
 wanted_bad fresh words guids why given (inr bad) = inr (inr (bad.0, bad.1, (guids, given), bad.2))
@@ -122,12 +124,14 @@ no_whole all bytes is (inr bad) = if_long all bytes is bad (long_or_not most_tex
 
 -- what is read of known bytes is read of a file that begins with them
 pub of_bytes : (b : ℕ) (known : Option (List ℕ)) (bytes : List ℕ) (plan : Result (Plan b) Failure)
-    → IfSome known (λ all. bytes ≡ take (most_text + 1) all) → length bytes ≤ most_text → ReadsPlan b (Some bytes) plan → ReadsPlan b known plan
+    → IfSome known (λ all. bytes ≡ take (most_text + 1) all) → length bytes ≤ most_text → ReadsPlan b (Some bytes) plan
+    → ReadsPlan b known plan
 of_bytes b None bytes (Ok plan) is short read = tt
 of_bytes b None bytes (Err why) is short (inl device) = inl device
 of_bytes b None bytes (Err why) is short (inr (inl memory)) = inr (inl memory)
 of_bytes b None bytes (Err why) is short (inr (inr text)) = inr (inr (text.0, text.1, tt))
-of_bytes b (Some all) bytes plan is short read = subst (λ (t : List ℕ). ReadsPlan b (Some t) plan) (is ∙ take_all (most_text + 1) all (let short_all = within all bytes is short in omega (arith, short_all))) read
+of_bytes b (Some all) bytes plan is short read = subst (λ (t : List ℕ). ReadsPlan b (Some t) plan) (is
+    ∙ take_all (most_text + 1) all (let short_all = within all bytes is short in omega (arith, short_all))) read
 
 pub no_text : (b : ℕ) (known : Option (List ℕ)) (bytes : List ℕ) (why : Failure)
     → IfSome known (λ all. bytes ≡ take (most_text + 1) all) → IsNoText bytes why → ReadsPlan b known (Err why)

@@ -9,7 +9,8 @@ use Rattle.pt_answers.specs.Answers.{Plans}
 use Rattle.pt_answers.specs.declared.failure.Failure.{Failure}
 use Rattle.pt_answers.specs.declared.failure.Failure.TheVariants.{Memory}
 
-pub text_told : {E : Type 0} (b : ℕ) (Holds : List Writes → Type 0) (Explains : E → Type 0) (told : E → Failure) (e : E) (phases : List Writes)
+pub text_told : {E : Type 0} (b : ℕ) (Holds : List Writes → Type 0) (Explains : E → Type 0) (told : E
+    → Failure) (e : E) (phases : List Writes)
     (r : Result Reply Failure) → Holds phases → Explains e → told e ≡ Memory → IsTextOrMemory b phases r → Plans b Holds Explains told r
 text_told b Holds Explains told e phases (Ok reply) holds explains same is = (phases, holds, is)
 text_told b Holds Explains told e phases (Err failure) holds explains same is = (e, explains, is ∙ sym same)

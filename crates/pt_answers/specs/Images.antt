@@ -73,7 +73,8 @@ line_feeds text = count_by (λ byte. byte == 10) text
 
 -- the first line of a text that is no plan's, 0 where it is too long or isn't UTF-8
 abbrev pub IsPlanFault : ℕ → List ℕ → ℕ → Type 0
-IsPlanFault b text n = ((n ≡ 0) × ((most_text < length text) ⊎ ¬ IsUtf8 text)) ⊎ (IsBadLine b text n ⊎ (LacksFlush b text × (n ≡ line_feeds text)))
+IsPlanFault b text n = ((n ≡ 0) × ((most_text < length text) ⊎ ¬ IsUtf8 text)) ⊎ (IsBadLine b text n ⊎ (LacksFlush b text
+    × (n ≡ line_feeds text)))
 
 -- what a file whose bytes are known, if they are, is read as: a plan, that it can't be read, or its first bad line
 abbrev pub ReadsPlan : (b : ℕ) → Option (List ℕ) → Result (Plan b) Failure → Type 0

@@ -1,6 +1,7 @@
 -- What a run of the command does for each line: the calls by which its images are opened, the subcommand that is done on them, and what
 -- is printed.
-use Rattle.std.specs.Prelude.{◌≡◌, ◌==◌, if◌then◌else◌, ℕ, List, ◌∷◌, Option, Some, None, Result, Ok, Err, IfErr, IfOk, OnOk, map, option_map, string_bytes}
+use Rattle.std.specs.Prelude.{◌≡◌, ◌==◌, if◌then◌else◌, ℕ, List, ◌∷◌, Option, Some, None, Result, Ok, Err, IfErr, IfOk, OnOk, map}
+use Rattle.std.specs.Prelude.{option_map, string_bytes}
 use Rattle.std.specs.Io.KnownBytes.{Appends, Keeps}
 use Rattle.pt_sector.specs.declared.disk.Disk.{Ghosts}
 use Rattle.pt_path.specs.declared.path.Path.{Path}
@@ -28,7 +29,8 @@ use Rattle.pt_report.specs.declared.reply.Reply.TheVariants as reply
 use Rattle.pt_answers.specs.Answers.{NamesPlace}
 use Rattle.pt_answers.specs.Failures.{line_failure}
 use Rattle.pt_answers.specs.Images.{Call, Doing, OnImage, OnImages, Sized, Then, WithPlan}
-use Rattle.pt_answers.specs.OnDisks.{AdoptsFrom, AppliesTo, ChecksOn, EditsDisk, LocatesOn, PlansAdopting, PlansOn, RepairsDisk, ShowsAfter, ShowsDisk}
+use Rattle.pt_answers.specs.OnDisks.{AdoptsFrom, AppliesTo, ChecksOn, EditsDisk, LocatesOn, PlansAdopting, PlansOn, RepairsDisk}
+use Rattle.pt_answers.specs.OnDisks.{ShowsAfter, ShowsDisk}
 use Rattle.pt_answers.specs.OnDisks.{VerifiesDisk}
 use Rattle.pt_answers.specs.Statuses.{IsOfOutput}
 use Rattle.pt_report.specs.Statuses.{reply_status}
@@ -66,7 +68,8 @@ RunsJob g remaining opening (job.Help text) old new answer = (new ≡ old) × (a
 RunsJob g remaining opening (job.Show image None) old new answer =
     OnImage (string_bytes image) opening Read (ShowsDisk g) old new answer
 RunsJob {D} {T} {B} g remaining opening (job.Show image (Some file)) old new answer =
-    WithPlan B remaining (string_bytes file) (λ plan. OnImage (string_bytes image) opening Read (ShowsAfter g (phases_of plan))) old new answer
+    WithPlan B remaining (string_bytes file) (λ plan. OnImage (string_bytes image) opening Read (ShowsAfter g (phases_of plan))) old new
+    answer
 RunsJob g remaining opening (job.Verify image) old new answer =
     OnImage (string_bytes image) opening Read (VerifiesDisk g) old new answer
 RunsJob g remaining opening (job.Locate image path place) old new answer = WithPlace (string_bytes path) (string_bytes place)
@@ -78,7 +81,8 @@ RunsJob g remaining opening (job.Plan image fresh words) old new answer =
     WithWords (option_map string_bytes fresh) (map string_bytes words.items)
     (λ wanted. OnImage (string_bytes image) opening Read (PlansOn g (words_of wanted))) old new answer
 RunsJob {D} {T} {B} g remaining opening (job.Check image file) old new answer =
-    WithPlan B remaining (string_bytes file) (λ plan. OnImage (string_bytes image) opening Read (ChecksOn g (phases_of plan))) old new answer
+    WithPlan B remaining (string_bytes file) (λ plan. OnImage (string_bytes image) opening Read (ChecksOn g (phases_of plan))) old new
+    answer
 RunsJob {D} {T} {B} g remaining opening (job.Apply image file locked_by) old new answer = WithPlan B remaining (string_bytes file)
     (λ plan. OnImage (string_bytes image) opening (writing locked_by) (AppliesTo g (phases_of plan))) old new answer
 RunsJob g remaining opening (job.Repair image locked_by) old new answer =
@@ -153,7 +157,8 @@ abbrev pub RunsRead : {D E T : Type 0} → Ghosts D 512 → Ghosts E 4096 → (T
 RunsRead g h remaining (Err error) small_old small_new large_old large_new old new result =
     (small_new ≡ small_old) × (large_new ≡ large_old) × Keeps old new × (result ≡ Err (line_failure error))
 RunsRead {D} {E} {T} g h remaining (Ok line) small_old small_new large_old large_new old new result =
-    (between : List (Call D T)) × (size : Result SectorSize Failure) × Sizes line.size line.medium (image_of line.job) small_old between size
+    (between : List (Call D T)) × (size : Result SectorSize Failure)
+    × Sizes line.size line.medium (image_of line.job) small_old between size
     × RunsSized g h remaining line size between small_new large_old large_new old new result
 
 -- a run of the command: its words, the calls that it made, what its output holds, and its status or why it ended without an answer

@@ -1,5 +1,6 @@
 -- The words of an edit as they are read, and the fresh GUIDs that they take.
-use Rattle.std.specs.Prelude.{◌≡◌, ◌≢◌, ◌<◌, ◌/◌, ◌%◌, ℕ, List, [], ◌∷◌, ◌++◌, Option, Some, None, Result, Ok, Err, string_bytes, String, ◌⊎◌, length, map}
+use Rattle.std.specs.Prelude.{◌≡◌, ◌≢◌, ◌<◌, ◌/◌, ◌%◌, ℕ, List, [], ◌∷◌, ◌++◌, Option, Some, None, Result, Ok, Err, string_bytes, String}
+use Rattle.std.specs.Prelude.{◌⊎◌, length, map}
 use Rattle.std.specs.Prelude.{slice_index_or}
 use Rattle.std.specs.Simd.{first_chunks}
 use Rattle.hex.specs.declared.error.FromHexError.{FromHexError}
@@ -66,7 +67,8 @@ AreNotGiven (Some text) = AreNoFresh text
 abbrev pub IsWanted : Option (List ℕ) → List (List ℕ) → Result Wanted Failure → Type 0
 IsWanted fresh words (Ok wanted) = AreGiven fresh wanted.guids.items × AreEdits words wanted.edits.items
 IsWanted fresh words (Err why) = (why ≡ failure.Memory) ⊎ (((why ≡ failure.BadFresh) × AreNotGiven fresh)
-    ⊎ ((word : String Global) × (why ≡ failure.BadWord word) × ((guids : List Guid) × AreGiven fresh guids) × IsFirstBad words (string_bytes word)))
+    ⊎ ((word : String Global) × (why ≡ failure.BadWord word) × ((guids : List Guid) × AreGiven fresh guids)
+    × IsFirstBad words (string_bytes word)))
 
 abbrev pub words_of : Wanted → Words
 words_of wanted = record { edits = wanted.edits.items; guids = wanted.guids.items }

@@ -24,7 +24,7 @@ pub use failure::Failure;
 pub use from_errors::as_device;
 pub use images::{Images, Opening};
 pub use plans::{apply_disk, check_on};
-pub use repair::repair_disk;
 pub use pt_report::Status;
+pub use repair::repair_disk;
 pub use status::printed;
 pub use views::{locate_on, place_named, show_after, show_disk, verify_disk};

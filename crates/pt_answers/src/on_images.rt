@@ -51,7 +51,8 @@ pub(crate) fn show<const B: usize, D: Disk<B> + Drop, T: Read + Drop, I: Images<
     image: Image<'_>,
 ) -> Result<Reply, Failure>
     requires { IsSectorSize B }
-    ensures { OnImage image.entry.path.now image.entry.opening Reading (ShowsDisk D.Disk) (I.past images.old) (I.past images.new) result }
+    ensures { OnImage image.entry.path.now image.entry.opening Reading (ShowsDisk D.Disk)
+        (I.past images.old) (I.past images.new) result }
 {
     let mut disk = images.open(image.path, image.opening, Access::Read)?;
     let answer = show_disk::<B, D>(alloc, &mut disk);
@@ -67,7 +68,8 @@ pub(crate) fn show_planned<const B: usize, D: Disk<B> + Drop, T: Read + Drop, I:
     plan: &Plan<B>,
 ) -> Result<Reply, Failure>
     requires { IsSectorSize B }
-    ensures { OnImage image.entry.path.now image.entry.opening Reading (ShowsAfter D.Disk (phases_of plan.now)) (I.past images.old) (I.past images.new) result }
+    ensures { OnImage image.entry.path.now image.entry.opening Reading (ShowsAfter D.Disk (phases_of plan.now))
+        (I.past images.old) (I.past images.new) result }
 {
     let mut disk = images.open(image.path, image.opening, Access::Read)?;
     let answer = show_after::<B, D>(alloc, &mut disk, plan);
@@ -82,7 +84,8 @@ pub(crate) fn verify<const B: usize, D: Disk<B> + Drop, T: Read + Drop, I: Image
     image: Image<'_>,
 ) -> Result<Reply, Failure>
     requires { IsSectorSize B }
-    ensures { OnImage image.entry.path.now image.entry.opening Reading (VerifiesDisk D.Disk) (I.past images.old) (I.past images.new) result }
+    ensures { OnImage image.entry.path.now image.entry.opening Reading (VerifiesDisk D.Disk)
+        (I.past images.old) (I.past images.new) result }
 {
     let mut disk = images.open(image.path, image.opening, Access::Read)?;
     let answer = verify_disk::<B, D>(alloc, &mut disk);
@@ -99,7 +102,8 @@ pub(crate) fn locate<const B: usize, D: Disk<B> + Drop, T: Read + Drop, I: Image
     k: u64,
 ) -> Result<Reply, Failure>
     requires { IsSectorSize B }
-    ensures { OnImage image.entry.path.now image.entry.opening Reading (LocatesOn D.Disk path.now k) (I.past images.old) (I.past images.new) result }
+    ensures { OnImage image.entry.path.now image.entry.opening Reading (LocatesOn D.Disk path.now k)
+        (I.past images.old) (I.past images.new) result }
 {
     let mut disk = images.open(image.path, image.opening, Access::Read)?;
     let answer = locate_on::<B, D>(alloc, &mut disk, path, k);
@@ -116,7 +120,8 @@ pub(crate) fn edit<const B: usize, D: Disk<B> + Drop, T: Read + Drop, I: Images<
     wanted: &Wanted,
 ) -> Result<Reply, Failure>
     requires { IsSectorSize B }
-    ensures { OnImage image.entry.path.now image.entry.opening (writing locked_by) (EditsDisk D.Disk (words_of wanted.now)) (I.past images.old) (I.past images.new) result }
+    ensures { OnImage image.entry.path.now image.entry.opening (writing locked_by) (EditsDisk D.Disk (words_of wanted.now))
+        (I.past images.old) (I.past images.new) result }
 {
     let mut disk = images.open(image.path, image.opening, access_for(locked_by))?;
     let answer = edit_disk::<B, D>(
@@ -137,7 +142,8 @@ pub(crate) fn plan<const B: usize, D: Disk<B> + Drop, T: Read + Drop, I: Images<
     wanted: &Wanted,
 ) -> Result<Reply, Failure>
     requires { IsSectorSize B }
-    ensures { OnImage image.entry.path.now image.entry.opening Reading (PlansOn D.Disk (words_of wanted.now)) (I.past images.old) (I.past images.new) result }
+    ensures { OnImage image.entry.path.now image.entry.opening Reading (PlansOn D.Disk (words_of wanted.now))
+        (I.past images.old) (I.past images.new) result }
 {
     let mut disk = images.open(image.path, image.opening, Access::Read)?;
     let answer = plan_on::<B, D>(
@@ -158,7 +164,8 @@ pub(crate) fn check<const B: usize, D: Disk<B> + Drop, T: Read + Drop, I: Images
     plan: &Plan<B>,
 ) -> Result<Reply, Failure>
     requires { IsSectorSize B }
-    ensures { OnImage image.entry.path.now image.entry.opening Reading (ChecksOn D.Disk (phases_of plan.now)) (I.past images.old) (I.past images.new) result }
+    ensures { OnImage image.entry.path.now image.entry.opening Reading (ChecksOn D.Disk (phases_of plan.now))
+        (I.past images.old) (I.past images.new) result }
 {
     let mut disk = images.open(image.path, image.opening, Access::Read)?;
     let answer = check_on::<B, D>(alloc, &mut disk, plan);
@@ -175,7 +182,8 @@ pub(crate) fn apply<const B: usize, D: Disk<B> + Drop, T: Read + Drop, I: Images
     plan: &Plan<B>,
 ) -> Result<Reply, Failure>
     requires { IsSectorSize B }
-    ensures { OnImage image.entry.path.now image.entry.opening (writing locked_by) (AppliesTo D.Disk (phases_of plan.now)) (I.past images.old) (I.past images.new) result }
+    ensures { OnImage image.entry.path.now image.entry.opening (writing locked_by) (AppliesTo D.Disk (phases_of plan.now))
+        (I.past images.old) (I.past images.new) result }
 {
     let mut disk = images.open(image.path, image.opening, access_for(locked_by))?;
     let answer = apply_disk::<B, D>(alloc, &mut disk, plan);
@@ -191,7 +199,8 @@ pub(crate) fn repair<const B: usize, D: Disk<B> + Drop, T: Read + Drop, I: Image
     locked_by: LockedBy,
 ) -> Result<Reply, Failure>
     requires { IsSectorSize B }
-    ensures { OnImage image.entry.path.now image.entry.opening (writing locked_by) (RepairsDisk D.Disk) (I.past images.old) (I.past images.new) result }
+    ensures { OnImage image.entry.path.now image.entry.opening (writing locked_by) (RepairsDisk D.Disk)
+        (I.past images.old) (I.past images.new) result }
 {
     let mut disk = images.open(image.path, image.opening, access_for(locked_by))?;
     let answer = repair_disk::<B, D>(alloc, &mut disk);

@@ -23,7 +23,8 @@ stays : (c : List Rule) (names : Names) (name : Text) (seen rest : List Text)
     → fold (walked c names) (stopped_at name seen) rest ≡ stopped_at name (seen ++ rest)
 unfolding walked
 stays c names name seen [] = ap (stopped_at name) (sym (append-nil seen))
-stays c names name seen (word ∷ rest) = stays c names name (seen ++ word ∷ []) rest ∙ ap (stopped_at name) (append_assoc seen (word ∷ []) rest)
+stays c names name seen (word ∷ rest) = stays c names name (seen ++ word ∷ []) rest
+    ∙ ap (stopped_at name) (append_assoc seen (word ∷ []) rest)
 
 no_fault : (s : Shape) (names : Names) (name : Text) (seen rest : List Text) → walk_fault s names (stopped_at name seen) rest ≡ []
 unfolding walk_fault walked
@@ -56,7 +57,8 @@ module _ (a : App) (name : Text) (meets : walked a.top.rules (names_of a) (walk_
   entered_by_name = ap (λ (w : Walk). entered a w.stopped) stops
 
 module _ (sizes : Bor (List (Bor Text))) where
-  whole_meets : (s : Subcommand) → walked (built (ptab sizes)).top.rules (names_of (built (ptab sizes))) (walk_from nothing_held) (name_of s)
+  whole_meets : (s : Subcommand) → walked (built (ptab sizes)).top.rules (names_of (built (ptab sizes))) (walk_from nothing_held)
+      (name_of s)
       ≡ stopped_at (name_of s) []
   unfolding walked
   whole_meets Show = refl
@@ -69,7 +71,8 @@ module _ (sizes : Bor (List (Bor Text))) where
   whole_meets Repair = refl
   whole_meets Adopt = refl
 
-  whole_passes : (s : Subcommand) → turn_fault (built (ptab sizes)).top (names_of (built (ptab sizes))) (walk_from nothing_held) (name_of s) ≡ []
+  whole_passes : (s : Subcommand) → turn_fault (built (ptab sizes)).top (names_of (built (ptab sizes))) (walk_from nothing_held)
+      (name_of s) ≡ []
   whole_passes Show = refl
   whole_passes Verify = refl
   whole_passes Locate = refl
@@ -80,7 +83,8 @@ module _ (sizes : Bor (List (Bor Text))) where
   whole_passes Repair = refl
   whole_passes Adopt = refl
 
-  alone_meets : (s : Subcommand) → walked (built (alone sizes s)).top.rules (names_of (built (alone sizes s))) (walk_from nothing_held) (name_of s)
+  alone_meets : (s : Subcommand) → walked (built (alone sizes s)).top.rules (names_of (built (alone sizes s))) (walk_from nothing_held)
+      (name_of s)
       ≡ stopped_at (name_of s) []
   unfolding walked
   alone_meets Show = refl
@@ -93,7 +97,8 @@ module _ (sizes : Bor (List (Bor Text))) where
   alone_meets Repair = refl
   alone_meets Adopt = refl
 
-  alone_passes : (s : Subcommand) → turn_fault (built (alone sizes s)).top (names_of (built (alone sizes s))) (walk_from nothing_held) (name_of s) ≡ []
+  alone_passes : (s : Subcommand) → turn_fault (built (alone sizes s)).top (names_of (built (alone sizes s))) (walk_from nothing_held)
+      (name_of s) ≡ []
   alone_passes Show = refl
   alone_passes Verify = refl
   alone_passes Locate = refl
@@ -118,7 +123,8 @@ module _ (sizes : Bor (List (Bor Text))) where
     same_fault Repair = refl
     same_fault Adopt = refl
 
-    same_entered : (s : Subcommand) → entered (built (ptab sizes)) (Some (name_of s, rest)) ≡ entered (built (alone sizes s)) (Some (name_of s, rest))
+    same_entered : (s : Subcommand) → entered (built (ptab sizes)) (Some (name_of s, rest)) ≡ entered (built (alone sizes s)) (Some
+        (name_of s, rest))
     same_entered Show = refl
     same_entered Verify = refl
     same_entered Locate = refl

@@ -58,7 +58,8 @@ all_texts (Some vs) ts e some = ap (λ (x : List Text). Some x) (sym e)
 sized : (rows : List Row) → Each (IsFull MayBe) rows → (z : Option SectorSize) → IsSizeOrLess rows z → IsSize rows z
 sized rows full None is = is
 sized rows full (Some Bytes4096) is = is
-sized rows full (Some Bytes512) less = go (first_of (codes "sector-size") rows) (value_may MayBe rows (codes "sector-size") full) less.0 less.1
+sized rows full (Some Bytes512) less = go (first_of (codes "sector-size") rows) (value_may MayBe rows (codes "sector-size") full) less.0
+    less.1
   where
     go : (o : Option Text) → IfSome o (MayBe (codes "sector-size")) → IsSome o → (o ≡ Some (codes "4096") → ⊥) → o ≡ Some (codes "512")
     go None may some never = absurd (true≢false (sym some))
@@ -201,28 +202,127 @@ module _ (sizes : Bor (List (Bor Text))) (are : texts sizes.now ≡ codes "512" 
   image_sound = (((omega arith, λ v e is. absurd (true≢false (sym is))), tt), (device_sound, (sizes_sound, ((tt, tt), tt))))
 
   show_sound : Each (IsSound MayBe) (built_rules (show_rules sizes))
-  show_sound = (((omega arith, λ v e is. absurd (true≢false (sym is))), tt), (((omega arith, λ v e is. absurd (true≢false (sym is))), tt), (device_sound, (sizes_sound, ((tt, tt), tt)))))
+  show_sound = (
+    ((omega arith, λ v e is. absurd (true≢false (sym is))), tt),
+    (
+      (
+        (omega arith, λ v e is. absurd (true≢false (sym is))),
+        tt,
+      ),
+      (device_sound, (sizes_sound, ((tt, tt), tt))),
+    ),
+  )
 
   place_sound : Each (IsSound MayBe) (built_rules (place_rules sizes))
-  place_sound = (((omega arith, λ v e is. absurd (true≢false (sym is))), tt), (((omega arith, λ v e is. absurd (true≢false (sym is))), tt), (((omega arith, λ v e is. absurd (true≢false (sym is))), tt), (device_sound, (sizes_sound, ((tt, tt), tt))))))
+  place_sound = (
+    ((omega arith, λ v e is. absurd (true≢false (sym is))), tt),
+    (
+      (
+        (omega arith, λ v e is. absurd (true≢false (sym is))),
+        tt,
+      ),
+      (((omega arith, λ v e is. absurd (true≢false (sym is))), tt), (device_sound, (sizes_sound, ((tt, tt), tt)))),
+    ),
+  )
 
   word_sound : Each (IsSound MayBe) (built_rules (word_rules sizes))
-  word_sound = (((omega arith, λ v e is. absurd (true≢false (sym is))), tt), (((omega arith, λ v e is. absurd (true≢false (sym is))), tt), (device_sound, (sizes_sound, (((omega arith, λ v e is. absurd (true≢false (sym is))), tt), ((tt, tt), tt))))))
+  word_sound = (
+    ((omega arith, λ v e is. absurd (true≢false (sym is))), tt),
+    (
+      (
+        (omega arith, λ v e is. absurd (true≢false (sym is))),
+        tt,
+      ),
+      (device_sound, (sizes_sound, (((omega arith, λ v e is. absurd (true≢false (sym is))), tt), ((tt, tt), tt)))),
+    ),
+  )
 
   plan_sound : Each (IsSound MayBe) (built_rules (plan_rules sizes))
-  plan_sound = (((omega arith, λ v e is. absurd (true≢false (sym is))), tt), (((omega arith, λ v e is. absurd (true≢false (sym is))), tt), (device_sound, (sizes_sound, ((tt, tt), tt)))))
+  plan_sound = (
+    ((omega arith, λ v e is. absurd (true≢false (sym is))), tt),
+    (
+      (
+        (omega arith, λ v e is. absurd (true≢false (sym is))),
+        tt,
+      ),
+      (device_sound, (sizes_sound, ((tt, tt), tt))),
+    ),
+  )
 
   image_writing_sound : Each (IsSound MayBe) (built_rules (writing (image_rules sizes)))
-  image_writing_sound = (((omega arith, λ v e is. absurd (true≢false (sym is))), tt), (device_sound, (sizes_sound, (in_use_sound, (no_lock_sound, ((tt, tt), tt))))))
+  image_writing_sound = (
+    ((omega arith, λ v e is. absurd (true≢false (sym is))), tt),
+    (
+      device_sound,
+      (
+        sizes_sound,
+        (
+          in_use_sound,
+          (no_lock_sound, ((tt, tt), tt)),
+        ),
+      ),
+    ),
+  )
 
   word_writing_sound : Each (IsSound MayBe) (built_rules (writing (word_rules sizes)))
-  word_writing_sound = (((omega arith, λ v e is. absurd (true≢false (sym is))), tt), (((omega arith, λ v e is. absurd (true≢false (sym is))), tt), (device_sound, (sizes_sound, (((omega arith, λ v e is. absurd (true≢false (sym is))), tt), (in_use_sound, (no_lock_sound, ((tt, tt), tt))))))))
+  word_writing_sound = (
+    ((omega arith, λ v e is. absurd (true≢false (sym is))), tt),
+    (
+      (
+        (
+          omega arith,
+          λ v e is. absurd (true≢false (sym
+              is)),
+        ),
+        tt,
+      ),
+      (
+        device_sound,
+        (
+          sizes_sound,
+          (
+            ((omega arith, λ v e is. absurd (true≢false (sym is))), tt),
+            (
+              in_use_sound,
+              (no_lock_sound, ((tt, tt), tt)),
+            ),
+          ),
+        ),
+      ),
+    ),
+  )
 
   plan_writing_sound : Each (IsSound MayBe) (built_rules (writing (plan_rules sizes)))
-  plan_writing_sound = (((omega arith, λ v e is. absurd (true≢false (sym is))), tt), (((omega arith, λ v e is. absurd (true≢false (sym is))), tt), (device_sound, (sizes_sound, (in_use_sound, (no_lock_sound, ((tt, tt), tt)))))))
+  plan_writing_sound = (
+    ((omega arith, λ v e is. absurd (true≢false (sym is))), tt),
+    (
+      (
+        (
+          omega arith,
+          λ v e is. absurd (true≢false (sym
+              is)),
+        ),
+        tt,
+      ),
+      (device_sound, (sizes_sound, (in_use_sound, (no_lock_sound, ((tt, tt), tt))))),
+    ),
+  )
 
   other_writing_sound : Each (IsSound MayBe) (built_rules (writing (other_rules sizes)))
-  other_writing_sound = (((omega arith, λ v e is. absurd (true≢false (sym is))), tt), (((omega arith, λ v e is. absurd (true≢false (sym is))), tt), (plan_only_sound, (other_device_sound, (device_sound, (sizes_sound, (in_use_sound, (no_lock_sound, ((tt, tt), tt)))))))))
+  other_writing_sound = (
+    ((omega arith, λ v e is. absurd (true≢false (sym is))), tt),
+    (
+      (
+        (
+          omega arith,
+          λ v e is. absurd (true≢false (sym
+              is)),
+        ),
+        tt,
+      ),
+      (plan_only_sound, (other_device_sound, (device_sound, (sizes_sound, (in_use_sound, (no_lock_sound, ((tt, tt), tt))))))),
+    ),
+  )
 
   each_good : Each (IsKnown MayBe IsRead) (built (ptab sizes)).subs
   each_good = (

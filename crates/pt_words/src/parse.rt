@@ -29,7 +29,8 @@ fn only_byte(text: &str) -> Option<u8>
 fn parse_word(alloc: Global, letter: u8, rest: Option<&str>) -> Result<Edit, EditError>
     ensures ok { IfOk result (IsWord ((letter ∷ []) ∷ fields_after (option_map (λ t. t.now) rest.entry))) }
     ensures err { IfErr result (λ e. e ≢ EditError.Memory → IsFault (letter ∷ []) (fields_after (option_map (λ t. t.now) rest.entry)) e) }
-    ensures memory { IfErr result (λ e. e ≡ EditError.Memory → IsNaming ((letter ∷ []) ∷ fields_after (option_map (λ t. t.now) rest.entry))) }
+    ensures memory { IfErr result (λ e. e ≡ EditError.Memory
+        → IsNaming ((letter ∷ []) ∷ fields_after (option_map (λ t. t.now) rest.entry))) }
 {
     match letter {
         b'a' => parse_align(rest),

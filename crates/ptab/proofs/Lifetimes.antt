@@ -24,7 +24,8 @@ result k s d in_s in_d =
     ⊑_meet k s ((d ++ []) ++ ((d ++ []) ++ [])) in_s (⊑_meet k (d ++ []) ((d ++ []) ++ []) one (alone k (d ++ []) one))
 
 pub of_closed : (k s t d : Lft) → k ⊑ s → k ⊑ t → k ⊑ d
-    → k ⊑ ((s ++ ((d ++ []) ++ (((d ++ []) ++ []) ++ []))) ++ ((t ++ d) ++ [])) ++ ((s ++ ((d ++ []) ++ (((d ++ []) ++ []) ++ []))) ++ ((t ++ d) ++ []))
+    → k ⊑ ((s ++ ((d ++ []) ++ (((d ++ []) ++ []) ++ []))) ++ ((t ++ d) ++ [])) ++ ((s ++ ((d ++ []) ++ (((d ++ []) ++ []) ++ []))) ++
+    ((t ++ d) ++ []))
 of_closed k s t d in_s in_t in_d =
     twice k _ (⊑_meet k _ ((t ++ d) ++ []) (past k s d in_s in_d) (alone k (t ++ d) (⊑_meet k t d in_t in_d)))
 

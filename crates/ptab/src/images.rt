@@ -27,12 +27,7 @@ impl<'a, const B: usize, R: Files<File = File> + AllocGlobal> FileImages<'a, B, 
         }
     }
 
-    fn opened(
-        &self,
-        path: &str,
-        opening: Opening,
-        access: Access,
-    ) -> Result<FileDisk<B>, NoDevice>
+    fn opened(&self, path: &str, opening: Opening, access: Access) -> Result<FileDisk<B>, NoDevice>
         requires { IsSectorSize B }
     {
         let Opening { medium, in_use } = opening;
@@ -53,8 +48,7 @@ impl<'a, const B: usize, R: Files<File = File> + AllocGlobal> FileImages<'a, B, 
 }
 
 impl<'a, const B: usize, R: Files<File = File> + AllocGlobal> Images<B, FileDisk<B>, File>
-    for FileImages<'a, B, R>
-{
+    for FileImages<'a, B, R> {
     ghost past = { λ images. images.past.calls };
 
     fn device_sector_size(&mut self, path: &str) -> Result<u64, NoDevice> {
@@ -63,7 +57,12 @@ impl<'a, const B: usize, R: Files<File = File> + AllocGlobal> Images<B, FileDisk
         found
     }
 
-    fn open(&mut self, path: &str, opening: Opening, access: Access) -> Result<FileDisk<B>, NoDevice> {
+    fn open(
+        &mut self,
+        path: &str,
+        opening: Opening,
+        access: Access,
+    ) -> Result<FileDisk<B>, NoDevice> {
         let opened = self.opened(path, opening, access);
         self.past = self.past.opened(path, opening, access, &opened);
         opened

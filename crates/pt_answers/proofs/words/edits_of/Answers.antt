@@ -11,5 +11,6 @@ returns-in-Err-clause-err c =
 
 pub loop-k-preserved : goal.loop-k-preserved
 loop-k-preserved c =
-    next_read c.args.words.now c.loop-k.k c.index-words-k.result c.as_str-word.result.now c.loop-k.edits.items c.push.new.self.items c.in-Ok.edit
+    next_read c.args.words.now c.loop-k.k c.index-words-k.result c.as_str-word.result.now c.loop-k.edits.items c.push.new.self.items
+    c.in-Ok.edit
     (c.loop-k-test.true, c.index-words-k.is, c.as_str-word.ensures.value) c.loop-k.invariant c.in-Ok.ensures.ok c.in-Ok-push.ensures.items

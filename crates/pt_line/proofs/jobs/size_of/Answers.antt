@@ -10,4 +10,5 @@ returns-in-Some c =
     (codes "sector-size") c.get_str.result c.get_str.ensures)) c.size_named.result c.size_named.ensures
 
 pub returns-in-None : goal.returns-in-None
-returns-in-None c = sym (rw c.in-None.is at (value_is (found_of c.args.matches.now) (codes "sector-size") c.get_str.result c.get_str.ensures))
+returns-in-None c = sym (rw c.in-None.is at (value_is (found_of c.args.matches.now) (codes "sector-size") c.get_str.result
+    c.get_str.ensures))

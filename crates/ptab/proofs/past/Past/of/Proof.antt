@@ -96,5 +96,6 @@ pub of_spec : {M : Type 1} → stated.statement M
 unfolding tables_of
 of_spec 𝓤 𝓛 𝓜 𝓡 wired A X LA LX =
     let 𝓣 : Tables 𝓤 𝓛.H = tables_of 𝓤 𝓛.H 𝓜 (tables 𝓤 𝓛.H 𝓜 𝓡 𝓡.env) in
-    entered 𝓤 𝓛.H (triple_of 𝓛 (ended A X).signature (closing 𝓛 (ended A X) (held A X 𝓛 𝓜.mem 𝓡.returns))) 𝓣.C 𝓣.Λ (#self (args A X)) (function A X)
+    entered 𝓤 𝓛.H (triple_of 𝓛 (ended A X).signature (closing 𝓛 (ended A X) (held A X 𝓛 𝓜.mem 𝓡.returns))) 𝓣.C 𝓣.Λ (#self (args A X))
+    (function A X)
     (code.unfolded 𝓤 𝓛.H 𝓜 𝓡 wired (A, (X, tt))) (meets A X 𝓛 𝓜.mem 𝓡.returns 𝓣)
