@@ -98,30 +98,6 @@ source_fields (source.Part e) = hex true 2 e.fstype ∷ []
 abbrev pub row_line : Row → List ℕ
 row_line r = line (path_text r.member.path ∷ decimal r.member.first ∷ decimal r.member.last ∷ source_fields r.source)
 
--- the partitions of a slice's label
-abbrev pub rows_in : Option Label → Member → List Row
-rows_in None slice = []
-rows_in (Some l) slice = flat_map option_to_list (part_rows l slice)
-
--- what stands below a partition in its place: the partitions of a slice's label
-abbrev pub rows_below : Kind → Layout → Member → List Row
-rows_below Leaf o m = []
-rows_below Slice o m = rows_in (label_of o.labels m.path.number) m
-rows_below Extended o m = []
-
--- a place: nothing where it is unused
-abbrev pub rows_at : Layout → Option Row → List Row
-rows_at o None = []
-rows_at o (Some r) = r ∷ rows_below r.member.kind o r.member
-
--- the partitions of a layout: its records or entries and its logical partitions, each with its label's behind it
-abbrev pub rows_of : ℕ → Layout → List Row
-rows_of b o = flat_map (rows_at o) (rows b o.body)
-
--- the partition of a row
-abbrev pub member_of : Row → Member
-member_of r = r.member
-
 -- the table: its kind and the number of sectors, of a GPT its usable sectors and its GUID
 abbrev pub table_fields : ℕ → Body → List (List ℕ)
 table_fields n (Mbr records chain) = codes "mbr" ∷ decimal n ∷ []
