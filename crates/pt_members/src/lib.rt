@@ -1,8 +1,8 @@
 //! What a layout is, and its partitions listed once.
 //!
 //! A place is a record of sector 0, an entry of a GPT or an extended boot record; `numbered_slot` gives the partition that
-//! stands there, and `part_slot` that of an entry of a label. [`Layout::rows`] walks over both. What else is said of partitions comes from these two lists, and
-//! stands for every layout, whatever disk denotes it.
+//! stands there, and `part_slot` that of an entry of a label; [`Layout::rows`] walks over both. What else is said of partitions
+//! comes from these two lists, and stands for every layout, whatever disk denotes it.
 #![tactic(auto)]
 
 mod alone;

@@ -1,11 +1,9 @@
 -- The lines of a layout.
 use Rattle.std.specs.Prelude.{ℕ, ◌+◌, ◌-◌, Bool, List, [], ◌∷◌, ◌++◌, codes, decimal, encode_utf8, length, min, replicate, Option, Some}
 use Rattle.std.specs.Prelude.{None, if◌then◌else◌, ◌==◌, ◌||◌, nat_lt, flat_map, not, take_while, true, false, find, bytes_eq, option_map}
-use Rattle.std.specs.Prelude.{option_to_list}
 use Rattle.std.specs.Fmt.{digits}
 use Rattle.pt_path.specs.declared.path.Path.{Path}
 use Rattle.std.specs.Char.Utf16.{utf16_chars}
-use Rattle.pt_bsd.specs.declared.label.Label.{Label}
 use Rattle.pt_gpt.specs.declared.entry.Entry.{Entry}
 use Rattle.pt_guid.specs.declared.guid.Guid.{Guid}
 use Rattle.pt_guid.specs.Codes as types
@@ -13,13 +11,10 @@ use Rattle.pt_guid.specs.Guids.{text_of}
 use Rattle.pt_members.specs.declared.layout.Body.{Body}
 use Rattle.pt_members.specs.declared.layout.Body.TheVariants.{Mbr, Gpt}
 use Rattle.pt_members.specs.declared.layout.Layout.{Layout}
-use Rattle.pt_members.specs.declared.member.Kind.{Kind}
-use Rattle.pt_members.specs.declared.member.Kind.TheVariants.{Leaf, Slice, Extended}
-use Rattle.pt_members.specs.declared.member.Member.{Member}
 use Rattle.pt_members.specs.declared.row.Row.{Row}
 use Rattle.pt_members.specs.declared.row.Source.{Source}
 use Rattle.pt_members.specs.declared.row.Source.TheVariants as source
-use Rattle.pt_members.specs.Members.{label_of, part_rows, rows}
+use Rattle.pt_members.specs.Rows.{rows_of}
 
 -- ## Lines, and what stands in them.
 
