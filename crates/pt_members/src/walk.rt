@@ -1,6 +1,6 @@
 //! The walk over the partitions of a layout.
 
-ghost use Rattle.std.specs.Prelude.{◌≡◌, ◌<◌, ◌^◌, IfSome, Some};
+ghost use Rattle.std.specs.Prelude.{◌≡◌, ◌<◌, ◌^◌, IfSome};
 ghost use Rattle.std.specs.Iterator.{YieldsFirst, item_count};
 ghost use Rattle.pt_members.specs.Rows.{rows_below, rows_in, rows_of};
 
