@@ -10,9 +10,12 @@ use std::alloc::{AllocError, Global};
 ///
 /// Unused entries and records aren't listed, nor is the raw entry c of a label. The extended partition and slices are
 /// listed: their [`Kind`](crate::Kind) says that they hold others.
-#[tactic(auto, using(pt_members::proofs::RowMembers::rows_are_members_lem))]
 pub fn members<const B: usize>(alloc: Global, layout: &Layout) -> Result<Vec<Member>, AllocError>
     ensures { IfOk result (λ list. list.items ≡ members_of B layout.now) }
 {
-    layout.rows::<B>().map(|row| row.member).collect(alloc)
+    let mut list = Vec::new(alloc);
+    for row in layout.rows::<B>() {
+        list.push(row.member)?;
+    }
+    Ok(list)
 }

@@ -104,10 +104,11 @@ fn listed_row(row: &Row) -> MemberRow
 fn list<const B: usize>(alloc: Global, layout: &Layout) -> Result<Vec<MemberRow>, AllocError>
     ensures { IfOk result (λ rows. rows.items ≡ rows_of B layout.now) }
 {
-    layout
-        .rows::<B>()
-        .map(|row| listed_row(&row))
-        .collect(alloc)
+    let mut rows = Vec::new(alloc);
+    for row in layout.rows::<B>() {
+        rows.push(listed_row(&row))?;
+    }
+    Ok(rows)
 }
 
 // What a layout has but for its partitions.
