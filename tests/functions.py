@@ -12,6 +12,8 @@ OF_STD = {
     "Display": "ghost use Rattle.std.specs.Fmt.{DisplaysOnOk};\npub trait Display {\nghost output: {};\n"
                "fn fmt<W: Write>(&self, f: &mut Formatter<W>) -> Result\n"
                "ensures writes { DisplaysOnOk W.write_str_gives f.old result (output self.now) f.new };\n}\n",
+    "Iterator": "pub trait Iterator {\nghost next_gives: {};\nfn next(&mut self) -> Option<Self::Item>\n"
+                "ensures steps { next_gives self.old result self.new };\n}\n",
 }
 
 

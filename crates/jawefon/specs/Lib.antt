@@ -4,6 +4,7 @@ pub use Rattle.pt_sector.specs.Overlays
 pub use Rattle.pt_disks.specs.Stores
 pub use Rattle.pt_recover.specs.Denotes
 pub use Rattle.pt_members.specs.Members
+pub use Rattle.pt_members.specs.Rows
 pub use Rattle.pt_members.specs.Tables
 pub use Rattle.pt_layout.specs.Sound
 pub use Rattle.pt_layout.specs.Healthy

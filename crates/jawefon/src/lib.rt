@@ -7,9 +7,10 @@
 //!   it where it is in use and [`InUse`] doesn't allow that; [`device_sector_size`] says which `B` it takes. [`MemDisk::new`] makes one
 //!   in memory, and [`CrashDisk::new`] one that fails and stops as a test likes. An [`Overlay`] keeps what is written over a disk that it borrows, a [`ReadCache`] asks one for each sector
 //!   once, and both take their [`Room`] beforehand. [`Moments`] are what a disk of one's own keeps for the proofs.
-//! - **Look**: [`recover`] gives the [`Layout`], [`members`] lists its partitions, [`locate`] and [`owner`] lead from a partition to
-//!   a sector and back, [`verify`] says whether the disk is healthy or what is wrong. [`recover_traced`] also gives the sectors that
-//!   decide the layout. Of a layout alone [`unsound`] tells what is wrong with it, [`is_table`] and [`is_owned`] whose a sector is.
+//! - **Look**: [`recover`] gives the [`Layout`], [`members`] lists its partitions, and [`Layout::rows`] walks over them, each with its
+//!   record or entry. [`locate`] and [`owner`] lead from a partition to a sector and back, [`verify`] says whether the disk is healthy
+//!   or what is wrong. [`recover_traced`] also gives the sectors that decide the layout. Of a layout alone [`unsound`] tells what is
+//!   wrong with it, [`is_table`] and [`is_owned`] whose a sector is.
 //! - **Change**: [`parse_edit`] reads a word such as `n:1:0:+204800:EF00`, and [`commit`] does a list of words, all of them or none.
 //!   A word is a value too, as [`Edit::New`] with its [`End`] and [`Code`]. New GUIDs are made by [`fresh`] of 16 random bytes.
 //!   [`session`] commits several lists, [`repair`] mends what is damaged, and [`edit`] makes a layout of a layout and touches no disk.
@@ -47,9 +48,9 @@ pub use pt_guid::{
     Guid, GuidError, code_of_type, fresh, parse as parse_guid, type_of_code, type_of_record,
 };
 pub use pt_layout::{
-    Body, Ebrs, Finding, Kind, Labelled, Labels, Layout, Member, NoTable, Owner, Path, Trace,
-    Verdict, VerifyError, is_owned, is_table, locate, owner, parse_path, recover, recover_traced,
-    unsound, verify,
+    Body, Ebrs, Finding, Kind, Labelled, Labels, Layout, Member, NoTable, Owner, Path, Row, Rows,
+    Source, Trace, Verdict, VerifyError, is_owned, is_table, locate, owner, parse_path, recover,
+    recover_traced, unsound, verify,
 };
 pub use pt_plan::runs::{Batch, Reply, session};
 pub use pt_plan::{

@@ -6,10 +6,10 @@ use crate::mbr::{Mbr, decode_mbr, encode_mbr, protective, put_record, read_chain
 use crate::sums::{Crc, crc32, xor16};
 use crate::{
     Access, After, Body, Code, CommitError, CrashDisk, Disk, Edit, End, Extent, Fault, FileDisk,
-    Guid, InUse, Layout, Lba, MemDisk, NoDevice, NoTable, Overlay, Path, ReadCache, Room, Sector,
-    apply, code_of_type, commit, device_sector_size, edit, fresh, guids_for, is_owned, is_table,
-    layout_after, make_plan, parse_guid, recover, recover_traced, type_of_code, type_of_record,
-    unsound,
+    Guid, InUse, Layout, Lba, MemDisk, NoDevice, NoTable, Overlay, Path, ReadCache, Room, Row,
+    Rows, Sector, Source, apply, code_of_type, commit, device_sector_size, edit, fresh, guids_for,
+    is_owned, is_table, layout_after, make_plan, parse_guid, recover, recover_traced, type_of_code,
+    type_of_record, unsound,
 };
 use std::alloc::Global;
 use std::test::Fail;
@@ -67,6 +67,19 @@ fn a_layout_and_its_sectors(rt: HostRuntime) -> Result<(), Fail> {
         },
         Body::Mbr { .. } => assert!(rt; false),
     }
+    let mut rows: Rows<'_, 512> = layout.rows();
+    match rows.next() {
+        Some(
+            Row {
+                member,
+                source: Source::Entry(entry),
+            },
+        ) => {
+            assert!(rt; member.path == FIRST && Some(entry.kind) == linux);
+        }
+        _ => assert!(rt; false),
+    }
+    assert!(rt; rows.next().is_none());
     Ok(())
 }
 

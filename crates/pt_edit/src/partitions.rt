@@ -4,14 +4,14 @@
 //! slices, and that doesn't matter here.
 
 ghost use Rattle.std.specs.Prelude.{◌≡◌, ◌<◌, ◌++◌, ◌^◌, IfOk, OnOk, length, option_to_list, slice_index_or, None};
-ghost use Rattle.pt_members.specs.Members.{slots, rows};
+ghost use Rattle.pt_members.specs.Members.{number_at, slots, rows};
 ghost use Rattle.pt_members.specs.Tables.{HasFour};
 ghost use Rattle.pt_edit.specs.Entries.{kept_of, kept_at, partitions};
 ghost use Rattle.pt_edit.specs.Converted.{guids_taken};
 
 use crate::partition::Partition;
-use pt_mbr::{Ebr, Record};
-use pt_members::{Body, Kind, Layout, Row, Source, row_at, slot_count};
+use pt_mbr::{Ebr, FIRST_LOGICAL, Record};
+use pt_members::{Body, Kind, Layout, Row, Source, next_number, numbered_row, slot_count};
 use std::alloc::{AllocError, Global};
 
 // The partition that a row is: none where it is the extended one, or the entry of a GPT or of a label.
@@ -35,12 +35,13 @@ fn kept(row: &Row) -> Option<Partition>
     }
 }
 
-// The partition in a place.
-fn partition_at(body: &Body, k: usize) -> Option<Partition>
-    requires { k < length (slots 512 body.now) }
+// The partition in a place, where the number of its logical partition is known.
+fn partition_at(body: &Body, k: usize, number: u64) -> Option<Partition>
+    requires within { k < length (slots 512 body.now) }
+    requires number { number ≡ number_at body.now k }
     ensures { option_to_list result ≡ kept_at (slice_index_or (rows 512 body.now) k None) }
 {
-    let row = row_at::<512>(body, k)?;
+    let row = numbered_row::<512>(body, k, number)?;
     kept(&row)
 }
 
@@ -76,30 +77,35 @@ fn bounds(body: &Body)
 }
 
 // All of them, but the extended partition.
+#[tactic(auto, using(pt_members::proofs::ByPlace::from_five))]
 pub(crate) fn partitions_of(alloc: Global, body: &Body) -> Result<Vec<Partition>, AllocError>
     ensures ok { IfOk result (λ v. v.items ≡ partitions body.now) }
     ensures four { HasFour body.now }
 {
     bounds(body);
     let mut partitions = Vec::new(alloc);
+    let mut number = FIRST_LOGICAL;
     for k in 0..slot_count::<512>(body) {
-        push(&mut partitions, partition_at(body, k))?;
+        push(&mut partitions, partition_at(body, k, number))?;
+        number = next_number::<512>(body, k, number);
     }
     Ok(partitions)
 }
 
 /// How many fresh GUIDs the layout takes as it becomes a GPT: one for the disk, and one for each partition, but not for the extended
 /// one.
-#[tactic(auto, using(crate::proofs::Listing::kept_end))]
+#[tactic(auto, using(crate::proofs::Listing::kept_end, pt_members::proofs::ByPlace::from_five))]
 pub fn guids_for(layout: &Layout) -> usize
     ensures { result ≡ guids_taken layout.now }
 {
     bounds(&layout.body);
     let mut count = 1;
+    let mut number = FIRST_LOGICAL;
     for k in 0..slot_count::<512>(&layout.body) {
-        if partition_at(&layout.body, k).is_some() {
+        if partition_at(&layout.body, k, number).is_some() {
             count += 1;
         }
+        number = next_number::<512>(&layout.body, k, number);
     }
     count
 }

@@ -12,7 +12,8 @@ use pt_bsd::Label;
 use pt_gpt::{first_usable, has_room};
 use pt_mbr::{Ebr, FIRST_LOGICAL};
 use pt_members::{
-    Body, Kind, Layout, Member, find_label, logical_number, part_slot, slot, slot_count,
+    Body, Kind, Layout, Member, find_label, logical_number, next_number, numbered_slot, part_slot,
+    slot_count,
 };
 
 /// How many numbers from 5 on a GPT of 128 entries has.
@@ -77,16 +78,19 @@ fn is_near_outside<const B: usize>(layout: &Layout, m: &Member) -> bool
 }
 
 // Whether any does.
+#[tactic(auto, using(pt_members::proofs::ByPlace::from_five))]
 fn has_outsider<const B: usize>(layout: &Layout) -> bool
     requires size { IsSectorSize B }
     ensures { IsTrue result ↔ HasAny B layout.now }
 {
+    let mut number = FIRST_LOGICAL;
     for k in 0..slot_count::<B>(&layout.body) {
-        if let Some(m) = slot::<B>(&layout.body, k) {
+        if let Some(m) = numbered_slot::<B>(&layout.body, k, number) {
             if is_near_outside::<B>(layout, &m) {
                 return true;
             }
         }
+        number = next_number::<B>(&layout.body, k, number);
     }
     false
 }

@@ -10,9 +10,9 @@ mod survey;
 pub use crate::sound::{Finding, Verdict, unsound};
 pub use health::{Head, verify};
 pub use pt_members::{
-    Body, Ebrs, Kind, Labelled, Labels, Layout, Member, Owner, Row, Slice, Source, entry_slot,
-    find_label, is_owned, is_slice_type, is_table, label_places, locate, logical_number,
-    logical_slot, owner, part_row, part_slot, record_slot, row_at, slot, slot_count,
+    Body, Ebrs, Kind, Labelled, Labels, Layout, Member, Owner, Row, Rows, Slice, Source,
+    entry_slot, find_label, is_owned, is_slice_type, is_table, label_places, locate,
+    logical_number, numbered_slot, owner, part_slot, record_slot, slot_count,
 };
 pub use pt_path::{Path, parse_number, parse_path};
 pub use pt_recover::{NoTable, Trace, recover, recover_traced};

@@ -1,12 +1,11 @@
 -- Labels whose slices' numbers ascend, and the search for one of them.
-use Rattle.std.proofs.Common.{◌≡◌, ◌∙◌, ◌<◌, ◌≤◌, ◌+◌, ◌-◌, ℕ, zero, suc, List, [], ◌∷◌, length, get_or, drop, Option, Some, None, refl}
+use Rattle.std.proofs.Common.{◌≡◌, ◌∙◌, ◌<◌, ◌≤◌, ◌+◌, ◌-◌, ℕ, zero, suc, List, [], ◌∷◌, length, get_or, drop, Some, None, refl}
 use Rattle.std.proofs.Common.{sym, ap, arith, ltb, true, false, subst, ⊎_elim}
 use Rattle.std.specs.List.{AllAdjacentBelow}
 use Rattle.std.specs.List.Sorted.{IsNonDecreasingBy, IsPartitionPoint}
 use Rattle.std.proofs.lemmas.Bool.{cases_lt, ltb-true, ltb-false}
 use Rattle.pt_members.specs.Members.{label_of}
 use Rattle.pt_members.specs.declared.layout.Labelled.{Labelled}
-use Rattle.pt_bsd.specs.declared.label.Label.{Label}
 use Rattle.pt_members.proofs.ByPlace.{label_here, label_next, label_end}
 
 -- labels of other numbers may be left out

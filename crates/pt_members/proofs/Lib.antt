@@ -10,7 +10,8 @@ pub mod Listed
 pub mod Lowest
 pub mod OnePathLemmas
 pub mod Reaching
-pub mod Rows
+pub mod RowMembers
+pub mod RowPlaces
 pub mod SliceLists
 pub mod SliceListsLemmas
 pub mod Widening

@@ -2,11 +2,11 @@
 
 ghost use Rattle.std.specs.Prelude.{◌≡◌, ◌<◌, ◌+◌, ◌^◌, IfSome, None, length, slice_index_or};
 ghost use Rattle.pt_members.specs.declared.layout.Body.TheVariants.{Mbr};
-ghost use Rattle.pt_members.specs.Members.{slots, sources, part_sources, row_of, rows, part_rows};
+ghost use Rattle.pt_members.specs.Members.{number_at, slots, sources, part_sources, row_of, rows, part_rows};
 
 use crate::layout::Body;
 use crate::member::Member;
-use crate::slots::{part_slot, slot};
+use crate::slots::{numbered_slot, part_slot};
 use pt_bsd::{Label, LabelEntry};
 use pt_gpt::Entry;
 use pt_mbr::{Ebr, Record};
@@ -29,7 +29,7 @@ pub struct Row {
     pub source: Source,
 }
 
-#[tactic(auto, using(crate::proofs::ByPlace::mbr_len, crate::proofs::Rows::source_low, crate::proofs::Rows::source_high))]
+#[tactic(auto, using(crate::proofs::ByPlace::mbr_len, crate::proofs::RowPlaces::source_low, crate::proofs::RowPlaces::source_high))]
 fn mbr_source<const B: usize>(
     records: &[Option<Record>; 4],
     chain: &[Ebr],
@@ -47,7 +47,7 @@ fn mbr_source<const B: usize>(
 }
 
 // What stands in a place.
-#[tactic(auto, using(crate::proofs::Rows::source_entry, crate::proofs::ByPlace::gpt_len))]
+#[tactic(auto, using(crate::proofs::RowPlaces::source_entry, crate::proofs::ByPlace::gpt_len))]
 fn source_at<const B: usize>(body: &Body, k: usize) -> Option<Source>
     requires { k < length (slots B body.now) }
     ensures { result ≡ slice_index_or (sources body.now) k None }
@@ -68,22 +68,24 @@ fn joined(member: Option<Member>, source: Option<Source>) -> Option<Row>
     })
 }
 
-/// The partition in a place, from 0 on, with its record or entry. None where that is unused.
-#[tactic(auto, using(crate::proofs::Rows::row_there, crate::proofs::Rows::row_unused, crate::proofs::Rows::row_small))]
-pub fn row_at<const B: usize>(body: &Body, k: usize) -> Option<Row>
-    requires { k < length (slots B body.now) }
+/// The partition in a place, from 0 on, with its record or entry, where the number of its logical partition is known. None where the
+/// place is unused.
+#[tactic(auto, using(crate::proofs::RowPlaces::row_there, crate::proofs::RowPlaces::row_unused, crate::proofs::RowPlaces::row_small))]
+pub fn numbered_row<const B: usize>(body: &Body, k: usize, number: u64) -> Option<Row>
+    requires within { k < length (slots B body.now) }
+    requires number { number ≡ number_at body.now k }
     ensures value { result ≡ slice_index_or (rows B body.now) k None }
     ensures small { IfSome result (λ r. r.member.first < 2 ^ 66) }
 {
     let source = source_at::<B>(body, k);
     match source {
-        Some(_) => joined(slot::<B>(body, k), source),
+        Some(_) => joined(numbered_slot::<B>(body, k, number), source),
         None => None,
     }
 }
 
 // The entry of a letter.
-#[tactic(auto, using(crate::proofs::Rows::source_part))]
+#[tactic(auto, using(crate::proofs::RowPlaces::source_part))]
 fn part_source(label: &Label, k: usize) -> Option<Source>
     requires within { k < 8 }
     requires counted { length label.now.entries ≡ 8 }
@@ -92,10 +94,10 @@ fn part_source(label: &Label, k: usize) -> Option<Source>
     Some(Source::Part(label.entries[k]?))
 }
 
-/// The partition of entry `k`, from 0 for a, of a slice's label, with that entry. None for c, and where the entry isn't
-/// counted or has no sectors.
-#[tactic(auto, using(crate::proofs::Rows::part_row_there))]
-pub fn part_row(label: &Label, slice: &Member, k: usize) -> Option<Row>
+// The partition of entry `k`, from 0 for a, of a slice's label, with that entry. None for c, and where the entry isn't
+// counted or has no sectors.
+#[tactic(auto, using(crate::proofs::RowPlaces::part_row_there))]
+pub(crate) fn part_row(label: &Label, slice: &Member, k: usize) -> Option<Row>
     requires small { slice.now.first < 2 ^ 66 }
     requires within { k < 8 }
     requires counted { length label.now.entries ≡ 8 }

@@ -163,21 +163,8 @@ pub fn logical_number(chain: &[Ebr], k: usize) -> u64
     number
 }
 
-/// The logical partition of extended boot record `k`, from 0 on.
-pub fn logical_slot<const B: usize>(chain: &[Ebr], k: usize) -> Option<Member>
-    requires { k < length chain.now }
-    ensures value { result ≡ logical_at B k chain.now }
-    ensures small { IfSome result (λ m. m.first < 2 ^ 66) }
-{
-    let ebr = chain[k];
-    match &ebr.logical {
-        Some(r) => Some(logical_of::<B>(logical_number(chain, k), ebr.at, r)),
-        None => None,
-    }
-}
-
-// The same, where the number is known that it has if it is there.
-fn numbered_logical<const B: usize>(chain: &[Ebr], k: usize, number: u64) -> Option<Member>
+/// The logical partition of extended boot record `k`, from 0 on, where the number is known that it has if it is there.
+pub fn numbered_logical<const B: usize>(chain: &[Ebr], k: usize, number: u64) -> Option<Member>
     requires within { k < length chain.now }
     requires number { number ≡ 5 + used_before k chain.now }
     ensures value { result ≡ logical_at B k chain.now }
@@ -199,23 +186,6 @@ fn mbr_count<const B: usize>(records: &[Option<Record>; 4], chain: &[Ebr]) -> us
 }
 
 #[tactic(auto, using(crate::proofs::ByPlace::mbr_len, crate::proofs::ByPlace::mbr_low, crate::proofs::ByPlace::mbr_high))]
-fn mbr_slot<const B: usize>(
-    records: &[Option<Record>; 4],
-    chain: &[Ebr],
-    k: usize,
-) -> Option<Member>
-    requires { k < length (slots B (Mbr «records».now chain.now)) }
-    ensures value { result ≡ slice_index_or (slots B (Mbr «records».now chain.now)) k None }
-    ensures small { IfSome result (λ m. m.first < 2 ^ 66) }
-{
-    if k < 4 {
-        record_slot::<B>(records, k)
-    } else {
-        logical_slot::<B>(chain, k - 4)
-    }
-}
-
-#[tactic(auto, using(crate::proofs::ByPlace::mbr_len, crate::proofs::ByPlace::mbr_low, crate::proofs::ByPlace::mbr_high))]
 fn numbered_mbr_slot<const B: usize>(
     records: &[Option<Record>; 4],
     chain: &[Ebr],
@@ -234,8 +204,8 @@ fn numbered_mbr_slot<const B: usize>(
     }
 }
 
-// The number of the next extended boot record's logical partition, where that of this one's is known.
-fn number_behind(chain: &[Ebr], k: usize, number: u64) -> u64
+/// The number of the next extended boot record's logical partition, where that of this one's is known.
+pub fn number_behind(chain: &[Ebr], k: usize, number: u64) -> u64
     requires within { k < length chain.now }
     requires number { number ≡ 5 + used_before k chain.now }
     ensures { result ≡ 5 + used_before (k + 1) chain.now }
@@ -284,19 +254,6 @@ pub fn slot_count<const B: usize>(body: &Body) -> usize
     count_slots::<B>(body)
 }
 
-/// The member in a place, from 0 on: the records or entries first, then the chain's. None where that is unused.
-#[tactic(auto, using(crate::proofs::ByPlace::gpt_at, crate::proofs::ByPlace::gpt_len))]
-pub fn slot<const B: usize>(body: &Body, k: usize) -> Option<Member>
-    requires { k < length (slots B body.now) }
-    ensures value { result ≡ slice_index_or (slots B body.now) k None }
-    ensures small { IfSome result (λ m. m.first < 2 ^ 66) }
-{
-    match body {
-        Body::Mbr { records, chain } => mbr_slot::<B>(records, chain.as_slice(), k),
-        Body::Gpt(table) => entry_slot::<B>(table.entries.as_slice(), k),
-    }
-}
-
 /// The number of the next place's logical partition, where that of this place's is known. That of the first place is
 /// `FIRST_LOGICAL`.
 pub fn next_number<const B: usize>(body: &Body, k: usize, number: u64) -> u64
@@ -312,8 +269,8 @@ pub fn next_number<const B: usize>(body: &Body, k: usize, number: u64) -> u64
     }
 }
 
-/// The member in a place, where the number of its logical partition is known: to walk through the places without counting
-/// those before each.
+/// The member in a place, from 0 on: the records or entries first, then the chain's. None where that is unused. The number of its
+/// logical partition has to be known, so that a walk through the places doesn't count those before each.
 #[tactic(auto, using(crate::proofs::ByPlace::gpt_at, crate::proofs::ByPlace::gpt_len))]
 pub fn numbered_slot<const B: usize>(body: &Body, k: usize, number: u64) -> Option<Member>
     requires within { k < length (slots B body.now) }

@@ -1,11 +1,9 @@
 //! The partitions of a layout, listed as rows.
 
-ghost use Rattle.std.specs.Prelude.{◌≡◌, ◌++◌, ◌<◌, ◌^◌, length, option_map, option_to_list, slice_index_or, Some, None, IfOk, OnOk};
+ghost use Rattle.std.specs.Prelude.{◌≡◌, IfOk};
 ghost use Rattle.pt_sector.specs.Sectors.{IsSectorSize};
-ghost use Rattle.pt_members.specs.Members.{slots, parts_in};
 ghost use Rattle.pt_replay.specs.Wanted.{disk_of};
-ghost use Rattle.pt_replay.specs.Listed.{row_of_table, kind_code, narrowed, records_in, row_of_member, row_of_record, row_of_entry};
-ghost use Rattle.pt_replay.specs.Listed.{listing, row_of_part, row_in_place, part_rows, rows_below, rows_at, rows_of};
+ghost use Rattle.pt_replay.specs.Listed.{row_of_table, kind_code, narrowed, row_of_member, row_with, row_as, listing, rows_of};
 ghost use Rattle.pt_replay.specs.Claims.{MembersFor};
 
 use crate::answers::{Answer, Status, letter_of};
@@ -13,10 +11,10 @@ use crate::giving::{counted, put};
 use crate::recovered::recovered;
 use crate::rows::{MemberRow, TableRow};
 use crate::view::View;
-use pt_bsd::Label;
+use pt_bsd::LabelEntry;
 use pt_gpt::Entry;
-use pt_layout::{Body, Kind, Layout, Member, find_label, part_slot, slot, slot_count};
-use pt_mbr::{Ebr, Record};
+use pt_layout::{Body, Kind, Layout, Member, Row, Source};
+use pt_mbr::Record;
 use pt_sector::Moments;
 use std::alloc::{AllocError, Global};
 
@@ -60,20 +58,18 @@ fn bare_row(member: &Member) -> MemberRow
 }
 
 // The member of a record.
-fn record_row(member: &Member, stands: Option<Record>) -> MemberRow
-    ensures { result ≡ row_of_record member.now stands }
+fn record_row(member: &Member, record: &Record) -> MemberRow
+    ensures { result ≡ row_with member.now (Source.Record record.now) }
 {
     let mut row = bare_row(member);
-    if let Some(record) = stands {
-        row.type_byte = record.kind;
-        row.boot = record.boot;
-    }
+    row.type_byte = record.kind;
+    row.boot = record.boot;
     row
 }
 
 // The member of an entry.
 fn entry_row(member: &Member, entry: &Entry) -> MemberRow
-    ensures { result ≡ row_of_entry member.now (Some entry.now) }
+    ensures { result ≡ row_with member.now (Source.Entry entry.now) }
 {
     let (type_guid, unique, name) = (entry.kind.0, entry.unique.0, entry.name);
     let mut row = bare_row(member);
@@ -84,101 +80,23 @@ fn entry_row(member: &Member, entry: &Entry) -> MemberRow
     row
 }
 
-// The record in a place: of sector 0, then of the extended boot records.
-#[tactic(auto, using(crate::proofs::ListRows::record_low, crate::proofs::ListRows::record_high, crate::proofs::ListRows::record_past))]
-fn record_at(records: &[Option<Record>; 4], chain: &[Ebr], k: usize) -> Option<Record>
-    ensures { result ≡ slice_index_or (records_in records.now chain.now) k None }
+// The member of an entry of a label.
+fn part_row(member: &Member, entry: &LabelEntry) -> MemberRow
+    ensures { result ≡ row_with member.now (Source.Part entry.now) }
 {
-    if k < 4 {
-        return records[k];
-    }
-    match chain.get(k - 4) {
-        Some(ebr) => ebr.logical,
-        None => None,
-    }
+    let mut row = bare_row(member);
+    row.type_byte = entry.fstype;
+    row
 }
 
-// The row of the member in a place.
-fn place_row(body: &Body, k: usize, member: &Member) -> MemberRow
-    ensures { result ≡ row_in_place body.now k member.now }
+// The member of what stands in its place.
+fn listed_row(row: &Row) -> MemberRow
+    ensures { result ≡ row_as row.now }
 {
-    match body {
-        Body::Mbr { records, chain } => {
-            record_row(member, record_at(records, chain.as_slice(), k))
-        }
-        Body::Gpt(table) => match table.entries.as_slice().get(k) {
-            Some(Some(entry)) => entry_row(member, entry),
-            _ => bare_row(member),
-        },
-    }
-}
-
-// The row of entry `k` of a slice's label, where it is a partition.
-fn part_row(label: &Label, slice: &Member, k: usize) -> Option<MemberRow>
-    requires small { slice.now.first < 2 ^ 66 }
-    requires within { k < 8 }
-    requires counted { length label.now.entries ≡ 8 }
-    ensures { result ≡ option_map (row_of_part (slice_index_or label.now.entries k None))
-        (slice_index_or (parts_in (Some label.now) slice.now) k None) }
-{
-    let part = part_slot(label, slice, k)?;
-    let mut row = bare_row(&part);
-    if let Some(entry) = label.entries[k] {
-        row.type_byte = entry.fstype;
-    }
-    Some(row)
-}
-
-fn push_one(rows: &mut Vec<MemberRow>, row: Option<MemberRow>) -> Result<(), AllocError>
-    ensures { OnOk result (rows.new.items ≡ rows.old.items ++ option_to_list row) }
-{
-    match row {
-        Some(row) => Ok(rows.push(row)?),
-        None => Ok(()),
-    }
-}
-
-// Adds the partitions of a slice's label.
-fn push_parts(rows: &mut Vec<MemberRow>, label: &Label, slice: &Member) -> Result<(), AllocError>
-    requires small { slice.now.first < 2 ^ 66 }
-    requires counted { length label.now.entries ≡ 8 }
-    ensures { OnOk result (rows.new.items ≡ rows.old.items ++ part_rows (Some label.now) slice.now) }
-{
-    for k in 0..8usize {
-        push_one(rows, part_row(label, slice, k))?;
-    }
-    Ok(())
-}
-
-// Adds what stands below a member.
-fn push_below(rows: &mut Vec<MemberRow>, layout: &Layout, member: &Member) -> Result<(), AllocError>
-    requires { member.now.first < 2 ^ 66 }
-    ensures { OnOk result (rows.new.items ≡ rows.old.items ++ rows_below layout.now member.now member.now.kind) }
-{
-    match member.kind {
-        Kind::Slice => match find_label(&layout.labels, member.path.number) {
-            Some(label) => push_parts(rows, &label, member),
-            None => Ok(()),
-        },
-        Kind::Leaf | Kind::Extended => Ok(()),
-    }
-}
-
-// Adds the member in a place, with what stands below it.
-fn push_place<const B: usize>(
-    rows: &mut Vec<MemberRow>,
-    layout: &Layout,
-    k: usize,
-) -> Result<(), AllocError>
-    requires { k < length (slots B layout.now.body) }
-    ensures { OnOk result (rows.new.items ≡ rows.old.items ++ rows_at B layout.now k) }
-{
-    match slot::<B>(&layout.body, k) {
-        Some(member) => {
-            rows.push(place_row(&layout.body, k, &member))?;
-            push_below(rows, layout, &member)
-        }
-        None => Ok(()),
+    match &row.source {
+        Source::Record(record) => record_row(&row.member, record),
+        Source::Entry(entry) => entry_row(&row.member, entry),
+        Source::Part(entry) => part_row(&row.member, entry),
     }
 }
 
@@ -187,8 +105,8 @@ fn list<const B: usize>(alloc: Global, layout: &Layout) -> Result<Vec<MemberRow>
     ensures { IfOk result (λ rows. rows.items ≡ rows_of B layout.now) }
 {
     let mut rows = Vec::new(alloc);
-    for k in 0..slot_count::<B>(&layout.body) {
-        push_place::<B>(&mut rows, layout, k)?;
+    for row in layout.rows::<B>() {
+        rows.push(listed_row(&row))?;
     }
     Ok(rows)
 }

@@ -1,11 +1,9 @@
 -- The lines of a layout.
 use Rattle.std.specs.Prelude.{ℕ, ◌+◌, ◌-◌, Bool, List, [], ◌∷◌, ◌++◌, codes, decimal, encode_utf8, length, min, replicate, Option, Some}
 use Rattle.std.specs.Prelude.{None, if◌then◌else◌, ◌==◌, ◌||◌, nat_lt, flat_map, not, take_while, true, false, find, bytes_eq, option_map}
-use Rattle.std.specs.Prelude.{option_to_list}
 use Rattle.std.specs.Fmt.{digits}
 use Rattle.pt_path.specs.declared.path.Path.{Path}
 use Rattle.std.specs.Char.Utf16.{utf16_chars}
-use Rattle.pt_bsd.specs.declared.label.Label.{Label}
 use Rattle.pt_gpt.specs.declared.entry.Entry.{Entry}
 use Rattle.pt_guid.specs.declared.guid.Guid.{Guid}
 use Rattle.pt_guid.specs.Codes as types
@@ -13,13 +11,10 @@ use Rattle.pt_guid.specs.Guids.{text_of}
 use Rattle.pt_members.specs.declared.layout.Body.{Body}
 use Rattle.pt_members.specs.declared.layout.Body.TheVariants.{Mbr, Gpt}
 use Rattle.pt_members.specs.declared.layout.Layout.{Layout}
-use Rattle.pt_members.specs.declared.member.Kind.{Kind}
-use Rattle.pt_members.specs.declared.member.Kind.TheVariants.{Leaf, Slice, Extended}
-use Rattle.pt_members.specs.declared.member.Member.{Member}
 use Rattle.pt_members.specs.declared.row.Row.{Row}
 use Rattle.pt_members.specs.declared.row.Source.{Source}
 use Rattle.pt_members.specs.declared.row.Source.TheVariants as source
-use Rattle.pt_members.specs.Members.{label_of, part_rows, rows}
+use Rattle.pt_members.specs.Rows.{rows_of}
 
 -- ## Lines, and what stands in them.
 
@@ -97,30 +92,6 @@ source_fields (source.Part e) = hex true 2 e.fstype ∷ []
 -- a partition: its path, its first and its last sector, and what its record or entry tells
 abbrev pub row_line : Row → List ℕ
 row_line r = line (path_text r.member.path ∷ decimal r.member.first ∷ decimal r.member.last ∷ source_fields r.source)
-
--- the partitions of a slice's label
-abbrev pub rows_in : Option Label → Member → List Row
-rows_in None slice = []
-rows_in (Some l) slice = flat_map option_to_list (part_rows l slice)
-
--- what stands below a partition in its place: the partitions of a slice's label
-abbrev pub rows_below : Kind → Layout → Member → List Row
-rows_below Leaf o m = []
-rows_below Slice o m = rows_in (label_of o.labels m.path.number) m
-rows_below Extended o m = []
-
--- a place: nothing where it is unused
-abbrev pub rows_at : Layout → Option Row → List Row
-rows_at o None = []
-rows_at o (Some r) = r ∷ rows_below r.member.kind o r.member
-
--- the partitions of a layout: its records or entries and its logical partitions, each with its label's behind it
-abbrev pub rows_of : ℕ → Layout → List Row
-rows_of b o = flat_map (rows_at o) (rows b o.body)
-
--- the partition of a row
-abbrev pub member_of : Row → Member
-member_of r = r.member
 
 -- the table: its kind and the number of sectors, of a GPT its usable sectors and its GUID
 abbrev pub table_fields : ℕ → Body → List (List ℕ)

@@ -7,8 +7,8 @@ ghost use Rattle.pt_edit.specs.Space.{run_of, span_of, taken_by, spanned_by};
 use crate::space::space::Run;
 use pt_bsd::Label;
 use pt_gpt::Entry;
-use pt_mbr::{Ebr, Record};
-use pt_members::{Member, entry_slot, logical_slot, part_slot, record_slot};
+use pt_mbr::{Ebr, FIRST_LOGICAL, Record};
+use pt_members::{Member, entry_slot, number_behind, numbered_logical, part_slot, record_slot};
 use std::alloc::{AllocError, Global};
 
 // Adds the sectors of what stands in a place, where they exist.
@@ -71,8 +71,10 @@ pub fn taken_by_logicals(alloc: Global, chain: &[Ebr]) -> Result<Vec<Run>, Alloc
     ensures { IfOk result (λ v. v.items ≡ taken_by (logicals_as 512 5 chain.now)) }
 {
     let mut taken = Vec::new(alloc);
+    let mut number = FIRST_LOGICAL;
     for k in 0..chain.len() {
-        push_run(&mut taken, logical_slot::<512>(chain, k))?;
+        push_run(&mut taken, numbered_logical::<512>(chain, k, number))?;
+        number = number_behind(chain, k, number);
     }
     Ok(taken)
 }

@@ -1,8 +1,10 @@
 -- The partitions of a layout, its slices, and the rows that show them: what private contracts cite.
-use Rattle.std.specs.Prelude.{ℕ, List, filter, Option, ◌≡◌, ◌<◌, ◌≤◌, length, slice_index_or, Some, None}
+use Rattle.std.specs.Prelude.{ℕ, List, [], filter, Option, ◌≡◌, ◌<◌, ◌≤◌, length, slice_index_or, Some, None, drop, flat_map, option_to_list}
+use Rattle.pt_bsd.specs.declared.label.Label.{Label}
 use Rattle.pt_members.specs.declared.layout.Slice.{Slice}
 use Rattle.pt_members.specs.declared.member.Member.{Member}
-use Rattle.pt_members.specs.Members.{slice_in, has_place, slots, Exists, Holds}
+use Rattle.pt_members.specs.Members.{slice_in, has_place, slots, part_rows, Exists, Holds}
+use Rattle.pt_members.specs.declared.row.Row.{Row}
 use Rattle.pt_members.specs.declared.layout.Layout.{Layout}
 use Rattle.pt_members.specs.declared.member.Kind.TheVariants.{Leaf}
 use Rattle.pt_members.specs.declared.owned.Reach.{Reach}
@@ -42,3 +44,10 @@ OwnsAt b o j s = (m : Member) × (slice_index_or (slots b o.body) j None ≡ Som
 -- new has all sectors of old, and those of P
 abbrev pub Widens : (ℕ → Type 0) → Reach → Reach → Type 0
 Widens P old new = (new.low ≤ old.low) × (old.high ≤ new.high) × ((s : ℕ) → P s → IsWithin new s)
+
+-- ## The walk over the partitions of a layout.
+
+-- the partitions of a slice's label, where it has one, from letter k on
+abbrev pub parts_left : Option Label → Member → ℕ → List Row
+parts_left None slice k = []
+parts_left (Some l) slice k = flat_map option_to_list (drop k (part_rows l slice))

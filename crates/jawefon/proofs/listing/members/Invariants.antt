@@ -1,7 +1,11 @@
-use Rattle.std.proofs.Common.{◌≡◌, take}
-use Rattle.std.specs.Prelude.{flat_map}
-use Rattle.pt_members.specs.Members.{slots, rows_at}
+use Rattle.std.proofs.Common.{◌≡◌, ◌++◌, map}
+use Rattle.pt_members.specs.Rows.{member_of, rows_of}
 use Rattle.jawefon.proofs.listing.members.Given as goal
 
-abbrev pub invariant-loop-k : goal.invariant-loop-k
-invariant-loop-k g l = l.list.items ≡ flat_map (rows_at l.layout) (take l.k (slots g.row.B l.layout.body))
+abbrev pub invariant-loop-row : goal.invariant-loop-row
+invariant-loop-row g l = record {
+  can_next : (goal.iterator-loop-row g).can_next l.row-iterator;
+  is_finite : (goal.iterator-loop-row g).is_finite l.row-iterator;
+  left : l.yielded ++ l.row-iterator ≡ rows_of g.row.B l.layout;
+  listed : l.list.items ≡ map member_of l.yielded;
+}

@@ -1,8 +1,12 @@
-use Rattle.std.proofs.Common.{◌≡◌}
-use Rattle.std.specs.Prelude.{flat_map}
-use Rattle.std.specs.List.{range_with_len}
-use Rattle.pt_replay.specs.Listed.{rows_at}
+use Rattle.std.proofs.Common.{◌≡◌, ◌++◌, map}
+use Rattle.pt_members.specs.Rows.{rows_of}
+use Rattle.pt_replay.specs.Listed.{row_as}
 use Rattle.pt_replay.proofs.listing.list.Given as goal
 
-abbrev pub invariant-loop-k : goal.invariant-loop-k
-invariant-loop-k g l = l.rows.items ≡ flat_map (rows_at g.row.B l.layout) (range_with_len 0 l.k)
+abbrev pub invariant-loop-row : goal.invariant-loop-row
+invariant-loop-row g l = record {
+  can_next : (goal.iterator-loop-row g).can_next l.row-iterator;
+  is_finite : (goal.iterator-loop-row g).is_finite l.row-iterator;
+  left : l.yielded ++ l.row-iterator ≡ rows_of g.row.B l.layout;
+  listed : l.rows.items ≡ map row_as l.yielded;
+}

@@ -1,11 +1,14 @@
-use Rattle.std.proofs.Common.{take}
+use Rattle.std.proofs.Common.{◌≡◌, ◌++◌}
 use Rattle.std.specs.Prelude.{flat_map}
 use Rattle.std.specs.Io.KnownBytes.{Appends}
-use Rattle.pt_members.specs.Members.{rows}
-use Rattle.pt_report.specs.Shown.{row_line, rows_at}
+use Rattle.pt_members.specs.Rows.{rows_of}
+use Rattle.pt_report.specs.Shown.{row_line}
 use Rattle.pt_report.proofs.layout.print_rows.Given as goal
 
-abbrev pub invariant-loop-k : goal.invariant-loop-k
-invariant-loop-k g l =
-    Appends (g.O.Write.contents l.initial.out) (g.O.Write.contents l.out)
-    (flat_map row_line (flat_map (rows_at l.layout) (take l.k (rows g.row.B l.layout.body))))
+abbrev pub invariant-loop-row : goal.invariant-loop-row
+invariant-loop-row g l = record {
+  can_next : (goal.iterator-loop-row g).can_next l.row-iterator;
+  is_finite : (goal.iterator-loop-row g).is_finite l.row-iterator;
+  left : l.yielded ++ l.row-iterator ≡ rows_of g.row.B l.layout;
+  printed : Appends (g.O.Write.contents l.initial.out) (g.O.Write.contents l.out) (flat_map row_line l.yielded);
+}

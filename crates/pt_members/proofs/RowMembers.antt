@@ -18,7 +18,7 @@ use Rattle.pt_members.specs.declared.row.Source.TheVariants as source
 use Rattle.pt_members.specs.Members.{entries_as, label_of, logicals, logicals_as, part_of, parts, parts_as, parts_in, present, records_as}
 use Rattle.pt_members.specs.Members.{slots, tops, part_sources, rows_with, sources}
 use Rattle.pt_members.specs.Members as members
-use Rattle.pt_report.specs.Shown.{member_of, rows_at, rows_below, rows_in, rows_of}
+use Rattle.pt_members.specs.Rows.{member_of, rows_at, rows_below, rows_in, rows_of}
 
 -- where a partition stands, its record or entry does
 abbrev Has : Option Member → Option Source → Type 0

@@ -1,8 +1,8 @@
 -- What stands in the places of partitions, by place.
 use Rattle.std.proofs.Common.{◌≡◌, ◌<◌, ◌≤◌, ◌+◌, ◌-◌, ℕ, zero, suc, List, [], ◌∷◌, length, length-append, get_or, map, Option, Some}
-use Rattle.std.proofs.Common.{None, refl, sym, ap, subst, ◌∙◌, ◌^◌, arith}
-use Rattle.std.specs.Prelude.{option_map, IfSome}
-use Rattle.std.proofs.lemmas.List.{get_or_append_left, get_or-append_right, get_or-map, length-map}
+use Rattle.std.proofs.Common.{None, refl, sym, ap, subst, ◌∙◌, ◌^◌, arith, ◌++◌, drop, true, false}
+use Rattle.std.specs.Prelude.{option_map, option_to_list, flat_map, is_some, MatchOption, IfSome}
+use Rattle.std.proofs.lemmas.List.{get_or_append_left, get_or-append_right, get_or-map, length-map, drop_all}
 use Rattle.pt_bsd.specs.declared.label.Label.{Label}
 use Rattle.pt_gpt.specs.declared.table.Table.{Table}
 use Rattle.pt_mbr.specs.declared.ebr.Ebr.{Ebr}
@@ -14,6 +14,8 @@ use Rattle.pt_members.specs.declared.row.Row.{Row}
 use Rattle.pt_members.specs.declared.row.Source.{Source}
 use Rattle.pt_members.proofs.ByPlace.{mbr_len, gpt_len, parts_len}
 use Rattle.pt_members.specs.declared.layout.Body.{Body}
+use Rattle.pt_members.specs.declared.layout.Layout.{Layout}
+use Rattle.pt_members.specs.Rows.{rows_at}
 use Rattle.pt_members.specs.declared.row.Source.TheVariants as source
 
 pub source_low : (rs : List (Option Record)) (chain : List Ebr) (k : ℕ) → k < length rs
@@ -92,3 +94,57 @@ part_row_there l slice k m s lt is so =
     ap (λ (o : Option Member). row_of o s) is ∙ ap (row_of (get_or (parts_in (Some l) slice) k None)) so
     ∙ sym (row_in (parts_in (Some l) slice) (part_sources l) k (omega (arith, lt, parts_len l slice))
     (omega (arith, length-map l.entries (option_map source.Part), parts_len l slice)))
+
+-- ## The rows from a place on.
+
+abbrev pub left_from : ℕ → List (Option Row) → List Row
+left_from k os = flat_map option_to_list (drop k os)
+
+suc_more : (k : ℕ) (os : List (Option Row)) → left_from (suc k) os ≡ left_from (k + 1) os
+suc_more k os = let more : suc k ≡ k + 1 = omega arith in ap (λ (n : ℕ). left_from n os) more
+
+left_cut : (os : List (Option Row)) (k : ℕ) → left_from k os ≡ option_to_list (get_or os k None) ++ left_from (suc k) os
+left_cut [] zero = refl
+left_cut [] (suc k) = refl
+left_cut (o ∷ os) zero = refl
+left_cut (o ∷ os) (suc k) = left_cut os k
+
+left_step : (os : List (Option Row)) (k : ℕ) (o : Option Row) → o ≡ get_or os k None
+    → left_from k os ≡ option_to_list o ++ left_from (k + 1) os
+left_step os k o is =
+    left_cut os k ∙ ap (λ (l : List Row). option_to_list (get_or os k None) ++ l) (suc_more k os)
+    ∙ ap (λ (p : Option Row). option_to_list p ++ left_from (k + 1) os) (sym is)
+
+-- a place that is used gives its row
+pub left_used : (os : List (Option Row)) (k : ℕ) (o : Option Row) (old : List Row) → is_some o ≡ true → o ≡ get_or os k None
+    → left_from k os ≡ old → MatchOption o ((old ≡ []) × (left_from (k + 1) os ≡ [])) (λ (r : Row). old ≡ r ∷ left_from (k + 1) os)
+left_used os k None old some is was = absurd (grind (arith, some))
+left_used os k (Some r) old some is was = sym was ∙ left_step os k (Some r) is
+
+-- another is passed by
+pub left_unused : (os : List (Option Row)) (k : ℕ) (o : Option Row) (old : List Row) → is_some o ≡ false → o ≡ get_or os k None
+    → left_from k os ≡ old → left_from (k + 1) os ≡ old
+left_unused os k None old none is was = sym (left_step os k None is) ∙ was
+left_unused os k (Some r) old none is was = absurd (grind (arith, none))
+
+-- there is no row behind the last place
+rows_most : (ms : List (Option Member)) (ss : List (Option Source)) → length (rows_with ms ss) ≤ length ms
+unfolding rows_with
+rows_most [] ss = omega arith
+rows_most (m ∷ ms) [] = omega arith
+rows_most (m ∷ ms) (s ∷ ss) = omega (arith, rows_most ms ss)
+
+pub left_end : (b : ℕ) (y : Body) (k : ℕ) → length (slots b y) ≤ k → left_from k (rows b y) ≡ []
+left_end b y k past = ap (flat_map option_to_list) (drop_all k (rows b y) (omega (arith, past, rows_most (slots b y) (sources y))))
+
+pub parts_end : (l : Label) (m : Member) (k : ℕ) → length l.entries ≡ 8 → 8 ≤ k → left_from k (part_rows l m) ≡ []
+parts_end l m k counted past =
+    ap (flat_map option_to_list) (drop_all k (part_rows l m)
+    (omega (arith, counted, past, parts_len l m, rows_most (parts_in (Some l) m) (part_sources l))))
+
+-- those below each, with those of its place
+pub placed_rows : (o : Layout) (os : List (Option Row))
+    → flat_map (λ (r : Row). rows_at o (Some r)) (flat_map option_to_list os) ≡ flat_map (rows_at o) os
+placed_rows o [] = refl
+placed_rows o (None ∷ os) = placed_rows o os
+placed_rows o (Some r ∷ os) = ap (λ (l : List Row). rows_at o (Some r) ++ l) (placed_rows o os)

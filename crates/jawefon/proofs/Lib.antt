@@ -1,2 +1,0 @@
-pub mod Growing
-pub use Rattle.pt_sector.proofs.CallsLemmas

@@ -1,6 +1,0 @@
-use Rattle.std.proofs.Common.{◌≡◌, ◌++◌, take, Some}
-use Rattle.pt_members.specs.Members.{present, parts_in}
-use Rattle.jawefon.proofs.listing.push_parts.Given as goal
-
-abbrev pub invariant-loop-k : goal.invariant-loop-k
-invariant-loop-k l = l.list.items ≡ l.fn.list.items ++ present (take l.k (parts_in (Some l.label) l.slice))
