@@ -48,25 +48,8 @@ pub fn check<const B: usize, D: Disk<B>>(
 {
     let room = Room::for_cache(alloc)?;
     let mut cache = ReadCache::new(disk, room);
-    read_and_check(alloc, &mut cache, plan)
-}
-
-/// The same answer, by a disk that may be asked for a sector more than once.
-fn read_and_check<const B: usize, D: Disk<B>>(
-    alloc: Global,
-    disk: &mut D,
-    plan: &Plan<B>,
-) -> Result<Answer, CheckError>
-    requires size { IsSectorSize B }
-    ensures same { OnlyReads D.Disk disk.old disk.new }
-    ensures blames { Blames fault_in result (D.faults disk.old) (D.faults disk.new) }
-    ensures place { D.tells → IfErr result (FailedInCheck (CheckReads B (D.told disk.old).seen (phases_of plan.now))) }
-    ensures in_range { IfOk result (λ a. WritesFit (D.count disk.old) plan.now a) }
-    ensures answers { D.tells → IfOk result (λ a. Answers B (D.told disk.old).seen (phases_of plan.now) a) }
-    ensures promises { D.tells → IfOk result (λ a. Promises B (D.told disk.old).seen (phases_of plan.now) a) }
-{
-    let before = read_layout(alloc, disk)?;
-    check_known(alloc, disk, plan, before)
+    let before = read_layout(alloc, &mut cache)?;
+    check_known(alloc, &mut cache, plan, before)
 }
 
 /// The same answer, where it is known what the disk denotes, and by which sectors: those aren't read before the first

@@ -16,7 +16,7 @@ use Rattle.pt_cases.specs.declared.targets.error.PlanError.{PlanError}
 use Rattle.pt_cases.specs.declared.targets.error.PlanError.TheVariants as plan
 use Rattle.pt_plan.specs.Batches.{IsMendPlan, IsReadyToMend, IsMendRefusal}
 use Rattle.pt_plan.specs.Commits.{HidesNoFailure}
-use Rattle.pt_plan.specs.inner.Repairs.{repair_told}
+use Rattle.pt_plan.specs.Repairs.{repair_told}
 use Rattle.pt_plan.specs.inner.Commits.{IsSafe, NotPlanned, NotSafe}
 use Rattle.pt_plan.specs.declared.error.CommitError.{CommitError}
 use Rattle.pt_plan.specs.declared.error.CommitError.TheVariants.{NoTable, Edit, Plan, Check, Device, Memory}

@@ -12,7 +12,7 @@ use Rattle.pt_words.specs.declared.error.Refusal.{Refusal}
 use Rattle.pt_cases.specs.declared.targets.error.PlanError.{PlanError}
 use Rattle.pt_plan.specs.Commits.{Committed, Ready, Refuses, commit_fault_in}
 use Rattle.pt_plan.specs.Repairs.{Repaired, ReadyToMend, RefusesToMend}
-use Rattle.pt_plan.specs.inner.Repairs.{repair_told}
+use Rattle.pt_plan.specs.Repairs.{repair_told}
 use Rattle.pt_plan.specs.inner.Commits.{MetRead, Begun, Written, unflushed, unplanned, unapplied, applied}
 use Rattle.pt_plan.specs.declared.error.CommitError.{CommitError}
 use Rattle.pt_plan.specs.declared.error.CommitError.TheVariants.{Device}

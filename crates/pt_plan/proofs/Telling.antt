@@ -4,8 +4,7 @@ use Rattle.pt_sector.specs.declared.disk.Fault.{Fault}
 use Rattle.pt_sector.specs.declared.disk.Fault.TheVariants.{Read, Write, Flush}
 use Rattle.pt_cases.specs.declared.targets.error.PlanError.TheVariants as plan
 use Rattle.pt_plan.specs.Commits.{commit_fault_in, HidesNoFailure}
-use Rattle.pt_plan.specs.Repairs.{repair_fault_in, MendHidesNoFailure}
-use Rattle.pt_plan.specs.inner.Repairs.{repair_told}
+use Rattle.pt_plan.specs.Repairs.{repair_fault_in, MendHidesNoFailure, repair_told}
 use Rattle.pt_plan.specs.Batches.{FailedInCommit, FailedInRepair}
 use Rattle.pt_plan.specs.inner.Commits.{MetRead}
 use Rattle.pt_plan.specs.declared.error.CommitError.{CommitError}

@@ -9,17 +9,13 @@ use Rattle.pt_recover.specs.declared.error.NoTable.{NoTable as Reason}
 use Rattle.pt_members.specs.declared.layout.Layout.{Layout}
 use Rattle.pt_layout.specs.declared.sound.finding.Finding.{Finding}
 use Rattle.pt_words.specs.declared.error.Refusal.{Refusal}
+use Rattle.pt_plan.specs.declared.error.CommitError.{CommitError}
+use Rattle.pt_plan.specs.declared.error.CommitError.TheVariants as commit
 use Rattle.pt_plan.specs.declared.repair_error.RepairError.{RepairError}
 use Rattle.pt_plan.specs.declared.repair_error.RepairError.TheVariants.{NoTable, Unsound, Device, Memory, Plan, Check}
 use Rattle.pt_plan.specs.Commits.{Unchanged, Carries}
-use Rattle.pt_sector.specs.declared.reading.Failure.{Failure}
-use Rattle.pt_sector.specs.declared.reading.Failure.TheVariants as failure
 use Rattle.pt_recover.specs.Denotes.{IsOutsideDisk}
-use Rattle.pt_recover.specs.declared.error.NoTable.TheVariants as nothing
-use Rattle.pt_check.specs.declared.error.CheckError.{CheckError}
-use Rattle.pt_check.specs.declared.error.CheckError.TheVariants as check
 use Rattle.pt_cases.specs.Unplanned.{IsFailure}
-use Rattle.pt_cases.specs.declared.targets.error.PlanError.{PlanError}
 use Rattle.pt_cases.specs.declared.targets.error.PlanError.TheVariants as plan
 use Rattle.pt_plan.specs.declared.repair_error.RepairError.TheVariants as repair
 
@@ -119,22 +115,12 @@ MendHidesNoFailure (repair.NoTable e) = ¬ IsOutsideDisk e
 MendHidesNoFailure (repair.Plan e) = ¬ IsFailure e
 MendHidesNoFailure _ = Unit {0}
 
--- what a repair tells where there is no table, of a failure, and of the planner's and the checker's errors
-abbrev pub repair_untabled : Reason → RepairError
-repair_untabled (nothing.Device at) = repair.Device (Read at)
-repair_untabled nothing.Memory = repair.Memory
-repair_untabled e = repair.NoTable e
-
-abbrev pub repair_failure : Failure → RepairError
-repair_failure (failure.Device at) = repair.Device (Read at)
-repair_failure failure.Memory = repair.Memory
-
-abbrev pub repair_unplanned : PlanError → RepairError
-repair_unplanned (plan.Unsound f) = repair.Unsound f
-repair_unplanned (plan.Device fault) = repair.Device fault
-repair_unplanned plan.Memory = repair.Memory
-repair_unplanned e = repair.Plan e
-
-abbrev pub repair_unchecked : CheckError → RepairError
-repair_unchecked (check.Device fault) = repair.Device fault
-repair_unchecked check.Memory = repair.Memory
+-- what a repair tells of an error in the steps that a commit has too. It has no words, so that none are refused
+abbrev pub repair_told : CommitError → RepairError
+repair_told (commit.NoTable e) = repair.NoTable e
+repair_told (commit.Edit r) = repair.Memory
+repair_told (commit.Plan (plan.Unsound f)) = repair.Unsound f
+repair_told (commit.Plan e) = repair.Plan e
+repair_told (commit.Check why) = repair.Check why
+repair_told (commit.Device fault) = repair.Device fault
+repair_told commit.Memory = repair.Memory

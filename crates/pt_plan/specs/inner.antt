@@ -1,4 +1,3 @@
 pub mod Commits
 pub mod Layouts
-pub mod Repairs
 pub mod Sessions

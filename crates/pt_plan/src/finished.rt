@@ -51,24 +51,6 @@ fn finish<const B: usize, D: Disk<B>>(
     }
 }
 
-/// The answer of [`layout_after`], by a disk that may be asked for a sector more than once.
-fn check_and_finish<const B: usize, D: Disk<B>>(
-    alloc: Global,
-    disk: &mut D,
-    plan: &Plan<B>,
-) -> Result<After, CheckError>
-    requires size { IsSectorSize B }
-    ensures same { OnlyReads D.Disk disk.old disk.new }
-    ensures blames { Blames fault_in result (D.faults disk.old) (D.faults disk.new) }
-    ensures place { D.tells → IfErr result (FailedInCheck (CheckReads B (D.told disk.old).seen (phases_of plan.now))) }
-    ensures after { D.tells → IfOk result (AfterIs B (D.told disk.old).seen (phases_of plan.now)) }
-{
-    match check(alloc, disk, plan)? {
-        Answer::No(why) => Ok(After::No(why)),
-        Answer::Yes { .. } => finish(alloc, disk, plan),
-    }
-}
-
 /// What the plan would make of the disk as it is now, wherever the plan comes from: the layout that the disk denotes once
 /// all of its writes are done, or the checker's first reason against it. Nothing is flushed or written.
 ///
@@ -87,5 +69,8 @@ pub fn layout_after<const B: usize, D: Disk<B>>(
 {
     let room = Room::for_cache(alloc)?;
     let mut cache = ReadCache::new(disk, room);
-    check_and_finish(alloc, &mut cache, plan)
+    match check(alloc, &mut cache, plan)? {
+        Answer::No(why) => Ok(After::No(why)),
+        Answer::Yes { .. } => finish(alloc, &mut cache, plan),
+    }
 }

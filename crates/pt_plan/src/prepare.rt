@@ -10,10 +10,8 @@ ghost use Rattle.pt_recover.specs.declared.error.NoTable.{NoTable as Reason};
 ghost use Rattle.pt_cases.specs.Cases.{IsPlan};
 ghost use Rattle.pt_check.specs.Answers.{CheckReads, IsRecoveredOf};
 ghost use Rattle.pt_planner.specs.PlanReads.{IsKnown, ReasonIs, PlanReads};
-ghost use Rattle.pt_plan.specs.Batches.{IsPlanned, IsReady, IsRefusal, IsMendPlan, IsMendRefusal, MakesTable, EditedBy, FailedInCommit};
-ghost use Rattle.pt_plan.specs.Batches.{EditReads, CommitReads, MendReads};
+ghost use Rattle.pt_plan.specs.Batches.{MakesTable, EditedBy, FailedInCommit};
 ghost use Rattle.pt_plan.specs.Commits.{commit_fault_in as fault_in, HidesNoFailure};
-ghost use Rattle.pt_plan.specs.inner.Repairs.{repair_told};
 ghost use Rattle.pt_plan.specs.inner.Commits.{sectors_in, MayStart, NotEdited, NotPlanned, IsSafe, NotSafe};
 ghost use Rattle.pt_plan.specs.inner.Layouts.{IsPlanOf, IsReadyOf, IsRefusedBy, PlanOfReads, WriteOfReads};
 ghost use Rattle.pt_plan.specs.declared.error.CommitError.TheVariants as commit;
@@ -161,60 +159,6 @@ fn checked<const B: usize, D: Disk<B>>(
     }
 }
 
-/// The plan that leads from what the disk denotes to what the words make of it, by what is known of the disk.
-fn plan_by<const B: usize, D: Disk<B>>(
-    alloc: Global,
-    disk: &mut D,
-    known: &Known,
-    reason: Option<NoTable>,
-    edits: &[Edit],
-    guids: &[Guid],
-) -> Result<Plan<B>, CommitError>
-    requires size { IsSectorSize B }
-    requires known { D.tells → IsKnown B (D.told disk.old).seen known.now }
-    requires reason { D.tells → ReasonIs B (D.told disk.old).seen known.now.old reason }
-    ensures same { OnlyReads D.Disk disk.old disk.new }
-    ensures blames { Blames fault_in result (D.faults disk.old) (D.faults disk.new) }
-    ensures place { D.tells → IfErr result
-        (FailedInCommit (EditReads B (D.count disk.old) (record { edits = edits.now; guids = guids.now }) (D.told disk.old).seen)) }
-    ensures hides { IfErr result HidesNoFailure }
-    ensures in_range { IfOk result (InRange (D.count disk.old)) }
-    ensures phases { IfOk result (λ plan. All (λ p. 0 < length p.items) plan.phases.items) }
-    ensures planned { D.tells → IfOk result
-        (λ plan. IsPlanned B (D.count disk.old) (record { edits = edits.now; guids = guids.now }) (D.told disk.old).seen (phases_of plan)) }
-    ensures refused { D.tells → IfErr result
-        (IsRefusal B (D.count disk.old) (record { edits = edits.now; guids = guids.now }) (D.told disk.old).seen) }
-{
-    may_start(reason, edits)?;
-    let wanted = edited::<B>(alloc, &known.old, disk.sectors(), edits, guids)?;
-    planned(alloc, disk, known, &wanted)
-}
-
-/// The plan that makes the disk healthy with the layout that it denotes, by what is known of the disk.
-fn plan_own<const B: usize, D: Disk<B>>(
-    alloc: Global,
-    disk: &mut D,
-    known: &Known,
-    reason: Option<NoTable>,
-) -> Result<Plan<B>, CommitError>
-    requires size { IsSectorSize B }
-    requires known { D.tells → IsKnown B (D.told disk.old).seen known.now }
-    requires reason { D.tells → ReasonIs B (D.told disk.old).seen known.now.old reason }
-    ensures same { OnlyReads D.Disk disk.old disk.new }
-    ensures blames { Blames fault_in result (D.faults disk.old) (D.faults disk.new) }
-    ensures place { D.tells → IfErr result (FailedInCommit (MendReads B (D.count disk.old) (D.told disk.old).seen)) }
-    ensures hides { IfErr result HidesNoFailure }
-    ensures in_range { IfOk result (InRange (D.count disk.old)) }
-    ensures phases { IfOk result (λ plan. All (λ p. 0 < length p.items) plan.phases.items) }
-    ensures planned { D.tells → IfOk result (λ plan. IsMendPlan B (D.told disk.old).seen (phases_of plan)) }
-    ensures refused { D.tells → IfErr result (λ e. IsMendRefusal B (D.told disk.old).seen (repair_told e)) }
-{
-    match &known.old {
-        Some(own) => planned(alloc, disk, known, own),
-        None => Err(no_layout(reason)),
-    }
-}
-
 /// The plan for what is wanted, by what is known of the disk.
 fn plan_known<const B: usize, D: Disk<B>>(
     alloc: Global,
@@ -238,56 +182,17 @@ fn plan_known<const B: usize, D: Disk<B>>(
     ensures refused { D.tells → IfErr result (IsRefusedBy B (D.count disk.old) wanted.now (D.told disk.old).seen) }
 {
     match wanted {
-        Wanted::Edited(edits, guids) => plan_by(alloc, disk, known, reason, edits, guids),
+        Wanted::Edited(edits, guids) => {
+            may_start(reason, edits)?;
+            let layout = edited::<B>(alloc, &known.old, disk.sectors(), edits, guids)?;
+            planned(alloc, disk, known, &layout)
+        }
         Wanted::Layout(layout) => planned(alloc, disk, known, layout),
-        Wanted::Own => plan_own(alloc, disk, known, reason),
+        Wanted::Own => match &known.old {
+            Some(own) => planned(alloc, disk, known, own),
+            None => Err(no_layout(reason)),
+        },
     }
-}
-
-/// The plan of [`plan_wanted`], by a disk that may be asked for a sector more than once.
-fn read_and_plan<const B: usize, D: Disk<B>>(
-    alloc: Global,
-    disk: &mut D,
-    wanted: &Wanted,
-) -> Result<Plan<B>, CommitError>
-    requires size { IsSectorSize B }
-    ensures same { OnlyReads D.Disk disk.old disk.new }
-    ensures blames { Blames fault_in result (D.faults disk.old) (D.faults disk.new) }
-    ensures place { D.tells → IfErr result
-        (FailedInCommit (PlanOfReads B (D.count disk.old) wanted.now (D.told disk.old).seen)) }
-    ensures hides { IfErr result HidesNoFailure }
-    ensures in_range { IfOk result (InRange (D.count disk.old)) }
-    ensures phases { IfOk result (λ plan. All (λ p. 0 < length p.items) plan.phases.items) }
-    ensures planned { D.tells → IfOk result
-        (λ plan. IsPlanOf B (D.count disk.old) wanted.now (D.told disk.old).seen (phases_of plan)) }
-    ensures refused { D.tells → IfErr result (IsRefusedBy B (D.count disk.old) wanted.now (D.told disk.old).seen) }
-{
-    let read = read_known(alloc, disk)?;
-    plan_known(alloc, disk, &read.0, read.1, wanted)
-}
-
-/// The plan of [`checked_plan_wanted`], by a disk that may be asked for a sector more than once.
-fn read_plan_and_check<const B: usize, D: Disk<B>>(
-    alloc: Global,
-    disk: &mut D,
-    wanted: &Wanted,
-) -> Result<Plan<B>, CommitError>
-    requires size { IsSectorSize B }
-    ensures same { OnlyReads D.Disk disk.old disk.new }
-    ensures blames { Blames fault_in result (D.faults disk.old) (D.faults disk.new) }
-    ensures place { D.tells → IfErr result
-        (FailedInCommit (WriteOfReads B (D.count disk.old) wanted.now (D.told disk.old).seen)) }
-    ensures hides { IfErr result HidesNoFailure }
-    ensures in_range { IfOk result (InRange (D.count disk.old)) }
-    ensures phases { IfOk result (λ plan. All (λ p. 0 < length p.items) plan.phases.items) }
-    ensures ready { D.tells → IfOk result
-        (λ plan. IsReadyOf B (D.count disk.old) wanted.now (D.told disk.old).seen (phases_of plan)) }
-    ensures refused { D.tells → IfErr result (IsRefusedBy B (D.count disk.old) wanted.now (D.told disk.old).seen) }
-{
-    let (known, reason) = read_known(alloc, disk)?;
-    let plan = plan_known(alloc, disk, &known, reason, wanted)?;
-    checked(alloc, disk, &plan, recovered(known))?;
-    Ok(plan)
 }
 
 /// The plan for what is wanted. Nothing is flushed or written, and the checker is not asked.
@@ -310,7 +215,8 @@ pub(crate) fn plan_wanted<const B: usize, D: Disk<B>>(
 {
     let room = Room::for_cache(alloc)?;
     let mut cache = ReadCache::new(disk, room);
-    read_and_plan(alloc, &mut cache, wanted)
+    let (known, reason) = read_known(alloc, &mut cache)?;
+    plan_known(alloc, &mut cache, &known, reason, wanted)
 }
 
 /// The same plan, once the checker has accepted it. Nothing is flushed or written.
@@ -333,5 +239,8 @@ pub(crate) fn checked_plan_wanted<const B: usize, D: Disk<B>>(
 {
     let room = Room::for_cache(alloc)?;
     let mut cache = ReadCache::new(disk, room);
-    read_plan_and_check(alloc, &mut cache, wanted)
+    let (known, reason) = read_known(alloc, &mut cache)?;
+    let plan = plan_known(alloc, &mut cache, &known, reason, wanted)?;
+    checked(alloc, &mut cache, &plan, recovered(known))?;
+    Ok(plan)
 }

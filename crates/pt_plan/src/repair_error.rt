@@ -1,10 +1,12 @@
 //! Why a repair did nothing.
 
 ghost use Rattle.std.specs.Prelude.{◌≡◌, Some};
-ghost use Rattle.pt_plan.specs.Repairs.{repair_error_number, repair_untabled, repair_failure, repair_unplanned, repair_unchecked};
+ghost use Rattle.pt_plan.specs.Commits.{commit_untabled, commit_failure, commit_unplanned, commit_unchecked};
+ghost use Rattle.pt_plan.specs.Repairs.{repair_error_number, repair_told};
 ghost use Rattle.pt_plan.specs.declared.repair_error.RepairError.TheVariants as repair;
 ghost use Rattle.pt_plan.specs.Sentences.{repair_error_sentence};
 
+use crate::error::CommitError;
 use pt_check::{CheckError, Why};
 use pt_layout::{Finding, NoTable};
 use pt_planner::PlanError;
@@ -66,15 +68,27 @@ impl fmt::Display for RepairError {
 
 impl Error for RepairError {}
 
+/// What a repair tells of an error in the steps that a commit has too. It has no words, so that none are refused; where
+/// some were, want of memory would be told.
+pub(crate) fn told(error: CommitError) -> RepairError
+    ensures { result ≡ repair_told error }
+{
+    match error {
+        CommitError::NoTable(why) => RepairError::NoTable(why),
+        CommitError::Edit(_) => RepairError::Memory,
+        CommitError::Plan(PlanError::Unsound(finding)) => RepairError::Unsound(finding),
+        CommitError::Plan(error) => RepairError::Plan(error),
+        CommitError::Check(why) => RepairError::Check(why),
+        CommitError::Device(fault) => RepairError::Device(fault),
+        CommitError::Memory => RepairError::Memory,
+    }
+}
+
 impl From<NoTable> for RepairError {
-    ghost from_gives = { λ why e. e ≡ repair_untabled why };
+    ghost from_gives = { λ why e. e ≡ repair_told (commit_untabled why) };
 
     fn from(why: NoTable) -> RepairError {
-        match why {
-            NoTable::Device(at) => RepairError::Device(Fault::Read(at)),
-            NoTable::Memory => RepairError::Memory,
-            why => RepairError::NoTable(why),
-        }
+        told(CommitError::from(why))
     }
 }
 
@@ -87,13 +101,10 @@ impl From<AllocError> for RepairError {
 }
 
 impl From<Failure> for RepairError {
-    ghost from_gives = { λ failure e. e ≡ repair_failure failure };
+    ghost from_gives = { λ failure e. e ≡ repair_told (commit_failure failure) };
 
     fn from(failure: Failure) -> RepairError {
-        match failure {
-            Failure::Device(at) => RepairError::Device(Fault::Read(at)),
-            Failure::Memory => RepairError::Memory,
-        }
+        told(CommitError::from(failure))
     }
 }
 
@@ -106,25 +117,17 @@ impl From<Fault> for RepairError {
 }
 
 impl From<PlanError> for RepairError {
-    ghost from_gives = { λ error e. e ≡ repair_unplanned error };
+    ghost from_gives = { λ error e. e ≡ repair_told (commit_unplanned error) };
 
     fn from(error: PlanError) -> RepairError {
-        match error {
-            PlanError::Unsound(finding) => RepairError::Unsound(finding),
-            PlanError::Device(fault) => RepairError::Device(fault),
-            PlanError::Memory => RepairError::Memory,
-            error => RepairError::Plan(error),
-        }
+        told(CommitError::from(error))
     }
 }
 
 impl From<CheckError> for RepairError {
-    ghost from_gives = { λ error e. e ≡ repair_unchecked error };
+    ghost from_gives = { λ error e. e ≡ repair_told (commit_unchecked error) };
 
     fn from(error: CheckError) -> RepairError {
-        match error {
-            CheckError::Device(fault) => RepairError::Device(fault),
-            CheckError::Memory => RepairError::Memory,
-        }
+        told(CommitError::from(error))
     }
 }

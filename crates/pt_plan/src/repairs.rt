@@ -7,33 +7,14 @@ ghost use Rattle.pt_sector.specs.Overlays.{OnlyReads};
 ghost use Rattle.pt_apply.specs.Plans.{phases_of, InRange};
 ghost use Rattle.pt_plan.specs.Batches.{IsMendPlan, IsReadyToMend, IsMendRefusal, Repairs, FailedInRepair, MendReads, RepairReads};
 ghost use Rattle.pt_plan.specs.Repairs.{repair_fault_in as fault_in, MendHidesNoFailure};
-ghost use Rattle.pt_plan.specs.inner.Repairs.{repair_told};
 
-use crate::error::CommitError;
 use crate::prepare::{checked_plan_wanted, plan_wanted};
-use crate::repair_error::RepairError;
+use crate::repair_error::{RepairError, told};
 use crate::wanted::Wanted;
 use crate::writing::carry_out;
 use pt_apply::Plan;
-use pt_planner::PlanError;
 use pt_sector::Disk;
 use std::alloc::Global;
-
-/// What a repair tells of an error in the steps that a commit has too. It has no words, so that none are refused; where
-/// some were, want of memory would be told.
-fn told(error: CommitError) -> RepairError
-    ensures { result ≡ repair_told error }
-{
-    match error {
-        CommitError::NoTable(why) => RepairError::NoTable(why),
-        CommitError::Edit(_) => RepairError::Memory,
-        CommitError::Plan(PlanError::Unsound(finding)) => RepairError::Unsound(finding),
-        CommitError::Plan(error) => RepairError::Plan(error),
-        CommitError::Check(why) => RepairError::Check(why),
-        CommitError::Device(fault) => RepairError::Device(fault),
-        CommitError::Memory => RepairError::Memory,
-    }
-}
 
 /// The plan that makes the disk healthy with the layout that it denotes: without phases where it is so already. Nothing
 /// is flushed or written. It is refused as `repair` refuses, and `Plan` and `Check` are never told; the checker is not

@@ -6,9 +6,7 @@ use Rattle.pt_sector.specs.Sectors.{Sectors}
 use Rattle.pt_gpt.specs.Copies.{HasCopy}
 use Rattle.pt_gpt.specs.declared.table.Side.TheVariants.{Primary}
 use Rattle.pt_gpt.specs.declared.table.Table.{Table}
-use Rattle.pt_mbr.specs.declared.ebr.Ebr.{Ebr}
-use Rattle.pt_mbr.specs.declared.record.Record.{Record}
-use Rattle.pt_recover.specs.Denotes.{Denotes, BodyIs, IsMbrDisk}
+use Rattle.pt_recover.specs.Denotes.{Denotes, IsMbrDisk}
 use Rattle.pt_recover.proofs.Terms.{denotes_one_lem}
 use Rattle.pt_mbr.specs.Records.{extended_of}
 use Rattle.pt_members.specs.declared.layout.Body.TheVariants.{Mbr, Gpt}
@@ -20,7 +18,7 @@ use Rattle.pt_layout.specs.declared.sound.finding.Finding.{Finding}
 use Rattle.pt_layout.specs.declared.sound.finding.Finding.TheVariants as finding
 use Rattle.pt_layout.specs.declared.health.Head.{Head}
 use Rattle.pt_layout.specs.declared.health.Head.TheVariants as head
-use Rattle.pt_cases.specs.Cases.{ChangesLabels, MayBePlanned}
+use Rattle.pt_cases.specs.Cases.{ChangesLabels, MayBePlanned, HadMbr}
 use Rattle.pt_cases.specs.Writes.{FitsTable, IsLoneChain}
 use Rattle.pt_cases.specs.Unplanned.{NoneLeft, HasNoTurn, HasNoCopies, Start, StopsBy, other_disk, misplaced, targets, unreadable, turn}
 use Rattle.pt_cases.specs.Unplanned.{copies, Unplanned}
@@ -33,7 +31,8 @@ use Rattle.pt_cases.specs.declared.targets.error.PlanError.TheVariants.{NotOneSw
 use Rattle.pt_cases.specs.declared.targets.error.PlanError.TheVariants.{Memory}
 use Rattle.pt_cases.specs.declared.targets.target.Target.{Target}
 use Rattle.pt_planner.specs.PlanReads.{KnownWrong, IsKnown}
-use Rattle.pt_planner.specs.inner.PlanReads.{IsBrokenBy, OrderOf, PlacesStop}
+use Rattle.pt_planner.specs.inner.PlanReads.{IsBrokenBy, OrderOf, PlacesStop, IsMbrChange}
+use Rattle.pt_planner.specs.declared.state.MbrChange.{MbrChange}
 use Rattle.pt_cases.specs.inner.Unplanned.{Hindered}
 use Rattle.pt_planner.specs.declared.known.Known.{Known}
 
@@ -154,21 +153,27 @@ copies_start {b = b} d x p t order given places known start body fits other so h
   places = are;
 }
 
-pub mbr_start : {b : ℕ} (d : Sectors) (x : Known) (p old : Layout) (old_records records : List (Option Record))
-    (old_chain chain : List Ebr) (heads places : List (Target b))
-    → IsKnown b d x → Start b d x.old p
-    → x.old ≡ Some old → old.body ≡ Mbr old_records old_chain → p.body ≡ Mbr records chain → length records ≡ 4
-    → IsLoneChain (length d) (extended_of records) chain
-    → AreMbrTargets d old_records old_chain records chain heads → AreLabelTargets d x.old p places
-    → MbrStart d x.old p x.guarded heads places
-mbr_start d x p old old_records records old_chain chain heads places known start is_old old_body body four linked are labels = record {
+abbrev pub had_mbr : (n : ℕ) (o : Option Layout) (c : MbrChange) → IsMbrChange n o c → HadMbr o
+had_mbr n o c is = record {
+  old = is.old;
+  records = c.old_records.now;
+  chain = c.old_chain.now;
+  is_old = is.is_old;
+  body = is.old_body;
+}
+
+pub mbr_start : {b : ℕ} (d : Sectors) (n : ℕ) (x : Known) (p : Layout) (c : MbrChange) (heads places : List (Target b))
+    → length d ≡ n → IsKnown b d x → Start b d x.old p → (is : IsMbrChange n x.old c) → p.body ≡ Mbr c.records.now c.chain.now
+    → length c.records.now ≡ 4 → AreMbrTargets d c.old_records.now c.old_chain.now c.records.now c.chain.now heads
+    → AreLabelTargets d x.old p places → MbrStart d x.old p x.guarded heads places
+mbr_start d n x p c heads places count known start is body four are labels = record {
   start = start;
-  was = record { old = old; records = old_records; chain = old_chain; is_old = is_old; body = old_body };
-  records = records;
-  chain = chain;
+  was = had_mbr n x.old c is;
+  records = c.records.now;
+  chain = c.chain.now;
   body = body;
   four = four;
-  linked = linked;
+  linked = subst (λ (k : ℕ). IsLoneChain k (extended_of c.records.now) c.chain.now) (sym count) is.linked;
   guards = known.guarded;
   heads = are;
   places = labels;
@@ -197,8 +202,3 @@ module _ (b : ℕ) (d : Sectors) (o : Option Layout) (p : Layout) (from : Denote
 
   pub none_of_disk : ¬ MayBePlanned b d o p → Unplanned b d p NotOneSwitch
   none_of_disk isnt = record { sound = sound; not_done = not_done; old = o; from = from; cause = other_disk isnt }
-
--- a disk that denotes an MBR has a sector
-pub has_sectors : (b : ℕ) (d : Sectors) (o : Option Layout) (old : Layout) (records : List (Option Record)) (chain : List Ebr)
-    → Denotes b d o → o ≡ Some old → old.body ≡ Mbr records chain → 0 < length d
-has_sectors b d o old records chain from is body = (subst (BodyIs b d) body (subst (Denotes b d) is from).1).0.0.0

@@ -13,10 +13,10 @@ ghost use Rattle.pt_planner.specs.inner.PlanReads.{IsUnsoundBy};
 
 use crate::known::{Known, read_known};
 use crate::plans::{places_of, to_gpt, to_mbr};
-use crate::state::{is_done, is_same, may_be};
+use crate::state::{Change, change_to, is_done};
 use pt_apply::Plan;
 use pt_cases::targets::PlanError;
-use pt_layout::{Body, Layout, unsound};
+use pt_layout::{Layout, unsound};
 use pt_sector::{Disk, ReadCache, Room};
 use std::alloc::Global;
 
@@ -58,15 +58,14 @@ pub fn plan_from<const B: usize, D: Disk<B>>(
             phases: Vec::new(alloc),
         });
     }
-    if !may_be::<B>(disk.sectors(), &known.old, wanted) {
-        return Err(PlanError::NotOneSwitch);
-    }
+    let change = match change_to::<B>(disk.sectors(), &known.old, wanted) {
+        Some(change) => change,
+        None => return Err(PlanError::NotOneSwitch),
+    };
     let places = places_of(alloc, disk, &known.old, wanted)?;
-    match &wanted.body {
-        Body::Mbr { records, chain } => {
-            to_mbr(alloc, disk, known, wanted, records, chain, places)
-        }
-        Body::Gpt(table) => to_gpt(alloc, disk, known, wanted, table, places),
+    match change {
+        Change::Mbr(change) => to_mbr(alloc, disk, known, wanted, &change, places),
+        Change::Gpt(table) => to_gpt(alloc, disk, known, wanted, table, places),
     }
 }
 
@@ -95,24 +94,6 @@ pub fn make_plan<const B: usize, D: Disk<B>>(
 {
     let room = Room::for_cache(alloc)?;
     let mut cache = ReadCache::new(disk, room);
-    read_and_plan(alloc, &mut cache, wanted)
-}
-
-/// The same plan, by a disk that may be asked for a sector more than once.
-fn read_and_plan<const B: usize, D: Disk<B>>(
-    alloc: Global,
-    disk: &mut D,
-    wanted: &Layout,
-) -> Result<Plan<B>, PlanError>
-    requires size { IsSectorSize B }
-    ensures same { OnlyReads D.Disk disk.old disk.new }
-    ensures blames { Blames fault_in result (D.faults disk.old) (D.faults disk.new) }
-    ensures place { D.tells → IfErr result (FailedInPlan (MakeReads B (D.told disk.old).seen wanted.now)) }
-    ensures in_range { IfOk result (InRange (D.count disk.old)) }
-    ensures some { IfOk result (λ plan. All (λ p. 0 < length p.items) plan.phases.items) }
-    ensures plan { D.tells → IfOk result (λ plan. IsPlan B (D.told disk.old).seen wanted.now (phases_of plan)) }
-    ensures err { D.tells → IfErr result (Unplanned B (D.told disk.old).seen wanted.now) }
-{
-    let (known, _reason) = read_known(alloc, disk)?;
-    plan_from(alloc, disk, &known, wanted)
+    let (known, _reason) = read_known(alloc, &mut cache)?;
+    plan_from(alloc, &mut cache, &known, wanted)
 }

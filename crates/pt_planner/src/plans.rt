@@ -6,9 +6,8 @@ ghost use Rattle.pt_sector.specs.Overlays.{OnlyReads, read_of};
 ghost use Rattle.pt_sector.specs.Sectors.{IsSectorSize};
 ghost use Rattle.pt_apply.specs.Plans.{phases_of, InRange};
 ghost use Rattle.pt_members.specs.declared.layout.Body.TheVariants.{Mbr, Gpt};
-ghost use Rattle.pt_mbr.specs.Records.{extended_of};
-ghost use Rattle.pt_cases.specs.Cases.{IsPlan, HadMbr};
-ghost use Rattle.pt_cases.specs.Writes.{FitsTable, IsLoneChain};
+ghost use Rattle.pt_cases.specs.Cases.{IsPlan};
+ghost use Rattle.pt_cases.specs.Writes.{FitsTable};
 ghost use Rattle.pt_planner.specs.Phases.{HeadAsRead};
 ghost use Rattle.pt_layout.specs.Surveys.{HeadOf};
 ghost use Rattle.pt_layout.specs.declared.health.Head.TheVariants as kind;
@@ -16,18 +15,18 @@ ghost use Rattle.pt_recover.specs.Denotes.{Denotes};
 ghost use Rattle.pt_cases.specs.Unplanned.{fault_in, Start, NoneLeft};
 ghost use Rattle.pt_cases.specs.Targets.{AreLabelTargets};
 ghost use Rattle.pt_planner.specs.PlanReads.{IsKnown, FailedInPlan, PlanReads};
-ghost use Rattle.pt_planner.specs.inner.PlanReads.{PlacesStop};
+ghost use Rattle.pt_planner.specs.inner.PlanReads.{PlacesStop, IsMbrChange};
 ghost use Rattle.pt_cases.specs.inner.Unplanned.{Hindered};
 
 use crate::chains::mbr_targets;
 use crate::known::Known;
 use crate::phases::{Setting, both_copies, one_label, within_mbr};
 use crate::places::{LabelTargets, label_targets};
-use crate::state::{changes_labels, is_broken, order_of};
+use crate::state::{MbrChange, changes_labels, is_broken, order_of};
 use pt_apply::Plan;
 use pt_cases::targets::{PlanError, Target};
 use pt_gpt::Table;
-use pt_layout::{Body, Ebrs, Finding, Head, Layout, Path};
+use pt_layout::{Finding, Head, Layout, Path};
 use pt_mbr::Record;
 use pt_sector::{Disk, FailedRead, Lba, Sector, read_sector};
 use std::alloc::Global;
@@ -76,13 +75,12 @@ pub(crate) fn to_mbr<const B: usize, D: Disk<B>>(
     disk: &mut D,
     known: &Known,
     wanted: &Layout,
-    records: &[Option<Record>; 4],
-    chain: &Ebrs,
+    change: &MbrChange,
     places: Vec<Target<B>>,
 ) -> Result<Plan<B>, PlanError>
     requires size { IsSectorSize B }
-    requires body { wanted.now.body ≡ Mbr records.now chain.now }
-    requires linked { IsLoneChain (D.count disk.old) (extended_of records.now) chain.now }
+    requires body { wanted.now.body ≡ Mbr change.now.records.now change.now.chain.now }
+    requires change { IsMbrChange (D.count disk.old) known.now.old change.now }
     requires in_range { All (λ t. t.at.0 < D.count disk.old) places.items }
     requires known { D.tells → IsKnown B (D.told disk.old).seen known.now }
     requires start { D.tells → Start B (D.told disk.old).seen known.now.old wanted.now }
@@ -93,25 +91,21 @@ pub(crate) fn to_mbr<const B: usize, D: Disk<B>>(
     ensures in_range { IfOk result (InRange (D.count disk.old)) }
     ensures some { IfOk result (λ plan. All (λ p. 0 < length p.items) plan.phases.items) }
     ensures plan { D.tells → IfOk result (λ plan. IsPlan B (D.told disk.old).seen wanted.now (phases_of plan)) }
-    ensures err { D.tells → HadMbr known.now.old → IfErr result (Hindered B (D.told disk.old).seen known.now.old wanted.now) }
+    ensures err { D.tells → IfErr result (Hindered B (D.told disk.old).seen known.now.old wanted.now) }
 {
-    let layout = match &known.old {
-        Some(layout) => layout,
-        None => return Err(PlanError::NotOneSwitch),
-    };
-    let (old_records, old_chain) = match &layout.body {
-        Body::Mbr { records, chain } => (records, chain),
-        Body::Gpt(_) => return Err(PlanError::NotOneSwitch),
-    };
-    are_four(records);
-    if disk.sectors() == 0 {
-        return Err(PlanError::NotOneSwitch);
+    are_four(change.records);
+    let targets = mbr_targets(
+        alloc,
+        disk,
+        change.old_records,
+        change.old_chain,
+        change.records,
+        change.chain,
+    )?;
+    match targets {
+        Some(heads) => within_mbr(alloc, &known.old, &known.guarded, heads, places),
+        None => Err(PlanError::NotOneSwitch),
     }
-    let heads = match mbr_targets(alloc, disk, old_records, old_chain, records, chain)? {
-        Some(heads) => heads,
-        None => return Err(PlanError::NotOneSwitch),
-    };
-    within_mbr(alloc, &known.old, &known.guarded, heads, places)
 }
 
 /// Sector 0, where both copies of a table are to be written and it may have to be written with them.

@@ -1,20 +1,23 @@
 //! What a wanted layout is to what the disk denotes.
 
-ghost use Rattle.std.specs.Prelude.{◌≡◌, ◌⊎◌, ◌↔◌, IsTrue, Option, Some, length};
+ghost use Rattle.std.specs.Prelude.{◌≡◌, ◌⊎◌, ◌↔◌, IsTrue, Option, Some, length, IfSome, IfNone};
 ghost use Rattle.pt_sector.specs.Sectors.{Sectors, IsSectorSize};
 ghost use Rattle.pt_layout.specs.Healthy.{IsHealthy};
-ghost use Rattle.pt_cases.specs.Cases.{ChangesLabels, MayBePlanned, HadMbr};
+ghost use Rattle.pt_recover.specs.Denotes.{Denotes};
+ghost use Rattle.pt_cases.specs.Cases.{ChangesLabels, MayBePlanned};
 ghost use Rattle.pt_planner.specs.PlanReads.{IsKnown};
-ghost use Rattle.pt_planner.specs.inner.PlanReads.{IsBrokenBy, OrderOf};
+ghost use Rattle.pt_planner.specs.inner.PlanReads.{IsBrokenBy, OrderOf, IsMbrChange, NoMbrChange, IsChangeTo};
 
 use crate::chains::is_linked;
 use crate::copies::fits_table;
 use crate::known::Known;
 use crate::phases::Order;
-use pt_layout::{Body, Finding, Head, Layout};
+use pt_gpt::Table;
+use pt_layout::{Body, Ebrs, Finding, Head, Layout};
+use pt_mbr::Record;
 
 /// Whether the disk denotes the layout.
-pub(crate) fn is_same(old: &Option<Layout>, wanted: &Layout) -> bool
+fn is_same(old: &Option<Layout>, wanted: &Layout) -> bool
     ensures { IsTrue result ↔ (old.now ≡ Some wanted.now) }
 {
     match old {
@@ -32,30 +35,82 @@ pub(crate) fn is_done<const B: usize>(known: &Known, wanted: &Layout) -> bool
     is_same(&known.old, wanted) && known.finding.is_none()
 }
 
-/// Whether the old layout is an MBR.
-fn was_mbr(old: &Option<Layout>) -> bool
-    ensures { IsTrue result ↔ HadMbr old.now }
-{
-    match old {
-        Some(layout) => match &layout.body {
-            Body::Mbr { .. } => true,
-            Body::Gpt(_) => false,
-        },
-        None => false,
-    }
+/// An MBR in place of another one: the records and the chain of both.
+#[derive(Clone, Copy)]
+pub(crate) struct MbrChange<'a> {
+    pub old_records: &'a [Option<Record>; 4],
+    pub old_chain: &'a Ebrs,
+    pub records: &'a [Option<Record>; 4],
+    pub chain: &'a Ebrs,
 }
 
-/// Whether a disk of so many sectors, with this layout or with none, may have the wanted one.
-pub(crate) fn may_be<const B: usize>(sectors: u64, old: &Option<Layout>, wanted: &Layout) -> bool
+/// What a disk gets with a layout that it may have.
+#[derive(Clone, Copy)]
+pub(crate) enum Change<'a> {
+    /// An MBR in place of another one.
+    Mbr(MbrChange<'a>),
+    /// A table of a GPT, in place of anything.
+    Gpt(&'a Table),
+}
+
+/// The change of a disk of so many sectors from this layout, or from none, to these records and this chain. There is one
+/// only where the disk denotes an MBR, and so has a sector.
+fn mbr_change<'a>(
+    sectors: u64,
+    old: &'a Option<Layout>,
+    records: &'a [Option<Record>; 4],
+    chain: &'a Ebrs,
+) -> Option<MbrChange<'a>>
+    ensures some { IfSome result (IsMbrChange sectors old.now) }
+    ensures new { IfSome result (λ c. (c.records.now ≡ records.now) × (c.chain.now ≡ chain.now)) }
+    ensures none { IfNone result (NoMbrChange sectors old.now records.now chain.now) }
+{
+    let layout = match old {
+        Some(layout) => layout,
+        None => return None,
+    };
+    let (old_records, old_chain) = match &layout.body {
+        Body::Mbr { records, chain } => (records, chain),
+        Body::Gpt(_) => return None,
+    };
+    if sectors == 0 || !is_linked(sectors, records, chain) {
+        return None;
+    }
+    Some(MbrChange {
+        old_records,
+        old_chain,
+        records,
+        chain,
+    })
+}
+
+/// The change of a disk of so many sectors from this layout, or from none, to the wanted one. There is none where it may
+/// not have that one.
+pub(crate) fn change_to<'a, const B: usize>(
+    sectors: u64,
+    old: &'a Option<Layout>,
+    wanted: &'a Layout,
+) -> Option<Change<'a>>
     requires { IsSectorSize B }
-    ensures { (d : Sectors) → length d ≡ sectors → IsTrue result ↔ MayBePlanned B d old.now wanted.now }
+    ensures sectors { IfSome result (λ c. wanted.now.sectors ≡ sectors) }
+    ensures some { IfSome result (IsChangeTo B sectors old.now wanted.now) }
+    ensures none { IfNone result ((d : Sectors) → length d ≡ sectors → Denotes B d old.now → ¬ MayBePlanned B d old.now wanted.now) }
 {
     if wanted.sectors != sectors {
-        return false;
+        return None;
     }
     match &wanted.body {
-        Body::Gpt(table) => fits_table::<B>(sectors, table),
-        Body::Mbr { records, chain } => was_mbr(old) && is_linked(sectors, records, chain),
+        Body::Gpt(table) => {
+            if fits_table::<B>(sectors, table) {
+                Some(Change::Gpt(table))
+            } else {
+                None
+            }
+        }
+        Body::Mbr { records, chain } => {
+            let change = mbr_change(sectors, old, records, chain)?;
+            Some(Change::Mbr(change))
+        }
     }
 }
 

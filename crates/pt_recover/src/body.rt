@@ -34,15 +34,22 @@ pub fn records_of<const B: usize>(sector: &Sector<B>) -> Option<Mbr>
     Some(mbr)
 }
 
-// The records of sector 0 of an MBR disk; none of a disk that isn't one.
-fn read_records<const B: usize, D: Disk<B>>(disk: &mut D) -> Result<Option<Mbr>, FailedRead>
+// The records of sector 0 of an MBR disk; none of a disk that isn't one. Where they are known, it isn't read.
+fn read_records<const B: usize, D: Disk<B>>(
+    disk: &mut D,
+    known: &Option<Mbr>,
+) -> Result<Option<Mbr>, FailedRead>
     requires size { IsSectorSize B }
     requires some { 0 < D.count disk.old }
+    requires known { D.tells → IfSome known.now (λ m. IsMbr (D.told disk.old).seen m.records) }
     ensures same { OnlyReads D.Disk disk.old disk.new }
     ensures blames { Blames read_of result (D.faults disk.old) (D.faults disk.new) }
     ensures place { IfErr result (λ e. e.0.0 ≡ 0) }
     ensures ok { D.tells → IfOk result (RecordsAre (sector (D.told disk.old).seen 0)) }
 {
+    if let Some(mbr) = known {
+        return Ok(Some(*mbr));
+    }
     let mut sector = [0; B];
     read_sector(disk, Lba(0), &mut sector)?;
     Ok(records_of(&sector))
@@ -96,52 +103,6 @@ fn read_mbr<const B: usize, D: Disk<B>>(
     })
 }
 
-// The body that the disk denotes, with the sectors that decide it added to the trace.
-fn read_body<const B: usize, D: Disk<B>>(
-    alloc: Global,
-    disk: &mut D,
-    trace: &mut Trace,
-) -> Result<Body, NoTable>
-    requires size { IsSectorSize B }
-    ensures same { OnlyReads D.Disk disk.old disk.new }
-    ensures blames { Blames fault_in result (D.faults disk.old) (D.faults disk.new) }
-    ensures place { D.tells → IfErr result (FailedInDisk (BodyReads B (D.told disk.old).seen)) }
-    ensures ok { D.tells → IfOk result (λ y. BodyIs B (D.told disk.old).seen y) }
-    ensures err { D.tells → IfErr result (λ e. TellsNothing B (D.told disk.old).seen e) }
-    ensures traced { D.tells → OnOk result (Adds trace.old trace.new (BodyReads B (D.told disk.old).seen)) }
-    ensures traced_err { D.tells → IfErr result (λ e. IsOutsideDisk e ⊎ Adds trace.old trace.new (BodyReads B (D.told disk.old).seen)) }
-{
-    if disk.sectors() == 0 {
-        return Err(NoTable::TooSmall);
-    }
-    trace.add_one(0)?;
-    match read_records(disk)? {
-        Some(mbr) => read_mbr(alloc, disk, &mbr, trace),
-        None => read_gpt(alloc, disk, trace),
-    }
-}
-
-// The same of an MBR disk with these records, which were read before: sector 0 is traced, and not read again.
-fn read_after<const B: usize, D: Disk<B>>(
-    alloc: Global,
-    disk: &mut D,
-    mbr: &Mbr,
-    trace: &mut Trace,
-) -> Result<Body, NoTable>
-    requires size { IsSectorSize B }
-    requires is_mbr { D.tells → IsMbr (D.told disk.old).seen mbr.now.records }
-    ensures same { OnlyReads D.Disk disk.old disk.new }
-    ensures blames { Blames fault_in result (D.faults disk.old) (D.faults disk.new) }
-    ensures place { D.tells → IfErr result (FailedInDisk (BodyReads B (D.told disk.old).seen)) }
-    ensures ok { D.tells → IfOk result (λ y. BodyIs B (D.told disk.old).seen y) }
-    ensures err { D.tells → IfErr result (λ e. TellsNothing B (D.told disk.old).seen e) }
-    ensures traced { D.tells → OnOk result (Adds trace.old trace.new (BodyReads B (D.told disk.old).seen)) }
-    ensures traced_err { D.tells → IfErr result (λ e. IsOutsideDisk e ⊎ Adds trace.old trace.new (BodyReads B (D.told disk.old).seen)) }
-{
-    trace.add_one(0)?;
-    read_mbr(alloc, disk, mbr, trace)
-}
-
 /// The body that the disk denotes, with the sectors that decide it added to the trace. Where the records of an MBR disk
 /// are known, sector 0 isn't read again.
 pub(crate) fn body_of<const B: usize, D: Disk<B>>(
@@ -160,8 +121,12 @@ pub(crate) fn body_of<const B: usize, D: Disk<B>>(
     ensures traced { D.tells → OnOk result (Adds trace.old trace.new (BodyReads B (D.told disk.old).seen)) }
     ensures traced_err { D.tells → IfErr result (λ e. IsOutsideDisk e ⊎ Adds trace.old trace.new (BodyReads B (D.told disk.old).seen)) }
 {
-    match known {
-        Some(mbr) => read_after(alloc, disk, mbr, trace),
-        None => read_body(alloc, disk, trace),
+    if disk.sectors() == 0 {
+        return Err(NoTable::TooSmall);
+    }
+    trace.add_one(0)?;
+    match read_records(disk, known)? {
+        Some(mbr) => read_mbr(alloc, disk, &mbr, trace),
+        None => read_gpt(alloc, disk, trace),
     }
 }

@@ -6,10 +6,8 @@ use Rattle.pt_plan.specs.declared.like_error.LikeError.{LikeError}
 use Rattle.pt_plan.specs.declared.like_error.LikeError.TheVariants.{OtherSize, Other, Disk}
 use Rattle.pt_sector.specs.Sectors.{Sectors, Writes, after}
 use Rattle.pt_members.specs.Tables.{OwnedOf, TableOf}
-use Rattle.pt_members.specs.declared.layout.Layout.{Layout}
 use Rattle.pt_layout.specs.Healthy.{IsFinding}
 use Rattle.pt_check.specs.Answers.{Holds}
-use Rattle.pt_check.specs.declared.answer.Answer.TheVariants.{No}
 use Rattle.pt_plan.specs.declared.finished.After.{After}
 use Rattle.pt_plan.specs.declared.finished.After.TheVariants as outcome
 use Rattle.pt_cases.specs.Cases.{IsPlan}
@@ -17,7 +15,7 @@ use Rattle.pt_planner.specs.PlanReads.{MakeReads}
 use Rattle.pt_plan.specs.Batches.{IsPlanned, IsReady, IsRefusal, IsMendPlan, IsReadyToMend, IsMendRefusal, EditReads, CommitReads}
 use Rattle.pt_plan.specs.Batches.{LayoutReads, MendReads, RepairReads}
 use Rattle.pt_plan.specs.Layouts.{IsReadyFor, IsRefusalOf}
-use Rattle.pt_plan.specs.inner.Repairs.{repair_told}
+use Rattle.pt_plan.specs.Repairs.{repair_told}
 use Rattle.pt_plan.specs.declared.error.CommitError.{CommitError}
 use Rattle.pt_plan.specs.declared.wanted.Wanted.{Wanted}
 use Rattle.pt_plan.specs.declared.wanted.Wanted.TheVariants.{Edited, Own}

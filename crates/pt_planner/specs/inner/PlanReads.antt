@@ -1,5 +1,15 @@
 -- What the planner knows of a disk, and what it reads: what private contracts cite.
-use Rattle.std.specs.Prelude.{◌≡◌, Option, Some, None, Result, Ok, Err, ◌⊎◌, ℕ, Bool, true, false}
+use Rattle.std.specs.Prelude.{◌≡◌, ◌<◌, Option, Some, None, Result, Ok, Err, ◌⊎◌, ℕ, List, length, Bool, true, false}
+use Rattle.pt_mbr.specs.Records.{extended_of}
+use Rattle.pt_mbr.specs.declared.ebr.Ebr.{Ebr}
+use Rattle.pt_mbr.specs.declared.record.Record.{Record}
+use Rattle.pt_members.specs.declared.layout.Body.TheVariants.{Mbr, Gpt}
+use Rattle.pt_recover.specs.Denotes.{Denotes}
+use Rattle.pt_cases.specs.Cases.{HadMbr}
+use Rattle.pt_cases.specs.Writes.{FitsTable, IsLoneChain}
+use Rattle.pt_planner.specs.declared.state.MbrChange.{MbrChange}
+use Rattle.pt_planner.specs.declared.state.Change.{Change}
+use Rattle.pt_planner.specs.declared.state.Change.TheVariants as change
 use Rattle.pt_recover.specs.declared.error.NoTable.{NoTable}
 use Rattle.pt_members.specs.declared.layout.Layout.{Layout}
 use Rattle.pt_layout.specs.declared.survey.Survey.{Survey}
@@ -45,6 +55,24 @@ IsBrokenBy (Some CopiesDiffer) broken = broken ≡ true
 IsBrokenBy (Some (Alternate side)) broken = broken ≡ true
 IsBrokenBy (Some Protective) broken = broken ≡ true
 IsBrokenBy _ broken = broken ≡ false
+
+-- an MBR in place of that of o, on n sectors
+pub record IsMbrChange (n : ℕ) (o : Option Layout) (c : MbrChange) : Type 0 where
+  pub old : Layout
+  pub is_old : o ≡ Some old
+  pub old_body : old.body ≡ Mbr c.old_records.now c.old_chain.now
+  pub linked : IsLoneChain n (extended_of c.records.now) c.chain.now
+  pub some : 0 < n
+
+-- no MBR with this chain may take the place of o on n sectors
+abbrev pub NoMbrChange : ℕ → Option Layout → List (Option Record) → List Ebr → Type 0
+NoMbrChange n o records chain =
+    (b : ℕ) (d : Sectors) → length d ≡ n → Denotes b d o → HadMbr o → ¬ IsLoneChain n (extended_of records) chain
+
+-- what a disk of n sectors gets with p, which it may have, in place of o
+abbrev pub IsChangeTo : ℕ → ℕ → Option Layout → Layout → Change → Type 0
+IsChangeTo b n o p (change.Mbr c) = (p.body ≡ Mbr c.records.now c.chain.now) × IsMbrChange n o c
+IsChangeTo b n o p (change.Gpt table) = (p.body ≡ Gpt table.now) × FitsTable b n table.now
 
 -- the order for a disk with this sector 0, and with a primary copy or without
 abbrev pub OrderOf : Head → Bool → Order → Type 0

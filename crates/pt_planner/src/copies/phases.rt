@@ -179,31 +179,6 @@ pub fn primary_first<const B: usize>(
     Ok(Plan { phases })
 }
 
-/// The phases from an MBR disk.
-fn phases_from_mbr<const B: usize>(
-    alloc: Global,
-    sectors: u64,
-    table: &Table,
-    labels: &[Write<B>],
-    head: &Sector<B>,
-) -> Result<Vec<Vec<Write<B>>>, AllocError>
-    requires size { IsSectorSize B }
-    requires room { HasRoom B sectors }
-    requires few { length table.now.entries ≤ 128 }
-    ensures { IfOk result (λ ps. WroteCopies B sectors table.now
-        (λ p k. from_mbr_phases B sectors table.now p k (writes_of labels.now) head.now) (phases_in ps.items)) }
-{
-    let sum = sum_of(table);
-    let mut writes = single(alloc, 1, &header_sector(sectors, table, sum, Side::Primary))?;
-    push_array(&mut writes, table.entries.as_slice(), PRIMARY_ARRAY)?;
-    writes.extend_from_slice(labels)?;
-    push_backup(&mut writes, sectors, table, sum)?;
-    let mut phases = Vec::new(alloc);
-    push_phase(&mut phases, writes)?;
-    push_single(&mut phases, alloc, 0, head)?;
-    Ok(phases)
-}
-
 /// The plan from an MBR disk: both copies and the labels; sector 0.
 pub fn from_mbr<const B: usize>(
     alloc: Global,
@@ -222,6 +197,13 @@ pub fn from_mbr<const B: usize>(
     ensures some { IfOk result (λ plan. All (λ p. 0 < length p.items) plan.phases.items) }
     ensures count { IfOk result (λ plan. length (writes_in (phases_of plan)) ≤ copies_bound B (length labels.entry.items)) }
 {
-    let phases = phases_from_mbr(alloc, sectors, table, labels.as_slice(), head)?;
+    let sum = sum_of(table);
+    let mut writes = single(alloc, 1, &header_sector(sectors, table, sum, Side::Primary))?;
+    push_array(&mut writes, table.entries.as_slice(), PRIMARY_ARRAY)?;
+    writes.extend_from_slice(labels.as_slice())?;
+    push_backup(&mut writes, sectors, table, sum)?;
+    let mut phases = Vec::new(alloc);
+    push_phase(&mut phases, writes)?;
+    push_single(&mut phases, alloc, 0, head)?;
     Ok(Plan { phases })
 }

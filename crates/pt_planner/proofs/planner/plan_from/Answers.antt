@@ -3,13 +3,14 @@ use Rattle.std.specs.Prelude.{IfOk, IfErr}
 use Rattle.std.proofs.lemmas.Result.{err_from_is_err_and}
 use Rattle.pt_sector.proofs.CallsLemmas.{blames_after}
 use Rattle.pt_sector.specs.Device.{Told}
-use Rattle.pt_mbr.specs.Records.{extended_of}
 use Rattle.pt_apply.specs.Plans.{phases_in, phases_of, InRange}
 use Rattle.pt_cases.specs.Cases.{IsPlan, idle}
-use Rattle.pt_cases.specs.Writes.{FitsTable, IsLoneChain}
+use Rattle.pt_cases.specs.Writes.{FitsTable}
 use Rattle.pt_cases.specs.Unplanned.{fault_in}
 use Rattle.pt_planner.specs.PlanReads.{FailedInPlan, PlanReads}
-use Rattle.pt_planner.proofs.Beginning.{of_disk, starts}
+use Rattle.pt_planner.specs.inner.PlanReads.{IsChangeTo, IsMbrChange}
+use Rattle.pt_planner.specs.declared.state.Change.TheVariants.{Mbr, Gpt}
+use Rattle.pt_planner.proofs.Beginning.{starts}
 use Rattle.pt_planner.proofs.Failing.{unsound_blames, unsound_nowhere, unsound_unplanned}
 use Rattle.pt_planner.proofs.Making.{err_so, isnt, hindered, no_places, none_of_disk}
 use Rattle.pt_planner.proofs.planner.plan_from.Goals as goal
@@ -44,8 +45,8 @@ returns-then-is_done g c =
       err = λ tells. tt;
     }
 
-pub returns-then-not-may_be : goal.returns-then-not-may_be
-returns-then-not-may_be g c = record {
+pub returns-in-None : goal.returns-in-None
+returns-in-None g c = record {
   same = g.met.D.Disk.reads_same c.args.disk.now;
   blames = refl;
   place = tt;
@@ -57,7 +58,7 @@ returns-then-not-may_be g c = record {
       let known = c.requires.known tells in
       none_of_disk g.row.B d c.args.known.now.old c.args.wanted.now known.old c.in_ok-be_sound.ensures.ok
       (isnt c.is_done.result c.if-is_done.false (c.is_done.ensures.done d known))
-      (isnt c.may_be.result c.if-not-may_be.true (c.may_be.ensures d (g.met.D.Disk.sized c.args.disk.now tells ∙ sym c.sectors.ensures)));
+      (c.in-None.ensures.none d (g.met.D.Disk.sized c.args.disk.now tells ∙ sym c.sectors.ensures) known.old);
 }
 
 pub returns-in_err-places : goal.returns-in_err-places
@@ -81,20 +82,13 @@ returns-in_err-places g c =
 pub places_of-requires : goal.places_of-requires
 places_of-requires g c = (
   omega arith,
-  (
-    c.requires.size,
-    (
-      (of_disk g.row.B c.sectors.result c.args.known.now.old c.args.wanted.now c.may_be.result c.may_be.ensures
-          c.if-not-may_be.false).sectors ∙ c.sectors.ensures,
-      λ tells. (c.requires.known tells).old,
-    ),
-  ),
+  (c.requires.size, (c.in-Some.ensures.sectors ∙ c.sectors.ensures, λ tells. (c.requires.known tells).old)),
 )
 
 pub to_mbr-requires : goal.to_mbr-requires
 to_mbr-requires g c =
-    let of =
-    of_disk g.row.B c.sectors.result c.args.known.now.old c.args.wanted.now c.may_be.result c.may_be.ensures c.if-not-may_be.false in
+    let is : IsChangeTo g.row.B c.sectors.result c.args.known.now.old c.args.wanted.now (Mbr c.in-Mbr.change) =
+    subst (IsChangeTo g.row.B c.sectors.result c.args.known.now.old c.args.wanted.now) c.in-Mbr.is c.in-Some.ensures.some in
     let count = c.sectors.ensures ∙ sym c.in_ok-places.ensures.same.same_count in (
       omega arith,
       (
@@ -102,10 +96,9 @@ to_mbr-requires g c =
         (
           c.requires.size,
           (
-            c.in-Mbr.is,
+            is.0,
             (
-              subst (λ (n : ℕ). IsLoneChain n (extended_of c.in-Mbr.records) c.in-Mbr.chain) count
-                  (of.mbr c.in-Mbr.records c.in-Mbr.chain c.in-Mbr.is).1,
+              subst (λ (n : ℕ). IsMbrChange n c.args.known.now.old c.in-Mbr.change) count is.1,
               (
                 rw c.in_ok-places.ensures.same.same_count c.in_ok-places.ensures.in_range,
                 (
@@ -114,7 +107,8 @@ to_mbr-requires g c =
                     λ tells. rw (c.in_ok-places.ensures.same.same tells)
                         (starts g.row.B (g.D.Disk.told c.args.disk.now).seen c.args.known.now c.args.wanted.now
                         (c.requires.known tells) c.in_ok-be_sound.ensures.ok
-                        (of.sectors ∙ c.sectors.ensures ∙ sym (g.met.D.Disk.sized c.args.disk.now tells)) c.is_done.ensures.stays
+                        (c.in-Some.ensures.sectors ∙ c.sectors.ensures ∙ sym (g.met.D.Disk.sized c.args.disk.now tells))
+                        c.is_done.ensures.stays
                         (isnt c.is_done.result c.if-is_done.false
                         (c.is_done.ensures.done (g.D.Disk.told c.args.disk.now).seen (c.requires.known tells)))),
                     λ tells. rw (c.in_ok-places.ensures.same.same tells) (c.in_ok-places.ensures.ok tells),
@@ -129,8 +123,8 @@ to_mbr-requires g c =
 
 pub to_gpt-requires : goal.to_gpt-requires
 to_gpt-requires g c =
-    let of =
-    of_disk g.row.B c.sectors.result c.args.known.now.old c.args.wanted.now c.may_be.result c.may_be.ensures c.if-not-may_be.false in
+    let is : IsChangeTo g.row.B c.sectors.result c.args.known.now.old c.args.wanted.now (Gpt c.in-Gpt.table) =
+    subst (IsChangeTo g.row.B c.sectors.result c.args.known.now.old c.args.wanted.now) c.in-Gpt.is c.in-Some.ensures.some in
     let count = c.sectors.ensures ∙ sym c.in_ok-places.ensures.same.same_count in (
       omega arith,
       (
@@ -138,9 +132,9 @@ to_gpt-requires g c =
         (
           c.requires.size,
           (
-            c.in-Gpt.is,
+            is.0,
             (
-              subst (λ (n : ℕ). FitsTable g.row.B n c.in-Gpt.table) count (of.fits c.in-Gpt.table c.in-Gpt.is),
+              subst (λ (n : ℕ). FitsTable g.row.B n c.in-Gpt.table.now) count is.1,
               (
                 rw c.in_ok-places.ensures.same.same_count c.in_ok-places.ensures.in_range,
                 (
@@ -149,7 +143,8 @@ to_gpt-requires g c =
                     λ tells. rw (c.in_ok-places.ensures.same.same tells)
                         (starts g.row.B (g.D.Disk.told c.args.disk.now).seen c.args.known.now c.args.wanted.now
                         (c.requires.known tells) c.in_ok-be_sound.ensures.ok
-                        (of.sectors ∙ c.sectors.ensures ∙ sym (g.met.D.Disk.sized c.args.disk.now tells)) c.is_done.ensures.stays
+                        (c.in-Some.ensures.sectors ∙ c.sectors.ensures ∙ sym (g.met.D.Disk.sized c.args.disk.now tells))
+                        c.is_done.ensures.stays
                         (isnt c.is_done.result c.if-is_done.false
                         (c.is_done.ensures.done (g.D.Disk.told c.args.disk.now).seen (c.requires.known tells)))),
                     λ tells. rw (c.in_ok-places.ensures.same.same tells) (c.in_ok-places.ensures.ok tells),
@@ -183,11 +178,9 @@ returns-in-Mbr g c = record {
       λ tells.
       let d = (g.D.Disk.told c.args.disk.now).seen in
       let known = c.requires.known tells in
-      let of =
-      of_disk g.row.B c.sectors.result c.args.known.now.old c.args.wanted.now c.may_be.result c.may_be.ensures c.if-not-may_be.false in
       err_so c.to_mbr.result _ _ (hindered g.row.B d c.args.known.now.old c.args.wanted.now known.old c.in_ok-be_sound.ensures.ok
       (isnt c.is_done.result c.if-is_done.false (c.is_done.ensures.done d known)) (c.in_ok-places.ensures.none_left tells))
-      (rw (c.in_ok-places.ensures.same.same tells) at (c.to_mbr.ensures.err tells (of.mbr c.in-Mbr.records c.in-Mbr.chain c.in-Mbr.is).0));
+      (rw (c.in_ok-places.ensures.same.same tells) at (c.to_mbr.ensures.err tells));
 }
 
 pub returns-in-Gpt : goal.returns-in-Gpt
