@@ -254,6 +254,7 @@ fn printed_whole<const B: usize, O: Write>(reply: &Reply, out: &mut O) -> Result
     }
 }
 
+#[tactic(auto, using(crate::proofs::Texts::kept))]
 fn answer<const B: usize, D: Disk<B> + Drop, T: Read + Drop, I: Images<B, D, T>, O: Write>(
     alloc: Global,
     images: &mut I,

@@ -27,6 +27,7 @@ pub fn edit_disk<const B: usize, D: Disk<B>>(
 }
 
 /// The plan of what `edit_disk` would do, as text.
+#[tactic(auto, using(crate::proofs::Texts::text_told))]
 pub fn plan_on<const B: usize, D: Disk<B>>(
     alloc: Global,
     disk: &mut D,

@@ -10,16 +10,19 @@ ghost use Rattle.std.specs.String.{string_bytes};
 ghost use Rattle.pt_words.specs.declared.error.EditError.TheVariants.{Memory};
 
 /// A text that is a word has no fault.
+#[tactic(auto, using(crate::proofs::WordLaws::fault_is_no_word_lem))]
 pub fn fault_is_no_word()
     ensures { (fs : List (List ℕ)) (w : Edit) (e : EditError) → IsWord fs w → IsWordFault fs e → ⊥ }
 {}
 
 /// A text is one word at most. Of two names the texts are one, wherever in memory these lie.
+#[tactic(auto, using(crate::proofs::OneWord::word_is_one_lem))]
 pub fn word_is_one()
     ensures { (fs : List (List ℕ)) (v w : Edit) → IsWord fs v → IsWord fs w → IsAlike v w }
 {}
 
 /// A text has one fault at most.
+#[tactic(auto, using(crate::proofs::OneWord::word_fault_is_one_lem))]
 pub fn word_fault_is_one()
     ensures { (fs : List (List ℕ)) (e f : EditError) → IsWordFault fs e → IsWordFault fs f → e ≡ f }
 {}
@@ -31,6 +34,7 @@ pub fn text_answers()
 {}
 
 /// No text's fault is a want of memory: that error is the program's alone.
+#[tactic(auto, using(crate::proofs::Answers::memory_is_no_fault_lem))]
 pub fn memory_is_no_fault()
     ensures { (fs : List (List ℕ)) → ¬ IsWordFault fs Memory }
 {}

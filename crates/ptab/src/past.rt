@@ -36,12 +36,14 @@ impl<D> Past<D> {
         Past { of: PhantomData }
     }
 
+    #[tactic(auto, using(crate::proofs::Lifetimes::of_found))]
     pub fn sized(&self, path: &str, found: &Result<u64, NoDevice>) -> Past<D>
         ensures { result.calls ≡ Sized path.now found.now ∷ self.now.calls }
     {
         Past::of(&(self, path, found))
     }
 
+    #[tactic(auto, using(crate::proofs::Lifetimes::of_opened))]
     pub fn opened(
         &self,
         path: &str,
@@ -54,12 +56,14 @@ impl<D> Past<D> {
         Past::of(&(self, path, opening, access, opened))
     }
 
+    #[tactic(auto, using(crate::proofs::Lifetimes::of_closed))]
     pub fn closed(&self, disk: &D) -> Past<D>
         ensures { result.calls ≡ Closed disk.now ∷ self.now.calls }
     {
         Past::of(&(self, disk))
     }
 
+    #[tactic(auto, using(crate::proofs::Lifetimes::of_found))]
     pub fn plan_opened(&self, path: &str, opened: &Result<File, OpenError>) -> Past<D>
         ensures { result.calls ≡ PlanOpened path.now opened.now ∷ self.now.calls }
     {
