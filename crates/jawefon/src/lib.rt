@@ -5,8 +5,9 @@
 //! - **A disk** is anything that implements [`Disk`]; docs/own_disk.md shows how. [`FileDisk::open`] makes one of a plain file, under
 //!   its lock where the access is [`Access::Write`], and [`FileDisk::open_device`] one of a block device, refused as [`NoDevice`] has
 //!   it where it is in use and [`InUse`] doesn't allow that; [`device_sector_size`] says which `B` it takes. [`MemDisk::new`] makes one
-//!   in memory, and [`CrashDisk::new`] one that fails and stops as a test likes. An [`Overlay`] keeps what is written over a disk that it borrows, a [`ReadCache`] asks one for each sector
-//!   once, and both take their [`Room`] beforehand. [`Moments`] are what a disk of one's own keeps for the proofs.
+//!   in memory, and [`CrashDisk::new`] one that fails and stops as a test likes. An [`Overlay`] keeps what is written over a disk that
+//!   it borrows, a [`ReadCache`] asks one for each sector once, and both take their [`Room`] beforehand. [`Moments`] are what a disk of
+//!   one's own keeps for the proofs.
 //! - **Look**: [`recover`] gives the [`Layout`], [`members`] lists its partitions, and [`Layout::rows`] walks over them, each with its
 //!   record or entry. [`locate`] and [`owner`] lead from a partition to a sector and back, [`verify`] says whether the disk is healthy
 //!   or what is wrong. [`recover_traced`] also gives the sectors that decide the layout. Of a layout alone [`unsound`] tells what is

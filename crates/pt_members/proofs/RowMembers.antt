@@ -58,7 +58,8 @@ has_logical : (m : Option Record) (f : Record → Member) → Has (option_map f 
 has_logical None f = tt
 has_logical (Some r) f = tt
 
-covers_logicals : (b n : ℕ) (chain : List Ebr) → Covers (logicals_as b n chain) (map (λ (e : Ebr). option_map source.Record e.logical) chain)
+covers_logicals : (b n : ℕ) (chain : List Ebr)
+    → Covers (logicals_as b n chain) (map (λ (e : Ebr). option_map source.Record e.logical) chain)
 unfolding logicals_as
 covers_logicals b n [] = tt
 covers_logicals b n (e ∷ es) = (has_logical e.logical _, covers_logicals b (if is_some e.logical then n + 1 else n) es)
@@ -72,7 +73,8 @@ covers_slots b (Gpt t) =
     subst (λ (ms : List (Option Member)). Covers ms (map (option_map source.Entry) t.entries)) (sym (append-nil (entries_as b 1 t.entries)))
     (covers_entries b 1 t.entries)
 
-covers_parts : (l : Label) (m : Member) (k : ℕ) (es : List (Option LabelEntry)) → Covers (parts_as l m k es) (map (option_map source.Part) es)
+covers_parts : (l : Label) (m : Member) (k : ℕ) (es : List (Option LabelEntry))
+    → Covers (parts_as l m k es) (map (option_map source.Part) es)
 unfolding parts_as
 covers_parts l m k [] = tt
 covers_parts l m k (None ∷ es) = (tt, covers_parts l m (k + 1) es)

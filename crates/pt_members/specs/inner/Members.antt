@@ -1,5 +1,6 @@
 -- The partitions of a layout, its slices, and the rows that show them: what private contracts cite.
-use Rattle.std.specs.Prelude.{ℕ, List, [], filter, Option, ◌≡◌, ◌<◌, ◌≤◌, length, slice_index_or, Some, None, drop, flat_map, option_to_list}
+use Rattle.std.specs.Prelude.{ℕ, List, [], filter, Option, ◌≡◌, ◌<◌, ◌≤◌, length, slice_index_or, Some, None}
+use Rattle.std.specs.Prelude.{drop, flat_map, option_to_list}
 use Rattle.pt_bsd.specs.declared.label.Label.{Label}
 use Rattle.pt_members.specs.declared.layout.Slice.{Slice}
 use Rattle.pt_members.specs.declared.member.Member.{Member}

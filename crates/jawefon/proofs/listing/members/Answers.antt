@@ -7,5 +7,6 @@ use Rattle.jawefon.proofs.listing.members.Goals as goal
 pub returns : goal.returns
 returns g c =
     let given = c.loop-row.yielded in
-    let all = sym (append-nil given) ∙ ap (λ (rows : List Row). given ++ rows) (sym c.in-None.ensures.steps.0) ∙ c.loop-row.invariant.left in
+    let all = sym (append-nil given)
+    ∙ ap (λ (rows : List Row). given ++ rows) (sym c.in-None.ensures.steps.0) ∙ c.loop-row.invariant.left in
     c.loop-row.invariant.listed ∙ ap (map member_of) all ∙ rows_are_members_lem g.row.B c.args.layout.now

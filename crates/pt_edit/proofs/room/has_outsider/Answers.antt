@@ -7,10 +7,11 @@ use Rattle.pt_edit.proofs.room.has_outsider.Goals as goal
 
 pub loop-k-preserved : goal.loop-k-preserved
 loop-k-preserved g c = record {
-  none = none_up_to (HasNear g.row.B c.args.layout.now) (slots g.row.B c.args.layout.now.body) c.loop-k.k c.numbered_slot.result c.numbered_slot.ensures.value
+  none = none_up_to (HasNear g.row.B c.args.layout.now) (slots g.row.B c.args.layout.now.body) c.loop-k.k c.numbered_slot.result
+      c.numbered_slot.ensures.value
       (λ x is near. elim c.match-numbered_slot.branch as (λ _. ⊥) [
-        | in-Some+else-is_near_outside w ↦ denied_here (HasNear g.row.B c.args.layout.now) c.numbered_slot.result w.in-Some.m w.is_near_outside.result
-            w.in-Some.is w.is_near_outside.ensures w.if-is_near_outside.false x is near
+        | in-Some+else-is_near_outside w ↦ denied_here (HasNear g.row.B c.args.layout.now) c.numbered_slot.result w.in-Some.m
+            w.is_near_outside.result w.in-Some.is w.is_near_outside.ensures w.if-is_near_outside.false x is near
         | in_default w ↦ w.in_default.not-Some x is
       ]) c.loop-k.invariant.none;
   number = c.next_number-number.ensures;
@@ -34,6 +35,6 @@ returns-then-is_near_outside g c =
 pub returns : goal.returns
 returns g c = (
   λ f. absurd (cc f),
-  λ has. absurd (c.loop-k.invariant.none has.1.1.0 has.1.0 (omega (arith, has.1.1.1, c.loop-k-test.false, c.slot_count-k-end.ensures)) has.1.1.2
-      (has.0, has.1.2, has.2)),
+  λ has. absurd (c.loop-k.invariant.none has.1.1.0 has.1.0
+      (omega (arith, has.1.1.1, c.loop-k-test.false, c.slot_count-k-end.ensures)) has.1.1.2 (has.0, has.1.2, has.2)),
 )

@@ -10,4 +10,5 @@ pub returns : goal.returns
 returns g c =
     let o = c.args.self.now in
     let places = rows g.row.B o.body in
-    ap (λ (l : List Row). l ++ flat_map (λ (r : Row). rows_at o (Some r)) (flat_map option_to_list places)) c.of.ensures ∙ placed_rows o places
+    ap (λ (l : List Row). l ++ flat_map (λ (r : Row). rows_at o (Some r)) (flat_map option_to_list places)) c.of.ensures
+    ∙ placed_rows o places
