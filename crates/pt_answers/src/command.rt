@@ -1,17 +1,15 @@
 //! A run of the command: a line of words, what it opens, an output stream, and an exit status.
 
-ghost use Rattle.std.specs.Prelude.{◌≡◌, option_map, map, string_bytes, Option};
+ghost use Rattle.std.specs.Prelude.{◌≡◌, option_map, Ok};
 ghost use Rattle.clap.specs.Walk.{texts as slice_texts};
 ghost use Rattle.pt_sector.specs.Sectors.{IsSectorSize};
-ghost use Rattle.pt_answers.specs.Answers.{NamesPlace};
-ghost use Rattle.pt_answers.specs.Images.{IsPlanAt, OnImages, OnImage, WithPlan};
-ghost use Rattle.pt_answers.specs.OnDisks.{AdoptsFrom};
+ghost use Rattle.pt_answers.specs.Images.{IsPlanAt};
 ghost use Rattle.pt_answers.specs.Runs.{Prints, RunsJob, RunsLine, RunsSized, RunsWords, Sizes, image_of, other_as, size_of_device};
 
 use crate::failure::Failure;
 use crate::images::{Images, Opening};
 use crate::on_images::{
-    Image, apply, check, edit, locate, plan, plan_taking, repair, show, show_planned, take, verify,
+    apply, check, edit, locate, plan, plan_taking, repair, show, show_planned, take, verify,
 };
 use crate::plan_file::plan_in;
 use crate::status::printed;
@@ -51,47 +49,16 @@ fn reply_to<const B: usize, D: Disk<B> + Drop, T: Read + Drop, I: Images<B, D, T
     match job {
         Job::Help(text) => Ok(Reply::Text(text)),
         Job::Show { image, after } => match after {
-            None => show(
-                alloc,
-                images,
-                Image {
-                    path: image.as_str(),
-                    opening,
-                },
-            ),
+            None => show(alloc, images, image.as_str(), opening),
             Some(file) => {
                 let plan = plan_at(alloc, images, file.as_str())?;
-                show_planned(
-                    alloc,
-                    images,
-                    Image {
-                        path: image.as_str(),
-                        opening,
-                    },
-                    &plan,
-                )
+                show_planned(alloc, images, image.as_str(), opening, &plan)
             }
         },
-        Job::Verify { image } => verify(
-            alloc,
-            images,
-            Image {
-                path: image.as_str(),
-                opening,
-            },
-        ),
+        Job::Verify { image } => verify(alloc, images, image.as_str(), opening),
         Job::Locate { image, path, place } => {
             let (path, k) = place_named(path.as_str(), place.as_str())?;
-            locate(
-                alloc,
-                images,
-                Image {
-                    path: image.as_str(),
-                    opening,
-                },
-                &path,
-                k,
-            )
+            locate(alloc, images, image.as_str(), opening, &path, k)
         }
         Job::Edit {
             image,
@@ -100,16 +67,7 @@ fn reply_to<const B: usize, D: Disk<B> + Drop, T: Read + Drop, I: Images<B, D, T
             locked_by,
         } => {
             let wanted = Wanted::read(alloc, &fresh, words.as_slice())?;
-            edit(
-                alloc,
-                images,
-                Image {
-                    path: image.as_str(),
-                    opening,
-                },
-                locked_by,
-                &wanted,
-            )
+            edit(alloc, images, image.as_str(), opening, locked_by, &wanted)
         }
         Job::Plan {
             image,
@@ -117,27 +75,11 @@ fn reply_to<const B: usize, D: Disk<B> + Drop, T: Read + Drop, I: Images<B, D, T
             words,
         } => {
             let wanted = Wanted::read(alloc, &fresh, words.as_slice())?;
-            plan(
-                alloc,
-                images,
-                Image {
-                    path: image.as_str(),
-                    opening,
-                },
-                &wanted,
-            )
+            plan(alloc, images, image.as_str(), opening, &wanted)
         }
         Job::Check { image, file } => {
             let plan = plan_at(alloc, images, file.as_str())?;
-            check(
-                alloc,
-                images,
-                Image {
-                    path: image.as_str(),
-                    opening,
-                },
-                &plan,
-            )
+            check(alloc, images, image.as_str(), opening, &plan)
         }
         Job::Apply {
             image,
@@ -145,24 +87,13 @@ fn reply_to<const B: usize, D: Disk<B> + Drop, T: Read + Drop, I: Images<B, D, T
             locked_by,
         } => {
             let plan = plan_at(alloc, images, file.as_str())?;
-            apply(
-                alloc,
-                images,
-                Image {
-                    path: image.as_str(),
-                    opening,
-                },
-                locked_by,
-                &plan,
-            )
+            apply(alloc, images, image.as_str(), opening, locked_by, &plan)
         }
         Job::Repair { image, locked_by } => repair(
             alloc,
             images,
-            Image {
-                path: image.as_str(),
-                opening,
-            },
+            image.as_str(),
+            opening,
             locked_by,
         ),
         Job::Adopt {
@@ -172,17 +103,26 @@ fn reply_to<const B: usize, D: Disk<B> + Drop, T: Read + Drop, I: Images<B, D, T
             adoption,
             locked_by,
         } => {
-            let other = Image {
-                path: other.as_str(),
-                opening: as_other(other_medium),
-            };
-            let image = Image {
-                path: image.as_str(),
-                opening,
-            };
+            let (image, other) = (image.as_str(), other.as_str());
+            let other_opening = as_other(other_medium);
             match adoption {
-                Adoption::Written => take(alloc, images, image, other, locked_by),
-                Adoption::Planned => plan_taking(alloc, images, image, other),
+                Adoption::Written => take(
+                    alloc,
+                    images,
+                    image,
+                    opening,
+                    other,
+                    other_opening,
+                    locked_by,
+                ),
+                Adoption::Planned => plan_taking(
+                    alloc,
+                    images,
+                    image,
+                    opening,
+                    other,
+                    other_opening,
+                ),
             }
         }
     }

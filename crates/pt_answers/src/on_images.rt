@@ -27,13 +27,6 @@ use pt_sector::Disk;
 use std::alloc::Global;
 use std::io::Read;
 
-/// An image as a line names it.
-#[derive(Clone, Copy)]
-pub(crate) struct Image<'a> {
-    pub path: &'a str,
-    pub opening: Opening,
-}
-
 // For writing, under the command's own lock or the caller's.
 fn access_for(locked_by: LockedBy) -> Access
     ensures { result ≡ writing locked_by }
@@ -48,13 +41,14 @@ fn access_for(locked_by: LockedBy) -> Access
 pub(crate) fn show<const B: usize, D: Disk<B> + Drop, T: Read + Drop, I: Images<B, D, T>>(
     alloc: Global,
     images: &mut I,
-    image: Image<'_>,
+    image: &str,
+    opening: Opening,
 ) -> Result<Reply, Failure>
     requires { IsSectorSize B }
-    ensures { OnImage image.entry.path.now image.entry.opening Reading (ShowsDisk D.Disk)
+    ensures { OnImage image.now opening Reading (ShowsDisk D.Disk)
         (I.past images.old) (I.past images.new) result }
 {
-    let mut disk = images.open(image.path, image.opening, Access::Read)?;
+    let mut disk = images.open(image, opening, Access::Read)?;
     let answer = show_disk::<B, D>(alloc, &mut disk);
     images.close(disk);
     answer
@@ -64,14 +58,15 @@ pub(crate) fn show<const B: usize, D: Disk<B> + Drop, T: Read + Drop, I: Images<
 pub(crate) fn show_planned<const B: usize, D: Disk<B> + Drop, T: Read + Drop, I: Images<B, D, T>>(
     alloc: Global,
     images: &mut I,
-    image: Image<'_>,
+    image: &str,
+    opening: Opening,
     plan: &Plan<B>,
 ) -> Result<Reply, Failure>
     requires { IsSectorSize B }
-    ensures { OnImage image.entry.path.now image.entry.opening Reading (ShowsAfter D.Disk (phases_of plan.now))
+    ensures { OnImage image.now opening Reading (ShowsAfter D.Disk (phases_of plan.now))
         (I.past images.old) (I.past images.new) result }
 {
-    let mut disk = images.open(image.path, image.opening, Access::Read)?;
+    let mut disk = images.open(image, opening, Access::Read)?;
     let answer = show_after::<B, D>(alloc, &mut disk, plan);
     images.close(disk);
     answer
@@ -81,13 +76,14 @@ pub(crate) fn show_planned<const B: usize, D: Disk<B> + Drop, T: Read + Drop, I:
 pub(crate) fn verify<const B: usize, D: Disk<B> + Drop, T: Read + Drop, I: Images<B, D, T>>(
     alloc: Global,
     images: &mut I,
-    image: Image<'_>,
+    image: &str,
+    opening: Opening,
 ) -> Result<Reply, Failure>
     requires { IsSectorSize B }
-    ensures { OnImage image.entry.path.now image.entry.opening Reading (VerifiesDisk D.Disk)
+    ensures { OnImage image.now opening Reading (VerifiesDisk D.Disk)
         (I.past images.old) (I.past images.new) result }
 {
-    let mut disk = images.open(image.path, image.opening, Access::Read)?;
+    let mut disk = images.open(image, opening, Access::Read)?;
     let answer = verify_disk::<B, D>(alloc, &mut disk);
     images.close(disk);
     answer
@@ -97,15 +93,16 @@ pub(crate) fn verify<const B: usize, D: Disk<B> + Drop, T: Read + Drop, I: Image
 pub(crate) fn locate<const B: usize, D: Disk<B> + Drop, T: Read + Drop, I: Images<B, D, T>>(
     alloc: Global,
     images: &mut I,
-    image: Image<'_>,
+    image: &str,
+    opening: Opening,
     path: &Path,
     k: u64,
 ) -> Result<Reply, Failure>
     requires { IsSectorSize B }
-    ensures { OnImage image.entry.path.now image.entry.opening Reading (LocatesOn D.Disk path.now k)
+    ensures { OnImage image.now opening Reading (LocatesOn D.Disk path.now k)
         (I.past images.old) (I.past images.new) result }
 {
-    let mut disk = images.open(image.path, image.opening, Access::Read)?;
+    let mut disk = images.open(image, opening, Access::Read)?;
     let answer = locate_on::<B, D>(alloc, &mut disk, path, k);
     images.close(disk);
     answer
@@ -115,15 +112,16 @@ pub(crate) fn locate<const B: usize, D: Disk<B> + Drop, T: Read + Drop, I: Image
 pub(crate) fn edit<const B: usize, D: Disk<B> + Drop, T: Read + Drop, I: Images<B, D, T>>(
     alloc: Global,
     images: &mut I,
-    image: Image<'_>,
+    image: &str,
+    opening: Opening,
     locked_by: LockedBy,
     wanted: &Wanted,
 ) -> Result<Reply, Failure>
     requires { IsSectorSize B }
-    ensures { OnImage image.entry.path.now image.entry.opening (writing locked_by) (EditsDisk D.Disk (words_of wanted.now))
+    ensures { OnImage image.now opening (writing locked_by) (EditsDisk D.Disk (words_of wanted.now))
         (I.past images.old) (I.past images.new) result }
 {
-    let mut disk = images.open(image.path, image.opening, access_for(locked_by))?;
+    let mut disk = images.open(image, opening, access_for(locked_by))?;
     let answer = edit_disk::<B, D>(
         alloc,
         &mut disk,
@@ -138,14 +136,15 @@ pub(crate) fn edit<const B: usize, D: Disk<B> + Drop, T: Read + Drop, I: Images<
 pub(crate) fn plan<const B: usize, D: Disk<B> + Drop, T: Read + Drop, I: Images<B, D, T>>(
     alloc: Global,
     images: &mut I,
-    image: Image<'_>,
+    image: &str,
+    opening: Opening,
     wanted: &Wanted,
 ) -> Result<Reply, Failure>
     requires { IsSectorSize B }
-    ensures { OnImage image.entry.path.now image.entry.opening Reading (PlansOn D.Disk (words_of wanted.now))
+    ensures { OnImage image.now opening Reading (PlansOn D.Disk (words_of wanted.now))
         (I.past images.old) (I.past images.new) result }
 {
-    let mut disk = images.open(image.path, image.opening, Access::Read)?;
+    let mut disk = images.open(image, opening, Access::Read)?;
     let answer = plan_on::<B, D>(
         alloc,
         &mut disk,
@@ -160,14 +159,15 @@ pub(crate) fn plan<const B: usize, D: Disk<B> + Drop, T: Read + Drop, I: Images<
 pub(crate) fn check<const B: usize, D: Disk<B> + Drop, T: Read + Drop, I: Images<B, D, T>>(
     alloc: Global,
     images: &mut I,
-    image: Image<'_>,
+    image: &str,
+    opening: Opening,
     plan: &Plan<B>,
 ) -> Result<Reply, Failure>
     requires { IsSectorSize B }
-    ensures { OnImage image.entry.path.now image.entry.opening Reading (ChecksOn D.Disk (phases_of plan.now))
+    ensures { OnImage image.now opening Reading (ChecksOn D.Disk (phases_of plan.now))
         (I.past images.old) (I.past images.new) result }
 {
-    let mut disk = images.open(image.path, image.opening, Access::Read)?;
+    let mut disk = images.open(image, opening, Access::Read)?;
     let answer = check_on::<B, D>(alloc, &mut disk, plan);
     images.close(disk);
     answer
@@ -177,15 +177,16 @@ pub(crate) fn check<const B: usize, D: Disk<B> + Drop, T: Read + Drop, I: Images
 pub(crate) fn apply<const B: usize, D: Disk<B> + Drop, T: Read + Drop, I: Images<B, D, T>>(
     alloc: Global,
     images: &mut I,
-    image: Image<'_>,
+    image: &str,
+    opening: Opening,
     locked_by: LockedBy,
     plan: &Plan<B>,
 ) -> Result<Reply, Failure>
     requires { IsSectorSize B }
-    ensures { OnImage image.entry.path.now image.entry.opening (writing locked_by) (AppliesTo D.Disk (phases_of plan.now))
+    ensures { OnImage image.now opening (writing locked_by) (AppliesTo D.Disk (phases_of plan.now))
         (I.past images.old) (I.past images.new) result }
 {
-    let mut disk = images.open(image.path, image.opening, access_for(locked_by))?;
+    let mut disk = images.open(image, opening, access_for(locked_by))?;
     let answer = apply_disk::<B, D>(alloc, &mut disk, plan);
     images.close(disk);
     answer
@@ -195,14 +196,15 @@ pub(crate) fn apply<const B: usize, D: Disk<B> + Drop, T: Read + Drop, I: Images
 pub(crate) fn repair<const B: usize, D: Disk<B> + Drop, T: Read + Drop, I: Images<B, D, T>>(
     alloc: Global,
     images: &mut I,
-    image: Image<'_>,
+    image: &str,
+    opening: Opening,
     locked_by: LockedBy,
 ) -> Result<Reply, Failure>
     requires { IsSectorSize B }
-    ensures { OnImage image.entry.path.now image.entry.opening (writing locked_by) (RepairsDisk D.Disk)
+    ensures { OnImage image.now opening (writing locked_by) (RepairsDisk D.Disk)
         (I.past images.old) (I.past images.new) result }
 {
-    let mut disk = images.open(image.path, image.opening, access_for(locked_by))?;
+    let mut disk = images.open(image, opening, access_for(locked_by))?;
     let answer = repair_disk::<B, D>(alloc, &mut disk);
     images.close(disk);
     answer
@@ -212,19 +214,21 @@ pub(crate) fn repair<const B: usize, D: Disk<B> + Drop, T: Read + Drop, I: Image
 pub(crate) fn take<const B: usize, D: Disk<B> + Drop, T: Read + Drop, I: Images<B, D, T>>(
     alloc: Global,
     images: &mut I,
-    image: Image<'_>,
-    other: Image<'_>,
+    image: &str,
+    opening: Opening,
+    other: &str,
+    other_opening: Opening,
     locked_by: LockedBy,
 ) -> Result<Reply, Failure>
     requires { IsSectorSize B }
-    ensures { OnImages image.entry.path.now image.entry.opening (writing locked_by) other.entry.path.now other.entry.opening Reading
+    ensures { OnImages image.now opening (writing locked_by) other.now other_opening Reading
         (AdoptsFrom D.Disk D.Disk) (I.past images.old) (I.past images.new) result }
 {
-    let mut other = match images.open(other.path, other.opening, Access::Read) {
+    let mut other = match images.open(other, other_opening, Access::Read) {
         Ok(other) => other,
         Err(why) => return Err(Failure::OtherOpening(why)),
     };
-    let mut disk = images.open(image.path, image.opening, access_for(locked_by))?;
+    let mut disk = images.open(image, opening, access_for(locked_by))?;
     let answer = adopt_disk::<B, D, D>(alloc, &mut disk, &mut other);
     images.close(disk);
     images.close(other);
@@ -235,18 +239,20 @@ pub(crate) fn take<const B: usize, D: Disk<B> + Drop, T: Read + Drop, I: Images<
 pub(crate) fn plan_taking<const B: usize, D: Disk<B> + Drop, T: Read + Drop, I: Images<B, D, T>>(
     alloc: Global,
     images: &mut I,
-    image: Image<'_>,
-    other: Image<'_>,
+    image: &str,
+    opening: Opening,
+    other: &str,
+    other_opening: Opening,
 ) -> Result<Reply, Failure>
     requires { IsSectorSize B }
-    ensures { OnImages image.entry.path.now image.entry.opening Reading other.entry.path.now other.entry.opening Reading
+    ensures { OnImages image.now opening Reading other.now other_opening Reading
         (PlansAdopting D.Disk D.Disk) (I.past images.old) (I.past images.new) result }
 {
-    let mut other = match images.open(other.path, other.opening, Access::Read) {
+    let mut other = match images.open(other, other_opening, Access::Read) {
         Ok(other) => other,
         Err(why) => return Err(Failure::OtherOpening(why)),
     };
-    let mut disk = images.open(image.path, image.opening, Access::Read)?;
+    let mut disk = images.open(image, opening, Access::Read)?;
     let answer = plan_adopting::<B, D, D>(alloc, &mut disk, &mut other);
     images.close(disk);
     images.close(other);
