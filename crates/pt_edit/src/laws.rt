@@ -36,19 +36,16 @@ pub fn memory_is_no_answer()
 {}
 
 /// A layout becomes one GPT.
-#[tactic(auto, using(crate::proofs::ConversionLaws::converted_one_lem))]
 pub fn converted_one()
     ensures { (b : ℕ) (guids : List Guid) (o p q : Layout) → Converted b guids o p → Converted b guids o q → p ≡ q }
 {}
 
 /// It is refused for one reason.
-#[tactic(auto, using(crate::proofs::ConversionLaws::not_converted_one_lem))]
 pub fn refusal_one()
     ensures { (b : ℕ) (guids : List Guid) (o : Layout) (r q : Refusal) → NotConverted b guids o r → NotConverted b guids o q → r ≡ q }
 {}
 
 /// What becomes a GPT isn't refused.
-#[tactic(auto, using(crate::proofs::ConversionLaws::converted_taken_lem))]
 pub fn converted_taken()
     ensures { (b : ℕ) (guids : List Guid) (o p : Layout) (r : Refusal) → Converted b guids o p → NotConverted b guids o r → ⊥ }
 {}
@@ -61,7 +58,6 @@ pub fn partitions_kept()
 {}
 
 /// A layout of a GPT or of four records becomes a GPT, or there is a reason why it doesn't.
-#[tactic(auto, using(crate::proofs::Converting::convert_answers_lem))]
 pub fn convert_answers()
     ensures { (b : ℕ) (guids : List Guid) (o : Layout) → HasFour o.body → ((p : Layout) × Converted b guids o p)
         ⊎ ((r : Refusal) × NotConverted b guids o r) }
