@@ -1,0 +1,1 @@
+pub use Rattle.pt_sector.proofs.CallsLemmas
