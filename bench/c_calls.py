@@ -1,5 +1,5 @@
 #!/usr/bin/env python3
-"""What the calls of the library for callers in C take at worst: for each image and call how many calls it takes until no sector is wanted,
+"""What the calls of the library for callers in C take at worst: for each image and call how many calls it takes until none is wanted,
 those of ptab_wanted among them, how many sectors they are given at last (both ends were read before the first one), the most bytes of memory
 that one of them holds, and the milliseconds of all, by ctypes and with the packing of the view.
 
@@ -98,12 +98,34 @@ IMAGES = (
 )
 
 
+class Asking(lib.Disk):
+    """A disk that is asked for all sectors that are known to be wanted, and not for one of them after the other."""
+    settled = False
+
+    def read_ends(self):
+        super().read_ends()
+        self.settled = False
+
+    def _add(self, sector):
+        """Reads a sector that is wanted, and with it all that the table and its labels want, unless it wants nothing more."""
+        super()._add(sector)
+        reply, more = lib.Reply(), (ctypes.c_uint64 * lib.MOST_WANTED)()
+        while not self.settled:
+            self.calls += 1
+            status = self.lib.ptab_wanted(ctypes.byref(self.view), more, ctypes.c_size_t(len(more)), ctypes.byref(reply))
+            if status == lib.WANT:
+                self.known |= {wanted: self.read(wanted) for wanted in more[:reply.count]}
+                self._pack()
+            # labels are the last that a table wants
+            self.settled = status != lib.WANT or reply.count > 1
+
+
 def measured(it, sectors, image, call):
     """(the outcome, calls, sectors given, bytes of memory, milliseconds)"""
     image, size = bytes(image), sectors.size
     best = None
     for _ in range(5):
-        disk = lib.Disk(it, lambda k: image[k * size:(k + 1) * size], len(image) // size, size)
+        disk = Asking(it, lambda k: image[k * size:(k + 1) * size], len(image) // size, size)
         most, ask = [0], disk._ask
 
         def counted(inner, other=None):
