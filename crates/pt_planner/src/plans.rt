@@ -24,7 +24,6 @@ use pt_apply::Plan;
 use pt_cases::targets::{PlanError, Target};
 use pt_gpt::Table;
 use pt_layout::{Finding, Head, Layout, Path};
-use pt_mbr::Record;
 use pt_sector::{Disk, FailedRead, Lba, Sector, read_sector};
 use std::alloc::Global;
 
@@ -59,13 +58,6 @@ pub(crate) fn places_of<const B: usize, D: Disk<B>>(
     }
 }
 
-// That there are four. The type says so; contracts see a list.
-fn are_four(records: &[Option<Record>; 4])
-    ensures { length «records».now ≡ 4 }
-{
-    let _count = records.len();
-}
-
 /// The plan for an MBR, on an MBR disk.
 pub(crate) fn to_mbr<const B: usize, D: Disk<B>>(
     alloc: Global,
@@ -90,7 +82,6 @@ pub(crate) fn to_mbr<const B: usize, D: Disk<B>>(
     ensures plan { D.tells → IfOk result (λ plan. IsPlan B (D.told disk.old).seen wanted.now (phases_of plan)) }
     ensures err { D.tells → IfErr result (Hindered B (D.told disk.old).seen known.now.old wanted.now) }
 {
-    are_four(change.records);
     let targets = mbr_targets(
         alloc,
         disk,

@@ -61,6 +61,7 @@ pub record IsMbrChange (n : ℕ) (o : Option Layout) (c : MbrChange) : Type 0 wh
   pub old : Layout
   pub is_old : o ≡ Some old
   pub old_body : old.body ≡ Mbr c.old_records.now c.old_chain.now
+  pub four : length c.records.now ≡ 4
   pub linked : IsLoneChain n (extended_of c.records.now) c.chain.now
   pub some : 0 < n
 
