@@ -23,9 +23,9 @@ use Rattle.pt_planner.specs.Phases.{CopiesStart}
 use Rattle.pt_planner.specs.declared.phases.order.Order.{Order}
 use Rattle.pt_planner.proofs.Labels.{reads_is}
 
-module _ {b : ℕ} (d : Sectors) (o : Option Layout) (p : Layout) (t : Table) (chosen : Order) (guarded : List TracedRun)
-    (given : Option (List ℕ)) (ts sorted : List (Target b))
-    (size : IsSectorSize b) (start : CopiesStart d o p t chosen guarded given ts) (order : InSectorOrder ts sorted) where
+module _ {b : ℕ} (d : Sectors) (o : Option Layout) (p : Layout) (t : Table) (chosen : Order b) (guarded : List TracedRun)
+    (ts sorted : List (Target b))
+    (size : IsSectorSize b) (start : CopiesStart d o p t chosen guarded ts) (order : InSectorOrder ts sorted) where
   -- the target of a wanted label
   target_at : (w : Slice) (l : Label) → Contains (places_of b p.sectors p.body) w
       → Contains p.labels (record { number = w.number; label = l }) → Targeted d o ts w (Some l)
@@ -57,7 +57,7 @@ module _ {b : ℕ} (d : Sectors) (o : Option Layout) (p : Layout) (t : Table) (c
       place = subst (IsPlace (places_of b p.sectors p.body)) at (start.places.each x target.1)
 
       reads : IsIn guarded x.at.0 → Reads b d s
-      reads among = (reads_is d o p t chosen guarded given ts size start s place).1 (subst (IsIn guarded) at among)
+      reads among = (reads_is d o p t chosen guarded ts size start s place).1 (subst (IsIn guarded) at among)
 
       stands : IsEncoded l w (replicate b 0) x.bytes → x.bytes ≡ x.under → IsEncoded l w (replicate b 0) (sector d s)
       stands encoded same = subst (IsEncoded l w (replicate b 0)) (same ∙ target.3 ∙ ap (λ (k : ℕ). sector d k) is.labelled.place) encoded

@@ -95,17 +95,17 @@ place_read b d p t s size plain sound count is fits at reads = by_kind (reads_gp
         (side_within b d Backup s size second)
     by_kind (inr (inr (inr (y, y_is, y_at)))) = place y y_is y_at
 
-module _ {b : ℕ} (d : Sectors) (o : Option Layout) (p : Layout) (t : Table) (chosen : Order) (guarded : List TracedRun)
-    (given : Option (List ℕ)) (ts : List (Target b))
-    (size : IsSectorSize b) (start : CopiesStart d o p t chosen guarded given ts) where
-  read_guarded : (order : Order) → chosen ≡ order → (s : ℕ) → IsPlace (places_of b p.sectors p.body) s → Reads b d s → IsGuarded b d s
-  read_guarded BackupFirst is s at reads =
+module _ {b : ℕ} (d : Sectors) (o : Option Layout) (p : Layout) (t : Table) (chosen : Order b) (guarded : List TracedRun)
+    (ts : List (Target b))
+    (size : IsSectorSize b) (start : CopiesStart d o p t chosen guarded ts) where
+  read_guarded : (order : Order b) → chosen ≡ order → (s : ℕ) → IsPlace (places_of b p.sectors p.body) s → Reads b d s → IsGuarded b d s
+  read_guarded (BackupFirst given) is s at reads =
       place_read b d p t s size
-      (subst (λ (x : Order). OrderIs b d x) is start.order).0 start.start.sound start.start.sectors start.body start.fits at reads
-  read_guarded PrimaryFirst is s at reads =
+      (subst (λ (x : Order b). OrderIs b d x) is start.order).0 start.start.sound start.start.sectors start.body start.fits at reads
+  read_guarded (PrimaryFirst given) is s at reads =
       place_read b d p t s size
-      (subst (λ (x : Order). OrderIs b d x) is start.order).0 start.start.sound start.start.sectors start.body start.fits at reads
-  read_guarded FromMbr is s at reads = reads_guarded b d s (subst (λ (x : Order). OrderIs b d x) is start.order) reads
+      (subst (λ (x : Order b). OrderIs b d x) is start.order).0 start.start.sound start.start.sectors start.body start.fits at reads
+  read_guarded (FromMbr old) is s at reads = reads_guarded b d s (subst (λ (x : Order b). OrderIs b d x) is start.order) reads
 
   -- the places that recovery reads are the guarded ones
   pub reads_is : (s : ℕ) → IsPlace (places_of b p.sectors p.body) s → (Reads b d s ↔ IsIn guarded s)

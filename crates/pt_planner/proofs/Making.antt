@@ -1,8 +1,8 @@
 -- From the parts of a plan to the planner's answer.
 use Rattle.std.proofs.Common.{◌≡◌, ◌↔◌, inl, inr, ℕ, zero, suc, ◌<◌, List, [], ◌∷◌, length, Bool, true, false, Option, Some, None, Result}
-use Rattle.std.proofs.Common.{Ok, Err, IfOk, IfErr, IsTrue, All, refl, subst, arith, ◌∙◌, sym}
+use Rattle.std.proofs.Common.{Ok, Err, IfOk, IfErr, IsTrue, All, refl, subst, arith, sym}
 use Rattle.std.specs.Prelude.{Contains, get_or}
-use Rattle.pt_sector.specs.Sectors.{Sectors}
+use Rattle.pt_sector.specs.Sectors.{Sectors, sector}
 use Rattle.pt_gpt.specs.Copies.{HasCopy}
 use Rattle.pt_gpt.specs.declared.table.Side.TheVariants.{Primary}
 use Rattle.pt_gpt.specs.declared.table.Table.{Table}
@@ -22,16 +22,15 @@ use Rattle.pt_cases.specs.Cases.{ChangesLabels, MayBePlanned, HadMbr}
 use Rattle.pt_cases.specs.Writes.{FitsTable, IsLoneChain}
 use Rattle.pt_cases.specs.Unplanned.{NoneLeft, HasNoTurn, HasNoCopies, Start, StopsBy, other_disk, misplaced, targets, unreadable, turn}
 use Rattle.pt_cases.specs.Unplanned.{copies, Unplanned}
-use Rattle.pt_planner.specs.Phases.{OrderIs, HeadAsRead, CopiesStart, MbrStart, LabelStart, Unbroken}
+use Rattle.pt_planner.specs.Phases.{OrderIs, HeadAsRead, HeadIn, CopiesStart, MbrStart, LabelStart, Unbroken}
 use Rattle.pt_planner.specs.declared.phases.order.Order.{Order}
-use Rattle.pt_planner.specs.declared.phases.order.Order.TheVariants.{BackupFirst, PrimaryFirst, FromMbr}
 use Rattle.pt_cases.specs.Targets.{AreLabelTargets, AreMbrTargets}
 use Rattle.pt_cases.specs.declared.targets.error.PlanError.{PlanError}
 use Rattle.pt_cases.specs.declared.targets.error.PlanError.TheVariants.{NotOneSwitch, ReusedInOneBatch, NeedsRepair, Unsound, Device}
 use Rattle.pt_cases.specs.declared.targets.error.PlanError.TheVariants.{Memory}
 use Rattle.pt_cases.specs.declared.targets.target.Target.{Target}
 use Rattle.pt_planner.specs.PlanReads.{KnownWrong, IsKnown}
-use Rattle.pt_planner.specs.inner.PlanReads.{IsBrokenBy, OrderOf, PlacesStop, IsMbrChange}
+use Rattle.pt_planner.specs.inner.PlanReads.{IsBrokenBy, PlainOrder, OrderOf, PlacesStop, IsMbrChange}
 use Rattle.pt_planner.specs.declared.state.MbrChange.{MbrChange}
 use Rattle.pt_cases.specs.inner.Unplanned.{Hindered}
 use Rattle.pt_planner.specs.declared.known.Known.{Known}
@@ -54,14 +53,6 @@ all_of P xs each = λ k d lt. each (get_or xs k d) (k, lt, default_free xs k (ge
 
 pub isnt : {P : Type 0} (holds : Bool) → holds ≡ false → IsTrue holds ↔ P → ¬ P
 isnt holds low same is = absurd (let high : holds ≡ true = same.1 is in cc)
-
--- the order from an MBR is that of an MBR's sector 0
-pub order_mbr : (h : Head) (primary : Bool) (order : Order) → OrderOf h primary order → order ≡ FromMbr → h ≡ head.Mbr
-order_mbr head.Mbr primary order of is = refl
-order_mbr head.Protected true order of is = absurd (let both : BackupFirst ≡ FromMbr = sym of ∙ is in cc)
-order_mbr head.Protected false order of is = absurd (let both : PrimaryFirst ≡ FromMbr = sym of ∙ is in cc)
-order_mbr head.Unprotected true order of is = absurd (let both : BackupFirst ≡ FromMbr = sym of ∙ is in cc)
-order_mbr head.Unprotected false order of is = absurd (let both : PrimaryFirst ≡ FromMbr = sym of ∙ is in cc)
 
 -- what the parts answer, in the planner's words
 pub turn_hinders : (b : ℕ) (d : Sectors) (o : Option Layout) (p : Layout) (e : PlanError) → StopsBy b d o p (HasNoTurn b d o p) e
@@ -129,26 +120,40 @@ label_start {b = b} d x p t broken places known start body changes is are = reco
   places = are;
 }
 
-order_by : (b : ℕ) (d : Sectors) (h : Head) (primary : Bool) (order : Order) → HeadOf d h
-    → (¬ IsMbrDisk d → IsTrue primary ↔ HasCopy b d Primary) → OrderOf h primary order → OrderIs b d order
-order_by b d head.Mbr primary order is has so = rw so is
-order_by b d head.Protected true order is has so = rw so (is.0, (has is.0).0 refl)
-order_by b d head.Protected false order is has so = rw so (is.0, λ there. (let low : false ≡ true = (has is.0).1 there in absurd cc))
-order_by b d head.Unprotected true order is has so = rw so (is.0, (has is.0).0 refl)
-order_by b d head.Unprotected false order is has so = rw so (is.0, λ there. (let low : false ≡ true = (has is.0).1 there in absurd cc))
+-- the order that the disk asks for
+order_is : (b : ℕ) (d : Sectors) (primary : Bool) (given : Option (List ℕ)) (order : Order b) → ¬ IsMbrDisk d
+    → (IsTrue primary ↔ HasCopy b d Primary) → PlainOrder primary given order → OrderIs b d order
+order_is b d true given order plain has so = rw so (plain, has.0 refl)
+order_is b d false given order plain has so = rw so (plain, λ there. (let low : false ≡ true = has.1 there in absurd cc))
 
-pub copies_start : {b : ℕ} (d : Sectors) (x : Known) (p : Layout) (t : Table) (order : Order) (given : Option (List ℕ))
-    (places : List (Target b))
+order_by : (b : ℕ) (d : Sectors) (h : Head) (primary : Bool) (order : Order b) → HeadOf d h
+    → (¬ IsMbrDisk d → IsTrue primary ↔ HasCopy b d Primary) → OrderOf d h primary order → OrderIs b d order
+order_by b d head.Mbr primary order is has so = rw so is
+order_by b d head.Protected primary order is has so = order_is b d primary None order is.0 (has is.0) so
+order_by b d head.Unprotected primary order is has so = order_is b d primary (Some (sector d 0)) order is.0 (has is.0) so
+
+-- and the sector 0 that it has
+plain_head : {b : ℕ} (d : Sectors) (primary : Bool) (given : Option (List ℕ)) (order : Order b) → PlainOrder primary given order
+    → HeadAsRead d given → HeadIn d order
+plain_head d true given order so is = rw so is
+plain_head d false given order so is = rw so is
+
+head_by : {b : ℕ} (d : Sectors) (h : Head) (primary : Bool) (order : Order b) → HeadOf d h → OrderOf d h primary order → HeadIn d order
+head_by d head.Mbr primary order is so = rw so refl
+head_by d head.Protected primary order is so = plain_head d primary None order so is.1
+head_by d head.Unprotected primary order is so = plain_head d primary (Some (sector d 0)) order so refl
+
+pub copies_start : {b : ℕ} (d : Sectors) (x : Known) (p : Layout) (t : Table) (order : Order b) (places : List (Target b))
     → IsKnown b d x → Start b d x.old p → p.body ≡ Gpt t
-    → FitsTable b (length d) t → ¬ ChangesLabels x.old p → OrderOf x.head x.primary order → HeadAsRead d given
-    → AreLabelTargets d x.old p places → CopiesStart d x.old p t order x.guarded given places
-copies_start {b = b} d x p t order given places known start body fits other so head are = record {
+    → FitsTable b (length d) t → ¬ ChangesLabels x.old p → OrderOf d x.head x.primary order
+    → AreLabelTargets d x.old p places → CopiesStart d x.old p t order x.guarded places
+copies_start {b = b} d x p t order places known start body fits other so are = record {
   start = start;
   body = body;
   fits = fits;
   other = other;
   order = order_by b d x.head x.primary order known.head (λ plain. known.primary plain fits.room) so;
-  head = head;
+  head = head_by d x.head x.primary order known.head so;
   guards = known.guarded;
   places = are;
 }

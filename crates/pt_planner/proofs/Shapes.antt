@@ -1,9 +1,8 @@
 -- How phases of both copies come about, and how many there are.
-use Rattle.std.proofs.Common.{◌≡◌, ℕ, ◌<◌, ◌≤◌, List, length, refl, sym, ap, subst, arith, Option, Some, None, Result, Ok, Err, IfOk, Vec}
+use Rattle.std.proofs.Common.{◌≡◌, ℕ, ◌<◌, ◌≤◌, List, length, sym, ap, subst, arith, Option, Some, None, Result, Ok, Err, IfOk, Vec}
 use Rattle.std.proofs.Common.{All}
 use Rattle.std.specs.declared.alloc.Global.{Global}
 use Rattle.std.specs.Prelude.{Contains}
-use Rattle.std.specs.Option.{unwrap_or}
 use Rattle.std.proofs.lemmas.List.{length-map}
 use Rattle.std.proofs.lemmas.List.Elements.{All-contains}
 use Rattle.pt_sector.specs.Sectors.{Writes}
@@ -12,13 +11,11 @@ use Rattle.pt_apply.specs.declared.plan.Write.{Write}
 use Rattle.pt_apply.specs.declared.plan.Plan.{Plan}
 use Rattle.pt_gpt.specs.declared.table.Table.{Table}
 use Rattle.pt_cases.specs.Cases.{backup_first_phases, primary_first_phases, from_mbr_phases}
-use Rattle.pt_cases.specs.Writes.{Protects, IsProtectedFrom}
+use Rattle.pt_cases.specs.Writes.{Protects}
 use Rattle.pt_planner.specs.Phases.{last_of, WroteCopies}
 use Rattle.pt_cases.specs.Targets.{AllBelow, InSectorOrder}
 use Rattle.pt_cases.specs.declared.targets.target.Target.{Target}
-use Rattle.pt_planner.specs.inner.Phases.{Closes, Arranged}
-use Rattle.pt_planner.specs.declared.phases.order.Order.{Order}
-use Rattle.pt_planner.specs.declared.phases.order.Order.TheVariants.{FromMbr}
+use Rattle.pt_planner.specs.inner.Phases.{Closes}
 
 few_last : (last : Option (List ℕ)) → length (last_of last) ≤ 1
 few_last None = omega arith
@@ -48,20 +45,6 @@ from_mbr_short n t labels new (Ok plan) is = omega (arith, as_many plan, ap leng
 pub closes_some : (n : ℕ) (given : Option (List ℕ)) (old : List ℕ) (last : List Writes) → given ≡ Some old → Protects n old last
     → Closes n given last
 closes_some n given old last is protects = subst (λ (x : Option (List ℕ)). Closes n x last) (sym is) protects
-
-pub from_mbr_arranged : {b : ℕ} {E : Type 0} (n : ℕ) (t : Table) (labels : Writes) (given : Option (List ℕ)) (old new : List ℕ)
-    (chosen : Order) (r : Result (Plan b) E)
-    → chosen ≡ FromMbr → given ≡ Some old → IsProtectedFrom n old new
-    → IfOk r (λ plan. WroteCopies b n t (λ p k. from_mbr_phases b n t p k labels new) (phases_of plan))
-    → IfOk r (λ plan. Arranged b n t given labels chosen (phases_of plan))
-from_mbr_arranged n t labels given old new chosen (Err e) is same protected wrote = tt
-from_mbr_arranged {b = b} n t labels given old new chosen (Ok plan) is same protected wrote =
-    subst (λ (x : Order). Arranged b n t given labels x (phases_of plan)) (sym is) (old, new, same, protected, wrote)
-
--- what was given, from what stands for it where nothing was
-pub unwrapped : (given : Option (List ℕ)) (other old : List ℕ) → old ≡ unwrap_or given other → ¬ (given ≡ None) → given ≡ Some old
-unwrapped None other old is some = absurd (some refl)
-unwrapped (Some x) other old is some = ap Some (sym is)
 
 -- targets that are the same in another order are of the same sectors
 pub sorted_below : {b : ℕ} (n : ℕ) (ts sorted seen : List (Target b)) → InSectorOrder ts sorted → seen ≡ sorted → All (λ t. t.at.0 < n) ts

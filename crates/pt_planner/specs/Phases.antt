@@ -48,25 +48,31 @@ pub record WroteCopies (b n : ℕ) (t : Table) (order : List ℕ → List ℕ �
 -- ## What stands when both copies of a table are written.
 
 -- which order the disk asks for
-abbrev pub OrderIs : ℕ → Sectors → Order → Type 0
-OrderIs b d BackupFirst = (¬ IsMbrDisk d) × HasCopy b d Primary
-OrderIs b d PrimaryFirst = (¬ IsMbrDisk d) × (¬ HasCopy b d Primary)
-OrderIs b d FromMbr = IsMbrDisk d
+abbrev pub OrderIs : (b : ℕ) → Sectors → Order b → Type 0
+OrderIs b d (BackupFirst given) = (¬ IsMbrDisk d) × HasCopy b d Primary
+OrderIs b d (PrimaryFirst given) = (¬ IsMbrDisk d) × (¬ HasCopy b d Primary)
+OrderIs b d (FromMbr bytes) = IsMbrDisk d
 
 -- sector 0 as it was read; where it wasn't, it is protective
 abbrev pub HeadAsRead : Sectors → Option (List ℕ) → Type 0
 HeadAsRead d (Some bytes) = bytes ≡ sector d 0
 HeadAsRead d None = IsProtective (length d) (sector d 0)
 
+-- the order has it so
+abbrev pub HeadIn : {b : ℕ} → Sectors → Order b → Type 0
+HeadIn d (BackupFirst given) = HeadAsRead d given
+HeadIn d (PrimaryFirst given) = HeadAsRead d given
+HeadIn d (FromMbr bytes) = bytes ≡ sector d 0
+
 -- the table t of p is written in both copies, with the labels of p that are new
-pub record CopiesStart {b : _} (d : Sectors) (o : Option Layout) (p : Layout) (t : Table) (chosen : Order) (guarded : List TracedRun)
-    (given : Option (List ℕ)) (label_targets : List (Target b)) : Type 0 where
+pub record CopiesStart {b : _} (d : Sectors) (o : Option Layout) (p : Layout) (t : Table) (chosen : Order b)
+    (guarded : List TracedRun) (label_targets : List (Target b)) : Type 0 where
   pub start : Start b d o p
   pub body : p.body ≡ Gpt t
   pub fits : FitsTable b (length d) t
   pub other : ¬ ChangesLabels o p
   pub order : OrderIs b d chosen
-  pub head : HeadAsRead d given
+  pub head : HeadIn d chosen
   pub guards : (s : ℕ) → IsIn guarded s ↔ IsGuarded b d s
   pub places : AreLabelTargets d o p label_targets
 

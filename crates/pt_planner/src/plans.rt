@@ -1,33 +1,29 @@
 //! The targets of a wanted layout, and the plan that they make.
 
-ghost use Rattle.std.specs.Prelude.{◌≡◌, ◌<◌, All, None, length, IfOk, IfErr};
+ghost use Rattle.std.specs.Prelude.{◌≡◌, ◌<◌, All, length, IfOk, IfErr};
 ghost use Rattle.pt_sector.specs.Device.{Blames};
 ghost use Rattle.pt_sector.specs.Overlays.{OnlyReads, read_of};
-ghost use Rattle.pt_sector.specs.Sectors.{IsSectorSize};
+ghost use Rattle.pt_sector.specs.Sectors.{IsSectorSize, sector};
 ghost use Rattle.pt_apply.specs.Plans.{phases_of, InRange};
 ghost use Rattle.pt_members.specs.declared.layout.Body.TheVariants.{Mbr, Gpt};
 ghost use Rattle.pt_cases.specs.Cases.{IsPlan};
 ghost use Rattle.pt_cases.specs.Writes.{FitsTable};
-ghost use Rattle.pt_planner.specs.Phases.{HeadAsRead};
-ghost use Rattle.pt_layout.specs.Surveys.{HeadOf};
-ghost use Rattle.pt_layout.specs.declared.health.Head.TheVariants as kind;
 ghost use Rattle.pt_recover.specs.Denotes.{Denotes};
 ghost use Rattle.pt_cases.specs.Unplanned.{fault_in, Start, NoneLeft};
 ghost use Rattle.pt_cases.specs.Targets.{AreLabelTargets};
 ghost use Rattle.pt_planner.specs.PlanReads.{IsKnown, FailedInPlan, PlanReads};
-ghost use Rattle.pt_planner.specs.inner.PlanReads.{PlacesStop, IsMbrChange};
+ghost use Rattle.pt_planner.specs.inner.PlanReads.{PlacesStop, IsMbrChange, OrderOf};
 ghost use Rattle.pt_cases.specs.inner.Unplanned.{Hindered};
 
 use crate::chains::mbr_targets;
 use crate::known::Known;
-use crate::phases::{Setting, both_copies, one_label, within_mbr};
+use crate::phases::{Order, Setting, both_copies, one_label, within_mbr};
 use crate::places::{LabelTargets, label_targets};
-use crate::state::{MbrChange, changes_labels, is_broken, order_of};
+use crate::state::{MbrChange, changes_labels, is_broken, plain_order};
 use pt_apply::Plan;
 use pt_cases::targets::{PlanError, Target};
 use pt_gpt::Table;
 use pt_layout::{Finding, Head, Layout, Path};
-use pt_mbr::Record;
 use pt_sector::{Disk, FailedRead, Lba, Sector, read_sector};
 use std::alloc::Global;
 
@@ -62,13 +58,6 @@ pub(crate) fn places_of<const B: usize, D: Disk<B>>(
     }
 }
 
-// That there are four. The type says so; contracts see a list.
-fn are_four(records: &[Option<Record>; 4])
-    ensures { length «records».now ≡ 4 }
-{
-    let _count = records.len();
-}
-
 /// The plan for an MBR, on an MBR disk.
 pub(crate) fn to_mbr<const B: usize, D: Disk<B>>(
     alloc: Global,
@@ -93,7 +82,6 @@ pub(crate) fn to_mbr<const B: usize, D: Disk<B>>(
     ensures plan { D.tells → IfOk result (λ plan. IsPlan B (D.told disk.old).seen wanted.now (phases_of plan)) }
     ensures err { D.tells → IfErr result (Hindered B (D.told disk.old).seen known.now.old wanted.now) }
 {
-    are_four(change.records);
     let targets = mbr_targets(
         alloc,
         disk,
@@ -108,25 +96,36 @@ pub(crate) fn to_mbr<const B: usize, D: Disk<B>>(
     }
 }
 
-/// Sector 0, where both copies of a table are to be written and it may have to be written with them.
-fn head_of<const B: usize, D: Disk<B>>(
-    disk: &mut D,
-    head: Head,
-) -> Result<Option<Sector<B>>, FailedRead>
-    requires some { 0 < D.count disk.old }
-    requires head { D.tells → HeadOf (D.told disk.old).seen head }
+/// Sector 0.
+fn read_head<const B: usize, D: Disk<B>>(disk: &mut D) -> Result<Sector<B>, FailedRead>
+    requires { 0 < D.count disk.old }
     ensures same { OnlyReads D.Disk disk.old disk.new }
     ensures blames { Blames read_of result (D.faults disk.old) (D.faults disk.new) }
     ensures place { IfErr result (λ e. e.0.0 ≡ 0) }
-    ensures given { head ≡ kind.Mbr → IfOk result (λ bytes. ¬ (bytes ≡ None)) }
-    ensures ok { D.tells → IfOk result (HeadAsRead (D.told disk.old).seen) }
+    ensures bytes { D.tells → IfOk result (λ bytes. bytes ≡ sector (D.told disk.old).seen 0) }
 {
-    if head == Head::Protected {
-        return Ok(None);
-    }
     let mut bytes = [0; B];
     read_sector(disk, Lba(0), &mut bytes)?;
-    Ok(Some(bytes))
+    Ok(bytes)
+}
+
+/// In which order both copies of a table are written, with sector 0 where it may have to be written with them.
+fn order_of<const B: usize, D: Disk<B>>(
+    disk: &mut D,
+    head: Head,
+    primary: bool,
+) -> Result<Order<B>, FailedRead>
+    requires some { 0 < D.count disk.old }
+    ensures same { OnlyReads D.Disk disk.old disk.new }
+    ensures blames { Blames read_of result (D.faults disk.old) (D.faults disk.new) }
+    ensures place { IfErr result (λ e. e.0.0 ≡ 0) }
+    ensures order { D.tells → IfOk result (OrderOf (D.told disk.old).seen head primary) }
+{
+    match head {
+        Head::Mbr => Ok(Order::FromMbr(read_head(disk)?)),
+        Head::Protected => Ok(plain_order(primary, None)),
+        Head::Unprotected => Ok(plain_order(primary, Some(read_head(disk)?))),
+    }
 }
 
 /// The plan for a GPT.
@@ -156,18 +155,11 @@ pub(crate) fn to_gpt<const B: usize, D: Disk<B>>(
     if changes_labels(&known.old, wanted) {
         return one_label(alloc, &known.old, is_broken(&known.finding), places);
     }
-    let head = head_of(disk, known.head)?;
+    let order = order_of(disk, known.head, known.primary)?;
     let setting = Setting {
         sectors: disk.sectors(),
         old: &known.old,
         guarded: &known.guarded,
-        head,
     };
-    both_copies(
-        alloc,
-        order_of(known.head, known.primary),
-        &setting,
-        table,
-        places,
-    )
+    both_copies(alloc, &order, &setting, table, places)
 }

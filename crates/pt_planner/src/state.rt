@@ -6,15 +6,16 @@ ghost use Rattle.pt_layout.specs.Healthy.{IsHealthy};
 ghost use Rattle.pt_recover.specs.Denotes.{Denotes};
 ghost use Rattle.pt_cases.specs.Cases.{ChangesLabels, MayBePlanned};
 ghost use Rattle.pt_planner.specs.PlanReads.{IsKnown};
-ghost use Rattle.pt_planner.specs.inner.PlanReads.{IsBrokenBy, OrderOf, IsMbrChange, NoMbrChange, IsChangeTo};
+ghost use Rattle.pt_planner.specs.inner.PlanReads.{IsBrokenBy, PlainOrder, IsMbrChange, NoMbrChange, IsChangeTo};
 
 use crate::chains::is_linked;
 use crate::copies::fits_table;
 use crate::known::Known;
 use crate::phases::Order;
 use pt_gpt::Table;
-use pt_layout::{Body, Ebrs, Finding, Head, Layout};
+use pt_layout::{Body, Ebrs, Finding, Layout};
 use pt_mbr::Record;
+use pt_sector::Sector;
 
 /// Whether the disk denotes the layout.
 fn is_same(old: &Option<Layout>, wanted: &Layout) -> bool
@@ -140,18 +141,13 @@ pub(crate) fn is_broken(finding: &Option<Finding>) -> bool
     }
 }
 
-/// In which order both copies are written.
-pub(crate) fn order_of(head: Head, primary: bool) -> Order
-    ensures { OrderOf head primary result }
+/// In which order both copies are written where the disk is no MBR disk.
+pub(crate) fn plain_order<const B: usize>(primary: bool, head: Option<Sector<B>>) -> Order<B>
+    ensures { PlainOrder primary head.entry result }
 {
-    match head {
-        Head::Mbr => Order::FromMbr,
-        _ => {
-            if primary {
-                Order::BackupFirst
-            } else {
-                Order::PrimaryFirst
-            }
-        }
+    if primary {
+        Order::BackupFirst(head)
+    } else {
+        Order::PrimaryFirst(head)
     }
 }

@@ -96,23 +96,22 @@ Closes n (Some old) last = Protects n old last
 Closes n None last = last ≡ []
 
 -- both copies on n sectors in this order, with these labels
-abbrev pub Arranged : ℕ → ℕ → Table → Option (List ℕ) → Writes → Order → List Writes → Type 0
-Arranged b n t given labels BackupFirst phases =
+abbrev pub Arranged : (b : ℕ) → ℕ → Table → Writes → Order b → List Writes → Type 0
+Arranged b n t labels (BackupFirst given) phases =
     (last : List Writes) × Closes n given last × WroteCopies b n t (λ p k. backup_first_phases b n t p k labels last) phases
-Arranged b n t given labels PrimaryFirst phases =
+Arranged b n t labels (PrimaryFirst given) phases =
     (last : List Writes) × Closes n given last × WroteCopies b n t (λ p k. primary_first_phases b n t p k labels last) phases
-Arranged b n t given labels FromMbr phases =
-    (old new : List ℕ) × (given ≡ Some old) × IsProtectedFrom n old new
-    × WroteCopies b n t (λ p k. from_mbr_phases b n t p k labels new) phases
+Arranged b n t labels (FromMbr old) phases =
+    (new : List ℕ) × IsProtectedFrom n old new × WroteCopies b n t (λ p k. from_mbr_phases b n t p k labels new) phases
 
 -- how many phases come before the one with which the disk turns
-abbrev pub phases_before : Order → ℕ
-phases_before BackupFirst = 1
-phases_before PrimaryFirst = 2
-phases_before FromMbr = 1
+abbrev pub phases_before : {b : ℕ} → Order b → ℕ
+phases_before (BackupFirst given) = 1
+phases_before (PrimaryFirst given) = 2
+phases_before (FromMbr old) = 1
 
 -- their writes
-abbrev pub writes_before : Order → List Writes → Writes
+abbrev pub writes_before : {b : ℕ} → Order b → List Writes → Writes
 writes_before order phases = writes_in (take (phases_before order) phases)
 
 -- one of the writes is of a sector of which P holds
@@ -124,7 +123,7 @@ abbrev pub Alters : {b : ℕ} → (ℕ → Type 0) → List (Target b) → Type 
 Alters P ts = (t : Target _) × Contains ts t × (t.kind ≡ Changes) × P t.at.0
 
 -- why phases with these targets are no plan
-abbrev pub RefusedBy : {b : ℕ} → Option Layout → List TracedRun → Order → List (Target b) → List Writes → PlanError → Type 0
+abbrev pub RefusedBy : {b : ℕ} → Option Layout → List TracedRun → Order b → List (Target b) → List Writes → PlanError → Type 0
 RefusedBy {b = b} old guarded order ts phases ReusedInOneBatch = Touches (OwnedOf b old) (writes_in phases) ⊎ Alters (OwnedOf b old) ts
 RefusedBy {b = b} old guarded order ts phases NotOneSwitch =
     (¬ Touches (OwnedOf b old) (writes_in phases)) × (¬ Alters (OwnedOf b old) ts)
@@ -135,7 +134,7 @@ RefusedBy old guarded order ts phases (Device fault) = ⊥
 RefusedBy old guarded order ts phases (Unsound finding) = ⊥
 
 -- there is nothing against them
-pub record Passes {b : ℕ} (old : Option Layout) (guarded : List TracedRun) (order : Order) (ts : List (Target b))
+pub record Passes {b : ℕ} (old : Option Layout) (guarded : List TracedRun) (order : Order b) (ts : List (Target b))
     (phases : List Writes) : Type 0 where
   pub free : ¬ Touches (OwnedOf b old) (writes_in phases)
   pub settled : (t : Target b) → Contains ts t → ¬ (t.kind ≡ Changes)

@@ -14,7 +14,7 @@ use Rattle.pt_recover.specs.declared.error.NoTable.{NoTable}
 use Rattle.pt_members.specs.declared.layout.Layout.{Layout}
 use Rattle.pt_layout.specs.declared.survey.Survey.{Survey}
 use Rattle.pt_planner.specs.declared.known.Known.{Known}
-use Rattle.pt_sector.specs.Sectors.{Sectors}
+use Rattle.pt_sector.specs.Sectors.{Sectors, sector}
 use Rattle.pt_members.specs.Members.{number_path}
 use Rattle.pt_layout.specs.Sound.{IsUnsound}
 use Rattle.pt_layout.specs.declared.sound.finding.Finding.{Finding}
@@ -61,6 +61,7 @@ pub record IsMbrChange (n : ℕ) (o : Option Layout) (c : MbrChange) : Type 0 wh
   pub old : Layout
   pub is_old : o ≡ Some old
   pub old_body : old.body ≡ Mbr c.old_records.now c.old_chain.now
+  pub four : length c.records.now ≡ 4
   pub linked : IsLoneChain n (extended_of c.records.now) c.chain.now
   pub some : 0 < n
 
@@ -74,13 +75,16 @@ abbrev pub IsChangeTo : ℕ → ℕ → Option Layout → Layout → Change → 
 IsChangeTo b n o p (change.Mbr c) = (p.body ≡ Mbr c.records.now c.chain.now) × IsMbrChange n o c
 IsChangeTo b n o p (change.Gpt table) = (p.body ≡ Gpt table.now) × FitsTable b n table.now
 
--- the order for a disk with this sector 0, and with a primary copy or without
-abbrev pub OrderOf : Head → Bool → Order → Type 0
-OrderOf head.Mbr primary order = order ≡ FromMbr
-OrderOf head.Protected true order = order ≡ BackupFirst
-OrderOf head.Protected false order = order ≡ PrimaryFirst
-OrderOf head.Unprotected true order = order ≡ BackupFirst
-OrderOf head.Unprotected false order = order ≡ PrimaryFirst
+-- the order for a disk that is no MBR disk, with a primary copy or without, and with this sector 0
+abbrev pub PlainOrder : {b : ℕ} → Bool → Option (List ℕ) → Order b → Type 0
+PlainOrder true given order = order ≡ BackupFirst given
+PlainOrder false given order = order ≡ PrimaryFirst given
+
+-- the order for a disk with a sector 0 of this kind, and with a primary copy or without
+abbrev pub OrderOf : {b : ℕ} → Sectors → Head → Bool → Order b → Type 0
+OrderOf d head.Mbr primary order = order ≡ FromMbr (sector d 0)
+OrderOf d head.Protected primary order = PlainOrder primary None order
+OrderOf d head.Unprotected primary order = PlainOrder primary (Some (sector d 0)) order
 
 -- why the label places of p have no targets
 abbrev pub PlacesStop : ℕ → Sectors → Option Layout → Layout → PlanError → Type 0

@@ -10,7 +10,6 @@ ghost use Rattle.pt_cases.specs.Keeps.{copies_bound};
 ghost use Rattle.pt_cases.specs.Unplanned.{HasNoCopies, fault_in, StopsBy};
 ghost use Rattle.pt_planner.specs.inner.Phases.{Arranged, Closes};
 ghost use Rattle.pt_planner.specs.Phases.{CopiesStart, last_of};
-ghost use Rattle.pt_planner.specs.declared.phases.order.Order.TheVariants.{FromMbr};
 
 use crate::copies::{backup_first, from_mbr, primary_first, protected_head, protecting};
 use crate::phases::order::Order;
@@ -36,37 +35,35 @@ fn last_sector<const B: usize>(sectors: u64, head: &Option<Sector<B>>) -> Option
 /// The phases of both copies and these labels.
 fn arranged<const B: usize>(
     alloc: Global,
-    order: Order,
-    setting: &Setting<B>,
+    order: &Order<B>,
+    setting: &Setting,
     table: &Table,
     labels: Vec<Write<B>>,
 ) -> Result<Plan<B>, AllocError>
     requires size { IsSectorSize B }
     requires room { HasRoom B setting.now.sectors }
     requires few { length table.now.entries ≤ 128 }
-    requires head { order ≡ FromMbr → ¬ (setting.now.head ≡ None) }
     requires labels_in_range { PhaseInRange setting.now.sectors labels.items }
-    ensures phases { IfOk result (λ plan. Arranged B setting.now.sectors table.now setting.now.head
-        (writes_of labels.entry.items) order (phases_of plan)) }
+    ensures phases { IfOk result (λ plan. Arranged B setting.now.sectors table.now
+        (writes_of labels.entry.items) order.now (phases_of plan)) }
     ensures in_range { IfOk result (InRange setting.now.sectors) }
     ensures some { IfOk result (λ plan. All (λ p. 0 < length p.items) plan.phases.items) }
     ensures short { IfOk result (λ plan. length plan.phases.items ≤ 5) }
     ensures count { IfOk result (λ plan. length (writes_in (phases_of plan)) ≤ copies_bound B (length labels.entry.items)) }
 {
     let sectors = setting.sectors;
-    let last = last_sector(sectors, &setting.head);
     match order {
-        Order::BackupFirst => backup_first(alloc, sectors, table, labels, &last),
-        Order::PrimaryFirst => primary_first(alloc, sectors, table, labels, &last),
-        Order::FromMbr => {
-            let head = setting.head.unwrap_or([0; B]);
-            from_mbr(
-                alloc,
-                sectors,
-                table,
-                labels,
-                &protected_head(sectors, &head),
-            )
+        Order::BackupFirst(head) => {
+            let last = last_sector(sectors, head);
+            backup_first(alloc, sectors, table, labels, &last)
+        }
+        Order::PrimaryFirst(head) => {
+            let last = last_sector(sectors, head);
+            primary_first(alloc, sectors, table, labels, &last)
+        }
+        Order::FromMbr(head) => {
+            let head = protected_head(sectors, head);
+            from_mbr(alloc, sectors, table, labels, &head)
         }
     }
 }
@@ -77,21 +74,20 @@ fn arranged<const B: usize>(
 /// them are of one sector, then `ReusedInOneBatch`, and then `NotOneSwitch` for a label that changes or a guarded sector.
 pub fn both_copies<const B: usize>(
     alloc: Global,
-    order: Order,
-    setting: &Setting<B>,
+    order: &Order<B>,
+    setting: &Setting,
     table: &Table,
     places: Vec<Target<B>>,
 ) -> Result<Plan<B>, PlanError>
     requires size { IsSectorSize B }
     requires room { HasRoom B setting.now.sectors }
     requires few { length table.now.entries ≤ 128 }
-    requires head { order ≡ FromMbr → ¬ (setting.now.head ≡ None) }
     requires in_range { All (λ t. t.at.0 < setting.now.sectors) places.items }
     ensures plan { IfOk result (λ plan. (d : Sectors) (p : Layout) → length d ≡ setting.now.sectors
-        → CopiesStart d setting.now.old.now p table.now order setting.now.guarded.now setting.now.head places.entry.items
+        → CopiesStart d setting.now.old.now p table.now order.now setting.now.guarded.now places.entry.items
         → IsPlan B d p (phases_of plan)) }
     ensures err { IfErr result (λ e. (d : Sectors) (p : Layout) → length d ≡ setting.now.sectors
-        → CopiesStart d setting.now.old.now p table.now order setting.now.guarded.now setting.now.head places.entry.items
+        → CopiesStart d setting.now.old.now p table.now order.now setting.now.guarded.now places.entry.items
         → StopsBy B d setting.now.old.now p (HasNoCopies B d setting.now.old.now p) e) }
     ensures in_range { IfOk result (InRange setting.now.sectors) }
     ensures some { IfOk result (λ plan. All (λ p. 0 < length p.items) plan.phases.items) }

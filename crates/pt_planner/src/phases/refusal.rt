@@ -11,27 +11,27 @@ use pt_cases::targets::{PlanError, Target, TargetKind, first_change, first_owned
 use pt_recover::{Layout, Trace};
 
 /// How many phases come before the one with which the disk turns.
-fn phases_before_switch(order: Order) -> usize
-    ensures { result ≡ phases_before order }
+fn phases_before_switch<const B: usize>(order: &Order<B>) -> usize
+    ensures { result ≡ phases_before order.now }
 {
     match order {
-        Order::BackupFirst => 1,
-        Order::PrimaryFirst => 2,
-        Order::FromMbr => 1,
+        Order::BackupFirst(_) => 1,
+        Order::PrimaryFirst(_) => 2,
+        Order::FromMbr(_) => 1,
     }
 }
 
 /// Whether there is nothing against the plan: no write of it and no label that changes is of an owned sector, no label
 /// changes beside the switch, and no guarded sector is written before it.
 pub(crate) fn accept<const B: usize>(
-    order: Order,
+    order: &Order<B>,
     old: &Option<Layout>,
     guarded: &Trace,
     targets: &[Target<B>],
     plan: &Plan<B>,
 ) -> Result<(), PlanError>
-    ensures ok { OnOk result (Passes old.now guarded.now order targets.now (phases_of plan.now)) }
-    ensures err { IfErr result (RefusedBy old.now guarded.now order targets.now (phases_of plan.now)) }
+    ensures ok { OnOk result (Passes old.now guarded.now order.now targets.now (phases_of plan.now)) }
+    ensures err { IfErr result (RefusedBy old.now guarded.now order.now targets.now (phases_of plan.now)) }
 {
     if touches_owned(old, &plan.phases) {
         return Err(PlanError::ReusedInOneBatch);

@@ -1,7 +1,6 @@
 //! The plans of both copies on a disk of 4096 sectors.
 
-ghost use Rattle.std.specs.Prelude.{◌≡◌, ◌<◌, ◌≤◌, All, None, length, IfOk};
-ghost use Rattle.pt_planner.specs.declared.phases.order.Order.TheVariants.{FromMbr};
+ghost use Rattle.std.specs.Prelude.{◌≡◌, ◌<◌, ◌≤◌, All, length, IfOk};
 
 use pt_cases::targets::{PlanError, Target, TargetKind};
 use pt_gpt::{Entries, Table};
@@ -9,7 +8,7 @@ use pt_guid::Guid;
 use pt_layout::{Body, Ebrs, Labels, Layout, Trace};
 use pt_mbr::Record;
 use pt_planner::phases::{Order, Setting, both_copies};
-use pt_sector::{Lba, Sector};
+use pt_sector::Lba;
 use std::alloc::{AllocError, Global};
 use std::test::Fail;
 
@@ -66,12 +65,11 @@ fn two(alloc: Global, first: u64, second: u64) -> Result<Vec<Target<512>>, Alloc
 /// How many writes each phase has.
 fn counts(
     alloc: Global,
-    order: Order,
-    setting: &Setting<512>,
+    order: &Order<512>,
+    setting: &Setting,
     places: Vec<Target<512>>,
 ) -> Result<[usize; 5], PlanError>
     requires sectors { setting.now.sectors ≡ 4096 }
-    requires head { order ≡ FromMbr → ¬ (setting.now.head ≡ None) }
     requires in_range { All (λ t. t.at.0 < 4096) places.items }
 {
     let plan = both_copies(alloc, order, setting, &table(alloc)?, places)?;
@@ -84,20 +82,14 @@ fn counts(
     Ok(counts)
 }
 
-/// A disk that denotes this, with these guarded sectors and a sector 0 of zeros.
-fn setting<'a>(
-    old: &'a Option<Layout>,
-    guarded: &'a Trace,
-    head: Option<Sector<512>>,
-) -> Setting<'a, 512>
-    ensures sectors { result.sectors ≡ 4096 }
-    ensures head { result.head ≡ head }
+/// A disk that denotes this, with these guarded sectors.
+fn setting<'a>(old: &'a Option<Layout>, guarded: &'a Trace) -> Setting<'a>
+    ensures { result.sectors ≡ 4096 }
 {
     Setting {
         sectors: SECTORS,
         old,
         guarded,
-        head,
     }
 }
 
@@ -121,26 +113,24 @@ fn one_partition(alloc: Global) -> Layout {
     }
 }
 
-/// The counts on a disk that denotes nothing, with this sector 0 or a protective one.
+/// The counts on a disk that denotes nothing.
 fn counts_on_none(
     alloc: Global,
-    order: Order,
-    head: Option<Sector<512>>,
+    order: &Order<512>,
     places: Vec<Target<512>>,
 ) -> Result<[usize; 5], PlanError>
-    requires head { order ≡ FromMbr → ¬ (head ≡ None) }
     requires in_range { All (λ t. t.at.0 < 4096) places.items }
 {
     let guarded = Trace::new(alloc);
-    counts(alloc, order, &setting(&None, &guarded, head), places)
+    counts(alloc, order, &setting(&None, &guarded), places)
 }
 
 #[test]
 fn orders_with_labels(rt: HostRuntime) -> Result<(), Fail> {
     let alloc = rt.alloc();
-    let blank = Some(ZEROS);
+    let order = Order::BackupFirst(Some(ZEROS));
     let places = two(alloc, 200, 100)?;
-    let with_labels = counts_on_none(alloc, Order::BackupFirst, blank, places);
+    let with_labels = counts_on_none(alloc, &order, places);
     assert!(rt; with_labels == Ok([35, 1, 32, 1, 1]));
     Ok(())
 }
@@ -156,8 +146,9 @@ fn counts_on_one(
     guarded.add_one(1)?;
     guarded.add_one(50)?;
     let old = Some(one_partition(alloc));
-    let on_one = setting(&old, &guarded, None);
-    Ok(counts(alloc, Order::BackupFirst, &on_one, places))
+    let on_one = setting(&old, &guarded);
+    let order = Order::BackupFirst(None);
+    Ok(counts(alloc, &order, &on_one, places))
 }
 
 #[test]

@@ -8,7 +8,7 @@ use Rattle.pt_cases.specs.Unplanned.{fault_in}
 use Rattle.pt_cases.specs.declared.targets.target.Target.{Target}
 use Rattle.pt_planner.specs.PlanReads.{head}
 use Rattle.pt_planner.proofs.Failing.{faultless_nowhere}
-use Rattle.pt_planner.proofs.Making.{ok_so, err_so, turn_hinders, copies_hinder, label_start, copies_start, isnt, order_mbr}
+use Rattle.pt_planner.proofs.Making.{ok_so, err_so, turn_hinders, copies_hinder, label_start, copies_start, isnt}
 use Rattle.pt_planner.proofs.plans.to_gpt.Goals as goal
 
 pub returns-then-changes_labels : goal.returns-then-changes_labels
@@ -35,13 +35,13 @@ returns-then-changes_labels g c =
           c.one_label.ensures.err;
     }
 
-pub returns-in_err-head : goal.returns-in_err-head
-returns-in_err-head g c =
+pub returns-in_err-order : goal.returns-in_err-order
+returns-in_err-order g c =
     let p = err_from_is_err_and c.from_residual.result c.from_residual.ensures.1 in
     record {
-      same = c.in_err-head.ensures.same;
-      blames = rw (p.1, p.2) c.in_err-head.ensures.blames;
-      place = rw (p.1, p.2) (head c.in_err-head.ensures.place);
+      same = c.in_err-order.ensures.same;
+      blames = rw (p.1, p.2) c.in_err-order.ensures.blames;
+      place = rw (p.1, p.2) (head c.in_err-order.ensures.place);
       in_range = rw p.1 tt;
       some = rw p.1 tt;
       plan = λ tells. rw p.1 tt;
@@ -50,16 +50,16 @@ returns-in_err-head g c =
 
 pub returns : goal.returns
 returns g c =
-    let same = c.sectors.ensures ∙ c.in_ok-head.ensures.same.same_count in
+    let same = c.sectors.ensures ∙ c.in_ok-order.ensures.same.same_count in
     let start = λ (tells : g.D.Disk.tells).
-    (copies_start (g.D.Disk.told c.args.disk.now).seen c.args.known.now c.args.wanted.now c.args.table.now c.order_of.result
-    c.in_ok-head.head c.args.places.items (c.requires.known tells) (c.requires.start tells) c.requires.body
+    (copies_start (g.D.Disk.told c.args.disk.now).seen c.args.known.now c.args.wanted.now c.args.table.now c.in_ok-order.order
+    c.args.places.items (c.requires.known tells) (c.requires.start tells) c.requires.body
     (subst (λ n. FitsTable g.row.B n c.args.table.now) (sym (g.met.D.Disk.sized c.args.disk.now tells)) c.requires.fits)
-    (isnt c.changes_labels.result c.if-changes_labels.false c.changes_labels.ensures) c.order_of.ensures (c.in_ok-head.ensures.ok tells)
+    (isnt c.changes_labels.result c.if-changes_labels.false c.changes_labels.ensures) (c.in_ok-order.ensures.order tells)
     (c.requires.places tells)) in
     record {
-      same = c.in_ok-head.ensures.same;
-      blames = blames_none fault_in c.both_copies.result _ _ c.both_copies.ensures.faultless c.in_ok-head.ensures.blames;
+      same = c.in_ok-order.ensures.same;
+      blames = blames_none fault_in c.both_copies.result _ _ c.both_copies.ensures.faultless c.in_ok-order.ensures.blames;
       place = faultless_nowhere _ c.both_copies.result c.both_copies.ensures.faultless;
       in_range = subst (λ (n : ℕ). IfOk c.both_copies.result (InRange n)) same c.both_copies.ensures.in_range;
       some = c.both_copies.ensures.some;
@@ -78,7 +78,7 @@ returns g c =
 
 pub both_copies-requires : goal.both_copies-requires
 both_copies-requires g c =
-    let count = sym (c.sectors.ensures ∙ c.in_ok-head.ensures.same.same_count) in
+    let count = sym (c.sectors.ensures ∙ c.in_ok-order.ensures.same.same_count) in
     let fits = subst (λ (n : ℕ). FitsTable g.row.B n c.args.table.now) count c.requires.fits in (
       search rules,
       (
@@ -91,10 +91,7 @@ both_copies-requires g c =
               fits.room,
               (
                 fits.most,
-                (
-                  λ is. c.in_ok-head.ensures.given (order_mbr c.args.known.now.head c.args.known.now.primary _ c.order_of.ensures is),
-                  subst (λ (n : ℕ). All (λ (t : Target g.row.B). t.at.0 < n) c.args.places.items) count c.requires.in_range,
-                ),
+                subst (λ (n : ℕ). All (λ (t : Target g.row.B). t.at.0 < n) c.args.places.items) count c.requires.in_range,
               ),
             ),
           ),

@@ -67,7 +67,7 @@ returns-in-Some g c =
     rw c.in-Some.is at (c.in_ok-targets.ensures.some tells) in
     mbr_start d n c.args.known.now c.args.wanted.now change c.in-Some.heads.items c.args.places.items
     (g.met.D.Disk.sized c.args.disk.now tells) (c.requires.known tells) (c.requires.start tells) c.requires.change c.requires.body
-    c.are_four.ensures heads (c.requires.places tells)) in
+    c.requires.change.four heads (c.requires.places tells)) in
     record {
       same = c.in_ok-targets.ensures.same;
       blames = blames_none fault_in result _ _ c.within_mbr.ensures.faultless c.in_ok-targets.ensures.blames;

@@ -1,6 +1,6 @@
 use Rattle.std.proofs.Common.{rules}
 use Rattle.pt_apply.specs.Plans.{writes_of}
-use Rattle.pt_planner.proofs.Shapes.{backup_first_short, primary_first_short, from_mbr_short, from_mbr_arranged, unwrapped}
+use Rattle.pt_planner.proofs.Shapes.{backup_first_short, primary_first_short, from_mbr_short}
 use Rattle.pt_planner.proofs.phases.copies.arranged.Goals as goal
 
 pub returns-in-BackupFirst-clause-short : goal.returns-in-BackupFirst-clause-short
@@ -11,20 +11,12 @@ returns-in-BackupFirst-clause-short g c =
 pub returns-in-PrimaryFirst-clause-short : goal.returns-in-PrimaryFirst-clause-short
 returns-in-PrimaryFirst-clause-short g c =
     primary_first_short c.args.setting.now.sectors c.args.table.now
-    (writes_of c.args.labels.items) c.last_sector-last.result c.primary_first.result c.primary_first.ensures.phases
-
-pub returns-in-FromMbr-clause-phases : goal.returns-in-FromMbr-clause-phases
-returns-in-FromMbr-clause-phases g c =
-    from_mbr_arranged c.args.setting.now.sectors c.args.table.now
-    (writes_of c.args.labels.items) c.args.setting.now.head c.unwrap_or-head.result c.protected_head.result c.args.order c.from_mbr.result
-    c.in-FromMbr.is
-    (unwrapped c.args.setting.now.head _ c.unwrap_or-head.result c.unwrap_or-head.ensures
-    (c.requires.head c.in-FromMbr.is)) c.protected_head.ensures c.from_mbr.ensures.phases
+    (writes_of c.args.labels.items) c.last_sector-last-in-PrimaryFirst.result c.primary_first.result c.primary_first.ensures.phases
 
 pub returns-in-FromMbr-clause-short : goal.returns-in-FromMbr-clause-short
 returns-in-FromMbr-clause-short g c =
     from_mbr_short c.args.setting.now.sectors c.args.table.now
-    (writes_of c.args.labels.items) c.protected_head.result c.from_mbr.result c.from_mbr.ensures.phases
+    (writes_of c.args.labels.items) c.protected_head-head.result c.from_mbr.result c.from_mbr.ensures.phases
 
 pub backup_first-requires : goal.backup_first-requires
 backup_first-requires g c = (

@@ -11,7 +11,7 @@ returns-then-touches-clause-err g c = (
       (unless _ c.if-touches_owned.ensures),
   search rules,
   inr (first_touch (IsIn c.args.guarded.now) c.args.plan.now.phases.items c.deref-2.result.now c.min-count.result
-      (phases_before c.args.order) c.len.result c.deref-2.ensures.value
+      (phases_before c.args.order.now) c.len.result c.deref-2.ensures.value
       (c.min-count.ensures ∙ ap (λ (k : ℕ). min k c.len.result) c.phases_before_switch.ensures)
       (omega (arith, c.len.ensures))
       (when _ c.if-touches.ensures)),
@@ -39,7 +39,7 @@ returns-clause-ok g c = record {
       (unless _ c.if-touches_owned.ensures);
   settled = search rules;
   unguarded = first_free (IsIn c.args.guarded.now) c.args.plan.now.phases.items c.deref-2.result.now c.min-count.result
-      (phases_before c.args.order) c.len.result c.deref-2.ensures.value
+      (phases_before c.args.order.now) c.len.result c.deref-2.ensures.value
       (c.min-count.ensures ∙ ap (λ (k : ℕ). min k c.len.result) c.phases_before_switch.ensures)
       (omega (arith, c.len.ensures))
       (unless _ c.if-touches.ensures);
