@@ -1,7 +1,7 @@
 #!/usr/bin/env bash
 # Installs the program and ptab-run, their man pages and the program's completion for bash, zsh and fish under PREFIX, and the library for
-# callers in C (headers, archive, shared object and a pkg-config file) with its module for Python, and says so in one line a file. It needs no root for a PREFIX of
-# one's own.
+# callers in C (headers, archive, shared object and a pkg-config file) with its module for Python, and says so in one line a file.
+# It needs no root for a PREFIX of one's own.
 #
 # usage: ./install.sh PREFIX
 #   PTAB=FILE     installs this program, and no library without LIBRARY; else the built one, which packaging/build.py proves and builds

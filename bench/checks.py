@@ -36,7 +36,8 @@ def slice_label():
 def labelled_gpt():
     """A GPT of 128 slices, each with a label, and the label places."""
     firsts = [1000 + APART * k for k in range(128)]
-    image = SMALL.gpt(65536, {k + 1: entry(first, first + 299, FREEBSD, guid(k + 1), name=f"part {k + 1}") for k, first in enumerate(firsts)})
+    image = SMALL.gpt(65536, {k + 1: entry(first, first + 299, FREEBSD, guid(k + 1), name=f"part {k + 1}")
+                              for k, first in enumerate(firsts)})
     for first in firsts:
         SMALL.put(image, first + 1, slice_label())
     return image, [first + 1 for first in firsts]

@@ -1,5 +1,6 @@
 #!/usr/bin/env python3
-"""Checks one crate over what packaging/build.py proved below it, which it is asked for first. What is proved is kept, so that the next check
+"""Checks one crate over what packaging/build.py proved below it, which it is asked for first. What is proved is kept, so that the
+next check
 after an edit is short. Its last line begins with logic=proved where the whole crate is.
 
 usage: packaging/check.py CRATE [FLAG..]     flags of `rattle check`, as --only MODULE::FUNCTION, --allow-holes, --start FUNCTION

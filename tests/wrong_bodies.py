@@ -10,7 +10,8 @@ usage: tests/wrong_bodies.py [-v] [--keep DIR] [--beside FILE] [NAME[/BODY]..]  
 
 A wrong body is put into a copy of the crate as a second function beside the right one, with the same signature and contract and no proof by
 hand. For each function that has wrong bodies one more is put there, which only calls the right one: it must be proved. All of a crate are
-tried in one check, beside `rt ci` without those that are to be tried by hand. It ends with status 1 where a body isn't refused at its clause.
+tried in one check, beside `rt ci` without those that are to be tried by hand. It ends with status 1 where a body isn't refused
+at its clause.
 """
 import argparse
 import contextlib

@@ -34,7 +34,8 @@ OF_ALL = ("device", "memory")
 SENTENCES = (("pt_gpt/src/error.rt", "CopyError", "show", "{}"), ("pt_mbr/src/chain.rt", "ChainError", "show", "no table: chain {}"),
              ("pt_recover/src/error.rt", "NoTable", "show", None), ("pt_layout/src/sound/finding.rt", "Finding", "verify", "no {}"),
              ("pt_words/src/error.rt", "EditError", "edit", None), ("pt_words/src/error.rt", "Refusal", "edit", "refused: edit {}"),
-             ("pt_check/src/answer.rt", "Why", "check", "no {}"), ("pt_cases/src/targets/error.rt", "PlanError", "edit", "refused: plan {}"),
+             ("pt_check/src/answer.rt", "Why", "check", "no {}"),
+             ("pt_cases/src/targets/error.rt", "PlanError", "edit", "refused: plan {}"),
              ("pt_plan/src/repair_error.rt", "RepairError", "repair", None), ("pt_plan/src/like_error.rt", "LikeError", "adopt", None),
              ("pt_apply/src/error.rt", "PlanTextError", "check", None))
 # of an error that the library wraps in another; the command prints it alone

@@ -200,7 +200,8 @@ def usage(ptab, image):
                   ["edit", image, "--fresh", "", "--fresh", "", "c:1:x"], ["show", "--fresh", "", image],
                   ["repair"], ["repair", image, image], ["repair", image, "c:1:x"], ["repair", "--fresh", "", image],
                   ["repair", "--force", image], ["edit", "--no-lock", "--no-lock", image, "c:1:x"],
-                  ["edit", "--no-lock=1", image, "c:1:x"], ["show", "--no-lock", image], ["plan", "--no-lock", image, "c:1:x"], ["check", "--no-lock", image, image],
+                  ["edit", "--no-lock=1", image, "c:1:x"], ["show", "--no-lock", image],
+                  ["plan", "--no-lock", image, "c:1:x"], ["check", "--no-lock", image, image],
                   ["--no-lock", "repair", image], ["show", image, "--after"], ["show", "--after", "", "--after", "", image],
                   ["verify", "--after", image, image], ["check", "--after", image, image, image]):
         expect(ptab, words, image, "", None, 2)
@@ -221,10 +222,12 @@ def not_text(ptab, folder):
     image, log = file_of(folder, "text.img", one_partition()), f"{folder}/log"
     plan = file_of(folder, "no_plan", b"")
     lines = [[b"show", bad], [b"verify", bad], [b"locate", bad, b"1", b"0"], [b"edit", bad, b"c:1:x"], [b"plan", bad, b"c:1:x"],
-             [b"check", bad, plan], [b"check", image, bad], [b"show", image, b"--after", bad], [b"apply", bad, plan], [b"apply", image, bad], [b"repair", bad],
+             [b"check", bad, plan], [b"check", image, bad], [b"show", image, b"--after", bad],
+             [b"apply", bad, plan], [b"apply", image, bad], [b"repair", bad],
              [b"edit", image, b"c:1:\xe9t\xe9"], [b"edit", image, b"d:1", b"\xed\xa0\x80"], [b"edit", image, b"x", b"\xc0\x80"],
              [b"edit", image, b"--fresh", b"\x80", b"c:1:x"], [b"locate", image, b"\xf5", b"x"],
-             [b"show", image, b"--sector-size", b"\xfe"], [b"show", image, b"--\xff"], [b"\xff"], [b"--help", b"\xff"], [b"repair", image, b"--no-lock", b"\xff"]]
+             [b"show", image, b"--sector-size", b"\xfe"], [b"show", image, b"--\xff"], [b"\xff"], [b"--help", b"\xff"],
+             [b"repair", image, b"--no-lock", b"\xff"]]
     for words in lines:
         done = subprocess.run(["strace", "-qq", "-e", "trace=file,flock", "-o", log, ptab, *words], capture_output=True)
         found = done.stdout, done.stderr, done.returncode

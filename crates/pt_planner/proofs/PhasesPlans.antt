@@ -86,7 +86,8 @@ module _ {b : ℕ} (d : Sectors) (o : Option Layout) (p : Layout) (t : Table) (c
       backup is.0 is.1 (omega (arith, low)) it.1))
       (puts_split labels (backup_phase b n t backup_header) s v puts)
 
-  primary_precedes : (given : Option (List ℕ)) → OrderIs b d (PrimaryFirst given) → (s : ℕ) (v : List ℕ) → Puts (closing b ++ primary_and_labels b n t labels) s v
+  primary_precedes : (given : Option (List ℕ)) → OrderIs b d (PrimaryFirst given) → (s : ℕ) (v : List ℕ)
+      → Puts (closing b ++ primary_and_labels b n t labels) s v
       → WouldPrecede b d o p s
   primary_precedes given is s v puts = ⊎_elim
       (λ header. (let it = one_is 1 s _ v header in primary is.0 is.1 (omega (arith, it)) (omega (arith, it))))

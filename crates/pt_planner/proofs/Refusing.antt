@@ -67,7 +67,8 @@ turn_faultless o guarded ts (Unsound f) is = refl
 turn_faultless o guarded ts (Device fault) is = absurd is
 turn_faultless o guarded ts Memory is = refl
 
-pub refused_faultless : {b : ℕ} (o : Option Layout) (guarded : List TracedRun) (order : Order b) (ts : List (Target b)) (phases : List Writes)
+pub refused_faultless : {b : ℕ} (o : Option Layout) (guarded : List TracedRun) (order : Order b) (ts : List (Target b))
+    (phases : List Writes)
     (e : PlanError) → RefusedBy o guarded order ts phases e → fault_in e ≡ None
 refused_faultless o guarded order ts phases NotOneSwitch is = refl
 refused_faultless o guarded order ts phases ReusedInOneBatch is = refl

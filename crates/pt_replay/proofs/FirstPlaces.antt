@@ -32,9 +32,9 @@ place_here ns k s z lt same =
 other_false : (a b : ℕ) → ¬ (a ≡ b) → nat_eq a b ≡ false
 other_false a b ne = grind arith
 
-pub place_next : (ns : List ℕ) (k s z : ℕ) → k < length ns → ¬ (get_or ns k z ≡ s)
+pub place_on : (ns : List ℕ) (k s z : ℕ) → k < length ns → ¬ (get_or ns k z ≡ s)
     → place_from k (drop k ns) s ≡ place_from (k + 1) (drop (k + 1) ns) s
-place_next ns k s z lt other =
+place_on ns k s z lt other =
     place_cut ns k s z lt
     ∙ ap (λ (c : Bool). if c then Some k else place_from (k + 1) (drop (k + 1) ns) s) (other_false (get_or ns k z) s other)
 

@@ -73,7 +73,8 @@ module _ (count : ℕ) (ns : List ℕ) (ks : Sectors) (ps : List Slice) where
     none = λ is i p lt. absurd (omega (arith, lt));
   }
 
-  module _ (k : ℕ) (z : Slice) (old : List ℕ) (lt : k < length ps) (within : All (λ q. place_of q < count) ps) (so_far : TakenTo k old) where
+  module _ (k : ℕ) (z : Slice) (old : List ℕ) (lt : k < length ps) (within : All (λ q. place_of q < count) ps)
+      (so_far : TakenTo k old) where
     abbrev IsHere : ℕ → Type 0
     IsHere s = IsNew count ns ks s × IsPlace ps s
 

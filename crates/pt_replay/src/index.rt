@@ -27,7 +27,7 @@ fn places_of(alloc: Global, numbers: &[u64]) -> Result<BTreeMap<u64, usize>, All
 }
 
 // The first place of a number, from the front.
-#[tactic(auto, using(crate::proofs::FirstPlaces::place_here, crate::proofs::FirstPlaces::place_next, crate::proofs::FirstPlaces::place_end))]
+#[tactic(auto, using(crate::proofs::FirstPlaces::place_here, crate::proofs::FirstPlaces::place_on, crate::proofs::FirstPlaces::place_end))]
 fn first_place(numbers: &[u64], number: u64) -> Option<usize>
     ensures { result ≡ place_from 0 numbers.now number }
 {

@@ -41,7 +41,8 @@ pub code_is : (code : ℕ) (kind : List ℕ) → types.type_of code ≡ Some kin
 code_is code kind e = code_in types.rows all_found code kind e
 
 none_by : (r : ℕ × Guid) (kind : List ℕ) (rest : Option (ℕ × Guid)) (b : Bool) → bytes_eq r.1.0 kind ≡ b → types.type_of r.0 ≡ Some r.1.0
-    → ((code : ℕ) → types.type_of code ≢ Some kind) → option_map first_of rest ≡ None → option_map first_of (if b then Some r else rest) ≡ None
+    → ((code : ℕ) → types.type_of code ≢ Some kind) → option_map first_of rest ≡ None
+    → option_map first_of (if b then Some r else rest) ≡ None
 none_by r kind rest true is typed none more = absurd (none r.0 (typed ∙ ap Some (same_bytes r.1.0 kind is)))
 none_by r kind rest false is typed none more = more
 

@@ -10,7 +10,8 @@ returns-in-Ok g c = record {
   says = gives_adopting g.row.B c.args.view.now c.args.other.now (disk_of g.row.B c.args.view.now c.args.elsewhere.items)
       (disk_of g.row.B c.args.other.now c.args.beyond.items) (phases_of c.in-Ok.plan)
       (buffers c.args.writes.now c.args.bytes.now) (buffers c.give_plan.new.writes c.give_plan.new.bytes) c.give_plan.result.status
-      c.give_plan.result.reply c.if-other.false c.in-Ok.ensures.view c.in-Ok.ensures.other c.in-Ok.ensures.count c.in-Ok.ensures.ok c.give_plan.ensures.says;
+      c.give_plan.result.reply c.if-other.false c.in-Ok.ensures.view c.in-Ok.ensures.other c.in-Ok.ensures.count
+      c.in-Ok.ensures.ok c.give_plan.ensures.says;
 }
 
 pub returns-in-Err : goal.returns-in-Err

@@ -16,7 +16,8 @@ returns-in-Ok-clause-ok g c =
 pub returns-in-Err-clause-ok : goal.returns-in-Err-clause-ok
 returns-in-Err-clause-ok g c =
     IfOk-weaker c.wanted_by.result _ _
-    (λ list is. lists_alone g.row.B c.args.disk.now.sectors c.args.disk.now.numbers.now c.args.disk.now.known.now _ c.in-Err.why list.items is
+    (λ list is. lists_alone g.row.B c.args.disk.now.sectors c.args.disk.now.numbers.now c.args.disk.now.known.now _ c.in-Err.why
+    list.items is
     (c.in-Err.ensures.err tt) (asked_new _ _ _ _ _ _ _ _ c.recover.ensures.same.through.1 c.in-Err.ensures.blames)
     (c.in-Err.ensures.place tt))
     c.wanted_by.ensures.ok

@@ -26,7 +26,8 @@ returns-in-TooLong g c =
 pub returns-in-NoSignature : goal.returns-in-NoSignature
 returns-in-NoSignature g c =
     let at = c.in-NoSignature.at in
-    subst (λ (t : List ℕ). OnOk c.print_pair.result (Appends (g.E.Write.contents c.args.err.now) (g.E.Write.contents c.print_pair.new.err) t))
+    subst (λ (t : List ℕ). OnOk c.print_pair.result (Appends (g.E.Write.contents c.args.err.now)
+    (g.E.Write.contents c.print_pair.new.err) t))
     (ap (λ (k : ℕ). line (codes "no table: chain" ∷ decimal k ∷ decimal at.0 ∷ []))
     (c.number-in-NoSignature.ensures ∙ ap error_number c.in-NoSignature.error-is)
     ∙ placed c.args.error at c.in-NoSignature.is)
