@@ -1,8 +1,7 @@
 #!/usr/bin/env python3
 """What the calls of the library for callers in C take at worst: for each image and call how many calls it takes until none is wanted,
 those of ptab_wanted among them, how many sectors they are given at last (both ends were read before the first one), the most
-bytes of memory
-that one of them holds, and the milliseconds of all, by ctypes and with the packing of the view.
+bytes of memory that one of them holds, and the milliseconds of all, by ctypes and with the packing of the view.
 
 Then what sectors that are wanted cost: the instructions within the library by which the C example shows images with more and more labels,
 where valgrind is installed. It ends with status 1 where a GPT of slices takes more than three calls, where a chain takes more than one for

@@ -23,6 +23,7 @@ import images
 import ptab as lib
 from images import FREEBSD, SMALL, entry, label, record, room
 from other_test import of_test
+from tools import must
 
 NO_COPY = "no MBR, and neither copy of a GPT exists: the signature isn't EFI PART (primary); the signature isn't EFI PART (backup)"
 HOSTILE = of_test("hostile")
@@ -34,13 +35,6 @@ def same(what, found, wanted):
     checked += 1
     if found != wanted:
         sys.exit(f"bindings: {what}:\n  found  {found!r:.600}\n  wanted {wanted!r:.600}")
-
-
-def must(*words, **more):
-    done = subprocess.run(words, capture_output=True, text=True, **more)
-    if done.returncode != 0:
-        sys.exit(f"{words}: status {done.returncode}\n{done.stdout}{done.stderr}")
-    return done.stdout
 
 
 def put(path, content):

@@ -6,6 +6,7 @@ With the archive of the library for callers in C it installs that too, and compi
 
 usage: tests/callers/install.py PTAB [ARCHIVE]
 """
+import contextlib
 import filecmp
 import os
 import re
@@ -172,10 +173,19 @@ def by_fish(prefix, line):
     return ["fish", "--no-config", "-c", f"source {prefix}/share/fish/vendor_completions.d/ptab.fish; complete -C '{line}'"]
 
 
+def run_again(words, folder):
+    """What a shell did. zsh completes behind a pseudo-terminal, where now and then, under load, it waits for a key for ever: it is begun
+    again then, twice at the most."""
+    for _ in range(2):
+        with contextlib.suppress(subprocess.TimeoutExpired):
+            return subprocess.run(words, cwd=folder, stdin=subprocess.DEVNULL, capture_output=True, text=True, timeout=60)
+    return subprocess.run(words, cwd=folder, stdin=subprocess.DEVNULL, capture_output=True, text=True, timeout=60)
+
+
 def completed(words, line, folder):
     """{what a shell completes: its sentence, where the shell shows one}. An option is left out where none is begun, and one of a letter;
     fish completes capital letters too, where small ones were begun."""
-    done = subprocess.run(words, cwd=folder, stdin=subprocess.DEVNULL, capture_output=True, text=True, timeout=60)
+    done = run_again(words, folder)
     same(f"{words[0]} on {line!r}", (done.returncode, done.stderr), (0, ""))
     last = line.split(" ")[-1]
     found = dict(it.partition("\t")[::2] for it in done.stdout.splitlines())

@@ -16,6 +16,9 @@ import tempfile
 import time
 
 TOP = os.path.abspath(os.path.join(os.path.dirname(os.path.abspath(__file__)), "..", ".."))
+sys.path.insert(0, os.path.join(TOP, "tests", "shared"))
+from tools import must
+
 KIT = "kit-of-the-test logic 0123456789abcdef"
 # a time to come: dpkg-deb itself turns later times into this one, and not earlier ones
 EPOCH = 4_000_000_000
@@ -41,13 +44,6 @@ def same(what, found, wanted):
         sys.exit(f"{what}:\n  found  {found}\n  wanted {wanted}")
 
 
-def run(*words, **more):
-    done = subprocess.run(words, capture_output=True, text=True, **more)
-    if done.returncode != 0:
-        sys.exit(f"{words}: status {done.returncode}\n{done.stdout}{done.stderr}")
-    return done.stdout
-
-
 def content(path):
     with open(path, "rb") as it:
         return it.read()
@@ -55,15 +51,15 @@ def content(path):
 
 def build(ptab, out, cwd, mask=0o022, **more):
     """The package's path, as debian.sh tells it."""
-    told = run(f"{TOP}/packaging/debian.sh", out, cwd=cwd, preexec_fn=lambda: os.umask(mask),
-               env={**os.environ, "PTAB": ptab, "KIT": KIT, "SOURCE_DATE_EPOCH": str(EPOCH), **more})
+    told = must(f"{TOP}/packaging/debian.sh", out, cwd=cwd, preexec_fn=lambda: os.umask(mask),
+                env={**os.environ, "PTAB": ptab, "KIT": KIT, "SOURCE_DATE_EPOCH": str(EPOCH), **more})
     return os.path.join(cwd, told.strip())
 
 
 def listed(deb):
     """What it holds: owners, modes and times are fixed."""
     found = {}
-    for line in run("dpkg-deb", "-c", deb, env={**os.environ, "TZ": "UTC"}).splitlines():
+    for line in must("dpkg-deb", "-c", deb, env={**os.environ, "TZ": "UTC"}).splitlines():
         mode, owner, _, day, hour, path = line.split()
         same(f"the owner of {path}", owner, "root/root")
         same(f"the time of {path}", (day, hour), tuple(time.strftime("%Y-%m-%d %H:%M", time.gmtime(EPOCH)).split()))
@@ -73,13 +69,13 @@ def listed(deb):
 
 def told(deb, sum_of):
     """What it says of itself."""
-    text = run("dpkg-deb", "-I", deb)
-    fields = {name: run("dpkg-deb", "-f", deb, name).strip() for name in
+    text = must("dpkg-deb", "-I", deb)
+    fields = {name: must("dpkg-deb", "-f", deb, name).strip() for name in
               ("Package", "Version", "Architecture", "Depends", "Section", "Priority", "Maintainer", "Description", "Installed-Size")}
-    head = run("git", "-C", TOP, "rev-parse", "HEAD").strip()
+    head = must("git", "-C", TOP, "rev-parse", "HEAD").strip()
     same("its name", (fields["Package"], fields["Section"], fields["Priority"]), ("ptab", "admin", "optional"))
-    same("its architecture", fields["Architecture"], run("dpkg", "--print-architecture").strip())
-    version = re.escape(run(f"{TOP}/packaging/version.sh").strip())
+    same("its architecture", fields["Architecture"], must("dpkg", "--print-architecture").strip())
+    version = re.escape(must(f"{TOP}/packaging/version.sh").strip())
     same("its version", bool(re.fullmatch(rf"{version}\+git\d{{14}}\.{head[:12]}(\.changed)?", fields["Version"])), True)
     same("its maintainer", bool(re.fullmatch(r"[^<>]+ <[^<>@ ]+@[^<>@ ]+>", fields["Maintainer"])), True)
     same("what it needs", bool(re.fullmatch(r"libc6 \(>= 2\.\d+\)", fields["Depends"])), True)
@@ -93,10 +89,10 @@ def told(deb, sum_of):
 
 def unpacked(ptab, deb, folder, commit, fields, sum_of):
     tree, control = f"{folder}/tree", f"{folder}/control"
-    run("dpkg-deb", "-x", deb, tree)
-    run("dpkg-deb", "-e", deb, control)
+    must("dpkg-deb", "-x", deb, tree)
+    must("dpkg-deb", "-e", deb, control)
     same("the program", content(f"{tree}/usr/bin/ptab") == content(ptab), True)
-    same("the program runs", run(f"{tree}/usr/bin/ptab", "--help"), run(ptab, "--help"))
+    same("the program runs", must(f"{tree}/usr/bin/ptab", "--help"), must(ptab, "--help"))
     for name in ("ptab", "ptab-run"):
         same("the man page", gzip.decompress(content(f"{tree}/usr/share/man/man8/{name}.8.gz")) == content(f"{TOP}/man/{name}.8"), True)
     same("ptab-run", content(f"{tree}/usr/bin/ptab-run") == content(f"{TOP}/tools/ptab-run"), True)
@@ -107,7 +103,7 @@ def unpacked(ptab, deb, folder, commit, fields, sum_of):
          ["program: /usr/bin/ptab", f"sha256: {sum_of}", f"commit: {commit}", f"kit: {KIT}", f"time: {EPOCH}"])
     changes = gzip.decompress(content(f"{tree}/usr/share/doc/ptab/changelog.gz")).decode().splitlines()
     same("the changelog's first line", changes[0], f"ptab ({fields['Version']}) unstable; urgency=medium")
-    author = run("git", "-C", TOP, "log", "-1", "--format=%an <%ae>").strip()
+    author = must("git", "-C", TOP, "log", "-1", "--format=%an <%ae>").strip()
     hour = time.strftime("%a, %d %b %Y %H:%M:%S +0000", time.gmtime(EPOCH))
     same("the changelog's last line", changes[-1], f" -- {author}  {hour}")
     same("the changelog tells the commit", f"(commit {commit.removesuffix('-changed')})" in " ".join(changes), True)
@@ -118,28 +114,28 @@ def unpacked(ptab, deb, folder, commit, fields, sum_of):
     same("its size", int(fields["Installed-Size"]), sum((os.path.getsize(f"{tree}/{path}") + 1023) // 1024 for path in FILES))
     # as BUILD says: the package again, from the installed program
     line = re.search(r"^    PTAB=/usr/bin/ptab (.*) packaging/debian.sh ptab.deb$", built, re.MULTILINE).group(1)
-    done = run("sh", "-c", f"{line} PTAB={tree}/usr/bin/ptab {TOP}/packaging/debian.sh {folder}/again.deb")
+    done = must("sh", "-c", f"{line} PTAB={tree}/usr/bin/ptab {TOP}/packaging/debian.sh {folder}/again.deb")
     same("the package again", (done, content(f"{folder}/again.deb") == content(deb)), (f"{folder}/again.deb\n", True))
 
 
 def library(archive, folder):
     """The package of the library, built twice; what it holds."""
     def built(out, mask, **more):
-        return run(f"{TOP}/packaging/debian_dev.sh", out, preexec_fn=lambda: os.umask(mask),
+        return must(f"{TOP}/packaging/debian_dev.sh", out, preexec_fn=lambda: os.umask(mask),
                    env={**os.environ, "LIBRARY": archive, "KIT": KIT, "SOURCE_DATE_EPOCH": str(EPOCH), **more}).strip()
     os.mkdir(f"{folder}/dev")
     deb, again = built(f"{folder}/dev", 0o022), built(f"{folder}/dev.deb", 0o077, TZ="Asia/Tokyo", HOME=folder)
     same("the bytes of both packages of the library", content(deb) == content(again), True)
-    found = {line.split()[5].removeprefix("./") for line in run("dpkg-deb", "-c", deb).splitlines() if not line.startswith("d")}
+    found = {line.split()[5].removeprefix("./") for line in must("dpkg-deb", "-c", deb).splitlines() if not line.startswith("d")}
     same("what the library's package holds", found, {f"usr/{place}" for place in DEV})
-    run("dpkg-deb", "-x", deb, f"{folder}/devtree")
+    must("dpkg-deb", "-x", deb, f"{folder}/devtree")
     for place, source in (("include/ptab.h", "include/ptab.h"), ("include/ptab_disk.h", "include/ptab_disk.h"),
                           ("lib/python3/dist-packages/ptab.py", "bindings/python/ptab.py")):
         same(f"its {place}", content(f"{folder}/devtree/usr/{place}") == content(f"{TOP}/{source}"), True)
     with open(f"{folder}/devtree/usr/lib/pkgconfig/ptab.pc", encoding="utf-8") as it:
         same("no path that the loader knows", "rpath" in it.read(), False)
     sum_of = hashlib.sha256(content(archive)).hexdigest()
-    same("its description's end", run("dpkg-deb", "-f", deb, "Description").splitlines()[-1].strip(),
+    same("its description's end", must("dpkg-deb", "-f", deb, "Description").splitlines()[-1].strip(),
          f"SHA-256 of the proved archive: {sum_of}")
 
 

@@ -135,7 +135,7 @@ class Gone:
         return count, new
 
     def fails_in_writes(self, loop, room):
-        """How often a device failed for want of pages, and the new table was left."""
+        """How often a device failed for lack of pages, and the new table was left."""
         count, new = 0, 0
         for which in range(2):
             for pages in range(0, 40):

@@ -10,11 +10,10 @@ import re
 import struct
 import sys
 import tempfile
-from concurrent.futures import ProcessPoolExecutor
 from dataclasses import dataclass
 
 sys.path.insert(0, os.path.join(os.path.dirname(os.path.abspath(__file__)), "..", "shared"))
-from tools import by_fdisk, by_parted, by_sfdisk, must, run
+from tools import by_fdisk, by_parted, by_sfdisk, must, over_seeds, run
 
 KINDS = (0x83, 0x82, 0x07, 0x0B, 0x0C, 0xEF, 0x8E, 0xFD)
 NO_FAULT = re.compile(r"No errors detected|omitting empty partition|Remaining \d+ unallocated|table entries are not in disk order")
@@ -260,12 +259,5 @@ def disk_made_and_edited(ptab, seed):
     return checked - before
 
 
-def main():
-    ptab = os.path.abspath(sys.argv[1])
-    count = int(sys.argv[2]) if len(sys.argv) > 2 else 16
-    with ProcessPoolExecutor() as pool:
-        done = [pool.submit(disk_made_and_edited, ptab, seed) for seed in range(count)]
-        print(f"against sfdisk: {sum(it.result() for it in done)} passed, 0 failed")
-
-
-main()
+if __name__ == "__main__":
+    over_seeds("against sfdisk", disk_made_and_edited)

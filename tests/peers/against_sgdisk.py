@@ -9,11 +9,10 @@ import random
 import sys
 import tempfile
 import uuid
-from concurrent.futures import ProcessPoolExecutor
 from dataclasses import dataclass
 
 sys.path.insert(0, os.path.join(os.path.dirname(os.path.abspath(__file__)), "..", "shared"))
-from tools import by_fdisk, by_parted, by_sfdisk, by_sgdisk, must, run
+from tools import by_fdisk, by_parted, by_sfdisk, by_sgdisk, must, over_seeds, run
 
 CODES = ("EF00", "8300", "8200", "0700", "A503")
 checked = 0
@@ -162,12 +161,5 @@ def table_made_and_edited(ptab, seed):
     return checked - before
 
 
-def main():
-    ptab = os.path.abspath(sys.argv[1])
-    count = int(sys.argv[2]) if len(sys.argv) > 2 else 16
-    with ProcessPoolExecutor() as pool:
-        done = [pool.submit(table_made_and_edited, ptab, seed) for seed in range(count)]
-        print(f"against sgdisk: {sum(it.result() for it in done)} passed, 0 failed")
-
-
-main()
+if __name__ == "__main__":
+    over_seeds("against sgdisk", table_made_and_edited)

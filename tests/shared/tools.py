@@ -4,6 +4,7 @@ import os
 import re
 import subprocess
 import sys
+from concurrent.futures import ProcessPoolExecutor
 
 TYPES = {
     "C12A7328-F81F-11D2-BA4B-00A0C93EC93B": "EF00",
@@ -17,8 +18,8 @@ BITS = {"RequiredPartition": 0, "NoBlockIOProtocol": 1, "LegacyBIOSBootable": 2}
 ENVIRONMENT = {**os.environ, "LC_ALL": "C.UTF-8"}
 
 
-def run(*words, **more):
-    return subprocess.run(words, capture_output=True, text=True, env=ENVIRONMENT, **more)
+def run(*words, env=None, **more):
+    return subprocess.run(words, capture_output=True, text=True, env=env or ENVIRONMENT, **more)
 
 
 def must(*words, **more):
@@ -26,6 +27,15 @@ def must(*words, **more):
     if done.returncode != 0:
         sys.exit(f"{words}: status {done.returncode}\n{done.stdout}{done.stderr}")
     return done.stdout
+
+
+def over_seeds(name, job):
+    """The command line is PTAB and how many: so often, side by side, `job(ptab, seed)`, which tells how much it compared."""
+    ptab = os.path.abspath(sys.argv[1])
+    count = int(sys.argv[2]) if len(sys.argv) > 2 else 16
+    with ProcessPoolExecutor() as pool:
+        done = [pool.submit(job, ptab, seed) for seed in range(count)]
+        print(f"{name}: {sum(it.result() for it in done)} passed, 0 failed")
 
 
 def parted(size, *words):

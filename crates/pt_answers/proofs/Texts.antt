@@ -1,4 +1,4 @@
--- What is said: the answer to a plan that was made, its text or want of memory for it; and nothing.
+-- What is said: the answer to a plan that was made, its text or lack of memory for it; and nothing.
 use Rattle.std.proofs.Common.{◌≡◌, ◌∙◌, List, ℕ, sym, refl, Ok, Err, Some, None}
 use Rattle.std.specs.Prelude.{Option, Result}
 use Rattle.std.specs.Io.KnownBytes.{Keeps}

@@ -73,7 +73,7 @@ abbrev pub Locates : ℕ → Sectors → Path → ℕ → Result (Option Lba) No
 Locates b d p k (Ok place) = (o : Layout) × Denotes b d (Some o) × PlaceIs b o p k place
 Locates b d p k (Err why) = TellsNothing b d why
 
--- the path and the number that two texts are; the path's fault is told first
+-- the path and the number that two texts are; the path's fault is reported first
 abbrev pub NamesPlace : List ℕ → List ℕ → Result (Path × ℕ) Failure → Type 0
 NamesPlace path number (Ok named) = IsPath path named.0 × IsNumber number named.1
 NamesPlace path number (Err failure.BadPath) = (p : Path) → ¬ IsPath path p

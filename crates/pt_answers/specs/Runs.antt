@@ -11,6 +11,7 @@ use Rattle.pt_disks.specs.declared.device.NoDevice.TheVariants as opening
 use Rattle.pt_disks.specs.declared.open.Access.{Access}
 use Rattle.pt_disks.specs.declared.open.Access.TheVariants.{Read, Write, WriteUnlocked}
 use Rattle.pt_line.specs.Lines.{Means}
+use Rattle.pt_line.specs.declared.line.Adoption.{Adoption}
 use Rattle.pt_line.specs.declared.line.Adoption.TheVariants.{Planned, Written}
 use Rattle.pt_line.specs.declared.line.InUse.TheVariants.{Refused}
 use Rattle.pt_line.specs.declared.line.Job.{Job}
@@ -62,6 +63,14 @@ WithWords fresh words Next old new answer =
 abbrev pub other_as : Medium → Opening
 other_as medium = record { medium = medium; in_use = Refused }
 
+-- the table of another image is taken over, or planned to be
+abbrev pub RunsAdoption : {D : _} {T : Type 0} {B : _} → Ghosts D B → List ℕ → Opening → List ℕ → Medium → Adoption → LockedBy
+    → Doing (Call D T)
+RunsAdoption g image opening other medium Written locked_by old new answer =
+    OnImages image opening (writing locked_by) other (other_as medium) Read (AdoptsFrom g g) old new answer
+RunsAdoption g image opening other medium Planned locked_by old new answer =
+    OnImages image opening Read other (other_as medium) Read (PlansAdopting g g) old new answer
+
 -- what is done for a job: `g` are the ghosts of the disks, and `remaining` the bytes of the file of a plan
 abbrev pub RunsJob : {D : _} {T : Type 0} {B : _} → Ghosts D B → (T → Option (List ℕ)) → Opening → Job → Doing (Call D T)
 RunsJob g remaining opening (job.Help text) old new answer = (new ≡ old) × (answer ≡ Ok (reply.Text text))
@@ -87,10 +96,8 @@ RunsJob {D} {T} {B} g remaining opening (job.Apply image file locked_by) old new
     (λ plan. OnImage (string_bytes image) opening (writing locked_by) (AppliesTo g (phases_of plan))) old new answer
 RunsJob g remaining opening (job.Repair image locked_by) old new answer =
     OnImage (string_bytes image) opening (writing locked_by) (RepairsDisk g) old new answer
-RunsJob g remaining opening (job.Adopt image other medium Written locked_by) old new answer =
-    OnImages (string_bytes image) opening (writing locked_by) (string_bytes other) (other_as medium) Read (AdoptsFrom g g) old new answer
-RunsJob g remaining opening (job.Adopt image other medium Planned locked_by) old new answer =
-    OnImages (string_bytes image) opening Read (string_bytes other) (other_as medium) Read (PlansAdopting g g) old new answer
+RunsJob g remaining opening (job.Adopt image other medium adoption locked_by) old new answer =
+    RunsAdoption g (string_bytes image) opening (string_bytes other) medium adoption locked_by old new answer
 
 -- ## The size of a sector.
 

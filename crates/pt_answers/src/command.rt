@@ -4,7 +4,8 @@ ghost use Rattle.std.specs.Prelude.{◌≡◌, option_map, Ok};
 ghost use Rattle.clap.specs.Walk.{texts as slice_texts};
 ghost use Rattle.pt_sector.specs.Sectors.{IsSectorSize};
 ghost use Rattle.pt_answers.specs.Images.{IsPlanAt};
-ghost use Rattle.pt_answers.specs.Runs.{Prints, RunsJob, RunsLine, RunsSized, RunsWords, Sizes, image_of, other_as, size_of_device};
+ghost use Rattle.pt_answers.specs.Runs.{Prints, RunsAdoption, RunsJob, RunsLine, RunsSized, RunsWords, Sizes};
+ghost use Rattle.pt_answers.specs.Runs.{image_of, other_as, size_of_device};
 
 use crate::failure::Failure;
 use crate::images::{Images, Opening};
@@ -17,7 +18,7 @@ use crate::views::place_named;
 use crate::words::Wanted;
 use pt_apply::Plan;
 use pt_disks::NoDevice;
-use pt_line::{Adoption, InUse, Job, Line, Medium, SectorSize, read_line};
+use pt_line::{Adoption, InUse, Job, Line, LockedBy, Medium, SectorSize, read_line};
 use pt_report::{Reply, Status};
 use pt_sector::Disk;
 use std::alloc::Global;
@@ -34,6 +35,27 @@ fn plan_at<const B: usize, D: Disk<B> + Drop, T: Read + Drop, I: Images<B, D, T>
 {
     let file = images.open_plan(path)?;
     plan_in::<B, T>(alloc, file)
+}
+
+/// What the adoption of another image's table comes to.
+fn adopt<const B: usize, D: Disk<B> + Drop, T: Read + Drop, I: Images<B, D, T>>(
+    alloc: Global,
+    images: &mut I,
+    image: &str,
+    opening: Opening,
+    other: &str,
+    medium: Medium,
+    adoption: Adoption,
+    locked_by: LockedBy,
+) -> Result<Reply, Failure>
+    requires { IsSectorSize B }
+    ensures { RunsAdoption D.Disk image.now opening other.now medium adoption locked_by (I.past images.old) (I.past images.new) result }
+{
+    let there = as_other(medium);
+    match adoption {
+        Adoption::Written => take(alloc, images, image, opening, other, there, locked_by),
+        Adoption::Planned => plan_taking(alloc, images, image, opening, other, there),
+    }
 }
 
 /// What a job comes to: its answer, or why there is none. Words and plans are read before an image is opened.
@@ -102,29 +124,16 @@ fn reply_to<const B: usize, D: Disk<B> + Drop, T: Read + Drop, I: Images<B, D, T
             other_medium,
             adoption,
             locked_by,
-        } => {
-            let (image, other) = (image.as_str(), other.as_str());
-            let other_opening = as_other(other_medium);
-            match adoption {
-                Adoption::Written => take(
-                    alloc,
-                    images,
-                    image,
-                    opening,
-                    other,
-                    other_opening,
-                    locked_by,
-                ),
-                Adoption::Planned => plan_taking(
-                    alloc,
-                    images,
-                    image,
-                    opening,
-                    other,
-                    other_opening,
-                ),
-            }
-        }
+        } => adopt(
+            alloc,
+            images,
+            image.as_str(),
+            opening,
+            other.as_str(),
+            other_medium,
+            adoption,
+            locked_by,
+        ),
     }
 }
 

@@ -10,7 +10,7 @@ use pt_apply::{Plan, plan_text};
 use pt_report::Reply;
 use std::alloc::Global;
 
-// The text of a plan, or want of memory for it.
+// The text of a plan, or lack of memory for it.
 pub(crate) fn text_of_plan<const B: usize>(alloc: Global, plan: &Plan<B>) -> Result<Reply, Failure>
     requires size { IsSectorSize B }
     requires phases { All (λ p. 0 < length p.items) plan.now.phases.items }

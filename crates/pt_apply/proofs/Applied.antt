@@ -7,9 +7,9 @@ use Rattle.pt_sector.specs.Sectors.{Sectors, sector, Writes, Stopped, Puts, writ
 use Rattle.pt_sector.specs.Device.{Told, Moment, MayLeave, LeftBy, LeavesOnly}
 use Rattle.pt_sector.proofs.Since.{leaves_through}
 use Rattle.pt_sector.specs.declared.disk.Fault.{Fault}
-use Rattle.pt_apply.specs.Plans.{writes_of, phases_in, faults_of, Settled, StoppedIn, StoppedSomewhere, Passed, Reached, CallFailed}
+use Rattle.pt_apply.specs.Plans.{writes_of, faults_of, Settled, StoppedIn, StoppedSomewhere, Passed, Reached, CallFailed}
 use Rattle.pt_apply.specs.Plans.{FaultOf}
-use Rattle.pt_apply.specs.inner.Plans.{Within, Ended}
+use Rattle.pt_apply.specs.inner.Plans.{Within, Ended, phases_in}
 use Rattle.pt_apply.specs.declared.plan.Write.{Write}
 use Rattle.pt_apply.proofs.ItemsLemmas.{phase-at}
 use Rattle.pt_apply.proofs.Items.{after-more, length-phases}

@@ -11,7 +11,8 @@ use Rattle.std.proofs.lemmas.Str.{IsUtf8-drop, IsCharBoundary-after_ascii}
 use Rattle.pt_sector.specs.Sectors.{Writes}
 use Rattle.pt_apply.specs.PlanTexts.{joined, LineItem, Put, Flush, IsLine, IsWriteLine, IsFlushLine, AreLines, Begins, PlanText, steps_of}
 use Rattle.pt_apply.specs.PlanTexts.{puts, NoneEmpty, MayFollow, IsBadLine, LacksFlush}
-use Rattle.pt_apply.specs.Plans.{writes_of, phases_in}
+use Rattle.pt_apply.specs.Plans.{writes_of}
+use Rattle.pt_apply.specs.inner.Plans.{phases_in}
 use Rattle.pt_apply.specs.declared.plan.Write.{Write}
 use Rattle.pt_apply.specs.inner.PlanTexts.{Grows, Lacks}
 use Rattle.pt_apply.proofs.Cuts.{one_cut, lacks_cons, lacks_nil, write_lineless, write_no_flush}

@@ -1,13 +1,18 @@
 -- The write at an index, and the phase at an index.
 use Rattle.std.proofs.Common.{◌≡◌, ◌∙◌, inl, inr, ℕ, zero, suc, ◌+◌, ◌<◌, ◌≤◌, List, [], ◌∷◌, length, slice_get, Some, drop, take, get_or}
 use Rattle.std.proofs.Common.{refl, sym, ap, arith, add-one, Vec, Ok, Err}
-use Rattle.std.specs.Prelude.{Result, IfErr}
+use Rattle.std.specs.Prelude.{Result, IfErr, All}
 use Rattle.std.specs.declared.alloc.Global.{Global}
 use Rattle.pt_sector.specs.Sectors.{Sectors, Writes, Puts, written, after}
 use Rattle.pt_sector.specs.declared.disk.Fault.{Fault}
 use Rattle.pt_sector.specs.declared.disk.Fault.TheVariants as fault
-use Rattle.pt_apply.specs.Plans.{writes_of, phases_in, faults_of}
+use Rattle.pt_apply.specs.Plans.{writes_of, faults_of, PhaseInRange}
+use Rattle.pt_apply.specs.inner.Plans.{phases_in}
 use Rattle.pt_apply.specs.declared.plan.Write.{Write}
+
+-- each write of these phases is of a sector below n
+abbrev pub PhasesInRange : {b : _} → ℕ → List (Vec (Write b) Global) → Type 0
+PhasesInRange n ps = All (λ (p : Vec (Write _) Global). PhaseInRange n p.items) ps
 
 pub puts-write : {b : _} (ws : List (Write b)) (i : ℕ) (w : Write b) → i < length ws → w ≡ get_or ws i w
     → Puts (writes_of ws) w.lba.0 w.bytes

@@ -1,7 +1,8 @@
 -- The phase at an index, and the writes from an index on.
 use Rattle.std.proofs.Common.{◌≡◌, ℕ, zero, suc, ◌+◌, ◌<◌, List, [], ◌∷◌, length, drop, get_or, sym, ap, arith, add-one, Vec}
 use Rattle.std.specs.declared.alloc.Global.{Global}
-use Rattle.pt_apply.specs.Plans.{writes_of, phases_in}
+use Rattle.pt_apply.specs.Plans.{writes_of}
+use Rattle.pt_apply.specs.inner.Plans.{phases_in}
 use Rattle.pt_apply.specs.declared.plan.Write.{Write}
 
 pub drop-writes : {b : _} (ws : List (Write b)) (i : ℕ) (w : Write b) → i < length ws → w ≡ get_or ws i w

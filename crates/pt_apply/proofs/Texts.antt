@@ -6,7 +6,8 @@ use Rattle.std.proofs.lemmas.List.Elements.{All-nil, All-cons, All-head, All-tai
 use Rattle.std.specs.Prelude.{All, OnOk, Vec}
 use Rattle.std.specs.declared.alloc.Global.{Global}
 use Rattle.pt_apply.specs.declared.plan.Write.{Write}
-use Rattle.pt_apply.specs.Plans.{writes_of, phases_in}
+use Rattle.pt_apply.specs.Plans.{writes_of}
+use Rattle.pt_apply.specs.inner.Plans.{phases_in}
 use Rattle.pt_sector.specs.Sectors.{Writes}
 use Rattle.pt_apply.specs.PlanTexts.{joined, Flush, AreLines, PlanText, steps_of, puts, NoneEmpty, write_line, writes_text, text_of}
 use Rattle.pt_apply.specs.inner.PlanTexts.{HasLine}

@@ -111,7 +111,7 @@ pub record LacksFlush (b : ℕ) (text : List ℕ) : Type 0 where
   pub begins : Begins b lines phases last
   pub more : 0 < length last
 
--- the fault of a text; want of memory is none
+-- the fault of a text; lack of memory is none
 abbrev pub IsTextFault : ℕ → List ℕ → PlanTextError → Type 0
 IsTextFault b text (BadLine n) = IsBadLine b text n
 IsTextFault b text NoFinalFlush = LacksFlush b text

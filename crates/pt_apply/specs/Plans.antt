@@ -15,12 +15,9 @@ use Rattle.pt_sector.specs.Device.{Told, Moment, MayLeave, LeftBy}
 abbrev pub writes_of : {b : _} → List (Write b) → Writes
 writes_of ws = map (λ (w : Write _). (w.lba.0, w.bytes)) ws
 
-abbrev pub phases_in : {b : _} → List (Vec (Write b) Global) → List Writes
-phases_in ps = map (λ (p : Vec (Write _) Global). writes_of p.items) ps
-
 -- the phases of a plan
 abbrev pub phases_of : {b : _} → Plan b → List Writes
-phases_of plan = phases_in plan.phases.items
+phases_of plan = map (λ (p : Vec (Write _) Global). writes_of p.items) plan.phases.items
 
 -- the writes of all phases, in order
 abbrev pub writes_in : List Writes → Writes
@@ -34,15 +31,12 @@ NoneIs P xs = (k : ℕ) (x : _) → slice_get xs k ≡ Some x → ¬ P x
 abbrev pub finished : {b : _} → Plan b → Sectors → Sectors
 finished plan d = after (phases_of plan) d
 
+-- each write is of a sector below n: of a plan, and of one of its phases
+abbrev pub InRange : {b : _} → ℕ → Plan b → Type 0
+InRange n plan = All (λ (p : Vec (Write _) Global). All (λ (w : Write _). w.lba.0 < n) p.items) plan.phases.items
+
 abbrev pub PhaseInRange : {b : _} → ℕ → List (Write b) → Type 0
 PhaseInRange n ws = All (λ (w : Write _). w.lba.0 < n) ws
-
-abbrev pub PhasesInRange : {b : _} → ℕ → List (Vec (Write b) Global) → Type 0
-PhasesInRange n ps = All (λ (p : Vec (Write _) Global). PhaseInRange n p.items) ps
-
--- each write is of a sector below n
-abbrev pub InRange : {b : _} → ℕ → Plan b → Type 0
-InRange n plan = PhasesInRange n plan.phases.items
 
 -- the fault of each call of a phase, in order: its writes, and then the flush
 abbrev pub faults_of : Writes → List Fault

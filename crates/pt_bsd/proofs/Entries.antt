@@ -1,11 +1,12 @@
 -- Entries that are written in their places.
 use Rattle.std.proofs.Common.{◌≡◌, ◌⊎◌, ℕ, ◌+◌, ◌-◌, ◌≤◌, List, ◌++◌, Option, Some, None, length, take, drop, refl, sym, ap, ◌∙◌, arith}
+use Rattle.pt_sector.specs.Sectors.{number_at}
 use Rattle.std.proofs.Common.{inl, inr}
 use Rattle.std.specs.Prelude.{slice_index_or}
 use Rattle.std.proofs.lemmas.Bool.{cases_lt}
 use Rattle.std.proofs.lemmas.List.{drop-drop, drop_at, length-take-le}
 use Rattle.byteorder.specs.Endian.{little_number}
-use Rattle.pt_bsd.specs.Labels.{number_at, HasEntry, place_of}
+use Rattle.pt_bsd.specs.Labels.{HasEntry, place_of}
 use Rattle.pt_bsd.specs.inner.Labels.{put_at, entry_from, LabelEntryFits, ChangesOnly, EntryIsPut, PutSoFar}
 use Rattle.pt_bsd.specs.declared.label.LabelEntry.{LabelEntry}
 use Rattle.pt_bsd.proofs.Front.{read_back}

@@ -8,7 +8,7 @@ use Rattle.std.proofs.Math.Seq.{take-append-add}
 use Rattle.std.proofs.lemmas.List.Sums.{fold-append}
 use Rattle.byteorder.specs.Endian.{little_number, little_bytes}
 use Rattle.pt_sum.specs.Sums.{words, xor_of}
-use Rattle.pt_bsd.specs.Labels.{number_at}
+use Rattle.pt_sector.specs.Sectors.{number_at}
 use Rattle.pt_bsd.specs.inner.Labels.{put_at}
 use Rattle.pt_bsd.proofs.Front.{read_back}
 

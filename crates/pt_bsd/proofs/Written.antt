@@ -1,11 +1,12 @@
 -- What is written is the label.
 use Rattle.std.proofs.Common.{◌≡◌, ◌⊎◌, ℕ, zero, suc, ◌+◌, ◌<◌, ◌≤◌, List, [], ◌∷◌, Option, Some, None, take, ap, subst, ◌∙◌, arith, lit≤}
+use Rattle.pt_sector.specs.Sectors.{number_at}
 use Rattle.std.proofs.Common.{inl, inr}
 use Rattle.std.specs.Prelude.{slice_range, slice_index_or}
 use Rattle.std.proofs.lemmas.Bool.{cases_lt}
 use Rattle.byteorder.specs.Endian.{little_number}
 use Rattle.pt_sum.specs.Sums.{xor_of}
-use Rattle.pt_bsd.specs.Labels.{number_at, HasSum, HasRaw, HasLabelFields, IsEntry, LabelBytes, entry_of, place_of, counted_in, count_of}
+use Rattle.pt_bsd.specs.Labels.{HasSum, HasRaw, HasLabelFields, IsEntry, LabelBytes, entry_of, place_of, counted_in, count_of}
 use Rattle.pt_bsd.specs.Labels.{IsCounted, IsRaw, FitsSlice}
 use Rattle.pt_bsd.proofs.CountedLemmas.{IsThere}
 use Rattle.pt_bsd.specs.inner.Labels.{ChangesOnly, HasFront, EntryIsPut, PutSoFar}

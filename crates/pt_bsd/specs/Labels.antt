@@ -1,7 +1,7 @@
 -- BSD labels: their bytes, their two forms, and their partitions.
 use Rattle.std.specs.Prelude.{ℕ, ◌+◌, List, slice_range, ◌≡◌, ◌<◌, ◌≤◌, ◌⊎◌, ◌*◌, [], ◌∷◌, Option, Some, None, length, take}
+use Rattle.pt_sector.specs.Sectors.{number_at}
 use Rattle.std.specs.Prelude.{slice_index_or, ◌≢◌, ◌==◌, if◌then◌else◌, replicate, suc, slice_set}
-use Rattle.byteorder.specs.Endian.{little_number}
 use Rattle.pt_sum.specs.Sums.{xor_of}
 use Rattle.pt_bsd.specs.declared.label.Label.{Label}
 use Rattle.pt_bsd.specs.declared.label.LabelEntry.{LabelEntry}
@@ -11,10 +11,6 @@ use Rattle.pt_bsd.specs.declared.form.Form.{Form}
 use Rattle.pt_bsd.specs.declared.form.Form.TheVariants.{Relative, Absolute}
 
 -- ## Numbers in bytes.
-
--- the number in the n bytes from place i, the lowest byte first
-abbrev pub number_at : ℕ → ℕ → List ℕ → ℕ
-number_at i n bytes = little_number n (slice_range bytes i (i + n))
 
 -- ## The BSD label, field by field.
 

@@ -1,8 +1,8 @@
 //! Reading a label from the second sector of a slice.
 
 ghost use Rattle.std.specs.Prelude.{◌≡◌, ◌<◌, ◌≤◌, ◌+◌, ◌↔◌, ℕ, [], ◌∷◌, None, IfOk, IfErr, IsTrue, length, slice_range, slice_index_or};
-ghost use Rattle.pt_sector.specs.Sectors.{IsSectorSize};
-ghost use Rattle.pt_bsd.specs.Labels.{number_at, geometry_at, counted_in, HasMagic, HasMagics, HasCount, HasSum, HasSectorSize, HasRaw};
+ghost use Rattle.pt_sector.specs.Sectors.{IsSectorSize, number_at};
+ghost use Rattle.pt_bsd.specs.Labels.{geometry_at, counted_in, HasMagic, HasMagics, HasCount, HasSum, HasSectorSize, HasRaw};
 ghost use Rattle.pt_bsd.specs.Labels.{HasLabelFields, HasEntry, HasEntries, IsEntry, LabelBytes, IsLabelFault};
 
 use crate::label::{Label, LabelEntry, LabelError};

@@ -4,9 +4,9 @@ ghost use Rattle.std.specs.Prelude.{◌≡◌, ◌<◌, ◌≤◌, ◌+◌, ◌*
 ghost use Rattle.std.specs.Prelude.{replicate, slice_index, slice_index_or};
 ghost use Rattle.std.specs.List.{flat_map};
 ghost use Rattle.byteorder.specs.Endian.{little_bytes};
-ghost use Rattle.pt_sector.specs.Sectors.{IsSectorSize};
+ghost use Rattle.pt_sector.specs.Sectors.{IsSectorSize, number_at};
 ghost use Rattle.pt_sum.specs.Sums.{xor_of};
-ghost use Rattle.pt_bsd.specs.Labels.{number_at, LabelBytes, HasEntry, place_of, end_of, count_of, IsCounted, FitsSlice};
+ghost use Rattle.pt_bsd.specs.Labels.{LabelBytes, HasEntry, place_of, end_of, count_of, IsCounted, FitsSlice};
 ghost use Rattle.pt_bsd.specs.inner.Labels.{put_at, ChangesOnly, head_from, HeadFits, tail_from, TailFits, entry_from, LabelEntryFits};
 ghost use Rattle.pt_bsd.specs.inner.Labels.{HasFront, EntryIsPut, PutSoFar};
 

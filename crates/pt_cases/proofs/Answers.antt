@@ -36,7 +36,7 @@ pub planned_has_no_error : (b : ℕ) (d : Sectors) (o : Option Layout) (p : Layo
 planned_has_no_error b d o p phases e size from keeps plan is =
     planned_no_error_lem b d o p phases e from (edit_fits b d o p size from keeps) plan is
 
--- what is unsound, or a foreign label, is told first
+-- what is unsound, or a foreign label, is reported first
 pub unsound_comes_first : (b : ℕ) (d : Sectors) (o : Option Layout) (p : Layout) (f : Finding) (e : PlanError)
     → IsSectorSize b → Denotes b d o → Keeps b (length d) o p → Unplanned b d p (Unsound f) → Unplanned b d p e → ¬ IsFailure e
     → e ≡ Unsound f

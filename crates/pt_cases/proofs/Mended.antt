@@ -134,7 +134,7 @@ first_foreign b d o n from is = record {
   first = λ m foreign. (let left = foreign_left b d o from m foreign in subst (λ (k : ℕ). n ≤ k) left.2 (is.first left.0 left.1));
 }
 
--- what is unsound is told
+-- what is unsound is reported
 unsound_told : (b : ℕ) (d : Sectors) (o : Layout) (f : Finding) → IsUnsound b o f → IsUnmendable b d o f
 unsound_told b d o (NoTable e) is = is
 unsound_told b d o (PrimaryCopy e) is = is

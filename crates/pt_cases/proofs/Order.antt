@@ -83,7 +83,7 @@ switch_left b d o p fits (other_disk isnt) = absurd (isnt fits.may)
 switch_left b d o p fits (misplaced isnt) = absurd (isnt fits.labels)
 switch_left b d o p fits (targets none why) = causes_left b d o p fits why
 
--- an unsound layout, or a foreign label, is told first
+-- an unsound layout, or a foreign label, is reported first
 pub unsound_first_lem : (b : ℕ) (d : Sectors) (o : Option Layout) (p : Layout) (f : Finding) (e : PlanError) → HasEight p.labels
     → Denotes b d o → (Sound b p → Fitting b d o p) → Unplanned b d p (Unsound f) → Unplanned b d p e → ¬ IsFailure e → e ≡ Unsound f
 unsound_first_lem b d o p f (Unsound g) eight from fits first is real = ap Unsound (unsound_once b d p f g eight first is)
@@ -135,7 +135,7 @@ unmended_frees b d o p fits is (s, cause.both both would, owned) = both.other is
 unmended_frees b d o p fits is (s, cause.target ts t are change at, owned) =
     is.lone.free (subst (OwnedOf b o) (sym at ∙ lone_at b d o p is ts t fits are change) owned)
 
--- a sector in use is told before a switch that isn't one, and before a repair
+-- a sector in use is reported before a switch that isn't one, and before a repair
 pub reused_first_lem : (b : ℕ) (d : Sectors) (o : Option Layout) (p : Layout) → Denotes b d o → (Sound b p → Fitting b d o p)
     → Unplanned b d p NotOneSwitch ⊎ Unplanned b d p NeedsRepair → ¬ IsReused b d o p
 reused_first_lem b d o p from fits (inl is) reused =
@@ -182,11 +182,11 @@ switch_first_lem b d o p from fits is cause = by_cause (switch_left b d o p (fit
 -- so two errors are one, but for failures
 module _ (b : ℕ) (d : Sectors) (o : Option Layout) (p : Layout) (eight : HasEight p.labels) (from : Denotes b d o)
     (fits : Sound b p → Fitting b d o p) where
-  -- what is told of a sector in use holds of what the disk denotes
+  -- what is reported of a sector in use holds of what the disk denotes
   reused_of : Unplanned b d p ReusedInOneBatch → IsReused b d o p
   reused_of is = subst (λ (q : Option Layout). IsReused b d q p) (denotes_one_lem b d is.old o is.from from) is.cause.1
 
-  -- and so does what is told of the switch
+  -- and so does what is reported of the switch
   switch_of : Unplanned b d p NotOneSwitch → NoSwitch b d o p
   switch_of is = subst (λ (q : Option Layout). NoSwitch b d q p) (denotes_one_lem b d is.old o is.from from) is.cause
 

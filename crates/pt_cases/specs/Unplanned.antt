@@ -273,7 +273,7 @@ pub record Stops (b : ℕ) (d : Sectors) (p : Layout) (C : Option Layout → Typ
   pub from : Denotes b d old
   pub cause : C old
 
--- why there is no plan. Foreign labels are told before what hinders the targets
+-- why there is no plan. Foreign labels are reported before what hinders the targets
 abbrev pub Unplanned : ℕ → Sectors → Layout → PlanError → Type 0
 Unplanned b d p (Unsound f) = IsUnsound b p f ⊎ LeavesForeign b d p f
 Unplanned b d p ReusedInOneBatch = Stops b d p (λ o. NoneLeft b d p × IsReused b d o p)

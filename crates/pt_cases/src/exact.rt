@@ -1,2 +1,2 @@
-//! Which of the planner's errors can be told: of the layout that a disk denotes, and of one that words make of it.
+//! Which of the planner's errors can be reported: of the layout that a disk denotes, and of one that words make of it.
 pub mod laws;

@@ -9,7 +9,8 @@ use Rattle.pt_sector.specs.Sectors.{Sectors, Writes, written}
 use Rattle.pt_sector.proofs.Written.{after-take_more}
 use Rattle.pt_check.specs.Answers.{phase_at, disk_after, IsFirst, FirstWrite, FirstSector}
 use Rattle.pt_apply.proofs.ItemsLemmas.{phase-at}
-use Rattle.pt_apply.specs.Plans.{writes_of, phases_in, writes_in, NoneIs}
+use Rattle.pt_apply.specs.Plans.{writes_of, writes_in, NoneIs}
+use Rattle.pt_apply.specs.inner.Plans.{phases_in}
 use Rattle.pt_apply.specs.declared.plan.Write.{Write}
 use Rattle.pt_check.specs.inner.Answers.{FirstWriteIs}
 use Rattle.pt_check.specs.declared.objection.Found.{Found}

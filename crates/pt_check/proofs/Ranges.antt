@@ -5,7 +5,9 @@ use Rattle.std.specs.declared.alloc.Global.{Global}
 use Rattle.std.proofs.lemmas.Bool.{cases_lt}
 use Rattle.std.proofs.lemmas.List.{get_or_default, length-map}
 use Rattle.pt_sector.specs.Sectors.{Writes}
-use Rattle.pt_apply.specs.Plans.{writes_of, phases_in, PhasesInRange, writes_in, NoneIs}
+use Rattle.pt_apply.specs.Plans.{writes_of, writes_in, NoneIs}
+use Rattle.pt_apply.proofs.Items.{PhasesInRange}
+use Rattle.pt_apply.specs.inner.Plans.{phases_in}
 use Rattle.pt_apply.specs.declared.plan.Write.{Write}
 use Rattle.pt_check.proofs.Firsts.{get_left, get_right, write_at, writes_split}
 

@@ -35,7 +35,7 @@ phase_at phases i = slice_index_or phases i []
 abbrev pub disk_after : List Writes → Sectors → ℕ → Sectors
 disk_after phases d i = after (take i phases) d
 
--- a switch as it is told, 0 where there was none
+-- a switch as it is reported, 0 where there was none
 abbrev pub switch_number : Option ℕ → ℕ
 switch_number None = 0
 switch_number (Some s) = s

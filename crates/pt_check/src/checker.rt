@@ -182,7 +182,7 @@ fn misplaced<const B: usize>(
     }
 }
 
-/// The switch as it is told.
+/// The switch as it is reported.
 fn number(switch: Option<u64>) -> u64
     ensures { result ≡ switch_number switch }
 {

@@ -1,4 +1,4 @@
--- No word is refused for want of memory: that refusal is the program's alone.
+-- No word is refused for lack of memory: that refusal is the program's alone.
 use Rattle.std.specs.Prelude.{◌≡◌, ℕ, List, [], ◌∷◌, Option, Some, None, Result, Err}
 use Rattle.std.proofs.Common.{refl, inl, inr}
 use Rattle.pt_guid.specs.declared.guid.Guid.{Guid}
@@ -261,7 +261,7 @@ from b n (w ∷ ws) s r (inr (f, x, is)) e =
     let same : f ≡ Memory = cc in
     refuses b n w s f x same
 
--- words are never refused for want of memory
+-- words are never refused for lack of memory
 pub memory_is_no_answer_lem : (b n : ℕ) (old : Option Layout) (words : List Edit) (guids : List Guid)
     → Edited b n old words guids (Err Memory) → ⊥
 memory_is_no_answer_lem b n old words guids x = from b n words (initial b old guids) (Err Memory) x refl

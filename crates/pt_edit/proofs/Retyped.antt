@@ -61,7 +61,7 @@ retyped_or Has known kind_of container (inl has) (inr strange) = inr (UnknownCod
 retyped_or Has known kind_of container (inl has) (inl kind) =
     by_kinds Has known kind_of container has.0 kind.0 has.1 kind.1 (cases_Bool (container (kind_of has.0))) (cases_Bool (container kind.0))
 
--- want of memory is no such reason
+-- lack of memory is no such reason
 pub not_retyped_real : {X K : Type 0} (Has : X → Type 0) (known : Option K) (kind_of : X → K) (container : K → Bool) (r : Refusal)
     → NotRetyped Has known kind_of container r → r ≡ Memory → ⊥
 not_retyped_real Has known kind_of container r (missing none is) e = absurd cc

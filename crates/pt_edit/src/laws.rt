@@ -29,7 +29,7 @@ pub fn edit_answers()
         → (r : Result Layout Refusal) × Edited b n old words guids r }
 {}
 
-/// No words are refused for want of memory: that refusal is the program's alone.
+/// No words are refused for lack of memory: that refusal is the program's alone.
 #[tactic(auto, using(crate::proofs::NoMemory::memory_is_no_answer_lem))]
 pub fn memory_is_no_answer()
     ensures { (b n : ℕ) (old : Option Layout) (words : List Edit) (guids : List Guid) → ¬ Edited b n old words guids (Err Memory) }

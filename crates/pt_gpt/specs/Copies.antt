@@ -1,14 +1,14 @@
 -- A copy of a GPT: its header, its array, and why a copy doesn't exist.
 use Rattle.std.specs.Prelude.{◌≡◌, ◌<◌, ◌≤◌, ℕ, zero, suc, ◌+◌, ◌-◌, ◌*◌, ◌/◌, List, [], ◌++◌, length, slice_range, slice_index_or}
 use Rattle.std.specs.Prelude.{Option, None, IfSome, take, codes, replicate, ◌⊎◌, ◌↔◌, Some}
-use Rattle.pt_gpt.specs.Entries.{EntryIs, EntryFits, IsTyped, entry_bytes, number_at}
+use Rattle.pt_gpt.specs.Entries.{EntryIs, EntryFits, IsTyped, entry_bytes}
 use Rattle.pt_gpt.specs.declared.entry.Entry.{Entry}
 use Rattle.pt_sum.specs.Sums.{crc_of}
 use Rattle.pt_gpt.specs.declared.header.Header.{Header}
 use Rattle.pt_gpt.specs.declared.error.CopyError.{CopyError}
 use Rattle.pt_gpt.specs.declared.error.CopyError.TheVariants.{Signature, Revision, HeaderSize, HeaderCrc, MyLba, ArrayPlace, EntryShape}
 use Rattle.pt_gpt.specs.declared.error.CopyError.TheVariants.{UsableRange, ArrayCrc, Device, Memory}
-use Rattle.pt_sector.specs.Sectors.{Sectors, sector}
+use Rattle.pt_sector.specs.Sectors.{Sectors, sector, number_at}
 use Rattle.pt_gpt.specs.declared.table.Side.{Side}
 use Rattle.pt_gpt.specs.declared.table.Side.TheVariants.{Primary, Backup}
 use Rattle.pt_gpt.specs.declared.table.Table.{Table}
@@ -275,6 +275,6 @@ FailedInCopy S _ = Unit {0}
 abbrev pub TellsHeadFault : ℕ → Sectors → Side → CopyError → Type 0
 TellsHeadFault b d side e = IsOutsideCopy e ⊎ IsHeadFault b d side e
 
--- an error in reading a copy: the device's, want of memory, or the first rule that fails
+-- an error in reading a copy: the device's, lack of memory, or the first rule that fails
 abbrev pub TellsFault : ℕ → Sectors → Side → CopyError → Type 0
 TellsFault b d side e = IsOutsideCopy e ⊎ IsCopyFault b d side e

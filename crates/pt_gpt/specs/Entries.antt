@@ -1,15 +1,10 @@
 -- Entries of a GPT, and their bytes.
 use Rattle.std.specs.Prelude.{ℕ, ◌+◌, List, slice_range, ◌≡◌, ◌<◌, ◌^◌, ◌*◌, ◌++◌, length, take, replicate, slice_index, Option, Some}
+use Rattle.pt_sector.specs.Sectors.{number_at}
 use Rattle.std.specs.Prelude.{None}
-use Rattle.byteorder.specs.Endian.{little_number, little_bytes}
+use Rattle.byteorder.specs.Endian.{little_bytes}
 use Rattle.std.specs.List.{flat_map}
 use Rattle.pt_gpt.specs.declared.entry.Entry.{Entry}
-
--- ## Numbers in bytes.
-
--- the number in the n bytes from place i, the lowest byte first
-abbrev pub number_at : ℕ → ℕ → List ℕ → ℕ
-number_at i n bytes = little_number n (slice_range bytes i (i + n))
 
 -- ## An entry of the table, field by field (UEFI 2.10, 5.3.3).
 

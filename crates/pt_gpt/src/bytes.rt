@@ -2,7 +2,7 @@
 
 ghost use Rattle.std.specs.Prelude.{◌≡◌, ◌+◌, ◌≤◌, ◌<◌, ◌^◌, length, slice_range};
 ghost use Rattle.byteorder.specs.Endian.{little_bytes};
-ghost use Rattle.pt_gpt.specs.Entries.{number_at};
+ghost use Rattle.pt_sector.specs.Sectors.{number_at};
 ghost use Rattle.pt_gpt.specs.inner.Entries.{put_at};
 
 use byteorder::{ByteOrder, LittleEndian};

@@ -1,7 +1,8 @@
 //! An entry read in place.
 
 ghost use Rattle.std.specs.Prelude.{◌≡◌, ◌+◌, ◌*◌, ◌≤◌, ◌↔◌, ℕ, List, IsTrue, length, slice_range};
-ghost use Rattle.pt_gpt.specs.Entries.{number_at, IsUnused, UnitsAt, EntryIs};
+ghost use Rattle.pt_sector.specs.Sectors.{number_at};
+ghost use Rattle.pt_gpt.specs.Entries.{IsUnused, UnitsAt, EntryIs};
 
 use crate::bytes::guid_at;
 use crate::entry::Entry;

@@ -9,10 +9,9 @@ use Rattle.uuid.specs.Text.{parsed_hyphenated, hyphenated_text, lower}
 -- the stored bytes of the bytes of a text, and the other way round
 abbrev pub mixed : List ℕ → List ℕ
 mixed b =
-    slice_index b 3 ∷ slice_index b 2 ∷ slice_index b 1 ∷ slice_index b 0 ∷ slice_index b 5 ∷ slice_index b 4 ∷ slice_index b 7
-    ∷ slice_index b 6
-    ∷ slice_index b 8 ∷ slice_index b 9 ∷ slice_index b 10 ∷ slice_index b 11 ∷ slice_index b 12 ∷ slice_index b 13
-    ∷ slice_index b 14 ∷ slice_index b 15 ∷ []
+    slice_index b 3 ∷ slice_index b 2 ∷ slice_index b 1 ∷ slice_index b 0 ∷ slice_index b 5 ∷ slice_index b 4
+    ∷ slice_index b 7 ∷ slice_index b 6 ∷ slice_index b 8 ∷ slice_index b 9 ∷ slice_index b 10 ∷ slice_index b 11
+    ∷ slice_index b 12 ∷ slice_index b 13 ∷ slice_index b 14 ∷ slice_index b 15 ∷ []
 
 -- the stored bytes that a text stands for: 36 characters, the hyphens in their places and hexadecimal digits of either case in all others
 abbrev pub stored_of : List ℕ → Option (List ℕ)

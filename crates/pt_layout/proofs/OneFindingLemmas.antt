@@ -42,7 +42,7 @@ use Rattle.pt_members.specs.inner.Tables.{AtPlace, IsNear}
 use Rattle.pt_members.proofs.Grouped.{member_place}
 use Rattle.pt_members.proofs.OnePathLemmas.{place_cases, part_path, slot_whole}
 use Rattle.pt_layout.proofs.OneOrder.{overlap_one}
-use Rattle.pt_layout.specs.Healthy.{HasCopies, IsBodyWhole, CopiesDifferOn, IsOtherAlternate, IsUnprotected, IsBroken, IsBodyBroken}
+use Rattle.pt_layout.specs.Healthy.{HasCopies, IsBodyWhole, IsBodyBroken}
 use Rattle.pt_layout.specs.Healthy.{IsFirstForeign, IsLayoutFinding, IsFinding, VerdictIs, HasEight}
 use Rattle.pt_layout.proofs.Terms.{unsound_excludes_lem, body_not_whole, healthy_is_one_lem, finding_excludes_lem}
 
@@ -222,37 +222,38 @@ copies_of b d t h k room is = record {
   second = record { room = room; head = k; stands = is.second };
 }
 
-no_differ : (b : ℕ) (d : Sectors) (t : Table) → CopiesDifferOn b d → Copies b d t → ⊥
-no_differ b d t is copies =
-    is.differ (copy_is_one_lem b d Primary is.primary t is.first copies.first
-    ∙ copy_is_one_lem b d Backup t is.backup copies.second is.second)
+no_differ : (b : ℕ) (d : Sectors) (t : Table) → IsBodyBroken b d (Gpt t) CopiesDiffer → Copies b d t → ⊥
+no_differ b d t (p, q, first, second, differ) copies =
+    differ (copy_is_one_lem b d Primary p t first copies.first ∙ copy_is_one_lem b d Backup t q copies.second second)
 
-no_other : (b : ℕ) (d : Sectors) (t : Table) (side : Side) → IsOtherAlternate b d t side → IsUnprotected b d t → ⊥
-no_other b d t Primary x y =
-    (let same = head_is_one_lem b d Primary x.primary y.primary x.copies.first.is_head y.copies.first.is_head in
-    x.other (ap (λ (h : Header). h.alternate) same ∙ y.alternates.first))
-no_other b d t Backup x y =
-    (let same = head_is_one_lem b d Backup x.backup y.backup x.copies.second.is_head y.copies.second.is_head in
-    x.other.1 (ap (λ (h : Header). h.alternate) same ∙ y.alternates.second))
+no_other : (b : ℕ) (d : Sectors) (t : Table) (side : Side) → IsBodyBroken b d (Gpt t) (Alternate side)
+    → IsBodyBroken b d (Gpt t) Protective → ⊥
+no_other b d t Primary (h, k, copies, other) (i, j, also, alternates, bare) =
+    let same = head_is_one_lem b d Primary h i copies.first.is_head also.first.is_head in
+    other (ap (λ (h : Header). h.alternate) same ∙ alternates.first)
+no_other b d t Backup (h, k, copies, other) (i, j, also, alternates, bare) =
+    let same = head_is_one_lem b d Backup k j copies.second.is_head also.second.is_head in
+    other.1 (ap (λ (h : Header). h.alternate) same ∙ alternates.second)
 
-two_others : (b : ℕ) (d : Sectors) (t : Table) → IsOtherAlternate b d t Primary → IsOtherAlternate b d t Backup → ⊥
-two_others b d t x y =
-    (let same = head_is_one_lem b d Primary x.primary y.primary x.copies.first.is_head y.copies.first.is_head in
-    x.other (ap (λ (h : Header). h.alternate) same ∙ y.other.0))
+two_others : (b : ℕ) (d : Sectors) (t : Table) → IsBodyBroken b d (Gpt t) (Alternate Primary)
+    → IsBodyBroken b d (Gpt t) (Alternate Backup) → ⊥
+two_others b d t (h, k, copies, other) (i, j, also, right) =
+    let same = head_is_one_lem b d Primary h i copies.first.is_head also.first.is_head in
+    other (ap (λ (h : Header). h.alternate) same ∙ right.0)
 
-alternates_one : (b : ℕ) (d : Sectors) (t : Table) (r s : Side) → IsOtherAlternate b d t r → IsOtherAlternate b d t s
-    → Alternate r ≡ Alternate s
+alternates_one : (b : ℕ) (d : Sectors) (t : Table) (r s : Side) → IsBodyBroken b d (Gpt t) (Alternate r)
+    → IsBodyBroken b d (Gpt t) (Alternate s) → Alternate r ≡ Alternate s
 alternates_one b d t Primary Primary x y = refl
 alternates_one b d t Primary Backup x y = absurd (two_others b d t x y)
 alternates_one b d t Backup Primary x y = absurd (two_others b d t y x)
 alternates_one b d t Backup Backup x y = refl
 
 module _ (b : ℕ) (d : Sectors) (t : Table) (room : HasRoom b (length d)) where
-  by_other : (side : Side) → IsOtherAlternate b d t side → Copies b d t
-  by_other side x = copies_of b d t x.primary x.backup room x.copies
+  by_other : (side : Side) → IsBodyBroken b d (Gpt t) (Alternate side) → Copies b d t
+  by_other side (h, k, copies, other) = copies_of b d t h k room copies
 
-  by_open : IsUnprotected b d t → Copies b d t
-  by_open x = copies_of b d t x.primary x.backup room x.copies
+  by_open : IsBodyBroken b d (Gpt t) Protective → Copies b d t
+  by_open (h, k, copies, alternates, bare) = copies_of b d t h k room copies
 
   no_first : (e : CopyError) → IsCopyFault b d Primary e → Copies b d t → ⊥
   no_first e p copies = no_copy_lem b d Primary e p (t, copies.first)
@@ -260,21 +261,21 @@ module _ (b : ℕ) (d : Sectors) (t : Table) (room : HasRoom b (length d)) where
   no_second : (e : CopyError) → HasCopy b d Primary × IsCopyFault b d Backup e → Copies b d t → ⊥
   no_second e p copies = no_copy_lem b d Backup e p.1 (t, copies.second)
 
-  broken_one : (f g : Finding) → IsBroken b d t f → IsBroken b d t g → f ≡ g
+  broken_one : (f g : Finding) → IsBodyBroken b d (Gpt t) f → IsBodyBroken b d (Gpt t) g → f ≡ g
   broken_one (PrimaryCopy e) (PrimaryCopy f) x y = ap PrimaryCopy (copy_fault_is_one_lem b d Primary e f x y)
   broken_one (PrimaryCopy e) (BackupCopy f) x y = absurd (no_copy_lem b d Primary e x y.0)
-  broken_one (PrimaryCopy e) CopiesDiffer x y = absurd (no_copy_lem b d Primary e x (y.primary, y.first))
+  broken_one (PrimaryCopy e) CopiesDiffer x (p, q, first, second, differ) = absurd (no_copy_lem b d Primary e x (p, first))
   broken_one (PrimaryCopy e) (Alternate s) x y = absurd (no_first e x (by_other s y))
   broken_one (PrimaryCopy e) Protective x y = absurd (no_first e x (by_open y))
   broken_one (PrimaryCopy e) _ x y = absurd y
   broken_one (BackupCopy e) (PrimaryCopy f) x y = absurd (no_copy_lem b d Primary f y x.0)
   broken_one (BackupCopy e) (BackupCopy f) x y = ap BackupCopy (copy_fault_is_one_lem b d Backup e f x.1 y.1)
-  broken_one (BackupCopy e) CopiesDiffer x y = absurd (no_copy_lem b d Backup e x.1 (y.backup, y.second))
+  broken_one (BackupCopy e) CopiesDiffer x (p, q, first, second, differ) = absurd (no_copy_lem b d Backup e x.1 (q, second))
   broken_one (BackupCopy e) (Alternate s) x y = absurd (no_second e x (by_other s y))
   broken_one (BackupCopy e) Protective x y = absurd (no_second e x (by_open y))
   broken_one (BackupCopy e) _ x y = absurd y
-  broken_one CopiesDiffer (PrimaryCopy f) x y = absurd (no_copy_lem b d Primary f y (x.primary, x.first))
-  broken_one CopiesDiffer (BackupCopy f) x y = absurd (no_copy_lem b d Backup f y.1 (x.backup, x.second))
+  broken_one CopiesDiffer (PrimaryCopy f) (p, q, first, second, differ) y = absurd (no_copy_lem b d Primary f y (p, first))
+  broken_one CopiesDiffer (BackupCopy f) (p, q, first, second, differ) y = absurd (no_copy_lem b d Backup f y.1 (q, second))
   broken_one CopiesDiffer CopiesDiffer x y = refl
   broken_one CopiesDiffer (Alternate s) x y = absurd (no_differ b d t x (by_other s y))
   broken_one CopiesDiffer Protective x y = absurd (no_differ b d t x (by_open y))

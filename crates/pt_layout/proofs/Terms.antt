@@ -28,7 +28,7 @@ use Rattle.pt_members.specs.Tables.{IsTable, HasFour, IsPlaceOf, Owns}
 use Rattle.pt_layout.proofs.OneHome.{place_one}
 use Rattle.pt_members.proofs.OnePathLemmas.{sector_one}
 use Rattle.pt_layout.specs.Sound.{AllInside, Sound, IsFirstShared, IsUnsound}
-use Rattle.pt_layout.specs.Healthy.{IsWhole, IsBodyWhole, IsHealthy, Healthy, IsBroken, IsBodyBroken, IsLayoutFinding, IsFinding}
+use Rattle.pt_layout.specs.Healthy.{IsWhole, IsBodyWhole, IsHealthy, Healthy, IsBodyBroken, IsLayoutFinding, IsFinding}
 
 -- in a sound layout no partition owns a sector of a table
 pub sound_frees_tables_lem : (b : ℕ) (o : Layout) (s : ℕ) → Sound b o → Owns b o s → ¬ IsTable b o s
@@ -71,22 +71,22 @@ copy_of : (b : ℕ) (d : Sectors) (side : Side) (h : Header) (t : Table) → Has
 copy_of b d side h t room is = record { room = room; head = h; stands = is }
 
 -- what breaks a GPT keeps it from being whole
-broken_not_whole : (b : ℕ) (d : Sectors) (t : Table) (f : Finding) → HasRoom b (length d) → IsBroken b d t f → IsWhole b d t → ⊥
+broken_not_whole : (b : ℕ) (d : Sectors) (t : Table) (f : Finding) → HasRoom b (length d) → IsBodyBroken b d (Gpt t) f → IsWhole b d t → ⊥
 broken_not_whole b d t (PrimaryCopy e) room is whole =
     no_copy_lem b d Primary e is (t, copy_of b d Primary whole.primary t room whole.copies.first)
 broken_not_whole b d t (BackupCopy e) room is whole =
     no_copy_lem b d Backup e is.1 (t, copy_of b d Backup whole.backup t room whole.copies.second)
-broken_not_whole b d t CopiesDiffer room is whole =
-    let first = copy_is_one_lem b d Primary is.primary t is.first (copy_of b d Primary whole.primary t room whole.copies.first) in
-    let second = copy_is_one_lem b d Backup is.backup t is.second (copy_of b d Backup whole.backup t room whole.copies.second) in
-    is.differ (first ∙ sym second)
-broken_not_whole b d t (Alternate Primary) room is whole =
-    let same = head_is_one_lem b d Primary is.primary whole.primary is.copies.first.is_head whole.copies.first.is_head in
-    is.other (ap (λ (h : Header). h.alternate) same ∙ whole.alternates.first)
-broken_not_whole b d t (Alternate Backup) room is whole =
-    let same = head_is_one_lem b d Backup is.backup whole.backup is.copies.second.is_head whole.copies.second.is_head in
-    is.other.1 (ap (λ (h : Header). h.alternate) same ∙ whole.alternates.second)
-broken_not_whole b d t Protective room is whole = is.other whole.protective
+broken_not_whole b d t CopiesDiffer room (p, q, first, second, differ) whole =
+    let before = copy_is_one_lem b d Primary p t first (copy_of b d Primary whole.primary t room whole.copies.first) in
+    let behind = copy_is_one_lem b d Backup q t second (copy_of b d Backup whole.backup t room whole.copies.second) in
+    differ (before ∙ sym behind)
+broken_not_whole b d t (Alternate Primary) room (h, k, copies, other) whole =
+    let same = head_is_one_lem b d Primary h whole.primary copies.first.is_head whole.copies.first.is_head in
+    other (ap (λ (h : Header). h.alternate) same ∙ whole.alternates.first)
+broken_not_whole b d t (Alternate Backup) room (h, k, copies, other) whole =
+    let same = head_is_one_lem b d Backup k whole.backup copies.second.is_head whole.copies.second.is_head in
+    other.1 (ap (λ (h : Header). h.alternate) same ∙ whole.alternates.second)
+broken_not_whole b d t Protective room (h, k, copies, alternates, bare) whole = bare whole.protective
 broken_not_whole b d t (NoTable e) room is whole = is
 broken_not_whole b d t (OutsideUsable p) room is whole = is
 broken_not_whole b d t (Overlap p q) room is whole = is

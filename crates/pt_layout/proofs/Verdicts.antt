@@ -21,7 +21,7 @@ use Rattle.pt_layout.specs.declared.sound.finding.Finding.TheVariants.{NoTable, 
 use Rattle.pt_layout.specs.declared.sound.finding.Finding.TheVariants.{Protective, OutsideUsable, Overlap, OnTable, SameGuid}
 use Rattle.pt_layout.specs.declared.sound.finding.Finding.TheVariants.{ForeignLabel}
 use Rattle.pt_layout.specs.Sound.{Sound, UnsoundIs}
-use Rattle.pt_layout.specs.Healthy.{IsBodyWhole, IsHealthy, HasCopies, IsFinding, IsBodyBroken, IsBroken}
+use Rattle.pt_layout.specs.Healthy.{IsBodyWhole, IsHealthy, HasCopies, IsFinding, IsBodyBroken}
 use Rattle.pt_layout.specs.inner.Surveys.{ForeignIs, HalfIs, HeadIs, BrokenIs, LayoutOf, PairIs}
 use Rattle.pt_layout.specs.Surveys.{HeadOf}
 use Rattle.pt_layout.specs.declared.health.Head.{Head}
@@ -75,7 +75,7 @@ broken_finding b d o f denotes broken = by_body o.body refl broken
     by_body (Mbr rs chain) same is = absurd is
     by_body (Gpt t) same is = by_finding f is
       where
-        by_finding : (f : Finding) → IsBroken b d t f → IsFinding b d f
+        by_finding : (f : Finding) → IsBodyBroken b d (Gpt t) f → IsFinding b d f
         by_finding (PrimaryCopy e) is = (o, denotes, subst (λ (y : Body). IsBodyBroken b d y (PrimaryCopy e)) (sym same) is)
         by_finding (BackupCopy e) is = (o, denotes, subst (λ (y : Body). IsBodyBroken b d y (BackupCopy e)) (sym same) is)
         by_finding CopiesDiffer is = (o, denotes, subst (λ (y : Body). IsBodyBroken b d y CopiesDiffer) (sym same) is)
@@ -113,26 +113,19 @@ pair_broken b d h p q None plain is room x y pair = record {
   alternates = record { first = pair.1; second = pair.2 };
   protective = protected d h is pair.3;
 }
-pair_broken b d h p q (Some CopiesDiffer) plain is room x y pair =
-    record {
-      primary = p.table;
-      backup = q.table;
-      first = record { room = room; head = p.header; stands = x };
-      second = record { room = room; head = q.header; stands = y };
-      differ = pair;
-    }
-pair_broken b d h p q (Some (Alternate Primary)) plain is room x y pair =
-    record { primary = p.header; backup = q.header; copies = copies_of b d p q x y pair.0; other = pair.1 }
+pair_broken b d h p q (Some CopiesDiffer) plain is room x y pair = (
+  p.table, q.table, record { room = room; head = p.header; stands = x }, record { room = room; head = q.header; stands = y }, pair,
+)
+pair_broken b d h p q (Some (Alternate Primary)) plain is room x y pair = (p.header, q.header, copies_of b d p q x y pair.0, pair.1)
 pair_broken b d h p q (Some (Alternate Backup)) plain is room x y pair =
-    record { primary = p.header; backup = q.header; copies = copies_of b d p q x y pair.0; other = (pair.1, pair.2) }
-pair_broken b d h p q (Some Protective) plain is room x y pair =
-    record {
-      primary = p.header;
-      backup = q.header;
-      copies = copies_of b d p q x y pair.0;
-      alternates = record { first = pair.1; second = pair.2 };
-      other = unprotected d h plain (omega (arith, room)) is pair.3;
-    }
+    (p.header, q.header, copies_of b d p q x y pair.0, (pair.1, pair.2))
+pair_broken b d h p q (Some Protective) plain is room x y pair = (
+  p.header,
+  q.header,
+  copies_of b d p q x y pair.0,
+  record { first = pair.1; second = pair.2 },
+  unprotected d h plain (omega (arith, room)) is pair.3,
+)
 pair_broken b d h p q (Some (NoTable e)) plain is room x y pair = absurd pair
 pair_broken b d h p q (Some (PrimaryCopy e)) plain is room x y pair = absurd pair
 pair_broken b d h p q (Some (BackupCopy e)) plain is room x y pair = absurd pair
@@ -154,7 +147,7 @@ neither_reason b d e f plain room x y = (
     | inl copy ↦ no_copy_lem b d Primary e x (t, copy)
     | inr copy ↦ no_copy_lem b d Backup f y (t, copy.1)
   ]),
-  record { no_mbr = plain; room = room; primary = x; backup = y },
+  (plain, room, x, y),
 )
 
 pub small_reason : (b : ℕ) (d : Sectors) → ¬ IsMbrDisk d → ¬ HasRoom b (length d) → Denotes b d None × IsReason b d no.TooSmall

@@ -88,45 +88,22 @@ finding_number (OnTable p s) = 9
 finding_number (SameGuid i j) = 10
 finding_number (ForeignLabel p) = 11
 
--- both copies exist with different tables
-pub record CopiesDifferOn (b : ℕ) (d : Sectors) : Type 0 where
-  pub primary : Table
-  pub backup : Table
-  pub first : Copy b d Primary primary
-  pub second : Copy b d Backup backup
-  pub differ : primary ≢ backup
-
 -- the side's header names another alternate, and the primary's, if it is the backup's, the right one
 abbrev pub HasOtherAlternate : Side → ℕ → Header → Header → Type 0
 HasOtherAlternate Primary n primary backup = primary.alternate ≢ n - 1
 HasOtherAlternate Backup n primary backup = (primary.alternate ≡ n - 1) × (backup.alternate ≢ 1)
 
-pub record IsOtherAlternate (b : ℕ) (d : Sectors) (t : Table) (side : Side) : Type 0 where
-  pub primary : Header
-  pub backup : Header
-  pub copies : HasCopies b d t primary backup
-  pub other : HasOtherAlternate side (length d) primary backup
-
-pub record IsUnprotected (b : ℕ) (d : Sectors) (t : Table) : Type 0 where
-  pub primary : Header
-  pub backup : Header
-  pub copies : HasCopies b d t primary backup
-  pub alternates : NameEachOther (length d) primary backup
-  pub other : ¬ IsProtective (length d) (sector d 0)
-
--- the first thing that keeps a GPT with this table from being whole
-abbrev pub IsBroken : ℕ → Sectors → Table → Finding → Type 0
-IsBroken b d t (PrimaryCopy e) = IsCopyFault b d Primary e
-IsBroken b d t (BackupCopy e) = HasCopy b d Primary × IsCopyFault b d Backup e
-IsBroken b d t CopiesDiffer = CopiesDifferOn b d
-IsBroken b d t (Alternate side) = IsOtherAlternate b d t side
-IsBroken b d t Protective = IsUnprotected b d t
-IsBroken b d t _ = ⊥
-
--- an MBR lacks nothing
+-- the first thing that keeps a body from being whole. An MBR lacks nothing. Of a GPT: a copy doesn't exist, both exist with
+-- different tables, a header of two alike names another alternate, or sector 0 doesn't protect it
 abbrev pub IsBodyBroken : ℕ → Sectors → Body → Finding → Type 0
 IsBodyBroken b d (Mbr records chain) f = ⊥
-IsBodyBroken b d (Gpt t) f = IsBroken b d t f
+IsBodyBroken b d (Gpt t) (PrimaryCopy e) = IsCopyFault b d Primary e
+IsBodyBroken b d (Gpt t) (BackupCopy e) = HasCopy b d Primary × IsCopyFault b d Backup e
+IsBodyBroken b d (Gpt t) CopiesDiffer = (p : Table) × (q : Table) × Copy b d Primary p × Copy b d Backup q × (p ≢ q)
+IsBodyBroken b d (Gpt t) (Alternate side) = (h : Header) × (k : Header) × HasCopies b d t h k × HasOtherAlternate side (length d) h k
+IsBodyBroken b d (Gpt t) Protective =
+    (h : Header) × (k : Header) × HasCopies b d t h k × NameEachOther (length d) h k × (¬ IsProtective (length d) (sector d 0))
+IsBodyBroken b d (Gpt t) _ = ⊥
 
 -- the first slice with a foreign label
 pub record IsFirstForeign (b : ℕ) (d : Sectors) (o : Layout) (p : Path) : Type 0 where

@@ -97,12 +97,12 @@ abbrev pub IsAloneIn : Option (Text × List Row) → Type 0
 IsAloneIn None = ⊥
 IsAloneIn (Some p) = IsAlone p.1
 
--- ---- what is told of `clap`'s error
+-- ---- what is reported of `clap`'s error
 abbrev pub IsHelp : Job → Type 0
 IsHelp (job.Help text) = Unit {0}
 IsHelp _ = ⊥
 
--- no call for help or for the version, nor want of memory
+-- no call for help or for the version, nor lack of memory
 abbrev pub IsMistake : ErrorKind → Type 0
 IsMistake k = (k ≢ DisplayHelp) × (k ≢ DisplayVersion) × (k ≢ OutOfMemory)
 
@@ -114,7 +114,7 @@ IsUsage kinds k = IsAmong k kinds × IsMistake k
 
 -- at a command, these being all the words. A call for help, or for the version, gives its text; words without fault give the job of their
 -- subcommand, by the values of its arguments; `Usage` comes only for words with a fault, and has an error of its kind; words
--- without fault that give `--in-use` and no `--device` are told so. Memory may always be wanted. Words are texts
+-- without fault that give `--in-use` and no `--device` are told so. Memory may always be refused. Words are texts
 abbrev pub MeansAt : App → List Text → Result Line LineError → Type 0
 MeansAt app words (Ok line) = (IsHelp line.job × (IsAmong DisplayHelp (fault_of app words) ⊎ IsAmong DisplayVersion (fault_of app words)))
     ⊎ ((fault_of app words ≡ []) × IsLineOf (subcommand_of app words) line)

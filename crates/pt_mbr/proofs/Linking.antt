@@ -1,12 +1,13 @@
 -- Extended boot records that change, or stand in a new sector.
 use Rattle.std.proofs.Common.{◌≡◌, ◌≢◌, ℕ, ◌+◌, ◌++◌, ◌<◌, ◌≤◌, List, [], ◌∷◌, length, take, drop, replicate, get_or, Option, Some, None}
+use Rattle.pt_sector.specs.Sectors.{number_at}
 use Rattle.std.proofs.Common.{refl, sym, ap, ◌∙◌, subst, arith, inl, inr}
 use Rattle.std.specs.Prelude.{◌⊎◌, slice_index, slice_range}
 use Rattle.std.proofs.lemmas.Bool.{cases_lt}
 use Rattle.std.proofs.lemmas.List.{ext_get_or, get_or-drop, get_or-take, get_or-replicate, get_or_past, length-drop, length-replicate}
 use Rattle.std.proofs.lemmas.List.{length-take-le}
 use Rattle.pt_sector.specs.declared.address.Lba.{Lba}
-use Rattle.pt_mbr.specs.Records.{number_at, put_at, HasSignature, IsUsed, RecordIs, ReadsAsUsed, IsExtendedKind, record_bytes}
+use Rattle.pt_mbr.specs.Records.{put_at, HasSignature, IsUsed, RecordIs, ReadsAsUsed, IsExtendedKind, record_bytes}
 use Rattle.pt_mbr.specs.Records.{IsBootIndicator, HasBootIndicators}
 use Rattle.pt_mbr.specs.inner.Records.{IsWritten, boot_of}
 use Rattle.pt_mbr.specs.Chain.{EbrBytes, NextIs, HasZeros, HasBadLogical, HasBadLink}

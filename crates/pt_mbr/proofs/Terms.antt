@@ -1,9 +1,9 @@
 -- The laws of this crate as terms, for definitions and proofs above. Their statements are those of the public functions in src/laws.rt.
 use Rattle.std.specs.Prelude.{◌≡◌, ◌<◌, ◌≤◌, ◌+◌, ◌↔◌, ◌⊎◌, ℕ, List, length, slice_index, Option, Some, None}
 use Rattle.std.proofs.Common.{inl, refl}
-use Rattle.pt_sector.specs.Sectors.{Sectors, Span, Agrees}
+use Rattle.pt_sector.specs.Sectors.{Sectors, Span, Agrees, number_at}
 use Rattle.pt_sector.specs.declared.address.Lba.{Lba}
-use Rattle.pt_mbr.specs.Records.{RecordIs, AreRecords, MbrBytes, BearsProtective, IsProtective, number_at}
+use Rattle.pt_mbr.specs.Records.{RecordIs, AreRecords, MbrBytes, BearsProtective, IsProtective}
 use Rattle.pt_mbr.specs.Chain.{EbrBytes, NextIs, IsEbrFault, Chain, ChainFault, ChainReads, IsDevice, StandsAt, IsAtFault, SameChains}
 use Rattle.pt_mbr.specs.declared.record.Record.{Record}
 use Rattle.pt_mbr.specs.declared.mbr.Mbr.{Mbr}

@@ -2,11 +2,11 @@
 use Rattle.std.specs.Prelude.{◌≡◌, ◌⊎◌, ◌+◌, ℕ, List, slice_index, slice_range, replicate, Option, Some, None, ◌<◌, ◌≤◌, ◌↔◌, [], ◌∷◌}
 use Rattle.std.specs.Prelude.{length}
 use Rattle.pt_sector.specs.declared.address.Lba.{Lba}
-use Rattle.pt_mbr.specs.Records.{number_at, HasSignature, IsUsed, RecordIs, IsExtendedKind, HasBootIndicators}
+use Rattle.pt_mbr.specs.Records.{HasSignature, IsUsed, RecordIs, IsExtendedKind, HasBootIndicators}
 use Rattle.pt_mbr.specs.declared.ebr.Ebr.{Ebr}
 use Rattle.pt_mbr.specs.declared.ebr.EbrFault.{EbrFault}
 use Rattle.pt_mbr.specs.declared.ebr.EbrFault.TheVariants.{NoSignature, BadRecord}
-use Rattle.pt_sector.specs.Sectors.{Sectors, sector, Span, InSpan}
+use Rattle.pt_sector.specs.Sectors.{Sectors, sector, Span, InSpan, number_at}
 use Rattle.pt_sector.specs.declared.disk.Fault.{Fault}
 use Rattle.pt_sector.specs.declared.disk.Fault.TheVariants.{Read}
 use Rattle.pt_sector.specs.declared.address.Extent.{Extent}

@@ -1,11 +1,11 @@
 -- Sector 0 of an MBR disk: its four records, the extended one, and the protective one.
 use Rattle.std.specs.Prelude.{if◌then◌else◌, ◌≡◌, ◌+◌, ◌-◌, ℕ, Bool, List, [], ◌∷◌, Option, Some, None, nat_eq, ◌||◌, ◌++◌, length, take}
 use Rattle.std.specs.Prelude.{drop, slice_index, slice_range, ◌≢◌, ◌⊎◌, ◌*◌, replicate, get_or, min}
-use Rattle.pt_sector.specs.Sectors.{Span}
+use Rattle.pt_sector.specs.Sectors.{Span, number_at}
 use Rattle.pt_mbr.specs.declared.record.Record.{Record}
 use Rattle.pt_mbr.specs.declared.extended.Extended.{Extended}
 use Rattle.pt_mbr.specs.declared.extended.Extended.TheVariants as found
-use Rattle.byteorder.specs.Endian.{little_number, little_bytes}
+use Rattle.byteorder.specs.Endian.{little_bytes}
 use Rattle.pt_mbr.specs.declared.mbr.Mbr.{Mbr}
 use Rattle.pt_mbr.specs.declared.chain.ChainError.{ChainError}
 use Rattle.pt_mbr.specs.declared.chain.ChainError.TheVariants.{NoSignature, BadRecord, NotUpward, OutsideExtended, TooLong, Device}
@@ -33,10 +33,6 @@ ExtendedIs rs (found.One r) = rs ≡ r ∷ []
 ExtendedIs rs (found.More r) = (next : Record) × (rest : List Record) × (rs ≡ r ∷ next ∷ rest)
 
 -- ## Numbers and marks in the bytes of a sector.
-
--- the number in the n bytes from place i on, the lowest byte first
-abbrev pub number_at : ℕ → ℕ → List ℕ → ℕ
-number_at i n b = little_number n (slice_range b i (i + n))
 
 -- b with other bytes from place i on
 unfoldable pub put_at : ℕ → List ℕ → List ℕ → List ℕ
@@ -124,12 +120,7 @@ BearsProtective b = (slice_index b 450 ≡ 0xEE) ⊎ (slice_index b 466 ≡ 0xEE
 -- it covers all of n sectors but the first, or as many as 32 bits can say
 abbrev pub protective_record : ℕ → Record
 protective_record n = record {
-  boot = 0;
-  start_chs = 0 ∷ 2 ∷ 0 ∷ [];
-  kind = 0xEE;
-  end_chs = 0xFF ∷ 0xFF ∷ 0xFF ∷ [];
-  start = 1;
-  size = min (n - 1) 0xFFFFFFFF;
+  boot = 0; start_chs = 0 ∷ 2 ∷ 0 ∷ []; kind = 0xEE; end_chs = 0xFF ∷ 0xFF ∷ 0xFF ∷ []; start = 1; size = min (n - 1) 0xFFFFFFFF;
 }
 
 -- sector 0 of a disk of n sectors has that record, and 48 zero bytes after it

@@ -22,7 +22,7 @@ use std::fmt;
 /// The most extended boot records that a chain has. This project's choice.
 pub const MOST_EBRS: usize = 128;
 
-/// Why an extended partition has no chain. The first fault on the way is told; the place is that of the extended boot
+/// Why an extended partition has no chain. The first fault on the way is reported; the place is that of the extended boot
 /// record at fault.
 #[derive(Clone, Copy, Debug, PartialEq, Eq)]
 pub enum ChainError {

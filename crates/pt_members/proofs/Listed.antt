@@ -41,7 +41,7 @@ listed P xs ys gains moved up = (
 abbrev pub IsPoint : List ℕ → ℕ → ℕ → Type 0
 IsPoint xs from i = IsPartitionPoint (λ (y : ℕ). ltb y from ≡ true) (λ (y : ℕ). ltb y from ≡ false) xs i
 
--- what a search for the first number that isn't below one has told
+-- what a search for the first number that isn't below one has reported
 pub next_some : (xs : List ℕ) (i from t : ℕ) → IsNonDecreasing xs → IsPoint xs from i → i < length xs
     → ((d : ℕ) → t ≡ get_or xs i d) → NextSectorIs (Contains xs) from (Some t)
 next_some xs i from t up point lt at = (

@@ -18,9 +18,9 @@ use Rattle.pt_members.specs.declared.layout.Body.{Body}
 use Rattle.pt_members.specs.declared.layout.Body.TheVariants.{Mbr, Gpt}
 use Rattle.pt_path.specs.declared.path.Path.{Path}
 use Rattle.pt_members.specs.declared.member.Kind.{Kind}
-use Rattle.pt_members.specs.declared.member.Kind.TheVariants.{Leaf, Slice, Extended}
+use Rattle.pt_members.specs.declared.member.Kind.TheVariants.{Leaf, Extended}
 use Rattle.pt_members.specs.declared.member.Member.{Member}
-use Rattle.pt_members.specs.declared.layout.Slice.{Slice as SliceValue}
+use Rattle.pt_members.specs.declared.layout.Slice.{Slice}
 use Rattle.pt_members.specs.declared.member.Kind.TheVariants as kind
 use Rattle.pt_members.specs.declared.row.Row.{Row}
 use Rattle.pt_members.specs.declared.row.Source.{Source}
@@ -39,11 +39,11 @@ letter_path n letter = record { number = n; letter = Some letter }
 
 -- what a record of sector 0 is by its type
 abbrev pub record_kind : ℕ → ℕ → Kind
-record_kind b kind = if nat_eq b 512 && nat_eq kind 0xA5 then Slice else (if is_extended kind then Extended else Leaf)
+record_kind b code = if nat_eq b 512 && nat_eq code 0xA5 then kind.Slice else (if is_extended code then Extended else Leaf)
 
 -- what a logical partition is by its type
 abbrev pub logical_kind : ℕ → ℕ → Kind
-logical_kind b kind = if nat_eq b 512 && nat_eq kind 0xA5 then Slice else Leaf
+logical_kind b code = if nat_eq b 512 && nat_eq code 0xA5 then kind.Slice else Leaf
 
 -- the type of code A500
 abbrev pub is_slice_kind : List ℕ → Bool
@@ -51,7 +51,7 @@ is_slice_kind kind = bytes_eq kind (mixed freebsd)
 
 -- what an entry is by its type GUID
 abbrev pub entry_kind : ℕ → List ℕ → Kind
-entry_kind b kind = if nat_eq b 512 && is_slice_kind kind then Slice else Leaf
+entry_kind b guid = if nat_eq b 512 && is_slice_kind guid then kind.Slice else Leaf
 
 -- of a start and a size that count from a sector
 abbrev pub sized_member : Path → Kind → ℕ → ℕ → Member
@@ -145,7 +145,7 @@ top_group b n (Gpt t) = record { low = t.first; high = t.last; members = present
 unfoldable pub group_in : ℕ → Layout → Member → List Group
 group_in b o m = elim m.kind as (λ k. List Group) [
   | Leaf ↦ []
-  | Slice ↦ record { low = m.first + 16; high = m.last; members = present (parts o m) } ∷ []
+  | kind.Slice ↦ record { low = m.first + 16; high = m.last; members = present (parts o m) } ∷ []
   | Extended ↦ record { low = m.first; high = m.last; members = present (logicals b o.body) } ∷ []
 ]
 
@@ -180,42 +180,42 @@ abbrev pub extent_len : ℕ → ℕ → ℕ
 extent_len first last = if nat_le first last && nat_lt last (2 ^ 63) then last - first + 1 else 0
 
 -- the slice from a first to a last sector
-abbrev pub slice_from : ℕ → ℕ → ℕ → SliceValue
+abbrev pub slice_from : ℕ → ℕ → ℕ → Slice
 slice_from number first last = record { number = number; first = first; len = extent_len first last }
 
 -- this slice, where the kind is that of slices
-abbrev pub slice_as : Kind → SliceValue → List SliceValue
+abbrev pub slice_as : Kind → Slice → List Slice
 slice_as kind.Leaf s = []
 slice_as kind.Slice s = s ∷ []
 slice_as kind.Extended s = []
 
 -- the slice that a member is, if it is one
-abbrev pub slice_of : Member → List SliceValue
+abbrev pub slice_of : Member → List Slice
 slice_of m = slice_as m.kind (slice_from m.path.number m.first m.last)
 
 -- the slice that stands in a place
-abbrev pub slice_in : Option Member → List SliceValue
+abbrev pub slice_in : Option Member → List Slice
 slice_in None = []
 slice_in (Some m) = slice_of m
 
 -- the slices of a layout in order of their numbers
-unfoldable pub slices_of : ℕ → Body → List SliceValue
+unfoldable pub slices_of : ℕ → Body → List Slice
 slices_of b body = flat_map slice_in (slots b body)
 
 -- the slice has a second sector, and that is one of the disk's n
-abbrev pub has_place : ℕ → SliceValue → Bool
+abbrev pub has_place : ℕ → Slice → Bool
 has_place n s = nat_lt 1 s.len && nat_lt (s.first + 1) n
 
 -- the second sector of a slice, where its label stands
-abbrev pub place_of : SliceValue → ℕ
+abbrev pub place_of : Slice → ℕ
 place_of s = s.first + 1
 
 -- the slices that have a label place on a disk of n sectors
-unfoldable pub places_of : ℕ → ℕ → Body → List SliceValue
+unfoldable pub places_of : ℕ → ℕ → Body → List Slice
 places_of b n body = filter (has_place n) (slices_of b body)
 
 -- the label place of one of these slices
-abbrev pub IsPlace : List SliceValue → ℕ → Type 0
+abbrev pub IsPlace : List Slice → ℕ → Type 0
 IsPlace [] s = ⊥
 IsPlace (p ∷ ps) s = (s ≡ place_of p) ⊎ IsPlace ps s
 
@@ -225,7 +225,7 @@ IsPlace (p ∷ ps) s = (s ≡ place_of p) ⊎ IsPlace ps s
 abbrev pub below : Layout → Member → List Member
 below o m = elim m.kind as (λ k. List Member) [
   | Leaf ↦ []
-  | Slice ↦ present (parts o m)
+  | kind.Slice ↦ present (parts o m)
   | Extended ↦ []
 ]
 

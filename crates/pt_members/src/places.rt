@@ -46,7 +46,7 @@ fn is_unusable(body: &Body, lba: Lba) -> bool
 /// What a sector is for: the partition that has it, or else a table, or else reserved, or else free.
 ///
 /// On a sound layout a sector is in one partition at most. Where more than one partition has it, the first of them in
-/// path order is told.
+/// path order is reported.
 pub fn owner<const B: usize>(layout: &Layout, lba: Lba) -> Owner
     requires { IsSectorSize B }
     ensures { OwnerIs B layout.now lba.0 result }

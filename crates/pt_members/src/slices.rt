@@ -4,11 +4,12 @@ ghost use Rattle.std.specs.Prelude.{◌≡◌, ◌<◌, ◌+◌, ◌++◌, filte
 ghost use Rattle.std.specs.Prelude.{OnOk};
 ghost use Rattle.pt_sector.specs.Sectors.{IsSectorSize};
 ghost use Rattle.pt_members.specs.Members.{slots, number_at, has_place, slice_of, places_of};
+ghost use Rattle.pt_members.specs.Tables.{HasFour};
 ghost use Rattle.pt_members.specs.inner.Members.{placed_in};
 
 use crate::layout::{Body, Slice};
 use crate::member::{Kind, Member};
-use crate::slots::{next_number, numbered_slot, slot_count};
+use crate::slots::{count_slots, next_number, numbered_slot};
 use pt_mbr::FIRST_LOGICAL;
 use std::alloc::{AllocError, Global};
 
@@ -76,6 +77,8 @@ fn push_place(places: &mut Vec<Slice>, place: Option<Slice>) -> Result<(), Alloc
 }
 
 /// The slices that have a label place on a disk of so many sectors, in order of their numbers.
+///
+/// The second clause says what the type of a body does, since contracts see a body without types.
 #[tactic(auto, using(crate::proofs::LabelPlaces::placed_more, crate::proofs::LabelPlaces::placed_end, crate::proofs::ByPlace::from_five))]
 pub fn label_places<const B: usize>(
     alloc: Global,
@@ -83,11 +86,12 @@ pub fn label_places<const B: usize>(
     body: &Body,
 ) -> Result<Vec<Slice>, AllocError>
     requires { IsSectorSize B }
-    ensures { IfOk result (λ v. v.items ≡ places_of B sectors body.now) }
+    ensures value { IfOk result (λ v. v.items ≡ places_of B sectors body.now) }
+    ensures four { HasFour body.now }
 {
     let mut places = Vec::new(alloc);
     let mut number = FIRST_LOGICAL;
-    for k in 0..slot_count::<B>(body) {
+    for k in 0..count_slots::<B>(body) {
         push_place(&mut places, placed_at::<B>(sectors, body, k, number))?;
         number = next_number::<B>(body, k, number);
     }

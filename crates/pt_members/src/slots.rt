@@ -362,12 +362,6 @@ pub fn part_slot(label: &Label, slice: &Member, k: usize) -> Option<Member>
     }
 }
 
-fn record_count(records: &[Option<Record>; 4]) -> usize
-    ensures { result ≡ length «records».now }
-{
-    records.len()
-}
-
 // How many places the records or entries have.
 #[tactic(auto, using(crate::proofs::ByPlace::mbr_tops, crate::proofs::ByPlace::gpt_tops, crate::proofs::ByPlace::tops_first))]
 pub fn top_count<const B: usize>(body: &Body) -> usize
@@ -375,7 +369,7 @@ pub fn top_count<const B: usize>(body: &Body) -> usize
     ensures within { result ≤ length (slots B body.now) }
 {
     match body {
-        Body::Mbr { records, .. } => record_count(records),
+        Body::Mbr { records, .. } => records.as_slice().len(),
         Body::Gpt(table) => table.entries.as_slice().len(),
     }
 }

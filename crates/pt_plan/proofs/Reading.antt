@@ -46,7 +46,7 @@ commit_wider S T (commit.Check why) more is = tt
 commit_wider S T (commit.Device fault) more is = device_wider S T fault more is
 commit_wider S T commit.Memory more is = tt
 
--- what is told of a failure, and of the planner's and the checker's errors
+-- what is reported of a failure, and of the planner's and the checker's errors
 pub commit_failed : (S T : ℕ → Type 0) (f : Failure) → ((s : ℕ) → S s → T s) → FailedIn S f → FailedInCommit T (commit_failure f)
 commit_failed S T (failure.Device at) more is = more at.0 is
 commit_failed S T failure.Memory more is = tt
@@ -68,7 +68,7 @@ pub commit_check_failed : (S : ℕ → Type 0) (e : CheckError) → FailedInChec
 commit_check_failed S (check.Device fault) is = read_commit S fault is
 commit_check_failed S check.Memory is = tt
 
--- no read failed where no fault is told
+-- no read failed where no fault is reported
 pub commit_nowhere : (S : ℕ → Type 0) (e : CommitError) → commit_fault_in e ≡ None → FailedInCommit S e
 commit_nowhere S (commit.NoTable e) none = tt
 commit_nowhere S (commit.Edit r) none = tt

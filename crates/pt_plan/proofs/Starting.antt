@@ -65,7 +65,7 @@ module _ (b n : ℕ) (batch : Words) (d : Sectors) (sized : length d ≡ n) (o :
     pub plan_read : (s : ℕ) → PlanReads b n l s → EditReads b n batch d s
     plan_read s reads = reading.plan o l starts.from leads.to reads
 
--- what is told of the planner's error carries the same fault, hides no failure, and says why there is no plan
+-- what is reported of the planner's error carries the same fault, hides no failure, and says why there is no plan
 pub unplanned_fault : (e : PlanError) → commit_fault_in (commit_unplanned e) ≡ fault_in e
 unplanned_fault plan.NotOneSwitch = refl
 unplanned_fault plan.ReusedInOneBatch = refl

@@ -89,7 +89,7 @@ not_safe_of b n (wanted.Edited edits guids) d phases size is e why = not_safe b 
 not_safe_of b n (wanted.Layout layout) d phases size is e why = not_safe_for b layout.now d phases size is e why
 not_safe_of b n wanted.Own d phases size is e why = not_safe_to_mend b d size phases is e why
 
--- want of memory, and a failure of the device, before anything is planned
+-- lack of memory, and a failure of the device, before anything is planned
 pub failed_of : (b n : ℕ) (w : Wanted) (d : Sectors) (f : Failure) → IsRefusedBy b n w d (commit_failure f)
 failed_of b n (wanted.Edited edits guids) d (failure.Device at) = tt
 failed_of b n (wanted.Edited edits guids) d failure.Memory = tt

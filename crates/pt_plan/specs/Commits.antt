@@ -188,7 +188,7 @@ abbrev pub commit_fault_in : CommitError → Option Fault
 commit_fault_in (commit.Device fault) = Some fault
 commit_fault_in _ = None
 
--- neither the device's fault nor want of memory is told within another error
+-- neither the device's fault nor lack of memory is reported within another error
 abbrev pub HidesNoFailure : CommitError → Type 0
 HidesNoFailure (commit.NoTable e) = ¬ IsOutsideDisk e
 HidesNoFailure (commit.Edit r) = r ≢ refusal.Memory
@@ -253,7 +253,7 @@ FailsBy b phases (Read at) old new = Flushed old new
 FailsBy b phases (Write at) old new = FailedApplying b phases old new (Write at)
 FailsBy b phases Flush old new = FailedFlush old new ⊎ FailedApplying b phases old new Flush
 
--- at the return after an error. For want of memory only the first flush was done, and no error but these two is told
+-- at the return after an error. For lack of memory only the first flush was done, and no error but these two is reported
 abbrev pub ApplyFailed : ℕ → List Writes → Told → Told → CommitError → Type 0
 ApplyFailed b phases old new (Device fault) = FailsBy b phases fault old new
 ApplyFailed b phases old new Memory = Flushed old new

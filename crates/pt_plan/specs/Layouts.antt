@@ -69,7 +69,7 @@ fault_in_other OtherSize = None
 fault_in_other (Other why) = fault_in why
 fault_in_other (Disk error) = None
 
--- neither a fault of the disk nor want of memory is told within another error
+-- neither a fault of the disk nor lack of memory is reported within another error
 abbrev pub LikeHidesNoFailure : LikeError → Type 0
 LikeHidesNoFailure OtherSize = Unit {0}
 LikeHidesNoFailure (Other why) = Unit {0}

@@ -109,7 +109,7 @@ abbrev pub repair_fault_in : RepairError → Option Fault
 repair_fault_in (repair.Device fault) = Some fault
 repair_fault_in _ = None
 
--- neither the device's fault nor want of memory is told within another error
+-- neither the device's fault nor lack of memory is reported within another error
 abbrev pub MendHidesNoFailure : RepairError → Type 0
 MendHidesNoFailure (repair.NoTable e) = ¬ IsOutsideDisk e
 MendHidesNoFailure (repair.Plan e) = ¬ IsFailure e

@@ -19,7 +19,7 @@ use pt_sector::Disk;
 use std::alloc::Global;
 
 /// The plan that leads from what the disk denotes to what the words make of it. Nothing is flushed or written. It is
-/// refused as `commit` refuses, and `Check` is never told; the checker is not asked, and accepts each such plan.
+/// refused as `commit` refuses, and `Check` is never reported; the checker is not asked, and accepts each such plan.
 pub fn plan_for<const B: usize, D: Disk<B>>(
     alloc: Global,
     disk: &mut D,

@@ -15,7 +15,7 @@ use std::alloc::AllocError;
 use std::error::Error;
 use std::fmt;
 
-/// Why a commit isn't done. A fault of the device in any step is `Device`, and want of memory in any step is `Memory`,
+/// Why a commit isn't done. A fault of the device in any step is `Device`, and lack of memory in any step is `Memory`,
 /// never within another error. After all but `Device` the first flush was done and nothing else.
 #[derive(Clone, Copy, Debug, PartialEq, Eq)]
 pub enum CommitError {

@@ -41,7 +41,7 @@ pub fn plan_for_layout<const B: usize, D: Disk<B>>(
 }
 
 /// The same plan, once the checker has accepted it. Nothing is flushed or written. `NoTable`, `Edit` and `Check` are never
-/// told.
+/// reported.
 pub fn checked_plan_for_layout<const B: usize, D: Disk<B>>(
     alloc: Global,
     disk: &mut D,
@@ -67,7 +67,7 @@ pub fn checked_plan_for_layout<const B: usize, D: Disk<B>>(
 /// call may leave denotes what it denoted before, be it nothing, or the wanted layout; after `Ok` it is the latter,
 /// nothing is pending, and the disk is healthy; after every error but `Device`, and after `Device` for a read, the first
 /// flush was done and nothing else. Outside the tables of both layouts, in the sectors that partitions of either own and
-/// in the boot code (bytes 0 to 439 of sector 0) nothing changes. `NoTable`, `Edit` and `Check` are never told. There is no
+/// in the boot code (bytes 0 to 439 of sector 0) nothing changes. `NoTable`, `Edit` and `Check` are never reported. There is no
 /// plan ([`PlanError::NotOneSwitch`]) for a sound layout with another number of sectors than the disk's.
 pub fn commit_layout<const B: usize, D: Disk<B>>(
     alloc: Global,

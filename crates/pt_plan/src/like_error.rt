@@ -10,16 +10,16 @@ use pt_layout::NoTable;
 use std::error::Error;
 use std::fmt;
 
-/// Why a disk doesn't become like another one. An error of the other disk is never told as one of the disk, nor the other
+/// Why a disk doesn't become like another one. An error of the other disk is never reported as one of the disk, nor the other
 /// way round.
 #[derive(Clone, Copy, Debug, PartialEq, Eq)]
 pub enum LikeError {
     /// The two disks have different numbers of sectors. Neither was read, flushed or written.
     OtherSize,
-    /// What [`recover`](pt_layout::recover) told of the other disk: why it denotes nothing, or that it couldn't be read, or
+    /// What [`recover`](pt_layout::recover) reported of the other disk: why it denotes nothing, or that it couldn't be read, or
     /// that memory was refused. The disk itself wasn't read, flushed or written.
     Other(NoTable),
-    /// What a commit of the other disk's layout told of the disk. `NoTable`, `Edit` and `Check` are never told.
+    /// What a commit of the other disk's layout reported of the disk. `NoTable`, `Edit` and `Check` are never reported.
     Disk(CommitError),
 }
 

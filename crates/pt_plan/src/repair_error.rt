@@ -15,7 +15,7 @@ use std::alloc::AllocError;
 use std::error::Error;
 use std::fmt;
 
-/// Why a disk isn't repaired. A fault of the device in any step is `Device`, and want of memory in any step is `Memory`,
+/// Why a disk isn't repaired. A fault of the device in any step is `Device`, and lack of memory in any step is `Memory`,
 /// never within another error. After all but `Device` the first flush was done and nothing else.
 #[derive(Clone, Copy, Debug, PartialEq, Eq)]
 pub enum RepairError {
@@ -69,7 +69,7 @@ impl fmt::Display for RepairError {
 impl Error for RepairError {}
 
 /// What a repair tells of an error in the steps that a commit has too. It has no words, so that none are refused; where
-/// some were, want of memory would be told.
+/// some were, lack of memory would be reported.
 pub(crate) fn told(error: CommitError) -> RepairError
     ensures { result ≡ repair_told error }
 {

@@ -17,7 +17,7 @@ use pt_sector::Disk;
 use std::alloc::Global;
 
 /// The plan that makes the disk healthy with the layout that it denotes: without phases where it is so already. Nothing
-/// is flushed or written. It is refused as `repair` refuses, and `Plan` and `Check` are never told; the checker is not
+/// is flushed or written. It is refused as `repair` refuses, and `Plan` and `Check` are never reported; the checker is not
 /// asked, and accepts each such plan.
 pub fn plan_for_repair<const B: usize, D: Disk<B>>(
     alloc: Global,

@@ -2,9 +2,9 @@
 use Rattle.std.proofs.Common.{◌≡◌, ℕ, zero, suc, ◌+◌, ◌<◌, ◌≤◌, List, length, get_or, take, drop, Option, Some, None, refl, sym, ap}
 use Rattle.std.proofs.Common.{subst, ◌∙◌, arith, inl, inr, ext_get_or}
 use Rattle.std.proofs.lemmas.Bool.{cases_lt}
-use Rattle.pt_sector.specs.Sectors.{IsSectorSize}
+use Rattle.pt_sector.specs.Sectors.{IsSectorSize, number_at}
 use Rattle.pt_sum.specs.Sums.{xor_of}
-use Rattle.pt_bsd.specs.Labels.{number_at, count_of, LabelBytes, HasSum, HasEntries, IsEntry, counted_in, entry_of, geometry_at, place_of}
+use Rattle.pt_bsd.specs.Labels.{count_of, LabelBytes, HasSum, HasEntries, IsEntry, counted_in, entry_of, geometry_at, place_of}
 use Rattle.pt_bsd.proofs.Terms.{label_count}
 use Rattle.pt_bsd.specs.declared.label.Label.{Label}
 use Rattle.pt_bsd.specs.declared.label.LabelEntry.{LabelEntry}

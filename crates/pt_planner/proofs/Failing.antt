@@ -63,7 +63,7 @@ pub failed_planned : (S T : ℕ → Type 0) (f : Failure) → ((s : ℕ) → S s
 failed_planned S T (failure.Device at) more is = more at.0 is
 failed_planned S T failure.Memory more is = tt
 
--- no read failed where no fault is told
+-- no read failed where no fault is reported
 nowhere : (S : ℕ → Type 0) (e : PlanError) → fault_in e ≡ None → FailedInPlan S e
 nowhere S NotOneSwitch none = tt
 nowhere S ReusedInOneBatch none = tt

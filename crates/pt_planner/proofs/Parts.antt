@@ -1,10 +1,11 @@
 -- What sixteen bytes are read as.
 use Rattle.std.proofs.Common.{◌≡◌, ℕ, ◌+◌, ◌-◌, ◌*◌, ◌<◌, ◌≤◌, List, take, drop, get_or, Option, Some, None, refl, sym, ap, subst, ◌∙◌}
+use Rattle.pt_sector.specs.Sectors.{number_at}
 use Rattle.std.proofs.Common.{arith, inl, inr}
 use Rattle.std.specs.Prelude.{slice_index, slice_range}
 use Rattle.std.proofs.lemmas.List.{drop-drop, drop-take, take-take, get_or-take, get_or-drop}
 use Rattle.byteorder.specs.Endian.{little_number}
-use Rattle.pt_mbr.specs.Records.{number_at, IsUsed, RecordIs, place_of}
+use Rattle.pt_mbr.specs.Records.{IsUsed, RecordIs, place_of}
 use Rattle.pt_mbr.specs.Changes.{IsChanged}
 use Rattle.pt_mbr.specs.declared.record.Record.{Record}
 use Rattle.pt_cases.specs.Writes.{IsRecordTarget, record_at}
@@ -72,7 +73,7 @@ pub target_of : (o n : Option Record) (k : ℕ) (b c : List ℕ) → IsChanged (
 target_of o n k b c (inl stays) = inl (stays.0, ends k c ∙ stays.1 ∙ sym (ends k b))
 target_of o n k b c (inr new) = inr (new.0, ends k c ∙ new.1)
 
--- and what it holds is told
+-- and what it holds is reported
 pub both : (o n : Option Record) (k : ℕ) (b v c : List ℕ) → IsRecordTarget o n k b v → IsRecordTarget o n k b c
     → record_at k v ≡ record_at k c
 both o n k b v c (inl p) (inl q) = p.1 ∙ sym q.1

@@ -4,7 +4,8 @@ use Rattle.std.proofs.Common.{length-append, Vec}
 use Rattle.std.proofs.lemmas.List.{map-append, length-map}
 use Rattle.std.specs.declared.alloc.Global.{Global}
 use Rattle.pt_sector.specs.Sectors.{Writes, Puts}
-use Rattle.pt_apply.specs.Plans.{writes_of, phases_in, PhaseInRange, writes_in}
+use Rattle.pt_apply.specs.Plans.{writes_of, PhaseInRange, writes_in}
+use Rattle.pt_apply.specs.inner.Plans.{phases_in}
 use Rattle.pt_apply.specs.declared.plan.Write.{Write}
 use Rattle.pt_apply.proofs.Puts.{puts_left, puts_right}
 

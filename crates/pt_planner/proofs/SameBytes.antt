@@ -4,7 +4,7 @@ use Rattle.std.proofs.Common.{refl, get_or-drop, get_or-take, ext_get_or, length
 use Rattle.std.specs.Prelude.{slice_range}
 use Rattle.std.proofs.lemmas.Bool.{cases_lt}
 use Rattle.byteorder.specs.Endian.{little_from}
-use Rattle.pt_bsd.specs.Labels.{number_at}
+use Rattle.pt_sector.specs.Sectors.{number_at}
 
 -- each is a byte
 abbrev pub AreBytes : List ℕ → Type 0

@@ -5,7 +5,8 @@ use Rattle.std.specs.declared.alloc.Global.{Global}
 use Rattle.std.proofs.lemmas.Bool.{cases_lt}
 use Rattle.std.proofs.lemmas.List.{take_all, take-map, length-map}
 use Rattle.pt_sector.specs.Sectors.{Writes, Puts}
-use Rattle.pt_apply.specs.Plans.{writes_of, phases_in, writes_in}
+use Rattle.pt_apply.specs.Plans.{writes_of, writes_in}
+use Rattle.pt_apply.specs.inner.Plans.{phases_in}
 use Rattle.pt_apply.specs.declared.plan.Write.{Write}
 use Rattle.pt_apply.proofs.Puts.{puts_split, puts_left, puts_right}
 use Rattle.pt_planner.specs.inner.Phases.{Touches}

@@ -6,7 +6,9 @@ use Rattle.std.specs.Prelude.{Contains}
 use Rattle.std.specs.declared.alloc.Global.{Global}
 use Rattle.std.proofs.lemmas.List.Elements.{All-nil, All-cons}
 use Rattle.pt_sector.specs.Sectors.{Sectors, Writes, Puts, written, IsAscending, sector_at}
-use Rattle.pt_apply.specs.Plans.{writes_of, phases_in, PhasesInRange, PhaseInRange, writes_in}
+use Rattle.pt_apply.specs.Plans.{writes_of, PhaseInRange, writes_in}
+use Rattle.pt_apply.proofs.Items.{PhasesInRange}
+use Rattle.pt_apply.specs.inner.Plans.{phases_in}
 use Rattle.pt_apply.specs.declared.plan.Write.{Write}
 use Rattle.pt_recover.specs.Spans.{IsIn}
 use Rattle.pt_members.specs.declared.layout.Layout.{Layout}

@@ -6,7 +6,8 @@ use Rattle.std.specs.Prelude.{All}
 use Rattle.std.specs.declared.alloc.Global.{Global}
 use Rattle.std.proofs.lemmas.List.Elements.{All-append, All-contains, All-cons, All-nil}
 use Rattle.pt_sector.specs.Sectors.{Sectors, Writes}
-use Rattle.pt_apply.specs.Plans.{writes_of, phases_of, phases_in, InRange, writes_in}
+use Rattle.pt_apply.specs.Plans.{writes_of, phases_of, InRange, writes_in}
+use Rattle.pt_apply.specs.inner.Plans.{phases_in}
 use Rattle.pt_apply.specs.declared.plan.Plan.{Plan}
 use Rattle.pt_apply.specs.declared.plan.Write.{Write}
 use Rattle.pt_members.specs.declared.layout.Layout.{Layout}

@@ -3,7 +3,9 @@ use Rattle.std.proofs.Common.{◌≡◌, ◌∙◌, ◌⊎◌, inl, inr, ℕ, �
 use Rattle.std.proofs.Common.{Some, None, sym, ap, subst, arith, length-append, Vec}
 use Rattle.std.specs.declared.alloc.Global.{Global}
 use Rattle.pt_sector.specs.Sectors.{IsSectorSize, Writes, Puts}
-use Rattle.pt_apply.specs.Plans.{writes_of, phases_in, PhaseInRange, PhasesInRange, writes_in}
+use Rattle.pt_apply.specs.Plans.{writes_of, PhaseInRange, writes_in}
+use Rattle.pt_apply.proofs.Items.{PhasesInRange}
+use Rattle.pt_apply.specs.inner.Plans.{phases_in}
 use Rattle.pt_apply.specs.declared.plan.Write.{Write}
 use Rattle.pt_gpt.specs.Copies.{array_len, HasRoom, array_place}
 use Rattle.pt_gpt.specs.declared.table.Side.{Side}

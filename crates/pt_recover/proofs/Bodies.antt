@@ -58,7 +58,7 @@ pub no_copies : (b : ℕ) (d : Sectors) (e : NoTable) → ¬ IsMbrDisk d → Has
     → TellsNothing b d e
 no_copies b d e none room (inl out) = inl out
 no_copies b d (NoCopy e f) none room (inr faults) =
-    inr (no_body b d (NoCopy e f) none faults, record { no_mbr = none; room = room; primary = faults.0; backup = faults.1 })
+    inr (no_body b d (NoCopy e f) none faults, (none, room, faults.0, faults.1))
 no_copies b d _ none room (inr faults) = absurd faults
 
 small_body : (b : ℕ) (d : Sectors) → ¬ IsMbrDisk d → ¬ HasRoom b (length d) → Denotes b d None

@@ -1,5 +1,5 @@
 -- Why a disk denotes nothing.
-use Rattle.std.proofs.Common.{◌≡◌, ◌<◌, ℕ, List, [], ◌∷◌, Option, None, refl, sym, subst, arith, inl, inr}
+use Rattle.std.proofs.Common.{◌≡◌, ◌<◌, ◌≤◌, ℕ, List, [], ◌∷◌, length, Option, None, refl, sym, subst, arith, inl, inr}
 use Rattle.std.specs.Prelude.{◌⊎◌}
 use Rattle.pt_sector.specs.Sectors.{Sectors, Span}
 use Rattle.pt_mbr.specs.Chain.{lba, Chain, ChainFault, ChainReads, IsDevice}
@@ -31,7 +31,7 @@ pub two_extended : (b : ℕ) (d : Sectors) (m : List (Option Record)) (r : Recor
     → ExtendedIs (extended_of m) (found.More r) → TellsNothing b d TwoExtended
 two_extended b d m r is two = inr (
   no_body b d m is (λ list has. subst (λ (rs : List Record). HasChain d rs list) two.2 has),
-  record { records = m; first = r; second = two.0; more = two.1; is_mbr = is; two = two.2 },
+  (m, is, subst (λ (rs : List Record). 2 ≤ length rs) (sym two.2) (omega arith)),
 )
 
 lone_chain : (b : ℕ) (d : Sectors) (m : List (Option Record)) (r : Record) (e : ChainError) → IsMbr d m → extended_of m ≡ r ∷ []
@@ -39,7 +39,7 @@ lone_chain : (b : ℕ) (d : Sectors) (m : List (Option Record)) (r : Record) (e 
 lone_chain b d m r e is lone fault disk = inr (
   no_body b d m is (λ list has. disk (fault_has_no_chain d (extent_of r) e list fault
       (subst (λ (rs : List Record). HasChain d rs list) lone has))),
-  record { records = m; extended = r; is_mbr = is; lone = lone; fault = fault; told = disk },
+  (m, r, is, lone, fault, disk),
 )
 
 pub bad_chain : (b : ℕ) (d : Sectors) (m : List (Option Record)) (r : Record) (x : Span) (e : NoTable) → IsMbr d m

@@ -57,7 +57,7 @@ found_none (r ∷ rs) (suc i) s z below past (inl here) = absurd (omega (arith, 
 found_none (r ∷ rs) (suc i) s z below past (inr later) =
     found_none rs i s z (λ k under within. below (suc k) (omega arith) (omega arith)) (omega arith) later
 
--- what a search for the first run that doesn't end before s has told
+-- what a search for the first run that doesn't end before s has reported
 abbrev pub IsPoint : List TracedRun → ℕ → ℕ → Type 0
 IsPoint rs s i = IsPartitionPoint (λ (y : TracedRun). ltb y.last s ≡ true) (λ (y : TracedRun). ltb y.last s ≡ false) rs i
 

@@ -1,5 +1,5 @@
 -- What a disk denotes, why it denotes nothing, and which sectors recovery reads.
-use Rattle.std.specs.Prelude.{◌≡◌, ◌<◌, ℕ, List, [], ◌∷◌, length, Option, ◌⊎◌, ◌↔◌, Some, None, ◌^◌, All}
+use Rattle.std.specs.Prelude.{◌≡◌, ◌<◌, ◌≤◌, ℕ, List, [], ◌∷◌, length, Option, ◌⊎◌, ◌↔◌, Some, None, ◌^◌, All}
 use Rattle.pt_sector.specs.Sectors.{Sectors, sector, Writes, Puts}
 use Rattle.pt_mbr.specs.Records.{IsMbrFormed, AreRecords, BearsProtective, extent_of, extended_of}
 use Rattle.pt_mbr.specs.Chain.{Chain, ChainReads, ChainFault, IsDevice}
@@ -111,36 +111,13 @@ pub record SameMeaning (b : ℕ) (c d : Sectors) : Type 0 where
 
 -- ## What recovery answers where there is no layout.
 
--- an MBR disk with a lone extended record, whose chain has this first fault
-pub record LacksChain (d : Sectors) (e : _) : Type 0 where
-  pub records : List (Option Record)
-  pub extended : Record
-  pub is_mbr : IsMbr d records
-  pub lone : extended_of records ≡ extended ∷ []
-  pub fault : ChainFault d (extent_of extended) e
-  pub told : ¬ IsDevice e
-
--- an MBR disk with two or more extended records
-pub record HasTwoExtended (d : Sectors) : Type 0 where
-  pub records : List (Option Record)
-  pub first : Record
-  pub second : Record
-  pub more : List Record
-  pub is_mbr : IsMbr d records
-  pub two : extended_of records ≡ first ∷ second ∷ more
-
--- another disk, large enough, each of whose copies has its first fault
-pub record LacksCopies (b : ℕ) (d : Sectors) (e f : _) : Type 0 where
-  pub no_mbr : ¬ IsMbrDisk d
-  pub room : HasRoom b (length d)
-  pub primary : IsCopyFault b d Primary e
-  pub backup : IsCopyFault b d Backup f
-
--- why the disk denotes nothing
+-- why the disk denotes nothing: two copies with their first faults; the first fault in the chain of a lone extended record;
+-- two extended records, or more; too few sectors for a GPT
 abbrev pub IsReason : ℕ → Sectors → NoTable → Type 0
-IsReason b d (NoCopy e f) = LacksCopies b d e f
-IsReason b d (no_table.Chain e) = LacksChain d e
-IsReason b d TwoExtended = HasTwoExtended d
+IsReason b d (NoCopy e f) = (¬ IsMbrDisk d) × HasRoom b (length d) × IsCopyFault b d Primary e × IsCopyFault b d Backup f
+IsReason b d (no_table.Chain e) =
+    (m : List (Option Record)) × (r : Record) × IsMbr d m × (extended_of m ≡ r ∷ []) × ChainFault d (extent_of r) e × (¬ IsDevice e)
+IsReason b d TwoExtended = (m : List (Option Record)) × IsMbr d m × (2 ≤ length (extended_of m))
 IsReason b d TooSmall = (¬ IsMbrDisk d) × (¬ HasRoom b (length d))
 IsReason b d _ = ⊥
 

@@ -103,9 +103,10 @@ fn read_mbr<const B: usize, D: Disk<B>>(
     })
 }
 
-/// The body that the disk denotes, with the sectors that decide it added to the trace. Where the records of an MBR disk
-/// are known, sector 0 isn't read again.
-pub(crate) fn body_of<const B: usize, D: Disk<B>>(
+/// The body that the disk denotes, a layout without its labels, with the sectors that decide it added to the trace. Where
+/// the records of an MBR disk are known, sector 0 isn't read again. After `Device` and `Memory` what the trace holds is
+/// open.
+pub fn body_of<const B: usize, D: Disk<B>>(
     alloc: Global,
     disk: &mut D,
     known: &Option<Mbr>,

@@ -12,7 +12,7 @@ use std::alloc::AllocError;
 use std::error::Error;
 use std::fmt;
 
-/// Why recovery gives no layout. All but the last two are told exactly where the disk denotes nothing for that reason.
+/// Why recovery gives no layout. All but the last two are reported exactly where the disk denotes nothing for that reason.
 #[derive(Clone, Copy, Debug, PartialEq, Eq)]
 pub enum NoTable {
     /// It is no MBR disk, and neither the primary nor the backup copy of a GPT exists: the first fault of each.

@@ -38,7 +38,7 @@ fn trace_fault(trace: &mut Trace, fault: &ChainError) -> Result<(), AllocError>
     }
 }
 
-// What a fault of the chain is told as, with the sectors that were read up to it.
+// What a fault of the chain is reported as, with the sectors that were read up to it.
 fn told_fault(list: &[Ebr], fault: ChainError, trace: &mut Trace) -> NoTable
     ensures told { ToldAs fault result }
     ensures traced { IsOutsideDisk result ⊎ Adds trace.old trace.new (λ s. StandsAt s list.now ⊎ IsReadBy fault s) }

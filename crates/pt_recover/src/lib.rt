@@ -15,7 +15,7 @@ mod recovery;
 mod tables;
 mod trace;
 
-pub use body::records_of;
+pub use body::{body_of, records_of};
 pub use error::NoTable;
 pub use labels::traced_labels;
 pub use pt_members::{Body, Ebrs, Labelled, Labels, Layout, Slice, is_slice_type, label_places};

@@ -107,7 +107,7 @@ no_word_in rest word after (e ∷ es) f cut clean fault are =
     let same = (one_cut word are.0 after are.1 clean are.3 (sym cut ∙ are.2)).0 in
     fault_is_no_word_lem (fields word) e f (subst (λ (t : List ℕ). IsWord (fields t) e) (sym same) are.4) fault
 
--- where one of them is no word, the bytes are no edits, and it is told by its number
+-- where one of them is no word, the bytes are no edits, and it is reported by its number
 pub no_word : (bytes rest word after : List ℕ) (es : List Edit) (f : EditError) (r : Reply) → IsUtf8 bytes → IsReadTo bytes rest es
     → Onward bytes rest → rest ≡ word ++ 0 ∷ after → HasNoZero word → IsWordFault (fields word) f → r ≡ bad_word (length es + 1) f
     → NoWords bytes r

@@ -6,7 +6,8 @@ use Rattle.std.specs.Prelude.{Vec}
 use Rattle.std.specs.declared.alloc.Global.{Global}
 use Rattle.pt_sector.specs.Sectors.{Sectors, Writes}
 use Rattle.pt_apply.specs.declared.plan.Write.{Write}
-use Rattle.pt_apply.specs.Plans.{writes_of, phases_in}
+use Rattle.pt_apply.specs.Plans.{writes_of}
+use Rattle.pt_apply.specs.inner.Plans.{phases_in}
 use Rattle.pt_replay.specs.Given.{rows_in, bytes_in, rows_from, bytes_of, sectors_of, AreFull}
 use Rattle.pt_replay.specs.inner.Given.{AreRows, phases_read, IsNumbered, Took}
 use Rattle.pt_replay.proofs.ViewLemmas.{AreRead, IsGrowing}

@@ -9,7 +9,7 @@ use Rattle.pt_sector.specs.declared.reading.Failure.{Failure}
 use Rattle.pt_sector.specs.declared.reading.Failure.TheVariants as failure
 use Rattle.pt_mbr.specs.declared.chain.ChainError.{ChainError}
 use Rattle.pt_mbr.specs.declared.chain.ChainError.TheVariants as chain
-use Rattle.pt_recover.specs.Denotes.{IsReason, TellsNothing, FailedInDisk, fault_in, LacksChain, Denotes, Reads}
+use Rattle.pt_recover.specs.Denotes.{IsReason, TellsNothing, FailedInDisk, fault_in, Denotes, Reads}
 use Rattle.pt_recover.specs.declared.error.NoTable.{NoTable}
 use Rattle.pt_recover.specs.declared.error.NoTable.TheVariants as table
 use Rattle.pt_members.specs.declared.layout.Layout.{Layout}
@@ -56,13 +56,14 @@ viewed before stay keep after s r (inl (none, is, (told, same))) = inl (none, is
 viewed before stay keep after s r (inr (view, is)) = inr (view, after s r is)
 
 module _ (b : ℕ) (v : View) (d : Sectors) where
-  chain_says : (e : ChainError) → Denotes b d None → LacksChain d e → NoLayout b v d (chain_answer e).status (chain_answer e).reply
+  chain_says : (e : ChainError) → Denotes b d None → IsReason b d (table.Chain e)
+      → NoLayout b v d (chain_answer e).status (chain_answer e).reply
   chain_says (chain.NoSignature at) none is = (table.Chain (chain.NoSignature at), none, is, refl)
   chain_says (chain.BadRecord at) none is = (table.Chain (chain.BadRecord at), none, is, refl)
   chain_says (chain.NotUpward at) none is = (table.Chain (chain.NotUpward at), none, is, refl)
   chain_says (chain.OutsideExtended at) none is = (table.Chain (chain.OutsideExtended at), none, is, refl)
   chain_says chain.TooLong none is = (table.Chain chain.TooLong, none, is, refl)
-  chain_says (chain.Device at) none is = absurd (is.told tt)
+  chain_says (chain.Device at) none (m, r, mbr, lone, fault, disk) = absurd (disk tt)
 
   inside : (e : NoTable) → Denotes b d None → IsReason b d e → NoLayout b v d (table_answer e).status (table_answer e).reply
   inside (table.NoCopy e f) none is = (table.NoCopy e f, none, is, refl)
@@ -123,7 +124,7 @@ module _ (b : ℕ) (v : View) (d : Sectors) where
   chain_refuses batch (chain.NotUpward at) is = (commit.NoTable (table.Chain (chain.NotUpward at)), is, refl)
   chain_refuses batch (chain.OutsideExtended at) is = (commit.NoTable (table.Chain (chain.OutsideExtended at)), is, refl)
   chain_refuses batch chain.TooLong is = (commit.NoTable (table.Chain chain.TooLong), is, refl)
-  chain_refuses batch (chain.Device at) (none, is, may) = absurd (is.told tt)
+  chain_refuses batch (chain.Device at) (none, is, may) = absurd (is.5 tt)
 
   table_refuses : (batch : Words) (e : NoTable) → IsRefusal b v.sectors batch d (commit.NoTable e)
       → NoPlan b v d batch (table_answer e).status (table_answer e).reply
@@ -159,7 +160,7 @@ module _ (b : ℕ) (v : View) (d : Sectors) where
   chain_unmends (chain.NotUpward at) is = (repair.NoTable (table.Chain (chain.NotUpward at)), is, refl)
   chain_unmends (chain.OutsideExtended at) is = (repair.NoTable (table.Chain (chain.OutsideExtended at)), is, refl)
   chain_unmends chain.TooLong is = (repair.NoTable (table.Chain chain.TooLong), is, refl)
-  chain_unmends (chain.Device at) (none, is) = absurd (is.told tt)
+  chain_unmends (chain.Device at) (none, is) = absurd (is.5 tt)
 
   table_unmends : (e : NoTable) → IsMendRefusal b d (repair.NoTable e) → NoMending b v d (table_answer e).status (table_answer e).reply
   table_unmends (table.NoCopy e f) is = (repair.NoTable (table.NoCopy e f), is, refl)

@@ -44,7 +44,7 @@ module _ (b : ℕ) (v o : View) (d e : Sectors) where
   chain_unlike (chain.OutsideExtended at) is = (like.Other (table.Chain (chain.OutsideExtended at)), is, refl)
   chain_unlike chain.TooLong is = (like.Other (table.Chain chain.TooLong), is, refl)
   chain_unlike (chain.Device at) (inl outside) = absurd outside
-  chain_unlike (chain.Device at) (inr (none, is)) = absurd (is.told tt)
+  chain_unlike (chain.Device at) (inr (none, is)) = absurd (is.5 tt)
 
   other_unlike : (x : NoTable) → TellsNothing b e x → ((f : Fault) → fault_in x ≡ Some f → IsAsked b o f) → FailedInDisk (Reads b e) x
       → SaysOf (like.Other x)

@@ -171,7 +171,7 @@ module _ (b count : ℕ) (ns : List ℕ) (ks d : Sectors) where
   lists_alone reason.TwoExtended list is told asked failed = nothing_wanted list is (inl (told_nothing (λ p. p) told).0)
   lists_alone reason.TooSmall list is told asked failed = nothing_wanted list is (inl (told_nothing (λ p. p) told).0)
 
--- what holds of what is told of a call that may want memory
+-- what holds of what is reported of a call to which memory may be refused
 pub if_told : {X E A : Type 0} (P : X → Type 0) (a : A) (w : Result X E) (r : Result X A) → MatchResult w (λ x. r ≡ Ok x) (λ e. r ≡ Err a)
     → IfOk w P → IfOk r P
 if_told P a (Ok x) r is holds = subst (λ (z : Result _ _). IfOk z P) (sym is) holds

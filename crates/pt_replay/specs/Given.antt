@@ -59,7 +59,7 @@ pub record IsBadWord (bytes : List ℕ) (at : ℕ) (e : EditError) : Type 0 wher
   pub fault : IsWordFault (fields word) e
   pub place : at ≡ length before + 1
 
--- what is told of bytes that are no words: that they are no text of words, or the first word that can't be read
+-- what is reported of bytes that are no words: that they are no text of words, or the first word that can't be read
 abbrev pub ToldOfWords : List ℕ → Reply → Type 0
 ToldOfWords bytes r =
     (AreNoText bytes × (r ≡ bad_argument the_words))
@@ -142,7 +142,7 @@ pub record IsBadRow (rows : List WriteRow) (k : ℕ) : Type 0 where
   pub before : (i : ℕ) → 1 ≤ i → i < k → IsInOrder rows i
   pub bad : ¬ IsInOrder rows k
 
--- what is told of rows that are no plan: that the bytes aren't a sector for each row, or the first row that isn't in order
+-- what is reported of rows that are no plan: that the bytes aren't a sector for each row, or the first row that isn't in order
 abbrev pub ToldOfRows : ℕ → List WriteRow → List ℕ → Reply → Type 0
 ToldOfRows b rows bytes r =
     ((length bytes ≢ length rows * b) × (r ≡ bad_argument the_rows))

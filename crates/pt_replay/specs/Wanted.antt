@@ -98,9 +98,9 @@ pub record Asks (count : ℕ) (ns ns' : List ℕ) (ks ks' : Sectors) (old new : 
   pub come : new ≡ old ++ more
   pub unknown : AreOfNew count ns ks more
 
--- ## Which argument of a call is told where it has no meaning.
+-- ## Which argument of a call is reported where it has no meaning.
 
--- an argument is judged: where it has no meaning, this is told; where it has one, the answer is what the rest says
+-- an argument is judged: where it has no meaning, this is reported; where it has one, the answer is what the rest says
 abbrev pub Judged : Type 0 → (Reply → Type 0) → (Status → Reply → Type 0) → Status → Reply → Type 0
 Judged meaning told rest s r = ((¬ meaning) × (s ≡ Usage) × told r) ⊎ (meaning × rest s r)
 

@@ -232,7 +232,7 @@ impl Answer {
         answer
     }
 
-    /// The same, told of the other disk.
+    /// The same, reported of the other disk.
     pub fn of_other(self) -> Answer
         ensures { result ≡ of_other self }
     {

@@ -11,7 +11,6 @@
 mod adopting;
 mod answers;
 mod asking;
-mod body;
 mod checking;
 mod giving;
 mod health;

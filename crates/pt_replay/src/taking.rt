@@ -2,7 +2,8 @@
 
 ghost use Rattle.std.specs.Prelude.{◌≡◌, IfOk, IfErr, IsTrue, IsFalse};
 ghost use Rattle.pt_sector.specs.Sectors.{IsSectorSize};
-ghost use Rattle.pt_apply.specs.Plans.{phases_of, phases_in};
+ghost use Rattle.pt_apply.specs.Plans.{phases_of};
+ghost use Rattle.pt_apply.specs.inner.Plans.{phases_in};
 ghost use Rattle.pt_replay.specs.Given.{rows_from, sectors_of, AreFull, AreTaken};
 ghost use Rattle.pt_replay.specs.inner.Given.{phases_read, IsNumbered, IsMisplaced, Took};
 ghost use Rattle.pt_replay.specs.inner.Wanted.{IsUnasked, NoRows};

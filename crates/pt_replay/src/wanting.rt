@@ -9,11 +9,11 @@ ghost use Rattle.pt_replay.specs.inner.Wanted.{GivesList, TakesUp, AreUnknown, I
 ghost use Rattle.pt_replay.specs.declared.answers.Status.TheVariants as status;
 
 use crate::answers::{Answer, Status};
-use crate::body::body_known;
 use crate::giving::{counted, put};
 use crate::replay::ReplayDisk;
 use crate::view::View;
-use pt_layout::{Body, NoTable, Slice, label_places, recover};
+use pt_layout::{Body, NoTable, Slice, Trace, label_places};
+use pt_recover::body_of;
 use pt_sector::{Disk, Moments};
 use std::alloc::{AllocError, Global};
 
@@ -98,23 +98,8 @@ fn wanted_by(alloc: Global, why: NoTable) -> Result<Vec<u64>, Answer>
     }
 }
 
-// What recovery wants.
-fn wanted_first<const B: usize>(
-    alloc: Global,
-    disk: &mut ReplayDisk<'_, B>,
-) -> Result<Vec<u64>, Answer>
-    requires size { IsSectorSize B }
-    ensures ok { IfOk result (λ wanted. ListsWanted B disk.old.sectors disk.old.numbers.now disk.old.known.now
-        (whole disk.old.sectors disk.old.numbers.now disk.old.known.now disk.old.elsewhere.items) wanted.items) }
-    ensures err { IfErr result (λ a. a ≡ answer status.Memory nothing) }
-{
-    match recover::<B, _>(alloc, disk) {
-        Ok(layout) => told(wanted_places(alloc, disk, &layout.body)),
-        Err(why) => wanted_by(alloc, why),
-    }
-}
-
-// All that is known to be wanted: the label places of a body that is known, and else what recovery wants.
+// All that is known to be wanted: the label places of the body that the disk denotes, or the sector that has to be known
+// before there is one.
 fn wanted_of<const B: usize>(
     alloc: Global,
     disk: &mut ReplayDisk<'_, B>,
@@ -124,9 +109,10 @@ fn wanted_of<const B: usize>(
         (whole disk.old.sectors disk.old.numbers.now disk.old.known.now disk.old.elsewhere.items) wanted.items) }
     ensures err { IfErr result (λ a. a ≡ answer status.Memory nothing) }
 {
-    match body_known::<B, _>(alloc, disk) {
-        Some(body) => told(wanted_places(alloc, disk, &body)),
-        None => wanted_first(alloc, disk),
+    let mut trace = Trace::new(alloc);
+    match body_of::<B, _>(alloc, disk, &None, &mut trace) {
+        Ok(body) => told(wanted_places(alloc, disk, &body)),
+        Err(why) => wanted_by(alloc, why),
     }
 }
 

@@ -25,7 +25,7 @@ use Rattle.pt_report.specs.declared.reply.Reply.TheVariants as reply
 
 -- ## Why a disk denotes no layout, as it is printed.
 
--- what no output explains, as everywhere: a device's fault, the want of memory
+-- what no output explains, as everywhere: a device's fault, lack of memory
 abbrev pub device_line : List ℕ
 device_line = line (codes "device" ∷ [])
 

@@ -10,7 +10,7 @@ use pt_mbr::ChainError;
 use std::io;
 use std::io::Write;
 
-/// Prints why a disk denotes no layout. A device's fault and the want of memory have the line that they have everywhere.
+/// Prints why a disk denotes no layout. A device's fault and lack of memory have the line that they have everywhere.
 pub fn print_no_table<E: Write>(err: &mut E, why: NoTable) -> io::Result<()>
     ensures { OnOk result (Appends (E.contents err.old) (E.contents err.new) (no_table_text why)) }
 {

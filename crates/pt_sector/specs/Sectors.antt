@@ -1,5 +1,7 @@
 -- Sectors, lists of them as disks, and what writes make of a disk.
 use Rattle.std.specs.Prelude.{◌≡◌, ◌⊎◌, ◌≤◌, ℕ, List, [], length, slice_index_or, ◌<◌, ◌∷◌, slice_set, ◌≢◌, map}
+use Rattle.std.specs.Prelude.{slice_range, ◌+◌}
+use Rattle.byteorder.specs.Endian.{little_number}
 use Rattle.pt_sector.specs.declared.put.Put.{Put}
 
 -- ## The value of a disk: the list of its sectors.
@@ -15,6 +17,10 @@ Sectors = List (List ℕ)
 -- the bytes of sector k
 abbrev pub sector : Sectors → ℕ → List ℕ
 sector d k = slice_index_or d k []
+
+-- the number in the n bytes from place i, the lowest byte first
+abbrev pub number_at : ℕ → ℕ → List ℕ → ℕ
+number_at i n bytes = little_number n (slice_range bytes i (i + n))
 
 -- c has as many sectors as d, and is d on those of S
 pub record Agrees (S : ℕ → Type 0) (c d : Sectors) : Type 0 where

@@ -420,7 +420,7 @@ text_answers_lem (l ∷ []) rest name text = elim (one_of l letters) as (λ _. W
   )
 ]
 
--- a field is never told as a want of memory
+-- a field is never reported as lack of memory
 told_other : (k : Field) → error_of k ≡ Memory → ⊥
 told_other (number low high) e = absurd cc
 told_other path e = absurd cc
@@ -440,12 +440,12 @@ fault_other letter rest e (letter_fault not is) same = absurd cc
 fault_other letter rest e (count_fault l here known none is) same = absurd cc
 fault_other letter rest e (field_fault l ks here known are bad) same = bad_other ks rest e bad same
 
--- and so no fault is a want of memory
+-- and so no fault is lack of memory
 pub memory_is_no_fault_lem : (fs : List (List ℕ)) → IsWordFault fs Memory → ⊥
 memory_is_no_fault_lem [] fault = fault
 memory_is_no_fault_lem (letter ∷ rest) fault = fault_other letter rest Memory fault refl
 
--- ## Memory is wanted for a name alone.
+-- ## Memory is taken for a name alone.
 
 pub naming_fault : (r : Result Edit EditError) (l m : ℕ) (fs : List (List ℕ)) → m ≡ l → IfErr r (IsFault (l ∷ []) fs)
     → IfErr r (λ e. e ≡ Memory → IsNaming ((m ∷ []) ∷ fs))

@@ -61,7 +61,7 @@ named_rest all f text whole =
       sym (join_with_byte-slice_split 58 text) ∙ ap (join_with_byte 58) split,
     )
 
--- a word's fault is told, but want of memory
+-- a word's fault is reported, but lack of memory
 pub told_fault : (r : Result Edit EditError) (l m : ℕ) (fs : List (List ℕ)) → m ≡ l → IfErr r (IsFault (l ∷ []) fs)
     → IfErr r (λ e. e ≢ Memory → IsFault (m ∷ []) fs e)
 told_fault (Ok w) l m fs same h = tt

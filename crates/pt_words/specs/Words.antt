@@ -130,7 +130,7 @@ Fits end f = (e : End) × IsEnd f e
 Fits code f = (c : Code) × IsCode f c
 Fits guid f = (stored : List ℕ) × (stored_of f ≡ Some stored)
 
--- what a field that isn't one of its kind is told as
+-- what a field that isn't one of its kind is reported as
 abbrev pub error_of : Field → EditError
 error_of (number low high) = NotANumber
 error_of path = NotANumber
@@ -139,7 +139,7 @@ error_of end = NotANumber
 error_of code = NotACode
 error_of guid = NotAGuid
 
--- the text is no field of its kind, and is told so
+-- the text is no field of its kind, and is reported so
 abbrev pub Misfit : Field → List ℕ → EditError → Type 0
 Misfit k f e = (¬ Fits k f) × (e ≡ error_of k)
 
@@ -164,7 +164,7 @@ kinds letter count =
     else if letter == 65 then exactly 3 (number 1 greatest ∷ number 0 63 ∷ number 0 1 ∷ []) count
     else exactly 0 [] count
 
--- the first field from the left that isn't one of its kind is told as e
+-- the first field from the left that isn't one of its kind is reported as e
 abbrev pub FirstBad : List Field → List (List ℕ) → EditError → Type 0
 FirstBad [] fs e = ⊥
 FirstBad (k ∷ ks) [] e = ⊥

@@ -33,7 +33,7 @@ pub fn text_answers()
         → ((w : Edit) × IsWord (letter ∷ rest) w) ⊎ ((e : EditError) × IsWordFault (letter ∷ rest) e) }
 {}
 
-/// No text's fault is a want of memory: that error is the program's alone.
+/// No text's fault is lack of memory: that error is the program's alone.
 #[tactic(auto, using(crate::proofs::Answers::memory_is_no_fault_lem))]
 pub fn memory_is_no_fault()
     ensures { (fs : List (List ℕ)) → ¬ IsWordFault fs Memory }

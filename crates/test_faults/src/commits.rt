@@ -30,7 +30,7 @@ fn is_early(call: u64, answer: Result<(), CommitError>) -> bool {
     }
 }
 
-/// The call of a commit's first write. Each one before it is told as what it is, and leaves the old layout.
+/// The call of a commit's first write. Each one before it is reported as what it is, and leaves the old layout.
 fn first_write(alloc: Global, case: &Case) -> Result<u64, Fail> {
     let mut call = 1;
     for _ in 0..1000u64 {

@@ -132,6 +132,18 @@ pub fn record(kind: u8, start: u32, size: u32) -> Option<Record> {
     })
 }
 
+/// A record with the CHS values that an edit writes: those of sectors that no CHS value reaches.
+pub fn new_record(kind: u8, start: u32, size: u32) -> Record {
+    Record {
+        boot: 0,
+        start_chs: [0xFE, 0xFF, 0xFF],
+        kind,
+        end_chs: [0xFE, 0xFF, 0xFF],
+        start,
+        size,
+    }
+}
+
 /// An MBR with these records in sector 0.
 pub fn put_mbr<const B: usize, D: Disk<B>>(
     disk: &mut D,

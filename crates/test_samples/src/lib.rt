@@ -5,5 +5,5 @@ mod disks;
 
 pub use disks::{
     DISK, Image, LINUX, batches, change, crash_disk, entry, gpt_disk, guids, holds, image_of, made,
-    put, put_copy, put_mbr, record, sector, table_disk, words,
+    new_record, put, put_copy, put_mbr, record, sector, table_disk, words,
 };

@@ -3,7 +3,8 @@ use Rattle.std.specs.Prelude.{ℕ, List, Bool, ◌≡◌, ◌≢◌, ◌⊎◌, 
 use Rattle.pt_apply.specs.PlanTexts.{IsWriteLine, write_line, MayFollow, IsFlushLine, LineItem, Put, Flush}
 use Rattle.std.specs.Bool.{MatchBool}
 use Rattle.pt_sector.specs.Sectors.{Writes}
-use Rattle.pt_apply.specs.Plans.{writes_of, phases_in}
+use Rattle.pt_apply.specs.Plans.{writes_of}
+use Rattle.pt_apply.specs.inner.Plans.{phases_in}
 use Rattle.pt_apply.specs.declared.read.Line.{Line}
 use Rattle.pt_apply.specs.declared.read.Line.TheVariants as line
 use Rattle.pt_apply.specs.declared.read.Partial.{Partial}

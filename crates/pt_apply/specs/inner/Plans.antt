@@ -1,9 +1,15 @@
 -- Plans, their writes, what a run of them may leave, and what a safe one promises: what private contracts cite.
-use Rattle.std.specs.Prelude.{◌≡◌, ℕ, ◌+◌, List, ◌++◌, length, slice_get, Some}
+use Rattle.std.specs.Prelude.{◌≡◌, ℕ, ◌+◌, List, ◌++◌, length, slice_get, Some, map, Vec}
+use Rattle.std.specs.declared.alloc.Global.{Global}
 use Rattle.pt_sector.specs.Sectors.{Sectors, Writes, Stopped}
 use Rattle.pt_sector.specs.Device.{Told, Moment, MayLeave, LeftBy}
 use Rattle.pt_sector.specs.declared.disk.Fault.{Fault}
-use Rattle.pt_apply.specs.Plans.{faults_of}
+use Rattle.pt_apply.specs.Plans.{writes_of, faults_of}
+use Rattle.pt_apply.specs.declared.plan.Write.{Write}
+
+-- the phases in a list of a plan's
+abbrev pub phases_in : {b : _} → List (Vec (Write b) Global) → List Writes
+phases_in ps = map (λ (p : Vec (Write _) Global). writes_of p.items) ps
 
 -- so many calls were begun, and a crash since the first of them leaves a disk that has P
 pub record Within (P : Sectors → Type 0) (begun : ℕ) (old new : Told) : Type 0 where

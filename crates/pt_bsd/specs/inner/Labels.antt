@@ -1,9 +1,10 @@
 -- BSD labels: their bytes, their two forms, and their partitions: what private contracts cite.
 use Rattle.std.specs.Prelude.{◌≡◌, ◌<◌, ◌^◌, ◌+◌, ℕ, ⊤, List, [], ◌∷◌, ◌++◌, Option, Some, None, length, take, drop, replicate}
+use Rattle.pt_sector.specs.Sectors.{number_at}
 use Rattle.std.specs.Prelude.{slice_index, slice_index_or}
 use Rattle.std.specs.List.{flat_map}
 use Rattle.byteorder.specs.Endian.{little_bytes}
-use Rattle.pt_bsd.specs.Labels.{number_at, HasMagics, HasSectorSize, HasLabelFields, HasEntry, counted_in, place_of}
+use Rattle.pt_bsd.specs.Labels.{HasMagics, HasSectorSize, HasLabelFields, HasEntry, counted_in, place_of}
 use Rattle.pt_bsd.specs.declared.label.Label.{Label}
 use Rattle.pt_bsd.specs.declared.label.LabelEntry.{LabelEntry}
 

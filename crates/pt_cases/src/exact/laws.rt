@@ -95,7 +95,7 @@ pub fn planned_has_no_error()
         → Denotes b d o → Keeps b (length d) o p → IsPlan b d p phases → Unplanned b d p e → IsFailure e }
 {}
 
-/// Of several causes the first is told: an unsound layout or a foreign label, then a sector in use, then that there isn't
+/// Of several causes the first is reported: an unsound layout or a foreign label, then a sector in use, then that there isn't
 /// one switch, and then that a repair has to come first.
 pub fn errors_come_in_order()
     ensures unsound { (b : ℕ) (d : Sectors) (o : Option Layout) (p : Layout) (f : Finding) (e : PlanError) → IsSectorSize b → Denotes b d o

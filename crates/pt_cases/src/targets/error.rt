@@ -13,7 +13,7 @@ use std::error::Error;
 use std::fmt;
 
 /// Why there is no plan for a layout. Where several hold, the first of `Unsound`, `ReusedInOneBatch`, `NotOneSwitch`
-/// and `NeedsRepair` is told; but a layout that the disk can't have is `NotOneSwitch` before its writes are looked at.
+/// and `NeedsRepair` is reported; but a layout that the disk can't have is `NotOneSwitch` before its writes are looked at.
 #[derive(Clone, Copy, Debug, PartialEq, Eq)]
 pub enum PlanError {
     /// No plan leads there by one switch: a sector that decides what the disk denotes would change before it or beside

@@ -44,7 +44,7 @@ abbrev pub WrongIs : ℕ → Sectors → Option Finding → Type 0
 WrongIs b d None = Healthy b d
 WrongIs b d (Some f) = IsFinding b d f
 
--- writes that fit are as many as is told, not too many, and each of a sector below n
+-- writes that fit are as many as is reported, not too many, and each of a sector below n
 abbrev pub AreInRange : {b : _} → ℕ → Plan b → Judged → Type 0
 AreInRange n plan (judged.Refused why) = Unit {0}
 AreInRange n plan (judged.Fit count) =

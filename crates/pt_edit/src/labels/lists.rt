@@ -91,7 +91,7 @@ pub fn put_label(labels: Labels, number: u64, label: &Label) -> Labels
 }
 
 /// The labels with one of a number between those of lower and those of higher numbers. A label that the number had
-/// goes. The error is want of memory.
+/// goes. The error is lack of memory.
 pub fn add_label(
     alloc: Global,
     labels: Labels,

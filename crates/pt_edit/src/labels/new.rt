@@ -117,7 +117,7 @@ fn entry_at(label: &Label, slice: &Member, run: Run, kind: u8) -> Option<LabelEn
 /// 4096 bytes), `ForeignLabel` where the slice has no label, `ContainerType` for c, `NoSuchPartition` for a letter that
 /// the label doesn't count, `NumberTaken` for one that has sectors, `UnknownCode` for a code of four digits or 00, what
 /// `place` of pt_edit::space refuses, and `LabelOffset` where the offset or the number of sectors is 2^32 or more. `Memory` is
-/// want of memory.
+/// lack of memory.
 pub fn new_part<const B: usize>(
     alloc: Global,
     layout: Layout,

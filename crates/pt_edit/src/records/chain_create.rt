@@ -77,7 +77,7 @@ fn kind_of(code: &Option<Code>) -> Result<u8, Refusal>
 /// The number that is asked for isn't looked at: it is the partition's place in the chain. The alignment, the start and
 /// the end are in the disk's own sector numbers. The partition's extended boot record stands in the sector before it: an
 /// empty one that stands there is used, else a new one enters the chain at its place. The labels of it and the logical
-/// partitions above it move to their new numbers, and a slice has the empty label. The first of these refusals is told:
+/// partitions above it move to their new numbers, and a slice has the empty label. The first of these refusals is reported:
 ///
 /// - `NoSuchPartition`: there is no extended partition.
 /// - `UnknownCode`: the code isn't of two digits, or is 00 or EE; `ContainerType`: it is 05 or 0F.
@@ -85,7 +85,7 @@ fn kind_of(code: &Option<Code>) -> Result<u8, Refusal>
 /// - `ContainerType`: a slice of fewer than two sectors.
 /// - `NoSpace`: the chain has 128 extended boot records and would need another.
 ///
-/// `Memory` is told for want of memory alone.
+/// `Memory` is reported for lack of memory alone.
 pub fn new_logical<const B: usize>(
     alloc: Global,
     extended: Option<Record>,

@@ -22,7 +22,7 @@ pub(crate) fn put_logical(chain: Ebrs, k: usize, logical: Option<Record>) -> Ebr
     Ebrs::new(items)
 }
 
-/// The chain where the logical partition of this number has another type. The first of these refusals is told:
+/// The chain where the logical partition of this number has another type. The first of these refusals is reported:
 ///
 /// - `NoSuchPartition`: there is no such logical partition.
 /// - `UnknownCode`: the code isn't of two digits, or is 00 or EE.

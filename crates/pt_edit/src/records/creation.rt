@@ -182,7 +182,7 @@ fn add_logical<const B: usize>(
 /// The number that is asked for is 1 to 4 of a record, 0 for the lowest of these that is unused, 5 for one more logical
 /// partition, whose number is then its place in the chain. The alignment, the start and the end are in the disk's own
 /// sector numbers. A new extended partition has one empty extended boot record, in its first sector; a new slice has the
-/// empty label. The first of these refusals is told:
+/// empty label. The first of these refusals is reported:
 ///
 /// - `NoSuchPartition`: a number from 6 on, or 5 without an extended partition; `NumberTaken`: a used record has the
 ///   number; `NoSpace`: all four records are used.
@@ -192,7 +192,7 @@ fn add_logical<const B: usize>(
 /// - `ContainerType`: a slice of fewer than two sectors.
 /// - `NoSpace`: a logical partition would need a 129th extended boot record.
 ///
-/// `Memory` is told for want of memory alone.
+/// `Memory` is reported for lack of memory alone.
 pub fn new<const B: usize>(alloc: Global, parts: MbrParts, asked: &Asked) -> Result<Layout, Refusal>
     ensures ok { IfOk result (λ made.
         RecordNew B asked.now.number asked.now.alignment asked.now.start asked.now.end asked.now.code (whole_of parts) made) }

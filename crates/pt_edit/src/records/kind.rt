@@ -39,7 +39,7 @@ fn set_record_kind<const B: usize>(
 }
 
 /// `t` without a letter: the layout where the record or the logical partition of a number has another type, and
-/// nothing else changes. The first of these refusals is told:
+/// nothing else changes. The first of these refusals is reported:
 ///
 /// - `NoSuchPartition`: the number has none.
 /// - `UnknownCode`: the code isn't of two digits, or is 00 or EE.

@@ -24,7 +24,7 @@ pub enum Finding {
     BackupCopy(CopyError),
     /// The two copies have different tables.
     CopiesDiffer,
-    /// The header of this side doesn't name the other header's sector as its alternate; the primary is told first.
+    /// The header of this side doesn't name the other header's sector as its alternate; the primary is reported first.
     Alternate(Side),
     /// Sector 0 of a GPT isn't protective: the protective record first, 48 zero bytes and the signature after it.
     Protective,

@@ -105,7 +105,7 @@ MeansJob met (Err InUseAlone) = IsAloneIn met
 MeansJob met (Err Memory) = Unit {0}
 MeansJob met (Err (Usage e)) = ⊥
 
--- want of memory is told where `clap` says so, or where a help text couldn't be copied
+-- lack of memory is reported where `clap` says so, or where a help text couldn't be copied
 abbrev pub Tells : ErrorKind → Result Line LineError → Type 0
 Tells k (Ok line) = ((k ≡ DisplayHelp) ⊎ (k ≡ DisplayVersion)) × IsHelp line.job
 Tells k (Err NotText) = ⊥

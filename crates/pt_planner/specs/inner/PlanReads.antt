@@ -95,7 +95,7 @@ PlacesStop b d o p (Device fault) = Unit {0}
 PlacesStop b d o p ReusedInOneBatch = ⊥
 PlacesStop b d o p NeedsRepair = ⊥
 
--- the first thing that is wrong with the layout, or want of memory
+-- the first thing that is wrong with the layout, or lack of memory
 abbrev pub IsUnsoundBy : ℕ → Layout → PlanError → Type 0
 IsUnsoundBy b p (Unsound f) = IsUnsound b p f
 IsUnsoundBy b p Memory = Unit {0}

@@ -5,10 +5,7 @@ ghost use Rattle.pt_sector.specs.Sectors.{IsSectorSize};
 ghost use Rattle.pt_gpt.specs.Copies.{AllTyped};
 ghost use Rattle.pt_cases.specs.Writes.{FitsTable};
 
-use pt_gpt::{Entry, Table, array_sectors};
-
-/// The most entries that a table has.
-const MOST_ENTRIES: usize = 128;
+use pt_gpt::{Entry, MOST_ENTRIES, Table, first_usable, has_room};
 
 /// Whether each used entry has a type.
 fn all_typed(entries: &[Option<Entry>]) -> bool
@@ -29,13 +26,11 @@ pub fn fits_table<const B: usize>(sectors: u64, table: &Table) -> bool
     requires { IsSectorSize B }
     ensures { IsTrue result ↔ FitsTable B sectors table.now }
 {
-    let edge = array_sectors::<B>() + 2;
-    if sectors < 2 * edge {
+    let count = table.entries.len();
+    if !has_room::<B>(sectors) || count < 1 || count > MOST_ENTRIES {
         return false;
     }
-    if table.entries.len() < 1 || table.entries.len() > MOST_ENTRIES {
-        return false;
-    }
+    let edge = first_usable::<B>();
     if table.first < edge || table.first > table.last || table.last > sectors - edge {
         return false;
     }

@@ -2,7 +2,8 @@
 
 ghost use Rattle.std.specs.Prelude.{◌≡◌, ◌<◌, ◌≤◌, ◌∷◌, ◌++◌, [], length, All, IfOk, OnOk};
 ghost use Rattle.pt_sector.specs.Sectors.{IsSectorSize};
-ghost use Rattle.pt_apply.specs.Plans.{writes_of, phases_of, phases_in, InRange, PhaseInRange, writes_in};
+ghost use Rattle.pt_apply.specs.Plans.{writes_of, phases_of, InRange, PhaseInRange, writes_in};
+ghost use Rattle.pt_apply.specs.inner.Plans.{phases_in};
 ghost use Rattle.pt_sum.specs.Sums.{crc_of};
 ghost use Rattle.pt_gpt.specs.Copies.{array_bytes, AllFit, HasRoom};
 ghost use Rattle.pt_gpt.specs.declared.table.Side.TheVariants.{Primary};

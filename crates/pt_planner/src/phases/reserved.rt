@@ -1,7 +1,8 @@
 //! Sectors that a plan may not write, or not yet.
 
 ghost use Rattle.std.specs.Prelude.{◌≡◌, ◌↔◌, IsTrue, take};
-ghost use Rattle.pt_apply.specs.Plans.{writes_of, phases_in, writes_in};
+ghost use Rattle.pt_apply.specs.Plans.{writes_of, writes_in};
+ghost use Rattle.pt_apply.specs.inner.Plans.{phases_in};
 ghost use Rattle.pt_planner.specs.inner.Phases.{Touches, IsAnyReserved};
 ghost use Rattle.pt_members.specs.Tables.{OwnedOf};
 

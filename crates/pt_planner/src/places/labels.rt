@@ -5,7 +5,6 @@ ghost use Rattle.pt_sector.specs.Device.{Blames};
 ghost use Rattle.pt_sector.specs.Overlays.{OnlyReads, FailedIn, fault_of};
 ghost use Rattle.pt_sector.specs.Sectors.{IsSectorSize};
 ghost use Rattle.pt_recover.specs.Denotes.{Denotes};
-ghost use Rattle.pt_members.specs.Tables.{HasFour};
 ghost use Rattle.pt_members.specs.Members.{places_of, IsPlace};
 ghost use Rattle.pt_planner.specs.Places.{PlacesAnswer, AreWithin};
 ghost use Rattle.pt_planner.specs.inner.Places.{OldAre, AnswerOf};
@@ -15,26 +14,9 @@ use crate::places::place::Place;
 use crate::places::reading::read_places;
 use crate::places::spots::spots;
 use crate::places::targets::{first_left, targets};
-use pt_mbr::Record;
-use pt_recover::{Body, Layout, Slice, label_places};
+use pt_recover::{Layout, Slice, label_places};
 use pt_sector::{Disk, Failure};
 use std::alloc::{AllocError, Global};
-
-fn are_four(records: &[Option<Record>; 4])
-    ensures { length «records».now ≡ 4 }
-{
-    let _count = records.len();
-}
-
-// That an MBR has four records. Its type says so; contracts see a body without types.
-fn has_four(body: &Body)
-    ensures { HasFour body.now }
-{
-    match body {
-        Body::Mbr { records, .. } => are_four(records),
-        Body::Gpt(_) => {}
-    }
-}
 
 // The slices of the old layout that have a label place.
 fn old_places<const B: usize>(
@@ -91,7 +73,6 @@ pub fn label_targets<const B: usize, D: Disk<B>>(
     ensures in_range { IfOk result (AreWithin (D.count disk.old)) }
 {
     let sectors = disk.sectors();
-    has_four(&wanted.body);
     let slices = label_places::<B>(alloc, sectors, &wanted.body)?;
     let found = spots(alloc, &slices, wanted.labels.as_slice())?;
     let Some(spots) = found else {

@@ -16,7 +16,7 @@ use Rattle.pt_members.specs.declared.layout.Labelled.{Labelled}
 use Rattle.pt_recover.specs.declared.error.NoTable.{NoTable}
 use Rattle.pt_recover.specs.declared.error.NoTable.TheVariants as no
 
--- what recovery tells of a fault of the chain, where it doesn't want memory
+-- what recovery tells of a fault of the chain, where it isn't lack of memory
 abbrev pub ToldAs : ChainError → NoTable → Type 0
 ToldAs (way.Device at) e = e ≡ no.Device at
 ToldAs fault e = (e ≡ no.Memory) ⊎ (e ≡ no.Chain fault)

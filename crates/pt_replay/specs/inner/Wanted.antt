@@ -23,9 +23,9 @@ pub record AreOf (b : ℕ) (v : View) (count : ℕ) (ns : List ℕ) (ks : Sector
   pub numbers_are : ns ≡ v.numbers.now
   pub sectors_are : ks ≡ sectors_in b v
 
--- ## Which argument of a call is told where it has no meaning.
+-- ## Which argument of a call is reported where it has no meaning.
 
--- nothing was asked: an argument has no meaning, which is told, or memory was refused
+-- nothing was asked: an argument has no meaning, which is reported, or memory was refused
 abbrev pub IsUnasked : (Reply → Type 0) → Status → Reply → Type 0
 IsUnasked told Done r = ⊥
 IsUnasked told No r = ⊥
@@ -38,15 +38,15 @@ IsUnasked told Want r = ⊥
 IsUnasked told Room r = ⊥
 IsUnasked told WantOther r = ⊥
 
--- the bytes are no words, and this is told of them
+-- the bytes are no words, and this is reported of them
 abbrev pub NoWords : List ℕ → Reply → Type 0
 NoWords words r = (¬ AreSomeEdits words) × ToldOfWords words r
 
--- the random bytes are no groups, and this is told of them
+-- the random bytes are no groups, and this is reported of them
 abbrev pub NoGroups : List ℕ → Reply → Type 0
 NoGroups drawn r = (¬ AreGroups drawn) × (r ≡ bad_argument the_random_bytes)
 
--- the rows are no plan, and this is told of them
+-- the rows are no plan, and this is reported of them
 abbrev pub NoRows : ℕ → List WriteRow → List ℕ → Reply → Type 0
 NoRows b rows bytes r = (¬ ArePlan b rows bytes) × ToldOfRows b rows bytes r
 

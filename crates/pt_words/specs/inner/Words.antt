@@ -9,6 +9,6 @@ abbrev pub fields_after : Option (List ℕ) → List (List ℕ)
 fields_after None = []
 fields_after (Some text) = fields text
 
--- there are more or fewer fields, and it is told so
+-- there are more or fewer fields, and it is reported so
 abbrev pub Miscounted : ℕ → List (List ℕ) → EditError → Type 0
 Miscounted n fs e = (length fs ≢ n) × (e ≡ FieldCount)

@@ -10,21 +10,10 @@ use pt_mbr::{Ebr, Record};
 use pt_sector::Lba;
 use std::alloc::Global;
 use std::test::Fail;
+use test_samples::record;
 
 /// Four fresh GUIDs.
 const FRESH: [Guid; 4] = [Guid([1; 16]), Guid([2; 16]), Guid([3; 16]), Guid([4; 16])];
-
-/// A record of this type, start and size.
-fn record(kind: u8, start: u32, size: u32) -> Option<Record> {
-    Some(Record {
-        boot: 0,
-        start_chs: [0; 3],
-        kind,
-        end_chs: [0; 3],
-        start,
-        size,
-    })
-}
 
 /// An MBR without labels.
 fn mbr(

@@ -1,30 +1,19 @@
 //! When new logical partitions are refused, as docs/commands.md tells it.
 
 use pt_edit::records::new_logical;
-use pt_mbr::{Ebr, Record};
+use pt_mbr::Ebr;
 use pt_recover::{Ebrs, Labelled, Labels};
 use pt_sector::Lba;
 use pt_words::{Asked, Code, End, Refusal};
 use std::alloc::Global;
 use std::test::Fail;
-
-/// A record as edits make it.
-fn made(kind: u8, start: u32, size: u32) -> Record {
-    Record {
-        boot: 0,
-        start_chs: [0xFE, 0xFF, 0xFF],
-        kind,
-        end_chs: [0xFE, 0xFF, 0xFF],
-        start,
-        size,
-    }
-}
+use test_samples::new_record;
 
 /// An extended boot record with a logical partition of 1,000 sectors.
 fn used(at: u64, kind: u8, next: Option<Lba>) -> Ebr {
     Ebr {
         at: Lba(at),
-        logical: Some(made(kind, 1, 1000)),
+        logical: Some(new_record(kind, 1, 1000)),
         next,
     }
 }
@@ -49,7 +38,7 @@ fn put(
 ) -> Result<Edited, Fail> {
     let chain = Ebrs::new(Vec::from_slice(alloc, chain)?);
     let labels = Labels::new(Vec::from_slice(alloc, labels)?);
-    let extended = Some(made(0x05, 4096, 8192));
+    let extended = Some(new_record(0x05, 4096, 8192));
     let asked = Asked {
         number: 5,
         alignment: 2048,

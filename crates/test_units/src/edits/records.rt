@@ -8,6 +8,7 @@ use pt_sector::Lba;
 use pt_words::{Asked, Code, End, Refusal};
 use std::alloc::Global;
 use std::test::Fail;
+use test_samples::new_record;
 
 /// A record to be booted, as it is read from a disk.
 fn record(kind: u8, start: u32, size: u32) -> Record {
@@ -107,18 +108,6 @@ fn an_extended_partition_goes_with_its_chain(rt: HostRuntime) -> Result<(), Fail
     Ok(())
 }
 
-/// A new record.
-fn fresh(kind: u8, start: u32, size: u32) -> Record {
-    Record {
-        boot: 0,
-        start_chs: [0xFE, 0xFF, 0xFF],
-        kind,
-        end_chs: [0xFE, 0xFF, 0xFF],
-        start,
-        size,
-    }
-}
-
 /// What a word `n` asks for, by its number, start, end and code.
 fn asked((number, start, end, code): (u64, u64, End, Option<Code>)) -> Asked {
     Asked {
@@ -132,7 +121,7 @@ fn asked((number, start, end, code): (u64, u64, End, Option<Code>)) -> Asked {
 
 #[test]
 fn an_extended_partition_of_one_sector(rt: HostRuntime) -> Result<(), Fail> {
-    let records = [None, None, None, Some(fresh(0x0F, 8192, 1))];
+    let records = [None, None, None, Some(new_record(0x0F, 8192, 1))];
     let chain = [Ebr {
         at: Lba(8192),
         logical: None,

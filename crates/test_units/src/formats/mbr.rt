@@ -7,18 +7,7 @@ use pt_mbr::{
     read_chain, walk_chain,
 };
 use pt_sector::{Disk, Extent, Fault, Lba, Sector};
-
-/// A record as this project writes it.
-fn record_of(kind: u8, start: u32, size: u32) -> Record {
-    Record {
-        boot: 0,
-        start_chs: [0xFE, 0xFF, 0xFF],
-        kind,
-        end_chs: [0xFE, 0xFF, 0xFF],
-        start,
-        size,
-    }
-}
+use test_samples::new_record;
 
 /// A sector of zeros but for these records and the signature.
 fn boot_record<const B: usize>(records: [Option<Record>; 2]) -> Sector<B>
@@ -32,7 +21,7 @@ fn boot_record<const B: usize>(records: [Option<Record>; 2]) -> Sector<B>
 }
 
 fn link(kind: u8, start: u32, size: u32) -> [Option<Record>; 2] {
-    [None, Some(record_of(kind, start, size))]
+    [None, Some(new_record(kind, start, size))]
 }
 
 const EMPTY: [Option<Record>; 2] = [None; 2];
@@ -85,26 +74,26 @@ fn written<const B: usize>(records: [Option<Record>; 4]) -> Option<[Option<Recor
 
 #[test]
 fn what_is_written_is_read(rt: HostRuntime) {
-    let mut bootable = record_of(0xA5, 2048, 4096);
+    let mut bootable = new_record(0xA5, 2048, 4096);
     bootable.boot = 0x80;
     let records = [
         None,
         Some(bootable),
-        Some(record_of(0x0F, u32::MAX, 1)),
+        Some(new_record(0x0F, u32::MAX, 1)),
         None,
     ];
     assert!(rt; written::<512>(records) == Some(records));
     assert!(rt; written::<4096>(records) == Some(records));
     bootable.boot = 0x81;
     assert!(rt; written::<512>([Some(bootable), None, None, None]) == None);
-    let unused = record_of(0x83, 7, 0);
+    let unused = new_record(0x83, 7, 0);
     assert!(rt; written::<512>([Some(unused), None, None, None]) == Some([None; 4]));
 }
 
 #[test]
 fn an_empty_record_may_bear_the_protective_type(rt: HostRuntime) {
     for k in 0..4usize {
-        let sector: Sector<4096> = put_record(&[0; 4096], k, Some(&record_of(0xEE, 1, 0)));
+        let sector: Sector<4096> = put_record(&[0; 4096], k, Some(&new_record(0xEE, 1, 0)));
         assert!(rt; bears_protective(&sector));
     }
     assert!(rt; !bears_protective(&[0; 4096]));
@@ -114,7 +103,7 @@ fn an_empty_record_may_bear_the_protective_type(rt: HostRuntime) {
 fn ebr_at(at: u64, next: Option<Lba>) -> Ebr {
     Ebr {
         at: Lba(at),
-        logical: Some(record_of(0x83, 1, 1000)),
+        logical: Some(new_record(0x83, 1, 1000)),
         next,
     }
 }
@@ -126,12 +115,12 @@ fn links_fit_their_fields(rt: HostRuntime) {
         logical: None,
         next: None,
     };
-    assert!(rt; link_to(Lba(4096), &empty) == Some(record_of(0x05, 0xFFFF_FFFF, 1)));
+    assert!(rt; link_to(Lba(4096), &empty) == Some(new_record(0x05, 0xFFFF_FFFF, 1)));
     assert!(rt; link_to(Lba(4095), &empty) == None);
     assert!(rt; link_to(Lba(4096), &ebr_at(4095, None)) == None);
     let mut long = ebr_at(6143, None);
-    long.logical = Some(record_of(0x83, 1, 0xFFFF_FFFE));
-    assert!(rt; link_to(Lba(4096), &long) == Some(record_of(0x05, 2047, 0xFFFF_FFFF)));
-    long.logical = Some(record_of(0x83, 2, 0xFFFF_FFFE));
+    long.logical = Some(new_record(0x83, 1, 0xFFFF_FFFE));
+    assert!(rt; link_to(Lba(4096), &long) == Some(new_record(0x05, 2047, 0xFFFF_FFFF)));
+    long.logical = Some(new_record(0x83, 2, 0xFFFF_FFFE));
     assert!(rt; link_to(Lba(4096), &long) == None);
 }

@@ -10,26 +10,16 @@ use pt_layout::{
     Body, Ebrs, Head, Labelled, Labels, Layout, Owner, Path, is_owned, is_table, owner, parse_path,
     survey_disk,
 };
-use pt_mbr::{Record, protective};
+use pt_mbr::protective;
 use pt_sector::{Disk, Lba, Sector};
 use std::alloc::{AllocError, Global};
+use test_samples::record;
 
 /// Writes a sector, where there is one.
 fn put<const B: usize, D: Disk<B>>(disk: &mut D, at: u64, bytes: &Sector<B>) {
     if at < disk.sectors() {
         let _ = disk.write(Lba(at), bytes);
     }
-}
-
-fn record(kind: u8, start: u32, size: u32) -> Option<Record> {
-    Some(Record {
-        boot: 0,
-        start_chs: [0; 3],
-        kind,
-        end_chs: [0; 3],
-        start,
-        size,
-    })
 }
 
 fn number(number: u64) -> Path {

@@ -32,7 +32,7 @@ fn fault(alloc: Global, text: &str) -> Option<PlanTextError> {
     }
 }
 
-// What is told of such a text.
+// What is reported of such a text.
 fn fault_of(
     alloc: Global,
     start: &str,
@@ -44,7 +44,7 @@ fn fault_of(
     Ok(fault(alloc, &text))
 }
 
-// Whether this is told of a text with each of these ends.
+// Whether this is reported of a text with each of these ends.
 fn ends_are(alloc: Global, ends: &[&str], want: Option<PlanTextError>) -> bool {
     for end in ends {
         if fault_of(alloc, "W 1 ", "00", 512, end) != Ok(want) {
@@ -54,7 +54,7 @@ fn ends_are(alloc: Global, ends: &[&str], want: Option<PlanTextError>) -> bool {
     true
 }
 
-// Whether ends that no text has are told.
+// Whether ends that no text has are reported.
 fn bad_ends_are_told(alloc: Global) -> bool {
     ends_are(
         alloc,

@@ -8,6 +8,7 @@ use pt_recover::Ebrs;
 use pt_sector::{Disk, Failure, Lba, Sector};
 use std::alloc::Global;
 use std::test::Fail;
+use test_samples::new_record;
 
 /// The four records and the chain of a layout.
 #[derive(Drop)]
@@ -16,23 +17,11 @@ struct Parts {
     chain: Ebrs,
 }
 
-/// A record as this project writes it.
-fn record_of(kind: u8, start: u32, size: u32) -> Record {
-    Record {
-        boot: 0,
-        start_chs: [0xFE, 0xFF, 0xFF],
-        kind,
-        end_chs: [0xFE, 0xFF, 0xFF],
-        start,
-        size,
-    }
-}
-
 /// An extended boot record, its logical partition of 1000 sectors right behind it.
 fn ebr_at(at: u64, next: Option<Lba>) -> Ebr {
     Ebr {
         at: Lba(at),
-        logical: Some(record_of(0x83, 1, 1000)),
+        logical: Some(new_record(0x83, 1, 1000)),
         next,
     }
 }
@@ -48,7 +37,7 @@ fn empty_at(at: u64, next: u64) -> Ebr {
 
 /// Record 2 is the extended partition from `first` to 12287.
 fn with_chain(alloc: Global, first: u32, chain: &[Ebr]) -> Result<Parts, Fail> {
-    let extended = record_of(0x05, first, 12288u32.saturating_sub(first));
+    let extended = new_record(0x05, first, 12288u32.saturating_sub(first));
     let mut items = Vec::new(alloc);
     items.extend_from_slice(chain)?;
     Ok(Parts {
@@ -230,7 +219,7 @@ fn has_no_targets(alloc: Global, new: &Parts) -> Result<bool, Fail> {
 #[test]
 fn a_protective_record_has_no_targets(rt: HostRuntime) -> Result<(), Fail> {
     let mut protective = without(rt.alloc());
-    protective.records[0] = Some(record_of(0xEE, 1, 100));
+    protective.records[0] = Some(new_record(0xEE, 1, 100));
     assert!(rt; has_no_targets(rt.alloc(), &protective)?);
     Ok(())
 }
@@ -238,7 +227,7 @@ fn a_protective_record_has_no_targets(rt: HostRuntime) -> Result<(), Fail> {
 #[test]
 fn a_container_in_the_chain_has_no_targets(rt: HostRuntime) -> Result<(), Fail> {
     let mut last = ebr_at(4096, None);
-    last.logical = Some(record_of(0x0F, 1, 100));
+    last.logical = Some(new_record(0x0F, 1, 100));
     let nested = with_chain(rt.alloc(), 4096, &[last])?;
     assert!(rt; is_linked(16384, &nested.records, &nested.chain));
     assert!(rt; has_no_targets(rt.alloc(), &nested)?);

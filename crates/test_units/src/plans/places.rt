@@ -178,7 +178,7 @@ fn no_label(rt: HostRuntime) -> Result<(), Fail> {
     Ok(())
 }
 
-/// The number of the slice that is told of as foreign.
+/// The number of the slice that is reported as foreign.
 fn foreign(
     alloc: Global,
     disk: &mut MemDisk<512>,

@@ -2,11 +2,11 @@
 
 ghost use Rattle.std.specs.Prelude.{◌≡◌, ◌<◌, ◌≤◌, All, length, IfOk};
 
+use crate::plans::targets::one_partition;
 use pt_cases::targets::{PlanError, Target, TargetKind};
 use pt_gpt::{Entries, Table};
 use pt_guid::Guid;
-use pt_layout::{Body, Ebrs, Labels, Layout, Trace};
-use pt_mbr::Record;
+use pt_layout::{Layout, Trace};
 use pt_planner::phases::{Order, Setting, both_copies};
 use pt_sector::Lba;
 use std::alloc::{AllocError, Global};
@@ -93,26 +93,6 @@ fn setting<'a>(old: &'a Option<Layout>, guarded: &'a Trace) -> Setting<'a>
     }
 }
 
-/// An MBR with one partition, from sector 100 to 199.
-fn one_partition(alloc: Global) -> Layout {
-    let record = Record {
-        boot: 0,
-        start_chs: [0; 3],
-        kind: 0x83,
-        end_chs: [0; 3],
-        start: 100,
-        size: 100,
-    };
-    Layout {
-        sectors: SECTORS,
-        body: Body::Mbr {
-            records: [Some(record), None, None, None],
-            chain: Ebrs::new(Vec::new(alloc)),
-        },
-        labels: Labels::new(Vec::new(alloc)),
-    }
-}
-
 /// The counts on a disk that denotes nothing.
 fn counts_on_none(
     alloc: Global,
@@ -145,7 +125,7 @@ fn counts_on_one(
     let mut guarded = Trace::new(alloc);
     guarded.add_one(1)?;
     guarded.add_one(50)?;
-    let old = Some(one_partition(alloc));
+    let old = Some(one_partition(alloc, SECTORS));
     let on_one = setting(&old, &guarded);
     let order = Order::BackupFirst(None);
     Ok(counts(alloc, &order, &on_one, places))

@@ -4,11 +4,11 @@ use pt_apply::Write;
 use pt_cases::targets::{
     Target, TargetKind, first_change, first_owned_change, first_owned_of_kind, in_order, new_writes,
 };
-use pt_mbr::Record;
 use pt_recover::{Body, Ebrs, Labels, Layout, Trace};
 use pt_sector::Lba;
 use std::alloc::Global;
 use std::test::Fail;
+use test_samples::record;
 
 const CHANGED: [u8; 512] = [1; 512];
 
@@ -40,20 +40,12 @@ pub(crate) fn guarded(alloc: Global, sectors: &[u64]) -> Result<Trace, Fail> {
     Ok(trace)
 }
 
-/// An MBR of 1024 sectors with one partition, from sector 100 to 199.
-pub(crate) fn one_partition(alloc: Global) -> Layout {
-    let record = Record {
-        boot: 0,
-        start_chs: [0; 3],
-        kind: 0x83,
-        end_chs: [0; 3],
-        start: 100,
-        size: 100,
-    };
+/// An MBR of so many sectors with one partition, from sector 100 to 199.
+pub(crate) fn one_partition(alloc: Global, sectors: u64) -> Layout {
     Layout {
-        sectors: 1024,
+        sectors,
         body: Body::Mbr {
-            records: [Some(record), None, None, None],
+            records: [record(0x83, 100, 100), None, None, None],
             chain: Ebrs::new(Vec::new(alloc)),
         },
         labels: Labels::new(Vec::new(alloc)),
@@ -120,7 +112,7 @@ fn labels_that_change(rt: HostRuntime) {
 
 #[test]
 fn sectors_that_a_partition_owns(rt: HostRuntime) {
-    let old = Some(one_partition(rt.alloc()));
+    let old = Some(one_partition(rt.alloc(), 1024));
     let targets = [kept(100), changed(99), changed(199), changed(150)];
     assert!(rt; first_owned_change(&old, &targets) == Some(Lba(199)));
     assert!(rt; first_owned_change(&old, &[kept(100), changed(200)]) == None);

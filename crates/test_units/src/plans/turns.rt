@@ -40,7 +40,7 @@ fn turned(
     let heads = Vec::from_slice(alloc, heads)?;
     let places = Vec::from_slice(alloc, places)?;
     let guarded = guarded(alloc, &[0, 63, 65])?;
-    let old = Some(one_partition(alloc));
+    let old = Some(one_partition(alloc, 1024));
     Ok(within_mbr(alloc, &old, &guarded, heads, places))
 }
 
@@ -56,7 +56,7 @@ fn refused(
 /// The answer for these label places of a disk whose copies are whole.
 fn labelled(alloc: Global, places: &[Target<512>]) -> Result<Result<Plan<512>, PlanError>, Fail> {
     let places = Vec::from_slice(alloc, places)?;
-    Ok(one_label(alloc, &Some(one_partition(alloc)), false, places))
+    Ok(one_label(alloc, &Some(one_partition(alloc, 1024)), false, places))
 }
 
 /// Whether these are the sectors that a phase writes with all bytes changed.

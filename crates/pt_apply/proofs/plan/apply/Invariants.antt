@@ -1,7 +1,8 @@
 use Rattle.std.proofs.Common.{◌≡◌, take}
 use Rattle.pt_sector.specs.Sectors.{after}
 use Rattle.pt_sector.specs.Device.{LeavesOnly}
-use Rattle.pt_apply.specs.Plans.{phases_in, Settled, StoppedSomewhere, Reached}
+use Rattle.pt_apply.specs.Plans.{Settled, StoppedSomewhere, Reached}
+use Rattle.pt_apply.specs.inner.Plans.{phases_in}
 use Rattle.pt_apply.proofs.plan.apply.Given as goal
 
 abbrev pub invariant-loop-phase : goal.invariant-loop-phase

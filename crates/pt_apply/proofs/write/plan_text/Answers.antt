@@ -6,7 +6,8 @@ use Rattle.std.proofs.lemmas.List.{take_all}
 use Rattle.std.proofs.lemmas.Result.{err_from_is_err_and}
 use Rattle.pt_sector.specs.Sectors.{Writes}
 use Rattle.pt_apply.specs.declared.plan.Write.{Write}
-use Rattle.pt_apply.specs.Plans.{writes_of, phases_of, phases_in}
+use Rattle.pt_apply.specs.Plans.{writes_of, phases_of}
+use Rattle.pt_apply.specs.inner.Plans.{phases_in}
 use Rattle.pt_apply.specs.PlanTexts.{phase_text, text_of}
 use Rattle.pt_apply.specs.inner.PlanTexts.{HasLine}
 use Rattle.pt_apply.proofs.Texts.{text_more, held_more, all_taken, canonical, none_empty}

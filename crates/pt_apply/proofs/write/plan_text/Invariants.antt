@@ -1,6 +1,6 @@
 use Rattle.std.proofs.Common.{◌≡◌, take}
 use Rattle.std.specs.String.{string_bytes}
-use Rattle.pt_apply.specs.Plans.{phases_in}
+use Rattle.pt_apply.specs.inner.Plans.{phases_in}
 use Rattle.pt_apply.specs.PlanTexts.{text_of}
 use Rattle.pt_apply.proofs.CanonicalLemmas.{HaveLines}
 use Rattle.pt_apply.proofs.write.plan_text.Given as goal

@@ -1,4 +1,4 @@
-use Rattle.pt_bsd.specs.Labels.{number_at}
+use Rattle.pt_sector.specs.Sectors.{number_at}
 use Rattle.byteorder.specs.Endian.{little_number}
 use Rattle.std.proofs.lemmas.Grind.{common_steps}
 use Rattle.std.specs.Prelude.{slice_range}

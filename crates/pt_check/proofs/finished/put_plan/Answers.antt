@@ -1,6 +1,7 @@
 use Rattle.std.proofs.Common.{rules, ap, arith, length}
 use Rattle.pt_sector.specs.Overlays.{shown}
-use Rattle.pt_apply.specs.Plans.{phases_in, writes_of}
+use Rattle.pt_apply.specs.Plans.{writes_of}
+use Rattle.pt_apply.specs.inner.Plans.{phases_in}
 use Rattle.pt_check.proofs.Firsts.{count_on, count_within, lent_phase, index_within, seen_on}
 use Rattle.pt_check.proofs.finished.put_plan.Goals as goal
 

@@ -1,6 +1,7 @@
 use Rattle.std.proofs.Common.{◌≡◌, ◌≤◌, ◌+◌, length, take}
 use Rattle.pt_sector.specs.Overlays.{room_left, shown}
-use Rattle.pt_apply.specs.Plans.{phases_in, writes_in}
+use Rattle.pt_apply.specs.Plans.{writes_in}
+use Rattle.pt_apply.specs.inner.Plans.{phases_in}
 use Rattle.pt_check.specs.Answers.{disk_after}
 use Rattle.pt_check.proofs.finished.put_plan.Given as goal
 

@@ -6,5 +6,5 @@ use Rattle.pt_check.proofs.tables.add_tables.Goals as goal
 
 pub add_labels-requires : goal.add_labels-requires
 add_labels-requires g c =
-    subst (λ (ss : List Slice). All (λ (p : Slice). p.first + 1 < 2 ^ 64) ss) (sym (c.deref.ensures.value ∙ c.in_ok-slices.ensures))
+    subst (λ (ss : List Slice). All (λ (p : Slice). p.first + 1 < 2 ^ 64) ss) (sym (c.deref.ensures.value ∙ c.in_ok-slices.ensures.value))
     (places_small g.row.B c.args.layout.now.sectors c.args.layout.now.body (omega arith))

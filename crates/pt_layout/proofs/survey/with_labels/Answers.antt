@@ -14,28 +14,30 @@ pub read_marks-requires-clause-small : goal.read_marks-requires-clause-small
 read_marks-requires-clause-small g c =
     places_fit c.sectors-sectors.result c.deref.result.now (omega arith)
     (places_within g.row.B c.sectors-sectors.result c.sectors-sectors.result (Gpt c.args.table) c.deref.result.now
-    (c.deref.ensures.value ∙ c.in_ok-slices.ensures) refl)
+    (c.deref.ensures.value ∙ c.in_ok-slices.ensures.value) refl)
 
 pub read_marks-requires-clause-within : goal.read_marks-requires-clause-within
 read_marks-requires-clause-within g c =
     places_within g.row.B c.sectors-sectors.result (g.D.Disk.count c.args.disk.now) (Gpt c.args.table) c.deref.result.now
-    (c.deref.ensures.value ∙ c.in_ok-slices.ensures) c.sectors-sectors.ensures
+    (c.deref.ensures.value ∙ c.in_ok-slices.ensures.value) c.sectors-sectors.ensures
 
 pub returns-clause-places : goal.returns-clause-places
 returns-clause-places g c =
     let same =
-    c.deref.ensures.value ∙ c.in_ok-slices.ensures ∙ ap (λ (n : ℕ). places_of g.row.B n (Gpt c.args.table)) c.sectors-sectors.ensures in
+    c.deref.ensures.value ∙ c.in_ok-slices.ensures.value
+    ∙ ap (λ (n : ℕ). places_of g.row.B n (Gpt c.args.table)) c.sectors-sectors.ensures in
     subst (λ (l : List Slice). ArePlaces l c.in_ok-marks.marks.places) same c.in_ok-marks.ensures.places
 
 pub returns-clause-ok : goal.returns-clause-ok
 returns-clause-ok g c = λ tells.
     let d : Sectors = (g.D.Disk.told c.args.disk.now).seen in
     let count = c.sectors-sectors.ensures ∙ sym (g.met.D.Disk.sized c.args.disk.now tells) in
-    let same = c.deref.ensures.value ∙ c.in_ok-slices.ensures ∙ ap (λ (n : ℕ). places_of g.row.B n (Gpt c.args.table)) count in
+    let same = c.deref.ensures.value ∙ c.in_ok-slices.ensures.value ∙ ap (λ (n : ℕ). places_of g.row.B n (Gpt c.args.table)) count in
     (count, refl, subst (λ (l : List Slice). LabelsAre d l c.in_ok-marks.marks.labels) same (c.in_ok-marks.ensures.ok tells))
 
 pub returns-clause-traced : goal.returns-clause-traced
 returns-clause-traced g c =
     let same =
-    c.deref.ensures.value ∙ c.in_ok-slices.ensures ∙ ap (λ (n : ℕ). places_of g.row.B n (Gpt c.args.table)) c.sectors-sectors.ensures in
+    c.deref.ensures.value ∙ c.in_ok-slices.ensures.value
+    ∙ ap (λ (n : ℕ). places_of g.row.B n (Gpt c.args.table)) c.sectors-sectors.ensures in
     subst (λ (l : List Slice). Adds c.args.trace.now c.read_marks.new.trace (IsPlace l)) same c.in_ok-marks.ensures.traced

@@ -3,7 +3,8 @@ use Rattle.std.specs.Prelude.{IfOk, IfErr}
 use Rattle.std.proofs.lemmas.Result.{err_from_is_err_and}
 use Rattle.pt_sector.proofs.CallsLemmas.{blames_after}
 use Rattle.pt_sector.specs.Device.{Told}
-use Rattle.pt_apply.specs.Plans.{phases_in, phases_of, InRange}
+use Rattle.pt_apply.specs.Plans.{phases_of, InRange}
+use Rattle.pt_apply.specs.inner.Plans.{phases_in}
 use Rattle.pt_cases.specs.Cases.{IsPlan, idle}
 use Rattle.pt_cases.specs.Writes.{FitsTable}
 use Rattle.pt_cases.specs.Unplanned.{fault_in}

@@ -29,14 +29,14 @@ returns-in_err-body-clause-traced_err g c = λ tells.
 pub traced_labels-requires-clause-within : goal.traced_labels-requires-clause-within
 traced_labels-requires-clause-within g c =
     places_within g.row.B c.sectors-sectors.result (g.D.Disk.count c.body_of.new.disk) c.in_ok-body.body c.deref.result.now
-    (c.deref.ensures.value ∙ c.in_ok-places.ensures) (c.sectors-sectors.ensures ∙ sym c.in_ok-body.ensures.same.same_count)
+    (c.deref.ensures.value ∙ c.in_ok-places.ensures.value) (c.sectors-sectors.ensures ∙ sym c.in_ok-body.ensures.same.same_count)
 
 pub returns-clause-traced : goal.returns-clause-traced
 returns-clause-traced g c = λ tells.
     all_read g.row.B c.sectors-sectors.result
     (g.D.Disk.told c.args.disk.now).seen c.in_ok-body.body c.deref.result.now c.args.trace.now c.body_of.new.trace
     c.traced_labels.new.trace
-    (c.in_ok-body.ensures.ok tells) (c.deref.ensures.value ∙ c.in_ok-places.ensures)
+    (c.in_ok-body.ensures.ok tells) (c.deref.ensures.value ∙ c.in_ok-places.ensures.value)
     (c.sectors-sectors.ensures ∙ sym (g.met.D.Disk.sized c.args.disk.now tells))
     (c.in_ok-body.ensures.traced tells) c.in_ok-labels.ensures.traced
 
@@ -50,7 +50,7 @@ returns-in_err-labels-clause-place g c = λ tells.
     let p = err_from_is_err_and c.from_residual-in_err-labels.result c.from_residual-in_err-labels.ensures.1 in
     rw (p.1, p.2) (label_failed g.row.B c.sectors-sectors.result
     (g.D.Disk.told c.args.disk.now).seen c.in_ok-body.body c.deref.result.now c.in_err-labels.field-0.0
-    (c.in_ok-body.ensures.ok tells) (c.deref.ensures.value ∙ c.in_ok-places.ensures)
+    (c.in_ok-body.ensures.ok tells) (c.deref.ensures.value ∙ c.in_ok-places.ensures.value)
     (c.sectors-sectors.ensures ∙ sym (g.met.D.Disk.sized c.args.disk.now tells)) c.in_err-labels.ensures.place)
 
 pub returns-clause-ok : goal.returns-clause-ok
@@ -59,7 +59,8 @@ returns-clause-ok g c = λ tells.
     let count : c.sectors-sectors.result ≡ length d = c.sectors-sectors.ensures ∙ sym (g.met.D.Disk.sized c.args.disk.now tells) in (
       count,
       c.in_ok-body.ensures.ok tells,
-      rw (c.in_ok-body.ensures.same.same tells, c.deref.ensures.value, c.in_ok-places.ensures, count) at (c.in_ok-labels.ensures.ok tells),
+      rw (c.in_ok-body.ensures.same.same tells, c.deref.ensures.value, c.in_ok-places.ensures.value, count) at
+      (c.in_ok-labels.ensures.ok tells),
     )
 
 pub returns-clause-same : goal.returns-clause-same

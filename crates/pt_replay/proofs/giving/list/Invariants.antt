@@ -1,5 +1,5 @@
 use Rattle.std.proofs.Common.{take}
-use Rattle.pt_apply.specs.Plans.{phases_in}
+use Rattle.pt_apply.specs.inner.Plans.{phases_in}
 use Rattle.pt_replay.specs.inner.Given.{AreRows}
 use Rattle.pt_replay.proofs.giving.list.Given as goal
 

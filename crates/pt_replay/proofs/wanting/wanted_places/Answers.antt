@@ -8,6 +8,6 @@ wanted_among-requires g c = (
   (
     c.requires.size,
     places_within g.row.B c.sectors-sectors.result c.args.disk.now.sectors c.args.body.now c.deref.result.now
-        (c.deref.ensures.value ∙ c.in_ok-slices.ensures) c.sectors-sectors.ensures,
+        (c.deref.ensures.value ∙ c.in_ok-slices.ensures.value) c.sectors-sectors.ensures,
   ),
 )

@@ -1,6 +1,7 @@
 use Rattle.std.proofs.Common.{◌∙◌, ◌++◌, ap}
 use Rattle.std.proofs.lemmas.Result.{err_from_is_err_and}
-use Rattle.pt_apply.specs.Plans.{phases_in, writes_of}
+use Rattle.pt_apply.specs.Plans.{writes_of}
+use Rattle.pt_apply.specs.inner.Plans.{phases_in}
 use Rattle.pt_sector.specs.Sectors.{Writes}
 use Rattle.pt_cases.specs.Cases.{from_mbr_phases}
 use Rattle.pt_planner.specs.Phases.{WroteCopies}

@@ -1,5 +1,5 @@
 use Rattle.std.proofs.Common.{◌∙◌, ap}
-use Rattle.pt_apply.specs.Plans.{phases_in}
+use Rattle.pt_apply.specs.inner.Plans.{phases_in}
 use Rattle.pt_planner.proofs.Ranges.{phases_more}
 use Rattle.pt_planner.proofs.copies.phases.push_phase.Goals as goal
 

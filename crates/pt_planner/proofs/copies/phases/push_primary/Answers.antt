@@ -1,5 +1,6 @@
 use Rattle.std.proofs.lemmas.Result.{err_from_is_err_and}
-use Rattle.pt_apply.specs.Plans.{phases_in, writes_of}
+use Rattle.pt_apply.specs.Plans.{writes_of}
+use Rattle.pt_apply.specs.inner.Plans.{phases_in}
 use Rattle.pt_planner.proofs.Assembling.{are_primary}
 use Rattle.pt_planner.proofs.copies.phases.push_primary.Goals as goal
 

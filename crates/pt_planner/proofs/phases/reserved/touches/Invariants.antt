@@ -1,5 +1,6 @@
 use Rattle.std.proofs.Common.{take}
-use Rattle.pt_apply.specs.Plans.{phases_in, writes_in}
+use Rattle.pt_apply.specs.Plans.{writes_in}
+use Rattle.pt_apply.specs.inner.Plans.{phases_in}
 use Rattle.pt_planner.specs.inner.Phases.{Touches, IsAnyReserved}
 use Rattle.pt_planner.proofs.phases.reserved.touches.Given as goal
 

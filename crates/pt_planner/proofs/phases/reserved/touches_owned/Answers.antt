@@ -1,7 +1,8 @@
 use Rattle.std.proofs.Common.{Option, subst}
 use Rattle.pt_members.specs.declared.layout.Layout.{Layout}
 use Rattle.pt_members.specs.Tables.{OwnedOf}
-use Rattle.pt_apply.specs.Plans.{phases_in, writes_in}
+use Rattle.pt_apply.specs.Plans.{writes_in}
+use Rattle.pt_apply.specs.inner.Plans.{phases_in}
 use Rattle.pt_planner.specs.inner.Phases.{Touches}
 use Rattle.pt_planner.proofs.Touching.{no_touch}
 use Rattle.pt_planner.proofs.phases.reserved.touches_owned.Goals as goal

@@ -3,7 +3,8 @@ use Rattle.std.proofs.lemmas.Bool.Decides.{Decides-eqb}
 use Rattle.std.proofs.lemmas.List.{length-map}
 use Rattle.std.proofs.lemmas.Result.{err_from_is_err_and, IfOk-weaker}
 use Rattle.std.specs.declared.alloc.Global.{Global}
-use Rattle.pt_apply.specs.Plans.{writes_of, phases_in}
+use Rattle.pt_apply.specs.Plans.{writes_of}
+use Rattle.pt_apply.specs.inner.Plans.{phases_in}
 use Rattle.pt_apply.specs.declared.plan.Write.{Write}
 use Rattle.pt_planner.proofs.phases.turn_phases.two_phases.Goals as goal
 

@@ -16,8 +16,9 @@ use Rattle.pt_planner.proofs.places.labels.label_targets.Goals as goal
 pub spots-requires : goal.spots-requires
 spots-requires g c =
     let y = c.args.wanted.now.body in
-    let slices = c.deref.ensures.value ∙ c.in_ok-slices.ensures in
-    subst (λ (l : List Slice). NumbersAscend 1 l) (sym slices) (places_ascend_lem g.row.B c.sectors-sectors.result y c.has_four.ensures)
+    let slices = c.deref.ensures.value ∙ c.in_ok-slices.ensures.value in
+    subst (λ (l : List Slice). NumbersAscend 1 l) (sym slices)
+    (places_ascend_lem g.row.B c.sectors-sectors.result y c.in_ok-slices.ensures.four)
 
 pub read_places-requires : goal.read_places-requires
 read_places-requires g c =
@@ -31,7 +32,7 @@ read_places-requires g c =
         spots_within g.row.B c.sectors-sectors.result n c.args.wanted.now.body c.deref.result.now c.as_slice.result.now
             c.deref-2.result.now
             (subst (λ (x : List Spot). AreSpots c.deref.result.now c.as_slice.result.now x) (sym spots) are)
-            (c.deref.ensures.value ∙ c.in_ok-slices.ensures) c.sectors-sectors.ensures,
+            (c.deref.ensures.value ∙ c.in_ok-slices.ensures.value) c.sectors-sectors.ensures,
       ),
     )
 
@@ -63,7 +64,7 @@ returns-in_default g c = record {
   blames = refl;
   failed = tt;
   answer = λ tells. misfit g.row.B c.sectors-sectors.result c.args.wanted.now c.deref.result.now c.as_slice.result.now
-      c.in_ok-found.found _ c.in_default.is c.in_ok-found.ensures (c.deref.ensures.value ∙ c.in_ok-slices.ensures)
+      c.in_ok-found.found _ c.in_default.is c.in_ok-found.ensures (c.deref.ensures.value ∙ c.in_ok-slices.ensures.value)
       (c.sectors-sectors.ensures ∙ sym c.requires.sectors) c.as_slice.ensures;
   in_range = tt;
 }
@@ -79,7 +80,7 @@ returns-in_err-places g c =
           (λ s at. subst (λ (l : List Slice). IsPlace l s)
           (spot_slices g.row.B c.sectors-sectors.result (g.D.Disk.count c.args.disk.now) c.args.wanted.now.body c.deref.result.now
           c.as_slice.result.now c.in_ok-found.found c.in-Some.spots c.deref-2.result.now c.in-Some.is c.in_ok-found.ensures
-          c.deref-2.ensures.value (c.deref.ensures.value ∙ c.in_ok-slices.ensures) c.sectors-sectors.ensures) at)
+          c.deref-2.ensures.value (c.deref.ensures.value ∙ c.in_ok-slices.ensures.value) c.sectors-sectors.ensures) at)
           c.in_err-places.ensures.failed);
       answer = λ tells. rw p.1 tt;
       in_range = rw p.1 tt;
@@ -125,8 +126,8 @@ returns g c =
           c.in_ok-old_slices.ensures in
           whole d c.args.old.now c.args.wanted.now c.sectors-sectors.result n c.deref.result.now c.as_slice.result.now
           c.in-Some.spots.items c.deref-3.result.now c.in_ok-old_slices.old_slices.items c.in_ok-answer.answer
-          c.has_four.ensures (c.sectors-sectors.ensures ∙ sym c.requires.sectors)
-          (c.deref.ensures.value ∙ c.in_ok-slices.ensures) c.as_slice.ensures
+          c.in_ok-slices.ensures.four (c.sectors-sectors.ensures ∙ sym c.requires.sectors)
+          (c.deref.ensures.value ∙ c.in_ok-slices.ensures.value) c.as_slice.ensures
           (at_some c.in_ok-found.found c.in-Some.spots _ _ c.in-Some.is c.in_ok-found.ensures)
           (ap (λ (x : List (Place g.row.B)). map spot_of x) places ∙ here.spots ∙ c.deref-2.ensures.value) ats
           (subst (λ (x : List (Place g.row.B)). All (IsRead d) x) (sym places) (here.bytes tells))
