@@ -114,7 +114,11 @@ pair_broken b d h p q None plain is room x y pair = record {
   protective = protected d h is pair.3;
 }
 pair_broken b d h p q (Some CopiesDiffer) plain is room x y pair = (
-  p.table, q.table, record { room = room; head = p.header; stands = x }, record { room = room; head = q.header; stands = y }, pair,
+  p.table,
+  q.table,
+  record { room = room; head = p.header; stands = x },
+  record { room = room; head = q.header; stands = y },
+  pair,
 )
 pair_broken b d h p q (Some (Alternate Primary)) plain is room x y pair = (p.header, q.header, copies_of b d p q x y pair.0, pair.1)
 pair_broken b d h p q (Some (Alternate Backup)) plain is room x y pair =

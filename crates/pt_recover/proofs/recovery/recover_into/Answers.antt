@@ -60,7 +60,7 @@ returns-clause-ok g c = λ tells.
       count,
       c.in_ok-body.ensures.ok tells,
       rw (c.in_ok-body.ensures.same.same tells, c.deref.ensures.value, c.in_ok-places.ensures.value, count) at
-      (c.in_ok-labels.ensures.ok tells),
+          (c.in_ok-labels.ensures.ok tells),
     )
 
 pub returns-clause-same : goal.returns-clause-same
