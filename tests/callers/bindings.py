@@ -19,27 +19,16 @@ import uuid
 HERE = os.path.dirname(os.path.abspath(__file__))
 ROOT = os.path.dirname(os.path.dirname(HERE))
 sys.path[:0] = [os.path.join(ROOT, "tests", "shared"), os.path.join(ROOT, "bindings", "python")]
+import compared
 import images
 import ptab as lib
+from compared import put, same
 from images import FREEBSD, SMALL, entry, label, record, room
 from other_test import of_test
 from tools import must
 
 NO_COPY = "no MBR, and neither copy of a GPT exists: the signature isn't EFI PART (primary); the signature isn't EFI PART (backup)"
 HOSTILE = of_test("hostile")
-checked = 0
-
-
-def same(what, found, wanted):
-    global checked
-    checked += 1
-    if found != wanted:
-        sys.exit(f"bindings: {what}:\n  found  {found!r:.600}\n  wanted {wanted!r:.600}")
-
-
-def put(path, content):
-    with open(path, "wb") as it:
-        it.write(content)
 
 
 def error_of(call):
@@ -177,7 +166,7 @@ def main():
         rows(folder)
         hints()
         rust = in_rust(ptab, archive, folder)
-    print(f"bindings: {checked} passed, 0 failed ({rust})")
+    print(f"bindings: {compared.count} passed, 0 failed ({rust})")
 
 
 main()

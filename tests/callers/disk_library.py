@@ -22,9 +22,11 @@ import sys
 HERE = os.path.dirname(os.path.abspath(__file__))
 ROOT = os.path.dirname(os.path.dirname(HERE))
 sys.path[:0] = [os.path.join(ROOT, "tests", "shared"), os.path.join(ROOT, "bindings", "python")]
+import compared
 import disk_faults
 import images
 import ptab as lib
+from compared import content, put, same
 from doubles import text_of
 from images import LARGE, SMALL, room
 from other_test import of_test
@@ -35,17 +37,9 @@ NO_COPY = "no MBR, and neither copy of a GPT exists: the signature isn't EFI PAR
 WORDS = (["a:2048"], ["c:1:name"], ["d:1"], ["n:0:0:0"], ["o"], ["o", "n:0:0:+8", "c:1:root"], ["g"], ["t:1:8300"], ["e"], ["x"], ["d:2.a"],
          ["n:0:0:+5:8200", "d:1"], ["n:5:0:0"], ["t:2.a:07"], ["a:1", "n:0:0:0"], ["g", "c:1:é𝄞"],
          ["U:e896e426-a4e9-4c9e-8d92-b56974f85fcf"])
-checked = 0
 
 
 HOSTILE = of_test("hostile")
-
-
-def same(what, found, wanted):
-    global checked
-    checked += 1
-    if found != wanted:
-        sys.exit(f"disk library: {what}:\n  found  {found!r:.1000}\n  wanted {wanted!r:.1000}")
 
 
 def must(*words, **more):
@@ -53,16 +47,6 @@ def must(*words, **more):
     if done.returncode != 0 or done.stderr:
         sys.exit(f"{words}: status {done.returncode}\n{done.stdout}{done.stderr}")
     return done.stdout
-
-
-def put(path, content):
-    with open(path, "wb") as it:
-        it.write(content)
-
-
-def content(path):
-    with open(path, "rb") as it:
-        return it.read()
 
 
 def error_of(call):
@@ -460,7 +444,6 @@ def put_at(path, at, data):
 
 
 def main():
-    global checked
     ptab, archive = os.path.abspath(sys.argv[1]), os.path.abspath(sys.argv[2])
     count = int(sys.argv[3]) if len(sys.argv) > 3 else 400
     with room() as folder:
@@ -474,10 +457,10 @@ def main():
         small_buffers(folder)
         drawn_guids(folder)
         full_files(ptab, folder)
-        checked += disk_faults.calls(ptab, example, folder)
-        checked += disk_faults.memory(ptab, example, folder)
+        compared.count += disk_faults.calls(ptab, example, folder)
+        compared.count += disk_faults.memory(ptab, example, folder)
         devices = on_devices(ptab, example, folder)
-    print(f"disk library: {checked} passed, 0 failed{'' if devices else ' (no loop devices here, so none was tried)'}")
+    print(f"disk library: {compared.count} passed, 0 failed{'' if devices else ' (no loop devices here, so none was tried)'}")
 
 
 main()

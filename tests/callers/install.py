@@ -17,6 +17,9 @@ import sys
 import tempfile
 
 TOP = os.path.abspath(os.path.join(os.path.dirname(os.path.abspath(__file__)), "..", ".."))
+sys.path.insert(0, os.path.join(TOP, "tests", "shared"))
+import compared
+from compared import same
 PLACES = {"bin/ptab": (None, 0o755), "bin/ptab-run": ("tools/ptab-run", 0o755), "share/man/man8/ptab.8": ("man/ptab.8", 0o644),
           "share/man/man8/ptab-run.8": ("man/ptab-run.8", 0o644),
           "share/bash-completion/completions/ptab": ("completion/ptab.bash", 0o644),
@@ -41,14 +44,6 @@ COMPLETIONS = (
     ("ptab check a.img notes ", []), ("ptab locate a.img 1 ", []), ("ptab nonsense ", []), ("ptab adopt a.img ", IMAGES),
     ("ptab adopt --p", ["--plan"]),
 )
-checked = 0
-
-
-def same(what, found, wanted):
-    global checked
-    checked += 1
-    if found != wanted:
-        sys.exit(f"{what}:\n  found  {found}\n  wanted {wanted}")
 
 
 def files(folder):
@@ -248,7 +243,7 @@ def main():
         versions(ptab)
         refused(folder, ptab)
         shells = completions(folder, f"{folder}/own", ptab)
-    print(f"installing: {checked} passed, 0 failed; {shells} shells of 3 complete as the help says")
+    print(f"installing: {compared.count} passed, 0 failed; {shells} shells of 3 complete as the help says")
 
 
 main()

@@ -17,6 +17,8 @@ import time
 
 TOP = os.path.abspath(os.path.join(os.path.dirname(os.path.abspath(__file__)), "..", ".."))
 sys.path.insert(0, os.path.join(TOP, "tests", "shared"))
+import compared
+from compared import content, same
 from tools import must
 
 KIT = "kit-of-the-test logic 0123456789abcdef"
@@ -34,19 +36,6 @@ FILES = {"usr/bin/ptab": "-rwxr-xr-x", "usr/bin/ptab-run": "-rwxr-xr-x", "usr/sh
          "usr/share/doc/ptab/copyright": "-rw-r--r--", "usr/share/man/man8/ptab.8.gz": "-rw-r--r--"}
 DEV = ("include/ptab.h", "include/ptab_disk.h", "lib/libptab.a", "lib/libptab.so", "lib/libptab.so.1", "lib/pkgconfig/ptab.pc",
        "lib/python3/dist-packages/ptab.py", "share/doc/libptab-dev/c.md.gz")
-checked = 0
-
-
-def same(what, found, wanted):
-    global checked
-    checked += 1
-    if found != wanted:
-        sys.exit(f"{what}:\n  found  {found}\n  wanted {wanted}")
-
-
-def content(path):
-    with open(path, "rb") as it:
-        return it.read()
 
 
 def build(ptab, out, cwd, mask=0o022, **more):
@@ -169,7 +158,7 @@ def main():
         refused(ptab, folder)
         if len(sys.argv) > 2:
             library(os.path.abspath(sys.argv[2]), folder)
-    print(f"the package: {checked} passed, 0 failed; {sum_of[:16]}")
+    print(f"the package: {compared.count} passed, 0 failed; {sum_of[:16]}")
 
 
 main()

@@ -17,7 +17,9 @@ import tempfile
 
 TOP = os.path.join(os.path.dirname(os.path.abspath(__file__)), "..", "..")
 sys.path.insert(0, os.path.join(TOP, "tests", "shared"))
+import compared
 import sentences
+from compared import same
 from sentences import read
 
 COMMANDS = ("show", "verify", "locate", "edit", "plan", "check", "apply", "repair", "adopt")
@@ -40,19 +42,10 @@ SENTENCES = (("pt_gpt/src/error.rt", "CopyError", "show", "{}"), ("pt_mbr/src/ch
              ("pt_apply/src/error.rt", "PlanTextError", "check", None))
 # of an error that the library wraps in another; the command prints it alone
 WRAPPED = (("RepairError", "there is no table"),)
-compared = 0
-
-
-def same(what, found, wanted):
-    global compared
-    compared += 1
-    if found != wanted:
-        sys.exit(f"{what}:\n  found  {found}\n  wanted {wanted}")
 
 
 def holds(where, text, what):
-    global compared
-    compared += 1
+    compared.count += 1
     if flat(what) not in text:
         sys.exit(f"{where} doesn't say: {what}")
 
@@ -376,7 +369,7 @@ def main():
     diagnostics(page, docs, text)
     one_table(ptab, page, docs)
     examples(ptab, page)
-    print(f"the man page, {'as groff shows it' if with_groff else 'its source'}: {compared} compared, 0 differ")
+    print(f"the man page, {'as groff shows it' if with_groff else 'its source'}: {compared.count} compared, 0 differ")
 
 
 main()

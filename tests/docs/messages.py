@@ -16,8 +16,10 @@ import tempfile
 HERE = os.path.dirname(os.path.abspath(__file__))
 ROOT = os.path.dirname(os.path.dirname(HERE))
 sys.path.insert(0, os.path.join(ROOT, "tests", "shared"))
+import compared
 import replay
 import sentences
+from compared import same
 from sentences import displayed, is_told, read
 
 WORD, TABLE, FINDING, EDIT, PLAN, CHECK, REPAIR, ADOPT, OTHER_TABLE, DISK, OTHER_DISK = 2, 3, 4, 5, 6, 7, 8, 9, 10, 64, 65
@@ -39,14 +41,6 @@ ERRORS = (
 WRAPPED = {("Why", "Final"): ": finding 7", ("RepairError", "Unsound"): ": finding 7", ("PlanError", "Unsound"): "",
            ("Finding", "NoTable"): ""}
 A, B = 7, 9
-checked = 0
-
-
-def same(what, found, wanted):
-    global checked
-    checked += 1
-    if found != wanted:
-        sys.exit(f"messages: {what}:\n  found  {found!r}\n  wanted {wanted!r}")
 
 
 class Texts:
@@ -171,7 +165,7 @@ def main():
         chains_and_copies(texts)
         of_disks(texts)
         names(texts)
-    print(f"messages: {checked} passed, 0 failed")
+    print(f"messages: {compared.count} passed, 0 failed")
 
 
 main()

@@ -16,6 +16,8 @@ import sys
 import tempfile
 
 sys.path.insert(0, os.path.join(os.path.dirname(os.path.abspath(__file__)), "..", "shared"))
+import compared
+from compared import content, same
 from images import SMALL, entry
 
 TOP = os.path.abspath(os.path.join(os.path.dirname(os.path.abspath(__file__)), "..", ".."))
@@ -25,14 +27,6 @@ DISK = "01010101-0101-4101-8101-010101010101"
 FIRST = "02020202-0202-4202-8202-020202020202"
 SECOND = "03030303-0303-4303-8303-030303030303"
 THIRD = "04040404-0404-4404-8404-040404040404"
-checked = 0
-
-
-def same(what, found, wanted):
-    global checked
-    checked += 1
-    if found != wanted:
-        sys.exit(f"{what}:\n  found  {found}\n  wanted {wanted}")
 
 
 def recipe(name, *words, **more):
@@ -52,11 +46,6 @@ def image_of(path, sectors, *words, size=512):
         it.truncate(sectors * size)
     if words:
         same(f"edit {words}", ptab("edit", "--sector-size", str(size), path, "--fresh", FRESH, *words), ("done\n", "", 0))
-
-
-def content(path):
-    with open(path, "rb") as it:
-        return it.read()
 
 
 def zero(path, first, count, size=512):
@@ -397,7 +386,7 @@ def main():
     for rows in (dump_and_restore, not_dumped, built_image, renamed, sized, as_json):
         with tempfile.TemporaryDirectory() as folder:
             rows(folder)
-    print(f"recipes: {checked} passed, 0 failed")
+    print(f"recipes: {compared.count} passed, 0 failed")
 
 
 main()

@@ -27,6 +27,7 @@ TESTS = os.path.dirname(os.path.dirname(os.path.abspath(__file__)))
 sys.path[:0] = [f"{TESTS}/{it}" for it in ("shared", "rows", "peers")]
 import devices_gone
 import devices_runs
+from compared import content, put
 from images import LARGE, SMALL, entry, room
 from reads import EDITS, FRESH, gpts, mbrs
 from tools import must, run
@@ -70,17 +71,6 @@ class Loop:
         """Has the kernel take the table's partitions, also a kernel that reads no tables."""
         run("partx", "--add", self.path)
         return [f"{self.path}p{number}" for number in sorted(devices_runs.parts_of(self.path))]
-
-
-def content(path):
-    with open(path, "rb") as it:
-        return it.read()
-
-
-def put(path, image):
-    with open(path, "wb") as it:
-        it.write(image)
-    return path
 
 
 class Tried:

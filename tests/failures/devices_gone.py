@@ -17,8 +17,9 @@ import sys
 import time
 
 import devices_runs
+from compared import content
 from images import SMALL, entry
-from tools import ENVIRONMENT, must, run
+from tools import ENVIRONMENT, must
 
 # requests of ioctl(2) on loop devices, and in what they take the place of where the device begins in its file
 SET_STATUS, GET_STATUS, STATUS_BYTES, BEGIN_AT = 0x4C04, 0x4C05, 232, 24
@@ -33,11 +34,6 @@ def take_away(device, path):
         fcntl.ioctl(it, GET_STATUS, status)
         struct.pack_into("<Q", status, BEGIN_AT, os.path.getsize(path))
         fcntl.ioctl(it, SET_STATUS, bytes(status))
-
-
-def content(path):
-    with open(path, "rb") as it:
-        return it.read()
 
 
 def goes_after(words, loop, sync, trace, where):

@@ -15,31 +15,15 @@ import sys
 import time
 
 sys.path.insert(0, os.path.join(os.path.dirname(os.path.abspath(__file__)), "..", "shared"))
+import compared
 import images
+from compared import content, put, same
 from images import SMALL, room
 
 LOCKED = ("", "refused: locked\n", 3)
 DONE = ("done\n", "", 0)
 LONG_AGO = 1_000_000_000
 MANY = 60
-checked = 0
-
-
-def same(what, found, wanted):
-    global checked
-    checked += 1
-    if found != wanted:
-        sys.exit(f"{what}:\n  found  {found!r:.500}\n  wanted {wanted!r:.500}")
-
-
-def content(path):
-    with open(path, "rb") as it:
-        return it.read()
-
-
-def put(path, image):
-    with open(path, "wb") as it:
-        it.write(image)
 
 
 def answer(*words, **more):
@@ -241,7 +225,7 @@ def main():
         by_callers(ptab, folder)
         at_work(ptab, folder)
         crowd(ptab, folder)
-    print(f"locks: {checked} passed, 0 failed")
+    print(f"locks: {compared.count} passed, 0 failed")
 
 
 main()

@@ -14,22 +14,15 @@ from concurrent.futures import ProcessPoolExecutor
 from itertools import islice
 
 sys.path.insert(0, os.path.join(os.path.dirname(os.path.abspath(__file__)), "..", "shared"))
+import compared
 import images
+from compared import same
 from damages import damages, large_tables, small_tables
 from images import FREEBSD, LARGE, SMALL, chained, ebr, entry, guid, label, record, room
 from tools import by_fdisk, by_parted, by_sfdisk, must, run
 
 LONG_AGO = 1_000_000_000
 WORKERS = os.cpu_count() or 1
-checked = 0
-
-
-def same(what, found, wanted):
-    global checked
-    checked += 1
-    if found != wanted:
-        sys.exit(f"{what}:\n  found  {found if len(str(found)) < 4000 else 'other bytes'}\n"
-                 f"  wanted {wanted if len(str(wanted)) < 4000 else ''}")
 
 
 class Image:
@@ -102,7 +95,7 @@ def mended(ptab, number, part):
             it.gives(damage.name, "show", lines)
             it.writes_nothing(damage.name, "done\n")
             accepted(it, damage.name, lines.splitlines(), seen)
-    return checked
+    return compared.count
 
 
 def in_turn(ptab, number):
@@ -125,7 +118,7 @@ def in_turn(ptab, number):
             image[at:at + copy] = bytes(copy)
         it.put(image)
         it.writes_nothing(gpt.name, "", "no table: copies 1 1\n", 4)
-    return checked
+    return compared.count
 
 
 def unsound_gpts(sectors):
@@ -213,12 +206,12 @@ def refused(ptab, size):
                            (images.long_chain(129, sectors), "chain 5")):
             it.put(image)
             it.writes_nothing(why, "", f"no table: {why}\n", 4)
-    return checked
+    return compared.count
 
 
 def counted(call, *words):
     """How many answers a call compared."""
-    before = checked
+    before = compared.count
     return call(*words) - before
 
 

@@ -13,18 +13,12 @@ import tempfile
 from dataclasses import dataclass
 
 sys.path.insert(0, os.path.join(os.path.dirname(os.path.abspath(__file__)), "..", "shared"))
+import compared
+from compared import same
 from tools import by_fdisk, by_parted, by_sfdisk, must, over_seeds, run
 
 KINDS = (0x83, 0x82, 0x07, 0x0B, 0x0C, 0xEF, 0x8E, 0xFD)
 NO_FAULT = re.compile(r"No errors detected|omitting empty partition|Remaining \d+ unallocated|table entries are not in disk order")
-checked = 0
-
-
-def same(what, found, wanted):
-    global checked
-    checked += 1
-    if found != wanted:
-        sys.exit(f"{what}:\n  found  {found}\n  wanted {wanted}")
 
 
 @dataclass
@@ -244,7 +238,7 @@ def to_gpt(ptab, path, rng):
 
 def disk_made_and_edited(ptab, seed):
     """How many answers were compared."""
-    before = checked
+    before = compared.count
     rng = random.Random(seed)
     with tempfile.TemporaryDirectory() as folder:
         table = any_table(rng, 8)
@@ -256,7 +250,7 @@ def disk_made_and_edited(ptab, seed):
         changed(ptab, path, table, rng)
         if all(part.first >= 34 for part in table.primaries.values()):
             to_gpt(ptab, path, rng)
-    return checked - before
+    return compared.count - before
 
 
 if __name__ == "__main__":

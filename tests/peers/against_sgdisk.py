@@ -12,10 +12,11 @@ import uuid
 from dataclasses import dataclass
 
 sys.path.insert(0, os.path.join(os.path.dirname(os.path.abspath(__file__)), "..", "shared"))
+import compared
+from compared import same
 from tools import by_fdisk, by_parted, by_sfdisk, by_sgdisk, must, over_seeds, run
 
 CODES = ("EF00", "8300", "8200", "0700", "A503")
-checked = 0
 
 
 @dataclass
@@ -34,13 +35,6 @@ class Table:
     sectors: int
     disk: str
     partitions: list
-
-
-def same(what, found, wanted):
-    global checked
-    checked += 1
-    if found != wanted:
-        sys.exit(f"{what}:\n  found  {found}\n  wanted {wanted}")
 
 
 def new_guid(rng):
@@ -152,13 +146,13 @@ def edited(ptab, ours, theirs, rng, numbers):
 
 def table_made_and_edited(ptab, seed):
     """How many answers were compared."""
-    before = checked
+    before = compared.count
     rng = random.Random(seed)
     with tempfile.TemporaryDirectory() as folder:
         table = any_table(rng)
         ours, theirs, _ = made(ptab, folder, table, rng)
         edited(ptab, ours, theirs, rng, [it.number for it in table.partitions])
-    return checked - before
+    return compared.count - before
 
 
 if __name__ == "__main__":

@@ -12,6 +12,8 @@ import sys
 import tempfile
 
 sys.path.insert(0, os.path.join(os.path.dirname(os.path.abspath(__file__)), "..", "shared"))
+import compared
+from compared import same
 from tools import ENVIRONMENT, must, run
 
 TOP = os.path.abspath(os.path.join(os.path.dirname(os.path.abspath(__file__)), "..", ".."))
@@ -20,14 +22,6 @@ MORE = "".join(f"{number:02x}" * 16 for number in range(16, 32))
 OWN = [re.sub(r"(.{8})(.{4})(.)(.{3})(.)(.{3})(.{12})", r"\1-\2-4\4-8\6-\7", f"{number:02x}" * 16) for number in (1, 2, 3)]
 NAMES_DIFFER = ("-g",)
 MIB = 1 << 20
-checked = 0
-
-
-def same(what, found, wanted):
-    global checked
-    checked += 1
-    if found != wanted:
-        sys.exit(f"{what}:\n  found  {found}\n  wanted {wanted}")
 
 
 class Images:
@@ -201,7 +195,7 @@ def main():
         by_sgdisk(images, docs)
         by_sfdisk(images, docs)
         claims(images)
-    print(f"from sgdisk and sfdisk: {checked} passed, 0 failed")
+    print(f"from sgdisk and sfdisk: {compared.count} passed, 0 failed")
 
 
 main()

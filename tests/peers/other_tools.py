@@ -22,6 +22,7 @@ sys.path.insert(0, os.path.join(os.path.dirname(os.path.abspath(__file__)), ".."
 import other_tools_jobs
 import other_tools_page
 import other_tools_runs
+from compared import content
 from images import LARGE, SMALL, room
 from tools import ENVIRONMENT
 from writes import SYNCS, choices, traced, written
@@ -36,11 +37,6 @@ GUID = r"[0-9a-fA-F]{8}(?:-[0-9a-fA-F]{4}){3}-[0-9a-fA-F]{12}|0x[0-9a-f]{8}\b"
 
 def fail(what, found, wanted):
     sys.exit(f"{what}:\n  found  {found}\n  wanted {wanted}")
-
-
-def content(path):
-    with open(path, "rb") as it:
-        return it.read()
 
 
 def told(path, *words):

@@ -9,18 +9,12 @@ import sys
 import tempfile
 
 sys.path.insert(0, os.path.join(os.path.dirname(os.path.abspath(__file__)), "..", "shared"))
+import compared
+from compared import same
 from tools import by_fdisk, by_parted, by_sfdisk, by_sgdisk, fdisk, labels_by_fdisk, must, parted, run
 
 MIB = 1 << 20
 NO_SGDISK_RECORD = "no 6 protective record\n"
-checked = 0
-
-
-def same(what, found, wanted):
-    global checked
-    checked += 1
-    if found != wanted:
-        sys.exit(f"{what}:\n  found  {found}\n  wanted {wanted}")
 
 
 class Image:
@@ -216,7 +210,7 @@ def main():
             image.verifies("yes\n")
         labels(ptab, folder)
         out_of_order(ptab, folder)
-    print(f"real images: {checked} passed, 0 failed")
+    print(f"real images: {compared.count} passed, 0 failed")
 
 
 main()

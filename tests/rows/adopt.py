@@ -8,19 +8,13 @@ import os
 import sys
 
 sys.path.insert(0, os.path.join(os.path.dirname(os.path.abspath(__file__)), "..", "shared"))
+import compared
 import images
 from command import Command
+from compared import same
 from images import FREEBSD, LARGE, SMALL, entry, guid, label, record
 
 COUNT = 300
-checked = 0
-
-
-def same(what, found, wanted):
-    global checked
-    checked += 1
-    if found != wanted:
-        sys.exit(f"adopt: {what}:\n  found  {found}\n  wanted {wanted}")
 
 
 class Pair:
@@ -124,7 +118,7 @@ def main():
         takes(make)
         refuses(make)
         mbrs(make)
-    print(f"adopt: {checked} passed, 0 failed")
+    print(f"adopt: {compared.count} passed, 0 failed")
 
 
 main()

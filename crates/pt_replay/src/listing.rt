@@ -58,12 +58,12 @@ fn bare_row(member: &Member) -> MemberRow
 }
 
 // The member of a record.
-fn record_row(member: &Member, record: &Record) -> MemberRow
-    ensures { result ≡ row_with member.now (Source.Record record.now) }
+fn record_row(member: &Member, from: &Record) -> MemberRow
+    ensures { result ≡ row_with member.now (Source.Record from.now) }
 {
     let mut row = bare_row(member);
-    row.type_byte = record.kind;
-    row.boot = record.boot;
+    row.type_byte = from.kind;
+    row.boot = from.boot;
     row
 }
 

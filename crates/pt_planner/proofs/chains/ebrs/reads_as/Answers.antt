@@ -2,7 +2,7 @@ use Rattle.std.proofs.Common.{sym, subst, ◌∙◌}
 use Rattle.pt_mbr.specs.Chain.{EbrBytes}
 use Rattle.pt_mbr.proofs.One.{ebr_one}
 use Rattle.pt_mbr.specs.declared.ebr.Ebr.{Ebr}
-use Rattle.pt_planner.proofs.Equal.{ebr_decides}
+use Rattle.pt_members.proofs.Equal.{ebr_decides}
 use Rattle.pt_planner.proofs.chains.ebrs.reads_as.Goals as goal
 
 pub returns-in-Ok : goal.returns-in-Ok

@@ -1,7 +1,7 @@
 use Rattle.std.proofs.Common.{sym, ◌∙◌}
 use Rattle.std.proofs.lemmas.Bool.{false≢true}
 use Rattle.pt_mbr.proofs.One.{records_one}
-use Rattle.pt_planner.proofs.Equal.{records_decide}
+use Rattle.pt_members.proofs.Equal.{records_decide}
 use Rattle.pt_planner.proofs.Heads.{reads_so}
 use Rattle.pt_planner.proofs.chains.head.reads_as.Goals as goal
 
