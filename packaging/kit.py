@@ -39,7 +39,8 @@ def build(rt, crate, jobs):
     # the crates above a library are proved over its statements
     words += ["--statements"] if crate.makes_rlib() else ["--toolchain", f"{rt.KIT}/toolchain", "--backend", "llvm"]
     with tempfile.TemporaryFile("w+", errors="replace") as crate.out:
-        status = crate.prove(words)
+        # the gate refuses what `rt fmt` would lay out otherwise
+        status = rt.rtlib.fmt(crate.folder, "--check", crate.out) or crate.prove(words)
         if status == 0 and crate.is_program:
             status = crate.link(f"{place}.o", os.path.relpath(place, crate.folder))
         crate.out.seek(0)
