@@ -3,7 +3,6 @@ mod Beginning
 mod Begun
 pub mod ByFirst
 pub mod Encodings
-mod Equal
 pub mod Every
 mod Failing
 mod Heads
