@@ -1,12 +1,12 @@
 """What a script compares, counted, and files as bytes."""
 import sys
 
-MOST = 2000  # characters that are shown of what differs
+MOST = 2000  # characters that are shown of what is no text
 count = 0
 
 
 def shown(value):
-    return f"{value if isinstance(value, str) else repr(value):.{MOST}}"
+    return value if isinstance(value, str) else f"{value!r:.{MOST}}"
 
 
 def same(what, found, wanted):
