@@ -120,7 +120,7 @@ BearsProtective b = (slice_index b 450 ≡ 0xEE) ⊎ (slice_index b 466 ≡ 0xEE
 -- it covers all of n sectors but the first, or as many as 32 bits can say
 abbrev pub protective_record : ℕ → Record
 protective_record n =
-    record { boot = 0; start_chs = 0 ∷ 2 ∷ 0 ∷ []; kind = 0xEE; end_chs = 0xFF ∷ 0xFF ∷ 0xFF ∷ []; start = 1; size = min (n - 1) 0xFFFFFFFF }
+    record { boot = 0; start_chs = 0 ∷ 2 ∷ 0 ∷ []; kind = 0xEE; end_chs = replicate 3 0xFF; start = 1; size = min (n - 1) 0xFFFFFFFF }
 
 -- sector 0 of a disk of n sectors has that record, and 48 zero bytes after it
 pub record IsProtective (n : ℕ) (b : List ℕ) : Type 0 where

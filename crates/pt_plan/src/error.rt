@@ -25,7 +25,7 @@ pub enum CommitError {
     Edit(Refusal),
     /// There is no plan for what the words make.
     Plan(PlanError),
-    /// The plan is refused. A commit never tells it: the checker accepts each plan of the planner.
+    /// The plan is refused. A commit never reports it: the checker accepts each plan of the planner.
     Check(Why),
     /// The device failed. After a failed read the first flush was done and nothing else. Otherwise the words may have
     /// been done or not: each disk that a crash may leave denotes the layout before or the one after.

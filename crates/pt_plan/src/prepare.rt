@@ -41,7 +41,7 @@ fn makes_table(edits: &[Edit]) -> bool
     false
 }
 
-/// What is told of a disk that denotes nothing. The reason is what the disk holds, and no failure; where it were one,
+/// What is reported of a disk that denotes nothing. The reason is what the disk holds, and no failure; where it were one,
 /// lack of memory would be reported.
 fn no_table(reason: NoTable) -> CommitError
     ensures hides { HidesNoFailure result }
@@ -54,7 +54,7 @@ fn no_table(reason: NoTable) -> CommitError
     }
 }
 
-/// What is told of a disk that has no layout of its own. Where there were no reason, lack of memory would be told.
+/// What is reported of a disk that has no layout of its own. Where there were no reason, lack of memory would be reported.
 fn no_layout(reason: Option<NoTable>) -> CommitError
     ensures hides { HidesNoFailure result }
     ensures blames { fault_in result ≡ None }

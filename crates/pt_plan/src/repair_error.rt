@@ -29,9 +29,9 @@ pub enum RepairError {
     Device(Fault),
     /// Memory was refused.
     Memory,
-    /// There is no plan for the disk's own layout. A repair never tells it.
+    /// There is no plan for the disk's own layout. A repair never reports it.
     Plan(PlanError),
-    /// The plan is refused. A repair never tells it: the checker accepts each plan of the planner.
+    /// The plan is refused. A repair never reports it: the checker accepts each plan of the planner.
     Check(Why),
 }
 
@@ -68,7 +68,7 @@ impl fmt::Display for RepairError {
 
 impl Error for RepairError {}
 
-/// What a repair tells of an error in the steps that a commit has too. It has no words, so that none are refused; where
+/// What a repair reports of an error in the steps that a commit has too. It has no words, so that none are refused; where
 /// some were, lack of memory would be reported.
 pub(crate) fn told(error: CommitError) -> RepairError
     ensures { result ≡ repair_told error }

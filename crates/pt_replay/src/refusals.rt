@@ -1,4 +1,4 @@
-//! Why there is no plan, as C is told.
+//! Why there is no plan, as reported to C.
 
 ghost use Rattle.std.specs.Prelude.{◌≡◌};
 ghost use Rattle.pt_replay.specs.Replies.{why_reply, commit_answer, repair_answer, like_answer};

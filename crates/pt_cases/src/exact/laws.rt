@@ -88,7 +88,7 @@ pub fn edits_fit_their_disk()
         → Keeps b (length d) o p → Sound b p → ¬ SharesSector b d o p }
 {}
 
-/// Such a layout never has a plan and an error: where there is a plan, what the planner may tell is a failure of the
+/// Such a layout never has a plan and an error: where there is a plan, what the planner may report is a failure of the
 /// device or of memory.
 pub fn planned_has_no_error()
     ensures { (b : ℕ) (d : Sectors) (o : Option Layout) (p : Layout) (phases : List Writes) (e : PlanError) → IsSectorSize b

@@ -81,7 +81,7 @@ fn kind_of(code: &Option<Code>) -> Result<u8, Refusal>
 ///
 /// - `NoSuchPartition`: there is no extended partition.
 /// - `UnknownCode`: the code isn't of two digits, or is 00 or EE; `ContainerType`: it is 05 or 0F.
-/// - `NoSpace`, `OutsideUsable` and `Overlap` as `crate::space::place` tells them.
+/// - `NoSpace`, `OutsideUsable` and `Overlap` as `crate::space::place` reports them.
 /// - `ContainerType`: a slice of fewer than two sectors.
 /// - `NoSpace`: the chain has 128 extended boot records and would need another.
 ///

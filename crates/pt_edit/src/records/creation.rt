@@ -188,7 +188,7 @@ fn add_logical<const B: usize>(
 ///   number; `NoSpace`: all four records are used.
 /// - `UnknownCode`: the code isn't of two digits, or is 00 or EE.
 /// - `ContainerType`: a second extended partition, or a logical one of type 05 or 0F.
-/// - `NoSpace`, `OutsideUsable` and `Overlap` as `crate::space::place` tells them.
+/// - `NoSpace`, `OutsideUsable` and `Overlap` as `crate::space::place` reports them.
 /// - `ContainerType`: a slice of fewer than two sectors.
 /// - `NoSpace`: a logical partition would need a 129th extended boot record.
 ///

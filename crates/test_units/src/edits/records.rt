@@ -15,10 +15,8 @@ fn record(kind: u8, start: u32, size: u32) -> Record {
     Record {
         boot: 0x80,
         start_chs: [1, 2, 3],
-        kind,
         end_chs: [4, 5, 6],
-        start,
-        size,
+        ..new_record(kind, start, size)
     }
 }
 

@@ -4,15 +4,13 @@ use Rattle.pt_edit.specs.Records.{is_container}
 use Rattle.pt_edit.specs.SliceLabels.{missing, unknown, contains}
 use Rattle.pt_edit.specs.Chains.{IsLogical, HasLogical}
 use Rattle.pt_edit.proofs.records.chain_edit.set_logical_kind.Goals as goal
-use Rattle.pt_edit.proofs.records.chain_edit.set_logical_kind.Goals.{then-is_container_type-via-then-is_container_type}
-use Rattle.pt_edit.proofs.records.chain_edit.set_logical_kind.Goals.{then-is_container_type-via-else-is_container_type+then-is_container_type-2}
 
 pub returns-then-is_container_type-clause-err : goal.returns-then-is_container_type-clause-err
 returns-then-is_container_type-clause-err g c =
     let which : (is_container g.row.B c.in-Some.found.1.kind ≡ true)
     ⊎ (is_container g.row.B c.in-Some-record_type_of.kind ≡ true) = elim c.then-is_container_type.branch [
-      | then-is_container_type-via-then-is_container_type w ↦ inl (sym c.is_container_type.ensures ∙ w.if-is_container_type.true)
-      | then-is_container_type-via-else-is_container_type+then-is_container_type-2 w ↦
+      | goal.then-is_container_type-via-then-is_container_type w ↦ inl (sym c.is_container_type.ensures ∙ w.if-is_container_type.true)
+      | goal.then-is_container_type-via-else-is_container_type+then-is_container_type-2 w ↦
           inr (sym w.is_container_type-else-is_container_type.ensures ∙ w.if-is_container_type-2.true)
     ] in
     contains c.in-Some.found c.in-Some-record_type_of.kind
