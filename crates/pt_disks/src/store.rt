@@ -78,8 +78,8 @@ impl<const B: usize> Store<B> for File {
         self.write_all_at(bytes, at)
     }
 
-    /// A disk never changes the length of its file. So beside the bytes it wants durable only what finds them again.
+    /// An fsync. A file system may send the drive no flush for an fdatasync, as ext4 without a journal does.
     fn sync(&mut self) -> io::Result<()> {
-        self.sync_data()
+        self.sync_all()
     }
 }

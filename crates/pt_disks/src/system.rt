@@ -226,13 +226,16 @@ fn text_at<R: Files<File = File> + AllocGlobal>(
     }
 }
 
+/// How many bytes of names one call has room for. The system gives whole names alone, and refuses room that is less than the longest takes.
+const NAMES: usize = 4096;
+
 /// The names in a folder, each ended by a NUL; none where there is no such folder.
 fn names_in<R: Files<File = File> + AllocGlobal>(
     rt: &R,
     path: &str,
 ) -> Result<Option<String>, Unread> {
     match rt.open_dir(path) {
-        Ok(folder) => Ok(Some(text_of(rt.alloc(), folder)?)),
+        Ok(folder) => Ok(Some(names_of(rt.alloc(), folder)?)),
         Err(error) => match error.kind() {
             ErrorKind::NotFound | ErrorKind::NotADirectory => Ok(None),
             _ => Err(Unread::Missing),
@@ -240,16 +243,36 @@ fn names_in<R: Files<File = File> + AllocGlobal>(
     }
 }
 
+fn names_of<T: Read + Drop>(alloc: Global, mut folder: T) -> Result<String, Unread> {
+    let mut bytes = Vec::new(alloc);
+    let mut some = [0; NAMES];
+    for _ in 0..u64::MAX {
+        match folder.read(&mut some) {
+            Ok(0) => break,
+            Ok(count) => bytes.extend_from_slice(&some[..count])?,
+            Err(error) => match error.kind() {
+                ErrorKind::Interrupted => {}
+                _ => return Err(Unread::Missing),
+            },
+        }
+    }
+    as_text(bytes)
+}
+
 fn text_of<T: Read + Drop>(alloc: Global, mut reader: T) -> Result<String, Unread> {
     let mut bytes = Vec::new(alloc);
     match reader.read_to_end(&mut bytes) {
-        Ok(_) => match String::from_utf8(bytes) {
-            Ok(text) => Ok(text),
-            Err(_) => Err(Unread::Missing),
-        },
+        Ok(_) => as_text(bytes),
         Err(error) => match error.kind() {
             ErrorKind::OutOfMemory => Err(Unread::Memory),
             _ => Err(Unread::Missing),
         },
+    }
+}
+
+fn as_text(bytes: Vec<u8>) -> Result<String, Unread> {
+    match String::from_utf8(bytes) {
+        Ok(text) => Ok(text),
+        Err(_) => Err(Unread::Missing),
     }
 }
