@@ -10,8 +10,8 @@
 //!   one's own keeps for the proofs.
 //! - **Look**: [`recover`] gives the [`Layout`], [`members`] lists its partitions, and [`Layout::rows`] walks over them, each with its
 //!   record or entry. [`locate`] and [`owner`] lead from a partition to a sector and back, [`verify`] says whether the disk is healthy
-//!   or what is wrong. [`recover_traced`] also gives the sectors that decide the layout. Of a layout alone [`unsound`] tells what is
-//!   wrong with it, [`is_table`] and [`is_owned`] whose a sector is.
+//!   or what is wrong. [`recover_traced`] also gives the sectors that decide the layout, and [`recover_from`] the layout of one copy of
+//!   a GPT alone. Of a layout alone [`unsound`] tells what is wrong with it, [`is_table`] and [`is_owned`] whose a sector is.
 //! - **Change**: [`parse_edit`] reads a word such as `n:1:0:+204800:EF00`, and [`commit`] does a list of words, all of them or none.
 //!   A word is a value too, as [`Edit::New`] with its [`End`] and [`Code`]. New GUIDs are made by [`fresh`] of 16 random bytes.
 //!   [`session`] commits several lists, [`repair`] mends what is damaged, and [`edit`] makes a layout of a layout and touches no disk.
@@ -50,8 +50,8 @@ pub use pt_guid::{
 };
 pub use pt_layout::{
     Body, Ebrs, Finding, Kind, Labelled, Labels, Layout, Member, NoTable, Owner, Path, Row, Rows,
-    Source, Trace, Verdict, VerifyError, is_owned, is_table, locate, owner, parse_path, recover,
-    recover_traced, unsound, verify,
+    SideError, Source, Trace, Verdict, VerifyError, is_owned, is_table, locate, owner, parse_path,
+    recover, recover_from, recover_traced, unsound, verify,
 };
 pub use pt_plan::runs::{Batch, Reply, session};
 pub use pt_plan::{

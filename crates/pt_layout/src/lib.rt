@@ -15,6 +15,6 @@ pub use pt_members::{
     logical_number, numbered_slot, owner, part_slot, record_slot, slot_count,
 };
 pub use pt_path::{Path, parse_number, parse_path};
-pub use pt_recover::{NoTable, Trace, recover, recover_traced};
+pub use pt_recover::{NoTable, SideError, Trace, recover, recover_from, recover_traced};
 pub use pt_sector::Failure as VerifyError;
 pub use survey::{Survey, survey_disk};

@@ -1,3 +1,4 @@
+pub mod Alone
 pub mod Bodies
 pub mod Chains
 pub mod Failed

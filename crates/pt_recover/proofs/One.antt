@@ -31,7 +31,7 @@ table_one b d t u (inl p) (inr q) = absurd (q.0 (t, p))
 table_one b d t u (inr p) (inl q) = absurd (p.0 (u, q))
 table_one b d t u (inr p) (inr q) = copy_is_one_lem b d Backup t u p.1 q.1
 
-labels_one : (d : Sectors) (ps : List Slice) (ls ms : List Labelled) → LabelsAre d ps ls → LabelsAre d ps ms → ls ≡ ms
+pub labels_one : (d : Sectors) (ps : List Slice) (ls ms : List Labelled) → LabelsAre d ps ls → LabelsAre d ps ms → ls ≡ ms
 labels_one d [] ls ms p q = p ∙ sym q
 labels_one d (x ∷ ps) ls ms (inl p) (inl q) =
     let one = label_one p.0 q.0 x.first x.len x.first x.len (sector d (place_of x)) p.3 q.3 in

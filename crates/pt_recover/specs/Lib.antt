@@ -1,4 +1,5 @@
 pub mod Denotes
+pub mod FromSides
 pub mod Sentences
 pub mod Spans
 pub mod inner

@@ -1,9 +1,14 @@
 //! What holds of the meaning of disks, whatever they hold.
 
-ghost use Rattle.std.specs.Prelude.{◌≡◌, ℕ, List, Option, None};
+ghost use Rattle.std.specs.Prelude.{◌≡◌, ◌⊎◌, ℕ, List, Option, None, Some};
 ghost use Rattle.pt_sector.specs.Sectors.{Sectors, Agrees, Writes, Stopped};
 ghost use Rattle.pt_recover.specs.Denotes.{Denotes, Reads, SameMeaning, LeavesReads, IsReason};
 ghost use Rattle.pt_recover.specs.declared.error.NoTable.{NoTable};
+ghost use Rattle.pt_recover.specs.FromSides.{SideGives};
+ghost use Rattle.pt_gpt.specs.declared.table.Side.{Side};
+ghost use Rattle.pt_gpt.specs.declared.table.Side.TheVariants.{Primary, Backup};
+ghost use Rattle.pt_gpt.specs.declared.table.Table.{Table};
+ghost use Rattle.pt_members.specs.declared.layout.Body.TheVariants.{Gpt};
 ghost use Rattle.pt_members.specs.declared.layout.Layout.{Layout};
 
 /// The sectors that recovery reads decide what a disk denotes: who agrees with it on them denotes the same, by the
@@ -32,4 +37,15 @@ pub fn reason_is_one()
 #[tactic(auto, using(crate::proofs::Terms::reason_is_nothing_lem))]
 pub fn reason_is_nothing()
     ensures { (b : ℕ) (d : Sectors) (e : NoTable) → IsReason b d e → Denotes b d None }
+{}
+
+/// One side's copy gives one layout at most.
+pub fn side_gives_one()
+    ensures { (b : ℕ) (d : Sectors) (side : Side) (o p : Layout) → SideGives b d side o → SideGives b d side p → o ≡ p }
+{}
+
+/// What a disk with a GPT denotes, one of its two sides gives alone.
+pub fn a_side_gives()
+    ensures { (b : ℕ) (d : Sectors) (o : Layout) (t : Table) → Denotes b d (Some o) → o.body ≡ Gpt t
+        → SideGives b d Primary o ⊎ SideGives b d Backup o }
 {}

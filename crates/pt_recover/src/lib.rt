@@ -12,6 +12,7 @@ mod labels;
 pub mod laws;
 mod numbers;
 mod recovery;
+mod side;
 mod tables;
 mod trace;
 
@@ -20,5 +21,6 @@ pub use error::NoTable;
 pub use labels::traced_labels;
 pub use pt_members::{Body, Ebrs, Labelled, Labels, Layout, Slice, is_slice_type, label_places};
 pub use recovery::{recover, recover_known, recover_traced};
+pub use side::{SideError, recover_from};
 pub use tables::traced_copy;
 pub use trace::Trace;
