@@ -1,5 +1,6 @@
 -- What each subcommand answers, by what the library's call gave.
-use Rattle.std.specs.Prelude.{◌≡◌, ℕ, List, Option, Some, None, Result, Ok, Err, string_bytes}
+use Rattle.std.specs.Prelude.{◌≡◌, ◌≢◌, ◌⊎◌, ℕ, List, Option, Some, None, Result, Ok, Err, String, codes, IsSome, string_bytes}
+use Rattle.std.specs.declared.alloc.Global.{Global}
 use Rattle.pt_sector.specs.Sectors.{Sectors, Writes}
 use Rattle.pt_sector.specs.Device.{Told}
 use Rattle.pt_sector.specs.declared.address.Lba.{Lba}
@@ -10,6 +11,10 @@ use Rattle.pt_members.specs.declared.layout.Layout.{Layout}
 use Rattle.pt_members.specs.Tables.{IsPlaceOf}
 use Rattle.pt_recover.specs.Denotes.{TellsNothing, Denotes}
 use Rattle.pt_recover.specs.declared.error.NoTable.{NoTable}
+use Rattle.pt_gpt.specs.declared.table.Side.{Side}
+use Rattle.pt_gpt.specs.declared.table.Side.TheVariants.{Primary, Backup}
+use Rattle.pt_recover.specs.FromSides.{SideGives, SideGivesNone}
+use Rattle.pt_recover.specs.declared.side.SideError.{SideError}
 use Rattle.pt_layout.specs.Healthy.{VerdictIs}
 use Rattle.pt_layout.specs.declared.sound.finding.Verdict.{Verdict}
 use Rattle.pt_check.specs.Answers.{Answers as AnswersPlan, Promises}
@@ -48,6 +53,22 @@ abbrev pub after_reply : Result After CheckError → Result Reply Failure
 after_reply (Ok (after.Layout layout)) = Ok (reply.Layout layout)
 after_reply (Ok (after.No why)) = Ok (reply.Checked (No why))
 after_reply (Err error) = Err (unchecked_failure error)
+
+-- `show --copy`: the layout that the copy gives, or why it gives none
+abbrev pub copy_reply : Side → Result Layout SideError → Result Reply Failure
+copy_reply side (Ok layout) = Ok (reply.Layout layout)
+copy_reply side (Err why) = Err (failure.NoSide side why)
+
+abbrev pub GivesAlone : ℕ → Sectors → Side → Result Layout SideError → Type 0
+GivesAlone b d side (Ok layout) = SideGives b d side layout
+GivesAlone b d side (Err why) = SideGivesNone b d side why
+
+-- the copy that a text names; none beside a plan's file
+abbrev pub NamesCopy : List ℕ → Option (String Global) → Result Side Failure → Type 0
+NamesCopy name after (Ok Primary) = (after ≡ None) × (name ≡ codes "primary")
+NamesCopy name after (Ok Backup) = (after ≡ None) × (name ≡ codes "backup")
+NamesCopy name after (Err failure.BadCopy) = IsSome after ⊎ ((name ≢ codes "primary") × (name ≢ codes "backup"))
+NamesCopy name after (Err _) = ⊥
 
 -- `verify`
 abbrev pub verify_reply : Result Verdict Unread → Result Reply Failure

@@ -24,11 +24,11 @@ use Rattle.pt_plan.specs.declared.like_error.LikeError.TheVariants as like
 use Rattle.pt_plan.specs.declared.repair_error.RepairError.{RepairError}
 use Rattle.pt_plan.specs.declared.repair_error.RepairError.TheVariants as repair
 use Rattle.pt_report.specs.Shown.{line}
-use Rattle.pt_report.specs.Replies.{device_line, memory_line, no_table_text}
+use Rattle.pt_report.specs.Replies.{device_line, memory_line, no_side_text, no_table_text}
 use Rattle.pt_answers.specs.declared.failure.Failure.{Failure}
-use Rattle.pt_answers.specs.declared.failure.Failure.TheVariants.{NotText, Usage, InUseAlone, BadWord, BadFresh, BadPath, BadNumber, Edit}
-use Rattle.pt_answers.specs.declared.failure.Failure.TheVariants.{Plan, Check, Repair, PlanText, OtherSize, OtherOpening, Other, NoTable}
-use Rattle.pt_answers.specs.declared.failure.Failure.TheVariants.{Opening, Device, ClosedPipe, Memory}
+use Rattle.pt_answers.specs.declared.failure.Failure.TheVariants.{NotText, Usage, InUseAlone, BadWord, BadFresh, BadPath, BadNumber}
+use Rattle.pt_answers.specs.declared.failure.Failure.TheVariants.{BadCopy, Edit, Plan, Check, Repair, PlanText, OtherSize, OtherOpening}
+use Rattle.pt_answers.specs.declared.failure.Failure.TheVariants.{Other, NoTable, NoSide, Opening, Device, ClosedPipe, Memory}
 use Rattle.pt_report.specs.declared.status.Status.{Status}
 use Rattle.pt_report.specs.declared.status.Status.TheVariants as status
 use Rattle.pt_answers.specs.Statuses.{failure_status}
@@ -63,6 +63,7 @@ failure_text (BadWord word) = Some (line (codes "bad word" ∷ string_bytes word
 failure_text BadFresh = Some (line (codes "bad fresh" ∷ []))
 failure_text BadPath = Some (line (codes "bad path" ∷ []))
 failure_text BadNumber = Some (line (codes "bad number" ∷ []))
+failure_text BadCopy = Some (line (codes "bad copy" ∷ []))
 failure_text (Edit number) = Some (refusal_line (codes "edit") number)
 failure_text (Plan number) = Some (refusal_line (codes "plan") number)
 failure_text (Check number) = Some (refusal_line (codes "check") number)
@@ -72,6 +73,7 @@ failure_text OtherSize = Some (line (codes "refused: other size" ∷ []))
 failure_text (OtherOpening why) = Some (codes "other: " ++ opening_text why)
 failure_text (Other why) = Some (codes "other: " ++ no_table_text why)
 failure_text (NoTable why) = Some (no_table_text why)
+failure_text (NoSide side why) = Some (no_side_text side why)
 failure_text (Opening why) = Some (opening_text why)
 failure_text Device = Some device_line
 failure_text ClosedPipe = Some []

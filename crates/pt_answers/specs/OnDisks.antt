@@ -5,7 +5,9 @@ use Rattle.pt_sector.specs.Overlays.{OnlyReads, fault_of}
 use Rattle.pt_sector.specs.Sectors.{Writes}
 use Rattle.pt_sector.specs.declared.disk.Disk.{Ghosts}
 use Rattle.pt_path.specs.declared.path.Path.{Path}
+use Rattle.pt_gpt.specs.declared.table.Side.{Side}
 use Rattle.pt_recover.specs.Denotes.{fault_in}
+use Rattle.pt_recover.specs.FromSides.{side_fault_in}
 use Rattle.pt_check.specs.Answers.{fault_in as check_fault_in}
 use Rattle.pt_plan.specs.Batches.{Commits, IsPlanned, IsRefusal, Repairs, Words}
 use Rattle.pt_plan.specs.Commits.{commit_fault_in, HidesNoFailure, SafelyStopped}
@@ -14,9 +16,9 @@ use Rattle.pt_plan.specs.Repairs.{repair_fault_in, MendHidesNoFailure}
 use Rattle.pt_report.specs.declared.reply.Reply.{Reply}
 use Rattle.pt_answers.specs.declared.failure.Failure.{Failure}
 use Rattle.pt_answers.specs.Failures.{commit_failure, like_failure}
-use Rattle.pt_answers.specs.Answers.{Answers, Applies, Checks, Locates, Plans, Recovers, Verifies}
-use Rattle.pt_answers.specs.Answers.{adopt_reply, after_reply, apply_reply, check_reply, edit_reply, locate_reply, repair_reply, show_reply}
-use Rattle.pt_answers.specs.Answers.{verify_reply}
+use Rattle.pt_answers.specs.Answers.{Answers, Applies, Checks, GivesAlone, Locates, Plans, Recovers, Verifies}
+use Rattle.pt_answers.specs.Answers.{adopt_reply, after_reply, apply_reply, check_reply, copy_reply, edit_reply, locate_reply, repair_reply}
+use Rattle.pt_answers.specs.Answers.{show_reply, verify_reply}
 
 -- `show`: what the disk denotes, or why nothing
 abbrev pub ShowsDisk : {D B : _} → Ghosts D B → D → D → Result Reply Failure → Type 0
@@ -28,6 +30,12 @@ abbrev pub ShowsAfter : {D B : _} → Ghosts D B → List Writes → D → D →
 ShowsAfter {D} {B} g phases old new answer = OnlyReads g old new
     × Answers after_reply (λ r. Blames check_fault_in r (g.faults old) (g.faults new)
     × (g.tells → IfOk r (AfterIs B (g.told old).seen phases))) answer
+
+-- `show --copy`: what one copy of a GPT gives alone, or why nothing
+abbrev pub ShowsCopy : {D B : _} → Ghosts D B → Side → D → D → Result Reply Failure → Type 0
+ShowsCopy {D} {B} g side old new answer = OnlyReads g old new
+    × Answers (copy_reply side) (λ r. Blames side_fault_in r (g.faults old) (g.faults new)
+    × (g.tells → GivesAlone B (g.told old).seen side r)) answer
 
 -- `verify`: whether it is healthy, or what is first wrong with it
 abbrev pub VerifiesDisk : {D B : _} → Ghosts D B → D → D → Result Reply Failure → Type 0

@@ -1,9 +1,11 @@
 -- What a run of the command does for each line: the calls by which its images are opened, the subcommand that is done on them, and what
 -- is printed.
 use Rattle.std.specs.Prelude.{◌≡◌, ◌==◌, if◌then◌else◌, ℕ, List, ◌∷◌, Option, Some, None, Result, Ok, Err, IfErr, IfOk, OnOk, map}
-use Rattle.std.specs.Prelude.{option_map, string_bytes}
+use Rattle.std.specs.Prelude.{String, option_map, string_bytes}
+use Rattle.std.specs.declared.alloc.Global.{Global}
 use Rattle.std.specs.Io.KnownBytes.{Appends, Keeps}
 use Rattle.pt_sector.specs.declared.disk.Disk.{Ghosts}
+use Rattle.pt_gpt.specs.declared.table.Side.{Side}
 use Rattle.pt_path.specs.declared.path.Path.{Path}
 use Rattle.pt_apply.specs.Plans.{phases_of}
 use Rattle.pt_disks.specs.declared.device.NoDevice.{NoDevice}
@@ -27,11 +29,11 @@ use Rattle.pt_line.specs.declared.line.SectorSize.TheVariants.{Bytes512, Bytes40
 use Rattle.pt_report.specs.Replies.{reply_text}
 use Rattle.pt_report.specs.declared.reply.Reply.{Reply}
 use Rattle.pt_report.specs.declared.reply.Reply.TheVariants as reply
-use Rattle.pt_answers.specs.Answers.{NamesPlace}
+use Rattle.pt_answers.specs.Answers.{NamesCopy, NamesPlace}
 use Rattle.pt_answers.specs.Failures.{line_failure}
 use Rattle.pt_answers.specs.Images.{Call, Doing, OnImage, OnImages, Sized, Then, WithPlan}
 use Rattle.pt_answers.specs.OnDisks.{AdoptsFrom, AppliesTo, ChecksOn, EditsDisk, LocatesOn, PlansAdopting, PlansOn, RepairsDisk}
-use Rattle.pt_answers.specs.OnDisks.{ShowsAfter, ShowsDisk}
+use Rattle.pt_answers.specs.OnDisks.{ShowsAfter, ShowsCopy, ShowsDisk}
 use Rattle.pt_answers.specs.OnDisks.{VerifiesDisk}
 use Rattle.pt_answers.specs.Statuses.{IsOfOutput}
 use Rattle.pt_report.specs.Statuses.{reply_status}
@@ -54,6 +56,11 @@ abbrev pub WithPlace : {C : Type 0} → List ℕ → List ℕ → (Path → ℕ 
 WithPlace path number Next old new answer = (named : Result (Path × ℕ) Failure) × NamesPlace path number named
     × Then (λ place. Next place.0 place.1) named old new answer
 
+-- the copy that `show` is asked for is read before its image is opened
+abbrev pub WithCopy : {C : Type 0} → List ℕ → Option (String Global) → (Side → Doing C) → Doing C
+WithCopy name after Next old new answer =
+    (named : Result Side Failure) × NamesCopy name after named × Then Next named old new answer
+
 -- the words of an edit are read before its image is opened
 abbrev pub WithWords : {C : Type 0} → Option (List ℕ) → List (List ℕ) → (Wanted → Doing C) → Doing C
 WithWords fresh words Next old new answer =
@@ -74,11 +81,13 @@ RunsAdoption g image opening other medium Planned locked_by old new answer =
 -- what is done for a job: `g` are the ghosts of the disks, and `remaining` the bytes of the file of a plan
 abbrev pub RunsJob : {D : _} {T : Type 0} {B : _} → Ghosts D B → (T → Option (List ℕ)) → Opening → Job → Doing (Call D T)
 RunsJob g remaining opening (job.Help text) old new answer = (new ≡ old) × (answer ≡ Ok (reply.Text text))
-RunsJob g remaining opening (job.Show image None) old new answer =
+RunsJob g remaining opening (job.Show image None None) old new answer =
     OnImage (string_bytes image) opening Read (ShowsDisk g) old new answer
-RunsJob {D} {T} {B} g remaining opening (job.Show image (Some file)) old new answer =
+RunsJob {D} {T} {B} g remaining opening (job.Show image (Some file) None) old new answer =
     WithPlan B remaining (string_bytes file) (λ plan. OnImage (string_bytes image) opening Read (ShowsAfter g (phases_of plan))) old new
     answer
+RunsJob g remaining opening (job.Show image after (Some name)) old new answer = WithCopy (string_bytes name) after
+    (λ side. OnImage (string_bytes image) opening Read (ShowsCopy g side)) old new answer
 RunsJob g remaining opening (job.Verify image) old new answer =
     OnImage (string_bytes image) opening Read (VerifiesDisk g) old new answer
 RunsJob g remaining opening (job.Locate image path place) old new answer = WithPlace (string_bytes path) (string_bytes place)
@@ -103,7 +112,7 @@ RunsJob g remaining opening (job.Adopt image other medium adoption locked_by) ol
 
 abbrev pub image_of : Job → Option (List ℕ)
 image_of (job.Help text) = None
-image_of (job.Show image after) = Some (string_bytes image)
+image_of (job.Show image after copy) = Some (string_bytes image)
 image_of (job.Verify image) = Some (string_bytes image)
 image_of (job.Locate image path place) = Some (string_bytes image)
 image_of (job.Edit image fresh words locked_by) = Some (string_bytes image)

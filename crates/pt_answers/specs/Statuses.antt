@@ -3,6 +3,8 @@ use Rattle.pt_disks.specs.declared.device.NoDevice.{NoDevice}
 use Rattle.pt_disks.specs.declared.device.NoDevice.TheVariants as opening
 use Rattle.pt_recover.specs.declared.error.NoTable.{NoTable as Reason}
 use Rattle.pt_recover.specs.declared.error.NoTable.TheVariants as reason
+use Rattle.pt_recover.specs.declared.side.SideError.{SideError}
+use Rattle.pt_recover.specs.declared.side.SideError.TheVariants as of_side
 use Rattle.pt_answers.specs.declared.failure.Failure.{Failure}
 use Rattle.pt_answers.specs.declared.failure.Failure.TheVariants as failure
 use Rattle.pt_report.specs.declared.status.Status.{Status}
@@ -16,6 +18,12 @@ abbrev pub reason_status : Reason → Status
 reason_status (reason.Device at) = Device
 reason_status reason.Memory = Memory
 reason_status _ = NoTable
+
+-- of a copy that gives no table
+abbrev pub side_status : SideError → Status
+side_status (of_side.Device at) = Device
+side_status of_side.Memory = Memory
+side_status _ = NoTable
 
 -- of an image that isn't opened
 abbrev pub opening_status : NoDevice → Status
@@ -34,6 +42,7 @@ failure_status (failure.BadWord word) = Usage
 failure_status failure.BadFresh = Usage
 failure_status failure.BadPath = Usage
 failure_status failure.BadNumber = Usage
+failure_status failure.BadCopy = Usage
 failure_status (failure.Edit number) = Refused
 failure_status (failure.Plan number) = Refused
 failure_status (failure.Check number) = Refused
@@ -43,6 +52,7 @@ failure_status failure.OtherSize = Refused
 failure_status (failure.OtherOpening why) = opening_status why
 failure_status (failure.Other why) = reason_status why
 failure_status (failure.NoTable why) = reason_status why
+failure_status (failure.NoSide side why) = side_status why
 failure_status (failure.Opening why) = opening_status why
 failure_status failure.Device = Device
 failure_status failure.ClosedPipe = Device

@@ -10,11 +10,12 @@ ghost use Rattle.pt_answers.specs.Runs.{image_of, other_as, size_of_device};
 use crate::failure::Failure;
 use crate::images::{Images, Opening};
 use crate::on_images::{
-    apply, check, edit, locate, plan, plan_taking, repair, show, show_planned, take, verify,
+    apply, check, edit, locate, plan, plan_taking, repair, show, show_planned, show_side, take,
+    verify,
 };
 use crate::plan_file::plan_in;
 use crate::status::printed;
-use crate::views::place_named;
+use crate::views::{copy_named, place_named};
 use crate::words::Wanted;
 use pt_apply::Plan;
 use pt_disks::NoDevice;
@@ -70,13 +71,27 @@ fn reply_to<const B: usize, D: Disk<B> + Drop, T: Read + Drop, I: Images<B, D, T
 {
     match job {
         Job::Help(text) => Ok(Reply::Text(text)),
-        Job::Show { image, after } => match after {
-            None => show(alloc, images, image.as_str(), opening),
-            Some(file) => {
-                let plan = plan_at(alloc, images, file.as_str())?;
-                show_planned(alloc, images, image.as_str(), opening, &plan)
-            }
-        },
+        Job::Show {
+            image,
+            after,
+            copy: Some(name),
+        } => {
+            let side = copy_named(name.as_str(), &after)?;
+            show_side(alloc, images, image.as_str(), opening, side)
+        }
+        Job::Show {
+            image,
+            after: None,
+            copy: None,
+        } => show(alloc, images, image.as_str(), opening),
+        Job::Show {
+            image,
+            after: Some(file),
+            copy: None,
+        } => {
+            let plan = plan_at(alloc, images, file.as_str())?;
+            show_planned(alloc, images, image.as_str(), opening, &plan)
+        }
         Job::Verify { image } => verify(alloc, images, image.as_str(), opening),
         Job::Locate { image, path, place } => {
             let (path, k) = place_named(path.as_str(), place.as_str())?;

@@ -5,11 +5,12 @@ ghost use Rattle.std.specs.Io.KnownBytes.{Appends};
 ghost use Rattle.std.specs.IoError.{error_kind};
 ghost use Rattle.pt_answers.specs.Failures.{IsTold, failure_text, opening_text, output_failure, refusal_line};
 ghost use Rattle.pt_report.specs.Replies.{no_table_text};
-ghost use Rattle.pt_answers.specs.Statuses.{failure_status, opening_status as status_of_opening, reason_status};
+ghost use Rattle.pt_answers.specs.Statuses.{failure_status, opening_status as status_of_opening, reason_status, side_status};
 
 use pt_disks::NoDevice;
-use pt_layout::NoTable;
-use pt_report::{Status, print_no_table};
+use pt_gpt::Side;
+use pt_layout::{NoTable, SideError};
+use pt_report::{Status, print_no_side, print_no_table};
 use std::io;
 use std::io::{ErrorKind, Write};
 
@@ -26,6 +27,8 @@ pub enum Failure {
     BadFresh,
     BadPath,
     BadNumber,
+    /// `--copy` names neither copy, or stands beside `--after`.
+    BadCopy,
     /// An edit was refused with this number.
     Edit(u8),
     /// A plan was refused with this number.
@@ -43,6 +46,8 @@ pub enum Failure {
     /// Why that image has no table to take.
     Other(NoTable),
     NoTable(NoTable),
+    /// Why one copy of a GPT gives no table.
+    NoSide(Side, SideError),
     /// Why the image isn't opened.
     Opening(NoDevice),
     Device,
@@ -80,7 +85,8 @@ impl Failure {
             | Failure::BadWord(_)
             | Failure::BadFresh
             | Failure::BadPath
-            | Failure::BadNumber => Status::Usage,
+            | Failure::BadNumber
+            | Failure::BadCopy => Status::Usage,
             Failure::Edit(_)
             | Failure::Plan(_)
             | Failure::Check(_)
@@ -88,6 +94,7 @@ impl Failure {
             | Failure::PlanText(_)
             | Failure::OtherSize => Status::Refused,
             Failure::NoTable(why) | Failure::Other(why) => status_of(*why),
+            Failure::NoSide(_, why) => status_of_side(*why),
             Failure::Opening(why) | Failure::OtherOpening(why) => opening_status(why),
             Failure::Device | Failure::ClosedPipe => Status::Device,
             Failure::Memory => Status::Memory,
@@ -117,6 +124,7 @@ impl Failure {
             Failure::BadFresh => err.write_all(b"bad fresh\n"),
             Failure::BadPath => err.write_all(b"bad path\n"),
             Failure::BadNumber => err.write_all(b"bad number\n"),
+            Failure::BadCopy => err.write_all(b"bad copy\n"),
             Failure::Edit(number) => print_refusal(err, "edit", u64::from(*number)),
             Failure::Plan(number) => print_refusal(err, "plan", u64::from(*number)),
             Failure::Check(number) => print_refusal(err, "check", u64::from(*number)),
@@ -126,6 +134,7 @@ impl Failure {
             Failure::OtherOpening(why) => print_other_opening(err, why),
             Failure::Other(why) => print_other(err, *why),
             Failure::NoTable(why) => print_no_table(err, *why),
+            Failure::NoSide(side, why) => print_no_side(err, *side, *why),
             Failure::Opening(why) => print_opening(err, why),
             Failure::Device => err.write_all(b"device\n"),
             Failure::ClosedPipe => Ok(()),
@@ -141,6 +150,17 @@ fn status_of(why: NoTable) -> Status
     match why {
         NoTable::Device(_) => Status::Device,
         NoTable::Memory => Status::Memory,
+        _ => Status::NoTable,
+    }
+}
+
+// The status that goes with a copy that gives no table.
+fn status_of_side(why: SideError) -> Status
+    ensures { result ≡ side_status why }
+{
+    match why {
+        SideError::Device(_) => Status::Device,
+        SideError::Memory => Status::Memory,
         _ => Status::NoTable,
     }
 }

@@ -27,4 +27,6 @@ pub use plans::{apply_disk, check_on};
 pub use pt_report::Status;
 pub use repair::repair_disk;
 pub use status::printed;
-pub use views::{locate_on, place_named, show_after, show_disk, verify_disk};
+pub use views::{
+    copy_named, locate_on, place_named, show_after, show_copy, show_disk, verify_disk,
+};

@@ -6,7 +6,7 @@ ghost use Rattle.pt_apply.specs.Plans.{phases_of};
 ghost use Rattle.pt_disks.specs.declared.open.Access.TheVariants.{Read as Reading};
 ghost use Rattle.pt_answers.specs.Images.{OnImage, OnImages};
 ghost use Rattle.pt_answers.specs.OnDisks.{AdoptsFrom, AppliesTo, ChecksOn, EditsDisk, LocatesOn, PlansAdopting, PlansOn, RepairsDisk};
-ghost use Rattle.pt_answers.specs.OnDisks.{ShowsAfter, ShowsDisk, VerifiesDisk};
+ghost use Rattle.pt_answers.specs.OnDisks.{ShowsAfter, ShowsCopy, ShowsDisk, VerifiesDisk};
 ghost use Rattle.pt_answers.specs.Runs.{writing};
 ghost use Rattle.pt_answers.specs.Wanted.{words_of};
 
@@ -16,10 +16,11 @@ use crate::failure::Failure;
 use crate::images::{Images, Opening};
 use crate::plans::{apply_disk, check_on};
 use crate::repair::repair_disk;
-use crate::views::{locate_on, show_after, show_disk, verify_disk};
+use crate::views::{locate_on, show_after, show_copy, show_disk, verify_disk};
 use crate::words::Wanted;
 use pt_apply::Plan;
 use pt_disks::Access;
+use pt_gpt::Side;
 use pt_layout::Path;
 use pt_line::LockedBy;
 use pt_report::Reply;
@@ -68,6 +69,24 @@ pub(crate) fn show_planned<const B: usize, D: Disk<B> + Drop, T: Read + Drop, I:
 {
     let mut disk = images.open(image, opening, Access::Read)?;
     let answer = show_after::<B, D>(alloc, &mut disk, plan);
+    images.close(disk);
+    answer
+}
+
+/// Those that one copy of a GPT gives alone.
+pub(crate) fn show_side<const B: usize, D: Disk<B> + Drop, T: Read + Drop, I: Images<B, D, T>>(
+    alloc: Global,
+    images: &mut I,
+    image: &str,
+    opening: Opening,
+    side: Side,
+) -> Result<Reply, Failure>
+    requires { IsSectorSize B }
+    ensures { OnImage image.now opening Reading (ShowsCopy D.Disk side)
+        (I.past images.old) (I.past images.new) result }
+{
+    let mut disk = images.open(image, opening, Access::Read)?;
+    let answer = show_copy::<B, D>(alloc, &mut disk, side);
     images.close(disk);
     answer
 }

@@ -6,13 +6,16 @@ ghost use Rattle.pt_sector.specs.Overlays.{OnlyReads};
 ghost use Rattle.pt_sector.specs.Sectors.{IsSectorSize};
 ghost use Rattle.pt_recover.specs.Denotes.{fault_in};
 ghost use Rattle.pt_apply.specs.Plans.{phases_of};
-ghost use Rattle.pt_answers.specs.Answers.{Locates, NamesPlace, PlaceIs};
-ghost use Rattle.pt_answers.specs.OnDisks.{LocatesOn, ShowsAfter, ShowsDisk, VerifiesDisk};
+ghost use Rattle.pt_answers.specs.Answers.{Locates, NamesCopy, NamesPlace, PlaceIs};
+ghost use Rattle.pt_answers.specs.OnDisks.{LocatesOn, ShowsAfter, ShowsCopy, ShowsDisk, VerifiesDisk};
 
 use crate::failure::Failure;
 use pt_apply::Plan;
 use pt_check::Answer;
-use pt_layout::{Layout, NoTable, Path, locate, parse_number, parse_path, recover, verify};
+use pt_gpt::Side;
+use pt_layout::{
+    Layout, NoTable, Path, locate, parse_number, parse_path, recover, recover_from, verify,
+};
 use pt_plan::{After, layout_after};
 use pt_report::Reply;
 use pt_sector::{Disk, Lba};
@@ -39,6 +42,21 @@ pub fn show_after<const B: usize, D: Disk<B>>(
     match layout_after::<B, D>(alloc, disk, plan)? {
         After::Layout(layout) => Ok(Reply::Layout(layout)),
         After::No(why) => Ok(Reply::Checked(Answer::No(why))),
+    }
+}
+
+/// The layout that one copy of a GPT gives alone.
+pub fn show_copy<const B: usize, D: Disk<B>>(
+    alloc: Global,
+    disk: &mut D,
+    side: Side,
+) -> Result<Reply, Failure>
+    requires size { IsSectorSize B }
+    ensures shows { ShowsCopy D.Disk side disk.old disk.new result }
+{
+    match recover_from::<B, D>(alloc, disk, side) {
+        Ok(layout) => Ok(Reply::Layout(layout)),
+        Err(why) => Err(Failure::NoSide(side, why)),
     }
 }
 
@@ -88,6 +106,20 @@ fn place_in<const B: usize>(layout: &Layout, path: &Path, k: u64) -> Option<Lba>
     ensures { PlaceIs B layout.now path.now k result }
 {
     locate::<B>(layout, path, k)
+}
+
+/// The copy that a text names, `primary` or `backup`. With a plan's file none is named: what a plan leaves is a table, and no copy.
+pub fn copy_named(name: &str, after: &Option<String>) -> Result<Side, Failure>
+    ensures { NamesCopy name.now after.now result }
+{
+    if let Some(_) = after {
+        return Err(Failure::BadCopy);
+    }
+    match name {
+        "primary" => Ok(Side::Primary),
+        "backup" => Ok(Side::Backup),
+        _ => Err(Failure::BadCopy),
+    }
 }
 
 /// The partition and the number of its sector that two texts are.

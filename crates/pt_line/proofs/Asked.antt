@@ -76,7 +76,7 @@ module _ (sizes : Bor (List (Bor Text))) (rows : List Row) where
   show_job : IsFair MayBe (built_rules (show_rules sizes)) rows → (j : Job) → IsJobOrEmpty (codes "show") rows j
       → IsJob (codes "show") rows j
   show_job fair (job.Help t) h = absurd h
-  show_job fair (job.Show image after) h = (h.0, text_given rows fair.full (codes "IMAGE") _ (fair.given.0 refl) h.1, h.2)
+  show_job fair (job.Show image after copy) h = (h.0, text_given rows fair.full (codes "IMAGE") _ (fair.given.0 refl) h.1, h.2, h.3)
   show_job fair _ h = absurd (true≢false (ap (bytes_eq (codes "show")) h.0))
 
   verify_job : IsFair MayBe (built_rules (image_rules sizes)) rows → (j : Job) → IsJobOrEmpty (codes "verify") rows j
@@ -209,7 +209,7 @@ module _ (sizes : Bor (List (Bor Text))) (are : texts sizes.now ≡ codes "512" 
         (omega arith, λ v e is. absurd (true≢false (sym is))),
         tt,
       ),
-      (device_sound, (sizes_sound, ((tt, tt), tt))),
+      (((omega arith, λ v e is. absurd (true≢false (sym is))), tt), (device_sound, (sizes_sound, ((tt, tt), tt)))),
     ),
   )
 

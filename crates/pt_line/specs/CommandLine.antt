@@ -36,6 +36,14 @@ after = record (new_rule (codes "after")) {
   action = Some Set;
 }
 
+-- `--copy COPY`
+abbrev pub copy : Rule
+copy = record (new_rule (codes "copy")) {
+  long = Some (codes "copy");
+  value_names = 1;
+  action = Some Set;
+}
+
 -- `--no-lock`, a flag
 abbrev pub no_lock : Rule
 no_lock = record (new_rule (codes "no-lock")) { long = Some (codes "no-lock"); action = Some SetTrue }
@@ -66,12 +74,12 @@ edit_words = record (new_rule (codes "WORD")) {
 abbrev pub on_disk : Bor (List (Bor Text)) → List Rule
 on_disk sizes = device ∷ sector_size sizes ∷ []
 
--- the arguments of a command on an image alone, on an image after a plan or not, on a place in it, on words, and on a plan's file
+-- the arguments of a command on an image alone, on an image after a plan or one copy of it, or neither, on a place in it, on words, and on a plan's file
 abbrev pub image_rules : Bor (List (Bor Text)) → List Rule
 image_rules sizes = needed (codes "IMAGE") ∷ on_disk sizes
 
 abbrev pub show_rules : Bor (List (Bor Text)) → List Rule
-show_rules sizes = needed (codes "IMAGE") ∷ after ∷ on_disk sizes
+show_rules sizes = needed (codes "IMAGE") ∷ after ∷ copy ∷ on_disk sizes
 
 abbrev pub place_rules : Bor (List (Bor Text)) → List Rule
 place_rules sizes = needed (codes "IMAGE") ∷ needed (codes "PATH") ∷ needed (codes "K") ∷ on_disk sizes

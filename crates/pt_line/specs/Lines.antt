@@ -55,8 +55,8 @@ IsAlone rows = IsGiven rows (codes "in-use") × ¬ IsGiven rows (codes "device")
 -- the job of the subcommand with this name: `one` says what text an argument gives, and `all` what texts
 abbrev pub IsJobBy : (Text → Text → Type 0) → (Text → List Text → Type 0) → Text → List Row → Job → Type 0
 IsJobBy one all name rows (job.Help text) = ⊥
-IsJobBy one all name rows (job.Show image after) = (name ≡ codes "show") × one (codes "IMAGE") (string_bytes image)
-    × (option_map string_bytes after ≡ first_of (codes "after") rows)
+IsJobBy one all name rows (job.Show image after copy) = (name ≡ codes "show") × one (codes "IMAGE") (string_bytes image)
+    × (option_map string_bytes after ≡ first_of (codes "after") rows) × (option_map string_bytes copy ≡ first_of (codes "copy") rows)
 IsJobBy one all name rows (job.Verify image) = (name ≡ codes "verify") × one (codes "IMAGE") (string_bytes image)
 IsJobBy one all name rows (job.Locate image path place) = (name ≡ codes "locate") × one (codes "IMAGE") (string_bytes image)
     × one (codes "PATH") (string_bytes path) × one (codes "K") (string_bytes place)

@@ -46,6 +46,17 @@ E and F, what is wrong with the primary copy of a GPT and with the backup:"] cop
   8  the usable sectors aren't in order and clear of both copies
   9  the array's CRC is wrong"] $($rest)*)
     };
+    ([$($done:literal)*] copies $($rest:tt)*) => {
+        text!([$($done)* "
+
+With --copy, status 4 and 2:
+  no table: primary copy E
+                          the primary copy of the GPT doesn't exist
+  no table: backup copy E
+                          the backup copy of the GPT doesn't exist
+  bad copy                COPY is neither primary nor backup, or --after is
+                          given too"] $($rest)*)
+    };
     ([$($done:literal)*] unreadable $($rest:tt)*) => {
         text!([$($done)* "
 
@@ -188,7 +199,7 @@ leaves; or `no ..`, as `ptab check` says it.
     "\
 Exit status: 0 shown, 1 no, 2 usage, 3 not a plan, 4 no table (standard error
 says why), 5 the image or the plan can't be read, 6 no memory.",
-    no_table refused plan_text devices
+    no_table copies refused plan_text devices
 );
 
 pub const VERIFY: Texts = page!(

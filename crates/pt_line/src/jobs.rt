@@ -160,6 +160,7 @@ fn job_of(alloc: Global, name: &str, inner: &ArgMatches<'_>) -> Result<Job, Line
         "show" => Ok(Job::Show {
             image,
             after: value_of(alloc, inner, "after")?,
+            copy: value_of(alloc, inner, "copy")?,
         }),
         "verify" => Ok(Job::Verify { image }),
         "locate" => place_job(alloc, inner, image),

@@ -77,6 +77,8 @@ pub enum Job {
         image: String,
         /// The file of a plan, as it would leave the image.
         after: Option<String>,
+        /// The name of one copy of a GPT, which is shown alone.
+        copy: Option<String>,
     },
     Verify {
         image: String,

@@ -108,6 +108,13 @@ fn after<'a>(alloc: Global) -> Arg<'a>
     option(alloc, "after", "PLANFILE", help)
 }
 
+fn copy<'a>(alloc: Global) -> Arg<'a>
+    ensures { IsArg spec.copy result }
+{
+    let help = "One copy of a GPT alone: primary or backup";
+    option(alloc, "copy", "COPY", help)
+}
+
 /// A flag. Its name on the command line is its id.
 fn flag<'a>(alloc: Global, id: &'a str, help: &'a str) -> Arg<'a>
     ensures { IsArg (record (new_rule id.entry.now) { long = Some id.entry.now; action = Some SetTrue }) result }
@@ -259,6 +266,7 @@ fn on_show<'a>(
 {
     let page = image_page(alloc, name, texts);
     let page = with_arg(page, after(alloc));
+    let page = with_arg(page, copy(alloc));
     on_disk(alloc, sizes, page)
 }
 

@@ -1,5 +1,5 @@
 -- The text of each answer.
-use Rattle.std.specs.Prelude.{ℕ, List, [], ◌∷◌, codes, decimal, Option, Some, None, string_bytes}
+use Rattle.std.specs.Prelude.{ℕ, List, [], ◌∷◌, ◌++◌, codes, decimal, Option, Some, None, string_bytes}
 use Rattle.pt_sector.specs.declared.address.Lba.{Lba}
 use Rattle.pt_gpt.specs.Copies.{error_number}
 use Rattle.pt_mbr.specs.declared.chain.ChainError.{ChainError}
@@ -7,7 +7,10 @@ use Rattle.pt_mbr.specs.declared.chain.ChainError.TheVariants as chain
 use Rattle.pt_mbr.specs.Records as chains
 use Rattle.pt_recover.specs.declared.error.NoTable.{NoTable}
 use Rattle.pt_recover.specs.declared.error.NoTable.TheVariants.{NoCopy, Chain, TwoExtended, TooSmall, Device, Memory}
+use Rattle.pt_recover.specs.declared.side.SideError.{SideError}
+use Rattle.pt_recover.specs.declared.side.SideError.TheVariants as of_side
 use Rattle.pt_report.specs.Shown.{line, path_text, layout_text}
+use Rattle.pt_gpt.specs.declared.table.Side.{Side}
 use Rattle.pt_gpt.specs.declared.table.Side.TheVariants.{Primary, Backup}
 use Rattle.pt_layout.specs.declared.sound.finding.Finding.{Finding}
 use Rattle.pt_layout.specs.declared.sound.finding.Finding.TheVariants as finding
@@ -52,6 +55,18 @@ no_table_text TwoExtended = line (codes "no table: two extended" ∷ [])
 no_table_text TooSmall = line (codes "no table: too small" ∷ [])
 no_table_text (Device at) = device_line
 no_table_text Memory = memory_line
+
+-- ## Why one side's copy of a GPT gives no layout.
+
+abbrev pub copy_name : Side → List ℕ
+copy_name Primary = codes "primary copy"
+copy_name Backup = codes "backup copy"
+
+abbrev pub no_side_text : Side → SideError → List ℕ
+no_side_text side (of_side.Copy error) = line ((codes "no table: " ++ copy_name side) ∷ decimal (error_number error) ∷ [])
+no_side_text side of_side.TooSmall = line (codes "no table: too small" ∷ [])
+no_side_text side (of_side.Device at) = device_line
+no_side_text side of_side.Memory = memory_line
 
 -- ## The lines of a verdict, of the checker's answer, and of a place.
 

@@ -11,6 +11,6 @@ mod reply;
 mod status;
 mod why;
 
-pub use no_table::print_no_table;
+pub use no_table::{print_no_side, print_no_table};
 pub use reply::Reply;
 pub use status::Status;

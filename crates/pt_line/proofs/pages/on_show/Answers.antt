@@ -5,4 +5,5 @@ pub returns : goal.returns
 returns c =
     let one = c.image_page-page.ensures in
     let two = IfOk-weaker c.with_arg-page.result _ _ (λ r takes. takes _ _ one c.after.ensures) c.with_arg-page.ensures in
-    IfOk-weaker c.on_disk.result _ _ (λ r adds. adds _ two) c.on_disk.ensures
+    let three = IfOk-weaker c.with_arg-page-2.result _ _ (λ r takes. takes _ _ two c.copy.ensures) c.with_arg-page-2.ensures in
+    IfOk-weaker c.on_disk.result _ _ (λ r adds. adds _ three) c.on_disk.ensures
