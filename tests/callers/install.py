@@ -19,6 +19,7 @@ import tempfile
 TOP = os.path.abspath(os.path.join(os.path.dirname(os.path.abspath(__file__)), "..", ".."))
 sys.path.insert(0, os.path.join(TOP, "tests", "shared"))
 import compared
+from commands import COMMANDS
 from compared import same
 PLACES = {"bin/ptab": (None, 0o755), "bin/ptab-run": ("tools/ptab-run", 0o755), "share/man/man8/ptab.8": ("man/ptab.8", 0o644),
           "share/man/man8/ptab-run.8": ("man/ptab-run.8", 0o644),
@@ -27,7 +28,6 @@ PLACES = {"bin/ptab": (None, 0o755), "bin/ptab-run": ("tools/ptab-run", 0o755), 
           "share/fish/vendor_completions.d/ptab.fish": ("completion/ptab.fish", 0o644)}
 LIBRARY = ("include/ptab.h", "include/ptab_disk.h", "lib/libptab.a", "lib/libptab.so.1", "lib/libptab.so", "lib/pkgconfig/ptab.pc",
            "lib/python3/dist-packages/ptab.py")
-COMMANDS = ["show", "verify", "locate", "edit", "plan", "check", "apply", "repair", "adopt"]
 WORDS = ["a:", "o", "n:", "d:", "t:", "c:", "u:", "U:", "A:", "e", "g"]
 IMAGES = ["folder", "a.img", "b.raw"]
 # what stands before the cursor, and what is completed
