@@ -27,7 +27,7 @@ NAMING = ("CONTRIBUTING.md", "tests/README.md", "docs/architecture.md", "docs/ow
 NAMED = re.compile(r"(?<![\w/$])((?:\.\./)*[\w/*-]+\.(?:rt|antt|txt|py|sh|md|[ch]|rs|zsh|bash|fish|8)"
                    r"|(?:docs|tests|man|include|examples|completion|packaging|bindings|bench|tools|crates)/[\w/.*-]*\w)(?![\w/])")
 CRATE = re.compile(r"\b(?:pt|test|example)_[a-z]\w*")
-GENERIC = ("wrong_bodies.txt", "laws.rt", "specs/inner/ForFields.antt")
+GENERIC = ("wrong_bodies.txt", "laws.rt", "Lib.antt", "specs/inner.antt", "specs/inner/ForFields.antt")
 STANDS_FOR = re.compile(r"crates/NAME\b|/out/|\bCRATE/|^proofs/Json\.antt$|^src/json\.rt$")
 # how many characters a line of these has at most: the prover refuses a longer one
 WIDTH, SOURCES = 140, (".rt", ".antt", ".py", ".sh", ".c", ".h", ".rs")
