@@ -37,7 +37,7 @@ grep -oE '[[:alnum:]_./-]+[[:alnum:]]' "$here/docs/c.md" | sed 's,^\./,,' | sort
 git ls-files | grep -Fx -f "$folder/words" >"$folder/named"
 mapfile -t named <"$folder/named"
 "$here/packaging/put_docs.sh" "$tree/usr/share/doc/libptab-dev" "${named[@]}" \
-  docs/c.md docs/format.md docs/other_tools.md docs/sgdisk.md bindings examples/c examples/python
+  docs/c.md docs/format.md docs/other_tools.md docs/sgdisk.md bindings examples/c examples/python examples/recipes
 bytes=$(find "$tree/usr" -type f -printf '%s\n' | awk '{ sum += int(($1 + 1023) / 1024) } END { print sum }')
 cat >"$tree/DEBIAN/control" <<END
 Package: libptab-dev

@@ -44,6 +44,7 @@ FILES = {"usr/bin/ptab": "-rwxr-xr-x", "usr/bin/ptab-run": "-rwxr-xr-x", "usr/sh
          "usr/share/doc/ptab/copyright": "-rw-r--r--", "usr/share/man/man8/ptab.8.gz": "-rw-r--r--"}
 DEV = {"include/ptab.h": "include/ptab.h", "include/ptab_disk.h": "include/ptab_disk.h", "lib/libptab.a": None, "lib/libptab.so": None,
        "lib/libptab.so.1": None, "lib/pkgconfig/ptab.pc": None, "lib/python3/dist-packages/ptab.py": "bindings/python/ptab.py"}
+FOLDERS_OF_DEV = ("bindings/", "examples/c/", "examples/python/", "examples/recipes/")
 
 
 def build(ptab, out, cwd, mask=0o022, **more):
@@ -146,7 +147,7 @@ def named():
     """The files that docs/c.md names, those to which its pages lead, and the folders of the examples and of the layers."""
     words = {word.removeprefix("./") for word in re.findall(r"[\w./-]+\w", content(f"{TOP}/docs/c.md").decode())}
     files = must("git", "-C", TOP, "ls-files", "-z").split("\0")
-    return {it for it in files if it in {*words, *PAGES, "docs/c.md"} or it.startswith(("bindings/", "examples/c/", "examples/python/"))}
+    return {it for it in files if it in {*words, *PAGES, "docs/c.md"} or it.startswith(FOLDERS_OF_DEV)}
 
 
 def example(tree, folder, ptab):
