@@ -32,12 +32,12 @@ tree=$folder/tree
 PTAB=/bin/true LIBRARY=$LIBRARY DESTDIR=$tree "$here/install.sh" /usr >"$folder/installed"
 rm -r "$tree/usr/bin" "$tree/usr/share"
 install -d -m 755 "$tree/DEBIAN"
-# the files that docs/c.md names, and the pages that docs/commands.md leads to
+# the files that docs/c.md names
 grep -oE '[[:alnum:]_./-]+[[:alnum:]]' "$here/docs/c.md" | sed 's,^\./,,' | sort -u >"$folder/words"
 git ls-files | grep -Fx -f "$folder/words" >"$folder/named"
 mapfile -t named <"$folder/named"
-"$here/packaging/put_docs.sh" "$tree/usr/share/doc/libptab-dev" "${named[@]}" \
-  docs/c.md docs/format.md docs/other_tools.md docs/sgdisk.md bindings examples/c examples/python examples/recipes
+"$here/packaging/put_docs.sh" "$tree/usr/share/doc/libptab-dev" "${named[@]}" docs/c.md bindings examples/c examples/python \
+  examples/recipes
 bytes=$(find "$tree/usr" -type f -printf '%s\n' | awk '{ sum += int(($1 + 1023) / 1024) } END { print sum }')
 cat >"$tree/DEBIAN/control" <<END
 Package: libptab-dev

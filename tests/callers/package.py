@@ -26,8 +26,23 @@ from tools import must
 KIT = "kit-of-the-test logic 0123456789abcdef"
 # a time to come: dpkg-deb itself turns later times into this one, and not earlier ones
 EPOCH = 4_000_000_000
+LINK = re.compile(r"\]\((?!https?:)([^)#]*)(?:#([^)]*))?\)")
+
+
+def led_to(pages):
+    """Pages, and all files of the repository to which their links lead."""
+    found, left = set(), list(pages)
+    while left:
+        page = left.pop()
+        if page not in found and os.path.isfile(f"{TOP}/{page}"):
+            found.add(page)
+            links_of = LINK.findall(content(f"{TOP}/{page}").decode()) if page.endswith(".md") else []
+            left += [os.path.normpath(f"{os.path.dirname(page)}/{path}") for path, _ in links_of if path]
+    return found
+
+
 # the pages and the recipes, each at its path in the repository
-PAGES = ("docs/commands.md", "docs/format.md", "docs/other_tools.md", "docs/sgdisk.md")
+PAGES = sorted(led_to(["docs/commands.md", "docs/other_tools.md", "docs/sgdisk.md"]))
 RECIPES = tuple(f"examples/recipes/{name}" for name in sorted(os.listdir(f"{TOP}/examples/recipes")))
 FOLDERS = ("", "usr/", "usr/bin/", "usr/share/", "usr/share/bash-completion/", "usr/share/bash-completion/completions/", "usr/share/doc/",
            "usr/share/doc/ptab/", "usr/share/doc/ptab/docs/", "usr/share/doc/ptab/examples/", "usr/share/doc/ptab/examples/recipes/",
@@ -123,7 +138,7 @@ def links(folder):
         for page in (f"{at}/{name}" for name in names if name.endswith(".md")):
             text = content(page).decode()
             headings = {re.sub(r"[^\w -]", "", it).strip().lower().replace(" ", "-") for it in re.findall(r"^#+ (.*)$", text, re.MULTILINE)}
-            for path, anchor in re.findall(r"\]\((?!https?:)([^)#]*)(?:#([^)]*))?\)", text):
+            for path, anchor in LINK.findall(text):
                 same(f"{page} leads to {path or anchor}", os.path.isfile(f"{at}/{path}") if path else anchor in headings, True)
             for path in re.findall(r"\b(?:docs/\w+\.md|examples/recipes/\w+\.sh)\b", text):
                 same(f"{page} names {path}", os.path.isfile(f"{folder}/{path}"), True)
@@ -144,10 +159,10 @@ def recipes(tree, folder):
 
 
 def named():
-    """The files that docs/c.md names, those to which its pages lead, and the folders of the examples and of the layers."""
+    """The files that docs/c.md names, the folders of the examples and of the layers, and all to which pages of these lead."""
     words = {word.removeprefix("./") for word in re.findall(r"[\w./-]+\w", content(f"{TOP}/docs/c.md").decode())}
     files = must("git", "-C", TOP, "ls-files", "-z").split("\0")
-    return {it for it in files if it in {*words, *PAGES, "docs/c.md"} or it.startswith(FOLDERS_OF_DEV)}
+    return led_to(it for it in files if it in {*words, "docs/c.md"} or it.startswith(FOLDERS_OF_DEV))
 
 
 def example(tree, folder, ptab):
