@@ -30,7 +30,8 @@ kit=$(printf '%s' "$kit" | tr -s '\n\t ' ' ')
 git() { command git -C "$here" "$@"; }
 commit=$(git rev-parse HEAD)
 # what the package takes from the repository, and what the program was made of
-if [ -n "$(git status --porcelain -- crates man completion tools docs examples/recipes install.sh packaging)" ]; then commit=$commit-changed; fi
+taken=(crates man completion tools docs examples/recipes install.sh packaging)
+if [ -n "$(git status --porcelain -- "${taken[@]}")" ]; then commit=$commit-changed; fi
 epoch=${SOURCE_DATE_EPOCH:-$(git log -1 --format=%ct)}
 export SOURCE_DATE_EPOCH=$epoch
 version=$("$here/packaging/version.sh")+git$(git log -1 --format=%cd --date=format-local:%Y%m%d%H%M%S).${commit:0:12}

@@ -18,7 +18,8 @@ out=$1
 git() { command git -C "$here" "$@"; }
 kit=$(printf '%s' "${KIT:-$(rt version)}" | tr -s '\n\t ' ' ')
 commit=$(git rev-parse HEAD)
-if [ -n "$(git status --porcelain -- crates include bindings bench docs examples tests install.sh packaging)" ]; then commit=$commit-changed; fi
+taken=(crates include bindings bench docs examples tests install.sh packaging)
+if [ -n "$(git status --porcelain -- "${taken[@]}")" ]; then commit=$commit-changed; fi
 epoch=${SOURCE_DATE_EPOCH:-$(git log -1 --format=%ct)}
 version=$("$here/packaging/version.sh")+git$(git log -1 --format=%cd --date=format-local:%Y%m%d%H%M%S).${commit:0:12}
 case $commit in *-changed) version=$version.changed ;; esac
