@@ -31,6 +31,7 @@ _ptab() {
     :) return ;;
     --sector-size) _ptab_of "$current" 512 4096; return ;;
     --fresh) return ;;
+    --copy) _ptab_of "$current" primary backup; return ;;
     --after)
       mapfile -t COMPREPLY < <(compgen -f -- "$current")
       compopt -o filenames 2>/dev/null
@@ -40,7 +41,7 @@ _ptab() {
   for ((k = 1; k < COMP_CWORD; k++)); do
     word=${COMP_WORDS[k]}
     case $word in
-      --sector-size | --fresh | --after)
+      --sector-size | --fresh | --after | --copy)
         k=$((k + 1))
         if [ "${COMP_WORDS[k]}" = '=' ]; then k=$((k + 1)); fi
         ;;
@@ -59,7 +60,7 @@ _ptab() {
     help:*) [ ${#places[@]} = 0 ] && _ptab_of "$current" show verify locate edit plan check apply repair adopt; return ;;
     edit:-*) _ptab_of "$current" --fresh --device --sector-size --in-use --no-lock --help -h; return ;;
     plan:-*) _ptab_of "$current" --fresh --device --sector-size --help -h; return ;;
-    show:-*) _ptab_of "$current" --after --device --sector-size --help -h; return ;;
+    show:-*) _ptab_of "$current" --after --copy --device --sector-size --help -h; return ;;
     adopt:-*) _ptab_of "$current" --plan --other-device --device --sector-size --in-use --no-lock --help -h; return ;;
     apply:-* | repair:-*) _ptab_of "$current" --device --sector-size --in-use --no-lock --help -h; return ;;
     *:-*) _ptab_of "$current" --device --sector-size --help -h; return ;;

@@ -9,7 +9,7 @@ function __ptab_words
             continue
         end
         switch $word
-            case --sector-size --fresh --after
+            case --sector-size --fresh --after --copy
                 set is_value 1
             case '-*'
             case '*'
@@ -59,6 +59,7 @@ complete -c ptab -n __ptab_in -a help -d 'Print this message or the help of the 
 
 complete -c ptab -n '__ptab_in edit plan' -l fresh -x -d 'Fresh GUIDs, 32 hexadecimal digits each'
 complete -c ptab -n '__ptab_in show' -l after -rF -d 'A plan, as if it were applied'
+complete -c ptab -n '__ptab_in show' -l copy -xa 'primary backup' -d 'One copy of a GPT alone'
 complete -c ptab -n '__ptab_in adopt' -l plan -d 'Print the plan, and write nothing'
 complete -c ptab -n '__ptab_in adopt' -l other-device -d 'OTHER is a block device'
 complete -c ptab -n "__ptab_in $commands" -l device -d 'IMAGE is a block device'
