@@ -76,8 +76,8 @@ def run(ptab, name, text):
 def each_command(text):
     """Each command's section has a session that calls it."""
     for name in COMMANDS:
-        section = re.search(rf"^## {name}\n(.*?)(?=^## |\Z)", text, re.DOTALL | re.MULTILINE).group(1)
-        if not any(re.match(rf"ptab {name}\b", command) for block in blocks(section) for command, _ in steps(block)):
+        section = re.search(rf"^## {name}\n(.*?)(?=^## |\Z)", text, re.DOTALL | re.MULTILINE)
+        if not section or not any(re.match(rf"ptab {name}\b", command) for block in blocks(section[1]) for command, _ in steps(block)):
             sys.exit(f"docs/commands.md has no example of ptab {name}")
 
 
