@@ -27,7 +27,7 @@ FAILS, DONE_AND_FAILS, ONE_BYTE, NOTHING = range(4)
 DEVICE = ("", "device\n", 5)
 OTHER_DEVICE = ("", "other: device\n", 5)
 # what follows the image of a command: the file of the words' plan, or the image that the words make
-PLAN, OTHER, AFTER = ("plan",), ("other",), ("after",)
+PLAN, OTHER, AFTER, COPY = ("plan",), ("other",), ("after",), ("--copy", "backup")
 # What can come of a call, by its letter: how it fails, and errno. The others of `MORE` come at fewer calls, but with `all`. Of a plan's
 # file a read of nothing is its end.
 FAULTS = {"s": ((FAILS, errno.EIO),), "o": ((FAILS, errno.EIO),), "l": ((FAILS, errno.EIO),), "r": ((FAILS, errno.EIO),), "c": (),
@@ -199,7 +199,8 @@ def full_streams(ptab, disk):
 def lines(words):
     """Of each command what follows the image, and the words whose plan it writes."""
     return {"edit": (words, words), "apply": (PLAN, words), "repair": ((), ("a:1",)), "adopt": (OTHER, words), "plan": (words, ()),
-            "check": (PLAN, ()), "verify": ((), ()), "show": ((), ()), "show after": (AFTER, ()), "locate": (("1", "0"), ())}
+            "check": (PLAN, ()), "verify": ((), ()), "show": ((), ()), "show after": (AFTER, ()), "show copy": (COPY, ()),
+            "locate": (("1", "0"), ())}
 
 
 def files(it):

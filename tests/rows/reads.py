@@ -1,7 +1,7 @@
 #!/usr/bin/env python3
 """Compares the sectors that each command asks the image for with those that docs/model.md says it reads: `show` and `locate` what
-recovery reads, `verify` what decides the verdict, `check`, `apply` and `show --after` what a check of that plan reads, each exactly;
-`plan`, `edit` and `repair` no others than what decides the verdict, what a plan reads and what its check reads. So no bad sector
+recovery reads, `show --copy` what decides what that copy gives, `verify` what decides the verdict, `check`, `apply` and `show --after`
+what a check of that plan reads, each exactly; `plan`, `edit` and `repair` no others than what decides the verdict, what a plan reads and what its check reads. So no bad sector
 elsewhere fails a call. An edit, a plan, a check and a repair read no sector twice. All this on tables of every kind and both sector
 sizes, with edits of several kinds that are done and that are refused. A rename in a GPT reads at most 140 sectors and writes 67.
 
@@ -135,6 +135,9 @@ def look(it, what, sectors, image):
     disk = Disk(sectors, image)
     it.reads(what, sectors, image, "show", (), disk.reads, disk.reads)
     it.reads(what, sectors, image, "locate", ("1", "0"), disk.reads, disk.reads)
+    for side in ("primary", "backup"):
+        alone = disk.side_reads(side == "primary")
+        it.reads(what, sectors, image, "show", ("--copy", side), alone, alone)
     # a verdict reads label places twice
     it.reads(what, sectors, image, "verify", (), disk.verdict_reads(), disk.verdict_reads())
 

@@ -42,10 +42,9 @@ class Disk:
             if head[at + 4] and size:
                 yield head[at + 4], start, size
 
-    def _take_place(self, first, size):
-        """The label place of a slice."""
-        if self.sectors.size == 512 and size >= 2 and first + 1 < self.count:
-            self.places.add(first + 1)
+    def _place_of(self, first, size):
+        """The label place of a slice, if it has one."""
+        return {first + 1} if self.sectors.size == 512 and size >= 2 and first + 1 < self.count else set()
 
     def _read_records(self):
         used = list(self._records(0))
@@ -54,7 +53,7 @@ class Disk:
             return
         for kind, start, size in used:
             if kind == SLICE:
-                self._take_place(start, size)
+                self.places |= self._place_of(start, size)
         for first, size in extended:
             self._read_chain(first, size)
 
@@ -69,7 +68,7 @@ class Disk:
                 if kind in EXTENDED:
                     link = first + start
                 elif kind == SLICE:
-                    self._take_place(lba + start, length)
+                    self.places |= self._place_of(lba + start, length)
             lba = link
         self.reads |= self.ebrs
 
@@ -96,10 +95,21 @@ class Disk:
             more, entries = self.side(False)
             reads |= more
         self.reads |= reads
+        self.places |= self._places_in(entries)
+
+    def _places_in(self, entries):
+        """The label places of the slices in an array, of none where there is no array."""
+        found = set()
         for at in range(0, len(entries or b""), 128):
             first, last = struct.unpack_from("<QQ", entries, at + 32)
             if entries[at:at + 16] == FREEBSD_BYTES and first <= last < 2 ** 63:
-                self._take_place(first, last - first + 1)
+                found |= self._place_of(first, last - first + 1)
+        return found
+
+    def side_reads(self, is_primary):
+        """The sectors that decide what a copy gives alone: those that decide the copy, and the label places of its slices."""
+        reads, entries = self.side(is_primary)
+        return reads | self._places_in(entries)
 
     def verdict_reads(self):
         """The sectors that decide a verdict: those that recovery reads, and the backup side of a GPT."""

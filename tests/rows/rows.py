@@ -8,6 +8,7 @@ import os
 import sys
 
 sys.path.insert(0, os.path.join(os.path.dirname(os.path.abspath(__file__)), "..", "shared"))
+import rows_copies
 import rows_edit
 import rows_gpt
 import rows_help
@@ -23,8 +24,8 @@ import rows_turns
 import rows_words
 from eight import run_all
 
-PARTS = (rows_gpt, rows_mbr, rows_labels, rows_edit, rows_place, rows_plan, rows_turns, rows_records, rows_slices, rows_switches,
-         rows_words, rows_help, rows_repair)
+PARTS = (rows_gpt, rows_copies, rows_mbr, rows_labels, rows_edit, rows_place, rows_plan, rows_turns, rows_records, rows_slices,
+         rows_switches, rows_words, rows_help, rows_repair)
 
 
 def main():

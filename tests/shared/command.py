@@ -61,8 +61,11 @@ class Command:
         return self.answer(*words)
 
     def answer(self, *words):
+        return self.answer_at(self.path, *words)
+
+    def answer_at(self, path, *words):
         size = [] if self.sectors is SMALL else ["--sector-size", str(self.sectors.size)]
-        done = subprocess.run([self.ptab, words[0], *size, self.path, *words[1:]], capture_output=True)
+        done = subprocess.run([self.ptab, words[0], *size, path, *words[1:]], capture_output=True)
         return done.stdout.decode("utf-8"), done.stderr.decode("utf-8"), done.returncode
 
     def gives(self, words, out, err="", status=0):
