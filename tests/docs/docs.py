@@ -199,7 +199,7 @@ def places(name):
         crates, beside = CRATE.findall(line), ""
         crate = f"crates/{crates[0]}" if crates else ""
         for found in crates:
-            if not any(os.path.exists(f"{TOP}/{it}/{found}") for it in ("crates", "tests/rows")) and f"{found}.txt" not in GENERIC:
+            if not os.path.isdir(f"{TOP}/crates/{found}"):
                 sys.exit(f"{name} names {found}, which is no crate: {line}")
             count += 1
         for path in (found[1] for found in NAMED.finditer(line)):
