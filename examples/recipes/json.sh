@@ -12,6 +12,7 @@ size=${SECTOR_SIZE:-512}
 table=$("${PTAB:-ptab}" show --sector-size "$size" "$1")
 printf '%s\n' "$table" | python3 /dev/fd/3 "$1" "$size" 3<<'END'
 import json
+import signal
 import sys
 
 TYPES = {"EF00": "C12A7328-F81F-11D2-BA4B-00A0C93EC93B", "8300": "0FC63DAF-8483-4772-8E79-3D69D8477DE4",
@@ -50,6 +51,8 @@ def lines_of(table):
 
 
 def main():
+    # where nobody reads the output any more, that ends it
+    signal.signal(signal.SIGPIPE, signal.SIG_DFL)
     device, size = sys.argv[1], int(sys.argv[2])
     sys.stdin.reconfigure(encoding="utf-8", newline="\n")
     sys.stdout.reconfigure(encoding="utf-8")

@@ -367,6 +367,11 @@ def as_json(folder):
         if shutil.which("sfdisk", path=WHERE["PATH"]):
             same(f"sfdisk --json {path}", out,
                  subprocess.run(["sfdisk", "--json", path], capture_output=True, text=True, env=WHERE).stdout)
+    reader, writer = os.pipe()
+    os.close(reader)
+    done = subprocess.run([f"{TOP}/examples/recipes/json.sh", path], stdout=writer, stderr=subprocess.PIPE, text=True, env=WHERE)
+    os.close(writer)
+    same("json.sh into a pipe that nobody reads", (done.stderr, done.returncode), ("", 141))
     same("json.sh of no table", (image_of(path, 8192), recipe("json", path))[1], ("", "no table: copies 1 1\n", 4))
 
 
