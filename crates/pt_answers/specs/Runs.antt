@@ -78,16 +78,20 @@ RunsAdoption g image opening other medium Written locked_by old new answer =
 RunsAdoption g image opening other medium Planned locked_by old new answer =
     OnImages image opening Read other (other_as medium) Read (PlansAdopting g g) old new answer
 
+-- the table of an image is shown, or the one that the plan in a file would leave, or that of one copy of a GPT
+abbrev pub RunsShow : {D : _} {T : Type 0} {B : _} → Ghosts D B → (T → Option (List ℕ)) → Opening → List ℕ → Option (String Global)
+    → Option (String Global) → Doing (Call D T)
+RunsShow g remaining opening image after (Some name) old new answer =
+    WithCopy (string_bytes name) after (λ side. OnImage image opening Read (ShowsCopy g side)) old new answer
+RunsShow g remaining opening image None None old new answer = OnImage image opening Read (ShowsDisk g) old new answer
+RunsShow {D} {T} {B} g remaining opening image (Some file) None old new answer =
+    WithPlan B remaining (string_bytes file) (λ plan. OnImage image opening Read (ShowsAfter g (phases_of plan))) old new answer
+
 -- what is done for a job: `g` are the ghosts of the disks, and `remaining` the bytes of the file of a plan
 abbrev pub RunsJob : {D : _} {T : Type 0} {B : _} → Ghosts D B → (T → Option (List ℕ)) → Opening → Job → Doing (Call D T)
 RunsJob g remaining opening (job.Help text) old new answer = (new ≡ old) × (answer ≡ Ok (reply.Text text))
-RunsJob g remaining opening (job.Show image None None) old new answer =
-    OnImage (string_bytes image) opening Read (ShowsDisk g) old new answer
-RunsJob {D} {T} {B} g remaining opening (job.Show image (Some file) None) old new answer =
-    WithPlan B remaining (string_bytes file) (λ plan. OnImage (string_bytes image) opening Read (ShowsAfter g (phases_of plan))) old new
-    answer
-RunsJob g remaining opening (job.Show image after (Some name)) old new answer = WithCopy (string_bytes name) after
-    (λ side. OnImage (string_bytes image) opening Read (ShowsCopy g side)) old new answer
+RunsJob g remaining opening (job.Show image after copy) old new answer =
+    RunsShow g remaining opening (string_bytes image) after copy old new answer
 RunsJob g remaining opening (job.Verify image) old new answer =
     OnImage (string_bytes image) opening Read (VerifiesDisk g) old new answer
 RunsJob g remaining opening (job.Locate image path place) old new answer = WithPlace (string_bytes path) (string_bytes place)

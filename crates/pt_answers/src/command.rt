@@ -4,7 +4,7 @@ ghost use Rattle.std.specs.Prelude.{◌≡◌, option_map, Ok};
 ghost use Rattle.clap.specs.Walk.{texts as slice_texts};
 ghost use Rattle.pt_sector.specs.Sectors.{IsSectorSize};
 ghost use Rattle.pt_answers.specs.Images.{IsPlanAt};
-ghost use Rattle.pt_answers.specs.Runs.{Prints, RunsAdoption, RunsJob, RunsLine, RunsSized, RunsWords, Sizes};
+ghost use Rattle.pt_answers.specs.Runs.{Prints, RunsAdoption, RunsJob, RunsLine, RunsShow, RunsSized, RunsWords, Sizes};
 ghost use Rattle.pt_answers.specs.Runs.{image_of, other_as, size_of_device};
 
 use crate::failure::Failure;
@@ -59,6 +59,33 @@ fn adopt<const B: usize, D: Disk<B> + Drop, T: Read + Drop, I: Images<B, D, T>>(
     }
 }
 
+/// What a look at an image comes to: at its table, at the one that the plan in a file would leave, or at one copy of a GPT.
+fn shown<const B: usize, D: Disk<B> + Drop, T: Read + Drop, I: Images<B, D, T>>(
+    alloc: Global,
+    images: &mut I,
+    image: &str,
+    opening: Opening,
+    after: Option<String>,
+    copy: Option<String>,
+) -> Result<Reply, Failure>
+    requires { IsSectorSize B }
+    ensures { RunsShow D.Disk T.remaining opening image.now after copy (I.past images.old) (I.past images.new) result }
+{
+    match copy {
+        Some(name) => {
+            let side = copy_named(name.as_str(), &after)?;
+            show_side(alloc, images, image, opening, side)
+        }
+        None => match after {
+            None => show(alloc, images, image, opening),
+            Some(file) => {
+                let plan = plan_at(alloc, images, file.as_str())?;
+                show_planned(alloc, images, image, opening, &plan)
+            }
+        },
+    }
+}
+
 /// What a job comes to: its answer, or why there is none. Words and plans are read before an image is opened.
 fn reply_to<const B: usize, D: Disk<B> + Drop, T: Read + Drop, I: Images<B, D, T>>(
     alloc: Global,
@@ -71,26 +98,8 @@ fn reply_to<const B: usize, D: Disk<B> + Drop, T: Read + Drop, I: Images<B, D, T
 {
     match job {
         Job::Help(text) => Ok(Reply::Text(text)),
-        Job::Show {
-            image,
-            after,
-            copy: Some(name),
-        } => {
-            let side = copy_named(name.as_str(), &after)?;
-            show_side(alloc, images, image.as_str(), opening, side)
-        }
-        Job::Show {
-            image,
-            after: None,
-            copy: None,
-        } => show(alloc, images, image.as_str(), opening),
-        Job::Show {
-            image,
-            after: Some(file),
-            copy: None,
-        } => {
-            let plan = plan_at(alloc, images, file.as_str())?;
-            show_planned(alloc, images, image.as_str(), opening, &plan)
+        Job::Show { image, after, copy } => {
+            shown(alloc, images, image.as_str(), opening, after, copy)
         }
         Job::Verify { image } => verify(alloc, images, image.as_str(), opening),
         Job::Locate { image, path, place } => {
