@@ -51,7 +51,8 @@ enum {
   PTAB_DISK_SECTOR_SIZE = 9, /* PTAB_USAGE: the device has sectors of `a` bytes */
   PTAB_DISK_READ_ONLY = 10,  /* PTAB_USAGE: it was opened for reading alone */
   PTAB_DISK_RANDOM = 11,     /* PTAB_DEVICE: the system gives no random bytes */
-  PTAB_DISK_HOW = 12         /* PTAB_USAGE: `how` is no sum of the above */
+  PTAB_DISK_HOW = 12,        /* PTAB_USAGE: `how` is no sum of the above */
+  PTAB_DISK_FORKED = 13      /* PTAB_USAGE: another process opened the disk, and this one was forked from it */
 };
 
 /* The kinds of PTAB_DISK_KIND. */

@@ -75,7 +75,7 @@ int main(void) { ptab_disk_close(0); return ptab_version() == PTAB_VERSION ? 0 :
                 must(compiler, standard, *WARNINGS, include, f"{folder}/{name}", f"{folder}/libptab.a", "-o", f"{folder}/h")
                 same(f"{compiler} {standard}", must(f"{folder}/h"), "")
     for compiler in compilers[0]:
-        for source in ("ptab_disk", "ptab_disk_text", "ptab_disk_list"):
+        for source in ("ptab_disk", "ptab_disk_open", "ptab_disk_io", "ptab_disk_text", "ptab_disk_list"):
             must(compiler, "-std=c11", *WARNINGS, include, "-c", f"{ROOT}/bindings/c/{source}.c", "-o", f"{folder}/{source}.o")
     for name in ("ptab", "rename"):
         must("cc", "-std=c11", *WARNINGS, include, f"{ROOT}/examples/c/{name}.c", f"{folder}/libptab.a", "-o", f"{folder}/{name}_c")
