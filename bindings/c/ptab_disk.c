@@ -10,6 +10,8 @@
 
 /* The most GUIDs that words take besides one each: those of a table and of its 128 entries, by `g`. */
 #define MORE_GUIDS 129
+/* The most writes of a plan that ptab_check takes. */
+#define MOST_CHECKED 4096
 
 /* What one call has read of a disk. */
 struct known {
@@ -198,6 +200,16 @@ static int32_t call_check(struct asked *it, ptab_reply *reply) {
   return ptab_check(&it->known.view, it->given, it->given_len, it->given_bytes, it->given_bytes_len, reply);
 }
 
+/* The answer of ptab_check to a plan that is too long. It would copy the plan first; it reads the layout, and counts the writes then. */
+static int32_t call_refusing(struct asked *it, ptab_reply *reply) {
+  ptab_table table;
+  ptab_member row;
+  int32_t status = ptab_members(&it->known.view, &table, &row, 0, reply);
+  if (status != PTAB_DONE && status != PTAB_ROOM && status != PTAB_NO_TABLE) return status;
+  *reply = (ptab_reply){.about = PTAB_ABOUT_CHECK, .number = 1};
+  return PTAB_NO;
+}
+
 int32_t ptab_disk_members(ptab_disk *disk, ptab_table *table, ptab_member *rows, size_t rows_len, ptab_reply *reply) {
   struct asked it = {.call = call_members, .table = table, .rows = rows, .rows_len = rows_len};
   return done_with(&it, ask(&it, disk, 0, reply), reply);
@@ -328,17 +340,32 @@ int32_t ptab_disk_adopt_plan(ptab_disk *disk, ptab_disk *other, ptab_write *writ
   return done_with(&it, ask(&it, disk, 0, reply), reply);
 }
 
+/* Whether a plan has more writes than one may have, and has nothing that ptab_check tells before that. */
+static int is_too_long(const ptab_write *writes, size_t writes_len, size_t bytes_len, size_t size) {
+  if (writes_len <= MOST_CHECKED || bytes_len % size != 0 || bytes_len / size != writes_len || writes[0].phase != 1) return 0;
+  for (size_t k = 1; k < writes_len; k++) {
+    uint64_t step = writes[k].phase - writes[k - 1].phase;
+    if (step > 1) return 0;
+  }
+  return 1;
+}
+
+static struct asked checking(const ptab_disk *disk, const ptab_write *writes, size_t writes_len, const uint8_t *bytes,
+                             size_t bytes_len) {
+  int refuses = is_too_long(writes, writes_len, bytes_len, disk->sector_size);
+  return (struct asked){.call = refuses ? call_refusing : call_check, .given = writes, .given_len = writes_len,
+                        .given_bytes = bytes, .given_bytes_len = bytes_len};
+}
+
 int32_t ptab_disk_check(ptab_disk *disk, const ptab_write *writes, size_t writes_len, const uint8_t *bytes, size_t bytes_len,
                         ptab_reply *reply) {
-  struct asked it = {.call = call_check, .given = writes, .given_len = writes_len, .given_bytes = bytes,
-                     .given_bytes_len = bytes_len};
+  struct asked it = checking(disk, writes, writes_len, bytes, bytes_len);
   return done_with(&it, ask(&it, disk, 0, reply), reply);
 }
 
 int32_t ptab_disk_apply(ptab_disk *disk, const ptab_write *writes, size_t writes_len, const uint8_t *bytes, size_t bytes_len,
                         ptab_reply *reply) {
-  struct asked it = {.call = call_check, .given = writes, .given_len = writes_len, .given_bytes = bytes,
-                     .given_bytes_len = bytes_len};
+  struct asked it = checking(disk, writes, writes_len, bytes, bytes_len);
   int32_t status = ask(&it, disk, 1, reply);
   if (status == PTAB_DONE) status = carry_out(disk, writes, bytes, writes_len, reply);
   return done_with(&it, status, reply);

@@ -24,6 +24,7 @@ ROOT = os.path.dirname(os.path.dirname(HERE))
 sys.path[:0] = [os.path.join(ROOT, "tests", "shared"), os.path.join(ROOT, "bindings", "python")]
 import compared
 import disk_faults
+import disk_system
 import images
 import ptab as lib
 from compared import content, put, same
@@ -382,6 +383,9 @@ def on_devices(ptab, example, folder):
             if device is None:
                 return False
             on_device(ptab, example, device, path, sectors, edits, name)
+            if name.startswith("GPT") and name != "GPT with a slice":
+                put_at(path, 0, image())
+                disk_system.on_device(ptab, example, folder, device, path, sectors)
     return True
 
 
@@ -457,10 +461,12 @@ def main():
         small_buffers(folder)
         drawn_guids(folder)
         full_files(ptab, folder)
+        medium = disk_system.tried(ptab, example, folder)
         compared.count += disk_faults.calls(ptab, example, folder)
         compared.count += disk_faults.memory(ptab, example, folder)
         devices = on_devices(ptab, example, folder)
-    print(f"disk library: {compared.count} passed, 0 failed{'' if devices else ' (no loop devices here, so none was tried)'}")
+    left = "" if devices and medium else " (no loop devices here, or no file systems on them, so none was tried)"
+    print(f"disk library: {compared.count} passed, 0 failed{left}")
 
 
 main()
