@@ -14,6 +14,7 @@ import shutil
 import struct
 import subprocess
 import sys
+import tempfile
 
 import images
 import ptab as lib
@@ -26,6 +27,11 @@ ROOT = os.path.dirname(os.path.dirname(HERE))
 CALLS = "trace=fsync,fdatasync,sync_file_range,fadvise64,ioctl,pread64,pwrite64,fcntl"
 CALL = re.compile(r"^(?:\d+ +)?(\w+)\((.*)\) += (-?\w+)")
 FIBMAP = 1
+LOG = tempfile.TemporaryDirectory()
+# what the system refuses, and what is asked of it then
+REFUSALS = (("no O_DIRECT", "fcntl:error=EINVAL:when=2+", "sdcc"), ("no units of 512", "pread64:error=EINVAL:when=1", "sdrrr"),
+            ("no units at all", "pread64:error=EINVAL:when=1..2", "sdrrcc"),
+            ("another refusal", "pread64:error=EOPNOTSUPP:when=1..2", "sdrrcc"))
 # by Python's module, in another process: of the disk and another one, both open
 PYTHON = """
 import sys
@@ -44,16 +50,21 @@ def of_python(folder, path, other, size, code, device="file"):
 
 def traced(command, path, *options):
     """The calls on the path: (name, arguments, answer)."""
-    log = f"{path.replace('/', '_')}.log"
-    log = os.path.join("/tmp", f"ptab-{os.getpid()}{log}")
+    log = f"{LOG.name}/calls"
     env = {**os.environ, "PYTHONPATH": f"{ROOT}/bindings/python", "PYTHONDONTWRITEBYTECODE": "1"}
-    done = subprocess.run(["strace", "-f", "-P", path, "-e", CALLS, "-s", "0", "-o", log, *options, *command], capture_output=True, text=True,
-                          env=env)
+    done = subprocess.run(["strace", "-f", "-P", path, "-e", CALLS, "-s", "0", "-o", log, *options, *command],
+                          capture_output=True, text=True, env=env)
+    with open(log, encoding="ascii") as it:
+        return done, [found.groups() for found in map(CALL.search, it) if found]
+
+
+def has_direct(path):
+    """Whether the system has reads past the cache there."""
     try:
-        with open(log, encoding="ascii") as it:
-            return done, [found.groups() for found in map(CALL.search, it) if found]
-    finally:
-        os.remove(log)
+        os.close(os.open(path, os.O_RDONLY | os.O_DIRECT))
+    except OSError:
+        return False
+    return True
 
 
 class Seen:
@@ -62,6 +73,13 @@ class Seen:
 
     def __init__(self, calls, size):
         self.letters, self.places, direct = "", [], False
+        self.add(calls, size, direct)
+
+    def is_like(self, pattern, path):
+        """Whether it is as the pattern has it; reads go through the cache where the system has no other."""
+        return bool(re.fullmatch(pattern if has_direct(path) else pattern.replace("r", "c"), self.letters))
+
+    def add(self, calls, size, direct):
         for name, words, answer in calls:
             if name == "fcntl" and "F_SETFL" in words and answer == "0":
                 direct = "O_DIRECT" in words
@@ -115,14 +133,15 @@ def each_call(ptab, example, folder):
         for name, command, phases in jobs(ptab, example, folder, path, other, sectors):
             done, calls = traced(command, path)
             same(f"{name}: {done.stderr}", done.returncode, 0)
-            letters(name, Seen(calls, sectors.size), phases, both, "sd")
+            begin_well(name, path, Seen(calls, sectors.size), phases, both, ("sd", "sd"))
 
 
-def letters(name, seen, phases, both, first):
-    """Each call begins with a sync, then drops what is cached, then reads both ends past the cache and nothing else."""
+def begin_well(name, path, seen, phases, both, begin):
+    """Each call begins with a sync, then drops what is cached (`begin`, of calls that read and that write), then reads both ends past the
+    cache and nothing else."""
     each = phases if isinstance(phases, tuple) else (phases,)
-    pattern = "".join(first + "rr" + (f"(w+s){{{it}}}" if it else "") for it in each)
-    same(f"{name}: {seen.letters}", bool(re.fullmatch(pattern, seen.letters)), True)
+    pattern = "".join(begin[it is not None] + "rr" + (f"(w+s){{{it}}}" if it else "") for it in each)
+    same(f"{name}: {seen.letters}", seen.is_like(pattern, path), True)
     same(f"{name}: what is read", seen.places, both * len(each))
 
 
@@ -133,9 +152,9 @@ def in_one_opening(folder):
     code = "disk.verify(); disk.edit('c:1:a'); disk.table(); disk.adopt(other); disk.locate(1, 0); other.verify()"
     done, calls = traced(of_python(folder, path, other, 512, code), path)
     wanted = "sdrr" + "sdrr(w+s){4}" + "sdrr" + "sdrr(w+s){4}" + "sdrr"
-    same(f"one opening: {done.stderr}", bool(re.fullmatch(wanted, Seen(calls, 512).letters)), True)
+    same(f"one opening: {done.stderr}", Seen(calls, 512).is_like(wanted, path), True)
     done, calls = traced(of_python(folder, path, other, 512, code), other)
-    same(f"of the other disk: {done.stderr}", Seen(calls, 512).letters, "sdrrsdrr")
+    same(f"of the other disk: {done.stderr}", Seen(calls, 512).is_like("sdrrsdrr", path), True)
 
 
 def refused(example, folder):
@@ -143,11 +162,8 @@ def refused(example, folder):
     image = images.one_partition()
     path = put(f"{folder}/refused", image)
     shown = subprocess.run([example, path, "512", "show"], capture_output=True, text=True).stdout
-    for name, options, wanted in (("no O_DIRECT", ["-e", "inject=fcntl:error=EINVAL:when=2+"], "sdcc"),
-                                  ("no units of 512", ["-e", "inject=pread64:error=EINVAL:when=1"], "sdrrr"),
-                                  ("no units at all", ["-e", "inject=pread64:error=EINVAL:when=1..2"], "sdrrcc"),
-                                  ("another refusal", ["-e", "inject=pread64:error=EOPNOTSUPP:when=1..2"], "sdrrcc")):
-        done, calls = traced([example, path, "512", "show"], path, *options)
+    for name, inject, wanted in REFUSALS if has_direct(path) else ():
+        done, calls = traced([example, path, "512", "show"], path, "-e", f"inject={inject}")
         found = "".join({"pread64": "r", "fsync": "s", "fadvise64": "d"}.get(call, "") for call, _, _ in calls)
         same(f"{name}: {done.stderr}", (done.stdout, done.returncode, found), (shown, 0, wanted.replace("c", "r")))
         last = [call for call in calls if call[0] == "pread64"][-1]
@@ -155,7 +171,7 @@ def refused(example, folder):
         same(f"{name}: whole pages", is_page, wanted == "sdrrr")
     done, calls = traced([example, path, "512", "edit", "c:1:x"], path, "-e", "inject=fsync:error=EIO:when=2")
     same("a sync that fails", (done.stdout, done.stderr, done.returncode), ("", "device\n", 5))
-    same("what is cached then is dropped", bool(re.fullmatch("sdrrw+sd", Seen(calls, 512).letters)), True)
+    same("what is cached then is dropped", Seen(calls, 512).is_like("sdrrw+sd", path), True)
 
 
 # ---- the cache and the medium
@@ -225,7 +241,7 @@ def on_the_medium(example, folder):
 
 def direct_descriptors(ptab, folder):
     path = put(f"{folder}/direct", images.one_partition())
-    for more in (os.O_DIRECT, 0, os.O_NOATIME):
+    for more in (os.O_DIRECT, 0, os.O_NOATIME) if has_direct(path) else (0,):
         fd = os.open(path, os.O_RDWR | more)
         before = fcntl.fcntl(fd, fcntl.F_GETFL)
         with lib.Disk(fd, write=True) as disk:
@@ -304,10 +320,7 @@ def on_device(ptab, example, folder, device, below, sectors):
     for name, command, phases in jobs(ptab, example, folder, device, other, sectors, "device"):
         done, calls = traced(command, device)
         same(f"{name} on a device: {done.stderr}", done.returncode, 0)
-        seen, each = Seen(calls, sectors.size), phases if isinstance(phases, tuple) else (phases,)
-        pattern = "".join("drr" if it is None else f"sdrr(w+s){{{it}}}" for it in each)
-        same(f"{name} on a device: {seen.letters}", bool(re.fullmatch(pattern, seen.letters)), True)
-        same(f"{name} on a device: what is read", seen.places, both * len(each))
+        begin_well(f"{name} on a device", device, Seen(calls, sectors.size), phases, both, ("d", "sd"))
     with open(device, "rb") as kept:
         before = block_size(device)
         with lib.Disk(device, device=True, write=True) as disk:
