@@ -73,13 +73,6 @@ class Seen:
 
     def __init__(self, calls, size):
         self.letters, self.places, direct = "", [], False
-        self.add(calls, size, direct)
-
-    def is_like(self, pattern, path):
-        """Whether it is as the pattern has it; reads go through the cache where the system has no other."""
-        return bool(re.fullmatch(pattern if has_direct(path) else pattern.replace("r", "c"), self.letters))
-
-    def add(self, calls, size, direct):
         for name, words, answer in calls:
             if name == "fcntl" and "F_SETFL" in words and answer == "0":
                 direct = "O_DIRECT" in words
@@ -97,6 +90,10 @@ class Seen:
                 self.letters += "w"
             elif name in ("fdatasync", "sync_file_range"):
                 sys.exit(f"disk library: {name}")
+
+    def is_like(self, pattern, path):
+        """Whether it is as the pattern has it; reads go through the cache where the system has no other."""
+        return bool(re.fullmatch(pattern if has_direct(path) else pattern.replace("r", "c"), self.letters))
 
 
 def ends(sectors, size):
