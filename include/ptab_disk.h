@@ -22,8 +22,8 @@
  * what ptab_disk_open opened.
  *
  * Signals. A signal that interrupts a call doesn't end it, so SA_RESTART makes no difference. A handler makes none of these
- * calls, and doesn't leave one by longjmp. A process that is killed in a call leaves the old table or the new one. No call maps
- * a file, so none raises SIGBUS, and none raises SIGPIPE. As with each write, the system raises SIGXFSZ where the limit of a
+ * calls, and doesn't leave one by longjmp. A process that is killed in a call leaves the old table or the new one. No file is
+ * mapped, so no call raises SIGBUS, and none raises SIGPIPE. As with each write, the system raises SIGXFSZ where the limit of a
  * file's size is reached; where that is ignored, PTAB_DEVICE is answered, with EFBIG.
  *
  * Every call returns a status of ptab.h, but never PTAB_WANT or PTAB_WANT_OTHER, and fills the

@@ -105,15 +105,13 @@ static int32_t read_wanted(struct known *it, uint64_t sector, ptab_reply *reply)
 
 /* What each call begins with. Before a call that writes reads, what is there is made durable. */
 static int32_t begin(struct known *it, ptab_disk *disk, int writes, ptab_reply *reply) {
-  void *buffer;
   it->disk = disk;
   it->view.sector_size = disk->sector_size;
   int32_t status = ptab_inner_begin(disk, writes, reply);
   if (status == PTAB_DONE) status = ptab_inner_count(disk, &it->view.sectors, reply);
   if (status != PTAB_DONE) return status;
-  if (posix_memalign(&buffer, PAGE, BUFFER_SIZE) != 0) return no_memory(reply);
-  it->buffer = buffer;
-  return read_ends(it, reply);
+  it->buffer = ptab_inner_buffer();
+  return it->buffer ? read_ends(it, reply) : no_memory(reply);
 }
 
 /* asking */
@@ -157,7 +155,7 @@ static int32_t ask(struct asked *it, ptab_disk *disk, int writes, ptab_reply *re
 static void forget(struct known *it) {
   free(it->numbers);
   free(it->bytes);
-  free(it->buffer);
+  ptab_inner_give_back(it->buffer);
 }
 
 /* Frees what a call took, and gives its status. */

@@ -20,9 +20,8 @@
 /* Seen by these sources, and not by programs that load the shared object. */
 #define INNER __attribute__((visibility("hidden")))
 
-/* Bytes that are read past the page cache at once, and their place in memory. */
+/* Bytes that are read past the page cache at once. */
 #define BUFFER_SIZE 32768
-#define PAGE 4096
 
 struct ptab_disk {
   int fd;
@@ -77,8 +76,11 @@ INNER int ptab_inner_is_ours(const ptab_disk *disk);
 /* How many sectors the disk has now. */
 INNER int32_t ptab_inner_count(const ptab_disk *disk, uint64_t *sectors, ptab_reply *reply);
 
-/* How many bytes could be read from a place, of so many; errno says why they are fewer. `buffer` has BUFFER_SIZE bytes, and begins
-   with a page. */
+/* Memory for reads past the page cache, or NULL; NULL needn't be given back. */
+INNER uint8_t *ptab_inner_buffer(void);
+INNER void ptab_inner_give_back(uint8_t *buffer);
+
+/* How many bytes could be read from a place, of so many; errno says why they are fewer. */
 INNER size_t ptab_inner_read(ptab_disk *disk, uint8_t *buffer, uint8_t *into, size_t count, uint64_t at);
 
 /* Turns the descriptor's O_DIRECT on or off: the flags that ptab_inner_put_back puts back, or -1. */

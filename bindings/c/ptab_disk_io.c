@@ -8,8 +8,12 @@
 #include <fcntl.h>
 #include <linux/fs.h>
 #include <sys/ioctl.h>
+#include <sys/mman.h>
 #include <sys/stat.h>
 #include <unistd.h>
+
+/* The most bytes that a file system may want reads past the cache to be multiples of; a buffer has more. */
+#define PAGE 4096
 
 _Static_assert(sizeof(off_t) == 8, "a place in a file takes 64 bits");
 
@@ -96,6 +100,18 @@ int32_t ptab_inner_begin(ptab_disk *disk, int writes, ptab_reply *reply) {
 }
 
 /* reads and writes */
+
+/* It begins with a page. No fork copies it: that might take away the page that the drive is just filling (open(2), O_DIRECT). */
+uint8_t *ptab_inner_buffer(void) {
+  void *buffer = mmap(NULL, BUFFER_SIZE, PROT_READ | PROT_WRITE, MAP_PRIVATE | MAP_ANONYMOUS, -1, 0);
+  if (buffer == MAP_FAILED) return NULL;
+  madvise(buffer, BUFFER_SIZE, MADV_DONTFORK);
+  return buffer;
+}
+
+void ptab_inner_give_back(uint8_t *buffer) {
+  if (buffer) munmap(buffer, BUFFER_SIZE);
+}
 
 int ptab_inner_set_direct(const ptab_disk *disk, int direct) {
   int flags = fcntl(disk->fd, F_GETFL);
