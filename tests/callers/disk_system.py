@@ -175,19 +175,20 @@ def refused(example, folder):
 
 
 class Filesystem:
-    """An ext4 over a loop device over a file. None where there are no loop devices."""
+    """An ext4 over a loop device with sectors of that size, over a file. None where there are no loop devices."""
 
-    def __init__(self, folder):
-        self.below, self.top, self.device = f"{folder}/below", f"{folder}/top", None
+    def __init__(self, folder, size):
+        self.below, self.top, self.size, self.device = f"{folder}/below", f"{folder}/top", size, None
 
     def __enter__(self):
-        os.mkdir(self.top)
+        os.makedirs(self.top, exist_ok=True)
         put(self.below, bytes(64 << 20))
         if os.getuid() != 0 or not all(map(shutil.which, ("losetup", "mkfs.ext4", "mount"))):
             return None
         if subprocess.run(["mkfs.ext4", "-q", "-F", "-b", "4096", self.below], capture_output=True).returncode != 0:
             return None
-        self.device = subprocess.run(["losetup", "--show", "-f", self.below], capture_output=True, text=True).stdout.strip()
+        words = ["losetup", "--show", "-b", str(self.size), "-f", self.below]
+        self.device = subprocess.run(words, capture_output=True, text=True).stdout.strip()
         if self.device and subprocess.run(["mount", self.device, self.top], capture_output=True).returncode == 0:
             return self
         self.__exit__()
@@ -208,13 +209,17 @@ class Filesystem:
             os.fsync(it.fileno())
 
 
-def on_the_medium(example, folder):
+def on_the_medium(example, folder, size):
     """A healthy table in the cache of which the medium lacks the primary header, as after a write that failed. True if it was tried."""
     lost = "no 2 primary copy 1\n"
-    with Filesystem(folder) as it:
+    with Filesystem(folder, size) as it:
         if it is None:
             return False
         path = f"{it.top}/image"
+        done, calls = traced([example, put(path, images.one_partition()), "512", "verify"], path)
+        same(f"a file over sectors of {size} bytes: {done.stderr}", done.stdout, "yes\n")
+        lengths = [int(words.rsplit(", ", 2)[1]) for call, words, answer in calls if call == "pread64" and answer != "-1"]
+        same("what is read of it", lengths, [34 * 512, 33 * 512] if size == 512 else [5 * 4096, 5 * 4096])
         for name, options in (("past the cache", []), ("through the cache", ["-e", "inject=fcntl:error=EINVAL:when=2+"])):
             for how in ("verify", "edit"):
                 put(path, images.one_partition())
@@ -325,6 +330,14 @@ def on_device(ptab, example, folder, device, below, sectors):
             same("blocks of a sector while it is written", block_size(device), sectors.size)
             same("a child that closes leaves it", (in_child(disk.close), block_size(device)), ("None", sectors.size))
         same("and as before when it is closed", (block_size(device), kept.fileno() >= 0), (before, True))
+        claimed = os.open(device, os.O_RDONLY | os.O_EXCL)
+        for more in (0, os.O_DIRECT):
+            fd = os.open(device, os.O_RDWR | more)
+            with lib.Disk(fd, device=True, write=True) as disk:
+                same("a device that another has claimed", (disk.edit(f"c:1:v{more}") > 0, str(disk.verify())), (True, "yes"))
+                same("its blocks are left to that one", (block_size(device), fcntl.fcntl(fd, fcntl.F_GETFL) & os.O_DIRECT), (before, more))
+            os.close(fd)
+        os.close(claimed)
     if sectors.size == 512:
         beside_a_sector(example, folder, device, below)
 
@@ -336,4 +349,4 @@ def tried(ptab, example, folder):
     refused(example, folder)
     direct_descriptors(ptab, folder)
     forks(ptab, folder)
-    return on_the_medium(example, folder)
+    return all([on_the_medium(example, folder, size) for size in (512, 4096)])
