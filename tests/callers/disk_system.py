@@ -301,7 +301,7 @@ def forks(ptab, folder):
 
 def beside_a_sector(example, folder, device, below):
     """Sector 34 of a device changes on the medium between the writes of a phase and their sync, as a partition's own node may have it
-    changed. It begins the page in which sector 33 ends the primary array."""
+    changed. It lies in one page with sector 33, the last of the primary array."""
     loaded = f"{folder}/neighbour.so"
     subprocess.run(["gcc", "-shared", "-fPIC", "-O1", "-Wall", "-Wextra", "-Werror", "-o", loaded, f"{HERE}/disk_neighbour.c"], check=True)
     env = {"LD_PRELOAD": loaded, "NEIGHBOUR": below, "NEIGHBOUR_AT": str(34 * 512), "NEIGHBOUR_OF": device}
