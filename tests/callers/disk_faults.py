@@ -13,8 +13,8 @@ from doubles import phases_of
 ALL = 2 ** 32 - 1
 FAILS, DONE_AND_FAILS, ONE_BYTE, NOTHING = range(4)
 DEVICE, MEMORY = ("", "device\n", 5), (("", "memory\n", 6), ("", "other: memory\n", 6))
-HARMLESS = {"r": ((FAILS, errno.EINTR), (ONE_BYTE, 0)), "w": ((FAILS, errno.EINTR), (ONE_BYTE, 0)), "f": ((FAILS, errno.EINTR),),
-            "l": ((FAILS, errno.EINTR),), "o": ((FAILS, errno.EINTR),), "c": ((FAILS, errno.EIO),)}
+HARMLESS = {"r": ((FAILS, errno.EINTR), (FAILS, errno.EINVAL), (ONE_BYTE, 0)), "w": ((FAILS, errno.EINTR), (ONE_BYTE, 0)),
+            "f": ((FAILS, errno.EINTR),), "l": ((FAILS, errno.EINTR),), "o": ((FAILS, errno.EINTR),), "c": ((FAILS, errno.EIO),)}
 
 
 def disks():
