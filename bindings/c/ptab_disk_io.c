@@ -54,10 +54,10 @@ static void advise(const ptab_disk *disk) { posix_fadvise(disk->fd, 0, 0, POSIX_
 static void set_block_size(ptab_disk *disk) {
   int size = (int)disk->sector_size, block = 0, answer;
   unsigned physical = 0;
-  if (disk->block_size != 0 || ioctl(disk->fd, BLKPBSZGET, &physical) < 0 || physical > disk->sector_size) return;
+  if (ioctl(disk->fd, BLKPBSZGET, &physical) < 0 || physical > disk->sector_size) return;
   if (ioctl(disk->fd, BLKBSZGET, &block) < 0 || block <= size) return;
   UNINTERRUPTED(answer, ioctl(disk->fd, BLKBSZSET, &size));
-  if (answer == 0) disk->block_size = block;
+  if (answer == 0 && disk->block_size == 0) disk->block_size = block;
 }
 
 void ptab_inner_restore(const ptab_disk *disk) {
