@@ -322,14 +322,14 @@ def without_memory(library):
 def recorded(example, image, words, sectors, environment):
     """The writes, as (sector, bytes), before each sync after the first one."""
     log = f"{image}.log"
-    done = subprocess.run(["strace", "-e", "trace=openat,pwrite64,fdatasync", "-xx", "-s", str(2 * sectors.size), "-o", log, example, image,
+    done = subprocess.run(["strace", "-e", "trace=openat,pwrite64,fsync", "-xx", "-s", str(2 * sectors.size), "-o", log, example, image,
                            str(sectors.size), *words], capture_output=True, text=True, env=environment)
     if (done.stdout, done.returncode) != ("done\n", 0):
         fail(words, done)
     phases, writes, fd = [], [], None
     with open(log, encoding="ascii") as file:
         for line in file:
-            found = re.search(r"(openat|pwrite64|fdatasync)\((.*)\) += (\d+)$", line.strip())
+            found = re.search(r"(openat|pwrite64|fsync)\((.*)\) += (\d+)$", line.strip())
             if not found:
                 continue
             call, arguments, answer = found.groups()
