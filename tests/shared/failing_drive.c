@@ -4,12 +4,12 @@
  *
  * `control` in the same folder takes a line:
  *   write SECTOR NTH   the NTH write from now on that changes this sector fails, and it stays as it was; what is written with it is written
- *   flush NTH          the NTH flush from now on fails, and what the cache holds is lost
- *   keep NTH           the NTH flush from now on fails, and the cache keeps what it holds
+ *   flush NTH          of the flushes that have something to bring to MEDIUM the NTH from now on fails, and what the cache holds is lost
+ *   keep NTH           the same, and the cache keeps what it holds
  *   read SECTOR        each read of this sector fails
  *   heal               nothing fails any more
- * and gives five numbers: calls that failed; what is still to fail, but for reads; sectors that were written; flushes; those that had
- * something to bring to MEDIUM.
+ * and gives four numbers: calls that failed; what is still to fail, but for reads; sectors that were written; flushes that had something to
+ * bring to MEDIUM.
  *
  * usage: failing_drive MEDIUM FOLDER -f -s     the options are FUSE's; it ends when FOLDER is unmounted
  */
@@ -40,7 +40,7 @@ static struct {
 } fault;
 
 static struct {
-  uint64_t failed, written, flushes, useful;
+  uint64_t failed, written, flushes;
 } count;
 
 static int is_there(off_t at, size_t size) {
@@ -93,15 +93,14 @@ static int is_settled(uint64_t sector, int forgets) {
 }
 
 static int flush_disk(void) {
-  int now_fails = fault.nth_flush != 0 && --fault.nth_flush == 0, had_some = 0;
+  uint8_t *some = memchr(drive.pending, 1, drive.sectors);
+  if (!some) return 0;
+  int is_to_fail = fault.nth_flush != 0 && --fault.nth_flush == 0;
   count.flushes++;
-  for (uint64_t k = 0; k < drive.sectors && !(now_fails && fault.keeps); k++) {
-    if (!drive.pending[k]) continue;
-    had_some = 1;
-    if (!is_settled(k, now_fails)) return -EIO;
-  }
-  count.useful += had_some && !now_fails;
-  return now_fails ? failed() : 0;
+  if (is_to_fail && fault.keeps) return failed();
+  for (uint64_t k = (uint64_t)(some - drive.pending); k < drive.sectors; k++)
+    if (drive.pending[k] && !is_settled(k, is_to_fail)) return -EIO;
+  return is_to_fail ? failed() : 0;
 }
 
 static int told(const char *line) {
@@ -125,9 +124,9 @@ static int told(const char *line) {
 
 static int numbers(char *into, size_t size, off_t at) {
   char line[LINE];
-  int length = snprintf(line, sizeof line, "%llu %d %llu %llu %llu\n", (unsigned long long)count.failed,
+  int length = snprintf(line, sizeof line, "%llu %d %llu %llu\n", (unsigned long long)count.failed,
                         (fault.nth_write != 0) + (fault.nth_flush != 0), (unsigned long long)count.written,
-                        (unsigned long long)count.flushes, (unsigned long long)count.useful);
+                        (unsigned long long)count.flushes);
   if (at >= length) return 0;
   if (size > (size_t)(length - at)) size = (size_t)(length - at);
   memcpy(into, line + at, size);

@@ -1,0 +1,2 @@
+def all_of(it, program):
+    pass
