@@ -54,9 +54,9 @@ class Tried:
         done = subprocess.run(words, stdin=subprocess.DEVNULL, capture_output=True, text=True, env=self.where)
         return done.stdout, done.stderr, done.returncode
 
-    def of_medium(self, place, command):
-        """What the command says of what the medium holds."""
-        return self.run(self.ptab, command, put(self.at("of medium"), place.on_medium()))
+    def of(self, image, command):
+        """What the command says of an image with that content."""
+        return self.run(self.ptab, command, put(self.at("plain"), image))
 
     def verdict(self, place):
         """The library's, of the image."""
@@ -168,10 +168,9 @@ class Edit:
         self.it, self.place, self.way = it, place, way
         self.what, image, self.words, self.sectors = table
         self.image = bytes(image)
-        path = put(it.at("plain"), self.image)
-        self.old = it.run(it.ptab, "show", path)
-        same("the edit on an image", it.run(it.ptab, "edit", path, *self.words), ("done\n", "", 0))
-        self.new = it.run(it.ptab, "show", path)
+        self.old = it.of(self.image, "show")
+        same("the edit on an image", it.run(it.ptab, "edit", it.at("plain"), *self.words), ("done\n", "", 0))
+        self.new = it.run(it.ptab, "show", it.at("plain"))
 
     def fails(self, fault):
         """Whether that fault came; then the same edit again."""
@@ -185,15 +184,21 @@ class Edit:
         same(f"{self.told}: the edit", (status, left), (self.way.failed, 0) if came else (0, fault != "heal"))
         if came:
             it.failures += 1
-            self.is_left(keeps=fault.startswith("keep"))
+            self.is_left()
             same(f"{self.told}: the same edit again", self.way.edit(place, self.words), 0)
         self.is_done()
         self.way.end()
         return came
 
+    def ready(self):
+        if self.place.is_shut():
+            self.way.end()
+            self.place.open_again()
+
     def once(self, fault):
         """How the edit ends, whether a call failed, and how many still are to."""
         place = self.place
+        self.ready()
         place.put(self.image)
         same(f"{self.told}: the medium before", place.on_medium() == self.image, True)
         place.drive.tell(fault)
@@ -202,23 +207,23 @@ class Edit:
         failed, left = place.drive.counts()[:2]
         return status, failed > before, left
 
-    def is_left(self, keeps):
-        """The old table or the new one. Where the drive's cache keeps what the medium hasn't, nobody can tell them apart by reading."""
+    def is_left(self):
+        """A cut would leave the old table or the new one; what the kernel doesn't have from the drive isn't believed."""
         it, place = self.it, self.place
-        same(f"{self.told}: what is left", it.of_medium(place, "show") in (self.old, self.new), True)
-        place.as_before()
-        it.kept += not keeps and content(place.path) != place.on_medium()
-        if it.example and not keeps:
-            same(f"{self.told}: the library's verdict", it.verdict(place)[::2], it.of_medium(place, "verify")[::2])
+        same(f"{self.told}: what is left", it.of(place.on_medium(), "show") in (self.old, self.new), True)
+        self.ready()
+        it.kept += content(place.path) != place.on_drive()
+        if it.example:
+            same(f"{self.told}: the library's verdict", it.verdict(place)[::2], it.of(place.on_drive(), "verify")[::2])
         self.way.after_failure(place)
-        if self.way.name == "ptab" and not keeps:
-            same(f"{self.told}: what ptab shows", it.run(it.ptab, "show", *place.options, place.path), it.of_medium(place, "show"))
+        if self.way.name == "ptab":
+            same(f"{self.told}: what ptab shows", it.run(it.ptab, "show", *place.options, place.path), it.of(place.on_drive(), "show"))
 
     def is_done(self):
         """The medium has the new table, and is healthy."""
         it, place = self.it, self.place
-        same(f"{self.told}: the medium", it.of_medium(place, "show"), self.new)
-        same(f"{self.told}: the medium's health", it.of_medium(place, "verify"), ("yes\n", "", 0))
+        same(f"{self.told}: the medium", it.of(place.on_medium(), "show"), self.new)
+        same(f"{self.told}: the medium's health", it.of(place.on_medium(), "verify"), ("yes\n", "", 0))
         if it.example:
             same(f"{self.told}: the library's verdict in the end", it.verdict(place)[::2], ("yes\n", 0))
 

@@ -1,5 +1,6 @@
-"""Images on a drive that fails at will (failing_drive.c): a device over it, and a file in a file system over that. What the drive's medium
-holds is read behind the kernel's back, so no cache has a part in it."""
+"""Images on a drive that fails at will (failing_drive.c): a device over it, and a file in a file system over that. What the drive has, and
+what its medium has, are read behind the kernel's back, so none of its caches has a part in it."""
+import errno
 import fcntl
 import os
 import shutil
@@ -102,11 +103,15 @@ class Device:
         """Which sector of the drive that sector of the image is."""
         return lba
 
+    def on_drive(self):
+        return content(self.drive.path)
+
     def on_medium(self):
         return content(self.drive.medium)
 
-    def as_before(self):
-        """Has the device work again, after a failure that it keeps in mind."""
+    def is_shut(self):
+        """Whether nothing can be written any more, after a failure."""
+        return False
 
 
 class File:
@@ -125,8 +130,11 @@ class File:
         self.loop = Loop(self.drive.path, SIZE).__enter__()
         must("mke2fs", "-q", "-F", "-t", "ext4", "-b", str(BLOCK), "-E", "lazy_itable_init=0,lazy_journal_init=0",
              "-O", "has_journal" if self.journal else "^has_journal", self.loop.path)
-        must("mount", "-o", "noatime", self.loop.path, self.place)
+        self.mount()
         return self
+
+    def mount(self):
+        must("mount", "-o", "noatime", self.loop.path, self.place)
 
     def __exit__(self, *_):
         unmount(self.place)
@@ -150,15 +158,29 @@ class File:
     def sector(self, lba):
         return self.blocks[lba * SIZE // BLOCK] * BLOCK // SIZE + lba % (BLOCK // SIZE)
 
-    def on_medium(self):
-        with open(self.drive.medium, "rb") as it:
+    def blocks_of(self, path):
+        with open(path, "rb", buffering=0) as it:
             return b"".join(os.pread(it.fileno(), BLOCK, block * BLOCK) for block in self.blocks)[:self.length]
 
-    def as_before(self):
-        """A file system whose journal couldn't be written is read-only until it is mounted again."""
-        if os.statvfs(self.place).f_flag & os.ST_RDONLY:
-            must("umount", self.place)
-            must("mount", "-o", "noatime", self.loop.path, self.place)
+    def on_drive(self):
+        return self.blocks_of(self.drive.path)
+
+    def on_medium(self):
+        return self.blocks_of(self.drive.medium)
+
+    def is_shut(self):
+        """So is a file system whose journal couldn't be written, until it is mounted again."""
+        try:
+            os.utime(self.path)
+        except FileNotFoundError:
+            pass
+        except OSError as error:
+            return error.errno == errno.EROFS
+        return False
+
+    def open_again(self):
+        must("umount", self.place)
+        self.mount()
 
 
 def places(program, folder, length):
