@@ -171,9 +171,9 @@ class File:
     def is_shut(self):
         """So is a file system whose journal couldn't be written, until it is mounted again."""
         try:
-            os.utime(self.path)
-        except FileNotFoundError:
-            pass
+            # the first such call finds it out, and the next is told
+            for _ in range(2 if os.path.exists(self.path) else 0):
+                os.utime(self.path)
         except OSError as error:
             return error.errno == errno.EROFS
         return False
