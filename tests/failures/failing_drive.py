@@ -44,6 +44,7 @@ class Tried:
 
     def __init__(self, ptab, archive, folder):
         self.ptab, self.folder, self.failures, self.kept = ptab, folder, 0, 0
+        self.run_script = RUN
         self.where = {**ENVIRONMENT, "PTAB": ptab, "PATH": f"{os.path.dirname(ptab)}:{ENVIRONMENT['PATH']}", "TMPDIR": folder}
         self.example = built(archive, folder) if archive else None
 
@@ -97,9 +98,9 @@ class Ptab:
 def recipes():
     """The lines of docs/commands.md that drop the kernel's cache, of a file and of a device."""
     text = content(f"{ROOT}/docs/commands.md").decode()
-    found = [re.search(rf"`({line})`", text) for line in (r"dd of=IMAGE oflag=nocache [^`]*", "blockdev --flushbufs DEV")]
+    found = [re.search(line, text) for line in (r"dd of=IMAGE oflag=nocache conv=\S+ count=0", "blockdev --flushbufs DEV")]
     same("docs/commands.md says how to drop the kernel's cache", [it is not None for it in found], [True, True])
-    return [it[1] for it in found]
+    return [it[0] for it in found]
 
 
 class PtabRun:
@@ -286,9 +287,9 @@ def main():
             print(f"failing drive: no drive that fails here, which takes {drives.WHAT_IS_WANTED}: {compared.count} passed without, 0 failed")
             return
         on_failing_drives(it, program)
-        failing_pages.all_of(it, program)
+        pages = failing_pages.all_of(it, program)
     print(f"failing drive: {compared.count} passed, 0 failed; {it.failures} edits failed, and after {it.kept} of these the kernel's cache had "
-          f"what the drive hadn't{'' if it.example else '; without the library'}")
+          f"what the drive hadn't; {pages}{'' if it.example else '; without the library'}")
 
 
 if __name__ == "__main__":
