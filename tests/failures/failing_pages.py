@@ -5,7 +5,7 @@
 - A sector that can't be read, and that no table uses, hinders nothing.
 
 So it is by ptab-run and by the library. How it is by `ptab --device` alone, which opens devices as files, is told; and which sectors hinder
-ptab-run, since the kernel reads them together with a table's. Then nothing is written, and the sector is named.
+ptab-run, since the kernel reads them together with a table's. Then nothing is written.
 """
 import os
 import re
@@ -144,7 +144,7 @@ def bad_sectors(it, table):
             is_hindered = name == "ptab-run" and lba in NEAR and found == status
             hindered["ptab-run"] += [lba] * is_hindered
             same(f"{told}: {said}", found, status if lba == USED or is_hindered else 0)
-            same(f"{told}: it is named", str(lba) in said or not is_hindered, True)
+            same(f"{told}: what is said", not is_hindered or str(lba) in said or "the old table or the new one" in said, True)
             same(f"{told}: the medium", table.place.on_medium() == (table.image if found else table.new), True)
         harm(table, lba)
         hindered["ptab"] += [lba] * (lba != USED and it.run(it.ptab, "verify", "--device", table.place.path)[2] != 0)
