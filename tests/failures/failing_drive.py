@@ -279,17 +279,20 @@ def calls(it):
 def main():
     if len(sys.argv) not in (2, 3):
         sys.exit("usage: tests/failures/failing_drive.py PTAB [ARCHIVE]")
+    ptab, archive = (*map(os.path.abspath, sys.argv[1:]), None)[:2]
+    without = "" if archive else "; the library, for lack of ARCHIVE, isn't tried"
     with room() as folder, tempfile.TemporaryDirectory() as place:
-        it = Tried(*[os.path.abspath(word) for word in (*sys.argv[1:], "")[:1]], os.path.abspath(sys.argv[2]) if sys.argv[2:] else None, folder)
+        it = Tried(ptab, archive, folder)
         calls(it)
         program = drives.made(place) if has_loops(folder) else None
         if not program:
-            print(f"failing drive: no drive that fails here, which takes {drives.WHAT_IS_WANTED}: {compared.count} passed without, 0 failed")
+            print(f"failing drive: {compared.count} passed, 0 failed; there is no drive that fails here, which takes "
+                  f"{drives.WHAT_IS_WANTED}{without}")
             return
         on_failing_drives(it, program)
         pages = failing_pages.all_of(it, program)
-    print(f"failing drive: {compared.count} passed, 0 failed; {it.failures} edits failed, and after {it.kept} of these the kernel's cache had "
-          f"what the drive hadn't; {pages}{'' if it.example else '; without the library'}")
+    print(f"failing drive: {compared.count} passed, 0 failed; {it.failures} edits failed, and after {it.kept} of these the kernel's cache "
+          f"had what the drive hadn't; {pages}{without}")
 
 
 if __name__ == "__main__":

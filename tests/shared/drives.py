@@ -28,7 +28,10 @@ def made(folder):
         return None
     must("cc", "-std=c11", "-D_GNU_SOURCE", "-O2", "-Wall", "-Wextra", "-Werror", "-I/usr/include/fuse3", f"{HERE}/failing_drive.c",
          "-lfuse3", "-o", program)
-    return program
+    drive = Drive(program, f"{folder}/probe", SIZE)
+    is_there = drive.starts()
+    drive.__exit__()
+    return program if is_there else None
 
 
 def unmount(place):
@@ -47,17 +50,22 @@ class Drive:
             it.truncate(length)
         self.path, self.control = f"{self.folder}/disk", f"{self.folder}/control"
 
-    def __enter__(self):
-        self.process = subprocess.Popen([self.program, self.medium, self.folder, "-f", "-s"])
+    def starts(self):
+        """Whether it is there, which it isn't where nothing may be mounted."""
+        self.process = subprocess.Popen([self.program, self.medium, self.folder, "-f", "-s"], stderr=subprocess.DEVNULL)
         last = time.monotonic() + 20
-        while not os.path.exists(self.path):
-            if self.process.poll() is not None or time.monotonic() > last:
-                sys.exit("the failing drive doesn't start")
+        while not os.path.exists(self.path) and self.process.poll() is None and time.monotonic() < last:
             time.sleep(0.01)
+        return os.path.exists(self.path)
+
+    def __enter__(self):
+        if not self.starts():
+            sys.exit("the failing drive doesn't start")
         return self
 
     def __exit__(self, *_):
-        unmount(self.folder)
+        if os.path.ismount(self.folder):
+            unmount(self.folder)
         self.process.wait(20)
 
     def tell(self, line):
