@@ -28,12 +28,13 @@ sys.path[:0] = [f"{TESTS}/shared", f"{ROOT}/bindings/python"]
 import compared
 import drives
 import failing_pages
+import ptab as lib
 from compared import content, put, same
 from images import SMALL, entry, record, room
 from loops import has_loops
 from tools import ENVIRONMENT, must, run
 
-RUN = f"{ROOT}/tools/ptab-run"
+RUN = failing_pages.RUN
 SECTORS = 1024
 # what makes things durable, and could
 SYNCS = ("fsync", "fdatasync", "sync_file_range", "msync", "syncfs", "sync")
@@ -44,7 +45,6 @@ class Tried:
 
     def __init__(self, ptab, archive, folder):
         self.ptab, self.folder, self.failures, self.kept = ptab, folder, 0, 0
-        self.run_script = RUN
         self.where = {**ENVIRONMENT, "PTAB": ptab, "PATH": f"{os.path.dirname(ptab)}:{ENVIRONMENT['PATH']}", "TMPDIR": folder}
         self.example = built(archive, folder) if archive else None
 
@@ -74,25 +74,40 @@ def built(archive, folder):
 # ---- ways to edit
 
 
-class Ptab:
-    """`ptab` alone. It can't drop the kernel's cache, so that is done before the next look."""
+class PtabRun:
+    name, failed = "ptab-run", 125
+
+    def __init__(self, it):
+        self.it = it
+
+    def edit(self, place, words):
+        """The status of an edit."""
+        return self.it.run(sys.executable, RUN, *place.options, place.path, self.it.ptab, "edit", "@", *words)[2]
+
+    def after_failure(self, place):
+        """What there is to do before the next look: nothing."""
+
+    def end(self):
+        """Closes what it holds open."""
+
+
+class Ptab(PtabRun):
+    """`ptab` alone. It can't drop the kernel's cache, so that is done before the next look, as docs/commands.md says."""
 
     name, failed = "ptab", 5
 
     def __init__(self, it):
-        self.it = it
+        super().__init__(it)
         self.recipes = recipes()
 
     def edit(self, place, words):
         return self.it.run(self.it.ptab, "edit", *place.options, place.path, *words)[2]
 
     def after_failure(self, place):
-        """What the docs say; what is shown then is what the drive has."""
         line = self.recipes[bool(place.options)]
-        must(*[place.path if word in ("IMAGE", "DEV") else word.replace("IMAGE", place.path) for word in shlex.split(line)])
-
-    def end(self):
-        pass
+        must(*[re.sub("IMAGE|DEV", place.path, word) for word in shlex.split(line)])
+        shown = self.it.run(self.it.ptab, "show", *place.options, place.path)
+        same(f"what ptab shows of {place.name} after `{line}`", shown, self.it.of(place.on_drive(), "show"))
 
 
 def recipes():
@@ -101,22 +116,6 @@ def recipes():
     found = [re.search(line, text) for line in (r"dd of=IMAGE oflag=nocache conv=\S+ count=0", "blockdev --flushbufs DEV")]
     same("docs/commands.md says how to drop the kernel's cache", [it is not None for it in found], [True, True])
     return [it[0] for it in found]
-
-
-class PtabRun:
-    name, failed = "ptab-run", 125
-
-    def __init__(self, it):
-        self.it = it
-
-    def edit(self, place, words):
-        return self.it.run(sys.executable, RUN, *place.options, place.path, self.it.ptab, "edit", "@", *words)[2]
-
-    def after_failure(self, place):
-        pass
-
-    def end(self):
-        pass
 
 
 class Library(PtabRun):
@@ -135,11 +134,10 @@ class SameOpening(PtabRun):
 
     def __init__(self, it):
         super().__init__(it)
-        os.environ["PTAB_LIBRARY"] = it.at("libptab.so.1")
+        lib.load(it.at("libptab.so.1"))
         self.disk = None
 
     def edit(self, place, words):
-        import ptab as lib
         self.disk = self.disk or lib.Disk(place.path, write=True, device=bool(place.options))
         try:
             self.disk.edit(*words)
@@ -192,6 +190,7 @@ class Edit:
         return came
 
     def ready(self):
+        """Has the place written again."""
         if self.place.is_shut():
             self.way.end()
             self.place.open_again()
@@ -217,8 +216,6 @@ class Edit:
         if it.example:
             same(f"{self.told}: the library's verdict", it.verdict(place)[::2], it.of(place.on_drive(), "verify")[::2])
         self.way.after_failure(place)
-        if self.way.name == "ptab":
-            same(f"{self.told}: what ptab shows", it.run(it.ptab, "show", *place.options, place.path), it.of(place.on_drive(), "show"))
 
     def is_done(self):
         """The medium has the new table, and is healthy."""
@@ -251,7 +248,7 @@ def on_failing_drives(it, program):
 
 
 def synced(it, what, words):
-    """How often each call was made."""
+    """Of the calls that make things durable a command makes fsync alone."""
     log = it.at("syncs")
     out, errors, status = it.run("strace", "-f", "-qq", "-o", log, "-e", f"trace={','.join(SYNCS)}", *words)
     same(f"{what}: done", (status, "done" in out + errors), (0, True))
@@ -260,7 +257,7 @@ def synced(it, what, words):
 
 
 def calls(it):
-    """Each command that writes; it makes durable by fsync, since ext4 without a journal has fdatasync send the drive no flush."""
+    """Each command that writes makes it durable by fsync. Not every file system has the drive flush its cache for an fdatasync."""
     image = bytes(SMALL.gpt(SECTORS, {1: entry(100, 200)}))
     harmed = image[:512] + bytes(512) + image[1024:]
     path, other, plan = it.at("image"), put(it.at("other"), SMALL.gpt(SECTORS, {2: entry(100, 120)})), it.at("plan")

@@ -20,6 +20,7 @@ from drives import SIZE
 from images import SMALL, entry, guid
 from tools import run
 
+RUN = os.path.abspath(os.path.join(os.path.dirname(os.path.abspath(__file__)), "..", "..", "tools", "ptab-run"))
 SECTORS = 1024
 # the arrays are in sectors 2 to 33 and 991 to 1022
 NEIGHBOURS = (1, 34), (2, 990)
@@ -31,7 +32,7 @@ FAR, NEAR, USED = (500, 980), (36, 40, 988), 2
 
 def commands(it, path):
     """The command lines of an edit, and the status where the image can't be read."""
-    yield "ptab-run", [sys.executable, it.run_script, "--device", path, it.ptab, WORDS[0], "@", *WORDS[1:]], 125
+    yield "ptab-run", [sys.executable, RUN, "--device", path, it.ptab, WORDS[0], "@", *WORDS[1:]], 125
     if it.example:
         yield "the library", [it.example, path, "device", *WORDS], 5
 
