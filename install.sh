@@ -69,12 +69,11 @@ if [ -n "$library" ]; then
     echo 'Cflags: -I${includedir}'
     echo 'Libs: -L${libdir}'"$where"' -lptab'
   } >"$made/ptab.pc"
-  put 644 "$here/include/ptab.h" include/ptab.h
-  put 644 "$here/include/ptab_disk.h" include/ptab_disk.h
+  for header in "$here"/include/*.h; do put 644 "$header" "include/$(basename "$header")"; done
   put 644 "$made/libptab.a" lib/libptab.a
   put 644 "$made/libptab.so.1" lib/libptab.so.1
   ln -sf libptab.so.1 "${DESTDIR:-}$prefix/lib/libptab.so"
   echo "installed ${DESTDIR:-}$prefix/lib/libptab.so"
   put 644 "$made/ptab.pc" lib/pkgconfig/ptab.pc
-  put 644 "$here/bindings/python/ptab.py" lib/python3/dist-packages/ptab.py
+  for module in "$here"/bindings/python/*.py; do put 644 "$module" "lib/python3/dist-packages/$(basename "$module")"; done
 fi

@@ -1,5 +1,6 @@
 #!/usr/bin/env bash
-# Makes a Debian package of what was proved: the program, with ptab-run, their man pages, completion, and notes on where it comes from.
+# Makes a Debian package of what was proved: the program, with ptab-run, their man pages, completion, the pages on both and the recipes, and
+# notes on where it comes from.
 # The same program, commit and kit give the same package, byte by byte. It needs no root.
 #
 # usage: packaging/debian.sh OUT     OUT is the .deb, or a folder for it
@@ -29,7 +30,8 @@ kit=$(printf '%s' "$kit" | tr -s '\n\t ' ' ')
 git() { command git -C "$here" "$@"; }
 commit=$(git rev-parse HEAD)
 # what the package takes from the repository, and what the program was made of
-if [ -n "$(git status --porcelain -- crates man completion tools install.sh packaging)" ]; then commit=$commit-changed; fi
+taken=(crates man completion tools docs examples/recipes install.sh packaging)
+if [ -n "$(git status --porcelain -- "${taken[@]}")" ]; then commit=$commit-changed; fi
 epoch=${SOURCE_DATE_EPOCH:-$(git log -1 --format=%ct)}
 export SOURCE_DATE_EPOCH=$epoch
 version=$("$here/packaging/version.sh")+git$(git log -1 --format=%cd --date=format-local:%Y%m%d%H%M%S).${commit:0:12}
@@ -50,6 +52,7 @@ PTAB=$ptab DESTDIR=$tree "$here/install.sh" /usr >"$folder/installed"
 mv "$tree/usr/share/zsh/site-functions" "$tree/usr/share/zsh/vendor-completions"
 gzip -9n "$tree/usr/share/man/man8/ptab.8" "$tree/usr/share/man/man8/ptab-run.8"
 install -d -m 755 "$tree/DEBIAN" "$doc"
+"$here/packaging/put_docs.sh" "$doc" docs/commands.md docs/other_tools.md docs/sgdisk.md examples/recipes
 
 cat >"$doc/BUILD" <<END
 program: /usr/bin/ptab
@@ -93,7 +96,7 @@ Priority: optional
 Architecture: $architecture
 Depends: libc6 (>= ${libc#GLIBC_})
 Recommends: python3 (>= 3.8)
-Suggests: fdisk, gdisk, parted
+Suggests: dosfstools, fdisk, gdisk, parted, testdisk
 Installed-Size: $bytes
 Maintainer: ${MAINTAINER:-$author}
 Description: show, verify, edit and repair partition tables of disk images
@@ -108,7 +111,7 @@ Description: show, verify, edit and repair partition tables of disk images
 END
 (cd "$tree" && find usr -type f -print0 | sort -z | xargs -0 md5sum) >"$tree/DEBIAN/md5sums"
 find "$tree" -type d -exec chmod 755 {} +
-find "$tree" -type f ! -path '*/usr/bin/*' -exec chmod 644 {} +
+find "$tree" -type f -exec chmod u=rwX,go=rX {} +
 find "$tree" -exec touch -h -d "@$epoch" {} +
 if [ -d "$out" ]; then out=$out/ptab_${version}_$architecture.deb; fi
 dpkg-deb --root-owner-group -Zgzip -z9 --build "$tree" "$folder/ptab.deb" >"$folder/built"

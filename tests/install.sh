@@ -8,6 +8,8 @@ need sgdisk gdisk
 need sfdisk fdisk
 need parted parted
 need cgpt cgpt
+need mkfs.fat dosfstools
+need xorriso xorriso
 need strace strace
 need gcc gcc
 need c++ g++

@@ -8,6 +8,7 @@ usage: tests/callers/install.py PTAB [ARCHIVE]
 """
 import contextlib
 import filecmp
+import glob
 import os
 import re
 import shutil
@@ -19,15 +20,17 @@ import tempfile
 TOP = os.path.abspath(os.path.join(os.path.dirname(os.path.abspath(__file__)), "..", ".."))
 sys.path.insert(0, os.path.join(TOP, "tests", "shared"))
 import compared
+from commands import COMMANDS
 from compared import same
 PLACES = {"bin/ptab": (None, 0o755), "bin/ptab-run": ("tools/ptab-run", 0o755), "share/man/man8/ptab.8": ("man/ptab.8", 0o644),
           "share/man/man8/ptab-run.8": ("man/ptab-run.8", 0o644),
           "share/bash-completion/completions/ptab": ("completion/ptab.bash", 0o644),
           "share/zsh/site-functions/_ptab": ("completion/ptab.zsh", 0o644),
           "share/fish/vendor_completions.d/ptab.fish": ("completion/ptab.fish", 0o644)}
-LIBRARY = ("include/ptab.h", "include/ptab_disk.h", "lib/libptab.a", "lib/libptab.so.1", "lib/libptab.so", "lib/pkgconfig/ptab.pc",
-           "lib/python3/dist-packages/ptab.py")
-COMMANDS = ["show", "verify", "locate", "edit", "plan", "check", "apply", "repair", "adopt"]
+# the headers and the modules for Python, and what is made of the archive
+SOURCES = {**{f"include/{os.path.basename(it)}": it for it in glob.glob(f"{TOP}/include/*.h")},
+           **{f"lib/python3/dist-packages/{os.path.basename(it)}": it for it in glob.glob(f"{TOP}/bindings/python/*.py")}}
+LIBRARY = (*SOURCES, "lib/libptab.a", "lib/libptab.so.1", "lib/libptab.so", "lib/pkgconfig/ptab.pc")
 WORDS = ["a:", "o", "n:", "d:", "t:", "c:", "u:", "U:", "A:", "e", "g"]
 IMAGES = ["folder", "a.img", "b.raw"]
 # what stands before the cursor, and what is completed
@@ -106,11 +109,12 @@ def library(folder, ptab, archive):
     done = subprocess.run([f"{TOP}/install.sh", prefix], capture_output=True, text=True,
                           env={**os.environ, "PTAB": ptab, "LIBRARY": archive, "DESTDIR": ""})
     same("install.sh with a library", (done.returncode, done.stderr), (0, ""))
-    same("its lines", done.stdout.splitlines(), [f"installed {prefix}/{place}" for place in (*PLACES, *LIBRARY)])
+    same("its lines", sorted(done.stdout.splitlines()), sorted(f"installed {prefix}/{place}" for place in (*PLACES, *LIBRARY)))
+    same("the headers and the module are among them", {"include/ptab.h", "include/ptab_disk.h", "lib/python3/dist-packages/ptab.py"}
+         <= set(SOURCES), True)
     same("its files", files(prefix), sorted((*PLACES, *LIBRARY)))
-    for place, source in (("include/ptab.h", "include/ptab.h"), ("include/ptab_disk.h", "include/ptab_disk.h"),
-                          ("lib/python3/dist-packages/ptab.py", "bindings/python/ptab.py")):
-        same(f"{place}", filecmp.cmp(f"{prefix}/{place}", f"{TOP}/{source}", shallow=False), True)
+    for place, source in SOURCES.items():
+        same(f"{place}", filecmp.cmp(f"{prefix}/{place}", source, shallow=False), True)
     with open(f"{prefix}/lib/pkgconfig/ptab.pc", encoding="utf-8") as it:
         told = it.read().replace("${includedir}", f"{prefix}/include").replace("${libdir}", f"{prefix}/lib")
     flags = [line.partition(": ")[2].split() for line in told.splitlines() if line.startswith(("Cflags: ", "Libs: "))]

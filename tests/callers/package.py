@@ -1,8 +1,10 @@
 #!/usr/bin/env python3
 """Builds the Debian package twice, in other folders, with other masks, time zones and languages, and compares the bytes; then looks at
-what it holds with `dpkg-deb -c` and `-I`, and runs the program that it unpacks.
+what it holds with `dpkg-deb -c` and `-I`, and runs the program and the recipes that it unpacks. The pages in it name no file of theirs that
+it lacks, and their links lead to what is there.
 
-With the archive of the library for callers in C it does the same with the package of that.
+With the archive of the library for callers in C it does the same with the package of that: it has each file that docs/c.md names, and an
+example that it unpacks is compiled and run over the library beside it.
 
 usage: tests/callers/package.py PTAB [ARCHIVE]
 """
@@ -24,18 +26,40 @@ from tools import must
 KIT = "kit-of-the-test logic 0123456789abcdef"
 # a time to come: dpkg-deb itself turns later times into this one, and not earlier ones
 EPOCH = 4_000_000_000
+LINK = re.compile(r"\]\((?!https?:)([^)#]*)(?:#([^)]*))?\)")
+
+
+def led_to(pages):
+    """Pages, and all files of the repository to which their links lead."""
+    found, left = set(), list(pages)
+    while left:
+        page = left.pop()
+        if page not in found and os.path.isfile(f"{TOP}/{page}"):
+            found.add(page)
+            links_of = LINK.findall(content(f"{TOP}/{page}").decode()) if page.endswith(".md") else []
+            left += [os.path.normpath(f"{os.path.dirname(page)}/{path}") for path, _ in links_of if path]
+    return found
+
+
+# the pages and the recipes, each at its path in the repository
+PAGES = sorted(led_to(["docs/commands.md", "docs/other_tools.md", "docs/sgdisk.md"]))
+RECIPES = tuple(f"examples/recipes/{name}" for name in sorted(os.listdir(f"{TOP}/examples/recipes")))
 FOLDERS = ("", "usr/", "usr/bin/", "usr/share/", "usr/share/bash-completion/", "usr/share/bash-completion/completions/", "usr/share/doc/",
-           "usr/share/doc/ptab/", "usr/share/fish/", "usr/share/fish/vendor_completions.d/", "usr/share/man/", "usr/share/man/man8/",
+           "usr/share/doc/ptab/", "usr/share/doc/ptab/docs/", "usr/share/doc/ptab/examples/", "usr/share/doc/ptab/examples/recipes/",
+           "usr/share/fish/", "usr/share/fish/vendor_completions.d/", "usr/share/man/", "usr/share/man/man8/",
            "usr/share/zsh/", "usr/share/zsh/vendor-completions/")
 # the completions for bash, zsh and fish
 COMPLETIONS = {"usr/share/bash-completion/completions/ptab": "ptab.bash", "usr/share/zsh/vendor-completions/_ptab": "ptab.zsh",
                "usr/share/fish/vendor_completions.d/ptab.fish": "ptab.fish"}
 FILES = {"usr/bin/ptab": "-rwxr-xr-x", "usr/bin/ptab-run": "-rwxr-xr-x", "usr/share/man/man8/ptab-run.8.gz": "-rw-r--r--",
          **{place: "-rw-r--r--" for place in COMPLETIONS},
+         **{f"usr/share/doc/ptab/{page}": "-rw-r--r--" for page in PAGES},
+         **{f"usr/share/doc/ptab/{recipe}": "-rwxr-xr-x" for recipe in RECIPES},
          "usr/share/doc/ptab/BUILD": "-rw-r--r--", "usr/share/doc/ptab/changelog.gz": "-rw-r--r--",
          "usr/share/doc/ptab/copyright": "-rw-r--r--", "usr/share/man/man8/ptab.8.gz": "-rw-r--r--"}
-DEV = ("include/ptab.h", "include/ptab_disk.h", "lib/libptab.a", "lib/libptab.so", "lib/libptab.so.1", "lib/pkgconfig/ptab.pc",
-       "lib/python3/dist-packages/ptab.py", "share/doc/libptab-dev/c.md.gz")
+DEV = {"include/ptab.h": "include/ptab.h", "include/ptab_disk.h": "include/ptab_disk.h", "lib/libptab.a": None, "lib/libptab.so": None,
+       "lib/libptab.so.1": None, "lib/pkgconfig/ptab.pc": None, "lib/python3/dist-packages/ptab.py": "bindings/python/ptab.py"}
+FOLDERS_OF_DEV = ("bindings/", "examples/c/", "examples/python/", "examples/recipes/")
 
 
 def build(ptab, out, cwd, mask=0o022, **more):
@@ -107,7 +131,53 @@ def unpacked(ptab, deb, folder, commit, fields, sum_of):
     same("the package again", (done, content(f"{folder}/again.deb") == content(deb)), (f"{folder}/again.deb\n", True))
 
 
-def library(archive, folder):
+def links(folder):
+    """Each link of the pages below a folder leads to a file there, or to a heading of the same page; and each page and each recipe that
+    they name is there."""
+    for at, _, names in os.walk(folder):
+        for page in (f"{at}/{name}" for name in names if name.endswith(".md")):
+            text = content(page).decode()
+            headings = {re.sub(r"[^\w -]", "", it).strip().lower().replace(" ", "-") for it in re.findall(r"^#+ (.*)$", text, re.MULTILINE)}
+            for path, anchor in LINK.findall(text):
+                same(f"{page} leads to {path or anchor}", os.path.isfile(f"{at}/{path}") if path else anchor in headings, True)
+            for path in re.findall(r"\b(?:docs/\w+\.md|examples/recipes/\w+\.sh)\b", text):
+                same(f"{page} names {path}", os.path.isfile(f"{folder}/{path}"), True)
+
+
+def recipes(tree, folder):
+    """The pages and the recipes are the repository's, and a recipe runs where it is unpacked."""
+    doc = f"{tree}/usr/share/doc/ptab"
+    for path in (*PAGES, *RECIPES):
+        same(path, content(f"{doc}/{path}") == content(f"{TOP}/{path}"), True)
+    links(doc)
+    image, where = f"{folder}/recipe.img", {**os.environ, "PTAB": f"{tree}/usr/bin/ptab"}
+    with open(image, "wb") as it:
+        it.truncate(1 << 20)
+    must(where["PTAB"], "edit", image, "--fresh", "01" * 16, "o")
+    same("dump.sh", must(f"{doc}/examples/recipes/dump.sh", image, env=where).splitlines()[2:],
+         ["o", "U:01010101-0101-4101-8101-010101010101", "a:1"])
+
+
+def named():
+    """The files that docs/c.md names, the folders of the examples and of the layers, and all to which pages of these lead."""
+    words = {word.removeprefix("./") for word in re.findall(r"[\w./-]+\w", content(f"{TOP}/docs/c.md").decode())}
+    files = must("git", "-C", TOP, "ls-files", "-z").split("\0")
+    return led_to(it for it in files if it in {*words, "docs/c.md"} or it.startswith(FOLDERS_OF_DEV))
+
+
+def example(tree, folder, ptab):
+    """An example of the package, over its library."""
+    doc = f"{tree}/usr/share/doc/libptab-dev"
+    must("cc", f"{doc}/examples/c/rename.c", f"-I{tree}/usr/include", f"-L{tree}/usr/lib", f"-Wl,-rpath,{tree}/usr/lib", "-lptab",
+         "-o", f"{folder}/rename")
+    with open(f"{folder}/disk.img", "wb") as it:
+        it.truncate(1 << 20)
+    must(ptab, "edit", f"{folder}/disk.img", "--fresh", "0" * 64, "o", "a:1", "n:1:40:0", "c:1:root")
+    same("examples/c/rename.c", must(f"{folder}/rename", cwd=folder), "1 root\ndone\n")
+    same("the name", must(ptab, "show", f"{folder}/disk.img").split()[-1], "archive")
+
+
+def library(archive, folder, ptab):
     """The package of the library, built twice; what it holds."""
     def built(out, mask, **more):
         return must(f"{TOP}/packaging/debian_dev.sh", out, preexec_fn=lambda: os.umask(mask),
@@ -115,12 +185,20 @@ def library(archive, folder):
     os.mkdir(f"{folder}/dev")
     deb, again = built(f"{folder}/dev", 0o022), built(f"{folder}/dev.deb", 0o077, TZ="Asia/Tokyo", HOME=folder)
     same("the bytes of both packages of the library", content(deb) == content(again), True)
-    found = {line.split()[5].removeprefix("./") for line in must("dpkg-deb", "-c", deb).splitlines() if not line.startswith("d")}
-    same("what the library's package holds", found, {f"usr/{place}" for place in DEV})
+    found = {line.split()[5].removeprefix("./usr/"): line[:10] for line in must("dpkg-deb", "-c", deb).splitlines() if line[0] != "d"}
+    wanted = {**DEV, **{f"share/doc/libptab-dev/{path}": path for path in named()}}
+    same("the examples and the crate are among them", {f"share/doc/libptab-dev/{it}" for it in (
+        "docs/commands.md", "examples/c/ptab.c", "examples/python/rename.py", "bindings/rust/Cargo.toml", "bindings/rust/src/lib.rs",
+        "bindings/c/memory.c", "crates/pt_c/src/lib.rt", "crates/pt_replay/specs/Claims.antt")} <= set(wanted), True)
+    same("what the library's package holds", sorted(found), sorted(wanted))
     must("dpkg-deb", "-x", deb, f"{folder}/devtree")
-    for place, source in (("include/ptab.h", "include/ptab.h"), ("include/ptab_disk.h", "include/ptab_disk.h"),
-                          ("lib/python3/dist-packages/ptab.py", "bindings/python/ptab.py")):
-        same(f"its {place}", content(f"{folder}/devtree/usr/{place}") == content(f"{TOP}/{source}"), True)
+    for place, source in wanted.items():
+        if source:
+            path = f"{TOP}/{source}"
+            same(f"its {place}", content(f"{folder}/devtree/usr/{place}") == content(path), True)
+            same(f"the mode of {place}", found[place], "-rwxr-xr-x" if os.access(path, os.X_OK) and "share/doc" in place else "-rw-r--r--")
+    links(f"{folder}/devtree/usr/share/doc/libptab-dev")
+    example(f"{folder}/devtree", folder, ptab)
     with open(f"{folder}/devtree/usr/lib/pkgconfig/ptab.pc", encoding="utf-8") as it:
         same("no path that the loader knows", "rpath" in it.read(), False)
     sum_of = hashlib.sha256(content(archive)).hexdigest()
@@ -155,9 +233,10 @@ def main():
         commit, fields = told(deb, sum_of)
         same("its file name", os.path.basename(deb), f"ptab_{fields['Version']}_{fields['Architecture']}.deb")
         unpacked(ptab, deb, folder, commit, fields, sum_of)
+        recipes(f"{folder}/tree", folder)
         refused(ptab, folder)
         if len(sys.argv) > 2:
-            library(os.path.abspath(sys.argv[2]), folder)
+            library(os.path.abspath(sys.argv[2]), folder, ptab)
     print(f"the package: {compared.count} passed, 0 failed; {sum_of[:16]}")
 
 

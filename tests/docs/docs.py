@@ -3,10 +3,13 @@
 document's sessions in their order in one folder, and each command there answers what the document shows; docs/commands.md has one for each
 command, and says of each answer that isn't a success what to do. README's piece of a program stands in the example that it names, and
 examples/README.md lists each example. Each sentence that an error of the library prints stands in docs/commands.md. What docs/promises.md
-names is there, and each file of CONTRIBUTING.md's recipes.
+names is there, and so is each file and each crate that the pages on the repository name. tests/README.md has each script as its own text
+has it, and the gate runs it. No line of a source is longer than the prover takes.
 
 usage: tests/docs/docs.py PTAB [DOCUMENT...]
 """
+import ast
+import glob
 import os
 import re
 import subprocess
@@ -15,15 +18,21 @@ import tempfile
 
 TOP = os.path.join(os.path.dirname(os.path.abspath(__file__)), "..", "..")
 sys.path.insert(0, os.path.join(TOP, "tests", "shared"))
+from commands import COMMANDS
 from sentences import ERRORS, is_told, sentences
 
 DOCUMENTS = ("README.md", "docs/commands.md", "docs/other_tools.md")
-# how a document names a file, and those that it names of any crate
-NAMED = re.compile(r"`([\w/.]+\.(?:rt|antt|txt|sh))`|\b((?:docs|tests|man|include|examples|completion|packaging)/[\w/.-]+\w)")
-GENERIC = ("wrong_bodies.txt", "laws.rt")
+# the pages on the repository; how they name a file and a crate; the files that they name of any crate, and names that stand for others
+NAMING = ("CONTRIBUTING.md", "tests/README.md", "docs/architecture.md", "docs/own_disk.md", "examples/README.md")
+NAMED = re.compile(r"(?<![\w/$])((?:\.\./)*[\w/*-]+\.(?:rt|antt|txt|py|sh|md|[ch]|rs|zsh|bash|fish|8)"
+                   r"|(?:docs|tests|man|include|examples|completion|packaging|bindings|bench|tools|crates)/[\w/.*-]*\w)(?![\w/])")
+CRATE = re.compile(r"\b(?:pt|test|example)_[a-z]\w*")
+GENERIC = ("wrong_bodies.txt", "laws.rt", "Lib.antt", "specs/inner.antt", "specs/inner/ForFields.antt")
+STANDS_FOR = re.compile(r"crates/NAME\b|/out/|\bCRATE/|^proofs/Json\.antt$|^src/json\.rt$")
+# how many characters a line of these has at most: the prover refuses a longer one
+WIDTH, SOURCES = 140, (".rt", ".antt", ".py", ".sh", ".c", ".h", ".rs")
 # the rows of docs/commands.md that need no advice
 SUCCESSES = ("a number", "0")
-COMMANDS = ("show", "verify", "locate", "edit", "plan", "check", "apply", "repair")
 
 
 def read(name):
@@ -67,8 +76,8 @@ def run(ptab, name, text):
 def each_command(text):
     """Each command's section has a session that calls it."""
     for name in COMMANDS:
-        section = re.search(rf"^## {name}\n(.*?)(?=^## |\Z)", text, re.DOTALL | re.MULTILINE).group(1)
-        if not any(re.match(rf"ptab {name}\b", command) for block in blocks(section) for command, _ in steps(block)):
+        section = re.search(rf"^## {name}\n(.*?)(?=^## |\Z)", text, re.DOTALL | re.MULTILINE)
+        if not section or not any(re.match(rf"ptab {name}\b", command) for block in blocks(section[1]) for command, _ in steps(block)):
             sys.exit(f"docs/commands.md has no example of ptab {name}")
 
 
@@ -183,22 +192,58 @@ def errors():
 
 
 def places(name):
-    """How many files a document names; each is there. A name without a folder of the repository's stands in the crate, or beside the
-    file, that its line names before it."""
+    """How many files and crates a document names; each is there. A path begins in the repository, beside the document, or in tests/;
+    or in the crate, or beside the file, that its line names before it, or at all where it names none before."""
     count = 0
     for line in read(name).splitlines():
-        crate, beside = "", ""
-        for found in NAMED.finditer(line):
-            path = found[1] or found[2]
+        crates, beside = CRATE.findall(line), ""
+        crate = f"crates/{crates[0]}" if crates else ""
+        for found in crates:
+            if not os.path.isdir(f"{TOP}/crates/{found}"):
+                sys.exit(f"{name} names {found}, which is no crate: {line}")
+            count += 1
+        for path in (found[1] for found in NAMED.finditer(line)):
             first = path.partition("/")[0]
             if os.path.isdir(f"{TOP}/crates/{first}"):
                 crate = f"crates/{first}"
-            there = [it for it in (f"crates/{path}", path, f"{crate}/{path}", f"{beside}/{path}") if os.path.isfile(f"{TOP}/{it}")]
-            if not there and path not in GENERIC:
+            there = [it for it in (path, f"{os.path.dirname(name)}/{path}", f"tests/{path}", f"crates/{path}", f"{crate}/{path}",
+                                   f"{crate}/specs/{path}", f"{beside}/{path}") if glob.glob(f"{TOP}/{it}")]
+            if not there and path not in GENERIC and not STANDS_FOR.search(path):
                 sys.exit(f"{name} names {path}, which isn't there: {line}")
             beside = os.path.dirname(there[0]) if there else beside
             count += 1
     return count
+
+
+def scripts():
+    """How many scripts tests/README.md has: each that says how it is run, in those words, and no other; the gate runs each."""
+    listed = re.findall(r"^\| `((\w+/\w+\.py)[^`]*)` \|", read("tests/README.md"), re.MULTILINE)
+    usages = {}
+    for path in glob.glob(f"{TOP}/tests/*/*.py"):
+        with open(path, encoding="utf-8") as it:
+            found = re.search(r"^usage: tests/(.*?)(?:  .*)?$", ast.get_docstring(ast.parse(it.read())) or "", re.MULTILINE)
+        if found:
+            usages[os.path.relpath(path, f"{TOP}/tests")] = found[1]
+    gate = read("test.sh")
+    for text, path in listed:
+        if usages.get(path) != text:
+            sys.exit(f"tests/README.md has {text}, and the script says {usages.get(path)}")
+        if not re.search(rf"^(?:then )?{path}\b", gate, re.MULTILINE):
+            sys.exit(f"test.sh doesn't run tests/{path}")
+    if set(usages) - {path for _, path in listed}:
+        sys.exit(f"tests/README.md doesn't list {sorted(set(usages) - {path for _, path in listed})}")
+    return len(listed)
+
+
+def lines():
+    """How many sources have no line that is too long."""
+    names = subprocess.run(["git", "-C", TOP, "ls-files", "-z"], capture_output=True, text=True, check=True).stdout.split("\0")
+    names = [name for name in names if name.endswith(SOURCES) and os.path.isfile(f"{TOP}/{name}")]
+    for name in names:
+        for number, line in enumerate(read(name).splitlines(), 1):
+            if len(line) > WIDTH:
+                sys.exit(f"{name}:{number} has {len(line)} characters, and {WIDTH} are the most")
+    return len(names)
 
 
 def main():
@@ -209,7 +254,9 @@ def main():
     each_command(read("docs/commands.md"))
     print(f"docs/commands.md: {advice(read('docs/commands.md'))} answers say what to do; examples/README.md lists {examples()} examples")
     print(f"docs/promises.md: {promises()} names are there")
-    print(f"CONTRIBUTING.md: {places('CONTRIBUTING.md')} files are there")
+    for name in NAMING:
+        print(f"{name}: {places(name)} files and crates are there")
+    print(f"tests/README.md: {scripts()} scripts are run as it says; {lines()} sources have no line of more than {WIDTH} characters")
     print(f"errors: {errors()} sentences stand in docs/commands.md, 0 are missing")
 
 

@@ -19,10 +19,10 @@ TOP = os.path.join(os.path.dirname(os.path.abspath(__file__)), "..", "..")
 sys.path.insert(0, os.path.join(TOP, "tests", "shared"))
 import compared
 import sentences
+from commands import COMMANDS
 from compared import same
 from sentences import read
 
-COMMANDS = ("show", "verify", "locate", "edit", "plan", "check", "apply", "repair", "adopt")
 NOT_DIAGNOSTICS = ("Word", "Table", "Status", "E")
 # what docs/commands.md writes shorter: the text there, and those printed that it stands for
 SHORT = {"no table: ..": [], "a number": [], "no 5 alternate primary": ["no 5 alternate primary", "no 5 alternate backup"],

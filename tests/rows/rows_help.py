@@ -5,12 +5,12 @@ import re
 import subprocess
 import sys
 
+import commands
 from command import Command
 from images import SMALL
 
 DOCS = os.path.join(os.path.dirname(os.path.abspath(__file__)), "..", "..", "docs", "commands.md")
-STATUSES = {"": "0123456", "show": "0123456", "verify": "01256", "locate": "012456", "edit": "023456",
-            "plan": "023456", "check": "012356", "apply": "012356", "repair": "023456", "adopt": "023456"}
+STATUSES = {"": "0123456", **commands.STATUSES}
 
 
 def page(command, *words):
