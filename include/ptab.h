@@ -161,10 +161,10 @@ int32_t ptab_locate(const ptab_view *view, uint64_t number, uint8_t letter, uint
  * The plan of an edit. `words` are edit words as `ptab edit` takes them, UTF-8, each ended by a zero byte; `drawn` has
  * 16 random bytes for each GUID that they need.
  *
- * To carry it out: lock the disk; fsync; read; call; then for each phase write its sectors, in any order, and fsync
- * before the next phase. If a write or an fsync fails, stop: the disk has the old table or the new one. PTAB_DONE
- * with no writes says that the disk is as wanted. The plan is for the disk as it was read: if anything else writes the
- * disk in between, throw the plan away.
+ * To carry it out: lock the disk; fsync; drop what is cached of it; read; call; then for each phase write its sectors, in
+ * any order, and fsync before the next phase. If a write or an fsync fails, stop: the disk has the old table or the new
+ * one. PTAB_DONE with no writes says that the disk is as wanted. The plan is for the disk as it was read: if anything else
+ * writes the disk in between, throw the plan away.
  */
 int32_t ptab_plan(const ptab_view *view, const uint8_t *words, size_t words_len, const uint8_t *drawn,
                   size_t drawn_len, ptab_write *writes, size_t writes_len, uint8_t *bytes, size_t bytes_len,

@@ -4,10 +4,27 @@
  *
  * Rules, besides those of ptab.h:
  *   - each call reads the disk anew, its size too, so it answers for the disk as it is now;
- *   - a call that writes first makes durable what is there, then reads, and writes a plan phase by phase with a sync after
+ *   - each call first syncs the disk and drops what the system has cached of it, and reads past the cache (O_DIRECT), so it
+ *     answers for what is on the medium, as far as the system can do that (docs/c.md);
+ *   - a call that writes first makes durable what is there, then reads, and writes a plan phase by phase with an fsync after
  *     each. It stops at the first write or sync that fails; the disk then has the old table or the new one;
- *   - calls on one disk come one after the other; on different disks they may be in several threads at once;
  *   - `errno` is that of the call that failed where PTAB_DEVICE is answered.
+ *
+ * The descriptor. While a call runs it sets O_DIRECT for its reads and clears it for its writes; then the flag is as it was.
+ * So nobody else reads or writes meanwhile by the descriptor, by a duplicate of it, or by one that a fork left.
+ *
+ * Threads. Any thread may call. Calls on one disk, ptab_disk_close too, come one after the other; on different disks they may
+ * be in several threads at once. No thread is cancelled (pthread_cancel) in a call.
+ *
+ * Fork. The disk stays that of the process that opened it. A child that was forked may close its copy, which ends no lock and
+ * changes nothing for the opener; it may do nothing else: every other call is answered by PTAB_DISK_FORKED. The lock ends when
+ * the opener closes the disk, or, where it ends without that, when no process has a copy of the descriptor left. An exec closes
+ * what ptab_disk_open opened.
+ *
+ * Signals. A signal that interrupts a call doesn't end it, so SA_RESTART makes no difference. A handler makes none of these
+ * calls, and doesn't leave one by longjmp. A process that is killed in a call leaves the old table or the new one. No file is
+ * mapped, so no call raises SIGBUS, and none raises SIGPIPE. As with each write, the system raises SIGXFSZ where the limit of a
+ * file's size is reached; where that is ignored, PTAB_DEVICE is answered, with EFBIG.
  *
  * Every call returns a status of ptab.h, but never PTAB_WANT or PTAB_WANT_OTHER, and fills the
  * reply.
@@ -35,7 +52,7 @@ enum {
 
 /* More of what `reply.number` counts. */
 enum {
-  PTAB_ABOUT_DISK = 64,      /* 1 to 12, below: `sector` is that of a read or write, `b` is errno */
+  PTAB_ABOUT_DISK = 64,      /* 1 to 13, below: `sector` is that of a read or write, `b` is errno */
   PTAB_ABOUT_OTHER_DISK = 65 /* the same of the other disk of ptab_disk_adopt */
 };
 
@@ -51,7 +68,8 @@ enum {
   PTAB_DISK_SECTOR_SIZE = 9, /* PTAB_USAGE: the device has sectors of `a` bytes */
   PTAB_DISK_READ_ONLY = 10,  /* PTAB_USAGE: it was opened for reading alone */
   PTAB_DISK_RANDOM = 11,     /* PTAB_DEVICE: the system gives no random bytes */
-  PTAB_DISK_HOW = 12         /* PTAB_USAGE: `how` is no sum of the above */
+  PTAB_DISK_HOW = 12,        /* PTAB_USAGE: `how` is no sum of the above */
+  PTAB_DISK_FORKED = 13      /* PTAB_USAGE: another process opened the disk, and this one was forked from it */
 };
 
 /* The kinds of PTAB_DISK_KIND. */
@@ -69,11 +87,14 @@ enum {
    status but PTAB_DONE `*disk` is NULL. */
 int32_t ptab_disk_open(const char *path, uint32_t how, uint32_t sector_size, ptab_disk **disk, ptab_reply *reply);
 
-/* The same of a descriptor, which stays the caller's: it was opened for reading, or for both and not for appending, a device
-   with O_EXCL. It is locked and unlocked as a path is, unless PTAB_DISK_UNLOCKED says that the caller does. */
+/* The same of a descriptor, which stays the caller's, and open until the disk is closed: it was opened for reading, or for
+   both and not for appending, with O_DIRECT or without, a device with O_EXCL. It is locked and unlocked as a path is, unless
+   PTAB_DISK_UNLOCKED says that the caller does. A descriptor and its duplicates have one lock, so one of them is taken at a
+   time: of two disks the second isn't refused, and the lock ends with the first that is closed. */
 int32_t ptab_disk_take(int fd, uint32_t how, uint32_t sector_size, ptab_disk **disk, ptab_reply *reply);
 
-/* Ends the lock, and closes what ptab_disk_open opened. NULL is no disk, and nothing is done. */
+/* Ends the lock, unless this process was forked from the one that opened the disk, and closes what ptab_disk_open opened.
+   NULL is no disk, and nothing is done. */
 void ptab_disk_close(ptab_disk *disk);
 
 /* How many sectors the disk has now, and how many bytes each of them has. */

@@ -16,14 +16,14 @@ folder=$(mktemp -d)
 trap 'rm -rf "$folder"' EXIT
 mkdir -p "$out"
 flags="-O2 -std=c11 -Wall -Wextra -pedantic -Werror -fPIC -I$here/../../include"
+sources="ptab_disk ptab_disk_open ptab_disk_io ptab_disk_text ptab_disk_list"
 ${CC:-cc} $flags -c "${MEMORY:-$here/memory.c}" -o "$folder/ptab_memory.o"
-${CC:-cc} $flags -c "$here/ptab_disk.c" -o "$folder/ptab_disk.o"
-${CC:-cc} $flags -c "$here/ptab_disk_text.c" -o "$folder/ptab_disk_text.o"
-${CC:-cc} $flags -c "$here/ptab_disk_list.c" -o "$folder/ptab_disk_list.o"
+for source in $sources; do
+  ${CC:-cc} $flags -c "$here/$source.c" -o "$folder/$source.o"
+done
 cp "$archive" "$folder/libptab.a"
 chmod u+w "$folder/libptab.a"
-ar rDs "$folder/libptab.a" "$folder/ptab_memory.o" "$folder/ptab_disk.o" "$folder/ptab_disk_text.o" "$folder/ptab_disk_list.o" \
-  2>"$folder/said"
+(cd "$folder" && ar rDs libptab.a ptab_memory.o $(printf '%s.o ' $sources)) 2>"$folder/said"
 {
   echo 'PTAB_1 {'
   echo '  global: ptab_wanted; ptab_members; ptab_verify; ptab_locate; ptab_plan; ptab_repair; ptab_adopt_plan; ptab_check;'

@@ -147,6 +147,7 @@ static const char *const disks[] = {
     "the disk was opened for reading alone",
     "the system gives no random bytes",
     "there is no such way to open a disk",
+    "the disk was opened by another process",
 };
 
 static const char *const kinds[] = {"no file or block device", "a plain file", "a block device", "a folder",

@@ -10,6 +10,7 @@ one on the disk. The module calls the library's ptab_disk.h by ctypes; docs/c.md
 from __future__ import annotations
 
 import ctypes as c
+import operator
 import os
 import uuid
 from pathlib import Path
@@ -22,6 +23,7 @@ DONE, NO, USAGE, REFUSED, NO_TABLE, DEVICE, MEMORY, ROOM = 0, 1, 2, 3, 4, 5, 6, 
 VERSION, MOST_MEMBERS, MOST_WRITES, GPT = 1, 1056, 264, 2
 WRITE, UNLOCKED, IS_DEVICE = 1, 2, 4
 ABOUT_DISK, LOCKED = 64, 7
+ABOUT_ARGUMENT, ARGUMENT_SIZE, ARGUMENT_PARTITION, ARGUMENT_PLAN = 1, 1, 3, 6
 
 
 class _Reply(c.Structure):
@@ -71,6 +73,19 @@ class Error(Exception):
 
 class BadArgument(Error, ValueError):
     """An argument or a word that has no meaning."""
+
+
+def _bad(sentence: str, number: int = 0) -> BadArgument:
+    """The error of an argument that the library isn't given; with the number that the library has for such a one, if it has any."""
+    return BadArgument(USAGE, _Reply(about=ABOUT_ARGUMENT if number else 0, number=number), sentence)
+
+
+def _within(name: str, value: int, bits: int, number: int = 0) -> int:
+    """The value, if it fits an unsigned number of so many bits: ctypes would cut it."""
+    value = operator.index(value)
+    if not 0 <= value < 1 << bits:
+        raise _bad(f"{name} is {value}, and not from 0 to 2^{bits} - 1", number)
+    return value
 
 
 class Refused(Error):
@@ -157,14 +172,20 @@ _CALLS = {
 _library: Optional[c.CDLL] = None
 
 
+def _installed() -> Optional[str]:
+    """The shared object of the prefix that this module was installed under, in PREFIX/lib/python3/dist-packages, or none."""
+    folders = Path(__file__).resolve().parents
+    near = folders[2] / "libptab.so.1" if len(folders) > 2 else None
+    return str(near) if near is not None and near.exists() else None
+
+
 def load(path: Optional[str] = None) -> c.CDLL:
     """The shared object: this file, else that of PTAB_LIBRARY, else the one that was installed with this module, else the system's. It is
     loaded once; a path replaces it."""
     global _library
     if _library is not None and path is None:
         return _library
-    near = Path(__file__).resolve().parents[2] / "libptab.so.1"
-    library = c.CDLL(path or os.environ.get("PTAB_LIBRARY") or (str(near) if near.exists() else "libptab.so.1"), use_errno=True)
+    library = c.CDLL(path or os.environ.get("PTAB_LIBRARY") or _installed() or "libptab.so.1", use_errno=True)
     for name, arguments in _CALLS.items():
         function = getattr(library, name)
         function.argtypes, function.restype = arguments, c.c_int32
@@ -191,7 +212,10 @@ def _fail(library: c.CDLL, status: int, reply: _Reply) -> Error:
 
 class Disk:
     """An open image, or block device with `device`. With `write` it is locked until it is closed, but with `lock=False`, for who holds the
-    lock. `path` may be a descriptor, which stays open. A device has a sector size of its own; an image has 512 where none is told."""
+    lock. `path` may be a descriptor, which stays open. A device has a sector size of its own; an image has 512 where none is told.
+
+    Threads take turns with a disk: its calls, `close` among them, come one after the other. A forked process may close it, which leaves
+    the lock to the process that opened it; all else is a BadArgument there."""
 
     def __init__(self, path: Union[str, os.PathLike, int], *, write: bool = False, lock: bool = True, device: bool = False,
                  sector_size: int = 0) -> None:
@@ -200,10 +224,15 @@ class Disk:
         self._library = load()
         how = (WRITE if write else 0) | (0 if lock else UNLOCKED) | (IS_DEVICE if device else 0)
         disk, reply = c.c_void_p(), _Reply()
+        sector_size = _within("sector_size", sector_size, 32, ARGUMENT_SIZE)
         if isinstance(path, int):
+            path = _within("the descriptor", path, 31)
             status = self._library.ptab_disk_take(path, how, sector_size, c.byref(disk), c.byref(reply))
         else:
-            status = self._library.ptab_disk_open(os.fsencode(path), how, sector_size, c.byref(disk), c.byref(reply))
+            name = os.fsencode(path)
+            if b"\0" in name:
+                raise _bad("the path has a zero byte")
+            status = self._library.ptab_disk_open(name, how, sector_size, c.byref(disk), c.byref(reply))
         if status != DONE:
             raise _fail(self._library, status, reply)
         self._disk = disk
@@ -226,12 +255,16 @@ class Disk:
     def __repr__(self) -> str:
         return f"Disk({self._path!r}{'' if self._disk is not None else ', closed'})"
 
+    def _open(self, name: str = "the disk") -> c.c_void_p:
+        """The library's disk, while this one isn't closed."""
+        if self._disk is None:
+            raise ValueError(f"{name} is closed")
+        return self._disk
+
     def _call(self, name: str, *arguments: object, allowed: Iterable[int] = (DONE,)) -> tuple[int, _Reply]:
         """The status and the reply of a call; any status but those allowed is an error."""
-        if self._disk is None:
-            raise ValueError("the disk is closed")
-        reply = _Reply()
-        status = getattr(self._library, f"ptab_disk_{name}")(self._disk, *arguments, c.byref(reply))
+        disk, reply = self._open(), _Reply()
+        status = getattr(self._library, f"ptab_disk_{name}")(disk, *arguments, c.byref(reply))
         if status not in allowed:
             raise _fail(self._library, status, reply)
         return status, reply
@@ -268,7 +301,10 @@ class Disk:
 
     def locate(self, number: int, k: int, letter: str = "") -> Optional[int]:
         """The disk's sector that is sector `k` of a partition, or None."""
-        status, reply = self._call("locate", number, ord(letter) if letter else 0, k, allowed=(DONE, NO))
+        if letter and letter not in list("abcdefgh"):
+            raise _bad(f"the letter is {letter!r}, and not one from a to h", ARGUMENT_PARTITION)
+        status, reply = self._call("locate", _within("number", number, 64, ARGUMENT_PARTITION), ord(letter) if letter else 0,
+                                   _within("k", k, 64), allowed=(DONE, NO))
         return reply.sector if status == DONE else None
 
     def edit(self, *words: str, drawn: Optional[bytes] = None) -> int:
@@ -282,15 +318,15 @@ class Disk:
 
     def adopt(self, other: Disk) -> int:
         """Gives the disk the layout that another one denotes: how many sectors were written."""
-        return self._call("adopt", other._disk)[1].count
+        return self._call("adopt", other._open("the other disk"))[1].count
 
     def apply(self, plan: Plan) -> int:
         """Carries out a plan from elsewhere, if `check` says yes to it: how many sectors were written."""
-        return self._call("apply", *_given(plan))[1].count
+        return self._call("apply", *_given(plan, self.size()[1]))[1].count
 
     def check(self, plan: Plan) -> Verdict:
         """Whether a plan from elsewhere may be carried out."""
-        return self._verdict(*self._call("check", *_given(plan), allowed=(DONE, NO)))
+        return self._verdict(*self._call("check", *_given(plan, self.size()[1]), allowed=(DONE, NO)))
 
     def plan(self, *words: str, drawn: Optional[bytes] = None) -> Plan:
         """The plan of an edit, of which nothing is written."""
@@ -302,7 +338,7 @@ class Disk:
 
     def adopt_plan(self, other: Disk) -> Plan:
         """The plan that gives the disk the layout of another one."""
-        return self._plan("adopt_plan", other._disk)
+        return self._plan("adopt_plan", other._open("the other disk"))
 
     def _plan(self, name: str, *arguments: object) -> Plan:
         size, count = self.size()[1], MOST_WRITES
@@ -318,17 +354,28 @@ class Disk:
         return phases
 
 
+def _bytes(data: bytes) -> bytes:
+    """The bytes, also of a bytearray or a memoryview; of nothing else, since ctypes takes numbers for addresses."""
+    return data if isinstance(data, bytes) else bytes(memoryview(data))
+
+
 def _words(words: Sequence[str], drawn: Optional[bytes]) -> tuple[object, ...]:
     """Words and random bytes as arguments."""
     if any("\0" in word for word in words):
-        raise ValueError("a word has a zero byte")
+        raise _bad("a word has a zero byte")
     texts = (c.c_char_p * max(1, len(words)))(*[word.encode() for word in words])
-    return texts, len(words), drawn, 0 if drawn is None else len(drawn)
+    data = None if drawn is None else _bytes(drawn)
+    return texts, len(words), data, len(data or b"")
 
 
-def _given(plan: Plan) -> tuple[object, ...]:
-    """A plan as arguments."""
-    flat = [(write, number) for number, phase in enumerate(plan, 1) for write in phase]
-    writes = (_Write * max(1, len(flat)))(*[(write[0], number) for write, number in flat])
-    data = b"".join(write[1] for write, _ in flat)
-    return writes, len(flat), data or b"\0", len(data)
+def _given(plan: Plan, size: int) -> tuple[object, ...]:
+    """A plan as arguments, of writes of whole sectors."""
+    rows, data = [], []
+    for number, phase in enumerate(plan, 1):
+        for sector, content in phase:
+            content = _bytes(content)
+            if len(content) != size:
+                raise _bad(f"the write of sector {sector} in phase {number} has {len(content)} bytes, and a sector {size}", ARGUMENT_PLAN)
+            rows.append((_within(f"a sector of phase {number}", sector, 64, ARGUMENT_PLAN), number))
+            data.append(content)
+    return (_Write * max(1, len(rows)))(*rows), len(rows), b"".join(data) or b"\0", size * len(rows)

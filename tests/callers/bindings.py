@@ -1,7 +1,8 @@
 #!/usr/bin/env python3
 """The module for Python and the crate for Rust, where they aren't what disk_library.py has compared with the command: Python's
-exceptions, texts and type hints; in Rust, where there is a cargo, its tests without a warning, with the library in a folder and with the
-one that pkg-config finds, and its examples; these beside the command on drawn images, and a write that fails, with a mending after it.
+exceptions, texts and type hints, what its arguments may be, and where it finds the library; in Rust, where there is a cargo, its tests
+without a warning, with the library in a folder and with the one that pkg-config finds, and its examples; these beside the command on
+drawn images, and a write that fails, with a mending after it.
 
 usage: tests/callers/bindings.py PTAB ARCHIVE     ARCHIVE is crates/pt_c/out/libpt_c.a
 """
@@ -22,7 +23,7 @@ sys.path[:0] = [os.path.join(ROOT, "tests", "shared"), os.path.join(ROOT, "bindi
 import compared
 import images
 import ptab as lib
-from compared import put, same
+from compared import content, put, same
 from images import FREEBSD, SMALL, entry, label, record, room
 from other_test import of_test
 from tools import must
@@ -50,6 +51,8 @@ def exceptions(folder):
                  (lambda: disk.apply([[(100, bytes(512))]]), lib.Refused, lib.Error,
                   "sector 100 is written, and is in the tables of neither layout"),
                  (lambda: disk.apply([[(5, b"short")]]), lib.BadArgument, ValueError,
+                  "the write of sector 5 in phase 1 has 5 bytes, and a sector 512"),
+                 (lambda: disk.check([[(5, bytes(512))], [], [(6, bytes(512))]]), lib.BadArgument, ValueError,
                   "the plan's bytes aren't a whole sector for each write, or its phases aren't in order"),
                  (lambda: lib.Disk(path, write=True), lib.Locked, BlockingIOError, "the lock is held elsewhere"),
                  (none.table, lib.NoTable, lib.Error, f"there is no table: {NO_COPY}"),
@@ -62,9 +65,83 @@ def exceptions(folder):
         same("a word with a zero byte", str(error_of(lambda: disk.edit("c:1:\0"))), "a word has a zero byte")
         same("texts", (repr(disk), repr(disk.verify()), str(disk.verify()), str(none.verify())),
              (f"Disk({path!r})", "Verdict('yes')", "yes", "there is no table"))
-    same("closed", (repr(disk), str(error_of(disk.verify))), (f"Disk({path!r}, closed)", "the disk is closed"))
+    same("closed", repr(disk), f"Disk({path!r}, closed)")
+    for call in (disk.size, disk.table, disk.verify, lambda: disk.locate(1, 0), lambda: disk.edit("c:1:x"), disk.repair,
+                 lambda: disk.plan("e"), disk.repair_plan, lambda: disk.check([]), lambda: disk.apply([])):
+        same("a call on a closed disk", repr(error_of(call)), "ValueError('the disk is closed')")
+    with lib.Disk(path, write=True) as other:
+        for call in (lambda: other.adopt(disk), lambda: other.adopt_plan(disk)):
+            same("another disk that is closed", repr(error_of(call)), "ValueError('the other disk is closed')")
     disk.close()
     del disk
+
+
+def ranges(folder):
+    """What a number of C can't hold, and data of another length than a sector, are refused: nothing is cut, and nothing is written."""
+    path, image, sector = f"{folder}/ranges", images.one_partition(), bytes(512)
+    put(path, image)
+    with lib.Disk(path, write=True) as disk:
+        same("the most that they hold", (disk.locate(2 ** 64 - 1, 0), disk.locate(1, 2 ** 64 - 1)), (None, None))
+        plan = disk.plan("c:1:cut")
+        moved = [[(at + (1 << 64), data) for at, data in phase] for phase in plan]
+        shifted = b"".join(data for _, data in plan[0])
+        cut = [(at, shifted[511 * k:511 * (k + 1)]) for k, (at, _) in enumerate(plan[0][:-1])] + [(plan[0][-1][0], shifted[511 * 32:])]
+        first = plan[0][0][0]
+        above = "and not from 0 to 2^64 - 1"
+        for call, about, number, told in (
+                (lambda: disk.locate(2 ** 64 + 1, 0), 1, 3, f"number is {2 ** 64 + 1}, {above}"),
+                (lambda: disk.locate(-1, 0), 1, 3, f"number is -1, {above}"),
+                (lambda: disk.locate(1, 2 ** 64), 0, 0, f"k is {2 ** 64}, {above}"),
+                (lambda: disk.locate(1, -5), 0, 0, f"k is -5, {above}"),
+                (lambda: disk.locate(0, 0), 1, 3, "the number is 0, or the letter is neither 0 nor from a to h"),
+                (lambda: disk.locate(1, 0, "ab"), 1, 3, "the letter is 'ab', and not one from a to h"),
+                (lambda: disk.locate(1, 0, "i"), 1, 3, "the letter is 'i', and not one from a to h"),
+                (lambda: disk.locate(1, 0, chr(0x161)), 1, 3, "the letter is 'š', and not one from a to h"),
+                (lambda: disk.locate(1, 0, "A"), 1, 3, "the letter is 'A', and not one from a to h"),
+                (lambda: disk.apply(moved), 1, 6, f"a sector of phase 1 is {first + 2 ** 64}, {above}"),
+                (lambda: disk.check([plan[0], [(-1, sector)]]), 1, 6, f"a sector of phase 2 is -1, {above}"),
+                (lambda: disk.check([cut, *plan[1:]]), 1, 6, f"the write of sector {first} in phase 1 has 511 bytes, and a sector 512"),
+                (lambda: disk.apply([cut, *plan[1:]]), 1, 6, f"the write of sector {first} in phase 1 has 511 bytes, and a sector 512"),
+                (lambda: disk.apply([[(5, bytes(4096))]]), 1, 6, "the write of sector 5 in phase 1 has 4096 bytes, and a sector 512"),
+                (lambda: disk.edit("c:1:x", drawn=bytes(17)), 1, 4, "the random bytes aren't whole groups of 16"),
+                (lambda: lib.Disk(path, sector_size=2 ** 32 + 512), 1, 1, f"sector_size is {2 ** 32 + 512}, and not from 0 to 2^32 - 1"),
+                (lambda: lib.Disk(path, sector_size=-512), 1, 1, "sector_size is -512, and not from 0 to 2^32 - 1"),
+                (lambda: lib.Disk(2 ** 32), 0, 0, f"the descriptor is {2 ** 32}, and not from 0 to 2^31 - 1"),
+                (lambda: lib.Disk(-1), 0, 0, "the descriptor is -1, and not from 0 to 2^31 - 1"),
+                (lambda: lib.Disk(f"{path}\0.bak"), 0, 0, "the path has a zero byte")):
+            error = error_of(call)
+            same(told, (type(error), str(error), error.about, error.number, error.written), (lib.BadArgument, told, about, number, 0))
+        for call in (lambda: disk.locate("1", 0), lambda: disk.locate(1, 0.5), lambda: disk.locate(None, 0),
+                     lambda: disk.edit("e", drawn=16), lambda: disk.edit("e", drawn="x" * 16), lambda: disk.apply([[(5, "x" * 512)]]),
+                     lambda: disk.apply([[(5.0, sector)]]), lambda: lib.Disk(path, sector_size="512")):
+            same("another type", type(error_of(call)), TypeError)
+        same("nothing was written", content(path) == image, True)
+        views = [[(at, memoryview(bytearray(data))) for at, data in phase] for phase in plan]
+        same("bytes by other names", (bool(disk.check(views)), disk.apply(views), disk.table().partitions[0].name), (True, 67, "cut"))
+
+
+def places(folder):
+    """The module finds the library that was installed with it, and that of the system wherever it lies itself."""
+    code = """
+import sys
+name, path = sys.argv[1:]
+module = {"__name__": "ptab", "__file__": name}
+exec(compile(open(path, encoding="utf-8").read(), name, "exec"), module)
+print(module["load"]()._name)
+"""
+    source, near = f"{ROOT}/bindings/python/ptab.py", f"{folder}/near/lib"
+    env = {name: value for name, value in os.environ.items() if name != "PTAB_LIBRARY"}
+    for name in ("/ptab.py", "/x/ptab.py", "/x/y/ptab.py", "/a/b/c/d/ptab.py"):
+        same(name, must(sys.executable, "-c", code, name, source, env={**env, "LD_LIBRARY_PATH": folder}), "libptab.so.1\n")
+    installed = f"{near}/python3/dist-packages"
+    os.makedirs(installed)
+    shutil.copy(source, installed)
+    shutil.copy(f"{folder}/libptab.so.1", near)
+    line = [sys.executable, "-B", "-c", "import ptab; print(ptab.load()._name)"]
+    named = f"{folder}/libptab.so"
+    for more, wanted in (({}, f"{near}/libptab.so.1"), ({"LD_LIBRARY_PATH": folder}, f"{near}/libptab.so.1"),
+                         ({"PTAB_LIBRARY": named}, named)):
+        same(f"installed, and {more}", must(*line, env={**env, "PYTHONPATH": installed, **more}), f"{wanted}\n")
 
 
 def rows(folder):
@@ -102,7 +179,7 @@ def in_rust(ptab, archive, folder):
     shutil.copytree(f"{ROOT}/bindings/rust", crate, ignore=shutil.ignore_patterns("target", "Cargo.lock"))
     where = {**os.environ, "CARGO_TARGET_DIR": f"{folder}/target", "RUSTFLAGS": "-D warnings", "CARGO_TERM_COLOR": "never"}
     said = must("cargo", "test", "--offline", "--quiet", cwd=crate, env={**where, "PTAB_LIB_DIR": folder})
-    same("the tests in Rust", "6 passed; 0 failed" in said, True)
+    same("the tests in Rust", "7 passed; 0 failed" in said, True)
     must(f"{ROOT}/install.sh", prefix, env={**os.environ, "PTAB": ptab, "LIBRARY": archive, "DESTDIR": ""})
     if not shutil.which("pkg-config"):
         return "Rust too, without pkg-config"
@@ -163,6 +240,8 @@ def main():
         must(f"{ROOT}/bindings/c/build.sh", archive, folder)
         lib.load(f"{folder}/libptab.so.1")
         exceptions(folder)
+        ranges(folder)
+        places(folder)
         rows(folder)
         hints()
         rust = in_rust(ptab, archive, folder)

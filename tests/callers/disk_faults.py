@@ -1,6 +1,6 @@
 """Has each call of the C example on its image fail in turn, and each request for memory (disk_library.py). The answer is that of the
-fault, or what it is without: a sector that can't be read counts only where the answer rests on it, and is asked for once more. After a
-write has failed the image has the plan's writes up to there and no other."""
+fault, or what it is without: a sector that can't be read counts only where the answer rests on it, and is asked for once more; who only
+reads is told of no sync that fails. After a write has failed the image has the plan's writes up to there and no other."""
 import errno
 import os
 import shutil
@@ -13,8 +13,8 @@ from doubles import phases_of
 ALL = 2 ** 32 - 1
 FAILS, DONE_AND_FAILS, ONE_BYTE, NOTHING = range(4)
 DEVICE, MEMORY = ("", "device\n", 5), (("", "memory\n", 6), ("", "other: memory\n", 6))
-HARMLESS = {"r": ((FAILS, errno.EINTR), (ONE_BYTE, 0)), "w": ((FAILS, errno.EINTR), (ONE_BYTE, 0)), "f": ((FAILS, errno.EINTR),),
-            "l": ((FAILS, errno.EINTR),), "o": ((FAILS, errno.EINTR),), "c": ((FAILS, errno.EIO),)}
+HARMLESS = {"r": ((FAILS, errno.EINTR), (FAILS, errno.EINVAL), (ONE_BYTE, 0)), "w": ((FAILS, errno.EINTR), (ONE_BYTE, 0)),
+            "f": ((FAILS, errno.EINTR),), "l": ((FAILS, errno.EINTR),), "o": ((FAILS, errno.EINTR),), "c": ((FAILS, errno.EIO),)}
 
 
 def disks():
@@ -38,6 +38,7 @@ class Job:
         self.ptab, self.it, self.sectors, self.image, self.told = ptab, it, sectors, bytes(image), f"{name}: {line}"
         self.line = (it.path, str(sectors.size), *line)
         self.size = ("--sector-size", str(sectors.size))
+        self.only_reads = planned is None
         self.writes = self.planned(planned) if planned else []
         self.old = by(ptab, ("show", *self.size, self.put()))
         self.wanted, self.log, self.after = self.run((0, 0, 0, 0, 0))
@@ -84,7 +85,9 @@ class Job:
         letter, earlier = self.log[first - 1], self.log[:first - 1]
         told = f"{self.told}: call {first} of {len(self.log)} ({letter}), way {how}, errno {error}, last {last}"
         found, _, left = self.run((first, last, how, error, 0))
-        if letter == "r" and found == self.wanted:
+        if letter == "f" and self.only_reads and last == first and found != self.wanted:
+            fail(told, found, self.wanted)
+        if (letter == "r" or letter == "f" and self.only_reads) and found == self.wanted:
             if left != self.after:
                 fail(told, "another image", "that without the fault")
             return

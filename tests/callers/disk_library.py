@@ -24,8 +24,10 @@ ROOT = os.path.dirname(os.path.dirname(HERE))
 sys.path[:0] = [os.path.join(ROOT, "tests", "shared"), os.path.join(ROOT, "bindings", "python")]
 import compared
 import disk_faults
+import disk_system
 import images
 import ptab as lib
+import replay
 from compared import content, put, same
 from doubles import text_of
 from images import LARGE, SMALL, room
@@ -75,7 +77,7 @@ int main(void) { ptab_disk_close(0); return ptab_version() == PTAB_VERSION ? 0 :
                 must(compiler, standard, *WARNINGS, include, f"{folder}/{name}", f"{folder}/libptab.a", "-o", f"{folder}/h")
                 same(f"{compiler} {standard}", must(f"{folder}/h"), "")
     for compiler in compilers[0]:
-        for source in ("ptab_disk", "ptab_disk_text", "ptab_disk_list"):
+        for source in ("ptab_disk", "ptab_disk_open", "ptab_disk_io", "ptab_disk_text", "ptab_disk_list"):
             must(compiler, "-std=c11", *WARNINGS, include, "-c", f"{ROOT}/bindings/c/{source}.c", "-o", f"{folder}/{source}.o")
     for name in ("ptab", "rename"):
         must("cc", "-std=c11", *WARNINGS, include, f"{ROOT}/examples/c/{name}.c", f"{folder}/libptab.a", "-o", f"{folder}/{name}_c")
@@ -353,6 +355,55 @@ def full_files(ptab, folder):
             same(f"{name}: the file is shorter now", (disk.size()[0], disk.verify().number), (last - 5, 1))
 
 
+# plans that are too long
+
+
+def field_values(reply):
+    return [getattr(reply, name) for name, _ in reply._fields_]
+
+
+def wants(call, sectors, image):
+    """The sectors that a call of ptab.h wants one after the other, of a disk of which nothing is known, and its last status and reply."""
+    disk = replay.Disk(replay.Ptab(lib.load()._name), lambda lba: bytes(image[lba * sectors.size:(lba + 1) * sectors.size]),
+                       sectors.count(image), sectors.size)
+    disk._pack()
+    wanted, reply = [], replay.Reply()
+    while (status := call(disk.lib, ctypes.byref(disk.view), ctypes.byref(reply))) == replay.WANT:
+        wanted.append(reply.sector)
+        disk._add(reply.sector)
+    return wanted, status, field_values(reply)
+
+
+def long_plans(folder):
+    """The answer to a plan of too many writes is that of ptab_check, which wants the sectors of the table first, and the plan isn't
+    copied for it."""
+    path, count = f"{folder}/long", 4097
+    for sectors, image in ((SMALL, SMALL.zeros(100)), (SMALL, images.one_partition()), (SMALL, images.long_chain(124)),
+                           (SMALL, SMALL.gpt(300, {1: images.entry(40, 139, images.FREEBSD)})), (LARGE, LARGE.gpt(64, {}))):
+        put(path, image)
+        data, table, row = ctypes.create_string_buffer(count * sectors.size), replay.Table(), replay.Member()
+        members = wants(lambda of, view, reply: of.ptab_members(view, ctypes.byref(table), ctypes.byref(row), 0, reply), sectors, image)
+        for phases, length in (([1] * count, len(data)), ([*range(1, count + 1)], len(data)), ([1] * 4000 + [2] * 97, len(data)),
+                               ([1] * 4000 + [3] * 97, len(data)), ([1] * 4000 + [0] * 97, len(data)), ([2] * count, len(data)),
+                               ([0] * count, len(data)), ([1] * count, len(data) - 1), ([1] * count, len(data) - sectors.size)):
+            rows = (lib._Write * count)(*[(1, phase) for phase in phases])
+            wanted, status, fields = wants(lambda of, view, reply: of.ptab_check(view, rows, count, data, length, reply), sectors, image)
+            if status == lib.NO:
+                same("what is wanted first", (wanted, fields[5:7]), (members[0], [7, 1]))
+            with lib.Disk(path, write=True, sector_size=sectors.size) as disk:
+                for call in (disk._library.ptab_disk_check, disk._library.ptab_disk_apply):
+                    reply = lib._Reply()
+                    found = call(disk._disk, rows, count, data, length, ctypes.byref(reply))
+                    same(f"a long plan of phases {phases[0]} to {phases[-1]}, {length}", (found, field_values(reply)), (status, fields))
+        same("nothing is written", content(path) == image, True)
+    rows, data = (lib._Write * 200000)(*[(1, 1)] * 200000), ctypes.create_string_buffer(200000 * 512)
+    with lib.Disk(put(path, images.one_partition())) as disk:
+        reply, before = lib._Reply(), resource.getrusage(resource.RUSAGE_SELF).ru_maxrss
+        found = disk._library.ptab_disk_check(disk._disk, rows, len(rows), data, len(data), ctypes.byref(reply))
+        grown = resource.getrusage(resource.RUSAGE_SELF).ru_maxrss - before
+    same(f"200000 writes aren't copied: {grown} kB", (found, reply.about, reply.number, grown < 20000), (lib.NO, 7, 1, True))
+
+
 # loop devices
 
 
@@ -382,6 +433,9 @@ def on_devices(ptab, example, folder):
             if device is None:
                 return False
             on_device(ptab, example, device, path, sectors, edits, name)
+            if name.startswith("GPT") and name != "GPT with a slice":
+                put_at(path, 0, image())
+                disk_system.on_device(ptab, example, folder, device, path, sectors)
     return True
 
 
@@ -457,10 +511,13 @@ def main():
         small_buffers(folder)
         drawn_guids(folder)
         full_files(ptab, folder)
+        long_plans(folder)
+        medium = disk_system.tried(ptab, example, folder)
         compared.count += disk_faults.calls(ptab, example, folder)
         compared.count += disk_faults.memory(ptab, example, folder)
         devices = on_devices(ptab, example, folder)
-    print(f"disk library: {compared.count} passed, 0 failed{'' if devices else ' (no loop devices here, so none was tried)'}")
+    left = "" if devices and medium else " (no loop devices here, or no file systems on them, so none was tried)"
+    print(f"disk library: {compared.count} passed, 0 failed{left}")
 
 
 main()

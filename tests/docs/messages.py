@@ -135,13 +135,13 @@ def of_disks(texts):
     """The sentences that docs/c.md has."""
     told = read("docs/c.md")
     cases = [(1, {"about": ARGUMENT, "number": number}) for number in range(1, 9)]
-    cases += [(5, {"about": about, "number": number, "a": 0}) for about in (DISK, OTHER_DISK) for number in range(1, 13)]
+    cases += [(5, {"about": about, "number": number, "a": 0}) for about in (DISK, OTHER_DISK) for number in range(1, 14)]
     cases += [(5, {"about": DISK, "number": 2, "a": kind}) for kind in range(7)] + [(status, {}) for status in range(-3, 7)]
     for status, fields in cases:
         text = texts.message(status, **fields).removeprefix("the other disk: ")
         pattern = re.sub(r"\b0\b", "N", text) if "of 2^64" not in text and "number is 0" not in text else text
         same(f"docs/c.md has: {pattern}", f"`{pattern}`" in told or f"| {pattern} |" in told, True)
-    for number in (13, 63, 65):
+    for number in (14, 63, 65):
         same("no such number", texts.message(5, about=DISK, number=number), "the disk failed")
     for about in (11, 63, 66, 2 ** 32 - 1):
         same("about nothing", texts.message(3, about=about, number=1), "it is refused")

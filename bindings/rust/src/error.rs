@@ -49,6 +49,13 @@ impl Error {
         Error { kind, reason: Reason::new(status, reply), written: if failed { reply.count } else { 0 }, errno }
     }
 
+    /// Of a plan that the library isn't given, with the numbers that it has for one.
+    pub(crate) fn of_plan(sentence: &str) -> Error {
+        let mut error = Error::told(ErrorKind::BadArgument, sentence);
+        (error.reason.about, error.reason.number) = (sys::ABOUT_ARGUMENT, sys::ARGUMENT_PLAN);
+        error
+    }
+
     pub(crate) fn told(kind: ErrorKind, sentence: &str) -> Error {
         let reason = Reason { about: 0, number: 0, a: 0, b: 0, sentence: sentence.to_string() };
         Error { kind, reason, written: 0, errno: None }

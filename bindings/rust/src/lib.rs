@@ -82,7 +82,8 @@ impl Options {
         self.disk(|disk, reply| unsafe { sys::ptab_disk_open(path.as_ptr(), self.how, self.sector_size, disk, reply) })
     }
 
-    /// Takes an open file: a duplicate of its descriptor, which has the same lock.
+    /// Takes an open file: a duplicate of its descriptor, which has the same lock. Nobody else reads or writes by the file while a call
+    /// runs, and it isn't taken twice at a time: the lock ends when the first of the two is dropped.
     pub fn take<F: AsFd>(&self, file: F) -> Result<Disk, Error> {
         let descriptor = file.as_fd().try_clone_to_owned().map_err(|why| Error::system(&why))?;
         let fd = descriptor.as_raw_fd();
@@ -104,14 +105,15 @@ impl Options {
     }
 }
 
-/// A disk that is open.
+/// A disk that is open. A forked process may drop it, which leaves the lock to the process that opened it; all else is refused there.
 #[derive(Debug)]
 pub struct Disk {
     raw: NonNull<RawDisk>,
     _descriptor: Option<OwnedFd>,
 }
 
-// A disk is a descriptor; its calls come one after the other, since each takes `&mut`.
+// SAFETY: include/ptab_disk.h lets any thread call, one after the other on one disk, which `&mut` in each call sees to. It isn't Sync: no
+// call takes `&`.
 unsafe impl Send for Disk {}
 
 impl Drop for Disk {
@@ -135,11 +137,23 @@ impl Words {
     }
 }
 
-/// A plan's writes and their bytes, one after the other.
-fn flat(plan: &Plan) -> (Vec<RawWrite>, Vec<u8>) {
-    let rows = plan.iter().zip(1..).flat_map(|(writes, phase)| writes.iter().map(move |write| (write, phase)));
-    let bytes = plan.iter().flatten().flat_map(|write| write.bytes.iter().copied()).collect();
-    (rows.map(|(write, phase)| RawWrite { sector: write.sector, phase }).collect(), bytes)
+/// A plan's writes and their bytes, one after the other: each has a whole sector.
+fn flat(plan: &Plan, size: usize) -> Result<(Vec<RawWrite>, Vec<u8>), Error> {
+    let (mut rows, mut bytes) = (Vec::new(), Vec::new());
+    for (writes, phase) in plan.iter().zip(1..) {
+        for write in writes {
+            if write.bytes.len() != size {
+                return Err(Error::of_plan(&format!(
+                    "the write of sector {} in phase {phase} has {} bytes, and a sector {size}",
+                    write.sector,
+                    write.bytes.len()
+                )));
+            }
+            rows.push(RawWrite { sector: write.sector, phase });
+            bytes.extend_from_slice(&write.bytes);
+        }
+    }
+    Ok((rows, bytes))
 }
 
 impl Disk {
@@ -222,7 +236,7 @@ impl Disk {
 
     /// Carries out a plan from elsewhere, if `check` says yes to it: how many sectors were written.
     pub fn apply(&mut self, plan: &Plan) -> Result<u64, Error> {
-        let (rows, bytes) = flat(plan);
+        let (rows, bytes) = flat(plan, self.size()?.1 as usize)?;
         self.change(|disk, reply| unsafe {
             sys::ptab_disk_apply(disk, rows.as_ptr(), rows.len(), bytes.as_ptr(), bytes.len(), reply)
         })
@@ -230,7 +244,7 @@ impl Disk {
 
     /// Whether a plan from elsewhere may be carried out.
     pub fn check(&mut self, plan: &Plan) -> Result<Verdict, Error> {
-        let (rows, bytes) = flat(plan);
+        let (rows, bytes) = flat(plan, self.size()?.1 as usize)?;
         let (status, reply) = self.call(&[sys::DONE, sys::NO], |disk, reply| unsafe {
             sys::ptab_disk_check(disk, rows.as_ptr(), rows.len(), bytes.as_ptr(), bytes.len(), reply)
         })?;

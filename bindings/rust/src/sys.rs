@@ -83,6 +83,8 @@ pub const WRITE: u32 = 1;
 pub const UNLOCKED: u32 = 2;
 pub const IS_DEVICE: u32 = 4;
 
+pub const ABOUT_ARGUMENT: u32 = 1;
+pub const ARGUMENT_PLAN: u32 = 6;
 pub const ABOUT_DISK: u32 = 64;
 pub const LOCKED: u32 = 7;
 

@@ -110,6 +110,23 @@ fn plans_are_checked_and_applied() {
 }
 
 #[test]
+fn writes_are_of_whole_sectors() {
+    let image = Image::made("lengths");
+    let mut disk = image.disk();
+    let before = fs::read(&image.0).expect("its bytes");
+    let mut plan = disk.plan(&["c:1:planned"]).expect("a plan");
+    let moved = plan[0][0].bytes.pop().expect("a byte");
+    plan[0][1].bytes.insert(0, moved);
+    let told = "the write of sector 4063 in phase 1 has 511 bytes, and a sector 512";
+    for error in [disk.apply(&plan).expect_err("a refusal"), disk.check(&plan).expect_err("a refusal")] {
+        assert_eq!((error.kind(), error.to_string().as_str()), (ErrorKind::BadArgument, told));
+        assert_eq!((error.reason().about, error.reason().number), (1, 6));
+    }
+    assert_eq!(disk.locate(1, Some('š'), 0).expect_err("no letter").kind(), ErrorKind::BadArgument);
+    assert_eq!(fs::read(&image.0).expect("its bytes"), before);
+}
+
+#[test]
 fn a_lost_copy_is_repaired() {
     let image = Image::made("repairs");
     let mut disk = image.disk();
