@@ -32,7 +32,7 @@ import ptab as lib
 from compared import content, put, same
 from images import SMALL, entry, record, room
 from loops import has_loops
-from tools import ENVIRONMENT, must, run
+from tools import ENVIRONMENT, must
 
 RUN = failing_pages.RUN
 SECTORS = 1024

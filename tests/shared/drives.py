@@ -3,7 +3,6 @@ what its medium has, are read behind the kernel's back, so none of its caches ha
 import errno
 import fcntl
 import os
-import shutil
 import struct
 import subprocess
 import sys
