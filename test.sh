@@ -27,6 +27,7 @@ nice -n 19 python3 tests/side_by_side.py --beside "$said" >"$scripts" 2>&1 <<LIS
 then callers/c_library.py "$ptab" "$archive"
 then callers/disk_library.py "$ptab" "$archive"
 then callers/bindings.py "$ptab" "$archive"
+then failures/failing_drive.py "$ptab" "$archive"
 then callers/package.py "$ptab" "$archive"
 then callers/install.py "$ptab" "$archive"
 docs/messages.py

@@ -17,6 +17,7 @@ need valgrind valgrind
 need zsh zsh
 need fish fish
 [ -e /usr/include/stdlib.h ] || missing+=(libc6-dev)
+[ -e /usr/include/fuse3/fuse.h ] || missing+=(libfuse3-dev)
 for word in "$@"; do
   case "$word" in
     bench) [ -e /usr/include/zlib.h ] || missing+=(zlib1g-dev) ;;

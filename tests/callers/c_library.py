@@ -22,7 +22,7 @@ import c_replies
 import images
 import replay as lib
 from images import LARGE, SMALL, room
-from writes import choices, written
+from writes import SYNCS, choices, written
 
 
 def of_test(name):
@@ -35,6 +35,7 @@ def of_test(name):
 
 
 HOSTILE = of_test("hostile")
+CALLS = ("openat", "pwrite64", *SYNCS)
 WARNINGS = ("-Wall", "-Wextra", "-pedantic", "-Werror", "-O2")
 WORDS = (["a:2048"], ["c:1:name"], ["d:1"], ["n:0:0:0"], ["o"], ["o", "n:0:0:+8", "c:1:root"], ["g"], ["t:1:8300"], ["e"],
          ["A:1:2:1"], ["d:1", "n:0:0:+5:8200"], ["d:2.a"], ["n:5:0:0"], ["x"], ["c:1:"], ["a:8", "n:2:0:+9"], ["t:1:83"],
@@ -322,14 +323,14 @@ def without_memory(library):
 def recorded(example, image, words, sectors, environment):
     """The writes, as (sector, bytes), before each sync after the first one."""
     log = f"{image}.log"
-    done = subprocess.run(["strace", "-e", "trace=openat,pwrite64,fsync", "-xx", "-s", str(2 * sectors.size), "-o", log, example, image,
+    done = subprocess.run(["strace", "-e", f"trace={','.join(CALLS)}", "-xx", "-s", str(2 * sectors.size), "-o", log, example, image,
                            str(sectors.size), *words], capture_output=True, text=True, env=environment)
     if (done.stdout, done.returncode) != ("done\n", 0):
         fail(words, done)
     phases, writes, fd = [], [], None
     with open(log, encoding="ascii") as file:
         for line in file:
-            found = re.search(r"(openat|pwrite64|fsync)\((.*)\) += (\d+)$", line.strip())
+            found = re.search(rf"({'|'.join(CALLS)})\((.*)\) += (\d+)$", line.strip())
             if not found:
                 continue
             call, arguments, answer = found.groups()

@@ -5,6 +5,7 @@
 - sgdisk and sfdisk on the same device: they tell what `ptab show` does, and what they write is shown;
 - devices that are locked, mounted, swap space, held by another device, or read-only; a partition's node and a link to a node; what is no
   block device; and options that don't go with a device;
+- devices with up to 128 partitions that the kernel knows, of which the last is in use or none is;
 - some forty jobs of sgdisk, sfdisk, fdisk, parted and cgpt through ptab-run, beside the same on an image, and which partitions the kernel
   has afterwards;
 - power cuts: every image that a stop among the writes to a device leaves has the old table or the new one;
@@ -26,9 +27,11 @@ import time
 TESTS = os.path.dirname(os.path.dirname(os.path.abspath(__file__)))
 sys.path[:0] = [f"{TESTS}/{it}" for it in ("shared", "rows", "peers")]
 import devices_gone
+import devices_many
 import devices_runs
 from compared import content, put
 from images import LARGE, SMALL, entry, room
+from loops import Loop, has_loops
 from reads import EDITS, FRESH, gpts, mbrs
 from tools import must, run
 from writes import SYNCS, choices, traced, written
@@ -36,41 +39,6 @@ from writes import SYNCS, choices, traced, written
 CALLS = ("openat", "write", "pwrite64", "ftruncate", *SYNCS)
 DRAWN = os.urandom(128).hex()
 NOT_BLOCK = ("", "device: not a block device\n", 5)
-
-
-class Loop:
-    """A loop device over a file, as long as the block lasts."""
-
-    def __init__(self, path, size=512, *more):
-        self.image, self.size, self.more = path, size, more
-
-    def __enter__(self):
-        self.path = must("losetup", "--find", "--show", "--partscan", "--sector-size", str(self.size), *self.more, self.image).strip()
-        self.name = os.path.basename(self.path)
-        return self
-
-    def __exit__(self, *_):
-        # whoever looks at it for a moment, as udev does, keeps it
-        for _ in range(50):
-            if run("losetup", "--detach", self.path).returncode == 0:
-                break
-            time.sleep(0.1)
-
-    def content(self):
-        must("blockdev", "--flushbufs", self.path)
-        return content(self.image)
-
-    def put(self, image):
-        """Gives it that content, of the same length."""
-        with open(self.path, "r+b", buffering=0) as it:
-            os.pwrite(it.fileno(), image, 0)
-            os.fsync(it.fileno())
-        must("blockdev", "--flushbufs", self.path)
-
-    def make_partitions(self):
-        """Has the kernel take the table's partitions, also a kernel that reads no tables."""
-        run("partx", "--add", self.path)
-        return [f"{self.path}p{number}" for number in sorted(devices_runs.parts_of(self.path))]
 
 
 class Tried:
@@ -308,17 +276,6 @@ def cut(it, sectors, what, image, edits):
     it.same(f"{what}: {edits}: all writes", before == after, True)
 
 
-def has_loops(folder):
-    """Whether a loop device can be made here, with its partitions."""
-    path = f"{folder}/probe"
-    if os.geteuid() != 0 or not shutil.which("losetup"):
-        return False
-    with open(path, "wb") as file:
-        file.truncate(1 << 20)
-    done = run("losetup", "--find", "--show", "--sector-size", "4096", path)
-    return done.returncode == 0 and run("losetup", "--detach", done.stdout.strip()).returncode == 0
-
-
 def on_loops(it):
     for sectors in (SMALL, LARGE):
         tables = [*gpts(sectors), *mbrs(sectors)]
@@ -347,6 +304,7 @@ def main():
             print(f"devices: no loop devices here, or no root: {it.passed} passed without any, 0 failed")
             return
         on_loops(it)
+        devices_many.all_of(it, Loop)
         gone = devices_gone.all_of(it, Loop)
         jobs = devices_runs.all_of(ptab, Loop, place)
         print(f"devices: {it.passed} passed, 0 failed; {gone} went or failed in the middle; {jobs} jobs of other tools on devices are as "

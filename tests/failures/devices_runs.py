@@ -7,6 +7,7 @@ import sys
 from concurrent.futures import ThreadPoolExecutor
 
 import other_tools_jobs
+from loops import parts_of
 from other_tools import GUID, without_drawn
 from tools import ENVIRONMENT
 
@@ -14,18 +15,6 @@ TOP = os.path.abspath(os.path.join(os.path.dirname(os.path.abspath(__file__)), "
 RUN = f"{TOP}/tools/ptab-run"
 # every fourth of some 175
 STEP = 4
-
-
-def number_in(path):
-    with open(path, encoding="ascii") as it:
-        return int(it.read())
-
-
-def parts_of(device):
-    """The kernel's partitions of a device: of each the first sector and how many there are, of 512 bytes."""
-    folder = f"/sys/block/{os.path.basename(device)}"
-    parts = [it.path for it in os.scandir(folder) if os.path.exists(f"{it.path}/partition")]
-    return {number_in(f"{it}/partition"): (number_in(f"{it}/start"), number_in(f"{it}/size")) for it in parts}
 
 
 def wanted_parts(shown, size):

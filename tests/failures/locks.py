@@ -19,6 +19,7 @@ import compared
 import images
 from compared import content, put, same
 from images import SMALL, room
+from writes import SYNCS
 
 LOCKED = ("", "refused: locked\n", 3)
 DONE = ("done\n", "", 0)
@@ -112,13 +113,13 @@ def holder(path):
 
 def at_work(ptab, folder):
     """While a command waits for its syncs, which strace delays, it has the lock; one that only reads has none."""
-    path, image = f"{folder}/image", bytes(images.one_partition())
+    path, image, syncs = f"{folder}/image", bytes(images.one_partition()), ",".join(SYNCS)
     put(path, image)
     plan = plan_of(ptab, path, folder)
     for words, kept in ((["edit", path, "c:1:new"], True), (["apply", path, plan], True), (["repair", path], True),
                         (["edit", "--no-lock", path, "c:1:new"], False)):
         put(path, image)
-        slow = ["strace", "-qq", "-o", f"{folder}/log", "-e", "trace=fdatasync", "-e", "inject=fdatasync:delay_enter=400000", ptab, *words]
+        slow = ["strace", "-qq", "-o", f"{folder}/log", "-e", f"trace={syncs}", "-e", f"inject={syncs}:delay_enter=400000", ptab, *words]
         working = subprocess.Popen(slow, stdout=subprocess.PIPE, stderr=subprocess.PIPE, text=True)
         found, until = [], time.monotonic() + (10 if kept else 0.3)
         while not found and working.poll() is None and time.monotonic() < until:
