@@ -265,8 +265,8 @@ def cut_off(it):
     must("sgdisk", "-n", "1:2048:4095", "-c", "1:old", it.path)
     shown = it.show()[0].splitlines()[1:]
     os.truncate(it.path, 12 << 20)
-    said_of(it, "it is cut off, since its GPT is of a disk of 32768 sectors: give it that length back, or let sgdisk -e work on a whole copy, "
-            "and take the table from there by ptab adopt", "sgdisk", "-e", "@")
+    said_of(it, "it is cut off, since its GPT is of a disk of 32768 sectors: give it that length back, or let sgdisk -e work on a whole "
+            "copy, and take the table from there by ptab adopt", "sgdisk", "-e", "@")
     shutil.copy(it.path, f"{it.folder}/longer")
     os.truncate(f"{it.folder}/longer", 16 << 20)
     must(it.ptab, "repair", f"{it.folder}/longer")
@@ -279,10 +279,11 @@ def cut_off(it):
 
 
 def unread(it):
-    entries = "it has mostly a sound table with room for more or fewer than 128 entries: use the tool that made it"
+    entries = ("other tools may read its GPT, which has more or fewer than 128 entries, or an array in another place, as ISO images have: "
+               "leave it to the tool that made it")
     chains = "other tools may read its table: see `no table` in ptab(8)"
-    for name, advice in (("gpt, more entries", entries), ("blank, a filesystem", "wipefs shows what it is; if nothing of it is wanted, sgdisk "
-                         "--zap-all clears it"), ("logicals, chained backwards", chains)):
+    foreign = "wipefs shows what it is; if nothing of it is wanted, sgdisk --zap-all clears it"
+    for name, advice in (("gpt, more entries", entries), ("blank, a filesystem", foreign), ("logicals, chained backwards", chains)):
         it.make(name)
         said_of(it, advice)
     it.write(SMALL.gpt(SECTORS, {1: entry(100, 200)}, revision=7))

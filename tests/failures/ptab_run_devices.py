@@ -1,4 +1,4 @@
-"""What ptab-run does with devices that holds of no image, and with what the kernel's cache has otherwise than the medium: see ptab_run.py."""
+"""ptab-run on devices, where that isn't as on images, and what the kernel's cache has otherwise than the medium: see ptab_run.py."""
 import fcntl
 import os
 import struct
@@ -11,7 +11,7 @@ from images import LARGE, SMALL, entry, record
 from tools import must, run
 
 SECTORS = 2048
-# requests of ioctl(2) on block devices: BLKBSZGET, and BLKBSZSET
+# a request of ioctl(2) on block devices, BLKBSZGET
 PAGE_SIZE = 0x80081270
 
 
@@ -80,10 +80,9 @@ def bad_sectors(it):
         it.same("--save", it.do("--save", f"{it.folder}/copy", "--device", loop.path), ("", "", 0))
     with devices.Loop(it.write(table(SMALL))) as loop:
         os.truncate(it.path, (SECTORS - 8) * 512)
-        line = f"{loop.path}: sector {SECTORS - 8} can't be read: Input/output error\n"
+        line = f"{loop.path}: sector {SECTORS - 1} can't be read: Input/output error\n"
         for words in ([], ["--plan"]):
-            found = it.do("--device", *words, loop.path, *it.rename()[1:])
-            it.same(f"a GPT {words}", (found[1][:len(loop.path) + 8], "can't be read" in found[1], found[2]), (line[:len(loop.path) + 8], True, 125))
+            it.same(f"a GPT {words}", it.do("--device", *words, loop.path, *it.rename()[1:]), ("", line, 125))
 
 
 def changed_below(it):
