@@ -53,6 +53,7 @@ docs/recipes.py "$ptab"
 peers/from_sgdisk.py "$ptab"
 peers/other_tools.py "$ptab"
 failures/devices.py "$ptab"
+failures/ptab_run.py "$ptab"
 docs/man_page.py "$ptab"
 LIST
 running=$!

@@ -39,9 +39,10 @@ class Runs:
         with open(path or self.path, "rb") as it:
             return it.read()
 
-    def do(self, *words, **more):
-        """(output, errors without the program's name, status); nothing is left behind."""
-        done = subprocess.run([self.run_file, *words], capture_output=True, text=True, env=self.where, **more)
+    def do(self, *words, program=None, **more):
+        """(output, errors without the program's name, status), also with a program in place of ptab; nothing is left behind."""
+        where = {**self.where, "PTAB": program or self.ptab}
+        done = subprocess.run([self.run_file, *words], capture_output=True, text=True, env=where, **more)
         self.same(f"{words}: what is left", os.listdir(f"{self.folder}/left"), [])
         return done.stdout, done.stderr.replace(self.folder, "FOLDER").replace("ptab-run: ", ""), done.returncode
 
@@ -85,7 +86,8 @@ def options(it):
     for words in (["--sector-size=512", "--plan", it.path, "true", "@"], ["--lossy", it.path, "true", "of=@"]):
         it.unchanged(words, ("", "true changed nothing\n", 0))
     it.refused(["--sector-size", "4096", it.path, "true", "@"], "FOLDER/disk.img has no table that ptab reads (no table: copies 1 1), but "
-               "isn't blank: a stop might leave nothing of what is there. If nothing of it is wanted, sgdisk --zap-all clears it")
+               "isn't blank: a stop might leave nothing of what is there. What to do: a GPT with sectors of 512 bytes begins there: "
+               "--sector-size 512")
 
 
 def faults(it):
@@ -123,7 +125,7 @@ def killed(it):
     """While ptab writes, the lock is held, also where the script is gone."""
     with open(f"{it.folder}/ptab", "w", encoding="utf-8") as script:
         script.write(f"""#!/bin/sh
-case "$*" in *"--no-lock {it.path} "*)
+case "$*" in *"--no-lock /proc/self/fd/"*)
   kill -9 $PPID; sleep 0.2
   flock -n {it.folder}/disk.img echo free >{it.folder}/found || echo locked >{it.folder}/found
 esac

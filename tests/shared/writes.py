@@ -9,31 +9,29 @@ CALL = re.compile(rf"^(\d+ +)?({'|'.join(CALLS)})\((.*)\) += (\d+)$")
 
 
 def traced(command, path, sectors, calls=CALLS, log=None, **more):
-    """How a command ends, and the writes to an image, as (sector, bytes), before each sync of it, by whichever process of the command
-    opened it last for writing."""
+    """How a command ends, and the writes to an image, as (sector, bytes), before each sync of it, by whichever process of the command,
+    and by whatever path that opened it."""
     log = log or f"{path}.log"
     done = subprocess.run(["strace", "-f", "-P", path, "-e", f"trace={','.join(calls)}", "-xx", "-s", str(2 * sectors.size), "-o", log,
                            *command], stdout=subprocess.PIPE, stderr=subprocess.PIPE, text=True, **more)
-    phases, writes, held = [], [], None
+    phases, writes, is_open = [], [], False
     with open(log, encoding="ascii") as it:
         for line in it:
             found = CALL.search(line.strip())
             if not found:
                 continue
-            process, call, arguments, answer = found.groups()
+            call, arguments = found.group(2, 3)
             if call == "openat":
-                held = (process, answer) if "O_RDWR" in arguments else held
-            elif (process, arguments.split(",")[0]) != held:
-                continue
+                is_open = is_open or "O_RDWR" in arguments
             elif call == "pwrite64":
                 content = bytes.fromhex(re.search(r'"([^"]*)"', arguments).group(1).replace("\\x", ""))
                 writes.append((int(arguments.rsplit(",", 1)[1]) // sectors.size, content))
             elif call in SYNCS:
                 phases.append(writes)
                 writes = []
-            else:
+            elif is_open:
                 sys.exit(f"{command}: {call}")
-    if writes or held is None:
+    if writes or not is_open:
         sys.exit(f"{command}: writes after the last sync, or an image that isn't opened for them: {done.stderr}")
     return done, phases
 
