@@ -78,7 +78,7 @@ impl<const B: usize> Store<B> for File {
         self.write_all_at(bytes, at)
     }
 
-    /// An fsync. A file system may send the drive no flush for an fdatasync, as ext4 without a journal does.
+    /// An fsync. For an fdatasync a file system may send the drive no flush, as ext4 without a journal has been seen to do.
     fn sync(&mut self) -> io::Result<()> {
         self.sync_all()
     }
