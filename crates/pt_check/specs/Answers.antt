@@ -213,12 +213,20 @@ WritesFit n plan (Yes switch) = InRange n plan
 abbrev pub WritesHead : List Writes → Type 0
 WritesHead phases = (bytes : List ℕ) × Puts (writes_in phases) 0 bytes
 
+-- none of the writes of these phases is of s
+abbrev pub IsUnwritten : List Writes → ℕ → Type 0
+IsUnwritten phases s = (bytes : List ℕ) → ¬ Puts (writes_in phases) s bytes
+
+-- the sectors that decide the verdict of the disk after all phases, but for those that the phases write
+abbrev pub FinishReads : ℕ → Sectors → List Writes → ℕ → Type 0
+FinishReads b d phases s = VerdictReads b (after phases d) s × IsUnwritten phases s
+
 -- the sectors that a check reads: sector 0 where the plan writes it, for its boot code; those that recovery reads, of the disk and of
--- the disk after each phase; and those that decide the verdict of the disk after all phases
+-- the disk after each phase; and those that decide the verdict of the disk after all phases. What the plan wrote until then isn't read
 pub data CheckReads (b : ℕ) (d : Sectors) (phases : List Writes) (s : ℕ) : Type 0 where
   boot : s ≡ 0 → WritesHead phases → CheckReads b d phases s
-  phase : (i : ℕ) → i ≤ length phases → Reads b (disk_after phases d i) s → CheckReads b d phases s
-  finish : VerdictReads b (after phases d) s → CheckReads b d phases s
+  phase : (i : ℕ) → i ≤ length phases → Reads b (disk_after phases d i) s → IsUnwritten (take i phases) s → CheckReads b d phases s
+  finish : FinishReads b d phases s → CheckReads b d phases s
 
 -- ## Writes in the wrong place.
 

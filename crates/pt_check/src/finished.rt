@@ -2,12 +2,11 @@
 
 ghost use Rattle.std.specs.Prelude.{◌≡◌, ◌≤◌, ℕ, length, IfOk, IfErr};
 ghost use Rattle.pt_sector.specs.Device.{Blames};
-ghost use Rattle.pt_sector.specs.Overlays.{OnlyReads, room_left};
+ghost use Rattle.pt_sector.specs.Overlays.{OnlyReads, room_left, shown};
 ghost use Rattle.pt_sector.specs.Sectors.{Sectors, IsSectorSize, after};
 ghost use Rattle.pt_apply.specs.Plans.{phases_of, finished, writes_in};
 ghost use Rattle.pt_layout.specs.Surveys.{IsSurvey};
-ghost use Rattle.pt_layout.specs.Healthy.{VerdictReads};
-ghost use Rattle.pt_check.specs.Answers.{fault_in, FailedInCheck, IsRecoveredOf};
+ghost use Rattle.pt_check.specs.Answers.{fault_in, FailedInCheck, FinishReads, IsRecoveredOf};
 ghost use Rattle.pt_check.specs.inner.Answers.{WrongIs};
 
 use crate::error::CheckError;
@@ -27,6 +26,7 @@ pub fn put_plan<'a, const B: usize, D: Disk<B>>(over: &mut Overlay<'a, D, B>, pl
     ensures faults { over.new.failed ≡ over.old.failed }
     ensures seen { (⟦<Overlay<'a, D, B> as Disk<B>>⟧.told over.new).seen ≡ after (phases_of plan.now)
         (⟦<Overlay<'a, D, B> as Disk<B>>⟧.told over.old).seen }
+    ensures own { (d : Sectors) → shown d over.new.own ≡ after (phases_of plan.now) (shown d over.old.own) }
 {
     for phase in &plan.phases {
         put_phase(over, phase);
@@ -70,7 +70,7 @@ pub(crate) fn read_finished<const B: usize, D: Disk<B>>(
     requires room { count ≡ length (writes_in (phases_of plan.now)) }
     ensures same { OnlyReads D.Disk disk.old disk.new }
     ensures blames { Blames fault_in result (D.faults disk.old) (D.faults disk.new) }
-    ensures place { D.tells → IfErr result (FailedInCheck (VerdictReads B (finished plan.now (D.told disk.old).seen))) }
+    ensures place { D.tells → IfErr result (FailedInCheck (FinishReads B (D.told disk.old).seen (phases_of plan.now))) }
     ensures recovered { D.tells → IfOk result (λ f. IsRecoveredOf B (finished plan.now (D.told disk.old).seen)
         (record { layout = f.layout; trace = f.trace })) }
     ensures wrong { D.tells → IfOk result (λ f. WrongIs B (finished plan.now (D.told disk.old).seen) f.finding) }

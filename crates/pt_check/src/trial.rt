@@ -2,8 +2,8 @@
 
 ghost use Rattle.std.specs.Prelude.{◌≡◌, ◌≤◌, ◌+◌, length, IfOk, IfErr, IsTrue};
 ghost use Rattle.pt_sector.specs.Device.{Blames};
-ghost use Rattle.pt_sector.specs.Overlays.{OnlyReads, read_of, room_left};
-ghost use Rattle.pt_sector.specs.Sectors.{IsSectorSize, sector, written};
+ghost use Rattle.pt_sector.specs.Overlays.{OnlyReads, read_of, room_left, shown};
+ghost use Rattle.pt_sector.specs.Sectors.{Sectors, IsSectorSize, sector, written};
 ghost use Rattle.pt_apply.specs.Plans.{writes_of, phases_of, writes_in, finished, NoneIs};
 ghost use Rattle.pt_recover.specs.Denotes.{Denotes, Reads};
 ghost use Rattle.pt_recover.specs.Spans.{IsIn};
@@ -182,6 +182,7 @@ pub(crate) fn put_phase<'a, const B: usize, D: Disk<B>>(
     ensures room { room_left over.old.own ≤ room_left over.new.own + length phase.now }
     ensures seen { (⟦<Overlay<'a, D, B> as Disk<B>>⟧.told over.new).seen ≡ written (writes_of phase.now)
         (⟦<Overlay<'a, D, B> as Disk<B>>⟧.told over.old).seen }
+    ensures own { (d : Sectors) → shown d over.new.own ≡ written (writes_of phase.now) (shown d over.old.own) }
 {
     for write in phase {
         over.put(write.lba, &write.bytes);

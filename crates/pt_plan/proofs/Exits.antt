@@ -185,6 +185,12 @@ module _ {W : Type 0} (denotes : Sectors → Option Layout → Type 0) (reason :
               record { seen = refl; durable = finished.durable ∙ sym finished.seen; pending = finished.pending },
               subst healthy (sym finished.seen) ready.safe.well,
               (ready.old, ready.new, leads, subst (λ (d : Sectors). denotes d (Some ready.new)) (sym finished.seen) ready.finished),
+              record {
+                phases = phases;
+                ready = subst (λ (d : Sectors). Ready denotes reason makes edited plans unplanned healthy table owned words d phases)
+                    flush.seen ready;
+                seen = finished.seen ∙ ap (after phases) flush.seen;
+              },
             );
             bounds = bounded;
           }

@@ -7,6 +7,7 @@ pub mod Finishing
 pub mod FromMbr
 pub mod Histories
 pub mod Landings
+pub mod Leaving
 pub mod Mendable
 pub mod Mended
 pub mod OneLabel

@@ -189,6 +189,11 @@ module _ {W : Type 0} (denotes : Sectors → Option Layout → Type 0) (reason :
               record { seen = refl; durable = finished.durable ∙ sym finished.seen; pending = finished.pending },
               subst healthy (sym finished.seen) ready.safe.well,
               (ready.layout, mendable, subst (λ (d : Sectors). denotes d (Some ready.layout)) (sym finished.seen) ready.finished),
+              record {
+                phases = phases;
+                ready = subst (λ (d : Sectors). ReadyToMend denotes plans unmendable healthy table owned d phases) flush.seen ready;
+                seen = finished.seen ∙ ap (after phases) flush.seen;
+              },
             );
             bounds = bounded;
             idle = λ well. inl (idle_done old mid now new phases flush same (no_phases well) settled reached);

@@ -136,10 +136,17 @@ module _ {W : Type 0} (denotes : Sectors → Option Layout → Type 0) (reason :
   EndsBy words (Write at) old new = FailedWriting words old new (Write at)
   EndsBy words Flush old new = FailedFlush old new ⊎ FailedWriting words old new Flush
 
-  -- at the return: the words are done, durable, and the disk is healthy; or only the first flush was done, and why
+  -- a read gives what the phases of a checked plan for the words make of what it gave before, and nothing else
+  pub record IsWritten (words : W) (old new : Told) : Type 0 where
+    pub phases : List Writes
+    pub ready : Ready words old.seen phases
+    pub seen : new.seen ≡ after phases old.seen
+
+  -- at the return: the words are done, durable, the disk is healthy, and no byte is another but those that a plan for the words
+  -- writes; or only the first flush was done, and why
   abbrev pub Ends : W → Result Unit CommitError → Told → Told → Type 0
   Ends words (Ok x) old new = Settled new new.seen × healthy new.seen
-      × ((o : Option Layout) × (l : Layout) × Leads words old.seen o l × denotes new.seen (Some l))
+      × ((o : Option Layout) × (l : Layout) × Leads words old.seen o l × denotes new.seen (Some l)) × IsWritten words old new
   Ends words (Err (Device fault)) old new = EndsBy words fault old new
   Ends words (Err e) old new = Flushed old new × Refuses words old.seen e
 

@@ -1,5 +1,5 @@
 -- What a repair does.
-use Rattle.std.specs.Prelude.{◌⊎◌, ℕ, List, Option, Some, None, Result, Ok, Err}
+use Rattle.std.specs.Prelude.{◌≡◌, ◌⊎◌, ℕ, List, Option, Some, None, Result, Ok, Err}
 use Rattle.pt_sector.specs.Sectors.{Sectors, Writes, after}
 use Rattle.pt_sector.specs.Device.{Told, Flushed, FailedFlush, LeavesOnly}
 use Rattle.pt_sector.specs.declared.disk.Fault.{Fault}
@@ -72,6 +72,12 @@ module _ (denotes : Sectors → Option Layout → Type 0) (plans : Sectors → L
   MendEndsBy (Write at) old new = FailedMending old new (Write at)
   MendEndsBy Flush old new = FailedFlush old new ⊎ FailedMending old new Flush
 
+  -- a read gives what the phases of a checked plan for the disk's layout make of what it gave before, and nothing else
+  pub record IsMended (old new : Told) : Type 0 where
+    pub phases : List Writes
+    pub ready : ReadyToMend old.seen phases
+    pub seen : new.seen ≡ after phases old.seen
+
   -- c has of d what a repair must leave alone
   abbrev pub MendBounded : Sectors → Sectors → Type 0
   MendBounded d c = (l : Layout) × Mendable denotes unmendable d l × Keeps denotes healthy table owned (Some l) (Some l) d c
@@ -79,10 +85,12 @@ module _ (denotes : Sectors → Option Layout → Type 0) (plans : Sectors → L
 module _ {W : Type 0} (denotes : Sectors → Option Layout → Type 0) (reason : Sectors → Reason → Type 0)
     (edited : Option Layout → W → Result Layout Refusal → Type 0) (plans : Sectors → Layout → List Writes → Type 0)
     (unmendable : Sectors → Layout → Finding → Type 0) (healthy : Sectors → Type 0) (table owned : Option Layout → ℕ → Type 0) where
-  -- at the return: the disk is healthy and durable, with the layout that it denoted; or only the first flush was done, and why
+  -- at the return: the disk is healthy and durable, with the layout that it denoted, and no byte is another but those that a plan
+  -- for it writes; or only the first flush was done, and why
   abbrev pub Mends : Result Unit RepairError → Told → Told → Type 0
   Mends (Ok x) old new = Settled new new.seen × healthy new.seen
       × ((l : Layout) × Mendable denotes unmendable old.seen l × denotes new.seen (Some l))
+      × IsMended denotes plans unmendable healthy table owned old new
   Mends (Err (Device fault)) old new = MendEndsBy denotes plans unmendable healthy table owned fault old new
   Mends (Err e) old new = Flushed old new × RefusesToMend denotes reason unmendable old.seen e
 

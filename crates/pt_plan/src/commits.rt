@@ -56,6 +56,7 @@ pub fn checked_plan_for<const B: usize, D: Disk<B>>(
         (FailedInCommit (CommitReads B (D.count disk.old) (record { edits = edits.now; guids = guids.now }) (D.told disk.old).seen)) }
     ensures hides { IfErr result HidesNoFailure }
     ensures in_range { IfOk result (InRange (D.count disk.old)) }
+    ensures phases { IfOk result (λ plan. All (λ p. 0 < length p.items) plan.phases.items) }
     ensures ready { D.tells → IfOk result
         (λ plan. IsReady B (D.count disk.old) (record { edits = edits.now; guids = guids.now }) (D.told disk.old).seen (phases_of plan)) }
     ensures refused { D.tells → IfErr result
@@ -69,10 +70,10 @@ pub fn checked_plan_for<const B: usize, D: Disk<B>>(
 /// The disk is flushed first, so that what a read gives is durable; then a plan is made for the layout that the words
 /// make of the disk's present one, checked, and applied phase by phase. Whatever was on the disk and whatever calls
 /// went before: each disk that a crash within the call may leave denotes the layout before or the one that the words
-/// make of it; after `Ok` it is the latter, nothing is pending, and the disk is healthy; after every error but
-/// `Device`, and after `Device` for a read, the first flush was done and nothing else. Outside the tables of both
-/// layouts, in the sectors that partitions of either own and in the boot code (bytes 0 to 439 of sector 0) nothing
-/// changes.
+/// make of it; after `Ok` it is the latter, nothing is pending, the disk is healthy, and a read gives what that plan makes
+/// of what it gave before, to the byte; after every error but `Device`, and after `Device` for a read, the first flush was
+/// done and nothing else. Outside the tables of both layouts, in the sectors that partitions of either own and in the boot
+/// code (bytes 0 to 439 of sector 0) nothing changes.
 pub fn commit<const B: usize, D: Disk<B>>(
     alloc: Global,
     disk: &mut D,

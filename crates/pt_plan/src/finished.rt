@@ -3,10 +3,9 @@
 ghost use Rattle.std.specs.Prelude.{◌<◌, IfOk, IfErr};
 ghost use Rattle.pt_sector.specs.Device.{Blames};
 ghost use Rattle.pt_sector.specs.Overlays.{OnlyReads};
-ghost use Rattle.pt_sector.specs.Sectors.{IsSectorSize, after};
-ghost use Rattle.pt_apply.specs.Plans.{phases_of, finished};
-ghost use Rattle.pt_layout.specs.Healthy.{VerdictReads};
-ghost use Rattle.pt_check.specs.Answers.{CheckReads, fault_in, FailedInCheck};
+ghost use Rattle.pt_sector.specs.Sectors.{IsSectorSize};
+ghost use Rattle.pt_apply.specs.Plans.{phases_of};
+ghost use Rattle.pt_check.specs.Answers.{CheckReads, FinishReads, fault_in, FailedInCheck};
 ghost use Rattle.pt_plan.specs.Layouts.{AfterIs};
 ghost use Rattle.pt_plan.specs.inner.Layouts.{FinishedIs};
 
@@ -35,7 +34,7 @@ fn finish<const B: usize, D: Disk<B>>(
     requires size { IsSectorSize B }
     ensures same { OnlyReads D.Disk disk.old disk.new }
     ensures blames { Blames fault_in result (D.faults disk.old) (D.faults disk.new) }
-    ensures place { D.tells → IfErr result (FailedInCheck (VerdictReads B (finished plan.now (D.told disk.old).seen))) }
+    ensures place { D.tells → IfErr result (FailedInCheck (FinishReads B (D.told disk.old).seen (phases_of plan.now))) }
     ensures finished { D.tells → IfOk result (FinishedIs B (D.told disk.old).seen (phases_of plan.now)) }
 {
     let count = match count_writes(plan) {

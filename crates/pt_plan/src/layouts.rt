@@ -65,10 +65,11 @@ pub fn checked_plan_for_layout<const B: usize, D: Disk<B>>(
 /// The disk is flushed first, so that what a read gives is durable; then a plan is made for the layout, checked, and
 /// applied phase by phase. Whatever was on the disk and whatever calls went before: each disk that a crash within the
 /// call may leave denotes what it denoted before, be it nothing, or the wanted layout; after `Ok` it is the latter,
-/// nothing is pending, and the disk is healthy; after every error but `Device`, and after `Device` for a read, the first
-/// flush was done and nothing else. Outside the tables of both layouts, in the sectors that partitions of either own and
-/// in the boot code (bytes 0 to 439 of sector 0) nothing changes. `NoTable`, `Edit` and `Check` are never reported. There is no
-/// plan ([`PlanError::NotOneSwitch`]) for a sound layout with another number of sectors than the disk's.
+/// nothing is pending, the disk is healthy, and a read gives what that plan makes of what it gave before, to the byte; after
+/// every error but `Device`, and after `Device` for a read, the first flush was done and nothing else. Outside the tables of
+/// both layouts, in the sectors that partitions of either own and in the boot code (bytes 0 to 439 of sector 0) nothing
+/// changes. `NoTable`, `Edit` and `Check` are never reported. There is no plan ([`PlanError::NotOneSwitch`]) for a sound layout
+/// with another number of sectors than the disk's.
 pub fn commit_layout<const B: usize, D: Disk<B>>(
     alloc: Global,
     disk: &mut D,

@@ -50,6 +50,7 @@ pub fn checked_plan_for_repair<const B: usize, D: Disk<B>>(
     ensures place { D.tells → IfErr result (FailedInRepair (RepairReads B (D.count disk.old) (D.told disk.old).seen)) }
     ensures hides { IfErr result MendHidesNoFailure }
     ensures in_range { IfOk result (InRange (D.count disk.old)) }
+    ensures phases { IfOk result (λ plan. All (λ p. 0 < length p.items) plan.phases.items) }
     ensures ready { D.tells → IfOk result (λ plan. IsReadyToMend B (D.told disk.old).seen (phases_of plan)) }
     ensures refused { D.tells → IfErr result (IsMendRefusal B (D.told disk.old).seen) }
 {
@@ -63,10 +64,10 @@ pub fn checked_plan_for_repair<const B: usize, D: Disk<B>>(
 ///
 /// The disk is flushed first, so that what a read gives is durable; then a plan is made for the layout that the disk
 /// denotes, checked, and applied phase by phase. Whatever was on the disk and whatever calls went before: each disk that
-/// a crash within the call may leave denotes that layout; after `Ok` nothing is pending and the disk is healthy. On a
-/// healthy disk nothing is written. After every error but `Device`, and after `Device` for a read, the first flush was
-/// done and nothing else. Sectors that partitions own, the boot code (bytes 0 to 439 of sector 0) and all that is no
-/// table stay.
+/// a crash within the call may leave denotes that layout; after `Ok` nothing is pending, the disk is healthy, and a read
+/// gives what that plan makes of what it gave before, to the byte. On a healthy disk nothing is written. After every error
+/// but `Device`, and after `Device` for a read, the first flush was done and nothing else. Sectors that partitions own, the
+/// boot code (bytes 0 to 439 of sector 0) and all that is no table stay.
 pub fn repair<const B: usize, D: Disk<B>>(alloc: Global, disk: &mut D) -> Result<(), RepairError>
     requires size { IsSectorSize B }
     ensures count { D.count disk.new ≡ D.count disk.old }

@@ -12,7 +12,7 @@ use Rattle.std.proofs.lemmas.List.Edits.{length-insert, get_or-insert_below, get
 use Rattle.std.proofs.lemmas.Bool.Decides.{nat_tests}
 use Rattle.std.proofs.lemmas.Grind.{common_steps}
 use Rattle.std.proofs.Math.ListN as N
-use Rattle.pt_sector.specs.Sectors.{Sectors, Writes, written, sector_at, IsAscending, IsWriteAt, puts_as_writes, as_write, no_put}
+use Rattle.pt_sector.specs.Sectors.{Sectors, Writes, written, sector_at, IsAscending, IsWriteAt, Has, puts_as_writes, as_write, no_put}
 use Rattle.pt_sector.specs.Sectors.{slot_at, SlotsFit, SlotsApart}
 use Rattle.pt_sector.specs.inner.Sectors.{value_after, IsGapFor}
 use Rattle.pt_sector.proofs.Written.{written-append}
@@ -58,6 +58,14 @@ value_of_one (w ∷ ws) k zero v rises is_at =
     ap (value_after ws k) on ∙ value_of_none ws k w.1 (rw here at (none_after_first w ws rises))
 value_of_one (w ∷ ws) k (suc i) v rises is_at =
     value_of_one ws k i (cond (w.0 == k) w.1 v) (rises_in_tail w ws rises) (at_in_tail w ws k i is_at)
+
+-- a sector that keeps whatever it held isn't written
+pub not_own : (ws : Writes) (k : ℕ) → IsAscending ws → ((v : List ℕ) → value_after ws k v ≡ v) → Has ws k → ⊥
+not_own ws k rises same (i, at) =
+    let none : [] ≡ (get_or ws i (0, [])).1 = sym (same []) ∙ value_of_one ws k i [] rises at in
+    let one : 0 ∷ [] ≡ (get_or ws i (0, [])).1 = sym (same (0 ∷ [])) ∙ value_of_one ws k i (0 ∷ []) rises at in
+    let apart : [] ≡ 0 ∷ [] = none ∙ sym one in
+    absurd cc
 
 -- what is written
 

@@ -1,6 +1,6 @@
 -- What calls that only read leave, and what an overlay shows.
-use Rattle.std.specs.Prelude.{◌≡◌, ℕ, List, ◌++◌, Option, Some, None, ◌-◌, [], map, vec_len}
-use Rattle.pt_sector.specs.Device.{Untouched, Told, Moment, told_of}
+use Rattle.std.specs.Prelude.{◌≡◌, ℕ, List, ◌∷◌, ◌++◌, Option, Some, None, ◌-◌, [], map, vec_len}
+use Rattle.pt_sector.specs.Device.{Untouched, Told, Moment, told_of, IsReadIn}
 use Rattle.pt_sector.specs.declared.disk.Fault.{Fault}
 use Rattle.pt_sector.specs.declared.disk.Fault.TheVariants.{Read}
 use Rattle.pt_sector.specs.declared.disk.Disk.{Ghosts}
@@ -70,3 +70,21 @@ room_left own = own.room - vec_len own.puts
 -- for how many there is room
 abbrev pub room_for : {b : _} → Room b → ℕ
 room_for room = room.own.room
+
+-- ## Which faults come to an overlay: what is its own it doesn't read from the borrowed disk.
+
+-- each of these faults is of a read of a sector that isn't among the writes
+abbrev pub FailOutside : Writes → List Fault → Type 0
+FailOutside own [] = Unit {0}
+FailOutside own (f ∷ fs) = IsReadIn (λ s. ¬ Has own s) f × FailOutside own fs
+
+-- so is each fault that came
+pub record CameOutside (own : Writes) (old new : List Fault) : Type 0 where
+  pub more : List Fault
+  pub come : new ≡ old ++ more
+  pub outside : FailOutside own more
+
+-- and the one that an error carries, if it does
+abbrev pub IsOutside : Writes → Option Fault → Type 0
+IsOutside own None = Unit {0}
+IsOutside own (Some f) = IsReadIn (λ s. ¬ Has own s) f

@@ -4,7 +4,9 @@ ghost use Rattle.std.proofs.Common.{refl, ◌∙◌};
 ghost use Rattle.pt_sector.specs.declared.disk.Fault.TheVariants.{Read, Write, Flush};
 ghost use Rattle.pt_sector.specs.Device.{Wrote, FailedWrite, Flushed, Blames};
 ghost use Rattle.pt_sector.specs.inner.ForFields.{untouched_same, untouched_on, through_same, through_on, stopped_same, length-shown};
-ghost use Rattle.pt_sector.specs.Overlays.{ReadsThrough, content, IsOwnSector, shown, room_left, room_for};
+ghost use Rattle.pt_sector.specs.inner.ForFields.{outside_same, outside_on};
+ghost use Rattle.pt_sector.specs.Sectors.{Sectors};
+ghost use Rattle.pt_sector.specs.Overlays.{ReadsThrough, content, IsOwnSector, shown, room_left, room_for, own_writes, CameOutside};
 
 use crate::address::Lba;
 use crate::disk::{Disk, Fault};
@@ -14,7 +16,8 @@ use crate::room::Room;
 
 /// A disk that reads through to a borrowed one, and keeps what is written to it as sectors of its own.
 ///
-/// A write is durable at once, and a flush does nothing. The borrowed disk stays as it was but for its faults.
+/// A write is durable at once, and a flush does nothing. The borrowed disk stays as it was but for its faults, and those
+/// are of reads of sectors that aren't the overlay's own.
 /// `W` is always `Own<B>`.
 pub struct Overlay<'a, D: Disk<B>, const B: usize, W: Drop = Own<B>> {
     disk: &'a mut D,
@@ -42,6 +45,7 @@ impl<'a, D: Disk<B>, const B: usize> Overlay<'a, D, B> {
         ensures same_reference { result.disk.ghost_name ≡ disk.entry.ghost_name }
         ensures disk { result.disk.now ≡ disk.old }
         ensures seen { (content D.told result).seen ≡ (D.told disk.old).seen }
+        ensures own { (d : Sectors) → shown d result.own ≡ d }
         ensures faults { result.failed.items ≡ [] }
         ensures room { room_left result.own ≡ room_for room.entry }
     {
@@ -61,6 +65,7 @@ impl<'a, D: Disk<B>, const B: usize> Overlay<'a, D, B> {
         ensures disk { self.new.disk.now ≡ self.old.disk.now }
         ensures faults { self.new.failed ≡ self.old.failed }
         ensures wrote { Wrote (content D.told self.old) (content D.told self.new) lba.0 bytes.now }
+        ensures own { (d : Sectors) → shown d self.new.own ≡ slice_set (shown d self.old.own) lba.0 bytes.now }
         ensures room { room_left self.old.own ≤ room_left self.new.own + 1 }
     {
         self.past = self.past.and(&self.own);
@@ -79,13 +84,19 @@ impl<'a, D: Disk<B>, const B: usize> Disk<B> for Overlay<'a, D, B> {
 
     ghost name = { λ o. o.disk.ghost_name };
 
-    ghost reads = { λ o p. ReadsThrough D.Disk o.disk.now p.disk.now o.failed.items p.failed.items × (p.own ≡ o.own) };
+    ghost reads = { λ o p. ReadsThrough D.Disk o.disk.now p.disk.now o.failed.items p.failed.items × (p.own ≡ o.own)
+        × CameOutside (own_writes o.own) o.failed.items p.failed.items };
 
-    ghost reads_same = { untouched_same _ _ _ _ _ _ (λ o. (through_same _ D.reads_same o.disk.now o.failed.items, refl)) };
+    ghost reads_same = { untouched_same _ _ _ _ _ _ (λ o. (
+      through_same _ D.reads_same o.disk.now o.failed.items,
+      refl,
+      outside_same (own_writes o.own) o.failed.items,
+    )) };
 
     ghost reads_on = { untouched_on _ _ _ _ _ _ (λ a b c ab bc. (
       through_on _ D.reads_on a.disk.now b.disk.now c.disk.now a.failed.items b.failed.items c.failed.items ab.0 bc.0,
       bc.1 ∙ ab.1,
+      outside_on a.own b.own a.failed.items b.failed.items c.failed.items ab.1 ab.2 bc.2,
     )) };
 
     ghost bounded = { λ o. D.bounded o.disk.now };

@@ -1,12 +1,12 @@
 -- What ghost fields of impls are given: the prover wants it in specs/.
-use Rattle.std.proofs.Common.{inl, refl, ◌∙◌, sym, ap, append_assoc, length, slice_set, length-set}
+use Rattle.std.proofs.Common.{inl, refl, ◌∙◌, sym, ap, subst, append_assoc, length, slice_set, length-set}
 use Rattle.pt_sector.specs.Sectors.{Sectors, Writes, Stopped, written}
 use Rattle.std.specs.Prelude.{◌≡◌, ℕ, List, [], ◌∷◌, ◌++◌, ◌-◌}
 use Rattle.std.proofs.lemmas.List.{append-nil}
 use Rattle.pt_sector.specs.Device.{Told, AreReads, ReadFaults, Untouched}
 use Rattle.pt_sector.specs.declared.disk.Fault.{Fault}
 use Rattle.pt_sector.specs.declared.disk.Disk.{Ghosts}
-use Rattle.pt_sector.specs.Overlays.{OnlyReads, ReadsThrough, own_writes, shown}
+use Rattle.pt_sector.specs.Overlays.{OnlyReads, ReadsThrough, own_writes, shown, FailOutside, CameOutside}
 use Rattle.pt_sector.specs.declared.own.Own.{Own}
 
 -- a disk with nothing pending is what a crash leaves
@@ -59,6 +59,24 @@ through_on g reads_on a b c fa fb fc ab bc = record {
   come_above = bc.come_above ∙ ap (λ (l : List Fault). l ++ bc.more) ab.come_above ∙ append_assoc fa ab.more bc.more;
   come_below = bc.come_below ∙ ap (λ (l : List Fault). l ++ bc.more) ab.come_below ∙ append_assoc (g.faults a) ab.more bc.more;
 }
+
+-- no fault came to an overlay, or those of two calls
+pub outside_same : (own : Writes) (faults : List Fault) → CameOutside own faults faults
+outside_same own faults = record { more = []; come = sym (append-nil faults); outside = tt }
+
+fail_outside_on : (own : Writes) (a b : List Fault) → FailOutside own a → FailOutside own b → FailOutside own (a ++ b)
+fail_outside_on own [] b ra rb = rb
+fail_outside_on own (f ∷ a) b ra rb = (ra.0, fail_outside_on own a b ra.1 rb)
+
+pub outside_on : {b : _} (x y : Own b) (fa fb fc : List Fault) → y ≡ x → CameOutside (own_writes x) fa fb
+    → CameOutside (own_writes y) fb fc → CameOutside (own_writes x) fa fc
+outside_on x y fa fb fc same ab bc =
+    let later : CameOutside (own_writes x) fb fc = subst (λ (o : Own _). CameOutside (own_writes o) fb fc) same bc in
+    record {
+      more = ab.more ++ later.more;
+      come = later.come ∙ ap (λ (l : List Fault). l ++ later.more) ab.come ∙ append_assoc fa ab.more later.more;
+      outside = fail_outside_on (own_writes x) ab.more later.more ab.outside later.outside;
+    }
 
 -- length
 pub length-written : (ws : Writes) (d : Sectors) → length (written ws d) ≡ length d

@@ -5,7 +5,7 @@ use Rattle.pt_sector.specs.Device.{Blames, Told}
 use Rattle.pt_sector.specs.Overlays.{OnlyReads}
 use Rattle.pt_apply.specs.Plans.{phases_of}
 use Rattle.pt_check.specs.Answers.{fault_in, IsRecoveredOf}
-use Rattle.pt_check.proofs.Reading.{phase_failed}
+use Rattle.pt_check.proofs.Reading.{first_failed}
 use Rattle.pt_check.proofs.checker.check.Goals as goal
 
 pub returns-in_err-room-clause-same : goal.returns-in_err-room-clause-same
@@ -62,5 +62,5 @@ pub returns-in_err-before-clause-place : goal.returns-in_err-before-clause-place
 returns-in_err-before-clause-place g c = λ tells.
     let p = err_from_is_err_and c.from_residual-in_err-before.result c.from_residual-in_err-before.ensures.1 in
     let d = (g.D.Disk.told c.args.disk.now).seen in
-    rw (p.1, p.2) (phase_failed g.row.B d d (phases_of c.args.plan.now) 0 c.in_err-before.field-0.0 (omega arith) refl
+    rw (p.1, p.2) (first_failed g.row.B d (phases_of c.args.plan.now) c.in_err-before.field-0.0
     (rw c.new-cache.ensures.disk at (c.in_err-before.ensures.place tells)))

@@ -44,4 +44,9 @@ loop-phase-preserved g c = record {
       (index_within c.deref-phase-items.result.now c.loop-phase.phase-index c.loop-phase-test.true)
       (lent_phase c.deref-phase-items.result.now c.loop-phase.phase-index c.phase-item.result c.loop-phase-test.true c.phase-item.is
       c.deref.result.now c.deref.ensures.value) c.loop-phase.invariant.seen c.put_phase.ensures.seen;
+  own = λ d. seen_on (phases_in c.deref-phase-items.result.now) (shown d c.args.over.now.own) c.loop-phase.phase-index
+      (writes_of c.deref.result.now) _ _
+      (index_within c.deref-phase-items.result.now c.loop-phase.phase-index c.loop-phase-test.true)
+      (lent_phase c.deref-phase-items.result.now c.loop-phase.phase-index c.phase-item.result c.loop-phase-test.true c.phase-item.is
+      c.deref.result.now c.deref.ensures.value) (c.loop-phase.invariant.own d) (c.put_phase.ensures.own d);
 }

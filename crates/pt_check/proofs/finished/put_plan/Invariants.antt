@@ -1,4 +1,5 @@
 use Rattle.std.proofs.Common.{◌≡◌, ◌≤◌, ◌+◌, length, take}
+use Rattle.pt_sector.specs.Sectors.{Sectors}
 use Rattle.pt_sector.specs.Overlays.{room_left, shown}
 use Rattle.pt_apply.specs.Plans.{writes_in}
 use Rattle.pt_apply.specs.inner.Plans.{phases_in}
@@ -14,4 +15,5 @@ invariant-loop-phase g l = record {
       (writes_in (take l.phase-index (phases_in l.phase-items)));
   seen : shown (g.D.Disk.told l.over.disk.now).seen l.over.own ≡ disk_after (phases_in l.phase-items)
       (shown (g.D.Disk.told l.initial.over.disk.now).seen l.initial.over.own) l.phase-index;
+  own : (d : Sectors) → shown d l.over.own ≡ disk_after (phases_in l.phase-items) (shown d l.initial.over.own) l.phase-index;
 }

@@ -1,8 +1,8 @@
 use Rattle.std.proofs.Common.{rules, ◌≡◌, ◌∙◌, ap, subst, arith, Ok, Err}
 use Rattle.std.proofs.lemmas.Result.{err_from_is_err_and}
 use Rattle.pt_sector.specs.Device.{with_fault}
-use Rattle.pt_sector.specs.Overlays.{OnlyReads, FailedIn, fault_of}
-use Rattle.pt_sector.proofs.ReadsLemmas.{blames_below}
+use Rattle.pt_sector.specs.Overlays.{OnlyReads, FailedIn, fault_of, own_writes}
+use Rattle.pt_sector.proofs.ReadsLemmas.{blames_below, failed_outside}
 use Rattle.pt_sector.specs.Sectors.{Sectors, after}
 use Rattle.pt_apply.specs.Plans.{phases_of}
 use Rattle.pt_layout.specs.Surveys.{IsSurvey}
@@ -10,7 +10,7 @@ use Rattle.pt_layout.specs.declared.survey.Survey.{Survey}
 use Rattle.pt_check.specs.Answers.{fault_in, told_failure}
 use Rattle.pt_check.proofs.Finishing.{failure_blames}
 use Rattle.pt_layout.specs.Healthy.{VerdictReads}
-use Rattle.pt_check.proofs.Reading.{failed_told}
+use Rattle.pt_check.proofs.Reading.{failure_unwritten}
 use Rattle.pt_check.proofs.finished.read_finished.Goals as goal
 
 pub put_plan-requires : goal.put_plan-requires
@@ -69,6 +69,9 @@ returns-in_err-told-clause-place g c = λ tells.
     let p = err_from_is_err_and c.from_residual-in_err-told.result c.from_residual-in_err-told.ensures.1 in
     let d : Sectors = (g.D.Disk.told c.args.disk.now).seen in
     let e = c.in_err-told.field-0.0 in
-    rw (p.1, p.2) (failed_told (VerdictReads g.row.B (after (phases_of c.args.plan.now) d)) e
+    let own = λ (x : Sectors). c.put_plan.ensures.own x ∙ ap (after (phases_of c.args.plan.now)) (c.new-over.ensures.own x) in
+    rw (p.1, p.2) (failure_unwritten (VerdictReads g.row.B (after (phases_of c.args.plan.now) d)) (own_writes c.put_plan.new.over.own)
+    (phases_of c.args.plan.now) e own
     (subst (λ (x : Sectors). FailedIn (VerdictReads g.row.B x) e)
-    (c.put_plan.ensures.seen ∙ ap (after (phases_of c.args.plan.now)) c.new-over.ensures.seen) (c.in_err-told.ensures.place tells)))
+    (c.put_plan.ensures.seen ∙ ap (after (phases_of c.args.plan.now)) c.new-over.ensures.seen) (c.in_err-told.ensures.place tells))
+    (failed_outside {T = Survey} fault_of (Err e) _ _ _ c.in_err-told.ensures.same.through.2 c.in_err-told.ensures.blames))

@@ -13,4 +13,7 @@ loop-write-preserved g c = record {
   seen = ap (written (drop (c.loop-write.write-index + 1) (writes_of c.args.phase.now))) c.put.ensures.wrote.seen
       ∙ (rw (drop-writes c.args.phase.now c.loop-write.write-index c.write-item.result c.loop-write-test.true
       c.write-item.is) at c.loop-write.invariant.seen);
+  own = λ d. ap (written (drop (c.loop-write.write-index + 1) (writes_of c.args.phase.now))) (c.put.ensures.own d)
+      ∙ (rw (drop-writes c.args.phase.now c.loop-write.write-index c.write-item.result c.loop-write-test.true
+      c.write-item.is) at (c.loop-write.invariant.own d));
 }

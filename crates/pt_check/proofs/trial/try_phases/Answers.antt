@@ -2,13 +2,14 @@ use Rattle.std.proofs.Common.{rules, ◌≡◌, ◌∙◌, ℕ, ◌+◌, ◌<◌
 use Rattle.std.proofs.lemmas.Result.{err_from_is_err_and}
 use Rattle.pt_sector.specs.Sectors.{Writes, Sectors}
 use Rattle.pt_sector.specs.Device.{with_fault, Told}
-use Rattle.pt_sector.specs.Overlays.{OnlyReads, read_of, room_left}
-use Rattle.pt_sector.proofs.ReadsLemmas.{blames_below}
+use Rattle.pt_sector.specs.Overlays.{OnlyReads, read_of, room_left, shown, own_writes}
+use Rattle.pt_sector.specs.declared.own.Own.{Own}
+use Rattle.pt_sector.proofs.ReadsLemmas.{blames_below, failed_outside}
 use Rattle.pt_apply.specs.Plans.{phases_of, writes_of}
 use Rattle.pt_recover.specs.Denotes.{Denotes, Reads}
 use Rattle.pt_recover.proofs.Terms.{denotes_one_lem}
 use Rattle.pt_recover.specs.Spans.{IsIn}
-use Rattle.pt_check.specs.Answers.{phase, Course, disk_after, fault_in}
+use Rattle.pt_check.specs.Answers.{Course, disk_after, fault_in}
 use Rattle.pt_check.specs.inner.Answers.{TouchedIs, KeepsRead}
 use Rattle.pt_check.specs.declared.recovered.Recovered.{Recovered}
 use Rattle.pt_check.proofs.Firsts.{length-phases, count_on, lent_phase, index_within, seen_on, count_within}
@@ -16,7 +17,7 @@ use Rattle.pt_check.proofs.Outside.{recovered_parts}
 use Rattle.pt_check.proofs.Trying.{course_none, refused_read, refused_neither, course_on}
 use Rattle.pt_check.proofs.Quiet.{reading_kept, passed_kept}
 use Rattle.pt_check.proofs.Settled.{settled_trial}
-use Rattle.pt_check.proofs.Reading.{phase_failed}
+use Rattle.pt_check.proofs.Reading.{phase_failed, sector_failed}
 use Rattle.pt_check.proofs.trial.try_phases.Goals as goal
 
 pub loop-i-init : goal.loop-i-init
@@ -26,6 +27,7 @@ loop-i-init g c = record {
   quiet = search rules;
   room = omega (arith, c.new-over.ensures.room, c.in_ok-room.ensures, c.requires.room);
   seen = λ tells. c.new-over.ensures.seen;
+  own = c.new-over.ensures.own;
   trace = λ tells. record { same = (c.requires.old tells).reads };
   course = λ tells. course_none (Denotes g.row.B) (Reads g.row.B) (phases_of c.args.plan.now)
       (g.D.Disk.told c.args.disk.now).seen c.args.layouts.now.old c.args.layouts.now.new ((c.requires.old tells).denotes);
@@ -122,6 +124,10 @@ loop-i-preserved g c =
         ap length c.deref-in-loop-i-2.ensures.value,
       );
       seen = λ tells. ap (λ (t : Told). t.seen) (c.in_ok-after.ensures.same.same tells) ∙ seen tells;
+      own = λ d. ap (λ (o : Own _). shown d o) c.in_ok-after.ensures.same.through.1
+          ∙ seen_on phases d c.loop-i.i (writes_of c.deref-in-loop-i-2.result.now) _ _ below
+          (lent c.deref-in-loop-i-2.result.now c.deref-in-loop-i-2.ensures.value)
+          (ap (λ (o : Own _). shown d o) c.in_ok-keeps.ensures.same.through.1 ∙ c.loop-i.invariant.own d) (c.put_phase.ensures.own d);
       trace = λ tells. record { same = (after tells).reads };
       course = λ tells. course_on (Denotes g.row.B) (Reads g.row.B) phases d c.args.layouts.now.old c.args.layouts.now.new
           c.loop-i.i below c.loop-i.before (c.loop-i.invariant.trace tells) c.loop-i.switch (c.loop-i.invariant.course tells)
@@ -212,8 +218,13 @@ returns-in_err-after-clause-place g c = λ tells.
     let seen = seen_on phases d c.loop-i.i (writes_of c.deref-in-loop-i-2.result.now) _ _ below
     (lent c.deref-in-loop-i-2.result.now c.deref-in-loop-i-2.ensures.value)
     (ap (λ (t : Told). t.seen) (c.in_ok-keeps.ensures.same.same tells) ∙ c.loop-i.invariant.seen tells) c.put_phase.ensures.seen in
-    rw (p.1, p.2) (phase_failed g.row.B d _ phases (c.loop-i.i + 1) c.in_err-after.field-0.0 (omega (arith, below)) seen
-    (c.in_err-after.ensures.place tells))
+    let own = λ (x : Sectors). seen_on phases x c.loop-i.i (writes_of c.deref-in-loop-i-2.result.now) _ _ below
+    (lent c.deref-in-loop-i-2.result.now c.deref-in-loop-i-2.ensures.value)
+    (ap (λ (o : Own _). shown x o) c.in_ok-keeps.ensures.same.through.1 ∙ c.loop-i.invariant.own x) (c.put_phase.ensures.own x) in
+    let e = c.in_err-after.field-0.0 in
+    rw (p.1, p.2) (phase_failed g.row.B d _ phases (own_writes c.put_phase.new.over.own) (c.loop-i.i + 1) e (omega (arith, below)) own seen
+    (c.in_err-after.ensures.place tells)
+    (failed_outside {T = Recovered} fault_in (Err e) _ _ _ c.in_err-after.ensures.same.through.2 c.in_err-after.ensures.blames))
 
 pub returns-then-i-settles-clause-tried : goal.returns-then-i-settles-clause-tried
 returns-then-i-settles-clause-tried g c = λ tells.
@@ -261,6 +272,9 @@ loop-i-preserved-then-keeps g c =
       seen = λ tells. seen_on phases d c.loop-i.i (writes_of c.deref-in-loop-i-2.result.now) _ _ below
           (lent c.deref-in-loop-i-2.result.now c.deref-in-loop-i-2.ensures.value)
           (ap (λ (t : Told). t.seen) (c.in_ok-keeps.ensures.same.same tells) ∙ c.loop-i.invariant.seen tells) c.put_phase.ensures.seen;
+      own = λ d. seen_on phases d c.loop-i.i (writes_of c.deref-in-loop-i-2.result.now) _ _ below
+          (lent c.deref-in-loop-i-2.result.now c.deref-in-loop-i-2.ensures.value)
+          (ap (λ (o : Own _). shown d o) c.in_ok-keeps.ensures.same.through.1 ∙ c.loop-i.invariant.own d) (c.put_phase.ensures.own d);
       trace = λ tells. reading_kept g.row.B phases d c.loop-i.i below c.loop-i.before (c.loop-i.invariant.trace tells) (kept tells);
       course = λ tells. passed_kept g.row.B phases d c.loop-i.i below c.loop-i.before (c.loop-i.invariant.trace tells) (kept tells)
           (subst (λ (w : Writes). TouchedIs (IsIn c.loop-i.before) w None) (lent c.deref.result.now c.deref.ensures.value)
@@ -289,5 +303,8 @@ returns-in_err-keeps-clause-place g c = λ tells.
     let lt : c.loop-i.i < length c.args.plan.now.phases.items =
     omega (arith, c.loop-i-test.true, c.len-i-end.ensures, c.args.plan.now.phases.ok) in
     let below = index_within c.args.plan.now.phases.items c.loop-i.i lt in
-    rw (p.1, p.2) (phase c.loop-i.i (omega (arith, below))
-    (((c.loop-i.invariant.trace tells).same c.in_err-keeps.field-0.0.0.0).0 c.in_err-keeps.ensures.place))
+    let e = c.in_err-keeps.field-0.0 in
+    rw (p.1, p.2) (sector_failed g.row.B (g.D.Disk.told c.args.disk.now).seen (phases_of c.args.plan.now)
+    (own_writes c.loop-i.over.own) c.loop-i.i e.0.0 (omega (arith, below)) c.loop-i.invariant.own
+    (((c.loop-i.invariant.trace tells).same e.0.0).0 c.in_err-keeps.ensures.place)
+    (failed_outside {T = Bool} read_of (Err e) _ _ _ c.in_err-keeps.ensures.same.through.2 c.in_err-keeps.ensures.blames))
