@@ -9,7 +9,7 @@ use crate::store::Store;
 use pt_sector::Moments;
 use std::io;
 
-/// Bytes in memory. A write is durable at once, and fails only past the end; a sync does nothing.
+/// Bytes in memory. A write is durable at once, and a sync does nothing. No call fails; that isn't said by a clause.
 #[derive(Drop)]
 pub struct MemStore {
     bytes: Vec<u8>,
@@ -51,9 +51,6 @@ impl<const B: usize> Store<B> for MemStore {
     fn write_at(&mut self, at: u64, bytes: &[u8; B]) -> io::Result<()> {
         self.past = self.past.and(&self.bytes);
         let start = at as usize;
-        if start > self.bytes.len() || self.bytes.len() - start < B {
-            return Err(io::Error::from(io::ErrorKind::InvalidInput));
-        }
         self.bytes[start..start + B].copy_from_slice(bytes);
         Ok(())
     }

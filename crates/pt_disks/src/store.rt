@@ -1,6 +1,6 @@
 //! Bytes that are read and written at an offset.
 
-ghost use Rattle.std.specs.Prelude.{◌≡◌, ◌≤◌, ◌<◌, ◌*◌, ◌^◌, ℕ, length, take, drop, IfOk, OnOk, OnErr};
+ghost use Rattle.std.specs.Prelude.{◌≡◌, ◌≤◌, ◌<◌, ◌+◌, ◌*◌, ◌^◌, ℕ, length, take, drop, IfOk, OnOk, OnErr};
 ghost use Rattle.std.specs.Io.{ReadsAtMost};
 ghost use Rattle.pt_sector.specs.Device.{MayLeave};
 ghost use Rattle.pt_disks.specs.Stores.{sectors_of, ToldBytes, IsBlock, Put, FailedPut, Synced, FailedSync, in_sectors, untold_bytes};
@@ -30,9 +30,11 @@ pub trait Store<const B: usize> {
         ensures bound { ReadsAtMost result into.new }
         ensures bytes { tells → IfOk result (λ n. take n into.new ≡ take n (drop at (told self.now).seen)) };
 
-    /// Writes one block, all of it. It may stay pending until a sync. After `Err` it reads as before or as written.
+    /// Writes one block that lies within the store, all of it. It may stay pending until a sync. After `Err` it reads as before or as
+    /// written.
     fn write_at(&mut self, at: u64, bytes: &[u8; B]) -> io::Result<()>
-        requires { IsBlock B at }
+        requires block { IsBlock B at }
+        requires within { tells → at + B ≤ length (told self.old).seen }
         ensures done { tells → OnOk result (Put (told self.old) (told self.new) at bytes.now) }
         ensures failed { tells → OnErr result (FailedPut (told self.old) (told self.new) at bytes.now) };
 
