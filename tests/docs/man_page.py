@@ -278,7 +278,8 @@ def of_sections(docs):
 def texts_of_pages(docs):
     """{command: {text: meaning}} of what its page of --help has."""
     of = of_sections(docs)
-    no_table = {text: it for text, it in of["show"].items() if text.startswith("no table: ")}
+    one_copy = {text: it for text, it in of["show"].items() if " copy" in text}
+    no_table = {text: it for text, it in of["show"].items() if text.startswith("no table: ") and text not in one_copy}
     copies = {text: it for text, it in of["verify"].items() if text.isdigit()}
     in_use = {text: it for text, it in of["Devices"].items() if text.startswith("refused: in use")}
     devices = {text: it for text, it in of["Devices"].items() if text not in in_use}
@@ -288,7 +289,7 @@ def texts_of_pages(docs):
     reads = {**no_table, **copies, **devices}
     edit = {**of["edit"], **reads}
     same("plan has no refusal of its own", of["plan"], {})
-    return {"show": {**reads, **plan_text}, "verify": {**of["verify"], **devices}, "locate": {**of["locate"], **reads},
+    return {"show": {**reads, **one_copy, **plan_text}, "verify": {**of["verify"], **devices}, "locate": {**of["locate"], **reads},
             "edit": {**edit, **in_use}, "plan": {text: it for text, it in edit.items() if text not in locked},
             "check": {**of["check"], **devices}, "apply": {**of["check"], **locked, **in_use, **devices},
             "repair": {**of["repair"], **locked, **in_use, **reads},
