@@ -8,7 +8,8 @@ use Rattle.pt_sector.specs.inner.Sectors.{value_after}
 use Rattle.pt_sector.specs.declared.disk.Fault.TheVariants.{Read, Write, Flush}
 use Rattle.pt_sector.proofs.CallsLemmas.{read_in_more}
 use Rattle.pt_sector.specs.Sectors.{Sectors, Writes, Puts, after, written, sector, Has}
-use Rattle.pt_sector.specs.Overlays.{FailedIn, IsOutside, fault_of}
+use Rattle.pt_sector.proofs.ReadsLemmas.{IsOutside}
+use Rattle.pt_sector.specs.Overlays.{FailedIn, fault_of}
 use Rattle.pt_sector.specs.declared.reading.Failure.{Failure}
 use Rattle.pt_sector.specs.declared.reading.Failure.TheVariants as failure
 use Rattle.pt_apply.specs.Plans.{writes_in}
@@ -92,7 +93,8 @@ own_unwritten own phases s same out bytes puts =
     apart _ _ none one (put_fixed (writes_in phases) s bytes puts [] (0 ∷ []))
 
 failed_unwritten : (S : ℕ → Type 0) (own : Writes) (phases : List Writes) (e : CheckError)
-    → ((d : Sectors) → written own d ≡ after phases d) → FailedInCheck S e → IsOutside own (fault_in e) → FailedInCheck (λ s. S s × IsUnwritten phases s) e
+    → ((d : Sectors) → written own d ≡ after phases d) → FailedInCheck S e → IsOutside own (fault_in e)
+    → FailedInCheck (λ s. S s × IsUnwritten phases s) e
 failed_unwritten S own phases (Device (Read at)) same is out = (is, own_unwritten own phases at.0 same out)
 failed_unwritten S own phases (Device (Write at)) same is out = absurd is
 failed_unwritten S own phases (Device Flush) same is out = absurd is

@@ -2,13 +2,13 @@
 use Rattle.std.specs.Prelude.{◌≡◌, ℕ, List, [], ◌∷◌, ◌++◌, Option, Some, None, Result, IfErr}
 use Rattle.std.proofs.Common.{◌∙◌, sym, ap, subst, Ok, Err}
 use Rattle.std.proofs.lemmas.List.{append-nil, append_cancel_left}
-use Rattle.pt_sector.specs.Device.{Blames, with_fault}
+use Rattle.pt_sector.specs.Device.{Blames, IsReadIn, with_fault}
 use Rattle.pt_sector.specs.declared.disk.Fault.{Fault}
 use Rattle.pt_sector.specs.declared.disk.Disk.{Ghosts}
 use Rattle.pt_sector.specs.declared.reading.Failure.{Failure}
 use Rattle.pt_sector.specs.declared.reading.Failure.TheVariants as failure
-use Rattle.pt_sector.specs.Overlays.{ReadsThrough, FailedIn, FailOutside, CameOutside, IsOutside}
-use Rattle.pt_sector.specs.Sectors.{Writes}
+use Rattle.pt_sector.specs.Overlays.{ReadsThrough, FailedIn, FailOutside, CameOutside}
+use Rattle.pt_sector.specs.Sectors.{Has, Writes}
 
 -- so what a result blames above, it blames below
 pub blames_below : {D B : _} (g : Ghosts D B) {T E : Type 0} (fault_in : E → Option Fault) (result : Result T E) (old new : D)
@@ -31,7 +31,12 @@ pub failed_more : (S T : ℕ → Type 0) (f : Failure) → ((s : ℕ) → S s �
 failed_more S T (failure.Device at) more is = more at.0 is
 failed_more S T failure.Memory more is = is
 
--- the fault that an error carries is of none of the overlay's own sectors
+-- the fault that an error carries, if it does, is of a read of none of these sectors
+abbrev pub IsOutside : Writes → Option Fault → Type 0
+IsOutside own None = Unit {0}
+IsOutside own (Some f) = IsReadIn (λ s. ¬ Has own s) f
+
+-- so is one that came to an overlay, of its own sectors
 pub failed_outside : {T E : Type 0} (fault_in : E → Option Fault) (result : Result T E) (own : Writes) (old new : List Fault)
     → CameOutside own old new → Blames fault_in result old new → IfErr result (λ e. IsOutside own (fault_in e))
 failed_outside fault_in (Ok x) own old new came blames = tt

@@ -83,8 +83,3 @@ pub record CameOutside (own : Writes) (old new : List Fault) : Type 0 where
   pub more : List Fault
   pub come : new ≡ old ++ more
   pub outside : FailOutside own more
-
--- and the one that an error carries, if it does
-abbrev pub IsOutside : Writes → Option Fault → Type 0
-IsOutside own None = Unit {0}
-IsOutside own (Some f) = IsReadIn (λ s. ¬ Has own s) f
