@@ -13,7 +13,7 @@ use Rattle.pt_members.specs.declared.layout.Layout.{Layout}
 use Rattle.pt_layout.specs.Healthy.{Healthy}
 use Rattle.pt_check.specs.Answers.{IsUnwritten}
 use Rattle.pt_check.proofs.Reading.{after-writes}
-use Rattle.pt_plan.specs.Batches.{Words, Commits, Repairs, IsReady, IsReadyToMend}
+use Rattle.pt_plan.specs.Batches.{Change, CommitsChange, Repairs, IsReadyChange, IsReadyToMend}
 use Rattle.pt_plan.proofs.Histories.{stopped_keeps}
 
 unwritten_stays : (phases : List Writes) (d : Sectors) (s : ℕ) → IsUnwritten phases s → sector (after phases d) s ≡ sector d s
@@ -30,17 +30,17 @@ done_stopped phases d = record {
       (sym (take_all (length phases) phases (omega arith))) (stopped_same (after phases d) (slice_index_or phases (length phases) []));
 }
 
-pub commit_leaves_lem : (b n : ℕ) (words : Words) (old new : Told) → Commits b n words (Ok tt) old new
-    → (phases : List Writes) × IsReady b n words old.seen phases
+pub commit_leaves_lem : (b n : ℕ) (change : Change) (old new : Told) → CommitsChange b n change (Ok tt) old new
+    → (phases : List Writes) × IsReadyChange b n change old.seen phases
     × ((s : ℕ) → IsUnwritten phases s → sector new.seen s ≡ sector old.seen s)
-commit_leaves_lem b n words old new did =
+commit_leaves_lem b n change old new did =
     let is = did.ends.3 in
     (is.phases, is.ready, λ s free. ap (λ (x : Sectors). sector x s) is.seen ∙ unwritten_stays is.phases old.seen s free)
 
-pub commit_keeps_lem : (b n : ℕ) (words : Words) (old new : Told) → Commits b n words (Ok tt) old new
+pub commit_keeps_lem : (b n : ℕ) (change : Change) (old new : Told) → CommitsChange b n change (Ok tt) old new
     → (o : Option Layout) × (l : Layout) × Denotes b old.seen o × Denotes b new.seen (Some l)
     × Keeps (Denotes b) (Healthy b) (TableOf b) (OwnedOf b) o (Some l) old.seen new.seen
-commit_keeps_lem b n words old new did =
+commit_keeps_lem b n change old new did =
     let is = did.ends.3 in
     let r = is.ready in (
       r.old,

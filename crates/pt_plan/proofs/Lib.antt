@@ -13,6 +13,7 @@ pub mod Mended
 pub mod OneLabel
 pub mod Outcomes
 pub mod PhasesLemmas
+pub mod PlanCalls
 pub mod PrimaryFirst
 pub mod Reading
 pub mod Replying

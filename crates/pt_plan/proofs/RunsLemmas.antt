@@ -1,6 +1,6 @@
 -- Lemmas on calls one after another, and what a crash may have left of them. L is a layout, W the words of a call, R a refusal of words.
 use Rattle.std.specs.Prelude.{◌≡◌, List, [], ◌∷◌, ◌++◌, Option, Result, Bool, ◌⊎◌, Ok, Err}
-use Rattle.std.proofs.Common.{◌∙◌, refl, sym, ap, subst, append_assoc, inl, inr, ⊎_elim, arith}
+use Rattle.std.proofs.Common.{◌∙◌, refl, sym, ap, subst, append_assoc, inl, inr, ⊎_elim, arith, map}
 use Rattle.std.proofs.lemmas.List.{append-nil, append_cancel_left}
 use Rattle.pt_sector.specs.Sectors.{Sectors, sector}
 use Rattle.pt_sector.specs.Device.{Told, Moment, MayLeave, LeftBy, LeavesOnly, Elapses, now_of, Flushed, FailedFlush}
@@ -8,7 +8,7 @@ use Rattle.pt_sector.proofs.Since.{leaves_none, leaves_through, leaves_weaker}
 use Rattle.pt_apply.specs.Plans.{Settled}
 use Rattle.pt_plan.specs.Commits.{Past, Has, Holds, Carries, past, Unchanged, Either, History}
 use Rattle.pt_plan.proofs.EveryPlan.{settled_leaves}
-use Rattle.pt_plan.specs.Sessions.{Call, answered, IsCutShort, HasCutShort, CarryOn, Step, a_commit, a_repair, a_session, no_session}
+use Rattle.pt_plan.specs.Sessions.{Call, answered, IsCutShort, HasCutShort, CarryOn, Step, a_commit, a_repair, a_session, a_plan, nothing}
 use Rattle.pt_plan.specs.Sessions.{calls_in, calls_of_all, IsLeftBy, Did, Ran, DidCall, DidCalls, CrashIn, Lives, LivesKnown}
 use Rattle.pt_plan.specs.Sessions.{KeepsHistory, Session, reply_of, call_of_reply, calls_of, OnlyFlushes}
 use Rattle.pt_plan.specs.declared.runs.sessions.Reply.{Reply}
@@ -120,26 +120,27 @@ left_split (m ∷ a) b c (inl here) = inl (inl here)
 left_split (m ∷ a) b c (inr there) = ⊎_elim (λ x. inl (inr x)) (λ y. inr y) (left_split a b c there)
 
 module _ {W : Type 0} (commits : W → Result Unit CommitError → Told → Told → Type 0)
-    (repairs : Result Unit RepairError → Told → Told → Type 0) where
-  calls_on : (xs ys : List (Call W)) (old mid new : Told) → DidCalls commits repairs xs old mid → DidCalls commits repairs ys mid new
-      → DidCalls commits repairs (xs ++ ys) old new
-  calls_on [] ys old mid new same rest = subst (λ (x : Told). DidCalls commits repairs ys x new) same rest
+    (repairs : Result Unit RepairError → Told → Told → Type 0) (applies : Call W → Told → Told → Type 0) where
+  calls_on : (xs ys : List (Call W)) (old mid new : Told) → DidCalls commits repairs applies xs old mid
+      → DidCalls commits repairs applies ys mid new
+      → DidCalls commits repairs applies (xs ++ ys) old new
+  calls_on [] ys old mid new same rest = subst (λ (x : Told). DidCalls commits repairs applies ys x new) same rest
   calls_on (call ∷ xs) ys old mid new (next, did, first) rest = (next, did, calls_on xs ys next mid new first rest)
 
   batch_did : (w : W) (r : Reply) (ws : List W) (rs : List Reply) (old new : Told)
-      → ((mid : Told) → Session commits ws rs mid new → DidCalls commits repairs (calls_of ws rs) mid new)
+      → ((mid : Told) → Session commits ws rs mid new → DidCalls commits repairs applies (calls_of ws rs) mid new)
       → (result : Result Unit CommitError) × (mid : Told) ×
       (r ≡ reply_of result) × commits w result old mid × Session commits ws rs mid new
-      → DidCalls commits repairs (call_of_reply w r ∷ calls_of ws rs) old new
+      → DidCalls commits repairs applies (call_of_reply w r ∷ calls_of ws rs) old new
   batch_did w r ws rs old new others (result, mid, is, did, rest) =
       (mid, inl (w, result, ap (λ (x : Reply). call_of_reply w x) is ∙ reply_call w result, did), others mid rest)
 
   session_did : (ws : List W) (rs : List Reply) (old new : Told) → Session commits ws rs old new
-      → DidCalls commits repairs (calls_of ws rs) old new
+      → DidCalls commits repairs applies (calls_of ws rs) old new
   session_did [] [] old new same = same
   session_did [] (r ∷ rs) old new none = absurd none
   session_did (w ∷ ws) [] old new none = absurd none
-  session_did (w ∷ ws) (reply.NotTried ∷ rs) old new rest = (old, inr (refl, inr refl), session_did ws rs old new rest)
+  session_did (w ∷ ws) (reply.NotTried ∷ rs) old new rest = (old, inr (inr (refl, inr refl)), session_did ws rs old new rest)
   session_did (w ∷ ws) (reply.Done ∷ rs) old new did =
       batch_did w reply.Done ws rs old new (λ mid rest. session_did ws rs mid new rest) did
   session_did (w ∷ ws) (reply.Refused e ∷ rs) old new did =
@@ -147,22 +148,24 @@ module _ {W : Type 0} (commits : W → Result Unit CommitError → Told → Told
   session_did (w ∷ ws) (reply.Fault fault ∷ rs) old new did =
       batch_did w (reply.Fault fault) ws rs old new (λ mid rest. session_did ws rs mid new rest) did
 
-  step_did : (step : Step W) (old new : Told) → Did commits repairs step old new → DidCalls commits repairs (calls_in step) old new
+  step_did : (step : Step W) (old new : Told) → Did commits repairs applies step old new
+      → DidCalls commits repairs applies (calls_in step) old new
   step_did (a_commit w result) old new did = (new, inl (w, result, refl, did), refl)
-  step_did (a_repair result) old new did = (new, inr (refl, inl (result, did)), refl)
+  step_did (a_repair result) old new did = (new, inr (inr (refl, inl (result, did))), refl)
   step_did (a_session ws rs) old new did = session_did ws rs old new did
-  step_did (no_session ws) old new same = same
+  step_did (a_plan call) old new did = (new, inr (inl did), refl)
+  step_did nothing old new same = same
 
-  run_did : (steps : List (Step W)) (old new : Told) → Ran commits repairs steps old new
-      → DidCalls commits repairs (calls_of_all steps) old new
+  run_did : (steps : List (Step W)) (old new : Told) → Ran commits repairs applies steps old new
+      → DidCalls commits repairs applies (calls_of_all steps) old new
   run_did [] old new same = same
   run_did (step ∷ steps) old new (mid, did, rest) =
       calls_on (calls_in step) (calls_of_all steps) old mid new (step_did step old mid did) (run_did steps mid new rest)
 
   -- a crash in calls with one more before them
   later_crash : (call : Call W) (calls : List (Call W)) (old mid new : Told) (c : Sectors) (known : List (Past W))
-      → DidCall commits repairs call old mid → CrashIn commits repairs calls mid new known c
-      → CrashIn commits repairs (call ∷ calls) old new (call.done ∷ known) c
+      → DidCall commits repairs applies call old mid → CrashIn commits repairs applies calls mid new known c
+      → CrashIn commits repairs applies (call ∷ calls) old new (call.done ∷ known) c
   later_crash call calls old mid new c known did (inl crash) = inl (record {
     before = call ∷ crash.before;
     after = crash.after;
@@ -243,36 +246,44 @@ module _ {L W R : Type 0} (denotes : Sectors → Option L → Type 0) (edited : 
     session_carries_lem (w ∷ ws) (reply.Fault fault ∷ rs) old new did =
         tried w (reply.Fault fault) ws rs old new (λ mid rest. session_carries_lem ws rs mid new rest) did
 
-    -- and each repair
+    -- and each repair, and each plan from elsewhere, which is a change or none
     module _ (repairs : Result Unit RepairError → Told → Told → Type 0)
         (mended : (result : Result Unit RepairError) (old new : Told) → repairs result old new
-        → Carries denotes edited Unchanged Unchanged old new) where
-      step_carries : (step : Step W) (old new : Told) → Did commits repairs step old new → CarryOn denotes edited (calls_in step) old new
+        → Carries denotes edited Unchanged Unchanged old new)
+        (applies : Call W → Told → Told → Type 0)
+        (applied : (call : Call W) (old new : Told) → applies call old new → Carries denotes edited call.inside call.done old new)
+        (undone : (call : Call W) (old new : Told) → applies call old new
+        → (call.inside ≡ Unchanged) ⊎ ((w : W) × (call.inside ≡ Either w))) where
+      step_carries : (step : Step W) (old new : Told) → Did commits repairs applies step old new
+          → CarryOn denotes edited (calls_in step) old new
       step_carries (a_commit w result) old new did =
           one_carries_lem denotes edited (record { inside = Either w; done = past w result }) old new (each w result old new did)
       step_carries (a_repair result) old new did =
           one_carries_lem denotes edited (record { inside = Unchanged; done = Unchanged }) old new (mended result old new did)
       step_carries (a_session ws rs) old new did = session_carries_lem ws rs old new did
-      step_carries (no_session ws) old new same = carry_nothing old new same
+      step_carries (a_plan call) old new did = one_carries_lem denotes edited call old new (applied call old new did)
+      step_carries nothing old new same = carry_nothing old new same
 
-      pub run_carries_lem : (steps : List (Step W)) (old new : Told) → Ran commits repairs steps old new
+      pub run_carries_lem : (steps : List (Step W)) (old new : Told) → Ran commits repairs applies steps old new
           → CarryOn denotes edited (calls_of_all steps) old new
       run_carries_lem [] old new same = carry_nothing old new same
       run_carries_lem (step ∷ steps) old new (mid, did, rest) =
           carry_through_lem denotes edited (calls_in step) (calls_of_all steps) old mid new
           (step_carries step old mid did) (run_carries_lem steps mid new rest)
 
-      call_carries : (call : Call W) (old new : Told) → DidCall commits repairs call old new
+      call_carries : (call : Call W) (old new : Told) → DidCall commits repairs applies call old new
           → Carries denotes edited call.inside call.done old new
       call_carries call old new (inl (w, result, is, did)) =
           subst (λ (x : Call W). Carries denotes edited x.inside x.done old new) (sym is) (each w result old new did)
-      call_carries call old new (inr (is, inl (result, did))) =
+      call_carries call old new (inr (inl did)) = applied call old new did
+      call_carries call old new (inr (inr (is, inl (result, did)))) =
           subst (λ (x : Call W). Carries denotes edited x.inside x.done old new) (sym is) (mended result old new did)
-      call_carries call old new (inr (is, inr same)) =
+      call_carries call old new (inr (inr (is, inr same))) =
           subst (λ (x : Call W). Carries denotes edited x.inside x.done old new) (sym is)
           (subst (λ (x : Told). Carries denotes edited Unchanged Unchanged old x) (sym same) (nothing_carries old))
 
-      calls_carry : (calls : List (Call W)) (old new : Told) → DidCalls commits repairs calls old new → CarryOn denotes edited calls old new
+      calls_carry : (calls : List (Call W)) (old new : Told) → DidCalls commits repairs applies calls old new
+          → CarryOn denotes edited calls old new
       calls_carry [] old new same = carry_nothing old new same
       calls_carry (call ∷ calls) old new (mid, did, rest) =
           carry_through_lem denotes edited (call ∷ []) calls old mid new
@@ -280,11 +291,17 @@ module _ {L W R : Type 0} (denotes : Sectors → Option L → Type 0) (edited : 
 
       -- what was so before a call is so within it: the call may have done nothing yet
       may_be_undone : (call : Call W) (old new : Told) (o : Option L) (calls : List (Past W)) (c : Sectors)
-          → DidCall commits repairs call old new → Has denotes edited o calls c → Has denotes edited o (calls ++ call.inside ∷ []) c
+          → DidCall commits repairs applies call old new → Has denotes edited o calls c → Has denotes edited o (calls ++ call.inside ∷ []) c
       may_be_undone call old new o calls c (inl (w, result, is, did)) has =
           subst (λ (x : Call W). Has denotes edited o (calls ++ x.inside ∷ []) c) (sym is)
           (has.0, has.1, history_either calls w o has.0 has.2)
-      may_be_undone call old new o calls c (inr (is, did)) has =
+      may_be_undone call old new o calls c (inr (inl did)) has = ⊎_elim
+          (λ is. subst (λ (x : Past W). Has denotes edited o (calls ++ x ∷ []) c) (sym is)
+          (has.0, has.1, history_unchanged calls o has.0 has.2))
+          (λ it. subst (λ (x : Past W). Has denotes edited o (calls ++ x ∷ []) c) (sym it.1)
+          (has.0, has.1, history_either calls it.0 o has.0 has.2))
+          (undone call old new did)
+      may_be_undone call old new o calls c (inr (inr (is, did))) has =
           subst (λ (x : Call W). Has denotes edited o (calls ++ x.inside ∷ []) c) (sym is)
           (has.0, has.1, history_unchanged calls o has.0 has.2)
 
@@ -299,7 +316,7 @@ module _ {L W R : Type 0} (denotes : Sectors → Option L → Type 0) (edited : 
           ⊎_elim (λ m. inl (before c m)) (λ has. inr has) (leaves.at_end c may)
 
       keeps_in : (o : Option L) (earlier : List (Past W)) (calls : List (Call W)) (old new : Told) → Holds denotes edited o earlier old
-          → (c : Sectors) (known : List (Past W)) → CrashIn commits repairs calls old new known c
+          → (c : Sectors) (known : List (Past W)) → CrashIn commits repairs applies calls old new known c
           → Has denotes edited o (earlier ++ known) c
       keeps_in o earlier calls old new start c known (inl crash) =
           subst (λ (l : List (Past W)). Has denotes edited o (earlier ++ l) c) (sym crash.is)
@@ -320,8 +337,8 @@ module _ {L W R : Type 0} (denotes : Sectors → Option L → Type 0) (edited : 
           (append_assoc earlier (answered crash.before) (crash.call.inside ∷ [])) has)
 
       each_in : (o : Option L) (earlier : List (Past W)) (calls : List (Call W)) (old new : Told) → Holds denotes edited o earlier old
-          → DidCalls commits repairs calls old new → (c : Sectors) → IsLeftBy old new c
-          → (known : List (Past W)) × CrashIn commits repairs calls old new known c
+          → DidCalls commits repairs applies calls old new → (c : Sectors) → IsLeftBy old new c
+          → (known : List (Past W)) × CrashIn commits repairs applies calls old new known c
       each_in o earlier [] old new start same c (inl (more, time, at)) =
           absurd (subst (λ (l : List Moment). LeftBy l c)
           (append_cancel_left old.past more [] (sym time ∙ ap (λ (x : Told). x.past) same ∙ sym (append-nil old.past))) at)
@@ -331,10 +348,10 @@ module _ {L W R : Type 0} (denotes : Sectors → Option L → Type 0) (edited : 
           let carry : Carries denotes edited call.inside call.done old mid = call_carries call old mid did in
           let first : LeavesOnly old mid (Has denotes edited o (earlier ++ call.inside ∷ [])) = carry.any_moment o earlier start in
           let next : Holds denotes edited o (earlier ++ call.done ∷ []) mid = carry.at_return o earlier start in
-          let others : IsLeftBy mid new c → (known : List (Past W)) × CrashIn commits repairs (call ∷ calls) old new known c =
-          λ later. let found : (known : List (Past W)) × CrashIn commits repairs calls mid new known c =
+          let others : IsLeftBy mid new c → (known : List (Past W)) × CrashIn commits repairs applies (call ∷ calls) old new known c =
+          λ later. let found : (known : List (Past W)) × CrashIn commits repairs applies calls mid new known c =
           each_in o (earlier ++ call.done ∷ []) calls mid new next rest c later in
-          (call.done ∷ found.0, later_crash commits repairs call calls old mid new c found.0 did found.1) in
+          (call.done ∷ found.0, later_crash commits repairs applies call calls old mid new c found.0 did found.1) in
           let then : LeavesOnly mid new _ = (calls_carry calls mid new rest).any_moment o (earlier ++ call.done ∷ []) next in
           ⊎_elim
           (λ at. ⊎_elim
@@ -363,11 +380,11 @@ module _ {L W R : Type 0} (denotes : Sectors → Option L → Type 0) (edited : 
 
       -- a run on a disk that earlier calls left
       pub run_goes_on_lem : (steps : List (Step W)) (old new : Told) (o : Option L) (earlier : List (Past W))
-          → Ran commits repairs steps old new
+          → Ran commits repairs applies steps old new
           → Holds denotes edited o earlier old
-          → KeepsHistory commits repairs denotes edited o earlier (calls_of_all steps) old new
+          → KeepsHistory commits repairs applies denotes edited o earlier (calls_of_all steps) old new
       run_goes_on_lem steps old new o earlier ran start =
-          let did : DidCalls commits repairs (calls_of_all steps) old new = run_did commits repairs steps old new ran in
+          let did : DidCalls commits repairs applies (calls_of_all steps) old new = run_did commits repairs applies steps old new ran in
           let moments : LeavesOnly old new (HasCutShort denotes edited o earlier (calls_of_all steps)) =
           (run_carries_lem steps old new ran).any_moment o earlier start in
           record {
@@ -379,13 +396,13 @@ module _ {L W R : Type 0} (denotes : Sectors → Option L → Type 0) (edited : 
             keeps = keeps_in o earlier (calls_of_all steps) old new start;
           }
 
-      pub run_keeps_lem : (steps : List (Step W)) (old new : Told) (d : Sectors) (o : Option L) → Ran commits repairs steps old new
+      pub run_keeps_lem : (steps : List (Step W)) (old new : Told) (d : Sectors) (o : Option L) → Ran commits repairs applies steps old new
           → Settled old d → denotes d o
-          → KeepsHistory commits repairs denotes edited o [] (calls_of_all steps) old new
+          → KeepsHistory commits repairs applies denotes edited o [] (calls_of_all steps) old new
       run_keeps_lem steps old new d o ran settled is = run_goes_on_lem steps old new o [] ran (begins_lem denotes edited old d o settled is)
 
       lives_after : (runs : List (List (Step W))) (known : List (Past W)) (d e : Sectors) (o : Option L) (earlier : List (Past W))
-          → LivesKnown commits repairs runs known d e → Has denotes edited o earlier d → Has denotes edited o (earlier ++ known) e
+          → LivesKnown commits repairs applies runs known d e → Has denotes edited o earlier d → Has denotes edited o (earlier ++ known) e
       lives_after [] known d e o earlier (none, same) has =
           subst (λ (calls : List (Past W)). Has denotes edited o (earlier ++ calls) e) (sym none)
           (subst (λ (calls : List (Past W)). Has denotes edited o calls e) (sym (append-nil earlier))
@@ -398,24 +415,25 @@ module _ {L W R : Type 0} (denotes : Sectors → Option L → Type 0) (edited : 
           (subst (λ (calls : List (Past W)). Has denotes edited o calls e) (append_assoc earlier here rest) last)
 
       pub lives_keep_lem : (runs : List (List (Step W))) (known : List (Past W)) (d e : Sectors) (o : Option L) → denotes d o
-          → LivesKnown commits repairs runs known d e → Has denotes edited o known e
+          → LivesKnown commits repairs applies runs known d e → Has denotes edited o known e
       lives_keep_lem runs known d e o is lives = lives_after runs known d e o [] lives (o, is, refl)
 
       lives_known_after : (runs : List (List (Step W))) (d e : Sectors) (o : Option L) (earlier : List (Past W))
-          → Lives commits repairs runs d e → Has denotes edited o earlier d
-          → (known : List (Past W)) × LivesKnown commits repairs runs known d e
+          → Lives commits repairs applies runs d e → Has denotes edited o earlier d
+          → (known : List (Past W)) × LivesKnown commits repairs applies runs known d e
       lives_known_after [] d e o earlier same has = ([], (refl, same))
       lives_known_after (steps ∷ runs) d e o earlier (old, new, c, settled, ran, left, next) has =
           let start : Holds denotes edited o earlier old = begins_again_lem denotes edited old d o earlier settled has in
-          let here : (known : List (Past W)) × CrashIn commits repairs (calls_of_all steps) old new known c =
-          each_in o earlier (calls_of_all steps) old new start (run_did commits repairs steps old new ran) c left in
+          let here : (known : List (Past W)) × CrashIn commits repairs applies (calls_of_all steps) old new known c =
+          each_in o earlier (calls_of_all steps) old new start (run_did commits repairs applies steps old new ran) c left in
           let then : Has denotes edited o (earlier ++ here.0) c = keeps_in o earlier (calls_of_all steps) old new start c here.0 here.1 in
-          let rest : (known : List (Past W)) × LivesKnown commits repairs runs known c e =
+          let rest : (known : List (Past W)) × LivesKnown commits repairs applies runs known c e =
           lives_known_after runs c e o (earlier ++ here.0) next then in
           (here.0 ++ rest.0, (old, new, c, here.0, rest.0, refl, settled, ran, here.1, rest.1))
 
-      pub lives_known_lem : (runs : List (List (Step W))) (d e : Sectors) (o : Option L) → denotes d o → Lives commits repairs runs d e
-          → (known : List (Past W)) × LivesKnown commits repairs runs known d e
+      pub lives_known_lem : (runs : List (List (Step W))) (d e : Sectors) (o : Option L) → denotes d o
+          → Lives commits repairs applies runs d e
+          → (known : List (Past W)) × LivesKnown commits repairs applies runs known d e
       lives_known_lem runs d e o is lives = lives_known_after runs d e o [] lives (o, is, refl)
 
 -- a crash since one call of the device, where nothing was pending before it and the call leaves no other disk
@@ -446,3 +464,17 @@ only_flushes_lem old new settled (inr failed) = record {
   seen = failed.seen;
   left = left_since old new settled failed.time (left_by_failed old new settled failed);
 }
+
+-- a session whose batches are changes of another kind
+pub session_map : {V W : Type 0} (f : V → W) (commits : W → Result Unit CommitError → Told → Told → Type 0) (ws : List V) (rs : List Reply)
+    (old new : Told) → Session (λ w. commits (f w)) ws rs old new → Session commits (map f ws) rs old new
+session_map f commits [] [] old new same = same
+session_map f commits [] (r ∷ rs) old new none = absurd none
+session_map f commits (w ∷ ws) [] old new none = absurd none
+session_map f commits (w ∷ ws) (reply.NotTried ∷ rs) old new rest = session_map f commits ws rs old new rest
+session_map f commits (w ∷ ws) (reply.Done ∷ rs) old new (result, mid, is, did, rest) =
+    (result, mid, is, did, session_map f commits ws rs mid new rest)
+session_map f commits (w ∷ ws) (reply.Refused e ∷ rs) old new (result, mid, is, did, rest) =
+    (result, mid, is, did, session_map f commits ws rs mid new rest)
+session_map f commits (w ∷ ws) (reply.Fault fault ∷ rs) old new (result, mid, is, did, rest) =
+    (result, mid, is, did, session_map f commits ws rs mid new rest)

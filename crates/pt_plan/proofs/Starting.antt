@@ -13,7 +13,8 @@ use Rattle.pt_planner.specs.PlanReads.{ReasonIs, PlanReads}
 use Rattle.pt_cases.specs.Unplanned.{fault_in, Unplanned}
 use Rattle.pt_cases.specs.declared.targets.error.PlanError.{PlanError}
 use Rattle.pt_cases.specs.declared.targets.error.PlanError.TheVariants as plan
-use Rattle.pt_plan.specs.Batches.{Words, Makes, MakesTable, EditedBy, IsPlanned, IsReady, IsRefusal, EditReads, FailedInCommit}
+use Rattle.pt_plan.specs.Batches.{Words, FromNothing, ChangedBy, by_words, MakesTable, EditedBy, IsPlanned, IsReady, IsRefusal}
+use Rattle.pt_plan.specs.Batches.{EditReads, FailedInCommit}
 use Rattle.pt_plan.specs.Commits.{Leads, commit_fault_in, commit_unplanned, HidesNoFailure}
 use Rattle.pt_plan.specs.Batches as reading
 use Rattle.pt_plan.specs.inner.Commits.{sectors_in, MayStart, NotEdited, NotPlanned, IsSafe, NotSafe}
@@ -47,7 +48,8 @@ module _ (b n : ℕ) (batch : Words) (d : Sectors) (sized : length d ≡ n) (o :
   not_edited Memory is = tt
 
   module _ (l : Layout) (to : EditedBy b (sectors_in o m) o batch (Ok l)) where
-    leads : Leads (Denotes b) (IsReason b) Makes (EditedBy b n) (IsPlan b) (Unplanned b) (Healthy b) (TableOf b) (OwnedOf b) batch d o l
+    leads : Leads (Denotes b) (IsReason b) FromNothing (ChangedBy b n) (IsPlan b) (Unplanned b) (Healthy b) (TableOf b) (OwnedOf b)
+        (by_words batch) d o l
     leads = record { from = starts.from; may = starts.may; to = subst (λ (k : ℕ). EditedBy b k o batch (Ok l)) here to }
 
     pub not_planned : (e : CommitError) → NotPlanned b d l e → IsRefusal b n batch d e

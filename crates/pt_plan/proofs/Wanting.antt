@@ -1,5 +1,6 @@
 -- The steps before the first write, by what is wanted.
-use Rattle.std.proofs.Common.{◌≡◌, ℕ, List, length, Option, Some, inl, inr, refl, sym, subst}
+use Rattle.std.proofs.Common.{◌≡◌, ◌↔◌, ℕ, List, length, Option, Some, Result, Ok, Err, inl, inr, refl, sym, subst}
+use Rattle.std.proofs.lemmas.Bool.{cases_eq}
 use Rattle.pt_sector.specs.Sectors.{Sectors, IsSectorSize, Writes}
 use Rattle.pt_sector.specs.declared.reading.Failure.{Failure}
 use Rattle.pt_sector.specs.declared.reading.Failure.TheVariants as failure
@@ -13,12 +14,15 @@ use Rattle.pt_planner.specs.PlanReads.{PlanReads, MakeReads}
 use Rattle.pt_cases.specs.Unplanned.{Unplanned}
 use Rattle.pt_plan.proofs.EveryPlan.{plan_lands, plan_finishes, plan_not_refused}
 use Rattle.pt_plan.specs.Commits.{Leads, commit_failure}
-use Rattle.pt_plan.specs.Layouts.{Becomes, FromNothing, IsAccepted, IsReadyFor, IsRefusalOf}
+use Rattle.pt_plan.specs.Batches.{FromNothing, ChangedBy, to_layout}
+use Rattle.pt_plan.specs.Layouts.{IsAccepted, IsReadyFor, IsRefusalOf}
 use Rattle.pt_plan.specs.Batches as reading
 use Rattle.pt_plan.specs.inner.Commits.{NotPlanned, IsSafe, NotSafe}
 use Rattle.pt_plan.specs.inner.Layouts.{IsPlanOf, IsReadyOf, IsRefusedBy, PlanOfReads, WriteOfReads}
 use Rattle.pt_plan.specs.declared.error.CommitError.{CommitError}
 use Rattle.pt_plan.specs.declared.error.CommitError.TheVariants.{NoTable, Edit, Plan, Check, Device, Memory}
+use Rattle.pt_plan.specs.declared.like_error.LikeError.{LikeError}
+use Rattle.pt_plan.specs.declared.like_error.LikeError.TheVariants.{OtherSize}
 use Rattle.pt_plan.specs.declared.wanted.Wanted.{Wanted}
 use Rattle.pt_plan.specs.declared.wanted.Wanted.TheVariants as wanted
 use Rattle.pt_plan.proofs.Mendable.{ready_to_mend, not_safe_to_mend}
@@ -43,11 +47,12 @@ accepted b w d phases size is = let from = from_of b d w phases is in record {
 }
 
 -- a layout leads to itself, from whatever the disk denotes
-module _ (b : ℕ) (w : Layout) (d : Sectors) (o : Option Layout) (from : Denotes b d o) where
-  leads : Leads (Denotes b) (IsReason b) FromNothing Becomes (IsPlan b) (Unplanned b) (Healthy b) (TableOf b) (OwnedOf b) w d o w
+module _ (b n : ℕ) (w : Layout) (d : Sectors) (o : Option Layout) (from : Denotes b d o) where
+  leads : Leads (Denotes b) (IsReason b) FromNothing (ChangedBy b n) (IsPlan b) (Unplanned b) (Healthy b) (TableOf b) (OwnedOf b)
+      (to_layout w) d o w
   leads = record { from = from; may = λ none. tt; to = refl }
 
-  pub not_planned_for : (e : CommitError) → NotPlanned b d w e → IsRefusalOf b w d e
+  pub not_planned_for : (e : CommitError) → NotPlanned b d w e → IsRefusalOf b n w d e
   not_planned_for (NoTable e) none = absurd none
   not_planned_for (Edit r) none = absurd none
   not_planned_for (Plan e) is = (o, w, leads, is)
@@ -56,19 +61,19 @@ module _ (b : ℕ) (w : Layout) (d : Sectors) (o : Option Layout) (from : Denote
   not_planned_for Memory is = tt
 
 -- a plan for it, once the checker accepts it, which it does
-module _ (b : ℕ) (w : Layout) (d : Sectors) (phases : List Writes) (size : IsSectorSize b) (is : IsPlan b d w phases) where
-  ready_for : IsSafe b d phases → IsReadyFor b w d phases
+module _ (b n : ℕ) (w : Layout) (d : Sectors) (phases : List Writes) (size : IsSectorSize b) (is : IsPlan b d w phases) where
+  ready_for : IsSafe b d phases → IsReadyFor b n w d phases
   ready_for safe = let from = from_of b d w phases is in record {
     old = from.0;
     new = w;
-    leads = leads b w d from.0 from.1;
+    leads = leads b n w d from.0 from.1;
     planned = is;
     finished = (plan_finishes b d w phases size is).denotes;
     switch = safe.switch;
     safe = safe.safe;
   }
 
-  not_safe_for : (e : CommitError) → NotSafe b d phases e → IsRefusalOf b w d e
+  not_safe_for : (e : CommitError) → NotSafe b d phases e → IsRefusalOf b n w d e
   not_safe_for (NoTable e) none = absurd none
   not_safe_for (Edit r) none = absurd none
   not_safe_for (Plan e) none = absurd none
@@ -80,13 +85,13 @@ module _ (b : ℕ) (w : Layout) (d : Sectors) (phases : List Writes) (size : IsS
 pub ready_of : (b n : ℕ) (w : Wanted) (d : Sectors) (phases : List Writes) → IsSectorSize b → IsPlanOf b n w d phases
     → IsSafe b d phases → IsReadyOf b n w d phases
 ready_of b n (wanted.Edited edits guids) d phases size is safe = ready b n _ d phases size is safe
-ready_of b n (wanted.Layout layout) d phases size is safe = ready_for b layout.now d phases size is safe
+ready_of b n (wanted.Layout layout) d phases size is safe = ready_for b n layout.now d phases size is safe
 ready_of b n wanted.Own d phases size is safe = ready_to_mend b d size phases is safe
 
 pub not_safe_of : (b n : ℕ) (w : Wanted) (d : Sectors) (phases : List Writes) → IsSectorSize b → IsPlanOf b n w d phases
     → (e : CommitError) → NotSafe b d phases e → IsRefusedBy b n w d e
 not_safe_of b n (wanted.Edited edits guids) d phases size is e why = not_safe b n _ d phases size is e why
-not_safe_of b n (wanted.Layout layout) d phases size is e why = not_safe_for b layout.now d phases size is e why
+not_safe_of b n (wanted.Layout layout) d phases size is e why = not_safe_for b n layout.now d phases size is e why
 not_safe_of b n wanted.Own d phases size is e why = not_safe_to_mend b d size phases is e why
 
 -- lack of memory, and a failure of the device, before anything is planned
@@ -117,3 +122,10 @@ pub checked_of : (b n : ℕ) (w : Wanted) (d : Sectors) (phases : List Writes) �
 checked_of b n (wanted.Edited edits guids) d phases is s reads = reading.check phases is reads
 checked_of b n (wanted.Layout layout) d phases is s reads = reading.layout_check phases is reads
 checked_of b n wanted.Own d phases is s reads = reading.mend_check phases is reads
+
+-- a disk and another one, whose layout was read for it, have as many sectors
+pub size_met : (w : Layout) (m n : ℕ) → (let r : Result Layout LikeError = Ok w in r ≡ Err OtherSize) ↔ ¬ (m ≡ n) → m ≡ n
+size_met w m n met = elim (cases_eq m n) [
+  | inl is ↦ is
+  | inr other ↦ absurd (let no = met.1 other in cc)
+]

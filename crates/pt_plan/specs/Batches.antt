@@ -1,5 +1,5 @@
 -- What a batch of words, a layout or a repair wants.
-use Rattle.std.specs.Prelude.{ℕ, List, [], ◌∷◌, Option, Result, Some, Ok}
+use Rattle.std.specs.Prelude.{◌≡◌, ℕ, List, [], ◌∷◌, Option, Result, Some, Ok}
 use Rattle.pt_sector.specs.Sectors.{Sectors, Writes}
 use Rattle.pt_sector.specs.Device.{Told}
 use Rattle.pt_guid.specs.declared.guid.Guid.{Guid}
@@ -44,25 +44,56 @@ Makes batch = MakesTable batch.edits
 abbrev pub EditedBy : ℕ → ℕ → Option Layout → Words → Result Layout Refusal → Type 0
 EditedBy b n old batch result = Edited b n old batch.edits batch.guids result
 
--- a commit of the batch to a disk of n sectors of b bytes
+-- a change of a layout: what words make of it, or another layout in its place, wherever that comes from
+pub data Change : Type 0 where
+  by_words : Words → Change
+  to_layout : Layout → Change
+
+-- what a change makes of what a disk of n sectors denotes. A layout in its place is never refused
+abbrev pub ChangedBy : ℕ → ℕ → Option Layout → Change → Result Layout Refusal → Type 0
+ChangedBy b n old (by_words batch) result = EditedBy b n old batch result
+ChangedBy b n old (to_layout wanted) result = result ≡ Ok wanted
+
+-- it may start from nothing: words where they make a table, and a layout always
+abbrev pub FromNothing : Change → Type 0
+FromNothing (by_words batch) = Makes batch
+FromNothing (to_layout wanted) = Unit {0}
+
+-- a commit of the change to a disk of n sectors of b bytes
+abbrev pub CommitsChange : ℕ → ℕ → Change → Result Unit CommitError → Told → Told → Type 0
+CommitsChange b n =
+    Committed (Denotes b) (IsReason b) FromNothing (ChangedBy b n) (IsPlan b) (Unplanned b) (Healthy b) (TableOf b) (OwnedOf b)
+
+-- a plan for the change
+abbrev pub IsPlannedChange : ℕ → ℕ → Change → Sectors → List Writes → Type 0
+IsPlannedChange b n =
+    Planned (Denotes b) (IsReason b) FromNothing (ChangedBy b n) (IsPlan b) (Unplanned b) (Healthy b) (TableOf b) (OwnedOf b)
+
+-- a checked plan for it
+abbrev pub IsReadyChange : ℕ → ℕ → Change → Sectors → List Writes → Type 0
+IsReadyChange b n = Ready (Denotes b) (IsReason b) FromNothing (ChangedBy b n) (IsPlan b) (Unplanned b) (Healthy b) (TableOf b) (OwnedOf b)
+
+-- why it is refused
+abbrev pub IsRefusedChange : ℕ → ℕ → Change → Sectors → CommitError → Type 0
+IsRefusedChange b n =
+    Refuses (Denotes b) (IsReason b) FromNothing (ChangedBy b n) (IsPlan b) (Unplanned b) (Healthy b) (TableOf b) (OwnedOf b)
+
+-- the same of a batch of words
 abbrev pub Commits : ℕ → ℕ → Words → Result Unit CommitError → Told → Told → Type 0
-Commits b n = Committed (Denotes b) (IsReason b) Makes (EditedBy b n) (IsPlan b) (Unplanned b) (Healthy b) (TableOf b) (OwnedOf b)
+Commits b n batch = CommitsChange b n (by_words batch)
 
--- a plan for the batch
 abbrev pub IsPlanned : ℕ → ℕ → Words → Sectors → List Writes → Type 0
-IsPlanned b n = Planned (Denotes b) (IsReason b) Makes (EditedBy b n) (IsPlan b) (Unplanned b) (Healthy b) (TableOf b) (OwnedOf b)
+IsPlanned b n batch = IsPlannedChange b n (by_words batch)
 
--- a checked plan for the batch
 abbrev pub IsReady : ℕ → ℕ → Words → Sectors → List Writes → Type 0
-IsReady b n = Ready (Denotes b) (IsReason b) Makes (EditedBy b n) (IsPlan b) (Unplanned b) (Healthy b) (TableOf b) (OwnedOf b)
+IsReady b n batch = IsReadyChange b n (by_words batch)
 
--- why the batch is refused
 abbrev pub IsRefusal : ℕ → ℕ → Words → Sectors → CommitError → Type 0
-IsRefusal b n = Refuses (Denotes b) (IsReason b) Makes (EditedBy b n) (IsPlan b) (Unplanned b) (Healthy b) (TableOf b) (OwnedOf b)
+IsRefusal b n batch = IsRefusedChange b n (by_words batch)
 
 -- a repair of a disk of n sectors of b bytes
 abbrev pub Repairs : ℕ → ℕ → Result Unit RepairError → Told → Told → Type 0
-Repairs b n = Repaired (Denotes b) (IsReason b) (EditedBy b n) (IsPlan b) (IsUnmendable b) (Healthy b) (TableOf b) (OwnedOf b)
+Repairs b n = Repaired (Denotes b) (IsReason b) (ChangedBy b n) (IsPlan b) (IsUnmendable b) (Healthy b) (TableOf b) (OwnedOf b)
 
 -- a plan for a repair
 abbrev pub IsMendPlan : ℕ → Sectors → List Writes → Type 0

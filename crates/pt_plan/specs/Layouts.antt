@@ -2,18 +2,14 @@
 use Rattle.std.specs.Prelude.{◌≡◌, ℕ, List, Option, Result, Ok, length, Some, None, Err}
 use Rattle.pt_sector.specs.Sectors.{Sectors, Writes, after}
 use Rattle.pt_sector.specs.Device.{Told}
-use Rattle.pt_recover.specs.Denotes.{IsReason, Denotes, TellsNothing, FailedInDisk, fault_in}
+use Rattle.pt_recover.specs.Denotes.{Denotes, TellsNothing, FailedInDisk, fault_in}
 use Rattle.pt_members.specs.declared.layout.Layout.{Layout}
-use Rattle.pt_members.specs.Tables.{OwnedOf, TableOf}
-use Rattle.pt_layout.specs.Healthy.{Healthy}
-use Rattle.pt_words.specs.declared.error.Refusal.{Refusal}
 use Rattle.pt_cases.specs.Cases.{IsPlan}
-use Rattle.pt_cases.specs.Unplanned.{Unplanned}
-use Rattle.pt_plan.specs.Commits.{turn_of, Lands, Committed, Ready, Refuses, commit_fault_in, HidesNoFailure}
+use Rattle.pt_plan.specs.Commits.{turn_of, Lands, commit_fault_in, HidesNoFailure}
 use Rattle.pt_plan.specs.declared.error.CommitError.{CommitError}
 use Rattle.pt_sector.specs.declared.disk.Fault.{Fault}
 use Rattle.pt_planner.specs.PlanReads.{MakeReads}
-use Rattle.pt_plan.specs.Batches.{FailedInCommit, LayoutReads}
+use Rattle.pt_plan.specs.Batches.{FailedInCommit, LayoutReads, CommitsChange, IsReadyChange, IsRefusedChange, to_layout}
 use Rattle.pt_plan.specs.declared.like_error.LikeError.{LikeError}
 use Rattle.pt_plan.specs.declared.like_error.LikeError.TheVariants.{OtherSize, Other, Disk}
 use Rattle.pt_check.specs.Answers.{Answers, Promises}
@@ -21,27 +17,19 @@ use Rattle.pt_check.specs.declared.answer.Answer.TheVariants.{No, Yes}
 use Rattle.pt_plan.specs.declared.finished.After.{After}
 use Rattle.pt_plan.specs.declared.finished.After.TheVariants as outcome
 
--- ## Commits of a layout. It is a commit whose words are the layout itself: they make it of any other, and of nothing.
+-- ## Commits of a layout. It is a commit of the change to that layout.
 
--- what any layout, or nothing, becomes by a wanted one: that layout. It is never refused
-abbrev pub Becomes : Option Layout → Layout → Result Layout Refusal → Type 0
-Becomes old wanted result = result ≡ Ok wanted
-
--- it may come from nothing
-abbrev pub FromNothing : Layout → Type 0
-FromNothing wanted = Unit {0}
-
--- a commit of the layout to a disk with sectors of b bytes
-abbrev pub CommitsLayout : ℕ → Layout → Result Unit CommitError → Told → Told → Type 0
-CommitsLayout b = Committed (Denotes b) (IsReason b) FromNothing Becomes (IsPlan b) (Unplanned b) (Healthy b) (TableOf b) (OwnedOf b)
+-- a commit of the layout to a disk of n sectors of b bytes
+abbrev pub CommitsLayout : ℕ → ℕ → Layout → Result Unit CommitError → Told → Told → Type 0
+CommitsLayout b n wanted = CommitsChange b n (to_layout wanted)
 
 -- a checked plan for the layout
-abbrev pub IsReadyFor : ℕ → Layout → Sectors → List Writes → Type 0
-IsReadyFor b = Ready (Denotes b) (IsReason b) FromNothing Becomes (IsPlan b) (Unplanned b) (Healthy b) (TableOf b) (OwnedOf b)
+abbrev pub IsReadyFor : ℕ → ℕ → Layout → Sectors → List Writes → Type 0
+IsReadyFor b n wanted = IsReadyChange b n (to_layout wanted)
 
 -- why there is none
-abbrev pub IsRefusalOf : ℕ → Layout → Sectors → CommitError → Type 0
-IsRefusalOf b = Refuses (Denotes b) (IsReason b) FromNothing Becomes (IsPlan b) (Unplanned b) (Healthy b) (TableOf b) (OwnedOf b)
+abbrev pub IsRefusalOf : ℕ → ℕ → Layout → Sectors → CommitError → Type 0
+IsRefusalOf b n wanted = IsRefusedChange b n (to_layout wanted)
 
 -- a plan for the layout, from what the disk denotes: the checker accepts it, with the switch of its kind, and the disk is healthy after
 -- it, with that layout
@@ -109,18 +97,20 @@ pub record IsLikePlan (b : ℕ) (e d : Sectors) (phases : List Writes) : Type 0 
 pub record IsReadyLike (b : ℕ) (e d : Sectors) (phases : List Writes) : Type 0 where
   pub wanted : Layout
   pub denotes : Denotes b e (Some wanted)
-  pub ready : IsReadyFor b wanted d phases
+  pub ready : IsReadyFor b (length e) wanted d phases
 
 -- why there is none
 abbrev pub NotLike : ℕ → Sectors → Sectors → LikeError → Type 0
 NotLike b e d OtherSize = ¬ (length e ≡ length d)
 NotLike b e d (Other why) = TellsNothing b e why
-NotLike b e d (Disk error) = (wanted : Layout) × Denotes b e (Some wanted) × IsRefusalOf b wanted d error
+NotLike b e d (Disk error) = (wanted : Layout) × Denotes b e (Some wanted) × IsRefusalOf b (length e) wanted d error
 
--- a commit of the layout that e denotes; where there is none, or the other disk has another size, the disk is as before
+-- a commit of the layout that e denotes, of a disk that has as many sectors; where there is none, or the other disk has another size,
+-- the disk is as before
 abbrev pub BecomesLike : ℕ → Sectors → Result Unit LikeError → Told → Told → Type 0
-BecomesLike b e (Ok x) old new = (wanted : Layout) × Denotes b e (Some wanted) × CommitsLayout b wanted (Ok x) old new
-BecomesLike b e (Err (Disk error)) old new = (wanted : Layout) × Denotes b e (Some wanted) × CommitsLayout b wanted (Err error) old new
+BecomesLike b e (Ok x) old new = (wanted : Layout) × Denotes b e (Some wanted) × CommitsLayout b (length e) wanted (Ok x) old new
+BecomesLike b e (Err (Disk error)) old new =
+    (wanted : Layout) × Denotes b e (Some wanted) × CommitsLayout b (length e) wanted (Err error) old new
 BecomesLike b e (Err error) old new = NotLike b e old.seen error × (new ≡ old)
 
 -- ## What a plan makes of a disk d with sectors of b bytes.

@@ -1,8 +1,10 @@
 -- Sessions, and runs of calls and crashes.
-use Rattle.std.specs.Prelude.{◌≡◌, List, [], ◌∷◌, ◌++◌, Option, Result, Ok, Err, ◌⊎◌, ℕ, IfErr}
-use Rattle.pt_sector.specs.Sectors.{Sectors}
+use Rattle.std.specs.Prelude.{◌≡◌, List, [], ◌∷◌, ◌++◌, Option, Some, Result, Ok, Err, ◌⊎◌, ℕ, IfOk, IfErr}
+use Rattle.pt_sector.specs.Sectors.{Sectors, Writes, after}
+use Rattle.pt_check.specs.declared.answer.Answer.{Answer}
+use Rattle.pt_check.specs.declared.answer.Answer.TheVariants.{No, Yes}
 use Rattle.pt_sector.specs.Device.{Told, LeavesOnly, Moment, MayLeave, LeftBy, Flushed, FailedFlush}
-use Rattle.pt_plan.specs.Commits.{Past, Has, Holds, past, Unchanged, Either, Carries}
+use Rattle.pt_plan.specs.Commits.{Past, Has, Holds, past, Done, Unchanged, Either, Carries, Applied, ApplyFailed, SafelyStopped}
 use Rattle.pt_sector.specs.declared.disk.Fault.{Fault}
 use Rattle.pt_plan.specs.declared.error.CommitError.{CommitError}
 use Rattle.pt_plan.specs.declared.error.CommitError.TheVariants.{Device}
@@ -11,7 +13,7 @@ use Rattle.pt_plan.specs.declared.runs.sessions.Reply.TheVariants as reply
 use Rattle.pt_apply.specs.Plans.{Settled}
 use Rattle.pt_plan.specs.declared.repair_error.RepairError.{RepairError}
 use Rattle.pt_recover.specs.Denotes.{Denotes}
-use Rattle.pt_plan.specs.Batches.{Words, EditedBy, Commits, Repairs, FailedInCommit, CommitReads}
+use Rattle.pt_plan.specs.Batches.{Words, Change, ChangedBy, CommitsChange, Commits, Repairs, FailedInCommit, CommitReads, to_layout}
 use Rattle.pt_members.specs.declared.layout.Layout.{Layout}
 use Rattle.pt_plan.specs.declared.runs.sessions.Batch.{Batch}
 
@@ -100,22 +102,25 @@ calls_of [] rs = []
 calls_of (w ∷ ws) [] = []
 calls_of (w ∷ ws) (r ∷ rs) = call_of_reply w r ∷ calls_of ws rs
 
--- ## Runs: commits, repairs and sessions on one disk, one after the other, and what a crash leaves of them. L is a layout, W the
--- words of a batch, R a refusal of words.
+-- ## Runs: calls that write on one disk, one after the other, and what a crash leaves of them. L is a layout, W the change that a
+-- call is to make, R a refusal of it.
 
--- a call, with what it answered. A session that got no memory for its replies did nothing
+-- a call, with what it answered. Of a plan from elsewhere that is checked and applied it is given what is known of it as a call. A
+-- session that got no memory for its replies did nothing, and so did a call that failed before it asked anything of the disk
 pub data Step (W : Type 0) : Type 0 where
   a_commit : W → Result Unit CommitError → Step W
   a_repair : Result Unit RepairError → Step W
   a_session : List W → List Reply → Step W
-  no_session : List W → Step W
+  a_plan : Call W → Step W
+  nothing : Step W
 
 -- what is known of its calls: a session has one for each batch
 abbrev pub calls_in : {W : Type 0} → Step W → List (Call W)
 calls_in (a_commit w result) = record { inside = Either w; done = past w result } ∷ []
 calls_in (a_repair result) = record { inside = Unchanged; done = Unchanged } ∷ []
 calls_in (a_session ws rs) = calls_of ws rs
-calls_in (no_session ws) = []
+calls_in (a_plan call) = call ∷ []
+calls_in nothing = []
 
 -- what is known of the calls of all steps, in order
 abbrev pub calls_of_all : {W : Type 0} → List (Step W) → List (Call W)
@@ -133,26 +138,29 @@ pub record OnlyFlushes (old new : Told) : Type 0 where
   pub left : (c : Sectors) → IsLeftBy old new c → c ≡ old.seen
 
 module _ {W : Type 0} (commits : W → Result Unit CommitError → Told → Told → Type 0)
-    (repairs : Result Unit RepairError → Told → Told → Type 0) where
+    (repairs : Result Unit RepairError → Told → Told → Type 0) (applies : Call W → Told → Told → Type 0) where
   -- what the contract of the call says of the disk before and after it
   abbrev pub Did : Step W → Told → Told → Type 0
   Did (a_commit w result) old new = commits w result old new
   Did (a_repair result) old new = repairs result old new
   Did (a_session ws rs) old new = Session commits ws rs old new
-  Did (no_session ws) old new = new ≡ old
+  Did (a_plan call) old new = applies call old new
+  Did nothing old new = new ≡ old
 
   -- these calls in order, each on the disk that the one before it left
   abbrev pub Ran : List (Step W) → Told → Told → Type 0
   Ran [] old new = new ≡ old
   Ran (step ∷ steps) old new = (mid : Told) × Did step old mid × Ran steps mid new
 
-  -- one call, and the disk before and after it: a commit, a repair, or a session's batch that wasn't tried, which did nothing
+  -- one call, and the disk before and after it: a commit, a plan from elsewhere, a repair, or a session's batch that wasn't tried, which
+  -- did nothing
   abbrev pub DidCall : Call W → Told → Told → Type 0
   DidCall call old new =
       ((w : W) × (result : Result Unit CommitError) × (call ≡ record { inside = Either w; done = past w result })
       × commits w result old new)
+      ⊎ (applies call old new
       ⊎ ((call ≡ record { inside = Unchanged; done = Unchanged })
-      × (((result : Result Unit RepairError) × repairs result old new) ⊎ (new ≡ old)))
+      × (((result : Result Unit RepairError) × repairs result old new) ⊎ (new ≡ old))))
 
   -- these calls in order, each on the disk that the one before it left
   abbrev pub DidCalls : List (Call W) → Told → Told → Type 0
@@ -215,18 +223,51 @@ module _ {W : Type 0} (commits : W → Result Unit CommitError → Told → Told
       -- whichever it is, it leaves a disk that denotes what the earlier calls, and then those begun so far, make of o
       pub keeps : (c : Sectors) (known : List (Past W)) → CrashIn calls old new known c → Has denotes edited o (earlier ++ known) c
 
--- ## Batches of words as calls, and sessions and runs of them, on a disk of n sectors of b bytes.
+-- ## Changes as calls, and sessions and runs of them, on a disk of n sectors of b bytes.
 
--- a commit of the batch that answered so, as a call
-abbrev pub call_of : Words → Result Unit CommitError → Call Words
-call_of batch result = record { inside = Either batch; done = past batch result }
+-- a commit of the change that answered so, as a call
+abbrev pub call_of : Change → Result Unit CommitError → Call Change
+call_of change result = record { inside = Either change; done = past change result }
+
+-- a call that changes nothing
+abbrev pub unchanged : Call Change
+unchanged = record { inside = Unchanged; done = Unchanged }
 
 -- a call carries every history on, and so do calls in order
-abbrev pub CallCarries : ℕ → ℕ → Call Words → Told → Told → Type 0
-CallCarries b n call = Carries (Denotes b) (EditedBy b n) call.inside call.done
+abbrev pub CallCarries : ℕ → ℕ → Call Change → Told → Told → Type 0
+CallCarries b n call = Carries (Denotes b) (ChangedBy b n) call.inside call.done
 
-abbrev pub CallsCarry : ℕ → ℕ → List (Call Words) → Told → Told → Type 0
-CallsCarry b n = CarryOn (Denotes b) (EditedBy b n)
+abbrev pub CallsCarry : ℕ → ℕ → List (Call Change) → Told → Told → Type 0
+CallsCarry b n = CarryOn (Denotes b) (ChangedBy b n)
+
+-- a plan from elsewhere, whose writes make the layout l, as a call: once it is done it is a change to l; where one of its calls failed
+-- it is done or not
+abbrev pub plan_done : Layout → Call Change
+plan_done l = record { inside = Either (to_layout l); done = Done (to_layout l) }
+
+abbrev pub plan_failed : Layout → Call Change
+plan_failed l = record { inside = Either (to_layout l); done = Either (to_layout l) }
+
+-- which call it is by its answer: a yes is a change to the layout that the plan makes. A no changes nothing, nor does an error where the
+-- first flush was called and nothing else
+abbrev pub IsPlanCall : ℕ → List Writes → Result Answer CommitError → Told → Told → Call Change → Type 0
+IsPlanCall b phases (Ok (Yes switch)) old new call = (l : Layout) × Denotes b (after phases old.seen) (Some l) × (call ≡ plan_done l)
+IsPlanCall b phases (Ok (No why)) old new call = call ≡ unchanged
+IsPlanCall b phases (Err (Device fault)) old new call = ((call ≡ unchanged) × (Flushed old new ⊎ FailedFlush old new))
+    ⊎ ((l : Layout) × Denotes b (after phases old.seen) (Some l) × (call ≡ plan_failed l))
+IsPlanCall b phases (Err e) old new call = call ≡ unchanged
+
+-- what the contract of `apply_checked` says of these phases, on a disk that a crash may leave as a read gives it
+pub record AppliesPlan (b : ℕ) (phases : List Writes) (result : Result Answer CommitError) (old new : Told) : Type 0 where
+  pub seen : MayLeave old old.seen
+  pub applied : IfOk result (Applied b phases old new)
+  pub failed : IfErr result (ApplyFailed b phases old new)
+  pub any_moment : LeavesOnly old new (SafelyStopped b phases old.seen)
+
+-- a plan was checked and applied, as this call
+abbrev pub Applies : ℕ → Call Change → Told → Told → Type 0
+Applies b call old new = (phases : List Writes) × (result : Result Answer CommitError)
+    × AppliesPlan b phases result old new × IsPlanCall b phases result old new call
 
 -- the words of a batch of the code
 abbrev pub batch_of : Batch → Words
@@ -245,9 +286,10 @@ abbrev pub SessionByReads : ℕ → ℕ → List Words → List Reply → Told �
 SessionByReads b n = Session (CommitsByReads b n)
 
 -- calls in order, on such a disk
-abbrev pub RunOf : ℕ → ℕ → List (Step Words) → Told → Told → Type 0
-RunOf b n = Ran (Commits b n) (Repairs b n)
+abbrev pub RunOf : ℕ → ℕ → List (Step Change) → Told → Told → Type 0
+RunOf b n = Ran (CommitsChange b n) (Repairs b n) (Applies b)
 
 -- the calls of a run on such a disk, after earlier ones, lost nothing of its history from o at any moment
-abbrev pub RunKeepsHistory : ℕ → ℕ → Option Layout → List (Past Words) → List (Step Words) → Told → Told → Type 0
-RunKeepsHistory b n o earlier steps = KeepsHistory (Commits b n) (Repairs b n) (Denotes b) (EditedBy b n) o earlier (calls_of_all steps)
+abbrev pub RunKeepsHistory : ℕ → ℕ → Option Layout → List (Past Change) → List (Step Change) → Told → Told → Type 0
+RunKeepsHistory b n o earlier steps =
+    KeepsHistory (CommitsChange b n) (Repairs b n) (Applies b) (Denotes b) (ChangedBy b n) o earlier (calls_of_all steps)

@@ -16,7 +16,7 @@ ghost use Rattle.pt_check.specs.Answers.{Answers, IsUnwritten};
 ghost use Rattle.pt_check.specs.declared.answer.Answer.TheVariants.{No};
 ghost use Rattle.pt_check.specs.declared.answer.Why.{Why};
 ghost use Rattle.pt_cases.specs.Cases.{IsPlan};
-ghost use Rattle.pt_plan.specs.Batches.{Words, Commits, Repairs, IsReady, IsReadyToMend};
+ghost use Rattle.pt_plan.specs.Batches.{Change, CommitsChange, Repairs, IsReadyChange, IsReadyToMend};
 ghost use Rattle.pt_plan.specs.Commits.{HoldsTarget, Lands, IsPhase, turn_of};
 
 /// A plan of a disk for a layout is accepted with its switch, and the disk is healthy after it, with that layout.
@@ -51,11 +51,12 @@ pub fn plan_ascends()
     ensures { (b : ℕ) (d : Sectors) (p : Layout) (phases : List Writes) → IsSectorSize b → IsPlan b d p phases → All IsPhase phases }
 {}
 
-/// After a commit that is done, each sector that no write of its plan is of reads as before. So what was pending there isn't lost.
+/// After a commit that is done, of words or of a layout, each sector that no write of its plan is of reads as before. So what was
+/// pending there isn't lost.
 #[tactic(auto, using(crate::proofs::Leaving::commit_leaves_lem))]
 pub fn commit_leaves_the_rest()
-    ensures { (b n : ℕ) (words : Words) (old new : Told) → Commits b n words (Ok tt) old new
-        → (phases : List Writes) × IsReady b n words old.seen phases
+    ensures { (b n : ℕ) (change : Change) (old new : Told) → CommitsChange b n change (Ok tt) old new
+        → (phases : List Writes) × IsReadyChange b n change old.seen phases
         × ((s : ℕ) → IsUnwritten phases s → sector new.seen s ≡ sector old.seen s) }
 {}
 
@@ -63,7 +64,7 @@ pub fn commit_leaves_the_rest()
 /// code.
 #[tactic(auto, using(crate::proofs::Leaving::commit_keeps_lem))]
 pub fn commit_keeps_what_must_stay()
-    ensures { (b n : ℕ) (words : Words) (old new : Told) → Commits b n words (Ok tt) old new
+    ensures { (b n : ℕ) (change : Change) (old new : Told) → CommitsChange b n change (Ok tt) old new
         → (o : Option Layout) × (l : Layout) × Denotes b old.seen o × Denotes b new.seen (Some l)
         × StaysAs (Denotes b) (Healthy b) (TableOf b) (OwnedOf b) o (Some l) old.seen new.seen }
 {}

@@ -54,8 +54,8 @@ pub fn checked_plan_for_layout<const B: usize, D: Disk<B>>(
     ensures hides { IfErr result HidesNoFailure }
     ensures in_range { IfOk result (InRange (D.count disk.old)) }
     ensures phases { IfOk result (λ plan. All (λ p. 0 < length p.items) plan.phases.items) }
-    ensures ready { D.tells → IfOk result (λ plan. IsReadyFor B wanted.now (D.told disk.old).seen (phases_of plan)) }
-    ensures refused { D.tells → IfErr result (IsRefusalOf B wanted.now (D.told disk.old).seen) }
+    ensures ready { D.tells → IfOk result (λ plan. IsReadyFor B (D.count disk.old) wanted.now (D.told disk.old).seen (phases_of plan)) }
+    ensures refused { D.tells → IfErr result (IsRefusalOf B (D.count disk.old) wanted.now (D.told disk.old).seen) }
 {
     checked_plan_wanted(alloc, disk, &Wanted::Layout(wanted))
 }
@@ -81,7 +81,7 @@ pub fn commit_layout<const B: usize, D: Disk<B>>(
     ensures blames { Blames fault_in result (D.faults disk.old) (D.faults disk.new) }
     ensures place { D.tells → IfErr result (FailedInCommit (LayoutReads B wanted.now (D.told disk.old).seen)) }
     ensures hides { IfErr result HidesNoFailure }
-    ensures commits { D.tells → CommitsLayout B wanted.now result (D.told disk.old) (D.told disk.new) }
+    ensures commits { D.tells → CommitsLayout B (D.count disk.old) wanted.now result (D.told disk.old) (D.told disk.new) }
 {
     carry_out(alloc, disk, &Wanted::Layout(wanted))
 }

@@ -47,13 +47,13 @@ IsPlanOf b n Own d phases = IsMendPlan b d phases
 -- a checked plan for it
 abbrev pub IsReadyOf : ℕ → ℕ → Wanted → Sectors → List Writes → Type 0
 IsReadyOf b n (Edited edits guids) d phases = IsReady b n (record { edits = edits.now; guids = guids.now }) d phases
-IsReadyOf b n (wanted.Layout layout) d phases = IsReadyFor b layout.now d phases
+IsReadyOf b n (wanted.Layout layout) d phases = IsReadyFor b n layout.now d phases
 IsReadyOf b n Own d phases = IsReadyToMend b d phases
 
 -- why there is none
 abbrev pub IsRefusedBy : ℕ → ℕ → Wanted → Sectors → CommitError → Type 0
 IsRefusedBy b n (Edited edits guids) d e = IsRefusal b n (record { edits = edits.now; guids = guids.now }) d e
-IsRefusedBy b n (wanted.Layout layout) d e = IsRefusalOf b layout.now d e
+IsRefusedBy b n (wanted.Layout layout) d e = IsRefusalOf b n layout.now d e
 IsRefusedBy b n Own d e = IsMendRefusal b d (repair_told e)
 
 -- the sectors that a plan for it reads

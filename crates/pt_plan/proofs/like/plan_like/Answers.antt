@@ -1,5 +1,8 @@
+use Rattle.std.proofs.Common.{◌∙◌, ℕ, sym, subst}
+use Rattle.std.proofs.lemmas.Result.{err_from_is_err_and}
 use Rattle.pt_apply.specs.Plans.{phases_of}
-use Rattle.pt_plan.proofs.Wanting.{accepted}
+use Rattle.pt_plan.specs.Layouts.{IsRefusalOf}
+use Rattle.pt_plan.proofs.Wanting.{accepted, size_met}
 use Rattle.pt_plan.proofs.like.plan_like.Goals as goal
 
 pub returns-clause-planned : goal.returns-clause-planned
@@ -9,3 +12,15 @@ returns-clause-planned g c = λ tells other_tells. record {
   accepted = accepted g.row.B c.in_ok-wanted.wanted (g.D.Disk.told c.args.disk.now).seen (phases_of c.in_ok-plan.plan) c.requires.size
       (c.in_ok-plan.ensures.planned tells);
 }
+
+pub returns-in_err-plan-clause-refused : goal.returns-in_err-plan-clause-refused
+returns-in_err-plan-clause-refused g c = λ tells other_tells.
+    let p = err_from_is_err_and c.from_residual-in_err-plan.result c.from_residual-in_err-plan.ensures.1 in
+    let size = g.met.E.Disk.sized c.args.other.now other_tells ∙ size_met c.in_ok-wanted.wanted _ _ c.in_ok-wanted.ensures.other_size
+    ∙ c.sectors.ensures in
+    rw (p.1, p.2) (
+      c.in_ok-wanted.wanted,
+      c.in_ok-wanted.ensures.ok other_tells,
+      subst (λ (n : ℕ). IsRefusalOf g.row.B n c.in_ok-wanted.wanted (g.D.Disk.told c.args.disk.now).seen c.in_err-plan.field-0.0)
+          (sym size) (c.in_err-plan.ensures.refused tells),
+    )

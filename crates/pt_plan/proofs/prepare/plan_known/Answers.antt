@@ -88,7 +88,8 @@ returns-in-Layout-clause-place g c = λ tells.
 pub returns-in-Layout-clause-refused : goal.returns-in-Layout-clause-refused
 returns-in-Layout-clause-refused g c = λ tells.
     rw c.in-Layout.is (IfErr-weaker c.planned-in-Layout.result _ _
-    (not_planned_for g.row.B c.in-Layout.layout.now (g.D.Disk.told c.args.disk.now).seen _ (c.requires.known tells).old)
+    (not_planned_for g.row.B (g.D.Disk.count c.args.disk.now) c.in-Layout.layout.now (g.D.Disk.told c.args.disk.now).seen _
+    (c.requires.known tells).old)
     (c.planned-in-Layout.ensures.err tells))
 
 pub returns-in-Some-clause-place : goal.returns-in-Some-clause-place

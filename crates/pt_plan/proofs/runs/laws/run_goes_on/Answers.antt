@@ -1,9 +1,11 @@
 use Rattle.pt_recover.specs.Denotes.{Denotes}
-use Rattle.pt_plan.specs.Batches.{EditedBy, Commits, Repairs}
+use Rattle.pt_plan.specs.Batches.{ChangedBy, CommitsChange, Repairs}
+use Rattle.pt_plan.specs.Sessions.{Applies}
+use Rattle.pt_plan.proofs.PlanCalls.{plan_carries_lem, plan_undone_lem}
 use Rattle.pt_plan.proofs.RunsLemmas.{run_goes_on_lem}
 use Rattle.pt_plan.proofs.runs.laws.run_goes_on.Goals as goal
 
 pub returns : goal.returns
 returns c =
-    λ b n. run_goes_on_lem (Denotes b) (EditedBy b n) (Commits b n) (λ w result old new did. did.history) (Repairs b n)
-    (λ result old new did. did.history)
+    λ b n. run_goes_on_lem (Denotes b) (ChangedBy b n) (CommitsChange b n) (λ w r s t q. q.history) (Repairs b n) (λ r s t q. q.history)
+    (Applies b) (plan_carries_lem b n) (plan_undone_lem b)

@@ -1,7 +1,10 @@
+use Rattle.std.proofs.Common.{map}
 use Rattle.pt_recover.specs.Denotes.{Denotes}
-use Rattle.pt_plan.specs.Batches.{EditedBy, Commits}
-use Rattle.pt_plan.proofs.RunsLemmas.{session_carries_lem}
+use Rattle.pt_plan.specs.Batches.{ChangedBy, CommitsChange, by_words}
+use Rattle.pt_plan.proofs.RunsLemmas.{session_carries_lem, session_map}
 use Rattle.pt_plan.proofs.runs.laws.session_carries.Goals as goal
 
 pub returns : goal.returns
-returns c = λ b n. session_carries_lem (Denotes b) (EditedBy b n) (Commits b n) (λ w result old new did. did.history)
+returns c = λ b n ws rs old new did.
+    session_carries_lem (Denotes b) (ChangedBy b n) (CommitsChange b n) (λ w r s t q. q.history) (map by_words ws) rs old new
+    (session_map by_words (CommitsChange b n) ws rs old new did)

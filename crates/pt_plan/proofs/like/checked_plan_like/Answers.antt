@@ -1,0 +1,29 @@
+use Rattle.std.proofs.Common.{◌∙◌, ℕ, sym, subst}
+use Rattle.std.proofs.lemmas.Result.{err_from_is_err_and}
+use Rattle.pt_apply.specs.Plans.{phases_of}
+use Rattle.pt_plan.specs.Layouts.{IsReadyFor, IsRefusalOf}
+use Rattle.pt_plan.proofs.Wanting.{size_met}
+use Rattle.pt_plan.proofs.like.checked_plan_like.Goals as goal
+
+pub returns-clause-ready : goal.returns-clause-ready
+returns-clause-ready g c = λ tells other_tells.
+    let size = g.met.E.Disk.sized c.args.other.now other_tells ∙ size_met c.in_ok-wanted.wanted _ _ c.in_ok-wanted.ensures.other_size
+    ∙ c.sectors.ensures in
+    record {
+      wanted = c.in_ok-wanted.wanted;
+      denotes = c.in_ok-wanted.ensures.ok other_tells;
+      ready = subst (λ (n : ℕ). IsReadyFor g.row.B n c.in_ok-wanted.wanted (g.D.Disk.told c.args.disk.now).seen
+          (phases_of c.in_ok-plan.plan)) (sym size) (c.in_ok-plan.ensures.ready tells);
+    }
+
+pub returns-in_err-plan-clause-refused : goal.returns-in_err-plan-clause-refused
+returns-in_err-plan-clause-refused g c = λ tells other_tells.
+    let p = err_from_is_err_and c.from_residual-in_err-plan.result c.from_residual-in_err-plan.ensures.1 in
+    let size = g.met.E.Disk.sized c.args.other.now other_tells ∙ size_met c.in_ok-wanted.wanted _ _ c.in_ok-wanted.ensures.other_size
+    ∙ c.sectors.ensures in
+    rw (p.1, p.2) (
+      c.in_ok-wanted.wanted,
+      c.in_ok-wanted.ensures.ok other_tells,
+      subst (λ (n : ℕ). IsRefusalOf g.row.B n c.in_ok-wanted.wanted (g.D.Disk.told c.args.disk.now).seen c.in_err-plan.field-0.0)
+          (sym size) (c.in_err-plan.ensures.refused tells),
+    )
