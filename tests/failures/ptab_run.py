@@ -94,6 +94,11 @@ def signals(it):
             lines, status = ended(number, WRITTEN)
             it.same(f"{number}: while ptab writes", sent(it, number, it.rename(), writes, is_group), (f"done\n{lines}", status))
             it.same(f"{number}: the table", (it.names(), it.ptab_says("verify", it.path)), (["new"], ("yes\n", "", 0)))
+    dies = it.script("dies", f'case "$*" in *--no-lock*/proc/self/fd/*) kill -9 $$; esac\nexec {it.ptab} "$@"')
+    it.gpt()
+    it.same("ptab is killed as it writes", sent(it, 0, it.rename(), dies), (
+        "FOLDER/disk.img: FOLDER/dies ended with status -9; where it was being written it has the old table or the new one: ptab show "
+        "prints which\n", 125))
     # the interrupt of a terminal goes to the tool as well, which does with it what it does
     it.gpt()
     it.same("an interrupt that the tool takes", sent(it, signal.SIGINT, [it.path, it.script(

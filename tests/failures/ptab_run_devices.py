@@ -127,6 +127,14 @@ def changed_below(it):
             must("umount", place)
 
 
+def stopped(it):
+    """No loop device over the copy stays."""
+    with devices.Loop(it.write(table(LARGE)), LARGE.size) as loop:
+        tool = it.script("stops", 'kill -TERM $PPID; exec sleep 20')
+        it.same("a run", it.do("--device", loop.path, tool, "@")[1:], (f"ended by SIGTERM: {loop.path} isn't touched\n", 143))
+        it.same("loop devices", [line for line in must("losetup", "--list").splitlines() if it.folder + "/left" in line], [])
+
+
 def links(it):
     """A link to a device, by a name that begins with `-`; the kernel has the new partitions."""
     with open(it.path, "wb") as disk:
@@ -142,7 +150,7 @@ def all_of(it):
     """Whether there are loop devices."""
     if not devices.has_loops(it.folder):
         return False
-    for part in (by_ptab, neighbours, bad_sectors, changed_below, links):
+    for part in (by_ptab, neighbours, bad_sectors, changed_below, stopped, links):
         with tempfile.TemporaryDirectory(dir=it.folder) as folder:
             # a folder of its own for each part
             inner = type(it)(it.ptab, it.run_file, folder)

@@ -47,7 +47,8 @@ def entries():
 def chains():
     sizes = itertools.cycle((1, 1000, (1 << 32) - 1))
     for kind, start, size in zip(len(SHORT) * (0x05, 0x83, 0xA5, 0xEE), [start for start in SHORT for _ in range(4)], sizes):
-        yield f"a record {kind:02x} {start} {size}", SMALL.mbr(SECTORS, [record(kind, start, size), record(0x0F, 500, size)])
+        more = [record(0x0F, 500, size)] if kind == 0x05 else []
+        yield f"a record {kind:02x} {start} {size}", SMALL.mbr(SECTORS, [record(kind, start, size), *more])
         image = SMALL.mbr(SECTORS, [record(0x05, 100, 1000)])
         SMALL.put(image, 100, ebr(record(kind, start, size), record(0x05, start, size)))
         yield f"a link {kind:02x} {start} {size}", image
@@ -109,5 +110,5 @@ def all_of(it):
                 number += 1
                 found.append(pool.submit(Tried(it, name, image, number, other).all))
             ends = {job.result() for job in found}
-        it.same(f"{kind.__name__}: how runs ended", {0, 123} <= ends, True)
+        it.same(f"{kind.__name__}: runs ended in both ways: {ends}", {0, 123} <= ends, True)
     return True
