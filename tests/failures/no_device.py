@@ -181,7 +181,9 @@ def full_streams(ptab, disk):
             command = command.split()[0]
             line = (command, it.path, *files(it).get(rest, rest))
             it.put(image)
-            it.run(line)
+            if it.run(line)[2] == 4 and rest == COPY:
+                # an MBR has no copy to be printed
+                continue
             after = it.image()
             for what, stream, errors in (("a full output", full, "device\n"), ("a closed pipe", closed, "")):
                 it.put(image)
