@@ -74,7 +74,8 @@ edit_words = record (new_rule (codes "WORD")) {
 abbrev pub on_disk : Bor (List (Bor Text)) → List Rule
 on_disk sizes = device ∷ sector_size sizes ∷ []
 
--- the arguments of a command on an image alone, on an image after a plan or one copy of it, or neither, on a place in it, on words, and on a plan's file
+-- the arguments of a command on an image alone; on one that may be shown after a plan, or by one copy; on a place in it; on words; and
+-- on a plan's file
 abbrev pub image_rules : Bor (List (Bor Text)) → List Rule
 image_rules sizes = needed (codes "IMAGE") ∷ on_disk sizes
 
