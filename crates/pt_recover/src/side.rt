@@ -97,8 +97,8 @@ fn table_from<const B: usize, D: Disk<B>>(
     Ok(table)
 }
 
-/// The layout that one side's copy of a GPT gives alone, the primary or the backup, or why it gives none. Sector 0 and the other copy aren't
-/// read: where both copies exist and differ, this is how to look at each of them (docs/commands.md, `no 4 copies differ`).
+/// The layout that one side's copy of a GPT gives alone, the primary or the backup, or why it gives none. Sector 0 and the other
+/// copy aren't read: where both copies exist and differ, this is how to look at each of them (docs/commands.md, `no 4 copies differ`).
 pub fn recover_from<const B: usize, D: Disk<B>>(
     alloc: Global,
     disk: &mut D,

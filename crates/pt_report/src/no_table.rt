@@ -52,7 +52,8 @@ fn copy_name(side: Side) -> &'static str
 }
 
 fn print_copy<E: Write>(err: &mut E, copy: &str, number: u8) -> io::Result<()>
-    ensures { OnOk result (Appends (E.contents err.old) (E.contents err.new) (line ((codes "no table: " ++ copy.now) ∷ decimal number ∷ []))) }
+    ensures { OnOk result (Appends (E.contents err.old) (E.contents err.new)
+        (line ((codes "no table: " ++ copy.now) ∷ decimal number ∷ []))) }
 {
     writeln!(err, "no table: {copy} {number}")
 }

@@ -40,8 +40,11 @@ returns-in-Ok-clause-same g c =
     record {
       same_count = below.same.same_count;
       same_name = refl;
-      through =
-          (record { below = below.same; more = []; come_above = sym (append-nil _); come_below = below.blames ∙ sym (append-nil _) }, refl, outside_same _ _);
+      through = (
+        record { below = below.same; more = []; come_above = sym (append-nil _); come_below = below.blames ∙ sym (append-nil _) },
+        refl,
+        outside_same _ _,
+      );
       same = λ tells. ap (λ (t : Told). overlay_told t.seen c.args.self.now.own c.args.self.now.past.items) (below.same.same tells);
       came = no_faults _ _ refl;
     }
