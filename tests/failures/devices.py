@@ -226,7 +226,8 @@ def killed(it, path):
         done = run_kept(it, devices_runs.RUN, "--device", loop.path, *words)
         it.same("a run that was killed", done.returncode, -9)
         time.sleep(1)
-        it.same("loop devices of the run", [line for line in run("losetup", "--list").stdout.splitlines() if "ptab-run-" in line], [])
+        # other scripts run beside this one, and have loop devices of their own
+        it.same("loop devices of the run", [line for line in run("losetup", "--list").stdout.splitlines() if it.at("kept") in line], [])
         shutil.rmtree(it.at("kept"))
 
 
