@@ -34,7 +34,8 @@ OF_ALL = ("device", "memory")
 # The errors of the library: the file, the type, the page of --help that has their sentences, and the text with their number. Where there is
 # no such text the sentence stands within one.
 SENTENCES = (("pt_gpt/src/error.rt", "CopyError", "show", "{}"), ("pt_mbr/src/chain.rt", "ChainError", "show", "no table: chain {}"),
-             ("pt_recover/src/error.rt", "NoTable", "show", None), ("pt_layout/src/sound/finding.rt", "Finding", "verify", "no {}"),
+             ("pt_recover/src/error.rt", "NoTable", "show", None), ("pt_recover/src/side.rt", "SideError", "show", None),
+             ("pt_layout/src/sound/finding.rt", "Finding", "verify", "no {}"),
              ("pt_words/src/error.rt", "EditError", "edit", None), ("pt_words/src/error.rt", "Refusal", "edit", "refused: edit {}"),
              ("pt_check/src/answer.rt", "Why", "check", "no {}"),
              ("pt_cases/src/targets/error.rt", "PlanError", "edit", "refused: plan {}"),

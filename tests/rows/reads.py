@@ -1,9 +1,10 @@
 #!/usr/bin/env python3
 """Compares the sectors that each command asks the image for with those that docs/model.md says it reads: `show` and `locate` what
 recovery reads, `show --copy` what decides what that copy gives, `verify` what decides the verdict, `check`, `apply` and `show --after`
-what a check of that plan reads, each exactly; `plan`, `edit` and `repair` no others than what decides the verdict, what a plan reads and what its check reads. So no bad sector
-elsewhere fails a call. An edit, a plan, a check and a repair read no sector twice. All this on tables of every kind and both sector
-sizes, with edits of several kinds that are done and that are refused. A rename in a GPT reads at most 140 sectors and writes 67.
+what a check of that plan reads, each exactly; `plan`, `edit` and `repair` no others than what decides the verdict, what a plan reads and
+what its check reads. So no bad sector elsewhere fails a call. An edit, a plan, a check and a repair read no sector twice. All this on
+tables of every kind and both sector sizes, with edits of several kinds that are done and that are refused. A rename in a GPT reads at most
+140 sectors and writes 67.
 
 usage: tests/rows/reads.py PTAB
 """
