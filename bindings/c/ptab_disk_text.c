@@ -104,7 +104,7 @@ static const char *const checks[] = {
     "write {a} is of a sector past the last",
     "write {a} changes boot code, bytes 0 to 439 of sector 0",
     "phase {a} has several writes, and sector {b} is one that decides the layout",
-    "after phase {a} the layout is neither the old nor the new one",
+    "after phase {a} the layout is neither the old nor the new one, or the old one again once the new one was there",
     "sector {a} is written, and is in the tables of neither layout",
     "sector {a} is written, and a partition of the old or the new layout owns it",
     "the finished disk isn't healthy: finding {a}",

@@ -13,7 +13,8 @@ why_sentence (why.OutOfRange write) = codes "write " ++ decimal write ++ codes "
 why_sentence (why.BootCode write) = codes "write " ++ decimal write ++ codes " changes boot code, bytes 0 to 439 of sector 0"
 why_sentence (why.ReadSector phase at) = codes "phase "
     ++ (decimal phase ++ (codes " has several writes, and sector " ++ (decimal at.0 ++ codes " is one that decides the layout")))
-why_sentence (why.Neither phase) = codes "after phase " ++ decimal phase ++ codes " the layout is neither the old nor the new one"
+why_sentence (why.Neither phase) = codes "after phase "
+    ++ (decimal phase ++ codes " the layout is neither the old nor the new one, or the old one again once the new one was there")
 why_sentence (why.NotATable at) = codes "sector " ++ decimal at.0 ++ codes " is written, and is in the tables of neither layout"
 why_sentence (why.Owned at) =
     codes "sector " ++ decimal at.0 ++ codes " is written, and a partition of the old or the new layout owns it"

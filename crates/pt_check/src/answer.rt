@@ -71,7 +71,7 @@ impl fmt::Display for Why {
             ),
             Why::Neither(phase) => write!(
                 f,
-                "after phase {phase} the layout is neither the old nor the new one"
+                "after phase {phase} the layout is neither the old nor the new one, or the old one again once the new one was there"
             ),
             Why::NotATable(at) => write!(
                 f,

@@ -124,7 +124,8 @@ from 1:
   no 4 PHASE SECTOR       phase PHASE has several writes, and sector SECTOR is
                           one that decides the layout
   no 5 PHASE              after phase PHASE the layout is neither the old nor
-                          the new one
+                          the new one, or the old one again once the new one
+                          was there
   no 6 SECTOR             sector SECTOR is written, and is in the tables of
                           neither layout
   no 7 SECTOR             sector SECTOR is written, and a partition of the old
