@@ -40,8 +40,8 @@ rt = kit.load(ROOT)
 class Body:
     """A body to be tried: a wrong one and the clauses that refuse it, or, with none named, one that must be proved."""
 
-    def __init__(self, name, of, text="", refused="", uses=(), by_hand=False):
-        self.name, self.text, self.uses, self.by_hand = name, text, uses, by_hand
+    def __init__(self, name, of, text="", refused="", uses=(), ghosts=(), by_hand=False):
+        self.name, self.text, self.uses, self.ghosts, self.by_hand = name, text, uses, ghosts, by_hand
         self.file, _, self.of = of.partition(" ")
         self.clauses = [it.strip() for it in refused.split(",") if it]
 
@@ -58,17 +58,27 @@ def bodies_of(crate):
     for block in filter(str.strip, blocks):
         head, _, text = block.strip("\n").partition("\nbody:\n")
         fields = [line.partition(": ")[::2] for line in head.split("\n")]
-        one, uses = dict(fields), [value for key, value in fields if key == "use"]
-        if one.keys() - {"use", "tried"} != {"name", "of", "refused"} or one.get("tried", "by hand") != "by hand" or not text:
+        one, uses, ghosts = dict(fields), *([value for key, value in fields if key == it] for it in ("use", "ghost"))
+        if one.keys() - {"use", "ghost", "tried"} != {"name", "of", "refused"} or one.get("tried", "by hand") != "by hand" or not text:
             sys.exit(f"wrong_bodies.py: {table_of(crate)}: not a wrong body:\n{block}")
-        found.append(Body(one["name"], one["of"], text, one["refused"], uses, "tried" in one))
+        found.append(Body(one["name"], one["of"], text, one["refused"], uses, ghosts, "tried" in one))
     return found
 
 
 def with_right_ones(bodies):
-    """These, and behind them a right body for each of their functions."""
-    functions = dict.fromkeys(f"{it.file} {it.of}" for it in bodies)
-    return [*bodies, *(Body("right_" + re.sub(r"\W+", "_", it.partition(" ")[2]).strip("_"), it) for it in functions)]
+    """These, and behind them a right body for each of their functions, with the ghost values that the first one takes."""
+    functions = {f"{it.file} {it.of}": it.ghosts for it in reversed(bodies)}
+    return [*bodies, *(Body("right_" + re.sub(r"\W+", "_", it.partition(" ")[2]).strip("_"), it, ghosts=ghosts)
+                       for it, ghosts in functions.items())]
+
+
+def picks_of(crate, body):
+    """The file of a body's proof in which its calls are given their ghost values, and its text. A body's function is in no impl."""
+    module = re.sub(r"^(lib|main)$|/mod$", "", body.file.removeprefix("src/").removesuffix(".rt"))
+    place = "/".join(filter(None, ["proofs", module, body.name]))
+    lines = [f"abbrev pub ghost-{call} : goal.ghost-{call}\nghost-{call} g a = {value}\n"
+             for call, _, value in (it.partition(" ") for it in body.ghosts)]
+    return f"{place}/Invariants.antt", "\n".join([f"use Rattle.{crate.name}.{place.replace('/', '.')}.Given as goal\n", *lines])
 
 
 def texts_with(crate, bodies):
@@ -79,7 +89,7 @@ def texts_with(crate, bodies):
             with open(f"{crate.folder}/{body.file}", encoding="utf-8") as it:
                 texts[body.file] = it.read()
         texts[body.file] = second(texts[body.file], body, folders)
-    return texts
+    return {**texts, **dict(picks_of(crate, it) for it in bodies if it.ghosts)}
 
 
 def check(crate, texts, names, kept):
@@ -89,6 +99,7 @@ def check(crate, texts, names, kept):
             if os.path.isdir(f"{crate.folder}/{part}"):
                 shutil.copytree(f"{crate.folder}/{part}", f"{room}/{part}")
         for path, text in texts.items():
+            os.makedirs(os.path.dirname(f"{room}/{path}"), exist_ok=True)
             with open(f"{room}/{path}", "w", encoding="utf-8") as it:
                 it.write(text)
         flags = ["--jobs", "1", *(it for name in names for it in ("--only", name))]

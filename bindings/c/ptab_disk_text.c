@@ -128,7 +128,7 @@ static const char *const arguments[] = {
     "the number is 0, or the letter is neither 0 nor from a to h",
     "the random bytes aren't whole groups of 16",
     "there are no words, or they aren't UTF-8",
-    "the plan's bytes aren't a whole sector for each write, or its phases aren't in order",
+    "the plan's bytes aren't a whole sector for each write, or the phase of write {a} isn't in order",
     "the other disk has sectors of another size",
     "the other view's bytes aren't a whole sector for each of its numbers, or its disk has 2^64 bytes or more",
 };

@@ -53,7 +53,7 @@ def exceptions(folder):
                  (lambda: disk.apply([[(5, b"short")]]), lib.BadArgument, ValueError,
                   "the write of sector 5 in phase 1 has 5 bytes, and a sector 512"),
                  (lambda: disk.check([[(5, bytes(512))], [], [(6, bytes(512))]]), lib.BadArgument, ValueError,
-                  "the plan's bytes aren't a whole sector for each write, or its phases aren't in order"),
+                  "the plan's bytes aren't a whole sector for each write, or the phase of write 2 isn't in order"),
                  (lambda: lib.Disk(path, write=True), lib.Locked, BlockingIOError, "the lock is held elsewhere"),
                  (none.table, lib.NoTable, lib.Error, f"there is no table: {NO_COPY}"),
                  (lambda: disk.adopt(none), lib.NoTable, lib.Error, f"the other disk: {NO_COPY}"),

@@ -54,12 +54,17 @@ abbrev pub OnBoth : {D T : Type 0} → (D → D → D → D → Result Reply Fai
 OnBoth {D} Does other disk old new answer =
     (left : D) × (other_left : D) × (new ≡ Closed other_left ∷ Closed left ∷ old) × Does disk left other other_left answer
 
--- the other image is opened first, for reading, then the image, and this is done on both
+-- this is done on an image beside another disk; where the image isn't opened, the other disk is closed as it was
+abbrev pub OnBeside : {D T : Type 0} → (D → D → D → D → Result Reply Failure → Type 0) → D → Result D NoDevice → Doing (Call D T)
+OnBeside Does other (Ok disk) old new answer = OnBoth Does other disk old new answer
+OnBeside Does other (Err why) old new answer = (new ≡ Closed other ∷ old) × (answer ≡ Err (failure.Opening why))
+
+-- the other image is opened first, for reading, then the image, and this is done on both. What was opened is closed, and nothing else
 abbrev pub OnImages : {D T : Type 0} → List ℕ → Opening → Access → List ℕ → Opening → Access
     → (D → D → D → D → Result Reply Failure → Type 0) → Doing (Call D T)
 OnImages {D} path opening access other_path other_opening other_access Does old new answer = (opened : Result D NoDevice)
     × Then (λ other between last told. (beside : Result D NoDevice)
-    × Then (OnBoth Does other) (opened_as failure.Opening beside) (Opened path opening access beside ∷ between) last told)
+    × OnBeside Does other beside (Opened path opening access beside ∷ between) last told)
     (opened_as failure.OtherOpening opened) (Opened other_path other_opening other_access opened ∷ old) new answer
 
 -- ## The file of a plan.
@@ -71,10 +76,14 @@ most_text = 8388608
 abbrev pub line_feeds : List ℕ → ℕ
 line_feeds text = count_by (λ byte. byte == 10) text
 
--- the first line of a text that is no plan's, 0 where it is too long or isn't UTF-8
+-- the lines of a text are read: it isn't too long, and it is UTF-8
+abbrev pub HasLines : List ℕ → Type 0
+HasLines text = (length text ≤ most_text) × IsUtf8 text
+
+-- the first line of a text that is no plan's; 0 where it is too long or isn't UTF-8, and then none of its lines is named
 abbrev pub IsPlanFault : ℕ → List ℕ → ℕ → Type 0
-IsPlanFault b text n = ((n ≡ 0) × ((most_text < length text) ⊎ ¬ IsUtf8 text)) ⊎ (IsBadLine b text n ⊎ (LacksFlush b text
-    × (n ≡ line_feeds text)))
+IsPlanFault b text n = ((n ≡ 0) × ((most_text < length text) ⊎ ¬ IsUtf8 text))
+    ⊎ (HasLines text × (IsBadLine b text n ⊎ (LacksFlush b text × (n ≡ line_feeds text))))
 
 -- what a file whose bytes are known, if they are, is read as: a plan, that it can't be read, or its first bad line
 abbrev pub ReadsPlan : (b : ℕ) → Option (List ℕ) → Result (Plan b) Failure → Type 0

@@ -1,6 +1,7 @@
 //! A run of the command: a line of words, what it opens, an output stream, and an exit status.
 
-ghost use Rattle.std.specs.Prelude.{◌≡◌, option_map, Ok};
+ghost use Rattle.std.specs.Prelude.{◌≡◌, [], option_map, Ok, OnOk};
+ghost use Rattle.std.specs.Io.Buffered.{writer_buffer, writer_contents};
 ghost use Rattle.clap.specs.Walk.{texts as slice_texts};
 ghost use Rattle.pt_sector.specs.Sectors.{IsSectorSize};
 ghost use Rattle.pt_answers.specs.Images.{IsPlanAt};
@@ -23,7 +24,7 @@ use pt_line::{Adoption, InUse, Job, Line, LockedBy, Medium, SectorSize, read_lin
 use pt_report::{Reply, Status};
 use pt_sector::Disk;
 use std::alloc::Global;
-use std::io::{Read, Write};
+use std::io::{BufWriter, Read, Write};
 
 /// The plan in a file.
 fn plan_at<const B: usize, D: Disk<B> + Drop, T: Read + Drop, I: Images<B, D, T>>(
@@ -216,11 +217,16 @@ fn size_of<const B: usize, D: Disk<B> + Drop, T: Read + Drop, I: Images<B, D, T>
     }
 }
 
-// Prints an answer on an image with sectors of `B` bytes, to its end. Where the stream fails, what was done stands.
-fn printed_whole<const B: usize, O: Write>(reply: &Reply, out: &mut O) -> Result<Status, Failure>
-    ensures { Prints B (Ok reply.now) (O.contents out.old) (O.contents out.new) result }
+// Prints an answer on an image with sectors of `B` bytes, to its end: after Ok nothing waits in the buffer. Where the stream fails, what
+// was done stands.
+fn printed_whole<const B: usize, W: Write + Drop>(
+    reply: &Reply,
+    out: &mut BufWriter<W>,
+) -> Result<Status, Failure>
+    ensures prints { Prints B (Ok reply.now) (writer_contents W.contents out.old) (writer_contents W.contents out.new) result }
+    ensures whole { OnOk result (writer_buffer out.new ≡ []) }
 {
-    let status = printed::<B, O>(reply, out)?;
+    let status = printed::<B, BufWriter<W>>(reply, out)?;
     match out.flush() {
         Ok(()) => Ok(status),
         Err(error) => Err(Failure::of_output(&error)),
@@ -228,14 +234,16 @@ fn printed_whole<const B: usize, O: Write>(reply: &Reply, out: &mut O) -> Result
 }
 
 #[tactic(auto, using(crate::proofs::Texts::kept))]
-fn answer<const B: usize, D: Disk<B> + Drop, T: Read + Drop, I: Images<B, D, T>, O: Write>(
+fn answer<const B: usize, D: Disk<B> + Drop, T: Read + Drop, I: Images<B, D, T>, W: Write + Drop>(
     alloc: Global,
     images: &mut I,
     line: Line,
-    out: &mut O,
+    out: &mut BufWriter<W>,
 ) -> Result<Status, Failure>
     requires { IsSectorSize B }
-    ensures { RunsLine D.Disk T.remaining line (I.past images.old) (I.past images.new) (O.contents out.old) (O.contents out.new) result }
+    ensures runs { RunsLine D.Disk T.remaining line (I.past images.old) (I.past images.new)
+        (writer_contents W.contents out.old) (writer_contents W.contents out.new) result }
+    ensures whole { OnOk result (writer_buffer out.new ≡ []) }
 {
     let Line {
         job,
@@ -244,34 +252,35 @@ fn answer<const B: usize, D: Disk<B> + Drop, T: Read + Drop, I: Images<B, D, T>,
         in_use,
     } = line;
     let reply = reply_to::<B, D, T, I>(alloc, images, Opening { medium, in_use }, job)?;
-    printed_whole::<B, O>(&reply, out)
+    printed_whole::<B, W>(&reply, out)
 }
 
 /// Runs the command on the words after its name, with its answers on `out`, and gives its status.
 ///
 /// `small` opens images with sectors of 512 bytes, and `large` those of 4096. Where `out` fails, also at its end, that is why the command
-/// ends, and what was done stands.
+/// ends, and what was done stands. A status comes only where all of the answer was handed on to the stream behind `out`.
 pub fn run<
     D: Disk<512> + Drop,
     E: Disk<4096> + Drop,
     T: Read + Drop,
     I: Images<512, D, T>,
     J: Images<4096, E, T>,
-    O: Write,
+    W: Write + Drop,
 >(
     alloc: Global,
     small: &mut I,
     large: &mut J,
     words: &[&str],
-    out: &mut O,
+    out: &mut BufWriter<W>,
 ) -> Result<Status, Failure>
-    ensures { RunsWords D.Disk E.Disk T.remaining (slice_texts words.now) (I.past small.old) (I.past small.new) (J.past large.old)
-        (J.past large.new) (O.contents out.old) (O.contents out.new) result }
+    ensures runs { RunsWords D.Disk E.Disk T.remaining (slice_texts words.now) (I.past small.old) (I.past small.new) (J.past large.old)
+        (J.past large.new) (writer_contents W.contents out.old) (writer_contents W.contents out.new) result }
+    ensures whole { OnOk result (writer_buffer out.new ≡ []) }
 {
     let line = read_line(alloc, words)?;
     let size = size_of::<512, D, T, I>(small, line.size, line.medium, image_in(&line.job))?;
     match size {
-        SectorSize::Bytes512 => answer::<512, D, T, I, O>(alloc, small, line, out),
-        SectorSize::Bytes4096 => answer::<4096, E, T, J, O>(alloc, large, line, out),
+        SectorSize::Bytes512 => answer::<512, D, T, I, W>(alloc, small, line, out),
+        SectorSize::Bytes4096 => answer::<4096, E, T, J, W>(alloc, large, line, out),
     }
 }

@@ -30,3 +30,4 @@ pub use status::printed;
 pub use views::{
     copy_named, locate_on, place_named, show_after, show_copy, show_disk, verify_disk,
 };
+pub use words::texts_of;

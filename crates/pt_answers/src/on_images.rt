@@ -247,7 +247,13 @@ pub(crate) fn take<const B: usize, D: Disk<B> + Drop, T: Read + Drop, I: Images<
         Ok(other) => other,
         Err(why) => return Err(Failure::OtherOpening(why)),
     };
-    let mut disk = images.open(image, opening, access_for(locked_by))?;
+    let mut disk = match images.open(image, opening, access_for(locked_by)) {
+        Ok(disk) => disk,
+        Err(why) => {
+            images.close(other);
+            return Err(Failure::Opening(why));
+        }
+    };
     let answer = adopt_disk::<B, D, D>(alloc, &mut disk, &mut other);
     images.close(disk);
     images.close(other);
@@ -271,7 +277,13 @@ pub(crate) fn plan_taking<const B: usize, D: Disk<B> + Drop, T: Read + Drop, I: 
         Ok(other) => other,
         Err(why) => return Err(Failure::OtherOpening(why)),
     };
-    let mut disk = images.open(image, opening, Access::Read)?;
+    let mut disk = match images.open(image, opening, Access::Read) {
+        Ok(disk) => disk,
+        Err(why) => {
+            images.close(other);
+            return Err(Failure::Opening(why));
+        }
+    };
     let answer = plan_adopting::<B, D, D>(alloc, &mut disk, &mut other);
     images.close(disk);
     images.close(other);

@@ -1,6 +1,8 @@
 //! The words of an edit, and the fresh GUIDs that they take.
 
 ghost use Rattle.std.specs.Prelude.{◌≡◌, IfOk, IfErr, IfSome, option_map, map, string_bytes};
+ghost use Rattle.clap.specs.Walk.{texts as slice_texts};
+ghost use Rattle.pt_answers.specs.declared.failure.Failure.TheVariants.{Memory};
 ghost use Rattle.pt_answers.specs.Wanted.{AreEdits, AreFresh, AreGiven, IsWanted, guid_in};
 ghost use Rattle.pt_answers.specs.inner.Wanted.{IsBadOr, IsNamed, IsNoFreshOr, IsNotGivenOr, IsUnread};
 
@@ -110,4 +112,18 @@ fn edits_of(alloc: Global, words: &[String]) -> Result<Vec<Edit>, Failure>
         }
     }
     Ok(edits)
+}
+
+/// The texts of words, as [`run`](crate::run) takes them.
+pub fn texts_of<'a>(alloc: Global, words: &'a [String]) -> Result<Vec<&'a str>, Failure>
+    ensures texts { IfOk result (λ texts. slice_texts texts.items ≡ map string_bytes words.now) }
+    ensures memory { IfErr result (λ why. why ≡ Memory) }
+{
+    let mut texts = Vec::new(alloc);
+    for word in words {
+        if texts.push(word.as_str()).is_err() {
+            return Err(Failure::Memory);
+        }
+    }
+    Ok(texts)
 }

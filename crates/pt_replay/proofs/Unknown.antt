@@ -1,12 +1,12 @@
 -- Sectors that are wanted, taken up one after the other.
-use Rattle.std.proofs.Common.{◌≡◌, ◌<◌, ◌+◌, ◌++◌, ◌∙◌, ℕ, zero, suc, List, [], ◌∷◌, length, get_or, All, None, Some, sym, ap, subst, inl}
+use Rattle.std.proofs.Common.{◌≡◌, ◌<◌, ◌+◌, ◌++◌, ℕ, zero, suc, List, [], ◌∷◌, length, get_or, All, None, Some, sym, ap, subst, inl}
 use Rattle.std.proofs.Common.{inr, arith, refl, true, false, length-append, Result, Ok, Err, IfOk}
-use Rattle.std.specs.Prelude.{◌⊎◌, nat_eq, MatchResult}
+use Rattle.std.specs.Prelude.{◌⊎◌, nat_eq, Bool, Contains, MatchResult}
 use Rattle.std.specs.List.{IsDistinct, list_any}
 use Rattle.std.proofs.Math.Nat.{eq-or-lt_of_le}
 use Rattle.std.proofs.lemmas.Bool.Decides.{nat_tests}
 use Rattle.std.proofs.lemmas.Cmp.{nat_eq_equiv}
-use Rattle.std.proofs.lemmas.List.Elements.{All-append, All-cons, All-nil}
+use Rattle.std.proofs.lemmas.List.Elements.{All-append, All-cons, All-nil, Contains-append_left, Contains-push}
 use Rattle.std.proofs.lemmas.Map.Keys.{IsDistinct-push}
 use Rattle.pt_sector.specs.Sectors.{Sectors}
 use Rattle.pt_sector.specs.declared.disk.Fault.{Fault}
@@ -14,7 +14,7 @@ use Rattle.pt_sector.specs.declared.disk.Fault.TheVariants as fault
 use Rattle.pt_members.specs.Members.{IsPlace, place_of, places_of}
 use Rattle.pt_members.specs.declared.layout.Body.{Body}
 use Rattle.pt_members.specs.declared.layout.Slice.{Slice}
-use Rattle.pt_recover.specs.Denotes.{TellsNothing, FailedInDisk, fault_in, BodyIs, Reads, label}
+use Rattle.pt_recover.specs.Denotes.{TellsNothing, FailedInDisk, fault_in, BodyIs, BodyReads, Reads, body, label}
 use Rattle.pt_recover.specs.declared.error.NoTable.{NoTable as Reason}
 use Rattle.pt_recover.specs.declared.error.NoTable.TheVariants as reason
 use Rattle.pt_replay.specs.Wanted.{known_of, IsNew, IsOfNew, sectors_in, IsSettled, WantsAll}
@@ -56,27 +56,52 @@ same_at [] k p q lt = absurd (omega (arith, lt))
 same_at (x ∷ ps) zero p q lt = refl
 same_at (x ∷ ps) (suc k) p q lt = same_at ps k p q (omega (arith, lt))
 
-false_true : false ≡ true → ⊥
-false_true same = cc
+behind : (x s : ℕ) (xs : List ℕ) → Contains xs s → Contains (x ∷ xs) s
+behind x s xs (k, lt, is) = let more : k < length xs = lt in (suc k, omega (arith, more), is)
+
+-- a number for which a search finds one that is equal is there
+has_any : (xs : List ℕ) (s : ℕ) → list_any (λ t. nat_eq t s) xs ≡ true → Contains xs s
+has_any [] s some = absurd cc
+has_any (x ∷ xs) s some = by (nat_eq x s) refl (has_any xs s) where
+  by : (found : Bool) → nat_eq x s ≡ found → (list_any (λ t. nat_eq t s) xs ≡ true → Contains xs s) → Contains (x ∷ xs) s
+  by true same rest = let is : x ≡ s = grind (arith, nat_tests, same) in subst (Contains (x ∷ xs)) is (0, omega arith, refl)
+  by false differs rest = behind x s xs (rest (grind (arith, nat_tests, differs, some)))
+
+empty_has : (s : ℕ) → Contains [] s → ⊥
+empty_has s has = let lt = has.1 in omega (arith, lt)
 
 module _ (count : ℕ) (ns : List ℕ) (ks : Sectors) (ps : List Slice) where
   -- what was taken up of the first k
   pub record TakenTo (k : ℕ) (list : List ℕ) : Type 0 where
     pub each : All (λ s. IsNew count ns ks s × IsPlace ps s) list
     pub once : IsDistinct nat_eq list
-    pub none : list ≡ [] → (i : ℕ) (p : Slice) → i < k → ¬ (known_of ns ks (place_of (get_or ps i p)) ≡ None)
+    pub all : (i : ℕ) (p : Slice) → i < k → known_of ns ks (place_of (get_or ps i p)) ≡ None → Contains list (place_of (get_or ps i p))
 
   pub none_taken : TakenTo 0 []
   none_taken = record {
     each = All-nil (λ s. IsNew count ns ks s × IsPlace ps s);
     once = none_twice;
-    none = λ is i p lt. absurd (omega (arith, lt));
+    all = λ i p lt. absurd (omega (arith, lt));
   }
 
   module _ (k : ℕ) (z : Slice) (old : List ℕ) (lt : k < length ps) (within : All (λ q. place_of q < count) ps)
       (so_far : TakenTo k old) where
     abbrev IsHere : ℕ → Type 0
     IsHere s = IsNew count ns ks s × IsPlace ps s
+
+    -- the one in this place, by any other default
+    here : (new : List ℕ) → Contains new (place_of (get_or ps k z)) → (q : Slice) → Contains new (place_of (get_or ps k q))
+    here new has q = subst (λ (p : Slice). Contains new (place_of p)) (same_at ps k z q lt) has
+
+    -- what is there of the first k + 1, if all of the first k are, and the next one
+    each_of : (new : List ℕ) → ((s : ℕ) → Contains old s → Contains new s)
+        → ((q : Slice) → known_of ns ks (place_of (get_or ps k q)) ≡ None → Contains new (place_of (get_or ps k q)))
+        → (i : ℕ) (q : Slice) → (suc i ≡ k + 1) ⊎ (suc i < k + 1) → known_of ns ks (place_of (get_or ps i q)) ≡ None
+        → Contains new (place_of (get_or ps i q))
+    each_of new keeps next i q (inl same) =
+        let at : k ≡ i = omega (arith, same) in
+        subst (λ (m : ℕ). known_of ns ks (place_of (get_or ps m q)) ≡ None → Contains new (place_of (get_or ps m q))) at (next q)
+    each_of new keeps next i q (inr less) = λ unknown. keeps _ (so_far.all i q (omega (arith, less)) unknown)
 
     unknown_taken : known_of ns ks (place_of (get_or ps k z)) ≡ None → list_any (λ t. nat_eq t (place_of (get_or ps k z))) old ≡ false
         → TakenTo (k + 1) (old ++ place_of (get_or ps k z) ∷ [])
@@ -85,28 +110,23 @@ module _ (count : ℕ) (ns : List ℕ) (ks : Sectors) (ps : List Slice) where
           (All-cons IsHere (place_of (get_or ps k z)) []
           (record { within = within k z lt; unknown = unknown }, place_here ps k z lt) (All-nil IsHere));
       once = IsDistinct-push nat_eq_equiv old (place_of (get_or ps k z)) so_far.once (other_way (place_of (get_or ps k z)) old fresh);
-      none = λ empty. absurd (not_empty (place_of (get_or ps k z)) old empty);
+      all = λ i q less. each_of (old ++ place_of (get_or ps k z) ∷ []) (λ s. Contains-append_left old _ s)
+          (λ q' none. here _ (Contains-push old (place_of (get_or ps k z))) q') i q (eq-or-lt_of_le less);
     }
 
     known_here : (¬ (known_of ns ks (place_of (get_or ps k z)) ≡ None)) ⊎ (list_any (λ t. nat_eq t (place_of (get_or ps k z))) old ≡ true)
-        → old ≡ [] → (q : Slice) → ¬ (known_of ns ks (place_of (get_or ps k q)) ≡ None)
-    known_here (inl not) empty q unknown =
-        not (subst (λ (p : Slice). known_of ns ks (place_of p) ≡ None) (same_at ps k q z lt) unknown)
-    known_here (inr some) empty q unknown =
-        absurd (false_true (ap (list_any (λ t. nat_eq t (place_of (get_or ps k z)))) (sym empty) ∙ some))
+        → (q : Slice) → known_of ns ks (place_of (get_or ps k q)) ≡ None → Contains old (place_of (get_or ps k q))
+    known_here (inl not) q unknown =
+        absurd (not (subst (λ (p : Slice). known_of ns ks (place_of p) ≡ None) (same_at ps k q z lt) unknown))
+    known_here (inr some) q unknown = here old (has_any old (place_of (get_or ps k z)) some) q
 
     known_taken : (¬ (known_of ns ks (place_of (get_or ps k z)) ≡ None)) ⊎ (list_any (λ t. nat_eq t (place_of (get_or ps k z))) old ≡ true)
         → TakenTo (k + 1) old
     known_taken known = record {
       each = so_far.each;
       once = so_far.once;
-      none = λ empty i q less. by empty i q (eq-or-lt_of_le less);
-    } where
-      by : old ≡ [] → (i : ℕ) (q : Slice) → (suc i ≡ k + 1) ⊎ (suc i < k + 1) → ¬ (known_of ns ks (place_of (get_or ps i q)) ≡ None)
-      by empty i q (inl same) =
-          let at : k ≡ i = omega (arith, same) in
-          subst (λ (m : ℕ). ¬ (known_of ns ks (place_of (get_or ps m q)) ≡ None)) at (known_here known empty q)
-      by empty i q (inr less) = so_far.none empty i q (omega (arith, less))
+      all = λ i q less. each_of old (λ s has. has) (known_here known) i q (eq-or-lt_of_le less);
+    }
 
     pub one_taken : (new : List ℕ)
         → TakesUp (known_of ns ks (place_of (get_or ps k z)) ≡ None) (place_of (get_or ps k z)) old new → TakenTo (k + 1) new
@@ -117,7 +137,7 @@ module _ (count : ℕ) (ns : List ℕ) (ks : Sectors) (ps : List Slice) where
   all_taken list so_far = record {
     each = so_far.each;
     once = so_far.once;
-    none = λ empty s is new. places_all (λ t. ¬ (known_of ns ks t ≡ None)) ps (λ i p lt. so_far.none empty i p lt) s is new.unknown;
+    all = λ s is new. places_all (λ t. known_of ns ks t ≡ None → Contains list t) ps (λ i p lt. so_far.all i p lt) s is new.unknown;
   }
 
 module _ (b count : ℕ) (ns : List ℕ) (ks d : Sectors) where
@@ -131,9 +151,12 @@ module _ (b count : ℕ) (ns : List ℕ) (ks d : Sectors) where
         label y is (subst (λ (n : ℕ). IsPlace (places_of b n y) (get_or list k z)) (sym many) (are.each k z lt).1),
       );
       once = are.once;
+      all = λ some. inr (y, is, here);
     };
-    settled = λ empty. inr (y, is, λ s at. are.none empty s (subst (λ (n : ℕ). IsPlace (places_of b n y) s) many at));
-  }
+    settled = λ empty. inr (y, is, λ s at new. empty_has s (subst (λ (l : List ℕ). Contains l s) empty (here s at new)));
+  } where
+    here : (s : ℕ) → IsPlace (places_of b (length d) y) s → IsNew count ns ks s → Contains list s
+    here s at new = are.all s (subst (λ (n : ℕ). IsPlace (places_of b n y) s) many at) new
 
   -- the same, where the sectors that are known were told of a disk that was read since
   pub lists_after : (count' : ℕ) (ns' : List ℕ) (ks' : Sectors) (y : Body) (list : List ℕ) → count' ≡ count → ns' ≡ ns → ks' ≡ ks
@@ -146,7 +169,11 @@ module _ (b count : ℕ) (ns : List ℕ) (ks d : Sectors) where
 
   nothing_wanted : (list : List ℕ) → list ≡ [] → IsSettled b count ns ks d → ListsWanted b count ns ks d list
   nothing_wanted list is settled = subst (ListsWanted b count ns ks d) (sym is) (record {
-    wanted = record { each = All-nil (λ s. IsNew count ns ks s × Reads b d s); once = none_twice };
+    wanted = record {
+      each = All-nil (λ s. IsNew count ns ks s × Reads b d s);
+      once = none_twice;
+      all = λ some. absurd (some refl);
+    };
     settled = λ empty. settled;
   })
 
@@ -156,12 +183,13 @@ module _ (b count : ℕ) (ns : List ℕ) (ks d : Sectors) where
 
   -- what recovery wants
   pub lists_alone : (why : Reason) (list : List ℕ) → IsAlone why list → TellsNothing b d why
-      → ((f : Fault) → fault_in why ≡ Some f → IsOfNew count ns ks f) → FailedInDisk (Reads b d) why → ListsWanted b count ns ks d list
+      → ((f : Fault) → fault_in why ≡ Some f → IsOfNew count ns ks f) → FailedInDisk (BodyReads b d) why → ListsWanted b count ns ks d list
   lists_alone (reason.Device at) list is told asked failed = subst (ListsWanted b count ns ks d) (sym is) (record {
     wanted = record {
-      each = All-cons (λ s. IsNew count ns ks s × Reads b d s) at.0 [] (asked (fault.Read at) refl, failed)
+      each = All-cons (λ s. IsNew count ns ks s × Reads b d s) at.0 [] (asked (fault.Read at) refl, body failed)
           (All-nil (λ s. IsNew count ns ks s × Reads b d s));
       once = one_once at.0;
+      all = λ some. inl (at.0, refl, failed);
     };
     settled = λ empty. absurd (not_empty at.0 [] empty);
   })

@@ -1,6 +1,6 @@
 -- Which sectors are known, and which are wanted besides.
 use Rattle.std.specs.Prelude.{◌≡◌, ◌<◌, ◌++◌, ◌*◌, ◌^◌, ℕ, List, [], ◌∷◌, map, length, ◌/◌, if◌then◌else◌, nat_eq, Option, Some, None}
-use Rattle.std.specs.Prelude.{◌⊎◌, ◌+◌, true, ◌≤◌, take, drop, All, slice_index_or}
+use Rattle.std.specs.Prelude.{◌≢◌, ◌⊎◌, ◌+◌, true, ◌≤◌, take, drop, All, Contains, slice_index_or}
 use Rattle.std.specs.List.{range_with_len, IsDistinct}
 use Rattle.std.specs.Simd.{first_chunks}
 use Rattle.pt_sector.specs.Sectors.{Sectors, sector, IsSectorSize}
@@ -17,7 +17,7 @@ use Rattle.std.specs.Ordering.{nat_cmp}
 use Rattle.pt_replay.specs.declared.index.Index.{Index}
 use Rattle.pt_members.specs.Members.{places_of, IsPlace}
 use Rattle.pt_members.specs.declared.layout.Body.{Body}
-use Rattle.pt_recover.specs.Denotes.{Denotes, BodyIs, Reads}
+use Rattle.pt_recover.specs.Denotes.{Denotes, BodyIs, BodyReads, Reads}
 
 -- ## A disk of which some sectors are known.
 
@@ -142,10 +142,21 @@ Leads ns i = i.whole ≡ true → LeadsTo ns i.places
 -- ## All sectors that are known to be wanted, at once.
 
 module _ (b count : ℕ) (ns : List ℕ) (ks d : Sectors) where
-  -- none of these is known, each is one of those that recovery reads, and none stands twice
+  -- one sector, on which the body of the disk rests: what else is wanted isn't known before it is
+  abbrev pub IsForBody : List ℕ → Type 0
+  IsForBody list = (s : ℕ) × (list ≡ s ∷ []) × BodyReads b d s
+
+  -- the label places of the disk's body, each that isn't known
+  abbrev pub HasPlaces : List ℕ → Type 0
+  HasPlaces list =
+      (y : Body) × BodyIs b d y × ((s : ℕ) → IsPlace (places_of b (length d) y) s → IsNew count ns ks s → Contains list s)
+
+  -- none of these is known, each is one of those that recovery reads, none stands twice, and once the body is known each label place is
+  -- there that isn't known
   pub record AreWanted (list : List ℕ) : Type 0 where
     pub each : All (λ s. IsNew count ns ks s × Reads b d s) list
     pub once : IsDistinct nat_eq list
+    pub all : list ≢ [] → IsForBody list ⊎ HasPlaces list
 
   -- nothing is wanted: the disk denotes nothing, or all label places of its table are known
   abbrev pub IsSettled : Type 0

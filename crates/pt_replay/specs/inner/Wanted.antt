@@ -1,5 +1,5 @@
 -- Which sectors are known, and which are wanted besides: what private contracts cite.
-use Rattle.std.specs.Prelude.{◌≡◌, ℕ, List, ◌⊎◌, [], ◌∷◌, ◌++◌, All, nat_eq, true, false}
+use Rattle.std.specs.Prelude.{◌≡◌, ℕ, List, ◌⊎◌, [], ◌∷◌, ◌++◌, All, Contains, nat_eq, true, false}
 use Rattle.pt_sector.specs.Sectors.{Sectors}
 use Rattle.pt_replay.specs.declared.view.View.{View}
 use Rattle.pt_replay.specs.Wanted.{sectors_in, IsNew, AreWanted, IsSettled, GivesSectors, LacksRoom}
@@ -54,11 +54,11 @@ NoRows b rows bytes r = (¬ ArePlan b rows bytes) × ToldOfRows b rows bytes r
 
 -- of a disk of so many sectors, of which the sectors ks with the numbers ns are known
 module _ (count : ℕ) (ns : List ℕ) (ks : Sectors) where
-  -- these are the label places of the slices that aren't known, none twice; none are there only where all are known
+  -- these are the label places of the slices that aren't known, each of them, and none twice
   pub record AreUnknown (slices : List Slice) (list : List ℕ) : Type 0 where
     pub each : All (λ s. IsNew count ns ks s × IsPlace slices s) list
     pub once : IsDistinct nat_eq list
-    pub none : list ≡ [] → (s : ℕ) → IsPlace slices s → ¬ IsNew count ns ks s
+    pub all : (s : ℕ) → IsPlace slices s → IsNew count ns ks s → Contains list s
 
 module _ (b count : ℕ) (ns : List ℕ) (ks d : Sectors) where
   -- these are wanted; where there are none, nothing is

@@ -3,8 +3,8 @@ use Rattle.std.proofs.lemmas.Result.{err_from_is_err_and}
 use Rattle.pt_answers.proofs.Texts.{kept}
 use Rattle.pt_answers.proofs.command.run.Goals as goal
 
-pub returns-in_err-size : goal.returns-in_err-size
-returns-in_err-size g c =
+pub returns-in_err-size-clause-runs : goal.returns-in_err-size-clause-runs
+returns-in_err-size-clause-runs g c =
     let p = err_from_is_err_and c.from_residual-in_err-size.result c.from_residual-in_err-size.ensures.1 in (
       Ok c.in_ok-line.line,
       rw (c.in_ok-line.was) at c.read_line.ensures.means,

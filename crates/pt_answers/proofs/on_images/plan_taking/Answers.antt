@@ -1,7 +1,11 @@
-use Rattle.pt_answers.proofs.Opened.{on_images}
+use Rattle.pt_answers.proofs.Opened.{on_images, other_alone}
 use Rattle.pt_answers.proofs.on_images.plan_taking.Goals as goal
+
+pub returns-in-Err-open : goal.returns-in-Err-open
+returns-in-Err-open g c =
+    other_alone _ _ _ _ _ _ _ _ _ _ _ _ _ _ _ c.in-Ok.is c.open.ensures c.in-Err-open.is c.open-2.ensures c.close.ensures
 
 pub returns : goal.returns
 returns g c =
-    on_images _ _ _ _ _ _ _ _ _ _ _ _ _ _ _ _ _ _ _ c.in-Ok.is c.open.ensures c.in_ok-disk.was c.open-2.ensures c.close.ensures
-    c.close-2.ensures c.plan_adopting-answer.ensures.plans
+    on_images _ _ _ _ _ _ _ _ _ _ _ _ _ _ _ _ _ _ _ c.in-Ok.is c.open.ensures c.in-Ok-open.is c.open-2.ensures c.close-2.ensures
+    c.close-3.ensures c.plan_adopting-answer.ensures.plans

@@ -1,7 +1,5 @@
 use Rattle.std.proofs.lemmas.List.FromFn.{length-map-range_with_len}
 use Rattle.std.proofs.lemmas.Result.{IfOk-weaker}
-use Rattle.pt_recover.specs.Denotes.{body}
-use Rattle.pt_recover.proofs.Failed.{wider}
 use Rattle.pt_replay.proofs.Unknown.{if_told, lists_after, lists_alone}
 use Rattle.pt_replay.proofs.Walk.{asked_new}
 use Rattle.pt_replay.proofs.wanting.wanted_of.Goals as goal
@@ -21,5 +19,5 @@ returns-clause-ok g c =
     (λ list is. lists_alone g.row.B c.args.disk.now.sectors c.args.disk.now.numbers.now c.args.disk.now.known.now _ c.in-Err.why
     list.items is
     (c.in-Err.ensures.err tt) (asked_new _ _ _ _ _ _ _ _ c.body_of.ensures.same.through.1 c.in-Err.ensures.blames)
-    (wider _ _ c.in-Err.why (λ s reads. body reads) (c.in-Err.ensures.place tt)))
+    (c.in-Err.ensures.place tt))
     c.wanted_by.ensures.ok
