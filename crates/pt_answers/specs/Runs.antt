@@ -1,6 +1,6 @@
 -- What a run of the command does for each line: the calls by which its images are opened, the subcommand that is done on them, and what
 -- is printed.
-use Rattle.std.specs.Prelude.{◌≡◌, ◌⊎◌, ◌==◌, if◌then◌else◌, ℕ, List, ◌∷◌, Option, Some, None, Result, Ok, Err, IfErr, IfOk, OnOk, map}
+use Rattle.std.specs.Prelude.{◌≡◌, ◌==◌, if◌then◌else◌, ℕ, List, ◌∷◌, Option, Some, None, Result, Ok, Err, IfErr, IfOk, OnOk, map}
 use Rattle.std.specs.Prelude.{String, option_map, string_bytes}
 use Rattle.std.specs.declared.alloc.Global.{Global}
 use Rattle.std.specs.Io.KnownBytes.{Appends, Keeps}
@@ -35,14 +35,13 @@ use Rattle.pt_answers.specs.Images.{Call, Doing, OnImage, OnImages, Sized, Then,
 use Rattle.pt_answers.specs.OnDisks.{AdoptsFrom, AppliesTo, ChecksOn, EditsDisk, LocatesOn, PlansAdopting, PlansOn, RepairsDisk}
 use Rattle.pt_answers.specs.OnDisks.{ShowsAfter, ShowsCopy, ShowsDisk}
 use Rattle.pt_answers.specs.OnDisks.{VerifiesDisk}
-use Rattle.pt_answers.specs.Statuses.{IsOfOutput, failure_status}
+use Rattle.pt_answers.specs.Statuses.{IsOfOutput}
 use Rattle.pt_report.specs.Statuses.{reply_status}
 use Rattle.pt_answers.specs.Wanted.{IsWanted, words_of}
 use Rattle.pt_answers.specs.declared.failure.Failure.{Failure}
 use Rattle.pt_answers.specs.declared.failure.Failure.TheVariants as failure
 use Rattle.pt_answers.specs.declared.images.Opening.{Opening}
 use Rattle.pt_report.specs.declared.status.Status.{Status}
-use Rattle.pt_report.specs.declared.status.Status.TheVariants as exit
 use Rattle.pt_answers.specs.declared.words.Wanted.{Wanted}
 
 -- ## A job.
@@ -188,18 +187,3 @@ abbrev pub RunsWords : {D E T : Type 0} → Ghosts D 512 → Ghosts E 4096 → (
     → Option (List ℕ) → Option (List ℕ) → Result Status Failure → Type 0
 RunsWords g h remaining words small_old small_new large_old large_new old new result = (line : Result Line LineError) × Means words line
     × RunsRead g h remaining line small_old small_new large_old large_new old new result
-
--- ## The program.
-
--- the run of these words, with some calls and some output; or there was no memory for it
-abbrev pub IsRunOf : {D E T : Type 0} → Ghosts D 512 → Ghosts E 4096 → (T → Option (List ℕ)) → List (List ℕ) → Result Status Failure
-    → Type 0
-IsRunOf {D} {E} {T} g h remaining words result = (result ≡ Err failure.Memory)
-    ⊎ ((small_old : List (Call D T)) × (small_new : List (Call D T)) × (large_old : List (Call E T)) × (large_new : List (Call E T))
-    × (old : Option (List ℕ)) × (new : Option (List ℕ))
-    × RunsWords g h remaining words small_old small_new large_old large_new old new result)
-
--- the status with which the program ends: that of its answer, or of its failure, unless that can't be printed
-abbrev pub EndsAs : Result Status Failure → Status → Type 0
-EndsAs (Ok status) ended = ended ≡ status
-EndsAs (Err why) ended = (ended ≡ failure_status why) ⊎ (ended ≡ exit.Device)

@@ -6,7 +6,7 @@ mod past;
 
 ghost use Rattle.std.specs.Prelude.{◌≡◌, Err, MatchResult, map, string_bytes};
 ghost use Rattle.pt_answers.specs.Failures.{line_failure};
-ghost use Rattle.pt_answers.specs.Runs.{EndsAs, IsRunOf};
+ghost use Rattle.pt_answers.specs.inner.Runs.{EndsAs, IsRunOf};
 
 use images::FileImages;
 use pt_answers::{Failure, Status, run, texts_of};
