@@ -59,7 +59,7 @@ complete -c ptab -n __ptab_in -a help -d 'Print this message or the help of the 
 
 complete -c ptab -n '__ptab_in edit plan' -l fresh -x -d 'Fresh GUIDs, 32 hexadecimal digits each'
 complete -c ptab -n '__ptab_in show' -l after -rF -d 'A plan, as if it were applied'
-complete -c ptab -n '__ptab_in show' -l copy -xa 'primary backup' -d 'One copy of a GPT alone'
+complete -c ptab -n '__ptab_in show' -l copy -xa 'primary backup' -d 'One copy of a GPT alone: primary or backup'
 complete -c ptab -n '__ptab_in adopt' -l plan -d 'Print the plan, and write nothing'
 complete -c ptab -n '__ptab_in adopt' -l other-device -d 'OTHER is a block device'
 complete -c ptab -n "__ptab_in $commands" -l device -d 'IMAGE is a block device'

@@ -45,7 +45,7 @@ _ptab() {
   [[ $state = behind ]] || return 1
   curcontext=${curcontext%:*:*}:ptab-$words[1]:
   case $words[1] in
-    show) _arguments $on_disk '--after=[A plan, as if it were applied]:plan:_files' '--copy=[One copy of a GPT alone]:copy:(primary backup)' '1:image:_ptab_image' ;;
+    show) _arguments $on_disk '--after=[A plan, as if it were applied]:plan:_files' '--copy=[One copy of a GPT alone: primary or backup]:copy:(primary backup)' '1:image:_ptab_image' ;;
     verify) _arguments $on_disk '1:image:_ptab_image' ;;
     locate) _arguments $on_disk '1:image:_ptab_image' '2:partition, as 3, 5 or 2.a:' '3:sector of the partition, from 0 on:' ;;
     edit) _arguments $on_disk $writing $fresh '1:image:_ptab_image' '*:word:_ptab_word' ;;

@@ -78,11 +78,16 @@ class PtabRun:
     name, failed = "ptab-run", 125
 
     def __init__(self, it):
-        self.it = it
+        self.it, self.said = it, ""
+
+    def run(self, *words):
+        """The status of a program, whose errors are kept."""
+        _, self.said, status = self.it.run(*words)
+        return status
 
     def edit(self, place, words):
         """The status of an edit."""
-        return self.it.run(sys.executable, RUN, *place.options, place.path, self.it.ptab, "edit", "@", *words)[2]
+        return self.run(sys.executable, RUN, *place.options, place.path, self.it.ptab, "edit", "@", *words)
 
     def after_failure(self, place):
         """What there is to do before the next look: nothing."""
@@ -101,7 +106,7 @@ class Ptab(PtabRun):
         self.recipes = recipes()
 
     def edit(self, place, words):
-        return self.it.run(self.it.ptab, "edit", *place.options, place.path, *words)[2]
+        return self.run(self.it.ptab, "edit", *place.options, place.path, *words)
 
     def after_failure(self, place):
         line = self.recipes[bool(place.options)]
@@ -124,7 +129,7 @@ class Library(PtabRun):
     name, failed = "the library", 5
 
     def edit(self, place, words):
-        return self.it.run(self.it.example, place.path, place.size, "edit", *words)[2]
+        return self.run(self.it.example, place.path, place.size, "edit", *words)
 
 
 class SameOpening(PtabRun):
@@ -142,6 +147,7 @@ class SameOpening(PtabRun):
         try:
             self.disk.edit(*words)
         except lib.Error as error:
+            self.said = str(error)
             return error.status
         return 0
 
@@ -184,10 +190,18 @@ class Edit:
         if came:
             it.failures += 1
             self.is_left()
-            same(f"{self.told}: the same edit again", self.way.edit(place, self.words), 0)
+            same(f"{self.told}: the same edit again", self.again(), (0, ""))
         self.is_done()
         self.way.end()
         return came
+
+    def again(self):
+        """How the same edit ends, and what it says where it isn't done. That a journal can't be written may be found out only by it."""
+        status = self.way.edit(self.place, self.words)
+        if status != 0 and self.place.is_shut():
+            self.ready()
+            status = self.way.edit(self.place, self.words)
+        return status, self.way.said if status else ""
 
     def ready(self):
         """Has the place written again."""

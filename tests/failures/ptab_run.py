@@ -324,6 +324,9 @@ def main():
     if len(sys.argv) != 2:
         sys.exit("usage: tests/failures/ptab_run.py PTAB")
     ptab, count, on_devices = os.path.abspath(sys.argv[1]), 0, ""
+    # whatever ran this script ignored; `nohup` tries what then happens
+    for number in SIGNALS:
+        signal.signal(number, signal.SIG_DFL)
     for part in (signals, nohup, at_any_moment, moved, full, copies, names, closed, isolated, cut_off, unread, file_systems,
                  ptab_run_hostile.all_of, ptab_run_devices.all_of):
         with room() as folder:
