@@ -7,7 +7,7 @@ use Rattle.pt_sector.specs.declared.reading.FailedRead.{FailedRead}
 use Rattle.pt_sector.specs.declared.reading.Failure.{Failure}
 use Rattle.pt_sector.specs.declared.reading.Failure.TheVariants as failure
 
--- no memory was left, in the words of each error that tells it
+-- no memory was left, in the words of the errors of disks, tables and plans; that of a command line has another word
 abbrev pub no_memory : List ℕ
 no_memory = codes "out of memory"
 
